@@ -1,0 +1,34 @@
+-- Lemmas on byte strings and their parts.
+use Rattle.std.proofs.Common.{◌≡◌, ◌∙◌, ℕ, zero, suc, ◌+◌, List, [], ◌∷◌, ◌++◌, length, take, drop, sym, ap, ap₂, inl, inr, arith}
+use Rattle.std.proofs.Math.Seq.{take-append_seam, drop-append_seam, drop-append-add}
+use Rattle.std.proofs.lemmas.Bool.{cases_lt}
+use Rattle.std.proofs.lemmas.List.{length-take, get_or-drop, get_or-take, get_or_past}
+use Rattle.namespace_id.specs.Bytes.{AreBytes}
+
+pub AreBytes-drop : (n : ℕ) (bytes : List ℕ) → AreBytes bytes → AreBytes (drop n bytes)
+AreBytes-drop n bytes h i = rw get_or-drop (h (n + i))
+
+pub AreBytes-take : (n : ℕ) (bytes : List ℕ) → AreBytes bytes → AreBytes (take n bytes)
+AreBytes-take n bytes h i =
+    elim (cases_lt i n) [
+      | inl lt ↦ rw (get_or-take n bytes i 0 lt) (h i)
+      | inr le ↦ rw (get_or_past (take n bytes) i 0 (omega (arith, length-take n bytes))) (omega arith)
+    ]
+
+pub AreBytes-append : (a b : List ℕ) → AreBytes a → AreBytes b → AreBytes (a ++ b)
+AreBytes-append [] b h k i = k i
+AreBytes-append (x ∷ a) b h k zero = h 0
+AreBytes-append (x ∷ a) b h k (suc i) = AreBytes-append a b (λ j. h (suc j)) k i
+
+-- the front of two strings, and what is behind it
+pub front : (a b : List ℕ) (n : ℕ) → length a ≡ n → take n (a ++ b) ≡ a
+front a b n h = sym (ap (λ (m : ℕ). take m (a ++ b)) h) ∙ take-append_seam a b
+
+pub behind : (a b : List ℕ) (n : ℕ) → length a ≡ n → drop n (a ++ b) ≡ b
+behind a b n h = sym (ap (λ (m : ℕ). drop m (a ++ b)) h) ∙ drop-append_seam a b
+
+-- a part that is put behind a front leaves the front, and what is behind the part
+pub put_next : (before rest part : List ℕ) → take (length before) (before ++ rest) ++ part ++ drop (length before + length part) (before ++ rest)
+    ≡ before ++ part ++ drop (length part) rest
+put_next before rest part =
+    ap₂ (λ (x y : List ℕ). x ++ part ++ y) (take-append_seam before rest) (drop-append-add before rest (length part))

@@ -1,0 +1,5 @@
+pub mod Bytes
+pub mod Names
+pub mod Shares
+pub mod Digests
+pub mod Cells

@@ -1,0 +1,12 @@
+-- Shares (Celestia specifications, "Shares").
+use Rattle.std.specs.Prelude.{List}
+use Rattle.std.specs.List.{AllByRecursion}
+use Rattle.namespace_id.specs.declared.shares.Share.{Share}
+use Rattle.namespace_id.specs.Bytes.{IsString}
+
+-- a share has 512 bytes
+abbrev pub IsShare : Share → Type 0
+IsShare share = IsString 512 share.0
+
+abbrev pub AreShares : List Share → Type 0
+AreShares shares = AllByRecursion IsShare shares

@@ -1,0 +1,18 @@
+//! Byte strings: what is known of their numbers, and writing a part into one.
+
+ghost use Rattle.std.specs.Prelude.{◌≡◌, ◌+◌, ◌≤◌, ◌++◌, length, take, drop};
+ghost use Rattle.namespace_id.specs.Bytes.{AreBytes};
+
+/// Says that the bytes of a slice are below 256. It does nothing: a proof that needs the fact of
+/// a slice that it doesn't read calls it.
+pub fn are_bytes(bytes: &[u8])
+    ensures { AreBytes bytes.now }
+{}
+
+/// Overwrites the bytes from place `at` on by those of `part`.
+pub fn put(bytes: &mut [u8], at: usize, part: &[u8])
+    requires { at + length part.now ≤ length bytes.old }
+    ensures { bytes.new ≡ take at bytes.old ++ part.now ++ drop (at + length part.now) bytes.old }
+{
+    bytes[at..at + part.len()].copy_from_slice(part);
+}

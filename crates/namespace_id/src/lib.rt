@@ -1,0 +1,18 @@
+//! Namespaces, shares, digests and cells: the values that every other crate speaks of.
+//!
+//! It also has what proofs about them need in every crate: what is known of the bytes and lengths
+//! of shares and digests inside lists, the order of namespaces as a total order, and the call that
+//! writes a part into an array.
+#![tactic(auto)]
+
+mod bytes;
+mod cells;
+mod digests;
+mod namespaces;
+mod shares;
+
+pub use bytes::{are_bytes, put};
+pub use cells::{Axis, Cell, is_in_square, is_width, leaf_namespace};
+pub use digests::{Digest, are_digests};
+pub use namespaces::{Namespace, PARITY, namespace_order};
+pub use shares::{Share, are_shares};
