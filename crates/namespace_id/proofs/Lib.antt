@@ -1,3 +1,4 @@
 pub mod OrderLemmas
 pub mod StringLemmas
 pub mod ElementLemmas
+pub mod TestLemmas

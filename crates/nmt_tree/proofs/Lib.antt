@@ -1,0 +1,5 @@
+pub mod PartLemmas
+pub mod HalfLemmas
+pub mod RootLemmas
+pub mod OrderLemmas
+pub mod CountLemmas

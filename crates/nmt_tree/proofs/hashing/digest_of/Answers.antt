@@ -1,0 +1,8 @@
+use Rattle.std.proofs.Common.{replicate, arith}
+use Rattle.nmt_tree.proofs.PartLemmas.{three_parts}
+use Rattle.nmt_tree.proofs.hashing.digest_of.Goals as goal
+
+pub returns : goal.returns
+returns c =
+    three_parts (replicate 90 0) c.args.least.now.0 c.args.greatest.now.0 c.args.hash.now c.put.new.bytes c.put-2.new.bytes c.put-3.new.bytes
+    29 58 (omega arith) (omega arith) (omega arith) c.put.ensures c.put-2.ensures c.put-3.ensures

@@ -1,0 +1,43 @@
+-- The roots of leaf lists (Celestia specifications, "Data Structures").
+use Rattle.std.specs.Prelude.{ℕ, zero, suc, ◌^◌, List, [], ◌∷◌, take, drop, Bool, true, ◌&&◌, ◌||◌, ◌==◌, if◌then◌else◌, Option, Some, None}
+use Rattle.namespace_id.specs.declared.namespaces.Namespace.{Namespace}
+use Rattle.namespace_id.specs.declared.shares.Share.{Share}
+use Rattle.namespace_id.specs.declared.digests.Digest.{Digest}
+use Rattle.namespace_id.specs.Names.{is_at_most}
+use Rattle.nmt_tree.specs.Digests.{leaf_digest, node_digest}
+
+-- whether a tree may have this many leaves
+abbrev pub is_leaf_count : ℕ → Bool
+is_leaf_count n = (n == 1) || (n == 2) || (n == 4) || (n == 8) || (n == 16) || (n == 32) || (n == 64) || (n == 128) || (n == 256)
+
+-- how often such a number can be halved
+abbrev pub halvings : ℕ → ℕ
+halvings n =
+    if n == 1 then 0 else
+    (if n == 2 then 1 else
+    (if n == 4 then 2 else
+    (if n == 8 then 3 else
+    (if n == 16 then 4 else
+    (if n == 32 then 5 else
+    (if n == 64 then 6 else
+    (if n == 128 then 7 else 8)))))))
+
+-- the root of 2 ^ depth leaves, by their namespaces and shares: the leaf's digest where there is
+-- one, else the node's over the roots of both halves
+unfoldable pub root : ℕ → List Namespace → List Share → Digest
+root zero (name ∷ names) (share ∷ shares) = leaf_digest name share
+root zero [] shares = record { 0 = [] }
+root zero (name ∷ names) [] = record { 0 = [] }
+root (suc depth) names shares =
+    node_digest (root depth (take (2 ^ depth) names) (take (2 ^ depth) shares))
+    (root depth (drop (2 ^ depth) names) (drop (2 ^ depth) shares))
+
+-- whether no namespace is followed by a smaller one
+unfoldable pub is_ordered : List Namespace → Bool
+is_ordered [] = true
+is_ordered (a ∷ []) = true
+is_ordered (a ∷ b ∷ names) = is_at_most a b && is_ordered (b ∷ names)
+
+-- the root, where the namespaces are in order
+unfoldable pub strict_root : ℕ → List Namespace → List Share → Option Digest
+strict_root depth names shares = if is_ordered names then Some (root depth names shares) else None

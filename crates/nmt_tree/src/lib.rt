@@ -1,0 +1,11 @@
+//! Namespaced Merkle trees: the digests of leaves and nodes, and the roots of leaf lists.
+//!
+//! `leaf`, `node` and `join` make one digest; `plain_root` and `strict_root` are the plain
+//! recursions that say what the root of a list is.
+#![tactic(auto)]
+
+mod hashing;
+mod roots;
+
+pub use hashing::{Unordered, join, leaf, node};
+pub use roots::{is_leaf_count, plain_root, strict_root};

@@ -1,0 +1,111 @@
+//! The roots of leaf lists, by plain recursion on their halves.
+
+ghost use Rattle.std.specs.Prelude.{◌≡◌, ◌^◌, ℕ, length, IsTrue};
+ghost use Rattle.nmt_tree.specs.Roots.{is_leaf_count, halvings, root, is_ordered, strict_root};
+
+use crate::{leaf, node};
+use namespace_id::{Digest, Namespace, Share};
+
+/// Whether a tree may have this many leaves: a power of two from 1 to 256.
+pub fn is_leaf_count(n: usize) -> bool
+    ensures { result ≡ is_leaf_count n }
+{
+    matches!(n, 1 | 2 | 4 | 8 | 16 | 32 | 64 | 128 | 256)
+}
+
+/// The root by the halves of the leaves.
+fn root_of(names: &[Namespace], shares: &[Share]) -> Digest
+    requires count { IsTrue (is_leaf_count (length names.now)) }
+    requires pairs { length shares.now ≡ length names.now }
+    ensures { (depth : ℕ) → length names.now ≡ 2 ^ depth → result ≡ root depth names.now shares.now }
+{
+    if names.len() == 1 {
+        return leaf(&names[0], &shares[0]);
+    }
+    let (left_names, right_names) = names.split_at(names.len() / 2);
+    let (left_shares, right_shares) = shares.split_at(names.len() / 2);
+    let left = root_of(left_names, left_shares);
+    let right = root_of(right_names, right_shares);
+    node(&left, &right)
+}
+
+/// The root of leaves, given as two slices of one length, a power of two from 1 to 256: the leaf's
+/// digest where there is one, else the node's over the roots of both halves.
+///
+/// It takes no memory, and does not look whether the namespaces are in order.
+///
+/// Celestia specifications, "Data Structures", namespaced Merkle trees.
+pub fn plain_root(names: &[Namespace], shares: &[Share]) -> Digest
+    requires count { IsTrue (is_leaf_count (length names.now)) }
+    requires pairs { length shares.now ≡ length names.now }
+    ensures { result ≡ root (halvings (length names.now)) names.now shares.now }
+{
+    root_of(names, shares)
+}
+
+/// Whether no namespace is followed by a smaller one.
+fn are_ordered(names: &[Namespace]) -> bool
+    ensures { result ≡ is_ordered names.now }
+{
+    for i in 1..names.len() {
+        if !names[i - 1].is_at_most(&names[i]) {
+            return false;
+        }
+    }
+    true
+}
+
+/// The root of leaves whose namespaces never fall; none where one is followed by a smaller one.
+/// Shapes as for `plain_root`.
+///
+/// Celestia specifications, "Data Structures", namespaced Merkle trees.
+#[tactic(auto, unfolding(crate::specs::Roots::strict_root))]
+pub fn strict_root(names: &[Namespace], shares: &[Share]) -> Option<Digest>
+    requires count { IsTrue (is_leaf_count (length names.now)) }
+    requires pairs { length shares.now ≡ length names.now }
+    ensures { result ≡ strict_root (halvings (length names.now)) names.now shares.now }
+{
+    if are_ordered(names) {
+        Some(plain_root(names, shares))
+    } else {
+        None
+    }
+}
+
+#[cfg(test)]
+mod tests {
+    use super::*;
+    use crate::{Unordered, join};
+    use namespace_id::PARITY;
+
+    fn name_of(last: u8) -> Namespace {
+        let mut bytes = [0; 29];
+        bytes[28] = last;
+        Namespace(bytes)
+    }
+
+    #[test]
+    fn roots_of_two_leaves(rt: HostRuntime) {
+        let names = [name_of(1), name_of(2)];
+        let shares = [Share([7; 512]), Share([9; 512])];
+        let left = leaf(&names[0], &shares[0]);
+        let right = leaf(&names[1], &shares[1]);
+        let parity = leaf(&PARITY, &shares[1]);
+        assert_eq!(rt; plain_root(&names, &shares), node(&left, &right));
+        assert_eq!(rt; strict_root(&names, &shares), Some(node(&left, &right)));
+        assert_eq!(rt;
+            strict_root(&[names[1], names[0]], &shares),
+            None,
+            "falling names"
+        );
+        assert_eq!(rt; join(&left, &right), Ok(node(&left, &right)));
+        assert_eq!(rt; join(&right, &left), Err(Unordered));
+        assert_eq!(rt; node(&left, &right).greatest(), names[1]);
+        assert_eq!(rt;
+            node(&left, &parity).greatest(),
+            names[0],
+            "parity is left out"
+        );
+        assert_eq!(rt; node(&parity, &parity).greatest(), PARITY);
+    }
+}
