@@ -1,0 +1,5 @@
+pub mod Parts
+pub mod Openings
+pub mod Pieces
+pub mod Causes
+pub mod Paths

@@ -1,0 +1,79 @@
+-- Openings: the partial tree that shown parts and given nodes make.
+use Rattle.std.specs.Prelude.{◌≡◌, ℕ, zero, suc, ◌+◌, ◌^◌, List, [], ◌∷◌, ◌++◌, length, map, take, drop, get_or, Bool, true, ◌==◌, ltb, if◌then◌else◌}
+use Rattle.std.specs.Str.{bytes_eq}
+use Rattle.namespace_id.specs.declared.namespaces.Namespace.{Namespace}
+use Rattle.namespace_id.specs.declared.shares.Share.{Share}
+use Rattle.namespace_id.specs.declared.digests.Digest.{Digest}
+use Rattle.nmt_proofs.specs.Parts.{Part, given, leaf, join, digest_of, is_in_order}
+
+-- a part that an opening shows: the places that it has, and what stands there
+pub record Shown : Type 0 where
+  pub from : ℕ
+  pub size : ℕ
+  pub part : Part
+
+-- how many of the shown parts begin before a place
+unfoldable pub begun : ℕ → List Shown → ℕ
+begun middle [] = 0
+begun middle (s ∷ shown) = if ltb s.from middle then suc (begun middle shown) else 0
+
+-- whether the interval of this depth in which a shown part begins is that part
+unfoldable pub is_shown : ℕ → Shown → Bool
+is_shown zero s = true
+is_shown (suc depth) s = s.size == 2 ^ suc depth
+
+-- the intervals that hold nothing shown, left to right, of the 2 ^ depth places from `start`, which
+-- are halved until an interval holds nothing shown or is shown: where each begins, and its depth
+unfoldable pub outside : ℕ → ℕ → List Shown → List (ℕ × ℕ)
+outside zero start [] = (start, 0) ∷ []
+outside zero start (s ∷ shown) = []
+outside (suc depth) start [] = (start, suc depth) ∷ []
+outside (suc depth) start (s ∷ shown) = if is_shown (suc depth) s then [] else
+    outside depth start (take (begun (start + 2 ^ depth) (s ∷ shown)) (s ∷ shown))
+    ++ outside depth (start + 2 ^ depth) (drop (begun (start + 2 ^ depth) (s ∷ shown)) (s ∷ shown))
+
+-- the digest that stands for none
+abbrev pub no_digest : Digest
+no_digest = record { 0 = [] }
+
+-- the partial tree over these places: an interval that holds nothing shown takes the next node, an
+-- interval that is shown is the part, any other is the join of its halves, left first
+unfoldable pub opened : ℕ → ℕ → List Shown → List Digest → Part
+opened zero start [] nodes = given (get_or nodes 0 no_digest)
+opened zero start (s ∷ shown) nodes = s.part
+opened (suc depth) start [] nodes = given (get_or nodes 0 no_digest)
+opened (suc depth) start (s ∷ shown) nodes = if is_shown (suc depth) s then s.part else
+    (let middle : ℕ = start + 2 ^ depth in
+    let k : ℕ = begun middle (s ∷ shown) in
+    let j : ℕ = length (outside depth start (take k (s ∷ shown))) in
+    join (opened depth start (take k (s ∷ shown)) (take j nodes))
+    (opened depth middle (drop k (s ∷ shown)) (drop j nodes)))
+
+-- whether there are as many nodes as intervals to take one
+abbrev pub has_count : ℕ → List Shown → List Digest → Bool
+has_count depth shown nodes = length nodes == length (outside depth 0 shown)
+
+-- whether every join is ordered
+abbrev pub has_order : ℕ → List Shown → List Digest → Bool
+has_order depth shown nodes = is_in_order (opened depth 0 shown nodes)
+
+-- whether the value is the root
+abbrev pub has_root : ℕ → List Shown → List Digest → Digest → Bool
+has_root depth shown nodes root = bytes_eq (digest_of (opened depth 0 shown nodes)).0 root.0
+
+-- the nodes open the shown parts of 2 ^ depth leaves under the root
+pub record Opens (depth : ℕ) (shown : List Shown) (nodes : List Digest) (root : Digest) : Type 0 where
+  pub count : has_count depth shown nodes ≡ true
+  pub order : has_order depth shown nodes ≡ true
+  pub value : has_root depth shown nodes root ≡ true
+
+-- one leaf
+abbrev pub one_leaf : ℕ → Namespace → Share → List Shown
+one_leaf pos name share = record { from = pos; size = 1; part = leaf name share } ∷ []
+
+-- shown parts of which only the digest is kept
+abbrev pub shadow_of : Shown → Shown
+shadow_of s = record { from = s.from; size = s.size; part = given (digest_of s.part) }
+
+abbrev pub shadow : List Shown → List Shown
+shadow ss = map shadow_of ss

@@ -1,0 +1,94 @@
+//! The value of an opening, by recursion on intervals.
+
+ghost use Rattle.std.specs.Prelude.{ltb, ◌≡◌, ◌+◌, ◌^◌, ◌≤◌, ◌<◌, ℕ, length, true, false, Some, None, if◌then◌else◌};
+ghost use Rattle.nmt_tree.specs.Digests.{is_ordered_join, node_digest};
+ghost use Rattle.nmt_proofs.specs.Parts.{ordered_digest};
+ghost use Rattle.nmt_proofs.specs.Openings.{begun, is_shown, outside, opened};
+ghost use Rattle.nmt_proofs.specs.Pieces.{shown, shown_of};
+
+use namespace_id::Digest;
+use nmt_tree::join;
+
+/// The digest of an interval that an opening shows.
+#[derive(Clone, Copy, Debug, PartialEq, Eq)]
+pub(crate) struct Piece {
+    pub(crate) from: u16,
+    pub(crate) size: u16,
+    pub(crate) digest: Digest,
+}
+
+/// How many pieces begin before a place.
+pub(crate) fn count_begun(pieces: &[Piece], middle: u16) -> usize
+    ensures count { result ≡ begun middle (shown pieces.now) }
+    ensures bound { result ≤ length pieces.now }
+{
+    for (i, piece) in pieces.iter().enumerate() {
+        if piece.from >= middle {
+            return i;
+        }
+    }
+    pieces.len()
+}
+
+/// How many places an interval has.
+pub(crate) fn size_of(depth: u8) -> u16
+    requires { depth ≤ 8 }
+    ensures { result ≡ 2 ^ depth }
+{
+    1 << depth
+}
+
+/// Whether the interval of this depth in which the piece begins is the piece.
+pub(crate) fn is_piece(depth: u8, piece: &Piece) -> bool
+    requires { depth ≤ 8 }
+    ensures shown { result ≡ is_shown depth (shown_of piece.now) }
+    ensures halved { result ≡ false → 0 < depth }
+{
+    depth == 0 || piece.size == size_of(depth)
+}
+
+/// How many intervals hold no piece.
+pub(crate) fn count_outside(depth: u8, start: u16, pieces: &[Piece]) -> usize
+    requires depth { depth ≤ 8 }
+    requires interval { start + 2 ^ depth ≤ 256 }
+    ensures count { result ≡ length (outside depth start (shown pieces.now)) }
+    ensures bound { result ≤ 2 ^ depth }
+{
+    if pieces.is_empty() {
+        return 1;
+    }
+    if is_piece(depth, &pieces[0]) {
+        return 0;
+    }
+    let middle = start + size_of(depth - 1);
+    let (left, right) = pieces.split_at(count_begun(pieces, middle));
+    count_outside(depth - 1, start, left) + count_outside(depth - 1, middle, right)
+}
+
+/// The node over two digests, where the join is ordered.
+fn ordered_node(left: &Digest, right: &Digest) -> Option<Digest>
+    ensures { result ≡ (if is_ordered_join left.now right.now then Some (node_digest left.now right.now) else None) }
+{
+    join(left, right).ok()
+}
+
+/// The digest of the interval, where every join in it is ordered.
+pub(crate) fn joined(depth: u8, start: u16, pieces: &[Piece], nodes: &[Digest]) -> Option<Digest>
+    requires depth { depth ≤ 8 }
+    requires interval { start + 2 ^ depth ≤ 256 }
+    requires count { length nodes.now ≡ length (outside depth start (shown pieces.now)) }
+    ensures { result ≡ ordered_digest (opened depth start (shown pieces.now) nodes.now) }
+{
+    if pieces.is_empty() {
+        return Some(nodes[0]);
+    }
+    if is_piece(depth, &pieces[0]) {
+        return Some(pieces[0].digest);
+    }
+    let middle = start + size_of(depth - 1);
+    let (left_pieces, right_pieces) = pieces.split_at(count_begun(pieces, middle));
+    let (left_nodes, right_nodes) = nodes.split_at(count_outside(depth - 1, start, left_pieces));
+    let left = joined(depth - 1, start, left_pieces, left_nodes)?;
+    let right = joined(depth - 1, middle, right_pieces, right_nodes)?;
+    ordered_node(&left, &right)
+}
