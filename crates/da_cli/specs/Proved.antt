@@ -1,0 +1,48 @@
+-- When a message is proved under a header.
+use Rattle.std.specs.Prelude.{◌≡◌, ℕ, ◌*◌, Bool, true, List}
+use Rattle.namespace_id.specs.declared.cells.Cell.{Cell}
+use Rattle.namespace_id.specs.declared.cells.Axis.{Axis}
+use Rattle.namespace_id.specs.declared.cells.Axis.TheVariants.{Row, Col}
+use Rattle.namespace_id.specs.declared.digests.Digest.{Digest}
+use Rattle.namespace_id.specs.Cells.{is_in_square, name_of}
+use Rattle.nmt_tree.specs.Roots.{halvings}
+use Rattle.nmt_proofs.specs.Openings.{Shown, Opens, one_leaf, has_count, has_order, has_root}
+use Rattle.da_cli.specs.declared.messages.Message.{Message}
+use Rattle.da_cli.specs.Headers.{Roots, root_of}
+
+-- the place of a cell on its row or its column
+abbrev pub position : Axis → Cell → ℕ
+position Row cell = cell.col
+position Col cell = cell.row
+
+-- which row or column runs through a cell
+abbrev pub index : Axis → Cell → ℕ
+index Row cell = cell.row
+index Col cell = cell.col
+
+-- what a message shows of an axis of a square of width k: its share at its place, under the leaf
+-- namespace of its cell
+abbrev pub shown_by : ℕ → Message → List Shown
+shown_by k m = one_leaf (position m.axis m.cell) (name_of k m.cell m.share) m.share
+
+-- the header's root of the message's axis through its cell
+abbrev pub root_for : Roots → Message → Digest
+root_for header m = root_of header m.axis (index m.axis m.cell)
+
+-- the four checks, in their order: the cell, the number of nodes, the joins, the root
+abbrev pub is_inside : Roots → Message → Bool
+is_inside header m = is_in_square header.k m.cell
+
+abbrev pub is_counted : Roots → Message → Bool
+is_counted header m = has_count (halvings (2 * header.k)) (shown_by header.k m) m.path
+
+abbrev pub is_ordered : Roots → Message → Bool
+is_ordered header m = has_order (halvings (2 * header.k)) (shown_by header.k m) m.path
+
+abbrev pub is_rooted : Roots → Message → Bool
+is_rooted header m = has_root (halvings (2 * header.k)) (shown_by header.k m) m.path (root_for header m)
+
+-- a message is proved: its cell is in the square, and its nodes open its share under the root
+pub record IsProved (header : Roots) (m : Message) : Type 0 where
+  pub inside : is_inside header m ≡ true
+  pub opened : Opens (halvings (2 * header.k)) (shown_by header.k m) m.path (root_for header m)
