@@ -2,3 +2,13 @@ pub mod Fields
 pub mod Headers
 pub mod Proved
 pub mod Grammar
+pub mod Limits
+pub mod Words
+pub mod Statuses
+pub mod Gathered
+pub mod Outcome
+pub mod Judging
+pub mod Check
+pub mod Meaning
+pub mod Run
+pub mod Notes

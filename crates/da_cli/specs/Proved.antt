@@ -1,5 +1,5 @@
 -- When a message is proved under a header.
-use Rattle.std.specs.Prelude.{◌≡◌, ℕ, ◌*◌, Bool, true, List}
+use Rattle.std.specs.Prelude.{◌≡◌, ℕ, ◌*◌, Bool, true, List, Option, Some, None, Result, Ok, Err, if◌then◌else◌}
 use Rattle.namespace_id.specs.declared.cells.Cell.{Cell}
 use Rattle.namespace_id.specs.declared.cells.Axis.{Axis}
 use Rattle.namespace_id.specs.declared.cells.Axis.TheVariants.{Row, Col}
@@ -8,6 +8,8 @@ use Rattle.namespace_id.specs.Cells.{is_in_square, name_of}
 use Rattle.nmt_tree.specs.Roots.{halvings}
 use Rattle.nmt_proofs.specs.Openings.{Shown, Opens, one_leaf, has_count, has_order, has_root}
 use Rattle.da_cli.specs.declared.messages.Message.{Message}
+use Rattle.da_cli.specs.declared.messages.CheckRefusal.{CheckRefusal}
+use Rattle.da_cli.specs.declared.messages.CheckRefusal.TheVariants.{OutOfSquare, NodeCount, Unordered, OtherRoot}
 use Rattle.da_cli.specs.Headers.{Roots, root_of}
 
 -- the place of a cell on its row or its column
@@ -41,6 +43,22 @@ is_ordered header m = has_order (halvings (2 * header.k)) (shown_by header.k m) 
 
 abbrev pub is_rooted : Roots → Message → Bool
 is_rooted header m = has_root (halvings (2 * header.k)) (shown_by header.k m) m.path (root_for header m)
+
+-- the first of the checks that fails
+abbrev pub refusal_of : Roots → Message → Option CheckRefusal
+refusal_of header m =
+    if is_inside header m
+      then (if is_counted header m
+        then (if is_ordered header m
+          then (if is_rooted header m then None else Some OtherRoot)
+          else Some Unordered)
+        else Some NodeCount)
+      else Some OutOfSquare
+
+-- the refusal of an answer
+abbrev pub refusal_in : {T E : Type 0} → Result T E → Option E
+refusal_in (Ok _) = None
+refusal_in (Err why) = Some why
 
 -- a message is proved: its cell is in the square, and its nodes open its share under the root
 pub record IsProved (header : Roots) (m : Message) : Type 0 where

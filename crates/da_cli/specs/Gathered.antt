@@ -1,0 +1,109 @@
+-- What the files of a list of names hold: they are read in its order, up to the first that can't be
+-- used.
+use Rattle.std.specs.Prelude.{◌≡◌, ℕ, zero, suc, ◌<◌, ◌≤◌, nat_lt, List, [], ◌∷◌, length, map, ⊤, Some, None, Ok, Err, Result, Vec, if◌then◌else◌}
+use Rattle.std.specs.declared.option.Option.{Option}
+use Rattle.std.specs.declared.alloc.Global.{Global}
+use Rattle.da_io.specs.Faults.{count_on}
+use Rattle.da_io.specs.Files.{Files}
+use Rattle.da_io.specs.declared.inputs.Ended.{Ended}
+use Rattle.da_io.specs.declared.inputs.Ended.TheVariants as ended
+use Rattle.da_cli.specs.declared.gathering.Stop.{Stop}
+use Rattle.da_cli.specs.declared.gathering.Stop.TheVariants.{PickFault, ReadFault, TooLong, NoMemory}
+use Rattle.da_cli.specs.Limits.{file_limit}
+
+-- the contents of all; or the first that is longer than the limit; or the first that isn't there
+pub data Gathered : Type 0 where
+  whole : List (List ℕ) → Gathered
+  long : ℕ → Gathered
+  absent : ℕ → Gathered
+
+abbrev pub with_front : List ℕ → Gathered → Gathered
+with_front content (whole contents) = whole (content ∷ contents)
+with_front content (long i) = long i
+with_front content (absent i) = absent i
+
+-- one more file: its number, its content, and what the later ones give
+abbrev pub gathered_one : ℕ → Option (List ℕ) → Gathered → Gathered
+gathered_one i None later = absent i
+gathered_one i (Some content) later =
+    if nat_lt file_limit (length content) then long i else with_front content later
+
+-- the first name has this number
+unfoldable pub gathered_from : Files → ℕ → List (List ℕ) → Gathered
+gathered_from files i [] = whole []
+gathered_from files i (name ∷ names) = gathered_one i (files name) (gathered_from files (suc i) names)
+
+abbrev pub gathered : Files → List (List ℕ) → Gathered
+gathered files names = gathered_from files 0 names
+
+-- the bytes of each content
+abbrev pub contents_of : List (Vec ℕ Global) → List (List ℕ)
+contents_of contents = map (λ (v : Vec ℕ Global). v.items) contents
+
+-- file i, empty where there is none
+unfoldable pub file_of : List (List ℕ) → ℕ → List ℕ
+file_of [] i = []
+file_of (file ∷ files) zero = file
+file_of (file ∷ files) (suc i) = file_of files i
+
+-- file word i is this name
+abbrev pub IsWord : List (List ℕ) → ℕ → Option (List ℕ) → Type 0
+IsWord names i None = ⊥
+IsWord names i (Some name) = (i < length names) × (file_of names i ≡ name)
+
+-- each file before number i is there and within the limit
+abbrev pub AllRead : Option Files → List (List ℕ) → ℕ → Type 0
+AllRead None names i = ⊤
+AllRead (Some files) names i = (j : ℕ) → j < i →
+    (content : List ℕ) × (files (file_of names j) ≡ Some content) × (length content ≤ file_limit)
+
+-- what reading the file of one name answers, where files are told
+abbrev pub ReadsFile : Option Files → List ℕ → Result (Vec ℕ Global) Stop → Type 0
+ReadsFile None name result = ⊤
+ReadsFile (Some files) name (Ok content) = (files name ≡ Some content.items) × (length content.items ≤ file_limit)
+ReadsFile (Some files) name (Err (TooLong i)) = (content : List ℕ) × (files name ≡ Some content) × (file_limit < length content)
+ReadsFile (Some files) name (Err (PickFault i)) = ⊤
+ReadsFile (Some files) name (Err (ReadFault i)) = ⊤
+ReadsFile (Some files) name (Err NoMemory) = ⊤
+
+-- what reading the files of a list of names answers, where files are told
+abbrev pub Gathers : Option Files → List (List ℕ) → Result (Vec (Vec ℕ Global) Global) Stop → Type 0
+Gathers None names result = ⊤
+Gathers (Some files) names (Ok contents) = gathered files names ≡ whole (contents_of contents.items)
+Gathers (Some files) names (Err (TooLong i)) = gathered files names ≡ long i
+Gathers (Some files) names (Err (PickFault i)) = ⊤
+Gathers (Some files) names (Err (ReadFault i)) = ⊤
+Gathers (Some files) names (Err NoMemory) = ⊤
+
+-- why reading file i, which has this name, stopped: a failure was the last call, more than the limit
+-- was given
+abbrev pub StopsFile : ℕ → Ended → ℕ → Stop → Type 0
+StopsFile i last given (PickFault j) = (j ≡ i) × (last ≡ ended.PickFailed)
+StopsFile i last given (ReadFault j) = (j ≡ i) × (last ≡ ended.ReadFailed)
+StopsFile i last given (TooLong j) = (j ≡ i) × (file_limit < given)
+StopsFile i last given NoMemory = ⊤
+
+-- why reading the files stopped: the last call was of the named word, and each file before it was read
+-- whole
+abbrev pub StopsIn : Option Files → List (List ℕ) → Option (List ℕ) → Ended → ℕ → Stop → Type 0
+StopsIn told names picked last given (PickFault i) = (last ≡ ended.PickFailed) × IsWord names i picked × AllRead told names i
+StopsIn told names picked last given (ReadFault i) = (last ≡ ended.ReadFailed) × IsWord names i picked × AllRead told names i
+StopsIn told names picked last given (TooLong i) = (file_limit < given) × IsWord names i picked × AllRead told names i
+StopsIn told names picked last given NoMemory = ⊤
+
+-- the count of the inputs' failures after files were read: a stop at a failed pick or read counts it
+abbrev pub count_after : {T : Type 0} → ℕ → Result T Stop → ℕ
+count_after before (Ok _) = before
+count_after before (Err (PickFault _)) = count_on before 1
+count_after before (Err (ReadFault _)) = count_on before 1
+count_after before (Err (TooLong _)) = before
+count_after before (Err NoMemory) = before
+
+-- but for an excess of length and want of memory, the file that was read last gave no more than the
+-- limit
+abbrev pub WithinLimit : {T : Type 0} → ℕ → Result T Stop → Type 0
+WithinLimit given (Ok _) = given ≤ file_limit
+WithinLimit given (Err (PickFault _)) = given ≤ file_limit
+WithinLimit given (Err (ReadFault _)) = given ≤ file_limit
+WithinLimit given (Err (TooLong _)) = ⊤
+WithinLimit given (Err NoMemory) = ⊤

@@ -1,0 +1,21 @@
+-- Files that have to be in a form, and the first that isn't.
+use Rattle.std.specs.Prelude.{ℕ, suc, List, [], ◌∷◌, Some, None, MatchOption}
+use Rattle.std.specs.declared.option.Option.{Option}
+use Rattle.da_cli.specs.declared.status.Status.TheVariants.{BadInput}
+use Rattle.da_cli.specs.Outcome.{Relation, Refuses}
+
+-- the first file, counted from i, that isn't in its form, and the offset at which it leaves it
+abbrev pub first_bad : ℕ → List (Option ℕ) → Option (ℕ × ℕ)
+first_bad i [] = None
+first_bad i (None ∷ judged) = first_bad (suc i) judged
+first_bad i (Some at ∷ judged) = Some (i, at)
+
+-- where a file isn't in its form, `BadInput`; else the answer
+abbrev pub Judged : List (Option ℕ) → Relation → Relation
+Judged judged Answer w status =
+    MatchOption (first_bad 0 judged) (Answer w status) (λ bad. Refuses (BadInput bad.0 bad.1) w status)
+
+-- a file that is read is in its form; one that isn't read is refused from its first byte on
+abbrev pub unread_at : {A : Type 0} → Option A → Option ℕ
+unread_at None = Some 0
+unread_at (Some value) = None

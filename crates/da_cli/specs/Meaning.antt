@@ -1,0 +1,19 @@
+-- What each command writes and answers, over the contents of its files.
+use Rattle.std.specs.Prelude.{ℕ, List}
+use Rattle.std.specs.declared.option.Option.{Option}
+use Rattle.da_cli.specs.declared.words.Command.{Command}
+use Rattle.da_cli.specs.declared.words.Command.TheVariants.{Check}
+use Rattle.da_cli.specs.Outcome.{Relation}
+use Rattle.da_cli.specs.Judging.{Judged}
+use Rattle.da_cli.specs.Check.{check_judged, CheckOf}
+
+-- of each file where it leaves its form, if it does
+abbrev pub judged_of : Command → List (List ℕ) → List (Option ℕ)
+judged_of Check files = check_judged files
+
+-- the answer over files in their forms
+abbrev pub AnswerOf : Command → List (List ℕ) → Relation
+AnswerOf Check files = CheckOf files
+
+abbrev pub Meaning : Command → List (List ℕ) → Relation
+Meaning command files = Judged (judged_of command files) (AnswerOf command files)

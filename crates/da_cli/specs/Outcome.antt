@@ -1,0 +1,112 @@
+-- What a status says of the output, the inputs and their failures.
+use Rattle.std.specs.Prelude.{◌≡◌, ℕ, ◌<◌, ◌≤◌, List, [], ◌++◌, length, ⊤, ◌⊎◌, ◌↔◌, IsSome}
+use Rattle.std.specs.declared.option.Option.{Option}
+use Rattle.std.specs.Io.KnownBytes.{Appends}
+use Rattle.da_io.specs.declared.inputs.Ended.{Ended}
+use Rattle.da_io.specs.declared.inputs.Ended.TheVariants as ended
+use Rattle.da_io.specs.Faults.{count_on}
+use Rattle.da_io.specs.Files.{Files}
+use Rattle.da_io.specs.Sinks.{AppendsPart}
+use Rattle.da_cli.specs.declared.status.Status.{Status}
+use Rattle.da_cli.specs.declared.status.Status.TheVariants.{Done, Usage, PickFault, ReadFault, WriteFault, NoMemory, BadInput, TooLong, Refused}
+use Rattle.da_cli.specs.Limits.{file_limit}
+use Rattle.da_cli.specs.Statuses.{Kind, usage, fault, excess, form, memory, write, output, kind_of, output_count}
+use Rattle.da_cli.specs.Gathered.{IsWord, AllRead}
+
+-- which outputs and statuses belong together
+abbrev pub Relation : Type 1
+Relation = List ℕ → Status → Type 0
+
+-- nothing is written, and the status is this one
+abbrev pub Refuses : Status → Relation
+Refuses refusal w status = (w ≡ []) × (status ≡ refusal)
+
+-- a defined output was taken whole
+abbrev pub Outputs : Relation → Option (List ℕ) → Option (List ℕ) → Status → Type 0
+Outputs M old new status = (w : List ℕ) × M w status × Appends old new w
+
+-- a proper prefix of a defined output was taken
+abbrev pub OutputsPart : Relation → Option (List ℕ) → Option (List ℕ) → Type 0
+OutputsPart M old new = (w : List ℕ) × (status : Status) × M w status × AppendsPart old new w
+
+-- nothing was taken, or a prefix of a defined output
+abbrev pub OutputsFront : Relation → Option (List ℕ) → Option (List ℕ) → Type 0
+OutputsFront M old new = (part : List ℕ) × Appends old new part
+    × ((part ≡ []) ⊎ ((w : List ℕ) × (status : Status) × M w status × ((more : List ℕ) × (w ≡ part ++ more))))
+
+-- the output that a status leaves: all of one that belongs to it, a part where a write failed or
+-- memory ran out
+abbrev pub AnswersBy : Kind → Relation → Option (List ℕ) → Option (List ℕ) → Status → Type 0
+AnswersBy usage M old new status = Outputs M old new status
+AnswersBy fault M old new status = ⊤
+AnswersBy excess M old new status = Outputs M old new status
+AnswersBy form M old new status = Outputs M old new status
+AnswersBy memory M old new status = OutputsFront M old new
+AnswersBy write M old new status = OutputsPart M old new
+AnswersBy output M old new status = Outputs M old new status
+
+abbrev pub Answers : Relation → Option (List ℕ) → Option (List ℕ) → Status → Type 0
+Answers M old new status = AnswersBy (kind_of status) M old new status
+
+-- what is decided before the output leaves it as it was
+abbrev pub UntouchedBy : Kind → Type 0 → Type 0
+UntouchedBy usage Same = Same
+UntouchedBy fault Same = Same
+UntouchedBy excess Same = Same
+UntouchedBy form Same = Same
+UntouchedBy memory Same = ⊤
+UntouchedBy write Same = ⊤
+UntouchedBy output Same = ⊤
+
+abbrev pub Untouched : Type 0 → Status → Type 0
+Untouched Same status = UntouchedBy (kind_of status) Same
+
+-- a failed pick or read was the last call on the inputs, of the file word with that number, and each
+-- file before it was read whole
+abbrev pub FaultCause : Option Files → List (List ℕ) → Option (List ℕ) → Ended → Status → Type 0
+FaultCause told names picked last (PickFault i) = (last ≡ ended.PickFailed) × IsWord names i picked × AllRead told names i
+FaultCause told names picked last (ReadFault i) = (last ≡ ended.ReadFailed) × IsWord names i picked × AllRead told names i
+FaultCause told names picked last Done = ⊤
+FaultCause told names picked last Usage = ⊤
+FaultCause told names picked last WriteFault = ⊤
+FaultCause told names picked last NoMemory = ⊤
+FaultCause told names picked last (BadInput i at) = ⊤
+FaultCause told names picked last (TooLong i) = ⊤
+FaultCause told names picked last Refused = ⊤
+
+-- the file word with that number gave more than the limit, and each file before it was read whole;
+-- with another status that reading comes before, the file that was read last gave no more
+abbrev pub ExcessCause : Option Files → List (List ℕ) → Option (List ℕ) → ℕ → Status → Type 0
+ExcessCause told names picked given (TooLong i) = (file_limit < given) × IsWord names i picked × AllRead told names i
+ExcessCause told names picked given (PickFault i) = given ≤ file_limit
+ExcessCause told names picked given (ReadFault i) = given ≤ file_limit
+ExcessCause told names picked given Done = 0 < length names → given ≤ file_limit
+ExcessCause told names picked given WriteFault = 0 < length names → given ≤ file_limit
+ExcessCause told names picked given (BadInput i at) = 0 < length names → given ≤ file_limit
+ExcessCause told names picked given Refused = 0 < length names → given ≤ file_limit
+ExcessCause told names picked given Usage = ⊤
+ExcessCause told names picked given NoMemory = ⊤
+
+-- a command, which stands over files that were read, doesn't decide on words or reading
+abbrev pub IsOwnBy : Kind → Type 0
+IsOwnBy usage = ⊥
+IsOwnBy fault = ⊥
+IsOwnBy excess = ⊥
+IsOwnBy form = ⊤
+IsOwnBy memory = ⊤
+IsOwnBy write = ⊤
+IsOwnBy output = ⊤
+
+-- how a command with this meaning ends; Same: the output is as it was
+pub record Ends (M : Relation) (old new : Option (List ℕ)) (before now : ℕ) (Same : Type 0) (status : Status) : Type 0 where
+  pub answers : Answers M old new status
+  pub faults : now ≡ output_count (kind_of status) before
+  pub told : IsSome old ↔ IsSome new
+  pub untouched : Untouched Same status
+  pub own : IsOwnBy (kind_of status)
+
+-- an output was taken whole, or a write failed and was counted
+pub record Finishes (bytes : List ℕ) (status : Status) (old new : Option (List ℕ)) (before now : ℕ) (result : Status) : Type 0 where
+  pub told : IsSome old ↔ IsSome new
+  pub taken : ((result ≡ status) × Appends old new bytes × (now ≡ before))
+    ⊎ ((result ≡ WriteFault) × AppendsPart old new bytes × (now ≡ count_on before 1))

@@ -1,0 +1,62 @@
+-- What words, files, output and status belong together.
+use Rattle.std.specs.Prelude.{◌≡◌, ℕ, List, [], ⊤, Some, None}
+use Rattle.std.specs.declared.option.Option.{Option}
+use Rattle.da_io.specs.Files.{Files}
+use Rattle.da_cli.specs.declared.words.Command.{Command}
+use Rattle.da_cli.specs.declared.words.Call.{Call}
+use Rattle.da_cli.specs.declared.status.Status.{Status}
+use Rattle.da_cli.specs.declared.status.Status.TheVariants.{Usage, PickFault, ReadFault, TooLong, NoMemory}
+use Rattle.da_cli.specs.declared.gathering.Stop.{Stop}
+use Rattle.da_cli.specs.declared.gathering.Stop.TheVariants as stop
+use Rattle.da_cli.specs.Statuses.{Kind, usage, fault, excess, form, memory, write, output, kind_of}
+use Rattle.da_cli.specs.Words.{call_of, file_words}
+use Rattle.da_cli.specs.Gathered.{Gathered, whole, long, absent, gathered}
+use Rattle.da_cli.specs.Outcome.{Relation, Refuses, Outputs, OutputsPart, OutputsFront, Answers}
+use Rattle.da_cli.specs.Judging.{first_bad}
+use Rattle.da_cli.specs.Meaning.{judged_of, AnswerOf, Meaning}
+
+-- a command over what was gathered; where a file isn't there, nothing is defined
+abbrev pub CommandOf : Command → Gathered → Relation
+CommandOf command (whole contents) = Meaning command contents
+CommandOf command (long i) = Refuses (TooLong i)
+CommandOf command (absent i) = λ w status. ⊥
+
+abbrev pub CallOf : Option Call → Files → List (List ℕ) → Relation
+CallOf None files words = Refuses Usage
+CallOf (Some call) files words = CommandOf call.command (gathered files (file_words call.files words))
+
+-- the words' command over the files with these names
+abbrev pub RunOf : Files → List (List ℕ) → Relation
+RunOf files words = CallOf (call_of words) files words
+
+-- the output that a status leaves, where the files are told
+abbrev pub AnswersTold : Option Files → List (List ℕ) → Option (List ℕ) → Option (List ℕ) → Status → Type 0
+AnswersTold None words old new status = ⊤
+AnswersTold (Some files) words old new status = Answers (RunOf files words) old new status
+
+-- how a command ends over files in their forms: with its answer, or because of a failure or of want of
+-- memory
+abbrev pub CompletesBy : Kind → Relation → Option (List ℕ) → Option (List ℕ) → Status → Type 0
+CompletesBy usage M old new status = ⊥
+CompletesBy fault M old new status = ⊤
+CompletesBy excess M old new status = ⊥
+CompletesBy form M old new status = ⊥
+CompletesBy memory M old new status = OutputsFront M old new
+CompletesBy write M old new status = OutputsPart M old new
+CompletesBy output M old new status = Outputs M old new status
+
+-- where the words are a command, and its files are there, within the limit and in their forms, a run
+-- completes
+abbrev pub Completes : Option Files → List (List ℕ) → Option (List ℕ) → Option (List ℕ) → Status → Type 0
+Completes None words old new status = ⊤
+Completes (Some files) words old new status = (call : Call) (contents : List (List ℕ)) → call_of words ≡ Some call
+    → gathered files (file_words call.files words) ≡ whole contents
+    → first_bad 0 (judged_of call.command contents) ≡ None
+    → CompletesBy (kind_of status) (AnswerOf call.command contents) old new status
+
+-- the status of files that were not read whole
+abbrev pub status_of : Stop → Status
+status_of (stop.PickFault i) = PickFault i
+status_of (stop.ReadFault i) = ReadFault i
+status_of (stop.TooLong i) = TooLong i
+status_of stop.NoMemory = NoMemory
