@@ -12,3 +12,4 @@ pub mod Check
 pub mod Meaning
 pub mod Run
 pub mod Notes
+pub mod Laws

@@ -1,7 +1,26 @@
-//! The commands of `da`: words and files in, an output, a status and a note out.
+//! The commands of `da`: words and files in; an output, a status and a note out.
+//!
+//! `run` is the top call. Picking and reading files, the write and the note line are the same for
+//! every command; a command is one case of `Meaning` and of `execute`.
 #![tactic(auto)]
 
+mod checking;
 mod fields;
+mod files;
+mod forms;
+mod gathering;
 mod grammar;
 mod headers;
+mod laws;
+mod line;
 mod messages;
+mod output;
+mod running;
+mod status;
+mod words;
+
+pub use forms::file_forms;
+pub use gathering::FILE_LIMIT;
+pub use laws::run_laws;
+pub use running::run;
+pub use status::Status;

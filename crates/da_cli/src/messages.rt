@@ -1,7 +1,7 @@
 //! Share messages, and whether one is proved under a header.
 
 ghost use Rattle.std.specs.Prelude.{◌≡◌, ◌↔◌, IsOk, IsErrOf, IsErrAnd, true, false};
-ghost use Rattle.da_cli.specs.Proved.{position, index, is_inside, is_counted, is_ordered, is_rooted, IsProved};
+ghost use Rattle.da_cli.specs.Proved.{position, index, is_inside, is_counted, is_ordered, is_rooted, refusal_of, refusal_in, IsProved};
 
 use crate::headers::Header;
 use namespace_id::{Axis, Cell, Share, is_in_square, leaf_namespace};
@@ -67,6 +67,9 @@ pub(crate) fn opens(header: &Header, message: &Message) -> Result<(), CheckRefus
     ensures other_root { IsErrOf result CheckRefusal.OtherRoot ↔
         (is_inside header.now message.now ≡ true) × (is_counted header.now message.now ≡ true)
         × (is_ordered header.now message.now ≡ true) × (is_rooted header.now message.now ≡ false) }
+
+    // All of these at once.
+    ensures first { refusal_in result ≡ refusal_of header.now message.now }
 {
     if !is_in_square(header.k, message.cell) {
         return Err(CheckRefusal::OutOfSquare);

@@ -1,0 +1,62 @@
+-- Lemmas on how commands end.
+use Rattle.std.proofs.Common.{◌≡◌, ℕ, zero, suc, ◌+◌, ◌<◌, ◌≤◌, List, [], ◌∷◌, length, get_or, Vec, Global, refl, sym, ap, ◌∙◌, subst, arith, ⊎_elim, IsSome, ◌↔◌}
+use Rattle.std.specs.declared.option.Option.{Option}
+use Rattle.std.specs.Io.KnownBytes.{Appends}
+use Rattle.da_io.specs.Faults.{count_on}
+use Rattle.da_io.specs.Sinks.{AppendsPart}
+use Rattle.da_cli.specs.declared.status.Status.{Status}
+use Rattle.da_cli.specs.declared.status.Status.TheVariants.{WriteFault}
+use Rattle.da_cli.specs.Statuses.{Kind, output, kind_of, output_count}
+use Rattle.da_cli.specs.Gathered.{contents_of, file_of}
+use Rattle.da_cli.specs.Outcome.{Relation, AnswersBy, UntouchedBy, IsOwnBy, Ends, Finishes}
+
+-- file i of a list
+pub file_some : (files : List (Vec ℕ Global)) (i : ℕ) (file : Vec ℕ Global) → i < length files → file ≡ get_or files i file
+    → file.items ≡ file_of (contents_of files) i
+unfolding file_of
+file_some [] i file h e = absurd (omega arith)
+file_some (f ∷ files) zero file h e = ap (λ (v : Vec ℕ Global). v.items) e
+file_some (f ∷ files) (suc i) file h e = file_some files i file (omega arith) e
+
+pub file_none : (files : List (Vec ℕ Global)) (i : ℕ) → length files ≤ i → [] ≡ file_of (contents_of files) i
+unfolding file_of
+file_none [] i h = refl
+file_none (f ∷ files) zero h = absurd (omega arith)
+file_none (f ∷ files) (suc i) h = file_none files i (omega arith)
+
+-- the output of a meaning was taken whole
+pub ends_whole : (M : Relation) (bytes : List ℕ) (status : Status) (old new : Option (List ℕ)) (before now : ℕ) (Same : Type 0)
+    → kind_of status ≡ output → M bytes status → Appends old new bytes → now ≡ before → (IsSome old ↔ IsSome new)
+    → Ends M old new before now Same status
+ends_whole M bytes status old new before now Same last meant taken same told = record {
+  answers = subst (λ (k : Kind). AnswersBy k M old new status) (sym last) (bytes, meant, taken);
+  faults = same ∙ ap (λ (k : Kind). output_count k before) (sym last);
+  told = told;
+  untouched = subst (λ (k : Kind). UntouchedBy k Same) (sym last) tt;
+  own = subst IsOwnBy (sym last) tt;
+}
+
+-- a write failed after the front of the output of a meaning
+pub ends_in_fault : (M : Relation) (bytes : List ℕ) (status : Status) (old new : Option (List ℕ)) (before now : ℕ) (Same : Type 0)
+    → M bytes status → AppendsPart old new bytes → now ≡ count_on before 1 → (IsSome old ↔ IsSome new)
+    → Ends M old new before now Same WriteFault
+ends_in_fault M bytes status old new before now Same meant taken counted told = record {
+  answers = (bytes, status, meant, taken);
+  faults = counted;
+  told = told;
+  untouched = tt;
+  own = tt;
+}
+
+-- a command that gave the output of its meaning
+pub ends_by_finish : (M : Relation) (bytes : List ℕ) (status : Status) (old new : Option (List ℕ)) (before now : ℕ) (Same : Type 0) (result : Status)
+    → kind_of status ≡ output → M bytes status → Finishes bytes status old new before now result → Ends M old new before now Same result
+ends_by_finish M bytes status old new before now Same result last meant finishes =
+    ⊎_elim
+    (λ (whole : (result ≡ status) × Appends old new bytes × (now ≡ before)).
+    subst (λ (s : Status). Ends M old new before now Same s) (sym whole.0)
+    (ends_whole M bytes status old new before now Same last meant whole.1 whole.2 finishes.told))
+    (λ (part : (result ≡ WriteFault) × AppendsPart old new bytes × (now ≡ count_on before 1)).
+    subst (λ (s : Status). Ends M old new before now Same s) (sym part.0)
+    (ends_in_fault M bytes status old new before now Same meant part.1 part.2 finishes.told))
+    finishes.taken

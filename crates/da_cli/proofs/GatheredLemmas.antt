@@ -1,0 +1,151 @@
+-- Lemmas on reading the files of a list of names.
+use Rattle.std.proofs.Common.{◌≡◌, ℕ, zero, suc, ◌+◌, ◌<◌, ◌≤◌, nat_lt, Bool, true, false, cond, List, [], ◌∷◌, ◌++◌, length, drop, get_or, None, Some, Ok, Err, Vec, String, Global, refl, sym, ap, ◌∙◌, subst, arith, ⊎_elim, inl, inr, add-one, append_assoc, append-nil, drop-cons}
+use Rattle.std.specs.Prelude.{⊤, ◌⊎◌}
+use Rattle.std.specs.declared.option.Option.{Option}
+use Rattle.std.specs.String.{string_bytes}
+use Rattle.std.proofs.lemmas.Bool.Decides.{nat_tests}
+use Rattle.std.proofs.lemmas.List.{length-map}
+use Rattle.std.proofs.lemmas.Grind.{common_steps}
+use Rattle.da_io.specs.Files.{Files}
+use Rattle.da_io.specs.declared.inputs.Ended.{Ended}
+use Rattle.da_cli.specs.declared.gathering.Stop.{Stop}
+use Rattle.da_cli.specs.declared.gathering.Stop.TheVariants.{PickFault, ReadFault, TooLong, NoMemory}
+use Rattle.da_cli.specs.Limits.{file_limit}
+use Rattle.da_cli.specs.Words.{words_of}
+use Rattle.da_cli.specs.Gathered.{Gathered, whole, long, absent, with_front, gathered_one, gathered_from, gathered, contents_of, file_of, IsWord, ReadsFile, StopsFile, Gathers, StopsIn, AllRead}
+
+-- these contents, and then what is gathered after them
+abbrev pub after : List (List ℕ) → Gathered → Gathered
+after front (whole contents) = whole (front ++ contents)
+after front (long i) = long i
+after front (absent i) = absent i
+
+after-with_front : (front : List (List ℕ)) (content : List ℕ) (g : Gathered) → after front (with_front content g) ≡ after (front ++ content ∷ []) g
+after-with_front front content (whole contents) = ap whole (sym (append_assoc front (content ∷ []) contents))
+after-with_front front content (long i) = refl
+after-with_front front content (absent i) = refl
+
+-- reading has come to name i, with these contents
+abbrev pub HasCome : Option Files → List (List ℕ) → ℕ → List (List ℕ) → Type 0
+HasCome None names i contents = ⊤
+HasCome (Some files) names i contents = gathered files names ≡ after contents (gathered_from files i (drop i names))
+
+-- name i, and then the later ones
+pub word_here : (words : List (String Global)) (i : ℕ) (word : String Global) → i < length words → word ≡ get_or words i word
+    → drop i (words_of words) ≡ string_bytes word ∷ drop (i + 1) (words_of words)
+word_here [] i word h e = absurd (omega arith)
+word_here (w ∷ words) zero word h e = ap (λ (l : List ℕ). l ∷ words_of words) (ap string_bytes (sym e))
+word_here (w ∷ words) (suc i) word h e =
+    let next : suc i + 1 ≡ suc (i + 1) = omega arith in
+    word_here words i word (omega arith) e
+    ∙ sym (ap (λ (k : ℕ). string_bytes word ∷ drop k (words_of (w ∷ words))) next)
+
+-- the same by a copy of the word
+pub name_here : (words : List (String Global)) (i : ℕ) (word name : String Global) → i < length words → word ≡ get_or words i word
+    → string_bytes name ≡ string_bytes word → drop i (words_of words) ≡ string_bytes name ∷ drop (i + 1) (words_of words)
+name_here words i word name h e same =
+    word_here words i word h e ∙ ap (λ (l : List ℕ). l ∷ drop (i + 1) (words_of words)) (sym same)
+
+-- what is gathered from a name on
+from_here : (files : Files) (names : List (List ℕ)) (i : ℕ) (name : List ℕ) → drop i names ≡ name ∷ drop (i + 1) names
+    → gathered_from files i (drop i names) ≡ gathered_one i (files name) (gathered_from files (i + 1) (drop (i + 1) names))
+unfolding gathered_from
+from_here files names i name here =
+    let next : suc i ≡ i + 1 = sym (add-one i) in
+    ap (gathered_from files i) here
+    ∙ ap (λ (j : ℕ). gathered_one i (files name) (gathered_from files j (drop (i + 1) names))) next
+
+within : (i : ℕ) (content : List ℕ) (later : Gathered) → length content ≤ file_limit → gathered_one i (Some content) later ≡ with_front content later
+within i content later h =
+    let e : nat_lt file_limit (length content) ≡ false = grind (arith, nat_tests) in
+    ap (λ (b : Bool). cond b (long i) (with_front content later)) e
+
+beyond : (i : ℕ) (content : List ℕ) (later : Gathered) → file_limit < length content → gathered_one i (Some content) later ≡ long i
+beyond i content later h =
+    let e : nat_lt file_limit (length content) ≡ true = grind (arith, nat_tests) in
+    ap (λ (b : Bool). cond b (long i) (with_front content later)) e
+
+-- one more file was read whole
+pub come_on : (told : Option Files) (names : List (List ℕ)) (i : ℕ) (contents : List (List ℕ)) (name : List ℕ) (content : Vec ℕ Global)
+    → HasCome told names i contents → drop i names ≡ name ∷ drop (i + 1) names → ReadsFile told name (Ok content)
+    → HasCome told names (i + 1) (contents ++ content.items ∷ [])
+come_on None names i contents name content come here read = tt
+come_on (Some files) names i contents name content come here read =
+    let later = gathered_from files (i + 1) (drop (i + 1) names) in
+    let next : gathered_from files i (drop i names) ≡ with_front content.items later =
+    from_here files names i name here ∙ ap (λ (o : Option (List ℕ)). gathered_one i o later) read.0 ∙ within i content.items later read.1 in
+    come ∙ ap (after contents) next ∙ after-with_front contents content.items later
+
+-- all were read
+pub come_to_end : (told : Option Files) (names : List (List ℕ)) (i : ℕ) (contents : Vec (Vec ℕ Global) Global)
+    → HasCome told names i (contents_of contents.items) → length names ≤ i → Gathers told names (Ok contents)
+unfolding gathered_from
+come_to_end None names i contents come h = tt
+come_to_end (Some files) names i contents come h =
+    let none : drop i names ≡ [] = grind (arith, common_steps) in
+    come ∙ ap (λ (ns : List (List ℕ)). after (contents_of contents.items) (gathered_from files i ns)) none
+    ∙ ap whole (append-nil (contents_of contents.items))
+
+-- file i was not read whole
+pub stop_here : (told : Option Files) (names : List (List ℕ)) (i : ℕ) (contents : List (List ℕ)) (name : List ℕ) (last : Ended) (given : ℕ) (stop : Stop)
+    → HasCome told names i contents → drop i names ≡ name ∷ drop (i + 1) names → ReadsFile told name (Err stop)
+    → StopsFile i last given stop → Gathers told names (Err stop)
+stop_here None names i contents name last given stop come here read why = tt
+stop_here (Some files) names i contents name last given (PickFault j) come here read why = tt
+stop_here (Some files) names i contents name last given (ReadFault j) come here read why = tt
+stop_here (Some files) names i contents name last given NoMemory come here read why = tt
+stop_here (Some files) names i contents name last given (TooLong j) come here read why =
+    let later = gathered_from files (i + 1) (drop (i + 1) names) in
+    let next : gathered_from files i (drop i names) ≡ long i =
+    from_here files names i name here ∙ ap (λ (o : Option (List ℕ)). gathered_one i o later) read.1 ∙ beyond i read.0 later read.2 in
+    come ∙ ap (after contents) next ∙ ap long (sym why.0)
+
+-- the name at a place
+pub name_at : (names : List (List ℕ)) (i : ℕ) (name : List ℕ) (later : List (List ℕ)) → drop i names ≡ name ∷ later → IsWord names i (Some name)
+unfolding file_of
+name_at [] zero name later e = absurd cc
+name_at [] (suc i) name later e = absurd cc
+name_at (n ∷ names) zero name later e = (omega arith, cc)
+name_at (n ∷ names) (suc i) name later e = let rest = name_at names i name later e in (omega (arith, rest.0), rest.1)
+
+-- the file that stopped it is the one with its number
+pub stop_in : (told : Option Files) (names : List (List ℕ)) (i : ℕ) (name : List ℕ) (picked : Option (List ℕ)) (last : Ended) (given : ℕ) (stop : Stop)
+    → drop i names ≡ name ∷ drop (i + 1) names → AllRead told names i → picked ≡ Some name → StopsFile i last given stop
+    → StopsIn told names picked last given stop
+stop_in told names i name picked last given (PickFault j) here all named why =
+    let word = subst (IsWord names i) (sym named) (name_at names i name (drop (i + 1) names) here) in
+    (why.1, subst (λ (n : ℕ). IsWord names n picked) (sym why.0) word, subst (AllRead told names) (sym why.0) all)
+stop_in told names i name picked last given (ReadFault j) here all named why =
+    let word = subst (IsWord names i) (sym named) (name_at names i name (drop (i + 1) names) here) in
+    (why.1, subst (λ (n : ℕ). IsWord names n picked) (sym why.0) word, subst (AllRead told names) (sym why.0) all)
+stop_in told names i name picked last given (TooLong j) here all named why =
+    let word = subst (IsWord names i) (sym named) (name_at names i name (drop (i + 1) names) here) in
+    (why.1, subst (λ (n : ℕ). IsWord names n picked) (sym why.0) word, subst (AllRead told names) (sym why.0) all)
+stop_in told names i name picked last given NoMemory here all named why = tt
+
+below : (j i : ℕ) → j < i + 1 → (j < i) ⊎ (j ≡ i)
+below zero zero h = inr refl
+below zero (suc i) h = inl (omega arith)
+below (suc j) zero h = absurd (omega arith)
+below (suc j) (suc i) h = ⊎_elim (λ (lt : j < i). inl (omega arith)) (λ (same : j ≡ i). inr (ap suc same)) (below j i (omega arith))
+
+pub all_read_none : (told : Option Files) (names : List (List ℕ)) → AllRead told names 0
+all_read_none None names = tt
+all_read_none (Some files) names = λ j h. absurd (omega arith)
+
+-- one more file is there and within the limit
+pub all_read_on : (told : Option Files) (names : List (List ℕ)) (i : ℕ) (name : List ℕ) (content : Vec ℕ Global)
+    → AllRead told names i → drop i names ≡ name ∷ drop (i + 1) names → ReadsFile told name (Ok content) → AllRead told names (i + 1)
+all_read_on None names i name content before here read = tt
+all_read_on (Some files) names i name content before here read = λ j hj.
+    ⊎_elim
+    (λ (lt : j < i). before j lt)
+    (λ (same : j ≡ i).
+    let named : file_of names j ≡ name = ap (file_of names) same ∙ (name_at names i name (drop (i + 1) names) here).1 in
+    (content.items, ap files named ∙ read.0, read.1))
+    (below j i hj)
+
+-- the contents of one more file
+pub contents_more : (contents : List (Vec ℕ Global)) (content : Vec ℕ Global) → contents_of (contents ++ content ∷ []) ≡ contents_of contents ++ content.items ∷ []
+contents_more [] content = refl
+contents_more (c ∷ contents) content = ap (λ (l : List (List ℕ)). c.items ∷ l) (contents_more contents content)

@@ -1,0 +1,129 @@
+-- Lemmas on a whole run.
+use Rattle.std.proofs.Common.{◌≡◌, ℕ, ◌+◌, ◌-◌, List, [], take, drop, None, Some, Ok, Vec, String, Global, refl, sym, ap, ◌∙◌, subst, arith, IsSome, ◌↔◌}
+use Rattle.std.specs.Prelude.{MatchOption}
+use Rattle.std.specs.declared.option.Option.{Option}
+use Rattle.std.specs.String.{string_bytes}
+use Rattle.std.proofs.lemmas.List.{take-map, drop-map}
+use Rattle.da_io.specs.Files.{Files}
+use Rattle.da_cli.specs.declared.words.Command.{Command}
+use Rattle.da_cli.specs.declared.words.Command.TheVariants.{Check}
+use Rattle.da_cli.specs.declared.words.Call.{Call}
+use Rattle.da_cli.specs.declared.status.Status.{Status}
+use Rattle.da_cli.specs.declared.status.Status.TheVariants.{BadInput, TooLong, Usage}
+use Rattle.da_cli.specs.Statuses.{Kind, usage, fault, excess, form, memory, write, output, kind_of}
+use Rattle.da_cli.specs.Words.{words_of, call_of, file_words}
+use Rattle.da_cli.specs.Gathered.{Gathered, whole, long, absent, gathered, contents_of, Gathers}
+use Rattle.da_cli.specs.Outcome.{Relation, Refuses, Outputs, AnswersBy, Answers}
+use Rattle.da_cli.specs.Judging.{first_bad, Judged}
+use Rattle.da_cli.specs.Meaning.{judged_of, AnswerOf, Meaning}
+use Rattle.da_cli.specs.Run.{CommandOf, CallOf, RunOf, AnswersTold, CompletesBy, Completes}
+use Rattle.da_cli.specs.Laws.{FormLaw, BadInputLaw, ExcessLaw, AbsentLaw, IsDecided, FailureLaw}
+use Rattle.da_cli.proofs.CheckLemmas.{check_last}
+
+-- the relation of words that are a command
+run_of_call : (words : List (List ℕ)) (call : Call) (files : Files) (g : Gathered) → call_of words ≡ Some call
+    → gathered files (file_words call.files words) ≡ g → RunOf files words ≡ CommandOf call.command g
+run_of_call words call files g e read =
+    ap (λ (o : Option Call). CallOf o files words) e ∙ ap (CommandOf call.command) read
+
+-- a command over files that were read whole
+pub command_told : (told : Option Files) (words : List (List ℕ)) (names : List (List ℕ)) (call : Call) (contents : Vec (Vec ℕ Global) Global)
+    (read : List (Vec ℕ Global)) (old new : Option (List ℕ)) (status : Status) → Some call ≡ call_of words → names ≡ file_words call.files words
+    → Gathers told names (Ok contents) → read ≡ contents.items → Answers (Meaning call.command (contents_of read)) old new status
+    → AnswersTold told words old new status
+command_told None words names call contents read old new status e named gathers lent answers = tt
+command_told (Some files) words names call contents read old new status e named gathers lent answers =
+    let same : RunOf files words ≡ Meaning call.command (contents_of read) =
+    run_of_call words call files (whole (contents_of contents.items)) (sym e) (ap (gathered files) (sym named) ∙ gathers)
+    ∙ ap (λ (cs : List (Vec ℕ Global)). Meaning call.command (contents_of cs)) (sym lent) in
+    subst (λ (M : Relation). Answers M old new status) (sym same) answers
+
+-- the names of the files, as a slice of the words gives them
+pub names_here : (n : ℕ) (words : List (String Global)) → words_of (take (1 + n - 1) (drop 1 words)) ≡ file_words n (words_of words)
+names_here n words =
+    let e : 1 + n - 1 ≡ n = omega arith in
+    ap (λ (k : ℕ). words_of (take k (drop 1 words))) e ∙ sym (take-map string_bytes n (drop 1 words))
+    ∙ ap (take n) (sym (drop-map string_bytes 1 words))
+
+-- the meaning over judged files
+judged_is : (judged : List (Option ℕ)) (A : Relation) (o : Option (ℕ × ℕ)) → first_bad 0 judged ≡ o
+    → Judged judged A ≡ (λ w status. MatchOption o (A w status) (λ bad. Refuses (BadInput bad.0 bad.1) w status))
+judged_is judged A o e = λ i w status. MatchOption (e i) (A w status) (λ bad. Refuses (BadInput bad.0 bad.1) w status)
+
+-- one relation as another
+as_one : (M N : Relation) (w : List ℕ) (status : Status) → M ≡ N → M w status ↔ N w status
+as_one M N w status e = (
+  λ h. subst (λ (R : Relation). R w status) e h,
+  λ h. subst (λ (R : Relation). R w status) (sym e) h,
+)
+
+run_in_form : (files : Files) (words : List (List ℕ)) (call : Call) (contents : List (List ℕ)) → call_of words ≡ Some call
+    → gathered files (file_words call.files words) ≡ whole contents → first_bad 0 (judged_of call.command contents) ≡ None
+    → RunOf files words ≡ AnswerOf call.command contents
+run_in_form files words call contents e read fine =
+    run_of_call words call files (whole contents) e read ∙ judged_is (judged_of call.command contents) (AnswerOf call.command contents) None fine
+
+pub form_law : FormLaw
+form_law files words call contents w status e read fine =
+    as_one (RunOf files words) (AnswerOf call.command contents) w status (run_in_form files words call contents e read fine)
+
+pub bad_input_law : BadInputLaw
+bad_input_law files words call contents i at w status e read bad =
+    as_one (RunOf files words) (Refuses (BadInput i at)) w status
+    (run_of_call words call files (whole contents) e read ∙ judged_is (judged_of call.command contents) (AnswerOf call.command contents) (Some (i, at)) bad)
+
+pub excess_law : ExcessLaw
+excess_law files words call i w status e read =
+    as_one (RunOf files words) (Refuses (TooLong i)) w status (run_of_call words call files (long i) e read)
+
+pub absent_law : AbsentLaw
+absent_law files words call i w status e read run =
+    subst (λ (R : Relation). R w status) (run_of_call words call files (absent i) e read) run
+
+-- a command's answer comes with its output
+pub answer_last : (command : Command) (files : List (List ℕ)) (w : List ℕ) (status : Status) → AnswerOf command files w status → kind_of status ≡ output
+answer_last Check files w status h = check_last files w status h
+
+decided : (status : Status) (k : Kind) → kind_of status ≡ k → IsDecided k → IsDecided (kind_of status)
+decided status k e h = subst IsDecided (sym e) h
+
+by_judged : (o : Option (ℕ × ℕ)) (command : Command) (files : List (List ℕ)) (w : List ℕ) (status : Status)
+    → MatchOption o (AnswerOf command files w status) (λ bad. Refuses (BadInput bad.0 bad.1) w status) → IsDecided (kind_of status)
+by_judged None command files w status h = decided status output (answer_last command files w status h) tt
+by_judged (Some bad) command files w status h = decided status form (ap kind_of h.1) tt
+
+by_gathered : (g : Gathered) (command : Command) (w : List ℕ) (status : Status) → CommandOf command g w status → IsDecided (kind_of status)
+by_gathered (whole contents) command w status h = by_judged (first_bad 0 (judged_of command contents)) command contents w status h
+by_gathered (long i) command w status h = decided status excess (ap kind_of h.1) tt
+by_gathered (absent i) command w status h = absurd h
+
+by_call : (o : Option Call) (files : Files) (words : List (List ℕ)) (w : List ℕ) (status : Status) → CallOf o files words w status → IsDecided (kind_of status)
+by_call None files words w status h = decided status usage (ap kind_of h.1) tt
+by_call (Some call) files words w status h = by_gathered (gathered files (file_words call.files words)) call.command w status h
+
+pub failure_law : FailureLaw
+failure_law files words w status h = by_call (call_of words) files words w status h
+
+-- an output that belongs to an answer has an answer's status
+other_kind : (M : Relation) (old new : Option (List ℕ)) (status : Status) (k : Kind) → kind_of status ≡ k
+    → ((w : List ℕ) → M w status → kind_of status ≡ output) → Outputs M old new status → k ≡ output
+other_kind M old new status k e last outputs = sym e ∙ last outputs.0 outputs.1
+
+completes_by : (M : Relation) (old new : Option (List ℕ)) (status : Status) (k : Kind) → kind_of status ≡ k
+    → ((w : List ℕ) → M w status → kind_of status ≡ output) → AnswersBy k M old new status → CompletesBy k M old new status
+completes_by M old new status usage e last h = let same : usage ≡ output = other_kind M old new status usage e last h in absurd cc
+completes_by M old new status fault e last h = tt
+completes_by M old new status excess e last h = let same : excess ≡ output = other_kind M old new status excess e last h in absurd cc
+completes_by M old new status form e last h = let same : form ≡ output = other_kind M old new status form e last h in absurd cc
+completes_by M old new status memory e last h = h
+completes_by M old new status write e last h = h
+completes_by M old new status output e last h = h
+
+-- over files in their forms a run completes
+pub completes : (told : Option Files) (words : List (List ℕ)) (old new : Option (List ℕ)) (status : Status)
+    → AnswersTold told words old new status → Completes told words old new status
+completes None words old new status h = tt
+completes (Some files) words old new status h = λ call contents e read fine.
+    let M = AnswerOf call.command contents in
+    completes_by M old new status (kind_of status) refl (λ w. answer_last call.command contents w status)
+    (subst (λ (R : Relation). Answers R old new status) (run_in_form files words call contents e read fine) h)

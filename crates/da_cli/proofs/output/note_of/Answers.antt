@@ -1,0 +1,7 @@
+use Rattle.std.proofs.Common.{length, arith, ap}
+use Rattle.std.proofs.lemmas.List.{length-append}
+use Rattle.da_cli.proofs.DigitLemmas.{digits_fit}
+use Rattle.da_cli.proofs.output.note_of.Goals as goal
+
+pub around-requires-in-BadInput-2 : goal.around-requires-in-BadInput-2
+around-requires-in-BadInput-2 c = omega (arith, ap length c.new-line.ensures, simp length-append at (ap length c.around-in-BadInput.ensures), digits_fit c.from-in-BadInput.result (omega arith))

@@ -1,0 +1,53 @@
+-- What the relation of a run says of each kind of words and files.
+use Rattle.std.specs.Prelude.{◌≡◌, ◌↔◌, ◌⊎◌, ℕ, List, Some, None}
+use Rattle.std.specs.declared.option.Option.{Option}
+use Rattle.da_io.specs.Files.{Files}
+use Rattle.da_cli.specs.declared.words.Call.{Call}
+use Rattle.da_cli.specs.declared.status.Status.{Status}
+use Rattle.da_cli.specs.declared.status.Status.TheVariants.{BadInput, TooLong}
+use Rattle.da_cli.specs.Statuses.{Kind, usage, fault, excess, form, memory, write, output, kind_of}
+use Rattle.da_cli.specs.Words.{call_of, file_words}
+use Rattle.da_cli.specs.Gathered.{gathered, whole, long, absent}
+use Rattle.da_cli.specs.Outcome.{Refuses}
+use Rattle.da_cli.specs.Judging.{first_bad}
+use Rattle.da_cli.specs.Meaning.{judged_of, AnswerOf}
+use Rattle.da_cli.specs.Run.{RunOf}
+
+-- over files in their forms, just the command's answer belongs to the run
+abbrev pub FormLaw : Type 0
+FormLaw = (files : Files) (words : List (List ℕ)) (call : Call) (contents : List (List ℕ)) (w : List ℕ) (status : Status)
+    → call_of words ≡ Some call → gathered files (file_words call.files words) ≡ whole contents
+    → first_bad 0 (judged_of call.command contents) ≡ None
+    → RunOf files words w status ↔ AnswerOf call.command contents w status
+
+-- where file i is the first that isn't in its form, just `BadInput` with no output does
+abbrev pub BadInputLaw : Type 0
+BadInputLaw = (files : Files) (words : List (List ℕ)) (call : Call) (contents : List (List ℕ)) (i at : ℕ) (w : List ℕ) (status : Status)
+    → call_of words ≡ Some call → gathered files (file_words call.files words) ≡ whole contents
+    → first_bad 0 (judged_of call.command contents) ≡ Some (i, at)
+    → RunOf files words w status ↔ Refuses (BadInput i at) w status
+
+-- where file i is the first that is too long, just `TooLong` with no output does
+abbrev pub ExcessLaw : Type 0
+ExcessLaw = (files : Files) (words : List (List ℕ)) (call : Call) (i : ℕ) (w : List ℕ) (status : Status)
+    → call_of words ≡ Some call → gathered files (file_words call.files words) ≡ long i
+    → RunOf files words w status ↔ Refuses (TooLong i) w status
+
+-- where a file isn't there, nothing does
+abbrev pub AbsentLaw : Type 0
+AbsentLaw = (files : Files) (words : List (List ℕ)) (call : Call) (i : ℕ) (w : List ℕ) (status : Status)
+    → call_of words ≡ Some call → gathered files (file_words call.files words) ≡ absent i
+    → RunOf files words w status → ⊥
+
+-- failures and want of memory belong to no run
+abbrev pub IsDecided : Kind → Type 0
+IsDecided usage = Unit {0}
+IsDecided fault = ⊥
+IsDecided excess = Unit {0}
+IsDecided form = Unit {0}
+IsDecided memory = ⊥
+IsDecided write = ⊥
+IsDecided output = Unit {0}
+
+abbrev pub FailureLaw : Type 0
+FailureLaw = (files : Files) (words : List (List ℕ)) (w : List ℕ) (status : Status) → RunOf files words w status → IsDecided (kind_of status)

@@ -1,0 +1,76 @@
+//! Reading the files of a command, in the order of the words.
+
+ghost use Rattle.std.specs.Prelude.{◌≡◌, ℕ, ◌≤◌, ◌<◌, length, IfErr, Some, Ok, Err};
+ghost use Rattle.std.specs.String.{string_bytes};
+ghost use Rattle.da_cli.specs.Words.{words_of};
+ghost use Rattle.da_cli.specs.Gathered.{ReadsFile, StopsFile, Gathers, StopsIn, count_after, WithinLimit};
+
+use da_io::{InputFault, Inputs, read_all};
+use std::alloc::Global;
+
+/// The bytes that one input file may have, 512 MiB.
+pub const FILE_LIMIT: u64 = 536_870_912;
+
+/// Why the files were not read whole.
+#[derive(Clone, Copy, Debug, PartialEq, Eq)]
+pub(crate) enum Stop {
+    PickFault(u32),
+    ReadFault(u32),
+    TooLong(u32),
+    NoMemory,
+}
+
+/// Picks the file that a word names and reads it to its end. It is file `i`.
+fn read_file<I: Inputs>(
+    alloc: Global,
+    name: String,
+    i: u32,
+    inputs: &mut I,
+) -> Result<Vec<u8>, Stop>
+    ensures content { ReadsFile (I.files inputs.old) (string_bytes name) result }
+    ensures stop { IfErr result (StopsFile i (I.ended inputs.new) (I.given inputs.new)) }
+    ensures faults { I.faults inputs.new ≡ count_after (I.faults inputs.old) result }
+    ensures within { WithinLimit (I.given inputs.new) result }
+    ensures picked { I.picked inputs.new ≡ Some (string_bytes name) }
+    ensures files { I.files inputs.new ≡ I.files inputs.old }
+{
+    if inputs.pick(name).is_err() {
+        return Err(Stop::PickFault(i));
+    }
+    match read_all(alloc, inputs, FILE_LIMIT) {
+        Ok(content) => Ok(content),
+        Err(InputFault::ReadFailed) => Err(Stop::ReadFault(i)),
+        Err(InputFault::TooLong(_)) => Err(Stop::TooLong(i)),
+        Err(InputFault::NoMemory) => Err(Stop::NoMemory),
+    }
+}
+
+/// Picks and reads each file to its end, and stops at the first failure or excess of length.
+pub(crate) fn gather<I: Inputs>(
+    alloc: Global,
+    words: &[String],
+    inputs: &mut I,
+) -> Result<Vec<Vec<u8>>, Stop>
+    requires { length words.now < 16 }
+    ensures contents { Gathers (I.files inputs.old) (words_of words.now) result }
+    ensures stop { IfErr result (StopsIn (I.files inputs.old) (words_of words.now)
+        (I.picked inputs.new) (I.ended inputs.new) (I.given inputs.new)) }
+    ensures faults { I.faults inputs.new ≡ count_after (I.faults inputs.old) result }
+    ensures within { 0 < length words.now → WithinLimit (I.given inputs.new) result }
+    ensures files { I.files inputs.new ≡ I.files inputs.old }
+{
+    let mut contents = Vec::new(alloc);
+    for i in 0..words.len() {
+        let Ok(name) = words[i].clone() else {
+            return Err(Stop::NoMemory);
+        };
+        let content = match read_file(alloc, name, i as u32, inputs) {
+            Ok(content) => content,
+            Err(stop) => return Err(stop),
+        };
+        let Ok(()) = contents.push(content) else {
+            return Err(Stop::NoMemory);
+        };
+    }
+    Ok(contents)
+}

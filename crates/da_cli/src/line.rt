@@ -1,0 +1,60 @@
+//! A line of text with numbers, put together without memory.
+
+ghost use Rattle.std.specs.Prelude.{◌≡◌, ℕ, ◌+◌, ◌≤◌, [], ◌++◌, length, decimal};
+
+use std::marker::Model;
+
+#[derive(Drop)]
+pub(crate) struct Line {
+    bytes: [u8; 96],
+    len: usize,
+}
+
+impl Model for Line {
+    ghost use Rattle.std.specs.Prelude.{ℕ, List, ◌≤◌, take};
+
+    ghost Value = { List ℕ };
+
+    ghost view = { λ line. take line.len line.bytes };
+
+    ghost invariant = { λ line. line.len ≤ 96 };
+}
+
+impl Line {
+    pub(crate) fn new() -> Line
+        ensures { result ≡ [] }
+    {
+        Line {
+            bytes: [0; 96],
+            len: 0,
+        }
+    }
+
+    pub(crate) fn put(&mut self, text: &[u8])
+        requires { length self.old + length text.now ≤ 96 }
+        ensures { self.new ≡ self.old ++ text.now }
+    {
+        self.bytes[self.len..self.len + text.len()].copy_from_slice(text);
+        self.len += text.len();
+    }
+
+    /// Puts a number in decimal digits.
+    #[tactic(auto, using(crate::proofs::DigitLemmas::digits_room, std::proofs::lemmas::Fmt::decimal_step, std::proofs::lemmas::Fmt::decimal_digit))]
+    pub(crate) fn put_number(&mut self, number: u64)
+        requires { length self.old + length (decimal number) ≤ 96 }
+        ensures { self.new ≡ self.old ++ decimal number }
+    {
+        if number < 10 {
+            self.put(&[48 + number as u8]);
+            return;
+        }
+        self.put_number(number / 10);
+        self.put(&[48 + (number % 10) as u8]);
+    }
+
+    pub(crate) fn as_bytes(&self) -> &[u8]
+        ensures { result.now ≡ self.now }
+    {
+        &self.bytes[..self.len]
+    }
+}

@@ -1,0 +1,63 @@
+//! The output of a command, and the line that goes with its status.
+
+ghost use Rattle.std.specs.Prelude.{◌≡◌, ℕ, ◌+◌, ◌≤◌, ◌++◌, length, decimal};
+ghost use Rattle.da_cli.specs.Outcome.{Finishes};
+ghost use Rattle.da_cli.specs.Notes.{note_of, Notes};
+
+use crate::Status;
+use crate::line::Line;
+use da_io::{Sink, write_all};
+
+/// Gives an output whole, and answers the status that goes with it.
+pub(crate) fn finish<O: Sink>(out: &mut O, output: &[u8], status: Status) -> Status
+    ensures { Finishes output.now status (O.taken out.old) (O.taken out.new) (O.faults out.old)
+        (O.faults out.new) result }
+{
+    match write_all(out, output) {
+        Ok(()) => status,
+        Err(_) => Status::WriteFault,
+    }
+}
+
+/// Puts a number between two texts.
+#[tactic(auto, using(crate::proofs::DigitLemmas::digits_fit))]
+fn around(line: &mut Line, front: &[u8], number: u64, back: &[u8])
+    requires { length line.old + length front.now + 20 + length back.now ≤ 96 }
+    ensures { line.new ≡ line.old ++ front.now ++ decimal number ++ back.now }
+{
+    line.put(front);
+    line.put_number(number);
+    line.put(back);
+}
+
+/// The line that goes with a status. It takes no memory.
+#[tactic(auto, using(crate::proofs::DigitLemmas::digits_fit))]
+fn note_of(status: Status) -> Line
+    ensures { result ≡ note_of status }
+{
+    let mut line = Line::new();
+    match status {
+        Status::Done => {}
+        Status::Usage => line.put(b"usage: da COMMAND WORDS\n"),
+        Status::PickFault(i) => around(&mut line, b"cannot open file ", u64::from(i), b"\n"),
+        Status::ReadFault(i) => around(&mut line, b"cannot read file ", u64::from(i), b"\n"),
+        Status::WriteFault => line.put(b"cannot write\n"),
+        Status::NoMemory => line.put(b"out of memory\n"),
+        Status::BadInput(i, at) => {
+            around(&mut line, b"bad input: file ", u64::from(i), b" at ");
+            around(&mut line, b"", at, b"\n");
+        }
+        Status::TooLong(i) => around(&mut line, b"too long: file ", u64::from(i), b"\n"),
+        Status::Refused => line.put(b"refused\n"),
+    }
+    line
+}
+
+/// Notes how a run ended. A write that fails here changes no status.
+pub(crate) fn note<N: Sink>(status: Status, notes: &mut N)
+    ensures { Notes (note_of status) (N.taken notes.old) (N.taken notes.new) (N.faults notes.old)
+        (N.faults notes.new) }
+{
+    let line = note_of(status);
+    let _noted = write_all(notes, line.as_bytes());
+}

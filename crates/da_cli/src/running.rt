@@ -1,0 +1,121 @@
+//! The top call.
+
+ghost use Rattle.std.specs.Prelude.{◌≡◌, ◌↔◌, ℕ, ◌≤◌, None, IsSome};
+ghost use Rattle.da_cli.specs.declared.status.Status.TheVariants.{Usage};
+ghost use Rattle.da_cli.specs.Words.{words_of, call_of, names_of};
+ghost use Rattle.da_cli.specs.Statuses.{kind_of, input_count, output_count};
+ghost use Rattle.da_cli.specs.Gathered.{contents_of};
+ghost use Rattle.da_cli.specs.Outcome.{FaultCause, ExcessCause, Untouched, Ends};
+ghost use Rattle.da_cli.specs.Meaning.{Meaning};
+ghost use Rattle.da_cli.specs.Notes.{note_of, Notes};
+ghost use Rattle.da_cli.specs.Run.{status_of, AnswersTold, Completes};
+
+use crate::checking::check;
+use crate::gathering::{Stop, gather};
+use crate::output::note;
+use crate::words::{Command, call_of};
+use crate::Status;
+use da_io::{Inputs, Sink};
+use std::alloc::Global;
+
+/// The status of files that were not read whole.
+fn status_of(stop: Stop) -> Status
+    ensures { result ≡ status_of stop }
+{
+    match stop {
+        Stop::PickFault(i) => Status::PickFault(i),
+        Stop::ReadFault(i) => Status::ReadFault(i),
+        Stop::TooLong(i) => Status::TooLong(i),
+        Stop::NoMemory => Status::NoMemory,
+    }
+}
+
+/// Runs a command over the contents of its files.
+fn execute<O: Sink>(alloc: Global, command: Command, files: &[Vec<u8>], out: &mut O) -> Status
+    ensures { Ends (Meaning command (contents_of files.now)) (O.taken out.old) (O.taken out.new)
+        (O.faults out.old) (O.faults out.new) (out.new ≡ out.old) result }
+{
+    match command {
+        Command::Check => check(alloc, files, out),
+    }
+}
+
+/// Runs the command that the words are, without a note.
+fn answer<I: Inputs, O: Sink>(
+    alloc: Global,
+    words: &[String],
+    inputs: &mut I,
+    out: &mut O,
+) -> Status
+    ensures meaning { AnswersTold (I.files inputs.old) (words_of words.now) (O.taken out.old)
+        (O.taken out.new) result }
+    ensures usage { (result ≡ Usage) ↔ (call_of (words_of words.now) ≡ None) }
+    ensures idle { result ≡ Usage → inputs.new ≡ inputs.old }
+    ensures untouched { Untouched (out.new ≡ out.old) result }
+    ensures fault { FaultCause (I.files inputs.old) (names_of (words_of words.now))
+        (I.picked inputs.new) (I.ended inputs.new) result }
+    ensures excess { ExcessCause (I.files inputs.old) (names_of (words_of words.now))
+        (I.picked inputs.new) (I.given inputs.new) result }
+    ensures input_faults { I.faults inputs.new ≡ input_count (kind_of result) (I.faults inputs.old) }
+    ensures output_faults { O.faults out.new ≡ output_count (kind_of result) (O.faults out.old) }
+    ensures files { I.files inputs.new ≡ I.files inputs.old }
+    ensures told { IsSome (O.taken out.old) ↔ IsSome (O.taken out.new) }
+{
+    let Some(call) = call_of(words) else {
+        return Status::Usage;
+    };
+    match gather(alloc, &words[1..1 + call.files], inputs) {
+        Ok(contents) => execute(alloc, call.command, &contents, out),
+        Err(stop) => status_of(stop),
+    }
+}
+
+/// Runs the command that the words are: reads its files in the order of the words, gives its output
+/// to `out` and the line of its status to `notes`.
+///
+/// The words are those after the program's name. `Usage` is decided first; then each file is picked
+/// and read to its end; then the files are judged in their order; then comes the output. What is
+/// decided before the output leaves `out` as it was. Want of memory may be answered at any step
+/// after the words.
+pub fn run<I: Inputs, O: Sink, N: Sink>(
+    alloc: Global,
+    words: &[String],
+    inputs: &mut I,
+    out: &mut O,
+    notes: &mut N,
+) -> Status
+    // Words, files, output and status belong together, where the files are told.
+    ensures meaning { AnswersTold (I.files inputs.old) (words_of words.now) (O.taken out.old)
+        (O.taken out.new) result }
+    ensures complete { Completes (I.files inputs.old) (words_of words.now) (O.taken out.old)
+        (O.taken out.new) result }
+
+    // `Usage` comes exactly where the words are no command, and then nothing is read.
+    ensures usage { (result ≡ Usage) ↔ (call_of (words_of words.now) ≡ None) }
+    ensures idle { result ≡ Usage → inputs.new ≡ inputs.old }
+
+    // What is decided before the output leaves it as it was.
+    ensures untouched { Untouched (out.new ≡ out.old) result }
+
+    // A failed pick or read, an excess of length: of which file, and after which others.
+    ensures fault { FaultCause (I.files inputs.old) (names_of (words_of words.now))
+        (I.picked inputs.new) (I.ended inputs.new) result }
+    ensures excess { ExcessCause (I.files inputs.old) (names_of (words_of words.now))
+        (I.picked inputs.new) (I.given inputs.new) result }
+
+    // Failures are counted, and none is hidden behind another status.
+    ensures input_faults { I.faults inputs.new ≡ input_count (kind_of result) (I.faults inputs.old) }
+    ensures output_faults { O.faults out.new ≡ output_count (kind_of result) (O.faults out.old) }
+
+    // What stays.
+    ensures files { I.files inputs.new ≡ I.files inputs.old }
+    ensures told { IsSome (O.taken out.old) ↔ IsSome (O.taken out.new) }
+
+    // The notes take the line of the status.
+    ensures note { Notes (note_of result) (N.taken notes.old) (N.taken notes.new)
+        (N.faults notes.old) (N.faults notes.new) }
+{
+    let status = answer(alloc, words, inputs, out);
+    note(status, notes);
+    status
+}

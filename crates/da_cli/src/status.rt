@@ -1,0 +1,47 @@
+//! How a run ends.
+
+ghost use Rattle.std.specs.Prelude.{◌≡◌};
+ghost use Rattle.da_cli.specs.Statuses.{number_of};
+
+/// How a run ended. Files are numbered from 0 among the words that name files; `at` is an offset in
+/// bytes.
+#[derive(Clone, Copy, Debug, PartialEq, Eq)]
+pub enum Status {
+    /// The output is complete.
+    Done,
+    /// The words are no command with its words.
+    Usage,
+    /// This file could not be opened.
+    PickFault(u32),
+    /// This file could not be read.
+    ReadFault(u32),
+    /// The output could not be written.
+    WriteFault,
+    /// There was no memory.
+    NoMemory,
+    /// This file isn't in its form, from this offset on.
+    BadInput(u32, u64),
+    /// This file has more bytes than `FILE_LIMIT`.
+    TooLong(u32),
+    /// The output is complete, and a line of it is a refusal.
+    Refused,
+}
+
+impl Status {
+    /// The number that the program ends with.
+    pub fn number(self) -> u8
+        ensures { result ≡ number_of self }
+    {
+        match self {
+            Status::Done => 0,
+            Status::Usage => 1,
+            Status::PickFault(_) => 2,
+            Status::ReadFault(_) => 3,
+            Status::WriteFault => 4,
+            Status::NoMemory => 5,
+            Status::BadInput(..) => 6,
+            Status::TooLong(_) => 7,
+            Status::Refused => 13,
+        }
+    }
+}

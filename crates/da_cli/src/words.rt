@@ -1,0 +1,43 @@
+//! Words, and the command that they are.
+
+ghost use Rattle.std.specs.Prelude.{◌≡◌, ◌<◌, length, IfSome, codes};
+ghost use Rattle.da_cli.specs.Words.{words_of, is_command, call_of};
+
+/// A command with its values.
+#[derive(Clone, Copy, Debug, PartialEq, Eq)]
+pub(crate) enum Command {
+    /// `check HEADER MESSAGES`
+    Check,
+}
+
+/// A command, and how many of the words after its own name files. These come first.
+#[derive(Clone, Copy, Debug, PartialEq, Eq)]
+pub(crate) struct Call {
+    pub(crate) command: Command,
+    pub(crate) files: usize,
+}
+
+/// Whether these are the word of a command and so many words after it.
+fn is_command(words: &[String], name: &str, count: usize) -> bool
+    ensures { result ≡ is_command (words_of words.now) name.now count }
+{
+    match words.split_first() {
+        Some((word, rest)) => word.as_str() == name && rest.len() == count,
+        None => false,
+    }
+}
+
+/// The command of these words.
+pub(crate) fn call_of(words: &[String]) -> Option<Call>
+    ensures value { result ≡ call_of (words_of words.now) }
+    ensures files { IfSome result (λ call. call.files < length words.now) }
+    ensures few { IfSome result (λ call. call.files < 16) }
+{
+    if is_command(words, "check", 2) {
+        return Some(Call {
+            command: Command::Check,
+            files: 2,
+        });
+    }
+    None
+}
