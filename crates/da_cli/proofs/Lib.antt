@@ -1,1 +1,9 @@
 pub mod FieldLemmas
+pub mod ReaderLemmas
+pub mod NumberLemmas
+pub mod ByteFieldLemmas
+pub mod DigestBytesLemmas
+pub mod FrameLemmas
+pub mod HeaderFormLemmas
+pub mod MessageFieldLemmas
+pub mod MessageFormLemmas

@@ -2,6 +2,9 @@
 #![tactic(auto)]
 
 mod fields;
+mod forms;
 mod grammar;
 mod headers;
 mod messages;
+
+pub use forms::file_forms;
