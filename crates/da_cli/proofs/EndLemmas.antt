@@ -1,5 +1,5 @@
 -- Lemmas on how commands end.
-use Rattle.std.proofs.Common.{◌≡◌, ℕ, zero, suc, ◌+◌, ◌<◌, ◌≤◌, List, [], ◌∷◌, length, get_or, Vec, Global, refl, sym, ap, ◌∙◌, subst, arith, ⊎_elim, IsSome, ◌↔◌}
+use Rattle.std.proofs.Common.{◌≡◌, ℕ, zero, suc, ◌<◌, ◌≤◌, List, [], ◌∷◌, length, get_or, Vec, Global, refl, sym, ap, ◌∙◌, subst, arith, ⊎_elim, IsSome, ◌↔◌}
 use Rattle.std.specs.declared.option.Option.{Option}
 use Rattle.std.specs.Io.KnownBytes.{Appends}
 use Rattle.da_io.specs.Faults.{count_on}

@@ -1,5 +1,5 @@
 -- Lemmas on a whole run.
-use Rattle.std.proofs.Common.{◌≡◌, ℕ, ◌+◌, ◌-◌, List, [], take, drop, None, Some, Ok, Vec, String, Global, refl, sym, ap, ◌∙◌, subst, arith, IsSome, ◌↔◌}
+use Rattle.std.proofs.Common.{◌≡◌, ℕ, ◌+◌, ◌-◌, List, take, drop, None, Some, Ok, Vec, String, Global, refl, sym, ap, ◌∙◌, subst, arith, ◌↔◌}
 use Rattle.std.specs.Prelude.{MatchOption}
 use Rattle.std.specs.declared.option.Option.{Option}
 use Rattle.std.specs.String.{string_bytes}
@@ -9,7 +9,7 @@ use Rattle.da_cli.specs.declared.words.Command.{Command}
 use Rattle.da_cli.specs.declared.words.Command.TheVariants.{Check}
 use Rattle.da_cli.specs.declared.words.Call.{Call}
 use Rattle.da_cli.specs.declared.status.Status.{Status}
-use Rattle.da_cli.specs.declared.status.Status.TheVariants.{BadInput, TooLong, Usage}
+use Rattle.da_cli.specs.declared.status.Status.TheVariants.{BadInput, TooLong}
 use Rattle.da_cli.specs.Statuses.{Kind, usage, fault, excess, form, memory, write, output, kind_of}
 use Rattle.da_cli.specs.Words.{words_of, call_of, file_words}
 use Rattle.da_cli.specs.Gathered.{Gathered, whole, long, absent, gathered, contents_of, Gathers}

@@ -1,11 +1,9 @@
 -- check HEADER MESSAGES: whether a message is proved under a header.
-use Rattle.std.specs.Prelude.{◌≡◌, ℕ, List, [], ◌∷◌, codes, Option, Some, None, MatchOption, if◌then◌else◌}
+use Rattle.std.specs.Prelude.{◌≡◌, ℕ, List, [], ◌∷◌, codes, Option, Some, None, MatchOption}
 use Rattle.da_cli.specs.declared.status.Status.{Status}
 use Rattle.da_cli.specs.declared.status.Status.TheVariants.{Done, Refused}
-use Rattle.da_cli.specs.declared.messages.Message.{Message}
 use Rattle.da_cli.specs.declared.messages.CheckRefusal.{CheckRefusal}
 use Rattle.da_cli.specs.declared.messages.CheckRefusal.TheVariants.{OutOfSquare, NodeCount, Unordered, OtherRoot}
-use Rattle.da_cli.specs.Headers.{Roots}
 use Rattle.da_cli.specs.Proved.{refusal_of}
 use Rattle.da_cli.specs.Grammar.{header_in, message_in}
 use Rattle.da_cli.specs.Gathered.{file_of}

@@ -4,7 +4,6 @@ use Rattle.std.specs.Prelude.{◌≡◌, ℕ, ◌*◌, List, [], length, get_or,
 use Rattle.namespace_id.specs.declared.cells.Axis.{Axis}
 use Rattle.namespace_id.specs.declared.cells.Axis.TheVariants.{Row, Col}
 use Rattle.namespace_id.specs.declared.digests.Digest.{Digest}
-use Rattle.namespace_id.specs.Digests.{AreDigests}
 use Rattle.namespace_id.specs.Cells.{is_width}
 
 -- a header as contracts see it: its width k, and the 2k roots of its rows and of its columns

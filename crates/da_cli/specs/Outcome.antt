@@ -109,4 +109,4 @@ pub record Ends (M : Relation) (old new : Option (List ℕ)) (before now : ℕ) 
 pub record Finishes (bytes : List ℕ) (status : Status) (old new : Option (List ℕ)) (before now : ℕ) (result : Status) : Type 0 where
   pub told : IsSome old ↔ IsSome new
   pub taken : ((result ≡ status) × Appends old new bytes × (now ≡ before))
-    ⊎ ((result ≡ WriteFault) × AppendsPart old new bytes × (now ≡ count_on before 1))
+      ⊎ ((result ≡ WriteFault) × AppendsPart old new bytes × (now ≡ count_on before 1))

@@ -48,12 +48,12 @@ is_rooted header m = has_root (halvings (2 * header.k)) (shown_by header.k m) m.
 abbrev pub refusal_of : Roots → Message → Option CheckRefusal
 refusal_of header m =
     if is_inside header m
-      then (if is_counted header m
-        then (if is_ordered header m
-          then (if is_rooted header m then None else Some OtherRoot)
-          else Some Unordered)
-        else Some NodeCount)
-      else Some OutOfSquare
+    then (if is_counted header m
+    then (if is_ordered header m
+    then (if is_rooted header m then None else Some OtherRoot)
+    else Some Unordered)
+    else Some NodeCount)
+    else Some OutOfSquare
 
 -- the refusal of an answer
 abbrev pub refusal_in : {T E : Type 0} → Result T E → Option E

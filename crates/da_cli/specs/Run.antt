@@ -1,5 +1,5 @@
 -- What words, files, output and status belong together.
-use Rattle.std.specs.Prelude.{◌≡◌, ℕ, List, [], ⊤, Some, None}
+use Rattle.std.specs.Prelude.{◌≡◌, ℕ, List, ⊤, Some, None}
 use Rattle.std.specs.declared.option.Option.{Option}
 use Rattle.da_io.specs.Files.{Files}
 use Rattle.da_cli.specs.declared.words.Command.{Command}

@@ -10,11 +10,11 @@ ghost use Rattle.da_cli.specs.Meaning.{Meaning};
 ghost use Rattle.da_cli.specs.Notes.{note_of, Notes};
 ghost use Rattle.da_cli.specs.Run.{status_of, AnswersTold, Completes};
 
+use crate::Status;
 use crate::checking::check;
 use crate::gathering::{Stop, gather};
 use crate::output::note;
 use crate::words::{Command, call_of};
-use crate::Status;
 use da_io::{Inputs, Sink};
 use std::alloc::Global;
 

@@ -1,6 +1,5 @@
-use Rattle.std.proofs.Common.{None, Some, refl, sym, ap, ◌∙◌, ◌≡◌, List, ℕ}
+use Rattle.std.proofs.Common.{None, Some, refl, sym, ap, ◌∙◌}
 use Rattle.da_cli.specs.declared.words.Command.TheVariants.{Check}
-use Rattle.da_cli.specs.declared.status.Status.TheVariants.{Refused}
 use Rattle.da_cli.specs.Grammar.{header_in, message_in}
 use Rattle.da_cli.specs.Gathered.{contents_of}
 use Rattle.da_cli.specs.Meaning.{Meaning}

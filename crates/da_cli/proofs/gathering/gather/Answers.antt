@@ -5,7 +5,7 @@ use Rattle.std.proofs.lemmas.List.{length-map}
 use Rattle.da_io.specs.Files.{Files}
 use Rattle.da_cli.specs.Words.{words_of}
 use Rattle.da_cli.specs.Gathered.{ReadsFile, contents_of}
-use Rattle.da_cli.proofs.GatheredLemmas.{HasCome, come_on, come_to_end, stop_here, stop_in, all_read_on, name_here, contents_more}
+use Rattle.da_cli.proofs.GatheredLemmas.{come_on, come_to_end, stop_here, stop_in, all_read_on, name_here, contents_more}
 use Rattle.da_cli.proofs.gathering.gather.Goals as goal
 
 -- the file that stops it is read from the files that are told at the start
