@@ -17,6 +17,8 @@ mod messages;
 mod output;
 mod running;
 mod status;
+#[cfg(test)]
+mod tests;
 mod words;
 
 pub use forms::file_forms;
