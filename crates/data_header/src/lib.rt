@@ -1,0 +1,12 @@
+//! Headers of extended data squares: the roots of all axes, the data root over them, and proofs that
+//! an axis root is under a data root.
+#![tactic(auto)]
+
+mod headers;
+mod hashing;
+mod paths;
+mod proving;
+
+pub use headers::{Header, HeaderError};
+pub use paths::RootPath;
+pub use proving::{data_root, make_root_proof, open_root};
