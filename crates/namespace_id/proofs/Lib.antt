@@ -2,3 +2,4 @@ pub mod OrderLemmas
 pub mod StringLemmas
 pub mod ElementLemmas
 pub mod TestLemmas
+pub mod AlongLemmas

@@ -1,9 +1,11 @@
 -- Widths, cells and leaf namespaces (Celestia specifications, "Data Structures").
-use Rattle.std.specs.Prelude.{ℕ, ◌*◌, ◌==◌, ◌&&◌, ◌||◌, nat_lt, Bool, take, if◌then◌else◌}
+use Rattle.std.specs.Prelude.{◌≡◌, ℕ, ◌*◌, ◌==◌, ◌&&◌, ◌||◌, nat_lt, Bool, true, List, take, if◌then◌else◌}
 use Rattle.namespace_id.specs.declared.namespaces.Namespace.{Namespace}
 use Rattle.namespace_id.specs.declared.shares.Share.{Share}
 use Rattle.namespace_id.specs.declared.cells.Cell.{Cell}
+use Rattle.std.specs.List.{list_all}
 use Rattle.namespace_id.specs.Names.{parity}
+use Rattle.namespace_id.specs.Lists.{holds_along}
 
 -- whether a square may have this width: a power of two from 1 to 128 (docs/RULES.md, "Widths")
 abbrev pub is_width : ℕ → Bool
@@ -20,3 +22,19 @@ is_original k cell = nat_lt cell.row k && nat_lt cell.col k
 -- the namespace of the leaf over a cell
 abbrev pub name_of : ℕ → Cell → Share → Namespace
 name_of k cell share = if is_original k cell then record { 0 = take 29 share.0 } else parity
+
+-- whether the first cell comes before the second in row-major order
+abbrev pub is_before : Cell → Cell → Bool
+is_before a b = nat_lt a.row b.row || ((a.row == b.row) && nat_lt a.col b.col)
+
+-- whether these are cells of the square of a width, strictly ascending in row-major order
+abbrev pub are_cells : ℕ → List Cell → Bool
+are_cells k cells = is_width k && list_all (is_in_square k) cells && holds_along is_before cells
+
+-- a list of cells as contracts see it: the width of its square, and the cells
+pub record CellList : Type 0 where
+  pub k : ℕ
+  pub list : List Cell
+
+abbrev pub AreCells : CellList → Type 0
+AreCells cells = are_cells cells.k cells.list ≡ true

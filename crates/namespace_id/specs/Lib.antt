@@ -3,3 +3,4 @@ pub mod Names
 pub mod Shares
 pub mod Digests
 pub mod Cells
+pub mod Lists

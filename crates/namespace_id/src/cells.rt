@@ -1,9 +1,12 @@
 //! Cells of an extended data square, and the namespace of the leaf over one.
 
-ghost use Rattle.std.specs.Prelude.{◌≡◌, IsTrue};
-ghost use Rattle.namespace_id.specs.Cells.{is_width, is_in_square, name_of};
+ghost use Rattle.std.specs.Prelude.{◌≡◌, ◌↔◌, IsTrue, IsSome, IfSome};
+ghost use Rattle.namespace_id.specs.Cells.{is_width, is_in_square, name_of, is_before, are_cells};
+ghost use Rattle.namespace_id.specs.Lists.{holds_along};
+ghost use Rattle.std.specs.List.{list_all};
 
 use crate::{Namespace, PARITY, Share};
+use std::marker::Model;
 
 /// A cell of an extended data square of 2k by 2k shares.
 ///
@@ -51,4 +54,71 @@ pub fn leaf_namespace(k: u16, cell: Cell, share: &Share) -> Namespace
     let mut bytes = [0; 29];
     bytes.copy_from_slice(&share.0[..29]);
     Namespace(bytes)
+}
+
+/// Cells of the extended square of width `k`, strictly ascending in row-major order.
+#[derive(Debug, Drop)]
+pub struct Cells {
+    pub k: u16,
+    pub list: Vec<Cell>,
+}
+
+impl Model for Cells {
+    ghost use Rattle.namespace_id.specs.Cells.{CellList};
+
+    ghost Value = { CellList };
+
+    ghost use Rattle.namespace_id.specs.Cells.{AreCells};
+
+    ghost view = { λ c. record { k = c.k; list = c.list.items } };
+
+    ghost invariant = { λ c. AreCells (record { k = c.k; list = c.list.items }) };
+}
+
+/// Whether the first cell comes before the second in row-major order.
+fn is_before(a: Cell, b: Cell) -> bool
+    ensures { result ≡ is_before a b }
+{
+    a.row < b.row || (a.row == b.row && a.col < b.col)
+}
+
+/// Whether each cell comes before the next.
+fn are_ascending(cells: &[Cell]) -> bool
+    ensures { result ≡ holds_along is_before cells.now }
+{
+    for i in 1..cells.len() {
+        if !is_before(cells[i - 1], cells[i]) {
+            return false;
+        }
+    }
+    true
+}
+
+/// Whether each cell is in the extended square of width `k`.
+fn are_inside(k: u16, cells: &[Cell]) -> bool
+    requires { IsTrue (is_width k) }
+    ensures { result ≡ list_all (is_in_square k) cells.now }
+{
+    cells.iter().all(|cell| is_in_square(k, *cell))
+}
+
+impl Cells {
+    /// The cells of a list; none where `k` is no width, a cell is outside its square, or a cell doesn't
+    /// come after the one before it in row-major order. It takes no memory.
+    pub fn of(k: u16, list: Vec<Cell>) -> Option<Cells>
+        ensures some { IsSome result ↔ IsTrue (are_cells k list.items) }
+        ensures k { IfSome result (λ cells. cells.k ≡ k) }
+        ensures list { IfSome result (λ cells. cells.list ≡ list.items) }
+    {
+        if !is_width(k) {
+            return None;
+        }
+        if !are_inside(k, &list) {
+            return None;
+        }
+        if !are_ascending(&list) {
+            return None;
+        }
+        Some(Cells { k, list })
+    }
 }

@@ -32,8 +32,8 @@ impl Digest {
     }
 }
 
-/// Says that a digest has 90 bytes, each below 256.
-fn is_digest(digest: &Digest)
+/// Says that a digest has 90 bytes, each below 256. It changes nothing.
+pub fn is_digest(digest: &Digest)
     ensures { IsDigest digest.now }
 {
     are_bytes(&digest.0);

@@ -8,11 +8,13 @@
 mod bytes;
 mod cells;
 mod digests;
+mod memory;
 mod namespaces;
 mod shares;
 
 pub use bytes::{are_bytes, put};
-pub use cells::{Axis, Cell, is_in_square, is_width, leaf_namespace};
-pub use digests::{Digest, are_digests};
+pub use cells::{Axis, Cell, Cells, is_in_square, is_width, leaf_namespace};
+pub use digests::{Digest, are_digests, is_digest};
+pub use memory::NoMemory;
 pub use namespaces::{Namespace, PARITY, namespace_order};
-pub use shares::{Share, are_shares};
+pub use shares::{Share, are_shares, is_share};

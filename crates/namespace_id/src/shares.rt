@@ -10,8 +10,8 @@ use crate::are_bytes;
 #[derive(Clone, Copy, Debug, PartialEq, Eq)]
 pub struct Share(pub [u8; 512]);
 
-/// Says that a share has 512 bytes, each below 256.
-fn is_share(share: &Share)
+/// Says that a share has 512 bytes, each below 256. It changes nothing.
+pub fn is_share(share: &Share)
     ensures { IsShare share.now }
 {
     are_bytes(&share.0);

@@ -1,5 +1,4 @@
 pub mod PartLemmas
 pub mod HalfLemmas
 pub mod RootLemmas
-pub mod OrderLemmas
 pub mod CountLemmas

@@ -1,9 +1,10 @@
 -- The roots of leaf lists (Celestia specifications, "Data Structures").
-use Rattle.std.specs.Prelude.{ℕ, zero, suc, ◌^◌, List, [], ◌∷◌, take, drop, Bool, true, ◌&&◌, ◌||◌, ◌==◌, if◌then◌else◌, Option, Some, None}
+use Rattle.std.specs.Prelude.{ℕ, zero, suc, ◌^◌, List, [], ◌∷◌, take, drop, Bool, ◌||◌, ◌==◌, if◌then◌else◌, Option, Some, None}
 use Rattle.namespace_id.specs.declared.namespaces.Namespace.{Namespace}
 use Rattle.namespace_id.specs.declared.shares.Share.{Share}
 use Rattle.namespace_id.specs.declared.digests.Digest.{Digest}
 use Rattle.namespace_id.specs.Names.{is_at_most}
+use Rattle.namespace_id.specs.Lists.{holds_along}
 use Rattle.nmt_tree.specs.Digests.{leaf_digest, node_digest}
 
 -- whether a tree may have this many leaves
@@ -33,10 +34,8 @@ root (suc depth) names shares =
     (root depth (drop (2 ^ depth) names) (drop (2 ^ depth) shares))
 
 -- whether no namespace is followed by a smaller one
-unfoldable pub is_ordered : List Namespace → Bool
-is_ordered [] = true
-is_ordered (a ∷ []) = true
-is_ordered (a ∷ b ∷ names) = is_at_most a b && is_ordered (b ∷ names)
+abbrev pub is_ordered : List Namespace → Bool
+is_ordered names = holds_along is_at_most names
 
 -- the root, where the namespaces are in order
 unfoldable pub strict_root : ℕ → List Namespace → List Share → Option Digest
