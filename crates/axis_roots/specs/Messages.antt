@@ -1,0 +1,71 @@
+-- Share messages, and when one is proved under a header.
+use Rattle.std.specs.Prelude.{◌<◌, ◌≤◌, ◌^◌, ◌*◌, ℕ, List, length, Bool, Option, Some, None, Result, Ok, Err, if◌then◌else◌}
+use Rattle.namespace_id.specs.declared.cells.Cell.{Cell}
+use Rattle.namespace_id.specs.declared.cells.Axis.{Axis}
+use Rattle.namespace_id.specs.declared.cells.Axis.TheVariants.{Row, Col}
+use Rattle.namespace_id.specs.declared.digests.Digest.{Digest}
+use Rattle.namespace_id.specs.Shares.{IsShare}
+use Rattle.namespace_id.specs.Digests.{AreDigests}
+use Rattle.namespace_id.specs.Cells.{is_in_square, name_of}
+use Rattle.nmt_tree.specs.Roots.{halvings}
+use Rattle.nmt_proofs.specs.Openings.{Shown, one_leaf, has_count, has_order, has_root}
+use Rattle.data_header.specs.Headers.{Roots, root_of}
+use Rattle.axis_roots.specs.declared.messages.Message.{Message}
+use Rattle.axis_roots.specs.declared.messages.CheckRefusal.{CheckRefusal}
+use Rattle.axis_roots.specs.declared.messages.CheckRefusal.TheVariants.{OutOfSquare, NodeCount, Unordered, OtherRoot}
+
+-- every message has numbers of two bytes, a share, and up to 8 digests
+pub record IsMessage (m : Message) : Type 0 where
+  pub row : m.cell.row < 2 ^ 16
+  pub col : m.cell.col < 2 ^ 16
+  pub share : IsShare m.share
+  pub few : length m.path ≤ 8
+  pub nodes : AreDigests m.path
+
+-- the place of a cell on its row or its column
+abbrev pub position : Axis → Cell → ℕ
+position Row cell = cell.col
+position Col cell = cell.row
+
+-- which row or column runs through a cell
+abbrev pub index : Axis → Cell → ℕ
+index Row cell = cell.row
+index Col cell = cell.col
+
+-- what a message shows of an axis of a square of width k: its share at its place, under the leaf
+-- namespace of its cell
+abbrev pub shown_by : ℕ → Message → List Shown
+shown_by k m = one_leaf (position m.axis m.cell) (name_of k m.cell m.share) m.share
+
+-- the header's root of the message's axis through its cell
+abbrev pub root_for : Roots → Message → Digest
+root_for header m = root_of header m.axis (index m.axis m.cell)
+
+-- the four checks, in their order: the cell, the number of nodes, the joins, the root
+abbrev pub is_inside : Roots → Message → Bool
+is_inside header m = is_in_square header.k m.cell
+
+abbrev pub is_counted : Roots → Message → Bool
+is_counted header m = has_count (halvings (2 * header.k)) (shown_by header.k m) m.path
+
+abbrev pub is_ordered : Roots → Message → Bool
+is_ordered header m = has_order (halvings (2 * header.k)) (shown_by header.k m) m.path
+
+abbrev pub is_rooted : Roots → Message → Bool
+is_rooted header m = has_root (halvings (2 * header.k)) (shown_by header.k m) m.path (root_for header m)
+
+-- the first of the checks that fails
+abbrev pub refusal_of : Roots → Message → Option CheckRefusal
+refusal_of header m =
+    if is_inside header m
+    then (if is_counted header m
+    then (if is_ordered header m
+    then (if is_rooted header m then None else Some OtherRoot)
+    else Some Unordered)
+    else Some NodeCount)
+    else Some OutOfSquare
+
+-- the refusal of an answer
+abbrev pub refusal_in : {T E : Type 0} → Result T E → Option E
+refusal_in (Ok _) = None
+refusal_in (Err why) = Some why

@@ -1,0 +1,22 @@
+-- Proved messages: certificates, and the headers that they are under.
+use Rattle.std.specs.Prelude.{◌≡◌, ℕ}
+use Rattle.namespace_id.specs.declared.digests.Digest.{Digest}
+use Rattle.data_header.specs.Headers.{Roots}
+use Rattle.axis_roots.specs.declared.messages.Message.{Message}
+use Rattle.axis_roots.specs.declared.proved.Proved.{Proved}
+use Rattle.axis_roots.specs.Messages.{root_for}
+
+-- what a certificate keeps: the width, the message and the root
+abbrev pub width_of : Proved → ℕ
+width_of proved = proved.k
+
+abbrev pub message_of : Proved → Message
+message_of proved = proved.message
+
+abbrev pub root_of : Proved → Digest
+root_of proved = proved.root
+
+-- a certificate is under each header that has its width, and its root of the message's axis
+pub record IsUnder (header : Roots) (proved : Proved) : Type 0 where
+  pub width : header.k ≡ width_of proved
+  pub root : root_for header (message_of proved) ≡ root_of proved

@@ -1,0 +1,15 @@
+//! Share messages, and whether they are proved under a header.
+//!
+//! `Proved` is the certificate: a value of it is a message whose nodes open its share under a root,
+//! and only `check` makes one.
+#![tactic(auto)]
+
+mod checking;
+mod laws;
+mod messages;
+mod proved;
+
+pub use checking::{RefusedMessage, check};
+pub use laws::certificate_law;
+pub use messages::{CheckRefusal, Message, opens};
+pub use proved::Proved;

@@ -1,0 +1,107 @@
+//! Share messages, and whether one is proved under a header.
+
+ghost use Rattle.std.specs.Prelude.{◌≡◌, ◌↔◌, IsOk, IsErrOf, IsErrAnd, true, false};
+ghost use Rattle.axis_roots.specs.Messages.{position, index, is_inside, is_counted, is_ordered, is_rooted, refusal_of, refusal_in, IsMessage};
+ghost use Rattle.axis_roots.specs.Openings.{IsProved};
+
+use data_header::Header;
+use namespace_id::{Axis, Cell, Share, are_digests, is_in_square, is_share, leaf_namespace};
+use nmt_proofs::{OpenRefusal, Path, open_leaf};
+use thiserror::Error;
+
+/// A share of a cell, with the nodes that open it under the root of its row or its column.
+///
+/// The cell may be any: whether a square has it is for `opens`.
+#[derive(Debug, Drop)]
+pub struct Message {
+    pub cell: Cell,
+    pub axis: Axis,
+    pub share: Share,
+    pub path: Path,
+}
+
+/// Why a message is not proved. The variants stand in the order in which they are tested.
+#[derive(Clone, Copy, Debug, PartialEq, Eq, Error)]
+pub enum CheckRefusal {
+    #[error("the cell is outside the square")]
+    OutOfSquare,
+    #[error("the number of nodes is not that of the subtrees left out")]
+    NodeCount,
+    #[error("a join of two digests is not ordered")]
+    Unordered,
+    #[error("the nodes lead to another root")]
+    OtherRoot,
+}
+
+/// The place of a cell on its row or its column.
+fn position(axis: Axis, cell: Cell) -> u16
+    ensures { result ≡ position axis cell }
+{
+    match axis {
+        Axis::Row => cell.col,
+        Axis::Col => cell.row,
+    }
+}
+
+/// Which row or column runs through a cell.
+pub(crate) fn index(axis: Axis, cell: Cell) -> u16
+    ensures { result ≡ index axis cell }
+{
+    match axis {
+        Axis::Row => cell.row,
+        Axis::Col => cell.col,
+    }
+}
+
+/// Says that a message has its shape. It changes nothing.
+pub(crate) fn is_message(message: &Message)
+    ensures { IsMessage message.now }
+{
+    let _row = message.cell.row;
+    let _col = message.cell.col;
+    is_share(&message.share);
+    are_digests(message.path.nodes());
+}
+
+/// Whether the message's nodes open its share, with the leaf namespace of its cell, under the
+/// header's root of its axis.
+///
+/// Refuses a cell outside the square, then what `open_leaf` refuses, in its order. It takes no
+/// memory.
+pub fn opens(header: &Header, message: &Message) -> Result<(), CheckRefusal>
+    ensures accepts { IsOk result ↔ IsProved header.now message.now }
+    ensures out_of_square { IsErrOf result CheckRefusal.OutOfSquare ↔
+        (is_inside header.now message.now ≡ false) }
+    ensures node_count { IsErrOf result CheckRefusal.NodeCount ↔
+        (is_inside header.now message.now ≡ true) × (is_counted header.now message.now ≡ false) }
+    ensures unordered { IsErrOf result CheckRefusal.Unordered ↔
+        (is_inside header.now message.now ≡ true) × (is_counted header.now message.now ≡ true)
+        × (is_ordered header.now message.now ≡ false) }
+    ensures other_root { IsErrOf result CheckRefusal.OtherRoot ↔
+        (is_inside header.now message.now ≡ true) × (is_counted header.now message.now ≡ true)
+        × (is_ordered header.now message.now ≡ true) × (is_rooted header.now message.now ≡ false) }
+
+    // All of these at once.
+    ensures first { refusal_in result ≡ refusal_of header.now message.now }
+{
+    is_message(message);
+    if !is_in_square(header.k, message.cell) {
+        return Err(CheckRefusal::OutOfSquare);
+    }
+    let name = leaf_namespace(header.k, message.cell, &message.share);
+    let root = header.root_of(message.axis, index(message.axis, message.cell));
+    let pos = position(message.axis, message.cell);
+    match open_leaf(
+        2 * header.k,
+        pos,
+        &name,
+        &message.share,
+        message.path.nodes(),
+        &root,
+    ) {
+        Ok(()) => Ok(()),
+        Err(OpenRefusal::NodeCount) => Err(CheckRefusal::NodeCount),
+        Err(OpenRefusal::Unordered) => Err(CheckRefusal::Unordered),
+        Err(_) => Err(CheckRefusal::OtherRoot),
+    }
+}
