@@ -1,6 +1,6 @@
 -- The data root over a header's axis roots, and the hashes that lead to it (Celestia specifications,
 -- "Data Structures"; RFC 6962, 2.1).
-use Rattle.std.specs.Prelude.{◌≡◌, ◌<◌, ◌*◌, ◌+◌, ◌/◌, ◌%◌, ◌^◌, ◌==◌, ℕ, zero, suc, List, [], ◌∷◌, ◌++◌, length, take, drop, true, if◌then◌else◌}
+use Rattle.std.specs.Prelude.{◌≡◌, ◌<◌, ◌*◌, ◌+◌, ◌/◌, ◌%◌, ◌^◌, ◌==◌, ◌-◌, ◌||◌, nat_lt, Bool, ℕ, zero, suc, List, [], ◌∷◌, ◌++◌, length, take, drop, true, if◌then◌else◌}
 use Rattle.sha2.specs.Sha256.{sha256}
 use Rattle.namespace_id.specs.declared.cells.Axis.{Axis}
 use Rattle.namespace_id.specs.declared.cells.Axis.TheVariants.{Row, Col}
@@ -22,6 +22,12 @@ merkle_root zero [] = []
 merkle_root zero (digest ∷ digests) = leaf_hash digest
 merkle_root (suc depth) digests =
     inner_hash (merkle_root depth (take (2 ^ depth) digests)) (merkle_root depth (drop (2 ^ depth) digests))
+
+-- whether the recursions take this many digests: a power of two from 1 to 256
+abbrev pub is_root_count : ℕ → Bool
+is_root_count n =
+    (n == 1) || (n == 2) || (n == 4) || (n == 8) || (n == 16) || (n == 32) || (n == 64) || (n == 128)
+    || (n == 256)
 
 -- how often the 4k axis roots of a header can be halved
 abbrev pub root_halvings : ℕ → ℕ
@@ -48,6 +54,17 @@ unfoldable pub led : ℕ → List ℕ → List (List ℕ) → List ℕ
 led place top [] = top
 led place top (hash ∷ hashes) =
     led (place / 2) (if place % 2 == 0 then inner_hash top hash else inner_hash hash top) hashes
+
+-- the hashes that lead from a place of 2 ^ depth leaves to their root: each is the root of the half
+-- that doesn't hold the place
+unfoldable pub path_of : ℕ → List Digest → ℕ → List (List ℕ)
+path_of zero digests place = []
+path_of (suc depth) digests place =
+    if nat_lt place (2 ^ depth) then
+    path_of depth (take (2 ^ depth) digests) place
+    ++ merkle_root depth (drop (2 ^ depth) digests) ∷ []
+    else path_of depth (drop (2 ^ depth) digests) (place - 2 ^ depth)
+    ++ merkle_root depth (take (2 ^ depth) digests) ∷ []
 
 -- the hashes lead from an axis root to a data root
 pub record OpensRoot (root : List ℕ) (k : ℕ) (axis : Axis) (index : ℕ) (digest : Digest) (hashes : List (List ℕ)) : Type 0 where

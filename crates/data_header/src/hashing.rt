@@ -1,8 +1,9 @@
 //! The plain Merkle tree over axis roots.
 
-ghost use Rattle.std.specs.Prelude.{◌≡◌, ◌^◌, ℕ, length};
-ghost use Rattle.data_header.specs.DataRoots.{leaf_hash, inner_hash, merkle_root};
+ghost use Rattle.std.specs.Prelude.{◌≡◌, ◌^◌, ◌<◌, ℕ, length, IsTrue};
+ghost use Rattle.data_header.specs.DataRoots.{leaf_hash, inner_hash, is_root_count, merkle_root, path_of, led};
 
+use crate::RootPath;
 use namespace_id::Digest;
 use sha2::{Digest as _, Sha256};
 
@@ -27,4 +28,62 @@ pub(crate) fn inner_hash(left: &[u8; 32], right: &[u8; 32]) -> [u8; 32]
     hasher.update(left);
     hasher.update(right);
     hasher.finalize()
+}
+
+/// The root by the halves of the digests. It takes no memory.
+///
+/// RFC 6962, 2.1.
+pub(crate) fn merkle_root(digests: &[Digest]) -> [u8; 32]
+    requires { IsTrue (is_root_count (length digests.now)) }
+    ensures { (depth : ℕ) → length digests.now ≡ 2 ^ depth →
+        result ≡ merkle_root depth digests.now }
+{
+    if digests.len() == 1 {
+        return leaf_hash(&digests[0]);
+    }
+    let (left, right) = digests.split_at(digests.len() / 2);
+    inner_hash(&merkle_root(left), &merkle_root(right))
+}
+
+/// The hashes that lead from a place of the digests to their root. It takes no memory.
+///
+/// RFC 6962, 2.1.1.
+pub(crate) fn path_of(digests: &[Digest], place: usize) -> RootPath
+    requires count { IsTrue (is_root_count (length digests.now)) }
+    requires place { place < length digests.now }
+    ensures value { (depth : ℕ) → length digests.now ≡ 2 ^ depth →
+        result ≡ path_of depth digests.now place }
+    ensures room { length result < 9 }
+{
+    if digests.len() == 1 {
+        return RootPath::new();
+    }
+    let half = digests.len() / 2;
+    let (left, right) = digests.split_at(half);
+    if place < half {
+        let mut path = path_of(left, place);
+        path.push(merkle_root(right));
+        path
+    } else {
+        let mut path = path_of(right, place - half);
+        path.push(merkle_root(left));
+        path
+    }
+}
+
+/// Where hashes lead from a place upwards.
+pub(crate) fn led(place: usize, hash: [u8; 32], hashes: &[[u8; 32]]) -> [u8; 32]
+    ensures { result ≡ led place hash hashes.now }
+{
+    let mut place = place;
+    let mut top = hash;
+    for hash in hashes {
+        top = if place % 2 == 0 {
+            inner_hash(&top, hash)
+        } else {
+            inner_hash(hash, &top)
+        };
+        place /= 2;
+    }
+    top
 }

@@ -2,8 +2,8 @@
 //! an axis root is under a data root.
 #![tactic(auto)]
 
-mod headers;
 mod hashing;
+mod headers;
 mod paths;
 mod proving;
 

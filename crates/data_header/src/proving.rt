@@ -1,12 +1,13 @@
 //! Data roots, and proofs that an axis root is under one.
 
-ghost use Rattle.std.specs.Prelude.{◌≡◌, ◌<◌, ◌*◌, ◌↔◌, IsTrue};
+ghost use Rattle.std.specs.Prelude.{◌≡◌, ◌<◌, ◌*◌, ◌↔◌, IsTrue, true};
 ghost use Rattle.data_header.specs.Headers.{root_of};
-ghost use Rattle.data_header.specs.DataRoots.{data_root_of, OpensRoot};
+ghost use Rattle.namespace_id.specs.Cells.{is_width};
+ghost use Rattle.data_header.specs.DataRoots.{root_halvings, root_place, data_root_of, OpensRoot};
 
-use crate::hashing::inner_hash;
+use crate::hashing::{inner_hash, leaf_hash, led, merkle_root, path_of};
 use crate::{Header, RootPath};
-use namespace_id::{Axis, Digest};
+use namespace_id::{Axis, Digest, is_width};
 
 /// The data root of a header: the plain SHA-256 Merkle root over its 2k row roots and then its 2k
 /// column roots. It takes no memory.
@@ -15,7 +16,7 @@ use namespace_id::{Axis, Digest};
 pub fn data_root(header: &Header) -> [u8; 32]
     ensures { result ≡ data_root_of header.now }
 {
-    todo
+    inner_hash(&merkle_root(&header.rows), &merkle_root(&header.cols))
 }
 
 /// The hashes that lead from the root of an axis to the data root. The index is below 2k. It takes no
@@ -24,7 +25,45 @@ pub fn make_root_proof(header: &Header, axis: Axis, index: u16) -> RootPath
     requires { index < 2 * header.now.k }
     ensures { OpensRoot (data_root_of header.now) header.now.k axis index (root_of header.now axis index) result }
 {
-    todo
+    match axis {
+        Axis::Row => {
+            let mut path = path_of(&header.rows, index as usize);
+            path.push(merkle_root(&header.cols));
+            path
+        }
+        Axis::Col => {
+            let mut path = path_of(&header.cols, index as usize);
+            path.push(merkle_root(&header.rows));
+            path
+        }
+    }
+}
+
+/// How often the 4k axis roots of a header can be halved.
+fn root_halvings(k: u16) -> usize
+    requires { IsTrue (is_width k) }
+    ensures { result ≡ root_halvings k }
+{
+    match k {
+        1 => 2,
+        2 => 3,
+        4 => 4,
+        8 => 5,
+        16 => 6,
+        32 => 7,
+        64 => 8,
+        _ => 9,
+    }
+}
+
+/// The place of an axis root among the 4k.
+fn root_place(k: u16, axis: Axis, index: u16) -> usize
+    ensures { result ≡ root_place k axis index }
+{
+    match axis {
+        Axis::Row => index as usize,
+        Axis::Col => 2 * k as usize + index as usize,
+    }
 }
 
 /// Whether the path leads from the root of that axis of a header of width `k` to the data root: `k` is
@@ -40,5 +79,71 @@ pub fn open_root(
 ) -> bool
     ensures { IsTrue result ↔ OpensRoot root.now k axis index digest.now path.now }
 {
-    todo
+    if !is_width(k) || index >= 2 * k || path.hashes().len() != root_halvings(k) {
+        return false;
+    }
+    led(root_place(k, axis, index), leaf_hash(digest), path.hashes()) == *root
+}
+
+#[cfg(test)]
+mod tests {
+    use super::*;
+    use crate::HeaderError;
+    use std::alloc::Global;
+    use std::test::Fail;
+
+    fn digests(alloc: Global, bytes: &[u8]) -> Result<Vec<Digest>, Fail> {
+        let mut digests = Vec::new(alloc);
+        for byte in bytes {
+            digests.push(Digest([*byte; 90]))?;
+        }
+        Ok(digests)
+    }
+
+    /// The first two hashes of three.
+    fn shortened(path: &RootPath) -> RootPath {
+        let mut short = RootPath::new();
+        if let [first, second, _] = path.hashes() {
+            short.push(*first);
+            short.push(*second);
+        }
+        short
+    }
+
+    /// The data root of the header of width 1 with roots of 90 bytes 1, 2, 3 and 4 each, by
+    /// Python's hashlib.
+    const ROOT: [u8; 32] = [
+        0xa2, 0x80, 0x9c, 0xad, 0x28, 0xe4, 0x31, 0x8a, 0x23, 0x23, 0xad, 0xcc, 0xec, 0x68, 0x94,
+        0x0a, 0xc3, 0x42, 0x2e, 0xa8, 0xe0, 0x14, 0xa8, 0x77, 0xf8, 0x7f, 0xf6, 0x76, 0xbf, 0x69,
+        0x8c, 0xbc,
+    ];
+
+    #[test]
+    fn headers_and_root_paths(rt: HostRuntime) -> Result<(), Fail> {
+        let alloc = rt.alloc();
+        let odd = Header::of(3, digests(alloc, &[1])?, digests(alloc, &[2])?);
+        assert_eq!(rt; odd.err(), Some(HeaderError::Width));
+        let short = Header::of(1, digests(alloc, &[1])?, digests(alloc, &[3, 4])?);
+        assert_eq!(rt; short.err(), Some(HeaderError::Count));
+        let least = Header::of(1, digests(alloc, &[1, 2])?, digests(alloc, &[3, 4])?)?;
+        assert_eq!(rt; data_root(&least), ROOT);
+        let rows = digests(alloc, &[1, 2, 3, 4])?;
+        let cols = digests(alloc, &[5, 6, 7, 8])?;
+        let header = Header::of(2, rows, cols)?;
+        let root = data_root(&header);
+        let other = Digest([9; 90]);
+        for axis in [Axis::Row, Axis::Col] {
+            for index in 0..4 {
+                let digest = header.root_of(axis, index);
+                let path = make_root_proof(&header, axis, index);
+                let short = shortened(&path);
+                assert_eq!(rt; short.hashes().len(), 2);
+                assert!(rt; open_root(&root, 2, axis, index, &digest, &path));
+                assert!(rt; !open_root(&root, 2, axis, 3 - index, &digest, &path));
+                assert!(rt; !open_root(&root, 2, axis, index, &other, &path));
+                assert!(rt; !open_root(&root, 2, axis, index, &digest, &short));
+            }
+        }
+        Ok(())
+    }
 }

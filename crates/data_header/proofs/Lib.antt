@@ -1,0 +1,5 @@
+pub mod HalfLemmas
+pub mod CountLemmas
+pub mod RootLemmas
+pub mod LedLemmas
+pub mod OpenLemmas
