@@ -1,0 +1,67 @@
+-- The length of each payload.
+use Rattle.std.proofs.Common.{◌≡◌, ◌∙◌, ℕ, ◌+◌, ◌*◌, ◌<◌, ◌≤◌, ◌^◌, Bool, true, false, cond, List, ◌∷◌, length, length-append, Option, Some, None, ap, arith}
+use Rattle.std.specs.Prelude.{◌==◌}
+use Rattle.std.proofs.lemmas.Bool.Decides.{nat_tests}
+use Rattle.namespace_id.specs.declared.namespaces.Namespace.{Namespace}
+use Rattle.namespace_id.specs.Shares.{IsShare}
+use Rattle.namespace_id.specs.Digests.{AreDigests}
+use Rattle.namespace_id.specs.Cells.{CellList, is_width}
+use Rattle.data_header.specs.Headers.{Roots, AreRoots}
+use Rattle.axis_roots.specs.declared.messages.Message as sent
+use Rattle.da_wire.specs.declared.frames.Frame.{Frame}
+use Rattle.da_wire.specs.declared.frames.Frame.TheVariants.{Header, Message, Missing, Sample, Request}
+use Rattle.da_wire.specs.Spelling.{spelled, header_kind, message_kind, missing_kind, request_kind, digest_bytes, header_payload, message_payload, missing_payload, request_payload}
+use Rattle.da_wire.specs.Writing.{HasSize, IsCounted, payload_of}
+use Rattle.da_wire.proofs.DigestBytesLemmas.{length-digest_bytes}
+use Rattle.da_wire.proofs.CellFieldLemmas.{length-cells_bytes}
+use Rattle.da_wire.proofs.SizeLemmas.{spelled_within, spelled_beyond}
+
+small_width : (k : ℕ) → is_width k ≡ true → k ≤ 128
+small_width k h = grind (arith, nat_tests)
+
+length-header : (h : Roots) → AreRoots h → AreDigests h.rows → AreDigests h.cols → 2 + 360 * h.k ≡ length (header_payload h)
+length-header h roots rows cols =
+    omega (arith, length-append (digest_bytes h.rows) (digest_bytes h.cols), length-digest_bytes h.rows rows, length-digest_bytes h.cols cols, roots.rows, roots.cols)
+
+pub header_sized : (h : Roots) (n : ℕ) → AreRoots h → AreDigests h.rows → AreDigests h.cols → n ≡ 2 + 360 * h.k → HasSize (Header h) (Some n)
+header_sized h n roots rows cols e =
+    let size : n ≡ length (header_payload h) = e ∙ length-header h roots rows cols in
+    let small : h.k ≤ 128 = small_width h.k roots.width in
+    (size, spelled_within header_kind n (header_payload h) size (omega arith))
+
+length-message : (m : sent.Message) → IsShare m.share → AreDigests m.path → 518 + 90 * length m.path ≡ length (message_payload m)
+length-message m share nodes =
+    omega (arith, length-append m.share.0 (length m.path ∷ digest_bytes m.path), share.size_is, length-digest_bytes m.path nodes)
+
+pub message_sized : (m : sent.Message) (n : ℕ) → IsShare m.share → AreDigests m.path → length m.path ≤ 8 → n ≡ 518 + 90 * length m.path → HasSize (Message m) (Some n)
+message_sized m n share nodes few e =
+    let size : n ≡ length (message_payload m) = e ∙ length-message m share nodes in
+    (size, spelled_within message_kind n (message_payload m) size (omega arith))
+
+length-missing : (cells : CellList) → 6 + 4 * length cells.list ≡ length (missing_payload cells)
+length-missing cells = omega (arith, length-cells_bytes cells.list)
+
+some_cells : (n : ℕ) (x : Option (List ℕ)) → (n ≡ 0 → ⊥) → cond (n == 0) None x ≡ x
+some_cells n x h = let e : (n == 0) ≡ false = grind (arith, nat_tests) in ap (λ (b : Bool). cond b None x) e
+
+pub missing_sized : (cells : CellList) (n : ℕ) → (length cells.list ≡ 0 → ⊥) → length cells.list ≤ 4194302 → n ≡ 6 + 4 * length cells.list
+    → HasSize (Missing cells) (Some n)
+missing_sized cells n some few e =
+    let size : n ≡ length (missing_payload cells) = e ∙ length-missing cells in
+    (size, some_cells (length cells.list) (spelled missing_kind (missing_payload cells)) some ∙ spelled_within missing_kind n (missing_payload cells) size (omega arith))
+
+pub missing_beyond : (cells : CellList) → (length cells.list ≡ 0 → ⊥) → 4194302 < length cells.list → HasSize (Missing cells) None
+missing_beyond cells some many =
+    some_cells (length cells.list) (spelled missing_kind (missing_payload cells)) some
+    ∙ spelled_beyond missing_kind (6 + 4 * length cells.list) (missing_payload cells) (length-missing cells) (omega arith)
+
+pub request_sized : (name : Namespace) (n : ℕ) → n ≡ length name.0 → n ≤ 29 → HasSize (Request name) (Some n)
+request_sized name n e few = (e, spelled_within request_kind n (request_payload name) e (omega arith))
+
+-- four bytes count the missing cells of a payload whose length they count
+pub counted : (value : Frame) (n : ℕ) → n ≡ length (payload_of value) → n < 2 ^ 32 → IsCounted value
+counted (Header h) n e lt = tt
+counted (Message m) n e lt = tt
+counted (Missing cells) n e lt = omega (arith, length-missing cells)
+counted (Sample cell axis) n e lt = tt
+counted (Request name) n e lt = tt

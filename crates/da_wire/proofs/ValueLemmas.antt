@@ -1,0 +1,90 @@
+-- A value that is read of a payload of its kind is what the payload spells.
+use Rattle.std.proofs.Common.{◌≡◌, ◌∙◌, ℕ, Bool, true, false, eqb, cond, List, Option, None, Some, refl, sym, ap, subst, eqb-true}
+use Rattle.std.specs.Option.{option_map}
+use Rattle.std.proofs.lemmas.Option.{same_Some}
+use Rattle.namespace_id.specs.declared.cells.Cell.{Cell}
+use Rattle.namespace_id.specs.declared.cells.Axis.{Axis}
+use Rattle.namespace_id.specs.Bytes.{AreBytes}
+use Rattle.da_wire.specs.declared.frames.Frame.{Frame}
+use Rattle.da_wire.specs.declared.frames.Frame.TheVariants.{Header, Message, Missing, Sample, Request}
+use Rattle.da_wire.specs.Spelling.{header_kind, message_kind, missing_kind, sample_kind, request_kind, missing_payload, spelled, spelling, IsFrame}
+use Rattle.da_wire.specs.Reading.{header_at, message_at, missing_at, sample_at, request_at, value_at}
+use Rattle.da_wire.proofs.HeaderFormLemmas.{header_takes}
+use Rattle.da_wire.proofs.MessageFormLemmas.{message_takes}
+use Rattle.da_wire.proofs.MissingFormLemmas.{missing_takes}
+use Rattle.da_wire.proofs.RequestFormLemmas.{sample_takes, request_takes}
+
+-- the value behind a map
+map_some : {A B : Type 0} (f : A → B) (r : Option A) (y : B) → option_map f r ≡ Some y → (x : A) × (r ≡ Some x) × (f x ≡ y)
+map_some f None y e = absurd cc
+map_some f (Some x) y e = (x, refl, same_Some (f x) y e)
+
+-- a value whose spelling is a frame of this kind with this payload
+abbrev pub Spells : ℕ → List ℕ → Frame → Type 0
+Spells kind payload value = IsFrame value × (spelling value ≡ spelled kind payload)
+
+header_value : (payload : List ℕ) (value : Frame) → AreBytes payload → option_map Header (header_at payload) ≡ Some value → Spells header_kind payload value
+header_value payload value fits e =
+    let a = map_some Header (header_at payload) value e in
+    let t = header_takes payload a.0 fits a.1 in
+    subst (λ (v : Frame). Spells header_kind payload v) a.2 (t.0, ap (λ (l : List ℕ). spelled header_kind l) (sym t.1))
+
+message_value : (payload : List ℕ) (value : Frame) → AreBytes payload → option_map Message (message_at payload) ≡ Some value → Spells message_kind payload value
+message_value payload value fits e =
+    let a = map_some Message (message_at payload) value e in
+    let t = message_takes payload a.0 fits a.1 in
+    subst (λ (v : Frame). Spells message_kind payload v) a.2 (t.0, ap (λ (l : List ℕ). spelled message_kind l) (sym t.1))
+
+missing_value : (payload : List ℕ) (value : Frame) → AreBytes payload → option_map Missing (missing_at payload) ≡ Some value → Spells missing_kind payload value
+missing_value payload value fits e =
+    let a = map_some Missing (missing_at payload) value e in
+    let t = missing_takes payload a.0 fits a.1 in
+    let some : spelling (Missing a.0) ≡ spelled missing_kind (missing_payload a.0) = ap (λ (b : Bool). cond b None (spelled missing_kind (missing_payload a.0))) t.2 in
+    subst (λ (v : Frame). Spells missing_kind payload v) a.2 (t.0, some ∙ ap (λ (l : List ℕ). spelled missing_kind l) (sym t.1))
+
+abbrev sample : Cell × Axis → Frame
+sample s = Sample s.0 s.1
+
+sample_value : (payload : List ℕ) (value : Frame) → AreBytes payload → option_map sample (sample_at payload) ≡ Some value → Spells sample_kind payload value
+sample_value payload value fits e =
+    let a = map_some sample (sample_at payload) value e in
+    let t = sample_takes payload a.0 fits a.1 in
+    subst (λ (v : Frame). Spells sample_kind payload v) a.2 (t.0, ap (λ (l : List ℕ). spelled sample_kind l) (sym t.1))
+
+request_value : (payload : List ℕ) (value : Frame) → AreBytes payload → option_map Request (request_at payload) ≡ Some value → Spells request_kind payload value
+request_value payload value fits e =
+    let a = map_some Request (request_at payload) value e in
+    let t = request_takes payload a.0 fits a.1 in
+    subst (λ (v : Frame). Spells request_kind payload v) a.2 (t.0, ap (λ (l : List ℕ). spelled request_kind l) (sym t.1))
+
+-- it is of this kind or not
+by_test : (b : Bool) (kind k : ℕ) (payload : List ℕ) (value : Frame) (x y : Option Frame) → eqb kind k ≡ b → cond b x y ≡ Some value
+    → (x ≡ Some value → Spells k payload value) → (y ≡ Some value → Spells kind payload value) → Spells kind payload value
+by_test true kind k payload value x y is e this other = subst (λ (n : ℕ). Spells n payload value) (sym (eqb-true kind k is)) (this e)
+by_test false kind k payload value x y is e this other = other e
+
+by_kind : (kind k : ℕ) (payload : List ℕ) (value : Frame) (x y : Option Frame) → cond (eqb kind k) x y ≡ Some value
+    → (x ≡ Some value → Spells k payload value) → (y ≡ Some value → Spells kind payload value) → Spells kind payload value
+by_kind kind k payload value x y e this other = by_test (eqb kind k) kind k payload value x y refl e this other
+
+-- what `value_at` does for each kind
+abbrev from_request : ℕ → List ℕ → Option Frame
+from_request kind payload = cond (eqb kind request_kind) (option_map Request (request_at payload)) None
+
+abbrev from_sample : ℕ → List ℕ → Option Frame
+from_sample kind payload = cond (eqb kind sample_kind) (option_map sample (sample_at payload)) (from_request kind payload)
+
+abbrev from_missing : ℕ → List ℕ → Option Frame
+from_missing kind payload = cond (eqb kind missing_kind) (option_map Missing (missing_at payload)) (from_sample kind payload)
+
+abbrev from_message : ℕ → List ℕ → Option Frame
+from_message kind payload = cond (eqb kind message_kind) (option_map Message (message_at payload)) (from_missing kind payload)
+
+pub value_takes : (kind : ℕ) (payload : List ℕ) (value : Frame) → AreBytes payload → value_at kind payload ≡ Some value → Spells kind payload value
+unfolding value_at
+value_takes kind payload value fits e =
+    by_kind kind header_kind payload value (option_map Header (header_at payload)) (from_message kind payload) e (header_value payload value fits) (λ e1.
+    by_kind kind message_kind payload value (option_map Message (message_at payload)) (from_missing kind payload) e1 (message_value payload value fits) (λ e2.
+    by_kind kind missing_kind payload value (option_map Missing (missing_at payload)) (from_sample kind payload) e2 (missing_value payload value fits) (λ e3.
+    by_kind kind sample_kind payload value (option_map sample (sample_at payload)) (from_request kind payload) e3 (sample_value payload value fits) (λ e4.
+    by_kind kind request_kind payload value (option_map Request (request_at payload)) None e4 (request_value payload value fits) (λ e5. absurd cc)))))

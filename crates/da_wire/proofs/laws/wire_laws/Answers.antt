@@ -1,0 +1,18 @@
+use Rattle.da_wire.proofs.FrameLemmas.{spelled_is_read, read_is_spelled, one_spelling}
+use Rattle.da_wire.proofs.FrameListLemmas.{frames_are_the_file, files_are_frames}
+use Rattle.da_wire.proofs.laws.wire_laws.Goals as goal
+
+pub returns-clause-read : goal.returns-clause-read
+returns-clause-read c = spelled_is_read
+
+pub returns-clause-spelled : goal.returns-clause-spelled
+returns-clause-spelled c = read_is_spelled
+
+pub returns-clause-one : goal.returns-clause-one
+returns-clause-one c = one_spelling
+
+pub returns-clause-frames : goal.returns-clause-frames
+returns-clause-frames c = frames_are_the_file
+
+pub returns-clause-files : goal.returns-clause-files
+returns-clause-files c = files_are_frames

@@ -1,0 +1,48 @@
+-- Fields of a payload, read from the front of a byte string. A field that is read is a value and the
+-- bytes after it.
+use Rattle.std.specs.Prelude.{◌≡◌, ℕ, zero, suc, ◌*◌, List, [], ◌∷◌, length, take, drop, nat_lt, Option, Some, None, if◌then◌else◌}
+use Rattle.std.specs.Int.{Width, w16, byte_len, from_be_bytes}
+use Rattle.namespace_id.specs.declared.cells.Cell.{Cell}
+use Rattle.namespace_id.specs.declared.digests.Digest.{Digest}
+
+infixl 10 ◌>>=◌
+abbrev pub ◌>>=◌ : {A B : Type 0} → Option A → (A → Option B) → Option B
+None >>= f = None
+(Some x) >>= f = f x
+
+-- a byte string of this length
+abbrev pub string_at : ℕ → List ℕ → Option (List ℕ × List ℕ)
+string_at size bytes = if nat_lt (length bytes) size then None else Some (take size bytes, drop size bytes)
+
+-- a big-endian number
+abbrev pub number_at : Width → List ℕ → Option (ℕ × List ℕ)
+number_at w bytes =
+    if nat_lt (length bytes) (byte_len w) then None else
+    Some (from_be_bytes w (take (byte_len w) bytes), drop (byte_len w) bytes)
+
+-- a byte
+abbrev pub byte_at : List ℕ → Option (ℕ × List ℕ)
+byte_at [] = None
+byte_at (byte ∷ rest) = Some (byte, rest)
+
+-- so many digests, one after another
+unfoldable pub digests_of : ℕ → List ℕ → List Digest
+digests_of zero bytes = []
+digests_of (suc count) bytes = record { 0 = take 90 bytes } ∷ digests_of count (drop 90 bytes)
+
+abbrev pub digests_at : ℕ → List ℕ → Option (List Digest × List ℕ)
+digests_at count bytes =
+    if nat_lt (length bytes) (90 * count) then None else
+    Some (digests_of count (take (90 * count) bytes), drop (90 * count) bytes)
+
+-- so many cells, one after another
+unfoldable pub cells_of : ℕ → List ℕ → List Cell
+cells_of zero bytes = []
+cells_of (suc count) bytes =
+    record { row = from_be_bytes w16 (take 2 bytes); col = from_be_bytes w16 (take 2 (drop 2 bytes)) }
+    ∷ cells_of count (drop 4 bytes)
+
+-- what a reader answered, seen by `view`, is what reading gives
+abbrev pub Gives : {X Y : Type 0} → (X → Y) → Option X → Option Y → Type 0
+Gives view None read = read ≡ None
+Gives view (Some x) read = read ≡ Some (view x)

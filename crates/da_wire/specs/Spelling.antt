@@ -1,0 +1,108 @@
+-- The one spelling of each value (docs/FORMATS.md).
+use Rattle.std.specs.Prelude.{◌<◌, ◌^◌, ℕ, List, [], ◌∷◌, ◌++◌, length, nat_lt, ◌==◌, Option, Some, None, if◌then◌else◌}
+use Rattle.std.specs.List.{flat_map}
+use Rattle.std.specs.Int.{w16, w32, to_be_bytes}
+use Rattle.namespace_id.specs.declared.cells.Axis.{Axis}
+use Rattle.namespace_id.specs.declared.cells.Axis.TheVariants.{Row, Col}
+use Rattle.namespace_id.specs.declared.cells.Cell.{Cell}
+use Rattle.namespace_id.specs.declared.namespaces.Namespace.{Namespace}
+use Rattle.namespace_id.specs.declared.digests.Digest.{Digest}
+use Rattle.namespace_id.specs.Names.{IsNamespace}
+use Rattle.namespace_id.specs.Digests.{AreDigests}
+use Rattle.namespace_id.specs.Cells.{CellList, AreCells}
+use Rattle.data_header.specs.Headers.{Roots, AreRoots}
+use Rattle.axis_roots.specs.declared.messages.Message as sent
+use Rattle.axis_roots.specs.Messages.{IsMessage}
+use Rattle.da_wire.specs.declared.frames.Frame.{Frame}
+use Rattle.da_wire.specs.declared.frames.Frame.TheVariants.{Header, Message, Missing, Sample, Request}
+
+-- the greatest payload: 16 MiB
+abbrev pub max_payload : ℕ
+max_payload = 16777216
+
+-- the kinds: `H`, `M`, `K`, `Q` and `P`
+abbrev pub header_kind : ℕ
+header_kind = 0x48
+
+abbrev pub message_kind : ℕ
+message_kind = 0x4d
+
+abbrev pub missing_kind : ℕ
+missing_kind = 0x4b
+
+abbrev pub sample_kind : ℕ
+sample_kind = 0x51
+
+abbrev pub request_kind : ℕ
+request_kind = 0x50
+
+-- a frame: its kind, the length of its payload in four bytes, its payload
+abbrev pub frame : ℕ → List ℕ → List ℕ
+frame kind payload = kind ∷ to_be_bytes w32 (length payload) ++ payload
+
+-- ---- payloads
+
+-- the bytes of digests, one after another
+abbrev pub digest_bytes : List Digest → List ℕ
+digest_bytes digests = flat_map (λ d. d.0) digests
+
+abbrev pub header_payload : Roots → List ℕ
+header_payload h = to_be_bytes w16 h.k ++ digest_bytes h.rows ++ digest_bytes h.cols
+
+abbrev pub axis_byte : Axis → ℕ
+axis_byte Row = 0
+axis_byte Col = 1
+
+abbrev pub message_payload : sent.Message → List ℕ
+message_payload m =
+    to_be_bytes w16 m.cell.row ++ to_be_bytes w16 m.cell.col ++ axis_byte m.axis ∷ []
+    ++ m.share.0 ++ length m.path ∷ digest_bytes m.path
+
+abbrev pub cell_bytes : Cell → List ℕ
+cell_bytes cell = to_be_bytes w16 cell.row ++ to_be_bytes w16 cell.col
+
+abbrev pub missing_payload : CellList → List ℕ
+missing_payload cells =
+    to_be_bytes w16 cells.k ++ to_be_bytes w32 (length cells.list) ++ flat_map cell_bytes cells.list
+
+abbrev pub sample_payload : Cell → Axis → List ℕ
+sample_payload cell axis = cell_bytes cell ++ axis_byte axis ∷ []
+
+abbrev pub request_payload : Namespace → List ℕ
+request_payload name = name.0
+
+-- ---- spellings
+
+-- a frame with this payload, none where the payload is above its limit
+abbrev pub spelled : ℕ → List ℕ → Option (List ℕ)
+spelled kind payload = if nat_lt max_payload (length payload) then None else Some (frame kind payload)
+
+-- the spelling of a value, where it has one: no cells are no missing cells
+abbrev pub spelling : Frame → Option (List ℕ)
+spelling (Header h) = spelled header_kind (header_payload h)
+spelling (Message m) = spelled message_kind (message_payload m)
+spelling (Missing cells) =
+    if length cells.list == 0 then None else spelled missing_kind (missing_payload cells)
+spelling (Sample cell axis) = spelled sample_kind (sample_payload cell axis)
+spelling (Request name) = spelled request_kind (request_payload name)
+
+-- ---- the values that there are
+
+-- a header whose digests have 90 bytes
+pub record IsHeader (h : Roots) : Type 0 where
+  pub roots : AreRoots h
+  pub rows : AreDigests h.rows
+  pub cols : AreDigests h.cols
+
+-- a cell has numbers of two bytes
+pub record IsCell (cell : Cell) : Type 0 where
+  pub row : cell.row < 2 ^ 16
+  pub col : cell.col < 2 ^ 16
+
+-- every value has the lengths and bounds of its type
+abbrev pub IsFrame : Frame → Type 0
+IsFrame (Header h) = IsHeader h
+IsFrame (Message m) = IsMessage m
+IsFrame (Missing cells) = AreCells cells
+IsFrame (Sample cell axis) = IsCell cell
+IsFrame (Request name) = IsNamespace name

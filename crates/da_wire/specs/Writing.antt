@@ -1,0 +1,41 @@
+-- The two parts of a spelling: a value's kind and its payload.
+use Rattle.std.specs.Prelude.{◌≡◌, ◌+◌, ◌≤◌, ◌<◌, ◌^◌, ⊤, ℕ, List, ◌++◌, length, Vec, vec_len, vec_capacity, Option, Some, None, MatchOption}
+use Rattle.std.specs.declared.alloc.Global.{Global}
+use Rattle.da_wire.specs.declared.frames.Frame.{Frame}
+use Rattle.da_wire.specs.declared.frames.Frame.TheVariants.{Header, Message, Missing, Sample, Request}
+use Rattle.da_wire.specs.Spelling.{frame, spelling, header_kind, message_kind, missing_kind, sample_kind, request_kind, header_payload, message_payload, missing_payload, sample_payload, request_payload}
+
+abbrev pub kind_of : Frame → ℕ
+kind_of (Header h) = header_kind
+kind_of (Message m) = message_kind
+kind_of (Missing cells) = missing_kind
+kind_of (Sample cell axis) = sample_kind
+kind_of (Request name) = request_kind
+
+abbrev pub payload_of : Frame → List ℕ
+payload_of (Header h) = header_payload h
+payload_of (Message m) = message_payload m
+payload_of (Missing cells) = missing_payload cells
+payload_of (Sample cell axis) = sample_payload cell axis
+payload_of (Request name) = request_payload name
+
+-- the length of the payload of a value that has a spelling
+abbrev pub HasSize : Frame → Option ℕ → Type 0
+HasSize value size = MatchOption size (spelling value ≡ None)
+    (λ n. (n ≡ length (payload_of value)) × (spelling value ≡ Some (frame (kind_of value) (payload_of value))))
+
+-- the value's one spelling was appended
+abbrev pub AppendsSpelling : Frame → List ℕ → List ℕ → Type 0
+AppendsSpelling value old new = (text : List ℕ) × (spelling value ≡ Some text) × (new ≡ old ++ text)
+
+-- there is room for so many bytes
+abbrev pub HasRoom : Vec ℕ Global → ℕ → Type 0
+HasRoom out count = vec_len out + count ≤ vec_capacity out
+
+-- so few missing cells that four bytes count them
+abbrev pub IsCounted : Frame → Type 0
+IsCounted (Header h) = ⊤
+IsCounted (Message m) = ⊤
+IsCounted (Missing cells) = length cells.list < 2 ^ 32
+IsCounted (Sample cell axis) = ⊤
+IsCounted (Request name) = ⊤

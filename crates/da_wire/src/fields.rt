@@ -1,0 +1,55 @@
+//! Fields of a payload, read from the front of its bytes.
+
+ghost use Rattle.std.specs.Prelude.{◌≡◌, ◌≤◌, ◌*◌, length, IfOk, IfSome};
+ghost use Rattle.std.specs.Int.{w16, w32};
+ghost use Rattle.namespace_id.specs.Bytes.{IsString};
+ghost use Rattle.da_wire.specs.Fields.{number_at, byte_at, string_at, digests_at, Gives};
+
+use namespace_id::{Digest, Share};
+use nmt_proofs::Path;
+
+/// A number of two bytes, the higher first, and the bytes after it.
+pub(crate) fn u16_at(bytes: &[u8]) -> Option<(u16, &[u8])>
+    ensures { Gives (λ x. (x.0, x.1.now)) result (number_at w16 bytes.now) }
+{
+    if bytes.len() < 2 {
+        return None;
+    }
+    let (front, rest) = bytes.split_at(2);
+    Some((u16::from_be_bytes([front[0], front[1]]), rest))
+}
+
+/// A number of four bytes, the highest first, and the bytes after it.
+pub(crate) fn u32_at(bytes: &[u8]) -> Option<(u32, &[u8])>
+    ensures { Gives (λ x. (x.0, x.1.now)) result (number_at w32 bytes.now) }
+{
+    if bytes.len() < 4 {
+        return None;
+    }
+    let (front, rest) = bytes.split_at(4);
+    let number = u32::from_be_bytes([front[0], front[1], front[2], front[3]]);
+    Some((number, rest))
+}
+
+/// A byte, and the bytes after it.
+pub(crate) fn u8_at(bytes: &[u8]) -> Option<(u8, &[u8])>
+    ensures { Gives (λ x. (x.0, x.1.now)) result (byte_at bytes.now) }
+{
+    match bytes {
+        [] => None,
+        [byte, rest @ ..] => Some((*byte, rest)),
+    }
+}
+
+/// A share, and the bytes after it.
+pub(crate) fn share_at(bytes: &[u8]) -> Option<(Share, &[u8])>
+    ensures { Gives (λ x. (x.0.0, x.1.now)) result (string_at 512 bytes.now) }
+{
+    if bytes.len() < 512 {
+        return None;
+    }
+    let (front, rest) = bytes.split_at(512);
+    let mut share = Share([0; 512]);
+    share.0.copy_from_slice(front);
+    Some((share, rest))
+}

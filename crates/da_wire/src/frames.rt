@@ -1,0 +1,65 @@
+//! Frames, and why bytes or values are none.
+
+use axis_roots::Message;
+use data_header::Header;
+use namespace_id::{Axis, Cell, Cells, Namespace};
+use thiserror::Error;
+
+/// A frame of any kind at the front of bytes. `size` is the length of all of it, 5 more than the
+/// payload's.
+#[derive(Clone, Copy, Debug)]
+pub struct RawFrame<'a> {
+    pub kind: u8,
+    pub payload: &'a [u8],
+    pub size: u64,
+}
+
+/// The value of a frame.
+#[derive(Drop)]
+pub enum Frame {
+    /// H: a header.
+    Header(Header),
+    /// M: a share message.
+    Message(Message),
+    /// K: missing cells.
+    Missing(Cells),
+    /// Q: a request for the sample of a cell on an axis.
+    Sample(Cell, Axis),
+    /// P: a request for the shares of a namespace.
+    Request(Namespace),
+}
+
+/// Why bytes are no frame. The variants but the last stand in the order in which they are tested; each
+/// has an offset, that of the frame's first byte, or of the first byte after it for `Trailing`.
+#[derive(Clone, Copy, Debug, PartialEq, Eq, Error)]
+pub enum FrameError {
+    /// The bytes end before the frame does.
+    #[error("the frame at {0} is cut off")]
+    Truncated(u64),
+    /// The kind isn't one that is asked for.
+    #[error("the frame at {0} is of another kind")]
+    BadKind(u64),
+    /// The payload is above its limit.
+    #[error("the frame at {0} has more than 16777216 bytes")]
+    TooLong(u64),
+    /// The payload isn't in the grammar of its kind.
+    #[error("the payload of the frame at {0} is not in its form")]
+    BadPayload(u64),
+    /// A byte follows the frame.
+    #[error("bytes follow the frame at {0}")]
+    Trailing(u64),
+    /// There was no memory.
+    #[error("out of memory")]
+    NoMemory,
+}
+
+/// Why a value was not written.
+#[derive(Clone, Copy, Debug, PartialEq, Eq, Error)]
+pub enum SpellError {
+    /// The value has no spelling: an empty list of missing cells.
+    #[error("the value has no spelling")]
+    Unspellable,
+    /// There was no memory.
+    #[error("out of memory")]
+    NoMemory,
+}

@@ -1,0 +1,20 @@
+//! What is spelled is read, and what is read is spelled.
+
+ghost use Rattle.std.specs.Prelude.{◌≡◌};
+ghost use Rattle.da_wire.specs.Spelling.{max_payload};
+ghost use Rattle.da_wire.specs.Laws.{SpelledIsRead, ReadIsSpelled, OneSpelling, FramesAreTheFile, FilesAreFrames};
+
+use crate::reading::MAX_PAYLOAD;
+
+/// Each value has at most one spelling, and no spelling is a proper prefix of another; what is read is
+/// what was spelled.
+pub fn wire_laws()
+    ensures read { SpelledIsRead }
+    ensures spelled { ReadIsSpelled }
+    ensures one { OneSpelling }
+
+    // Files that are lists of frames.
+    ensures frames { FramesAreTheFile }
+    ensures files { FilesAreFrames }
+    ensures limit { MAX_PAYLOAD ≡ max_payload }
+{}

@@ -1,0 +1,18 @@
+//! The frames that `da` reads and writes: one spelling for each value.
+//!
+//! A reader answers Ok exactly where the bytes at the front spell the value, and otherwise the first
+//! refusal of the stated order. A writer appends the one spelling.
+#![tactic(auto)]
+
+mod fields;
+mod frames;
+mod laws;
+mod payloads;
+mod reading;
+mod writing;
+
+pub use frames::{Frame, FrameError, RawFrame, SpellError};
+pub use laws::wire_laws;
+pub use payloads::message;
+pub use reading::{MAX_PAYLOAD, bad_frame, raw, read_frame, read_only};
+pub use writing::write_frame;

@@ -1,0 +1,208 @@
+//! The payload of each kind.
+
+ghost use Rattle.std.specs.Prelude.{◌≡◌, ◌≤◌, ◌*◌, length, take, drop, vec_len, IfOk};
+ghost use Rattle.std.specs.Int.{w16, from_be_bytes};
+ghost use Rattle.da_wire.specs.Fields.{Gives, digests_of, cells_of};
+ghost use Rattle.da_wire.specs.Reading.{header_at, axis_at, path_at, cell_at, message_at, missing_at, sample_at, request_at, GivesUnlessFull};
+
+use crate::fields::{share_at, u8_at, u16_at, u32_at};
+use axis_roots::Message;
+use data_header::Header;
+use namespace_id::{Axis, Cell, Cells, Digest, Namespace, is_width};
+use nmt_proofs::Path;
+use std::alloc::{AllocError, Global};
+
+/// The digest that 90 bytes are.
+fn digest_of(bytes: &[u8]) -> Digest
+    requires { length bytes.now ≡ 90 }
+    ensures { result.0 ≡ bytes.now }
+{
+    let mut digest = Digest([0; 90]);
+    digest.0.copy_from_slice(bytes);
+    digest
+}
+
+/// So many digests, one after another, which are all of the bytes.
+fn path_of(count: u8, bytes: &[u8]) -> Path
+    requires few { count ≤ 8 }
+    requires all { length bytes.now ≡ 90 * count }
+    ensures { result ≡ digests_of count bytes.now }
+{
+    let mut path = Path::new();
+    let mut rest = bytes;
+    for _ in 0..count {
+        let (front, after) = rest.split_at(90);
+        path.push(digest_of(front));
+        rest = after;
+    }
+    path
+}
+
+/// A count of at most 8, so many digests, and the bytes after them.
+#[tactic(auto, unfolding(crate::specs::Reading::path_at))]
+fn path_at(bytes: &[u8]) -> Option<(Path, &[u8])>
+    ensures { Gives (λ x. (x.0, x.1.now)) result (path_at bytes.now) }
+{
+    let (count, rest) = u8_at(bytes)?;
+    if count > 8 {
+        return None;
+    }
+    if rest.len() < 90 * count as usize {
+        return None;
+    }
+    let (nodes, rest) = rest.split_at(90 * count as usize);
+    Some((path_of(count, nodes), rest))
+}
+
+/// The axis that a byte is, 0 for a row and 1 for a column, and the bytes after it.
+#[tactic(auto, unfolding(crate::specs::Reading::axis_at))]
+fn axis_at(bytes: &[u8]) -> Option<(Axis, &[u8])>
+    ensures { Gives (λ x. (x.0, x.1.now)) result (axis_at bytes.now) }
+{
+    let (byte, rest) = u8_at(bytes)?;
+    match byte {
+        0 => Some((Axis::Row, rest)),
+        1 => Some((Axis::Col, rest)),
+        _ => None,
+    }
+}
+
+/// A cell, its row first, and the bytes after it.
+#[tactic(auto, unfolding(crate::specs::Reading::cell_at))]
+fn cell_at(bytes: &[u8]) -> Option<(Cell, &[u8])>
+    ensures { Gives (λ x. (x.0, x.1.now)) result (cell_at bytes.now) }
+{
+    let (row, rest) = u16_at(bytes)?;
+    let (col, rest) = u16_at(rest)?;
+    Some((Cell { row, col }, rest))
+}
+
+/// The message whose payload the bytes are; none where they aren't in the grammar of M. It takes no
+/// memory.
+///
+/// docs/FORMATS.md, "Payloads".
+#[tactic(auto, unfolding(crate::specs::Reading::message_at))]
+pub fn message(payload: &[u8]) -> Option<Message>
+    ensures { result ≡ message_at payload.now }
+{
+    let (cell, rest) = cell_at(payload)?;
+    let (axis, rest) = axis_at(rest)?;
+    let (share, rest) = share_at(rest)?;
+    let (path, rest) = path_at(rest)?;
+    if !rest.is_empty() {
+        return None;
+    }
+    Some(Message {
+        cell,
+        axis,
+        share,
+        path,
+    })
+}
+
+/// The sample request whose payload the bytes are.
+#[tactic(auto, unfolding(crate::specs::Reading::sample_at))]
+pub(crate) fn sample(payload: &[u8]) -> Option<(Cell, Axis)>
+    ensures { result ≡ sample_at payload.now }
+{
+    let (cell, rest) = cell_at(payload)?;
+    let (axis, rest) = axis_at(rest)?;
+    if !rest.is_empty() {
+        return None;
+    }
+    Some((cell, axis))
+}
+
+/// The namespace request whose payload the bytes are.
+#[tactic(auto, unfolding(crate::specs::Reading::request_at))]
+pub(crate) fn request(payload: &[u8]) -> Option<Namespace>
+    ensures { result ≡ request_at payload.now }
+{
+    if payload.len() != 29 {
+        return None;
+    }
+    let mut name = Namespace([0; 29]);
+    name.0.copy_from_slice(payload);
+    Some(name)
+}
+
+/// So many digests, one after another, which are all of the bytes.
+fn roots_of(alloc: Global, count: usize, bytes: &[u8]) -> Result<Vec<Digest>, AllocError>
+    requires { length bytes.now ≡ 90 * count }
+    ensures value { IfOk result (λ roots. roots.items ≡ digests_of count bytes.now) }
+    ensures len { IfOk result (λ roots. vec_len roots ≡ count) }
+{
+    let mut roots = Vec::with_capacity(alloc, count)?;
+    let mut rest = bytes;
+    for _ in 0..count {
+        let (front, after) = rest.split_at(90);
+        roots.push(digest_of(front))?;
+        rest = after;
+    }
+    Ok(roots)
+}
+
+/// The header whose payload the bytes are. No memory is taken before all bytes are there.
+#[tactic(auto, unfolding(crate::specs::Reading::header_at))]
+pub(crate) fn header(alloc: Global, payload: &[u8]) -> Result<Option<Header>, AllocError>
+    ensures { GivesUnlessFull result (header_at payload.now) }
+{
+    let Some((k, rest)) = u16_at(payload) else {
+        return Ok(None);
+    };
+    if !is_width(k) {
+        return Ok(None);
+    }
+    if rest.len() != 360 * k as usize {
+        return Ok(None);
+    }
+    let (rows, cols) = rest.split_at(180 * k as usize);
+    let rows = roots_of(alloc, 2 * k as usize, rows)?;
+    let cols = roots_of(alloc, 2 * k as usize, cols)?;
+    Ok(Some(Header { k, rows, cols }))
+}
+
+/// The cell that the first four bytes are.
+fn cell_of(bytes: &[u8]) -> Cell
+    requires { 4 ≤ length bytes.now }
+    ensures row { result.row ≡ from_be_bytes w16 (take 2 bytes.now) }
+    ensures col { result.col ≡ from_be_bytes w16 (take 2 (drop 2 bytes.now)) }
+{
+    Cell {
+        row: u16::from_be_bytes([bytes[0], bytes[1]]),
+        col: u16::from_be_bytes([bytes[2], bytes[3]]),
+    }
+}
+
+/// So many cells, one after another, which are all of the bytes.
+fn cells_of(alloc: Global, count: u32, bytes: &[u8]) -> Result<Vec<Cell>, AllocError>
+    requires { length bytes.now ≡ 4 * count }
+    ensures { IfOk result (λ cells. cells.items ≡ cells_of count bytes.now) }
+{
+    let mut cells = Vec::with_capacity(alloc, count as usize)?;
+    let mut rest = bytes;
+    for _ in 0..count {
+        let (_cell, after) = rest.split_at(4);
+        cells.push(cell_of(rest))?;
+        rest = after;
+    }
+    Ok(cells)
+}
+
+/// The missing cells whose payload the bytes are. No memory is taken before all bytes are there.
+#[tactic(auto, unfolding(crate::specs::Reading::missing_at))]
+pub(crate) fn missing(alloc: Global, payload: &[u8]) -> Result<Option<Cells>, AllocError>
+    ensures { GivesUnlessFull result (missing_at payload.now) }
+{
+    let Some((k, rest)) = u16_at(payload) else {
+        return Ok(None);
+    };
+    let Some((count, rest)) = u32_at(rest) else {
+        return Ok(None);
+    };
+    if count == 0 || rest.len() != 4 * count as usize {
+        return Ok(None);
+    }
+    let cells = cells_of(alloc, count, rest)?;
+    Ok(Cells::of(k, cells))
+}

@@ -1,0 +1,147 @@
+//! Reading frames from the front of bytes.
+
+ghost use Rattle.std.specs.Prelude.{◌≡◌, ◌+◌, ◌<◌, ◌≤◌, ◌^◌, length, nat_lt, IfOk};
+ghost use Rattle.std.specs.List.{list_any};
+ghost use Rattle.da_wire.specs.declared.frames.FrameError.TheVariants.{NoMemory};
+ghost use Rattle.da_wire.specs.Reading.{Reads, ReadsAt, raw_seen, raw_of, is_kind, value_at, value_of, tested_frame, frame_of, only_of, GivesUnlessFull};
+ghost use Rattle.da_wire.specs.Frames.{bad_frame, bad_frame_from};
+
+use crate::payloads::{header, message, missing, request, sample};
+use crate::{Frame, FrameError, RawFrame};
+use std::alloc::{AllocError, Global};
+
+/// The greatest payload of a frame, 16 MiB.
+pub const MAX_PAYLOAD: u32 = 16_777_216;
+
+impl From<AllocError> for FrameError {
+    ghost from_gives = { λ _ e. e ≡ NoMemory };
+
+    fn from(_error: AllocError) -> FrameError {
+        FrameError::NoMemory
+    }
+}
+
+/// The frame at the front of bytes, of any kind. `at` is their offset in their file.
+///
+/// Refuses fewer than five bytes (`Truncated`), then a payload above its limit (`TooLong`), then one
+/// that isn't all there (`Truncated`), each with `at`. It takes no memory.
+///
+/// docs/FORMATS.md, "Frames".
+#[tactic(auto, unfolding(crate::specs::Reading::raw_of))]
+pub fn raw(bytes: &[u8], at: u64) -> Result<RawFrame<'_>, FrameError>
+    ensures value { ReadsAt (λ f. raw_seen f) result (raw_of at bytes.now) }
+    ensures some { IfOk result (λ f. 5 ≤ f.size) }
+    ensures within { IfOk result (λ f. f.size ≤ length bytes.now) }
+{
+    if bytes.len() < 5 {
+        return Err(FrameError::Truncated(at));
+    }
+    let size = u32::from_be_bytes([bytes[1], bytes[2], bytes[3], bytes[4]]);
+    if size > MAX_PAYLOAD {
+        return Err(FrameError::TooLong(at));
+    }
+    if bytes.len() < 5 + size as usize {
+        return Err(FrameError::Truncated(at));
+    }
+    Ok(RawFrame {
+        kind: bytes[0],
+        payload: &bytes[5..5 + size as usize],
+        size: 5 + u64::from(size),
+    })
+}
+
+/// Whether there are values of this kind.
+fn is_kind(kind: u8) -> bool
+    ensures { result ≡ is_kind kind }
+{
+    matches!(kind, b'H' | b'M' | b'K' | b'Q' | b'P')
+}
+
+/// The value of this kind whose payload the bytes are.
+#[tactic(auto, unfolding(crate::specs::Reading::value_at))]
+fn value(alloc: Global, kind: u8, payload: &[u8]) -> Result<Option<Frame>, AllocError>
+    ensures { GivesUnlessFull result (value_at kind payload.now) }
+{
+    match kind {
+        b'H' => Ok(header(alloc, payload)?.map(Frame::Header)),
+        b'M' => Ok(message(payload).map(Frame::Message)),
+        b'K' => Ok(missing(alloc, payload)?.map(Frame::Missing)),
+        b'Q' => Ok(sample(payload).map(|(cell, axis)| Frame::Sample(cell, axis))),
+        b'P' => Ok(request(payload).map(Frame::Request)),
+        _ => Ok(None),
+    }
+}
+
+/// The value of the frame at the front of bytes, and the offset after it.
+fn value_at_front(alloc: Global, bytes: &[u8], at: u64) -> Result<(Frame, u64), FrameError>
+    requires { at + length bytes.now < 2 ^ 64 }
+    ensures { Reads NoMemory (λ x. x) result (value_of at (raw_of at bytes.now)) }
+{
+    let frame = raw(bytes, at)?;
+    match value(alloc, frame.kind, frame.payload)? {
+        Some(value) => Ok((value, at + frame.size)),
+        None => Err(FrameError::BadPayload(at)),
+    }
+}
+
+/// The value of the frame at the front of bytes, and the offset after it. `at` is the offset of the
+/// bytes in their file, and `at` plus their number fits a `u64`.
+///
+/// Refuses no byte (`Truncated`), a kind that isn't one of H, M, K, Q and P (`BadKind`), then what `raw`
+/// refuses, then a payload that isn't in the grammar of its kind (`BadPayload`), each with `at`; then
+/// want of memory. No memory is taken for a count before its bytes are there.
+///
+/// docs/FORMATS.md, "Frames" and "Payloads".
+#[tactic(auto, unfolding(crate::specs::Reading::tested_frame))]
+pub fn read_frame(alloc: Global, bytes: &[u8], at: u64) -> Result<(Frame, u64), FrameError>
+    requires { at + length bytes.now < 2 ^ 64 }
+    ensures { Reads NoMemory (λ x. x) result (frame_of at bytes.now) }
+{
+    if bytes.is_empty() {
+        return Err(FrameError::Truncated(at));
+    }
+    if !is_kind(bytes[0]) {
+        return Err(FrameError::BadKind(at));
+    }
+    value_at_front(alloc, bytes, at)
+}
+
+/// The value of the one frame that the bytes are, of one of these kinds.
+///
+/// Refuses what `read_frame` at offset 0 refuses, where a kind that isn't one of `kinds` is `BadKind`
+/// too; then a byte after the frame (`Trailing`), with its offset; then want of memory.
+///
+/// docs/FORMATS.md, "Frames" and "Payloads".
+#[tactic(auto, unfolding(crate::specs::Reading::tested_frame))]
+pub fn read_only(alloc: Global, bytes: &[u8], kinds: &[u8]) -> Result<Frame, FrameError>
+    ensures { Reads NoMemory (λ x. x) result (only_of bytes.now kinds.now) }
+{
+    if bytes.is_empty() {
+        return Err(FrameError::Truncated(0));
+    }
+    if !is_kind(bytes[0]) || !kinds.contains(&bytes[0]) {
+        return Err(FrameError::BadKind(0));
+    }
+    let (value, end) = value_at_front(alloc, bytes, 0)?;
+    if end < bytes.len() as u64 {
+        return Err(FrameError::Trailing(end));
+    }
+    Ok(value)
+}
+
+/// The offset of the first place at which no frame stands though bytes are left; none where the bytes
+/// are a list of frames. It takes no memory.
+///
+/// docs/FORMATS.md, "Lists of frames".
+pub fn bad_frame(bytes: &[u8]) -> Option<u64>
+    ensures { result ≡ bad_frame bytes.now }
+{
+    let mut at = 0;
+    while at < bytes.len() {
+        match raw(&bytes[at..], at as u64) {
+            Ok(frame) => at += frame.size as usize,
+            Err(_) => return Some(at as u64),
+        }
+    }
+    None
+}
