@@ -78,6 +78,13 @@ frames_on at bytes raw e some h =
     frames_here bytes (Some raw) h (sym (ok_of-raw at bytes) ∙ ap ok_of e)
     ∙ ap (λ (l : List Raw). raw ∷ l) (frames_skip (raw.size - 1) (drop 1 bytes) ∙ ap (frames_from 0) (drop_one raw.size bytes (omega arith) h))
 
+-- where none stands there are no more
+pub frames_stop : (bytes : List ℕ) (error : FrameError) → raw_of 0 bytes ≡ Err error → frames_from 0 bytes ≡ []
+unfolding frames_from
+frames_stop [] error e = refl
+frames_stop (b ∷ bytes) error e =
+    ap (λ (r : Result Raw FrameError). option_map_or (λ raw. raw ∷ frames_from (raw.size - 1) bytes) (ok_of r) []) e
+
 -- no frame is left
 pub frames_end : (bytes : List ℕ) → length bytes ≤ 0 → frames_from 0 bytes ≡ []
 unfolding frames_from

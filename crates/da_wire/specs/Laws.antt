@@ -2,9 +2,11 @@
 use Rattle.std.specs.Prelude.{◌≡◌, ◌+◌, ℕ, List, [], ◌++◌, length, None, Some, Ok}
 use Rattle.std.specs.List.{AllByRecursion}
 use Rattle.namespace_id.specs.Bytes.{AreBytes}
+use Rattle.axis_roots.specs.declared.messages.Message.{Message}
+use Rattle.axis_roots.specs.Messages.{IsMessage}
 use Rattle.da_wire.specs.declared.frames.Frame.{Frame}
-use Rattle.da_wire.specs.Spelling.{spelling, IsFrame}
-use Rattle.da_wire.specs.Reading.{Raw, frame_of}
+use Rattle.da_wire.specs.Spelling.{message_payload, spelling, IsFrame}
+use Rattle.da_wire.specs.Reading.{Raw, message_at, frame_of}
 use Rattle.da_wire.specs.Frames.{frames_of, bad_frame, frames_bytes, IsRaw}
 
 -- what was spelled is read, whatever follows it
@@ -30,6 +32,14 @@ ReadIsSpelled = (value : Frame) (at next : ℕ) (bytes : List ℕ) → AreBytes 
 abbrev pub OneSpelling : Type 0
 OneSpelling = (value other : Frame) (text more : List ℕ) → IsFrame value → IsFrame other
     → spelling value ≡ Some text → spelling other ≡ Some (text ++ more) → (more ≡ []) × (value ≡ other)
+
+-- the same of the payloads of messages
+abbrev pub MessageIsRead : Type 0
+MessageIsRead = (m : Message) → IsMessage m → message_at (message_payload m) ≡ Some m
+
+abbrev pub MessageIsSpelled : Type 0
+MessageIsSpelled = (payload : List ℕ) (m : Message) → AreBytes payload → message_at payload ≡ Some m
+    → IsMessage m × (payload ≡ message_payload m)
 
 -- a file that is a list of frames is just these frames, one after another
 abbrev pub FramesAreTheFile : Type 0

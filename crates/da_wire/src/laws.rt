@@ -2,7 +2,7 @@
 
 ghost use Rattle.std.specs.Prelude.{◌≡◌};
 ghost use Rattle.da_wire.specs.Spelling.{max_payload};
-ghost use Rattle.da_wire.specs.Laws.{SpelledIsRead, ReadIsSpelled, OneSpelling, FramesAreTheFile, FilesAreFrames};
+ghost use Rattle.da_wire.specs.Laws.{SpelledIsRead, ReadIsSpelled, OneSpelling, MessageIsRead, MessageIsSpelled, FramesAreTheFile, FilesAreFrames};
 
 use crate::reading::MAX_PAYLOAD;
 
@@ -12,6 +12,10 @@ pub fn wire_laws()
     ensures read { SpelledIsRead }
     ensures spelled { ReadIsSpelled }
     ensures one { OneSpelling }
+
+    // The payloads of messages.
+    ensures message_read { MessageIsRead }
+    ensures message_spelled { MessageIsSpelled }
 
     // Files that are lists of frames.
     ensures frames { FramesAreTheFile }

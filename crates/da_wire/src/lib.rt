@@ -14,5 +14,5 @@ mod writing;
 pub use frames::{Frame, FrameError, RawFrame, SpellError};
 pub use laws::wire_laws;
 pub use payloads::message;
-pub use reading::{MAX_PAYLOAD, bad_frame, raw, read_frame, read_only};
+pub use reading::{MAX_PAYLOAD, bad_frame, next_frame, raw, read_frame, read_only};
 pub use writing::write_frame;

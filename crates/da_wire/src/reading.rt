@@ -1,10 +1,10 @@
 //! Reading frames from the front of bytes.
 
-ghost use Rattle.std.specs.Prelude.{◌≡◌, ◌+◌, ◌<◌, ◌≤◌, ◌^◌, length, nat_lt, IfOk};
+ghost use Rattle.std.specs.Prelude.{◌≡◌, ◌+◌, ◌<◌, ◌≤◌, ◌^◌, [], ◌∷◌, length, nat_lt, IfOk, IfSome, MatchOption};
 ghost use Rattle.std.specs.List.{list_any};
 ghost use Rattle.da_wire.specs.declared.frames.FrameError.TheVariants.{NoMemory};
 ghost use Rattle.da_wire.specs.Reading.{Reads, ReadsAt, raw_seen, raw_of, is_kind, value_at, value_of, tested_frame, frame_of, only_of, GivesUnlessFull};
-ghost use Rattle.da_wire.specs.Frames.{bad_frame, bad_frame_from};
+ghost use Rattle.da_wire.specs.Frames.{frames_of, bad_frame, bad_frame_from};
 
 use crate::payloads::{header, message, missing, request, sample};
 use crate::{Frame, FrameError, RawFrame};
@@ -127,6 +127,21 @@ pub fn read_only(alloc: Global, bytes: &[u8], kinds: &[u8]) -> Result<Frame, Fra
         return Err(FrameError::Trailing(end));
     }
     Ok(value)
+}
+
+/// The frame of any kind at the front of bytes, and the bytes after it; none where no frame stands
+/// there. It takes no memory.
+///
+/// docs/FORMATS.md, "Lists of frames".
+pub fn next_frame(bytes: &[u8]) -> Option<(RawFrame<'_>, &[u8])>
+    ensures frames { MatchOption result (frames_of bytes.now ≡ [])
+        (λ x. frames_of bytes.now ≡ raw_seen x.0 ∷ frames_of x.1.now) }
+    ensures shorter { IfSome result (λ x. length x.1.now < length bytes.now) }
+{
+    match raw(bytes, 0) {
+        Ok(frame) => Some((frame, &bytes[frame.size as usize..])),
+        Err(_) => None,
+    }
 }
 
 /// The offset of the first place at which no frame stands though bytes are left; none where the bytes

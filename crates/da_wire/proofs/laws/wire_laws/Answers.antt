@@ -1,3 +1,4 @@
+use Rattle.da_wire.proofs.MessageFormLemmas.{message_again, message_takes}
 use Rattle.da_wire.proofs.FrameLemmas.{spelled_is_read, read_is_spelled, one_spelling}
 use Rattle.da_wire.proofs.FrameListLemmas.{frames_are_the_file, files_are_frames}
 use Rattle.da_wire.proofs.laws.wire_laws.Goals as goal
@@ -10,6 +11,12 @@ returns-clause-spelled c = read_is_spelled
 
 pub returns-clause-one : goal.returns-clause-one
 returns-clause-one c = one_spelling
+
+pub returns-clause-message_read : goal.returns-clause-message_read
+returns-clause-message_read c = message_again
+
+pub returns-clause-message_spelled : goal.returns-clause-message_spelled
+returns-clause-message_spelled c = message_takes
 
 pub returns-clause-frames : goal.returns-clause-frames
 returns-clause-frames c = frames_are_the_file
