@@ -10,6 +10,6 @@ mod messages;
 mod proved;
 
 pub use checking::{RefusedMessage, check};
-pub use laws::certificate_law;
+pub use laws::message_laws;
 pub use messages::{CheckRefusal, Message, opens};
 pub use proved::Proved;

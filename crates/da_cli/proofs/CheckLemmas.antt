@@ -1,46 +1,105 @@
 -- Lemmas on the command check.
-use Rattle.std.proofs.Common.{◌≡◌, ◌∙◌, ℕ, List, [], ◌∷◌, Some, None, refl, sym, ap, subst}
-use Rattle.std.specs.Prelude.{MatchOption}
+use Rattle.std.proofs.Common.{◌≡◌, ◌∙◌, ℕ, Bool, true, false, ◌&&◌, cond, List, [], ◌∷◌, ◌++◌, Some, None, Result, Ok, Err, refl, sym, ap, ap₂, subst}
+use Rattle.std.specs.Prelude.{MatchResult, ◌↔◌, ◌==◌}
+use Rattle.std.specs.Option.{option_map_or}
+use Rattle.namespace_id.specs.Bytes.{AreBytes}
+use Rattle.axis_roots.specs.declared.messages.Message as sent
+use Rattle.axis_roots.specs.declared.messages.CheckRefusal.{CheckRefusal}
+use Rattle.axis_roots.specs.Messages.{refusal_of, IsMessage}
+use Rattle.axis_roots.specs.Openings.{IsProved}
+use Rattle.da_wire.specs.Spelling.{message_kind}
+use Rattle.da_wire.specs.Laws.{MessageIsSpelled}
 use Rattle.std.specs.declared.option.Option.{Option}
+use Rattle.data_header.specs.Headers.{Roots, AreRoots}
+use Rattle.da_wire.specs.Reading.{Raw, message_at}
+use Rattle.da_wire.specs.Frames.{frames_of, bad_frame}
 use Rattle.da_cli.specs.declared.status.Status.{Status}
+use Rattle.da_cli.specs.declared.status.Status.TheVariants.{BadInput}
+use Rattle.da_cli.specs.declared.checking.Finding.{Finding}
+use Rattle.da_cli.specs.declared.checking.Finding.TheVariants.{Proved, NoMessage, Refused}
 use Rattle.da_cli.specs.declared.words.Command.TheVariants.{Check}
-use Rattle.da_cli.specs.declared.messages.Message.{Message}
-use Rattle.da_cli.specs.declared.messages.CheckRefusal.{CheckRefusal}
-use Rattle.da_cli.specs.Headers.{Roots}
-use Rattle.da_cli.specs.Proved.{refusal_of}
-use Rattle.da_cli.specs.Grammar.{header_in, message_in}
 use Rattle.da_cli.specs.Gathered.{file_of}
 use Rattle.da_cli.specs.Statuses.{kind_of, output}
-use Rattle.da_cli.specs.Outcome.{Relation}
-use Rattle.da_cli.specs.Judging.{Judged, unread_at}
-use Rattle.da_cli.specs.Check.{check_line, check_status, CheckOf}
+use Rattle.da_cli.specs.Outcome.{Relation, Refuses}
+use Rattle.da_cli.specs.Judging.{Judged}
+use Rattle.da_cli.specs.Check.{header_in, message_in, IsProvedFrame, finding_of, line_of, is_ok, lines_of, are_ok, status_of, Lists, error_of, CheckOf}
 use Rattle.da_cli.specs.Meaning.{Meaning}
 
 -- the answer by what the two files are
-abbrev answer_by : Option Roots → Option Message → Relation
-answer_by a b w status = MatchOption a ⊥ (λ h. MatchOption b ⊥ (λ m.
-    (w ≡ check_line (refusal_of h m)) × (status ≡ check_status (refusal_of h m))))
+abbrev answer_by : Result Roots ℕ → List Raw → Relation
+answer_by a frames w status = MatchResult a (λ h. Lists h frames w status) (λ at. ⊥)
 
--- what is answered to a message that was read
-pub check_meant : (files : List (List ℕ)) (h : Roots) (m : Message) (o : Option CheckRefusal)
-    → header_in (file_of files 0) ≡ Some h → message_in (file_of files 1) ≡ Some m → o ≡ refusal_of h m
-    → Meaning Check files (check_line o) (check_status o)
-check_meant files h m o eh em e =
-    let P : Option Roots → Option Message → Type 0 =
-    λ a b. Judged (unread_at a ∷ unread_at b ∷ []) (answer_by a b) (check_line o) (check_status o) in
-    let at : P (Some h) (Some m) = (ap check_line e, ap check_status e) in
-    subst (λ (a : Option Roots). P a (message_in (file_of files 1))) (sym eh)
-    (subst (λ (b : Option Message). P (Some h) b) (sym em) at)
+abbrev meaning_by : List (List ℕ) → Result Roots ℕ → Option ℕ → Relation
+meaning_by files a b = Judged (error_of a ∷ b ∷ []) (answer_by a (frames_of (file_of files 1)))
+
+-- the meaning of a second file that isn't a list of frames
+pub check_refuses : (files : List (List ℕ)) (h : Roots) (at : ℕ) → header_in (file_of files 0) ≡ Ok h → bad_frame (file_of files 1) ≡ Some at
+    → Refuses (BadInput 1 at) ≡ Meaning Check files
+check_refuses files h at read bad = sym (ap₂ (meaning_by files) read bad)
+
+-- the meaning of files that were read is their lines
+pub check_is : (files : List (List ℕ)) (h : Roots) → header_in (file_of files 0) ≡ Ok h → bad_frame (file_of files 1) ≡ None
+    → Lists h (frames_of (file_of files 1)) ≡ Meaning Check files
+check_is files h read fine = sym (ap₂ (meaning_by files) read fine)
+
+-- the next frame's line comes next
+pub next_line : (h : Roots) (rest after line : List ℕ) (frame : Raw) (finding : Finding) → frames_of rest ≡ frame ∷ frames_of after
+    → finding ≡ finding_of h frame → line ≡ line_of finding → lines_of h (frames_of rest) ≡ line ++ lines_of h (frames_of after)
+next_line h rest after line frame finding frames found shown =
+    ap (lines_of h) frames ∙ ap (λ (l : List ℕ). l ++ lines_of h (frames_of after)) (sym (shown ∙ ap line_of found))
+
+and_assoc : (a b c : Bool) → (a && (b && c)) ≡ ((a && b) && c)
+and_assoc true b c = refl
+and_assoc false b c = refl
+
+-- whether all are proved, with the next frame
+pub next_ok : (h : Roots) (rest after : List ℕ) (frame : Raw) (finding : Finding) (so_far ok : Bool) → frames_of rest ≡ frame ∷ frames_of after
+    → finding ≡ finding_of h frame → ok ≡ is_ok finding
+    → (so_far && are_ok h (frames_of rest)) ≡ ((so_far && ok) && are_ok h (frames_of after))
+next_ok h rest after frame finding so_far ok frames found tested =
+    let here : are_ok h (frames_of rest) ≡ (ok && are_ok h (frames_of after)) =
+    ap (are_ok h) frames ∙ ap (λ (b : Bool). b && are_ok h (frames_of after)) (sym (tested ∙ ap is_ok found)) in
+    ap (λ (b : Bool). so_far && b) here ∙ and_assoc so_far ok (are_ok h (frames_of after))
 
 -- an answer comes with its output
-pub check_status-kind : (o : Option CheckRefusal) → kind_of (check_status o) ≡ output
-check_status-kind None = refl
-check_status-kind (Some why) = refl
+status-kind : (all_ok : Bool) → kind_of (status_of all_ok) ≡ output
+status-kind true = refl
+status-kind false = refl
 
-by_files : (a : Option Roots) (b : Option Message) (w : List ℕ) (status : Status) → answer_by a b w status → kind_of status ≡ output
-by_files None b w status h = absurd h
-by_files (Some x) None w status h = absurd h
-by_files (Some x) (Some m) w status h = ap kind_of h.1 ∙ check_status-kind (refusal_of x m)
+pub lists_last : (h : Roots) (frames : List Raw) (w : List ℕ) (status : Status) → Lists h frames w status → kind_of status ≡ output
+lists_last h frames w status l = ap kind_of l.1 ∙ status-kind _
+
+by_header : (a : Result Roots ℕ) (frames : List Raw) (w : List ℕ) (status : Status) → answer_by a frames w status → kind_of status ≡ output
+by_header (Ok h) frames w status l = lists_last h frames w status l
+by_header (Err at) frames w status l = absurd l
 
 pub check_last : (files : List (List ℕ)) (w : List ℕ) (status : Status) → CheckOf files w status → kind_of status ≡ output
-check_last files w status h = by_files (header_in (file_of files 0)) (message_in (file_of files 1)) w status h
+check_last files w status l = by_header (header_in (file_of files 0)) (frames_of (file_of files 1)) w status l
+
+-- ---- `ok`
+
+abbrev finding_by : Roots → Option sent.Message → Finding
+finding_by h o = option_map_or (λ m. option_map_or Refused (refusal_of h m) Proved) o NoMessage
+
+none_refused : (o : Option CheckRefusal) → option_map_or Refused o Proved ≡ Proved → o ≡ None
+none_refused None e = refl
+none_refused (Some why) e = absurd cc
+
+by_message : (h : Roots) (o : Option sent.Message) → finding_by h o ≡ Proved → (m : sent.Message) × (o ≡ Some m) × (refusal_of h m ≡ None)
+by_message h None e = absurd cc
+by_message h (Some m) e = (m, refl, none_refused (refusal_of h m) e)
+
+in_grammar : (b : Bool) (o : Option sent.Message) (m : sent.Message) → cond b o None ≡ Some m → o ≡ Some m
+in_grammar true o m e = e
+in_grammar false o m e = absurd cc
+
+-- a frame is found proved exactly where it is a message that is proved; by what is known of messages that
+-- were read, and of their refusals
+pub finding_proved : (header : Roots) (frame : Raw) → MessageIsSpelled
+    → ((h : Roots) (m : sent.Message) → AreRoots h → IsMessage m → (refusal_of h m ≡ None) ↔ IsProved h m)
+    → AreRoots header → AreBytes frame.payload → (finding_of header frame ≡ Proved) ↔ IsProvedFrame header frame
+finding_proved header frame spelled refusal roots bytes =
+    let sized : (m : sent.Message) → message_in frame ≡ Some m → IsMessage m
+        = λ m e. (spelled frame.payload m bytes (in_grammar (frame.kind == message_kind) (message_at frame.payload) m e)).0 in
+    (λ e. let r = by_message header (message_in frame) e in (r.0, r.1, (refusal header r.0 roots (sized r.0 r.1)).0 r.2),
+     λ p. ap (finding_by header) p.1 ∙ ap (λ (o : Option CheckRefusal). option_map_or Refused o Proved) ((refusal header p.0 roots (sized p.0 p.1)).1 p.2))

@@ -2,13 +2,14 @@
 use Rattle.std.proofs.Common.{◌≡◌, ℕ, zero, suc, ◌<◌, ◌≤◌, List, [], ◌∷◌, length, get_or, Vec, Global, refl, sym, ap, ◌∙◌, subst, arith, ⊎_elim, IsSome, ◌↔◌}
 use Rattle.std.specs.declared.option.Option.{Option}
 use Rattle.std.specs.Io.KnownBytes.{Appends}
+use Rattle.std.proofs.KnownBytes.{Appends-nil}
 use Rattle.da_io.specs.Faults.{count_on}
 use Rattle.da_io.specs.Sinks.{AppendsPart}
 use Rattle.da_cli.specs.declared.status.Status.{Status}
-use Rattle.da_cli.specs.declared.status.Status.TheVariants.{WriteFault}
+use Rattle.da_cli.specs.declared.status.Status.TheVariants.{WriteFault, BadInput}
 use Rattle.da_cli.specs.Statuses.{Kind, output, kind_of, output_count}
 use Rattle.da_cli.specs.Gathered.{contents_of, file_of}
-use Rattle.da_cli.specs.Outcome.{Relation, AnswersBy, UntouchedBy, IsOwnBy, Ends, Finishes}
+use Rattle.da_cli.specs.Outcome.{Relation, Refuses, AnswersBy, UntouchedBy, IsOwnBy, Ends, Finishes}
 
 -- file i of a list
 pub file_some : (files : List (Vec ℕ Global)) (i : ℕ) (file : Vec ℕ Global) → i < length files → file ≡ get_or files i file
@@ -23,6 +24,22 @@ unfolding file_of
 file_none [] i h = refl
 file_none (f ∷ files) zero h = absurd (omega arith)
 file_none (f ∷ files) (suc i) h = file_none files i (omega arith)
+
+-- a command with a meaning that is another's
+pub ends_as : (M N : Relation) (old new : Option (List ℕ)) (before now : ℕ) (Same : Type 0) (status : Status) → M ≡ N
+    → Ends M old new before now Same status → Ends N old new before now Same status
+ends_as M N old new before now Same status e ends = subst (λ (R : Relation). Ends R old new before now Same status) e ends
+
+-- a file isn't in its form
+pub ends_refused : (i at : ℕ) (old : Option (List ℕ)) (before : ℕ) (Same : Type 0) → Same
+    → Ends (Refuses (BadInput i at)) old old before before Same (BadInput i at)
+ends_refused i at old before Same same = record {
+  answers = ([], (refl, refl), Appends-nil old);
+  faults = refl;
+  told = (λ s. s, λ s. s);
+  untouched = same;
+  own = tt;
+}
 
 -- the output of a meaning was taken whole
 pub ends_whole : (M : Relation) (bytes : List ℕ) (status : Status) (old new : Option (List ℕ)) (before now : ℕ) (Same : Type 0)

@@ -1,15 +1,6 @@
-pub mod FieldLemmas
 pub mod DigitLemmas
 pub mod WriteLemmas
 pub mod EndLemmas
 pub mod GatheredLemmas
 pub mod CheckLemmas
 pub mod RunLemmas
-pub mod ReaderLemmas
-pub mod NumberLemmas
-pub mod ByteFieldLemmas
-pub mod DigestBytesLemmas
-pub mod FrameLemmas
-pub mod HeaderFormLemmas
-pub mod MessageFieldLemmas
-pub mod MessageFormLemmas

@@ -1,33 +1,112 @@
--- check HEADER MESSAGES: whether a message is proved under a header.
-use Rattle.std.specs.Prelude.{◌≡◌, ℕ, List, [], ◌∷◌, codes, Option, Some, None, MatchOption}
+-- check HEADER MESSAGES: which messages of a list of frames are proved under a header.
+use Rattle.std.specs.Prelude.{◌≡◌, ℕ, List, [], ◌∷◌, codes, Bool, true, false, Option, Some, None, Result, Ok, Err, MatchResult, ◌==◌, ⊤, if◌then◌else◌}
+use Rattle.std.specs.List.{flat_map, list_all}
+use Rattle.std.specs.Option.{option_map_or}
+use Rattle.data_header.specs.Headers.{Roots}
+use Rattle.axis_roots.specs.declared.messages.Message as sent
+use Rattle.axis_roots.specs.declared.messages.CheckRefusal.{CheckRefusal}
+use Rattle.axis_roots.specs.declared.messages.CheckRefusal.TheVariants.{OutOfSquare, NodeCount, Unordered, OtherRoot}
+use Rattle.axis_roots.specs.Messages.{refusal_of}
+use Rattle.axis_roots.specs.Openings.{IsProved}
+use Rattle.da_wire.specs.declared.frames.Frame.{Frame}
+use Rattle.da_wire.specs.declared.frames.Frame.TheVariants.{Header, Message, Missing, Sample, Request}
+use Rattle.da_wire.specs.declared.frames.FrameError.{FrameError}
+use Rattle.da_wire.specs.declared.frames.FrameError.TheVariants.{Truncated, BadKind, TooLong, BadPayload, Trailing, NoMemory}
+use Rattle.da_wire.specs.Spelling.{header_kind, message_kind}
+use Rattle.da_wire.specs.Reading.{Raw, message_at, only_of}
+use Rattle.da_wire.specs.Frames.{frames_of, bad_frame}
 use Rattle.da_cli.specs.declared.status.Status.{Status}
 use Rattle.da_cli.specs.declared.status.Status.TheVariants.{Done, Refused}
-use Rattle.da_cli.specs.declared.messages.CheckRefusal.{CheckRefusal}
-use Rattle.da_cli.specs.declared.messages.CheckRefusal.TheVariants.{OutOfSquare, NodeCount, Unordered, OtherRoot}
-use Rattle.da_cli.specs.Proved.{refusal_of}
-use Rattle.da_cli.specs.Grammar.{header_in, message_in}
+use Rattle.da_cli.specs.declared.checking.Finding.{Finding}
+use Rattle.da_cli.specs.declared.checking.Finding.TheVariants as found
+use Rattle.da_cli.specs.declared.checking.Unread.{Unread}
+use Rattle.da_cli.specs.declared.checking.Unread.TheVariants as unread
 use Rattle.da_cli.specs.Gathered.{file_of}
 use Rattle.da_cli.specs.Outcome.{Relation}
-use Rattle.da_cli.specs.Judging.{unread_at}
 
--- the line that answers to a message: the number of the first check that fails
-abbrev pub check_line : Option CheckRefusal → List ℕ
-check_line None = codes "ok\n"
-check_line (Some OutOfSquare) = codes "refused 1\n"
-check_line (Some NodeCount) = codes "refused 2\n"
-check_line (Some Unordered) = codes "refused 3\n"
-check_line (Some OtherRoot) = codes "refused 4\n"
+-- ---- the first file
 
-abbrev pub check_status : Option CheckRefusal → Status
-check_status None = Done
-check_status (Some why) = Refused
+-- where a file stops being one frame
+abbrev pub offset_of : FrameError → ℕ
+offset_of (Truncated at) = at
+offset_of (BadKind at) = at
+offset_of (TooLong at) = at
+offset_of (BadPayload at) = at
+offset_of (Trailing at) = at
+offset_of NoMemory = 0
 
--- the first file is a header, and the second one a message
+-- the header that a file is, or where it stops being one
+abbrev pub header_by : Result Frame FrameError → Result Roots ℕ
+header_by (Err e) = Err (offset_of e)
+header_by (Ok (Header h)) = Ok h
+header_by (Ok (Message m)) = Err 0
+header_by (Ok (Missing cells)) = Err 0
+header_by (Ok (Sample cell axis)) = Err 0
+header_by (Ok (Request name)) = Err 0
+
+abbrev pub header_in : List ℕ → Result Roots ℕ
+header_in bytes = header_by (only_of bytes (header_kind ∷ []))
+
+-- what a call answered is what the file is, unless memory ran out
+abbrev pub ReadsHeader : Result Roots Unread → Result Roots ℕ → Type 0
+ReadsHeader (Ok h) read = read ≡ Ok h
+ReadsHeader (Err (unread.BadForm at)) read = read ≡ Err at
+ReadsHeader (Err unread.NoMemory) read = ⊤
+
+-- ---- the second file
+
+-- the message of the grammar that a frame is, if it is one
+abbrev pub message_in : Raw → Option sent.Message
+message_in frame = if frame.kind == message_kind then message_at frame.payload else None
+
+-- what is found of a frame
+abbrev pub finding_of : Roots → Raw → Finding
+finding_of header frame =
+    option_map_or (λ m. option_map_or found.Refused (refusal_of header m) found.Proved) (message_in frame) found.NoMessage
+
+-- its line: the number of the first check that fails; that of the grammar is 0
+abbrev pub line_of : Finding → List ℕ
+line_of found.Proved = codes "ok\n"
+line_of found.NoMessage = codes "refused 0\n"
+line_of (found.Refused OutOfSquare) = codes "refused 1\n"
+line_of (found.Refused NodeCount) = codes "refused 2\n"
+line_of (found.Refused Unordered) = codes "refused 3\n"
+line_of (found.Refused OtherRoot) = codes "refused 4\n"
+
+abbrev pub is_ok : Finding → Bool
+is_ok found.Proved = true
+is_ok found.NoMessage = false
+is_ok (found.Refused why) = false
+
+-- the lines of all frames, in their order, and whether all are proved
+abbrev pub lines_of : Roots → List Raw → List ℕ
+lines_of header frames = flat_map (λ frame. line_of (finding_of header frame)) frames
+
+abbrev pub are_ok : Roots → List Raw → Bool
+are_ok header frames = list_all (λ frame. is_ok (finding_of header frame)) frames
+
+abbrev pub status_of : Bool → Status
+status_of all_ok = if all_ok then Done else Refused
+
+-- a frame is a message that is proved under the header
+abbrev pub IsProvedFrame : Roots → Raw → Type 0
+IsProvedFrame header frame = (m : sent.Message) × (message_in frame ≡ Some m) × IsProved header m
+
+-- ---- the command
+
+abbrev pub error_of : {A : Type 0} → Result A ℕ → Option ℕ
+error_of (Ok x) = None
+error_of (Err at) = Some at
+
+-- the first file is a header and nothing else, and the second a list of frames
 abbrev pub check_judged : List (List ℕ) → List (Option ℕ)
-check_judged files = unread_at (header_in (file_of files 0)) ∷ unread_at (message_in (file_of files 1)) ∷ []
+check_judged files = error_of (header_in (file_of files 0)) ∷ bad_frame (file_of files 1) ∷ []
 
--- the answer to the message in the second file under the header in the first
+-- a line for each frame; Done where all are proved
+abbrev pub Lists : Roots → List Raw → Relation
+Lists header frames w status = (w ≡ lines_of header frames) × (status ≡ status_of (are_ok header frames))
+
+-- the lines of the second file's frames under the header in the first
 abbrev pub CheckOf : List (List ℕ) → Relation
 CheckOf files w status =
-    MatchOption (header_in (file_of files 0)) ⊥ (λ h. MatchOption (message_in (file_of files 1)) ⊥ (λ m.
-    (w ≡ check_line (refusal_of h m)) × (status ≡ check_status (refusal_of h m))))
+    MatchResult (header_in (file_of files 0)) (λ h. Lists h (frames_of (file_of files 1)) w status) (λ at. ⊥)

@@ -14,8 +14,3 @@ first_bad i (Some at ∷ judged) = Some (i, at)
 abbrev pub Judged : List (Option ℕ) → Relation → Relation
 Judged judged Answer w status =
     MatchOption (first_bad 0 judged) (Answer w status) (λ bad. Refuses (BadInput bad.0 bad.1) w status)
-
--- a file that is read is in its form; one that isn't read is refused from its first byte on
-abbrev pub unread_at : {A : Type 0} → Option A → Option ℕ
-unread_at None = Some 0
-unread_at (Some value) = None

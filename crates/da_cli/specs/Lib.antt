@@ -1,7 +1,3 @@
-pub mod Fields
-pub mod Headers
-pub mod Proved
-pub mod Grammar
 pub mod Limits
 pub mod Words
 pub mod Statuses

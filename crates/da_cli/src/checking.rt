@@ -1,48 +1,126 @@
-//! check HEADER MESSAGES: whether a message is proved under a header.
+//! check HEADER MESSAGES: which messages of a list of frames are proved under a header.
 
-ghost use Rattle.std.specs.Prelude.{◌≡◌, Some};
+ghost use Rattle.std.specs.Prelude.{◌≡◌, ◌↔◌, ◌&&◌, IsSome};
+ghost use Rattle.std.specs.Io.KnownBytes.{Appends};
+ghost use Rattle.da_wire.specs.Reading.{raw_seen};
+ghost use Rattle.da_wire.specs.Frames.{frames_of};
 ghost use Rattle.da_cli.specs.declared.words.Command.TheVariants.{Check};
 ghost use Rattle.da_cli.specs.Gathered.{contents_of};
-ghost use Rattle.da_cli.specs.Check.{check_line};
+ghost use Rattle.da_cli.specs.Check.{header_in, finding_of, line_of, is_ok, Lists, ReadsHeader};
 ghost use Rattle.da_cli.specs.Meaning.{Meaning};
 ghost use Rattle.da_cli.specs.Outcome.{Ends};
 
 use crate::Status;
 use crate::files::file;
-use crate::grammar::{Unread, header_in, message_in};
-use crate::messages::{CheckRefusal, opens};
-use crate::output::finish;
-use da_io::Sink;
+use axis_roots::{CheckRefusal, opens};
+use da_io::{Sink, write_all};
+use da_wire::{Frame, FrameError, RawFrame, bad_frame, message, next_frame, read_only};
+use data_header::Header;
 use std::alloc::Global;
 
-/// The line for a message that is refused.
-fn refused_line(why: CheckRefusal) -> &'static [u8]
-    ensures { result.now ≡ check_line (Some why) }
+/// Why a file is not read as a header.
+enum Unread {
+    /// It isn't one from this offset on.
+    BadForm(u64),
+    NoMemory,
+}
+
+/// What is found of a frame.
+#[derive(Clone, Copy)]
+enum Finding {
+    Proved,
+    /// It is no message of the grammar.
+    NoMessage,
+    Refused(CheckRefusal),
+}
+
+/// The header that a file is.
+fn header_in(alloc: Global, bytes: &[u8]) -> Result<Header, Unread>
+    ensures { ReadsHeader result (header_in bytes.now) }
 {
-    match why {
-        CheckRefusal::OutOfSquare => b"refused 1\n",
-        CheckRefusal::NodeCount => b"refused 2\n",
-        CheckRefusal::Unordered => b"refused 3\n",
-        CheckRefusal::OtherRoot => b"refused 4\n",
+    match read_only(alloc, bytes, b"H") {
+        Ok(Frame::Header(header)) => Ok(header),
+        Ok(_) => Err(Unread::BadForm(0)),
+        Err(FrameError::Truncated(at)) => Err(Unread::BadForm(at)),
+        Err(FrameError::BadKind(at)) => Err(Unread::BadForm(at)),
+        Err(FrameError::TooLong(at)) => Err(Unread::BadForm(at)),
+        Err(FrameError::BadPayload(at)) => Err(Unread::BadForm(at)),
+        Err(FrameError::Trailing(at)) => Err(Unread::BadForm(at)),
+        Err(FrameError::NoMemory) => Err(Unread::NoMemory),
     }
 }
 
-/// Answers to the message in the second file under the header in the first.
+/// What is found of a frame under a header.
+fn finding_of(header: &Header, frame: RawFrame<'_>) -> Finding
+    ensures { result ≡ finding_of header.now (raw_seen frame.entry) }
+{
+    if frame.kind != b'M' {
+        return Finding::NoMessage;
+    }
+    let Some(message) = message(frame.payload) else {
+        return Finding::NoMessage;
+    };
+    match opens(header, &message) {
+        Ok(()) => Finding::Proved,
+        Err(why) => Finding::Refused(why),
+    }
+}
+
+/// The line for what is found of a frame.
+fn line_of(finding: Finding) -> &'static [u8]
+    ensures { result.now ≡ line_of finding }
+{
+    match finding {
+        Finding::Proved => b"ok\n",
+        Finding::NoMessage => b"refused 0\n",
+        Finding::Refused(CheckRefusal::OutOfSquare) => b"refused 1\n",
+        Finding::Refused(CheckRefusal::NodeCount) => b"refused 2\n",
+        Finding::Refused(CheckRefusal::Unordered) => b"refused 3\n",
+        Finding::Refused(CheckRefusal::OtherRoot) => b"refused 4\n",
+    }
+}
+
+fn is_ok(finding: Finding) -> bool
+    ensures { result ≡ is_ok finding }
+{
+    matches!(finding, Finding::Proved)
+}
+
+/// Writes the line of each frame, one at a time. It takes no memory.
+fn list<O: Sink>(header: &Header, messages: &[u8], out: &mut O) -> Status
+    ensures { Ends (Lists header.now (frames_of messages.now)) (O.taken out.old) (O.taken out.new)
+        (O.faults out.old) (O.faults out.new) (out.new ≡ out.old) result }
+{
+    let mut rest = messages;
+    let mut all_ok = true;
+    while let Some((frame, after)) = next_frame(rest) {
+        let finding = finding_of(header, frame);
+        let Ok(()) = write_all(out, line_of(finding)) else {
+            return Status::WriteFault;
+        };
+        all_ok &= is_ok(finding);
+        rest = after;
+    }
+    if all_ok {
+        Status::Done
+    } else {
+        Status::Refused
+    }
+}
+
+/// Answers to the messages in the second file under the header in the first.
 pub(crate) fn check<O: Sink>(alloc: Global, files: &[Vec<u8>], out: &mut O) -> Status
     ensures { Ends (Meaning Check (contents_of files.now)) (O.taken out.old) (O.taken out.new)
         (O.faults out.old) (O.faults out.new) (out.new ≡ out.old) result }
 {
     let header = match header_in(alloc, file(files, 0)) {
         Ok(header) => header,
-        Err(Unread::BadForm) => return Status::BadInput(0, 0),
+        Err(Unread::BadForm(at)) => return Status::BadInput(0, at),
         Err(Unread::NoMemory) => return Status::NoMemory,
     };
-    let message = match message_in(file(files, 1)) {
-        Some(message) => message,
-        None => return Status::BadInput(1, 0),
-    };
-    match opens(&header, &message) {
-        Ok(()) => finish(out, b"ok\n", Status::Done),
-        Err(why) => finish(out, refused_line(why), Status::Refused),
+    let messages = file(files, 1);
+    if let Some(at) = bad_frame(messages) {
+        return Status::BadInput(1, at);
     }
+    list(&header, messages, out)
 }

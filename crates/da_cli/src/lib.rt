@@ -5,15 +5,10 @@
 #![tactic(auto)]
 
 mod checking;
-mod fields;
 mod files;
-mod forms;
 mod gathering;
-mod grammar;
-mod headers;
 mod laws;
 mod line;
-mod messages;
 mod output;
 mod running;
 mod status;
@@ -21,7 +16,6 @@ mod status;
 mod tests;
 mod words;
 
-pub use forms::file_forms;
 pub use gathering::FILE_LIMIT;
 pub use laws::run_laws;
 pub use running::run;

@@ -1,21 +1,22 @@
-use Rattle.std.proofs.Common.{None, Some, refl, sym, ap, ◌∙◌}
-use Rattle.da_cli.specs.declared.words.Command.TheVariants.{Check}
-use Rattle.da_cli.specs.Grammar.{header_in, message_in}
+use Rattle.std.proofs.Common.{◌≡◌, ◌∙◌, List, ℕ, refl, sym, ap, subst}
+use Rattle.da_wire.specs.Frames.{frames_of, bad_frame}
 use Rattle.da_cli.specs.Gathered.{contents_of}
+use Rattle.da_cli.specs.Check.{header_in, Lists}
+use Rattle.da_cli.specs.declared.words.Command.TheVariants.{Check}
 use Rattle.da_cli.specs.Meaning.{Meaning}
-use Rattle.da_cli.proofs.CheckLemmas.{check_meant}
-use Rattle.da_cli.proofs.EndLemmas.{ends_by_finish}
+use Rattle.da_cli.proofs.EndLemmas.{ends_as, ends_refused}
+use Rattle.da_cli.proofs.CheckLemmas.{check_is, check_refuses}
 use Rattle.da_cli.proofs.checking.check.Goals as goal
 
-pub returns-in-Ok-opens : goal.returns-in-Ok-opens
-returns-in-Ok-opens g c =
-    let meant = check_meant (contents_of c.args.files.now) c.in-Ok.header c.in-Some.message None
-    (ap header_in (sym c.file.ensures) ∙ c.in-Ok.ensures) (ap message_in (sym c.file-2.ensures) ∙ sym c.in-Some.ensures) c.in-Ok-opens.ensures.first in
-    ends_by_finish (Meaning Check (contents_of c.args.files.now)) _ _ _ _ _ _ _ _ refl meant c.finish.ensures
+pub returns-in-Some : goal.returns-in-Some
+returns-in-Some g c =
+    let same = check_refuses (contents_of c.args.files.now) c.in-Ok.header c.in-Some.at (ap header_in (sym c.file.ensures) ∙ c.in-Ok.ensures)
+        (ap bad_frame (sym c.file-messages.ensures) ∙ sym c.in-Some.ensures) in
+    ends_as _ (Meaning Check (contents_of c.args.files.now)) _ _ _ _ _ _ same (ends_refused 1 c.in-Some.at _ _ _ refl)
 
 pub returns : goal.returns
 returns g c =
-    let meant = check_meant (contents_of c.args.files.now) c.in-Ok.header c.in-Some.message (Some c.in-Err.why)
-    (ap header_in (sym c.file.ensures) ∙ c.in-Ok.ensures) (ap message_in (sym c.file-2.ensures) ∙ sym c.in-Some.ensures) c.in-Err.ensures.first in
-    ends_by_finish (Meaning Check (contents_of c.args.files.now)) _ _ _ _ _ _ _ _ refl
-    (rw c.refused_line.ensures meant) c.finish-in-Err.ensures
+    let same = ap (λ (bytes : List ℕ). Lists c.in-Ok.header (frames_of bytes)) c.file-messages.ensures
+        ∙ check_is (contents_of c.args.files.now) c.in-Ok.header (ap header_in (sym c.file.ensures) ∙ c.in-Ok.ensures)
+        (ap bad_frame (sym c.file-messages.ensures) ∙ sym c.in_default.ensures) in
+    ends_as _ (Meaning Check (contents_of c.args.files.now)) _ _ _ _ _ _ same c.list.ensures
