@@ -1,5 +1,5 @@
 -- Lemmas on the command check.
-use Rattle.std.proofs.Common.{◌≡◌, ◌∙◌, ℕ, Bool, true, false, ◌&&◌, cond, List, [], ◌∷◌, ◌++◌, Some, None, Result, Ok, Err, refl, sym, ap, ap₂, subst}
+use Rattle.std.proofs.Common.{◌≡◌, ◌∙◌, ℕ, Bool, true, false, ◌&&◌, cond, List, [], ◌∷◌, ◌++◌, Some, None, Result, Ok, Err, refl, sym, ap, ap₂}
 use Rattle.std.specs.Prelude.{MatchResult, ◌↔◌, ◌==◌}
 use Rattle.std.specs.Option.{option_map_or}
 use Rattle.namespace_id.specs.Bytes.{AreBytes}
@@ -100,6 +100,7 @@ pub finding_proved : (header : Roots) (frame : Raw) → MessageIsSpelled
     → AreRoots header → AreBytes frame.payload → (finding_of header frame ≡ Proved) ↔ IsProvedFrame header frame
 finding_proved header frame spelled refusal roots bytes =
     let sized : (m : sent.Message) → message_in frame ≡ Some m → IsMessage m
-        = λ m e. (spelled frame.payload m bytes (in_grammar (frame.kind == message_kind) (message_at frame.payload) m e)).0 in
-    (λ e. let r = by_message header (message_in frame) e in (r.0, r.1, (refusal header r.0 roots (sized r.0 r.1)).0 r.2),
-     λ p. ap (finding_by header) p.1 ∙ ap (λ (o : Option CheckRefusal). option_map_or Refused o Proved) ((refusal header p.0 roots (sized p.0 p.1)).1 p.2))
+    = λ m e. (spelled frame.payload m bytes (in_grammar (frame.kind == message_kind) (message_at frame.payload) m e)).0 in (
+      λ e. let r = by_message header (message_in frame) e in (r.0, r.1, (refusal header r.0 roots (sized r.0 r.1)).0 r.2),
+      λ p. ap (finding_by header) p.1 ∙ ap (λ (o : Option CheckRefusal). option_map_or Refused o Proved) ((refusal header p.0 roots (sized p.0 p.1)).1 p.2),
+    )

@@ -1,5 +1,5 @@
 -- Lemmas on how commands end.
-use Rattle.std.proofs.Common.{◌≡◌, ℕ, zero, suc, ◌<◌, ◌≤◌, List, [], ◌∷◌, length, get_or, Vec, Global, refl, sym, ap, ◌∙◌, subst, arith, ⊎_elim, IsSome, ◌↔◌}
+use Rattle.std.proofs.Common.{◌≡◌, ℕ, zero, suc, ◌<◌, ◌≤◌, List, [], ◌∷◌, length, get_or, Vec, Global, refl, sym, ap, ◌∙◌, subst, arith, IsSome, ◌↔◌}
 use Rattle.std.specs.declared.option.Option.{Option}
 use Rattle.std.specs.Io.KnownBytes.{Appends}
 use Rattle.std.proofs.KnownBytes.{Appends-nil}
@@ -9,7 +9,7 @@ use Rattle.da_cli.specs.declared.status.Status.{Status}
 use Rattle.da_cli.specs.declared.status.Status.TheVariants.{WriteFault, BadInput}
 use Rattle.da_cli.specs.Statuses.{Kind, output, kind_of, output_count}
 use Rattle.da_cli.specs.Gathered.{contents_of, file_of}
-use Rattle.da_cli.specs.Outcome.{Relation, Refuses, AnswersBy, UntouchedBy, IsOwnBy, Ends, Finishes}
+use Rattle.da_cli.specs.Outcome.{Relation, Refuses, AnswersBy, UntouchedBy, IsOwnBy, Ends}
 
 -- file i of a list
 pub file_some : (files : List (Vec ℕ Global)) (i : ℕ) (file : Vec ℕ Global) → i < length files → file ≡ get_or files i file
@@ -64,16 +64,3 @@ ends_in_fault M bytes status old new before now Same meant taken counted told = 
   untouched = tt;
   own = tt;
 }
-
--- a command that gave the output of its meaning
-pub ends_by_finish : (M : Relation) (bytes : List ℕ) (status : Status) (old new : Option (List ℕ)) (before now : ℕ) (Same : Type 0) (result : Status)
-    → kind_of status ≡ output → M bytes status → Finishes bytes status old new before now result → Ends M old new before now Same result
-ends_by_finish M bytes status old new before now Same result last meant finishes =
-    ⊎_elim
-    (λ (whole : (result ≡ status) × Appends old new bytes × (now ≡ before)).
-    subst (λ (s : Status). Ends M old new before now Same s) (sym whole.0)
-    (ends_whole M bytes status old new before now Same last meant whole.1 whole.2 finishes.told))
-    (λ (part : (result ≡ WriteFault) × AppendsPart old new bytes × (now ≡ count_on before 1)).
-    subst (λ (s : Status). Ends M old new before now Same s) (sym part.0)
-    (ends_in_fault M bytes status old new before now Same meant part.1 part.2 finishes.told))
-    finishes.taken

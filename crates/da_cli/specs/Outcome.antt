@@ -4,7 +4,6 @@ use Rattle.std.specs.declared.option.Option.{Option}
 use Rattle.std.specs.Io.KnownBytes.{Appends}
 use Rattle.da_io.specs.declared.inputs.Ended.{Ended}
 use Rattle.da_io.specs.declared.inputs.Ended.TheVariants as ended
-use Rattle.da_io.specs.Faults.{count_on}
 use Rattle.da_io.specs.Files.{Files}
 use Rattle.da_io.specs.Sinks.{AppendsPart}
 use Rattle.da_cli.specs.declared.status.Status.{Status}
@@ -104,9 +103,3 @@ pub record Ends (M : Relation) (old new : Option (List ℕ)) (before now : ℕ) 
   pub told : IsSome old ↔ IsSome new
   pub untouched : Untouched Same status
   pub own : IsOwnBy (kind_of status)
-
--- an output was taken whole, or a write failed and was counted
-pub record Finishes (bytes : List ℕ) (status : Status) (old new : Option (List ℕ)) (before now : ℕ) (result : Status) : Type 0 where
-  pub told : IsSome old ↔ IsSome new
-  pub taken : ((result ≡ status) × Appends old new bytes × (now ≡ before))
-      ⊎ ((result ≡ WriteFault) × AppendsPart old new bytes × (now ≡ count_on before 1))

@@ -1,23 +1,11 @@
-//! The output of a command, and the line that goes with its status.
+//! The line that goes with a status.
 
 ghost use Rattle.std.specs.Prelude.{◌≡◌, ℕ, ◌+◌, ◌≤◌, ◌++◌, length, decimal};
-ghost use Rattle.da_cli.specs.Outcome.{Finishes};
 ghost use Rattle.da_cli.specs.Notes.{note_of, Notes};
 
 use crate::Status;
 use crate::line::Line;
 use da_io::{Sink, write_all};
-
-/// Gives an output whole, and answers the status that goes with it.
-pub(crate) fn finish<O: Sink>(out: &mut O, output: &[u8], status: Status) -> Status
-    ensures { Finishes output.now status (O.taken out.old) (O.taken out.new) (O.faults out.old)
-        (O.faults out.new) result }
-{
-    match write_all(out, output) {
-        Ok(()) => status,
-        Err(_) => Status::WriteFault,
-    }
-}
 
 /// Puts a number between two texts.
 #[tactic(auto, using(crate::proofs::DigitLemmas::digits_fit))]

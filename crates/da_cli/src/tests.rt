@@ -52,16 +52,17 @@ enum Change {
     Row,
     Col,
     Axis,
+    Count,
+    Kind,
     Trailing,
     Cut,
-    Kind,
 }
 
 fn message(alloc: Global, change: Change) -> Result<Vec<u8>, Fail> {
-    let length: &[u8] = if change == Change::NoNodes {
-        &[2, 6]
-    } else {
-        &[2, 0x60]
+    let length: &[u8] = match change {
+        Change::NoNodes => &[2, 6],
+        Change::Count => &[2, 0xba],
+        _ => &[2, 0x60],
     };
     let mut bytes = Vec::from_slice(alloc, &[b'M', 0, 0])?;
     bytes.extend_from_slice(length)?;
@@ -84,6 +85,9 @@ fn message(alloc: Global, change: Change) -> Result<Vec<u8>, Fail> {
             fill(&mut bytes, 58, 0xff)?;
             bytes.extend_from_slice(&PARITY_LEAF)?;
         }
+    }
+    if change == Change::Count {
+        fill(&mut bytes, 90, 0)?;
     }
     if change == Change::Trailing {
         bytes.push(0)?;
@@ -128,22 +132,20 @@ fn sink(alloc: Global, fail: Vec<u64>) -> Result<MemSink, Fail> {
 fn one_message(rt: HostRuntime) -> Result<(), Fail> {
     let alloc = rt.alloc();
     let bad = Status::BadInput(1, 0);
+    let more = Status::BadInput(1, 613);
+    let refused = Status::Refused;
     let cases = [
         ("good", Change::None, Status::Done, "ok\n"),
-        ("share", Change::Share, Status::Refused, "refused 4\n"),
-        ("no nodes", Change::NoNodes, Status::Refused, "refused 2\n"),
-        (
-            "zero node",
-            Change::ZeroNode,
-            Status::Refused,
-            "refused 3\n",
-        ),
-        ("row", Change::Row, Status::Refused, "refused 1\n"),
-        ("column", Change::Col, Status::Refused, "refused 1\n"),
-        ("axis", Change::Axis, bad, ""),
-        ("a byte more", Change::Trailing, bad, ""),
+        ("share", Change::Share, refused, "refused 4\n"),
+        ("no nodes", Change::NoNodes, refused, "refused 2\n"),
+        ("zero node", Change::ZeroNode, refused, "refused 3\n"),
+        ("row", Change::Row, refused, "refused 1\n"),
+        ("column", Change::Col, refused, "refused 1\n"),
+        ("axis", Change::Axis, refused, "refused 0\n"),
+        ("count", Change::Count, refused, "refused 0\n"),
+        ("kind", Change::Kind, refused, "refused 0\n"),
+        ("a byte more", Change::Trailing, more, ""),
         ("a byte less", Change::Cut, bad, ""),
-        ("kind", Change::Kind, bad, ""),
     ];
     for (name, change, want, output) in cases {
         let mut inputs = inputs(
@@ -158,6 +160,94 @@ fn one_message(rt: HostRuntime) -> Result<(), Fail> {
         let status = run(alloc, &words, &mut inputs, &mut out, &mut notes);
         assert_eq!(rt; status, want, "{name}");
         assert_eq!(rt; out.bytes.as_slice(), output.as_bytes(), "{name}");
+    }
+    Ok(())
+}
+
+/// Messages so changed, one after another, and then some bytes.
+fn list(alloc: Global, changes: &[Change], end: &[u8]) -> Result<Vec<u8>, Fail> {
+    let mut bytes = Vec::new(alloc);
+    for change in changes {
+        bytes.extend_from_slice(&message(alloc, *change)?)?;
+    }
+    bytes.extend_from_slice(end)?;
+    Ok(bytes)
+}
+
+/// The sample request of cell (0, 0) on its row.
+const SAMPLE: [u8; 10] = [b'Q', 0, 0, 0, 5, 0, 0, 0, 0, 0];
+
+#[test]
+fn lists_of_frames(rt: HostRuntime) -> Result<(), Fail> {
+    let alloc = rt.alloc();
+    let good = Change::None;
+    let all = [
+        good,
+        Change::Share,
+        Change::NoNodes,
+        Change::ZeroNode,
+        Change::Row,
+    ];
+    let lines = "ok\nrefused 4\nrefused 2\nrefused 3\nrefused 1\nrefused 0\n";
+    let cases: [(&[Change], &[u8], Status, &str, &str); 6] = [
+        (&all, &SAMPLE, Status::Refused, lines, "refused\n"),
+        (&[good, good], &[], Status::Done, "ok\nok\n", ""),
+        (&[], &[], Status::Done, "", ""),
+        (
+            &[Change::Share, good],
+            &[],
+            Status::Refused,
+            "refused 4\nok\n",
+            "refused\n",
+        ),
+        (
+            &[good, good],
+            &[b'M', 0, 0],
+            Status::BadInput(1, 1226),
+            "",
+            "bad input: file 1 at 1226\n",
+        ),
+        (
+            &[good],
+            &[b'M', 1, 0, 0, 1],
+            Status::BadInput(1, 613),
+            "",
+            "bad input: file 1 at 613\n",
+        ),
+    ];
+    for (changes, end, want, output, note) in cases {
+        let messages = list(alloc, changes, end)?;
+        let mut inputs = inputs(alloc, header(alloc)?, messages, Vec::new(alloc))?;
+        let mut out = sink(alloc, Vec::new(alloc))?;
+        let mut notes = sink(alloc, Vec::new(alloc))?;
+        let words = texts(alloc, &["check", "h", "m"])?;
+        let status = run(alloc, &words, &mut inputs, &mut out, &mut notes);
+        assert_eq!(rt; status, want, "{note}");
+        assert_eq!(rt; out.bytes.as_slice(), output.as_bytes(), "{note}");
+        assert_eq!(rt; notes.bytes.as_slice(), note.as_bytes(), "{note}");
+    }
+    Ok(())
+}
+
+/// A header with a byte more, a kind that is none, a length above the limit, a width of three.
+#[test]
+fn bad_headers(rt: HostRuntime) -> Result<(), Fail> {
+    let alloc = rt.alloc();
+    let cases: [(usize, u8, u64); 4] = [(367, 0, 367), (0, b'Z', 0), (1, 2, 0), (6, 3, 0)];
+    for (at, byte, offset) in cases {
+        let mut bytes = header(alloc)?;
+        if at < bytes.len() {
+            bytes[at] = byte;
+        } else {
+            bytes.push(byte)?;
+        }
+        let mut inputs = inputs(alloc, bytes, Vec::new(alloc), Vec::new(alloc))?;
+        let mut out = sink(alloc, Vec::new(alloc))?;
+        let mut notes = sink(alloc, Vec::new(alloc))?;
+        let words = texts(alloc, &["check", "h", "m"])?;
+        let status = run(alloc, &words, &mut inputs, &mut out, &mut notes);
+        assert_eq!(rt; status, Status::BadInput(0, offset), "{at}");
+        assert!(rt; out.bytes.is_empty(), "{at}");
     }
     Ok(())
 }
@@ -191,9 +281,9 @@ fn words_and_files(rt: HostRuntime) -> Result<(), Fail> {
         ),
         (
             &["check", "h", "h"],
-            Status::BadInput(1, 0),
-            "",
-            "bad input: file 1 at 0\n",
+            Status::Refused,
+            "refused 0\n",
+            "refused\n",
         ),
     ];
     for (words, want, output, note) in cases {
@@ -266,7 +356,16 @@ fn failures(rt: HostRuntime) -> Result<(), Fail> {
             1,
             none,
             Status::WriteFault,
-            "refu",
+            "ok\n",
+            "cannot write\n",
+        ),
+        (
+            "write 2",
+            none,
+            2,
+            none,
+            Status::WriteFault,
+            "ok\nrefu",
             "cannot write\n",
         ),
         (
@@ -275,13 +374,13 @@ fn failures(rt: HostRuntime) -> Result<(), Fail> {
             none,
             1,
             Status::Refused,
-            "refused 4\n",
+            "ok\nrefused 4\n",
             "refu",
         ),
     ];
     for (name, call, write, noted, want, output, note) in cases {
-        let changed = message(alloc, Change::Share)?;
-        let mut inputs = inputs(alloc, header(alloc)?, changed, vec![in alloc; call]?)?;
+        let messages = list(alloc, &[Change::None, Change::Share], &[])?;
+        let mut inputs = inputs(alloc, header(alloc)?, messages, vec![in alloc; call]?)?;
         let mut out = sink(alloc, vec![in alloc; write]?)?;
         let mut notes = sink(alloc, vec![in alloc; noted]?)?;
         let words = texts(alloc, &["check", "h", "m"])?;

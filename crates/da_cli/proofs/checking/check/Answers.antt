@@ -1,4 +1,4 @@
-use Rattle.std.proofs.Common.{◌≡◌, ◌∙◌, List, ℕ, refl, sym, ap, subst}
+use Rattle.std.proofs.Common.{◌∙◌, List, ℕ, refl, sym, ap}
 use Rattle.da_wire.specs.Frames.{frames_of, bad_frame}
 use Rattle.da_cli.specs.Gathered.{contents_of}
 use Rattle.da_cli.specs.Check.{header_in, Lists}
@@ -11,12 +11,12 @@ use Rattle.da_cli.proofs.checking.check.Goals as goal
 pub returns-in-Some : goal.returns-in-Some
 returns-in-Some g c =
     let same = check_refuses (contents_of c.args.files.now) c.in-Ok.header c.in-Some.at (ap header_in (sym c.file.ensures) ∙ c.in-Ok.ensures)
-        (ap bad_frame (sym c.file-messages.ensures) ∙ sym c.in-Some.ensures) in
+    (ap bad_frame (sym c.file-messages.ensures) ∙ sym c.in-Some.ensures) in
     ends_as _ (Meaning Check (contents_of c.args.files.now)) _ _ _ _ _ _ same (ends_refused 1 c.in-Some.at _ _ _ refl)
 
 pub returns : goal.returns
 returns g c =
     let same = ap (λ (bytes : List ℕ). Lists c.in-Ok.header (frames_of bytes)) c.file-messages.ensures
-        ∙ check_is (contents_of c.args.files.now) c.in-Ok.header (ap header_in (sym c.file.ensures) ∙ c.in-Ok.ensures)
-        (ap bad_frame (sym c.file-messages.ensures) ∙ sym c.in_default.ensures) in
+    ∙ check_is (contents_of c.args.files.now) c.in-Ok.header (ap header_in (sym c.file.ensures) ∙ c.in-Ok.ensures)
+    (ap bad_frame (sym c.file-messages.ensures) ∙ sym c.in_default.ensures) in
     ends_as _ (Meaning Check (contents_of c.args.files.now)) _ _ _ _ _ _ same c.list.ensures
