@@ -1,4 +1,3 @@
-pub mod HalfLemmas
 pub mod CountLemmas
 pub mod RootLemmas
 pub mod LedLemmas

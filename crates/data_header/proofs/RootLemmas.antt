@@ -5,7 +5,7 @@ use Rattle.std.proofs.lemmas.Bool.Decides.{nat_tests}
 use Rattle.namespace_id.specs.declared.digests.Digest.{Digest}
 use Rattle.data_header.specs.DataRoots.{leaf_hash, inner_hash, is_root_count, merkle_root, path_of}
 use Rattle.data_header.proofs.CountLemmas.{halvings, root_count-power}
-use Rattle.data_header.proofs.HalfLemmas.{depth_below, depth_zero, half_power}
+use Rattle.namespace_id.proofs.HalfLemmas.{depth_below, depth_zero, half_power}
 
 -- the root of one digest
 pub merkle_root-zero : (digests : List Digest) (d : Digest) → length digests ≡ 1 → leaf_hash (get_or digests 0 d) ≡ merkle_root 0 digests

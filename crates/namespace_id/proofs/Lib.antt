@@ -3,3 +3,4 @@ pub mod StringLemmas
 pub mod ElementLemmas
 pub mod TestLemmas
 pub mod AlongLemmas
+pub mod HalfLemmas

@@ -1,4 +1,3 @@
 pub mod PartLemmas
-pub mod HalfLemmas
 pub mod RootLemmas
 pub mod CountLemmas

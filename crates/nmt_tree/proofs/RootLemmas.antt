@@ -5,7 +5,7 @@ use Rattle.namespace_id.specs.declared.shares.Share.{Share}
 use Rattle.namespace_id.specs.declared.digests.Digest.{Digest}
 use Rattle.nmt_tree.specs.Digests.{leaf_digest, node_digest}
 use Rattle.nmt_tree.specs.Roots.{root}
-use Rattle.nmt_tree.proofs.HalfLemmas.{depth_below, depth_zero, half_power}
+use Rattle.namespace_id.proofs.HalfLemmas.{depth_below, depth_zero, half_power}
 
 root_zero : (names : List Namespace) (shares : List Share) (d : Namespace) (e : Share) → length names ≡ 1 → length shares ≡ length names → leaf_digest (get_or names 0 d) (get_or shares 0 e) ≡ root 0 names shares
 unfolding root
