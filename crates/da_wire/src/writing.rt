@@ -12,7 +12,7 @@ use data_header::Header;
 use namespace_id::{Axis, Cell, Cells, Digest, Namespace, are_digests, is_share};
 
 /// The most cells whose payload is within its limit.
-const MAX_CELLS: usize = 4_194_302;
+const MAX_CELLS: usize = (MAX_PAYLOAD as usize - 6) / 4;
 
 /// Appends bytes for which there is room.
 fn put(out: &mut Vec<u8>, bytes: &[u8])
