@@ -35,3 +35,70 @@ pub fn check(header: &Header, message: Message) -> Result<Proved, RefusedMessage
     let root = header.root_of(message.axis, index(message.axis, message.cell));
     Ok(Proved::of(header.k, message, root))
 }
+
+#[cfg(test)]
+mod tests {
+    use super::*;
+    use namespace_id::{Axis, Cell, Digest, Namespace, PARITY, Share};
+    use nmt_proofs::Path;
+    use nmt_tree::{leaf, node};
+    use std::alloc::Global;
+    use std::test::Fail;
+
+    /// The namespace of tail padding, 28 bytes ff and then fe.
+    fn tail_padding() -> Namespace {
+        let mut bytes = [0xff; 29];
+        bytes[28] = 0xfe;
+        Namespace(bytes)
+    }
+
+    /// A tail padding share, which is all of the square of an empty block.
+    fn padding_share() -> Share {
+        let mut bytes = [0; 512];
+        bytes[..29].copy_from_slice(&tail_padding().0);
+        bytes[29] = 1;
+        Share(bytes)
+    }
+
+    /// The header of width 1 with the root of row 0 of an empty block; its other roots are any bytes.
+    fn header(alloc: Global, parity: &Digest) -> Result<Header, Fail> {
+        let root = node(&leaf(&tail_padding(), &padding_share()), parity);
+        let rows = vec![in alloc; root, Digest([7; 90])]?;
+        let cols = vec![in alloc; Digest([7; 90]), Digest([7; 90])]?;
+        Ok(Header::of(1, rows, cols)?)
+    }
+
+    #[test]
+    fn messages_of_an_empty_block(rt: HostRuntime) -> Result<(), Fail> {
+        let parity = leaf(&PARITY, &padding_share());
+        let header = header(rt.alloc(), &parity)?;
+        let mut opening = Path::new();
+        opening.push(parity);
+        let cases = [
+            ("proved", 0, opening.clone()?, None),
+            ("row 2", 2, opening, Some(CheckRefusal::OutOfSquare)),
+            ("no nodes", 0, Path::new(), Some(CheckRefusal::NodeCount)),
+        ];
+        for (name, row, path, want) in cases {
+            let cell = Cell { row, col: 0 };
+            let message = Message {
+                cell,
+                axis: Axis::Row,
+                share: padding_share(),
+                path,
+            };
+            match check(&header, message) {
+                Ok(proved) => {
+                    assert_eq!(rt; None, want, "{name}");
+                    assert_eq!(rt; proved.message().cell, cell, "{name}");
+                    assert_eq!(rt; proved.into_message().cell, cell, "{name}");
+                }
+                Err(refused) => {
+                    assert_eq!(rt; Some(refused.why), want, "{name}");
+                    assert_eq!(rt; refused.message.cell, cell, "{name}");
+                }
+            }
+        }
+        Ok(())
+    }
+}

@@ -9,6 +9,8 @@ mod frames;
 mod laws;
 mod payloads;
 mod reading;
+#[cfg(test)]
+mod tests;
 mod writing;
 
 pub use frames::{Frame, FrameError, RawFrame, SpellError};

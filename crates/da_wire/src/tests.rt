@@ -1,0 +1,128 @@
+//! Frames of each kind, and bytes and values that are none, by docs/FORMATS.md.
+
+use crate::{
+    Frame, FrameError, SpellError, bad_frame, message, raw, read_frame, read_only, write_frame,
+};
+use namespace_id::{Axis, Cell, Cells};
+use std::alloc::Global;
+use std::test::Fail;
+
+/// The sample of cell (1, 2) on its column, and that of cell (0, 0) on its row.
+const COL_SAMPLE: [u8; 10] = *b"Q\x00\x00\x00\x05\x00\x01\x00\x02\x01";
+
+const ROW_SAMPLE: [u8; 10] = *b"Q\x00\x00\x00\x05\x00\x00\x00\x00\x00";
+
+/// The cells (0, 0) and (1, 1) of the square of width 1, missing.
+const MISSING: [u8; 19] =
+    *b"K\x00\x00\x00\x0e\x00\x01\x00\x00\x00\x02\x00\x00\x00\x00\x00\x01\x00\x01";
+
+/// A frame of a kind that has no values.
+const OTHER: [u8; 5] = *b"Z\x00\x00\x00\x00";
+
+/// These bytes, and then bytes of one value.
+fn filled(alloc: Global, bytes: &[u8], count: usize, byte: u8) -> Result<Vec<u8>, Fail> {
+    let mut all = Vec::from_slice(alloc, bytes)?;
+    for _ in 0..count {
+        all.push(byte)?;
+    }
+    Ok(all)
+}
+
+#[test]
+fn frames_of_each_kind(rt: HostRuntime) -> Result<(), Fail> {
+    let alloc = rt.alloc();
+    let header = filled(alloc, b"H\x00\x00\x01\x6a\x00\x01", 360, 7)?;
+    let message = filled(alloc, b"M\x00\x00\x02\x06", 518, 0)?;
+    let request = filled(alloc, b"P\x00\x00\x00\x1d", 29, 9)?;
+    let cases: [(&str, &[u8]); 6] = [
+        ("H", &header),
+        ("M", &message),
+        ("K", &MISSING),
+        ("Q, a column", &COL_SAMPLE),
+        ("Q, a row", &ROW_SAMPLE),
+        ("P", &request),
+    ];
+    for (name, bytes) in cases {
+        let (frame, end) = read_frame(alloc, bytes, 0)?;
+        assert_eq!(rt; end, bytes.len() as u64, "{name}");
+        let mut want = Vec::from_slice(alloc, &[3])?;
+        let mut out = Vec::from_slice(alloc, &[3])?;
+        want.extend_from_slice(bytes)?;
+        write_frame(&frame, &mut out)?;
+        assert_eq!(rt; out, want, "{name}");
+    }
+    Ok(())
+}
+
+#[test]
+fn values_of_frames(rt: HostRuntime) -> Result<(), Fail> {
+    let alloc = rt.alloc();
+    match read_only(alloc, &COL_SAMPLE, b"HQ")? {
+        Frame::Sample(cell, axis) => {
+            assert_eq!(rt; cell, Cell { row: 1, col: 2 });
+            assert_eq!(rt; axis, Axis::Col);
+        }
+        _ => return Err(Fail::new("no sample")),
+    }
+    match read_only(alloc, &MISSING, b"K")? {
+        Frame::Missing(cells) => {
+            let want = [Cell { row: 0, col: 0 }, Cell { row: 1, col: 1 }];
+            assert_eq!(rt; cells.k, 1);
+            assert_eq!(rt; cells.list.as_slice(), want.as_slice());
+        }
+        _ => return Err(Fail::new("no missing cells")),
+    }
+    let other = raw(&OTHER, 0)?;
+    assert_eq!(rt; (other.kind, other.payload.len(), other.size), (b'Z', 0, 5));
+    Ok(())
+}
+
+#[test]
+fn bytes_that_are_no_frame(rt: HostRuntime) {
+    let alloc = rt.alloc();
+    let falling = b"K\x00\x00\x00\x0e\x00\x01\x00\x00\x00\x02\x00\x01\x00\x01\x00\x00\x00\x00";
+    let cases: [(&str, &[u8], FrameError); 6] = [
+        ("no byte", b"", FrameError::Truncated(0)),
+        ("kind Z", &OTHER, FrameError::BadKind(0)),
+        (
+            "above the limit",
+            b"M\x01\x00\x00\x01",
+            FrameError::TooLong(0),
+        ),
+        ("four bytes", b"M\x00\x00\x02", FrameError::Truncated(0)),
+        (
+            "axis 2",
+            b"Q\x00\x00\x00\x05\x00\x01\x00\x02\x02",
+            FrameError::BadPayload(0),
+        ),
+        ("cells that fall", falling, FrameError::BadPayload(0)),
+    ];
+    for (name, bytes, want) in cases {
+        assert_eq!(rt; read_frame(alloc, bytes, 0).err(), Some(want), "{name}");
+    }
+    let other = read_only(alloc, &COL_SAMPLE, b"H").err();
+    assert_eq!(rt; other, Some(FrameError::BadKind(0)));
+    let more = b"Q\x00\x00\x00\x05\x00\x00\x00\x00\x00\x00";
+    let trailing = read_only(alloc, more, b"Q").err();
+    assert_eq!(rt; trailing, Some(FrameError::Trailing(10)));
+    let mut payload = [0; 698];
+    payload[517] = 1;
+    assert!(rt; message(&payload).is_none(), "two nodes counted as one");
+    payload[517] = 2;
+    assert!(rt; message(&payload).is_some(), "two nodes");
+    assert_eq!(rt; bad_frame(b"Z\x00\x00\x00\x00M\x00\x00\x02"), Some(5));
+    assert_eq!(rt; bad_frame(b""), None);
+}
+
+#[test]
+fn no_missing_cells(rt: HostRuntime) -> Result<(), Fail> {
+    let alloc = rt.alloc();
+    let Some(cells) = Cells::of(1, Vec::new(alloc)) else {
+        return Err(Fail::new("no list of cells"));
+    };
+    let mut out = Vec::from_slice(alloc, &[3])?;
+    let refused = write_frame(&Frame::Missing(cells), &mut out).err();
+    assert_eq!(rt; refused, Some(SpellError::Unspellable));
+    assert_eq!(rt; out.as_slice(), [3].as_slice());
+    Ok(())
+}
