@@ -1,6 +1,6 @@
 -- What is read of bytes, field by field, and the first refusal (docs/FORMATS.md).
-use Rattle.std.specs.Prelude.{◌≡◌, ◌⊎◌, ◌+◌, ◌*◌, ℕ, List, length, take, drop, slice_index, nat_lt, not, ◌==◌, ◌||◌, ◌&&◌, Bool, Option, Some, None, Result, Ok, Err, if◌then◌else◌}
-use Rattle.std.specs.List.{list_any}
+use Rattle.std.specs.Prelude.{◌≡◌, ◌⊎◌, ◌+◌, ◌*◌, ℕ, List, ◌∷◌, length, take, drop, slice_index, nat_lt, not, ◌==◌, ◌||◌, ◌&&◌, Bool, Option, Some, None, IsSome, Result, Ok, Err, IsOk, if◌then◌else◌}
+use Rattle.std.specs.List.{list_any, list_all}
 use Rattle.std.specs.Option.{option_map}
 use Rattle.std.specs.Int.{w16, w32, from_be_bytes}
 use Rattle.namespace_id.specs.declared.cells.Axis.{Axis}
@@ -8,7 +8,8 @@ use Rattle.namespace_id.specs.declared.cells.Axis.TheVariants.{Row, Col}
 use Rattle.namespace_id.specs.declared.cells.Cell.{Cell}
 use Rattle.namespace_id.specs.declared.namespaces.Namespace.{Namespace}
 use Rattle.namespace_id.specs.declared.digests.Digest.{Digest}
-use Rattle.namespace_id.specs.Cells.{is_width, are_cells, CellList}
+use Rattle.namespace_id.specs.Cells.{is_width, is_in_square, is_before, are_cells, CellList}
+use Rattle.namespace_id.specs.Lists.{holds_along}
 use Rattle.data_header.specs.Headers.{Roots}
 use Rattle.axis_roots.specs.declared.messages.Message as sent
 use Rattle.da_wire.specs.declared.frames.Frame.{Frame}
@@ -21,18 +22,20 @@ use Rattle.da_wire.specs.Spelling.{max_payload, header_kind, message_kind, missi
 
 -- ---- payloads: all of the bytes are the fields, and nothing is left over
 
--- a width k, 2k digests, 2k digests
+-- 2k digests, and 2k digests
+abbrev pub roots_of : ℕ → List ℕ → Roots
+roots_of k bytes = record {
+  k = k;
+  rows = digests_of (2 * k) (take (180 * k) bytes);
+  cols = digests_of (2 * k) (drop (180 * k) bytes);
+}
+
+-- a width k, and the roots of a header of this width
 unfoldable pub header_at : List ℕ → Option Roots
 header_at bytes = do
   k ← number_at w16 bytes
   if not (is_width k.0) then None else
-      if length k.1 == 360 * k.0
-      then Some (record {
-        k = k.0;
-        rows = digests_of (2 * k.0) (take (180 * k.0) k.1);
-        cols = digests_of (2 * k.0) (drop (180 * k.0) k.1);
-      })
-      else None
+      if length k.1 == 360 * k.0 then Some (roots_of k.0 k.1) else None
 
 unfoldable pub axis_at : List ℕ → Option (Axis × List ℕ)
 axis_at bytes = do
@@ -66,6 +69,14 @@ message_at bytes = do
         path = path.0;
       })
       else None
+
+-- whether a cell of the square of width k comes after another
+abbrev pub is_next : ℕ → Cell → Cell → Bool
+is_next k before cell = is_in_square k cell && is_before before cell
+
+-- whether cells go on after one
+abbrev pub are_next : ℕ → Cell → List Cell → Bool
+are_next k before cells = list_all (is_in_square k) cells && holds_along is_before (before ∷ cells)
 
 -- a width k, a count from 1 on, so many cells of its square, strictly ascending in row-major order
 unfoldable pub missing_at : List ℕ → Option CellList
@@ -155,11 +166,11 @@ ended size (Ok x) = if nat_lt x.1 size then Err (Trailing x.1) else Ok x.0
 abbrev pub only_of : List ℕ → List ℕ → Result Frame FrameError
 only_of bytes kinds = ended (length bytes) (tested_frame (λ kind. list_any (λ k. k == kind) kinds) 0 bytes)
 
--- ---- what a call answered is what reading gives, unless memory ran out
+-- ---- what a call answered is what reading gives, or that memory ran out, in place of a value
 
 abbrev pub Reads : {X Y : Type 0} → FrameError → (X → Y) → Result X FrameError → Result Y FrameError → Type 0
 Reads full view (Ok x) read = read ≡ Ok (view x)
-Reads full view (Err e) read = (e ≡ full) ⊎ (read ≡ Err e)
+Reads full view (Err e) read = ((e ≡ full) × IsOk read) ⊎ (read ≡ Err e)
 
 -- the same of a call that takes no memory
 abbrev pub ReadsAt : {X Y : Type 0} → (X → Y) → Result X FrameError → Result Y FrameError → Type 0
@@ -169,7 +180,7 @@ ReadsAt view (Err e) read = read ≡ Err e
 -- the same of a payload's value
 abbrev pub GivesUnlessFull : {X E : Type 0} → Result (Option X) E → Option X → Type 0
 GivesUnlessFull (Ok x) read = read ≡ x
-GivesUnlessFull (Err e) read = Unit {0}
+GivesUnlessFull (Err e) read = IsSome read
 
 -- a raw frame, with the bytes of its payload
 abbrev pub raw_seen : RawFrame → Raw

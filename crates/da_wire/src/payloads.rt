@@ -1,14 +1,15 @@
 //! The payload of each kind.
 
-ghost use Rattle.std.specs.Prelude.{◌≡◌, ◌≤◌, ◌*◌, length, take, drop, vec_len, IfOk};
+ghost use Rattle.std.specs.Prelude.{◌≡◌, ◌≤◌, ◌<◌, ◌*◌, length, take, drop, vec_len, None, Some, IfOk, IfSome, IsTrue, MatchOption, true};
 ghost use Rattle.std.specs.Int.{w16, from_be_bytes};
+ghost use Rattle.namespace_id.specs.Cells.{is_width, are_cells};
 ghost use Rattle.da_wire.specs.Fields.{Gives, digests_of, cells_of};
-ghost use Rattle.da_wire.specs.Reading.{header_at, axis_at, path_at, cell_at, message_at, missing_at, sample_at, request_at, GivesUnlessFull};
+ghost use Rattle.da_wire.specs.Reading.{roots_of, header_at, axis_at, path_at, cell_at, message_at, is_next, are_next, missing_at, sample_at, request_at, GivesUnlessFull};
 
 use crate::fields::{share_at, u8_at, u16_at, u32_at};
 use axis_roots::Message;
 use data_header::Header;
-use namespace_id::{Axis, Cell, Cells, Digest, Namespace, is_width};
+use namespace_id::{Axis, Cell, Cells, Digest, Namespace, is_before, is_in_square, is_width};
 use nmt_proofs::Path;
 use std::alloc::{AllocError, Global};
 
@@ -142,21 +143,29 @@ fn roots_of(alloc: Global, count: usize, bytes: &[u8]) -> Result<Vec<Digest>, Al
     Ok(roots)
 }
 
-/// The header whose payload the bytes are. No memory is taken before all bytes are there.
+/// The width of a header, and the bytes of its roots, of which all are there.
 #[tactic(auto, unfolding(crate::specs::Reading::header_at))]
+pub(crate) fn header_parts(payload: &[u8]) -> Option<(u16, &[u8])>
+    ensures parts { MatchOption result (header_at payload.now ≡ None)
+        (λ x. header_at payload.now ≡ Some (roots_of x.0 x.1.now)) }
+    ensures width { IfSome result (λ x. IsTrue (is_width x.0)) }
+    ensures all { IfSome result (λ x. length x.1.now ≡ 360 * x.0) }
+{
+    let (k, roots) = u16_at(payload)?;
+    if !is_width(k) || roots.len() != 360 * k as usize {
+        return None;
+    }
+    Some((k, roots))
+}
+
+/// The header whose payload the bytes are. No memory is taken before they are known to be one.
 pub(crate) fn header(alloc: Global, payload: &[u8]) -> Result<Option<Header>, AllocError>
     ensures { GivesUnlessFull result (header_at payload.now) }
 {
-    let Some((k, rest)) = u16_at(payload) else {
+    let Some((k, roots)) = header_parts(payload) else {
         return Ok(None);
     };
-    if !is_width(k) {
-        return Ok(None);
-    }
-    if rest.len() != 360 * k as usize {
-        return Ok(None);
-    }
-    let (rows, cols) = rest.split_at(180 * k as usize);
+    let (rows, cols) = roots.split_at(180 * k as usize);
     let rows = roots_of(alloc, 2 * k as usize, rows)?;
     let cols = roots_of(alloc, 2 * k as usize, cols)?;
     Ok(Some(Header { k, rows, cols }))
@@ -174,6 +183,52 @@ fn cell_of(bytes: &[u8]) -> Cell
     }
 }
 
+/// Whether a cell of the square of width k comes after another.
+fn is_next(k: u16, before: Cell, cell: Cell) -> bool
+    requires { IsTrue (is_width k) }
+    ensures { result ≡ is_next k before cell }
+{
+    is_in_square(k, cell) && is_before(before, cell)
+}
+
+/// Whether so many cells, which are all of the bytes, go on after a cell in the square of width k.
+fn are_next(k: u16, before: Cell, count: u32, bytes: &[u8]) -> bool
+    requires width { IsTrue (is_width k) }
+    requires all { length bytes.now ≡ 4 * count }
+    ensures { result ≡ are_next k before (cells_of count bytes.now) }
+{
+    let mut before = before;
+    let mut rest = bytes;
+    for _ in 0..count {
+        let cell = cell_of(rest);
+        if !is_next(k, before, cell) {
+            return false;
+        }
+        let (_cell, after) = rest.split_at(4);
+        before = cell;
+        rest = after;
+    }
+    true
+}
+
+/// Whether all of the bytes are so many cells of the square of width k, strictly ascending in row-major
+/// order. It takes no memory.
+fn are_cells(k: u16, count: u32, bytes: &[u8]) -> bool
+    requires some { 0 < count }
+    requires all { length bytes.now ≡ 4 * count }
+    ensures { result ≡ are_cells k (cells_of count bytes.now) }
+{
+    if !is_width(k) {
+        return false;
+    }
+    let first = cell_of(bytes);
+    if !is_in_square(k, first) {
+        return false;
+    }
+    let (_first, rest) = bytes.split_at(4);
+    are_next(k, first, count - 1, rest)
+}
+
 /// So many cells, one after another, which are all of the bytes.
 fn cells_of(alloc: Global, count: u32, bytes: &[u8]) -> Result<Vec<Cell>, AllocError>
     requires { length bytes.now ≡ 4 * count }
@@ -189,20 +244,32 @@ fn cells_of(alloc: Global, count: u32, bytes: &[u8]) -> Result<Vec<Cell>, AllocE
     Ok(cells)
 }
 
-/// The missing cells whose payload the bytes are. No memory is taken before all bytes are there.
+/// The width of a square, the number of its missing cells, and their bytes, of which all are there.
 #[tactic(auto, unfolding(crate::specs::Reading::missing_at))]
+pub(crate) fn missing_parts(payload: &[u8]) -> Option<(u16, u32, &[u8])>
+    ensures parts { MatchOption result (missing_at payload.now ≡ None)
+        (λ x. missing_at payload.now ≡ Some (record { k = x.0; list = cells_of x.1 x.2.now })) }
+    ensures cells { IfSome result (λ x. are_cells x.0 (cells_of x.1 x.2.now) ≡ true) }
+    ensures all { IfSome result (λ x. length x.2.now ≡ 4 * x.1) }
+{
+    let (k, rest) = u16_at(payload)?;
+    let (count, cells) = u32_at(rest)?;
+    if count == 0 || cells.len() != 4 * count as usize {
+        return None;
+    }
+    if !are_cells(k, count, cells) {
+        return None;
+    }
+    Some((k, count, cells))
+}
+
+/// The missing cells whose payload the bytes are. No memory is taken before they are known to be some.
 pub(crate) fn missing(alloc: Global, payload: &[u8]) -> Result<Option<Cells>, AllocError>
     ensures { GivesUnlessFull result (missing_at payload.now) }
 {
-    let Some((k, rest)) = u16_at(payload) else {
+    let Some((k, count, cells)) = missing_parts(payload) else {
         return Ok(None);
     };
-    let Some((count, rest)) = u32_at(rest) else {
-        return Ok(None);
-    };
-    if count == 0 || rest.len() != 4 * count as usize {
-        return Ok(None);
-    }
-    let cells = cells_of(alloc, count, rest)?;
-    Ok(Cells::of(k, cells))
+    let list = cells_of(alloc, count, cells)?;
+    Ok(Some(Cells { k, list }))
 }

@@ -1,12 +1,12 @@
 //! Reading frames from the front of bytes.
 
-ghost use Rattle.std.specs.Prelude.{◌≡◌, ◌+◌, ◌<◌, ◌≤◌, ◌^◌, [], ◌∷◌, length, nat_lt, IfOk, IfSome, MatchOption};
+ghost use Rattle.std.specs.Prelude.{◌≡◌, ◌↔◌, suc, ◌+◌, ◌<◌, ◌≤◌, ◌^◌, [], ◌∷◌, length, nat_lt, Ok, Err, IfOk, IfSome, IsSome, IsTrue, MatchOption};
 ghost use Rattle.std.specs.List.{list_any};
 ghost use Rattle.da_wire.specs.declared.frames.FrameError.TheVariants.{NoMemory};
-ghost use Rattle.da_wire.specs.Reading.{Reads, ReadsAt, raw_seen, raw_of, is_kind, value_at, value_of, tested_frame, frame_of, only_of, GivesUnlessFull};
+ghost use Rattle.da_wire.specs.Reading.{Reads, ReadsAt, raw_seen, raw_of, is_kind, value_at, value_of, tested_frame, frame_of, ended, only_of, GivesUnlessFull};
 ghost use Rattle.da_wire.specs.Frames.{frames_of, bad_frame, bad_frame_from};
 
-use crate::payloads::{header, message, missing, request, sample};
+use crate::payloads::{header, header_parts, message, missing, missing_parts, request, sample};
 use crate::{Frame, FrameError, RawFrame};
 use std::alloc::{AllocError, Global};
 
@@ -72,15 +72,40 @@ fn value(alloc: Global, kind: u8, payload: &[u8]) -> Result<Option<Frame>, Alloc
     }
 }
 
-/// The value of the frame at the front of bytes, and the offset after it.
-fn value_at_front(alloc: Global, bytes: &[u8], at: u64) -> Result<(Frame, u64), FrameError>
-    requires { at + length bytes.now < 2 ^ 64 }
-    ensures { Reads NoMemory (λ x. x) result (value_of at (raw_of at bytes.now)) }
+/// Whether the payload is in the grammar of its kind. It takes no memory.
+#[tactic(auto, unfolding(crate::specs::Reading::value_at))]
+fn has_value(kind: u8, payload: &[u8]) -> bool
+    ensures { IsTrue result ↔ IsSome (value_at kind payload.now) }
 {
-    let frame = raw(bytes, at)?;
+    match kind {
+        b'H' => header_parts(payload).is_some(),
+        b'M' => message(payload).is_some(),
+        b'K' => missing_parts(payload).is_some(),
+        b'Q' => sample(payload).is_some(),
+        b'P' => request(payload).is_some(),
+        _ => false,
+    }
+}
+
+/// The value of a frame at this offset, and the offset after it.
+fn valued(alloc: Global, frame: RawFrame<'_>, at: u64) -> Result<(Frame, u64), FrameError>
+    requires { at + frame.size < 2 ^ 64 }
+    ensures { Reads NoMemory (λ x. x) result (value_of at (Ok (raw_seen frame.entry))) }
+{
     match value(alloc, frame.kind, frame.payload)? {
         Some(value) => Ok((value, at + frame.size)),
         None => Err(FrameError::BadPayload(at)),
+    }
+}
+
+/// Why a frame at offset 0 after which a byte follows is refused.
+fn refusal_before_more(frame: RawFrame<'_>) -> FrameError
+    ensures { Err result ≡ ended (suc frame.entry.size) (value_of 0 (Ok (raw_seen frame.entry))) }
+{
+    if has_value(frame.kind, frame.payload) {
+        FrameError::Trailing(frame.size)
+    } else {
+        FrameError::BadPayload(0)
     }
 }
 
@@ -88,8 +113,9 @@ fn value_at_front(alloc: Global, bytes: &[u8], at: u64) -> Result<(Frame, u64), 
 /// bytes in their file, and `at` plus their number fits a `u64`.
 ///
 /// Refuses no byte (`Truncated`), a kind that isn't one of H, M, K, Q and P (`BadKind`), then what `raw`
-/// refuses, then a payload that isn't in the grammar of its kind (`BadPayload`), each with `at`; then
-/// want of memory. No memory is taken for a count before its bytes are there.
+/// refuses, then a payload that isn't in the grammar of its kind (`BadPayload`), each with `at`. Want of
+/// memory comes in place of a value alone: none is taken before the payload is known to be in its
+/// grammar.
 ///
 /// docs/FORMATS.md, "Frames" and "Payloads".
 #[tactic(auto, unfolding(crate::specs::Reading::tested_frame))]
@@ -103,13 +129,14 @@ pub fn read_frame(alloc: Global, bytes: &[u8], at: u64) -> Result<(Frame, u64), 
     if !is_kind(bytes[0]) {
         return Err(FrameError::BadKind(at));
     }
-    value_at_front(alloc, bytes, at)
+    valued(alloc, raw(bytes, at)?, at)
 }
 
 /// The value of the one frame that the bytes are, of one of these kinds.
 ///
 /// Refuses what `read_frame` at offset 0 refuses, where a kind that isn't one of `kinds` is `BadKind`
-/// too; then a byte after the frame (`Trailing`), with its offset; then want of memory.
+/// too; then a byte after the frame (`Trailing`), with its offset. Want of memory comes in place of a
+/// value alone.
 ///
 /// docs/FORMATS.md, "Frames" and "Payloads".
 #[tactic(auto, unfolding(crate::specs::Reading::tested_frame))]
@@ -122,10 +149,11 @@ pub fn read_only(alloc: Global, bytes: &[u8], kinds: &[u8]) -> Result<Frame, Fra
     if !is_kind(bytes[0]) || !kinds.contains(&bytes[0]) {
         return Err(FrameError::BadKind(0));
     }
-    let (value, end) = value_at_front(alloc, bytes, 0)?;
-    if end < bytes.len() as u64 {
-        return Err(FrameError::Trailing(end));
+    let frame = raw(bytes, 0)?;
+    if frame.size < bytes.len() as u64 {
+        return Err(refusal_before_more(frame));
     }
+    let (value, _end) = valued(alloc, frame, 0)?;
     Ok(value)
 }
 

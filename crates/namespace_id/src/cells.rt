@@ -76,7 +76,7 @@ impl Model for Cells {
 }
 
 /// Whether the first cell comes before the second in row-major order.
-fn is_before(a: Cell, b: Cell) -> bool
+pub fn is_before(a: Cell, b: Cell) -> bool
     ensures { result ≡ is_before a b }
 {
     a.row < b.row || (a.row == b.row && a.col < b.col)

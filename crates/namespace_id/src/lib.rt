@@ -13,7 +13,7 @@ mod namespaces;
 mod shares;
 
 pub use bytes::{are_bytes, put};
-pub use cells::{Axis, Cell, Cells, is_in_square, is_width, leaf_namespace};
+pub use cells::{Axis, Cell, Cells, is_before, is_in_square, is_width, leaf_namespace};
 pub use digests::{Digest, are_digests, is_digest};
 pub use memory::NoMemory;
 pub use namespaces::{Namespace, PARITY, namespace_order};

@@ -1,4 +1,4 @@
-use Rattle.std.proofs.Common.{◌∙◌, ◌∷◌, ℕ, List, length, ap, sym, arith}
+use Rattle.std.proofs.Common.{◌∙◌, ◌∷◌, ℕ, List, ap, sym, arith}
 use Rattle.da_wire.specs.Reading.{Raw, raw_seen}
 use Rattle.da_wire.specs.Frames.{frames_of}
 use Rattle.da_wire.proofs.WalkLemmas.{frames_on, frames_stop, slice_from}
