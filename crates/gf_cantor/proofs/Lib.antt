@@ -1,0 +1,6 @@
+pub mod Computed
+pub mod Additive
+pub mod Powers
+pub mod Times
+pub mod Laws
+pub mod Rows

@@ -1,0 +1,20 @@
+use Rattle.std.proofs.Common.{◌≡◌, ℕ, ◌*◌, ◌<◌, ◌≤◌, length, get_or}
+use Rattle.std.specs.Prelude.{bit_xor}
+use Rattle.gf_cantor.specs.Field.{product}
+use Rattle.gf_cantor.proofs.field.mul_row.Given as goal
+
+-- both tables have the products with the digits so far, low and high
+abbrev pub invariant-loop-digit : goal.invariant-loop-digit
+invariant-loop-digit l = record {
+  low_len : length l.low ≡ 16;
+  high_len : length l.high ≡ 16;
+  low_products : (k : ℕ) → k < l.digit → get_or l.low k 0 ≡ product l.by k;
+  high_products : (k : ℕ) → k < l.digit → get_or l.high k 0 ≡ product l.by (16 * k);
+}
+
+-- the bytes so far have gained their products, and the others are as they were
+abbrev pub invariant-loop-i : goal.invariant-loop-i
+invariant-loop-i l = record {
+  done : (k : ℕ) → k < l.i → get_or l.acc k 0 ≡ bit_xor (get_or l.fn.acc k 0) (product l.by (get_or l.row k 0));
+  left : (k : ℕ) → l.i ≤ k → get_or l.acc k 0 ≡ get_or l.fn.acc k 0;
+}

@@ -1,0 +1,13 @@
+//! The byte field: the field of 256 elements that codewords are made in. Its elements are the
+//! binary polynomials modulo x^8 + x^4 + x^3 + x^2 + 1; a byte is the label of one in a Cantor
+//! basis. The sum of two labels is their xor, `mul` gives their product, `inv` an inverse, and
+//! `mul_row` adds a multiple of one share's bytes to another's. `field_laws` says that this is a
+//! field.
+//!
+//! The definitions are those of docs/RULES.md, "The byte field".
+#![tactic(auto)]
+
+mod field;
+mod tables;
+
+pub use field::{field_laws, inv, mul, mul_row};
