@@ -128,6 +128,36 @@ fn sink(alloc: Global, fail: Vec<u64>) -> Result<MemSink, Fail> {
     }
 }
 
+/// How a run ended, and what its sinks took.
+#[derive(Drop)]
+struct Ran {
+    status: Status,
+    out: MemSink,
+    notes: MemSink,
+}
+
+/// Runs words over files, with writes of the output and of the note that fail.
+fn run_words(
+    alloc: Global,
+    words: &[&str],
+    mut inputs: MemInputs,
+    fail: Vec<u64>,
+    note_fail: Vec<u64>,
+) -> Result<Ran, Fail> {
+    let mut out = sink(alloc, fail)?;
+    let mut notes = sink(alloc, note_fail)?;
+    let words = texts(alloc, words)?;
+    let status = run(alloc, &words, &mut inputs, &mut out, &mut notes);
+    Ok(Ran { status, out, notes })
+}
+
+/// Checks messages under a header, where nothing fails.
+fn checked(alloc: Global, header: Vec<u8>, messages: Vec<u8>) -> Result<Ran, Fail> {
+    let inputs = inputs(alloc, header, messages, Vec::new(alloc))?;
+    let none = Vec::new(alloc);
+    run_words(alloc, &["check", "h", "m"], inputs, none, Vec::new(alloc))
+}
+
 #[test]
 fn one_message(rt: HostRuntime) -> Result<(), Fail> {
     let alloc = rt.alloc();
@@ -148,18 +178,9 @@ fn one_message(rt: HostRuntime) -> Result<(), Fail> {
         ("a byte less", Change::Cut, bad, ""),
     ];
     for (name, change, want, output) in cases {
-        let mut inputs = inputs(
-            alloc,
-            header(alloc)?,
-            message(alloc, change)?,
-            Vec::new(alloc),
-        )?;
-        let mut out = sink(alloc, Vec::new(alloc))?;
-        let mut notes = sink(alloc, Vec::new(alloc))?;
-        let words = texts(alloc, &["check", "h", "m"])?;
-        let status = run(alloc, &words, &mut inputs, &mut out, &mut notes);
-        assert_eq!(rt; status, want, "{name}");
-        assert_eq!(rt; out.bytes.as_slice(), output.as_bytes(), "{name}");
+        let ran = checked(alloc, header(alloc)?, message(alloc, change)?)?;
+        assert_eq!(rt; ran.status, want, "{name}");
+        assert_eq!(rt; ran.out.bytes.as_slice(), output.as_bytes(), "{name}");
     }
     Ok(())
 }
@@ -216,15 +237,10 @@ fn lists_of_frames(rt: HostRuntime) -> Result<(), Fail> {
         ),
     ];
     for (changes, end, want, output, note) in cases {
-        let messages = list(alloc, changes, end)?;
-        let mut inputs = inputs(alloc, header(alloc)?, messages, Vec::new(alloc))?;
-        let mut out = sink(alloc, Vec::new(alloc))?;
-        let mut notes = sink(alloc, Vec::new(alloc))?;
-        let words = texts(alloc, &["check", "h", "m"])?;
-        let status = run(alloc, &words, &mut inputs, &mut out, &mut notes);
-        assert_eq!(rt; status, want, "{note}");
-        assert_eq!(rt; out.bytes.as_slice(), output.as_bytes(), "{note}");
-        assert_eq!(rt; notes.bytes.as_slice(), note.as_bytes(), "{note}");
+        let ran = checked(alloc, header(alloc)?, list(alloc, changes, end)?)?;
+        assert_eq!(rt; ran.status, want, "{note}");
+        assert_eq!(rt; ran.out.bytes.as_slice(), output.as_bytes(), "{note}");
+        assert_eq!(rt; ran.notes.bytes.as_slice(), note.as_bytes(), "{note}");
     }
     Ok(())
 }
@@ -241,13 +257,9 @@ fn bad_headers(rt: HostRuntime) -> Result<(), Fail> {
         } else {
             bytes.push(byte)?;
         }
-        let mut inputs = inputs(alloc, bytes, Vec::new(alloc), Vec::new(alloc))?;
-        let mut out = sink(alloc, Vec::new(alloc))?;
-        let mut notes = sink(alloc, Vec::new(alloc))?;
-        let words = texts(alloc, &["check", "h", "m"])?;
-        let status = run(alloc, &words, &mut inputs, &mut out, &mut notes);
-        assert_eq!(rt; status, Status::BadInput(0, offset), "{at}");
-        assert!(rt; out.bytes.is_empty(), "{at}");
+        let ran = checked(alloc, bytes, Vec::new(alloc))?;
+        assert_eq!(rt; ran.status, Status::BadInput(0, offset), "{at}");
+        assert!(rt; ran.out.bytes.is_empty(), "{at}");
     }
     Ok(())
 }
@@ -288,14 +300,11 @@ fn words_and_files(rt: HostRuntime) -> Result<(), Fail> {
     ];
     for (words, want, output, note) in cases {
         let good = message(alloc, Change::None)?;
-        let mut inputs = inputs(alloc, header(alloc)?, good, Vec::new(alloc))?;
-        let mut out = sink(alloc, Vec::new(alloc))?;
-        let mut notes = sink(alloc, Vec::new(alloc))?;
-        let words = texts(alloc, words)?;
-        let status = run(alloc, &words, &mut inputs, &mut out, &mut notes);
-        assert_eq!(rt; status, want, "{words:?}");
-        assert_eq!(rt; out.bytes.as_slice(), output.as_bytes(), "{words:?}");
-        assert_eq!(rt; notes.bytes.as_slice(), note.as_bytes(), "{words:?}");
+        let inputs = inputs(alloc, header(alloc)?, good, Vec::new(alloc))?;
+        let ran = run_words(alloc, words, inputs, Vec::new(alloc), Vec::new(alloc))?;
+        assert_eq!(rt; ran.status, want, "{words:?}");
+        assert_eq!(rt; ran.out.bytes.as_slice(), output.as_bytes(), "{words:?}");
+        assert_eq!(rt; ran.notes.bytes.as_slice(), note.as_bytes(), "{words:?}");
     }
     Ok(())
 }
@@ -380,14 +389,13 @@ fn failures(rt: HostRuntime) -> Result<(), Fail> {
     ];
     for (name, call, write, noted, want, output, note) in cases {
         let messages = list(alloc, &[Change::None, Change::Share], &[])?;
-        let mut inputs = inputs(alloc, header(alloc)?, messages, vec![in alloc; call]?)?;
-        let mut out = sink(alloc, vec![in alloc; write]?)?;
-        let mut notes = sink(alloc, vec![in alloc; noted]?)?;
-        let words = texts(alloc, &["check", "h", "m"])?;
-        let status = run(alloc, &words, &mut inputs, &mut out, &mut notes);
-        assert_eq!(rt; status, want, "{name}");
-        assert_eq!(rt; out.bytes.as_slice(), output.as_bytes(), "{name}");
-        assert_eq!(rt; notes.bytes.as_slice(), note.as_bytes(), "{name}");
+        let inputs = inputs(alloc, header(alloc)?, messages, vec![in alloc; call]?)?;
+        let fail = vec![in alloc; write]?;
+        let words = ["check", "h", "m"];
+        let ran = run_words(alloc, &words, inputs, fail, vec![in alloc; noted]?)?;
+        assert_eq!(rt; ran.status, want, "{name}");
+        assert_eq!(rt; ran.out.bytes.as_slice(), output.as_bytes(), "{name}");
+        assert_eq!(rt; ran.notes.bytes.as_slice(), note.as_bytes(), "{name}");
     }
     Ok(())
 }
