@@ -1,5 +1,6 @@
 -- Namespaces, their order and the namespace of parity shares (Celestia specifications, "Namespace").
-use Rattle.std.specs.Prelude.{replicate, if◌then◌else◌, Bool}
+use Rattle.std.specs.Prelude.{ℕ, List, [], ◌∷◌, ◌++◌, replicate, length, slice_index, slice_range, if◌then◌else◌, Bool, ◌==◌, ◌&&◌, not}
+use Rattle.std.specs.List.{list_all}
 use Rattle.std.specs.declared.cmp.Ordering.{Ordering}
 use Rattle.std.specs.Str.{bytes_eq}
 use Rattle.std.specs.Ordering.{nat_cmp, is_le}
@@ -30,3 +31,22 @@ parity = record { 0 = replicate 29 0xFF }
 -- whether a namespace is that of these shares
 abbrev pub is_parity : Namespace → Bool
 is_parity name = bytes_eq name.0 parity.0
+
+-- the greatest of the reserved namespaces of version 0: the id 0xFF
+abbrev pub primary_reserved_padding : Namespace
+primary_reserved_padding = record { 0 = replicate 28 0 ++ 0xFF ∷ [] }
+
+-- whether all bytes are 0
+abbrev pub is_zeros : List ℕ → Bool
+is_zeros bytes = list_all (λ b. b == 0) bytes
+
+-- whether a namespace of version 0 is reserved: not above PRIMARY_RESERVED_PADDING
+abbrev pub is_reserved : List ℕ → Bool
+is_reserved bytes = is_at_most (record { 0 = bytes }) primary_reserved_padding
+
+-- whether these bytes are the namespace of a blob: of version 0, with 18 zero bytes before the ten that
+-- a blob may choose, and not reserved
+abbrev pub is_blob_namespace : List ℕ → Bool
+is_blob_namespace bytes =
+    (length bytes == 29) && (slice_index bytes 0 == 0) && is_zeros (slice_range bytes 1 19)
+    && not (is_reserved bytes)

@@ -1,8 +1,10 @@
 //! Namespaces and their order.
 
 ghost use Rattle.std.specs.Prelude.{◌≡◌, ◌⊎◌, true};
-ghost use Rattle.namespace_id.specs.Names.{is_at_most, parity, IsNamespace};
+ghost use Rattle.namespace_id.specs.Names.{is_at_most, is_zeros, parity, IsNamespace};
 ghost use Rattle.namespace_id.specs.declared.namespaces.Namespace.{Namespace as Name};
+
+use thiserror::Error;
 
 /// A namespace: a version byte and a 28-byte id. Namespaces compare as byte strings.
 ///
@@ -15,8 +17,80 @@ pub struct Namespace(pub [u8; 29]);
 /// Celestia specifications, "Namespace".
 pub const PARITY: Namespace = Namespace([0xff; 29]);
 
+/// The greatest of the namespaces of version 0 that are reserved: the id 0xFF.
+///
+/// Celestia specifications, "Namespace".
+pub const PRIMARY_RESERVED_PADDING: Namespace = Namespace([
+    0, 0, 0, 0, 0, 0, 0, 0, 0, 0, 0, 0, 0, 0, 0, 0, 0, 0, 0, 0, 0, 0, 0, 0, 0, 0, 0, 0, 0xff,
+]);
+
+/// Why bytes are no namespace of a blob. The variants stand in the order in which they are tested.
+#[derive(Clone, Copy, Debug, PartialEq, Eq, Error)]
+pub enum NsError {
+    /// There are not 29 bytes.
+    #[error("a namespace has 29 bytes")]
+    Length,
+    /// The first byte isn't 0.
+    #[error("the version of the namespace is not 0")]
+    Version,
+    /// One of the next 18 bytes isn't 0.
+    #[error("the id of the namespace does not begin with 18 zero bytes")]
+    Prefix,
+    /// It isn't above `PRIMARY_RESERVED_PADDING`.
+    #[error("the namespace is reserved")]
+    Reserved,
+}
+
+/// Whether all bytes are 0.
+fn is_zeros(bytes: &[u8]) -> bool
+    ensures { result ≡ is_zeros bytes.now }
+{
+    bytes.iter().all(|byte| *byte == 0)
+}
+
 impl Namespace {
-    ghost use Rattle.namespace_id.specs.Names.{is_at_most, is_parity, greater_of};
+    ghost use Rattle.std.specs.Prelude.{◌≢◌, ◌↔◌, IsErrOf, IsOk, IfOk, IsTrue, length, slice_index, slice_range, false};
+    ghost use Rattle.namespace_id.specs.Names.{is_at_most, is_parity, greater_of, is_reserved, is_blob_namespace, is_zeros};
+
+    /// The namespace of a blob that these bytes are: one of version 0 that isn't reserved.
+    ///
+    /// Refuses, in this order: not 29 bytes (`Length`), a first byte that isn't 0 (`Version`), another
+    /// byte than 0 among the next 18 (`Prefix`), a namespace not above `PRIMARY_RESERVED_PADDING`
+    /// (`Reserved`).
+    ///
+    /// Celestia specifications, "Namespace".
+    pub fn blob(bytes: &[u8]) -> Result<Namespace, NsError>
+        ensures accepts { IsOk result ↔ IsTrue (is_blob_namespace bytes.now) }
+        ensures length { IsErrOf result NsError.Length ↔ (length bytes.now ≢ 29) }
+        ensures version { IsErrOf result NsError.Version ↔
+            (length bytes.now ≡ 29) × (slice_index bytes.now 0 ≢ 0) }
+        ensures prefix { IsErrOf result NsError.Prefix ↔
+            (length bytes.now ≡ 29) × (slice_index bytes.now 0 ≡ 0) ×
+            (is_zeros (slice_range bytes.now 1 19) ≡ false) }
+        ensures reserved { IsErrOf result NsError.Reserved ↔
+            (length bytes.now ≡ 29) × (slice_index bytes.now 0 ≡ 0) ×
+            (is_zeros (slice_range bytes.now 1 19) ≡ true) × (is_reserved bytes.now ≡ true) }
+
+        // What comes in is what is kept.
+        ensures value { IfOk result (λ name. name.0 ≡ bytes.now) }
+    {
+        if bytes.len() != 29 {
+            return Err(NsError::Length);
+        }
+        if bytes[0] != 0 {
+            return Err(NsError::Version);
+        }
+        if !is_zeros(&bytes[1..19]) {
+            return Err(NsError::Prefix);
+        }
+        let mut text = [0; 29];
+        text.copy_from_slice(bytes);
+        let name = Namespace(text);
+        if name.is_at_most(&PRIMARY_RESERVED_PADDING) {
+            return Err(NsError::Reserved);
+        }
+        Ok(name)
+    }
 
     /// Whether this is not above the other.
     pub fn is_at_most(&self, other: &Namespace) -> bool
@@ -50,3 +124,35 @@ pub fn namespace_order()
     ensures total { (a b : Name) → (is_at_most a b ≡ true) ⊎ (is_at_most b a ≡ true) }
     ensures parity { (a : Name) → IsNamespace a → is_at_most a parity ≡ true }
 {}
+
+#[cfg(test)]
+mod tests {
+    use super::*;
+
+    /// Version 0, 18 zero bytes, and `low` as ten big-endian bytes.
+    fn version_0(low: u16) -> [u8; 29] {
+        let mut bytes = [0; 29];
+        bytes[27..].copy_from_slice(&low.to_be_bytes());
+        bytes
+    }
+
+    /// By the Celestia specifications, "Namespace", and docs/RULES.md, "Namespaces".
+    #[test]
+    fn blob_namespaces(rt: HostRuntime) {
+        let mut prefixed = [0; 29];
+        prefixed[1] = 1;
+        let reserved = version_0(0xff);
+        let least = version_0(0x100);
+        let cases: [(&str, &[u8], Option<NsError>); 6] = [
+            ("28 bytes", &[0; 28], Some(NsError::Length)),
+            ("parity", &[0xff; 29], Some(NsError::Version)),
+            ("tail padding", &[0xfe; 29], Some(NsError::Version)),
+            ("a byte in the prefix", &prefixed, Some(NsError::Prefix)),
+            ("greatest reserved", &reserved, Some(NsError::Reserved)),
+            ("least of a blob", &least, None),
+        ];
+        for (name, bytes, want) in cases {
+            assert_eq!(rt; Namespace::blob(bytes).err(), want, "{name}");
+        }
+    }
+}
