@@ -1,0 +1,3 @@
+pub mod WidthLemmas
+pub mod ShareLemmas
+pub mod LaterLemmas

@@ -1,0 +1,96 @@
+-- A share that is written part by part, with zeros behind.
+use Rattle.std.proofs.Common.{◌≡◌, ◌∙◌, ℕ, ◌+◌, ◌-◌, ◌≤◌, true, false, List, [], ◌∷◌, ◌++◌, length, take, drop, replicate, sym, ap, ap₂, refl, arith, length-append}
+use Rattle.std.proofs.lemmas.List.{drop-replicate, take-replicate, append_assoc}
+use Rattle.std.proofs.Math.Seq.{take-append-add}
+use Rattle.std.specs.Int.{w32, to_be_bytes}
+use Rattle.namespace_id.proofs.StringLemmas.{put_next}
+use Rattle.namespace_id.specs.declared.namespaces.Namespace.{Namespace}
+use Rattle.namespace_id.specs.declared.shares.Share.{Share}
+use Rattle.share_split.specs.Blobs.{first_content, later_content, info, filled, first_share, later_share}
+
+-- what is written so far, and zeros behind it up to the size of a share
+abbrev pub laid : List ℕ → List ℕ
+laid before = before ++ replicate (512 - length before) 0
+
+abbrev pub share_of : List ℕ → Share
+share_of bytes = record { 0 = bytes }
+
+-- one part more
+pub laid_more : (before part old new : List ℕ) (at : ℕ) → old ≡ laid before → at ≡ length before
+    → new ≡ take at old ++ part ++ drop (at + length part) old → new ≡ laid (before ++ part)
+laid_more before part old new at o a n =
+    let left : 512 - length before - length part ≡ 512 - length (before ++ part) = omega (arith, length-append before part) in
+    n ∙ ap₂ (λ (i : ℕ) (s : List ℕ). take i s ++ part ++ drop (i + length part) s) a o
+    ∙ put_next before (replicate (512 - length before) 0) part
+    ∙ ap (λ (x : List ℕ). before ++ part ++ x) (drop-replicate (length part) (512 - length before) 0)
+    ∙ ap (λ (k : ℕ). before ++ part ++ replicate k 0) left
+
+-- content that fits is filled by the zeros that are left
+pub filled_is : (n : ℕ) (content : List ℕ) → length content ≤ n → filled n content ≡ content ++ replicate (n - length content) 0
+filled_is n content h =
+    let all : n ≡ length content + (n - length content) = omega (arith, h) in
+    ap (λ (k : ℕ). take k (content ++ replicate n 0)) all
+    ∙ take-append-add content (replicate n 0) (n - length content)
+    ∙ ap (λ (x : List ℕ). content ++ x) (take-replicate (n - length content) n 0 (omega arith))
+
+-- the content is the last part
+pub laid_filled : (head content : List ℕ) (n : ℕ) → length head + n ≡ 512 → length content ≤ n → laid (head ++ content) ≡ head ++ filled n content
+laid_filled head content n e h =
+    let left : 512 - length (head ++ content) ≡ n - length content = omega (arith, length-append head content, e) in
+    ap (λ (k : ℕ). head ++ content ++ replicate k 0) left
+    ∙ append_assoc head content (replicate (n - length content) 0)
+    ∙ sym (ap (λ (x : List ℕ). head ++ x) (filled_is n content h))
+
+-- a namespace and an info byte
+abbrev pub head : List ℕ → ℕ → List ℕ
+head name start = name ++ start ∷ []
+
+length-head : (name : List ℕ) (start : ℕ) → length name ≡ 29 → length (head name start) ≡ 30
+length-head name start n = length-append name (start ∷ []) ∙ ap (λ (k : ℕ). k + 1) n
+
+pub head_laid : (name : List ℕ) (start : ℕ) → length name ≡ 29 → laid (head name start) ≡ head name start ++ replicate later_content 0
+head_laid name start n = ap (λ (k : ℕ). head name start ++ replicate (512 - k) 0) (length-head name start n)
+
+pub begun_written : (name s t : List ℕ) (start info_byte : ℕ) → length name ≡ 29 → start ≡ info_byte
+    → s ≡ take 0 (replicate 512 0) ++ name ++ drop (0 + length name) (replicate 512 0)
+    → t ≡ take 29 s ++ start ∷ [] ++ drop (29 + 1) s
+    → t ≡ head name info_byte ++ replicate later_content 0
+begun_written name s t start info_byte n i es et =
+    let one : s ≡ laid name = laid_more [] name (replicate 512 0) s 0 refl refl es in
+    let two : t ≡ laid (head name start) = laid_more name (start ∷ []) s t 29 one (sym n) et in
+    two ∙ head_laid name start n ∙ ap (λ (j : ℕ). head name j ++ replicate later_content 0) i
+
+pub later_written : (name : Namespace) (content t u : List ℕ) → length name.0 ≡ 29 → length content ≤ later_content
+    → t ≡ head name.0 (info 0 false) ++ replicate later_content 0
+    → u ≡ take 30 t ++ content ++ drop (30 + length content) t
+    → share_of u ≡ later_share name content
+unfolding later_share
+later_written name content t u n h et eu =
+    let start : List ℕ = head name.0 (info 0 false) in
+    let size : length start ≡ 30 = length-head name.0 (info 0 false) n in
+    let two : t ≡ laid start = et ∙ sym (head_laid name.0 (info 0 false) n) in
+    let whole : u ≡ laid (start ++ content) = laid_more start content t u 30 two (sym size) eu in
+    ap share_of
+    (whole
+    ∙ laid_filled start content later_content (ap (λ (k : ℕ). k + later_content) size) h
+    ∙ append_assoc name.0 (info 0 false ∷ []) (filled later_content content))
+
+pub first_written : (name : Namespace) (content size_bytes t u v : List ℕ) (size : ℕ) → length name.0 ≡ 29 → length content ≤ first_content
+    → size_bytes ≡ to_be_bytes w32 size
+    → t ≡ head name.0 (info 0 true) ++ replicate later_content 0
+    → u ≡ take 30 t ++ size_bytes ++ drop (30 + length size_bytes) t
+    → v ≡ take 34 u ++ content ++ drop (34 + length content) u
+    → share_of v ≡ first_share name size content
+unfolding first_share
+first_written name content size_bytes t u v size n h b et eu ev =
+    let start : List ℕ = head name.0 (info 0 true) in
+    let begins : length start ≡ 30 = length-head name.0 (info 0 true) n in
+    let two : t ≡ laid start = et ∙ sym (head_laid name.0 (info 0 true) n) in
+    let three : u ≡ laid (start ++ size_bytes) = laid_more start size_bytes t u 30 two (sym begins) eu in
+    let place : length (start ++ size_bytes) ≡ 34 = length-append start size_bytes ∙ ap₂ (λ (k l : ℕ). k + l) begins (ap length b) in
+    let whole : v ≡ laid (start ++ size_bytes ++ content) = laid_more (start ++ size_bytes) content u v 34 three (sym place) ev in
+    ap share_of
+    (whole
+    ∙ laid_filled (start ++ size_bytes) content first_content (ap (λ (k : ℕ). k + first_content) place) h
+    ∙ ap (λ (x : List ℕ). x ++ filled first_content content) (append_assoc name.0 (info 0 true ∷ []) size_bytes)
+    ∙ ap (λ (x : List ℕ). name.0 ++ info 0 true ∷ x ++ filled first_content content) b)

@@ -1,0 +1,55 @@
+-- The shares of a blob (Celestia specifications, "Shares").
+use Rattle.std.specs.Prelude.{ℕ, zero, suc, ◌+◌, ◌-◌, ◌*◌, ◌≤◌, nat_le, Bool, true, false, List, [], ◌∷◌, ◌++◌, length, take, drop, replicate, if◌then◌else◌, Vec, vec_len, vec_capacity}
+use Rattle.std.specs.Int.{w32, to_be_bytes, div_ceil}
+use Rattle.std.specs.declared.alloc.Global.{Global}
+use Rattle.namespace_id.specs.declared.namespaces.Namespace.{Namespace}
+use Rattle.namespace_id.specs.declared.shares.Share.{Share}
+
+-- the content of the first share of a sequence, and of a later one, in bytes
+abbrev pub first_content : ℕ
+first_content = 478
+
+abbrev pub later_content : ℕ
+later_content = 482
+
+-- the greatest length of a sequence: four bytes state it
+abbrev pub max_sequence_length : ℕ
+max_sequence_length = 4294967295
+
+-- the info byte: the version in the upper 7 bits, the start of a sequence in the lowest
+abbrev pub info : ℕ → Bool → ℕ
+info version start = 2 * version + (if start then 1 else 0)
+
+-- content filled with zeros up to a length
+abbrev pub filled : ℕ → List ℕ → List ℕ
+filled n content = take n (content ++ replicate n 0)
+
+-- the first share of a sequence: namespace, info byte, length of the sequence, content
+unfoldable pub first_share : Namespace → ℕ → List ℕ → Share
+first_share name size content =
+    record { 0 = name.0 ++ info 0 true ∷ to_be_bytes w32 size ++ filled first_content content }
+
+-- a later share: namespace, info byte, content
+unfoldable pub later_share : Namespace → List ℕ → Share
+later_share name content = record { 0 = name.0 ++ info 0 false ∷ filled later_content content }
+
+-- so many later shares, 482 bytes each
+unfoldable pub later_shares : ℕ → Namespace → List ℕ → List Share
+later_shares zero name bytes = []
+later_shares (suc count) name bytes =
+    later_share name (take later_content bytes) ∷ later_shares count name (drop later_content bytes)
+
+-- how many shares a blob of so many bytes takes
+abbrev pub share_count : ℕ → ℕ
+share_count size =
+    if nat_le size first_content then 1 else 1 + div_ceil (size - first_content) later_content
+
+-- the shares of a blob
+abbrev pub blob_shares_of : Namespace → List ℕ → List Share
+blob_shares_of name bytes =
+    first_share name (length bytes) (take first_content bytes)
+    ∷ later_shares (share_count (length bytes) - 1) name (drop first_content bytes)
+
+-- there is room for so many shares more
+abbrev pub HasRoom : Vec Share Global → ℕ → Type 0
+HasRoom out count = vec_len out + count ≤ vec_capacity out

@@ -1,0 +1,195 @@
+//! The shares of a blob.
+
+ghost use Rattle.std.specs.Prelude.{◌≡◌, ◌+◌, ◌≤◌, ◌<◌, ◌++◌, ◌∷◌, [], ◌↔◌, length, take, drop, replicate, vec_len, vec_capacity, OnOk, OnErr, IsErrOf};
+ghost use Rattle.share_split.specs.Blobs.{first_content, later_content, max_sequence_length, info, first_share, later_share, later_shares, share_count, blob_shares_of, HasRoom};
+
+use namespace_id::{Namespace, Share, put};
+use thiserror::Error;
+
+/// The bytes of a share.
+///
+/// Celestia specifications, "Shares".
+pub const SHARE_SIZE: usize = 512;
+
+/// The bytes of content in the first share of a sequence: 512 without the namespace (29), the info
+/// byte (1) and the length of the sequence (4).
+///
+/// Celestia specifications, "Shares".
+pub const FIRST_CONTENT: usize = 478;
+
+/// The bytes of content in a later share: 512 without the namespace (29) and the info byte (1).
+///
+/// Celestia specifications, "Shares".
+pub const LATER_CONTENT: usize = 482;
+
+/// The greatest length of a sequence in bytes: four bytes state it.
+///
+/// Celestia specifications, "Shares".
+pub const MAX_SEQUENCE_LENGTH: usize = 4_294_967_295;
+
+/// The version of all shares here.
+const SHARE_VERSION: u8 = 0;
+
+/// Why a blob was not split. The variants stand in the order in which they are tested.
+#[derive(Clone, Copy, Debug, PartialEq, Eq, Error)]
+pub enum SplitError {
+    /// There are no bytes.
+    #[error("a blob has at least one byte")]
+    Empty,
+    /// There are more than `MAX_SEQUENCE_LENGTH` bytes.
+    #[error("a blob has at most 4294967295 bytes")]
+    TooLong,
+    /// There was no memory.
+    #[error("out of memory")]
+    NoMemory,
+}
+
+/// How many shares a blob of so many bytes takes.
+///
+/// Celestia specifications, "Shares".
+pub fn blob_share_count(len: u64) -> u64
+    requires { 1 ≤ len }
+    ensures { result ≡ share_count len }
+{
+    if len <= FIRST_CONTENT as u64 {
+        return 1;
+    }
+    1 + (len - FIRST_CONTENT as u64).div_ceil(LATER_CONTENT as u64)
+}
+
+/// The info byte of a share: its version, and whether it is the first of a sequence.
+fn info(version: u8, start: bool) -> u8
+    requires { version < 128 }
+    ensures { result ≡ info version start }
+{
+    2 * version + u8::from(start)
+}
+
+/// A share without its content: the namespace and the info byte, and zeros behind them.
+fn begun(namespace: &Namespace, start: bool) -> Share
+    ensures value { result.0 ≡ namespace.now.0 ++ info 0 start ∷ [] ++ replicate later_content 0 }
+    ensures name { length namespace.now.0 ≡ 29 }
+{
+    let mut share = Share([0; SHARE_SIZE]);
+    put(&mut share.0, 0, &namespace.0);
+    put(&mut share.0, 29, &[info(SHARE_VERSION, start)]);
+    share
+}
+
+/// The first share of a sequence of `size` bytes, which begins with this content.
+fn first_share(namespace: &Namespace, size: u32, content: &[u8]) -> Share
+    requires { length content.now ≤ first_content }
+    ensures { result ≡ first_share namespace.now size content.now }
+{
+    let mut share = begun(namespace, true);
+    put(&mut share.0, 30, &size.to_be_bytes());
+    put(&mut share.0, SHARE_SIZE - FIRST_CONTENT, content);
+    share
+}
+
+/// A later share of a sequence.
+fn later_share(namespace: &Namespace, content: &[u8]) -> Share
+    requires { length content.now ≤ later_content }
+    ensures { result ≡ later_share namespace.now content.now }
+{
+    let mut share = begun(namespace, false);
+    put(&mut share.0, SHARE_SIZE - LATER_CONTENT, content);
+    share
+}
+
+/// The first bytes, at most so many, and the others.
+fn split_within(bytes: &[u8], most: usize) -> (&[u8], &[u8])
+    ensures first { result.0.now ≡ take most bytes.now }
+    ensures rest { result.1.now ≡ drop most bytes.now }
+    ensures few { length result.0.now ≤ most }
+{
+    bytes.split_at(bytes.len().min(most))
+}
+
+/// Appends a share for which there is room.
+fn put_share(out: &mut Vec<Share>, share: Share)
+    requires room { HasRoom out.old 1 }
+    ensures appended { out.new.items ≡ out.old.items ++ share ∷ [] }
+    ensures len { vec_len out.new ≡ vec_len out.old + 1 }
+    ensures capacity { vec_capacity out.old ≤ vec_capacity out.new }
+{
+    out.push(share).unwrap();
+}
+
+/// Appends so many later shares.
+fn put_later(out: &mut Vec<Share>, namespace: &Namespace, bytes: &[u8], count: usize)
+    requires room { HasRoom out.old count }
+    ensures appended { out.new.items ≡ out.old.items ++ later_shares count namespace.now bytes.now }
+{
+    let mut rest = bytes;
+    for _ in 0..count {
+        let (content, after) = split_within(rest, LATER_CONTENT);
+        put_share(out, later_share(namespace, content));
+        rest = after;
+    }
+}
+
+/// Appends the shares of a blob. The room for all is taken at once.
+///
+/// Refuses a blob of no bytes (`Empty`), then one of more than `MAX_SEQUENCE_LENGTH` bytes
+/// (`TooLong`), then want of memory; a refusal leaves `out` as it was.
+///
+/// Celestia specifications, "Shares".
+pub fn blob_shares(
+    namespace: &Namespace,
+    bytes: &[u8],
+    out: &mut Vec<Share>,
+) -> Result<(), SplitError>
+    ensures written { OnOk result
+        (out.new.items ≡ out.old.items ++ blob_shares_of namespace.now bytes.now) }
+    ensures empty { IsErrOf result SplitError.Empty ↔ (bytes.now ≡ []) }
+    ensures too_long { IsErrOf result SplitError.TooLong ↔ (max_sequence_length < length bytes.now) }
+    ensures unchanged { OnErr result (out.new.items ≡ out.old.items) }
+{
+    if bytes.is_empty() {
+        return Err(SplitError::Empty);
+    }
+    if bytes.len() > MAX_SEQUENCE_LENGTH {
+        return Err(SplitError::TooLong);
+    }
+    let count = blob_share_count(bytes.len() as u64) as usize;
+    if out.reserve(count).is_err() {
+        return Err(SplitError::NoMemory);
+    }
+    let (content, rest) = split_within(bytes, FIRST_CONTENT);
+    put_share(out, first_share(namespace, bytes.len() as u32, content));
+    put_later(out, namespace, rest, count - 1);
+    Ok(())
+}
+
+#[cfg(test)]
+mod tests {
+    use super::*;
+    use std::test::Fail;
+
+    /// The heads by the Celestia specifications, "Shares": the last two bytes of the namespace, the
+    /// info byte, and in a first share the length of the sequence.
+    #[test]
+    fn shares(rt: HostRuntime) -> Result<(), Fail> {
+        let mut name = [0; 29];
+        name[27] = 1;
+        name[28] = 1;
+        let name = Namespace(name);
+        let bytes = [7; 479];
+        let mut out = Vec::new(rt.alloc());
+        assert_eq!(rt; blob_shares(&name, &[], &mut out), Err(SplitError::Empty));
+        blob_shares(&name, &bytes[..478], &mut out)?;
+        assert_eq!(rt; out.len(), 1);
+        blob_shares(&name, &bytes, &mut out)?;
+        let [only, first, later] = out.as_slice() else {
+            panic!(rt; "{} shares", out.len());
+        };
+        assert_eq!(rt; &only.0[27..34], [1, 1, 1, 0, 0, 0x01, 0xde].as_slice());
+        assert!(rt; only.0[34..].iter().all(|byte| *byte == 7));
+        assert_eq!(rt; &first.0[27..34], [1, 1, 1, 0, 0, 0x01, 0xdf].as_slice());
+        assert!(rt; first.0[34..].iter().all(|byte| *byte == 7));
+        assert_eq!(rt; &later.0[27..31], [1, 1, 0, 7].as_slice());
+        assert!(rt; later.0[31..].iter().all(|byte| *byte == 0));
+        Ok(())
+    }
+}

@@ -1,0 +1,60 @@
+//! How wide the subtrees over a blob's shares are.
+
+ghost use Rattle.std.specs.Prelude.{◌≡◌, ◌≤◌, ◌<◌, ◌^◌, ◌/◌, IsTrue, false};
+ghost use Rattle.std.specs.Int.{IsPowerOfTwo};
+ghost use Rattle.share_split.specs.Widths.{is_wide_enough};
+
+/// So many subtrees a blob may have before they grow beyond those of the least square that holds it.
+///
+/// Celestia specifications, "Square Layout".
+pub const SUBTREE_ROOT_THRESHOLD: u64 = 64;
+
+/// Whether subtrees of this width are wide enough for so many shares.
+fn is_wide_enough(count: u64, width: u64) -> bool
+    requires { width < 2 ^ 29 }
+    ensures { result ≡ is_wide_enough count width }
+{
+    count <= SUBTREE_ROOT_THRESHOLD * width || count <= width * width
+}
+
+/// The width of the subtrees over a blob of so many shares: the least power of two by which either
+/// 64 subtrees or a square of this width hold them.
+///
+/// Celestia specifications, "Square Layout".
+pub fn subtree_width(count: u64) -> u64
+    requires some { 1 ≤ count }
+    requires bound { count ≤ 2 ^ 56 }
+    ensures power { IsPowerOfTwo result }
+    ensures enough { IsTrue (is_wide_enough count result) }
+    ensures least { 1 < result → is_wide_enough count (result / 2) ≡ false }
+{
+    let mut width = 1;
+    while !is_wide_enough(count, width) {
+        width *= 2;
+    }
+    width
+}
+
+#[cfg(test)]
+mod tests {
+    use super::*;
+
+    /// By docs/RULES.md, "Subtrees".
+    #[test]
+    fn widths(rt: HostRuntime) {
+        let cases = [
+            ("one share", 1, 1),
+            ("64 subtrees of width 1", 64, 1),
+            ("one share more", 65, 2),
+            ("64 subtrees of width 2", 128, 2),
+            ("one share more", 129, 4),
+            ("a square of 32", 1024, 16),
+            ("64 subtrees of width 64", 4096, 64),
+            ("one share more", 4097, 128),
+            ("a square of 128", 16384, 128),
+        ];
+        for (name, count, want) in cases {
+            assert_eq!(rt; subtree_width(count), want, "{name}, {count}");
+        }
+    }
+}
