@@ -1,0 +1,76 @@
+-- Sums and multiples of polynomials.
+use Rattle.std.proofs.Common.{◌≡◌, ℕ, suc, ◌<◌, max, List, [], ◌∷◌, length, refl, sym, ap, ◌∙◌, arith}
+use Rattle.std.specs.Prelude.{bit_xor}
+use Rattle.std.specs.Int.Bits.{xor_assoc, xor_self, xor_zero_r}
+use Rattle.std.proofs.lemmas.Nat.{xor_comm, xor_lt}
+use Rattle.gf_cantor.specs.Field.{product}
+use Rattle.gf_cantor.proofs.Additive.{xor_swap_middle}
+use Rattle.gf_cantor.proofs.Laws.{product-lt, product_comm, product_assoc, product-xor, product-zero}
+use Rattle.byte_polynomial.specs.Polynomial.{value_at, AreBytes}
+
+-- a pair that is there twice falls out
+pub xor_cancel : (a b c : ℕ) → bit_xor (bit_xor a b) (bit_xor a c) ≡ bit_xor b c
+xor_cancel a b c = xor_swap_middle a b a c ∙ ap (λ (x : ℕ). bit_xor x (bit_xor b c)) (xor_self a)
+
+pub xor_back : (a b : ℕ) → bit_xor a (bit_xor b a) ≡ b
+xor_back a b = ap (bit_xor a) (xor_comm b a) ∙ sym (xor_assoc a a b) ∙ ap (λ (x : ℕ). bit_xor x b) (xor_self a)
+
+-- a xor of two numbers is 0 only where they are one
+pub xor_zero-same : (a b : ℕ) → bit_xor a b ≡ 0 → a ≡ b
+xor_zero-same a b e = sym (xor_back b a) ∙ ap (bit_xor b) e ∙ xor_zero_r b
+
+unfoldable pub sum : List ℕ → List ℕ → List ℕ
+sum [] qs = qs
+sum (p ∷ ps) [] = p ∷ ps
+sum (p ∷ ps) (q ∷ qs) = bit_xor p q ∷ sum ps qs
+
+unfoldable pub scaled : ℕ → List ℕ → List ℕ
+scaled c [] = []
+scaled c (p ∷ ps) = product c p ∷ scaled c ps
+
+pub value_at-sum : (ps qs : List ℕ) (x : ℕ) → value_at (sum ps qs) x ≡ bit_xor (value_at ps x) (value_at qs x)
+unfolding sum value_at
+value_at-sum [] qs x = refl
+value_at-sum (p ∷ ps) [] x = sym (xor_zero_r (value_at (p ∷ ps) x))
+value_at-sum (p ∷ ps) (q ∷ qs) x =
+    ap (λ (v : ℕ). bit_xor (bit_xor p q) (product x v)) (value_at-sum ps qs x)
+    ∙ ap (bit_xor (bit_xor p q)) (product-xor x (value_at ps x) (value_at qs x))
+    ∙ xor_swap_middle p q (product x (value_at ps x)) (product x (value_at qs x))
+
+pub product_swap : (a b c : ℕ) → product a (product b c) ≡ product b (product a c)
+product_swap a b c = sym (product_assoc a b c) ∙ ap (λ (x : ℕ). product x c) (product_comm a b) ∙ product_assoc b a c
+
+pub value_at-scaled : (c : ℕ) (ps : List ℕ) (x : ℕ) → value_at (scaled c ps) x ≡ product c (value_at ps x)
+unfolding scaled value_at
+value_at-scaled c [] x = sym (product-zero c)
+value_at-scaled c (p ∷ ps) x =
+    ap (λ (v : ℕ). bit_xor (product c p) (product x v)) (value_at-scaled c ps x)
+    ∙ ap (bit_xor (product c p)) (product_swap x c (value_at ps x))
+    ∙ sym (product-xor c p (product x (value_at ps x)))
+
+pub length-scaled : (c : ℕ) (ps : List ℕ) → length (scaled c ps) ≡ length ps
+unfolding scaled
+length-scaled c [] = refl
+length-scaled c (p ∷ ps) = ap suc (length-scaled c ps)
+
+pub length-sum : (ps qs : List ℕ) → length (sum ps qs) ≡ max (length ps) (length qs)
+unfolding sum
+length-sum [] qs = omega arith
+length-sum (p ∷ ps) [] = omega arith
+length-sum (p ∷ ps) (q ∷ qs) = omega (arith, length-sum ps qs)
+
+pub AreBytes-sum : (ps qs : List ℕ) → AreBytes ps → AreBytes qs → AreBytes (sum ps qs)
+unfolding sum AreBytes
+AreBytes-sum [] qs hp hq = hq
+AreBytes-sum (p ∷ ps) [] hp hq = hp
+AreBytes-sum (p ∷ ps) (q ∷ qs) hp hq = (xor_lt 8 p q hp.0 hq.0, AreBytes-sum ps qs hp.1 hq.1)
+
+pub AreBytes-scaled : (c : ℕ) (ps : List ℕ) → AreBytes (scaled c ps)
+unfolding scaled AreBytes
+AreBytes-scaled c [] = tt
+AreBytes-scaled c (p ∷ ps) = (product-lt c p, AreBytes-scaled c ps)
+
+pub value_at-lt : (ps : List ℕ) (x : ℕ) → AreBytes ps → value_at ps x < 256
+unfolding value_at AreBytes
+value_at-lt [] x h = omega arith
+value_at-lt (p ∷ ps) x h = xor_lt 8 p (product x (value_at ps x)) h.0 (product-lt x (value_at ps x))

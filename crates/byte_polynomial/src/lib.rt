@@ -1,0 +1,20 @@
+//! Polynomials over the byte field, and the law that exactly one polynomial of n coefficients goes
+//! through n points.
+//!
+//! The crate has no call that computes: it states what the code stands on.
+#![tactic(auto)]
+
+ghost use Rattle.std.specs.Prelude.{◌≡◌, ℕ, ◌≤◌, List, length};
+ghost use Rattle.byte_polynomial.specs.Polynomial.{value_at, AreBytes, ArePoints, Takes};
+
+/// The law of interpolation. It changes nothing.
+pub fn interpolation_laws()
+    // Through n points goes a polynomial of n coefficients.
+    ensures through { (xs ys : List ℕ) → length xs ≡ length ys → ArePoints xs → AreBytes ys →
+        (cs : List ℕ) × (length cs ≡ length xs) × AreBytes cs × Takes cs xs ys }
+
+    // Two of at most n coefficients that take the same values there have the same value anywhere.
+    ensures one { (ps qs xs ys : List ℕ) → length ps ≤ length xs → length qs ≤ length xs →
+        AreBytes ps → AreBytes qs → ArePoints xs → Takes ps xs ys → Takes qs xs ys →
+        (x : ℕ) → value_at ps x ≡ value_at qs x }
+{}

@@ -1,0 +1,163 @@
+-- Entries of a codeword, by the shares at other points.
+use Rattle.std.proofs.Common.{◌≡◌, ◌∙◌, ℕ, zero, suc, ◌+◌, ◌-◌, ◌*◌, ◌<◌, ◌≤◌, List, [], ◌∷◌, length, set, get_or, refl, sym, ap, ap₂, subst, arith, length-append, IsTrue, inl, inr}
+use Rattle.std.specs.Prelude.{IfSome, Some, None, Option, slice_get, slice_index}
+use Rattle.std.proofs.lemmas.Bool.{cases_lt}
+use Rattle.std.proofs.lemmas.Bool.Decides.{nat_tests}
+use Rattle.std.proofs.lemmas.Option.{IfSome_then}
+use Rattle.std.proofs.lemmas.Grind.{same_number_lists}
+use Rattle.std.proofs.lemmas.List.{get_or-map, get_or_append_left, get_or-append_right}
+use Rattle.namespace_id.specs.declared.shares.Share.{Share}
+use Rattle.namespace_id.specs.Shares.{IsShare, AreShares}
+use Rattle.namespace_id.specs.Cells.{is_width}
+use Rattle.byte_polynomial.specs.Polynomial.{value_at, ArePoints, Takes}
+use Rattle.byte_polynomial.proofs.Through.{through}
+use Rattle.leopard_code.specs.Codewords.{column, ascending, points, point, points_at, are_positions, IsCodeword, HasEntries}
+use Rattle.leopard_code.specs.Weights.{weighted, AreWeights, IsEntry}
+use Rattle.leopard_code.proofs.LagrangeLemmas.{lagrange}
+use Rattle.leopard_code.proofs.PointLemmas.{length-ascending, get_or-ascending, length-column, column_bytes, width-le}
+use Rattle.leopard_code.proofs.PositionLemmas.{points_differ, position-lt, takes-at, takes_each}
+
+-- the byte of a share that a list may have
+abbrev pub byte_of : ℕ → Option Share → ℕ
+byte_of b None = 0
+byte_of b (Some share) = slice_index share.0 b
+
+pub get_or-column : (b : ℕ) (ss : List Share) (i : ℕ) → get_or (column b ss) i 0 ≡ byte_of b (slice_get ss i)
+unfolding column
+get_or-column b [] i = refl
+get_or-column b (s ∷ ss) zero = refl
+get_or-column b (s ∷ ss) (suc i) = get_or-column b ss i
+
+pub get_or-column_at : (b : ℕ) (ss : List Share) (i : ℕ) (d : Share) → i < length ss → get_or (column b ss) i 0 ≡ get_or (get_or ss i d).0 b 0
+unfolding column
+get_or-column_at b [] i d h = absurd (omega arith)
+get_or-column_at b (s ∷ ss) zero d h = refl
+get_or-column_at b (s ∷ ss) (suc i) d h = get_or-column_at b ss i d (omega arith)
+
+-- what a fact of an element says of its byte
+pub byte_of_entry : (b v : ℕ) (ss : List Share) (i : ℕ) → i < length ss → IfSome (slice_get ss i) (λ share. slice_index share.0 b ≡ v) → get_or (column b ss) i 0 ≡ v
+unfolding column
+byte_of_entry b v [] i h e = absurd (omega arith)
+byte_of_entry b v (s ∷ ss) zero h e = e
+byte_of_entry b v (s ∷ ss) (suc i) h e = byte_of_entry b v ss i (omega arith) e
+
+pub length-points_at : (k : ℕ) (known : List ℕ) → length (points_at k known) ≡ length known
+length-points_at k [] = refl
+length-points_at k (p ∷ known) = ap suc (length-points_at k known)
+
+-- the points of all positions, one after another
+pub get_or-points : (k pos : ℕ) → pos < 2 * k → get_or (points k) pos 0 ≡ point k pos
+unfolding points
+get_or-points k pos h = elim (cases_lt pos k) [
+  | inl lt ↦ get_or_append_left (ascending k k) (ascending 0 k) 0 pos (omega (arith, length-ascending k k)) ∙ get_or-ascending k k pos lt ∙ grind (arith, nat_tests)
+  | inr le ↦
+      get_or-append_right (ascending k k) (ascending 0 k) k pos 0 (length-ascending k k) le
+      ∙ get_or-ascending k 0 (pos - k) (omega arith) ∙ grind (arith, nat_tests)
+]
+
+pub length-points : (k : ℕ) → length (points k) ≡ 2 * k
+unfolding points
+length-points k = omega (arith, length-append (ascending k k) (ascending 0 k), length-ascending k k, length-ascending k 0)
+
+-- a share itself is the entry at its own point
+pub entry_copied : (xs : List ℕ) (shares : List Share) (i x : ℕ) (d : Share) → i < length xs → length shares ≡ length xs → get_or xs i 0 ≡ x → IsEntry xs shares x (get_or shares i d)
+entry_copied xs shares i x d h same own b hb cs long bytes takes =
+    sym (get_or-column_at b shares i d (omega arith)) ∙ sym (takes-at cs xs (column b shares) i h takes) ∙ ap (value_at cs) own
+
+-- a sum with the weights at a point is the entry there
+pub entry_summed : (xs : List ℕ) (shares : List Share) (x : ℕ) (ws : List ℕ) (share : Share) → length shares ≡ length xs → ArePoints xs → AreShares shares
+    → AreWeights [] xs x ws → ((b : ℕ) → b < 512 → slice_index share.0 b ≡ weighted ws (column b shares)) → IsEntry xs shares x share
+entry_summed xs shares x ws share same apart shares_fit weights sums b hb cs long bytes takes =
+    sums b hb
+    ∙ lagrange cs xs (column b shares) ws x (omega (arith, length-column b shares)) (omega (arith, long)) apart bytes (column_bytes b shares shares_fit) takes weights
+
+-- a column whose bytes are a polynomial's values at the points of all positions
+takes_all : (k : ℕ) (cs ys : List ℕ) → length ys ≡ 2 * k → ((pos : ℕ) → pos < 2 * k → get_or ys pos 0 ≡ value_at cs (point k pos)) → Takes cs (points k) ys
+takes_all k cs ys long each =
+    takes_each cs (points k) ys (length-points k ∙ sym long) (λ i h.
+    let within : i < 2 * k = omega (arith, length-points k) in
+    ap (value_at cs) (get_or-points k i within) ∙ sym (each i within))
+
+-- entries at all positions are a codeword
+pub codeword_of_entries : (k : ℕ) (known : List ℕ) (shares word : List Share) → k ≤ 128 → length known ≡ k → IsTrue (are_positions k known)
+    → length shares ≡ k → AreShares shares → length word ≡ 2 * k → AreShares word
+    → ((pos : ℕ) → pos < 2 * k → IfSome (slice_get word pos) (λ share. IsEntry (points_at k known) shares (point k pos) share))
+    → IsCodeword k word
+codeword_of_entries k known shares word few count positions same shares_fit long word_fits entries = record {
+  count = long;
+  shares = word_fits;
+  columns = λ b h.
+      let xs : List ℕ = points_at k known in
+      let found = through xs (column b shares) (omega (arith, length-points_at k known, length-column b shares)) (points_differ k known few positions) (column_bytes b shares shares_fit) in (
+        found.0,
+        omega (arith, found.1, length-points_at k known),
+        found.2,
+        takes_all k found.0 (column b word) (length-column b word ∙ long) (λ pos within.
+            byte_of_entry b (value_at found.0 (point k pos)) word pos (omega arith)
+            (IfSome_then (slice_get word pos) (entries pos within) (λ share entry. entry b h found.0 found.1 found.2 found.3))),
+      );
+}
+
+same_bytes : (s t : Share) → IsShare s → IsShare t → ((b : ℕ) → b < 512 → slice_index s.0 b ≡ slice_index t.0 b) → s ≡ t
+same_bytes s t hs ht each =
+    let e : s.0 ≡ t.0 = same_number_lists s.0 t.0 (hs.size_is ∙ sym ht.size_is) (λ i h. each i (omega (arith, hs.size_is))) in
+    ap (λ (l : List ℕ). record { 0 = l }) e
+
+-- two shares of two lists that have the same bytes
+pub same_place : (ss ts : List Share) (i j : ℕ) → i < length ss → j < length ts → AreShares ss → AreShares ts
+    → ((b : ℕ) → b < 512 → get_or (column b ss) i 0 ≡ get_or (column b ts) j 0) → slice_get ss i ≡ slice_get ts j
+unfolding column
+same_place [] ts i j hi hj fs ft each = absurd (omega arith)
+same_place (s ∷ ss) [] i j hi hj fs ft each = absurd (omega arith)
+same_place (s ∷ ss) (t ∷ ts) zero zero hi hj fs ft each = ap Some (same_bytes s t fs.0 ft.0 each)
+same_place (s ∷ ss) (t ∷ ts) zero (suc j) hi hj fs ft each = same_place (s ∷ ss) ts zero j hi (omega arith) fs ft.1 each
+same_place (s ∷ ss) (t ∷ ts) (suc i) j hi hj fs ft each = same_place ss (t ∷ ts) i j (omega arith) hj fs.1 ft each
+
+-- lists of shares that have the same bytes
+pub same_shares : (ss ts : List Share) → length ss ≡ length ts → AreShares ss → AreShares ts
+    → ((b i : ℕ) → b < 512 → i < length ss → get_or (column b ss) i 0 ≡ get_or (column b ts) i 0) → ss ≡ ts
+unfolding column
+same_shares [] [] same fs ft each = refl
+same_shares [] (t ∷ ts) same fs ft each = absurd (omega arith)
+same_shares (s ∷ ss) [] same fs ft each = absurd (omega arith)
+same_shares (s ∷ ss) (t ∷ ts) same fs ft each =
+    ap₂ (λ (x : Share) (xs : List Share). x ∷ xs) (same_bytes s t fs.0 ft.0 (λ b h. each b 0 h (omega arith)))
+    (same_shares ss ts (omega arith) fs.1 ft.1 (λ b i hb hi. each b (suc i) hb (omega arith)))
+
+-- the entries at the known positions are the shares
+pub entries_are_known : (k : ℕ) (known : List ℕ) (shares word : List Share) → k ≤ 128 → length known ≡ k → IsTrue (are_positions k known)
+    → length shares ≡ k → AreShares shares → length word ≡ 2 * k → AreShares word
+    → ((pos : ℕ) → pos < 2 * k → IfSome (slice_get word pos) (λ share. IsEntry (points_at k known) shares (point k pos) share))
+    → HasEntries known shares word
+entries_are_known k known shares word few count positions same shares_fit long word_fits entries i h =
+    let pos : ℕ = get_or known i 0 in
+    let within : pos < 2 * k = position-lt k known i h positions in
+    same_place word shares pos i (omega arith) (omega arith) word_fits shares_fit (λ b hb.
+    let xs : List ℕ = points_at k known in
+    let found = through xs (column b shares) (omega (arith, length-points_at k known, length-column b shares)) (points_differ k known few positions) (column_bytes b shares shares_fit) in
+    byte_of_entry b (value_at found.0 (point k pos)) word pos (omega arith)
+    (IfSome_then (slice_get word pos) (entries pos within) (λ share entry. entry b hb found.0 found.1 found.2 found.3))
+    ∙ sym (ap (value_at found.0) (get_or-map (point k) known i 0 0 h))
+    ∙ takes-at found.0 xs (column b shares) i (omega (arith, length-points_at k known)) found.3)
+
+-- one more share that is written
+pub set_more : (P : ℕ → Share → Type 0) (all : List Share) (pos : ℕ) (share : Share) → pos < length all
+    → ((p : ℕ) → p < pos → IfSome (slice_get all p) (P p)) → P pos share → (p : ℕ) → p < pos + 1 → IfSome (slice_get (set all pos share) p) (P p)
+set_more P [] pos share within before here p h = absurd (omega arith)
+set_more P (s ∷ all) zero share within before here zero h = here
+set_more P (s ∷ all) zero share within before here (suc p) h = absurd (omega arith)
+set_more P (s ∷ all) (suc pos) share within before here zero h = before 0 (omega arith)
+set_more P (s ∷ all) (suc pos) share within before here (suc p) h =
+    set_more (λ (q : ℕ). P (suc q)) all pos share (omega arith) (λ q l. before (suc q) (omega arith)) here p (omega arith)
+
+-- both, of the points as they were kept
+pub rebuilt : (k n : ℕ) (xs known : List ℕ) (shares word : List Share) → k ≡ n → IsTrue (is_width k) → length known ≡ n → IsTrue (are_positions n known)
+    → length shares ≡ n → AreShares shares → length word ≡ 2 * n → AreShares word → xs ≡ points_at k known
+    → ((pos : ℕ) → pos < 2 * k → IfSome (slice_get word pos) (λ share. IsEntry xs shares (point k pos) share)) → IsCodeword n word × HasEntries known shares word
+rebuilt k n xs known shares word e width count positions same shares_fit long word_fits are entries =
+    let few : n ≤ 128 = omega (arith, e, width-le k width) in
+    let by_points : (pos : ℕ) → pos < 2 * k → IfSome (slice_get word pos) (λ share. IsEntry (points_at k known) shares (point k pos) share) =
+    subst (λ (l : List ℕ). (pos : ℕ) → pos < 2 * k → IfSome (slice_get word pos) (λ share. IsEntry l shares (point k pos) share)) are entries in
+    let by_width : (pos : ℕ) → pos < 2 * n → IfSome (slice_get word pos) (λ share. IsEntry (points_at n known) shares (point n pos) share) =
+    subst (λ (m : ℕ). (pos : ℕ) → pos < 2 * m → IfSome (slice_get word pos) (λ share. IsEntry (points_at m known) shares (point m pos) share)) e by_points in
+    (codeword_of_entries n known shares word few count positions same shares_fit long word_fits by_width, entries_are_known n known shares word few count positions same shares_fit long word_fits by_width)

@@ -1,0 +1,117 @@
+-- A polynomial's value is the sum of its values at the points with Lagrange's weights.
+use Rattle.std.proofs.Common.{◌≡◌, ◌≢◌, ℕ, ◌+◌, ◌<◌, ◌≤◌, List, [], ◌∷◌, ◌++◌, length, refl, sym, ap, ap₂, subst, ◌∙◌, arith, append_assoc, length-append}
+use Rattle.std.specs.Prelude.{bit_xor}
+use Rattle.std.proofs.lemmas.Nat.{xor_comm}
+use Rattle.gf_cantor.specs.Field.{product}
+use Rattle.gf_cantor.proofs.Laws.{product-lt, product_comm, product_assoc, product-zero, one-product, has_inverse}
+use Rattle.byte_polynomial.specs.Polynomial.{value_at, AreBytes, Avoids, ArePoints, Takes}
+use Rattle.byte_polynomial.proofs.Sums.{sum, scaled, value_at-sum, value_at-scaled, length-sum, length-scaled, AreBytes-sum, AreBytes-scaled, value_at-lt}
+use Rattle.byte_polynomial.proofs.Through.{vanishing, length-vanishing, AreBytes-vanishing, value_at-vanishing, value_at-vanishing_none, vanishing_elsewhere, VanishesAt, vanishes, takes_still}
+use Rattle.byte_polynomial.proofs.Roots.{one_polynomial}
+use Rattle.leopard_code.specs.Weights.{weighted, away, AreWeights}
+
+pub away-is : (rs : List ℕ) (x : ℕ) → value_at (vanishing rs) x ≡ away rs x
+unfolding away
+away-is [] x = value_at-vanishing_none x
+away-is (r ∷ rs) x = value_at-vanishing r rs x ∙ ap (product (bit_xor x r)) (away-is rs x)
+
+avoids_middle : (x p : ℕ) (before ps : List ℕ) → Avoids x (before ++ p ∷ ps) → (x ≢ p) × Avoids x (before ++ ps)
+unfolding Avoids
+avoids_middle x p [] ps h = h
+avoids_middle x p (b ∷ before) ps h =
+    let rest = avoids_middle x p before ps h.1 in (rest.0, (h.0, rest.1))
+
+-- a point in the middle, and the others
+pub points_middle : (before : List ℕ) (p : ℕ) (ps : List ℕ) → ArePoints (before ++ p ∷ ps) → (p < 256) × Avoids p (before ++ ps) × ArePoints (before ++ ps)
+unfolding ArePoints Avoids
+points_middle [] p ps h = h
+points_middle (b ∷ before) p ps h =
+    let rest = points_middle before p ps h.2 in
+    let apart = avoids_middle b p before ps h.1 in
+    (rest.0, ((λ e. apart.0 (sym e)), rest.1), (h.0, apart.1, rest.2))
+
+vanishes-append : (cs xs ys : List ℕ) → VanishesAt cs (xs ++ ys) → VanishesAt cs xs × VanishesAt cs ys
+unfolding VanishesAt
+vanishes-append cs [] ys h = (tt, h)
+vanishes-append cs (x ∷ xs) ys h = let rest = vanishes-append cs xs ys h.1 in ((h.0, rest.0), rest.1)
+
+vanishes_still : (cs ns : List ℕ) (c : ℕ) (xs : List ℕ) → VanishesAt cs xs → VanishesAt ns xs → VanishesAt (sum cs (scaled c ns)) xs
+unfolding VanishesAt
+vanishes_still cs ns c [] h g = tt
+vanishes_still cs ns c (x ∷ xs) h g = (
+  value_at-sum cs (scaled c ns) x ∙ ap₂ bit_xor h.0 (value_at-scaled c ns x ∙ ap (product c) g.0 ∙ product-zero c),
+  vanishes_still cs ns c xs h.1 g.1,
+)
+
+zero_vanishes : (xs : List ℕ) → VanishesAt [] xs
+unfolding VanishesAt value_at
+zero_vanishes [] = tt
+zero_vanishes (x ∷ xs) = (refl, zero_vanishes xs)
+
+-- y u d is y, where d u is 1
+pub undone : (y u d : ℕ) → y < 256 → product d u ≡ 1 → product (product y u) d ≡ y
+undone y u d h e = product_assoc y u d ∙ ap (product y) (product_comm u d ∙ e) ∙ product_comm y 1 ∙ one-product y h
+
+-- the weight's term, from the multiple that the polynomial has
+term : (w y u d n : ℕ) → product d u ≡ 1 → product w d ≡ n → product w y ≡ product (product y u) n
+term w y u d n e weight =
+    sym (one-product (product w y) (product-lt w y))
+    ∙ ap (λ (v : ℕ). product v (product w y)) (sym e)
+    ∙ product_assoc d u (product w y) ∙ product_comm d (product u (product w y))
+    ∙ ap (λ (v : ℕ). product v d) (ap (product u) (product_comm w y) ∙ sym (product_assoc u y w) ∙ ap (λ (v : ℕ). product v w) (product_comm u y))
+    ∙ product_assoc (product y u) w d ∙ ap (product (product y u)) weight
+
+none_left : (before : List ℕ) (x : ℕ) (ws : List ℕ) → AreWeights before [] x ws → weighted ws [] ≡ 0
+unfolding AreWeights weighted
+none_left before x [] h = refl
+none_left before x (w ∷ ws) h = refl
+
+more_left : (before : List ℕ) (p : ℕ) (ps : List ℕ) (y : ℕ) (ys : List ℕ) (c : ℕ) (cs : List ℕ) (x : ℕ) (ws : List ℕ) → AreWeights before (p ∷ ps) x ws
+    → ((x : ℕ) (ws : List ℕ) → AreWeights (before ++ p ∷ []) ps x ws → weighted ws ys ≡ value_at cs x)
+    → ((w : ℕ) → product w (away (before ++ ps) p) ≡ away (before ++ ps) x → product w y ≡ product c (away (before ++ ps) x))
+    → weighted ws (y ∷ ys) ≡ value_at (sum cs (scaled c (vanishing (before ++ ps)))) x
+unfolding AreWeights weighted
+more_left before p ps y ys c cs x [] h rest first = elim h [ ]
+more_left before p ps y ys c cs x (w ∷ ws) h rest first =
+    ap₂ bit_xor (first w h.0 ∙ ap (product c) (sym (away-is (before ++ ps) x))) (rest x ws h.1)
+    ∙ xor_comm (product c (value_at (vanishing (before ++ ps)) x)) (value_at cs x)
+    ∙ ap (bit_xor (value_at cs x)) (sym (value_at-scaled c (vanishing (before ++ ps)) x))
+    ∙ sym (value_at-sum cs (scaled c (vanishing (before ++ ps))) x)
+
+-- a polynomial through the points that is 0 at those before, whose values the weights give
+lagrange_from : (before xs ys : List ℕ) → length xs ≡ length ys → ArePoints (before ++ xs) → AreBytes ys
+    → (cs : List ℕ) × (length cs ≤ length before + length xs) × AreBytes cs × VanishesAt cs before × Takes cs xs ys
+    × ((x : ℕ) (ws : List ℕ) → AreWeights before xs x ws → weighted ws ys ≡ value_at cs x)
+unfolding AreBytes Takes AreWeights weighted value_at VanishesAt
+lagrange_from before [] [] same points bytes = ([], omega arith, tt, zero_vanishes before, tt, λ x ws h. none_left before x ws h)
+lagrange_from before [] (y ∷ ys) same points bytes = absurd (omega arith)
+lagrange_from before (p ∷ ps) [] same points bytes = absurd (omega arith)
+lagrange_from before (p ∷ ps) (y ∷ ys) same points bytes =
+    let middle = points_middle before p ps points in
+    let moved : ArePoints (before ++ p ∷ [] ++ ps) = subst ArePoints (sym (append_assoc before (p ∷ []) ps)) points in
+    let rest = lagrange_from (before ++ p ∷ []) ps ys (omega arith) moved bytes.1 in
+    let ns : List ℕ = vanishing (before ++ ps) in
+    let d : ℕ = value_at ns p in
+    let apart : d ≢ 0 = vanishing_elsewhere (before ++ ps) p middle.0 middle.2 middle.1 in
+    let u = has_inverse d (omega arith) (value_at-lt ns p (AreBytes-vanishing (before ++ ps))) in
+    let c : ℕ = product y u.0 in
+    let there = vanishes-append ns before ps (vanishes (before ++ ps)) in
+    let there_rest = vanishes-append rest.0 before (p ∷ []) rest.3 in (
+      sum rest.0 (scaled c ns),
+      omega (arith, length-sum rest.0 (scaled c ns), length-scaled c ns, length-vanishing (before ++ ps), length-append before ps, length-append before (p ∷ []), rest.1),
+      AreBytes-sum rest.0 (scaled c ns) rest.2 (AreBytes-scaled c ns),
+      vanishes_still rest.0 ns c before there_rest.0 there.0,
+      (
+        value_at-sum rest.0 (scaled c ns) p ∙ ap₂ bit_xor there_rest.1.0 (value_at-scaled c ns p ∙ undone y u.0 d bytes.0 u.2),
+        takes_still rest.0 ns c ps ys there.1 rest.4,
+      ),
+      λ x ws h. more_left before p ps y ys c rest.0 x ws h rest.5 (λ w weight. term w y u.0 d (away (before ++ ps) x) u.2 (ap (product w) (away-is (before ++ ps) p) ∙ weight)),
+    )
+
+-- the value of any polynomial of at most n coefficients, from its values at n points
+pub lagrange : (cs xs ys ws : List ℕ) (x : ℕ) → length xs ≡ length ys → length cs ≤ length xs → ArePoints xs → AreBytes cs → AreBytes ys
+    → Takes cs xs ys → AreWeights [] xs x ws → weighted ws ys ≡ value_at cs x
+lagrange cs xs ys ws x same few points bytes values takes weights =
+    let found = lagrange_from [] xs ys same points values in
+    found.5 x ws weights
+    ∙ one_polynomial found.0 cs xs ys (omega (arith, found.1)) few found.2 bytes points found.4 takes x

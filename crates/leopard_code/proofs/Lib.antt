@@ -1,0 +1,11 @@
+pub mod WeightedLemmas
+pub mod LagrangeLemmas
+pub mod DifferenceLemmas
+pub mod RowLemmas
+pub mod TableLemmas
+pub mod PointLemmas
+pub mod CodewordLemmas
+pub mod PositionLemmas
+pub mod EntryLemmas
+pub mod LawLemmas
+pub mod LinearLemmas

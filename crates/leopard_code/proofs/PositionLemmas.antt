@@ -1,0 +1,73 @@
+-- Positions of a codeword and their points.
+use Rattle.std.proofs.Common.{◌≡◌, ◌≢◌, ℕ, zero, suc, ◌*◌, ◌<◌, ◌≤◌, List, [], ◌∷◌, length, get_or, refl, arith, IsTrue}
+use Rattle.std.specs.Prelude.{nat_lt}
+use Rattle.std.specs.List.{list_all}
+use Rattle.std.proofs.lemmas.Bool.{and_from, and_parts, ltb-true}
+use Rattle.std.proofs.lemmas.Bool.Decides.{nat_tests}
+use Rattle.namespace_id.specs.Lists.{holds_along}
+use Rattle.byte_polynomial.specs.Polynomial.{value_at, Avoids, ArePoints, Takes}
+use Rattle.leopard_code.specs.Codewords.{point, points_at, are_positions}
+
+pub point-lt : (k pos : ℕ) → k ≤ 128 → pos < 2 * k → point k pos < 256
+point-lt k pos h l = grind (arith, nat_tests)
+
+-- an earlier position has another point
+point_apart : (k p q : ℕ) → p < q → q < 2 * k → point k p ≢ point k q
+point_apart k p q h l e = grind (arith, nat_tests)
+
+-- what positions say of the first one and of the rest
+positions_parts : (k p : ℕ) (rest : List ℕ) → IsTrue (are_positions k (p ∷ rest)) → (p < 2 * k) × IsTrue (are_positions k rest)
+unfolding holds_along
+positions_parts k p [] h =
+    let inside = and_parts _ _ (and_parts _ _ h).0 in (ltb-true p (2 * k) inside.0, refl)
+positions_parts k p (q ∷ rest) h =
+    let both = and_parts _ _ h in
+    let inside = and_parts _ _ both.0 in
+    let along = and_parts _ _ both.1 in (ltb-true p (2 * k) inside.0, and_from (list_all (λ pos. nat_lt pos (2 * k)) (q ∷ rest)) (holds_along nat_lt (q ∷ rest)) inside.1 along.1)
+
+next_above : (k p q : ℕ) (rest : List ℕ) → IsTrue (are_positions k (p ∷ q ∷ rest)) → p < q
+unfolding holds_along
+next_above k p q rest h = ltb-true p q (and_parts _ _ (and_parts _ _ h).1).0
+
+avoids_later : (k m p : ℕ) (rest : List ℕ) → m < p → IsTrue (are_positions k (p ∷ rest)) → Avoids (point k m) (points_at k (p ∷ rest))
+unfolding Avoids
+avoids_later k m p [] h positions = (point_apart k m p h (positions_parts k p [] positions).0, tt)
+avoids_later k m p (q ∷ rest) h positions =
+    let parts = positions_parts k p (q ∷ rest) positions in
+    let further : p < q = next_above k p q rest positions in
+    (point_apart k m p h parts.0, avoids_later k m q rest (omega arith) parts.1)
+
+avoids_rest : (k p : ℕ) (rest : List ℕ) → IsTrue (are_positions k (p ∷ rest)) → Avoids (point k p) (points_at k rest)
+unfolding Avoids
+avoids_rest k p [] positions = tt
+avoids_rest k p (q ∷ rest) positions =
+    avoids_later k p q rest (next_above k p q rest positions) (positions_parts k p (q ∷ rest) positions).1
+
+-- the points of different positions are different
+pub points_differ : (k : ℕ) (known : List ℕ) → k ≤ 128 → IsTrue (are_positions k known) → ArePoints (points_at k known)
+unfolding ArePoints
+points_differ k [] few positions = tt
+points_differ k (p ∷ rest) few positions =
+    let parts = positions_parts k p rest positions in
+    (point-lt k p few parts.0, avoids_rest k p rest positions, points_differ k rest few parts.1)
+
+-- each position is below 2k
+pub position-lt : (k : ℕ) (known : List ℕ) (i : ℕ) → i < length known → IsTrue (are_positions k known) → get_or known i 0 < 2 * k
+position-lt k [] i h positions = absurd (omega arith)
+position-lt k (p ∷ rest) zero h positions = (positions_parts k p rest positions).0
+position-lt k (p ∷ rest) (suc i) h positions = position-lt k rest i (omega arith) (positions_parts k p rest positions).1
+
+-- the values that a polynomial takes, place by place
+pub takes-at : (cs xs ys : List ℕ) (i : ℕ) → i < length xs → Takes cs xs ys → value_at cs (get_or xs i 0) ≡ get_or ys i 0
+unfolding Takes
+takes-at cs [] ys i h takes = absurd (omega arith)
+takes-at cs (x ∷ xs) [] i h takes = elim takes [ ]
+takes-at cs (x ∷ xs) (y ∷ ys) zero h takes = takes.0
+takes-at cs (x ∷ xs) (y ∷ ys) (suc i) h takes = takes-at cs xs ys i (omega arith) takes.1
+
+pub takes_each : (cs xs ys : List ℕ) → length xs ≡ length ys → ((i : ℕ) → i < length xs → value_at cs (get_or xs i 0) ≡ get_or ys i 0) → Takes cs xs ys
+unfolding Takes
+takes_each cs [] [] same h = tt
+takes_each cs [] (y ∷ ys) same h = absurd (omega arith)
+takes_each cs (x ∷ xs) [] same h = absurd (omega arith)
+takes_each cs (x ∷ xs) (y ∷ ys) same h = (h 0 (omega arith), takes_each cs xs ys (omega arith) (λ i l. h (suc i) (omega arith)))

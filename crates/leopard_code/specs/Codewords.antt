@@ -1,0 +1,70 @@
+-- Codewords: lists of 2k shares whose byte columns are polynomials (docs/RULES.md, "The code").
+use Rattle.std.specs.Prelude.{◌≡◌, ℕ, zero, suc, Bool, ◌&&◌, nat_lt, if◌then◌else◌, ◌<◌, ◌+◌, ◌-◌, ◌*◌, List, [], ◌∷◌, ◌++◌, map, length, bit_xor, slice_get, slice_index}
+use Rattle.std.specs.List.{list_all}
+use Rattle.gf_cantor.specs.Field.{product}
+use Rattle.namespace_id.specs.declared.shares.Share.{Share}
+use Rattle.namespace_id.specs.Shares.{AreShares}
+use Rattle.namespace_id.specs.Lists.{holds_along}
+use Rattle.byte_polynomial.specs.Polynomial.{AreBytes, Takes}
+
+-- the bytes at place b of each share
+unfoldable pub column : ℕ → List Share → List ℕ
+column b [] = []
+column b (share ∷ shares) = slice_index share.0 b ∷ column b shares
+
+-- n numbers from the first on
+unfoldable pub ascending : ℕ → ℕ → List ℕ
+ascending first zero = []
+ascending first (suc n) = first ∷ ascending (suc first) n
+
+-- the points of the positions: the originals stand at k up to 2k, the recovery shares at 0 up to k
+unfoldable pub points : ℕ → List ℕ
+points k = ascending k k ++ ascending 0 k
+
+-- the point of one position
+abbrev pub point : ℕ → ℕ → ℕ
+point k pos = if nat_lt pos k then k + pos else pos - k
+
+-- the points of some positions
+abbrev pub points_at : ℕ → List ℕ → List ℕ
+points_at k known = map (point k) known
+
+-- a polynomial of k coefficients takes the bytes at the points
+abbrev pub IsColumn : ℕ → List ℕ → Type 0
+IsColumn k bytes = (cs : List ℕ) × (length cs ≡ k) × AreBytes cs × Takes cs (points k) bytes
+
+-- 2k shares, k originals and then k recovery shares, each byte column a polynomial
+pub record IsCodeword (k : ℕ) (word : List Share) : Type 0 where
+  pub count : length word ≡ 2 * k
+  pub shares : AreShares word
+  pub columns : (b : ℕ) → b < 512 → IsColumn k (column b word)
+
+-- whether these are positions of a codeword, strictly ascending
+abbrev pub are_positions : ℕ → List ℕ → Bool
+are_positions k known = list_all (λ pos. nat_lt pos (2 * k)) known && holds_along nat_lt known
+
+-- the shares stand in the list at the known positions
+abbrev pub HasEntries : List ℕ → List Share → List Share → Type 0
+HasEntries known shares word =
+    (i : ℕ) → i < length known → slice_get word (slice_index known i) ≡ slice_get shares i
+
+-- the bytewise xor of two byte strings, of two shares, and of two lists of shares
+unfoldable pub bytes_sum : List ℕ → List ℕ → List ℕ
+bytes_sum [] ys = []
+bytes_sum (x ∷ xs) [] = []
+bytes_sum (x ∷ xs) (y ∷ ys) = bit_xor x y ∷ bytes_sum xs ys
+
+abbrev pub share_sum : Share → Share → Share
+share_sum a b = record { 0 = bytes_sum a.0 b.0 }
+
+unfoldable pub shares_sum : List Share → List Share → List Share
+shares_sum [] others = []
+shares_sum (share ∷ shares) [] = []
+shares_sum (share ∷ shares) (other ∷ others) = share_sum share other ∷ shares_sum shares others
+
+-- the bytewise multiple of a share, and of a list of shares
+abbrev pub share_multiple : ℕ → Share → Share
+share_multiple c share = record { 0 = map (product c) share.0 }
+
+abbrev pub shares_multiple : ℕ → List Share → List Share
+shares_multiple c shares = map (share_multiple c) shares

@@ -1,0 +1,41 @@
+//! The laws of the code.
+
+ghost use Rattle.std.specs.Prelude.{◌≡◌, ◌<◌, ◌*◌, ℕ, List, IsTrue, IfSome, length, slice_get, slice_index};
+ghost use Rattle.namespace_id.specs.declared.shares.Share.{Share};
+ghost use Rattle.namespace_id.specs.Shares.{AreShares};
+ghost use Rattle.namespace_id.specs.Cells.{is_width};
+ghost use Rattle.byte_polynomial.specs.Polynomial.{AreBytes};
+ghost use Rattle.leopard_code.specs.Codewords.{column, are_positions, IsCodeword, HasEntries, shares_sum, shares_multiple};
+ghost use Rattle.leopard_code.specs.Weights.{weighted};
+
+/// The laws of codewords. It changes nothing.
+pub fn code_laws()
+    // Through k shares at k positions goes a codeword.
+    ensures through { (k : ℕ) (known : List ℕ) (shares : List Share) →
+        IsTrue (is_width k) → length known ≡ k → IsTrue (are_positions k known) →
+        length shares ≡ k → AreShares shares →
+        (word : List Share) × IsCodeword k word × HasEntries known shares word }
+
+    // Two codewords that have the same shares at k positions are one.
+    ensures one { (k : ℕ) (known : List ℕ) (word other : List Share) →
+        IsTrue (is_width k) → length known ≡ k → IsTrue (are_positions k known) →
+        IsCodeword k word → IsCodeword k other →
+        ((i : ℕ) → i < k →
+        slice_get word (slice_index known i) ≡ slice_get other (slice_index known i)) →
+        word ≡ other }
+
+    // The bytewise xor of two codewords is one, and so is each multiple of a codeword.
+    ensures sum { (k : ℕ) (word other : List Share) →
+        IsCodeword k word → IsCodeword k other → IsCodeword k (shares_sum word other) }
+    ensures multiple { (k c : ℕ) (word : List Share) →
+        IsCodeword k word → IsCodeword k (shares_multiple c word) }
+
+    // Each entry is the same weighted sum of the known ones in every codeword.
+    ensures generator { (k : ℕ) (known : List ℕ) (pos : ℕ) →
+        IsTrue (is_width k) → length known ≡ k → IsTrue (are_positions k known) → pos < 2 * k →
+        (ws : List ℕ) × (length ws ≡ k) × AreBytes ws × ((word shares : List Share) →
+        IsCodeword k word → length shares ≡ k → HasEntries known shares word →
+        (b : ℕ) → b < 512 →
+        IfSome (slice_get word pos)
+        (λ share. slice_index share.0 b ≡ weighted ws (column b shares))) }
+{}
