@@ -114,10 +114,15 @@ mod tests {
         assert_eq!(rt; two, [share(2), share(3)]);
         extend(&mut room, &[share(5), share(5)], &mut two);
         assert_eq!(rt; two, [share(5), share(5)]);
+        extend(&mut room, &[share(0), share(0)], &mut two);
+        assert_eq!(rt; two, [share(0), share(0)]);
+        let mut wide = Room::new(alloc, 4)?;
         let mut four = [share(0); 4];
         let originals = [share(0), share(0), share(0), share(1)];
-        extend(&mut Room::new(alloc, 4)?, &originals, &mut four);
+        extend(&mut wide, &originals, &mut four);
         assert_eq!(rt; four, [share(9), share(11), share(14), share(13)]);
+        extend(&mut wide, &[share(6); 4], &mut four);
+        assert_eq!(rt; four, [share(6); 4]);
         Ok(())
     }
 
