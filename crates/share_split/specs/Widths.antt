@@ -1,7 +1,8 @@
 -- How wide the subtrees over a blob's shares are (Celestia specifications, "Square Layout").
 use Rattle.std.specs.Prelude.{ℕ, ◌*◌, nat_le, Bool, ◌||◌}
 
--- so many subtrees a blob may have before they grow beyond those of the least square that holds it
+-- so many subtrees of one width hold a blob, unless they would have to be wider than the least square
+-- that holds it
 abbrev pub subtree_root_threshold : ℕ
 subtree_root_threshold = 64
 

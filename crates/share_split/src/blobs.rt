@@ -129,7 +129,8 @@ fn put_later(out: &mut Vec<Share>, namespace: &Namespace, bytes: &[u8], count: u
     }
 }
 
-/// Appends the shares of a blob. The room for all is taken at once.
+/// Appends the shares of a blob. The namespace may be any: `Namespace::blob` tells those of blobs.
+/// The room for all shares is taken at once.
 ///
 /// Refuses a blob of no bytes (`Empty`), then one of more than `MAX_SEQUENCE_LENGTH` bytes
 /// (`TooLong`), then want of memory; a refusal leaves `out` as it was.

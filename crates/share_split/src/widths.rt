@@ -4,7 +4,8 @@ ghost use Rattle.std.specs.Prelude.{◌≡◌, ◌≤◌, ◌<◌, ◌^◌, ◌/
 ghost use Rattle.std.specs.Int.{IsPowerOfTwo};
 ghost use Rattle.share_split.specs.Widths.{is_wide_enough};
 
-/// So many subtrees a blob may have before they grow beyond those of the least square that holds it.
+/// So many subtrees of one width hold a blob, unless they would have to be wider than the least
+/// square that holds it.
 ///
 /// Celestia specifications, "Square Layout".
 pub const SUBTREE_ROOT_THRESHOLD: u64 = 64;
