@@ -161,3 +161,19 @@ rebuilt k n xs known shares word e width count positions same shares_fit long wo
     let by_width : (pos : ℕ) → pos < 2 * n → IfSome (slice_get word pos) (λ share. IsEntry (points_at n known) shares (point n pos) share) =
     subst (λ (m : ℕ). (pos : ℕ) → pos < 2 * m → IfSome (slice_get word pos) (λ share. IsEntry (points_at m known) shares (point m pos) share)) e by_points in
     (codeword_of_entries n known shares word few count positions same shares_fit long word_fits by_width, entries_are_known n known shares word few count positions same shares_fit long word_fits by_width)
+
+-- the entries of a list so far, after one more is written
+pub entries_more : (k : ℕ) (xs : List ℕ) (shares all new : List Share) (pos : ℕ) (share : Share) → new ≡ set all pos share → pos < length all
+    → ((p : ℕ) → p < pos → IfSome (slice_get all p) (λ s. IsEntry xs shares (point k p) s)) → IsEntry xs shares (point k pos) share
+    → (p : ℕ) → p < pos + 1 → IfSome (slice_get new p) (λ s. IsEntry xs shares (point k p) s)
+entries_more k xs shares all new pos share is within before here =
+    subst (λ (l : List Share). (p : ℕ) → p < pos + 1 → IfSome (slice_get l p) (λ s. IsEntry xs shares (point k p) s)) (sym is)
+    (set_more (λ p s. IsEntry xs shares (point k p) s) all pos share within before here)
+
+-- a known share is the entry at its position
+pub known_entry : (k : ℕ) (xs known : List ℕ) (shares : List Share) (i pos : ℕ) (d : Share) → xs ≡ points_at k known → length known ≡ k → length shares ≡ k
+    → i < k → get_or known i 0 ≡ pos → IsEntry xs shares (point k pos) (get_or shares i d)
+known_entry k xs known shares i pos d are count same h own =
+    let long : length xs ≡ k = ap length are ∙ length-points_at k known ∙ count in
+    entry_copied xs shares i (point k pos) d (omega arith) (omega arith)
+    (ap (λ (l : List ℕ). get_or l i 0) are ∙ get_or-map (point k) known i 0 0 (omega arith) ∙ ap (point k) own)
