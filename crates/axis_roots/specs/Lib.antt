@@ -1,3 +1,4 @@
 pub mod Messages
 pub mod Openings
 pub mod Proved
+pub mod Grids

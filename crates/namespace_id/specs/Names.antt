@@ -36,6 +36,17 @@ is_parity name = bytes_eq name.0 parity.0
 abbrev pub primary_reserved_padding : Namespace
 primary_reserved_padding = record { 0 = replicate 28 0 ++ 0xFF ∷ [] }
 
+-- the namespaces of units: transactions (the id 1), and payments for blobs (the id 4)
+abbrev pub transaction : Namespace
+transaction = record { 0 = replicate 28 0 ++ 1 ∷ [] }
+
+abbrev pub pay_for_blob : Namespace
+pay_for_blob = record { 0 = replicate 28 0 ++ 4 ∷ [] }
+
+-- the namespace of the padding behind everything else: 28 bytes 0xFF, and 0xFE
+abbrev pub tail_padding : Namespace
+tail_padding = record { 0 = replicate 28 0xFF ++ 0xFE ∷ [] }
+
 -- whether all bytes are 0
 abbrev pub is_zeros : List ℕ → Bool
 is_zeros bytes = list_all (λ b. b == 0) bytes

@@ -16,5 +16,8 @@ pub use bytes::{are_bytes, put};
 pub use cells::{Axis, Cell, Cells, is_before, is_in_square, is_width, leaf_namespace};
 pub use digests::{Digest, are_digests, is_digest};
 pub use memory::NoMemory;
-pub use namespaces::{Namespace, NsError, PARITY, PRIMARY_RESERVED_PADDING, namespace_order};
+pub use namespaces::{
+    Namespace, NsError, PARITY, PAY_FOR_BLOB, PRIMARY_RESERVED_PADDING, TAIL_PADDING, TRANSACTION,
+    namespace_order,
+};
 pub use shares::{Share, are_shares, is_share};

@@ -24,6 +24,29 @@ pub const PRIMARY_RESERVED_PADDING: Namespace = Namespace([
     0, 0, 0, 0, 0, 0, 0, 0, 0, 0, 0, 0, 0, 0, 0, 0, 0, 0, 0, 0, 0, 0, 0, 0, 0, 0, 0, 0, 0xff,
 ]);
 
+/// The namespace of transactions: version 0, the id 1.
+///
+/// Celestia specifications, "Namespace".
+pub const TRANSACTION: Namespace = Namespace([
+    0, 0, 0, 0, 0, 0, 0, 0, 0, 0, 0, 0, 0, 0, 0, 0, 0, 0, 0, 0, 0, 0, 0, 0, 0, 0, 0, 0, 1,
+]);
+
+/// The namespace of payments for blobs: version 0, the id 4.
+///
+/// Celestia specifications, "Namespace".
+pub const PAY_FOR_BLOB: Namespace = Namespace([
+    0, 0, 0, 0, 0, 0, 0, 0, 0, 0, 0, 0, 0, 0, 0, 0, 0, 0, 0, 0, 0, 0, 0, 0, 0, 0, 0, 0, 4,
+]);
+
+/// The namespace of the padding behind everything else in a square: version 255, an id of 27 bytes
+/// 0xFF and then 0xFE.
+///
+/// Celestia specifications, "Namespace".
+pub const TAIL_PADDING: Namespace = Namespace([
+    0xff, 0xff, 0xff, 0xff, 0xff, 0xff, 0xff, 0xff, 0xff, 0xff, 0xff, 0xff, 0xff, 0xff, 0xff, 0xff,
+    0xff, 0xff, 0xff, 0xff, 0xff, 0xff, 0xff, 0xff, 0xff, 0xff, 0xff, 0xff, 0xfe,
+]);
+
 /// Why bytes are no namespace of a blob. The variants stand in the order in which they are tested.
 #[derive(Clone, Copy, Debug, PartialEq, Eq, Error)]
 pub enum NsError {

@@ -50,6 +50,11 @@ blob_shares_of name bytes =
     first_share name (length bytes) (take first_content bytes)
     ∷ later_shares (share_count (length bytes) - 1) name (drop first_content bytes)
 
+-- a blob as contracts see it
+pub record NamedBytes : Type 0 where
+  pub namespace : Namespace
+  pub bytes : List ℕ
+
 -- there is room for so many shares more
 abbrev pub HasRoom : Vec Share Global → ℕ → Type 0
 HasRoom out count = vec_len out + count ≤ vec_capacity out

@@ -1,2 +1,5 @@
 pub mod Widths
 pub mod Blobs
+pub mod Units
+pub mod Walks
+pub mod Joined

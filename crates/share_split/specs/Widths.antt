@@ -1,5 +1,5 @@
 -- How wide the subtrees over a blob's shares are (Celestia specifications, "Square Layout").
-use Rattle.std.specs.Prelude.{ℕ, ◌*◌, nat_le, Bool, ◌||◌}
+use Rattle.std.specs.Prelude.{ℕ, zero, suc, ◌*◌, nat_le, Bool, ◌||◌, if◌then◌else◌}
 
 -- so many subtrees of one width hold a blob, unless they would have to be wider than the least square
 -- that holds it
@@ -10,3 +10,14 @@ subtree_root_threshold = 64
 -- square of their width does
 abbrev pub is_wide_enough : ℕ → ℕ → Bool
 is_wide_enough count width = nat_le count (subtree_root_threshold * width) || nat_le count (width * width)
+
+-- the first of some widths, each twice the one before, that is wide enough
+unfoldable pub width_from : ℕ → ℕ → ℕ → ℕ
+width_from zero width count = width
+width_from (suc more) width count =
+    if is_wide_enough count width then width else width_from more (width * 2) count
+
+-- the width of the subtrees over so many shares: the least power of two that is wide enough, as 2 ^ 28
+-- is for every count up to 2 ^ 56
+abbrev pub width_of : ℕ → ℕ
+width_of count = width_from 28 1 count

@@ -4,6 +4,7 @@ ghost use Rattle.std.specs.Prelude.{◌≡◌, ◌+◌, ◌≤◌, ◌<◌, ◌+
 ghost use Rattle.share_split.specs.Blobs.{first_content, later_content, max_sequence_length, info, first_share, later_share, later_shares, share_count, blob_shares_of, HasRoom};
 
 use namespace_id::{Namespace, Share, put};
+use std::marker::Model;
 use thiserror::Error;
 
 /// The bytes of a share.
@@ -42,6 +43,23 @@ pub enum SplitError {
     /// There was no memory.
     #[error("out of memory")]
     NoMemory,
+}
+
+/// A blob: bytes under a namespace.
+///
+/// Celestia specifications, "Shares".
+#[derive(Debug, Drop)]
+pub struct Blob {
+    pub namespace: Namespace,
+    pub bytes: Vec<u8>,
+}
+
+impl Model for Blob {
+    ghost use Rattle.share_split.specs.Blobs.{NamedBytes};
+
+    ghost Value = { NamedBytes };
+
+    ghost view = { λ b. record { namespace = b.namespace; bytes = b.bytes.items } };
 }
 
 /// How many shares a blob of so many bytes takes.

@@ -6,10 +6,14 @@
 #![tactic(auto)]
 
 mod blobs;
+mod joining;
+mod units;
 mod widths;
 
 pub use blobs::{
-    FIRST_CONTENT, LATER_CONTENT, MAX_SEQUENCE_LENGTH, SHARE_SIZE, SplitError, blob_share_count,
-    blob_shares,
+    Blob, FIRST_CONTENT, LATER_CONTENT, MAX_SEQUENCE_LENGTH, SHARE_SIZE, SplitError,
+    blob_share_count, blob_shares,
 };
+pub use joining::JoinError;
+pub use units::{FIRST_COMPACT_CONTENT, LATER_COMPACT_CONTENT, Unit, unit_shares};
 pub use widths::{SUBTREE_ROOT_THRESHOLD, subtree_width};

@@ -1,0 +1,91 @@
+-- Extended squares, and the header that one has (Celestia specifications, "Data Structures";
+-- docs/RULES.md, "Extended squares").
+use Rattle.std.specs.Prelude.{◌≡◌, ◌<◌, ℕ, ◌+◌, ◌*◌, ◌&&◌, Bool, true, List, [], map, length, replicate, get_or, Option, Some, None, if◌then◌else◌}
+use Rattle.std.specs.List.{list_all}
+use Rattle.namespace_id.specs.declared.cells.Cell.{Cell}
+use Rattle.namespace_id.specs.declared.cells.Axis.{Axis}
+use Rattle.namespace_id.specs.declared.cells.Axis.TheVariants.{Row, Col}
+use Rattle.namespace_id.specs.declared.namespaces.Namespace.{Namespace}
+use Rattle.namespace_id.specs.declared.shares.Share.{Share}
+use Rattle.namespace_id.specs.declared.digests.Digest.{Digest}
+use Rattle.namespace_id.specs.Cells.{is_width, name_of}
+use Rattle.nmt_tree.specs.Roots.{halvings, root, is_ordered}
+use Rattle.data_header.specs.Headers.{Roots}
+use Rattle.leopard_code.specs.Codewords.{ascending, IsCodeword}
+use Rattle.square_layout.specs.Blocks.{SquareShares, IsSquare}
+
+-- a grid as contracts see it: its width k, and 4 * k * k shares, row-major
+pub record GridShares : Type 0 where
+  pub k : ℕ
+  pub shares : List Share
+
+pub record IsGrid (grid : GridShares) : Type 0 where
+  pub width : is_width grid.k ≡ true
+  pub count : length grid.shares ≡ 2 * grid.k * (2 * grid.k)
+
+-- ---- rows and columns
+
+-- 512 zeros
+unfoldable pub blank : Share
+blank = record { 0 = replicate 512 0 }
+
+-- the share of a cell in a row-major list with so many shares in a row
+abbrev pub share_at : ℕ → List Share → Cell → Share
+share_at in_row shares cell = get_or shares (cell.row * in_row + cell.col) blank
+
+-- the cell at a place of a row or a column
+abbrev pub cell_on : Axis → ℕ → ℕ → Cell
+cell_on Row index pos = record { row = index; col = pos }
+cell_on Col index pos = record { row = pos; col = index }
+
+-- the 2k cells of a row or a column, their shares, and the namespaces of the leaves over them
+unfoldable pub axis_cells : ℕ → Axis → ℕ → List Cell
+axis_cells k axis index = map (cell_on axis index) (ascending 0 (2 * k))
+
+abbrev pub axis_shares : ℕ → List Share → Axis → ℕ → List Share
+axis_shares k shares axis index = map (share_at (2 * k) shares) (axis_cells k axis index)
+
+abbrev pub axis_names : ℕ → List Share → Axis → ℕ → List Namespace
+axis_names k shares axis index =
+    map (λ cell. name_of k cell (share_at (2 * k) shares cell)) (axis_cells k axis index)
+
+-- ---- the extension of a square
+
+-- the square stands in the upper left quarter, and each row and each column is a codeword
+pub record Extends (k : ℕ) (square grid : List Share) : Type 0 where
+  pub size : length grid ≡ 2 * k * (2 * k)
+  pub quarter : (cell : Cell) → cell.row < k → cell.col < k → share_at (2 * k) grid cell ≡ share_at k square cell
+  pub codewords : (axis : Axis) (index : ℕ) → index < 2 * k → IsCodeword k (axis_shares k grid axis index)
+
+-- ---- headers
+
+-- whether the leaf namespaces of a row or a column never fall, and its root
+abbrev pub is_ordered_axis : ℕ → List Share → Axis → ℕ → Bool
+is_ordered_axis k shares axis index = is_ordered (axis_names k shares axis index)
+
+unfoldable pub axis_root : ℕ → List Share → Axis → ℕ → Digest
+axis_root k shares axis index =
+    root (halvings (2 * k)) (axis_names k shares axis index) (axis_shares k shares axis index)
+
+-- whether those of all rows and columns never fall, and the roots of all of one kind
+unfoldable pub are_ordered_axes : ℕ → List Share → Bool
+are_ordered_axes k shares =
+    list_all (is_ordered_axis k shares Row) (ascending 0 (2 * k))
+    && list_all (is_ordered_axis k shares Col) (ascending 0 (2 * k))
+
+abbrev pub axis_roots : ℕ → List Share → Axis → List Digest
+axis_roots k shares axis = map (axis_root k shares axis) (ascending 0 (2 * k))
+
+-- the header of a grid: the strict roots of all rows and columns, none where one of them has none
+abbrev pub header_of_grid : ℕ → List Share → Option Roots
+header_of_grid k shares =
+    if are_ordered_axes k shares
+    then Some (record { k = k; rows = axis_roots k shares Row; cols = axis_roots k shares Col })
+    else None
+
+-- the header of a square is that of its extension
+pub record IsHeaderOf (header : Roots) (square : SquareShares) : Type 0 where
+  pub whole : IsSquare square
+  pub grid : List Share
+  pub extends : Extends square.k square.shares grid
+  pub roots : header_of_grid square.k grid ≡ Some header

@@ -1,0 +1,60 @@
+-- Shares that are blobs, or units, and nothing else.
+use Rattle.std.specs.Prelude.{◌≡◌, ◌≢◌, ◌≤◌, ◌⊎◌, ℕ, List, [], ◌∷◌, length}
+use Rattle.std.specs.List.{flat_map, AllByRecursion}
+use Rattle.namespace_id.specs.declared.namespaces.Namespace.{Namespace}
+use Rattle.namespace_id.specs.declared.shares.Share.{Share}
+use Rattle.namespace_id.specs.Bytes.{AreBytes}
+use Rattle.namespace_id.specs.Names.{IsNamespace}
+use Rattle.share_split.specs.Blobs.{NamedBytes, max_sequence_length, first_share, blob_shares_of}
+use Rattle.share_split.specs.Units.{units_text, compact_shares}
+
+-- a padding share: the first of a sequence of length 0, and zeros
+abbrev pub padding_share : Namespace → Share
+padding_share name = first_share name 0 []
+
+-- ---- blobs
+
+-- what stands in a list of blobs' shares: a padding share, or the shares of a blob
+pub data Piece : Type 0 where
+  padding : (name : Namespace) → Piece
+  blob : (named : NamedBytes) → Piece
+
+abbrev pub piece_shares : Piece → List Share
+piece_shares (padding name) = padding_share name ∷ []
+piece_shares (blob named) = blob_shares_of named.namespace named.bytes
+
+abbrev pub piece_blobs : Piece → List NamedBytes
+piece_blobs (padding name) = []
+piece_blobs (blob named) = named ∷ []
+
+-- a blob has bytes, as many as four bytes state
+pub record IsBlob (named : NamedBytes) : Type 0 where
+  pub name : IsNamespace named.namespace
+  pub some : named.bytes ≢ []
+  pub few : length named.bytes ≤ max_sequence_length
+  pub fits : AreBytes named.bytes
+
+abbrev pub IsPiece : Piece → Type 0
+IsPiece (padding name) = IsNamespace name
+IsPiece (blob named) = IsBlob named
+
+-- shares that are these blobs, in their order, with padding shares before, between and behind them
+pub record AreBlobs (shares : List Share) (blobs : List NamedBytes) : Type 0 where
+  pub pieces : List Piece
+  pub are_pieces : AllByRecursion IsPiece pieces
+  pub parts : shares ≡ flat_map piece_shares pieces
+  pub shown : blobs ≡ flat_map piece_blobs pieces
+
+-- ---- units
+
+-- shares that are the one compact sequence of these units
+pub record AreCompact (shares : List Share) (units : List (List ℕ)) : Type 0 where
+  pub name : Namespace
+  pub name_is : IsNamespace name
+  pub few : length (units_text units) ≤ max_sequence_length
+  pub fits : AllByRecursion AreBytes units
+  pub parts : shares ≡ compact_shares name units
+
+-- shares that are these units: none, or their compact sequence, which has length 0 for no units
+abbrev pub AreUnits : List Share → List (List ℕ) → Type 0
+AreUnits shares units = ((shares ≡ []) × (units ≡ [])) ⊎ AreCompact shares units

@@ -1,0 +1,110 @@
+-- Units as compact shares (Celestia specifications, "Shares", transaction shares).
+use Rattle.std.specs.Prelude.{ℕ, zero, suc, ◌+◌, ◌-◌, ◌*◌, ◌/◌, ◌%◌, ◌==◌, nat_le, nat_lt, true, false, List, [], ◌∷◌, ◌++◌, length, take, drop, if◌then◌else◌}
+use Rattle.std.specs.List.{flat_map}
+use Rattle.std.specs.Int.{w32, to_be_bytes, div_ceil}
+use Rattle.namespace_id.specs.declared.namespaces.Namespace.{Namespace}
+use Rattle.namespace_id.specs.declared.shares.Share.{Share}
+use Rattle.share_split.specs.Blobs.{info, filled}
+
+-- the content of the first compact share, and of a later one, in bytes: four reserved bytes come before
+-- it
+abbrev pub first_compact_content : ℕ
+first_compact_content = 474
+
+abbrev pub later_compact_content : ℕ
+later_compact_content = 478
+
+-- ---- the text of units
+
+-- a number as an unsigned varint of at most so many bytes: seven bits in each, the lowest first, and
+-- the upper bit set where another follows
+unfoldable pub varint_within : ℕ → ℕ → List ℕ
+varint_within zero n = []
+varint_within (suc more) n =
+    if nat_lt n 128 then n ∷ [] else (n % 128 + 128) ∷ varint_within more (n / 128)
+
+-- the shortest varint of a length; ten bytes hold every length that a machine counts
+abbrev pub varint : ℕ → List ℕ
+varint n = varint_within 10 n
+
+-- a unit behind its length
+abbrev pub unit_text : List ℕ → List ℕ
+unit_text unit = varint (length unit) ++ unit
+
+-- units, one after another
+abbrev pub units_text : List (List ℕ) → List ℕ
+units_text units = flat_map unit_text units
+
+-- where units start in their text, if the first starts at `at`: at the length before each
+unfoldable pub starts_from : ℕ → List (List ℕ) → List ℕ
+starts_from at [] = []
+starts_from at (unit ∷ units) = at ∷ starts_from (at + length (unit_text unit)) units
+
+-- ---- compact shares
+
+-- where the content of share i of a sequence begins in the text
+abbrev pub content_start : ℕ → ℕ
+content_start i =
+    if i == 0 then 0 else first_compact_content + later_compact_content * (i - 1)
+
+-- the place of the content in share i
+abbrev pub content_place : ℕ → ℕ
+content_place i = if i == 0 then 38 else 34
+
+-- the place, in a share whose content has this place and goes from `from` to `to` in the text, of the
+-- first unit that starts in it; 0 where none does. Starts are ascending
+unfoldable pub first_start : ℕ → ℕ → ℕ → List ℕ → ℕ
+first_start place from to [] = 0
+first_start place from to (start ∷ starts) =
+    if nat_lt start from then first_start place from to starts else
+    (if nat_lt start to then place + (start - from) else 0)
+
+-- the number that the reserved bytes of share i state, where units start at these places of the text
+abbrev pub reserved_of : ℕ → List ℕ → ℕ
+reserved_of i starts =
+    first_start (content_place i) (content_start i) (content_start (suc i)) starts
+
+-- the first compact share of a sequence: namespace, info byte, length of the sequence, reserved bytes,
+-- content
+unfoldable pub first_compact_share : Namespace → ℕ → ℕ → List ℕ → Share
+first_compact_share name size reserved content = record {
+  0 = name.0 ++ info 0 true ∷ to_be_bytes w32 size ++ to_be_bytes w32 reserved
+      ++ filled first_compact_content content;
+}
+
+-- a later compact share: namespace, info byte, reserved bytes, content
+unfoldable pub later_compact_share : Namespace → ℕ → List ℕ → Share
+later_compact_share name reserved content = record {
+  0 = name.0 ++ info 0 false ∷ to_be_bytes w32 reserved ++ filled later_compact_content content;
+}
+
+-- so many later compact shares, from share i on, over what is left of the text
+unfoldable pub later_compact_shares : ℕ → Namespace → ℕ → List ℕ → List ℕ → List Share
+later_compact_shares zero name i starts text = []
+later_compact_shares (suc count) name i starts text =
+    later_compact_share name (reserved_of i starts) (take later_compact_content text)
+    ∷ later_compact_shares count name (suc i) starts (drop later_compact_content text)
+
+-- how many compact shares a text of this length takes
+abbrev pub compact_count : ℕ → ℕ
+compact_count size =
+    if nat_le size first_compact_content then 1 else
+    1 + div_ceil (size - first_compact_content) later_compact_content
+
+-- the one compact sequence of these units, of length 0 where there are none
+abbrev pub compact_shares : Namespace → List (List ℕ) → List Share
+compact_shares name units =
+    first_compact_share name (length (units_text units)) (reserved_of 0 (starts_from 0 units))
+    (take first_compact_content (units_text units))
+    ∷ later_compact_shares (compact_count (length (units_text units)) - 1) name 1 (starts_from 0 units)
+    (drop first_compact_content (units_text units))
+
+-- the compact shares of units: no shares for no units
+abbrev pub unit_shares_of : Namespace → List (List ℕ) → List Share
+unit_shares_of name [] = []
+unit_shares_of name (unit ∷ units) = compact_shares name (unit ∷ units)
+
+-- how many shares units take
+abbrev pub unit_share_count : List (List ℕ) → ℕ
+unit_share_count [] = 0
+unit_share_count (unit ∷ units) = compact_count (length (units_text (unit ∷ units)))

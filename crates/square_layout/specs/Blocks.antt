@@ -1,0 +1,21 @@
+-- Blocks and squares as contracts see them.
+use Rattle.std.specs.Prelude.{◌≡◌, ℕ, ◌*◌, List, length, Bool, true, Option}
+use Rattle.namespace_id.specs.declared.shares.Share.{Share}
+use Rattle.namespace_id.specs.Cells.{is_width}
+use Rattle.share_split.specs.Blobs.{NamedBytes}
+
+-- a block: units of transactions, units of payments for blobs, blobs, and the width that it asks for
+pub record BlockParts : Type 0 where
+  pub units : List (List ℕ)
+  pub pay_units : List (List ℕ)
+  pub blobs : List NamedBytes
+  pub width : Option ℕ
+
+-- a square: its width k, and k * k shares, row-major
+pub record SquareShares : Type 0 where
+  pub k : ℕ
+  pub shares : List Share
+
+pub record IsSquare (square : SquareShares) : Type 0 where
+  pub width : is_width square.k ≡ true
+  pub count : length square.shares ≡ square.k * square.k

@@ -1,0 +1,89 @@
+-- Where the shares of a block stand in its square (Celestia specifications, "Square Layout").
+use Rattle.std.specs.Prelude.{ℕ, zero, suc, ◌+◌, ◌-◌, ◌*◌, ◌==◌, nat_le, nat_lt, ◌||◌, not, Bool, List, [], ◌∷◌, ◌++◌, length, replicate, Option, Some, None, if◌then◌else◌}
+use Rattle.std.specs.Int.{div_ceil}
+use Rattle.std.specs.Option.{option_map_or}
+use Rattle.namespace_id.specs.declared.namespaces.Namespace.{Namespace}
+use Rattle.namespace_id.specs.declared.shares.Share.{Share}
+use Rattle.namespace_id.specs.Names.{is_at_most, transaction, pay_for_blob, primary_reserved_padding, tail_padding}
+use Rattle.share_split.specs.Widths.{width_of}
+use Rattle.share_split.specs.Blobs.{NamedBytes, share_count, blob_shares_of}
+use Rattle.share_split.specs.Units.{unit_shares_of, unit_share_count}
+use Rattle.share_split.specs.Joined.{padding_share}
+use Rattle.square_layout.specs.Blocks.{BlockParts, SquareShares}
+
+-- ---- the order of blobs
+
+-- a blob among blobs that are in order and came after it: before the first whose namespace isn't smaller
+unfoldable pub put_in : NamedBytes → List NamedBytes → List NamedBytes
+put_in blob [] = blob ∷ []
+put_in blob (other ∷ others) =
+    if is_at_most blob.namespace other.namespace then blob ∷ other ∷ others else
+    other ∷ put_in blob others
+
+-- blobs by ascending namespace, and within one namespace as they came
+unfoldable pub in_order : List NamedBytes → List NamedBytes
+in_order [] = []
+in_order (blob ∷ blobs) = put_in blob (in_order blobs)
+
+-- ---- their places
+
+-- how many shares a blob takes
+abbrev pub shares_of : NamedBytes → ℕ
+shares_of blob = share_count (length blob.bytes)
+
+-- where a blob starts if what precedes it ends at `end`: at the least multiple of the width of its
+-- subtrees that isn't below
+abbrev pub start_after : ℕ → NamedBytes → ℕ
+start_after end blob = div_ceil end (width_of (shares_of blob)) * width_of (shares_of blob)
+
+-- the shares of blobs, each behind the padding before it, from place `end` on; the padding has the
+-- namespace of the blob before it
+unfoldable pub placed : Namespace → ℕ → List NamedBytes → List Share
+placed name end [] = []
+placed name end (blob ∷ blobs) =
+    replicate (start_after end blob - end) (padding_share name)
+    ++ blob_shares_of blob.namespace blob.bytes
+    ++ placed blob.namespace (start_after end blob + shares_of blob) blobs
+
+-- where the last blob ends
+unfoldable pub end_of : ℕ → List NamedBytes → ℕ
+end_of end [] = end
+end_of end (blob ∷ blobs) = end_of (start_after end blob + shares_of blob) blobs
+
+-- ---- the square
+
+-- the compact shares of transactions, then those of payments for blobs
+abbrev pub compact_part : BlockParts → List Share
+compact_part block = unit_shares_of transaction block.units ++ unit_shares_of pay_for_blob block.pay_units
+
+abbrev pub compact_end : BlockParts → ℕ
+compact_end block = unit_share_count block.units + unit_share_count block.pay_units
+
+-- all shares but the padding behind them
+abbrev pub laid : BlockParts → List Share
+laid block =
+    compact_part block ++ placed primary_reserved_padding (compact_end block) (in_order block.blobs)
+
+-- how many shares the layout has: up to the end of its last compact share or blob, and 1 for an empty block
+abbrev pub needed : BlockParts → ℕ
+needed block =
+    if end_of (compact_end block) (in_order block.blobs) == 0 then 1 else
+    end_of (compact_end block) (in_order block.blobs)
+
+-- the least of some widths, each twice the one before, whose square holds so many shares
+unfoldable pub holding_from : ℕ → ℕ → ℕ → ℕ
+holding_from zero k count = k
+holding_from (suc more) k count =
+    if nat_le count (k * k) then k else holding_from more (2 * k) count
+
+-- the width of the square: the least whose square holds the layout, or the one that is asked for
+abbrev pub width_for : BlockParts → ℕ
+width_for block = option_map_or (λ k. k) block.width (holding_from 7 1 (needed block))
+
+-- the square of a block: the layout, and tail padding behind it
+abbrev pub square_of : BlockParts → SquareShares
+square_of block = record {
+  k = width_for block;
+  shares = laid block
+      ++ replicate (width_for block * width_for block - length (laid block)) (padding_share tail_padding);
+}
