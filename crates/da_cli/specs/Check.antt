@@ -1,5 +1,5 @@
 -- check HEADER MESSAGES: which messages of a list of frames are proved under a header.
-use Rattle.std.specs.Prelude.{◌≡◌, ℕ, List, [], ◌∷◌, codes, Bool, true, false, Option, Some, None, Result, Ok, Err, MatchResult, ◌==◌, ⊤, if◌then◌else◌}
+use Rattle.std.specs.Prelude.{◌≡◌, ℕ, List, [], ◌∷◌, codes, Bool, true, false, Option, Some, None, MatchResult, ◌==◌, if◌then◌else◌}
 use Rattle.std.specs.List.{flat_map, list_all}
 use Rattle.std.specs.Option.{option_map_or}
 use Rattle.data_header.specs.Headers.{Roots}
@@ -7,50 +7,16 @@ use Rattle.axis_roots.specs.declared.messages.Message as sent
 use Rattle.axis_roots.specs.declared.messages.CheckRefusal.TheVariants.{OutOfSquare, NodeCount, Unordered, OtherRoot}
 use Rattle.axis_roots.specs.Messages.{refusal_of}
 use Rattle.axis_roots.specs.Openings.{IsProved}
-use Rattle.da_wire.specs.declared.frames.Frame.{Frame}
-use Rattle.da_wire.specs.declared.frames.Frame.TheVariants.{Header, Message, Missing, Sample, Request}
-use Rattle.da_wire.specs.declared.frames.FrameError.{FrameError}
-use Rattle.da_wire.specs.declared.frames.FrameError.TheVariants.{Truncated, BadKind, TooLong, BadPayload, Trailing, NoMemory}
-use Rattle.da_wire.specs.Spelling.{header_kind, message_kind}
-use Rattle.da_wire.specs.Reading.{Raw, message_at, only_of}
+use Rattle.da_wire.specs.Spelling.{message_kind}
+use Rattle.da_wire.specs.Reading.{Raw, message_at}
 use Rattle.da_wire.specs.Frames.{frames_of, bad_frame}
 use Rattle.da_cli.specs.declared.status.Status.{Status}
 use Rattle.da_cli.specs.declared.status.Status.TheVariants.{Done, Refused}
 use Rattle.da_cli.specs.declared.checking.Finding.{Finding}
 use Rattle.da_cli.specs.declared.checking.Finding.TheVariants as found
-use Rattle.da_cli.specs.declared.checking.Unread.{Unread}
-use Rattle.da_cli.specs.declared.checking.Unread.TheVariants as unread
 use Rattle.da_cli.specs.Gathered.{file_of}
+use Rattle.da_cli.specs.Single.{header_in, error_of}
 use Rattle.da_cli.specs.Outcome.{Relation}
-
--- ---- the first file
-
--- where a file stops being one frame
-abbrev pub offset_of : FrameError → ℕ
-offset_of (Truncated at) = at
-offset_of (BadKind at) = at
-offset_of (TooLong at) = at
-offset_of (BadPayload at) = at
-offset_of (Trailing at) = at
-offset_of NoMemory = 0
-
--- the header that a file is, or where it stops being one
-abbrev pub header_by : Result Frame FrameError → Result Roots ℕ
-header_by (Err e) = Err (offset_of e)
-header_by (Ok (Header h)) = Ok h
-header_by (Ok (Message m)) = Err 0
-header_by (Ok (Missing cells)) = Err 0
-header_by (Ok (Sample cell axis)) = Err 0
-header_by (Ok (Request name)) = Err 0
-
-abbrev pub header_in : List ℕ → Result Roots ℕ
-header_in bytes = header_by (only_of bytes (header_kind ∷ []))
-
--- what a call answered is what the file is, unless memory ran out
-abbrev pub ReadsHeader : Result Roots Unread → Result Roots ℕ → Type 0
-ReadsHeader (Ok h) read = read ≡ Ok h
-ReadsHeader (Err (unread.BadForm at)) read = read ≡ Err at
-ReadsHeader (Err unread.NoMemory) read = ⊤
 
 -- ---- the second file
 
@@ -92,10 +58,6 @@ abbrev pub IsProvedFrame : Roots → Raw → Type 0
 IsProvedFrame header frame = (m : sent.Message) × (message_in frame ≡ Some m) × IsProved header m
 
 -- ---- the command
-
-abbrev pub error_of : {A : Type 0} → Result A ℕ → Option ℕ
-error_of (Ok x) = None
-error_of (Err at) = Some at
 
 -- the first file is a header and nothing else, and the second a list of frames
 abbrev pub check_judged : List (List ℕ) → List (Option ℕ)

@@ -4,7 +4,7 @@ use Rattle.da_io.specs.Files.{Files}
 use Rattle.da_cli.specs.declared.words.Call.{Call}
 use Rattle.da_cli.specs.declared.status.Status.{Status}
 use Rattle.da_cli.specs.declared.status.Status.TheVariants.{BadInput, TooLong}
-use Rattle.da_cli.specs.Statuses.{Kind, usage, fault, excess, form, memory, write, output, kind_of}
+use Rattle.da_cli.specs.Statuses.{Kind, usage, fault, excess, form, request, memory, write, output, kind_of}
 use Rattle.da_cli.specs.Words.{call_of, file_words}
 use Rattle.da_cli.specs.Gathered.{gathered, whole, long, absent}
 use Rattle.da_cli.specs.Outcome.{Refuses}
@@ -44,6 +44,7 @@ IsDecided usage = Unit {0}
 IsDecided fault = ⊥
 IsDecided excess = Unit {0}
 IsDecided form = Unit {0}
+IsDecided request = Unit {0}
 IsDecided memory = ⊥
 IsDecided write = ⊥
 IsDecided output = Unit {0}

@@ -4,7 +4,9 @@ pub mod Statuses
 pub mod Gathered
 pub mod Outcome
 pub mod Judging
+pub mod Single
 pub mod Check
+pub mod Squares
 pub mod Meaning
 pub mod Run
 pub mod Notes

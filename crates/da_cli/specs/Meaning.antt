@@ -2,18 +2,23 @@
 use Rattle.std.specs.Prelude.{ℕ, List}
 use Rattle.std.specs.declared.option.Option.{Option}
 use Rattle.da_cli.specs.declared.words.Command.{Command}
-use Rattle.da_cli.specs.declared.words.Command.TheVariants.{Check}
+use Rattle.da_cli.specs.declared.words.Command.TheVariants.{Check, Build, Header}
 use Rattle.da_cli.specs.Outcome.{Relation}
 use Rattle.da_cli.specs.Judging.{Judged}
 use Rattle.da_cli.specs.Check.{check_judged, CheckOf}
+use Rattle.da_cli.specs.Squares.{build_judged, BuildOf, header_judged, HeaderOf}
 
 -- of each file where it leaves its form, if it does
 abbrev pub judged_of : Command → List (List ℕ) → List (Option ℕ)
 judged_of Check files = check_judged files
+judged_of Build files = build_judged files
+judged_of Header files = header_judged files
 
 -- the answer over files in their forms
 abbrev pub AnswerOf : Command → List (List ℕ) → Relation
 AnswerOf Check files = CheckOf files
+AnswerOf Build files = BuildOf files
+AnswerOf Header files = HeaderOf files
 
 abbrev pub Meaning : Command → List (List ℕ) → Relation
 Meaning command files = Judged (judged_of command files) (AnswerOf command files)

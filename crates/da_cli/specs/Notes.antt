@@ -4,9 +4,35 @@ use Rattle.std.specs.declared.option.Option.{Option}
 use Rattle.std.specs.Io.KnownBytes.{Appends}
 use Rattle.da_io.specs.Faults.{count_on}
 use Rattle.da_io.specs.Sinks.{AppendsPart}
+use Rattle.namespace_id.specs.declared.namespaces.NsError.{NsError}
+use Rattle.namespace_id.specs.declared.namespaces.NsError.TheVariants.{Length, Version, Prefix, Reserved}
+use Rattle.square_layout.specs.declared.laying.LayError.{LayError}
+use Rattle.square_layout.specs.declared.laying.LayError.TheVariants as lay
+use Rattle.da_cli.specs.declared.status.Asked.{Asked}
+use Rattle.da_cli.specs.declared.status.Asked.TheVariants.{NoHeader}
 use Rattle.da_cli.specs.declared.status.Status.{Status}
-use Rattle.da_cli.specs.declared.status.Status.TheVariants.{Done, Usage, PickFault, ReadFault, WriteFault, NoMemory, BadInput, TooLong, Refused}
+use Rattle.da_cli.specs.declared.status.Status.TheVariants.{Done, Usage, PickFault, ReadFault, WriteFault, NoMemory, BadInput, TooLong, BadBlock, BadRequest, Refused}
 
+-- the numbers of the refusals of a namespace
+abbrev pub number_of : NsError → ℕ
+number_of Length = 1
+number_of Version = 2
+number_of Prefix = 3
+number_of Reserved = 4
+
+-- why a block can't be laid out: the number of the refusal, and what it tells
+abbrev pub block_note : LayError → List ℕ
+block_note (lay.BadBlob i why) = codes "1 " ++ decimal i ++ codes " " ++ decimal (number_of why)
+block_note (lay.EmptyBlob i) = codes "2 " ++ decimal i
+block_note (lay.TooLarge needed) = codes "3 " ++ decimal needed
+block_note (lay.WidthTooSmall needed) = codes "4 " ++ decimal needed
+block_note lay.BadWidth = codes "5"
+block_note lay.NoMemory = codes "6"
+
+abbrev pub request_note : Asked → List ℕ
+request_note NoHeader = codes "no header"
+
+-- the line of a status
 abbrev pub note_of : Status → List ℕ
 note_of Done = []
 note_of Usage = codes "usage: da COMMAND WORDS\n"
@@ -16,6 +42,8 @@ note_of WriteFault = codes "cannot write\n"
 note_of NoMemory = codes "out of memory\n"
 note_of (BadInput i at) = codes "bad input: file " ++ decimal i ++ codes " at " ++ decimal at ++ codes "\n"
 note_of (TooLong i) = codes "too long: file " ++ decimal i ++ codes "\n"
+note_of (BadBlock why) = codes "bad block: " ++ block_note why ++ codes "\n"
+note_of (BadRequest why) = codes "bad request: " ++ request_note why ++ codes "\n"
 note_of Refused = codes "refused\n"
 
 -- the line was taken, or a proper prefix of it where a write failed

@@ -7,9 +7,9 @@ use Rattle.da_io.specs.declared.inputs.Ended.TheVariants as ended
 use Rattle.da_io.specs.Files.{Files}
 use Rattle.da_io.specs.Sinks.{AppendsPart}
 use Rattle.da_cli.specs.declared.status.Status.{Status}
-use Rattle.da_cli.specs.declared.status.Status.TheVariants.{Done, Usage, PickFault, ReadFault, WriteFault, NoMemory, BadInput, TooLong, Refused}
+use Rattle.da_cli.specs.declared.status.Status.TheVariants.{Done, Usage, PickFault, ReadFault, WriteFault, NoMemory, BadInput, TooLong, BadBlock, BadRequest, Refused}
 use Rattle.da_cli.specs.Limits.{file_limit}
-use Rattle.da_cli.specs.Statuses.{Kind, usage, fault, excess, form, memory, write, output, kind_of, output_count}
+use Rattle.da_cli.specs.Statuses.{Kind, usage, fault, excess, form, request, memory, write, output, kind_of, output_count}
 use Rattle.da_cli.specs.Gathered.{IsWord, AllRead}
 
 -- which outputs and statuses belong together
@@ -40,6 +40,7 @@ AnswersBy usage M old new status = Outputs M old new status
 AnswersBy fault M old new status = ⊤
 AnswersBy excess M old new status = Outputs M old new status
 AnswersBy form M old new status = Outputs M old new status
+AnswersBy request M old new status = Outputs M old new status
 AnswersBy memory M old new status = OutputsFront M old new
 AnswersBy write M old new status = OutputsPart M old new
 AnswersBy output M old new status = Outputs M old new status
@@ -53,6 +54,7 @@ UntouchedBy usage Same = Same
 UntouchedBy fault Same = Same
 UntouchedBy excess Same = Same
 UntouchedBy form Same = Same
+UntouchedBy request Same = Same
 UntouchedBy memory Same = ⊤
 UntouchedBy write Same = ⊤
 UntouchedBy output Same = ⊤
@@ -71,6 +73,8 @@ FaultCause told names picked last WriteFault = ⊤
 FaultCause told names picked last NoMemory = ⊤
 FaultCause told names picked last (BadInput i at) = ⊤
 FaultCause told names picked last (TooLong i) = ⊤
+FaultCause told names picked last (BadBlock why) = ⊤
+FaultCause told names picked last (BadRequest why) = ⊤
 FaultCause told names picked last Refused = ⊤
 
 -- the file word with that number gave more than the limit, and each file before it was read whole;
@@ -82,6 +86,8 @@ ExcessCause told names picked given (ReadFault i) = given ≤ file_limit
 ExcessCause told names picked given Done = 0 < length names → given ≤ file_limit
 ExcessCause told names picked given WriteFault = 0 < length names → given ≤ file_limit
 ExcessCause told names picked given (BadInput i at) = 0 < length names → given ≤ file_limit
+ExcessCause told names picked given (BadBlock why) = 0 < length names → given ≤ file_limit
+ExcessCause told names picked given (BadRequest why) = 0 < length names → given ≤ file_limit
 ExcessCause told names picked given Refused = 0 < length names → given ≤ file_limit
 ExcessCause told names picked given Usage = ⊤
 ExcessCause told names picked given NoMemory = ⊤
@@ -92,6 +98,7 @@ IsOwnBy usage = ⊥
 IsOwnBy fault = ⊥
 IsOwnBy excess = ⊥
 IsOwnBy form = ⊤
+IsOwnBy request = ⊤
 IsOwnBy memory = ⊤
 IsOwnBy write = ⊤
 IsOwnBy output = ⊤

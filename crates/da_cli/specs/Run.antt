@@ -8,7 +8,7 @@ use Rattle.da_cli.specs.declared.status.Status.{Status}
 use Rattle.da_cli.specs.declared.status.Status.TheVariants.{Usage, PickFault, ReadFault, TooLong, NoMemory}
 use Rattle.da_cli.specs.declared.gathering.Stop.{Stop}
 use Rattle.da_cli.specs.declared.gathering.Stop.TheVariants as stop
-use Rattle.da_cli.specs.Statuses.{Kind, usage, fault, excess, form, memory, write, output, kind_of}
+use Rattle.da_cli.specs.Statuses.{Kind, usage, fault, excess, form, request, memory, write, output, kind_of}
 use Rattle.da_cli.specs.Words.{call_of, file_words}
 use Rattle.da_cli.specs.Gathered.{Gathered, whole, long, absent, gathered}
 use Rattle.da_cli.specs.Outcome.{Relation, Refuses, Outputs, OutputsPart, OutputsFront, Answers}
@@ -41,6 +41,7 @@ CompletesBy usage M old new status = ⊥
 CompletesBy fault M old new status = ⊤
 CompletesBy excess M old new status = ⊥
 CompletesBy form M old new status = ⊥
+CompletesBy request M old new status = Outputs M old new status
 CompletesBy memory M old new status = OutputsFront M old new
 CompletesBy write M old new status = OutputsPart M old new
 CompletesBy output M old new status = Outputs M old new status

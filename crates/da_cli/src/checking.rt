@@ -6,24 +6,18 @@ ghost use Rattle.da_wire.specs.Reading.{raw_seen};
 ghost use Rattle.da_wire.specs.Frames.{frames_of};
 ghost use Rattle.da_cli.specs.declared.words.Command.TheVariants.{Check};
 ghost use Rattle.da_cli.specs.Gathered.{contents_of};
-ghost use Rattle.da_cli.specs.Check.{header_in, finding_of, line_of, is_ok, Lists, ReadsHeader};
+ghost use Rattle.da_cli.specs.Check.{finding_of, line_of, is_ok, Lists};
 ghost use Rattle.da_cli.specs.Meaning.{Meaning};
 ghost use Rattle.da_cli.specs.Outcome.{Ends};
 
 use crate::Status;
 use crate::files::file;
+use crate::single::{Unread, header_in};
 use axis_roots::{CheckRefusal, opens};
 use da_io::{Sink, write_all};
-use da_wire::{Frame, FrameError, RawFrame, bad_frame, message, next_frame, read_only};
+use da_wire::{RawFrame, bad_frame, message, next_frame};
 use data_header::Header;
 use std::alloc::Global;
-
-/// Why a file is not read as a header.
-enum Unread {
-    /// It isn't one from this offset on.
-    BadForm(u64),
-    NoMemory,
-}
 
 /// What is found of a frame.
 #[derive(Clone, Copy)]
@@ -32,22 +26,6 @@ enum Finding {
     /// It is no message of the grammar.
     NoMessage,
     Refused(CheckRefusal),
-}
-
-/// The header that a file is.
-fn header_in(alloc: Global, bytes: &[u8]) -> Result<Header, Unread>
-    ensures { ReadsHeader result (header_in bytes.now) }
-{
-    match read_only(alloc, bytes, b"H") {
-        Ok(Frame::Header(header)) => Ok(header),
-        Ok(_) => Err(Unread::BadForm(0)),
-        Err(FrameError::Truncated(at)) => Err(Unread::BadForm(at)),
-        Err(FrameError::BadKind(at)) => Err(Unread::BadForm(at)),
-        Err(FrameError::TooLong(at)) => Err(Unread::BadForm(at)),
-        Err(FrameError::BadPayload(at)) => Err(Unread::BadForm(at)),
-        Err(FrameError::Trailing(at)) => Err(Unread::BadForm(at)),
-        Err(FrameError::NoMemory) => Err(Unread::NoMemory),
-    }
 }
 
 /// What is found of a frame under a header.

@@ -11,6 +11,8 @@ mod laws;
 mod line;
 mod output;
 mod running;
+mod single;
+mod squares;
 mod status;
 #[cfg(test)]
 mod tests;
@@ -19,4 +21,4 @@ mod words;
 pub use gathering::FILE_LIMIT;
 pub use laws::run_laws;
 pub use running::run;
-pub use status::Status;
+pub use status::{Asked, Status};

@@ -1,11 +1,13 @@
 //! The line that goes with a status.
 
 ghost use Rattle.std.specs.Prelude.{◌≡◌, ℕ, ◌+◌, ◌≤◌, ◌++◌, length, decimal};
-ghost use Rattle.da_cli.specs.Notes.{note_of, Notes};
+ghost use Rattle.da_cli.specs.Notes.{number_of, block_note, note_of, Notes};
 
-use crate::Status;
+use crate::{Asked, Status};
 use crate::line::Line;
 use da_io::{Sink, write_all};
+use namespace_id::NsError;
+use square_layout::LayError;
 
 /// Puts a number between two texts.
 #[tactic(auto, using(crate::proofs::DigitLemmas::digits_fit))]
@@ -16,6 +18,37 @@ fn around(line: &mut Line, front: &[u8], number: u64, back: &[u8])
     line.put(front);
     line.put_number(number);
     line.put(back);
+}
+
+/// The number of a refusal of a namespace.
+fn number_of(why: NsError) -> u64
+    ensures { result ≡ number_of why }
+{
+    match why {
+        NsError::Length => 1,
+        NsError::Version => 2,
+        NsError::Prefix => 3,
+        NsError::Reserved => 4,
+    }
+}
+
+/// The line of a block that can't be laid out.
+#[tactic(auto, using(crate::proofs::DigitLemmas::digits_fit))]
+fn note_block(line: &mut Line, why: LayError)
+    requires { length line.old ≤ 11 }
+    ensures { line.new ≡ line.old ++ block_note why }
+{
+    match why {
+        LayError::BadBlob(i, why) => {
+            around(line, b"1 ", i, b" ");
+            around(line, b"", number_of(why), b"");
+        }
+        LayError::EmptyBlob(i) => around(line, b"2 ", i, b""),
+        LayError::TooLarge(needed) => around(line, b"3 ", needed, b""),
+        LayError::WidthTooSmall(needed) => around(line, b"4 ", needed, b""),
+        LayError::BadWidth => line.put(b"5"),
+        LayError::NoMemory => line.put(b"6"),
+    }
 }
 
 /// The line that goes with a status. It takes no memory.
@@ -36,6 +69,12 @@ fn note_of(status: Status) -> Line
             around(&mut line, b"", at, b"\n");
         }
         Status::TooLong(i) => around(&mut line, b"too long: file ", u64::from(i), b"\n"),
+        Status::BadBlock(why) => {
+            line.put(b"bad block: ");
+            note_block(&mut line, why);
+            line.put(b"\n");
+        }
+        Status::BadRequest(Asked::NoHeader) => line.put(b"bad request: no header\n"),
         Status::Refused => line.put(b"refused\n"),
     }
     line

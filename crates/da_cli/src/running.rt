@@ -14,6 +14,7 @@ use crate::Status;
 use crate::checking::check;
 use crate::gathering::{Stop, gather};
 use crate::output::note;
+use crate::squares::{build, header};
 use crate::words::{Command, call_of};
 use da_io::{Inputs, Sink};
 use std::alloc::Global;
@@ -37,6 +38,8 @@ fn execute<O: Sink>(alloc: Global, command: Command, files: &[Vec<u8>], out: &mu
 {
     match command {
         Command::Check => check(alloc, files, out),
+        Command::Build => build(alloc, files, out),
+        Command::Header => header(alloc, files, out),
     }
 }
 

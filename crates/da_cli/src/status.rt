@@ -3,6 +3,15 @@
 ghost use Rattle.std.specs.Prelude.{◌≡◌};
 ghost use Rattle.da_cli.specs.Statuses.{number_of};
 
+use square_layout::LayError;
+
+/// Why what the files ask for can't be answered.
+#[derive(Clone, Copy, Debug, PartialEq, Eq)]
+pub enum Asked {
+    /// The square has no header: the namespaces of a row or a column of its extension fall somewhere.
+    NoHeader,
+}
+
 /// How a run ended. Files are numbered from 0 among the words that name files; `at` is an offset in
 /// bytes.
 #[derive(Clone, Copy, Debug, PartialEq, Eq)]
@@ -23,6 +32,10 @@ pub enum Status {
     BadInput(u32, u64),
     /// This file has more bytes than `FILE_LIMIT`.
     TooLong(u32),
+    /// The block can't be laid out as a square.
+    BadBlock(LayError),
+    /// What the files ask for can't be answered.
+    BadRequest(Asked),
     /// The output is complete, and a line of it is a refusal.
     Refused,
 }
@@ -41,6 +54,8 @@ impl Status {
             Status::NoMemory => 5,
             Status::BadInput(..) => 6,
             Status::TooLong(_) => 7,
+            Status::BadBlock(_) => 8,
+            Status::BadRequest(_) => 9,
             Status::Refused => 13,
         }
     }

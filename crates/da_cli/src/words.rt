@@ -8,6 +8,10 @@ ghost use Rattle.da_cli.specs.Words.{words_of, is_command, call_of};
 pub(crate) enum Command {
     /// `check HEADER MESSAGES`
     Check,
+    /// `build BLOCK`
+    Build,
+    /// `header SQUARE`
+    Header,
 }
 
 /// A command, and how many of the words after its own name files. These come first.
@@ -37,6 +41,18 @@ pub(crate) fn call_of(words: &[String]) -> Option<Call>
         return Some(Call {
             command: Command::Check,
             files: 2,
+        });
+    }
+    if is_command(words, "build", 1) {
+        return Some(Call {
+            command: Command::Build,
+            files: 1,
+        });
+    }
+    if is_command(words, "header", 1) {
+        return Some(Call {
+            command: Command::Header,
+            files: 1,
         });
     }
     None
