@@ -4,3 +4,7 @@ pub mod ValueLemmas
 pub mod CauseLemmas
 pub mod ShadowLemmas
 pub mod PublicLemmas
+pub mod DigestLemmas
+pub mod AgreeLemmas
+pub mod WholeLemmas
+pub mod ShownLemmas
