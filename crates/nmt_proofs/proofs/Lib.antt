@@ -8,3 +8,5 @@ pub mod DigestLemmas
 pub mod AgreeLemmas
 pub mod WholeLemmas
 pub mod ShownLemmas
+pub mod ListedLemmas
+pub mod TwinLemmas

@@ -1,12 +1,12 @@
 -- What is opened: its digests are sized, and its leaves stand at depth 0.
-use Rattle.std.proofs.Common.{◌≡◌, ◌∙◌, ℕ, zero, suc, ◌+◌, ◌^◌, ◌<◌, ◌≤◌, List, [], ◌∷◌, ◌++◌, length, take, drop, get_or, Bool, true, false, ◌==◌, cond, refl, sym, ap, subst, inl, inr, arith, length-append, length-drop}
+use Rattle.std.proofs.Common.{◌≡◌, ◌∙◌, ℕ, zero, suc, ◌+◌, ◌^◌, ◌<◌, List, [], ◌∷◌, ◌++◌, length, take, drop, get_or, Bool, true, false, ◌==◌, cond, refl, sym, ap, subst, inl, inr, arith, length-append, length-drop}
 use Rattle.std.proofs.lemmas.List.{length-take-le}
 use Rattle.std.proofs.lemmas.Bool.{cases_Bool, eqb-true, true≢false}
 use Rattle.std.proofs.Math.Nat.{pow-suc}
 use Rattle.namespace_id.specs.declared.digests.Digest.{Digest}
 use Rattle.namespace_id.specs.Digests.{IsDigest, AreDigests}
-use Rattle.nmt_proofs.specs.Parts.{Part, given, leaf, join, digest_of}
-use Rattle.nmt_proofs.specs.Openings.{Shown, begun, is_shown, outside, opened, no_digest, has_count}
+use Rattle.nmt_proofs.specs.Parts.{Part, given, leaf, join}
+use Rattle.nmt_proofs.specs.Openings.{Shown, begun, is_shown, outside, opened, no_digest}
 use Rattle.nmt_proofs.specs.Clashes.{IsSized, HasDepth, IsShown, AreShown, IsOpening}
 use Rattle.nmt_proofs.proofs.WholeLemmas.{each-take, each-drop}
 

@@ -1,5 +1,5 @@
 -- The part of a whole list of leaves.
-use Rattle.std.proofs.Common.{◌≡◌, ◌∙◌, ℕ, zero, suc, ◌+◌, ◌*◌, ◌^◌, ◌≤◌, List, [], ◌∷◌, ◌++◌, length, take, drop, refl, sym, ap, ap₂, subst, arith, length-take, length-drop}
+use Rattle.std.proofs.Common.{◌≡◌, ◌∙◌, ℕ, zero, suc, ◌+◌, ◌^◌, ◌≤◌, List, [], ◌∷◌, ◌++◌, length, take, drop, refl, sym, ap, ap₂, arith, length-drop}
 use Rattle.std.specs.List.{AllByRecursion}
 use Rattle.std.proofs.lemmas.List.{length-take-le, take-take, drop-drop, drop-take, take-append-drop}
 use Rattle.std.proofs.Math.Nat.{pow-suc}
@@ -9,7 +9,7 @@ use Rattle.namespace_id.specs.Names.{IsNamespace}
 use Rattle.namespace_id.specs.Shares.{IsShare}
 use Rattle.nmt_tree.specs.Digests.{node_digest}
 use Rattle.nmt_tree.specs.Roots.{root}
-use Rattle.nmt_proofs.specs.Parts.{Part, leaf, join, digest_of}
+use Rattle.nmt_proofs.specs.Parts.{join, digest_of}
 use Rattle.nmt_proofs.specs.Clashes.{whole, AreLeaves, IsSized, HasDepth, Agree}
 use Rattle.nmt_proofs.proofs.AgreeLemmas.{IsFull}
 
@@ -96,13 +96,11 @@ whole-take (suc d) ns ss =
     (ap₂ (whole d) (take-take size (2 ^ suc d) ns within) (take-take size (2 ^ suc d) ss within))
     (ap₂ (whole d) back back' ∙ whole-take d (drop size ns) (drop size ss))
 
--- the halves of the part at a place of a list
-pub whole-left : (d st : ℕ) (ns : List Namespace) (ss : List Share) → whole d (take (2 ^ d) (drop st ns)) (take (2 ^ d) (drop st ss)) ≡ whole d (drop st ns) (drop st ss)
-whole-left d st ns ss = whole-take d (drop st ns) (drop st ss)
-
-pub whole-right : (d st : ℕ) (ns : List Namespace) (ss : List Share)
-    → whole d (drop (2 ^ d) (drop st ns)) (drop (2 ^ d) (drop st ss)) ≡ whole d (drop (st + 2 ^ d) ns) (drop (st + 2 ^ d) ss)
-whole-right d st ns ss = ap₂ (whole d) (drop-drop (2 ^ d) st ns) (drop-drop (2 ^ d) st ss)
+-- the halves of the part from a place of a list on
+pub whole-halved : (d st : ℕ) (ns : List Namespace) (ss : List Share)
+    → whole (suc d) (drop st ns) (drop st ss) ≡ join (whole d (drop st ns) (drop st ss)) (whole d (drop (st + 2 ^ d) ns) (drop (st + 2 ^ d) ss))
+unfolding whole
+whole-halved d st ns ss = ap₂ join (whole-take d (drop st ns) (drop st ss)) (ap₂ (whole d) (drop-drop (2 ^ d) st ns) (drop-drop (2 ^ d) st ss))
 
 same_one : {A : Type 0} (x y : A) (xs ys : List A) → length (x ∷ xs) ≡ 1 → length (y ∷ ys) ≡ 1 → x ≡ y → x ∷ xs ≡ y ∷ ys
 same_one x y [] [] h g e = ap (λ z. z ∷ []) e
