@@ -4,3 +4,9 @@ pub mod ValueLemmas
 pub mod CauseLemmas
 pub mod ShadowLemmas
 pub mod PublicLemmas
+pub mod DigestLemmas
+pub mod AgreeLemmas
+pub mod WholeLemmas
+pub mod ShownLemmas
+pub mod ListedLemmas
+pub mod TwinLemmas

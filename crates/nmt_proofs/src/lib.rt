@@ -2,13 +2,16 @@
 //! a root.
 //!
 //! Every kind of opening is one notion, a partial tree: parts that are shown at their places, and
-//! nodes for the intervals that hold nothing shown. `joining` has the plain recursion over it, and
-//! `opening` the public calls.
+//! nodes for the intervals that hold nothing shown. `joining` has the plain recursion over it,
+//! `opening` the public calls, and `agreeing` the law between two parts with one digest: a SHA-256
+//! collision is found where they first differ.
 #![tactic(auto)]
 
+mod agreeing;
 mod joining;
 mod opening;
 mod paths;
 
+pub use agreeing::clash_laws;
 pub use opening::{OpenRefusal, open_leaf};
 pub use paths::Path;

@@ -1,0 +1,146 @@
+-- An opening that agrees with a list's part shows the list's leaves, and its nodes are the list's.
+use Rattle.std.proofs.Common.{◌≡◌, ◌∙◌, ℕ, zero, suc, ◌+◌, ◌^◌, ◌<◌, ◌≤◌, List, [], ◌∷◌, ◌++◌, length, take, drop, get_or, Bool, false, cond, ltb, Some, None, refl, sym, ap, ap₂, subst, subst₂, inl, inr, arith}
+use Rattle.std.specs.List.{AllByRecursion, slice_get}
+use Rattle.std.proofs.lemmas.List.{map-append, take-append-drop}
+use Rattle.std.proofs.lemmas.Bool.{cases_Bool, ltb-true, ltb-false, eqb-true}
+use Rattle.std.proofs.Math.Nat.{pow-suc}
+use Rattle.namespace_id.specs.declared.namespaces.Namespace.{Namespace}
+use Rattle.namespace_id.specs.declared.shares.Share.{Share}
+use Rattle.namespace_id.specs.declared.digests.Digest.{Digest}
+use Rattle.nmt_tree.specs.Roots.{root}
+use Rattle.nmt_proofs.specs.Parts.{Part, leaf, join, digest_of}
+use Rattle.nmt_proofs.specs.Openings.{Shown, begun, is_shown, outside, opened, no_digest, one_leaf}
+use Rattle.nmt_proofs.specs.Clashes.{Agree, HasDepth, ClashOr, clash_at, whole, AreLeaves, IsOpening, ArePlaces, AreListed, interval_root, interval_roots}
+use Rattle.nmt_proofs.proofs.AgreeLemmas.{clash_or, none_found, fit_together}
+use Rattle.nmt_proofs.proofs.WholeLemmas.{digest-whole, depth-whole, sized-whole, full-whole, whole-halved, one_list}
+use Rattle.nmt_proofs.proofs.ShownLemmas.{single, half_counts, opening-sized, opening-deep}
+
+-- places before the middle, and the others
+places-halves : (low mid high : ℕ) (xs : List Shown) → low ≤ mid → ArePlaces low high xs → ArePlaces low mid (take (begun mid xs) xs) × ArePlaces mid high (drop (begun mid xs) xs)
+unfolding begun
+places-halves low mid high [] h of = (tt, tt)
+places-halves low mid high (s ∷ xs) h of =
+    let Goal : Bool → Type 0 = λ b. ArePlaces low mid (take (cond b (suc (begun mid xs)) 0) (s ∷ xs)) × ArePlaces mid high (drop (cond b (suc (begun mid xs)) 0) (s ∷ xs)) in
+    elim (cases_Bool (ltb s.from mid)) [
+      | inl t ↦
+          let lt : s.from < mid = ltb-true s.from mid t in
+          let rest = places-halves (s.from + 1) mid high xs (omega (arith, lt)) of.3 in
+          subst Goal (sym t) ((of.0, of.1, lt, rest.0), rest.1)
+      | inr f ↦ subst Goal (sym f) (tt, (of.0, ltb-false s.from mid f, of.2, of.3))
+    ]
+
+each-append : {A : Type 0} (P : A → Type 0) (xs ys : List A) → AllByRecursion P xs → AllByRecursion P ys → AllByRecursion P (xs ++ ys)
+each-append P [] ys h k = k
+each-append P (x ∷ xs) ys h k = (h.0, each-append P xs ys h.1 k)
+
+no_more : (low high : ℕ) (xs : List Shown) → high ≤ low → ArePlaces low high xs → xs ≡ []
+no_more low high [] h of = refl
+no_more low high (s ∷ xs) h of = absurd (omega (arith, of.1, of.2))
+
+one_node : (nodes : List Digest) (d : Digest) → length nodes ≡ 1 → get_or nodes 0 no_digest ≡ d → nodes ≡ d ∷ []
+one_node [] d h e = absurd (omega arith)
+one_node (n ∷ m ∷ nodes) d h e = absurd (omega arith)
+one_node (n ∷ []) d h e = ap (λ (x : Digest). x ∷ []) e
+
+no_node : (nodes : List Digest) → length nodes ≡ 0 → nodes ≡ []
+no_node [] h = refl
+no_node (n ∷ nodes) h = absurd (omega arith)
+
+-- what is opened from a place on
+pub agreed : (d st : ℕ) (ns : List Namespace) (ss : List Share) (xs : List Shown) (nodes : List Digest) → ArePlaces st (st + 2 ^ d) xs → length nodes ≡ length (outside d st xs)
+    → Agree (opened d st xs nodes) (whole d (drop st ns) (drop st ss)) → AreListed ns ss xs × (nodes ≡ interval_roots ns ss (outside d st xs))
+unfolding opened outside
+agreed zero st ns ss [] nodes of count a = (tt, one_node nodes (interval_root ns ss (st, 0)) count (a ∙ digest-whole 0 (drop st ns) (drop st ss)))
+agreed zero st ns ss (s ∷ xs) nodes of count a =
+    let at : s.from ≡ st = omega (arith, of.1, of.2) in
+    let none : xs ≡ [] = no_more (s.from + 1) (st + 2 ^ 0) xs (omega (arith, of.1)) of.3 in (
+      (subst (λ (k : ℕ). Agree s.part (whole 0 (drop k ns) (drop k ss))) (sym at) a, subst (λ (l : List Shown). AreListed ns ss l) (sym none) tt),
+      no_node nodes count,
+    )
+agreed (suc d) st ns ss [] nodes of count a = (tt, one_node nodes (interval_root ns ss (st, suc d)) count (a ∙ digest-whole (suc d) (drop st ns) (drop st ss)))
+agreed (suc d) st ns ss (s ∷ ys) nodes of count a =
+    let xs : List Shown = s ∷ ys in
+    let m : ℕ = st + 2 ^ d in
+    let i : ℕ = begun m xs in
+    let lo : List (ℕ × ℕ) = outside d st (take i xs) in
+    let ro : List (ℕ × ℕ) = outside d m (drop i xs) in
+    let j : ℕ = length lo in
+    let end : st + 2 ^ suc d ≡ m + 2 ^ d = omega (arith, pow-suc 2 d) in
+    let one_place : is_shown (suc d) s ≡ false = single d s of.0 in
+    let parts = places-halves st m (m + 2 ^ d) xs (omega arith) (subst (λ (k : ℕ). ArePlaces st k xs) end of) in
+    let counts = half_counts (is_shown (suc d) s) nodes lo ro one_place count in
+    let joined : Part = join (opened d st (take i xs) (take j nodes)) (opened d m (drop i xs) (drop j nodes)) in
+    let halved : whole (suc d) (drop st ns) (drop st ss) ≡ join (whole d (drop st ns) (drop st ss)) (whole d (drop m ns) (drop m ss)) = whole-halved d st ns ss in
+    let both : Agree joined (join (whole d (drop st ns) (drop st ss)) (whole d (drop m ns) (drop m ss))) =
+    subst₂ Agree (ap (λ (b : Bool). cond b s.part joined) one_place) halved a in
+    let l = agreed d st ns ss (take i xs) (take j nodes) parts.0 counts.0 both.0 in
+    let r = agreed d m ns ss (drop i xs) (drop j nodes) parts.1 counts.1 both.1 in (
+      subst (λ (x : List Shown). AreListed ns ss x) (take-append-drop i xs) (each-append _ (take i xs) (drop i xs) l.0 r.0),
+      sym (take-append-drop j nodes) ∙ ap₂ (λ (x y : List Digest). x ++ y) l.1 r.1
+          ∙ sym (ap (λ (b : Bool). interval_roots ns ss (cond b [] (lo ++ ro))) one_place ∙ map-append (interval_root ns ss) lo ro),
+    )
+
+-- the law of an opening under the root of a list
+pub opening_law : (d : ℕ) (xs : List Shown) (nodes : List Digest) (ns : List Namespace) (ss : List Share) → IsOpening d xs nodes → AreLeaves d ns ss
+    → digest_of (opened d 0 xs nodes) ≡ root d ns ss → ClashOr (opened d 0 xs nodes) (whole d ns ss) (Agree (opened d 0 xs nodes) (whole d ns ss))
+opening_law d xs nodes ns ss h g e =
+    let sized = opening-sized d xs nodes h in
+    let full = sized-whole d ns ss g in
+    let same : digest_of (opened d 0 xs nodes) ≡ digest_of (whole d ns ss) = e ∙ sym (digest-whole d ns ss) in
+    clash_or (opened d 0 xs nodes) (whole d ns ss) (Agree (opened d 0 xs nodes) (whole d ns ss)) sized full same
+    (none_found d (opened d 0 xs nodes) (whole d ns ss) (opening-deep d xs nodes h) (depth-whole d ns ss) sized full same)
+
+-- of one that shows single places
+pub places_law : (d : ℕ) (xs : List Shown) (nodes : List Digest) (ns : List Namespace) (ss : List Share) → IsOpening d xs nodes → ArePlaces 0 (2 ^ d) xs → AreLeaves d ns ss
+    → digest_of (opened d 0 xs nodes) ≡ root d ns ss
+    → ClashOr (opened d 0 xs nodes) (whole d ns ss) (AreListed ns ss xs × (nodes ≡ interval_roots ns ss (outside d 0 xs)))
+places_law d xs nodes ns ss h of g e =
+    let zero_first : 2 ^ d ≡ 0 + 2 ^ d = omega arith in
+    let sized = opening-sized d xs nodes h in
+    let full = sized-whole d ns ss g in
+    let same : digest_of (opened d 0 xs nodes) ≡ digest_of (whole d ns ss) = e ∙ sym (digest-whole d ns ss) in
+    clash_or (opened d 0 xs nodes) (whole d ns ss) (AreListed ns ss xs × (nodes ≡ interval_roots ns ss (outside d 0 xs))) sized full same
+    (λ none. agreed d 0 ns ss xs nodes (subst (λ (k : ℕ). ArePlaces 0 k xs) zero_first of) (eqb-true _ _ h.count)
+    (none_found d (opened d 0 xs nodes) (whole d ns ss) (opening-deep d xs nodes h) (depth-whole d ns ss) sized full same none))
+
+-- the list's leaf at a place
+leaf_listed : (pos : ℕ) (ns : List Namespace) (ss : List Share) (n : Namespace) (s : Share) → pos < length ns → pos < length ss
+    → Agree (leaf n s) (whole 0 (drop pos ns) (drop pos ss)) → (slice_get ns pos ≡ Some n) × (slice_get ss pos ≡ Some s)
+unfolding whole
+leaf_listed zero (m ∷ ns) (t ∷ ss) n s h g a = (ap Some (sym a.0), ap Some (sym a.1))
+leaf_listed (suc pos) (m ∷ ns) (t ∷ ss) n s h g a = leaf_listed pos ns ss n s (omega arith) (omega arith) a
+leaf_listed pos [] ss n s h g a = absurd (omega arith)
+leaf_listed pos (m ∷ ns) [] n s h g a = absurd (omega arith)
+
+-- of one leaf
+pub leaf_law : (d pos : ℕ) (n : Namespace) (s : Share) (nodes : List Digest) (ns : List Namespace) (ss : List Share) → IsOpening d (one_leaf pos n s) nodes → pos < 2 ^ d → AreLeaves d ns ss
+    → digest_of (opened d 0 (one_leaf pos n s) nodes) ≡ root d ns ss
+    → ClashOr (opened d 0 (one_leaf pos n s) nodes) (whole d ns ss)
+    ((slice_get ns pos ≡ Some n) × (slice_get ss pos ≡ Some s) × (nodes ≡ interval_roots ns ss (outside d 0 (one_leaf pos n s))))
+leaf_law d pos n s nodes ns ss h lt g e =
+    let xs : List Shown = one_leaf pos n s in
+    let sized = opening-sized d xs nodes h in
+    let full = sized-whole d ns ss g in
+    let same : digest_of (opened d 0 xs nodes) ≡ digest_of (whole d ns ss) = e ∙ sym (digest-whole d ns ss) in
+    clash_or (opened d 0 xs nodes) (whole d ns ss)
+    ((slice_get ns pos ≡ Some n) × (slice_get ss pos ≡ Some s) × (nodes ≡ interval_roots ns ss (outside d 0 xs))) sized full same
+    (λ none.
+    let listed = agreed d 0 ns ss xs nodes (refl, omega arith, omega (arith, lt), tt) (eqb-true _ _ h.count)
+    (none_found d (opened d 0 xs nodes) (whole d ns ss) (opening-deep d xs nodes h) (depth-whole d ns ss) sized full same none) in
+    let here = leaf_listed pos ns ss n s (omega (arith, g.name_count)) (omega (arith, g.share_count)) listed.0.0 in
+    (here.0, here.1, listed.1))
+
+-- the law of two lists with one root
+pub lists_law : (d : ℕ) (ns ms : List Namespace) (ss ts : List Share) → AreLeaves d ns ss → AreLeaves d ms ts → root d ns ss ≡ root d ms ts
+    → ClashOr (whole d ns ss) (whole d ms ts) ((ns ≡ ms) × (ss ≡ ts))
+lists_law d ns ms ss ts h g e =
+    let sized = sized-whole d ns ss h in
+    let sized' = sized-whole d ms ts g in
+    let same : digest_of (whole d ns ss) ≡ digest_of (whole d ms ts) = digest-whole d ns ss ∙ e ∙ sym (digest-whole d ms ts) in
+    clash_or (whole d ns ss) (whole d ms ts) ((ns ≡ ms) × (ss ≡ ts)) sized sized' same
+    (λ none. one_list d ns ms ss ts h g (none_found d (whole d ns ss) (whole d ms ts) (depth-whole d ns ss) (depth-whole d ms ts) sized sized' same none))
+
+-- the law of two parts of which neither differs from a list's
+pub symmetric_law : (d : ℕ) (p q : Part) (ns : List Namespace) (ss : List Share) → HasDepth d p → HasDepth d q → AreLeaves d ns ss → clash_at p (whole d ns ss) ≡ None → clash_at q (whole d ns ss) ≡ None
+    → clash_at p q ≡ None
+symmetric_law d p q ns ss dp dq g e f = fit_together d (whole d ns ss) p q (depth-whole d ns ss) dp dq (full-whole d ns ss g) e f

@@ -1,0 +1,126 @@
+-- The part of a whole list of leaves.
+use Rattle.std.proofs.Common.{◌≡◌, ◌∙◌, ℕ, zero, suc, ◌+◌, ◌^◌, ◌≤◌, List, [], ◌∷◌, ◌++◌, length, take, drop, refl, sym, ap, ap₂, arith, length-drop}
+use Rattle.std.specs.List.{AllByRecursion}
+use Rattle.std.proofs.lemmas.List.{length-take-le, take-take, drop-drop, drop-take, take-append-drop}
+use Rattle.std.proofs.Math.Nat.{pow-suc}
+use Rattle.namespace_id.specs.declared.namespaces.Namespace.{Namespace}
+use Rattle.namespace_id.specs.declared.shares.Share.{Share}
+use Rattle.namespace_id.specs.Names.{IsNamespace}
+use Rattle.namespace_id.specs.Shares.{IsShare}
+use Rattle.nmt_tree.specs.Digests.{node_digest}
+use Rattle.nmt_tree.specs.Roots.{root}
+use Rattle.nmt_proofs.specs.Parts.{join, digest_of}
+use Rattle.nmt_proofs.specs.Clashes.{whole, AreLeaves, IsSized, HasDepth, Agree}
+use Rattle.nmt_proofs.proofs.AgreeLemmas.{IsFull}
+
+-- facts of each element of a list hold of each of a part of it
+pub each-take : {A : Type 0} (P : A → Type 0) (n : ℕ) (xs : List A) → AllByRecursion P xs → AllByRecursion P (take n xs)
+each-take P zero xs h = tt
+each-take P (suc n) [] h = tt
+each-take P (suc n) (x ∷ xs) h = (h.0, each-take P n xs h.1)
+
+pub each-drop : {A : Type 0} (P : A → Type 0) (n : ℕ) (xs : List A) → AllByRecursion P xs → AllByRecursion P (drop n xs)
+each-drop P zero xs h = h
+each-drop P (suc n) [] h = tt
+each-drop P (suc n) (x ∷ xs) h = each-drop P n xs h.1
+
+-- the digest of the part is the root of the list
+pub digest-whole : (d : ℕ) (ns : List Namespace) (ss : List Share) → digest_of (whole d ns ss) ≡ root d ns ss
+unfolding whole root
+digest-whole zero (n ∷ ns) (s ∷ ss) = refl
+digest-whole zero [] ss = refl
+digest-whole zero (n ∷ ns) [] = refl
+digest-whole (suc d) ns ss =
+    ap₂ node_digest (digest-whole d (take (2 ^ d) ns) (take (2 ^ d) ss)) (digest-whole d (drop (2 ^ d) ns) (drop (2 ^ d) ss))
+
+-- leaves stand at depth 0 only
+pub depth-whole : (d : ℕ) (ns : List Namespace) (ss : List Share) → HasDepth d (whole d ns ss)
+unfolding whole
+depth-whole zero (n ∷ ns) (s ∷ ss) = tt
+depth-whole zero [] ss = tt
+depth-whole zero (n ∷ ns) [] = tt
+depth-whole (suc d) ns ss = (depth-whole d (take (2 ^ d) ns) (take (2 ^ d) ss), depth-whole d (drop (2 ^ d) ns) (drop (2 ^ d) ss))
+
+-- the halves of a list of leaves
+pub leaves-left : (d : ℕ) (ns : List Namespace) (ss : List Share) → AreLeaves (suc d) ns ss → AreLeaves d (take (2 ^ d) ns) (take (2 ^ d) ss)
+leaves-left d ns ss h = record {
+  name_count = length-take-le (2 ^ d) ns (omega (arith, pow-suc 2 d, h.name_count));
+  share_count = length-take-le (2 ^ d) ss (omega (arith, pow-suc 2 d, h.share_count));
+  name_bytes = each-take IsNamespace (2 ^ d) ns h.name_bytes;
+  share_bytes = each-take IsShare (2 ^ d) ss h.share_bytes;
+}
+
+pub leaves-right : (d : ℕ) (ns : List Namespace) (ss : List Share) → AreLeaves (suc d) ns ss → AreLeaves d (drop (2 ^ d) ns) (drop (2 ^ d) ss)
+leaves-right d ns ss h = record {
+  name_count = omega (arith, pow-suc 2 d, h.name_count, length-drop (2 ^ d) ns);
+  share_count = omega (arith, pow-suc 2 d, h.share_count, length-drop (2 ^ d) ss);
+  name_bytes = each-drop IsNamespace (2 ^ d) ns h.name_bytes;
+  share_bytes = each-drop IsShare (2 ^ d) ss h.share_bytes;
+}
+
+-- every leaf of the part is sized
+pub sized-whole : (d : ℕ) (ns : List Namespace) (ss : List Share) → AreLeaves d ns ss → IsSized (whole d ns ss)
+unfolding whole
+sized-whole zero (n ∷ ns) (s ∷ ss) h = (h.name_bytes.0, h.share_bytes.0)
+sized-whole zero [] ss h = absurd (omega (arith, h.name_count))
+sized-whole zero (n ∷ ns) [] h = absurd (omega (arith, h.share_count))
+sized-whole (suc d) ns ss h = (
+  sized-whole d (take (2 ^ d) ns) (take (2 ^ d) ss) (leaves-left d ns ss h),
+  sized-whole d (drop (2 ^ d) ns) (drop (2 ^ d) ss) (leaves-right d ns ss h),
+)
+
+-- nothing is given in it
+pub full-whole : (d : ℕ) (ns : List Namespace) (ss : List Share) → AreLeaves d ns ss → IsFull (whole d ns ss)
+unfolding whole
+full-whole zero (n ∷ ns) (s ∷ ss) h = tt
+full-whole zero [] ss h = absurd (omega (arith, h.name_count))
+full-whole zero (n ∷ ns) [] h = absurd (omega (arith, h.share_count))
+full-whole (suc d) ns ss h = (
+  full-whole d (take (2 ^ d) ns) (take (2 ^ d) ss) (leaves-left d ns ss h),
+  full-whole d (drop (2 ^ d) ns) (drop (2 ^ d) ss) (leaves-right d ns ss h),
+)
+
+-- the leaves behind it play no part
+pub whole-take : (d : ℕ) (ns : List Namespace) (ss : List Share) → whole d (take (2 ^ d) ns) (take (2 ^ d) ss) ≡ whole d ns ss
+unfolding whole
+whole-take zero (n ∷ ns) (s ∷ ss) = refl
+whole-take zero [] ss = refl
+whole-take zero (n ∷ ns) [] = refl
+whole-take (suc d) ns ss =
+    let size : ℕ = 2 ^ d in
+    let twice : 2 ^ suc d ≡ size + size = omega (arith, pow-suc 2 d) in
+    let within : size ≤ 2 ^ suc d = omega (arith, twice) in
+    let back : drop size (take (2 ^ suc d) ns) ≡ take size (drop size ns) = ap (λ (k : ℕ). drop size (take k ns)) twice ∙ drop-take size size ns in
+    let back' : drop size (take (2 ^ suc d) ss) ≡ take size (drop size ss) = ap (λ (k : ℕ). drop size (take k ss)) twice ∙ drop-take size size ss in
+    ap₂ join
+    (ap₂ (whole d) (take-take size (2 ^ suc d) ns within) (take-take size (2 ^ suc d) ss within))
+    (ap₂ (whole d) back back' ∙ whole-take d (drop size ns) (drop size ss))
+
+-- the halves of the part from a place of a list on
+pub whole-halved : (d st : ℕ) (ns : List Namespace) (ss : List Share)
+    → whole (suc d) (drop st ns) (drop st ss) ≡ join (whole d (drop st ns) (drop st ss)) (whole d (drop (st + 2 ^ d) ns) (drop (st + 2 ^ d) ss))
+unfolding whole
+whole-halved d st ns ss = ap₂ join (whole-take d (drop st ns) (drop st ss)) (ap₂ (whole d) (drop-drop (2 ^ d) st ns) (drop-drop (2 ^ d) st ss))
+
+same_one : {A : Type 0} (x y : A) (xs ys : List A) → length (x ∷ xs) ≡ 1 → length (y ∷ ys) ≡ 1 → x ≡ y → x ∷ xs ≡ y ∷ ys
+same_one x y [] [] h g e = ap (λ z. z ∷ []) e
+same_one x y [] (z ∷ ys) h g e = absurd (omega (arith, g))
+same_one x y (z ∷ xs) ys h g e = absurd (omega (arith, h))
+
+-- two lists of leaves whose parts agree are one list
+pub one_list : (d : ℕ) (ns ms : List Namespace) (ss ts : List Share) → AreLeaves d ns ss → AreLeaves d ms ts → Agree (whole d ns ss) (whole d ms ts) → (ns ≡ ms) × (ss ≡ ts)
+unfolding whole
+one_list zero [] ms ss ts h g a = absurd (omega (arith, h.name_count))
+one_list zero (n ∷ ns) ms [] ts h g a = absurd (omega (arith, h.share_count))
+one_list zero (n ∷ ns) [] (s ∷ ss) ts h g a = absurd (omega (arith, g.name_count))
+one_list zero (n ∷ ns) (m ∷ ms) (s ∷ ss) [] h g a = absurd (omega (arith, g.share_count))
+one_list zero (n ∷ ns) (m ∷ ms) (s ∷ ss) (t ∷ ts) h g a =
+    (same_one n m ns ms h.name_count g.name_count a.0, same_one s t ss ts h.share_count g.share_count a.1)
+one_list (suc d) ns ms ss ts h g a =
+    let size : ℕ = 2 ^ d in
+    let l = one_list d (take size ns) (take size ms) (take size ss) (take size ts) (leaves-left d ns ss h) (leaves-left d ms ts g) a.0 in
+    let r = one_list d (drop size ns) (drop size ms) (drop size ss) (drop size ts) (leaves-right d ns ss h) (leaves-right d ms ts g) a.1 in
+    (joined size ns ms l.0 r.0, joined size ss ts l.1 r.1)
+  where
+    joined : {A : Type 0} (i : ℕ) (xs ys : List A) → take i xs ≡ take i ys → drop i xs ≡ drop i ys → xs ≡ ys
+    joined i xs ys e f = sym (take-append-drop i xs) ∙ ap₂ (λ (x y : List _). x ++ y) e f ∙ take-append-drop i ys

@@ -1,0 +1,83 @@
+//! What two parts with one digest share.
+
+ghost use Rattle.std.specs.Prelude.{◌≡◌, ◌^◌, ◌<◌, ℕ, List, Some, None};
+ghost use Rattle.std.specs.List.{slice_get};
+ghost use Rattle.namespace_id.specs.declared.namespaces.Namespace.{Namespace};
+ghost use Rattle.namespace_id.specs.declared.shares.Share.{Share};
+ghost use Rattle.namespace_id.specs.declared.digests.Digest.{Digest};
+ghost use Rattle.nmt_tree.specs.Roots.{root};
+ghost use Rattle.nmt_proofs.specs.Parts.{Part, digest_of};
+ghost use Rattle.nmt_proofs.specs.Openings.{Shown, one_leaf, opened, outside};
+ghost use Rattle.nmt_proofs.specs.Clashes.{IsClash, clash_at, ClashOr, IsSized, HasDepth, Agree, whole, AreLeaves, IsOpening, ArePlaces, AreListed, interval_roots};
+
+/// Where two parts of a tree have one digest, the strings at the first interval at which both have
+/// one and these differ are a SHA-256 collision; where there is no such interval, the parts agree.
+///
+/// Nothing assumes that SHA-256 has no collisions: `ClashOr` names the two strings or gives the fact.
+pub fn clash_laws()
+    ensures found { (p q : Part) (a b : List ℕ) → IsSized p → IsSized q →
+        digest_of p ≡ digest_of q → clash_at p q ≡ Some (a, b) → IsClash a b }
+    ensures agree { (depth : ℕ) (p q : Part) → HasDepth depth p → HasDepth depth q →
+        IsSized p → IsSized q → digest_of p ≡ digest_of q → clash_at p q ≡ None → Agree p q }
+
+    // An opening under the root of a list of leaves.
+    ensures opening { (depth : ℕ) (shown : List Shown) (nodes : List Digest)
+        (names : List Namespace) (shares : List Share) →
+        IsOpening depth shown nodes → AreLeaves depth names shares →
+        digest_of (opened depth 0 shown nodes) ≡ root depth names shares →
+        ClashOr (opened depth 0 shown nodes) (whole depth names shares)
+        (Agree (opened depth 0 shown nodes) (whole depth names shares)) }
+
+    // One that shows single places shows the list's leaves, and has the list's nodes.
+    ensures places { (depth : ℕ) (shown : List Shown) (nodes : List Digest)
+        (names : List Namespace) (shares : List Share) →
+        IsOpening depth shown nodes → ArePlaces 0 (2 ^ depth) shown → AreLeaves depth names shares →
+        digest_of (opened depth 0 shown nodes) ≡ root depth names shares →
+        ClashOr (opened depth 0 shown nodes) (whole depth names shares)
+        (AreListed names shares shown × (nodes ≡ interval_roots names shares (outside depth 0 shown))) }
+
+    // So does one of one leaf.
+    ensures leaf { (depth pos : ℕ) (name : Namespace) (share : Share) (nodes : List Digest)
+        (names : List Namespace) (shares : List Share) →
+        IsOpening depth (one_leaf pos name share) nodes → pos < 2 ^ depth →
+        AreLeaves depth names shares →
+        digest_of (opened depth 0 (one_leaf pos name share) nodes) ≡ root depth names shares →
+        ClashOr (opened depth 0 (one_leaf pos name share) nodes) (whole depth names shares)
+        ((slice_get names pos ≡ Some name) × (slice_get shares pos ≡ Some share)
+        × (nodes ≡ interval_roots names shares (outside depth 0 (one_leaf pos name share)))) }
+
+    // Two openings of one leaf place under one root are one opening.
+    ensures openings { (depth pos : ℕ) (name name' : Namespace) (share share' : Share)
+        (nodes nodes' : List Digest) →
+        IsOpening depth (one_leaf pos name share) nodes →
+        IsOpening depth (one_leaf pos name' share') nodes' →
+        digest_of (opened depth 0 (one_leaf pos name share) nodes)
+        ≡ digest_of (opened depth 0 (one_leaf pos name' share') nodes') →
+        ClashOr (opened depth 0 (one_leaf pos name share) nodes)
+        (opened depth 0 (one_leaf pos name' share') nodes')
+        ((name ≡ name') × (share ≡ share') × (nodes ≡ nodes')) }
+
+    // Two lists of leaves with one root are one list.
+    ensures lists { (depth : ℕ) (names names' : List Namespace) (shares shares' : List Share) →
+        AreLeaves depth names shares → AreLeaves depth names' shares' →
+        root depth names shares ≡ root depth names' shares' →
+        ClashOr (whole depth names shares) (whole depth names' shares')
+        ((names ≡ names') × (shares ≡ shares')) }
+
+    // If two parts differ, one of them differs from the list.
+    ensures symmetric { (depth : ℕ) (p q : Part) (names : List Namespace) (shares : List Share) →
+        HasDepth depth p → HasDepth depth q → AreLeaves depth names shares →
+        clash_at p (whole depth names shares) ≡ None →
+        clash_at q (whole depth names shares) ≡ None → clash_at p q ≡ None }
+
+    // What is opened stands at its depth, and is sized; so does a whole list, and its digest is the
+    // root.
+    ensures opened { (depth : ℕ) (shown : List Shown) (nodes : List Digest) →
+        IsOpening depth shown nodes →
+        HasDepth depth (opened depth 0 shown nodes) × IsSized (opened depth 0 shown nodes) }
+    ensures whole { (depth : ℕ) (names : List Namespace) (shares : List Share) →
+        AreLeaves depth names shares →
+        HasDepth depth (whole depth names shares) × IsSized (whole depth names shares) }
+    ensures root { (depth : ℕ) (names : List Namespace) (shares : List Share) →
+        digest_of (whole depth names shares) ≡ root depth names shares }
+{}
