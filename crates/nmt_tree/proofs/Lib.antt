@@ -1,3 +1,5 @@
 pub mod PartLemmas
 pub mod RootLemmas
 pub mod CountLemmas
+pub mod PairLemmas
+pub mod FoldLemmas

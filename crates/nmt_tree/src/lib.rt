@@ -4,8 +4,10 @@
 //! recursions that say what the root of a list is.
 #![tactic(auto)]
 
+mod folding;
 mod hashing;
 mod roots;
 
+pub use folding::fold_root;
 pub use hashing::{Unordered, join, leaf, node};
-pub use roots::{is_leaf_count, plain_root, strict_root};
+pub use roots::{are_ordered, is_leaf_count, plain_root, strict_root};
