@@ -5,6 +5,9 @@ use da_io::{MemInputs, MemSink};
 use std::alloc::Global;
 use std::test::Fail;
 
+mod squares;
+mod want_of_memory;
+
 /// SHA-256 values of the square of an empty block, from another program: of its row 0, and of the
 /// leaf over its share outside the original square.
 const ROOT: [u8; 32] = [
@@ -34,7 +37,8 @@ fn tail_padding(bytes: &mut Vec<u8>) -> Result<(), Fail> {
 
 /// The header frame of width 1 with that root of row 0; its other roots are any bytes.
 fn header(alloc: Global) -> Result<Vec<u8>, Fail> {
-    let mut bytes = Vec::from_slice(alloc, &[b'H', 0, 0, 1, 0x6a, 0, 1])?;
+    let mut bytes = Vec::with_capacity(alloc, 512)?;
+    bytes.extend_from_slice(&[b'H', 0, 0, 1, 0x6a, 0, 1])?;
     tail_padding(&mut bytes)?;
     tail_padding(&mut bytes)?;
     bytes.extend_from_slice(&ROOT)?;
@@ -64,7 +68,8 @@ fn message(alloc: Global, change: Change) -> Result<Vec<u8>, Fail> {
         Change::Count => &[2, 0xba],
         _ => &[2, 0x60],
     };
-    let mut bytes = Vec::from_slice(alloc, &[b'M', 0, 0])?;
+    let mut bytes = Vec::with_capacity(alloc, 1024)?;
+    bytes.extend_from_slice(&[b'M', 0, 0])?;
     bytes.extend_from_slice(length)?;
     let row = if change == Change::Row { 2 } else { 0 };
     let col = if change == Change::Col { 2 } else { 0 };
