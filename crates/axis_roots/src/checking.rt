@@ -3,6 +3,7 @@
 ghost use Rattle.std.specs.Prelude.{◌≡◌, ◌↔◌, IsOk, IfOk, IfErr, Some};
 ghost use Rattle.axis_roots.specs.Messages.{refusal_of};
 ghost use Rattle.axis_roots.specs.Openings.{IsProved};
+ghost use Rattle.axis_roots.specs.Own.{IsOwn};
 ghost use Rattle.axis_roots.specs.Proved.{IsUnder, message_of};
 
 use crate::messages::{index, opens};
@@ -24,6 +25,7 @@ pub fn check(header: &Header, message: Message) -> Result<Proved, RefusedMessage
     ensures accepts { IsOk result ↔ IsProved header.now message }
     ensures under { IfOk result (IsUnder header.now) }
     ensures message { IfOk result (λ proved. message_of proved ≡ message) }
+    ensures own { IsOk result → IsOwn header.now message }
 
     // A refusal names the first check that fails, and hands the message back.
     ensures why { IfErr result (λ refused. Some refused.why ≡ refusal_of header.now message) }

@@ -6,6 +6,7 @@ ghost use Rattle.axis_roots.specs.declared.messages.Message.{Message as Sent};
 ghost use Rattle.axis_roots.specs.declared.proved.Proved.{Proved as Certificate};
 ghost use Rattle.axis_roots.specs.Messages.{refusal_of, IsMessage};
 ghost use Rattle.axis_roots.specs.Openings.{IsProved};
+ghost use Rattle.axis_roots.specs.Own.{IsOwn};
 ghost use Rattle.axis_roots.specs.Proved.{IsUnder, message_of};
 
 /// What is proved of a message under a header.
@@ -17,4 +18,9 @@ pub fn message_laws()
     // A message is proved exactly where no check fails.
     ensures refusal { (header : Roots) (message : Sent) → AreRoots header → IsMessage message →
         (refusal_of header message ≡ None) ↔ IsProved header message }
+
+    // Under the header of a square a proved message shows the square's own share, or they name a
+    // collision.
+    ensures own { (header : Roots) (message : Sent) → IsProved header message →
+        IsOwn header message }
 {}

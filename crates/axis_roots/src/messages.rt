@@ -3,6 +3,7 @@
 ghost use Rattle.std.specs.Prelude.{◌≡◌, ◌↔◌, IsOk, IsErrOf, IsErrAnd, true, false};
 ghost use Rattle.axis_roots.specs.Messages.{position, index, is_inside, is_counted, is_ordered, is_rooted, refusal_of, refusal_in, IsMessage};
 ghost use Rattle.axis_roots.specs.Openings.{IsProved};
+ghost use Rattle.axis_roots.specs.Own.{IsOwn};
 
 use data_header::Header;
 use namespace_id::{Axis, Cell, Share, are_digests, is_in_square, is_share, leaf_namespace};
@@ -64,7 +65,8 @@ pub(crate) fn is_message(message: &Message)
 }
 
 /// Whether the message's nodes open its share, with the leaf namespace of its cell, under the
-/// header's root of its axis.
+/// header's root of its axis. Under the header of a square it then shows the share that the square's
+/// extension has at its cell, or it and the square name two strings with one SHA-256 digest.
 ///
 /// Refuses a cell outside the square, then what `open_leaf` refuses, in its order. It takes no
 /// memory.
@@ -83,6 +85,10 @@ pub fn opens(header: &Header, message: &Message) -> Result<(), CheckRefusal>
 
     // All of these at once.
     ensures first { refusal_in result ≡ refusal_of header.now message.now }
+
+    // Under the header of a square, what is accepted is the square's own share, or the message and the
+    // square name a collision.
+    ensures own { IsOk result → IsOwn header.now message.now }
 {
     is_message(message);
     if !is_in_square(header.k, message.cell) {

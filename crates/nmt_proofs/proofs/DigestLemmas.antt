@@ -76,7 +76,7 @@ name-least d h = string-part 0 29 90 d.0 (omega arith) h
 pub name-greatest : (d : Digest) → IsDigest d → IsNamespace (greatest_of d)
 name-greatest d h = string-part 29 29 90 d.0 (omega arith) h
 
-name-parity : IsNamespace parity
+pub name-parity : IsNamespace parity
 name-parity = record { size_is = refl; fits = bytes-replicate 29 255 (omega arith) }
 
 pub name-joined : (l r : Digest) → IsDigest l → IsDigest r → IsNamespace (joined_greatest l r)
