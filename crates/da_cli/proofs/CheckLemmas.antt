@@ -22,7 +22,8 @@ use Rattle.da_cli.specs.Gathered.{file_of}
 use Rattle.da_cli.specs.Statuses.{kind_of, output}
 use Rattle.da_cli.specs.Outcome.{Relation, Refuses}
 use Rattle.da_cli.specs.Judging.{Judged}
-use Rattle.da_cli.specs.Check.{header_in, message_in, IsProvedFrame, finding_of, line_of, is_ok, lines_of, are_ok, status_of, Lists, error_of, CheckOf}
+use Rattle.da_cli.specs.Single.{header_in, error_of}
+use Rattle.da_cli.specs.Check.{message_in, IsProvedFrame, finding_of, line_of, is_ok, lines_of, are_ok, status_of, Lists, CheckOf}
 use Rattle.da_cli.specs.Meaning.{Meaning}
 
 -- the answer by what the two files are

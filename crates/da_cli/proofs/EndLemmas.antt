@@ -1,5 +1,5 @@
 -- Lemmas on how commands end.
-use Rattle.std.proofs.Common.{◌≡◌, ℕ, zero, suc, ◌<◌, ◌≤◌, List, [], ◌∷◌, length, get_or, Vec, Global, refl, sym, ap, ◌∙◌, subst, arith, IsSome, ◌↔◌}
+use Rattle.std.proofs.Common.{◌≡◌, ℕ, zero, suc, ◌<◌, ◌≤◌, List, [], ◌∷◌, ◌++◌, length, get_or, inl, inr, Vec, Global, refl, sym, ap, ◌∙◌, subst, arith, IsSome, ◌↔◌, ◌⊎◌}
 use Rattle.std.specs.declared.option.Option.{Option}
 use Rattle.std.specs.Io.KnownBytes.{Appends}
 use Rattle.std.proofs.KnownBytes.{Appends-nil}
@@ -7,9 +7,9 @@ use Rattle.da_io.specs.Faults.{count_on}
 use Rattle.da_io.specs.Sinks.{AppendsPart}
 use Rattle.da_cli.specs.declared.status.Status.{Status}
 use Rattle.da_cli.specs.declared.status.Status.TheVariants.{WriteFault, BadInput}
-use Rattle.da_cli.specs.Statuses.{Kind, output, kind_of, output_count}
+use Rattle.da_cli.specs.Statuses.{Kind, usage, fault, excess, form, request, memory, write, output, kind_of, output_count}
 use Rattle.da_cli.specs.Gathered.{contents_of, file_of}
-use Rattle.da_cli.specs.Outcome.{Relation, Refuses, AnswersBy, UntouchedBy, IsOwnBy, Ends}
+use Rattle.da_cli.specs.Outcome.{Relation, Refuses, Outputs, AnswersBy, UntouchedBy, IsOwnBy, Ends}
 
 -- file i of a list
 pub file_some : (files : List (Vec ℕ Global)) (i : ℕ) (file : Vec ℕ Global) → i < length files → file ≡ get_or files i file
@@ -39,6 +39,64 @@ ends_refused i at old before Same same = record {
   told = (λ s. s, λ s. s);
   untouched = same;
   own = tt;
+}
+
+-- what a command answers over files in their forms: its output, or that it refuses what they ask for
+abbrev pub IsAnswer : Kind → Type 0
+IsAnswer usage = ⊥
+IsAnswer fault = ⊥
+IsAnswer excess = ⊥
+IsAnswer form = ⊥
+IsAnswer request = Unit {0}
+IsAnswer memory = ⊥
+IsAnswer write = ⊥
+IsAnswer output = Unit {0}
+
+pub answer_output : (status : Status) → kind_of status ≡ output → IsAnswer (kind_of status)
+answer_output status e = subst IsAnswer (sym e) tt
+
+-- what the files ask for is refused
+pub ends_request : (M : Relation) (old : Option (List ℕ)) (before : ℕ) (Same : Type 0) (status : Status) → kind_of status ≡ request → M [] status → Same
+    → Ends M old old before before Same status
+ends_request M old before Same status e meant same = record {
+  answers = subst (λ (k : Kind). AnswersBy k M old old status) (sym e) ([], meant, Appends-nil old);
+  faults = ap (λ (k : Kind). output_count k before) (sym e);
+  told = (λ s. s, λ s. s);
+  untouched = subst (λ (k : Kind). UntouchedBy k Same) (sym e) same;
+  own = subst IsOwnBy (sym e) tt;
+}
+
+-- an answer by a meaning of which another is a part
+outputs_within : (M N : Relation) (old new : Option (List ℕ)) (status : Status) → ((w : List ℕ) (s : Status) → M w s → N w s)
+    → Outputs M old new status → Outputs N old new status
+outputs_within M N old new status h o = (o.0, h o.0 status o.1, o.2)
+
+front_within : (M N : Relation) (part : List ℕ) → ((w : List ℕ) (s : Status) → M w s → N w s)
+    → (part ≡ []) ⊎ ((w : List ℕ) × (s : Status) × M w s × ((more : List ℕ) × (w ≡ part ++ more)))
+    → (part ≡ []) ⊎ ((w : List ℕ) × (s : Status) × N w s × ((more : List ℕ) × (w ≡ part ++ more)))
+front_within M N part h (inl e) = inl e
+front_within M N part h (inr o) = inr (o.0, o.1, h o.0 o.1 o.2, o.3)
+
+pub answers_within : (k : Kind) (M N : Relation) (old new : Option (List ℕ)) (status : Status) → ((w : List ℕ) (s : Status) → M w s → N w s)
+    → AnswersBy k M old new status → AnswersBy k N old new status
+answers_within usage M N old new status h a = outputs_within M N old new status h a
+answers_within fault M N old new status h a = tt
+answers_within excess M N old new status h a = outputs_within M N old new status h a
+answers_within form M N old new status h a = outputs_within M N old new status h a
+answers_within request M N old new status h a = outputs_within M N old new status h a
+answers_within memory M N old new status h a = (a.0, a.1, front_within M N a.0 h a.2)
+answers_within write M N old new status h a = (a.0, a.1, h a.0 a.1 a.2, a.3)
+answers_within output M N old new status h a = outputs_within M N old new status h a
+
+-- a meaning of which another is a part
+pub ends_within : (M N : Relation) (old new : Option (List ℕ)) (before now : ℕ) (Same : Type 0) (status : Status)
+    → ((w : List ℕ) (s : Status) → M w s → N w s) → Ends M old new before now Same status → Ends N old new before now Same status
+ends_within M N old new before now Same status h ends = record {
+  answers = answers_within (kind_of status) M N old new status h ends.answers;
+  faults = ends.faults;
+  told = ends.told;
+  untouched = ends.untouched;
+  own = ends.own;
 }
 
 -- the output of a meaning was taken whole

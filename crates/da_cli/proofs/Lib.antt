@@ -3,4 +3,5 @@ pub mod WriteLemmas
 pub mod EndLemmas
 pub mod GatheredLemmas
 pub mod CheckLemmas
+pub mod SquareLemmas
 pub mod RunLemmas

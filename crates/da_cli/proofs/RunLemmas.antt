@@ -6,11 +6,11 @@ use Rattle.std.specs.String.{string_bytes}
 use Rattle.std.proofs.lemmas.List.{take-map, drop-map}
 use Rattle.da_io.specs.Files.{Files}
 use Rattle.da_cli.specs.declared.words.Command.{Command}
-use Rattle.da_cli.specs.declared.words.Command.TheVariants.{Check}
+use Rattle.da_cli.specs.declared.words.Command.TheVariants.{Check, Build, Header}
 use Rattle.da_cli.specs.declared.words.Call.{Call}
 use Rattle.da_cli.specs.declared.status.Status.{Status}
 use Rattle.da_cli.specs.declared.status.Status.TheVariants.{BadInput, TooLong}
-use Rattle.da_cli.specs.Statuses.{Kind, usage, fault, excess, form, memory, write, output, kind_of}
+use Rattle.da_cli.specs.Statuses.{Kind, usage, fault, excess, form, request, memory, write, output, kind_of}
 use Rattle.da_cli.specs.Words.{words_of, call_of, file_words}
 use Rattle.da_cli.specs.Gathered.{Gathered, whole, long, absent, gathered, contents_of, Gathers}
 use Rattle.da_cli.specs.Outcome.{Relation, Refuses, Outputs, AnswersBy, Answers}
@@ -18,7 +18,9 @@ use Rattle.da_cli.specs.Judging.{first_bad, Judged}
 use Rattle.da_cli.specs.Meaning.{judged_of, AnswerOf, Meaning}
 use Rattle.da_cli.specs.Run.{CommandOf, CallOf, RunOf, AnswersTold, CompletesBy, Completes}
 use Rattle.da_cli.specs.Laws.{FormLaw, BadInputLaw, ExcessLaw, AbsentLaw, IsDecided, FailureLaw}
+use Rattle.da_cli.proofs.EndLemmas.{IsAnswer, answer_output}
 use Rattle.da_cli.proofs.CheckLemmas.{check_last}
+use Rattle.da_cli.proofs.SquareLemmas.{build_answers, header_answers}
 
 -- the relation of words that are a command
 run_of_call : (words : List (List ℕ)) (call : Call) (files : Files) (g : Gathered) → call_of words ≡ Some call
@@ -80,16 +82,28 @@ pub absent_law : AbsentLaw
 absent_law files words call i w status e read run =
     subst (λ (R : Relation). R w status) (run_of_call words call files (absent i) e read) run
 
--- a command's answer comes with its output
-pub answer_last : (command : Command) (files : List (List ℕ)) (w : List ℕ) (status : Status) → AnswerOf command files w status → kind_of status ≡ output
-answer_last Check files w status h = check_last files w status h
+-- a command's answer comes with its output, or refuses what the files ask for
+pub answer_last : (command : Command) (files : List (List ℕ)) (w : List ℕ) (status : Status) → AnswerOf command files w status → IsAnswer (kind_of status)
+answer_last Check files w status h = answer_output status (check_last files w status h)
+answer_last Build files w status h = build_answers files w status h
+answer_last Header files w status h = header_answers files w status h
+
+decided_answer : (k : Kind) → IsAnswer k → IsDecided k
+decided_answer usage h = tt
+decided_answer fault h = h
+decided_answer excess h = tt
+decided_answer form h = tt
+decided_answer request h = tt
+decided_answer memory h = h
+decided_answer write h = h
+decided_answer output h = tt
 
 decided : (status : Status) (k : Kind) → kind_of status ≡ k → IsDecided k → IsDecided (kind_of status)
 decided status k e h = subst IsDecided (sym e) h
 
 by_judged : (o : Option (ℕ × ℕ)) (command : Command) (files : List (List ℕ)) (w : List ℕ) (status : Status)
     → MatchOption o (AnswerOf command files w status) (λ bad. Refuses (BadInput bad.0 bad.1) w status) → IsDecided (kind_of status)
-by_judged None command files w status h = decided status output (answer_last command files w status h) tt
+by_judged None command files w status h = decided_answer (kind_of status) (answer_last command files w status h)
 by_judged (Some bad) command files w status h = decided status form (ap kind_of h.1) tt
 
 by_gathered : (g : Gathered) (command : Command) (w : List ℕ) (status : Status) → CommandOf command g w status → IsDecided (kind_of status)
@@ -105,16 +119,17 @@ pub failure_law : FailureLaw
 failure_law files words w status h = by_call (call_of words) files words w status h
 
 -- an output that belongs to an answer has an answer's status
-other_kind : (M : Relation) (old new : Option (List ℕ)) (status : Status) (k : Kind) → kind_of status ≡ k
-    → ((w : List ℕ) → M w status → kind_of status ≡ output) → Outputs M old new status → k ≡ output
-other_kind M old new status k e last outputs = sym e ∙ last outputs.0 outputs.1
+answer_kind : (M : Relation) (old new : Option (List ℕ)) (status : Status) (k : Kind) → kind_of status ≡ k
+    → ((w : List ℕ) → M w status → IsAnswer (kind_of status)) → Outputs M old new status → IsAnswer k
+answer_kind M old new status k e last outputs = subst IsAnswer e (last outputs.0 outputs.1)
 
 completes_by : (M : Relation) (old new : Option (List ℕ)) (status : Status) (k : Kind) → kind_of status ≡ k
-    → ((w : List ℕ) → M w status → kind_of status ≡ output) → AnswersBy k M old new status → CompletesBy k M old new status
-completes_by M old new status usage e last h = let same : usage ≡ output = other_kind M old new status usage e last h in absurd cc
+    → ((w : List ℕ) → M w status → IsAnswer (kind_of status)) → AnswersBy k M old new status → CompletesBy k M old new status
+completes_by M old new status usage e last h = answer_kind M old new status usage e last h
 completes_by M old new status fault e last h = tt
-completes_by M old new status excess e last h = let same : excess ≡ output = other_kind M old new status excess e last h in absurd cc
-completes_by M old new status form e last h = let same : form ≡ output = other_kind M old new status form e last h in absurd cc
+completes_by M old new status excess e last h = answer_kind M old new status excess e last h
+completes_by M old new status form e last h = answer_kind M old new status form e last h
+completes_by M old new status request e last h = h
 completes_by M old new status memory e last h = h
 completes_by M old new status write e last h = h
 completes_by M old new status output e last h = h

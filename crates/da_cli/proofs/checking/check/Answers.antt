@@ -1,7 +1,8 @@
 use Rattle.std.proofs.Common.{◌∙◌, List, ℕ, refl, sym, ap}
 use Rattle.da_wire.specs.Frames.{frames_of, bad_frame}
 use Rattle.da_cli.specs.Gathered.{contents_of}
-use Rattle.da_cli.specs.Check.{header_in, Lists}
+use Rattle.da_cli.specs.Single.{header_in}
+use Rattle.da_cli.specs.Check.{Lists}
 use Rattle.da_cli.specs.declared.words.Command.TheVariants.{Check}
 use Rattle.da_cli.specs.Meaning.{Meaning}
 use Rattle.da_cli.proofs.EndLemmas.{ends_as, ends_refused}
