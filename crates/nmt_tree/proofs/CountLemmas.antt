@@ -1,5 +1,5 @@
 -- The counts of leaves that a tree may have.
-use Rattle.std.proofs.Common.{◌≡◌, ℕ, ◌+◌, ◌/◌, ◌^◌, ◌<◌, ◌≤◌, true, refl, arith, IsTrue}
+use Rattle.std.proofs.Common.{◌≡◌, ℕ, suc, ◌+◌, ◌/◌, ◌^◌, ◌<◌, ◌≤◌, true, refl, arith, IsTrue}
 use Rattle.std.specs.Prelude.{◌==◌}
 use Rattle.std.proofs.lemmas.Bool.Decides.{nat_tests}
 use Rattle.std.proofs.lemmas.Bool.{eqb-true}
@@ -24,3 +24,10 @@ power_halvings n h =
 
 pub halvings-le : (n : ℕ) → halvings n ≤ 8
 halvings-le n = grind (arith, nat_tests)
+
+-- half of such a number is halved once less
+pub halvings_half : (n : ℕ) → IsTrue (is_leaf_count n) → (n ≡ 1 → ⊥) → halvings n ≡ suc (halvings (n / 2))
+halvings_half n h several = grind (arith, nat_tests)
+
+pub leaf_count-pos : (n : ℕ) → IsTrue (is_leaf_count n) → 0 < n
+leaf_count-pos n h = grind (arith, nat_tests)
