@@ -1,5 +1,5 @@
 -- The digests over parts of leaves, and the root of a list of leaves.
-use Rattle.std.proofs.Common.{◌≡◌, ◌∙◌, ℕ, zero, suc, ◌+◌, ◌*◌, ◌^◌, ◌≤◌, List, [], ◌∷◌, length, take, drop, refl, sym, ap, ap₂, arith, length-drop}
+use Rattle.std.proofs.Common.{◌≡◌, ◌∙◌, ℕ, zero, suc, ◌+◌, ◌*◌, ◌^◌, ◌<◌, ◌≤◌, List, [], ◌∷◌, length, take, drop, get_or, refl, sym, ap, ap₂, arith, length-drop}
 use Rattle.std.proofs.lemmas.List.{get_or-drop, length-take-le, get_or-take}
 use Rattle.std.proofs.Math.Nat.{pow-suc}
 use Rattle.namespace_id.specs.declared.namespaces.Namespace.{Namespace}
@@ -15,6 +15,15 @@ length-leaf_digests [] [] h = refl
 length-leaf_digests [] (s ∷ ss) h = refl
 length-leaf_digests (n ∷ ns) [] h = absurd (omega arith)
 length-leaf_digests (n ∷ ns) (s ∷ ss) h = ap (λ (k : ℕ). suc k) (length-leaf_digests ns ss (omega arith))
+
+-- the digest at a place is that of the leaf there
+pub leaf_digests-at : (ns : List Namespace) (ss : List Share) (i : ℕ) (n : Namespace) (s : Share) → length ns ≡ length ss → i < length ns
+    → get_or (leaf_digests ns ss) i (record { 0 = [] }) ≡ leaf_digest (get_or ns i n) (get_or ss i s)
+unfolding leaf_digests
+leaf_digests-at [] ss i n s h lt = absurd (omega arith)
+leaf_digests-at (a ∷ ns) [] i n s h lt = absurd (omega arith)
+leaf_digests-at (a ∷ ns) (b ∷ ss) zero n s h lt = refl
+leaf_digests-at (a ∷ ns) (b ∷ ss) (suc i) n s h lt = leaf_digests-at ns ss i n s (omega arith) (omega arith)
 
 pub span-drop : (e k s : ℕ) (ds : List Digest) → span (drop k ds) s e ≡ span ds (k + s) e
 unfolding span

@@ -1,9 +1,10 @@
 //! Trees that keep the digests of all their levels.
 
-ghost use Rattle.std.specs.Prelude.{◌≡◌, ◌≤◌, ◌+◌, ◌%◌, ◌^◌, ℕ, List, length, IsTrue, true, Some, None, IfOk, IfSome, if◌then◌else◌};
+ghost use Rattle.std.specs.Prelude.{◌≡◌, ◌≤◌, ◌<◌, ◌+◌, ◌%◌, ◌^◌, ℕ, List, [], length, get_or, IsTrue, true, Some, None, IfOk, IfSome, if◌then◌else◌};
 ghost use Rattle.namespace_id.specs.Names.{IsNamespace};
 ghost use Rattle.namespace_id.specs.declared.namespaces.Namespace.{Namespace};
 ghost use Rattle.namespace_id.specs.declared.shares.Share.{Share};
+ghost use Rattle.nmt_tree.specs.Digests.{leaf_digest};
 ghost use Rattle.nmt_tree.specs.Roots.{is_leaf_count, halvings, is_ordered, root, strict_root};
 ghost use Rattle.nmt_tree.specs.Levels.{AreNames, HasOrderedJoins, leaf_digests, span};
 ghost use Rattle.nmt_tree.specs.Trees.{AreTreeLeaves, digest_over};
@@ -135,9 +136,13 @@ impl Tree {
     }
 }
 
-/// The root of a list of leaves is the digest over all of them, and where their namespaces never fall,
-/// every join over them is ordered.
+/// A digest of a list of leaves is that of the leaf at its place; the root is the digest over all of
+/// them; and where their namespaces never fall, every join over them is ordered.
 pub fn tree_laws()
+    ensures leaf { (names : List Namespace) (shares : List Share) (pos : ℕ) →
+        (name : Namespace) (share : Share) → length names ≡ length shares → pos < length names →
+        get_or (leaf_digests names shares) pos (record { 0 = [] }) ≡
+        leaf_digest (get_or names pos name) (get_or shares pos share) }
     ensures root { (depth : ℕ) (names : List Namespace) (shares : List Share) →
         length names ≡ 2 ^ depth → length shares ≡ 2 ^ depth →
         root depth names shares ≡ span (leaf_digests names shares) 0 depth }
