@@ -10,3 +10,6 @@ pub mod WholeLemmas
 pub mod ShownLemmas
 pub mod ListedLemmas
 pub mod TwinLemmas
+pub mod MadeLemmas
+pub mod PutLemmas
+pub mod SingleLemmas

@@ -4,3 +4,4 @@ pub mod Pieces
 pub mod Causes
 pub mod Paths
 pub mod Clashes
+pub mod Making
