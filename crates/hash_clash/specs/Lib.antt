@@ -1,0 +1,2 @@
+pub mod Preimages
+pub mod Collisions
