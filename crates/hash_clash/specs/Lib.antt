@@ -1,2 +1,3 @@
 pub mod Preimages
 pub mod Collisions
+pub mod Sides

@@ -1,12 +1,15 @@
 //! SHA-256 collisions that two openings, or two lists of leaves, with one root name.
 //!
-//! `Clash` is the certificate: a value of it is two different strings with one digest. Where a
-//! message, or a list of shares, contradicts a header that another list made, a clash is the only
-//! reason, and the calls of `finding` name it.
+//! `Clash` is the certificate: a value of it is two different strings with one digest. Where an
+//! opening or a list contradicts a root that another list has, a collision is the only reason, and
+//! the calls of `finding` name it. They hash anew, and take no memory.
 #![tactic(auto)]
 
 mod clashes;
+mod finding;
 mod preimages;
+mod sides;
 
 pub use clashes::Clash;
 pub use preimages::Preimage;
+pub use sides::Opening;
