@@ -28,6 +28,7 @@ pub(crate) enum Side<'a> {
 }
 
 /// What an interval is.
+#[derive(Clone, Copy)]
 pub(crate) enum Seen<'a> {
     /// Given by its digest.
     Given(&'a Digest),
@@ -76,6 +77,25 @@ pub(crate) fn look<'a>(depth: u8, start: u16, side: Side<'a>) -> Seen<'a>
                 Side::Listed(left_names, left_shares),
                 Side::Listed(right_names, right_shares),
             )
+        }
+    }
+}
+
+/// The digest of an interval of 2 ^ depth places.
+pub(crate) fn digest(depth: u8, start: u16, side: Side) -> Digest
+    requires depth { depth ≤ 8 }
+    requires interval { start + 2 ^ depth ≤ 256 }
+    requires side { IsSide depth side }
+    ensures { result ≡ digest_of (part_of depth start side.entry) }
+{
+    match look(depth, start, side) {
+        Seen::Given(digest) => *digest,
+        Seen::Leaf(name, share) => leaf(name, share),
+        Seen::Join(left, right) => {
+            let middle = start + size_of(depth - 1);
+            let left = digest(depth - 1, start, left);
+            let right = digest(depth - 1, middle, right);
+            node(&left, &right)
         }
     }
 }
