@@ -1,12 +1,12 @@
 -- What an interval is, by what is known of it.
-use Rattle.std.proofs.Common.{◌≡◌, ◌∙◌, ℕ, zero, suc, ◌+◌, ◌-◌, ◌*◌, ◌/◌, ◌^◌, ◌<◌, ◌≤◌, List, [], ◌∷◌, length, take, drop, get_or, true, false, ltb, refl, sym, ap, ap₂, subst, arith, length-drop, Bor}
+use Rattle.std.proofs.Common.{◌≡◌, ◌∙◌, ℕ, zero, suc, ◌+◌, ◌-◌, ◌/◌, ◌^◌, ◌<◌, ◌≤◌, List, [], ◌∷◌, length, take, drop, get_or, true, false, ltb, refl, sym, ap, ap₂, subst, arith, length-drop, Bor}
 use Rattle.std.proofs.lemmas.Bool.Decides.{nat_tests}
 use Rattle.std.proofs.lemmas.List.{length-take-le}
 use Rattle.namespace_id.specs.declared.namespaces.Namespace.{Namespace}
 use Rattle.namespace_id.specs.declared.shares.Share.{Share}
 use Rattle.namespace_id.specs.declared.digests.Digest.{Digest}
 use Rattle.namespace_id.proofs.HalfLemmas.{half_power}
-use Rattle.nmt_proofs.specs.Parts.{Part, given, leaf, join}
+use Rattle.nmt_proofs.specs.Parts.{given, leaf, join}
 use Rattle.nmt_proofs.specs.Openings.{opened, one_leaf, no_digest}
 use Rattle.nmt_proofs.specs.Clashes.{whole}
 use Rattle.nmt_proofs.proofs.TwinLemmas.{opened_left, opened_right}

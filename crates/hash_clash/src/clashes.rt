@@ -1,6 +1,6 @@
 //! Collisions.
 
-ghost use Rattle.std.specs.Prelude.{◌≡◌, ◌↔◌, IsSome, IfSome};
+ghost use Rattle.std.specs.Prelude.{◌≡◌, ◌↔◌, IsSome, IsSomeAnd, IfSome, Some};
 ghost use Rattle.sha2.specs.Sha256.{sha256};
 ghost use Rattle.nmt_proofs.specs.Clashes.{IsClash};
 
@@ -53,6 +53,17 @@ impl Clash {
             return None;
         }
         Some(Clash { left, right })
+    }
+
+    /// The collision that was found.
+    pub(crate) fn found(strings: Option<(Preimage, Preimage)>) -> Clash
+        requires { IsSomeAnd strings (λ pair. IsClash pair.0 pair.1) }
+        ensures { strings ≡ Some (result.left, result.right) }
+    {
+        let Some((left, right)) = strings else {
+            unreachable!()
+        };
+        Clash { left, right }
     }
 
     /// The first string.

@@ -11,5 +11,6 @@ mod preimages;
 mod sides;
 
 pub use clashes::Clash;
+pub use finding::{clash_leaves, clash_path_leaves, clash_paths};
 pub use preimages::Preimage;
 pub use sides::Opening;
