@@ -1,0 +1,4 @@
+pub mod WritingLemmas
+pub mod SideLemmas
+pub mod FindLemmas
+pub mod MakerLemmas

@@ -1,0 +1,4 @@
+pub mod Preimages
+pub mod Collisions
+pub mod Sides
+pub mod Openings

@@ -1,0 +1,97 @@
+//! Collisions.
+
+ghost use Rattle.std.specs.Prelude.{◌≡◌, ◌↔◌, IsSome, IsSomeAnd, IfSome, Some};
+ghost use Rattle.sha2.specs.Sha256.{sha256};
+ghost use Rattle.nmt_proofs.specs.Clashes.{IsClash};
+
+use crate::Preimage;
+use namespace_id::are_bytes;
+use sha2::{Digest as _, Sha256};
+use std::marker::Model;
+
+/// A SHA-256 collision: two different strings with one digest.
+#[derive(Clone, Debug, Drop)]
+pub struct Clash {
+    left: Preimage,
+    right: Preimage,
+}
+
+impl Model for Clash {
+    ghost use Rattle.hash_clash.specs.Collisions.{Strings};
+
+    ghost Value = { Strings };
+
+    ghost use Rattle.nmt_proofs.specs.Clashes.{IsClash};
+
+    ghost view = { λ c. record { left = c.left; right = c.right } };
+
+    ghost invariant = { λ c. IsClash c.left c.right };
+}
+
+/// The SHA-256 digest of bytes.
+fn digest_of(bytes: &[u8]) -> [u8; 32]
+    ensures { result ≡ sha256 bytes.now }
+{
+    let mut hasher = Sha256::new();
+    hasher.update(bytes);
+    hasher.finalize()
+}
+
+impl Clash {
+    /// The collision that two strings are; none where they are equal, or have two digests.
+    pub fn of(left: Preimage, right: Preimage) -> Option<Clash>
+        ensures some { IsSome result ↔ IsClash left right }
+        ensures left { IfSome result (λ clash. clash.left ≡ left) }
+        ensures right { IfSome result (λ clash. clash.right ≡ right) }
+    {
+        are_bytes(left.bytes());
+        are_bytes(right.bytes());
+        if left.bytes() == right.bytes() {
+            return None;
+        }
+        if digest_of(left.bytes()) != digest_of(right.bytes()) {
+            return None;
+        }
+        Some(Clash { left, right })
+    }
+
+    /// The collision that was found.
+    pub(crate) fn found(strings: Option<(Preimage, Preimage)>) -> Clash
+        requires { IsSomeAnd strings (λ pair. IsClash pair.0 pair.1) }
+        ensures { strings ≡ Some (result.left, result.right) }
+    {
+        let Some((left, right)) = strings else {
+            unreachable!()
+        };
+        Clash { left, right }
+    }
+
+    /// The first string.
+    pub fn left(&self) -> &Preimage
+        ensures { result.now ≡ self.now.left }
+    {
+        &self.left
+    }
+
+    /// The second string.
+    pub fn right(&self) -> &Preimage
+        ensures { result.now ≡ self.now.right }
+    {
+        &self.right
+    }
+}
+
+#[cfg(test)]
+mod tests {
+    use super::*;
+
+    #[test]
+    fn strings_that_are_no_collision(rt: HostRuntime) {
+        let cases: [(&str, &[u8], &[u8]); 2] = [("equal", &[0], &[0]), ("two digests", &[0], &[1])];
+        for (name, left, right) in cases {
+            let left = Preimage::of(left).expect(&rt, "one byte");
+            let right = Preimage::of(right).expect(&rt, "one byte");
+            assert!(rt; Clash::of(left, right).is_none(), "{name}");
+        }
+    }
+}

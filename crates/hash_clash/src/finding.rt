@@ -1,0 +1,191 @@
+//! The collision that two openings or lists with one root name.
+
+ghost use Rattle.std.specs.Prelude.{◌≡◌, ◌+◌, ◌^◌, ◌≤◌, ◌<◌, length, IsTrue, true, false, Some, None};
+ghost use Rattle.namespace_id.specs.Names.{IsNamespace};
+ghost use Rattle.nmt_tree.specs.Roots.{is_leaf_count, halvings, root};
+ghost use Rattle.nmt_proofs.specs.Parts.{digest_of};
+ghost use Rattle.nmt_proofs.specs.Clashes.{join_text, apart_or, clash_at, whole, AreNamespaces};
+ghost use Rattle.hash_clash.specs.Openings.{IsWhole, opened_at, is_counted, is_one_opening, is_leaf_at, is_one_list};
+ghost use Rattle.hash_clash.specs.Sides.{part_of, IsSide};
+
+use crate::sides::{Opening, Seen, Side, digest, look, size_of};
+use crate::{Clash, Preimage};
+use namespace_id::{Namespace, Share, are_bytes, are_digests, are_shares, is_share};
+
+/// Two strings, where they differ.
+fn differing(left: Preimage, right: Preimage) -> Option<(Preimage, Preimage)>
+    ensures { result ≡ apart_or left right None }
+{
+    if left.bytes() == right.bytes() {
+        None
+    } else {
+        Some((left, right))
+    }
+}
+
+/// What is hashed for a node over two intervals.
+fn node_text(depth: u8, start: u16, middle: u16, left: Side, right: Side) -> Preimage
+    requires depth { depth ≤ 8 }
+    requires left_interval { start + 2 ^ depth ≤ 256 }
+    requires right_interval { middle + 2 ^ depth ≤ 256 }
+    requires left { IsSide depth left }
+    requires right { IsSide depth right }
+    ensures { result ≡ join_text (digest_of (part_of depth start left.entry)) (digest_of (part_of depth middle right.entry)) }
+{
+    Preimage::of_node(&digest(depth, start, left), &digest(depth, middle, right))
+}
+
+/// The strings at the first interval at which two sides of 2 ^ depth places both have one and these
+/// differ: the root first, then the left half.
+fn find(depth: u8, start: u16, a: Side, b: Side) -> Option<(Preimage, Preimage)>
+    requires depth { depth ≤ 8 }
+    requires interval { start + 2 ^ depth ≤ 256 }
+    requires a { IsSide depth a }
+    requires b { IsSide depth b }
+    ensures { result ≡ clash_at (part_of depth start a.entry) (part_of depth start b.entry) }
+{
+    match (look(depth, start, a), look(depth, start, b)) {
+        (Seen::Leaf(name, share), Seen::Leaf(other_name, other_share)) => differing(
+            Preimage::of_leaf(name, share),
+            Preimage::of_leaf(other_name, other_share),
+        ),
+        (Seen::Join(left, right), Seen::Join(other_left, other_right)) => {
+            let below = depth - 1;
+            let middle = start + size_of(below);
+            let text = node_text(below, start, middle, left, right);
+            let other_text = node_text(below, start, middle, other_left, other_right);
+            let found = differing(text, other_text);
+            if found.is_some() {
+                return found;
+            }
+            let found = find(below, start, left, other_left);
+            if found.is_some() {
+                return found;
+            }
+            find(below, middle, right, other_right)
+        }
+        _ => None,
+    }
+}
+
+/// How often a number of leaves can be halved.
+fn depth_of(n: usize) -> u8
+    requires { IsTrue (is_leaf_count n) }
+    ensures value { result ≡ halvings n }
+    ensures bound { result ≤ 8 }
+{
+    match n {
+        1 => 0,
+        2 => 1,
+        4 => 2,
+        8 => 3,
+        16 => 4,
+        32 => 5,
+        64 => 6,
+        128 => 7,
+        _ => 8,
+    }
+}
+
+/// Says that a namespace has 29 bytes, each below 256. It changes nothing.
+fn is_name(name: &Namespace)
+    ensures { IsNamespace name.now }
+{
+    are_bytes(&name.0);
+}
+
+/// Says that each namespace of a slice has 29 bytes, each below 256. It changes nothing.
+fn are_names(names: &[Namespace])
+    ensures { AreNamespaces names.now }
+{
+    for name in names {
+        is_name(name);
+    }
+}
+
+/// Says that an opening has its shape. It changes nothing.
+fn is_whole(opening: &Opening)
+    ensures { IsWhole opening.now }
+{
+    is_name(&opening.name);
+    is_share(&opening.share);
+    are_digests(opening.path.nodes());
+}
+
+/// The collision that two openings of one place name, where they have one root and differ in
+/// namespace, share or nodes. `n` is a number of leaves, a power of two up to 256, and `pos` is below
+/// it; each opening has as many nodes as there are subtrees that don't hold the place. Whether its
+/// joins are ordered plays no part.
+///
+/// The strings are those at the first interval, root first and left half before right half, for which
+/// both openings have a string and these differ. It takes no memory.
+pub fn clash_paths(n: u16, pos: u16, a: &Opening, b: &Opening) -> Clash
+    requires leaves { IsTrue (is_leaf_count n) }
+    requires place { pos < n }
+    requires a_count { is_counted n pos a.now ≡ true }
+    requires b_count { is_counted n pos b.now ≡ true }
+    requires root { digest_of (opened_at n pos a.now) ≡ digest_of (opened_at n pos b.now) }
+    requires apart { is_one_opening a.now b.now ≡ false }
+    ensures { clash_at (opened_at n pos a.now) (opened_at n pos b.now) ≡ Some (result.left, result.right) }
+{
+    is_whole(a);
+    is_whole(b);
+    let a_side = Side::Opened(pos, a, a.path.nodes());
+    let b_side = Side::Opened(pos, b, b.path.nodes());
+    Clash::found(find(depth_of(n as usize), 0, a_side, b_side))
+}
+
+/// The collision that an opening and a list of leaves name, where they have one root and the list has
+/// another namespace or another share at the place. Shapes and strings are as for `clash_paths`; the
+/// list has `n` leaves. It takes no memory.
+pub fn clash_path_leaves(
+    n: u16,
+    pos: u16,
+    a: &Opening,
+    names: &[Namespace],
+    shares: &[Share],
+) -> Clash
+    requires leaves { IsTrue (is_leaf_count n) }
+    requires place { pos < n }
+    requires names { length names.now ≡ n }
+    requires shares { length shares.now ≡ n }
+    requires count { is_counted n pos a.now ≡ true }
+    requires root { digest_of (opened_at n pos a.now) ≡ root (halvings n) names.now shares.now }
+    requires apart { is_leaf_at names.now shares.now pos a.now.name a.now.share ≡ false }
+    ensures { clash_at (opened_at n pos a.now) (whole (halvings n) names.now shares.now)
+        ≡ Some (result.left, result.right) }
+{
+    is_whole(a);
+    are_names(names);
+    are_shares(shares);
+    let side = Side::Opened(pos, a, a.path.nodes());
+    Clash::found(find(depth_of(n as usize), 0, side, Side::Listed(names, shares)))
+}
+
+/// The collision that two lists of leaves name, where they have one root and differ. Both have one
+/// number of leaves, a power of two up to 256; strings are as for `clash_paths`. It takes no memory.
+pub fn clash_leaves(
+    names_a: &[Namespace],
+    shares_a: &[Share],
+    names_b: &[Namespace],
+    shares_b: &[Share],
+) -> Clash
+    requires leaves { IsTrue (is_leaf_count (length names_a.now)) }
+    requires a_pairs { length shares_a.now ≡ length names_a.now }
+    requires b_names { length names_b.now ≡ length names_a.now }
+    requires b_shares { length shares_b.now ≡ length names_a.now }
+    requires root { root (halvings (length names_a.now)) names_a.now shares_a.now
+        ≡ root (halvings (length names_a.now)) names_b.now shares_b.now }
+    requires apart { is_one_list names_a.now shares_a.now names_b.now shares_b.now ≡ false }
+    ensures { clash_at (whole (halvings (length names_a.now)) names_a.now shares_a.now)
+        (whole (halvings (length names_a.now)) names_b.now shares_b.now)
+        ≡ Some (result.left, result.right) }
+{
+    are_names(names_a);
+    are_shares(shares_a);
+    are_names(names_b);
+    are_shares(shares_b);
+    let a_side = Side::Listed(names_a, shares_a);
+    let b_side = Side::Listed(names_b, shares_b);
+    Clash::found(find(depth_of(names_a.len()), 0, a_side, b_side))
+}
