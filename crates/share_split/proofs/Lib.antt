@@ -1,3 +1,5 @@
 pub mod WidthLemmas
 pub mod ShareLemmas
 pub mod LaterLemmas
+pub mod VarintLemmas
+pub mod StartLemmas

@@ -1,10 +1,12 @@
 //! Units, as transactions, and their compact shares.
 
-ghost use Rattle.std.specs.Prelude.{◌≡◌, ◌<◌, ◌++◌, length, OnOk, OnErr, IsErrOf};
+ghost use Rattle.std.specs.Prelude.{◌≡◌, ◌-◌, ◌^◌, ◌<◌, ◌++◌, ◌↔◌, length, min, OnOk, OnErr, IsErrOf};
 ghost use Rattle.share_split.specs.Blobs.{max_sequence_length};
-ghost use Rattle.share_split.specs.Units.{units_text, unit_shares_of};
+ghost use Rattle.share_split.specs.Units.{units_text, unit_shares_of, unit_share_count};
 
-use crate::SplitError;
+use crate::compact::{compact_count, put_compact};
+use crate::texts::{text_size, units_text};
+use crate::{MAX_SEQUENCE_LENGTH, SplitError};
 use namespace_id::{Namespace, Share};
 use std::alloc::Global;
 use std::marker::Model;
@@ -37,8 +39,21 @@ impl Model for Unit {
     ghost view = { λ u. u.bytes.items };
 }
 
+/// How many compact shares units take, or 2^64 - 1 where they take more. Takes no memory.
+///
+/// Celestia specifications, "Shares", transaction shares.
+pub fn unit_share_count(units: &[Unit]) -> u64
+    ensures { result ≡ min (unit_share_count units.now) (2 ^ 64 - 1) }
+{
+    if units.is_empty() {
+        return 0;
+    }
+    compact_count(text_size(units)).min(u64::MAX as u128) as u64
+}
+
 /// Appends the compact shares of units, none for no units. The namespace may be any: those of units
-/// are `TRANSACTION` and `PAY_FOR_BLOB`.
+/// are `TRANSACTION` and `PAY_FOR_BLOB`. The room for the text of the units is taken at once, and then
+/// that for all shares.
 ///
 /// Refuses units that have with their lengths more than `MAX_SEQUENCE_LENGTH` bytes (`TooLong`), then
 /// want of memory, and never anything else; a refusal leaves `out` as it was.
@@ -52,14 +67,25 @@ pub fn unit_shares(
 ) -> Result<(), SplitError>
     ensures written { OnOk result
         (out.new.items ≡ out.old.items ++ unit_shares_of namespace.now units.now) }
-    ensures too_long { IsErrOf result SplitError.TooLong →
-        max_sequence_length < length (units_text units.now) }
+    ensures too_long { IsErrOf result SplitError.TooLong ↔
+        (max_sequence_length < length (units_text units.now)) }
     ensures never { IsErrOf result SplitError.Empty → ⊥ }
     ensures unchanged { OnErr result (out.new.items ≡ out.old.items) }
 {
-    let _alloc = alloc;
-    let _name = namespace;
-    let _units = units.len();
-    let _out = out.len();
-    Err(SplitError::NoMemory)
+    let size = text_size(units);
+    if size > MAX_SEQUENCE_LENGTH as u128 {
+        return Err(SplitError::TooLong);
+    }
+    if units.is_empty() {
+        return Ok(());
+    }
+    let Ok(text) = units_text(alloc, units, size as usize) else {
+        return Err(SplitError::NoMemory);
+    };
+    let count = compact_count(size) as usize;
+    if out.reserve(count).is_err() {
+        return Err(SplitError::NoMemory);
+    }
+    put_compact(out, namespace, units, &text, count);
+    Ok(())
 }
