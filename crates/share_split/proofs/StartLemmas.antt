@@ -26,9 +26,9 @@ starts_on-on from earlier [] h = ap (λ (l : List ℕ). starts_on from l) (start
 starts_on-on from earlier (start ∷ starts) h =
     elim (cases_lt start earlier) [
       | inl lt ↦
-        ap (λ (l : List ℕ). starts_on from l) (starts_on-before earlier start starts lt)
-        ∙ starts_on-on from earlier starts h
-        ∙ sym (starts_on-before from start starts (omega arith))
+          ap (λ (l : List ℕ). starts_on from l) (starts_on-before earlier start starts lt)
+          ∙ starts_on-on from earlier starts h
+          ∙ sym (starts_on-before from start starts (omega arith))
       | inr le ↦ ap (λ (l : List ℕ). starts_on from l) (starts_on-at earlier start starts le)
     ]
 
@@ -80,11 +80,11 @@ pub starts-stay : (from start : ℕ) (units : List (List ℕ)) (index : ℕ) →
 starts-stay from start units index h =
     elim (cases_lt index (length units)) [
       | inl lt ↦
-        let next = starts_from-front start units index lt in
-        ap (λ (l : List ℕ). starts_on from l) next ∙ starts_on-at from start _ (h lt) ∙ sym next
+          let next = starts_from-front start units index lt in
+          ap (λ (l : List ℕ). starts_on from l) next ∙ starts_on-at from start _ (h lt) ∙ sym next
       | inr le ↦
-        let none = starts_from-none start units index le in
-        ap (λ (l : List ℕ). starts_on from l) none ∙ starts_on-none from ∙ sym none
+          let none = starts_from-none start units index le in
+          ap (λ (l : List ℕ). starts_on from l) none ∙ starts_on-none from ∙ sym none
     ]
 
 -- ---- the first start in a share
@@ -121,9 +121,9 @@ first_start-on place from to earlier [] h = ap (λ (l : List ℕ). first_start p
 first_start-on place from to earlier (start ∷ starts) h =
     elim (cases_lt start earlier) [
       | inl lt ↦
-        ap (λ (l : List ℕ). first_start place from to l) (starts_on-before earlier start starts lt)
-        ∙ first_start-on place from to earlier starts h
-        ∙ sym (first_start-before place from to start starts (omega arith))
+          ap (λ (l : List ℕ). first_start place from to l) (starts_on-before earlier start starts lt)
+          ∙ first_start-on place from to earlier starts h
+          ∙ sym (first_start-before place from to start starts (omega arith))
       | inr le ↦ ap (λ (l : List ℕ). first_start place from to l) (starts_on-at earlier start starts le)
     ]
 

@@ -89,3 +89,73 @@ pub fn unit_shares(
     put_compact(out, namespace, units, &text, count);
     Ok(())
 }
+
+#[cfg(test)]
+mod tests {
+    use super::*;
+    use namespace_id::TRANSACTION;
+    use std::test::Fail;
+
+    /// So many units of these lengths.
+    fn units_of(alloc: Global, lens: &[usize]) -> Result<Vec<Unit>, Fail> {
+        let mut units = Vec::new(alloc);
+        for len in lens {
+            let bytes = vec![in alloc; 7; *len]?;
+            units.push(Unit { bytes })?;
+        }
+        Ok(units)
+    }
+
+    /// Worked out by hand from the Celestia specifications, "Shares", transaction shares: the length of
+    /// the sequence and the first unit's length, and what the reserved bytes of each share state.
+    #[test]
+    fn unit_rows(rt: HostRuntime) -> Result<(), Fail> {
+        let none: &[usize] = &[];
+        let no_shares: &[u8] = &[];
+        let cases = [
+            ("no units", none, [0, 0, 0, 0], [0, 0], no_shares),
+            (
+                "a unit to the end of a share",
+                &[472, 10],
+                [0, 0, 1, 0xe5],
+                [0xd8, 3],
+                &[38, 34],
+            ),
+            (
+                "no unit starts",
+                &[1000, 5],
+                [0, 0, 3, 0xf0],
+                [0xe8, 7],
+                &[38, 0, 84],
+            ),
+        ];
+        for (name, lens, size, prefix, reserved) in cases {
+            let units = units_of(rt.alloc(), lens)?;
+            let mut out = Vec::new(rt.alloc());
+            unit_shares(rt.alloc(), &TRANSACTION, &units, &mut out)?;
+            assert_eq!(rt; out.len(), reserved.len(), "{name}");
+            assert_eq!(rt; unit_share_count(&units), reserved.len() as u64, "{name}");
+            for (i, share) in out.iter().enumerate() {
+                let at = if i == 0 { 34 } else { 30 };
+                assert_eq!(rt;
+                    &share.0[at..at + 4],
+                    [0, 0, 0, reserved[i]].as_slice(),
+                    "{name}, {i}"
+                );
+            }
+            if let Some(first) = out.first() {
+                assert_eq!(rt;
+                    &first.0[27..34],
+                    [0, 1, 1, size[0], size[1], size[2], size[3]].as_slice(),
+                    "{name}"
+                );
+                assert_eq!(rt;
+                    &first.0[38..41],
+                    [prefix[0], prefix[1], 7].as_slice(),
+                    "{name}"
+                );
+            }
+        }
+        Ok(())
+    }
+}

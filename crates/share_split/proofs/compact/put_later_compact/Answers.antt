@@ -22,7 +22,7 @@ pub returns : goal.returns
 returns c = record {
   appended = sym (append-nil c.loop-i.out.items)
       ∙ sym (ap (λ (l : List Share). c.loop-i.out.items ++ l)
-        (later_compact_shares-none c.args.namespace.now (suc c.loop-i.i) (starts_of c.args.units.now c.loop-i.next) c.loop-i.rest.now
-        (c.args.count - c.loop-i.i) (omega (arith, c.loop-i-test.false))))
+      (later_compact_shares-none c.args.namespace.now (suc c.loop-i.i) (starts_of c.args.units.now c.loop-i.next) c.loop-i.rest.now
+      (c.args.count - c.loop-i.i) (omega (arith, c.loop-i-test.false))))
       ∙ c.loop-i.invariant.all;
 }

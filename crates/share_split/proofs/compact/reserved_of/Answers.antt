@@ -12,11 +12,11 @@ returns-then-next-units c =
     let to = content_start (suc share) in
     elim c.then-next-units.branch [
       | then-next-units-via-then-next-units w ↦
-        sym (start-none (content_place share) from to next.start next.index c.args.units.now (omega arith))
+          sym (start-none (content_place share) from to next.start next.index c.args.units.now (omega arith))
       | then-next-units-via-else-next-units+then-next-content_start w ↦
-        let end : w.content_start.result ≡ to = w.content_start.ensures ∙ ap content_start (add-one share) in
-        sym (start-behind (content_place share) from to next.start next.index c.args.units.now (omega arith) (c.requires.place (omega arith))
-            (omega (arith, end, w.if-next-content_start.true)))
+          let end : w.content_start.result ≡ to = w.content_start.ensures ∙ ap content_start (add-one share) in
+          sym (start-behind (content_place share) from to next.start next.index c.args.units.now (omega arith) (c.requires.place (omega arith))
+          (omega (arith, end, w.if-next-content_start.true)))
     ]
 
 pub returns : goal.returns
@@ -26,4 +26,4 @@ returns c =
     let end : c.content_start.result ≡ content_start (suc share) = c.content_start.ensures ∙ ap content_start (add-one share) in
     ap₂ (λ (place from : ℕ). place + (next.start - from)) c.content_place.ensures c.content_start-2.ensures
     ∙ sym (start-at (content_place share) (content_start share) (content_start (suc share)) next.start next.index c.args.units.now
-        (omega arith) (c.requires.place (omega arith)) (omega (arith, end, c.if-next-content_start.false)))
+    (omega arith) (c.requires.place (omega arith)) (omega (arith, end, c.if-next-content_start.false)))
