@@ -1,3 +1,9 @@
 pub mod WidthLemmas
 pub mod ShareLemmas
 pub mod LaterLemmas
+pub mod VarintLemmas
+pub mod StartLemmas
+pub mod CompactShareLemmas
+pub mod LaterCompactLemmas
+pub mod VarintLawLemmas
+pub mod UnitLawLemmas

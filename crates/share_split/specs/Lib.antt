@@ -3,3 +3,5 @@ pub mod Blobs
 pub mod Units
 pub mod Walks
 pub mod Joined
+pub mod Texts
+pub mod UnitLaws
