@@ -1,0 +1,2 @@
+pub mod SortingLemmas
+pub mod BlobOrderLemmas

@@ -2,5 +2,6 @@
 #![tactic(auto)]
 
 mod blocks;
+mod ordering;
 
 pub use blocks::{Block, Square};
