@@ -1,6 +1,6 @@
 -- Sorting borrowed blobs by their namespaces gives them in the order in which they stand in a square.
-use Rattle.std.proofs.Common.{◌≡◌, ◌∙◌, ℕ, ◌+◌, ◌<◌, ◌≤◌, Bool, true, false, if◌then◌else◌, List, [], ◌∷◌, length, get_or, filter, map, ◌&&◌, not, is_lt, is_le, Bor, Ordering, Less, Equal, Greater, refl, sym, ap, arith, inl, inr}
-use Rattle.std.proofs.lemmas.Bool.{cases_Bool, and_parts, true≢false}
+use Rattle.std.proofs.Common.{◌≡◌, ◌∙◌, ◌+◌, Bool, true, List, [], ◌∷◌, get_or, map, ◌&&◌, not, is_lt, is_le, Bor, Ordering, Less, Equal, Greater, refl, sym, ap, arith, inl, inr}
+use Rattle.std.proofs.lemmas.Bool.{cases_Bool, and_parts}
 use Rattle.std.specs.Ordering.{ordering_reverse}
 use Rattle.std.specs.List.Sorted.{ties, IsSortedByKey, IsStableByKey}
 use Rattle.std.proofs.lemmas.Cmp.{nat_list_cmp_total}

@@ -1,2 +1,3 @@
 pub mod SortingLemmas
 pub mod BlobOrderLemmas
+pub mod RefusalLemmas

@@ -1,6 +1,6 @@
 -- A list that rises, and has equal elements in the order of another list, is that list sorted by
 -- insertion.
-use Rattle.std.proofs.Common.{◌≡◌, ◌∙◌, ℕ, zero, suc, ◌+◌, ◌<◌, ◌≤◌, Bool, true, false, cond, if◌then◌else◌, List, [], ◌∷◌, length, get_or, filter, map, ◌⊎◌, refl, sym, ap, arith, inl, inr, suc-le-suc, zero-le, add-one}
+use Rattle.std.proofs.Common.{◌≡◌, ◌∙◌, ℕ, suc, ◌+◌, ◌<◌, Bool, true, false, cond, if◌then◌else◌, List, [], ◌∷◌, length, get_or, filter, ◌⊎◌, refl, sym, ap, arith, inl, inr, add-one}
 use Rattle.std.proofs.lemmas.Bool.{cond-true, cond-false, cases_Bool, true≢false}
 use Rattle.std.specs.List.{AllByRecursion}
 

@@ -1,5 +1,5 @@
 -- Blocks and squares as contracts see them.
-use Rattle.std.specs.Prelude.{◌≡◌, ℕ, ◌*◌, List, length, Bool, true, Option}
+use Rattle.std.specs.Prelude.{◌≡◌, ℕ, ◌*◌, List, length, true, Option}
 use Rattle.namespace_id.specs.declared.shares.Share.{Share}
 use Rattle.namespace_id.specs.Cells.{is_width}
 use Rattle.share_split.specs.Blobs.{NamedBytes}

@@ -2,6 +2,9 @@
 #![tactic(auto)]
 
 mod blocks;
+mod checking;
+mod laying;
 mod ordering;
 
 pub use blocks::{Block, Square};
+pub use laying::{LayError, MAX_SHARES};
