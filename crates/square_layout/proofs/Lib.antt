@@ -1,3 +1,5 @@
 pub mod SortingLemmas
 pub mod BlobOrderLemmas
 pub mod RefusalLemmas
+pub mod PlaceLemmas
+pub mod CountLemmas

@@ -3,6 +3,7 @@
 
 mod blocks;
 mod checking;
+mod counting;
 mod laying;
 mod ordering;
 
