@@ -45,7 +45,7 @@ laid_filled head content n e h =
 abbrev pub head : List ℕ → ℕ → List ℕ
 head name start = name ++ start ∷ []
 
-length-head : (name : List ℕ) (start : ℕ) → length name ≡ 29 → length (head name start) ≡ 30
+pub length-head : (name : List ℕ) (start : ℕ) → length name ≡ 29 → length (head name start) ≡ 30
 length-head name start n = length-append name (start ∷ []) ∙ ap (λ (k : ℕ). k + 1) n
 
 pub head_laid : (name : List ℕ) (start : ℕ) → length name ≡ 29 → laid (head name start) ≡ head name start ++ replicate later_content 0

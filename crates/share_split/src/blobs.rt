@@ -84,7 +84,7 @@ fn info(version: u8, start: bool) -> u8
 }
 
 /// A share without its content: the namespace and the info byte, and zeros behind them.
-fn begun(namespace: &Namespace, start: bool) -> Share
+pub(crate) fn begun(namespace: &Namespace, start: bool) -> Share
     ensures value { result.0 ≡ namespace.now.0 ++ info 0 start ∷ [] ++ replicate later_content 0 }
     ensures name { length namespace.now.0 ≡ 29 }
 {
@@ -116,7 +116,7 @@ fn later_share(namespace: &Namespace, content: &[u8]) -> Share
 }
 
 /// The first bytes, at most so many, and the others.
-fn split_within(bytes: &[u8], most: usize) -> (&[u8], &[u8])
+pub(crate) fn split_within(bytes: &[u8], most: usize) -> (&[u8], &[u8])
     ensures first { result.0.now ≡ take most bytes.now }
     ensures rest { result.1.now ≡ drop most bytes.now }
     ensures few { length result.0.now ≤ most }
@@ -125,7 +125,7 @@ fn split_within(bytes: &[u8], most: usize) -> (&[u8], &[u8])
 }
 
 /// Appends a share for which there is room.
-fn put_share(out: &mut Vec<Share>, share: Share)
+pub(crate) fn put_share(out: &mut Vec<Share>, share: Share)
     requires room { HasRoom out.old 1 }
     ensures appended { out.new.items ≡ out.old.items ++ share ∷ [] }
     ensures len { vec_len out.new ≡ vec_len out.old + 1 }

@@ -6,8 +6,11 @@
 #![tactic(auto)]
 
 mod blobs;
+mod compact;
 mod joining;
+mod texts;
 mod units;
+mod varints;
 mod widths;
 
 pub use blobs::{
@@ -15,5 +18,7 @@ pub use blobs::{
     blob_share_count, blob_shares,
 };
 pub use joining::JoinError;
-pub use units::{FIRST_COMPACT_CONTENT, LATER_COMPACT_CONTENT, Unit, unit_shares};
+pub use units::{
+    FIRST_COMPACT_CONTENT, LATER_COMPACT_CONTENT, Unit, unit_share_count, unit_shares,
+};
 pub use widths::{SUBTREE_ROOT_THRESHOLD, subtree_width};

@@ -1,0 +1,15 @@
+use Rattle.std.proofs.Common.{◌+◌, ◌-◌, ◌≡◌, ◌≤◌, ◌++◌, length, vec_len, vec_capacity}
+use Rattle.share_split.specs.Units.{varint}
+use Rattle.share_split.proofs.varints.put_varint.Given as goal
+
+-- what is there and what is left are the varint, and there is room for what is left
+abbrev pub invariant-loop-rest : goal.invariant-loop-rest
+invariant-loop-rest l = record {
+  all : l.out.items ++ varint l.rest ≡ l.fn.out.items ++ varint l.n;
+  len : vec_len l.out + length (varint l.rest) ≡ vec_len l.fn.out + length (varint l.n);
+  capacity : vec_capacity l.fn.out ≤ vec_capacity l.out;
+  fits : l.rest ≤ l.n;
+}
+
+abbrev pub decreases-loop-rest : goal.decreases-loop-rest
+decreases-loop-rest l = l.rest

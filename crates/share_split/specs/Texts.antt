@@ -1,0 +1,22 @@
+-- Words on the text of units, on where they start in it, and on the shares that it takes.
+use Rattle.std.specs.Prelude.{◌≡◌, ℕ, ◌+◌, ◌≤◌, nat_lt, List, [], ◌∷◌, length, drop, if◌then◌else◌, Vec, vec_len, vec_capacity}
+use Rattle.std.specs.declared.alloc.Global.{Global}
+use Rattle.share_split.specs.Units.{units_text, starts_from}
+use Rattle.share_split.specs.declared.texts.NextUnit.{NextUnit}
+
+-- there is room for so many bytes
+abbrev pub HasRoomFor : ℕ → Vec ℕ Global → Type 0
+HasRoomFor count out = vec_len out + count ≤ vec_capacity out
+
+-- where the next unit and those behind it start
+abbrev pub starts_of : List (List ℕ) → NextUnit → List ℕ
+starts_of units next = starts_from next.start (drop next.index units)
+
+-- the next unit starts where the text of those before it ends
+abbrev pub IsNextOf : List (List ℕ) → NextUnit → Type 0
+IsNextOf units next = next.start + length (units_text (drop next.index units)) ≡ length (units_text units)
+
+-- the starts that aren't before a place, where starts are ascending
+unfoldable pub starts_on : ℕ → List ℕ → List ℕ
+starts_on from [] = []
+starts_on from (start ∷ starts) = if nat_lt start from then starts_on from starts else start ∷ starts

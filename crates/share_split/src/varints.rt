@@ -1,0 +1,47 @@
+//! Lengths of units as varints.
+
+ghost use Rattle.std.specs.Prelude.{◌≡◌, ◌+◌, ◌≤◌, ◌++◌, length, vec_len, vec_capacity};
+ghost use Rattle.share_split.specs.Units.{varint};
+ghost use Rattle.share_split.specs.Texts.{HasRoomFor};
+
+/// What a byte of a varint holds is below this number, and a byte behind which another follows is not.
+const LIMIT: usize = 128;
+
+/// Appends bytes for which there is room.
+pub(crate) fn put_bytes(out: &mut Vec<u8>, bytes: &[u8])
+    requires room { HasRoomFor (length bytes.now) out.old }
+    ensures appended { out.new.items ≡ out.old.items ++ bytes.now }
+    ensures len { vec_len out.new ≡ vec_len out.old + length bytes.now }
+    ensures capacity { vec_capacity out.old ≤ vec_capacity out.new }
+{
+    out.extend_from_slice(bytes).unwrap();
+}
+
+/// How many bytes the shortest varint of a number takes.
+pub(crate) fn varint_len(n: usize) -> usize
+    ensures value { result ≡ length (varint n) }
+    ensures few { result ≤ 10 }
+{
+    let mut rest = n;
+    let mut len = 1;
+    while rest >= LIMIT {
+        rest /= LIMIT;
+        len += 1;
+    }
+    len
+}
+
+/// Appends the shortest varint of a number: seven bits in a byte, the lowest first.
+pub(crate) fn put_varint(out: &mut Vec<u8>, n: usize)
+    requires room { HasRoomFor (length (varint n)) out.old }
+    ensures appended { out.new.items ≡ out.old.items ++ varint n }
+    ensures len { vec_len out.new ≡ vec_len out.old + length (varint n) }
+    ensures capacity { vec_capacity out.old ≤ vec_capacity out.new }
+{
+    let mut rest = n;
+    while rest >= LIMIT {
+        put_bytes(out, &[(rest % LIMIT + LIMIT) as u8]);
+        rest /= LIMIT;
+    }
+    put_bytes(out, &[rest as u8]);
+}
