@@ -3,3 +3,5 @@ pub mod BlobOrderLemmas
 pub mod RefusalLemmas
 pub mod PlaceLemmas
 pub mod CountLemmas
+pub mod PutLemmas
+pub mod SizeLemmas

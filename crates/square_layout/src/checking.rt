@@ -3,6 +3,7 @@
 ghost use Rattle.std.specs.Prelude.{◌≡◌, ◌<◌, ◌≤◌, Some, None};
 ghost use Rattle.square_layout.specs.Refusals.{namespace_refusal, bad_blob, empty_blob, width_refusal, size_refusal};
 
+use crate::widths::shares_in;
 use crate::{LayError, MAX_SHARES};
 use namespace_id::{Namespace, NsError, is_width};
 use share_split::Blob;
@@ -42,7 +43,7 @@ pub fn empty_blob(blobs: &[Blob]) -> Option<LayError>
 fn width_refusal(count: u64, k: u16) -> Option<LayError>
     ensures { result ≡ width_refusal count k }
 {
-    if u64::from(k) * u64::from(k) < count {
+    if shares_in(k) < count {
         return Some(LayError::WidthTooSmall(count));
     }
     if !is_width(k) {

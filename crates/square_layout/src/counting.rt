@@ -2,10 +2,11 @@
 
 ghost use Rattle.std.specs.Prelude.{◌≡◌, ◌≤◌, ◌^◌, min, map, length};
 ghost use Rattle.square_layout.specs.Blocks.{HaveBytes};
-ghost use Rattle.square_layout.specs.Layout.{shares_of, start_after, end_of};
+ghost use Rattle.square_layout.specs.Layout.{shares_of, start_after, end_of, in_order, needed};
 ghost use Rattle.square_layout.specs.Refusals.{max_count};
 
-use share_split::{Blob, blob_share_count, subtree_width};
+use crate::Block;
+use share_split::{Blob, blob_share_count, subtree_width, unit_share_count};
 
 /// How many shares a blob takes.
 pub fn shares_of(blob: &Blob) -> u64
@@ -37,4 +38,16 @@ pub fn end_of(end: u64, blobs: &[&Blob]) -> u64
         end = start_after(end, blob).saturating_add(shares_of(blob));
     }
     end
+}
+
+/// How many shares the layout of a block has, whose blobs stand in this order; 2^64 - 1 for any
+/// greater number.
+pub fn needed(block: &Block, order: &[&Blob]) -> u64
+    requires order { map (λ blob. blob.now) order.now ≡ in_order block.now.blobs }
+    requires some { HaveBytes (map (λ blob. blob.now) order.now) }
+    ensures { result ≡ min (needed block.now) max_count }
+{
+    let units = unit_share_count(&block.units);
+    let compact = units.saturating_add(unit_share_count(&block.pay_units));
+    end_of(compact, order).max(1)
 }

@@ -6,6 +6,8 @@ mod checking;
 mod counting;
 mod laying;
 mod ordering;
+mod putting;
+mod widths;
 
 pub use blocks::{Block, Square};
 pub use laying::{LayError, MAX_SHARES};
