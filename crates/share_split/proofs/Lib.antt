@@ -5,3 +5,5 @@ pub mod VarintLemmas
 pub mod StartLemmas
 pub mod CompactShareLemmas
 pub mod LaterCompactLemmas
+pub mod VarintLawLemmas
+pub mod UnitLawLemmas

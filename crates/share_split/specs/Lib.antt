@@ -4,3 +4,4 @@ pub mod Units
 pub mod Walks
 pub mod Joined
 pub mod Texts
+pub mod UnitLaws

@@ -19,6 +19,6 @@ pub use blobs::{
 };
 pub use joining::JoinError;
 pub use units::{
-    FIRST_COMPACT_CONTENT, LATER_COMPACT_CONTENT, Unit, unit_share_count, unit_shares,
+    FIRST_COMPACT_CONTENT, LATER_COMPACT_CONTENT, Unit, unit_laws, unit_share_count, unit_shares,
 };
 pub use widths::{SUBTREE_ROOT_THRESHOLD, subtree_width};

@@ -3,6 +3,7 @@
 ghost use Rattle.std.specs.Prelude.{◌≡◌, ◌-◌, ◌^◌, ◌<◌, ◌++◌, ◌↔◌, length, min, OnOk, OnErr, IsErrOf};
 ghost use Rattle.share_split.specs.Blobs.{max_sequence_length};
 ghost use Rattle.share_split.specs.Units.{units_text, unit_shares_of, unit_share_count};
+ghost use Rattle.share_split.specs.UnitLaws.{UnitSharesAreCounted, LongTextsTakeManyShares, UnitSharesAreShares, VarintIsRead, ReadIsVarint, VarintIsShortest};
 
 use crate::compact::{compact_count, put_compact};
 use crate::texts::{text_size, units_text};
@@ -89,6 +90,18 @@ pub fn unit_shares(
     put_compact(out, namespace, units, &text, count);
     Ok(())
 }
+
+/// The laws of units and of their compact shares. It changes nothing.
+pub fn unit_laws()
+    ensures counted { UnitSharesAreCounted }
+    ensures long { LongTextsTakeManyShares }
+    ensures shares { UnitSharesAreShares }
+
+    // Lengths as varints.
+    ensures read { VarintIsRead }
+    ensures one { ReadIsVarint }
+    ensures shortest { VarintIsShortest }
+{}
 
 #[cfg(test)]
 mod tests {

@@ -1,5 +1,4 @@
 use Rattle.std.proofs.Common.{◌∙◌, sym, arith}
-use Rattle.share_split.specs.Texts.{starts_of}
 use Rattle.share_split.proofs.StartLemmas.{length-units_text-next, starts-pass, starts-stay}
 use Rattle.share_split.proofs.texts.next_on.Goals as goal
 

@@ -1,4 +1,4 @@
-use Rattle.std.proofs.Common.{◌+◌, ◌-◌, ◌≡◌, ◌≤◌, ◌++◌, length, vec_len, vec_capacity}
+use Rattle.std.proofs.Common.{◌+◌, ◌≡◌, ◌≤◌, ◌++◌, length, vec_len, vec_capacity}
 use Rattle.share_split.specs.Units.{varint}
 use Rattle.share_split.proofs.varints.put_varint.Given as goal
 

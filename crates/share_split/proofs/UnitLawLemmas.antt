@@ -1,0 +1,140 @@
+-- How many compact shares there are, and that they are shares.
+use Rattle.std.proofs.Common.{◌≡◌, ℕ, zero, suc, ◌+◌, ◌-◌, ◌/◌, ◌%◌, ◌<◌, nat_le, ◌^◌, true, false, List, [], ◌∷◌, ◌++◌, length, take, drop, replicate, sym, ap, refl, inl, inr, arith, subst, length-append, length-take}
+use Rattle.std.specs.List.{AllByRecursion}
+use Rattle.std.specs.Int.{w32, to_be_bytes}
+use Rattle.std.proofs.lemmas.Bool.{cases_lt}
+use Rattle.std.proofs.lemmas.List.{length-replicate}
+use Rattle.std.proofs.lemmas.Bool.Decides.{nat_tests}
+use Rattle.namespace_id.specs.declared.namespaces.Namespace.{Namespace}
+use Rattle.namespace_id.specs.Bytes.{AreBytes}
+use Rattle.namespace_id.specs.Names.{IsNamespace}
+use Rattle.namespace_id.specs.Shares.{IsShare, AreShares}
+use Rattle.namespace_id.proofs.StringLemmas.{AreBytes-append, AreBytes-take, AreBytes-drop}
+use Rattle.share_split.specs.Blobs.{max_sequence_length, info, filled}
+use Rattle.share_split.specs.Units.{first_compact_content, later_compact_content, varint_within, varint, unit_text, units_text, starts_from, reserved_of, first_compact_share, later_compact_share, later_compact_shares, compact_count, unit_shares_of, unit_share_count}
+use Rattle.share_split.proofs.VarintLemmas.{varint_within-low, varint_within-high}
+
+-- ---- their number
+
+length-later_compact_shares : (name : Namespace) (i : ℕ) (starts text : List ℕ) (count : ℕ) → length (later_compact_shares count name i starts text) ≡ count
+unfolding later_compact_shares
+length-later_compact_shares name i starts text zero = refl
+length-later_compact_shares name i starts text (suc count) =
+    ap suc (length-later_compact_shares name (suc i) starts (drop later_compact_content text) count)
+
+-- a sequence has a share
+some-compact_count : (size : ℕ) → 0 < compact_count size
+some-compact_count size = grind (arith, nat_tests)
+
+pub unit_shares_are_counted : (name : Namespace) (units : List (List ℕ)) → length (unit_shares_of name units) ≡ unit_share_count units
+unit_shares_are_counted name [] = refl
+unit_shares_are_counted name (unit ∷ units) =
+    let text : List ℕ = units_text (unit ∷ units) in
+    omega (
+      arith,
+      length-later_compact_shares name 1 (starts_from 0 (unit ∷ units)) (drop first_compact_content text) (compact_count (length text) - 1),
+      some-compact_count (length text),
+    )
+
+pub long_texts_take_many_shares : (units : List (List ℕ)) → max_sequence_length < length (units_text units) → 2 ^ 23 < unit_share_count units
+long_texts_take_many_shares [] h = absurd (omega arith)
+long_texts_take_many_shares (unit ∷ units) h =
+    let size : ℕ = length (units_text (unit ∷ units)) in
+    let long : nat_le size first_compact_content ≡ false = grind (arith, nat_tests) in
+    rw long (omega arith)
+
+-- ---- they are shares
+
+AreBytes-none : AreBytes []
+AreBytes-none i = omega arith
+
+AreBytes-one : (byte : ℕ) → byte < 256 → AreBytes (byte ∷ [])
+AreBytes-one byte h zero = h
+AreBytes-one byte h (suc i) = omega arith
+
+AreBytes-cons : (byte : ℕ) (bytes : List ℕ) → byte < 256 → AreBytes bytes → AreBytes (byte ∷ bytes)
+AreBytes-cons byte bytes h fits zero = h
+AreBytes-cons byte bytes h fits (suc i) = fits i
+
+AreBytes-zeros : (n : ℕ) → AreBytes (replicate n 0)
+AreBytes-zeros zero i = omega arith
+AreBytes-zeros (suc n) zero = omega arith
+AreBytes-zeros (suc n) (suc i) = AreBytes-zeros n i
+
+AreBytes-number : (n : ℕ) → AreBytes (to_be_bytes w32 n)
+AreBytes-number n zero = omega arith
+AreBytes-number n (suc zero) = omega arith
+AreBytes-number n (suc (suc zero)) = omega arith
+AreBytes-number n (suc (suc (suc zero))) = omega arith
+AreBytes-number n (suc (suc (suc (suc i)))) = omega arith
+
+AreBytes-varint_within : (more n : ℕ) → AreBytes (varint_within more n)
+unfolding varint_within
+AreBytes-varint_within zero n = AreBytes-none
+AreBytes-varint_within (suc more) n =
+    elim (cases_lt n 128) [
+      | inl lt ↦ subst (λ (l : List ℕ). AreBytes l) (sym (varint_within-low more n lt)) (AreBytes-one n (omega arith))
+      | inr le ↦
+          subst (λ (l : List ℕ). AreBytes l) (sym (varint_within-high more n le))
+          (AreBytes-cons (n % 128 + 128) (varint_within more (n / 128)) (omega arith) (AreBytes-varint_within more (n / 128)))
+    ]
+
+AreBytes-units_text : (units : List (List ℕ)) → AllByRecursion AreBytes units → AreBytes (units_text units)
+AreBytes-units_text [] all = AreBytes-none
+AreBytes-units_text (unit ∷ units) all =
+    AreBytes-append (unit_text unit) (units_text units)
+    (AreBytes-append (varint (length unit)) unit (AreBytes-varint_within 10 (length unit)) all.0) (AreBytes-units_text units all.1)
+
+AreBytes-filled : (n : ℕ) (content : List ℕ) → AreBytes content → AreBytes (filled n content)
+AreBytes-filled n content fits = AreBytes-take n (content ++ replicate n 0) (AreBytes-append content (replicate n 0) fits (AreBytes-zeros n))
+
+length-filled : (n : ℕ) (content : List ℕ) → length (filled n content) ≡ n
+length-filled n content =
+    omega (arith, length-take n (content ++ replicate n 0), length-append content (replicate n 0), length-replicate {A = ℕ} n 0)
+
+-- a share of a head and of content that fills it up
+share_fits : (front content : List ℕ) (n : ℕ) → AreBytes front → AreBytes content → length front + n ≡ 512
+    → IsShare (record { 0 = front ++ filled n content })
+share_fits front content n fits content_fits e = record {
+  size_is = omega (arith, length-append front (filled n content), length-filled n content);
+  fits = AreBytes-append front (filled n content) fits (AreBytes-filled n content content_fits);
+}
+
+first_compact_fits : (name : Namespace) (size reserved : ℕ) (content : List ℕ) → IsNamespace name → AreBytes content
+    → IsShare (first_compact_share name size reserved content)
+unfolding first_compact_share
+first_compact_fits name size reserved content named fits =
+    let begun : List ℕ = info 0 true ∷ to_be_bytes w32 size in
+    let begun_fits : AreBytes begun = AreBytes-cons 1 (to_be_bytes w32 size) (omega arith) (AreBytes-number size) in
+    share_fits (name.0 ++ begun ++ to_be_bytes w32 reserved) content first_compact_content
+    (AreBytes-append (name.0 ++ begun) (to_be_bytes w32 reserved) (AreBytes-append name.0 begun named.fits begun_fits) (AreBytes-number reserved)) fits
+    (omega (arith, length-append (name.0 ++ begun) (to_be_bytes w32 reserved), length-append name.0 begun, named.size_is))
+
+later_compact_fits : (name : Namespace) (reserved : ℕ) (content : List ℕ) → IsNamespace name → AreBytes content
+    → IsShare (later_compact_share name reserved content)
+unfolding later_compact_share
+later_compact_fits name reserved content named fits =
+    let begun : List ℕ = info 0 false ∷ to_be_bytes w32 reserved in
+    let begun_fits : AreBytes begun = AreBytes-cons 0 (to_be_bytes w32 reserved) (omega arith) (AreBytes-number reserved) in
+    share_fits (name.0 ++ begun) content later_compact_content (AreBytes-append name.0 begun named.fits begun_fits) fits
+    (omega (arith, length-append name.0 begun, named.size_is))
+
+later_are_shares : (name : Namespace) (i : ℕ) (starts text : List ℕ) (count : ℕ) → IsNamespace name → AreBytes text
+    → AreShares (later_compact_shares count name i starts text)
+unfolding later_compact_shares
+later_are_shares name i starts text zero named fits = tt
+later_are_shares name i starts text (suc count) named fits = (
+  later_compact_fits name (reserved_of i starts) (take later_compact_content text) named (AreBytes-take later_compact_content text fits),
+  later_are_shares name (suc i) starts (drop later_compact_content text) count named (AreBytes-drop later_compact_content text fits),
+)
+
+pub unit_shares_are_shares : (name : Namespace) (units : List (List ℕ)) → IsNamespace name → AllByRecursion AreBytes units
+    → AreShares (unit_shares_of name units)
+unit_shares_are_shares name [] named all = tt
+unit_shares_are_shares name (unit ∷ units) named all =
+    let text : List ℕ = units_text (unit ∷ units) in
+    let fits : AreBytes text = AreBytes-units_text (unit ∷ units) all in
+    let starts : List ℕ = starts_from 0 (unit ∷ units) in (
+      first_compact_fits name (length text) (reserved_of 0 starts) (take first_compact_content text) named (AreBytes-take first_compact_content text fits),
+      later_are_shares name 1 starts (drop first_compact_content text) (compact_count (length text) - 1) named (AreBytes-drop first_compact_content text fits),
+    )

@@ -1,0 +1,21 @@
+use Rattle.share_split.proofs.UnitLawLemmas.{unit_shares_are_counted, long_texts_take_many_shares, unit_shares_are_shares}
+use Rattle.share_split.proofs.VarintLawLemmas.{varint_is_read, read_is_varint, varint_is_shortest}
+use Rattle.share_split.proofs.units.unit_laws.Goals as goal
+
+pub returns-clause-counted : goal.returns-clause-counted
+returns-clause-counted c = unit_shares_are_counted
+
+pub returns-clause-long : goal.returns-clause-long
+returns-clause-long c = long_texts_take_many_shares
+
+pub returns-clause-shares : goal.returns-clause-shares
+returns-clause-shares c = unit_shares_are_shares
+
+pub returns-clause-read : goal.returns-clause-read
+returns-clause-read c = varint_is_read
+
+pub returns-clause-one : goal.returns-clause-one
+returns-clause-one c = read_is_varint
+
+pub returns-clause-shortest : goal.returns-clause-shortest
+returns-clause-shortest c = varint_is_shortest
