@@ -1,5 +1,6 @@
 -- Blocks and squares as contracts see them.
-use Rattle.std.specs.Prelude.{◌≡◌, ℕ, ◌*◌, List, length, Bool, true, Option}
+use Rattle.std.specs.Prelude.{◌≡◌, ◌≤◌, ℕ, ◌*◌, List, length, true, Option}
+use Rattle.std.specs.List.{AllByRecursion}
 use Rattle.namespace_id.specs.declared.shares.Share.{Share}
 use Rattle.namespace_id.specs.Cells.{is_width}
 use Rattle.share_split.specs.Blobs.{NamedBytes}
@@ -10,6 +11,10 @@ pub record BlockParts : Type 0 where
   pub pay_units : List (List ℕ)
   pub blobs : List NamedBytes
   pub width : Option ℕ
+
+-- each blob has a byte
+abbrev pub HaveBytes : List NamedBytes → Type 0
+HaveBytes blobs = AllByRecursion (λ blob. 1 ≤ length blob.bytes) blobs
 
 -- a square: its width k, and k * k shares, row-major
 pub record SquareShares : Type 0 where

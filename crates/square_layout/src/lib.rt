@@ -2,5 +2,12 @@
 #![tactic(auto)]
 
 mod blocks;
+mod checking;
+mod counting;
+mod laying;
+mod ordering;
+mod putting;
+mod widths;
 
 pub use blocks::{Block, Square};
+pub use laying::{LayError, MAX_SHARES};

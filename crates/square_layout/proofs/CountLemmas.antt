@@ -1,0 +1,77 @@
+-- Lemmas on loops over borrowed blobs, and on ends that are told up to 2^64 - 1.
+use Rattle.std.proofs.Common.{◌≡◌, ◌∙◌, ℕ, suc, ◌+◌, ◌*◌, ◌<◌, ◌≤◌, min, List, [], ◌∷◌, length, drop, get_or, map, sym, ap, ap₂, subst, arith, inl, inr, add-one, drop-cons, Bor}
+use Rattle.std.specs.Int.{div_ceil}
+use Rattle.std.proofs.lemmas.Bool.{cases_lt}
+use Rattle.std.proofs.lemmas.List.{drop-map, drop_all, length-map}
+use Rattle.std.proofs.lemmas.Grind.{div_ceil_times}
+use Rattle.share_split.specs.Widths.{width_of}
+use Rattle.share_split.specs.Blobs.{NamedBytes}
+use Rattle.square_layout.specs.Blocks.{HaveBytes}
+use Rattle.square_layout.specs.Layout.{shares_of, start_after, end_of}
+use Rattle.square_layout.specs.Refusals.{max_count}
+use Rattle.square_layout.proofs.PlaceLemmas.{width_of-some, start_after-ge, end_of-ge, end_of-next}
+
+-- the blobs that are borrowed
+abbrev pub lent : List (Bor NamedBytes) → List NamedBytes
+lent blobs = map (λ b. b.now) blobs
+
+-- what is left of the blobs begins with the next one
+pub drop-lent : (blobs : List (Bor NamedBytes)) (i : ℕ) (b : Bor NamedBytes) → i < length blobs → b ≡ get_or blobs i b
+    → drop i (lent blobs) ≡ b.now ∷ drop (i + 1) (lent blobs)
+drop-lent blobs i b h is =
+    drop-map (λ (x : Bor NamedBytes). x.now) i blobs
+    ∙ ap lent (drop-cons blobs i b h)
+    ∙ ap₂ (λ (x : Bor NamedBytes) (l : List NamedBytes). x.now ∷ l) (sym is) (sym (drop-map (λ (x : Bor NamedBytes). x.now) (suc i) blobs))
+    ∙ ap (λ (n : ℕ). b.now ∷ drop n (lent blobs)) (sym (add-one i))
+
+-- nothing is left
+pub drop-lent_all : (blobs : List (Bor NamedBytes)) (i : ℕ) → length blobs ≤ i → drop i (lent blobs) ≡ []
+drop-lent_all blobs i h = drop_all i (lent blobs) (omega (arith, h, length-map blobs (λ (x : Bor NamedBytes). x.now)))
+
+pub have_bytes-next : (blobs others : List NamedBytes) (b : NamedBytes) → blobs ≡ b ∷ others → HaveBytes blobs → (1 ≤ length b.bytes) × HaveBytes others
+have_bytes-next blobs others b e h = let both : HaveBytes (b ∷ others) = subst HaveBytes e h in both
+
+-- a start that is told, from an end that is told
+told_start : (end : ℕ) (blob : NamedBytes)
+    → min (div_ceil (min end max_count) (width_of (shares_of blob)) * width_of (shares_of blob)) max_count ≡ min (start_after end blob) max_count
+told_start end blob = elim (cases_lt max_count end) [
+  | inl above ↦
+      let low : min end max_count ≡ max_count = omega (arith, above) in
+      let left = (div_ceil_times max_count (width_of (shares_of blob)) (width_of-some (shares_of blob))).0 in
+      let right = start_after-ge end blob in
+      ap (λ (n : ℕ). min (div_ceil n (width_of (shares_of blob)) * width_of (shares_of blob)) max_count) low
+      ∙ omega (arith, left, right, above)
+  | inr within ↦
+      let same : min end max_count ≡ end = omega (arith, within) in
+      ap (λ (n : ℕ). min (div_ceil n (width_of (shares_of blob)) * width_of (shares_of blob)) max_count) same
+]
+
+-- an end that is told, from one that is told
+pub told_end : (end : ℕ) (blobs : List NamedBytes) → min (end_of (min end max_count) blobs) max_count ≡ min (end_of end blobs) max_count
+told_end end blobs = elim (cases_lt max_count end) [
+  | inl above ↦
+      let low : min end max_count ≡ max_count = omega (arith, above) in
+      let left = end_of-ge max_count blobs in
+      let right = end_of-ge end blobs in
+      ap (λ (n : ℕ). min (end_of n blobs) max_count) low ∙ omega (arith, left, right, above)
+  | inr within ↦
+      let same : min end max_count ≡ end = omega (arith, within) in ap (λ (n : ℕ). min (end_of n blobs) max_count) same
+]
+
+-- one blob more is counted
+pub counted_on : (end new whole : ℕ) (blob : NamedBytes) (blobs others : List NamedBytes) → blobs ≡ blob ∷ others
+    → new ≡ min (min (start_after end blob) max_count + shares_of blob) max_count
+    → min (end_of end blobs) max_count ≡ whole → min (end_of new others) max_count ≡ whole
+counted_on end new whole blob blobs others left is so_far =
+    let sum : min (min (start_after end blob) max_count + shares_of blob) max_count ≡ min (start_after end blob + shares_of blob) max_count = omega arith in
+    ap (λ (n : ℕ). min (end_of n others) max_count) (is ∙ sum)
+    ∙ told_end (start_after end blob + shares_of blob) others
+    ∙ sym (ap (λ (n : ℕ). min n max_count) (ap (end_of end) left ∙ end_of-next end blob others))
+    ∙ so_far
+
+-- all blobs are counted
+pub counted_all : (end whole : ℕ) (blobs : List NamedBytes) → blobs ≡ [] → end ≤ max_count → min (end_of end blobs) max_count ≡ whole → end ≡ whole
+unfolding end_of
+counted_all end whole blobs none fits so_far =
+    let here : min (end_of end []) max_count ≡ end = omega (arith, fits) in
+    sym here ∙ sym (ap (λ (l : List NamedBytes). min (end_of end l) max_count) none) ∙ so_far

@@ -1,0 +1,76 @@
+-- Lemmas on where blobs start and end.
+use Rattle.std.proofs.Common.{◌≡◌, ◌∙◌, ℕ, zero, suc, ◌+◌, ◌-◌, ◌*◌, ◌<◌, ◌≤◌, nat_le, true, false, if◌then◌else◌, List, [], ◌∷◌, ◌++◌, length, drop, replicate, refl, ap, arith, length-append}
+use Rattle.std.specs.Int.{div_ceil}
+use Rattle.std.proofs.lemmas.Grind.{div_ceil_times}
+use Rattle.std.proofs.lemmas.List.{length-replicate}
+use Rattle.namespace_id.specs.declared.namespaces.Namespace.{Namespace}
+use Rattle.namespace_id.specs.declared.shares.Share.{Share}
+use Rattle.share_split.specs.Widths.{is_wide_enough, width_from, width_of}
+use Rattle.share_split.specs.Blobs.{NamedBytes, share_count, later_shares, blob_shares_of}
+use Rattle.share_split.specs.Joined.{padding_share}
+use Rattle.square_layout.specs.Layout.{shares_of, start_after, end_of, placed}
+
+-- ---- the start of a blob
+
+-- no width of subtrees is 0
+width_from-some : (more width count : ℕ) → 0 < width → 0 < width_from more width count
+unfolding width_from
+width_from-some zero width count h = h
+width_from-some (suc more) width count h = elim (is_wide_enough count width) as (λ b. 0 < (if b then width else width_from more (width * 2) count)) [
+  | true ↦ h
+  | false ↦ width_from-some more (width * 2) count (omega (arith, h))
+]
+
+pub width_of-some : (count : ℕ) → 0 < width_of count
+width_of-some count = width_from-some 28 1 count (omega arith)
+
+-- a blob starts no earlier than what precedes it ends, and by less than a width later
+pub start_after-ge : (end : ℕ) (blob : NamedBytes) → end ≤ start_after end blob
+start_after-ge end blob = (div_ceil_times end (width_of (shares_of blob)) (width_of-some (shares_of blob))).0
+
+pub start_after-near : (end : ℕ) (blob : NamedBytes) → start_after end blob < end + width_of (shares_of blob)
+start_after-near end blob = (div_ceil_times end (width_of (shares_of blob)) (width_of-some (shares_of blob))).1
+
+-- ---- the ends
+
+pub end_of-ge : (end : ℕ) (blobs : List NamedBytes) → end ≤ end_of end blobs
+unfolding end_of
+end_of-ge end [] = omega arith
+end_of-ge end (blob ∷ blobs) = omega (arith, start_after-ge end blob, end_of-ge (start_after end blob + shares_of blob) blobs)
+
+pub end_of-next : (end : ℕ) (blob : NamedBytes) (blobs : List NamedBytes) → end_of end (blob ∷ blobs) ≡ end_of (start_after end blob + shares_of blob) blobs
+unfolding end_of
+end_of-next end blob blobs = refl
+
+-- ---- how many shares there are
+
+length-later_shares : (count : ℕ) (name : Namespace) (bytes : List ℕ) → length (later_shares count name bytes) ≡ count
+unfolding later_shares
+length-later_shares zero name bytes = refl
+length-later_shares (suc count) name bytes = ap suc (length-later_shares count name (drop 482 bytes))
+
+share_count-some : (size : ℕ) → 0 < share_count size
+share_count-some size = elim (nat_le size 478) as (λ b. 0 < (if b then 1 else 1 + div_ceil (size - 478) 482)) [ true ↦ omega arith | false ↦ omega arith ]
+
+pub length-blob_shares_of : (name : Namespace) (bytes : List ℕ) → length (blob_shares_of name bytes) ≡ share_count (length bytes)
+length-blob_shares_of name bytes =
+    let rest : length (later_shares (share_count (length bytes) - 1) name (drop 478 bytes)) ≡ share_count (length bytes) - 1 =
+    length-later_shares (share_count (length bytes) - 1) name (drop 478 bytes) in
+    let some : 0 < share_count (length bytes) = share_count-some (length bytes) in
+    ap suc rest ∙ omega (arith, some)
+
+pub length-placed : (name : Namespace) (end : ℕ) (blobs : List NamedBytes) → end + length (placed name end blobs) ≡ end_of end blobs
+unfolding placed end_of
+length-placed name end [] = omega arith
+length-placed name end (blob ∷ blobs) =
+    let gap : List Share = replicate (start_after end blob - end) (padding_share name) in
+    let own : List Share = blob_shares_of blob.namespace blob.bytes in
+    let others : List Share = placed blob.namespace (start_after end blob + shares_of blob) blobs in
+    let later = start_after-ge end blob in
+    let long_gap : length gap ≡ start_after end blob - end = length-replicate (start_after end blob - end) (padding_share name) in
+    let long_own : length own ≡ shares_of blob = length-blob_shares_of blob.namespace blob.bytes in
+    let all : length (gap ++ own ++ others) ≡ length gap + length own + length others =
+    length-append (gap ++ own) others ∙ ap (λ (n : ℕ). n + length others) (length-append gap own) in
+    let rest : start_after end blob + shares_of blob + length others ≡ end_of (start_after end blob + shares_of blob) blobs =
+    length-placed blob.namespace (start_after end blob + shares_of blob) blobs in
+    omega (arith, all, long_gap, long_own, rest, later)

@@ -1,0 +1,86 @@
+-- Lemmas on the shares of a square, one part behind another.
+use Rattle.std.proofs.Common.{◌≡◌, ◌∙◌, ℕ, ◌+◌, ◌-◌, ◌≤◌, List, [], ◌∷◌, ◌++◌, length, take, drop, replicate, refl, sym, ap, ap₂, subst, arith, length-append, append_assoc}
+use Rattle.std.proofs.lemmas.List.{length-replicate, append-nil}
+use Rattle.std.specs.Int.{w32, to_be_bytes}
+use Rattle.namespace_id.specs.declared.namespaces.Namespace.{Namespace}
+use Rattle.namespace_id.specs.declared.shares.Share.{Share}
+use Rattle.share_split.specs.Blobs.{NamedBytes, first_content, later_content, filled, first_share, blob_shares_of}
+use Rattle.share_split.specs.Joined.{padding_share}
+use Rattle.share_split.proofs.ShareLemmas.{share_of, begun_written}
+use Rattle.square_layout.specs.Layout.{shares_of, start_after, end_of, placed}
+use Rattle.square_layout.proofs.PlaceLemmas.{start_after-ge, end_of-ge, end_of-next, length-blob_shares_of}
+
+-- the length and the content of padding
+zeros : replicate later_content 0 ≡ to_be_bytes w32 0 ++ filled first_content []
+zeros = refl
+
+-- a namespace, an info byte and zeros are a padding share
+pub padding_written : (name : Namespace) (s t : List ℕ) → length name.0 ≡ 29
+    → s ≡ take 0 (replicate 512 0) ++ name.0 ++ drop (0 + length name.0) (replicate 512 0)
+    → t ≡ take 29 s ++ 1 ∷ [] ++ drop (29 + 1) s
+    → share_of t ≡ padding_share name
+unfolding first_share
+padding_written name s t n es et =
+    ap share_of (begun_written name.0 s t 1 1 n refl es et ∙ append_assoc name.0 (1 ∷ []) (replicate later_content 0)
+    ∙ ap (λ (l : List ℕ). name.0 ++ 1 ∷ l) zeros ∙ sym (append_assoc name.0 (1 ∷ to_be_bytes w32 0) (filled first_content [])))
+
+-- the padding before a blob, and its shares
+abbrev pub piece_of : Namespace → ℕ → NamedBytes → List Share
+piece_of before end blob =
+    replicate (start_after end blob - end) (padding_share before) ++ blob_shares_of blob.namespace blob.bytes
+
+-- what is there, with them behind
+abbrev pub put_behind : Namespace → NamedBytes → List Share → List Share
+put_behind before blob out =
+    out ++ replicate (start_after (length out) blob - length out) (padding_share before) ++ blob_shares_of blob.namespace blob.bytes
+
+put_behind-is : (before : Namespace) (blob : NamedBytes) (out : List Share) → put_behind before blob out ≡ out ++ piece_of before (length out) blob
+put_behind-is before blob out =
+    append_assoc out (replicate (start_after (length out) blob - length out) (padding_share before)) (blob_shares_of blob.namespace blob.bytes)
+
+length-piece_of : (before : Namespace) (end : ℕ) (blob : NamedBytes) → end + length (piece_of before end blob) ≡ start_after end blob + shares_of blob
+length-piece_of before end blob =
+    let gap : List Share = replicate (start_after end blob - end) (padding_share before) in
+    let own : List Share = blob_shares_of blob.namespace blob.bytes in
+    let long_gap : length gap ≡ start_after end blob - end = length-replicate (start_after end blob - end) (padding_share before) in
+    let long_own : length own ≡ shares_of blob = length-blob_shares_of blob.namespace blob.bytes in
+    omega (arith, long_gap, long_own, length-append gap own, start_after-ge end blob)
+
+-- with one blob more the end is where it ends
+put_end : (before : Namespace) (blob : NamedBytes) (out new : List Share)
+    → new ≡ put_behind before blob out → length new ≡ start_after (length out) blob + shares_of blob
+put_end before blob out new n =
+    ap length (n ∙ put_behind-is before blob out) ∙ length-append out (piece_of before (length out) blob) ∙ length-piece_of before (length out) blob
+
+-- one blob more is there, and the others are left
+pub put_on : (before : Namespace) (blob : NamedBytes) (blobs others : List NamedBytes) (out new whole : List Share) → blobs ≡ blob ∷ others
+    → new ≡ put_behind before blob out
+    → out ++ placed before (length out) blobs ≡ whole → new ++ placed blob.namespace (length new) others ≡ whole
+unfolding placed
+put_on before blob blobs others out new whole left n so_far =
+    let rest : List Share = placed blob.namespace (start_after (length out) blob + shares_of blob) others in
+    let gap : List Share = replicate (start_after (length out) blob - length out) (padding_share before) in
+    let own : List Share = blob_shares_of blob.namespace blob.bytes in
+    ap₂ (λ (x : List Share) (e : ℕ). x ++ placed blob.namespace e others) (n ∙ put_behind-is before blob out) (put_end before blob out new n)
+    ∙ append_assoc out (gap ++ own) rest
+    ∙ sym (ap (λ (l : List NamedBytes). out ++ placed before (length out) l) left) ∙ so_far
+
+pub put_end_of : (before : Namespace) (blob : NamedBytes) (blobs others : List NamedBytes) (out new : List Share) (most : ℕ) → blobs ≡ blob ∷ others
+    → new ≡ put_behind before blob out
+    → end_of (length out) blobs ≤ most → end_of (length new) others ≤ most
+unfolding end_of
+put_end_of before blob blobs others out new most left n h =
+    subst (λ (e : ℕ). e ≤ most) (ap (end_of (length out)) left ∙ ap (λ (e : ℕ). end_of e others) (sym (put_end before blob out new n))) h
+
+-- the next blob fits
+pub next_fits : (blob : NamedBytes) (blobs others : List NamedBytes) (end most : ℕ) → blobs ≡ blob ∷ others
+    → end_of end blobs ≤ most → start_after end blob + shares_of blob ≤ most
+next_fits blob blobs others end most left h =
+    omega (arith, end_of-ge (start_after end blob + shares_of blob) others, end_of-next end blob others, ap (end_of end) left, h)
+
+-- nothing is left
+pub put_all : (before : Namespace) (blobs : List NamedBytes) (out whole : List Share) → blobs ≡ []
+    → out ++ placed before (length out) blobs ≡ whole → out ≡ whole
+unfolding placed
+put_all before blobs out whole none so_far =
+    sym (append-nil out) ∙ sym (ap (λ (l : List NamedBytes). out ++ placed before (length out) l) none) ∙ so_far

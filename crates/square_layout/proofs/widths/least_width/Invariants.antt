@@ -1,0 +1,14 @@
+use Rattle.std.proofs.Common.{◌≡◌, ◌-◌, true}
+use Rattle.namespace_id.specs.Cells.{is_width}
+use Rattle.square_layout.proofs.SizeLemmas.{IsOnTheWay}
+use Rattle.square_layout.proofs.widths.least_width.Given as goal
+
+-- a width on the way to the one that is looked for
+abbrev pub invariant-loop-k : goal.invariant-loop-k
+invariant-loop-k l = record {
+  way : IsOnTheWay l.count l.k;
+  width : is_width l.k ≡ true;
+}
+
+abbrev pub decreases-loop-k : goal.decreases-loop-k
+decreases-loop-k l = 256 - l.k

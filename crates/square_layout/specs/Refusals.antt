@@ -1,0 +1,70 @@
+-- Which blocks have no square, and the first check that fails (docs/RULES.md, "From a block to its
+-- square").
+use Rattle.std.specs.Prelude.{◌≡◌, ◌⊎◌, ℕ, suc, ◌-◌, ◌*◌, ◌^◌, ◌==◌, nat_lt, min, not, List, [], ◌∷◌, length, slice_index, slice_range, Option, Some, None, Result, Ok, Err, if◌then◌else◌}
+use Rattle.std.specs.Option.{option_map_or, option_or}
+use Rattle.namespace_id.specs.declared.namespaces.NsError.{NsError}
+use Rattle.namespace_id.specs.declared.namespaces.NsError.TheVariants.{Length, Version, Prefix, Reserved}
+use Rattle.namespace_id.specs.Names.{is_zeros, is_reserved}
+use Rattle.namespace_id.specs.Cells.{is_width}
+use Rattle.share_split.specs.Blobs.{NamedBytes}
+use Rattle.square_layout.specs.declared.laying.LayError.{LayError}
+use Rattle.square_layout.specs.declared.laying.LayError.TheVariants.{BadBlob, EmptyBlob, TooLarge, WidthTooSmall, BadWidth, NoMemory}
+use Rattle.square_layout.specs.Blocks.{BlockParts}
+use Rattle.square_layout.specs.Layout.{needed}
+
+-- ---- blobs
+
+-- why bytes are no namespace of a blob
+abbrev pub namespace_refusal : List ℕ → Option NsError
+namespace_refusal bytes =
+    if not (length bytes == 29) then Some Length else
+    (if not (slice_index bytes 0 == 0) then Some Version else
+    (if not (is_zeros (slice_range bytes 1 19)) then Some Prefix else
+    (if is_reserved bytes then Some Reserved else None)))
+
+-- the first blob, from blob i on, whose namespace isn't one of a blob
+unfoldable pub bad_blob : ℕ → List NamedBytes → Option LayError
+bad_blob i [] = None
+bad_blob i (blob ∷ blobs) =
+    option_map_or (λ e. Some (BadBlob i e)) (namespace_refusal blob.namespace.0) (bad_blob (suc i) blobs)
+
+-- the first blob, from blob i on, that has no bytes
+unfoldable pub empty_blob : ℕ → List NamedBytes → Option LayError
+empty_blob i [] = None
+empty_blob i (blob ∷ blobs) =
+    if length blob.bytes == 0 then Some (EmptyBlob i) else empty_blob (suc i) blobs
+
+-- ---- the size
+
+-- the greatest square has 128 * 128 shares
+abbrev pub max_shares : ℕ
+max_shares = 16384
+
+-- a greater number of shares isn't told
+abbrev pub max_count : ℕ
+max_count = 2 ^ 64 - 1
+
+-- why a square of the width k doesn't hold so many shares
+abbrev pub width_refusal : ℕ → ℕ → Option LayError
+width_refusal count k =
+    if nat_lt (k * k) count then Some (WidthTooSmall count) else
+    (if is_width k then None else Some BadWidth)
+
+-- why no square holds so many shares, or not the one whose width is asked for
+abbrev pub size_refusal : Option ℕ → ℕ → Option LayError
+size_refusal width count =
+    if nat_lt max_shares count then Some (TooLarge (min count max_count)) else
+    option_map_or (width_refusal count) width None
+
+-- ---- the block
+
+-- the first check that fails: all namespaces come before all bytes, and the size comes last
+abbrev pub refusal_of : BlockParts → Option LayError
+refusal_of block =
+    option_or (bad_blob 0 block.blobs)
+    (option_or (empty_blob 0 block.blobs) (size_refusal block.width (needed block)))
+
+-- a call answered the first check that fails, or, where none does, a value; but for want of memory
+abbrev pub Answers : {X : Type 0} → Result X LayError → Option LayError → Type 0
+Answers (Ok x) refusal = refusal ≡ None
+Answers (Err e) refusal = (e ≡ NoMemory) ⊎ (refusal ≡ Some e)

@@ -1,0 +1,53 @@
+//! How many shares a layout has.
+
+ghost use Rattle.std.specs.Prelude.{◌≡◌, ◌≤◌, ◌^◌, min, map, length};
+ghost use Rattle.square_layout.specs.Blocks.{HaveBytes};
+ghost use Rattle.square_layout.specs.Layout.{shares_of, start_after, end_of, in_order, needed};
+ghost use Rattle.square_layout.specs.Refusals.{max_count};
+
+use crate::Block;
+use share_split::{Blob, blob_share_count, subtree_width, unit_share_count};
+
+/// How many shares a blob takes.
+pub fn shares_of(blob: &Blob) -> u64
+    requires { 1 ≤ length blob.now.bytes }
+    ensures value { result ≡ shares_of blob.now }
+    ensures some { 1 ≤ result }
+    ensures bound { result ≤ 2 ^ 56 }
+{
+    blob_share_count(blob.bytes.len() as u64)
+}
+
+/// Where a blob starts if what precedes it ends at `end`; 2^64 - 1 for any greater place.
+pub fn start_after(end: u64, blob: &Blob) -> u64
+    requires { 1 ≤ length blob.now.bytes }
+    ensures { result ≡ min (start_after end blob.now) max_count }
+{
+    let width = subtree_width(shares_of(blob));
+    end.div_ceil(width).saturating_mul(width)
+}
+
+/// Where the last of some blobs ends if what precedes them ends at `end`; 2^64 - 1 for any greater
+/// place.
+pub fn end_of(end: u64, blobs: &[&Blob]) -> u64
+    requires { HaveBytes (map (λ blob. blob.now) blobs.now) }
+    ensures { result ≡ min (end_of end (map (λ blob. blob.now) blobs.now)) max_count }
+{
+    let mut end = end;
+    for blob in blobs {
+        end = start_after(end, blob).saturating_add(shares_of(blob));
+    }
+    end
+}
+
+/// How many shares the layout of a block has, whose blobs stand in this order; 2^64 - 1 for any
+/// greater number.
+pub fn needed(block: &Block, order: &[&Blob]) -> u64
+    requires order { map (λ blob. blob.now) order.now ≡ in_order block.now.blobs }
+    requires some { HaveBytes (map (λ blob. blob.now) order.now) }
+    ensures { result ≡ min (needed block.now) max_count }
+{
+    let units = unit_share_count(&block.units);
+    let compact = units.saturating_add(unit_share_count(&block.pay_units));
+    end_of(compact, order).max(1)
+}

@@ -1,0 +1,110 @@
+//! The shares of a square, one part behind another.
+
+ghost use Rattle.std.specs.Prelude.{◌≡◌, ◌≤◌, ◌+◌, ◌-◌, ◌++◌, map, length, replicate, vec_len, OnOk};
+ghost use Rattle.namespace_id.specs.Names.{primary_reserved_padding};
+ghost use Rattle.share_split.specs.Blobs.{blob_shares_of};
+ghost use Rattle.share_split.specs.Units.{unit_shares_of, unit_share_count};
+ghost use Rattle.share_split.specs.Joined.{padding_share};
+ghost use Rattle.square_layout.specs.Blocks.{HaveBytes};
+ghost use Rattle.square_layout.specs.Layout.{shares_of, start_after, end_of, placed};
+ghost use Rattle.square_layout.specs.Refusals.{max_shares};
+
+use crate::counting::start_after;
+use namespace_id::{Namespace, NoMemory, PRIMARY_RESERVED_PADDING, Share, put};
+use share_split::{Blob, SHARE_SIZE, SplitError, Unit, blob_shares, unit_shares};
+use std::alloc::Global;
+
+/// The info byte of the first share of a sequence, in version 0.
+///
+/// Celestia specifications, "Shares".
+const START: u8 = 1;
+
+/// The place of the info byte in a share: behind the namespace.
+const INFO_PLACE: usize = 29;
+
+/// A padding share: the first of a sequence of length 0, and zeros behind it.
+///
+/// Celestia specifications, "Shares".
+fn padding_share(namespace: &Namespace) -> Share
+    ensures { result ≡ padding_share namespace.now }
+{
+    let mut share = Share([0; SHARE_SIZE]);
+    put(&mut share.0, 0, &namespace.0);
+    put(&mut share.0, INFO_PLACE, &[START]);
+    share
+}
+
+/// Appends padding shares until there are `to` shares.
+pub fn put_padding(namespace: &Namespace, to: usize, out: &mut Vec<Share>) -> Result<(), NoMemory>
+    requires { vec_len out.old ≤ to }
+    ensures { OnOk result (out.new.items ≡
+        out.old.items ++ replicate (to - length out.old.items) (padding_share namespace.now)) }
+{
+    let Ok(()) = out.resize(to, padding_share(namespace)) else {
+        return Err(NoMemory);
+    };
+    Ok(())
+}
+
+/// Appends the compact shares of units.
+pub fn put_units(
+    alloc: Global,
+    namespace: &Namespace,
+    units: &[Unit],
+    out: &mut Vec<Share>,
+) -> Result<(), NoMemory>
+    requires { unit_share_count units.now ≤ max_shares }
+    ensures { OnOk result (out.new.items ≡ out.old.items ++ unit_shares_of namespace.now units.now) }
+{
+    match unit_shares(alloc, namespace, units, out) {
+        Ok(()) => Ok(()),
+        Err(SplitError::NoMemory) => Err(NoMemory),
+        Err(SplitError::Empty | SplitError::TooLong) => unreachable!(),
+    }
+}
+
+/// Appends the shares of a blob.
+fn put_content(blob: &Blob, out: &mut Vec<Share>) -> Result<(), NoMemory>
+    requires some { 1 ≤ length blob.now.bytes }
+    requires fits { shares_of blob.now ≤ max_shares }
+    ensures { OnOk result (out.new.items ≡
+        out.old.items ++ blob_shares_of blob.now.namespace blob.now.bytes) }
+{
+    match blob_shares(&blob.namespace, &blob.bytes, out) {
+        Ok(()) => Ok(()),
+        Err(SplitError::NoMemory) => Err(NoMemory),
+        Err(SplitError::Empty | SplitError::TooLong) => unreachable!(),
+    }
+}
+
+/// Appends the shares of a blob behind the padding before it, which has the namespace of what precedes
+/// it.
+fn put_blob(before: &Namespace, blob: &Blob, out: &mut Vec<Share>) -> Result<(), NoMemory>
+    requires some { 1 ≤ length blob.now.bytes }
+    requires fits { start_after (length out.old.items) blob.now + shares_of blob.now ≤ max_shares }
+    ensures { OnOk result (out.new.items ≡
+        out.old.items
+        ++ replicate (start_after (length out.old.items) blob.now - length out.old.items)
+        (padding_share before.now)
+        ++ blob_shares_of blob.now.namespace blob.now.bytes) }
+{
+    let start = start_after(out.len() as u64, blob);
+    put_padding(before, start as usize, out)?;
+    put_content(blob, out)
+}
+
+/// Appends the shares of blobs, each behind the padding before it.
+pub fn put_blobs(blobs: &[&Blob], out: &mut Vec<Share>) -> Result<(), NoMemory>
+    requires some { HaveBytes (map (λ blob. blob.now) blobs.now) }
+    requires fits { end_of (length out.old.items) (map (λ blob. blob.now) blobs.now) ≤ max_shares }
+    ensures { OnOk result (out.new.items ≡
+        out.old.items ++ placed primary_reserved_padding (length out.old.items)
+        (map (λ blob. blob.now) blobs.now)) }
+{
+    let mut before = PRIMARY_RESERVED_PADDING;
+    for blob in blobs {
+        put_blob(&before, blob, out)?;
+        before = blob.namespace;
+    }
+    Ok(())
+}
