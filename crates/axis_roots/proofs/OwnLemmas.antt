@@ -13,14 +13,14 @@ use Rattle.namespace_id.specs.declared.namespaces.Namespace.{Namespace}
 use Rattle.namespace_id.specs.declared.shares.Share.{Share}
 use Rattle.namespace_id.specs.declared.digests.Digest.{Digest}
 use Rattle.namespace_id.specs.Bytes.{IsString}
-use Rattle.namespace_id.specs.Names.{IsNamespace, parity}
+use Rattle.namespace_id.specs.Names.{IsNamespace, parity, AreNamespaces}
 use Rattle.namespace_id.specs.Shares.{IsShare, AreShares}
 use Rattle.namespace_id.specs.Cells.{is_width, is_in_square, is_original, name_of}
 use Rattle.namespace_id.proofs.StringLemmas.{AreBytes-take}
 use Rattle.nmt_tree.specs.Roots.{halvings, root}
 use Rattle.nmt_proofs.specs.Parts.{Part, digest_of}
 use Rattle.nmt_proofs.specs.Openings.{one_leaf, opened}
-use Rattle.nmt_proofs.specs.Clashes.{IsClash, clash_at, whole, AreNamespaces, AreLeaves, IsOpening}
+use Rattle.nmt_proofs.specs.Clashes.{IsClash, clash_at, whole, AreLeaves, IsOpening}
 use Rattle.nmt_proofs.proofs.DigestLemmas.{name-parity}
 use Rattle.nmt_proofs.proofs.ListedLemmas.{leaf_law}
 use Rattle.data_header.specs.Headers.{Roots, root_of}

@@ -12,9 +12,10 @@ use Rattle.namespace_id.specs.declared.digests.Digest.{Digest}
 use Rattle.namespace_id.specs.Shares.{AreShares}
 use Rattle.nmt_tree.specs.Roots.{is_leaf_count, halvings, root}
 use Rattle.nmt_tree.proofs.CountLemmas.{power_halvings}
+use Rattle.namespace_id.specs.Names.{AreNamespaces}
 use Rattle.nmt_proofs.specs.Parts.{digest_of}
 use Rattle.nmt_proofs.specs.Openings.{one_leaf, opened}
-use Rattle.nmt_proofs.specs.Clashes.{IsClash, clash_at, whole, AreLeaves, AreNamespaces, IsOpening}
+use Rattle.nmt_proofs.specs.Clashes.{IsClash, clash_at, whole, AreLeaves, IsOpening}
 use Rattle.nmt_proofs.proofs.ListedLemmas.{leaf_law, lists_law}
 use Rattle.nmt_proofs.proofs.TwinLemmas.{node_count, twins_law}
 use Rattle.hash_clash.specs.declared.sides.Opening.{Opening}

@@ -1,16 +1,18 @@
 //! The collision that two openings or lists with one root name.
 
 ghost use Rattle.std.specs.Prelude.{◌≡◌, ◌+◌, ◌^◌, ◌≤◌, ◌<◌, length, IsTrue, true, false, Some, None};
-ghost use Rattle.namespace_id.specs.Names.{IsNamespace};
+ghost use Rattle.namespace_id.specs.Names.{AreNamespaces};
 ghost use Rattle.nmt_tree.specs.Roots.{is_leaf_count, halvings, root};
 ghost use Rattle.nmt_proofs.specs.Parts.{digest_of};
-ghost use Rattle.nmt_proofs.specs.Clashes.{join_text, apart_or, clash_at, whole, AreNamespaces};
+ghost use Rattle.nmt_proofs.specs.Clashes.{join_text, apart_or, clash_at, whole};
 ghost use Rattle.hash_clash.specs.Openings.{IsWhole, opened_at, is_counted, is_one_opening, is_leaf_at, is_one_list};
 ghost use Rattle.hash_clash.specs.Sides.{part_of, IsSide};
 
 use crate::sides::{Opening, Seen, Side, digest, look, size_of};
 use crate::{Clash, Preimage};
-use namespace_id::{Namespace, Share, are_bytes, are_digests, are_shares, is_share};
+use namespace_id::{
+    Namespace, Share, are_digests, are_namespaces, are_shares, is_namespace, is_share,
+};
 
 /// Two strings, where they differ.
 fn differing(left: Preimage, right: Preimage) -> Option<(Preimage, Preimage)>
@@ -87,27 +89,11 @@ fn depth_of(n: usize) -> u8
     }
 }
 
-/// Says that a namespace has 29 bytes, each below 256. It changes nothing.
-fn is_name(name: &Namespace)
-    ensures { IsNamespace name.now }
-{
-    are_bytes(&name.0);
-}
-
-/// Says that each namespace of a slice has 29 bytes, each below 256. It changes nothing.
-fn are_names(names: &[Namespace])
-    ensures { AreNamespaces names.now }
-{
-    for name in names {
-        is_name(name);
-    }
-}
-
 /// Says that an opening has its shape. It changes nothing.
 fn is_whole(opening: &Opening)
     ensures { IsWhole opening.now }
 {
-    is_name(&opening.name);
+    is_namespace(&opening.name);
     is_share(&opening.share);
     are_digests(opening.path.nodes());
 }
@@ -156,7 +142,7 @@ pub fn clash_path_leaves(
         ≡ Some (result.left, result.right) }
 {
     is_whole(a);
-    are_names(names);
+    are_namespaces(names);
     are_shares(shares);
     let side = Side::Opened(pos, a, a.path.nodes());
     Clash::found(find(depth_of(n as usize), 0, side, Side::Listed(names, shares)))
@@ -181,9 +167,9 @@ pub fn clash_leaves(
         (whole (halvings (length names_a.now)) names_b.now shares_b.now)
         ≡ Some (result.left, result.right) }
 {
-    are_names(names_a);
+    are_namespaces(names_a);
     are_shares(shares_a);
-    are_names(names_b);
+    are_namespaces(names_b);
     are_shares(shares_b);
     let a_side = Side::Listed(names_a, shares_a);
     let b_side = Side::Listed(names_b, shares_b);

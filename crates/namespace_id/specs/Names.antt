@@ -1,6 +1,6 @@
 -- Namespaces, their order and the namespace of parity shares (Celestia specifications, "Namespace").
 use Rattle.std.specs.Prelude.{ℕ, List, [], ◌∷◌, ◌++◌, replicate, length, slice_index, slice_range, if◌then◌else◌, Bool, ◌==◌, ◌&&◌, not}
-use Rattle.std.specs.List.{list_all}
+use Rattle.std.specs.List.{list_all, AllByRecursion}
 use Rattle.std.specs.declared.cmp.Ordering.{Ordering}
 use Rattle.std.specs.Str.{bytes_eq}
 use Rattle.std.specs.Ordering.{nat_cmp, is_le}
@@ -11,6 +11,9 @@ use Rattle.namespace_id.specs.Bytes.{IsString}
 -- a namespace has 29 bytes
 abbrev pub IsNamespace : Namespace → Type 0
 IsNamespace name = IsString 29 name.0
+
+abbrev pub AreNamespaces : List Namespace → Type 0
+AreNamespaces names = AllByRecursion IsNamespace names
 
 -- namespaces compare as byte strings
 abbrev pub namespace_cmp : Namespace → Namespace → Ordering

@@ -1,9 +1,10 @@
 //! Namespaces and their order.
 
 ghost use Rattle.std.specs.Prelude.{◌≡◌, ◌⊎◌, true};
-ghost use Rattle.namespace_id.specs.Names.{is_at_most, is_zeros, parity, IsNamespace};
+ghost use Rattle.namespace_id.specs.Names.{is_at_most, is_zeros, parity, IsNamespace, AreNamespaces};
 ghost use Rattle.namespace_id.specs.declared.namespaces.Namespace.{Namespace as Name};
 
+use crate::are_bytes;
 use thiserror::Error;
 
 /// A namespace: a version byte and a 28-byte id. Namespaces compare as byte strings.
@@ -134,6 +135,22 @@ impl Namespace {
         ensures { result ≡ greater_of self other }
     {
         if self.is_at_most(&other) { other } else { self }
+    }
+}
+
+/// Says that a namespace has 29 bytes, each below 256. It changes nothing.
+pub fn is_namespace(name: &Namespace)
+    ensures { IsNamespace name.now }
+{
+    are_bytes(&name.0);
+}
+
+/// Says that each namespace of a slice has 29 bytes, each below 256. It changes nothing.
+pub fn are_namespaces(names: &[Namespace])
+    ensures { AreNamespaces names.now }
+{
+    for name in names {
+        is_namespace(name);
     }
 }
 

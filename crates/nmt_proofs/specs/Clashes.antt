@@ -8,7 +8,7 @@ use Rattle.namespace_id.specs.declared.namespaces.Namespace.{Namespace}
 use Rattle.namespace_id.specs.declared.shares.Share.{Share}
 use Rattle.namespace_id.specs.declared.digests.Digest.{Digest}
 use Rattle.namespace_id.specs.Bytes.{AreBytes}
-use Rattle.namespace_id.specs.Names.{IsNamespace}
+use Rattle.namespace_id.specs.Names.{IsNamespace, AreNamespaces}
 use Rattle.namespace_id.specs.Shares.{IsShare, AreShares}
 use Rattle.namespace_id.specs.Digests.{IsDigest, AreDigests}
 use Rattle.nmt_tree.specs.Roots.{root}
@@ -83,10 +83,6 @@ whole zero (name ∷ names) [] = given no_digest
 whole (suc depth) names shares =
     join (whole depth (take (2 ^ depth) names) (take (2 ^ depth) shares))
     (whole depth (drop (2 ^ depth) names) (drop (2 ^ depth) shares))
-
--- each namespace of a list has 29 bytes
-abbrev pub AreNamespaces : List Namespace → Type 0
-AreNamespaces names = AllByRecursion IsNamespace names
 
 -- the namespaces and shares of 2 ^ depth leaves
 pub record AreLeaves (depth : ℕ) (names : List Namespace) (shares : List Share) : Type 0 where

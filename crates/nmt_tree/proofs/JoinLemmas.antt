@@ -7,11 +7,11 @@ use Rattle.std.proofs.lemmas.Nat.{pow_pos}
 use Rattle.namespace_id.specs.declared.namespaces.Namespace.{Namespace}
 use Rattle.namespace_id.specs.declared.shares.Share.{Share}
 use Rattle.namespace_id.specs.declared.digests.Digest.{Digest}
-use Rattle.namespace_id.specs.Names.{is_at_most, is_parity, parity, greater_of}
+use Rattle.namespace_id.specs.Names.{is_at_most, is_parity, parity, greater_of, AreNamespaces}
 use Rattle.namespace_id.specs.Digests.{least_of, greatest_of}
 use Rattle.nmt_tree.specs.Digests.{joined_greatest, node_digest, is_ordered_join}
 use Rattle.nmt_tree.specs.Roots.{is_ordered}
-use Rattle.nmt_tree.specs.Levels.{AreNames, leaf_digests, span, HasOrderedJoins}
+use Rattle.nmt_tree.specs.Levels.{leaf_digests, span, HasOrderedJoins}
 use Rattle.nmt_tree.proofs.NameLemmas.{name_at, ordered_at, same_name, least-leaf, greatest-leaf, length-leaf, length-node, least-node, greatest-node}
 
 -- a digest over 2 ^ e leaves from s on: its least name is the first one, its greatest is one of them
@@ -58,7 +58,7 @@ over_node names s e l r h k =
       greatest = greatest-node l r h.size k.size ∙ g.3;
     }
 
-over_leaf : (ns : List Namespace) (ss : List Share) (s : ℕ) → AreNames ns → length ss ≡ length ns → s < length ns → IsOver ns s 0 (get_or (leaf_digests ns ss) s (record { 0 = [] }))
+over_leaf : (ns : List Namespace) (ss : List Share) (s : ℕ) → AreNamespaces ns → length ss ≡ length ns → s < length ns → IsOver ns s 0 (get_or (leaf_digests ns ss) s (record { 0 = [] }))
 unfolding leaf_digests
 over_leaf [] ss s h len lt = absurd (omega arith)
 over_leaf (n ∷ ns) [] s h len lt = absurd (omega arith)
@@ -75,7 +75,7 @@ over_leaf (n ∷ ns) (t ∷ ss) (suc s) h len lt =
     record { size = o.size; least = o.least; place = suc o.place; low = omega (arith, o.low); high = omega (arith, o.high); greatest = o.greatest }
 
 -- the digest over leaves of a list
-pub over_span : (e s : ℕ) (ns : List Namespace) (ss : List Share) → AreNames ns → length ss ≡ length ns → s + 2 ^ e ≤ length ns → IsOver ns s e (span (leaf_digests ns ss) s e)
+pub over_span : (e s : ℕ) (ns : List Namespace) (ss : List Share) → AreNamespaces ns → length ss ≡ length ns → s + 2 ^ e ≤ length ns → IsOver ns s e (span (leaf_digests ns ss) s e)
 unfolding span
 over_span zero s ns ss h len le = over_leaf ns ss s h len (omega arith)
 over_span (suc e) s ns ss h len le =
@@ -93,7 +93,7 @@ join_ordered names s e l r o le h k =
     (λ i. a i && b i && c i)
 
 -- every join over leaves with ordered names is ordered
-pub joins_ordered : (e s : ℕ) (ns : List Namespace) (ss : List Share) → AreNames ns → length ss ≡ length ns → is_ordered ns ≡ true → s + 2 ^ e ≤ length ns → HasOrderedJoins (leaf_digests ns ss) s e
+pub joins_ordered : (e s : ℕ) (ns : List Namespace) (ss : List Share) → AreNamespaces ns → length ss ≡ length ns → is_ordered ns ≡ true → s + 2 ^ e ≤ length ns → HasOrderedJoins (leaf_digests ns ss) s e
 unfolding HasOrderedJoins
 joins_ordered zero s ns ss h len o le = tt
 joins_ordered (suc e) s ns ss h len o le =

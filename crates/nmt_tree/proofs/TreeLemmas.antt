@@ -4,7 +4,8 @@ use Rattle.namespace_id.specs.declared.namespaces.Namespace.{Namespace}
 use Rattle.namespace_id.specs.declared.shares.Share.{Share}
 use Rattle.namespace_id.specs.declared.digests.Digest.{Digest}
 use Rattle.nmt_tree.specs.Roots.{is_leaf_count, halvings, is_ordered, root, strict_root}
-use Rattle.nmt_tree.specs.Levels.{AreNames, leaf_digests, levels, span, HasOrderedJoins}
+use Rattle.namespace_id.specs.Names.{AreNamespaces}
+use Rattle.nmt_tree.specs.Levels.{leaf_digests, levels, span, HasOrderedJoins}
 use Rattle.nmt_tree.specs.Trees.{IsTree}
 use Rattle.nmt_tree.proofs.CountLemmas.{power_halvings}
 use Rattle.nmt_tree.proofs.SpanLemmas.{length-leaf_digests, root_is_span}
@@ -17,7 +18,7 @@ pub record IsFilled (n : ℕ) (digests : List Digest) (ns : List Namespace) (ss 
   pub leaves : take n digests ≡ leaf_digests ns ss
 
 pub filled_tree : (n : ℕ) (digests : List Digest) (ns : List Namespace) (ss : List Share) → IsTrue (is_leaf_count n) → length ns ≡ n → length ss ≡ n
-    → AreNames ns → is_ordered ns ≡ true → length digests + 1 ≡ 2 * n → digests ≡ levels (halvings (length ns)) (leaf_digests ns ss)
+    → AreNamespaces ns → is_ordered ns ≡ true → length digests + 1 ≡ 2 * n → digests ≡ levels (halvings (length ns)) (leaf_digests ns ss)
     → IsFilled n digests ns ss
 filled_tree n digests ns ss is len same named ordered room e =
     let power : 2 ^ halvings n ≡ n = power_halvings n is in

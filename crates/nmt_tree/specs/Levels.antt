@@ -1,16 +1,10 @@
 -- Trees level by level, and the digests over parts of their leaves (Celestia specifications, "Data
 -- Structures", namespaced Merkle trees).
 use Rattle.std.specs.Prelude.{◌≡◌, true, ℕ, zero, suc, ◌+◌, ◌^◌, List, [], ◌∷◌, ◌++◌, get_or}
-use Rattle.std.specs.List.{AllByRecursion}
 use Rattle.namespace_id.specs.declared.namespaces.Namespace.{Namespace}
 use Rattle.namespace_id.specs.declared.shares.Share.{Share}
 use Rattle.namespace_id.specs.declared.digests.Digest.{Digest}
-use Rattle.namespace_id.specs.Names.{IsNamespace}
 use Rattle.nmt_tree.specs.Digests.{leaf_digest, node_digest, is_ordered_join}
-
--- each namespace has 29 bytes
-abbrev pub AreNames : List Namespace → Type 0
-AreNames names = AllByRecursion IsNamespace names
 
 -- the digests of leaves, by their namespaces and shares
 unfoldable pub leaf_digests : List Namespace → List Share → List Digest

@@ -1,35 +1,19 @@
 //! Trees that keep the digests of all their levels.
 
 ghost use Rattle.std.specs.Prelude.{◌≡◌, ◌≤◌, ◌<◌, ◌+◌, ◌%◌, ◌^◌, ℕ, List, [], length, get_or, IsTrue, true, Some, None, IfOk, IfSome, if◌then◌else◌};
-ghost use Rattle.namespace_id.specs.Names.{IsNamespace};
+ghost use Rattle.namespace_id.specs.Names.{AreNamespaces};
 ghost use Rattle.namespace_id.specs.declared.namespaces.Namespace.{Namespace};
 ghost use Rattle.namespace_id.specs.declared.shares.Share.{Share};
 ghost use Rattle.nmt_tree.specs.Digests.{leaf_digest};
 ghost use Rattle.nmt_tree.specs.Roots.{is_leaf_count, halvings, is_ordered, root, strict_root};
-ghost use Rattle.nmt_tree.specs.Levels.{AreNames, HasOrderedJoins, leaf_digests, span};
+ghost use Rattle.nmt_tree.specs.Levels.{HasOrderedJoins, leaf_digests, span};
 ghost use Rattle.nmt_tree.specs.Trees.{AreTreeLeaves, digest_over};
 
 use crate::are_ordered;
 use crate::levels::{put_tree, read};
-use namespace_id::{Digest, Namespace, NoMemory, Share, are_bytes};
+use namespace_id::{Digest, Namespace, NoMemory, Share, are_namespaces};
 use std::alloc::Global;
 use std::marker::Model;
-
-/// Says that a namespace has 29 bytes, each below 256. It changes nothing.
-fn is_name(name: &Namespace)
-    ensures { IsNamespace name.now }
-{
-    are_bytes(&name.0);
-}
-
-/// Says that each namespace of a slice has 29 bytes, each below 256. It changes nothing.
-fn are_names(names: &[Namespace])
-    ensures { AreNames names.now }
-{
-    for name in names {
-        is_name(name);
-    }
-}
 
 /// A tree over a power of two of leaves from 1 to 256. It is empty, or keeps the digests of all its
 /// levels, over leaves whose namespaces never fall.
@@ -101,7 +85,7 @@ impl Tree {
         if !are_ordered(names) {
             return false;
         }
-        are_names(names);
+        are_namespaces(names);
         put_tree(names, shares, &mut self.digests);
         self.is_full = true;
         true
@@ -147,7 +131,7 @@ pub fn tree_laws()
         length names ≡ 2 ^ depth → length shares ≡ 2 ^ depth →
         root depth names shares ≡ span (leaf_digests names shares) 0 depth }
     ensures ordered { (depth : ℕ) (names : List Namespace) (shares : List Share) →
-        length names ≡ 2 ^ depth → length shares ≡ 2 ^ depth → AreNames names →
+        length names ≡ 2 ^ depth → length shares ≡ 2 ^ depth → AreNamespaces names →
         is_ordered names ≡ true → HasOrderedJoins (leaf_digests names shares) 0 depth }
 {}
 
