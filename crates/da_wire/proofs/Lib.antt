@@ -2,8 +2,10 @@ pub mod FieldLemmas
 pub mod ReaderLemmas
 pub mod NumberLemmas
 pub mod ByteFieldLemmas
+pub mod ValueBytesLemmas
 pub mod DigestBytesLemmas
 pub mod HeaderFormLemmas
+pub mod SquareFormLemmas
 pub mod CellFieldLemmas
 pub mod CellLemmas
 pub mod MessageFieldLemmas

@@ -6,10 +6,11 @@ use Rattle.namespace_id.specs.declared.cells.Cell.{Cell}
 use Rattle.namespace_id.specs.declared.cells.Axis.{Axis}
 use Rattle.namespace_id.specs.Bytes.{AreBytes}
 use Rattle.da_wire.specs.declared.frames.Frame.{Frame}
-use Rattle.da_wire.specs.declared.frames.Frame.TheVariants.{Header, Message, Missing, Sample, Request}
-use Rattle.da_wire.specs.Spelling.{header_kind, message_kind, missing_kind, sample_kind, request_kind, missing_payload, spelled, spelling, IsFrame}
-use Rattle.da_wire.specs.Reading.{header_at, message_at, missing_at, sample_at, request_at, value_at}
+use Rattle.da_wire.specs.declared.frames.Frame.TheVariants.{Header, Square, Message, Missing, Sample, Request}
+use Rattle.da_wire.specs.Spelling.{header_kind, square_kind, message_kind, missing_kind, sample_kind, request_kind, missing_payload, spelled, spelling, IsFrame}
+use Rattle.da_wire.specs.Reading.{header_at, square_at, message_at, missing_at, sample_at, request_at, value_at}
 use Rattle.da_wire.proofs.HeaderFormLemmas.{header_takes}
+use Rattle.da_wire.proofs.SquareFormLemmas.{square_takes}
 use Rattle.da_wire.proofs.MessageFormLemmas.{message_takes}
 use Rattle.da_wire.proofs.MissingFormLemmas.{missing_takes}
 use Rattle.da_wire.proofs.RequestFormLemmas.{sample_takes, request_takes}
@@ -28,6 +29,12 @@ header_value payload value fits e =
     let a = map_some Header (header_at payload) value e in
     let t = header_takes payload a.0 fits a.1 in
     subst (λ (v : Frame). Spells header_kind payload v) a.2 (t.0, ap (λ (l : List ℕ). spelled header_kind l) (sym t.1))
+
+square_value : (payload : List ℕ) (value : Frame) → AreBytes payload → option_map Square (square_at payload) ≡ Some value → Spells square_kind payload value
+square_value payload value fits e =
+    let a = map_some Square (square_at payload) value e in
+    let t = square_takes payload a.0 fits a.1 in
+    subst (λ (v : Frame). Spells square_kind payload v) a.2 (t.0, ap (λ (l : List ℕ). spelled square_kind l) (sym t.1))
 
 message_value : (payload : List ℕ) (value : Frame) → AreBytes payload → option_map Message (message_at payload) ≡ Some value → Spells message_kind payload value
 message_value payload value fits e =
@@ -80,11 +87,15 @@ from_missing kind payload = cond (eqb kind missing_kind) (option_map Missing (mi
 abbrev from_message : ℕ → List ℕ → Option Frame
 from_message kind payload = cond (eqb kind message_kind) (option_map Message (message_at payload)) (from_missing kind payload)
 
+abbrev from_square : ℕ → List ℕ → Option Frame
+from_square kind payload = cond (eqb kind square_kind) (option_map Square (square_at payload)) (from_message kind payload)
+
 pub value_takes : (kind : ℕ) (payload : List ℕ) (value : Frame) → AreBytes payload → value_at kind payload ≡ Some value → Spells kind payload value
 unfolding value_at
 value_takes kind payload value fits e =
-    by_kind kind header_kind payload value (option_map Header (header_at payload)) (from_message kind payload) e (header_value payload value fits) (λ e1.
-    by_kind kind message_kind payload value (option_map Message (message_at payload)) (from_missing kind payload) e1 (message_value payload value fits) (λ e2.
-    by_kind kind missing_kind payload value (option_map Missing (missing_at payload)) (from_sample kind payload) e2 (missing_value payload value fits) (λ e3.
-    by_kind kind sample_kind payload value (option_map sample (sample_at payload)) (from_request kind payload) e3 (sample_value payload value fits) (λ e4.
-    by_kind kind request_kind payload value (option_map Request (request_at payload)) None e4 (request_value payload value fits) (λ e5. absurd cc)))))
+    by_kind kind header_kind payload value (option_map Header (header_at payload)) (from_square kind payload) e (header_value payload value fits) (λ e1.
+    by_kind kind square_kind payload value (option_map Square (square_at payload)) (from_message kind payload) e1 (square_value payload value fits) (λ e2.
+    by_kind kind message_kind payload value (option_map Message (message_at payload)) (from_missing kind payload) e2 (message_value payload value fits) (λ e3.
+    by_kind kind missing_kind payload value (option_map Missing (missing_at payload)) (from_sample kind payload) e3 (missing_value payload value fits) (λ e4.
+    by_kind kind sample_kind payload value (option_map sample (sample_at payload)) (from_request kind payload) e4 (sample_value payload value fits) (λ e5.
+    by_kind kind request_kind payload value (option_map Request (request_at payload)) None e5 (request_value payload value fits) (λ e6. absurd cc))))))

@@ -13,13 +13,16 @@ use Rattle.namespace_id.specs.Cells.{CellList, AreCells}
 use Rattle.data_header.specs.Headers.{Roots}
 use Rattle.axis_roots.specs.declared.messages.Message as sent
 use Rattle.axis_roots.specs.Messages.{IsMessage}
+use Rattle.namespace_id.specs.Shares.{AreShares}
+use Rattle.square_layout.specs.Blocks.{SquareShares, IsSquare}
 use Rattle.da_wire.specs.declared.frames.Frame.{Frame}
-use Rattle.da_wire.specs.declared.frames.Frame.TheVariants.{Header, Message, Missing, Sample, Request}
-use Rattle.da_wire.specs.Spelling.{max_payload, frame, header_kind, message_kind, missing_kind, sample_kind, request_kind, cell_bytes, header_payload, message_payload, missing_payload, sample_payload, request_payload, spelled, spelling, IsFrame, IsHeader, IsCell}
+use Rattle.da_wire.specs.declared.frames.Frame.TheVariants.{Header, Square, Message, Missing, Sample, Request}
+use Rattle.da_wire.specs.Spelling.{max_payload, frame, header_kind, square_kind, message_kind, missing_kind, sample_kind, request_kind, cell_bytes, header_payload, square_payload, message_payload, missing_payload, sample_payload, request_payload, spelled, spelling, IsFrame, IsHeader, IsCell}
 use Rattle.da_wire.specs.Reading.{value_at, is_kind}
 use Rattle.da_wire.proofs.ReaderLemmas.{if_false}
 use Rattle.da_wire.proofs.CellFieldLemmas.{length-cells_bytes}
 use Rattle.da_wire.proofs.HeaderFormLemmas.{header_again}
+use Rattle.da_wire.proofs.SquareFormLemmas.{square_again}
 use Rattle.da_wire.proofs.MessageFormLemmas.{message_again}
 use Rattle.da_wire.proofs.MissingFormLemmas.{missing_again}
 use Rattle.da_wire.proofs.RequestFormLemmas.{sample_again, request_again}
@@ -29,6 +32,10 @@ use Rattle.da_wire.proofs.RequestFormLemmas.{sample_again, request_again}
 header_read : (h : Roots) → IsHeader h → value_at header_kind (header_payload h) ≡ Some (Header h)
 unfolding value_at
 header_read h is = ap (λ (r : Option Roots). option_map Header r) (header_again h is)
+
+square_read : (s : SquareShares) → IsSquare s → AreShares s.shares → value_at square_kind (square_payload s) ≡ Some (Square s)
+unfolding value_at
+square_read s is shares = ap (λ (r : Option SquareShares). option_map Square r) (square_again s is shares)
 
 message_read : (m : sent.Message) → IsMessage m → value_at message_kind (message_payload m) ≡ Some (Message m)
 unfolding value_at
@@ -76,6 +83,7 @@ written value kind payload text kind_is e read =
 
 pub value_again : (value : Frame) (text : List ℕ) → IsFrame value → spelling value ≡ Some text → IsWritten value text
 value_again (Header h) text is e = written (Header h) header_kind (header_payload h) text refl e (λ few. header_read h is)
+value_again (Square s) text is e = written (Square s) square_kind (square_payload s) text refl e (λ few. square_read s is.0 is.1)
 value_again (Message m) text is e = written (Message m) message_kind (message_payload m) text refl e (λ few. message_read m is)
 value_again (Missing cells) text is e =
     let g = if_false (eqb (length cells.list) 0) (spelled missing_kind (missing_payload cells)) text e in

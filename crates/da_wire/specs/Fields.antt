@@ -4,6 +4,7 @@ use Rattle.std.specs.Prelude.{◌≡◌, ℕ, zero, suc, ◌*◌, List, [], ◌�
 use Rattle.std.specs.Int.{Width, w16, byte_len, from_be_bytes}
 use Rattle.namespace_id.specs.declared.cells.Cell.{Cell}
 use Rattle.namespace_id.specs.declared.digests.Digest.{Digest}
+use Rattle.namespace_id.specs.declared.shares.Share.{Share}
 
 infixl 10 ◌>>=◌
 abbrev pub ◌>>=◌ : {A B : Type 0} → Option A → (A → Option B) → Option B
@@ -25,10 +26,22 @@ abbrev pub byte_at : List ℕ → Option (ℕ × List ℕ)
 byte_at [] = None
 byte_at (byte ∷ rest) = Some (byte, rest)
 
--- so many digests, one after another
-unfoldable pub digests_of : ℕ → List ℕ → List Digest
-digests_of zero bytes = []
-digests_of (suc count) bytes = record { 0 = take 90 bytes } ∷ digests_of count (drop 90 bytes)
+-- so many values of one length, one after another
+unfoldable pub values_of : {A : Type 0} → (List ℕ → A) → ℕ → ℕ → List ℕ → List A
+values_of value size zero bytes = []
+values_of value size (suc count) bytes = value (take size bytes) ∷ values_of value size count (drop size bytes)
+
+abbrev pub digest : List ℕ → Digest
+digest bytes = record { 0 = bytes }
+
+abbrev pub digests_of : ℕ → List ℕ → List Digest
+digests_of count bytes = values_of digest 90 count bytes
+
+abbrev pub share : List ℕ → Share
+share bytes = record { 0 = bytes }
+
+abbrev pub shares_of : ℕ → List ℕ → List Share
+shares_of count bytes = values_of share 512 count bytes
 
 abbrev pub digests_at : ℕ → List ℕ → Option (List Digest × List ℕ)
 digests_at count bytes =

@@ -7,22 +7,28 @@ use Rattle.namespace_id.specs.declared.cells.Axis.TheVariants.{Row, Col}
 use Rattle.namespace_id.specs.declared.cells.Cell.{Cell}
 use Rattle.namespace_id.specs.declared.namespaces.Namespace.{Namespace}
 use Rattle.namespace_id.specs.declared.digests.Digest.{Digest}
+use Rattle.namespace_id.specs.declared.shares.Share.{Share}
 use Rattle.namespace_id.specs.Names.{IsNamespace}
 use Rattle.namespace_id.specs.Digests.{AreDigests}
+use Rattle.namespace_id.specs.Shares.{AreShares}
 use Rattle.namespace_id.specs.Cells.{CellList, AreCells}
 use Rattle.data_header.specs.Headers.{Roots, AreRoots}
 use Rattle.axis_roots.specs.declared.messages.Message as sent
 use Rattle.axis_roots.specs.Messages.{IsMessage}
+use Rattle.square_layout.specs.Blocks.{SquareShares, IsSquare}
 use Rattle.da_wire.specs.declared.frames.Frame.{Frame}
-use Rattle.da_wire.specs.declared.frames.Frame.TheVariants.{Header, Message, Missing, Sample, Request}
+use Rattle.da_wire.specs.declared.frames.Frame.TheVariants.{Header, Square, Message, Missing, Sample, Request}
 
 -- the greatest payload: 16 MiB
 abbrev pub max_payload : ℕ
 max_payload = 16777216
 
--- the kinds: `H`, `M`, `K`, `Q` and `P`
+-- the kinds: `H`, `S`, `M`, `K`, `Q` and `P`
 abbrev pub header_kind : ℕ
 header_kind = 0x48
+
+abbrev pub square_kind : ℕ
+square_kind = 0x53
 
 abbrev pub message_kind : ℕ
 message_kind = 0x4d
@@ -48,6 +54,13 @@ digest_bytes digests = flat_map (λ d. d.0) digests
 
 abbrev pub header_payload : Roots → List ℕ
 header_payload h = to_be_bytes w16 h.k ++ digest_bytes h.rows ++ digest_bytes h.cols
+
+-- the bytes of shares, one after another
+abbrev pub share_bytes : List Share → List ℕ
+share_bytes shares = flat_map (λ s. s.0) shares
+
+abbrev pub square_payload : SquareShares → List ℕ
+square_payload s = to_be_bytes w16 s.k ++ share_bytes s.shares
 
 abbrev pub axis_byte : Axis → ℕ
 axis_byte Row = 0
@@ -80,6 +93,7 @@ spelled kind payload = if nat_lt max_payload (length payload) then None else Som
 -- the spelling of a value, where it has one: no cells are no missing cells
 abbrev pub spelling : Frame → Option (List ℕ)
 spelling (Header h) = spelled header_kind (header_payload h)
+spelling (Square s) = spelled square_kind (square_payload s)
 spelling (Message m) = spelled message_kind (message_payload m)
 spelling (Missing cells) =
     if length cells.list == 0 then None else spelled missing_kind (missing_payload cells)
@@ -102,6 +116,7 @@ pub record IsCell (cell : Cell) : Type 0 where
 -- every value has the lengths and bounds of its type
 abbrev pub IsFrame : Frame → Type 0
 IsFrame (Header h) = IsHeader h
+IsFrame (Square s) = IsSquare s × AreShares s.shares
 IsFrame (Message m) = IsMessage m
 IsFrame (Missing cells) = AreCells cells
 IsFrame (Sample cell axis) = IsCell cell

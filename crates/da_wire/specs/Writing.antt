@@ -2,11 +2,12 @@
 use Rattle.std.specs.Prelude.{◌≡◌, ◌+◌, ◌≤◌, ◌<◌, ◌^◌, ⊤, ℕ, List, ◌++◌, length, Vec, vec_len, vec_capacity, Option, Some, None, MatchOption}
 use Rattle.std.specs.declared.alloc.Global.{Global}
 use Rattle.da_wire.specs.declared.frames.Frame.{Frame}
-use Rattle.da_wire.specs.declared.frames.Frame.TheVariants.{Header, Message, Missing, Sample, Request}
-use Rattle.da_wire.specs.Spelling.{frame, spelling, header_kind, message_kind, missing_kind, sample_kind, request_kind, header_payload, message_payload, missing_payload, sample_payload, request_payload}
+use Rattle.da_wire.specs.declared.frames.Frame.TheVariants.{Header, Square, Message, Missing, Sample, Request}
+use Rattle.da_wire.specs.Spelling.{frame, spelling, header_kind, square_kind, message_kind, missing_kind, sample_kind, request_kind, header_payload, square_payload, message_payload, missing_payload, sample_payload, request_payload}
 
 abbrev pub kind_of : Frame → ℕ
 kind_of (Header h) = header_kind
+kind_of (Square s) = square_kind
 kind_of (Message m) = message_kind
 kind_of (Missing cells) = missing_kind
 kind_of (Sample cell axis) = sample_kind
@@ -14,6 +15,7 @@ kind_of (Request name) = request_kind
 
 abbrev pub payload_of : Frame → List ℕ
 payload_of (Header h) = header_payload h
+payload_of (Square s) = square_payload s
 payload_of (Message m) = message_payload m
 payload_of (Missing cells) = missing_payload cells
 payload_of (Sample cell axis) = sample_payload cell axis
@@ -35,6 +37,7 @@ HasRoom out count = vec_len out + count ≤ vec_capacity out
 -- so few missing cells that four bytes count them
 abbrev pub IsCounted : Frame → Type 0
 IsCounted (Header h) = ⊤
+IsCounted (Square s) = ⊤
 IsCounted (Message m) = ⊤
 IsCounted (Missing cells) = length cells.list < 2 ^ 32
 IsCounted (Sample cell axis) = ⊤

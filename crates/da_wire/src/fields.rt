@@ -41,6 +41,16 @@ pub(crate) fn u8_at(bytes: &[u8]) -> Option<(u8, &[u8])>
     }
 }
 
+/// The share that 512 bytes are.
+pub(crate) fn share_of(bytes: &[u8]) -> Share
+    requires { length bytes.now ≡ 512 }
+    ensures { result.0 ≡ bytes.now }
+{
+    let mut share = Share([0; 512]);
+    share.0.copy_from_slice(bytes);
+    share
+}
+
 /// A share, and the bytes after it.
 pub(crate) fn share_at(bytes: &[u8]) -> Option<(Share, &[u8])>
     ensures { Gives (λ x. (x.0.0, x.1.now)) result (string_at 512 bytes.now) }
@@ -49,7 +59,5 @@ pub(crate) fn share_at(bytes: &[u8]) -> Option<(Share, &[u8])>
         return None;
     }
     let (front, rest) = bytes.split_at(512);
-    let mut share = Share([0; 512]);
-    share.0.copy_from_slice(front);
-    Some((share, rest))
+    Some((share_of(front), rest))
 }

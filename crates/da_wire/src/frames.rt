@@ -3,6 +3,7 @@
 use axis_roots::Message;
 use data_header::Header;
 use namespace_id::{Axis, Cell, Cells, Namespace};
+use square_layout::Square;
 use thiserror::Error;
 
 /// A frame of any kind at the front of bytes. `size` is the length of all of it, 5 more than the
@@ -19,6 +20,8 @@ pub struct RawFrame<'a> {
 pub enum Frame {
     /// H: a header.
     Header(Header),
+    /// S: an original square.
+    Square(Square),
     /// M: a share message.
     Message(Message),
     /// K: missing cells.

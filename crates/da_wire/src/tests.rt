@@ -32,10 +32,12 @@ fn filled(alloc: Global, bytes: &[u8], count: usize, byte: u8) -> Result<Vec<u8>
 fn frames_of_each_kind(rt: HostRuntime) -> Result<(), Fail> {
     let alloc = rt.alloc();
     let header = filled(alloc, b"H\x00\x00\x01\x6a\x00\x01", 360, 7)?;
+    let square = filled(alloc, b"S\x00\x00\x02\x02\x00\x01", 512, 5)?;
     let message = filled(alloc, b"M\x00\x00\x02\x06", 518, 0)?;
     let request = filled(alloc, b"P\x00\x00\x00\x1d", 29, 9)?;
-    let cases: [(&str, &[u8]); 6] = [
+    let cases: [(&str, &[u8]); 7] = [
         ("H", &header),
+        ("S", &square),
         ("M", &message),
         ("K", &MISSING),
         ("Q, a column", &COL_SAMPLE),
@@ -78,27 +80,32 @@ fn values_of_frames(rt: HostRuntime) -> Result<(), Fail> {
 }
 
 #[test]
-fn bytes_that_are_no_frame(rt: HostRuntime) {
+fn bytes_that_are_no_frame(rt: HostRuntime) -> Result<(), Fail> {
     let alloc = rt.alloc();
+    let wide = filled(alloc, b"S\x00\x00\x12\x02\x00\x03", 4608, 5)?;
+    let mut turned = filled(alloc, b"M\x00\x00\x02\x06", 518, 0)?;
+    turned[9] = 2;
     let falling = b"K\x00\x00\x00\x0e\x00\x01\x00\x00\x00\x02\x00\x01\x00\x01\x00\x00\x00\x00";
-    let cases: [(&str, &[u8], FrameError); 6] = [
-        ("no byte", b"", FrameError::Truncated(0)),
-        ("kind Z", &OTHER, FrameError::BadKind(0)),
+    let cases: [(&str, &[u8], FrameError); 8] = [
+        ("no byte", b"", FrameError::Truncated(7)),
+        ("kind Z", &OTHER, FrameError::BadKind(7)),
         (
             "above the limit",
             b"M\x01\x00\x00\x01",
-            FrameError::TooLong(0),
+            FrameError::TooLong(7),
         ),
-        ("four bytes", b"M\x00\x00\x02", FrameError::Truncated(0)),
+        ("four bytes", b"M\x00\x00\x02", FrameError::Truncated(7)),
+        ("S of width 3", &wide, FrameError::BadPayload(7)),
+        ("M on axis 2", &turned, FrameError::BadPayload(7)),
         (
-            "axis 2",
+            "Q on axis 2",
             b"Q\x00\x00\x00\x05\x00\x01\x00\x02\x02",
-            FrameError::BadPayload(0),
+            FrameError::BadPayload(7),
         ),
-        ("cells that fall", falling, FrameError::BadPayload(0)),
+        ("cells that fall", falling, FrameError::BadPayload(7)),
     ];
     for (name, bytes, want) in cases {
-        assert_eq!(rt; read_frame(alloc, bytes, 0).err(), Some(want), "{name}");
+        assert_eq!(rt; read_frame(alloc, bytes, 7).err(), Some(want), "{name}");
     }
     let other = read_only(alloc, &COL_SAMPLE, b"H").err();
     assert_eq!(rt; other, Some(FrameError::BadKind(0)));
@@ -112,6 +119,7 @@ fn bytes_that_are_no_frame(rt: HostRuntime) {
     assert!(rt; message(&payload).is_some(), "two nodes");
     assert_eq!(rt; bad_frame(b"Z\x00\x00\x00\x00M\x00\x00\x02"), Some(5));
     assert_eq!(rt; bad_frame(b""), None);
+    Ok(())
 }
 
 #[test]

@@ -2,14 +2,17 @@
 
 ghost use Rattle.std.specs.Prelude.{◌≡◌, ◌+◌, ◌≤◌, ◌++◌, ◌↔◌, ◌∷◌, [], length, vec_len, vec_capacity, OnOk, OnErr, IsErrOf, None, Some};
 ghost use Rattle.std.specs.List.{flat_map};
-ghost use Rattle.da_wire.specs.Spelling.{digest_bytes, axis_byte, cell_bytes, header_payload, message_payload, missing_payload, sample_payload, spelling};
+ghost use Rattle.da_wire.specs.Spelling.{digest_bytes, share_bytes, axis_byte, cell_bytes, header_payload, square_payload, message_payload, missing_payload, sample_payload, spelling};
 ghost use Rattle.da_wire.specs.Writing.{kind_of, payload_of, HasSize, AppendsSpelling, HasRoom, IsCounted};
 ghost use Rattle.da_wire.specs.declared.frames.Frame.TheVariants as FrameOf;
 
 use crate::{Frame, MAX_PAYLOAD, SpellError};
 use axis_roots::Message;
 use data_header::Header;
-use namespace_id::{Axis, Cell, Cells, Digest, Namespace, are_digests, is_share};
+use namespace_id::{
+    Axis, Cell, Cells, Digest, Namespace, Share, are_digests, are_shares, is_share,
+};
+use square_layout::Square;
 
 /// The most cells whose payload is within its limit.
 const MAX_CELLS: usize = (MAX_PAYLOAD as usize - 6) / 4;
@@ -33,6 +36,16 @@ fn put_digests(out: &mut Vec<u8>, digests: &[Digest])
 {
     for digest in digests {
         put(out, &digest.0);
+    }
+}
+
+/// Appends shares, one after another.
+fn put_shares(out: &mut Vec<u8>, shares: &[Share])
+    requires room { HasRoom out.old (length (share_bytes shares.now)) }
+    ensures appended { out.new.items ≡ out.old.items ++ share_bytes shares.now }
+{
+    for share in shares {
+        put(out, &share.0);
     }
 }
 
@@ -77,6 +90,15 @@ fn put_header(out: &mut Vec<u8>, header: &Header)
     put_digests(out, &header.cols);
 }
 
+/// Appends the payload of a square.
+fn put_square(out: &mut Vec<u8>, square: &Square)
+    requires room { HasRoom out.old (length (square_payload square.now)) }
+    ensures appended { out.new.items ≡ out.old.items ++ square_payload square.now }
+{
+    put(out, &square.k.to_be_bytes());
+    put_shares(out, &square.shares);
+}
+
 /// Appends the payload of a message.
 fn put_message(out: &mut Vec<u8>, message: &Message)
     requires room { HasRoom out.old (length (message_payload message.now)) }
@@ -116,6 +138,7 @@ fn kind_of(frame: &Frame) -> u8
 {
     match frame {
         Frame::Header(_) => b'H',
+        Frame::Square(_) => b'S',
         Frame::Message(_) => b'M',
         Frame::Missing(_) => b'K',
         Frame::Sample(..) => b'Q',
@@ -130,6 +153,14 @@ fn header_size(header: &Header) -> u32
     are_digests(&header.rows);
     are_digests(&header.cols);
     2 + 360 * u32::from(header.k)
+}
+
+/// The length of the payload of a square.
+fn square_size(square: &Square) -> u32
+    ensures { HasSize (FrameOf.Square square.now) (Some result) }
+{
+    are_shares(&square.shares);
+    2 + 512 * (u32::from(square.k) * u32::from(square.k))
 }
 
 /// The length of the payload of a message.
@@ -177,6 +208,7 @@ fn payload_size(frame: &Frame) -> Option<u32>
 {
     match frame {
         Frame::Header(header) => Some(header_size(header)),
+        Frame::Square(square) => Some(square_size(square)),
         Frame::Message(message) => Some(message_size(message)),
         Frame::Missing(cells) => missing_size(cells),
         Frame::Sample(..) => Some(5),
@@ -192,6 +224,7 @@ fn put_payload(out: &mut Vec<u8>, frame: &Frame)
 {
     match frame {
         Frame::Header(header) => put_header(out, header),
+        Frame::Square(square) => put_square(out, square),
         Frame::Message(message) => put_message(out, message),
         Frame::Missing(cells) => put_missing(out, cells, cells.list.len() as u32),
         Frame::Sample(cell, axis) => put_sample(out, *cell, *axis),
