@@ -12,6 +12,10 @@ pub mod MessageFieldLemmas
 pub mod MessageFormLemmas
 pub mod MissingFormLemmas
 pub mod RequestFormLemmas
+pub mod ManyLemmas
+pub mod ListFieldLemmas
+pub mod BlockFormLemmas
+pub mod BlockPartLemmas
 pub mod ValueLemmas
 pub mod WrittenLemmas
 pub mod RawLemmas

@@ -1,5 +1,5 @@
 -- The length of each payload.
-use Rattle.std.proofs.Common.{◌≡◌, ◌∙◌, ℕ, ◌+◌, ◌*◌, ◌<◌, ◌≤◌, ◌^◌, Bool, true, false, cond, List, ◌∷◌, length, length-append, Option, Some, None, ap, arith}
+use Rattle.std.proofs.Common.{◌≡◌, ◌∙◌, ℕ, ◌+◌, ◌*◌, ◌<◌, ◌≤◌, Bool, true, false, cond, List, ◌∷◌, length, length-append, Option, Some, None, ap, arith}
 use Rattle.std.specs.Prelude.{◌==◌}
 use Rattle.std.proofs.Math.Nat.{mul-le-mul_left}
 use Rattle.std.proofs.lemmas.Bool.Decides.{nat_tests}
@@ -10,10 +10,9 @@ use Rattle.namespace_id.specs.Cells.{CellList, is_width}
 use Rattle.data_header.specs.Headers.{Roots, AreRoots}
 use Rattle.axis_roots.specs.declared.messages.Message as sent
 use Rattle.square_layout.specs.Blocks.{SquareShares, IsSquare}
-use Rattle.da_wire.specs.declared.frames.Frame.{Frame}
-use Rattle.da_wire.specs.declared.frames.Frame.TheVariants.{Header, Square, Message, Missing, Sample, Request}
+use Rattle.da_wire.specs.declared.frames.Frame.TheVariants.{Header, Square, Message, Missing, Request}
 use Rattle.da_wire.specs.Spelling.{spelled, header_kind, square_kind, message_kind, missing_kind, request_kind, digest_bytes, header_payload, square_payload, message_payload, missing_payload, request_payload}
-use Rattle.da_wire.specs.Writing.{HasSize, IsCounted, payload_of}
+use Rattle.da_wire.specs.Writing.{HasSize}
 use Rattle.da_wire.proofs.DigestBytesLemmas.{length-digest_bytes}
 use Rattle.da_wire.proofs.SquareFormLemmas.{length-share_bytes}
 use Rattle.da_wire.proofs.CellFieldLemmas.{length-cells_bytes}
@@ -53,7 +52,7 @@ message_sized m n share nodes few e =
     let size : n ≡ length (message_payload m) = e ∙ length-message m share nodes in
     (size, spelled_within message_kind n (message_payload m) size (omega arith))
 
-length-missing : (cells : CellList) → 6 + 4 * length cells.list ≡ length (missing_payload cells)
+pub length-missing : (cells : CellList) → 6 + 4 * length cells.list ≡ length (missing_payload cells)
 length-missing cells = omega (arith, length-cells_bytes cells.list)
 
 some_cells : (n : ℕ) (x : Option (List ℕ)) → (n ≡ 0 → ⊥) → cond (n == 0) None x ≡ x
@@ -72,12 +71,3 @@ missing_beyond cells some many =
 
 pub request_sized : (name : Namespace) (n : ℕ) → n ≡ length name.0 → n ≤ 29 → HasSize (Request name) (Some n)
 request_sized name n e few = (e, spelled_within request_kind n (request_payload name) e (omega arith))
-
--- four bytes count the missing cells of a payload whose length they count
-pub counted : (value : Frame) (n : ℕ) → n ≡ length (payload_of value) → n < 2 ^ 32 → IsCounted value
-counted (Header h) n e lt = tt
-counted (Square s) n e lt = tt
-counted (Message m) n e lt = tt
-counted (Missing cells) n e lt = omega (arith, length-missing cells)
-counted (Sample cell axis) n e lt = tt
-counted (Request name) n e lt = tt

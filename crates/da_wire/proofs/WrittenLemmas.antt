@@ -14,10 +14,10 @@ use Rattle.data_header.specs.Headers.{Roots}
 use Rattle.axis_roots.specs.declared.messages.Message as sent
 use Rattle.axis_roots.specs.Messages.{IsMessage}
 use Rattle.namespace_id.specs.Shares.{AreShares}
-use Rattle.square_layout.specs.Blocks.{SquareShares, IsSquare}
+use Rattle.square_layout.specs.Blocks.{BlockParts, SquareShares, IsSquare}
 use Rattle.da_wire.specs.declared.frames.Frame.{Frame}
-use Rattle.da_wire.specs.declared.frames.Frame.TheVariants.{Header, Square, Message, Missing, Sample, Request}
-use Rattle.da_wire.specs.Spelling.{max_payload, frame, header_kind, square_kind, message_kind, missing_kind, sample_kind, request_kind, cell_bytes, header_payload, square_payload, message_payload, missing_payload, sample_payload, request_payload, spelled, spelling, IsFrame, IsHeader, IsCell}
+use Rattle.da_wire.specs.declared.frames.Frame.TheVariants.{Header, Square, Message, Missing, Sample, Request, Block}
+use Rattle.da_wire.specs.Spelling.{max_payload, frame, header_kind, square_kind, message_kind, missing_kind, sample_kind, request_kind, block_kind, cell_bytes, header_payload, square_payload, message_payload, missing_payload, sample_payload, request_payload, block_payload, asks_for_zero, spelled, spelling, IsFrame, IsHeader, IsCell, IsBlock}
 use Rattle.da_wire.specs.Reading.{value_at, is_kind}
 use Rattle.da_wire.proofs.ReaderLemmas.{if_false}
 use Rattle.da_wire.proofs.CellFieldLemmas.{length-cells_bytes}
@@ -26,6 +26,7 @@ use Rattle.da_wire.proofs.SquareFormLemmas.{square_again}
 use Rattle.da_wire.proofs.MessageFormLemmas.{message_again}
 use Rattle.da_wire.proofs.MissingFormLemmas.{missing_again}
 use Rattle.da_wire.proofs.RequestFormLemmas.{sample_again, request_again}
+use Rattle.da_wire.proofs.BlockFormLemmas.{block_again}
 
 -- ---- by kind
 
@@ -52,6 +53,10 @@ sample_read cell axis is = ap (λ (r : Option (Cell × Axis)). option_map (λ (s
 request_read : (name : Namespace) → IsNamespace name → value_at request_kind (request_payload name) ≡ Some (Request name)
 unfolding value_at
 request_read name is = ap (λ (r : Option Namespace). option_map Request r) (request_again name is)
+
+block_read : (b : BlockParts) → IsBlock b → asks_for_zero b.width ≡ false → length (block_payload b) < 2 ^ 32 → value_at block_kind (block_payload b) ≡ Some (Block b)
+unfolding value_at
+block_read b is some few = ap (λ (r : Option BlockParts). option_map Block r) (block_again b is some few)
 
 missing_length : (cells : CellList) → length (missing_payload cells) ≡ 6 + 4 * length cells.list
 missing_length cells =
@@ -91,3 +96,6 @@ value_again (Missing cells) text is e =
     (λ few. missing_read cells is g.0 (omega (arith, few, missing_length cells)))
 value_again (Sample cell axis) text is e = written (Sample cell axis) sample_kind (sample_payload cell axis) text refl e (λ few. sample_read cell axis is)
 value_again (Request name) text is e = written (Request name) request_kind (request_payload name) text refl e (λ few. request_read name is)
+value_again (Block b) text is e =
+    let g = if_false (asks_for_zero b.width) (spelled block_kind (block_payload b)) text e in
+    written (Block b) block_kind (block_payload b) text refl g.1 (λ few. block_read b is g.0 (omega (arith, few)))

@@ -6,7 +6,7 @@ ghost use Rattle.namespace_id.specs.Cells.{is_width, are_cells};
 ghost use Rattle.da_wire.specs.Fields.{Gives, digests_of, shares_of, cells_of};
 ghost use Rattle.da_wire.specs.Reading.{roots_of, header_at, square_at, axis_at, path_at, cell_at, message_at, is_next, are_next, missing_at, sample_at, request_at, GivesUnlessFull};
 
-use crate::fields::{share_at, share_of, u8_at, u16_at, u32_at};
+use crate::fields::{name_of, share_at, share_of, u8_at, u16_at, u32_at};
 use axis_roots::Message;
 use data_header::Header;
 use namespace_id::{
@@ -125,9 +125,7 @@ pub(crate) fn request(payload: &[u8]) -> Option<Namespace>
     if payload.len() != 29 {
         return None;
     }
-    let mut name = Namespace([0; 29]);
-    name.0.copy_from_slice(payload);
-    Some(name)
+    Some(name_of(payload))
 }
 
 /// So many digests, one after another, which are all of the bytes.
