@@ -1,30 +1,30 @@
--- Lemmas on digests that are read one after another.
+-- Lemmas on values of one length that are read one after another.
 use Rattle.std.proofs.Common.{◌≡◌, ◌∙◌, ℕ, suc, ◌+◌, ◌-◌, ◌<◌, ◌≤◌, List, [], ◌∷◌, ◌++◌, take, drop, refl, sym, ap, ap₂, arith, append_assoc, append-nil}
-use Rattle.namespace_id.specs.declared.digests.Digest.{Digest}
-use Rattle.da_wire.specs.Fields.{digests_of}
+use Rattle.da_wire.specs.Fields.{values_of}
 
-digests_suc : (n : ℕ) (bytes : List ℕ) → digests_of (suc n) bytes ≡ record { 0 = take 90 bytes } ∷ digests_of n (drop 90 bytes)
-unfolding digests_of
-digests_suc n bytes = refl
+values_suc : {A : Type 0} (value : List ℕ → A) (size n : ℕ) (bytes : List ℕ) → values_of value size (suc n) bytes ≡ value (take size bytes) ∷ values_of value size n (drop size bytes)
+unfolding values_of
+values_suc value size n bytes = refl
 
-digests_zero : (bytes : List ℕ) → digests_of 0 bytes ≡ []
-unfolding digests_of
-digests_zero bytes = refl
+values_zero : {A : Type 0} (value : List ℕ → A) (size : ℕ) (bytes : List ℕ) → values_of value size 0 bytes ≡ []
+unfolding values_of
+values_zero value size bytes = refl
 
--- one more digest was read
-pub digests_more : (all so_far : List Digest) (digest : Digest) (count i : ℕ) (rest front after : List ℕ) → i < count
-    → so_far ++ digests_of (count - i) rest ≡ all → front ≡ take 90 rest → after ≡ drop 90 rest → digest.0 ≡ front
-    → (so_far ++ digest ∷ []) ++ digests_of (count - (i + 1)) after ≡ all
-digests_more all so_far digest count i rest front after h done ef ea ed =
+-- one more value was read
+pub values_more : {A : Type 0} (value : List ℕ → A) (size : ℕ) (all so_far : List A) (x : A) (count i : ℕ) (rest front after : List ℕ) → i < count
+    → so_far ++ values_of value size (count - i) rest ≡ all → front ≡ take size rest → after ≡ drop size rest → x ≡ value front
+    → (so_far ++ x ∷ []) ++ values_of value size (count - (i + 1)) after ≡ all
+values_more {A} value size all so_far x count i rest front after h done ef ea ex =
     let left : count - i ≡ suc (count - (i + 1)) = omega arith in
-    let first : digest ≡ record { 0 = take 90 rest } = ap (λ (l : List ℕ). record { 0 = l }) (ed ∙ ef) in
-    append_assoc so_far (digest ∷ []) (digests_of (count - (i + 1)) after)
-    ∙ ap₂ (λ (d : Digest) (l : List ℕ). so_far ++ d ∷ digests_of (count - (i + 1)) l) first ea
-    ∙ ap (λ (l : List Digest). so_far ++ l) (sym (ap (λ (k : ℕ). digests_of k rest) left ∙ digests_suc (count - (i + 1)) rest))
+    let first : x ≡ value (take size rest) = ex ∙ ap value ef in
+    append_assoc so_far (x ∷ []) (values_of value size (count - (i + 1)) after)
+    ∙ ap₂ (λ (d : A) (l : List ℕ). so_far ++ d ∷ values_of value size (count - (i + 1)) l) first ea
+    ∙ ap (λ (l : List A). so_far ++ l) (sym (ap (λ (k : ℕ). values_of value size k rest) left ∙ values_suc value size (count - (i + 1)) rest))
     ∙ done
 
 -- all were read
-pub digests_end : (all so_far : List Digest) (count i : ℕ) (rest : List ℕ) → count ≤ i → so_far ++ digests_of (count - i) rest ≡ all → so_far ≡ all
-digests_end all so_far count i rest h done =
+pub values_end : {A : Type 0} (value : List ℕ → A) (size : ℕ) (all so_far : List A) (count i : ℕ) (rest : List ℕ) → count ≤ i
+    → so_far ++ values_of value size (count - i) rest ≡ all → so_far ≡ all
+values_end {A} value size all so_far count i rest h done =
     let none : count - i ≡ 0 = omega arith in
-    sym (ap (λ (l : List Digest). so_far ++ l) (ap (λ (k : ℕ). digests_of k rest) none ∙ digests_zero rest) ∙ append-nil so_far) ∙ done
+    sym (ap (λ (l : List A). so_far ++ l) (ap (λ (k : ℕ). values_of value size k rest) none ∙ values_zero value size rest) ∙ append-nil so_far) ∙ done

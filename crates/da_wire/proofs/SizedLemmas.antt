@@ -1,18 +1,20 @@
 -- The length of each payload.
-use Rattle.std.proofs.Common.{◌≡◌, ◌∙◌, ℕ, ◌+◌, ◌*◌, ◌<◌, ◌≤◌, ◌^◌, Bool, true, false, cond, List, ◌∷◌, length, length-append, Option, Some, None, ap, arith}
+use Rattle.std.proofs.Common.{◌≡◌, ◌∙◌, ℕ, ◌+◌, ◌*◌, ◌<◌, ◌≤◌, Bool, true, false, cond, List, ◌∷◌, length, length-append, Option, Some, None, ap, arith}
 use Rattle.std.specs.Prelude.{◌==◌}
+use Rattle.std.proofs.Math.Nat.{mul-le-mul_left}
 use Rattle.std.proofs.lemmas.Bool.Decides.{nat_tests}
 use Rattle.namespace_id.specs.declared.namespaces.Namespace.{Namespace}
-use Rattle.namespace_id.specs.Shares.{IsShare}
+use Rattle.namespace_id.specs.Shares.{IsShare, AreShares}
 use Rattle.namespace_id.specs.Digests.{AreDigests}
 use Rattle.namespace_id.specs.Cells.{CellList, is_width}
 use Rattle.data_header.specs.Headers.{Roots, AreRoots}
 use Rattle.axis_roots.specs.declared.messages.Message as sent
-use Rattle.da_wire.specs.declared.frames.Frame.{Frame}
-use Rattle.da_wire.specs.declared.frames.Frame.TheVariants.{Header, Message, Missing, Sample, Request}
-use Rattle.da_wire.specs.Spelling.{spelled, header_kind, message_kind, missing_kind, request_kind, digest_bytes, header_payload, message_payload, missing_payload, request_payload}
-use Rattle.da_wire.specs.Writing.{HasSize, IsCounted, payload_of}
+use Rattle.square_layout.specs.Blocks.{SquareShares, IsSquare}
+use Rattle.da_wire.specs.declared.frames.Frame.TheVariants.{Header, Square, Message, Missing, Request}
+use Rattle.da_wire.specs.Spelling.{spelled, header_kind, square_kind, message_kind, missing_kind, request_kind, digest_bytes, header_payload, square_payload, message_payload, missing_payload, request_payload}
+use Rattle.da_wire.specs.Writing.{HasSize}
 use Rattle.da_wire.proofs.DigestBytesLemmas.{length-digest_bytes}
+use Rattle.da_wire.proofs.SquareFormLemmas.{length-share_bytes}
 use Rattle.da_wire.proofs.CellFieldLemmas.{length-cells_bytes}
 use Rattle.da_wire.proofs.SizeLemmas.{spelled_within, spelled_beyond}
 
@@ -29,6 +31,18 @@ header_sized h n roots rows cols e =
     let small : h.k ≤ 128 = small_width h.k roots.width in
     (size, spelled_within header_kind n (header_payload h) size (omega arith))
 
+length-square : (s : SquareShares) → IsSquare s → AreShares s.shares → 2 + 512 * (s.k * s.k) ≡ length (square_payload s)
+length-square s is shares = omega (arith, length-share_bytes s is shares)
+
+square_few : (k : ℕ) → k ≤ 128 → k * k ≤ 128 * 128
+square_few k h = let by_k : k * k ≤ k * 128 = mul-le-mul_left k h in omega arith
+
+pub square_sized : (s : SquareShares) (n : ℕ) → IsSquare s → AreShares s.shares → n ≡ 2 + 512 * (s.k * s.k) → HasSize (Square s) (Some n)
+square_sized s n is shares e =
+    let size : n ≡ length (square_payload s) = e ∙ length-square s is shares in
+    let few : s.k * s.k ≤ 128 * 128 = square_few s.k (small_width s.k is.width) in
+    (size, spelled_within square_kind n (square_payload s) size (omega arith))
+
 length-message : (m : sent.Message) → IsShare m.share → AreDigests m.path → 518 + 90 * length m.path ≡ length (message_payload m)
 length-message m share nodes =
     omega (arith, length-append m.share.0 (length m.path ∷ digest_bytes m.path), share.size_is, length-digest_bytes m.path nodes)
@@ -38,7 +52,7 @@ message_sized m n share nodes few e =
     let size : n ≡ length (message_payload m) = e ∙ length-message m share nodes in
     (size, spelled_within message_kind n (message_payload m) size (omega arith))
 
-length-missing : (cells : CellList) → 6 + 4 * length cells.list ≡ length (missing_payload cells)
+pub length-missing : (cells : CellList) → 6 + 4 * length cells.list ≡ length (missing_payload cells)
 length-missing cells = omega (arith, length-cells_bytes cells.list)
 
 some_cells : (n : ℕ) (x : Option (List ℕ)) → (n ≡ 0 → ⊥) → cond (n == 0) None x ≡ x
@@ -57,11 +71,3 @@ missing_beyond cells some many =
 
 pub request_sized : (name : Namespace) (n : ℕ) → n ≡ length name.0 → n ≤ 29 → HasSize (Request name) (Some n)
 request_sized name n e few = (e, spelled_within request_kind n (request_payload name) e (omega arith))
-
--- four bytes count the missing cells of a payload whose length they count
-pub counted : (value : Frame) (n : ℕ) → n ≡ length (payload_of value) → n < 2 ^ 32 → IsCounted value
-counted (Header h) n e lt = tt
-counted (Message m) n e lt = tt
-counted (Missing cells) n e lt = omega (arith, length-missing cells)
-counted (Sample cell axis) n e lt = tt
-counted (Request name) n e lt = tt

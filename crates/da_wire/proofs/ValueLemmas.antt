@@ -6,13 +6,15 @@ use Rattle.namespace_id.specs.declared.cells.Cell.{Cell}
 use Rattle.namespace_id.specs.declared.cells.Axis.{Axis}
 use Rattle.namespace_id.specs.Bytes.{AreBytes}
 use Rattle.da_wire.specs.declared.frames.Frame.{Frame}
-use Rattle.da_wire.specs.declared.frames.Frame.TheVariants.{Header, Message, Missing, Sample, Request}
-use Rattle.da_wire.specs.Spelling.{header_kind, message_kind, missing_kind, sample_kind, request_kind, missing_payload, spelled, spelling, IsFrame}
-use Rattle.da_wire.specs.Reading.{header_at, message_at, missing_at, sample_at, request_at, value_at}
+use Rattle.da_wire.specs.declared.frames.Frame.TheVariants.{Header, Square, Message, Missing, Sample, Request, Block}
+use Rattle.da_wire.specs.Spelling.{header_kind, square_kind, message_kind, missing_kind, sample_kind, request_kind, block_kind, missing_payload, block_payload, spelled, spelling, IsFrame}
+use Rattle.da_wire.specs.Reading.{header_at, square_at, message_at, missing_at, sample_at, request_at, block_at, value_at}
 use Rattle.da_wire.proofs.HeaderFormLemmas.{header_takes}
+use Rattle.da_wire.proofs.SquareFormLemmas.{square_takes}
 use Rattle.da_wire.proofs.MessageFormLemmas.{message_takes}
 use Rattle.da_wire.proofs.MissingFormLemmas.{missing_takes}
 use Rattle.da_wire.proofs.RequestFormLemmas.{sample_takes, request_takes}
+use Rattle.da_wire.proofs.BlockFormLemmas.{block_takes}
 
 -- the value behind a map
 map_some : {A B : Type 0} (f : A → B) (r : Option A) (y : B) → option_map f r ≡ Some y → (x : A) × (r ≡ Some x) × (f x ≡ y)
@@ -28,6 +30,12 @@ header_value payload value fits e =
     let a = map_some Header (header_at payload) value e in
     let t = header_takes payload a.0 fits a.1 in
     subst (λ (v : Frame). Spells header_kind payload v) a.2 (t.0, ap (λ (l : List ℕ). spelled header_kind l) (sym t.1))
+
+square_value : (payload : List ℕ) (value : Frame) → AreBytes payload → option_map Square (square_at payload) ≡ Some value → Spells square_kind payload value
+square_value payload value fits e =
+    let a = map_some Square (square_at payload) value e in
+    let t = square_takes payload a.0 fits a.1 in
+    subst (λ (v : Frame). Spells square_kind payload v) a.2 (t.0, ap (λ (l : List ℕ). spelled square_kind l) (sym t.1))
 
 message_value : (payload : List ℕ) (value : Frame) → AreBytes payload → option_map Message (message_at payload) ≡ Some value → Spells message_kind payload value
 message_value payload value fits e =
@@ -57,6 +65,13 @@ request_value payload value fits e =
     let t = request_takes payload a.0 fits a.1 in
     subst (λ (v : Frame). Spells request_kind payload v) a.2 (t.0, ap (λ (l : List ℕ). spelled request_kind l) (sym t.1))
 
+block_value : (payload : List ℕ) (value : Frame) → AreBytes payload → option_map Block (block_at payload) ≡ Some value → Spells block_kind payload value
+block_value payload value fits e =
+    let a = map_some Block (block_at payload) value e in
+    let t = block_takes payload a.0 fits a.1 in
+    let some : spelling (Block a.0) ≡ spelled block_kind (block_payload a.0) = ap (λ (b : Bool). cond b None (spelled block_kind (block_payload a.0))) t.2 in
+    subst (λ (v : Frame). Spells block_kind payload v) a.2 (t.0, some ∙ ap (λ (l : List ℕ). spelled block_kind l) (sym t.1))
+
 -- it is of this kind or not
 by_test : (b : Bool) (kind k : ℕ) (payload : List ℕ) (value : Frame) (x y : Option Frame) → eqb kind k ≡ b → cond b x y ≡ Some value
     → (x ≡ Some value → Spells k payload value) → (y ≡ Some value → Spells kind payload value) → Spells kind payload value
@@ -68,8 +83,11 @@ by_kind : (kind k : ℕ) (payload : List ℕ) (value : Frame) (x y : Option Fram
 by_kind kind k payload value x y e this other = by_test (eqb kind k) kind k payload value x y refl e this other
 
 -- what `value_at` does for each kind
+abbrev from_block : ℕ → List ℕ → Option Frame
+from_block kind payload = cond (eqb kind block_kind) (option_map Block (block_at payload)) None
+
 abbrev from_request : ℕ → List ℕ → Option Frame
-from_request kind payload = cond (eqb kind request_kind) (option_map Request (request_at payload)) None
+from_request kind payload = cond (eqb kind request_kind) (option_map Request (request_at payload)) (from_block kind payload)
 
 abbrev from_sample : ℕ → List ℕ → Option Frame
 from_sample kind payload = cond (eqb kind sample_kind) (option_map sample (sample_at payload)) (from_request kind payload)
@@ -80,11 +98,16 @@ from_missing kind payload = cond (eqb kind missing_kind) (option_map Missing (mi
 abbrev from_message : ℕ → List ℕ → Option Frame
 from_message kind payload = cond (eqb kind message_kind) (option_map Message (message_at payload)) (from_missing kind payload)
 
+abbrev from_square : ℕ → List ℕ → Option Frame
+from_square kind payload = cond (eqb kind square_kind) (option_map Square (square_at payload)) (from_message kind payload)
+
 pub value_takes : (kind : ℕ) (payload : List ℕ) (value : Frame) → AreBytes payload → value_at kind payload ≡ Some value → Spells kind payload value
 unfolding value_at
 value_takes kind payload value fits e =
-    by_kind kind header_kind payload value (option_map Header (header_at payload)) (from_message kind payload) e (header_value payload value fits) (λ e1.
-    by_kind kind message_kind payload value (option_map Message (message_at payload)) (from_missing kind payload) e1 (message_value payload value fits) (λ e2.
-    by_kind kind missing_kind payload value (option_map Missing (missing_at payload)) (from_sample kind payload) e2 (missing_value payload value fits) (λ e3.
-    by_kind kind sample_kind payload value (option_map sample (sample_at payload)) (from_request kind payload) e3 (sample_value payload value fits) (λ e4.
-    by_kind kind request_kind payload value (option_map Request (request_at payload)) None e4 (request_value payload value fits) (λ e5. absurd cc)))))
+    by_kind kind header_kind payload value (option_map Header (header_at payload)) (from_square kind payload) e (header_value payload value fits) (λ e1.
+    by_kind kind square_kind payload value (option_map Square (square_at payload)) (from_message kind payload) e1 (square_value payload value fits) (λ e2.
+    by_kind kind message_kind payload value (option_map Message (message_at payload)) (from_missing kind payload) e2 (message_value payload value fits) (λ e3.
+    by_kind kind missing_kind payload value (option_map Missing (missing_at payload)) (from_sample kind payload) e3 (missing_value payload value fits) (λ e4.
+    by_kind kind sample_kind payload value (option_map sample (sample_at payload)) (from_request kind payload) e4 (sample_value payload value fits) (λ e5.
+    by_kind kind request_kind payload value (option_map Request (request_at payload)) (from_block kind payload) e5 (request_value payload value fits) (λ e6.
+    by_kind kind block_kind payload value (option_map Block (block_at payload)) None e6 (block_value payload value fits) (λ e7. absurd cc)))))))

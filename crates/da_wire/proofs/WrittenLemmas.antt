@@ -13,22 +13,30 @@ use Rattle.namespace_id.specs.Cells.{CellList, AreCells}
 use Rattle.data_header.specs.Headers.{Roots}
 use Rattle.axis_roots.specs.declared.messages.Message as sent
 use Rattle.axis_roots.specs.Messages.{IsMessage}
+use Rattle.namespace_id.specs.Shares.{AreShares}
+use Rattle.square_layout.specs.Blocks.{BlockParts, SquareShares, IsSquare}
 use Rattle.da_wire.specs.declared.frames.Frame.{Frame}
-use Rattle.da_wire.specs.declared.frames.Frame.TheVariants.{Header, Message, Missing, Sample, Request}
-use Rattle.da_wire.specs.Spelling.{max_payload, frame, header_kind, message_kind, missing_kind, sample_kind, request_kind, cell_bytes, header_payload, message_payload, missing_payload, sample_payload, request_payload, spelled, spelling, IsFrame, IsHeader, IsCell}
+use Rattle.da_wire.specs.declared.frames.Frame.TheVariants.{Header, Square, Message, Missing, Sample, Request, Block}
+use Rattle.da_wire.specs.Spelling.{max_payload, frame, header_kind, square_kind, message_kind, missing_kind, sample_kind, request_kind, block_kind, cell_bytes, header_payload, square_payload, message_payload, missing_payload, sample_payload, request_payload, block_payload, asks_for_zero, spelled, spelling, IsFrame, IsHeader, IsCell, IsBlock}
 use Rattle.da_wire.specs.Reading.{value_at, is_kind}
 use Rattle.da_wire.proofs.ReaderLemmas.{if_false}
 use Rattle.da_wire.proofs.CellFieldLemmas.{length-cells_bytes}
 use Rattle.da_wire.proofs.HeaderFormLemmas.{header_again}
+use Rattle.da_wire.proofs.SquareFormLemmas.{square_again}
 use Rattle.da_wire.proofs.MessageFormLemmas.{message_again}
 use Rattle.da_wire.proofs.MissingFormLemmas.{missing_again}
 use Rattle.da_wire.proofs.RequestFormLemmas.{sample_again, request_again}
+use Rattle.da_wire.proofs.BlockFormLemmas.{block_again}
 
 -- ---- by kind
 
 header_read : (h : Roots) → IsHeader h → value_at header_kind (header_payload h) ≡ Some (Header h)
 unfolding value_at
 header_read h is = ap (λ (r : Option Roots). option_map Header r) (header_again h is)
+
+square_read : (s : SquareShares) → IsSquare s → AreShares s.shares → value_at square_kind (square_payload s) ≡ Some (Square s)
+unfolding value_at
+square_read s is shares = ap (λ (r : Option SquareShares). option_map Square r) (square_again s is shares)
 
 message_read : (m : sent.Message) → IsMessage m → value_at message_kind (message_payload m) ≡ Some (Message m)
 unfolding value_at
@@ -45,6 +53,10 @@ sample_read cell axis is = ap (λ (r : Option (Cell × Axis)). option_map (λ (s
 request_read : (name : Namespace) → IsNamespace name → value_at request_kind (request_payload name) ≡ Some (Request name)
 unfolding value_at
 request_read name is = ap (λ (r : Option Namespace). option_map Request r) (request_again name is)
+
+block_read : (b : BlockParts) → IsBlock b → asks_for_zero b.width ≡ false → length (block_payload b) < 2 ^ 32 → value_at block_kind (block_payload b) ≡ Some (Block b)
+unfolding value_at
+block_read b is some few = ap (λ (r : Option BlockParts). option_map Block r) (block_again b is some few)
 
 missing_length : (cells : CellList) → length (missing_payload cells) ≡ 6 + 4 * length cells.list
 missing_length cells =
@@ -76,6 +88,7 @@ written value kind payload text kind_is e read =
 
 pub value_again : (value : Frame) (text : List ℕ) → IsFrame value → spelling value ≡ Some text → IsWritten value text
 value_again (Header h) text is e = written (Header h) header_kind (header_payload h) text refl e (λ few. header_read h is)
+value_again (Square s) text is e = written (Square s) square_kind (square_payload s) text refl e (λ few. square_read s is.0 is.1)
 value_again (Message m) text is e = written (Message m) message_kind (message_payload m) text refl e (λ few. message_read m is)
 value_again (Missing cells) text is e =
     let g = if_false (eqb (length cells.list) 0) (spelled missing_kind (missing_payload cells)) text e in
@@ -83,3 +96,6 @@ value_again (Missing cells) text is e =
     (λ few. missing_read cells is g.0 (omega (arith, few, missing_length cells)))
 value_again (Sample cell axis) text is e = written (Sample cell axis) sample_kind (sample_payload cell axis) text refl e (λ few. sample_read cell axis is)
 value_again (Request name) text is e = written (Request name) request_kind (request_payload name) text refl e (λ few. request_read name is)
+value_again (Block b) text is e =
+    let g = if_false (asks_for_zero b.width) (spelled block_kind (block_payload b)) text e in
+    written (Block b) block_kind (block_payload b) text refl g.1 (λ few. block_read b is g.0 (omega (arith, few)))

@@ -1,9 +1,11 @@
 -- Fields of a payload, read from the front of a byte string. A field that is read is a value and the
 -- bytes after it.
 use Rattle.std.specs.Prelude.{◌≡◌, ℕ, zero, suc, ◌*◌, List, [], ◌∷◌, length, take, drop, nat_lt, Option, Some, None, if◌then◌else◌}
-use Rattle.std.specs.Int.{Width, w16, byte_len, from_be_bytes}
+use Rattle.std.specs.Option.{option_map, option_map_or}
+use Rattle.std.specs.Int.{Width, w16, w32, byte_len, from_be_bytes}
 use Rattle.namespace_id.specs.declared.cells.Cell.{Cell}
 use Rattle.namespace_id.specs.declared.digests.Digest.{Digest}
+use Rattle.namespace_id.specs.declared.shares.Share.{Share}
 
 infixl 10 ◌>>=◌
 abbrev pub ◌>>=◌ : {A B : Type 0} → Option A → (A → Option B) → Option B
@@ -25,10 +27,22 @@ abbrev pub byte_at : List ℕ → Option (ℕ × List ℕ)
 byte_at [] = None
 byte_at (byte ∷ rest) = Some (byte, rest)
 
--- so many digests, one after another
-unfoldable pub digests_of : ℕ → List ℕ → List Digest
-digests_of zero bytes = []
-digests_of (suc count) bytes = record { 0 = take 90 bytes } ∷ digests_of count (drop 90 bytes)
+-- so many values of one length, one after another
+unfoldable pub values_of : {A : Type 0} → (List ℕ → A) → ℕ → ℕ → List ℕ → List A
+values_of value size zero bytes = []
+values_of value size (suc count) bytes = value (take size bytes) ∷ values_of value size count (drop size bytes)
+
+abbrev pub digest : List ℕ → Digest
+digest bytes = record { 0 = bytes }
+
+abbrev pub digests_of : ℕ → List ℕ → List Digest
+digests_of count bytes = values_of digest 90 count bytes
+
+abbrev pub share : List ℕ → Share
+share bytes = record { 0 = bytes }
+
+abbrev pub shares_of : ℕ → List ℕ → List Share
+shares_of count bytes = values_of share 512 count bytes
 
 abbrev pub digests_at : ℕ → List ℕ → Option (List Digest × List ℕ)
 digests_at count bytes =
@@ -41,6 +55,36 @@ cells_of zero bytes = []
 cells_of (suc count) bytes =
     record { row = from_be_bytes w16 (take 2 bytes); col = from_be_bytes w16 (take 2 (drop 2 bytes)) }
     ∷ cells_of count (drop 4 bytes)
+
+-- ---- values whose lengths differ
+
+-- a byte string behind its length in four bytes
+unfoldable pub text_at : List ℕ → Option (List ℕ × List ℕ)
+text_at bytes = do
+  size ← number_at w32 bytes
+  string_at size.0 size.1
+
+-- so many values, each read where the one before ended
+unfoldable pub many_at : {A : Type 0} → (List ℕ → Option (A × List ℕ)) → ℕ → List ℕ → Option (List A × List ℕ)
+many_at one zero bytes = Some ([], bytes)
+many_at one (suc count) bytes = do
+  first ← one bytes
+  others ← many_at one count first.1
+  Some (first.0 ∷ others.0, others.1)
+
+-- a count in four bytes, and so many values
+unfoldable pub list_at : {A : Type 0} → (List ℕ → Option (A × List ℕ)) → List ℕ → Option (List A × List ℕ)
+list_at one bytes = do
+  count ← number_at w32 bytes
+  many_at one count.0 count.1
+
+-- the values that were read, no values where none could be
+abbrev pub read_items : {A : Type 0} → Option (List A × List ℕ) → List A
+read_items read = option_map_or (λ x. x.0) read []
+
+-- the bytes after what was read
+abbrev pub read_rest : {A : Type 0} → Option (A × List ℕ) → Option (List ℕ)
+read_rest read = option_map (λ x. x.1) read
 
 -- what a reader answered, seen by `view`, is what reading gives
 abbrev pub Gives : {X Y : Type 0} → (X → Y) → Option X → Option Y → Type 0

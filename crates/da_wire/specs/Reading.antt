@@ -12,13 +12,15 @@ use Rattle.namespace_id.specs.Cells.{is_width, is_in_square, is_before, are_cell
 use Rattle.namespace_id.specs.Lists.{holds_along}
 use Rattle.data_header.specs.Headers.{Roots}
 use Rattle.axis_roots.specs.declared.messages.Message as sent
+use Rattle.square_layout.specs.Blocks.{BlockParts, SquareShares}
+use Rattle.share_split.specs.Blobs.{NamedBytes}
 use Rattle.da_wire.specs.declared.frames.Frame.{Frame}
-use Rattle.da_wire.specs.declared.frames.Frame.TheVariants.{Header, Message, Missing, Sample, Request}
+use Rattle.da_wire.specs.declared.frames.Frame.TheVariants.{Header, Square, Message, Missing, Sample, Request, Block}
 use Rattle.da_wire.specs.declared.frames.RawFrame.{RawFrame}
 use Rattle.da_wire.specs.declared.frames.FrameError.{FrameError}
 use Rattle.da_wire.specs.declared.frames.FrameError.TheVariants.{Truncated, BadKind, TooLong, BadPayload, Trailing}
-use Rattle.da_wire.specs.Fields.{◌>>=◌, number_at, byte_at, string_at, digests_of, digests_at, cells_of}
-use Rattle.da_wire.specs.Spelling.{max_payload, header_kind, message_kind, missing_kind, sample_kind, request_kind}
+use Rattle.da_wire.specs.Fields.{◌>>=◌, number_at, byte_at, string_at, digests_of, digests_at, shares_of, cells_of, text_at, list_at}
+use Rattle.da_wire.specs.Spelling.{max_payload, header_kind, square_kind, message_kind, missing_kind, sample_kind, request_kind, block_kind}
 
 -- ---- payloads: all of the bytes are the fields, and nothing is left over
 
@@ -36,6 +38,15 @@ header_at bytes = do
   k ← number_at w16 bytes
   if not (is_width k.0) then None else
       if length k.1 == 360 * k.0 then Some (roots_of k.0 k.1) else None
+
+-- a width k, and the k * k shares of a square of this width
+unfoldable pub square_at : List ℕ → Option SquareShares
+square_at bytes = do
+  k ← number_at w16 bytes
+  if not (is_width k.0) then None else
+      if length k.1 == 512 * (k.0 * k.0)
+      then Some (record { k = k.0; shares = shares_of (k.0 * k.0) k.1 })
+      else None
 
 unfoldable pub axis_at : List ℕ → Option (Axis × List ℕ)
 axis_at bytes = do
@@ -97,20 +108,50 @@ sample_at bytes = do
 unfoldable pub request_at : List ℕ → Option Namespace
 request_at bytes = if length bytes == 29 then Some (record { 0 = bytes }) else None
 
+-- a namespace, the share version 0, and the bytes of a blob
+unfoldable pub blob_at : List ℕ → Option (NamedBytes × List ℕ)
+blob_at bytes = do
+  name ← string_at 29 bytes
+  version ← byte_at name.1
+  text ← if version.0 == 0 then text_at version.1 else None
+  Some (record { namespace = record { 0 = name.0 }; bytes = text.0 }, text.1)
+
+-- the width that a number asks for, none for 0
+abbrev pub asked_width : ℕ → Option ℕ
+asked_width k = if k == 0 then None else Some k
+
+-- a width or 0, and three lists: units, units of payments, blobs
+unfoldable pub block_at : List ℕ → Option BlockParts
+block_at bytes = do
+  width ← number_at w16 bytes
+  units ← list_at text_at width.1
+  pay_units ← list_at text_at units.1
+  blobs ← list_at blob_at pay_units.1
+  if length blobs.1 == 0
+      then Some (record {
+        units = units.0;
+        pay_units = pay_units.0;
+        blobs = blobs.0;
+        width = asked_width width.0;
+      })
+      else None
+
 -- whether there are values of this kind
 abbrev pub is_kind : ℕ → Bool
 is_kind kind =
-    (kind == header_kind) || (kind == message_kind) || (kind == missing_kind) || (kind == sample_kind)
-    || (kind == request_kind)
+    (kind == header_kind) || (kind == square_kind) || (kind == message_kind) || (kind == missing_kind)
+    || (kind == sample_kind) || (kind == request_kind) || (kind == block_kind)
 
 -- the value of this kind whose payload the bytes are
 unfoldable pub value_at : ℕ → List ℕ → Option Frame
 value_at kind payload =
     if kind == header_kind then option_map Header (header_at payload) else
+    (if kind == square_kind then option_map Square (square_at payload) else
     (if kind == message_kind then option_map Message (message_at payload) else
     (if kind == missing_kind then option_map Missing (missing_at payload) else
     (if kind == sample_kind then option_map (λ s. Sample s.0 s.1) (sample_at payload) else
-    (if kind == request_kind then option_map Request (request_at payload) else None))))
+    (if kind == request_kind then option_map Request (request_at payload) else
+    (if kind == block_kind then option_map Block (block_at payload) else None))))))
 
 -- ---- frames: `at` is the offset of the bytes in their file
 

@@ -1,23 +1,27 @@
 -- The two parts of a spelling: a value's kind and its payload.
-use Rattle.std.specs.Prelude.{◌≡◌, ◌+◌, ◌≤◌, ◌<◌, ◌^◌, ⊤, ℕ, List, ◌++◌, length, Vec, vec_len, vec_capacity, Option, Some, None, MatchOption}
+use Rattle.std.specs.Prelude.{◌≡◌, ◌+◌, ◌≤◌, ◌<◌, ◌^◌, ℕ, List, ◌++◌, length, Vec, vec_len, vec_capacity, Option, Some, None, MatchOption}
 use Rattle.std.specs.declared.alloc.Global.{Global}
 use Rattle.da_wire.specs.declared.frames.Frame.{Frame}
-use Rattle.da_wire.specs.declared.frames.Frame.TheVariants.{Header, Message, Missing, Sample, Request}
-use Rattle.da_wire.specs.Spelling.{frame, spelling, header_kind, message_kind, missing_kind, sample_kind, request_kind, header_payload, message_payload, missing_payload, sample_payload, request_payload}
+use Rattle.da_wire.specs.declared.frames.Frame.TheVariants.{Header, Square, Message, Missing, Sample, Request, Block}
+use Rattle.da_wire.specs.Spelling.{max_payload, frame, spelling, header_kind, square_kind, message_kind, missing_kind, sample_kind, request_kind, block_kind, header_payload, square_payload, message_payload, missing_payload, sample_payload, request_payload, block_payload}
 
 abbrev pub kind_of : Frame → ℕ
 kind_of (Header h) = header_kind
+kind_of (Square s) = square_kind
 kind_of (Message m) = message_kind
 kind_of (Missing cells) = missing_kind
 kind_of (Sample cell axis) = sample_kind
 kind_of (Request name) = request_kind
+kind_of (Block b) = block_kind
 
 abbrev pub payload_of : Frame → List ℕ
 payload_of (Header h) = header_payload h
+payload_of (Square s) = square_payload s
 payload_of (Message m) = message_payload m
 payload_of (Missing cells) = missing_payload cells
 payload_of (Sample cell axis) = sample_payload cell axis
 payload_of (Request name) = request_payload name
+payload_of (Block b) = block_payload b
 
 -- the length of the payload of a value that has a spelling
 abbrev pub HasSize : Frame → Option ℕ → Type 0
@@ -32,10 +36,10 @@ AppendsSpelling value old new = (text : List ℕ) × (spelling value ≡ Some te
 abbrev pub HasRoom : Vec ℕ Global → ℕ → Type 0
 HasRoom out count = vec_len out + count ≤ vec_capacity out
 
--- so few missing cells that four bytes count them
-abbrev pub IsCounted : Frame → Type 0
-IsCounted (Header h) = ⊤
-IsCounted (Message m) = ⊤
-IsCounted (Missing cells) = length cells.list < 2 ^ 32
-IsCounted (Sample cell axis) = ⊤
-IsCounted (Request name) = ⊤
+-- a payload so short that four bytes state its length, and count what it has
+abbrev pub IsShort : List ℕ → Type 0
+IsShort payload = length payload < 2 ^ 32
+
+-- a length that is within the limit of a payload, none for one above it
+abbrev pub IsWithin : ℕ → Option ℕ → Type 0
+IsWithin size within = MatchOption within (max_payload < size) (λ n. (n ≡ size) × (n ≤ max_payload))

@@ -3,10 +3,9 @@
 ghost use Rattle.std.specs.Prelude.{◌≡◌, ◌≤◌, ◌*◌, length, IfOk, IfSome};
 ghost use Rattle.std.specs.Int.{w16, w32};
 ghost use Rattle.namespace_id.specs.Bytes.{IsString};
-ghost use Rattle.da_wire.specs.Fields.{number_at, byte_at, string_at, digests_at, Gives};
+ghost use Rattle.da_wire.specs.Fields.{number_at, byte_at, string_at, digests_at, text_at, Gives};
 
-use namespace_id::{Digest, Share};
-use nmt_proofs::Path;
+use namespace_id::{Namespace, Share};
 
 /// A number of two bytes, the higher first, and the bytes after it.
 pub(crate) fn u16_at(bytes: &[u8]) -> Option<(u16, &[u8])>
@@ -41,6 +40,26 @@ pub(crate) fn u8_at(bytes: &[u8]) -> Option<(u8, &[u8])>
     }
 }
 
+/// The share that 512 bytes are.
+pub(crate) fn share_of(bytes: &[u8]) -> Share
+    requires { length bytes.now ≡ 512 }
+    ensures { result.0 ≡ bytes.now }
+{
+    let mut share = Share([0; 512]);
+    share.0.copy_from_slice(bytes);
+    share
+}
+
+/// The namespace that 29 bytes are.
+pub(crate) fn name_of(bytes: &[u8]) -> Namespace
+    requires { length bytes.now ≡ 29 }
+    ensures { result.0 ≡ bytes.now }
+{
+    let mut name = Namespace([0; 29]);
+    name.0.copy_from_slice(bytes);
+    name
+}
+
 /// A share, and the bytes after it.
 pub(crate) fn share_at(bytes: &[u8]) -> Option<(Share, &[u8])>
     ensures { Gives (λ x. (x.0.0, x.1.now)) result (string_at 512 bytes.now) }
@@ -49,7 +68,28 @@ pub(crate) fn share_at(bytes: &[u8]) -> Option<(Share, &[u8])>
         return None;
     }
     let (front, rest) = bytes.split_at(512);
-    let mut share = Share([0; 512]);
-    share.0.copy_from_slice(front);
-    Some((share, rest))
+    Some((share_of(front), rest))
+}
+
+/// A namespace, and the bytes after it.
+pub(crate) fn name_at(bytes: &[u8]) -> Option<(Namespace, &[u8])>
+    ensures { Gives (λ x. (x.0.0, x.1.now)) result (string_at 29 bytes.now) }
+{
+    if bytes.len() < 29 {
+        return None;
+    }
+    let (front, rest) = bytes.split_at(29);
+    Some((name_of(front), rest))
+}
+
+/// A byte string behind its length in four bytes, and the bytes after it.
+#[tactic(auto, unfolding(crate::specs::Fields::text_at))]
+pub(crate) fn text_at(bytes: &[u8]) -> Option<(&[u8], &[u8])>
+    ensures { Gives (λ x. (x.0.now, x.1.now)) result (text_at bytes.now) }
+{
+    let (size, rest) = u32_at(bytes)?;
+    if rest.len() < size as usize {
+        return None;
+    }
+    Some(rest.split_at(size as usize))
 }

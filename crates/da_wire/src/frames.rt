@@ -3,6 +3,7 @@
 use axis_roots::Message;
 use data_header::Header;
 use namespace_id::{Axis, Cell, Cells, Namespace};
+use square_layout::{Block, Square};
 use thiserror::Error;
 
 /// A frame of any kind at the front of bytes. `size` is the length of all of it, 5 more than the
@@ -19,6 +20,8 @@ pub struct RawFrame<'a> {
 pub enum Frame {
     /// H: a header.
     Header(Header),
+    /// S: an original square.
+    Square(Square),
     /// M: a share message.
     Message(Message),
     /// K: missing cells.
@@ -27,6 +30,8 @@ pub enum Frame {
     Sample(Cell, Axis),
     /// P: a request for the shares of a namespace.
     Request(Namespace),
+    /// V: a block.
+    Block(Block),
 }
 
 /// Why bytes are no frame. The variants but the last stand in the order in which they are tested; each
@@ -56,7 +61,8 @@ pub enum FrameError {
 /// Why a value was not written.
 #[derive(Clone, Copy, Debug, PartialEq, Eq, Error)]
 pub enum SpellError {
-    /// The value has no spelling: an empty list of missing cells.
+    /// The value has no spelling: an empty list of missing cells, a block that asks for the width 0,
+    /// or a payload above its limit.
     #[error("the value has no spelling")]
     Unspellable,
     /// There was no memory.

@@ -4,6 +4,7 @@
 //! refusal of the stated order. A writer appends the one spelling.
 #![tactic(auto)]
 
+mod blocks;
 mod fields;
 mod frames;
 mod laws;

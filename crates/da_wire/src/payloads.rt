@@ -3,14 +3,17 @@
 ghost use Rattle.std.specs.Prelude.{◌≡◌, ◌≤◌, ◌<◌, ◌*◌, length, take, drop, vec_len, None, Some, IfOk, IfSome, IsTrue, MatchOption, true};
 ghost use Rattle.std.specs.Int.{w16, from_be_bytes};
 ghost use Rattle.namespace_id.specs.Cells.{is_width, are_cells};
-ghost use Rattle.da_wire.specs.Fields.{Gives, digests_of, cells_of};
-ghost use Rattle.da_wire.specs.Reading.{roots_of, header_at, axis_at, path_at, cell_at, message_at, is_next, are_next, missing_at, sample_at, request_at, GivesUnlessFull};
+ghost use Rattle.da_wire.specs.Fields.{Gives, digests_of, shares_of, cells_of};
+ghost use Rattle.da_wire.specs.Reading.{roots_of, header_at, square_at, axis_at, path_at, cell_at, message_at, is_next, are_next, missing_at, sample_at, request_at, GivesUnlessFull};
 
-use crate::fields::{share_at, u8_at, u16_at, u32_at};
+use crate::fields::{name_of, share_at, share_of, u8_at, u16_at, u32_at};
 use axis_roots::Message;
 use data_header::Header;
-use namespace_id::{Axis, Cell, Cells, Digest, Namespace, is_before, is_in_square, is_width};
+use namespace_id::{
+    Axis, Cell, Cells, Digest, Namespace, Share, is_before, is_in_square, is_width,
+};
 use nmt_proofs::Path;
+use square_layout::Square;
 use std::alloc::{AllocError, Global};
 
 /// The digest that 90 bytes are.
@@ -122,9 +125,7 @@ pub(crate) fn request(payload: &[u8]) -> Option<Namespace>
     if payload.len() != 29 {
         return None;
     }
-    let mut name = Namespace([0; 29]);
-    name.0.copy_from_slice(payload);
-    Some(name)
+    Some(name_of(payload))
 }
 
 /// So many digests, one after another, which are all of the bytes.
@@ -169,6 +170,49 @@ pub(crate) fn header(alloc: Global, payload: &[u8]) -> Result<Option<Header>, Al
     let rows = roots_of(alloc, 2 * k as usize, rows)?;
     let cols = roots_of(alloc, 2 * k as usize, cols)?;
     Ok(Some(Header { k, rows, cols }))
+}
+
+/// So many shares, one after another, which are all of the bytes.
+fn shares_of(alloc: Global, count: usize, bytes: &[u8]) -> Result<Vec<Share>, AllocError>
+    requires { length bytes.now ≡ 512 * count }
+    ensures value { IfOk result (λ shares. shares.items ≡ shares_of count bytes.now) }
+    ensures len { IfOk result (λ shares. vec_len shares ≡ count) }
+{
+    let mut shares = Vec::with_capacity(alloc, count)?;
+    let mut rest = bytes;
+    for _ in 0..count {
+        let (front, after) = rest.split_at(512);
+        shares.push(share_of(front))?;
+        rest = after;
+    }
+    Ok(shares)
+}
+
+/// The width of a square, and the bytes of its shares, of which all are there.
+#[tactic(auto, unfolding(crate::specs::Reading::square_at))]
+pub(crate) fn square_parts(payload: &[u8]) -> Option<(u16, &[u8])>
+    ensures parts { MatchOption result (square_at payload.now ≡ None)
+        (λ x. square_at payload.now ≡
+        Some (record { k = x.0; shares = shares_of (x.0 * x.0) x.1.now })) }
+    ensures width { IfSome result (λ x. IsTrue (is_width x.0)) }
+    ensures all { IfSome result (λ x. length x.1.now ≡ 512 * (x.0 * x.0)) }
+{
+    let (k, shares) = u16_at(payload)?;
+    if !is_width(k) || shares.len() != 512 * (k as usize * k as usize) {
+        return None;
+    }
+    Some((k, shares))
+}
+
+/// The square whose payload the bytes are. No memory is taken before they are known to be one.
+pub(crate) fn square(alloc: Global, payload: &[u8]) -> Result<Option<Square>, AllocError>
+    ensures { GivesUnlessFull result (square_at payload.now) }
+{
+    let Some((k, bytes)) = square_parts(payload) else {
+        return Ok(None);
+    };
+    let shares = shares_of(alloc, k as usize * k as usize, bytes)?;
+    Ok(Some(Square { k, shares }))
 }
 
 /// The cell that the first four bytes are.

@@ -6,7 +6,10 @@ ghost use Rattle.da_wire.specs.declared.frames.FrameError.TheVariants.{NoMemory}
 ghost use Rattle.da_wire.specs.Reading.{Reads, ReadsAt, raw_seen, raw_of, is_kind, value_at, value_of, tested_frame, frame_of, ended, only_of, GivesUnlessFull};
 ghost use Rattle.da_wire.specs.Frames.{frames_of, bad_frame, bad_frame_from};
 
-use crate::payloads::{header, header_parts, message, missing, missing_parts, request, sample};
+use crate::blocks::{block, block_parts};
+use crate::payloads::{
+    header, header_parts, message, missing, missing_parts, request, sample, square, square_parts,
+};
 use crate::{Frame, FrameError, RawFrame};
 use std::alloc::{AllocError, Global};
 
@@ -54,7 +57,7 @@ pub fn raw(bytes: &[u8], at: u64) -> Result<RawFrame<'_>, FrameError>
 fn is_kind(kind: u8) -> bool
     ensures { result ≡ is_kind kind }
 {
-    matches!(kind, b'H' | b'M' | b'K' | b'Q' | b'P')
+    matches!(kind, b'H' | b'S' | b'M' | b'K' | b'Q' | b'P' | b'V')
 }
 
 /// The value of this kind whose payload the bytes are.
@@ -64,10 +67,12 @@ fn value(alloc: Global, kind: u8, payload: &[u8]) -> Result<Option<Frame>, Alloc
 {
     match kind {
         b'H' => Ok(header(alloc, payload)?.map(Frame::Header)),
+        b'S' => Ok(square(alloc, payload)?.map(Frame::Square)),
         b'M' => Ok(message(payload).map(Frame::Message)),
         b'K' => Ok(missing(alloc, payload)?.map(Frame::Missing)),
         b'Q' => Ok(sample(payload).map(|(cell, axis)| Frame::Sample(cell, axis))),
         b'P' => Ok(request(payload).map(Frame::Request)),
+        b'V' => Ok(block(alloc, payload)?.map(Frame::Block)),
         _ => Ok(None),
     }
 }
@@ -79,10 +84,12 @@ fn has_value(kind: u8, payload: &[u8]) -> bool
 {
     match kind {
         b'H' => header_parts(payload).is_some(),
+        b'S' => square_parts(payload).is_some(),
         b'M' => message(payload).is_some(),
         b'K' => missing_parts(payload).is_some(),
         b'Q' => sample(payload).is_some(),
         b'P' => request(payload).is_some(),
+        b'V' => block_parts(payload).is_some(),
         _ => false,
     }
 }
@@ -112,7 +119,7 @@ fn refusal_before_more(frame: RawFrame<'_>) -> FrameError
 /// The value of the frame at the front of bytes, and the offset after it. `at` is the offset of the
 /// bytes in their file, and `at` plus their number fits a `u64`.
 ///
-/// Refuses no byte (`Truncated`), a kind that isn't one of H, M, K, Q and P (`BadKind`), then what `raw`
+/// Refuses no byte (`Truncated`), a kind that isn't one of H, S, M, K, Q, P and V (`BadKind`), then what `raw`
 /// refuses, then a payload that isn't in the grammar of its kind (`BadPayload`), each with `at`. Want of
 /// memory comes in place of a value alone: none is taken before the payload is known to be in its
 /// grammar.

@@ -2,20 +2,24 @@
 
 ghost use Rattle.std.specs.Prelude.{◌≡◌, ◌+◌, ◌≤◌, ◌++◌, ◌↔◌, ◌∷◌, [], length, vec_len, vec_capacity, OnOk, OnErr, IsErrOf, None, Some};
 ghost use Rattle.std.specs.List.{flat_map};
-ghost use Rattle.da_wire.specs.Spelling.{digest_bytes, axis_byte, cell_bytes, header_payload, message_payload, missing_payload, sample_payload, spelling};
-ghost use Rattle.da_wire.specs.Writing.{kind_of, payload_of, HasSize, AppendsSpelling, HasRoom, IsCounted};
+ghost use Rattle.da_wire.specs.Spelling.{digest_bytes, share_bytes, axis_byte, cell_bytes, header_payload, square_payload, message_payload, missing_payload, sample_payload, spelling};
+ghost use Rattle.da_wire.specs.Writing.{kind_of, payload_of, HasSize, AppendsSpelling, HasRoom, IsShort};
 ghost use Rattle.da_wire.specs.declared.frames.Frame.TheVariants as FrameOf;
 
+use crate::blocks::{block_size, put_block};
 use crate::{Frame, MAX_PAYLOAD, SpellError};
 use axis_roots::Message;
 use data_header::Header;
-use namespace_id::{Axis, Cell, Cells, Digest, Namespace, are_digests, is_share};
+use namespace_id::{
+    Axis, Cell, Cells, Digest, Namespace, Share, are_digests, are_shares, is_share,
+};
+use square_layout::Square;
 
 /// The most cells whose payload is within its limit.
 const MAX_CELLS: usize = (MAX_PAYLOAD as usize - 6) / 4;
 
 /// Appends bytes for which there is room.
-fn put(out: &mut Vec<u8>, bytes: &[u8])
+pub(crate) fn put(out: &mut Vec<u8>, bytes: &[u8])
     requires room { HasRoom out.old (length bytes.now) }
     ensures appended { out.new.items ≡ out.old.items ++ bytes.now }
     ensures len { vec_len out.new ≡ vec_len out.old + length bytes.now }
@@ -33,6 +37,16 @@ fn put_digests(out: &mut Vec<u8>, digests: &[Digest])
 {
     for digest in digests {
         put(out, &digest.0);
+    }
+}
+
+/// Appends shares, one after another.
+fn put_shares(out: &mut Vec<u8>, shares: &[Share])
+    requires room { HasRoom out.old (length (share_bytes shares.now)) }
+    ensures appended { out.new.items ≡ out.old.items ++ share_bytes shares.now }
+{
+    for share in shares {
+        put(out, &share.0);
     }
 }
 
@@ -77,6 +91,15 @@ fn put_header(out: &mut Vec<u8>, header: &Header)
     put_digests(out, &header.cols);
 }
 
+/// Appends the payload of a square.
+fn put_square(out: &mut Vec<u8>, square: &Square)
+    requires room { HasRoom out.old (length (square_payload square.now)) }
+    ensures appended { out.new.items ≡ out.old.items ++ square_payload square.now }
+{
+    put(out, &square.k.to_be_bytes());
+    put_shares(out, &square.shares);
+}
+
 /// Appends the payload of a message.
 fn put_message(out: &mut Vec<u8>, message: &Message)
     requires room { HasRoom out.old (length (message_payload message.now)) }
@@ -91,13 +114,13 @@ fn put_message(out: &mut Vec<u8>, message: &Message)
 }
 
 /// Appends the payload of missing cells.
-fn put_missing(out: &mut Vec<u8>, cells: &Cells, count: u32)
-    requires count { count ≡ length cells.now.list }
+fn put_missing(out: &mut Vec<u8>, cells: &Cells)
+    requires few { IsShort (missing_payload cells.now) }
     requires room { HasRoom out.old (length (missing_payload cells.now)) }
     ensures appended { out.new.items ≡ out.old.items ++ missing_payload cells.now }
 {
     put(out, &cells.k.to_be_bytes());
-    put(out, &count.to_be_bytes());
+    put(out, &(cells.list.len() as u32).to_be_bytes());
     put_cells(out, &cells.list);
 }
 
@@ -116,10 +139,12 @@ fn kind_of(frame: &Frame) -> u8
 {
     match frame {
         Frame::Header(_) => b'H',
+        Frame::Square(_) => b'S',
         Frame::Message(_) => b'M',
         Frame::Missing(_) => b'K',
         Frame::Sample(..) => b'Q',
         Frame::Request(_) => b'P',
+        Frame::Block(_) => b'V',
     }
 }
 
@@ -130,6 +155,14 @@ fn header_size(header: &Header) -> u32
     are_digests(&header.rows);
     are_digests(&header.cols);
     2 + 360 * u32::from(header.k)
+}
+
+/// The length of the payload of a square.
+fn square_size(square: &Square) -> u32
+    ensures { HasSize (FrameOf.Square square.now) (Some result) }
+{
+    are_shares(&square.shares);
+    2 + 512 * (u32::from(square.k) * u32::from(square.k))
 }
 
 /// The length of the payload of a message.
@@ -177,25 +210,29 @@ fn payload_size(frame: &Frame) -> Option<u32>
 {
     match frame {
         Frame::Header(header) => Some(header_size(header)),
+        Frame::Square(square) => Some(square_size(square)),
         Frame::Message(message) => Some(message_size(message)),
         Frame::Missing(cells) => missing_size(cells),
         Frame::Sample(..) => Some(5),
         Frame::Request(name) => Some(request_size(name)),
+        Frame::Block(block) => block_size(block),
     }
 }
 
 /// Appends the payload of a value.
 fn put_payload(out: &mut Vec<u8>, frame: &Frame)
     requires room { HasRoom out.old (length (payload_of frame.now)) }
-    requires count { IsCounted frame.now }
+    requires few { IsShort (payload_of frame.now) }
     ensures appended { out.new.items ≡ out.old.items ++ payload_of frame.now }
 {
     match frame {
         Frame::Header(header) => put_header(out, header),
+        Frame::Square(square) => put_square(out, square),
         Frame::Message(message) => put_message(out, message),
-        Frame::Missing(cells) => put_missing(out, cells, cells.list.len() as u32),
+        Frame::Missing(cells) => put_missing(out, cells),
         Frame::Sample(cell, axis) => put_sample(out, *cell, *axis),
         Frame::Request(name) => put(out, &name.0),
+        Frame::Block(block) => put_block(out, block),
     }
 }
 
