@@ -1,7 +1,7 @@
 use Rattle.std.proofs.Common.{take}
 use Rattle.std.specs.List.{All}
 use Rattle.namespace_id.specs.Names.{IsNamespace}
-use Rattle.hash_clash.proofs.finding.are_names.Given as goal
+use Rattle.hash_clash.proofs.openings.are_names.Given as goal
 
 -- so are those before this one
 abbrev pub invariant-loop-name : goal.invariant-loop-name

@@ -2,7 +2,7 @@ use Rattle.std.proofs.Common.{[], arith}
 use Rattle.std.proofs.lemmas.List.Elements.{All-more}
 use Rattle.namespace_id.specs.Names.{IsNamespace}
 use Rattle.namespace_id.proofs.ElementLemmas.{all_passed}
-use Rattle.hash_clash.proofs.finding.are_names.Goals as goal
+use Rattle.hash_clash.proofs.openings.are_names.Goals as goal
 
 pub loop-name-preserved : goal.loop-name-preserved
 loop-name-preserved c =
