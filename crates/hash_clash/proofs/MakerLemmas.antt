@@ -18,8 +18,8 @@ use Rattle.nmt_proofs.specs.Openings.{one_leaf, opened}
 use Rattle.nmt_proofs.specs.Clashes.{IsClash, clash_at, whole, AreLeaves, IsOpening}
 use Rattle.nmt_proofs.proofs.ListedLemmas.{leaf_law, lists_law}
 use Rattle.nmt_proofs.proofs.TwinLemmas.{node_count, twins_law}
-use Rattle.hash_clash.specs.declared.sides.Opening.{Opening}
-use Rattle.hash_clash.specs.Openings.{IsWhole, opened_at, is_counted, is_one_name, is_one_share, is_one_digest, is_one_opening, is_leaf_at, is_one_list}
+use Rattle.hash_clash.specs.declared.openings.Opening.{Opening}
+use Rattle.hash_clash.specs.Openings.{HasShape, opened_at, is_counted, is_one_name, is_one_share, is_one_digest, is_one_opening, is_leaf_at, is_one_list}
 
 name_decides : (a b : Namespace) → Decides (is_one_name a b) (a ≡ b)
 name_decides a b = (λ t. let e : a.0 ≡ b.0 = (bytes_eq-Decides a.0 b.0).0 t in ap (λ (l : List ℕ). record { 0 = l }) e, λ e. (bytes_eq-Decides a.0 b.0).1 (ap (λ (x : Namespace). x.0) e))
@@ -44,7 +44,7 @@ pub nodes_fit : (n pos depth : ℕ) (a : Opening) (nodes : List Digest) → is_c
 nodes_fit n pos depth a nodes h e d = ap length e ∙ node_count (halvings n) pos a.name a.share a.path h ∙ sym d
 
 -- an opening, by its values
-pub opening_of : (n pos : ℕ) (a : Opening) → IsWhole a → is_counted n pos a ≡ true → IsOpening (halvings n) (one_leaf pos a.name a.share) a.path
+pub opening_of : (n pos : ℕ) (a : Opening) → HasShape a → is_counted n pos a ≡ true → IsOpening (halvings n) (one_leaf pos a.name a.share) a.path
 opening_of n pos a h count = record { count = count; parts = ((refl, h.name, h.share), tt); node_bytes = h.nodes }
 
 -- a list of leaves, by its values
@@ -59,7 +59,7 @@ pub opened_is : (n pos depth : ℕ) (a : Opening) (nodes : List Digest) → node
 opened_is n pos depth a nodes e d = ap₂ (λ (k : ℕ) (l : List Digest). opened k 0 (one_leaf pos a.name a.share) l) d e
 
 -- two openings
-pub paths_clash : (n pos : ℕ) (a b : Opening) (found : Option (List ℕ × List ℕ)) → IsWhole a → IsWhole b → is_counted n pos a ≡ true → is_counted n pos b ≡ true
+pub paths_clash : (n pos : ℕ) (a b : Opening) (found : Option (List ℕ × List ℕ)) → HasShape a → HasShape b → is_counted n pos a ≡ true → is_counted n pos b ≡ true
     → digest_of (opened_at n pos a) ≡ digest_of (opened_at n pos b) → is_one_opening a b ≡ false → found ≡ clash_at (opened_at n pos a) (opened_at n pos b)
     → IsSomeAnd found (λ texts. IsClash texts.0 texts.1)
 paths_clash n pos a b found ha hb ca cb same apart e =
@@ -72,7 +72,7 @@ paths_clash n pos a b found ha hb ca cb same apart e =
 
 -- an opening and a list
 pub path_leaves_clash : (n pos : ℕ) (a : Opening) (names : List Namespace) (shares : List Share) (found : Option (List ℕ × List ℕ)) → IsTrue (is_leaf_count n) → pos < n
-    → IsWhole a → is_counted n pos a ≡ true → length names ≡ n → length shares ≡ n → AreNamespaces names → AreShares shares
+    → HasShape a → is_counted n pos a ≡ true → length names ≡ n → length shares ≡ n → AreNamespaces names → AreShares shares
     → digest_of (opened_at n pos a) ≡ root (halvings n) names shares → is_leaf_at names shares pos a.name a.share ≡ false
     → found ≡ clash_at (opened_at n pos a) (whole (halvings n) names shares) → IsSomeAnd found (λ texts. IsClash texts.0 texts.1)
 path_leaves_clash n pos a names shares found count lt ha ca hn hs bn bs same apart e =

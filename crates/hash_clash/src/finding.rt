@@ -1,18 +1,16 @@
 //! The collision that two openings or lists with one root name.
 
 ghost use Rattle.std.specs.Prelude.{◌≡◌, ◌+◌, ◌^◌, ◌≤◌, ◌<◌, length, IsTrue, true, false, Some, None};
-ghost use Rattle.namespace_id.specs.Names.{AreNamespaces};
 ghost use Rattle.nmt_tree.specs.Roots.{is_leaf_count, halvings, root};
 ghost use Rattle.nmt_proofs.specs.Parts.{digest_of};
 ghost use Rattle.nmt_proofs.specs.Clashes.{join_text, apart_or, clash_at, whole};
-ghost use Rattle.hash_clash.specs.Openings.{IsWhole, opened_at, is_counted, is_one_opening, is_leaf_at, is_one_list};
+ghost use Rattle.hash_clash.specs.Openings.{opened_at, is_counted, is_one_opening, is_leaf_at, is_one_list};
 ghost use Rattle.hash_clash.specs.Sides.{part_of, IsSide};
 
-use crate::sides::{Opening, Seen, Side, digest, look, size_of};
-use crate::{Clash, Preimage};
-use namespace_id::{
-    Namespace, Share, are_digests, are_namespaces, are_shares, is_namespace, is_share,
-};
+use crate::openings::has_shape;
+use crate::sides::{Seen, Side, digest, look, size_of};
+use crate::{Clash, Opening, Preimage};
+use namespace_id::{Namespace, Share, are_namespaces, are_shares};
 
 /// Two strings, where they differ.
 fn differing(left: Preimage, right: Preimage) -> Option<(Preimage, Preimage)>
@@ -32,7 +30,8 @@ fn node_text(depth: u8, start: u16, middle: u16, left: Side, right: Side) -> Pre
     requires right_interval { middle + 2 ^ depth ≤ 256 }
     requires left { IsSide depth left }
     requires right { IsSide depth right }
-    ensures { result ≡ join_text (digest_of (part_of depth start left.entry)) (digest_of (part_of depth middle right.entry)) }
+    ensures { result ≡ join_text (digest_of (part_of depth start left.entry))
+        (digest_of (part_of depth middle right.entry)) }
 {
     Preimage::of_node(&digest(depth, start, left), &digest(depth, middle, right))
 }
@@ -89,22 +88,13 @@ fn depth_of(n: usize) -> u8
     }
 }
 
-/// Says that an opening has its shape. It changes nothing.
-fn is_whole(opening: &Opening)
-    ensures { IsWhole opening.now }
-{
-    is_namespace(&opening.name);
-    is_share(&opening.share);
-    are_digests(opening.path.nodes());
-}
-
 /// The collision that two openings of one place name, where they have one root and differ in
-/// namespace, share or nodes. `n` is a number of leaves, a power of two up to 256, and `pos` is below
-/// it; each opening has as many nodes as there are subtrees that don't hold the place. Whether its
-/// joins are ordered plays no part.
+/// namespace, share or nodes. `n` is a number of leaves, a power of two up to 256, and `pos` is
+/// below it; each opening has as many nodes as there are subtrees that don't hold the place. The
+/// order of joins plays no part.
 ///
-/// The strings are those at the first interval, root first and left half before right half, for which
-/// both openings have a string and these differ. It takes no memory.
+/// The strings are those at the first interval, root first and left half before right half, for
+/// which both openings have a string and these differ. It takes no memory.
 pub fn clash_paths(n: u16, pos: u16, a: &Opening, b: &Opening) -> Clash
     requires leaves { IsTrue (is_leaf_count n) }
     requires place { pos < n }
@@ -112,18 +102,19 @@ pub fn clash_paths(n: u16, pos: u16, a: &Opening, b: &Opening) -> Clash
     requires b_count { is_counted n pos b.now ≡ true }
     requires root { digest_of (opened_at n pos a.now) ≡ digest_of (opened_at n pos b.now) }
     requires apart { is_one_opening a.now b.now ≡ false }
-    ensures { clash_at (opened_at n pos a.now) (opened_at n pos b.now) ≡ Some (result.left, result.right) }
+    ensures { clash_at (opened_at n pos a.now) (opened_at n pos b.now)
+        ≡ Some (result.left, result.right) }
 {
-    is_whole(a);
-    is_whole(b);
+    has_shape(a);
+    has_shape(b);
     let a_side = Side::Opened(pos, a, a.path.nodes());
     let b_side = Side::Opened(pos, b, b.path.nodes());
     Clash::found(find(depth_of(n as usize), 0, a_side, b_side))
 }
 
-/// The collision that an opening and a list of leaves name, where they have one root and the list has
-/// another namespace or another share at the place. Shapes and strings are as for `clash_paths`; the
-/// list has `n` leaves. It takes no memory.
+/// The collision that an opening and a list of leaves name, where they have one root and the list
+/// has another namespace or another share at the place. Shapes and strings are as for
+/// `clash_paths`; the list has `n` leaves. It takes no memory.
 pub fn clash_path_leaves(
     n: u16,
     pos: u16,
@@ -141,7 +132,7 @@ pub fn clash_path_leaves(
     ensures { clash_at (opened_at n pos a.now) (whole (halvings n) names.now shares.now)
         ≡ Some (result.left, result.right) }
 {
-    is_whole(a);
+    has_shape(a);
     are_namespaces(names);
     are_shares(shares);
     let side = Side::Opened(pos, a, a.path.nodes());
@@ -149,7 +140,8 @@ pub fn clash_path_leaves(
 }
 
 /// The collision that two lists of leaves name, where they have one root and differ. Both have one
-/// number of leaves, a power of two up to 256; strings are as for `clash_paths`. It takes no memory.
+/// number of leaves, a power of two up to 256; strings are as for `clash_paths`. It takes no
+/// memory.
 pub fn clash_leaves(
     names_a: &[Namespace],
     shares_a: &[Share],

@@ -7,10 +7,11 @@
 
 mod clashes;
 mod finding;
+mod openings;
 mod preimages;
 mod sides;
 
 pub use clashes::Clash;
 pub use finding::{clash_leaves, clash_path_leaves, clash_paths};
+pub use openings::Opening;
 pub use preimages::Preimage;
-pub use sides::Opening;

@@ -2,6 +2,7 @@
 
 ghost use Rattle.std.specs.Prelude.{◌≡◌, ◌<◌, ◌≤◌, ◌+◌, ◌↔◌, [], ◌∷◌, ◌++◌, length, replicate, IsNone, IfSome};
 ghost use Rattle.nmt_proofs.specs.Clashes.{leaf_text, join_text};
+ghost use Rattle.hash_clash.specs.Preimages.{longest};
 
 use namespace_id::{Digest, Namespace, Share, put};
 use std::marker::Model;
@@ -13,7 +14,7 @@ const LONGEST: usize = 1 + 29 + 512;
 #[derive(Clone, Debug, Drop)]
 pub struct Preimage {
     len: u16,
-    bytes: [u8; 542],
+    bytes: [u8; LONGEST],
 }
 
 impl Model for Preimage {
@@ -28,10 +29,10 @@ impl Model for Preimage {
 }
 
 /// No byte written.
-fn blank() -> [u8; 542]
-    ensures { result ≡ replicate 542 0 }
+fn blank() -> [u8; LONGEST]
+    ensures { result ≡ replicate longest 0 }
 {
-    [0; 542]
+    [0; LONGEST]
 }
 
 impl Preimage {
@@ -47,7 +48,7 @@ impl Preimage {
 
     /// The string of these bytes; none where there are more than 542.
     pub fn of(bytes: &[u8]) -> Option<Preimage>
-        ensures none { IsNone result ↔ (542 < length bytes.now) }
+        ensures none { IsNone result ↔ (longest < length bytes.now) }
         ensures value { IfSome result (λ preimage. preimage ≡ bytes.now) }
     {
         if bytes.len() > LONGEST {
@@ -63,7 +64,7 @@ impl Preimage {
 
     /// A byte and two strings behind it.
     fn joined(prefix: u8, left: &[u8], right: &[u8]) -> Preimage
-        requires { 1 + length left.now + length right.now ≤ 542 }
+        requires { 1 + length left.now + length right.now ≤ longest }
         ensures { result ≡ prefix ∷ left.now ++ right.now }
     {
         let mut bytes = blank();
@@ -93,7 +94,7 @@ impl Preimage {
     /// The bytes, without what is unused.
     pub fn bytes(&self) -> &[u8]
         ensures value { result.now ≡ self.now }
-        ensures bound { length result.now ≤ 542 }
+        ensures bound { length result.now ≤ longest }
     {
         &self.bytes[..self.len as usize]
     }

@@ -4,17 +4,9 @@ ghost use Rattle.std.specs.Prelude.{◌≡◌, ◌+◌, ◌^◌, ◌≤◌};
 ghost use Rattle.nmt_proofs.specs.Parts.{digest_of};
 ghost use Rattle.hash_clash.specs.Sides.{part_of, IsSide, IsSeen};
 
+use crate::Opening;
 use namespace_id::{Digest, Namespace, Share};
-use nmt_proofs::Path;
 use nmt_tree::{leaf, node};
-
-/// The leaf over a share, with its namespace, and the nodes that open it.
-#[derive(Clone, Debug, Drop)]
-pub struct Opening {
-    pub name: Namespace,
-    pub share: Share,
-    pub path: Path,
-}
 
 /// What is known of an interval.
 #[derive(Clone, Copy)]

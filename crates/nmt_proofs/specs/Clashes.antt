@@ -34,17 +34,19 @@ join_text left right = 1 ∷ left.0 ++ right.0
 abbrev pub apart_or : List ℕ → List ℕ → Option (List ℕ × List ℕ) → Option (List ℕ × List ℕ)
 apart_or a b rest = if bytes_eq a b then rest else Some (a, b)
 
--- the strings at the first interval, root first and left half before right half, for which both parts
--- have a string and these differ; a given digest has none
+-- the strings at the first interval, root first and left half before right half, for which both
+-- parts have a string and these differ; a given digest has none
 unfoldable pub clash_at : Part → Part → Option (List ℕ × List ℕ)
 clash_at (given d) q = None
 clash_at (leaf name share) (given e) = None
-clash_at (leaf name share) (leaf name' share') = apart_or (leaf_text name share) (leaf_text name' share') None
+clash_at (leaf name share) (leaf name' share') =
+    apart_or (leaf_text name share) (leaf_text name' share') None
 clash_at (leaf name share) (join left' right') = None
 clash_at (join left right) (given e) = None
 clash_at (join left right) (leaf name' share') = None
 clash_at (join left right) (join left' right') =
-    apart_or (join_text (digest_of left) (digest_of right)) (join_text (digest_of left') (digest_of right'))
+    apart_or (join_text (digest_of left) (digest_of right))
+    (join_text (digest_of left') (digest_of right'))
     (option_or (clash_at left left') (clash_at right right'))
 
 -- a clash of two parts is in hand, or a fact holds
@@ -109,7 +111,8 @@ pub record IsOpening (depth : ℕ) (shown : List Shown) (nodes : List Digest) : 
 -- single places, ascending, from `low` on and below `high`
 abbrev pub ArePlaces : ℕ → ℕ → List Shown → Type 0
 ArePlaces low high [] = Unit {0}
-ArePlaces low high (s ∷ shown) = (s.size ≡ 1) × (low ≤ s.from) × (s.from < high) × ArePlaces (s.from + 1) high shown
+ArePlaces low high (s ∷ shown) =
+    (s.size ≡ 1) × (low ≤ s.from) × (s.from < high) × ArePlaces (s.from + 1) high shown
 
 -- what is shown at each place is the list's leaf there, or that leaf's digest
 abbrev pub AreListed : List Namespace → List Share → List Shown → Type 0
@@ -118,7 +121,8 @@ AreListed names shares shown =
 
 -- the root of an interval of a list, of which the place where it begins and its depth are told
 abbrev pub interval_root : List Namespace → List Share → ℕ × ℕ → Digest
-interval_root names shares interval = root interval.1 (drop interval.0 names) (drop interval.0 shares)
+interval_root names shares interval =
+    root interval.1 (drop interval.0 names) (drop interval.0 shares)
 
 abbrev pub interval_roots : List Namespace → List Share → List (ℕ × ℕ) → List Digest
 interval_roots names shares intervals = map (interval_root names shares) intervals

@@ -13,7 +13,8 @@ ghost use Rattle.nmt_proofs.specs.Clashes.{IsClash, clash_at, ClashOr, IsSized, 
 /// Where two parts of a tree have one digest, the strings at the first interval at which both have
 /// one and these differ are a SHA-256 collision; where there is no such interval, the parts agree.
 ///
-/// Nothing assumes that SHA-256 has no collisions: `ClashOr` names the two strings or gives the fact.
+/// Nothing assumes that SHA-256 has no collisions: `ClashOr` names the two strings, or gives the
+/// fact.
 pub fn clash_laws()
     ensures found { (p q : Part) (a b : List ℕ) → IsSized p → IsSized q →
         digest_of p ≡ digest_of q → clash_at p q ≡ Some (a, b) → IsClash a b }
@@ -34,7 +35,8 @@ pub fn clash_laws()
         IsOpening depth shown nodes → ArePlaces 0 (2 ^ depth) shown → AreLeaves depth names shares →
         digest_of (opened depth 0 shown nodes) ≡ root depth names shares →
         ClashOr (opened depth 0 shown nodes) (whole depth names shares)
-        (AreListed names shares shown × (nodes ≡ interval_roots names shares (outside depth 0 shown))) }
+        (AreListed names shares shown
+        × (nodes ≡ interval_roots names shares (outside depth 0 shown))) }
 
     // So does one of one leaf.
     ensures leaf { (depth pos : ℕ) (name : Namespace) (share : Share) (nodes : List Digest)

@@ -1,4 +1,5 @@
 use Rattle.std.proofs.Common.{◌+◌, ◌∷◌, ◌++◌, length, arith, length-append}
+use Rattle.hash_clash.specs.Preimages.{longest}
 use Rattle.hash_clash.proofs.WritingLemmas.{three_parts, written, used}
 use Rattle.hash_clash.proofs.preimages.Preimage.joined.Goals as goal
 
@@ -7,7 +8,7 @@ invariant_of-result c =
     let sum = length-append c.args.left.now c.args.right.now in
     written (c.args.prefix ∷ c.args.left.now ++ c.args.right.now) c.put-3.new.bytes (1 + length c.args.left.now + length c.args.right.now)
     (omega (arith, sum)) (omega (arith, sum, c.requires))
-    (three_parts c.blank-bytes.result c.args.prefix c.args.left.now c.args.right.now c.put.new.bytes c.put-2.new.bytes c.put-3.new.bytes
+    (three_parts longest c.blank-bytes.result c.args.prefix c.args.left.now c.args.right.now c.put.new.bytes c.put-2.new.bytes c.put-3.new.bytes
     c.blank-bytes.ensures c.put.ensures c.put-2.ensures c.put-3.ensures)
 
 pub returns : goal.returns
@@ -15,5 +16,5 @@ returns c =
     let sum = length-append c.args.left.now c.args.right.now in
     used (c.args.prefix ∷ c.args.left.now ++ c.args.right.now) c.put-3.new.bytes (1 + length c.args.left.now + length c.args.right.now)
     (omega (arith, sum))
-    (three_parts c.blank-bytes.result c.args.prefix c.args.left.now c.args.right.now c.put.new.bytes c.put-2.new.bytes c.put-3.new.bytes
+    (three_parts longest c.blank-bytes.result c.args.prefix c.args.left.now c.args.right.now c.put.new.bytes c.put-2.new.bytes c.put-3.new.bytes
     c.blank-bytes.ensures c.put.ensures c.put-2.ensures c.put-3.ensures)
