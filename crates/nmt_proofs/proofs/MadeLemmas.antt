@@ -4,10 +4,10 @@ use Rattle.std.proofs.lemmas.List.{map-append, length-map}
 use Rattle.std.proofs.lemmas.Bool.{cases_Bool, ltb-true, ltb-false}
 use Rattle.std.proofs.lemmas.Nat.{pow_pos}
 use Rattle.std.proofs.Math.Nat.{pow-suc}
-use Rattle.std.proofs.Math.Seq.{take-append_seam, drop-append_seam}
 use Rattle.namespace_id.specs.declared.digests.Digest.{Digest}
 use Rattle.nmt_tree.specs.Digests.{node_digest, is_ordered_join}
 use Rattle.nmt_tree.specs.Levels.{span, HasOrderedJoins}
+use Rattle.nmt_tree.proofs.LevelLemmas.{front, behind}
 use Rattle.nmt_proofs.specs.Parts.{Part, join, digest_of, is_in_order}
 use Rattle.nmt_proofs.specs.Openings.{Shown, begun, is_shown, outside, opened, no_digest, Opens}
 use Rattle.nmt_proofs.specs.Making.{spans, AreAtLeaves}
@@ -35,20 +35,16 @@ single d s h =
     let p : 2 ^ suc d ≡ 2 ^ d * 2 = pow-suc 2 d in
     other_count s.size (2 ^ suc d) (λ e. omega (arith, p, h, e, pow_pos d))
 
-front : (a b : List Digest) (n : ℕ) → length a ≡ n → take n (a ++ b) ≡ a
-front a b n h = sym (ap (λ (m : ℕ). take m (a ++ b)) h) ∙ take-append_seam a b
-
-behind : (a b : List Digest) (n : ℕ) → length a ≡ n → drop n (a ++ b) ≡ b
-behind a b n h = sym (ap (λ (m : ℕ). drop m (a ++ b)) h) ∙ drop-append_seam a b
-
 -- a part with the digest over its leaves, in order
 pub record IsMade (leaves : List Digest) (depth start : ℕ) (p : Part) : Type 0 where
   pub digest : digest_of p ≡ span leaves start depth
   pub order : is_in_order p ≡ true
 
+-- three tests hold together
 and_true : (a b c : Bool) → a ≡ true → b ≡ true → c ≡ true → (a && b && c) ≡ true
 and_true a b c ha hb hc = (λ i. ha i && hb i && hc i)
 
+-- the intervals outside and what is shown make the part over all leaves
 made : (leaves : List Digest) (d st : ℕ) (ss : List Shown) → AreAtLeaves leaves st (st + 2 ^ d) ss → HasOrderedJoins leaves st d
     → IsMade leaves d st (opened d st ss (spans leaves (outside d st ss)))
 unfolding opened outside AreAtLeaves HasOrderedJoins span

@@ -12,11 +12,13 @@ pub halved_nodes : (leaves : List Digest) (whole left right : List (ℕ × ℕ))
 halved_nodes leaves whole left right a b e ea eb =
     ap₂ (λ (x y : List Digest). x ++ y) ea eb ∙ sym (ap (spans leaves) e ∙ map-append (λ (x : ℕ × ℕ). span leaves x.0 x.1) left right)
 
+-- an interval that holds nothing shown takes one node
 pub one_node : (leaves : List Digest) (whole : List (ℕ × ℕ)) (start depth : ℕ) (ns : List Digest) (d : Digest) → whole ≡ (start, depth) ∷ [] → length ns ≡ 1 → d ≡ span leaves start depth → set ns 0 d ≡ spans leaves whole
 one_node leaves whole start depth [] d e h ed = absurd (omega arith)
 one_node leaves whole start depth (n ∷ m ∷ ns) d e h ed = absurd (omega arith)
 one_node leaves whole start depth (n ∷ []) d e h ed = ap (λ (x : Digest). x ∷ []) ed ∙ sym (ap (spans leaves) e)
 
+-- one that is shown takes none
 pub no_node : (leaves : List Digest) (whole : List (ℕ × ℕ)) (ns : List Digest) → whole ≡ [] → length ns ≡ length whole → ns ≡ spans leaves whole
 no_node leaves whole [] e h = sym (ap (spans leaves) e)
 no_node leaves whole (n ∷ ns) e h = absurd (omega (arith, h, ap length e))

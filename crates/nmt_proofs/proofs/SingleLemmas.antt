@@ -27,6 +27,7 @@ outside-one (suc d) st pos p q =
     ] in
     ap (λ (l : List (ℕ × ℕ)). cond (is_shown (suc d) (record { from = pos; size = 1; part = p })) [] l) (same (ltb pos m))
 
+-- where nothing is shown, the whole interval is outside
 outside-empty : (d st : ℕ) → outside d st [] ≡ (st, d) ∷ []
 unfolding outside
 outside-empty zero st = refl

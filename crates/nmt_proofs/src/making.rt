@@ -69,8 +69,8 @@ fn blank_nodes() -> [Digest; 8] {
     [Digest([0; 90]); 8]
 }
 
-/// The nodes that open the leaf at place `pos` of a tree that isn't empty: the digests of the greatest
-/// subtrees that don't hold the place, left to right.
+/// The nodes that open the leaf at place `pos` of a tree that isn't empty: the digests of the
+/// greatest subtrees that don't hold the place, left to right.
 ///
 /// It takes no memory.
 ///
@@ -78,7 +78,8 @@ fn blank_nodes() -> [Digest; 8] {
 pub fn make_leaf(tree: &Tree, pos: u16) -> Path
     requires filled { IsSome tree.now.leaves }
     requires place { pos < tree.now.count }
-    ensures nodes { ForSome tree.now.leaves (λ leaves. result ≡ leaf_nodes tree.now.count leaves pos) }
+    ensures nodes { ForSome tree.now.leaves (λ leaves.
+        result ≡ leaf_nodes tree.now.count leaves pos) }
 
     // They open under the tree's root, for every tree that isn't empty.
     ensures digest { ForSome tree.now.leaves (λ leaves.
@@ -96,8 +97,8 @@ pub fn make_leaf(tree: &Tree, pos: u16) -> Path
     path_of(&nodes[..depth as usize])
 }
 
-/// Where every join over leaves is ordered, the digests of the intervals that hold nothing shown open
-/// what is shown of them at single places.
+/// Where every join over leaves is ordered, the digests of the intervals that hold nothing shown
+/// open what is shown of them at single places.
 pub fn making_laws()
     ensures { (depth : ℕ) (leaves : List Digest) (shown : List Shown) →
         AreAtLeaves leaves 0 (2 ^ depth) shown → HasOrderedJoins leaves 0 depth →

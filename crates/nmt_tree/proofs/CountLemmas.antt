@@ -29,9 +29,11 @@ halvings-le n = grind (arith, nat_tests)
 pub halvings_half : (n : ℕ) → IsTrue (is_leaf_count n) → (n ≡ 1 → ⊥) → halvings n ≡ suc (halvings (n / 2))
 halvings_half n h several = grind (arith, nat_tests)
 
+-- a tree has at least one leaf
 pub leaf_count-pos : (n : ℕ) → IsTrue (is_leaf_count n) → 0 < n
 leaf_count-pos n h = grind (arith, nat_tests)
 
+-- a test of the nine powers
 small_powers_test : passes_below 9 (λ d. is_leaf_count (2 ^ d) && halvings (2 ^ d) == d) ≡ true
 unfolding passes_below
 small_powers_test = refl

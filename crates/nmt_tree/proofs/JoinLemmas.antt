@@ -23,6 +23,7 @@ pub record IsOver (names : List Namespace) (s e : ℕ) (d : Digest) : Type 0 whe
   pub high : place < s + 2 ^ e
   pub greatest : greatest_of d ≡ name_at names place
 
+-- the greatest name of a node is one of its leaves' names
 greatest_among : (names : List Namespace) (s e : ℕ) (l r : Digest) → IsOver names s e l → IsOver names (s + 2 ^ e) e r
     → (i : ℕ) × (s ≤ i) × (i < s + 2 ^ suc e) × (joined_greatest l r ≡ name_at names i)
 unfolding joined_greatest
@@ -46,6 +47,7 @@ greatest_among names s e l r h k =
           ]
     ]
 
+-- the node over two digests over leaves
 over_node : (names : List Namespace) (s e : ℕ) (l r : Digest) → IsOver names s e l → IsOver names (s + 2 ^ e) e r → IsOver names s (suc e) (node_digest l r)
 over_node names s e l r h k =
     let g = greatest_among names s e l r h k in
@@ -58,6 +60,7 @@ over_node names s e l r h k =
       greatest = greatest-node l r h.size k.size ∙ g.3;
     }
 
+-- the digest of one leaf
 over_leaf : (ns : List Namespace) (ss : List Share) (s : ℕ) → AreNamespaces ns → length ss ≡ length ns → s < length ns → IsOver ns s 0 (get_or (leaf_digests ns ss) s (record { 0 = [] }))
 unfolding leaf_digests
 over_leaf [] ss s h len lt = absurd (omega arith)
@@ -83,6 +86,7 @@ over_span (suc e) s ns ss h len le =
     over_node ns s e (span (leaf_digests ns ss) s e) (span (leaf_digests ns ss) (s + 2 ^ e) e)
     (over_span e s ns ss h len (omega (arith, twice))) (over_span e (s + 2 ^ e) ns ss h len (omega (arith, twice)))
 
+-- a join over ordered names is ordered
 join_ordered : (names : List Namespace) (s e : ℕ) (l r : Digest) → is_ordered names ≡ true → s + 2 ^ e + 2 ^ e ≤ length names → IsOver names s e l → IsOver names (s + 2 ^ e) e r → is_ordered_join l r ≡ true
 unfolding is_ordered_join
 join_ordered names s e l r o le h k =

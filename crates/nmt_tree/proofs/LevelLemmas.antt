@@ -13,6 +13,7 @@ use Rattle.nmt_tree.specs.Levels.{leaf_digests, pairs, levels, span}
 use Rattle.nmt_tree.proofs.CountLemmas.{leaf_count-half, halvings_half, power_halvings}
 use Rattle.nmt_tree.proofs.PairLemmas.{length-pairs, span-pairs}
 
+-- one more leaf gives one more digest
 leaf_digests-append : (ns : List Namespace) (ss : List Share) (n : Namespace) (s : Share) → length ns ≡ length ss
     → leaf_digests (ns ++ n ∷ []) (ss ++ s ∷ []) ≡ leaf_digests ns ss ++ leaf_digest n s ∷ []
 unfolding leaf_digests
@@ -35,9 +36,11 @@ leaves_more ns ss ls i n s d hn hs hl ed so_far =
 pub front : (a b : List Digest) (n : ℕ) → length a ≡ n → take n (a ++ b) ≡ a
 front a b n h = sym (ap (λ (m : ℕ). take m (a ++ b)) h) ∙ take-append_seam a b
 
-behind : (a b : List Digest) (n : ℕ) → length a ≡ n → drop n (a ++ b) ≡ b
+-- what is behind it
+pub behind : (a b : List Digest) (n : ℕ) → length a ≡ n → drop n (a ++ b) ≡ b
 behind a b n h = sym (ap (λ (m : ℕ). drop m (a ++ b)) h) ∙ drop-append_seam a b
 
+-- a level is followed by those above it
 levels-suc : (d e : ℕ) (leaves : List Digest) → d ≡ suc e → levels d leaves ≡ leaves ++ levels e (pairs leaves)
 unfolding levels
 levels-suc d e leaves h = ap (λ (k : ℕ). levels k leaves) h
@@ -56,6 +59,7 @@ levels_step n digests level above rest new is several el ea len eq =
     ap (λ (l : List Digest). level ++ l) upper
     ∙ sym (ap (levels (halvings n)) (sym el) ∙ levels-suc (halvings n) (halvings (n / 2)) level (halvings_half n is several))
 
+-- the first level is that of the leaves
 levels-front : (d : ℕ) (leaves : List Digest) → length leaves ≡ 2 ^ d → take (2 ^ d) (levels d leaves) ≡ leaves
 unfolding levels
 levels-front zero leaves h = take_all (2 ^ 0) leaves (omega arith)

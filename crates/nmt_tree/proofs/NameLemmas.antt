@@ -19,6 +19,7 @@ use Rattle.nmt_tree.specs.Roots.{is_ordered}
 abbrev pub name_at : List Namespace → ℕ → Namespace
 name_at names i = get_or names i (record { 0 = [] })
 
+-- the first name is at most every later one
 first_at_most : (a : Namespace) (names : List Namespace) (j : ℕ) → is_ordered (a ∷ names) ≡ true → j < length names → is_at_most a (name_at names j) ≡ true
 unfolding holds_along
 first_at_most a [] j h lt = absurd (omega arith)
@@ -27,6 +28,7 @@ first_at_most a (b ∷ names) (suc j) h lt =
     let both = and_parts (is_at_most a b) (is_ordered (b ∷ names)) h in
     at_most_trans a b (name_at names j) both.0 (first_at_most b names j both.1 (omega arith))
 
+-- the names behind the first are in order
 ordered_tail : (a : Namespace) (names : List Namespace) → is_ordered (a ∷ names) ≡ true → is_ordered names ≡ true
 unfolding holds_along
 ordered_tail a [] h = refl
@@ -40,34 +42,42 @@ ordered_at (a ∷ names) zero (suc j) h le lt = first_at_most a names j h (omega
 ordered_at (a ∷ names) (suc i) zero h le lt = absurd (omega arith)
 ordered_at (a ∷ names) (suc i) (suc j) h le lt = ordered_at names i j (ordered_tail a names h) (omega arith) (omega arith)
 
+-- namespaces with the same bytes are one
 pub same_name : (a b : Namespace) → a.0 ≡ b.0 → a ≡ b
 same_name a b e = ap (λ (l : List ℕ). record { 0 = l }) e
 
+-- the first 29 bytes of three parts
 firsts : (a b c : List ℕ) → length a ≡ 29 → take 29 ((a ++ b) ++ c) ≡ a
 firsts a b c h = ap (λ (l : List ℕ). take 29 l) (append_assoc a b c) ∙ front a (b ++ c) 29 h
 
+-- the next 29 bytes
 seconds : (a b c : List ℕ) → length a ≡ 29 → length b ≡ 29 → take 29 (drop 29 ((a ++ b) ++ c)) ≡ b
 seconds a b c h k = ap (λ (l : List ℕ). take 29 (drop 29 l)) (append_assoc a b c) ∙ ap (λ (l : List ℕ). take 29 l) (behind a (b ++ c) 29 h) ∙ front b c 29 k
 
--- the least and the greatest name of a leaf
+-- the least name of a leaf is its own
 pub least-leaf : (n : Namespace) (s : Share) → length n.0 ≡ 29 → least_of (leaf_digest n s) ≡ n
 unfolding leaf_digest
 least-leaf n s h = same_name _ _ (firsts n.0 n.0 (sha256 (0 ∷ n.0 ++ s.0)) h)
 
+-- its greatest name is that name too
 pub greatest-leaf : (n : Namespace) (s : Share) → length n.0 ≡ 29 → greatest_of (leaf_digest n s) ≡ n
 unfolding leaf_digest
 greatest-leaf n s h = same_name _ _ (seconds n.0 n.0 (sha256 (0 ∷ n.0 ++ s.0)) h h)
 
+-- either of two names has 29 bytes
 length-choice : (b : Bool) (x y : Namespace) → length x.0 ≡ 29 → length y.0 ≡ 29 → length (cond b x y).0 ≡ 29
 length-choice true x y hx hy = hx
 length-choice false x y hx hy = hy
 
+-- the least name of a digest has 29 bytes
 length-least : (d : Digest) → length d.0 ≡ 90 → length (least_of d).0 ≡ 29
 length-least d h = length-take-le 29 d.0 (omega arith)
 
+-- so has its greatest
 length-greatest : (d : Digest) → length d.0 ≡ 90 → length (greatest_of d).0 ≡ 29
 length-greatest d h = length-take-le 29 (drop 29 d.0) (omega (arith, length-drop 29 d.0))
 
+-- so has the greatest of a node
 length-joined : (l r : Digest) → length l.0 ≡ 90 → length r.0 ≡ 90 → length (joined_greatest l r).0 ≡ 29
 unfolding joined_greatest
 length-joined l r hl hr =
@@ -75,6 +85,7 @@ length-joined l r hl hr =
     (length-choice (is_parity (least_of r)) (greatest_of l) (greater_of (greatest_of l) (greatest_of r)) (length-greatest l hl)
     (length-choice (is_at_most (greatest_of l) (greatest_of r)) (greatest_of r) (greatest_of l) (length-greatest r hr) (length-greatest l hl)))
 
+-- a node's digest has 90 bytes
 pub length-node : (l r : Digest) → length l.0 ≡ 90 → length r.0 ≡ 90 → length (node_digest l r).0 ≡ 90
 unfolding node_digest
 length-node l r hl hr =
@@ -87,16 +98,18 @@ length-node l r hl hr =
       length-sha256 (1 ∷ l.0 ++ r.0),
     )
 
+-- so has a leaf's
 pub length-leaf : (n : Namespace) (s : Share) → length n.0 ≡ 29 → length (leaf_digest n s).0 ≡ 90
 unfolding leaf_digest
 length-leaf n s h =
     omega (arith, length-append (n.0 ++ n.0) (sha256 (0 ∷ n.0 ++ s.0)), length-append n.0 n.0, length-sha256 (0 ∷ n.0 ++ s.0))
 
--- the least and the greatest name of a node
+-- the least name of a node is that of its left half
 pub least-node : (l r : Digest) → length l.0 ≡ 90 → least_of (node_digest l r) ≡ least_of l
 unfolding node_digest
 least-node l r h = same_name _ _ (firsts (least_of l).0 (joined_greatest l r).0 (sha256 (1 ∷ l.0 ++ r.0)) (length-least l h))
 
+-- its greatest name is that of the two joined
 pub greatest-node : (l r : Digest) → length l.0 ≡ 90 → length r.0 ≡ 90 → greatest_of (node_digest l r) ≡ joined_greatest l r
 unfolding node_digest
 greatest-node l r h k = same_name _ _ (seconds (least_of l).0 (joined_greatest l r).0 (sha256 (1 ∷ l.0 ++ r.0)) (length-least l h) (length-joined l r h k))

@@ -6,6 +6,7 @@ use Rattle.namespace_id.specs.declared.digests.Digest.{Digest}
 use Rattle.nmt_tree.specs.Digests.{node_digest}
 use Rattle.nmt_tree.specs.Levels.{pairs, span}
 
+-- two more neighbors are joined to one more node
 pairs-append : (i : ℕ) (xs : List Digest) (a b : Digest) → length xs ≡ 2 * i → pairs (xs ++ a ∷ b ∷ []) ≡ pairs xs ++ node_digest a b ∷ []
 unfolding pairs
 pairs-append i [] a b e = refl
@@ -65,6 +66,7 @@ pairs-take (suc m) (x ∷ y ∷ xs) h =
     let e : 2 * suc m ≡ suc (suc (2 * m)) = omega arith in
     ap (λ (k : ℕ). pairs (take k (x ∷ y ∷ xs))) e ∙ ap (λ (l : List Digest). node_digest x y ∷ l) (pairs-take m xs (omega arith))
 
+-- the level above has half as many digests
 pub length-pairs : (m : ℕ) (ds : List Digest) → length ds ≡ 2 * m → length (pairs ds) ≡ m
 unfolding pairs
 length-pairs zero [] h = refl
@@ -73,6 +75,7 @@ length-pairs m (a ∷ []) h = absurd (omega arith)
 length-pairs zero (a ∷ b ∷ ds) h = absurd (omega arith)
 length-pairs (suc m) (a ∷ b ∷ ds) h = ap (λ (k : ℕ). suc k) (length-pairs m ds (omega arith))
 
+-- a node of the level above
 get_or-pairs : (t : ℕ) (ds : List Digest) (o : Digest) → 2 * t + 1 < length ds → get_or (pairs ds) t o ≡ node_digest (get_or ds (2 * t) o) (get_or ds (2 * t + 1) o)
 unfolding pairs
 get_or-pairs t [] o h = absurd (omega arith)

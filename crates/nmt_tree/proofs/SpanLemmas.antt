@@ -9,6 +9,7 @@ use Rattle.nmt_tree.specs.Digests.{leaf_digest, node_digest}
 use Rattle.nmt_tree.specs.Roots.{root}
 use Rattle.nmt_tree.specs.Levels.{leaf_digests, span}
 
+-- there are as many digests as leaves
 pub length-leaf_digests : (ns : List Namespace) (ss : List Share) → length ns ≡ length ss → length (leaf_digests ns ss) ≡ length ns
 unfolding leaf_digests
 length-leaf_digests [] [] h = refl
@@ -25,6 +26,7 @@ leaf_digests-at (a ∷ ns) [] i n s h lt = absurd (omega arith)
 leaf_digests-at (a ∷ ns) (b ∷ ss) zero n s h lt = refl
 leaf_digests-at (a ∷ ns) (b ∷ ss) (suc i) n s h lt = leaf_digests-at ns ss i n s (omega arith) (omega arith)
 
+-- a digest over the leaves behind some is one over all
 pub span-drop : (e k s : ℕ) (ds : List Digest) → span (drop k ds) s e ≡ span ds (k + s) e
 unfolding span
 span-drop zero k s ds = get_or-drop k ds s (record { 0 = [] })
@@ -32,6 +34,7 @@ span-drop (suc e) k s ds =
     let p : k + (s + 2 ^ e) ≡ k + s + 2 ^ e = omega arith in
     ap₂ node_digest (span-drop e k s ds) (span-drop e k (s + 2 ^ e) ds ∙ ap (λ (j : ℕ). span ds j e) p)
 
+-- so is one over the leaves at the front
 pub span-take : (e k s : ℕ) (ds : List Digest) → s + 2 ^ e ≤ k → span (take k ds) s e ≡ span ds s e
 unfolding span
 span-take zero k s ds h = get_or-take k ds s (record { 0 = [] }) (omega arith)
@@ -39,6 +42,7 @@ span-take (suc e) k s ds h =
     let p : 2 ^ suc e ≡ 2 ^ e * 2 = pow-suc 2 e in
     ap₂ node_digest (span-take e k s ds (omega arith)) (span-take e k (s + 2 ^ e) ds (omega arith))
 
+-- the digests of the leaves at the front
 take-leaf_digests : (k : ℕ) (ns : List Namespace) (ss : List Share) → length ns ≡ length ss → leaf_digests (take k ns) (take k ss) ≡ take k (leaf_digests ns ss)
 unfolding leaf_digests
 take-leaf_digests zero ns ss h = refl
@@ -47,6 +51,7 @@ take-leaf_digests (suc k) [] (s ∷ ss) h = absurd (omega arith)
 take-leaf_digests (suc k) (n ∷ ns) [] h = absurd (omega arith)
 take-leaf_digests (suc k) (n ∷ ns) (s ∷ ss) h = ap (λ (l : List Digest). leaf_digest n s ∷ l) (take-leaf_digests k ns ss (omega arith))
 
+-- the digests of the leaves behind them
 drop-leaf_digests : (k : ℕ) (ns : List Namespace) (ss : List Share) → length ns ≡ length ss → leaf_digests (drop k ns) (drop k ss) ≡ drop k (leaf_digests ns ss)
 unfolding leaf_digests
 drop-leaf_digests zero ns ss h = refl

@@ -17,6 +17,7 @@ pub record IsFilled (n : ℕ) (digests : List Digest) (ns : List Namespace) (ss 
   pub is_tree : IsTree n true digests
   pub leaves : take n digests ≡ leaf_digests ns ss
 
+-- writing all levels over such leaves makes such a tree
 pub filled_tree : (n : ℕ) (digests : List Digest) (ns : List Namespace) (ss : List Share) → IsTrue (is_leaf_count n) → length ns ≡ n → length ss ≡ n
     → AreNamespaces ns → is_ordered ns ≡ true → length digests + 1 ≡ 2 * n → digests ≡ levels (halvings (length ns)) (leaf_digests ns ss)
     → IsFilled n digests ns ss
@@ -47,6 +48,7 @@ strict_root_some n leaves ns ss is len same ordered e =
     ∙ ap (λ (k : ℕ). root (halvings k) ns ss) (sym len) in
     ap (λ (d : Digest). Some d) value ∙ ap (λ (b : Bool). cond b (Some (root (halvings (length ns)) ns ss)) None) (sym ordered)
 
+-- falling names have no strict root
 pub strict_root_none : (d : ℕ) (ns : List Namespace) (ss : List Share) → is_ordered ns ≡ false → None ≡ strict_root d ns ss
 unfolding strict_root
 strict_root_none d ns ss falls = sym (ap (λ (b : Bool). cond b (Some (root d ns ss)) None) falls)

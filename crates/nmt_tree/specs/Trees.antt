@@ -19,9 +19,10 @@ pub record AreTreeLeaves (count : ℕ) (leaves : List Digest) : Type 0 where
   pub number : length leaves ≡ count
   pub ordered : HasOrderedJoins leaves 0 (halvings count)
 
--- the leaves of a tree, by what it keeps
-abbrev pub kept_leaves : ℕ → Bool → List Digest → Option (List Digest)
-kept_leaves count is_full digests = if is_full then Some (take count digests) else None
+-- what contracts see of a tree, by what it keeps: the leaves come first
+abbrev pub stored_tree : ℕ → Bool → List Digest → StoredTree
+stored_tree count is_full digests =
+    record { count = count; leaves = (if is_full then Some (take count digests) else None) }
 
 -- what a tree keeps: room for the digests of all levels, and these where it isn't empty
 pub record IsTree (count : ℕ) (is_full : Bool) (digests : List Digest) : Type 0 where

@@ -48,7 +48,8 @@ pub(crate) fn put_tree(names: &[Namespace], shares: &[Share], digests: &mut [Dig
     requires count { IsTrue (is_leaf_count (length names.now)) }
     requires pairs { length shares.now ≡ length names.now }
     requires room { length digests.old + 1 ≡ 2 * length names.now }
-    ensures { digests.new ≡ levels (halvings (length names.now)) (leaf_digests names.now shares.now) }
+    ensures { digests.new ≡
+        levels (halvings (length names.now)) (leaf_digests names.now shares.now) }
 {
     put_leaves(names, shares, &mut digests[..names.len()]);
     put_levels(names.len(), digests);

@@ -28,11 +28,11 @@ pub struct Tree {
 }
 
 impl Model for Tree {
-    ghost use Rattle.nmt_tree.specs.Trees.{StoredTree, IsTree, kept_leaves};
+    ghost use Rattle.nmt_tree.specs.Trees.{StoredTree, IsTree, stored_tree};
 
     ghost Value = { StoredTree };
 
-    ghost view = { λ t. record { count = t.count; leaves = kept_leaves t.count t.is_full t.digests.items } };
+    ghost view = { λ t. stored_tree t.count t.is_full t.digests.items };
 
     ghost invariant = { λ t. IsTree t.count t.is_full t.digests.items };
 }
@@ -65,8 +65,8 @@ impl Tree {
         self.count
     }
 
-    /// Puts leaves in place of all that the tree held, where their namespaces never fall; otherwise it
-    /// answers false, and the tree is empty. There are as many leaves as the tree is for.
+    /// Puts leaves in place of all that the tree held, where their namespaces never fall; otherwise
+    /// it answers false, and the tree is empty. There are as many leaves as the tree is for.
     ///
     /// It takes no memory.
     pub fn fill(&mut self, names: &[Namespace], shares: &[Share]) -> bool
@@ -91,9 +91,8 @@ impl Tree {
         true
     }
 
-    /// The digest over the `size` leaves from place `from` on; none exactly where the tree is empty.
-    ///
-    /// `size` is a power of two, and `from` a multiple of it.
+    /// The digest over the `size` leaves from place `from` on; none exactly where the tree is
+    /// empty. `size` is a power of two, and `from` a multiple of it.
     pub fn digest(&self, from: u16, size: u16) -> Option<Digest>
         requires size { IsTrue (is_leaf_count size) }
         requires aligned { from % size ≡ 0 }
@@ -120,8 +119,8 @@ impl Tree {
     }
 }
 
-/// A digest of a list of leaves is that of the leaf at its place; the root is the digest over all of
-/// them; and where their namespaces never fall, every join over them is ordered.
+/// A digest of a list of leaves is that of the leaf at its place; the root is the digest over all
+/// of them; and where their namespaces never fall, every join over them is ordered.
 pub fn tree_laws()
     ensures leaf { (names : List Namespace) (shares : List Share) (pos : ℕ) →
         (name : Namespace) (share : Share) → length names ≡ length shares → pos < length names →
