@@ -1,3 +1,10 @@
 pub mod WidthLemmas
 pub mod ShareLemmas
 pub mod LaterLemmas
+pub mod FillLemmas
+pub mod CutLemmas
+pub mod FieldLemmas
+pub mod WalkLemmas
+pub mod VarintLemmas
+pub mod TextLemmas
+pub mod StartLemmas

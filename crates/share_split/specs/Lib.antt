@@ -3,3 +3,4 @@ pub mod Blobs
 pub mod Units
 pub mod Walks
 pub mod Joined
+pub mod Steps

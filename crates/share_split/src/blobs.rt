@@ -116,7 +116,7 @@ fn later_share(namespace: &Namespace, content: &[u8]) -> Share
 }
 
 /// The first bytes, at most so many, and the others.
-fn split_within(bytes: &[u8], most: usize) -> (&[u8], &[u8])
+pub(crate) fn split_within(bytes: &[u8], most: usize) -> (&[u8], &[u8])
     ensures first { result.0.now ≡ take most bytes.now }
     ensures rest { result.1.now ≡ drop most bytes.now }
     ensures few { length result.0.now ≤ most }
