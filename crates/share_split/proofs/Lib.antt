@@ -8,3 +8,5 @@ pub mod WalkLemmas
 pub mod VarintLemmas
 pub mod TextLemmas
 pub mod StartLemmas
+pub mod SequenceLemmas
+pub mod RunLemmas

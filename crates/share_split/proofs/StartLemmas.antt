@@ -114,12 +114,12 @@ content_start-next : (i : ℕ) → content_start i ≤ content_start (suc i)
 content_start-next zero = omega arith
 content_start-next (suc i) = omega (arith, content_start-suc i, content_start-suc (suc i))
 
-bad_reserved-cons : (i : ℕ) (starts : List ℕ) (share : Share) (shares : List Share)
+pub bad_reserved-cons : (i : ℕ) (starts : List ℕ) (share : Share) (shares : List Share)
     → bad_reserved i starts (share ∷ shares) ≡ cond (eqb (reserved_in share) (reserved_of i starts)) (bad_reserved (suc i) starts shares) (Some i)
 unfolding bad_reserved
 bad_reserved-cons i starts share shares = refl
 
-bad_reserved-nil : (i : ℕ) (starts : List ℕ) → bad_reserved i starts [] ≡ None
+pub bad_reserved-nil : (i : ℕ) (starts : List ℕ) → bad_reserved i starts [] ≡ None
 unfolding bad_reserved
 bad_reserved-nil i starts = refl
 
@@ -150,28 +150,28 @@ reserved_here i starts shares none good whole lt test before =
     ∙ sym (ap (bad_reserved i starts) (drop_more shares i none lt))
     ∙ before
 
-pub reserved_more : (i next : ℕ) (starts left : List ℕ) (shares : List Share) (none : Share) (whole : Option ℕ) → i < length shares → next ≡ suc i
+pub reserved_more : (i next stated should : ℕ) (starts left : List ℕ) (shares : List Share) (none : Share) (whole : Option ℕ) → i < length shares → next ≡ suc i
     → left ≡ starts_past (content_start i) starts
-    → reserved_in (get_or shares i none) ≡ head_start (content_place i) (content_start i) (content_start next) left
-    → bad_reserved i starts (drop i shares) ≡ whole
+    → stated ≡ reserved_in (get_or shares i none) → should ≡ head_start (content_place i) (content_start i) (content_start next) left
+    → stated ≡ should → bad_reserved i starts (drop i shares) ≡ whole
     → bad_reserved next left (drop (i + 1) shares) ≡ whole
-reserved_more i next starts left shares none whole lt next_is left_is same before =
+reserved_more i next stated should starts left shares none whole lt next_is left_is stated_is should_is same before =
     let rest : List Share = drop (i + 1) shares in
     let number : reserved_in (get_or shares i none) ≡ reserved_of i starts =
-        same ∙ ap (λ (k : ℕ). head_start (content_place i) (content_start i) (content_start k) left) next_is ∙ number_here i starts left left_is in
+        sym stated_is ∙ same ∙ should_is ∙ ap (λ (k : ℕ). head_start (content_place i) (content_start i) (content_start k) left) next_is ∙ number_here i starts left left_is in
     ap₂ (λ (k : ℕ) (l : List ℕ). bad_reserved k l rest) next_is left_is
     ∙ bad_reserved-past (content_start i) (suc i) starts rest (content_start-next i)
     ∙ reserved_here i starts shares none true whole lt (eq-eqb _ _ number) before
 
-pub reserved_stop : (i next : ℕ) (starts left : List ℕ) (shares : List Share) (none : Share) (whole : Option ℕ) → i < length shares → next ≡ suc i
+pub reserved_stop : (i next stated should : ℕ) (starts left : List ℕ) (shares : List Share) (none : Share) (whole : Option ℕ) → i < length shares → next ≡ suc i
     → left ≡ starts_past (content_start i) starts
-    → reserved_in (get_or shares i none) ≢ head_start (content_place i) (content_start i) (content_start next) left
-    → bad_reserved i starts (drop i shares) ≡ whole
+    → stated ≡ reserved_in (get_or shares i none) → should ≡ head_start (content_place i) (content_start i) (content_start next) left
+    → stated ≢ should → bad_reserved i starts (drop i shares) ≡ whole
     → Some i ≡ whole
-reserved_stop i next starts left shares none whole lt next_is left_is differ before =
-    let number : head_start (content_place i) (content_start i) (content_start next) left ≡ reserved_of i starts =
-        ap (λ (k : ℕ). head_start (content_place i) (content_start i) (content_start k) left) next_is ∙ number_here i starts left left_is in
-    reserved_here i starts shares none false whole lt (ne_eqb _ _ (λ e. differ (e ∙ sym number))) before
+reserved_stop i next stated should starts left shares none whole lt next_is left_is stated_is should_is differ before =
+    let number : should ≡ reserved_of i starts =
+        should_is ∙ ap (λ (k : ℕ). head_start (content_place i) (content_start i) (content_start k) left) next_is ∙ number_here i starts left left_is in
+    reserved_here i starts shares none false whole lt (ne_eqb _ _ (λ e. differ (stated_is ∙ e ∙ sym number))) before
 
 pub reserved_end : (i : ℕ) (starts : List ℕ) (shares : List Share) (whole : Option ℕ) → length shares ≤ i → bad_reserved i starts (drop i shares) ≡ whole → None ≡ whole
 reserved_end i starts shares whole le before = sym (bad_reserved-nil i starts) ∙ sym (ap (bad_reserved i starts) (drop_all i shares le)) ∙ before

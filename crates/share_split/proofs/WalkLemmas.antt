@@ -142,6 +142,10 @@ pub sequence_from-none : (i : ℕ) → sequence_from i None [] ≡ Ok None
 unfolding sequence_from
 sequence_from-none i = refl
 
-pub sequence_from-some : (i : ℕ) (s : Sequence) → sequence_from i (Some s) [] ≡ cond (is_complete s) (Ok (Some s)) (Err (Short s.first))
+pub sequence_from-whole : (i : ℕ) (s : Sequence) → is_complete s ≡ true → sequence_from i (Some s) [] ≡ Ok (Some s)
 unfolding sequence_from
-sequence_from-some i s = refl
+sequence_from-whole i s e = ap (λ (b : Bool). cond b (Ok (Some s)) (Err (Short s.first))) e
+
+pub sequence_from-open : (i : ℕ) (s : Sequence) → is_complete s ≡ false → sequence_from i (Some s) [] ≡ Err (Short s.first)
+unfolding sequence_from
+sequence_from-open i s e = ap (λ (b : Bool). cond b (Ok (Some s)) (Err (Short s.first))) e

@@ -1,5 +1,6 @@
 use Rattle.std.proofs.lemmas.Result.{err_from_is_err_and}
-use Rattle.std.proofs.Common.{◌∙◌, ◌≡◌, sym, ap, Some, inr}
+use Rattle.std.proofs.Common.{◌∙◌, ◌≡◌, sym, ap, Err, inr}
+use Rattle.share_split.specs.declared.joining.JoinError.TheVariants.{Short}
 use Rattle.share_split.specs.Walks.{Sequence}
 use Rattle.share_split.proofs.WalkLemmas.{blobs_more, blobs_stop, blobs_end, blobs_cut}
 use Rattle.share_split.proofs.joining.join_blobs.Goals as goal
@@ -23,4 +24,4 @@ returns-in-None-clause-blobs c = ?
 pub returns-in-Some-clause-read : goal.returns-in-Some-clause-read
 returns-in-Some-clause-read c =
     inr (blobs_cut c.loop-i.i c.args.shares.now c.loop-i.blobs.items _ c.in-Some.open c.loop-i-test.false (rw c.in-Some.is at c.loop-i.invariant)
-    ∙ ?)
+    ∙ ap (λ (s : Sequence). Err (Short s.first)) (sym c.open.view_is))

@@ -1,7 +1,8 @@
 use Rattle.std.proofs.lemmas.Result.{err_from_is_err_and}
 use Rattle.std.proofs.Common.{◌∙◌, ◌≡◌, sym, ap, Some, inr, Bool, cond, Ok, Err}
 use Rattle.share_split.specs.Walks.{Sequence}
-use Rattle.share_split.proofs.WalkLemmas.{sequence_more, sequence_stop, sequence_end, sequence_from-none, sequence_from-some}
+use Rattle.share_split.proofs.WalkLemmas.{sequence_more, sequence_stop, sequence_end, sequence_from-none, sequence_from-whole, sequence_from-open}
+use Rattle.share_split.specs.declared.joining.JoinError.TheVariants.{Short}
 use Rattle.share_split.proofs.joining.unit_sequence.Goals as goal
 
 pub returns-in_err-with_unit_share : goal.returns-in_err-with_unit_share
@@ -16,7 +17,9 @@ loop-i-preserved c =
 
 pub returns-then-not-is_complete : goal.returns-then-not-is_complete
 returns-then-not-is_complete c =
-    inr (sequence_end c.loop-i.i c.args.shares.now c.loop-i.open _ c.loop-i-test.false c.loop-i.invariant ∙ ?)
+    inr (sequence_end c.loop-i.i c.args.shares.now _ _ c.loop-i-test.false (rw c.in-Some.is at c.loop-i.invariant)
+    ∙ sequence_from-open c.loop-i.i c.in-Some.open (sym c.is_complete.ensures ∙ c.if-not-is_complete.true)
+    ∙ ap (λ (s : Sequence). Err (Short s.first)) (sym c.open.view_is))
 
 pub returns-in-None : goal.returns-in-None
 returns-in-None c =
@@ -24,5 +27,5 @@ returns-in-None c =
 
 pub returns-else-not-is_complete : goal.returns-else-not-is_complete
 returns-else-not-is_complete c =
-    sequence_end c.loop-i.i c.args.shares.now _ _ c.loop-i-test.false (rw c.in-Some.is at c.loop-i.invariant) ∙ sequence_from-some c.loop-i.i c.in-Some.open
-    ∙ ?
+    sequence_end c.loop-i.i c.args.shares.now _ _ c.loop-i-test.false (rw c.in-Some.is at c.loop-i.invariant)
+    ∙ sequence_from-whole c.loop-i.i c.in-Some.open (sym c.is_complete.ensures ∙ c.if-not-is_complete.false)

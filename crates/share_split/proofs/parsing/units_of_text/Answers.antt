@@ -1,4 +1,5 @@
-use Rattle.std.proofs.Common.{◌∙◌, ◌<◌, ◌≡◌, ◌≤◌, ℕ, List, [], length, drop, length-drop, ap, sym, arith, inr, append-nil, Ok, ◌++◌, ◌+◌, Result}
+use Rattle.std.proofs.Common.{◌∙◌, ◌<◌, ◌≡◌, ◌≤◌, ℕ, List, [], length, drop, length-drop, ap, sym, arith, inr, append-nil, Ok, ◌++◌, ◌+◌, Some}
+use Rattle.share_split.specs.Walks.{unit_at}
 use Rattle.std.proofs.lemmas.List.{drop-drop}
 use Rattle.namespace_id.proofs.StringLemmas.{AreBytes-drop}
 use Rattle.share_split.proofs.TextLemmas.{text_stop, text_end, text_more, starts_more, starts_end, unit_back}
@@ -8,8 +9,8 @@ pub returns-in_default-clause-units : goal.returns-in_default-clause-units
 returns-in_default-clause-units c =
     let text : List ℕ = c.args.text.now in
     let at : ℕ = c.loop-at.at in
-    let left : 0 < length (drop at text) = omega (arith, c.loop-at-test.true, length-drop at text) in
-    ?
+    inr (text_stop at c.share_with.result (drop at text) c.loop-at.placed.units.items _
+    (ap unit_at (sym c.split_at.ensures.back) ∙ c.in_default.ensures.value) (omega (arith, c.loop-at-test.true, length-drop at text)) c.share_with.ensures c.loop-at.invariant.units)
 
 pub loop-at-preserved : goal.loop-at-preserved
 loop-at-preserved c =
@@ -17,8 +18,8 @@ loop-at-preserved c =
     let at : ℕ = c.loop-at.at in
     let size : ℕ = c.in-Some.size in
     let left : 0 < length (drop at text) = omega (arith, c.loop-at-test.true, length-drop at text) in
-    let read = c.in-Some.ensures.value in
-    let u = unit_back (drop at text) c.in-Some.unit.now size (AreBytes-drop at text ?) read in
+    let read : unit_at (drop at text) ≡ Some (c.in-Some.unit.now, size) = ap unit_at (sym c.split_at.ensures.back) ∙ c.in-Some.ensures.value in
+    let u = unit_back (drop at text) c.in-Some.unit.now size (AreBytes-drop at text (λ i. omega (arith, c.type_inv.text i))) read in
     record {
       within = omega (arith, u.within, length-drop at text, c.loop-at-test.true);
       units = text_more at (drop at text) c.in-Some.unit.now (drop (at + size) text) size c.loop-at.placed.units.items c.put.new.self.units.items _
