@@ -10,3 +10,5 @@ pub mod TextLemmas
 pub mod StartLemmas
 pub mod SequenceLemmas
 pub mod RunLemmas
+pub mod BlobReadLemmas
+pub mod BlobToldLemmas

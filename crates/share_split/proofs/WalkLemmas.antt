@@ -9,7 +9,7 @@ use Rattle.share_split.specs.Blobs.{NamedBytes}
 use Rattle.share_split.specs.Walks.{Sequence, is_complete, with_blob, blob_refusal, taken_by, blobs_from, blobs_of, unit_refusal, sequence_from}
 use Rattle.share_split.specs.Steps.{open_after, blobs_after, behind_blobs}
 
-abbrev Blobs : Type 0
+abbrev pub Blobs : Type 0
 Blobs = Result (List NamedBytes) JoinError
 
 -- ---- blobs
@@ -26,6 +26,14 @@ pub blobs_from-cons : (i : ℕ) (so_far : Option Sequence) (share : Share) (shar
 unfolding blobs_from
 blobs_from-cons i None share shares = refl
 blobs_from-cons i (Some s) share shares = refl
+
+pub blobs_from-nil : (i : ℕ) → blobs_from i None [] ≡ Ok []
+unfolding blobs_from
+blobs_from-nil i = refl
+
+pub blobs_from-open : (i : ℕ) (s : Sequence) → blobs_from i (Some s) [] ≡ Err (Short s.first)
+unfolding blobs_from
+blobs_from-open i s = refl
 
 -- a sequence that is complete is a blob or padding
 one_blob : (empty : Bool) (b : NamedBytes) (blobs more : List NamedBytes) → blobs ++ cond empty more (b ∷ more) ≡ (blobs ++ cond (not empty) (b ∷ []) []) ++ more
@@ -96,7 +104,7 @@ blobs_cut i shares blobs whole s le before =
 
 -- ---- the one sequence of units
 
-abbrev One : Type 0
+abbrev pub One : Type 0
 One = Result (Option Sequence) JoinError
 
 pub sequence_from-cons : (i : ℕ) (so_far : Option Sequence) (share : Share) (shares : List Share)
