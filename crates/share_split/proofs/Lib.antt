@@ -12,3 +12,6 @@ pub mod SequenceLemmas
 pub mod RunLemmas
 pub mod BlobReadLemmas
 pub mod BlobToldLemmas
+pub mod UnitReadLemmas
+pub mod UnitToldLemmas
+pub mod JoinLawLemmas

@@ -3,6 +3,7 @@ use Rattle.std.proofs.Common.{◌∙◌, ◌≡◌, sym, ap, Err, inr}
 use Rattle.share_split.specs.declared.joining.JoinError.TheVariants.{Short}
 use Rattle.share_split.specs.Walks.{Sequence}
 use Rattle.share_split.proofs.WalkLemmas.{blobs_more, blobs_stop, blobs_end, blobs_cut}
+use Rattle.share_split.proofs.JoinLawLemmas.{blobs_law}
 use Rattle.share_split.proofs.joining.join_blobs.Goals as goal
 
 pub returns-in_err-sequence-clause-read : goal.returns-in_err-sequence-clause-read
@@ -19,7 +20,9 @@ pub returns-in-None-clause-read : goal.returns-in-None-clause-read
 returns-in-None-clause-read c = blobs_end c.loop-i.i c.args.shares.now c.loop-i.blobs.items _ c.loop-i-test.false (rw c.in-None.is at c.loop-i.invariant)
 
 pub returns-in-None-clause-blobs : goal.returns-in-None-clause-blobs
-returns-in-None-clause-blobs c = ?
+returns-in-None-clause-blobs c =
+    (blobs_law c.args.shares.now c.loop-i.blobs.items c.are_shares.ensures).0
+    (blobs_end c.loop-i.i c.args.shares.now c.loop-i.blobs.items _ c.loop-i-test.false (rw c.in-None.is at c.loop-i.invariant))
 
 pub returns-in-Some-clause-read : goal.returns-in-Some-clause-read
 returns-in-Some-clause-read c =
