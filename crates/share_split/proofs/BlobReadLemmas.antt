@@ -49,7 +49,7 @@ run_read i s text (share ∷ shares) more all some later =
     let rest : List ℕ = drop 482 text in
     let t : Sequence = seq s.first s.name s.size (s.content ++ part) in
     let step : blobs_from i (Some s) (share ∷ (shares ++ more)) ≡ taken_on (suc i) t (shares ++ more) =
-        on i (Some s) share (shares ++ more) t (later_passes 0 i s text share left later.1) (later_taken 0 s text share left later.1) in
+    on i (Some s) share (shares ++ more) t (later_passes 0 i s text share left later.1) (later_taken 0 s text share left later.1) in
     let behind : length rest ≡ length text - 482 = length-drop 482 text in
     let front : length part + length rest ≡ length text = omega (arith, length-take 482 text, behind) in
     let so_far : length (s.content ++ part) ≡ length s.content + length part = length-append s.content part in
@@ -57,16 +57,16 @@ run_read i s text (share ∷ shares) more all some later =
     let place : suc i + length shares ≡ i + length (share ∷ shares) = omega arith in
     elim (cases_lt 482 (length text)) [
       | inl more_left ↦
-        step ∙ open_on (suc i) t (shares ++ more) (omega arith)
-        ∙ run_read (suc i) t rest shares more (omega arith) (omega arith) later.2
-        ∙ ap₂ (λ (l : List ℕ) (k : ℕ). with_blob (seq s.first s.name s.size l) (blobs_from k None more)) content place
+          step ∙ open_on (suc i) t (shares ++ more) (omega arith)
+          ∙ run_read (suc i) t rest shares more (omega arith) (omega arith) later.2
+          ∙ ap₂ (λ (l : List ℕ) (k : ℕ). with_blob (seq s.first s.name s.size l) (blobs_from k None more)) content place
       | inr last ↦
-        let none : shares ≡ [] = none_later 0 s.name rest shares later.2 (omega arith) in
-        let all_taken : s.content ++ part ≡ s.content ++ text = ap (λ (l : List ℕ). s.content ++ l) (take_all 482 text last) in
-        let one : suc i ≡ i + length (share ∷ shares) = omega (arith, ap length none) in
-        step ∙ whole_on (suc i) t (shares ++ more) (omega arith)
-        ∙ ap (λ (l : List Share). with_blob t (blobs_from (suc i) None (l ++ more))) none
-        ∙ ap₂ (λ (l : List ℕ) (k : ℕ). with_blob (seq s.first s.name s.size l) (blobs_from k None more)) all_taken one
+          let none : shares ≡ [] = none_later 0 s.name rest shares later.2 (omega arith) in
+          let all_taken : s.content ++ part ≡ s.content ++ text = ap (λ (l : List ℕ). s.content ++ l) (take_all 482 text last) in
+          let one : suc i ≡ i + length (share ∷ shares) = omega (arith, ap length none) in
+          step ∙ whole_on (suc i) t (shares ++ more) (omega arith)
+          ∙ ap (λ (l : List Share). with_blob t (blobs_from (suc i) None (l ++ more))) none
+          ∙ ap₂ (λ (l : List ℕ) (k : ℕ). with_blob (seq s.first s.name s.size l) (blobs_from k None more)) all_taken one
     ]
 
 -- a whole sequence, also that of no bytes
@@ -85,20 +85,20 @@ sequence_read i name bytes more named few =
     let count_is : count ≡ div_ceil (length rest) 482 = later_count size ∙ ap (λ (n : ℕ). div_ceil n 482) (sym behind) in
     let later : AreLater 0 name rest shares = later_are count name rest named.size_is count_is in
     let step : blobs_from i None (share ∷ (shares ++ more)) ≡ taken_on (suc i) t (shares ++ more) =
-        on i None share (shares ++ more) t (first_passes 0 i name size bytes share refl first) (first_taken 0 i name size bytes share refl first) in
+    on i None share (shares ++ more) t (first_passes 0 i name size bytes share refl first) (first_taken 0 i name size bytes share refl first) in
     let front : length part + length rest ≡ size = omega (arith, length-take 478 bytes, behind) in
     let place : suc i + length shares ≡ i + length (share ∷ shares) = omega arith in
     elim (cases_lt 478 size) [
       | inl more_left ↦
-        step ∙ open_on (suc i) t (shares ++ more) (omega arith)
-        ∙ run_read (suc i) t rest shares more (omega arith) (omega arith) later
-        ∙ ap₂ (λ (l : List ℕ) (k : ℕ). with_blob (seq i name size l) (blobs_from k None more)) (take-append-drop 478 bytes) place
+          step ∙ open_on (suc i) t (shares ++ more) (omega arith)
+          ∙ run_read (suc i) t rest shares more (omega arith) (omega arith) later
+          ∙ ap₂ (λ (l : List ℕ) (k : ℕ). with_blob (seq i name size l) (blobs_from k None more)) (take-append-drop 478 bytes) place
       | inr last ↦
-        let none : shares ≡ [] = none_later 0 name rest shares later (omega arith) in
-        let one : suc i ≡ i + length (share ∷ shares) = omega (arith, ap length none) in
-        step ∙ whole_on (suc i) t (shares ++ more) (omega (arith, ap length (take_all 478 bytes last)))
-        ∙ ap (λ (l : List Share). with_blob t (blobs_from (suc i) None (l ++ more))) none
-        ∙ ap₂ (λ (l : List ℕ) (k : ℕ). with_blob (seq i name size l) (blobs_from k None more)) (take_all 478 bytes last) one
+          let none : shares ≡ [] = none_later 0 name rest shares later (omega arith) in
+          let one : suc i ≡ i + length (share ∷ shares) = omega (arith, ap length none) in
+          step ∙ whole_on (suc i) t (shares ++ more) (omega (arith, ap length (take_all 478 bytes last)))
+          ∙ ap (λ (l : List Share). with_blob t (blobs_from (suc i) None (l ++ more))) none
+          ∙ ap₂ (λ (l : List ℕ) (k : ℕ). with_blob (seq i name size l) (blobs_from k None more)) (take_all 478 bytes last) one
     ]
 
 -- padding is the sequence of no bytes

@@ -83,7 +83,7 @@ sequence_by : (empty : Bool) (name : Namespace) (bytes : List ℕ) (all more : L
 sequence_by true name bytes all more others blobs is named few fits parts behind shown =
     let none : bytes ≡ [] = nil_from_length bytes (eqb-true _ _ is) in
     let padded : padding_share name ∷ more ≡ all =
-        sym (parts ∙ ap (λ (l : List ℕ). blob_shares_of name l ++ more) none ∙ ap (λ (l : List Share). l ++ more) (padding_is name)) in
+    sym (parts ∙ ap (λ (l : List ℕ). blob_shares_of name l ++ more) none ∙ ap (λ (l : List Share). l ++ more) (padding_is name)) in
     subst (λ (l : List Share). AreBlobs l blobs) padded
     (subst (λ (l : List NamedBytes). AreBlobs (padding_share name ∷ more) l) shown (with_piece (padding name) more others named behind))
 sequence_by false name bytes all more others blobs is named few fits parts behind shown =

@@ -108,7 +108,7 @@ first_compact_is name size reserved text len few small =
     let content : List ℕ = filled 474 (take 474 text) in
     let share : Share = first_compact_share name size reserved (take 474 text) in
     let nested : share.0 ≡ name.0 ++ 1 ∷ number ++ (place ++ content) =
-        append_assoc (name.0 ++ 1 ∷ number) place content in
+    append_assoc (name.0 ++ 1 ∷ number) place content in
     let c = cut share.0 name.0 (number ++ (place ++ content)) 1 len (nested ∙ append_assoc name.0 (1 ∷ number) (place ++ content)) in
     let f = four share.0 number (place ++ content) refl c.behind in
     let start : is_start share ≡ true = ap (λ (b : ℕ). eqb (b % 2) 1) c.byte_is in
@@ -154,7 +154,7 @@ is_first_compact name size reserved text share whole is =
     let fields : fields_in share ≡ drop 34 bytes = fields_first share first.start_is in
     let number_is : take 4 (drop 30 bytes) ≡ number = stated bytes 30 (omega (arith, whole.size_is)) whole.fits ∙ ap (to_be_bytes w32) first.size_is in
     let place_is : take 4 (drop 34 bytes) ≡ place =
-        stated bytes 34 (omega (arith, whole.size_is)) whole.fits ∙ ap (to_be_bytes w32) (sym (ap (λ (l : List ℕ). from_be_bytes w32 (take 4 l)) fields) ∙ is.1) in
+    stated bytes 34 (omega (arith, whole.size_is)) whole.fits ∙ ap (to_be_bytes w32) (sym (ap (λ (l : List ℕ). from_be_bytes w32 (take 4 l)) fields) ∙ is.1) in
     let content_is : drop 38 bytes ≡ content = sym (drop-drop 4 34 bytes) ∙ sym (ap (drop 4) fields) ∙ first.content_is in
     ap share_of
     (parts bytes whole.size_is
@@ -173,7 +173,7 @@ is_later_compact name reserved text share whole is =
     let content : List ℕ = filled 478 (take 478 text) in
     let fields : fields_in share ≡ drop 30 bytes = fields_later share later.start_is in
     let place_is : take 4 (drop 30 bytes) ≡ place =
-        stated bytes 30 (omega (arith, whole.size_is)) whole.fits ∙ ap (to_be_bytes w32) (sym (ap (λ (l : List ℕ). from_be_bytes w32 (take 4 l)) fields) ∙ is.1) in
+    stated bytes 30 (omega (arith, whole.size_is)) whole.fits ∙ ap (to_be_bytes w32) (sym (ap (λ (l : List ℕ). from_be_bytes w32 (take 4 l)) fields) ∙ is.1) in
     let content_is : drop 34 bytes ≡ content = sym (drop-drop 4 30 bytes) ∙ sym (ap (drop 4) fields) ∙ later.content_is in
     ap share_of
     (parts bytes whole.size_is

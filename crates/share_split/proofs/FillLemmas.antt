@@ -28,26 +28,26 @@ pub take-filled : (n m : ℕ) (text : List ℕ) → length text ≡ m → take m
 take-filled n m text len =
     elim (cases_lt m n) [
       | inl lt ↦
-        let all : take n text ≡ text = take_all n text (omega arith) in
-        ap (take m) (filled_front_is n text) ∙ take_at (take n text) (replicate (n - length (take n text)) 0) m (ap length all ∙ len)
+          let all : take n text ≡ text = take_all n text (omega arith) in
+          ap (take m) (filled_front_is n text) ∙ take_at (take n text) (replicate (n - length (take n text)) 0) m (ap length all ∙ len)
       | inr le ↦
-        let none : n - length (take n text) ≡ 0 = omega (arith, length-take n text) in
-        ap (take m) (filled_front_is n text ∙ ap (λ (k : ℕ). take n text ++ replicate k 0) none ∙ append-nil (take n text))
-        ∙ take_all m (take n text) (omega (arith, short n text))
+          let none : n - length (take n text) ≡ 0 = omega (arith, length-take n text) in
+          ap (take m) (filled_front_is n text ∙ ap (λ (k : ℕ). take n text ++ replicate k 0) none ∙ append-nil (take n text))
+          ∙ take_all m (take n text) (omega (arith, short n text))
     ]
 
 pub drop-filled : (n m : ℕ) (text : List ℕ) → length text ≡ m → drop m (filled n (take n text)) ≡ replicate (n - m) 0
 drop-filled n m text len =
     elim (cases_lt m n) [
       | inl lt ↦
-        let all : take n text ≡ text = take_all n text (omega arith) in
-        let front : length (take n text) ≡ m = ap length all ∙ len in
-        ap (drop m) (filled_front_is n text) ∙ drop_at (take n text) (replicate (n - length (take n text)) 0) m front
-        ∙ ap (λ (k : ℕ). replicate (n - k) 0) front
+          let all : take n text ≡ text = take_all n text (omega arith) in
+          let front : length (take n text) ≡ m = ap length all ∙ len in
+          ap (drop m) (filled_front_is n text) ∙ drop_at (take n text) (replicate (n - length (take n text)) 0) m front
+          ∙ ap (λ (k : ℕ). replicate (n - k) 0) front
       | inr le ↦
-        let few : length (filled n (take n text)) ≤ m = omega (arith, length-take n (take n text ++ replicate n 0)) in
-        let none : 0 ≡ n - m = omega arith in
-        drop_all m (filled n (take n text)) few ∙ ap (λ (k : ℕ). replicate k 0) none
+          let few : length (filled n (take n text)) ≤ m = omega (arith, length-take n (take n text ++ replicate n 0)) in
+          let none : 0 ≡ n - m = omega arith in
+          drop_all m (filled n (take n text)) few ∙ ap (λ (k : ℕ). replicate k 0) none
     ]
 
 pub is_zeros-filled : (n m : ℕ) (text : List ℕ) → length text ≡ m → is_zeros (drop m (filled n (take n text))) ≡ true
@@ -59,18 +59,18 @@ pub filled_back : (n m : ℕ) (content further : List ℕ) → length content �
 filled_back n m content further len zeros all =
     elim (cases_lt m n) [
       | inl lt ↦
-        let front : length (take m content) ≡ m = omega (arith, length-take m content) in
-        let none : further ≡ [] = nil_from_length further (omega arith) in
-        let text : take n (take m content ++ further) ≡ take m content =
-            ap (λ (l : List ℕ). take n (take m content ++ l)) none ∙ ap (take n) (append-nil (take m content)) ∙ take_all n (take m content) (omega arith) in
-        let behind : drop m content ≡ replicate (n - length (take m content)) 0 =
-            zeros_only (drop m content) zeros ∙ ap (λ (k : ℕ). replicate k 0) (omega (arith, length-drop m content)) in
-        sym (take-append-drop m content)
-        ∙ ap (λ (l : List ℕ). take m content ++ l) behind
-        ∙ sym (filled_is n (take m content) (omega arith))
-        ∙ sym (ap (filled n) text)
+          let front : length (take m content) ≡ m = omega (arith, length-take m content) in
+          let none : further ≡ [] = nil_from_length further (omega arith) in
+          let text : take n (take m content ++ further) ≡ take m content =
+          ap (λ (l : List ℕ). take n (take m content ++ l)) none ∙ ap (take n) (append-nil (take m content)) ∙ take_all n (take m content) (omega arith) in
+          let behind : drop m content ≡ replicate (n - length (take m content)) 0 =
+          zeros_only (drop m content) zeros ∙ ap (λ (k : ℕ). replicate k 0) (omega (arith, length-drop m content)) in
+          sym (take-append-drop m content)
+          ∙ ap (λ (l : List ℕ). take m content ++ l) behind
+          ∙ sym (filled_is n (take m content) (omega arith))
+          ∙ sym (ap (filled n) text)
       | inr le ↦
-        let whole : take m content ≡ content = take_all m content (omega arith) in
-        let text : take n (take m content ++ further) ≡ content = ap (λ (l : List ℕ). take n (l ++ further)) whole ∙ take_at content further n len in
-        sym (take_at content (replicate n 0) n len) ∙ sym (ap (filled n) text)
+          let whole : take m content ≡ content = take_all m content (omega arith) in
+          let text : take n (take m content ++ further) ≡ content = ap (λ (l : List ℕ). take n (l ++ further)) whole ∙ take_at content further n len in
+          sym (take_at content (replicate n 0) n len) ∙ sym (ap (filled n) text)
     ]

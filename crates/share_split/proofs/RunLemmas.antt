@@ -30,8 +30,8 @@ pub drop-parted : (n : ℕ) (part text : List ℕ) → length part ≤ n → (le
 drop-parted n part text few last =
     elim (cases_lt (length part) n) [
       | inl short ↦
-        let none : text ≡ [] = nil_from_length text (last short) in
-        ap (λ (l : List ℕ). drop n (part ++ l)) none ∙ ap (drop n) (append-nil part) ∙ drop_all n part few ∙ sym none
+          let none : text ≡ [] = nil_from_length text (last short) in
+          ap (λ (l : List ℕ). drop n (part ++ l)) none ∙ ap (drop n) (append-nil part) ∙ drop_all n part few ∙ sym none
       | inr full ↦ drop_at part text n (omega arith)
     ]
 

@@ -61,7 +61,7 @@ pub first_taken : (r i : ℕ) (name : Namespace) (size : ℕ) (text : List ℕ) 
     → begun_by r i share ≡ seq i name size (take (478 - r) text)
 first_taken r i name size text share len first =
     let content : take (size_in share) (content_in r share) ≡ take (478 - r) text =
-        ap₂ (λ (m : ℕ) (l : List ℕ). take m l) first.size_is first.content_is ∙ take-filled (478 - r) size text len in
+    ap₂ (λ (m : ℕ) (l : List ℕ). take m l) first.size_is first.content_is ∙ take-filled (478 - r) size text len in
     ap₂ (λ (n : Namespace) (m : ℕ). seq i n m (take (size_in share) (content_in r share))) first.name_is first.size_is ∙ ap (seq i name size) content
 
 pub later_passes : (r i : ℕ) (s : Sequence) (text : List ℕ) (share : Share) → length text ≡ missing s → IsLater r s.name text share → later_refusal r i s share ≡ None
@@ -147,7 +147,7 @@ pub record IsExtended (r : ℕ) (s : Sequence) (share : Share) : Type 0 where
 pub later_told : (r i : ℕ) (s : Sequence) (share : Share) → IsShare share → later_refusal r i s share ≡ None → IsExtended r s share
 later_told r i s share whole e =
     let p = four_passed (eqb (version_in share) 0) (bytes_eq (name_in share).0 s.name.0) (is_start share) (is_filled r (missing s) share)
-        (BadVersion i) (MixedNamespace i) (Short s.first) (NonZeroFill i) e in
+    (BadVersion i) (MixedNamespace i) (Short s.first) (NonZeroFill i) e in
     let len = length-later r share whole p.2 in
     record {
       later = λ further all. record {

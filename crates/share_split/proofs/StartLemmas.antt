@@ -55,8 +55,8 @@ start-past place low from to [] le = ap (first_start place from to) (past-nil lo
 start-past place low from to (start ∷ starts) le =
     elim (cases_lt start low) [
       | inl lt ↦
-        ap (first_start place from to) (past-before low start starts lt) ∙ start-past place low from to starts le
-        ∙ sym (start-before place from to start starts (omega arith))
+          ap (first_start place from to) (past-before low start starts lt) ∙ start-past place low from to starts le
+          ∙ sym (start-before place from to start starts (omega arith))
       | inr behind ↦ ap (first_start place from to) (past-behind low start starts behind)
     ]
 
@@ -66,10 +66,10 @@ head-past place from to [] = ap (head_start place from to) (past-nil from) ∙ s
 head-past place from to (start ∷ starts) =
     elim (cases_lt start from) [
       | inl lt ↦
-        ap (head_start place from to) (past-before from start starts lt) ∙ head-past place from to starts
-        ∙ sym (start-before place from to start starts lt)
+          ap (head_start place from to) (past-before from start starts lt) ∙ head-past place from to starts
+          ∙ sym (start-before place from to start starts lt)
       | inr behind ↦
-        ap (head_start place from to) (past-behind from start starts behind) ∙ sym (start-behind place from to start starts behind)
+          ap (head_start place from to) (past-behind from start starts behind) ∙ sym (start-behind place from to start starts behind)
     ]
 
 -- it lies in the share
@@ -80,13 +80,13 @@ first_start-le place from to (start ∷ starts) =
       | inl lt ↦ omega (arith, start-before place from to start starts lt, first_start-le place from to starts)
       | inr behind ↦ elim (cases_lt start to) [
         | inl inside ↦
-          let is : first_start place from to (start ∷ starts) ≡ place + (start - from) =
-              start-behind place from to start starts behind ∙ ap (λ (b : Bool). cond b (place + (start - from)) 0) (lt-ltb start to inside) in
-          omega arith
+            let is : first_start place from to (start ∷ starts) ≡ place + (start - from) =
+            start-behind place from to start starts behind ∙ ap (λ (b : Bool). cond b (place + (start - from)) 0) (lt-ltb start to inside) in
+            omega arith
         | inr past ↦
-          let is : first_start place from to (start ∷ starts) ≡ 0 =
-              start-behind place from to start starts behind ∙ ap (λ (b : Bool). cond b (place + (start - from)) 0) (le-ltb start to past) in
-          omega arith
+            let is : first_start place from to (start ∷ starts) ≡ 0 =
+            start-behind place from to start starts behind ∙ ap (λ (b : Bool). cond b (place + (start - from)) 0) (le-ltb start to past) in
+            omega arith
       ]
     ]
 
@@ -158,7 +158,7 @@ pub reserved_more : (i next stated should : ℕ) (starts left : List ℕ) (share
 reserved_more i next stated should starts left shares none whole lt next_is left_is stated_is should_is same before =
     let rest : List Share = drop (i + 1) shares in
     let number : reserved_in (get_or shares i none) ≡ reserved_of i starts =
-        sym stated_is ∙ same ∙ should_is ∙ ap (λ (k : ℕ). head_start (content_place i) (content_start i) (content_start k) left) next_is ∙ number_here i starts left left_is in
+    sym stated_is ∙ same ∙ should_is ∙ ap (λ (k : ℕ). head_start (content_place i) (content_start i) (content_start k) left) next_is ∙ number_here i starts left left_is in
     ap₂ (λ (k : ℕ) (l : List ℕ). bad_reserved k l rest) next_is left_is
     ∙ bad_reserved-past (content_start i) (suc i) starts rest (content_start-next i)
     ∙ reserved_here i starts shares none true whole lt (eq-eqb _ _ number) before
@@ -170,7 +170,7 @@ pub reserved_stop : (i next stated should : ℕ) (starts left : List ℕ) (share
     → Some i ≡ whole
 reserved_stop i next stated should starts left shares none whole lt next_is left_is stated_is should_is differ before =
     let number : should ≡ reserved_of i starts =
-        should_is ∙ ap (λ (k : ℕ). head_start (content_place i) (content_start i) (content_start k) left) next_is ∙ number_here i starts left left_is in
+    should_is ∙ ap (λ (k : ℕ). head_start (content_place i) (content_start i) (content_start k) left) next_is ∙ number_here i starts left left_is in
     reserved_here i starts shares none false whole lt (ne_eqb _ _ (λ e. differ (stated_is ∙ e ∙ sym number))) before
 
 pub reserved_end : (i : ℕ) (starts : List ℕ) (shares : List Share) (whole : Option ℕ) → length shares ≤ i → bad_reserved i starts (drop i shares) ≡ whole → None ≡ whole

@@ -82,10 +82,10 @@ unit_back text unit size fits e =
     let rest_parts : r.rest ≡ unit ++ drop r.count r.rest = sym (take-append-drop r.count r.rest) ∙ ap (λ (l : List ℕ). l ++ drop r.count r.rest) r.unit_is in
     let after : List ℕ = drop r.count r.rest in
     let parts : text ≡ unit_text unit ++ after =
-        spelled ∙ ap₂ (λ (n : ℕ) (l : List ℕ). varint n ++ l) (sym count_is) rest_parts ∙ sym (append_assoc (varint (length unit)) unit after) in
+    spelled ∙ ap₂ (λ (n : ℕ) (l : List ℕ). varint n ++ l) (sym count_is) rest_parts ∙ sym (append_assoc (varint (length unit)) unit after) in
     let rest_fits : AreBytes r.rest = subst (λ (l : List ℕ). AreBytes l) (ap (drop (length (varint r.count))) spelled ∙ drop_at (varint r.count) r.rest (length (varint r.count)) refl) (AreBytes-drop (length (varint r.count)) text fits) in
     let size_is : size ≡ length (unit_text unit) =
-        omega (arith, r.size_is, r.within, r.shorter, ap length parts, length-append (unit_text unit) after, length-drop r.count r.rest) in
+    omega (arith, r.size_is, r.within, r.shorter, ap length parts, length-append (unit_text unit) after, length-drop r.count r.rest) in
     record {
       size_is = size_is;
       parts = parts ∙ ap (λ (l : List ℕ). unit_text unit ++ l) (sym (ap (drop size) parts ∙ drop_at (unit_text unit) after size (sym size_is)));
@@ -102,7 +102,7 @@ unit_again unit rest few =
     let read : varint_in 5 text ≡ Some (n, unit ++ rest) = ap (varint_in 5) nested ∙ varint_again 5 10 n (unit ++ rest) (omega arith) (omega arith) (omega arith) in
     let within : (ltb n (2 ^ 32) && leb n (length (unit ++ rest))) ≡ true = both_true _ _ (lt-ltb _ _ few) (le-leb _ _ (omega (arith, length-append unit rest))) in
     let size : length text - length (unit ++ rest) + n ≡ length (unit_text unit) =
-        omega (arith, length-append (unit_text unit) rest, length-append (varint n) unit, length-append unit rest) in
+    omega (arith, length-append (unit_text unit) rest, length-append (varint n) unit, length-append unit rest) in
     ap (unit_of (length text)) read
     ∙ ap (λ (b : Bool). cond b (Some (take n (unit ++ rest), length text - length (unit ++ rest) + n)) None) within
     ∙ ap₂ (λ (l : List ℕ) (k : ℕ). Some (l, k)) (take_at unit rest n refl) size

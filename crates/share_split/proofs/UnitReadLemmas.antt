@@ -42,7 +42,7 @@ run_read i s text (share ∷ shares) all later =
     let t : Sequence = seq s.first s.name s.size (s.content ++ part) in
     let still : is_complete s ≡ false = grind (arith, nat_tests) in
     let passes : unit_refusal i (Some s) share ≡ None =
-        ap (λ (b : Bool). cond b (Some (surplus_refusal i share)) (later_refusal 4 i s share)) still ∙ later_passes 4 i s text share left later.1 in
+    ap (λ (b : Bool). cond b (Some (surplus_refusal i share)) (later_refusal 4 i s share)) still ∙ later_passes 4 i s text share left later.1 in
     let front : length part + length rest ≡ length text = omega (arith, length-take 478 text, length-drop 478 text) in
     on i (Some s) share shares t passes (later_taken 4 s text share left later.1)
     ∙ run_read (suc i) t rest shares (omega (arith, length-append s.content part, front)) later.2

@@ -128,11 +128,11 @@ compact_told share shares units answer wholes e read =
     let behind : drop 474 text ≡ r.text = drop-parted 474 part r.text b.few (λ (h : length part < 474). omega (arith, b.full h, r.all)) in
     let later : AreLater 4 name (drop 474 text) shares = subst (λ (l : List ℕ). AreLater 4 name l shares) (sym behind) r.later in
     let count : div_ceil (length (drop 474 text)) 478 ≡ compact_count (length text) - 1 =
-        ap (λ (n : ℕ). div_ceil n 478) (length-drop 474 text) ∙ sym (later_compact_count (length text)) in
+    ap (λ (n : ℕ). div_ceil n 478) (length-drop 474 text) ∙ sym (later_compact_count (length text)) in
     let parts : share ∷ shares ≡ sequence_of_text name starts text =
-        ap₂ (λ (s : Share) (l : List Share). s ∷ l) (is_first_compact name (length text) (reserved_of 0 starts) text share wholes.0 (first, g.0))
-        (later_compact_only name 1 starts (drop 474 text) shares wholes.1 later g.1
-        ∙ ap (λ (n : ℕ). later_compact_shares n name 1 starts (drop 474 text)) count) in
+    ap₂ (λ (s : Share) (l : List Share). s ∷ l) (is_first_compact name (length text) (reserved_of 0 starts) text share wholes.0 (first, g.0))
+    (later_compact_only name 1 starts (drop 474 text) shares wholes.1 later g.1
+    ∙ ap (λ (n : ℕ). later_compact_shares n name 1 starts (drop 474 text)) count) in
     record {
       name = name;
       name_is = name_in-is share wholes.0;

@@ -76,16 +76,16 @@ varint_back (suc more) zero (byte ∷ bytes) n rest le fits e = absurd (omega ar
 varint_back (suc more) (suc k) (byte ∷ bytes) n rest le fits e =
     elim (cases_lt byte 128) [
       | inl lt ↦
-        let same = some_pair_parts byte n bytes rest (sym (in-small more byte bytes lt) ∙ e) in
-        ap₂ (λ (b : ℕ) (l : List ℕ). b ∷ l) same.0 same.1
-        ∙ sym (ap (λ (l : List ℕ). l ++ rest) (within-small k n (omega (arith, same.0))))
+          let same = some_pair_parts byte n bytes rest (sym (in-small more byte bytes lt) ∙ e) in
+          ap₂ (λ (b : ℕ) (l : List ℕ). b ∷ l) same.0 same.1
+          ∙ sym (ap (λ (l : List ℕ). l ++ rest) (within-small k n (omega (arith, same.0))))
       | inr large ↦
-        let byte_fits : byte < 256 = fits 0 in
-        let h = above_some (byte - 128) n rest (varint_in more bytes) (sym (in-large more byte bytes large) ∙ e) in
-        let low : n % 128 + 128 ≡ byte = omega (arith, h.sum_is) in
-        let high : n / 128 ≡ h.high = omega (arith, h.sum_is) in
-        ap (λ (l : List ℕ). byte ∷ l) (varint_back more k bytes h.high rest (omega arith) (λ i. fits (suc i)) h.read)
-        ∙ sym (ap (λ (l : List ℕ). l ++ rest) (within-large k n (omega (arith, h.sum_is, h.some)) ∙ ap₂ (λ (b m : ℕ). b ∷ varint_within k m) low high))
+          let byte_fits : byte < 256 = fits 0 in
+          let h = above_some (byte - 128) n rest (varint_in more bytes) (sym (in-large more byte bytes large) ∙ e) in
+          let low : n % 128 + 128 ≡ byte = omega (arith, h.sum_is) in
+          let high : n / 128 ≡ h.high = omega (arith, h.sum_is) in
+          ap (λ (l : List ℕ). byte ∷ l) (varint_back more k bytes h.high rest (omega arith) (λ i. fits (suc i)) h.read)
+          ∙ sym (ap (λ (l : List ℕ). l ++ rest) (within-large k n (omega (arith, h.sum_is, h.some)) ∙ ap₂ (λ (b m : ℕ). b ∷ varint_within k m) low high))
     ]
 
 -- a number above 0 takes a byte
@@ -100,14 +100,14 @@ varint_again (suc more) (suc k) n rest some le lt =
     elim (cases_lt n 128) [
       | inl small ↦ ap (λ (l : List ℕ). varint_in (suc more) (l ++ rest)) (within-small k n small) ∙ in-small more n rest small
       | inr large ↦
-        let below : n < 128 ^ more * 128 = omega (arith, pow-suc 128 more) in
-        let high : n / 128 < 128 ^ more = div_below n 128 (128 ^ more) (omega arith) below in
-        let sum_is : n % 128 + 128 - 128 + 128 * (n / 128) ≡ n = omega arith in
-        ap (λ (l : List ℕ). varint_in (suc more) (l ++ rest)) (within-large k n large)
-        ∙ in-large more (n % 128 + 128) (varint_within k (n / 128) ++ rest) (omega arith)
-        ∙ ap (above_low (n % 128 + 128 - 128)) (varint_again more k (n / 128) rest (has_more more (n / 128) (omega arith) high) (omega arith) high)
-        ∙ above_again (n % 128 + 128 - 128) (n / 128) rest (omega arith)
-        ∙ ap (λ (m : ℕ). Some (m, rest)) sum_is
+          let below : n < 128 ^ more * 128 = omega (arith, pow-suc 128 more) in
+          let high : n / 128 < 128 ^ more = div_below n 128 (128 ^ more) (omega arith) below in
+          let sum_is : n % 128 + 128 - 128 + 128 * (n / 128) ≡ n = omega arith in
+          ap (λ (l : List ℕ). varint_in (suc more) (l ++ rest)) (within-large k n large)
+          ∙ in-large more (n % 128 + 128) (varint_within k (n / 128) ++ rest) (omega arith)
+          ∙ ap (above_low (n % 128 + 128 - 128)) (varint_again more k (n / 128) rest (has_more more (n / 128) (omega arith) high) (omega arith) high)
+          ∙ above_again (n % 128 + 128 - 128) (n / 128) rest (omega arith)
+          ∙ ap (λ (m : ℕ). Some (m, rest)) sum_is
     ]
 
 -- what is left behind a number is shorter
@@ -117,11 +117,11 @@ varint_shorter (suc more) [] n rest e = let none = in-empty more in absurd cc
 varint_shorter (suc more) (byte ∷ bytes) n rest e =
     elim (cases_lt byte 128) [
       | inl lt ↦
-        let same = some_pair_parts byte n bytes rest (sym (in-small more byte bytes lt) ∙ e) in
-        omega (arith, ap length same.1)
+          let same = some_pair_parts byte n bytes rest (sym (in-small more byte bytes lt) ∙ e) in
+          omega (arith, ap length same.1)
       | inr large ↦
-        let h = above_some (byte - 128) n rest (varint_in more bytes) (sym (in-large more byte bytes large) ∙ e) in
-        omega (arith, varint_shorter more bytes h.high rest h.read)
+          let h = above_some (byte - 128) n rest (varint_in more bytes) (sym (in-large more byte bytes large) ∙ e) in
+          omega (arith, varint_shorter more bytes h.high rest h.read)
     ]
 
 -- ---- how great a number of so many bytes is

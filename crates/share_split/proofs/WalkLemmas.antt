@@ -64,10 +64,10 @@ blobs_more i shares none so_far left sequence blobs after whole lt passed taken 
     let next : Option Sequence → Blobs = λ o. blobs_from (suc i) o rest in
     let on : Sequence → Blobs = λ s. cond (is_complete s) (with_blob s (next None)) (next (Some s)) in
     let here : blobs_from i so_far (drop i shares) ≡ on sequence =
-        ap (blobs_from i so_far) (drop_more shares i none lt)
-        ∙ blobs_from-cons i so_far share rest
-        ∙ ap (λ (o : Option JoinError). option_map_or Err o (blobs_on i so_far share rest)) passed
-        ∙ sym (ap on taken) in
+    ap (blobs_from i so_far) (drop_more shares i none lt)
+    ∙ blobs_from-cons i so_far share rest
+    ∙ ap (λ (o : Option JoinError). option_map_or Err o (blobs_on i so_far share rest)) passed
+    ∙ sym (ap on taken) in
     let e : i + 1 ≡ suc i = omega arith in
     ap₂ (λ (l : List NamedBytes) (o : Option Sequence). behind_blobs l (blobs_from (i + 1) o rest)) after_is left_is
     ∙ ap (λ (k : ℕ). behind_blobs (blobs ++ blobs_after sequence) (blobs_from k (open_after sequence) rest)) e

@@ -159,3 +159,6 @@ pub fn join_laws()
     ensures units { (shares : List AShare) (units : List (List ℕ)) → AreShares shares →
         (units_of shares ≡ Ok units) ↔ AreUnits shares units }
 {}
+
+#[cfg(test)]
+mod tests;

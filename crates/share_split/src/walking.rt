@@ -150,7 +150,12 @@ impl Model for Open {
 }
 
 /// Appends the content of a share to that of its sequence, at most so many bytes.
-fn put_content(bytes: &mut Vec<u8>, share: &Share, reserved: usize, most: usize) -> Result<(), AllocError>
+fn put_content(
+    bytes: &mut Vec<u8>,
+    share: &Share,
+    reserved: usize,
+    most: usize,
+) -> Result<(), AllocError>
     requires { reserved ≤ 4 }
     ensures { OnOk result (bytes.new.items ≡ bytes.old.items ++ take most (content_in reserved share.now)) }
 {
