@@ -1,5 +1,5 @@
 -- Shares that are blobs and padding are read as these blobs.
-use Rattle.std.proofs.Common.{◌≡◌, ◌∙◌, ℕ, zero, suc, ◌+◌, ◌-◌, ◌<◌, ◌≤◌, ◌^◌, inl, inr, Bool, true, false, cond, eqb, leb, le-leb, List, [], ◌∷◌, ◌++◌, length, take, drop, Option, Some, None, Result, Ok, Err, refl, sym, ap, ap₂, subst, arith, length-take, length-drop, length-append, append_assoc, take-append-drop, take_all, append-nil}
+use Rattle.std.proofs.Common.{◌≡◌, ◌∙◌, ℕ, suc, ◌+◌, ◌-◌, ◌<◌, ◌≤◌, inl, inr, Bool, true, false, cond, eqb, le-leb, List, [], ◌∷◌, ◌++◌, length, take, drop, Option, Some, None, Ok, Err, refl, sym, ap, ap₂, arith, length-take, length-drop, length-append, append_assoc, take-append-drop, take_all}
 use Rattle.std.specs.Int.{div_ceil}
 use Rattle.std.specs.List.{flat_map, AllByRecursion}
 use Rattle.std.specs.Option.{option_map_or}
@@ -10,7 +10,7 @@ use Rattle.namespace_id.specs.declared.namespaces.Namespace.{Namespace}
 use Rattle.namespace_id.specs.declared.shares.Share.{Share}
 use Rattle.share_split.specs.declared.joining.JoinError.{JoinError}
 use Rattle.share_split.specs.Blobs.{NamedBytes, max_sequence_length, first_share, later_shares, share_count, blob_shares_of}
-use Rattle.share_split.specs.Walks.{Sequence, missing, is_complete, with_blob, blob_refusal, taken_by, blobs_from, blobs_of}
+use Rattle.share_split.specs.Walks.{Sequence, missing, is_complete, with_blob, blob_refusal, taken_by, blobs_from}
 use Rattle.share_split.specs.Joined.{Piece, piece_shares, piece_blobs, IsPiece, padding_share}
 use Rattle.share_split.specs.Joined.Piece.{padding, blob}
 use Rattle.share_split.proofs.FieldLemmas.{first_share_is_first}

@@ -1,8 +1,7 @@
 -- Shares that are read as blobs are these blobs and padding.
-use Rattle.std.proofs.Common.{◌≡◌, ◌≢◌, ◌∙◌, ℕ, zero, suc, ◌+◌, ◌-◌, ◌<◌, ◌≤◌, ◌^◌, inl, inr, ⊎_elim, Bool, true, false, cond, eqb, leb, leb-true, leb-false, eqb-true, false-eqb, List, [], ◌∷◌, ◌++◌, length, take, drop, Option, Some, None, Result, Ok, Err, refl, sym, ap, ap₂, subst, arith, length-take, length-drop, length-append, append_assoc, append-nil}
+use Rattle.std.proofs.Common.{◌≡◌, ◌≢◌, ◌∙◌, ℕ, suc, ◌+◌, ◌<◌, ◌≤◌, Bool, true, false, cond, eqb, leb-true, leb-false, eqb-true, false-eqb, List, [], ◌∷◌, ◌++◌, length, take, drop, Option, Some, None, Ok, Err, refl, sym, ap, ap₂, subst, arith, length-drop, length-append, append_assoc, append-nil}
 use Rattle.std.specs.Bool.{⊤}
 use Rattle.std.specs.Int.{div_ceil}
-use Rattle.std.specs.List.{flat_map, AllByRecursion}
 use Rattle.std.specs.Option.{option_map_or}
 use Rattle.std.proofs.lemmas.Bool.Decides.{nat_tests}
 use Rattle.std.proofs.lemmas.List.{nil_from_length}
@@ -13,13 +12,12 @@ use Rattle.namespace_id.specs.declared.namespaces.Namespace.{Namespace}
 use Rattle.namespace_id.specs.declared.shares.Share.{Share}
 use Rattle.namespace_id.proofs.StringLemmas.{AreBytes-append}
 use Rattle.share_split.specs.declared.joining.JoinError.{JoinError}
-use Rattle.share_split.specs.declared.joining.JoinError.TheVariants.{Short}
 use Rattle.share_split.specs.Blobs.{NamedBytes, max_sequence_length, first_share, later_shares, blob_shares_of}
-use Rattle.share_split.specs.Walks.{name_in, size_in, Sequence, missing, is_complete, begun_by, extended_by, first_refusal, later_refusal, with_blob, blob_refusal, taken_by, blobs_from}
+use Rattle.share_split.specs.Walks.{name_in, size_in, Sequence, missing, is_complete, begun_by, extended_by, first_refusal, later_refusal, with_blob, blobs_from}
 use Rattle.share_split.specs.Joined.{Piece, piece_shares, piece_blobs, IsPiece, IsBlob, AreBlobs, padding_share}
 use Rattle.share_split.specs.Joined.Piece.{padding, blob}
 use Rattle.share_split.proofs.FieldLemmas.{IsFirst, IsLater, is_first_share}
-use Rattle.share_split.proofs.SequenceLemmas.{seq, first_told, later_told, first_part, later_part, IsBegun, IsExtended, name_in-is, size_in-small, part-fits}
+use Rattle.share_split.proofs.SequenceLemmas.{first_told, later_told, first_part, later_part, name_in-is, size_in-small, part-fits}
 use Rattle.share_split.proofs.RunLemmas.{AreLater, drop-parted, later_only, later_count}
 use Rattle.share_split.proofs.WalkLemmas.{Blobs, blobs_on, blobs_from-cons, blobs_from-nil, blobs_from-open}
 use Rattle.share_split.proofs.BlobReadLemmas.{padding_is, taken_on}

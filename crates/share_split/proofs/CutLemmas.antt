@@ -1,14 +1,13 @@
 -- The fields of a share as parts of its bytes.
-use Rattle.std.proofs.Common.{◌≡◌, ◌∙◌, ℕ, ◌+◌, ◌/◌, ◌%◌, ◌<◌, ◌^◌, Bool, true, false, cond, eqb, eqb-true, false-eqb, List, [], ◌∷◌, ◌++◌, length, take, drop, get_or, slice_index, sym, ap, ap₂, refl, arith, take-append-drop, append_assoc}
+use Rattle.std.proofs.Common.{◌≡◌, ◌∙◌, ℕ, ◌+◌, ◌/◌, ◌%◌, ◌<◌, Bool, true, false, cond, eqb, eqb-true, List, ◌∷◌, ◌++◌, length, take, drop, slice_index, sym, ap, refl, arith, take-append-drop}
 use Rattle.std.proofs.lemmas.List.{take_at, drop_at, get_or_at, drop-drop, drop_more, length-drop, length-take}
 use Rattle.std.proofs.lemmas.Nat.{be_bytes_4}
 use Rattle.std.proofs.lemmas.Bool.Decides.{nat_tests}
 use Rattle.std.specs.Int.{w32, to_be_bytes, from_be_bytes}
 use Rattle.namespace_id.specs.Bytes.{AreBytes}
-use Rattle.namespace_id.specs.Shares.{IsShare}
 use Rattle.namespace_id.specs.declared.shares.Share.{Share}
 use Rattle.namespace_id.proofs.StringLemmas.{AreBytes-take, AreBytes-drop}
-use Rattle.share_split.specs.Walks.{version_in, is_start, size_in, fields_in}
+use Rattle.share_split.specs.Walks.{version_in, is_start, fields_in}
 
 -- ---- what is read of a share that was written
 

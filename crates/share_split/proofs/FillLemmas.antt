@@ -1,6 +1,6 @@
 -- Content that is filled with zeros, and what is read of it.
-use Rattle.std.proofs.Common.{◌≡◌, ◌∙◌, ℕ, zero, suc, ◌+◌, ◌-◌, ◌<◌, ◌≤◌, Bool, true, false, ◌&&◌, List, [], ◌∷◌, ◌++◌, length, take, drop, replicate, inl, inr, sym, ap, ap₂, refl, arith, eqb, eqb-true, take_all, length-take, length-append, append-nil, take-append-drop}
-use Rattle.std.proofs.lemmas.List.{length-drop, length-replicate, take_at, drop_at, drop_all, nil_from_length}
+use Rattle.std.proofs.Common.{◌≡◌, ◌∙◌, ℕ, zero, suc, ◌+◌, ◌-◌, ◌≤◌, true, List, [], ◌∷◌, ◌++◌, length, take, drop, replicate, inl, inr, sym, ap, ap₂, refl, arith, eqb, eqb-true, take_all, length-take, append-nil, take-append-drop}
+use Rattle.std.proofs.lemmas.List.{length-drop, take_at, drop_at, drop_all, nil_from_length}
 use Rattle.std.proofs.lemmas.Bool.{cases_lt, and_parts}
 use Rattle.namespace_id.specs.Names.{is_zeros}
 use Rattle.share_split.specs.Blobs.{filled}

@@ -1,7 +1,6 @@
 -- Shares are read as blobs, or as units, just where they are their shares.
-use Rattle.std.proofs.Common.{◌≡◌, ◌∙◌, ◌↔◌, ◌⊎◌, ℕ, inl, inr, List, [], Option, None, Some, Result, Ok, Err, refl, sym, ap}
+use Rattle.std.proofs.Common.{◌≡◌, ◌∙◌, ◌↔◌, ℕ, inl, inr, List, [], Option, None, Some, Result, Ok, Err, sym, ap}
 use Rattle.std.specs.Option.{option_map_or}
-use Rattle.std.specs.List.{flat_map}
 use Rattle.namespace_id.specs.Shares.{AreShares}
 use Rattle.namespace_id.specs.declared.shares.Share.{Share}
 use Rattle.share_split.specs.Blobs.{NamedBytes}
@@ -9,7 +8,7 @@ use Rattle.share_split.specs.Walks.{blobs_from, blobs_of, Sequence, sequence_fro
 use Rattle.share_split.specs.declared.joining.JoinError.TheVariants.{BadReserved}
 use Rattle.share_split.specs.Units.{starts_from}
 use Rattle.share_split.specs.Steps.{units_placed}
-use Rattle.share_split.specs.Joined.{AreBlobs, AreUnits, AreCompact, piece_shares, piece_blobs}
+use Rattle.share_split.specs.Joined.{AreBlobs, AreUnits}
 use Rattle.share_split.proofs.WalkLemmas.{sequence_from-none}
 use Rattle.share_split.proofs.BlobReadLemmas.{pieces_read}
 use Rattle.share_split.proofs.BlobToldLemmas.{blobs_told}

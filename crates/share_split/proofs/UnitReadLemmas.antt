@@ -1,5 +1,5 @@
 -- The compact sequence of units is read as these units.
-use Rattle.std.proofs.Common.{◌≡◌, ◌∙◌, ℕ, zero, suc, ◌+◌, ◌-◌, ◌<◌, ◌≤◌, ◌^◌, Bool, true, false, cond, eqb, leb, le-leb, eq-eqb, List, [], ◌∷◌, ◌++◌, length, take, drop, Option, Some, None, Result, Ok, Err, refl, sym, ap, ap₂, arith, length-take, length-drop, length-append, append_assoc, take-append-drop, append-nil}
+use Rattle.std.proofs.Common.{◌≡◌, ◌∙◌, ℕ, suc, ◌+◌, ◌-◌, ◌<◌, ◌≤◌, Bool, false, cond, le-leb, eq-eqb, List, [], ◌∷◌, ◌++◌, length, take, drop, Option, Some, None, Ok, Err, refl, sym, ap, arith, length-take, length-drop, length-append, append_assoc, take-append-drop, append-nil}
 use Rattle.std.specs.Int.{div_ceil}
 use Rattle.std.specs.Option.{option_map_or}
 use Rattle.std.proofs.lemmas.Bool.Decides.{nat_tests}
@@ -17,7 +17,7 @@ use Rattle.share_split.proofs.SequenceLemmas.{seq, first_passes, first_taken, la
 use Rattle.share_split.proofs.RunLemmas.{AreLater, later_compact_are, later_compact_count, later_compact_good}
 use Rattle.share_split.proofs.StartLemmas.{bad_reserved-cons, reserved_of-small}
 use Rattle.share_split.proofs.TextLemmas.{units_again}
-use Rattle.share_split.proofs.WalkLemmas.{One, sequence_from-cons, sequence_from-whole}
+use Rattle.share_split.proofs.WalkLemmas.{sequence_from-cons, sequence_from-whole}
 
 -- a share whose checks pass
 on : (i : ℕ) (so_far : Option Sequence) (share : Share) (shares : List Share) (t : Sequence) → unit_refusal i so_far share ≡ None → taken_by 4 i so_far share ≡ t

@@ -1,19 +1,18 @@
 -- Shares that are read as units are their compact sequence.
-use Rattle.std.proofs.Common.{◌≡◌, ◌∙◌, ◌⊎◌, ℕ, zero, suc, ◌+◌, ◌-◌, ◌<◌, ◌≤◌, ◌^◌, inl, inr, Bool, true, false, cond, leb, leb-true, leb-false, List, [], ◌∷◌, ◌++◌, length, take, drop, Option, Some, None, Result, Ok, Err, refl, sym, ap, ap₂, subst, arith, length-drop, length-append, append_assoc, append-nil}
+use Rattle.std.proofs.Common.{◌≡◌, ◌∙◌, ℕ, suc, ◌+◌, ◌-◌, ◌<◌, ◌≤◌, inl, inr, Bool, true, false, cond, leb-true, leb-false, List, [], ◌∷◌, ◌++◌, length, take, drop, Option, Some, None, Result, Ok, Err, refl, sym, ap, ap₂, subst, arith, length-drop, length-append, append_assoc, append-nil}
 use Rattle.std.specs.Int.{div_ceil}
-use Rattle.std.specs.List.{AllByRecursion}
 use Rattle.std.specs.Option.{option_map_or}
 use Rattle.namespace_id.specs.Bytes.{AreBytes}
-use Rattle.namespace_id.specs.Shares.{IsShare, AreShares}
+use Rattle.namespace_id.specs.Shares.{AreShares}
 use Rattle.namespace_id.specs.declared.namespaces.Namespace.{Namespace}
 use Rattle.namespace_id.specs.declared.shares.Share.{Share}
 use Rattle.namespace_id.proofs.StringLemmas.{AreBytes-append}
 use Rattle.share_split.specs.declared.joining.JoinError.{JoinError}
-use Rattle.share_split.specs.declared.joining.JoinError.TheVariants.{Short, BadVarint, BadReserved}
-use Rattle.share_split.specs.Units.{units_text, starts_from, reserved_of, first_compact_share, later_compact_shares, compact_count, compact_shares}
-use Rattle.share_split.specs.Walks.{name_in, size_in, Sequence, missing, is_complete, begun_by, extended_by, first_refusal, later_refusal, surplus_refusal, unit_refusal, taken_by, sequence_from, units_from, bad_reserved, reserved_units, units_in, units_of}
+use Rattle.share_split.specs.declared.joining.JoinError.TheVariants.{BadReserved}
+use Rattle.share_split.specs.Units.{starts_from, reserved_of, first_compact_share, later_compact_shares, compact_count}
+use Rattle.share_split.specs.Walks.{name_in, size_in, Sequence, missing, is_complete, begun_by, extended_by, later_refusal, surplus_refusal, unit_refusal, sequence_from, units_from, bad_reserved, reserved_units, units_in, units_of}
 use Rattle.share_split.specs.Joined.{AreCompact, AreUnits}
-use Rattle.share_split.proofs.FieldLemmas.{IsFirst, IsLater, is_first_compact}
+use Rattle.share_split.proofs.FieldLemmas.{IsFirst, is_first_compact}
 use Rattle.share_split.proofs.SequenceLemmas.{seq, first_told, later_told, first_part, later_part, name_in-is, size_in-small, part-fits}
 use Rattle.share_split.proofs.RunLemmas.{AreLater, drop-parted, good_cons, later_compact_only, later_compact_count}
 use Rattle.share_split.proofs.TextLemmas.{units_back}

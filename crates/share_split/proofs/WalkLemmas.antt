@@ -1,12 +1,12 @@
 -- Walking over the shares of blobs, and of units, one share at a time.
-use Rattle.std.proofs.Common.{◌≡◌, ◌∙◌, ◌⊎◌, inl, inr, ⊎_elim, ℕ, suc, ◌+◌, ◌<◌, ◌≤◌, Bool, true, false, cond, not, ◌&&◌, eqb, List, [], ◌∷◌, ◌++◌, length, drop, get_or, Option, Some, None, Result, Ok, Err, refl, sym, ap, ap₂, arith, append_assoc, append-nil}
+use Rattle.std.proofs.Common.{◌≡◌, ◌∙◌, ◌⊎◌, inl, inr, ℕ, suc, ◌+◌, ◌<◌, ◌≤◌, Bool, true, false, cond, not, ◌&&◌, eqb, List, [], ◌∷◌, ◌++◌, length, drop, get_or, Option, Some, None, Result, Ok, Err, refl, sym, ap, ap₂, arith, append_assoc, append-nil}
 use Rattle.std.specs.Option.{option_map_or}
 use Rattle.std.proofs.lemmas.List.{drop_more, drop_all}
 use Rattle.namespace_id.specs.declared.shares.Share.{Share}
 use Rattle.share_split.specs.declared.joining.JoinError.{JoinError}
 use Rattle.share_split.specs.declared.joining.JoinError.TheVariants.{Short, NoMemory}
 use Rattle.share_split.specs.Blobs.{NamedBytes}
-use Rattle.share_split.specs.Walks.{Sequence, is_complete, with_blob, blob_refusal, taken_by, blobs_from, blobs_of, unit_refusal, sequence_from}
+use Rattle.share_split.specs.Walks.{Sequence, is_complete, with_blob, blob_refusal, taken_by, blobs_from, unit_refusal, sequence_from}
 use Rattle.share_split.specs.Steps.{open_after, blobs_after, behind_blobs}
 
 abbrev pub Blobs : Type 0

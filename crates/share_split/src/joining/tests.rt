@@ -1,8 +1,9 @@
 //! Shares that are read back, and shares that are refused, by docs/RULES.md, "Reading shares".
 
+ghost use Rattle.std.specs.Prelude.{◌<◌};
+
 use crate::{JoinError, blob_shares, join_blobs, join_units};
 use namespace_id::{Namespace, Share, TRANSACTION};
-use std::alloc::Global;
 use std::test::Fail;
 
 /// A namespace of a blob.
@@ -13,35 +14,36 @@ fn name(low: u8) -> Namespace {
     Namespace(bytes)
 }
 
-/// The two shares of a blob of 479 bytes.
-fn blob(alloc: Global) -> Result<Vec<Share>, Fail> {
-    let mut shares = Vec::new(alloc);
-    blob_shares(&name(1), &[7; 479], &mut shares)?;
-    Ok(shares)
-}
-
-/// The first share of a compact sequence of so many bytes.
-fn compact(size: u16, text: &[u8]) -> Share {
-    let mut share = Share([0; 512]);
-    share.0[..29].copy_from_slice(&TRANSACTION.0);
-    share.0[29] = 1;
-    share.0[32..34].copy_from_slice(&size.to_be_bytes());
-    share.0[37] = if size == 0 { 0 } else { 38 };
-    share.0[38..38 + text.len()].copy_from_slice(text);
+/// A share with another byte at this place.
+fn changed(share: &Share, at: usize, byte: u8) -> Share
+    requires { at < 512 }
+{
+    let mut share = *share;
+    share.0[at] = byte;
     share
 }
 
-/// The two shares of units of 472 and 10 bytes: the second unit begins the second share.
-fn units(alloc: Global) -> Result<Vec<Share>, Fail> {
-    let mut first = compact(485, &[5; 474]);
-    first.0[38] = 0xd8;
-    first.0[39] = 3;
+/// The first share of a compact sequence of length 0.
+fn no_units() -> Share {
+    let mut share = Share([0; 512]);
+    share.0[..29].copy_from_slice(&TRANSACTION.0);
+    share.0[29] = 1;
+    share
+}
+
+/// The shares of units of 472 and 10 bytes: the second unit begins the second share.
+fn units() -> [Share; 2] {
+    let mut first = no_units();
+    first.0[32..34].copy_from_slice(&485u16.to_be_bytes());
+    first.0[37] = 38;
+    first.0[38..40].copy_from_slice(&[0xd8, 3]);
+    first.0[40..].copy_from_slice(&[5; 472]);
     let mut second = Share([0; 512]);
     second.0[..29].copy_from_slice(&TRANSACTION.0);
     second.0[33] = 34;
     second.0[34] = 10;
     second.0[35..45].copy_from_slice(&[6; 10]);
-    Ok(Vec::from_slice(alloc, &[first, second])?)
+    [first, second]
 }
 
 #[test]
@@ -49,9 +51,7 @@ fn blobs_of_shares(rt: HostRuntime) -> Result<(), Fail> {
     let alloc = rt.alloc();
     let mut shares = Vec::new(alloc);
     blob_shares(&name(1), &[7; 478], &mut shares)?;
-    let mut padding = compact(0, &[]);
-    padding.0[28] = 2;
-    shares.push(padding)?;
+    shares.push(no_units())?;
     blob_shares(&name(3), &[7; 479], &mut shares)?;
     let blobs = join_blobs(alloc, &shares)?;
     let [first, second] = blobs.as_slice() else {
@@ -68,53 +68,45 @@ fn blobs_of_shares(rt: HostRuntime) -> Result<(), Fail> {
 #[test]
 fn shares_that_are_no_blobs(rt: HostRuntime) -> Result<(), Fail> {
     let alloc = rt.alloc();
-    let shares = blob(alloc)?;
+    let mut shares = Vec::new(alloc);
+    blob_shares(&name(1), &[7; 479], &mut shares)?;
+    let [first, second] = shares.as_slice() else {
+        panic!(rt; "{} shares", shares.len());
+    };
     assert_eq!(rt;
-        join_blobs(alloc, &shares[1..]).err(),
+        join_blobs(alloc, &[*second]).err(),
         Some(JoinError::NoStart(0))
     );
     assert_eq!(rt;
-        join_blobs(alloc, &shares[..1]).err(),
+        join_blobs(alloc, &[*first]).err(),
         Some(JoinError::Short(0))
     );
+    let version = changed(first, 29, 3);
+    assert_eq!(rt;
+        join_blobs(alloc, &[version]).err(),
+        Some(JoinError::BadVersion(0))
+    );
     let cases = [
-        ("version of the first", 0, 29, 3, JoinError::BadVersion(0)),
-        ("no start", 0, 29, 0, JoinError::NoStart(0)),
-        ("version of the second", 1, 29, 4, JoinError::BadVersion(1)),
+        ("version", 29, 4, JoinError::BadVersion(1)),
         (
             "first byte of the namespace",
-            1,
             0,
             1,
             JoinError::MixedNamespace(1),
         ),
         (
             "last byte of the namespace",
-            1,
             28,
             2,
             JoinError::MixedNamespace(1),
         ),
-        ("another start", 1, 29, 1, JoinError::Short(0)),
-        (
-            "first byte of the fill",
-            1,
-            31,
-            1,
-            JoinError::NonZeroFill(1),
-        ),
-        (
-            "last byte of the fill",
-            1,
-            511,
-            1,
-            JoinError::NonZeroFill(1),
-        ),
+        ("another start", 29, 1, JoinError::Short(0)),
+        ("first byte of the fill", 31, 1, JoinError::NonZeroFill(1)),
+        ("last byte of the fill", 511, 1, JoinError::NonZeroFill(1)),
     ];
-    for (name, share, at, byte, want) in cases {
-        let mut changed = blob(alloc)?;
-        changed[share].0[at] = byte;
-        assert_eq!(rt; join_blobs(alloc, &changed).err(), Some(want), "{name}");
+    for (name, at, byte, want) in cases {
+        let two = [*first, changed(second, at, byte)];
+        assert_eq!(rt; join_blobs(alloc, &two).err(), Some(want), "{name}");
     }
     Ok(())
 }
@@ -122,61 +114,57 @@ fn shares_that_are_no_blobs(rt: HostRuntime) -> Result<(), Fail> {
 #[test]
 fn units_of_shares(rt: HostRuntime) -> Result<(), Fail> {
     let alloc = rt.alloc();
-    let read = join_units(alloc, &units(alloc)?)?;
+    let read = join_units(alloc, &units())?;
     let [first, second] = read.as_slice() else {
         panic!(rt; "{} units", read.len());
     };
     assert_eq!(rt; first.bytes.as_slice(), [5; 472].as_slice());
     assert_eq!(rt; second.bytes.as_slice(), [6; 10].as_slice());
     assert_eq!(rt; join_units(alloc, &[])?.len(), 0);
-    assert_eq!(rt; join_units(alloc, &[compact(0, &[])])?.len(), 0);
+    assert_eq!(rt; join_units(alloc, &[no_units()])?.len(), 0);
     Ok(())
 }
 
 #[test]
-fn shares_that_are_no_units(rt: HostRuntime) -> Result<(), Fail> {
+fn shares_that_are_no_units(rt: HostRuntime) {
     let alloc = rt.alloc();
-    let longer = [compact(2, &[0x80, 0])];
-    assert_eq!(rt;
-        join_units(alloc, &longer).err(),
-        Some(JoinError::BadVarint(0))
-    );
-    let two = [compact(0, &[]), compact(0, &[])];
-    assert_eq!(rt; join_units(alloc, &two).err(), Some(JoinError::NoStart(1)));
+    let [first, second] = units();
+    let mut longer = no_units();
+    longer.0[33] = 2;
+    longer.0[37] = 38;
+    longer.0[38] = 0x80;
     let cases = [
         (
+            "a share after the sequence",
+            [no_units(), no_units()],
+            JoinError::NoStart(1),
+        ),
+        (
             "reserved bytes of the first",
-            0,
-            37,
-            39,
+            [changed(&first, 37, 39), second],
             JoinError::BadReserved(0),
         ),
         (
             "reserved bytes of the second",
-            1,
-            33,
-            35,
+            [first, changed(&second, 33, 35)],
             JoinError::BadReserved(1),
         ),
         (
-            "a unit that runs past the sequence",
-            1,
-            34,
-            11,
+            "a unit past the sequence",
+            [first, changed(&second, 34, 11)],
             JoinError::BadVarint(1),
         ),
         (
             "a byte after the units",
-            1,
-            45,
-            1,
+            [first, changed(&second, 45, 1)],
             JoinError::NonZeroFill(1),
         ),
     ];
-    for (name, share, at, byte, want) in cases {
-        let mut changed = units(alloc)?;
-        changed[share].0[at] = byte;
-        assert_eq!(rt; join_units(alloc, &changed).err(), Some(want), "{name}");
+    for (name, two, want) in cases {
+        assert_eq!(rt; join_units(alloc, &two).err(), Some(want), "{name}");
     }
-    Ok(())
+    assert_eq!(rt;
+        join_units(alloc, &[longer]).err(),
+        Some(JoinError::BadVarint(0))
+    );
 }

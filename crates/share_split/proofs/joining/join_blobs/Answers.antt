@@ -1,5 +1,5 @@
 use Rattle.std.proofs.lemmas.Result.{err_from_is_err_and}
-use Rattle.std.proofs.Common.{◌∙◌, ◌≡◌, sym, ap, Err, inr}
+use Rattle.std.proofs.Common.{◌∙◌, sym, ap, Err, inr}
 use Rattle.share_split.specs.declared.joining.JoinError.TheVariants.{Short}
 use Rattle.share_split.specs.Walks.{Sequence}
 use Rattle.share_split.proofs.WalkLemmas.{blobs_more, blobs_stop, blobs_end, blobs_cut}

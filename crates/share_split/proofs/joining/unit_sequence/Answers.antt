@@ -1,5 +1,5 @@
 use Rattle.std.proofs.lemmas.Result.{err_from_is_err_and}
-use Rattle.std.proofs.Common.{◌∙◌, ◌≡◌, sym, ap, Some, inr, Bool, cond, Ok, Err}
+use Rattle.std.proofs.Common.{◌∙◌, sym, ap, inr, Err}
 use Rattle.share_split.specs.Walks.{Sequence}
 use Rattle.share_split.proofs.WalkLemmas.{sequence_more, sequence_stop, sequence_end, sequence_from-none, sequence_from-whole, sequence_from-open}
 use Rattle.share_split.specs.declared.joining.JoinError.TheVariants.{Short}

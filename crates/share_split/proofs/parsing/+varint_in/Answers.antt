@@ -1,4 +1,4 @@
-use Rattle.std.proofs.Common.{arith, ◌-◌, ◌<◌, ◌^◌, ℕ}
+use Rattle.std.proofs.Common.{arith, ◌-◌}
 use Rattle.share_split.proofs.VarintLemmas.{pow_least, pow_next, pow_few}
 use Rattle.share_split.proofs.parsing.+varint_in.Goals as goal
 

@@ -1,5 +1,4 @@
-use Rattle.std.proofs.Common.{◌∙◌, ◌≡◌, ◌≢◌, sym, ap, arith, ◌+◌, ℕ}
-use Rattle.share_split.specs.Units.{content_start}
+use Rattle.std.proofs.Common.{◌∙◌, ap, arith, ◌+◌, ℕ}
 use Rattle.share_split.specs.Steps.{starts_past}
 use Rattle.share_split.proofs.StartLemmas.{reserved_more, reserved_stop, reserved_end}
 use Rattle.share_split.proofs.parsing.bad_reserved.Goals as goal

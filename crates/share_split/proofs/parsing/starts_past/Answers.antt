@@ -1,5 +1,4 @@
 use Rattle.std.proofs.Common.{◌∙◌, arith}
-use Rattle.std.proofs.lemmas.List.{get_or_read}
 use Rattle.share_split.proofs.StartLemmas.{past_more, past_stop, past_end}
 use Rattle.share_split.proofs.parsing.starts_past.Goals.{then-loop-before-test+else-starts-before, else-loop-before-test}
 use Rattle.share_split.proofs.parsing.starts_past.Goals as goal

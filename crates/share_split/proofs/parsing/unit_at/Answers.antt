@@ -1,4 +1,4 @@
-use Rattle.std.proofs.Common.{◌≡◌, ◌∙◌, ◌<◌, length, length-drop, ap, sym, arith}
+use Rattle.std.proofs.Common.{arith}
 use Rattle.share_split.proofs.VarintLemmas.{varint_shorter}
 use Rattle.share_split.proofs.TextLemmas.{unit_read}
 use Rattle.share_split.proofs.parsing.unit_at.Goals as goal

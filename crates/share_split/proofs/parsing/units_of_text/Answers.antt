@@ -1,4 +1,4 @@
-use Rattle.std.proofs.Common.{◌∙◌, ◌<◌, ◌≡◌, ◌≤◌, ℕ, List, [], length, drop, length-drop, ap, sym, arith, inr, append-nil, Ok, ◌++◌, ◌+◌, Some}
+use Rattle.std.proofs.Common.{◌∙◌, ◌<◌, ◌≡◌, ℕ, List, [], length, drop, length-drop, ap, sym, arith, inr, ◌+◌, Some}
 use Rattle.share_split.specs.Walks.{unit_at}
 use Rattle.std.proofs.lemmas.List.{drop-drop}
 use Rattle.namespace_id.proofs.StringLemmas.{AreBytes-drop}
