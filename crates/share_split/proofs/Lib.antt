@@ -7,3 +7,17 @@ pub mod CompactShareLemmas
 pub mod LaterCompactLemmas
 pub mod VarintLawLemmas
 pub mod UnitLawLemmas
+pub mod FillLemmas
+pub mod CutLemmas
+pub mod FieldLemmas
+pub mod WalkLemmas
+pub mod VarintReadLemmas
+pub mod TextLemmas
+pub mod ReservedLemmas
+pub mod SequenceLemmas
+pub mod RunLemmas
+pub mod BlobReadLemmas
+pub mod BlobToldLemmas
+pub mod UnitReadLemmas
+pub mod UnitToldLemmas
+pub mod JoinLawLemmas

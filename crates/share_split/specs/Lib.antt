@@ -5,3 +5,4 @@ pub mod Walks
 pub mod Joined
 pub mod Texts
 pub mod UnitLaws
+pub mod Steps

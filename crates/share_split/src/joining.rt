@@ -1,5 +1,19 @@
 //! Reading shares back as blobs and as units.
 
+ghost use Rattle.std.specs.Prelude.{◌≡◌, ◌↔◌, ◌++◌, List, ℕ, Ok, IfOk, IfErr, OnOk};
+ghost use Rattle.namespace_id.specs.declared.shares.Share.{Share as AShare};
+ghost use Rattle.namespace_id.specs.Shares.{AreShares};
+ghost use Rattle.share_split.specs.declared.joining.JoinError.TheVariants.{NoMemory};
+ghost use Rattle.share_split.specs.Blobs.{NamedBytes};
+ghost use Rattle.share_split.specs.Walks.{Joins, blobs_of, units_of, sequence_from};
+ghost use Rattle.share_split.specs.Joined.{AreBlobs, AreUnits};
+ghost use Rattle.share_split.specs.Steps.{open_after, blobs_after};
+
+use crate::parsing::{bad_reserved, units_of_text};
+use crate::walking::{Open, with_blob_share, with_unit_share};
+use crate::{Blob, Unit};
+use namespace_id::{Share, are_shares};
+use std::alloc::{AllocError, Global};
 use thiserror::Error;
 
 /// Why shares are not blobs, or not units. Each but the last has the number of a share.
@@ -32,3 +46,119 @@ pub enum JoinError {
     #[error("out of memory")]
     NoMemory,
 }
+
+impl From<AllocError> for JoinError {
+    ghost from_gives = { λ _ e. e ≡ NoMemory };
+
+    fn from(_error: AllocError) -> JoinError {
+        JoinError::NoMemory
+    }
+}
+
+/// What is left of a sequence. One that is complete is a blob, which is appended, or padding.
+fn closed(sequence: Open, blobs: &mut Vec<Blob>) -> Result<Option<Open>, JoinError>
+    ensures left { IfOk result (λ left. left ≡ open_after sequence) }
+    ensures appended { OnOk result (blobs.new.items ≡ blobs.old.items ++ blobs_after sequence) }
+    ensures full { IfErr result (λ e. e ≡ NoMemory) }
+{
+    if !sequence.is_complete() {
+        return Ok(Some(sequence));
+    }
+    if sequence.size == 0 {
+        return Ok(None);
+    }
+    let blob = Blob {
+        namespace: sequence.namespace,
+        bytes: sequence.bytes,
+    };
+    if blobs.push(blob).is_err() {
+        return Err(JoinError::NoMemory);
+    }
+    Ok(None)
+}
+
+/// The blobs that shares are, in their order. A share that begins a sequence of length 0 is padding,
+/// and is passed over.
+///
+/// Refuses, at the first share with one of these faults, in this order: a version that isn't 0
+/// (`BadVersion`); in a sequence another namespace than its first share's (`MixedNamespace`), then the
+/// start of another sequence (`Short`, with the first share of the one that is cut short); where no
+/// sequence is open a share that begins none (`NoStart`); a byte behind the content that isn't 0
+/// (`NonZeroFill`). Then shares that end in an open sequence (`Short`). Want of memory may come in place
+/// of any answer; it is taken as the content comes, and not for a length that a share promises.
+///
+/// Celestia specifications, "Shares"; docs/RULES.md, "Reading shares".
+pub fn join_blobs(alloc: Global, shares: &[Share]) -> Result<Vec<Blob>, JoinError>
+    ensures read { Joins (λ blobs. blobs.items) result (blobs_of shares.now) }
+    ensures blobs { IfOk result (λ blobs. AreBlobs shares.now blobs.items) }
+{
+    are_shares(shares);
+    let mut blobs = Vec::new(alloc);
+    let mut open = None;
+    for i in 0..shares.len() {
+        let sequence = with_blob_share(alloc, open, &shares[i], i as u64)?;
+        open = closed(sequence, &mut blobs)?;
+    }
+    match open {
+        None => Ok(blobs),
+        Some(open) => Err(JoinError::Short(open.first)),
+    }
+}
+
+/// The one sequence that compact shares are; none for no shares.
+fn unit_sequence(alloc: Global, shares: &[Share]) -> Result<Option<Open>, JoinError>
+    ensures { Joins (λ sequence. sequence) result (sequence_from 0 None shares.now) }
+{
+    let mut open = None;
+    for i in 0..shares.len() {
+        open = Some(with_unit_share(alloc, open, &shares[i], i as u64)?);
+    }
+    match open {
+        None => Ok(None),
+        Some(open) => {
+            if !open.is_complete() {
+                return Err(JoinError::Short(open.first));
+            }
+            Ok(Some(open))
+        }
+    }
+}
+
+/// The units that compact shares are, in their order; none for no shares, and for a sequence of length
+/// 0.
+///
+/// Refuses, at the first share with one of these faults, in this order: a version that isn't 0
+/// (`BadVersion`); in a sequence that isn't complete another namespace than its first share's
+/// (`MixedNamespace`), then the start of another sequence (`Short`, with the first share); where none is
+/// open a share that begins none, or any share after the one sequence (`NoStart`); a byte behind the
+/// content that isn't 0 (`NonZeroFill`). Then shares that end in an open sequence (`Short`). Then a length
+/// of a unit that is no shortest varint below 2^32, or that runs past the sequence with its unit
+/// (`BadVarint`, with the share in which it begins). Then reserved bytes that don't state where the first
+/// unit starts in their share (`BadReserved`). Want of memory may come in place of any answer.
+///
+/// Celestia specifications, "Shares", transaction shares; docs/RULES.md, "Reading shares".
+pub fn join_units(alloc: Global, shares: &[Share]) -> Result<Vec<Unit>, JoinError>
+    ensures read { Joins (λ units. units.items) result (units_of shares.now) }
+    ensures units { IfOk result (λ units. AreUnits shares.now units.items) }
+{
+    are_shares(shares);
+    let Some(sequence) = unit_sequence(alloc, shares)? else {
+        return Ok(Vec::new(alloc));
+    };
+    let placed = units_of_text(alloc, sequence.bytes.as_slice())?;
+    match bad_reserved(shares, placed.starts.as_slice()) {
+        Some(i) => Err(JoinError::BadReserved(i)),
+        None => Ok(placed.units),
+    }
+}
+
+/// Shares are read as blobs, or as units, just where they are their shares.
+pub fn join_laws()
+    ensures blobs { (shares : List AShare) (blobs : List NamedBytes) → AreShares shares →
+        (blobs_of shares ≡ Ok blobs) ↔ AreBlobs shares blobs }
+    ensures units { (shares : List AShare) (units : List (List ℕ)) → AreShares shares →
+        (units_of shares ≡ Ok units) ↔ AreUnits shares units }
+{}
+
+#[cfg(test)]
+mod tests;

@@ -1,5 +1,6 @@
-//! Blobs as shares: how many shares a blob takes, the shares themselves, and how wide the subtrees
-//! are over them.
+//! Blobs and units as shares, and shares read back as blobs and units: how many shares they take, the
+//! shares themselves, what a list of shares is or the first check that fails, and how wide the subtrees
+//! are over the shares of a blob.
 //!
 //! Shares have version 0. The length of a sequence stands in its first share alone, and zeros fill
 //! the last one up. Units, as transactions, stand one after another in compact shares, each behind its
@@ -9,16 +10,18 @@
 mod blobs;
 mod compact;
 mod joining;
+mod parsing;
 mod texts;
 mod units;
 mod varints;
+mod walking;
 mod widths;
 
 pub use blobs::{
     Blob, FIRST_CONTENT, LATER_CONTENT, MAX_SEQUENCE_LENGTH, SHARE_SIZE, SplitError,
     blob_share_count, blob_shares,
 };
-pub use joining::JoinError;
+pub use joining::{JoinError, join_blobs, join_laws, join_units};
 pub use units::{
     FIRST_COMPACT_CONTENT, LATER_COMPACT_CONTENT, Unit, unit_laws, unit_share_count, unit_shares,
 };

@@ -1,0 +1,66 @@
+-- The fields of a share as parts of its bytes.
+use Rattle.std.proofs.Common.{◌≡◌, ◌∙◌, ℕ, ◌+◌, ◌/◌, ◌%◌, ◌<◌, Bool, true, false, cond, eqb, eqb-true, List, ◌∷◌, ◌++◌, length, take, drop, slice_index, sym, ap, refl, arith, take-append-drop}
+use Rattle.std.proofs.lemmas.List.{take_at, drop_at, get_or_at, drop-drop, drop_more, length-drop, length-take}
+use Rattle.std.proofs.lemmas.Nat.{be_bytes_4}
+use Rattle.std.proofs.lemmas.Bool.Decides.{nat_tests}
+use Rattle.std.specs.Int.{w32, to_be_bytes, from_be_bytes}
+use Rattle.namespace_id.specs.Bytes.{AreBytes}
+use Rattle.namespace_id.specs.declared.shares.Share.{Share}
+use Rattle.namespace_id.proofs.StringLemmas.{AreBytes-take, AreBytes-drop}
+use Rattle.share_split.specs.Walks.{version_in, is_start, fields_in}
+
+-- ---- what is read of a share that was written
+
+-- a namespace, an info byte, and the other bytes
+pub record IsCut (bytes name rest : List ℕ) (byte : ℕ) : Type 0 where
+  pub front : take 29 bytes ≡ name
+  pub byte_is : slice_index bytes 29 ≡ byte
+  pub behind : drop 30 bytes ≡ rest
+
+pub cut : (bytes name rest : List ℕ) (byte : ℕ) → length name ≡ 29 → bytes ≡ name ++ byte ∷ rest → IsCut bytes name rest byte
+cut bytes name rest byte len e = record {
+  front = ap (take 29) e ∙ take_at name (byte ∷ rest) 29 len;
+  byte_is = ap (λ (l : List ℕ). slice_index l 29) e ∙ get_or_at name byte rest 0 29 len;
+  behind = ap (drop 30) e ∙ sym (drop-drop 1 29 (name ++ byte ∷ rest)) ∙ ap (drop 1) (drop_at name (byte ∷ rest) 29 len);
+}
+
+-- four bytes first among these
+pub four : (bytes part rest : List ℕ) → length part ≡ 4 → drop 30 bytes ≡ part ++ rest → (take 4 (drop 30 bytes) ≡ part) × (drop 34 bytes ≡ rest)
+four bytes part rest len e =
+    (ap (take 4) e ∙ take_at part rest 4 len, sym (drop-drop 4 30 bytes) ∙ ap (drop 4) e ∙ drop_at part rest 4 len)
+
+-- ---- the fields of a share are all of it
+
+pub parts : (bytes : List ℕ) → length bytes ≡ 512 → bytes ≡ take 29 bytes ++ slice_index bytes 29 ∷ drop 30 bytes
+parts bytes len =
+    sym (take-append-drop 29 bytes) ∙ ap (λ (l : List ℕ). take 29 bytes ++ l) (drop_more bytes 29 0 (omega arith))
+
+pub fours : (bytes : List ℕ) (at : ℕ) → drop at bytes ≡ take 4 (drop at bytes) ++ drop (at + 4) bytes
+fours bytes at = sym (take-append-drop 4 (drop at bytes)) ∙ ap (λ (l : List ℕ). take 4 (drop at bytes) ++ l) (drop-drop 4 at bytes)
+
+-- four bytes are those of the number that they state
+pub stated : (bytes : List ℕ) (at : ℕ) → at + 4 < length bytes → AreBytes bytes → take 4 (drop at bytes) ≡ to_be_bytes w32 (from_be_bytes w32 (take 4 (drop at bytes)))
+stated bytes at long fits =
+    sym (be_bytes_4 (take 4 (drop at bytes)) _ (omega (arith, length-take 4 (drop at bytes), length-drop at bytes))
+    (AreBytes-take 4 (drop at bytes) (AreBytes-drop at bytes fits)) refl)
+
+-- ---- the info byte
+
+start_byte : (byte : ℕ) → byte / 2 ≡ 0 → eqb (byte % 2) 1 ≡ true → byte ≡ 1
+start_byte byte version start = let odd : byte % 2 ≡ 1 = eqb-true _ _ start in omega arith
+
+later_byte : (byte : ℕ) → byte / 2 ≡ 0 → eqb (byte % 2) 1 ≡ false → byte ≡ 0
+later_byte byte version later = grind (arith, nat_tests)
+
+pub first_byte_is : (share : Share) → version_in share ≡ 0 → is_start share ≡ true → slice_index share.0 29 ≡ 1
+first_byte_is share version start = start_byte (slice_index share.0 29) version start
+
+pub later_byte_is : (share : Share) → version_in share ≡ 0 → is_start share ≡ false → slice_index share.0 29 ≡ 0
+later_byte_is share version later = later_byte (slice_index share.0 29) version later
+
+-- the fields begin behind the length in a first share, and behind the info byte in a later one
+pub fields_first : (share : Share) → is_start share ≡ true → fields_in share ≡ drop 34 share.0
+fields_first share start = ap (λ (b : Bool). drop (cond b 34 30) share.0) start
+
+pub fields_later : (share : Share) → is_start share ≡ false → fields_in share ≡ drop 30 share.0
+fields_later share later = ap (λ (b : Bool). drop (cond b 34 30) share.0) later

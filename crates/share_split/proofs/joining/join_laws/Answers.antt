@@ -1,0 +1,8 @@
+use Rattle.share_split.proofs.JoinLawLemmas.{blobs_law, units_law}
+use Rattle.share_split.proofs.joining.join_laws.Goals as goal
+
+pub returns-clause-blobs : goal.returns-clause-blobs
+returns-clause-blobs c = blobs_law
+
+pub returns-clause-units : goal.returns-clause-units
+returns-clause-units c = units_law

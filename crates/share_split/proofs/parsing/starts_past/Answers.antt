@@ -1,0 +1,19 @@
+use Rattle.std.proofs.Common.{◌∙◌, arith}
+use Rattle.share_split.proofs.ReservedLemmas.{past_more, past_stop, past_end}
+use Rattle.share_split.proofs.parsing.starts_past.Goals.{then-loop-before-test+else-starts-before, else-loop-before-test}
+use Rattle.share_split.proofs.parsing.starts_past.Goals as goal
+
+pub loop-before-preserved : goal.loop-before-preserved
+loop-before-preserved c = record {
+  within = omega arith;
+  rest = past_more c.args.from c.loop-before.before c.args.starts.now c.loop-before-test.true c.if-starts-before.true ∙ c.loop-before.invariant.rest;
+}
+
+pub returns : goal.returns
+returns c =
+    c.split_at.ensures.back
+    ∙ elim c.loop-before-test.branch [
+      | then-loop-before-test+else-starts-before w ↦ past_stop c.args.from c.loop-before.before c.args.starts.now w.loop-before-test.true w.if-starts-before.false
+      | else-loop-before-test w ↦ past_end c.args.from c.loop-before.before c.args.starts.now w.loop-before-test.false
+    ]
+    ∙ c.loop-before.invariant.rest

@@ -1,0 +1,56 @@
+-- What the steps of reading shares back answer.
+use Rattle.std.specs.Prelude.{◌≡◌, ◌⊎◌, ℕ, ◌+◌, ◌-◌, ◌==◌, ◌&&◌, nat_lt, not, List, [], ◌∷◌, ◌++◌, Option, Some, None, Result, Ok, Err, if◌then◌else◌}
+use Rattle.share_split.specs.declared.joining.JoinError.{JoinError}
+use Rattle.share_split.specs.declared.joining.JoinError.TheVariants.{BadVarint, NoMemory}
+use Rattle.share_split.specs.Blobs.{NamedBytes}
+use Rattle.share_split.specs.Walks.{Sequence, is_complete, share_with}
+
+-- a share that was taken into a sequence, unless a check refuses it or memory ran out
+abbrev pub Takes : Result Sequence JoinError → Option JoinError → Sequence → Type 0
+Takes (Ok s) refusal taken = (refusal ≡ None) × (s ≡ taken)
+Takes (Err e) refusal taken = (e ≡ NoMemory) ⊎ (refusal ≡ Some e)
+
+-- what a reader answered, seen by `view`, is what reading gives
+abbrev pub Gives : {X Y : Type 0} → (X → Y) → Option X → Option Y → Type 0
+Gives view None read = read ≡ None
+Gives view (Some x) read = read ≡ Some (view x)
+
+-- ---- blobs
+
+-- what is left of a sequence when it is complete, and the blob that it then is
+abbrev pub open_after : Sequence → Option Sequence
+open_after s = if is_complete s then None else Some s
+
+abbrev pub blobs_after : Sequence → List NamedBytes
+blobs_after s =
+    if is_complete s && not (s.size == 0)
+    then record { namespace = s.name; bytes = s.content } ∷ []
+    else []
+
+-- blobs, and those that follow them
+abbrev pub behind_blobs : List NamedBytes → Result (List NamedBytes) JoinError → Result (List NamedBytes) JoinError
+behind_blobs blobs (Err e) = Err e
+behind_blobs blobs (Ok more) = Ok (blobs ++ more)
+
+-- ---- units
+
+-- units, and those that follow them
+abbrev pub behind_units : List (List ℕ) → Result (List (List ℕ)) ℕ → Result (List (List ℕ)) ℕ
+behind_units units (Err at) = Err at
+behind_units units (Ok more) = Ok (units ++ more)
+
+-- the units of a text, or the share in which the first bad length begins
+abbrev pub units_placed : Result (List (List ℕ)) ℕ → Result (List (List ℕ)) JoinError
+units_placed (Err at) = Err (BadVarint (share_with at))
+units_placed (Ok units) = Ok units
+
+-- the starts that don't lie before a place
+unfoldable pub starts_past : ℕ → List ℕ → List ℕ
+starts_past from [] = []
+starts_past from (start ∷ starts) = if nat_lt start from then starts_past from starts else start ∷ starts
+
+-- the place of the first of these starts in a share whose content has this place and goes from `from` to
+-- `to`
+abbrev pub head_start : ℕ → ℕ → ℕ → List ℕ → ℕ
+head_start place from to [] = 0
+head_start place from to (start ∷ starts) = if nat_lt start to then place + (start - from) else 0

@@ -1,0 +1,162 @@
+//! The text of units: the units in it, and the places where they start.
+
+ghost use Rattle.std.specs.Prelude.{◌≡◌, ◌+◌, ◌<◌, ◌≤◌, ◌*◌, ◌^◌, ◌∷◌, [], ◌++◌, length, Ok, IfOk, IfSome, OnOk};
+ghost use Rattle.share_split.specs.Units.{content_place, content_start, starts_from, reserved_of};
+ghost use Rattle.share_split.specs.Walks.{Joins, varint_in, unit_at, units_from, share_with, bad_reserved};
+ghost use Rattle.share_split.specs.Steps.{Gives, units_placed, starts_past, head_start};
+
+use crate::walking::reserved;
+use crate::{FIRST_COMPACT_CONTENT, JoinError, LATER_COMPACT_CONTENT, SHARE_SIZE, Unit};
+use namespace_id::Share;
+use std::alloc::{AllocError, Global};
+
+/// The bytes of the longest varint of a length below 2^32, at seven bits a byte.
+const LONGEST_VARINT: u8 = 5;
+
+/// The lengths of units have up to 32 bits.
+const MAX_UNIT_LENGTH: u64 = 4_294_967_295;
+
+/// The number that a shortest varint of at most so many bytes states at the front, and the bytes after
+/// it.
+#[tactic(auto, unfolding(crate::specs::Walks::varint_in))]
+fn varint_in(most: u8, bytes: &[u8]) -> Option<(u64, &[u8])>
+    requires { most ≤ 5 }
+    ensures value { Gives (λ x. (x.0, x.1.now)) result (varint_in most bytes.now) }
+    ensures bound { IfSome result (λ x. x.0 < 128 ^ most) }
+{
+    if most == 0 {
+        return None;
+    }
+    let [byte, rest @ ..] = bytes else {
+        return None;
+    };
+    if *byte < 128 {
+        return Some((u64::from(*byte), rest));
+    }
+    let (high, after) = varint_in(most - 1, rest)?;
+    if high == 0 {
+        return None;
+    }
+    Some((u64::from(*byte - 128) + 128 * high, after))
+}
+
+/// The unit at the front, and how many bytes it takes with its length.
+fn unit_at(text: &[u8]) -> Option<(&[u8], usize)>
+    ensures value { Gives (λ x. (x.0.now, x.1)) result (unit_at text.now) }
+    ensures some { IfSome result (λ x. 1 ≤ x.1) }
+    ensures within { IfSome result (λ x. x.1 ≤ length text.now) }
+{
+    let (len, rest) = varint_in(LONGEST_VARINT, text)?;
+    if len > MAX_UNIT_LENGTH || len > rest.len() as u64 {
+        return None;
+    }
+    let (unit, after) = rest.split_at(len as usize);
+    Some((unit, text.len() - after.len()))
+}
+
+/// Which share has the byte at this place of the text.
+fn share_with(at: usize) -> u64
+    ensures { result ≡ share_with at }
+{
+    if at < FIRST_COMPACT_CONTENT {
+        return 0;
+    }
+    (1 + (at - FIRST_COMPACT_CONTENT) / LATER_COMPACT_CONTENT) as u64
+}
+
+/// Units that were read, and where they start in their text.
+#[derive(Drop)]
+pub(crate) struct Placed {
+    pub units: Vec<Unit>,
+    pub starts: Vec<usize>,
+}
+
+impl Placed {
+    /// Appends a unit that starts here.
+    fn put(&mut self, alloc: Global, unit: &[u8], at: usize) -> Result<(), AllocError>
+        ensures units { OnOk result (self.new.units.items ≡ self.old.units.items ++ unit.now ∷ []) }
+        ensures starts { OnOk result (self.new.starts.items ≡ self.old.starts.items ++ at ∷ []) }
+    {
+        let bytes = Vec::from_slice(alloc, unit)?;
+        self.units.push(Unit { bytes })?;
+        self.starts.push(at)?;
+        Ok(())
+    }
+}
+
+/// The units of a text, one after another.
+///
+/// Refuses the first length that is none or whose unit isn't all there (`BadVarint`).
+pub(crate) fn units_of_text(alloc: Global, text: &[u8]) -> Result<Placed, JoinError>
+    ensures units { Joins (λ placed. placed.units.items) result (units_placed (units_from 0 0 text.now)) }
+    ensures starts { IfOk result (λ placed. placed.starts.items ≡ starts_from 0 placed.units.items) }
+{
+    let mut placed = Placed {
+        units: Vec::new(alloc),
+        starts: Vec::new(alloc),
+    };
+    let mut at = 0;
+    while at < text.len() {
+        let Some((unit, size)) = unit_at(text.split_at(at).1) else {
+            return Err(JoinError::BadVarint(share_with(at)));
+        };
+        placed.put(alloc, unit, at)?;
+        at += size;
+    }
+    Ok(placed)
+}
+
+/// The starts that don't lie before a place.
+fn starts_past(starts: &[usize], from: usize) -> &[usize]
+    ensures { result.now ≡ starts_past from starts.now }
+{
+    let mut before = 0;
+    while before < starts.len() && starts[before] < from {
+        before += 1;
+    }
+    starts.split_at(before).1
+}
+
+/// Where the content of share i of a sequence begins in the text.
+fn content_start(i: usize) -> usize
+    requires { i < 2 ^ 55 }
+    ensures { result ≡ content_start i }
+{
+    if i == 0 {
+        return 0;
+    }
+    FIRST_COMPACT_CONTENT + LATER_COMPACT_CONTENT * (i - 1)
+}
+
+/// The number that the reserved bytes of share i should state, where these are the starts that don't
+/// lie before its content.
+fn reserved_for(i: usize, starts: &[usize]) -> usize
+    requires { i < 2 ^ 54 }
+    ensures { result ≡ head_start (content_place i) (content_start i) (content_start (i + 1)) starts.now }
+{
+    let content = if i == 0 {
+        FIRST_COMPACT_CONTENT
+    } else {
+        LATER_COMPACT_CONTENT
+    };
+    match starts {
+        [start, ..] if *start < content_start(i + 1) => {
+            SHARE_SIZE - content + start.saturating_sub(content_start(i))
+        }
+        _ => 0,
+    }
+}
+
+/// The first share whose reserved bytes don't state what they should, for units that start there.
+pub(crate) fn bad_reserved(shares: &[Share], starts: &[usize]) -> Option<u64>
+    ensures { result ≡ bad_reserved 0 starts.now shares.now }
+{
+    let mut left = starts;
+    for i in 0..shares.len() {
+        left = starts_past(left, content_start(i));
+        if reserved(&shares[i]) as usize != reserved_for(i, left) {
+            return Some(i as u64);
+        }
+    }
+    None
+}

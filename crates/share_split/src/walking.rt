@@ -1,0 +1,269 @@
+//! Sequences of shares, read share by share.
+
+ghost use Rattle.std.specs.Prelude.{◌≡◌, ◌≤◌, ◌+◌, ◌++◌, length, take, OnOk};
+ghost use Rattle.std.specs.Int.{w32, from_be_bytes};
+ghost use Rattle.namespace_id.specs.Names.{is_zeros};
+ghost use Rattle.share_split.specs.Walks.{name_in, version_in, is_start, size_in, fields_in, content_in, reserved_in, Sequence, missing, is_complete, begun_by, extended_by, is_filled, first_refusal, later_refusal, surplus_refusal, blob_refusal, taken_by, unit_refusal};
+ghost use Rattle.share_split.specs.Blobs.{later_content};
+ghost use Rattle.share_split.specs.Steps.{Takes};
+
+use crate::blobs::split_within;
+use crate::{FIRST_CONTENT, JoinError, LATER_CONTENT, SHARE_SIZE};
+use namespace_id::{Namespace, Share};
+use std::alloc::{AllocError, Global};
+use std::marker::Model;
+
+/// The bytes of a namespace, which stands first in a share. The info byte stands behind it.
+///
+/// Celestia specifications, "Shares".
+const NAMESPACE_SIZE: usize = 29;
+
+/// The reserved bytes of a compact share, which stand before its content.
+///
+/// Celestia specifications, "Shares", transaction shares.
+const RESERVED_SIZE: usize = 4;
+
+/// The version of a share.
+fn version(share: &Share) -> u8
+    ensures { result ≡ version_in share.now }
+{
+    share.0[NAMESPACE_SIZE] / 2
+}
+
+/// Whether a share is the first one of a sequence.
+fn is_start(share: &Share) -> bool
+    ensures { result ≡ is_start share.now }
+{
+    share.0[NAMESPACE_SIZE] % 2 == 1
+}
+
+/// The namespace of a share.
+fn namespace(share: &Share) -> Namespace
+    ensures { result ≡ name_in share.now }
+{
+    let mut namespace = Namespace([0; NAMESPACE_SIZE]);
+    namespace.0.copy_from_slice(&share.0[..NAMESPACE_SIZE]);
+    namespace
+}
+
+/// The number that the first four bytes state, the highest first.
+fn number(bytes: &[u8]) -> u32
+    requires { 4 ≤ length bytes.now }
+    ensures { result ≡ from_be_bytes w32 (take 4 bytes.now) }
+{
+    u32::from_be_bytes([bytes[0], bytes[1], bytes[2], bytes[3]])
+}
+
+/// The length of the sequence that a share begins.
+fn size(share: &Share) -> u32
+    ensures { result ≡ size_in share.now }
+{
+    number(share.0.split_at(NAMESPACE_SIZE + 1).1)
+}
+
+/// The bytes behind the info byte and, in a first share, the length of the sequence.
+fn fields(share: &Share) -> &[u8]
+    ensures value { result.now ≡ fields_in share.now }
+    ensures some { later_content ≤ length result.now + 4 }
+{
+    if is_start(share) {
+        share.0.split_at(SHARE_SIZE - FIRST_CONTENT).1
+    } else {
+        share.0.split_at(SHARE_SIZE - LATER_CONTENT).1
+    }
+}
+
+/// The number that the reserved bytes of a compact share state.
+pub(crate) fn reserved(share: &Share) -> u32
+    ensures { result ≡ reserved_in share.now }
+{
+    number(fields(share))
+}
+
+/// The content of a share, which stands behind so many reserved bytes.
+fn content(share: &Share, reserved: usize) -> &[u8]
+    requires { reserved ≤ 4 }
+    ensures { result.now ≡ content_in reserved share.now }
+{
+    fields(share).split_at(reserved).1
+}
+
+/// Whether all bytes are 0.
+fn is_zeros(bytes: &[u8]) -> bool
+    ensures { result ≡ is_zeros bytes.now }
+{
+    bytes.iter().all(|byte| *byte == 0)
+}
+
+/// Whether all bytes behind so many bytes of content are 0.
+fn is_filled(share: &Share, reserved: usize, bytes: usize) -> bool
+    requires { reserved ≤ 4 }
+    ensures { result ≡ is_filled reserved bytes share.now }
+{
+    is_zeros(split_within(content(share, reserved), bytes).1)
+}
+
+/// Why share i begins no sequence.
+fn first_refusal(share: &Share, reserved: usize, i: u64) -> Option<JoinError>
+    requires { reserved ≤ 4 }
+    ensures { result ≡ first_refusal reserved i share.now }
+{
+    if version(share) != 0 {
+        return Some(JoinError::BadVersion(i));
+    }
+    if !is_start(share) {
+        return Some(JoinError::NoStart(i));
+    }
+    if !is_filled(share, reserved, size(share) as usize) {
+        return Some(JoinError::NonZeroFill(i));
+    }
+    None
+}
+
+/// Why share i can't stand behind the one sequence of units.
+fn surplus_refusal(share: &Share, i: u64) -> JoinError
+    ensures { result ≡ surplus_refusal i share.now }
+{
+    if version(share) == 0 {
+        JoinError::NoStart(i)
+    } else {
+        JoinError::BadVersion(i)
+    }
+}
+
+/// A sequence as far as its shares were read: the number of its first share, its namespace, its
+/// length, and its content so far.
+#[derive(Drop)]
+pub(crate) struct Open {
+    pub first: u64,
+    pub namespace: Namespace,
+    pub size: u32,
+    pub bytes: Vec<u8>,
+}
+
+impl Model for Open {
+    ghost use Rattle.share_split.specs.Walks.{Sequence};
+
+    ghost Value = { Sequence };
+
+    ghost view = { λ s. record { first = s.first; name = s.namespace; size = s.size; content = s.bytes.items } };
+}
+
+/// Appends the content of a share to that of its sequence, at most so many bytes.
+fn put_content(
+    bytes: &mut Vec<u8>,
+    share: &Share,
+    reserved: usize,
+    most: usize,
+) -> Result<(), AllocError>
+    requires { reserved ≤ 4 }
+    ensures { OnOk result (bytes.new.items ≡ bytes.old.items ++ take most (content_in reserved share.now)) }
+{
+    bytes.extend_from_slice(split_within(content(share, reserved), most).0)
+}
+
+impl Open {
+    ghost use Rattle.share_split.specs.Walks.{missing, is_complete, begun_by, extended_by, first_refusal, later_refusal};
+
+    /// How many bytes of content are still to come.
+    fn missing(&self) -> usize
+        ensures { result ≡ missing self.now }
+    {
+        (self.size as usize).saturating_sub(self.bytes.len())
+    }
+
+    /// Whether all content is there.
+    pub(crate) fn is_complete(&self) -> bool
+        ensures { result ≡ is_complete self.now }
+    {
+        self.size as usize <= self.bytes.len()
+    }
+
+    /// The sequence that share i begins. Memory is taken for the content that is there, and not for
+    /// all that the share promises.
+    fn begun(alloc: Global, share: &Share, reserved: usize, i: u64) -> Result<Open, JoinError>
+        requires { reserved ≤ 4 }
+        ensures { Takes result (first_refusal reserved i share.now) (begun_by reserved i share.now) }
+    {
+        if let Some(refusal) = first_refusal(share, reserved, i) {
+            return Err(refusal);
+        }
+        let mut bytes = Vec::new(alloc);
+        put_content(&mut bytes, share, reserved, size(share) as usize)?;
+        Ok(Open {
+            first: i,
+            namespace: namespace(share),
+            size: size(share),
+            bytes,
+        })
+    }
+
+    /// Why share i doesn't go on with the sequence.
+    fn refusal(&self, share: &Share, reserved: usize, i: u64) -> Option<JoinError>
+        requires { reserved ≤ 4 }
+        ensures { result ≡ later_refusal reserved i self.now share.now }
+    {
+        if version(share) != 0 {
+            return Some(JoinError::BadVersion(i));
+        }
+        if namespace(share) != self.namespace {
+            return Some(JoinError::MixedNamespace(i));
+        }
+        if is_start(share) {
+            return Some(JoinError::Short(self.first));
+        }
+        if !is_filled(share, reserved, self.missing()) {
+            return Some(JoinError::NonZeroFill(i));
+        }
+        None
+    }
+
+    /// The sequence with the content of share i.
+    fn extended(self, share: &Share, reserved: usize, i: u64) -> Result<Open, JoinError>
+        requires { reserved ≤ 4 }
+        ensures { Takes result (later_refusal reserved i self share.now) (extended_by reserved self share.now) }
+    {
+        if let Some(refusal) = self.refusal(share, reserved, i) {
+            return Err(refusal);
+        }
+        let mut open = self;
+        let missing = open.missing();
+        put_content(&mut open.bytes, share, reserved, missing)?;
+        Ok(open)
+    }
+}
+
+/// The sequence of blobs' shares as far as share i, where one may be open before it.
+pub(crate) fn with_blob_share(
+    alloc: Global,
+    so_far: Option<Open>,
+    share: &Share,
+    i: u64,
+) -> Result<Open, JoinError>
+    ensures { Takes result (blob_refusal i so_far share.now) (taken_by 0 i so_far share.now) }
+{
+    match so_far {
+        None => Open::begun(alloc, share, 0, i),
+        Some(open) => open.extended(share, 0, i),
+    }
+}
+
+/// The one sequence of units as far as share i, where it may have begun before.
+pub(crate) fn with_unit_share(
+    alloc: Global,
+    so_far: Option<Open>,
+    share: &Share,
+    i: u64,
+) -> Result<Open, JoinError>
+    ensures { Takes result (unit_refusal i so_far share.now) (taken_by 4 i so_far share.now) }
+{
+    match so_far {
+        None => Open::begun(alloc, share, RESERVED_SIZE, i),
+        Some(open) => {
+            if open.is_complete() {
+                return Err(surplus_refusal(share, i));
+            }
+            open.extended(share, RESERVED_SIZE, i)
+        }
+    }
+}
