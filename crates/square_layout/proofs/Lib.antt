@@ -5,3 +5,6 @@ pub mod PlaceLemmas
 pub mod CountLemmas
 pub mod PutLemmas
 pub mod SizeLemmas
+pub mod LaidLemmas
+pub mod NameLemmas
+pub mod AcceptedLemmas

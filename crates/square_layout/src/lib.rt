@@ -10,4 +10,4 @@ mod putting;
 mod widths;
 
 pub use blocks::{Block, Square};
-pub use laying::{LayError, MAX_SHARES};
+pub use laying::{LayError, MAX_SHARES, lay};
