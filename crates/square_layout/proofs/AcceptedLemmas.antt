@@ -56,7 +56,7 @@ below_tail : (bytes : List ℕ) → length bytes ≡ 29 → slice_index bytes 0 
 below_tail [] n h = absurd (omega (arith, n))
 below_tail (byte ∷ bytes) n h = subst (λ (b : ℕ). is_at_most (record { 0 = b ∷ bytes }) tail_padding ≡ true) (sym h) refl
 
-accepted_between : (blob : NamedBytes) → namespace_refusal blob.namespace.0 ≡ None → IsBetween blob
+pub accepted_between : (blob : NamedBytes) → namespace_refusal blob.namespace.0 ≡ None → IsBetween blob
 accepted_between blob h =
     let p = accepted_parts blob.namespace.0 h in
     let size : length blob.namespace.0 ≡ 29 = grind (arith, nat_tests, p.0) in

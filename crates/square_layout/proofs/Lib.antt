@@ -8,3 +8,5 @@ pub mod SizeLemmas
 pub mod LaidLemmas
 pub mod NameLemmas
 pub mod AcceptedLemmas
+pub mod LawLemmas
+pub mod OrderLawLemmas

@@ -4,10 +4,12 @@
 mod blocks;
 mod checking;
 mod counting;
+mod laws;
 mod laying;
 mod ordering;
 mod putting;
 mod widths;
 
 pub use blocks::{Block, Square};
+pub use laws::{name_laws, order_laws, size_laws, start_laws};
 pub use laying::{LayError, MAX_SHARES, lay};
