@@ -8,6 +8,8 @@ mod laws;
 mod laying;
 mod ordering;
 mod putting;
+#[cfg(test)]
+mod tests;
 mod widths;
 
 pub use blocks::{Block, Square};
