@@ -5,3 +5,8 @@ pub mod PlaceLemmas
 pub mod CountLemmas
 pub mod PutLemmas
 pub mod SizeLemmas
+pub mod LaidLemmas
+pub mod NameLemmas
+pub mod AcceptedLemmas
+pub mod LawLemmas
+pub mod OrderLawLemmas

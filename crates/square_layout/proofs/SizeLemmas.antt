@@ -54,11 +54,11 @@ pub record IsOnTheWay (count k : ℕ) : Type 0 where
   pub last : k * 2 ^ more ≡ 128
   pub value : holding_from more k count ≡ holding_from 7 1 count
 
-holding_from-suc : (more k count : ℕ) → nat_le count (k * k) ≡ false → holding_from (suc more) k count ≡ holding_from more (2 * k) count
+pub holding_from-suc : (more k count : ℕ) → nat_le count (k * k) ≡ false → holding_from (suc more) k count ≡ holding_from more (2 * k) count
 unfolding holding_from
 holding_from-suc more k count h = ap (λ (b : Bool). if b then k else holding_from more (2 * k) count) h
 
-holding_from-found : (more k count : ℕ) → nat_le count (k * k) ≡ true → holding_from more k count ≡ k
+pub holding_from-found : (more k count : ℕ) → nat_le count (k * k) ≡ true → holding_from more k count ≡ k
 unfolding holding_from
 holding_from-found zero k count h = refl
 holding_from-found (suc more) k count h = ap (λ (b : Bool). if b then k else holding_from more (2 * k) count) h

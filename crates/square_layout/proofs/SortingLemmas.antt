@@ -75,7 +75,7 @@ module _ {X : Type 0} {le level : X → X → Bool} (r : Ranks le level) where
     | inr past ↦ rw (put_by-past le x y ys past) (IsAtMostAll-put_by y x ys (other_way x y past) h.0, Rises-put_by x ys h.1)
   ]
 
-  Rises-order_by : (xs : List X) → Rises le (order_by le xs)
+  pub Rises-order_by : (xs : List X) → Rises le (order_by le xs)
   unfolding order_by
   Rises-order_by [] = tt
   Rises-order_by (x ∷ xs) = Rises-put_by x (order_by le xs) (Rises-order_by xs)
@@ -102,7 +102,7 @@ module _ {X : Type 0} {le level : X → X → Bool} (r : Ranks le level) where
         ]
   ]
 
-  filter-order_by : (w : X) (xs : List X) → filter (level w) (order_by le xs) ≡ filter (level w) xs
+  pub filter-order_by : (w : X) (xs : List X) → filter (level w) (order_by le xs) ≡ filter (level w) xs
   unfolding order_by
   filter-order_by w [] = refl
   filter-order_by w (x ∷ xs) = filter-put_by w x (order_by le xs) ∙ ap (λ (l : List X). cond (level w x) (x ∷ l) l) (filter-order_by w xs)

@@ -1,7 +1,8 @@
 -- Where the shares of a block stand in its square (Celestia specifications, "Square Layout").
-use Rattle.std.specs.Prelude.{ℕ, zero, suc, ◌+◌, ◌-◌, ◌*◌, ◌==◌, nat_le, List, [], ◌∷◌, ◌++◌, length, replicate, if◌then◌else◌}
+use Rattle.std.specs.Prelude.{ℕ, zero, suc, ◌+◌, ◌-◌, ◌*◌, ◌==◌, nat_le, Bool, List, [], ◌∷◌, ◌++◌, length, replicate, if◌then◌else◌}
 use Rattle.std.specs.Int.{div_ceil}
 use Rattle.std.specs.Option.{option_map_or}
+use Rattle.std.specs.Str.{bytes_eq}
 use Rattle.namespace_id.specs.declared.namespaces.Namespace.{Namespace}
 use Rattle.namespace_id.specs.declared.shares.Share.{Share}
 use Rattle.namespace_id.specs.Names.{is_at_most, transaction, pay_for_blob, primary_reserved_padding, tail_padding}
@@ -24,6 +25,10 @@ put_in blob (other ∷ others) =
 unfoldable pub in_order : List NamedBytes → List NamedBytes
 in_order [] = []
 in_order (blob ∷ blobs) = put_in blob (in_order blobs)
+
+-- whether a blob has this namespace
+abbrev pub has_name : Namespace → NamedBytes → Bool
+has_name name blob = bytes_eq name.0 blob.namespace.0
 
 -- ---- their places
 

@@ -1,6 +1,25 @@
 //! Laying out a block as a square.
 
-use namespace_id::NsError;
+ghost use Rattle.std.specs.Prelude.{◌≡◌, ◌↔◌, ◌≤◌, ◌*◌, ◌-◌, ◌++◌, ℕ, map, length, replicate, true, IsErrOf, IfOk, OnOk, Some};
+ghost use Rattle.namespace_id.specs.declared.namespaces.NsError.{NsError as NamespaceRefusal};
+ghost use Rattle.namespace_id.specs.Cells.{is_width};
+ghost use Rattle.namespace_id.specs.Lists.{holds_along};
+ghost use Rattle.namespace_id.specs.Names.{is_at_most, tail_padding};
+ghost use Rattle.share_split.specs.Joined.{padding_share};
+ghost use Rattle.share_split.specs.Walks.{name_in};
+ghost use Rattle.square_layout.specs.Blocks.{HaveBytes};
+ghost use Rattle.square_layout.specs.Layout.{in_order, compact_part, laid, needed, square_of};
+ghost use Rattle.square_layout.specs.Refusals.{max_shares, refusal_of, Answers};
+
+use crate::checking::{bad_blob, empty_blob, size_refusal};
+use crate::counting::needed;
+use crate::ordering::blobs_in_order;
+use crate::putting::{put_blobs, put_padding, put_units};
+use crate::widths::{shares_in, width_for};
+use crate::{Block, Square};
+use namespace_id::{NoMemory, NsError, PAY_FOR_BLOB, Share, TAIL_PADDING, TRANSACTION};
+use share_split::Blob;
+use std::alloc::Global;
 use thiserror::Error;
 
 /// The shares of the greatest square: 128 * 128.
@@ -17,7 +36,7 @@ pub enum LayError {
     /// This blob has no bytes.
     #[error("blob {0} has no bytes")]
     EmptyBlob(u64),
-    /// The layout has so many shares, more than `MAX_SHARES`; or at least so many, at 2^64 - 1.
+    /// The layout has so many shares, more than `MAX_SHARES`; 2^64 - 1 stands for any greater number.
     #[error("the layout has {0} shares, more than 16384")]
     TooLarge(u64),
     /// The layout has so many shares, more than a square of the width that is asked for.
@@ -29,4 +48,76 @@ pub enum LayError {
     /// There was no memory.
     #[error("out of memory")]
     NoMemory,
+}
+
+/// Appends the compact shares of a block.
+fn put_compact(alloc: Global, block: &Block, out: &mut Vec<Share>) -> Result<(), NoMemory>
+    requires { needed block.now ≤ max_shares }
+    ensures { OnOk result (out.new.items ≡ out.old.items ++ compact_part block.now) }
+{
+    put_units(alloc, &TRANSACTION, &block.units, out)?;
+    put_units(alloc, &PAY_FOR_BLOB, &block.pay_units, out)
+}
+
+/// The shares of the square of the width `k` of a block whose blobs stand in this order.
+fn shares_of(alloc: Global, block: &Block, order: &[&Blob], k: u16) -> Result<Vec<Share>, NoMemory>
+    requires order { map (λ blob. blob.now) order.now ≡ in_order block.now.blobs }
+    requires some { HaveBytes (map (λ blob. blob.now) order.now) }
+    requires width { is_width k ≡ true }
+    requires fits { needed block.now ≤ k * k }
+    ensures { IfOk result (λ shares. shares.items ≡
+        laid block.now
+        ++ replicate (k * k - length (laid block.now)) (padding_share tail_padding)) }
+{
+    let Ok(mut shares) = Vec::with_capacity(alloc, shares_in(k) as usize) else {
+        return Err(NoMemory);
+    };
+    put_compact(alloc, block, &mut shares)?;
+    put_blobs(order, &mut shares)?;
+    put_padding(&TAIL_PADDING, shares_in(k) as usize, &mut shares)?;
+    Ok(shares)
+}
+
+/// The square of a block: the compact shares of its units, those of its payments for blobs, its blobs by
+/// ascending namespace, each where its subtrees begin, and padding between them and behind. Its width
+/// is the least that holds these, or the one that the block asks for.
+///
+/// Refuses the first blob whose namespace isn't one of a blob (`BadBlob`), then the first that has no
+/// bytes (`EmptyBlob`), whatever memory there is; then more shares than the greatest square has
+/// (`TooLarge`), more than the square of the width that is asked for has (`WidthTooSmall`), and an
+/// asked width that is none (`BadWidth`). Want of memory may stand in place of any of these three and
+/// of the square.
+///
+/// Celestia specifications, "Square Layout".
+pub fn lay(alloc: Global, block: &Block) -> Result<Square, LayError>
+    // The first check that fails: those of blobs whatever memory there is.
+    ensures bad_blob { (i : ℕ) (e : NamespaceRefusal) → IsErrOf result (LayError.BadBlob i e)
+        ↔ (refusal_of block.now ≡ Some (LayError.BadBlob i e)) }
+    ensures empty_blob { (i : ℕ) → IsErrOf result (LayError.EmptyBlob i)
+        ↔ (refusal_of block.now ≡ Some (LayError.EmptyBlob i)) }
+    ensures first { Answers result (refusal_of block.now) }
+
+    // The square.
+    ensures square { IfOk result (λ square. square ≡ square_of block.now) }
+    ensures names { IfOk result (λ square.
+        holds_along is_at_most (map name_in square.shares) ≡ true) }
+{
+    if let Some(refusal) = bad_blob(&block.blobs) {
+        return Err(refusal);
+    }
+    if let Some(refusal) = empty_blob(&block.blobs) {
+        return Err(refusal);
+    }
+    let Ok(order) = blobs_in_order(alloc, &block.blobs) else {
+        return Err(LayError::NoMemory);
+    };
+    let count = needed(block, &order);
+    if let Some(refusal) = size_refusal(block.width, count) {
+        return Err(refusal);
+    }
+    let k = width_for(block.width, count);
+    let Ok(shares) = shares_of(alloc, block, &order, k) else {
+        return Err(LayError::NoMemory);
+    };
+    Ok(Square { k, shares })
 }

@@ -4,10 +4,14 @@
 mod blocks;
 mod checking;
 mod counting;
+mod laws;
 mod laying;
 mod ordering;
 mod putting;
+#[cfg(test)]
+mod tests;
 mod widths;
 
 pub use blocks::{Block, Square};
-pub use laying::{LayError, MAX_SHARES};
+pub use laws::{name_laws, order_laws, size_laws, start_laws};
+pub use laying::{LayError, MAX_SHARES, lay};

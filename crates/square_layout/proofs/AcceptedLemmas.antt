@@ -1,0 +1,107 @@
+-- What is known of the blobs of a block where no check of them fails.
+use Rattle.std.proofs.Common.{◌≡◌, ◌∙◌, ℕ, zero, suc, ◌≤◌, ◌==◌, Bool, true, false, not, ◌&&◌, if◌then◌else◌, List, [], ◌∷◌, length, slice_index, slice_range, Option, Some, None, refl, sym, ap, subst, arith, ⊎_elim}
+use Rattle.std.specs.List.{AllByRecursion}
+use Rattle.std.specs.Option.{option_map_or}
+use Rattle.std.proofs.lemmas.Bool.{true≢false}
+use Rattle.std.proofs.lemmas.Bool.Decides.{nat_tests}
+use Rattle.namespace_id.specs.declared.namespaces.NsError.{NsError}
+use Rattle.namespace_id.specs.declared.namespaces.NsError.TheVariants.{Length, Version, Prefix, Reserved}
+use Rattle.namespace_id.specs.Names.{is_at_most, is_zeros, is_reserved, is_blob_namespace, primary_reserved_padding, tail_padding}
+use Rattle.namespace_id.proofs.OrderLemmas.{at_most_total}
+use Rattle.share_split.specs.Blobs.{NamedBytes}
+use Rattle.square_layout.specs.declared.laying.LayError.{LayError}
+use Rattle.square_layout.specs.declared.laying.LayError.TheVariants.{BadBlob, EmptyBlob}
+use Rattle.square_layout.specs.Blocks.{HaveBytes}
+use Rattle.square_layout.specs.Layout.{in_order}
+use Rattle.square_layout.specs.Refusals.{namespace_refusal, bad_blob, empty_blob}
+use Rattle.square_layout.proofs.NameLemmas.{IsBetween, All-in_order}
+
+-- ---- the namespace of a blob
+
+-- the first of four tests that fails is told, and none where all hold
+none_fails : (a b c d : Bool) →
+    (if not a then Some Length else (if not b then Some Version else (if not c then Some Prefix else (if d then Some Reserved else None)))) ≡ None
+    → (a ≡ true) × (b ≡ true) × (c ≡ true) × (d ≡ false)
+none_fails false b c d h = absurd cc
+none_fails true false c d h = absurd cc
+none_fails true true false d h = absurd cc
+none_fails true true true true h = absurd cc
+none_fails true true true false h = (refl, refl, refl, refl)
+
+accepted_parts : (bytes : List ℕ) → namespace_refusal bytes ≡ None
+    → ((length bytes == 29) ≡ true) × ((slice_index bytes 0 == 0) ≡ true) × (is_zeros (slice_range bytes 1 19) ≡ true) × (is_reserved bytes ≡ false)
+accepted_parts bytes h = none_fails (length bytes == 29) (slice_index bytes 0 == 0) (is_zeros (slice_range bytes 1 19)) (is_reserved bytes) h
+
+all_hold : (a b c d : Bool) → (a && b && c && not d) ≡ true
+    → (if not a then Some Length else (if not b then Some Version else (if not c then Some Prefix else (if d then Some Reserved else None)))) ≡ None
+all_hold false b c d h = absurd cc
+all_hold true false c d h = absurd cc
+all_hold true true false d h = absurd cc
+all_hold true true true true h = absurd cc
+all_hold true true true false h = refl
+
+hold_all : (a b c d : Bool) → a ≡ true → b ≡ true → c ≡ true → d ≡ false → (a && b && c && not d) ≡ true
+hold_all a b c d ea eb ec ed = rw (ea, eb, ec, ed) refl
+
+-- the checks are those of a blob's namespace
+pub accepted_is : (bytes : List ℕ) → is_blob_namespace bytes ≡ true → namespace_refusal bytes ≡ None
+accepted_is bytes h = all_hold (length bytes == 29) (slice_index bytes 0 == 0) (is_zeros (slice_range bytes 1 19)) (is_reserved bytes) h
+
+pub is_accepted : (bytes : List ℕ) → namespace_refusal bytes ≡ None → is_blob_namespace bytes ≡ true
+is_accepted bytes h =
+    let p = accepted_parts bytes h in hold_all (length bytes == 29) (slice_index bytes 0 == 0) (is_zeros (slice_range bytes 1 19)) (is_reserved bytes) p.0 p.1 p.2 p.3
+
+-- it is below that of the padding behind everything
+below_tail : (bytes : List ℕ) → length bytes ≡ 29 → slice_index bytes 0 ≡ 0 → is_at_most (record { 0 = bytes }) tail_padding ≡ true
+below_tail [] n h = absurd (omega (arith, n))
+below_tail (byte ∷ bytes) n h = subst (λ (b : ℕ). is_at_most (record { 0 = b ∷ bytes }) tail_padding ≡ true) (sym h) refl
+
+pub accepted_between : (blob : NamedBytes) → namespace_refusal blob.namespace.0 ≡ None → IsBetween blob
+accepted_between blob h =
+    let p = accepted_parts blob.namespace.0 h in
+    let size : length blob.namespace.0 ≡ 29 = grind (arith, nat_tests, p.0) in
+    let version : slice_index blob.namespace.0 0 ≡ 0 = grind (arith, nat_tests, p.1) in
+    record {
+      size = size;
+      low = ⊎_elim (λ (x : is_at_most primary_reserved_padding blob.namespace ≡ true). x)
+          (λ (x : is_at_most blob.namespace primary_reserved_padding ≡ true). absurd (true≢false (sym x ∙ p.3)))
+          (at_most_total primary_reserved_padding blob.namespace);
+      high = below_tail blob.namespace.0 size version;
+    }
+
+-- ---- all blobs
+
+refused_some : (o : Option NsError) (i : ℕ) (rest : Option LayError) → option_map_or (λ (e : NsError). Some (BadBlob i e)) o rest ≡ None → (o ≡ None) × (rest ≡ None)
+refused_some None i rest h = (refl, h)
+refused_some (Some e) i rest h = absurd cc
+
+-- no namespace is refused
+pub no_bad_blob : (i : ℕ) (blobs : List NamedBytes) → bad_blob i blobs ≡ None → AllByRecursion IsBetween blobs
+unfolding bad_blob
+no_bad_blob i [] h = tt
+no_bad_blob i (blob ∷ blobs) h =
+    let both = refused_some (namespace_refusal blob.namespace.0) i (bad_blob (suc i) blobs) h in
+    (accepted_between blob both.0, no_bad_blob (suc i) blobs both.1)
+
+empty_parts : (n i : ℕ) (rest : Option LayError) → (if n == 0 then Some (EmptyBlob i) else rest) ≡ None → (1 ≤ n) × (rest ≡ None)
+empty_parts zero i rest h = absurd cc
+empty_parts (suc n) i rest h =
+    let some : (suc n == 0) ≡ false = grind (arith, nat_tests) in
+    (omega arith, sym (ap (λ (b : Bool). if b then Some (EmptyBlob i) else rest) some) ∙ h)
+
+-- no blob is empty
+pub no_empty_blob : (i : ℕ) (blobs : List NamedBytes) → empty_blob i blobs ≡ None → HaveBytes blobs
+unfolding empty_blob
+no_empty_blob i [] h = tt
+no_empty_blob i (blob ∷ blobs) h =
+    let both = empty_parts (length blob.bytes) i (empty_blob (suc i) blobs) h in
+    (both.0, no_empty_blob (suc i) blobs both.1)
+
+-- ---- the blobs of a block, as calls see them
+
+pub ordered_have_bytes : (here there order : List NamedBytes) → None ≡ empty_blob 0 here → here ≡ there → order ≡ in_order there → HaveBytes order
+ordered_have_bytes here there order none same is =
+    subst HaveBytes (sym is) (All-in_order (λ (b : NamedBytes). 1 ≤ length b.bytes) there (subst HaveBytes same (no_empty_blob 0 here (sym none))))
+
+pub all_between : (here there : List NamedBytes) → None ≡ bad_blob 0 here → here ≡ there → AllByRecursion IsBetween there
+all_between here there none same = subst (AllByRecursion IsBetween) same (no_bad_blob 0 here (sym none))

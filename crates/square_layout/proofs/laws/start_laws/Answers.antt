@@ -1,0 +1,15 @@
+use Rattle.square_layout.proofs.PlaceLemmas.{start_after-ge, start_after-near}
+use Rattle.square_layout.proofs.LawLemmas.{start_after-aligned, blob_stands}
+use Rattle.square_layout.proofs.laws.start_laws.Goals as goal
+
+pub returns-clause-behind : goal.returns-clause-behind
+returns-clause-behind c = start_after-ge
+
+pub returns-clause-near : goal.returns-clause-near
+returns-clause-near c = start_after-near
+
+pub returns-clause-aligned : goal.returns-clause-aligned
+returns-clause-aligned c = start_after-aligned
+
+pub returns-clause-stands : goal.returns-clause-stands
+returns-clause-stands c = blob_stands

@@ -1,0 +1,57 @@
+//! What the definition of a layout means.
+
+ghost use Rattle.std.specs.Prelude.{◌≡◌, ◌↔◌, ◌≤◌, ◌<◌, ◌+◌, ◌*◌, ◌%◌, ◌^◌, ◌++◌, ◌∷◌, ℕ, List, length, take, drop, map, max, true, None};
+ghost use Rattle.std.specs.List.{filter, AllByRecursion};
+ghost use Rattle.namespace_id.specs.declared.namespaces.Namespace.{Namespace};
+ghost use Rattle.namespace_id.specs.Lists.{holds_along};
+ghost use Rattle.namespace_id.specs.Names.{is_at_most, is_blob_namespace};
+ghost use Rattle.share_split.specs.Widths.{width_of};
+ghost use Rattle.share_split.specs.Blobs.{NamedBytes, blob_shares_of};
+ghost use Rattle.share_split.specs.Walks.{name_in};
+ghost use Rattle.square_layout.specs.Blocks.{BlockParts};
+ghost use Rattle.square_layout.specs.Layout.{has_name, in_order, shares_of, start_after, end_of, compact_end, laid, needed, holding_from, width_for, square_of};
+ghost use Rattle.square_layout.specs.Refusals.{namespace_refusal};
+
+/// Blobs stand by ascending namespace, and blobs of one namespace as they came.
+pub fn order_laws()
+    ensures ascending { (blobs : List NamedBytes) →
+        holds_along is_at_most (map (λ blob. blob.namespace) (in_order blobs)) ≡ true }
+    ensures stable { (name : Namespace) (blobs : List NamedBytes) →
+        filter (has_name name) (in_order blobs) ≡ filter (has_name name) blobs }
+{}
+
+/// A blob starts at the least multiple of the width of its subtrees that isn't before the end of what
+/// precedes it, and its shares stand there in the layout.
+pub fn start_laws()
+    ensures behind { (end : ℕ) (blob : NamedBytes) → end ≤ start_after end blob }
+    ensures near { (end : ℕ) (blob : NamedBytes) →
+        start_after end blob < end + width_of (shares_of blob) }
+    ensures aligned { (end : ℕ) (blob : NamedBytes) →
+        start_after end blob % width_of (shares_of blob) ≡ 0 }
+    ensures stands { (block : BlockParts) (before after : List NamedBytes) (blob : NamedBytes) →
+        in_order block.blobs ≡ before ++ blob ∷ after →
+        take (shares_of blob)
+        (drop (start_after (end_of (compact_end block) before) blob) (laid block))
+        ≡ blob_shares_of blob.namespace blob.bytes }
+{}
+
+/// The layout has as many shares as are needed, but where 1 is needed for none; a square that holds
+/// them is full; the least width holds them, and no lesser power of two does.
+pub fn size_laws()
+    ensures needed { (block : BlockParts) → needed block ≡ max 1 (length (laid block)) }
+    ensures full { (block : BlockParts) → needed block ≤ width_for block * width_for block →
+        length (square_of block).shares ≡ width_for block * width_for block }
+    ensures holds { (count : ℕ) → count ≤ 128 * 128 →
+        count ≤ holding_from 7 1 count * holding_from 7 1 count }
+    ensures least { (count j : ℕ) → j ≤ 7 → count ≤ 2 ^ j * 2 ^ j → holding_from 7 1 count ≤ 2 ^ j }
+{}
+
+/// The checks of a blob's namespace pass what `Namespace::blob` takes; and where all namespaces are
+/// those of blobs, the namespaces of a square's shares never fall.
+pub fn name_laws()
+    ensures accepted { (bytes : List ℕ) →
+        (namespace_refusal bytes ≡ None) ↔ (is_blob_namespace bytes ≡ true) }
+    ensures rising { (block : BlockParts) →
+        AllByRecursion (λ blob. is_blob_namespace blob.namespace.0 ≡ true) block.blobs →
+        holds_along is_at_most (map name_in (square_of block).shares) ≡ true }
+{}
