@@ -66,10 +66,14 @@ joined b =
     let blobs : List ℕ = list_bytes blob_bytes b.blobs in
     sym (append_assoc (number ++ units) pay_units blobs ∙ append_assoc number units (pay_units ++ blobs))
 
+-- what a payload that is read as a block tells
+abbrev pub IsRead : List ℕ → BlockParts → Type 0
+IsRead payload b = IsBlock b × (payload ≡ block_payload b) × (asks_for_zero b.width ≡ false)
+
 block_is : (payload : List ℕ) (width : ℕ) (units pay_units : List (List ℕ)) (blobs : List NamedBytes) → width < 2 ^ 16
     → AllByRecursion AreBytes units → AllByRecursion AreBytes pay_units → AllByRecursion IsNamed blobs
     → payload ≡ to_be_bytes w16 width ++ (list_bytes text_bytes units ++ (list_bytes text_bytes pay_units ++ list_bytes blob_bytes blobs))
-    → IsBlock (block width units pay_units blobs) × (payload ≡ block_payload (block width units pay_units blobs)) × (asks_for_zero (asked_width width) ≡ false)
+    → IsRead payload (block width units pay_units blobs)
 block_is payload width units pay_units blobs few us ps bs parts =
     let w = width_is width few in
     let text : ℕ → List ℕ = λ n. to_be_bytes w16 n ++ (list_bytes text_bytes units ++ (list_bytes text_bytes pay_units ++ list_bytes blob_bytes blobs)) in (
@@ -78,8 +82,10 @@ block_is payload width units pay_units blobs few us ps bs parts =
       w.1,
     )
 
-pub block_takes : (payload : List ℕ) (b : BlockParts) → AreBytes payload → block_at payload ≡ Some b
-    → IsBlock b × (payload ≡ block_payload b) × (asks_for_zero b.width ≡ false)
+same_read : (payload : List ℕ) (x b : BlockParts) → x ≡ b → IsRead payload x → IsRead payload b
+same_read payload x b e is = subst (λ (y : BlockParts). IsRead payload y) e is
+
+pub block_takes : (payload : List ℕ) (b : BlockParts) → AreBytes payload → block_at payload ≡ Some b → IsRead payload b
 unfolding block_at
 block_takes payload b fits e =
     let w = bind_some (number_at w16 payload) after_width b e in
@@ -98,7 +104,7 @@ block_takes payload b fits e =
     let e1 = Takes-then w.0.1 (list_bytes text_bytes u.0.0) u.0.1 s2 n.0.1 t1.0 e2 in
     let e0 = Takes-then payload (to_be_bytes w16 w.0.0) w.0.1 s1 n.0.1 t0.0 e1 in
     let all : payload ≡ to_be_bytes w16 w.0.0 ++ s1 = Takes-all payload (to_be_bytes w16 w.0.0 ++ s1) n.0.1 e0 (eqb-true (length n.0.1) 0 g.0) in
-    subst (λ (x : BlockParts). IsBlock x × (payload ≡ block_payload x) × (asks_for_zero x.width ≡ false)) g.1
+    same_read payload (block w.0.0 u.0.0 p.0.0 n.0.0) b g.1
     (block_is payload w.0.0 u.0.0 p.0.0 n.0.0 t0.1 t1.1 t2.1 t3.1 all)
 
 -- ---- spelled

@@ -1,7 +1,6 @@
 //! The payload of a block: judged where it lies, then read; and written.
 
 ghost use Rattle.std.specs.Prelude.{◌≡◌, ◌+◌, ◌≤◌, ◌++◌, length, vec_len, vec_capacity, None, Some, IsSome, IfOk, IfSome, MatchOption};
-ghost use Rattle.std.specs.List.{flat_map};
 ghost use Rattle.da_wire.specs.Fields.{Gives, text_at, many_at, list_at, read_items, read_rest};
 ghost use Rattle.da_wire.specs.Reading.{blob_at, asked_width, block_at, GivesUnlessFull};
 ghost use Rattle.da_wire.specs.Spelling.{max_payload, text_bytes, list_bytes, blob_bytes, width_number, block_payload};
@@ -18,6 +17,12 @@ use std::alloc::{AllocError, Global};
 
 /// The share version of every blob.
 const SHARE_VERSION: u8 = 0;
+
+/// The bytes that state a width.
+const WIDTH_SIZE: u32 = 2;
+
+/// The bytes that state a count or a length.
+const COUNT_SIZE: usize = 4;
 
 /// The parts of a payload that is a block: the width or 0, and its three lists, each from its count on.
 #[derive(Clone, Copy)]
@@ -215,7 +220,7 @@ fn with_text(size: u32, text: &[u8]) -> Option<u32>
     requires { size ≤ max_payload }
     ensures { IsWithin (size + length (text_bytes text.now)) result }
 {
-    with_bytes(longer(size, 4)?, text)
+    with_bytes(longer(size, COUNT_SIZE)?, text)
 }
 
 /// A length with that of a list of units more.
@@ -223,7 +228,7 @@ fn with_units(size: u32, units: &[Unit]) -> Option<u32>
     requires { size ≤ max_payload }
     ensures { IsWithin (size + length (list_bytes text_bytes units.now)) result }
 {
-    let mut size = longer(size, 4)?;
+    let mut size = longer(size, COUNT_SIZE)?;
     for unit in units {
         size = with_text(size, &unit.bytes)?;
     }
@@ -244,7 +249,7 @@ fn with_blobs(size: u32, blobs: &[Blob]) -> Option<u32>
     requires { size ≤ max_payload }
     ensures { IsWithin (size + length (list_bytes blob_bytes blobs.now)) result }
 {
-    let mut size = longer(size, 4)?;
+    let mut size = longer(size, COUNT_SIZE)?;
     for blob in blobs {
         size = with_blob(size, blob)?;
     }
@@ -258,7 +263,7 @@ pub(crate) fn block_size(block: &Block) -> Option<u32>
     if matches!(block.width, Some(0)) {
         return None;
     }
-    let size = with_units(2, &block.units)?;
+    let size = with_units(WIDTH_SIZE, &block.units)?;
     let size = with_units(size, &block.pay_units)?;
     with_blobs(size, &block.blobs)
 }

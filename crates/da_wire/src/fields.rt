@@ -6,6 +6,10 @@ ghost use Rattle.namespace_id.specs.Bytes.{IsString};
 ghost use Rattle.da_wire.specs.Fields.{number_at, byte_at, string_at, digests_at, text_at, Gives};
 
 use namespace_id::{Namespace, Share};
+use share_split::SHARE_SIZE;
+
+/// The bytes of a namespace.
+pub(crate) const NAME_SIZE: usize = 29;
 
 /// A number of two bytes, the higher first, and the bytes after it.
 pub(crate) fn u16_at(bytes: &[u8]) -> Option<(u16, &[u8])>
@@ -45,7 +49,7 @@ pub(crate) fn share_of(bytes: &[u8]) -> Share
     requires { length bytes.now ≡ 512 }
     ensures { result.0 ≡ bytes.now }
 {
-    let mut share = Share([0; 512]);
+    let mut share = Share([0; SHARE_SIZE]);
     share.0.copy_from_slice(bytes);
     share
 }
@@ -55,7 +59,7 @@ pub(crate) fn name_of(bytes: &[u8]) -> Namespace
     requires { length bytes.now ≡ 29 }
     ensures { result.0 ≡ bytes.now }
 {
-    let mut name = Namespace([0; 29]);
+    let mut name = Namespace([0; NAME_SIZE]);
     name.0.copy_from_slice(bytes);
     name
 }
@@ -64,10 +68,10 @@ pub(crate) fn name_of(bytes: &[u8]) -> Namespace
 pub(crate) fn share_at(bytes: &[u8]) -> Option<(Share, &[u8])>
     ensures { Gives (λ x. (x.0.0, x.1.now)) result (string_at 512 bytes.now) }
 {
-    if bytes.len() < 512 {
+    if bytes.len() < SHARE_SIZE {
         return None;
     }
-    let (front, rest) = bytes.split_at(512);
+    let (front, rest) = bytes.split_at(SHARE_SIZE);
     Some((share_of(front), rest))
 }
 
@@ -75,10 +79,10 @@ pub(crate) fn share_at(bytes: &[u8]) -> Option<(Share, &[u8])>
 pub(crate) fn name_at(bytes: &[u8]) -> Option<(Namespace, &[u8])>
     ensures { Gives (λ x. (x.0.0, x.1.now)) result (string_at 29 bytes.now) }
 {
-    if bytes.len() < 29 {
+    if bytes.len() < NAME_SIZE {
         return None;
     }
-    let (front, rest) = bytes.split_at(29);
+    let (front, rest) = bytes.split_at(NAME_SIZE);
     Some((name_of(front), rest))
 }
 

@@ -6,13 +6,14 @@ ghost use Rattle.namespace_id.specs.Cells.{is_width, are_cells};
 ghost use Rattle.da_wire.specs.Fields.{Gives, digests_of, shares_of, cells_of};
 ghost use Rattle.da_wire.specs.Reading.{roots_of, header_at, square_at, axis_at, path_at, cell_at, message_at, is_next, are_next, missing_at, sample_at, request_at, GivesUnlessFull};
 
-use crate::fields::{name_of, share_at, share_of, u8_at, u16_at, u32_at};
+use crate::fields::{NAME_SIZE, name_of, share_at, share_of, u8_at, u16_at, u32_at};
 use axis_roots::Message;
 use data_header::Header;
 use namespace_id::{
     Axis, Cell, Cells, Digest, Namespace, Share, is_before, is_in_square, is_width,
 };
 use nmt_proofs::Path;
+use share_split::SHARE_SIZE;
 use square_layout::Square;
 use std::alloc::{AllocError, Global};
 
@@ -122,7 +123,7 @@ pub(crate) fn sample(payload: &[u8]) -> Option<(Cell, Axis)>
 pub(crate) fn request(payload: &[u8]) -> Option<Namespace>
     ensures { result ≡ request_at payload.now }
 {
-    if payload.len() != 29 {
+    if payload.len() != NAME_SIZE {
         return None;
     }
     Some(name_of(payload))
@@ -181,7 +182,7 @@ fn shares_of(alloc: Global, count: usize, bytes: &[u8]) -> Result<Vec<Share>, Al
     let mut shares = Vec::with_capacity(alloc, count)?;
     let mut rest = bytes;
     for _ in 0..count {
-        let (front, after) = rest.split_at(512);
+        let (front, after) = rest.split_at(SHARE_SIZE);
         shares.push(share_of(front))?;
         rest = after;
     }
@@ -198,7 +199,7 @@ pub(crate) fn square_parts(payload: &[u8]) -> Option<(u16, &[u8])>
     ensures all { IfSome result (λ x. length x.1.now ≡ 512 * (x.0 * x.0)) }
 {
     let (k, shares) = u16_at(payload)?;
-    if !is_width(k) || shares.len() != 512 * (k as usize * k as usize) {
+    if !is_width(k) || shares.len() != SHARE_SIZE * (k as usize * k as usize) {
         return None;
     }
     Some((k, shares))
