@@ -5,11 +5,13 @@
 #![tactic(auto)]
 
 mod checking;
+mod grids;
 mod laws;
 mod messages;
 mod proved;
 
 pub use checking::{RefusedMessage, check};
+pub use grids::Grid;
 pub use laws::message_laws;
 pub use messages::{CheckRefusal, Message, opens};
 pub use proved::Proved;
