@@ -12,6 +12,6 @@ mod proved;
 
 pub use checking::{RefusedMessage, check};
 pub use grids::Grid;
-pub use laws::message_laws;
+pub use laws::{grid_laws, message_laws};
 pub use messages::{CheckRefusal, Message, opens};
 pub use proved::Proved;
