@@ -5,3 +5,6 @@ pub mod SumLemmas
 pub mod ExtensionLemmas
 pub mod HeaderLemmas
 pub mod LaidLemmas
+pub mod WrittenLemmas
+pub mod KeptLemmas
+pub mod FilledLemmas

@@ -5,6 +5,7 @@
 #![tactic(auto)]
 
 mod checking;
+mod extending;
 mod grids;
 mod laws;
 mod messages;
