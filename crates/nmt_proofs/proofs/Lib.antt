@@ -4,3 +4,6 @@ pub mod ValueLemmas
 pub mod CauseLemmas
 pub mod ShadowLemmas
 pub mod PublicLemmas
+pub mod MadeLemmas
+pub mod PutLemmas
+pub mod SingleLemmas

@@ -3,3 +3,4 @@ pub mod Openings
 pub mod Pieces
 pub mod Causes
 pub mod Paths
+pub mod Making

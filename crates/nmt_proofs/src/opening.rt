@@ -29,7 +29,7 @@ pub enum OpenRefusal {
 }
 
 /// How often a number of leaves can be halved.
-fn depth_of(n: u16) -> u8
+pub(crate) fn depth_of(n: u16) -> u8
     requires { IsTrue (is_leaf_count n) }
     ensures value { result ≡ halvings n }
     ensures bound { result ≤ 8 }

@@ -1,8 +1,8 @@
 -- The counts of leaves that a tree may have.
-use Rattle.std.proofs.Common.{◌≡◌, ℕ, ◌+◌, ◌/◌, ◌^◌, ◌<◌, ◌≤◌, true, refl, arith, IsTrue}
-use Rattle.std.specs.Prelude.{◌==◌}
+use Rattle.std.proofs.Common.{◌≡◌, ℕ, suc, ◌+◌, ◌/◌, ◌^◌, ◌<◌, ◌≤◌, true, refl, arith, IsTrue}
+use Rattle.std.specs.Prelude.{◌==◌, ◌&&◌}
 use Rattle.std.proofs.lemmas.Bool.Decides.{nat_tests}
-use Rattle.std.proofs.lemmas.Bool.{eqb-true}
+use Rattle.std.proofs.lemmas.Bool.{and_parts, eqb-true}
 use Rattle.namespace_id.proofs.TestLemmas.{passes_below, passes_below-at, where_holds, where_holds-true}
 use Rattle.nmt_tree.specs.Roots.{is_leaf_count, halvings}
 
@@ -24,3 +24,20 @@ power_halvings n h =
 
 pub halvings-le : (n : ℕ) → halvings n ≤ 8
 halvings-le n = grind (arith, nat_tests)
+
+-- half of such a number is halved once less
+pub halvings_half : (n : ℕ) → IsTrue (is_leaf_count n) → (n ≡ 1 → ⊥) → halvings n ≡ suc (halvings (n / 2))
+halvings_half n h several = grind (arith, nat_tests)
+
+pub leaf_count-pos : (n : ℕ) → IsTrue (is_leaf_count n) → 0 < n
+leaf_count-pos n h = grind (arith, nat_tests)
+
+small_powers_test : passes_below 9 (λ d. is_leaf_count (2 ^ d) && halvings (2 ^ d) == d) ≡ true
+unfolding passes_below
+small_powers_test = refl
+
+-- a power of two up to 2 ^ 8 is a number of leaves, and is halved as often as it was doubled
+pub leaf_count_power : (d : ℕ) → d ≤ 8 → IsTrue (is_leaf_count (2 ^ d)) × (halvings (2 ^ d) ≡ d)
+leaf_count_power d h =
+    let both = and_parts (is_leaf_count (2 ^ d)) (halvings (2 ^ d) == d) (passes_below-at 9 (λ k. is_leaf_count (2 ^ k) && halvings (2 ^ k) == k) small_powers_test d (omega arith)) in
+    (both.0, eqb-true _ _ both.1)

@@ -1,3 +1,10 @@
 pub mod PartLemmas
 pub mod RootLemmas
 pub mod CountLemmas
+pub mod PairLemmas
+pub mod FoldLemmas
+pub mod SpanLemmas
+pub mod LevelLemmas
+pub mod NameLemmas
+pub mod JoinLemmas
+pub mod TreeLemmas

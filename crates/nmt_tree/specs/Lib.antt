@@ -1,2 +1,4 @@
 pub mod Digests
 pub mod Roots
+pub mod Levels
+pub mod Trees

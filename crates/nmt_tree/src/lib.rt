@@ -1,11 +1,18 @@
-//! Namespaced Merkle trees: the digests of leaves and nodes, and the roots of leaf lists.
+//! Namespaced Merkle trees: the digests of leaves and nodes, the roots of leaf lists, and stored
+//! trees.
 //!
 //! `leaf`, `node` and `join` make one digest; `plain_root` and `strict_root` are the plain
-//! recursions that say what the root of a list is.
+//! recursions that say what the root of a list is. A `Tree` keeps the digests of all levels, and
+//! `fold_root` joins digests of leaves in place.
 #![tactic(auto)]
 
+mod folding;
 mod hashing;
+mod levels;
 mod roots;
+mod trees;
 
+pub use folding::fold_root;
 pub use hashing::{Unordered, join, leaf, node};
-pub use roots::{is_leaf_count, plain_root, strict_root};
+pub use roots::{are_ordered, is_leaf_count, plain_root, strict_root};
+pub use trees::{Tree, tree_laws};

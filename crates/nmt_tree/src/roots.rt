@@ -44,7 +44,9 @@ pub fn plain_root(names: &[Namespace], shares: &[Share]) -> Digest
 }
 
 /// Whether no namespace is followed by a smaller one.
-fn are_ordered(names: &[Namespace]) -> bool
+///
+/// Celestia specifications, "Data Structures", namespaced Merkle trees.
+pub fn are_ordered(names: &[Namespace]) -> bool
     ensures { result ≡ is_ordered names.now }
 {
     for i in 1..names.len() {

@@ -1,0 +1,43 @@
+//! The root over digests of leaves, joined in place.
+
+ghost use Rattle.std.specs.Prelude.{◌≡◌, ◌/◌, ◌*◌, ◌^◌, ℕ, length, take, IsTrue};
+ghost use Rattle.nmt_tree.specs.Roots.{is_leaf_count, halvings};
+ghost use Rattle.nmt_tree.specs.Levels.{span, pairs};
+
+use crate::node;
+use namespace_id::Digest;
+
+/// Writes the level above a level over the front of it. What is behind the front is no level.
+fn join_pairs(digests: &mut [Digest])
+    ensures { take (length digests.old / 2) digests.new ≡ pairs digests.old }
+{
+    for i in 0..digests.len() / 2 {
+        digests[i] = node(&digests[2 * i], &digests[2 * i + 1]);
+    }
+}
+
+/// The digest over all leaves.
+fn fold(digests: &mut [Digest]) -> Digest
+    requires { IsTrue (is_leaf_count (length digests.old)) }
+    ensures { (depth : ℕ) → length digests.old ≡ 2 ^ depth → result ≡ span digests.old 0 depth }
+{
+    if digests.len() == 1 {
+        return digests[0];
+    }
+    let half = digests.len() / 2;
+    join_pairs(digests);
+    fold(&mut digests[..half])
+}
+
+/// The root over the digests of leaves, a power of two from 1 to 256 of them, joined level by level
+/// in place: afterwards the slice holds no digests of use.
+///
+/// It takes no memory, and does not look whether the joins are ordered.
+///
+/// Celestia specifications, "Data Structures", namespaced Merkle trees.
+pub fn fold_root(digests: &mut [Digest]) -> Digest
+    requires { IsTrue (is_leaf_count (length digests.old)) }
+    ensures { result ≡ span digests.old 0 (halvings (length digests.old)) }
+{
+    fold(digests)
+}

@@ -1,0 +1,191 @@
+//! Trees that keep the digests of all their levels.
+
+ghost use Rattle.std.specs.Prelude.{◌≡◌, ◌≤◌, ◌<◌, ◌+◌, ◌%◌, ◌^◌, ℕ, List, [], length, get_or, IsTrue, true, Some, None, IfOk, IfSome, if◌then◌else◌};
+ghost use Rattle.namespace_id.specs.Names.{IsNamespace};
+ghost use Rattle.namespace_id.specs.declared.namespaces.Namespace.{Namespace};
+ghost use Rattle.namespace_id.specs.declared.shares.Share.{Share};
+ghost use Rattle.nmt_tree.specs.Digests.{leaf_digest};
+ghost use Rattle.nmt_tree.specs.Roots.{is_leaf_count, halvings, is_ordered, root, strict_root};
+ghost use Rattle.nmt_tree.specs.Levels.{AreNames, HasOrderedJoins, leaf_digests, span};
+ghost use Rattle.nmt_tree.specs.Trees.{AreTreeLeaves, digest_over};
+
+use crate::are_ordered;
+use crate::levels::{put_tree, read};
+use namespace_id::{Digest, Namespace, NoMemory, Share, are_bytes};
+use std::alloc::Global;
+use std::marker::Model;
+
+/// Says that a namespace has 29 bytes, each below 256. It changes nothing.
+fn is_name(name: &Namespace)
+    ensures { IsNamespace name.now }
+{
+    are_bytes(&name.0);
+}
+
+/// Says that each namespace of a slice has 29 bytes, each below 256. It changes nothing.
+fn are_names(names: &[Namespace])
+    ensures { AreNames names.now }
+{
+    for name in names {
+        is_name(name);
+    }
+}
+
+/// A tree over a power of two of leaves from 1 to 256. It is empty, or keeps the digests of all its
+/// levels, over leaves whose namespaces never fall.
+///
+/// Celestia specifications, "Data Structures", namespaced Merkle trees.
+#[derive(Drop)]
+pub struct Tree {
+    count: u16,
+    is_full: bool,
+    // the leaves first, then each level above them, the root last
+    digests: Vec<Digest>,
+}
+
+impl Model for Tree {
+    ghost use Rattle.nmt_tree.specs.Trees.{StoredTree, IsTree, kept_leaves};
+
+    ghost Value = { StoredTree };
+
+    ghost view = { λ t. record { count = t.count; leaves = kept_leaves t.count t.is_full t.digests.items } };
+
+    ghost invariant = { λ t. IsTree t.count t.is_full t.digests.items };
+}
+
+impl Tree {
+    /// An empty tree for `n` leaves. It takes the memory for all levels, 2n - 1 digests.
+    pub fn new(alloc: Global, n: u16) -> Result<Tree, NoMemory>
+        requires { IsTrue (is_leaf_count n) }
+        ensures count { IfOk result (λ tree. tree.count ≡ n) }
+        ensures empty { IfOk result (λ tree. tree.leaves ≡ None) }
+    {
+        let Ok(digests) = vec![in alloc; Digest([0; 90]); 2 * n as usize - 1] else {
+            return Err(NoMemory);
+        };
+        Ok(Tree {
+            count: n,
+            is_full: false,
+            digests,
+        })
+    }
+
+    /// How many leaves the tree is for.
+    pub fn len(&self) -> u16
+        ensures value { result ≡ self.now.count }
+
+        // What is true of every tree.
+        ensures count { IsTrue (is_leaf_count self.now.count) }
+        ensures leaves { IfSome self.now.leaves (λ leaves. AreTreeLeaves self.now.count leaves) }
+    {
+        self.count
+    }
+
+    /// Puts leaves in place of all that the tree held, where their namespaces never fall; otherwise it
+    /// answers false, and the tree is empty. There are as many leaves as the tree is for.
+    ///
+    /// It takes no memory.
+    pub fn fill(&mut self, names: &[Namespace], shares: &[Share]) -> bool
+        requires names { length names.now ≡ self.old.count }
+        requires shares { length shares.now ≡ self.old.count }
+        ensures ordered { result ≡ is_ordered names.now }
+        ensures count { self.new.count ≡ self.old.count }
+        ensures leaves { self.new.leaves ≡
+            (if is_ordered names.now then Some (leaf_digests names.now shares.now) else None) }
+
+        // So `root` answers the strict root afterwards.
+        ensures root { digest_over self.new 0 self.new.count ≡
+            strict_root (halvings (length names.now)) names.now shares.now }
+    {
+        self.is_full = false;
+        if !are_ordered(names) {
+            return false;
+        }
+        are_names(names);
+        put_tree(names, shares, &mut self.digests);
+        self.is_full = true;
+        true
+    }
+
+    /// The digest over the `size` leaves from place `from` on; none exactly where the tree is empty.
+    ///
+    /// `size` is a power of two, and `from` a multiple of it.
+    pub fn digest(&self, from: u16, size: u16) -> Option<Digest>
+        requires size { IsTrue (is_leaf_count size) }
+        requires aligned { from % size ≡ 0 }
+        requires within { from + size ≤ self.now.count }
+        ensures { result ≡ digest_over self.now from size }
+    {
+        if self.is_full {
+            Some(read(
+                self.count as usize,
+                &self.digests,
+                from as usize,
+                size as usize,
+            ))
+        } else {
+            None
+        }
+    }
+
+    /// The digest over all leaves; none exactly where the tree is empty.
+    pub fn root(&self) -> Option<Digest>
+        ensures { result ≡ digest_over self.now 0 self.now.count }
+    {
+        self.digest(0, self.count)
+    }
+}
+
+/// A digest of a list of leaves is that of the leaf at its place; the root is the digest over all of
+/// them; and where their namespaces never fall, every join over them is ordered.
+pub fn tree_laws()
+    ensures leaf { (names : List Namespace) (shares : List Share) (pos : ℕ) →
+        (name : Namespace) (share : Share) → length names ≡ length shares → pos < length names →
+        get_or (leaf_digests names shares) pos (record { 0 = [] }) ≡
+        leaf_digest (get_or names pos name) (get_or shares pos share) }
+    ensures root { (depth : ℕ) (names : List Namespace) (shares : List Share) →
+        length names ≡ 2 ^ depth → length shares ≡ 2 ^ depth →
+        root depth names shares ≡ span (leaf_digests names shares) 0 depth }
+    ensures ordered { (depth : ℕ) (names : List Namespace) (shares : List Share) →
+        length names ≡ 2 ^ depth → length shares ≡ 2 ^ depth → AreNames names →
+        is_ordered names ≡ true → HasOrderedJoins (leaf_digests names shares) 0 depth }
+{}
+
+#[cfg(test)]
+mod tests {
+    use super::*;
+    use crate::{fold_root, leaf, node, plain_root};
+
+    fn name_of(last: u8) -> Namespace {
+        let mut bytes = [0; 29];
+        bytes[28] = last;
+        Namespace(bytes)
+    }
+
+    #[test]
+    fn tree_of_four_leaves(rt: HostRuntime) {
+        let names = [name_of(1), name_of(3), name_of(3), name_of(7)];
+        let shares = [
+            Share([7; 512]),
+            Share([8; 512]),
+            Share([9; 512]),
+            Share([10; 512]),
+        ];
+        let mut tree = Tree::new(rt.alloc(), 4).expect(&rt, "there is memory");
+        assert_eq!(rt; tree.root(), None, "empty");
+        assert!(rt; tree.fill(&names, &shares));
+        assert_eq!(rt; tree.root(), Some(plain_root(&names, &shares)));
+        let last = [leaf(&names[2], &shares[2]), leaf(&names[3], &shares[3])];
+        assert_eq!(rt; tree.digest(2, 2), Some(node(&last[0], &last[1])));
+        let mut leaves = [
+            leaf(&names[0], &shares[0]),
+            leaf(&names[1], &shares[1]),
+            last[0],
+            last[1],
+        ];
+        assert_eq!(rt; tree.root(), Some(fold_root(&mut leaves)));
+        let falling = [names[3], names[0], names[1], names[2]];
+        assert!(rt; !tree.fill(&falling, &shares), "falling names");
+        assert_eq!(rt; tree.root(), None, "falling names");
+    }
+}
