@@ -17,7 +17,7 @@ use Rattle.axis_roots.proofs.ExtensionLemmas.{extension_once}
 
 -- ---- a test of each of some numbers
 
-all-at : (p : ℕ → Bool) (n first : ℕ) → list_all p (ascending first n) ≡ true → (i : ℕ) → first ≤ i → i < first + n → p i ≡ true
+pub all-at : (p : ℕ → Bool) (n first : ℕ) → list_all p (ascending first n) ≡ true → (i : ℕ) → first ≤ i → i < first + n → p i ≡ true
 unfolding ascending
 all-at p zero first all i low high = absurd (omega arith)
 all-at p (suc n) first all i low high =
@@ -27,7 +27,7 @@ all-at p (suc n) first all i low high =
       | inr here ↦ let e : first ≡ i = omega arith in ap p (sym e) ∙ both.0
     ]
 
-all-each : (p : ℕ → Bool) (n first : ℕ) → ((i : ℕ) → first ≤ i → i < first + n → p i ≡ true) → list_all p (ascending first n) ≡ true
+pub all-each : (p : ℕ → Bool) (n first : ℕ) → ((i : ℕ) → first ≤ i → i < first + n → p i ≡ true) → list_all p (ascending first n) ≡ true
 unfolding ascending
 all-each p zero first each = refl
 all-each p (suc n) first each =

@@ -8,3 +8,5 @@ pub mod LaidLemmas
 pub mod WrittenLemmas
 pub mod KeptLemmas
 pub mod FilledLemmas
+pub mod RootingLemmas
+pub mod MadeLemmas

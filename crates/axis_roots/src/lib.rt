@@ -10,9 +10,11 @@ mod grids;
 mod laws;
 mod messages;
 mod proved;
+mod rooting;
 
 pub use checking::{RefusedMessage, check};
 pub use grids::Grid;
 pub use laws::{grid_laws, message_laws};
 pub use messages::{CheckRefusal, Message, opens};
 pub use proved::Proved;
+pub use rooting::header_of;
