@@ -10,3 +10,4 @@ pub mod KeptLemmas
 pub mod FilledLemmas
 pub mod RootingLemmas
 pub mod MadeLemmas
+pub mod MessageLemmas

@@ -46,7 +46,7 @@ read_next k shares leaves line axis i pos place cell are hi hp long on at before
     ∙ ap (λ (n : ℕ). get_or leaves n none) (at ∙ ap (λ (c : Cell). c.row * (2 * k) + c.col) on)
     ∙ are.digests (cell_on axis i pos) (on_axis_in_square k axis i pos hi hp))
 
-mapped_leaves : (name : Cell → Namespace) (share : Cell → Share) (cells : List Cell)
+pub mapped_leaves : (name : Cell → Namespace) (share : Cell → Share) (cells : List Cell)
     → map (λ cell. leaf_digest (name cell) (share cell)) cells ≡ leaf_digests (map name cells) (map share cells)
 unfolding leaf_digests
 mapped_leaves name share [] = refl

@@ -30,7 +30,7 @@ pub(crate) fn cell_on(axis: Axis, index: u16, pos: u16) -> Cell
 }
 
 /// Copies the 2k shares of an axis.
-fn read_axis(grid: &Grid, axis: Axis, index: u16, line: &mut [Share])
+pub(crate) fn read_axis(grid: &Grid, axis: Axis, index: u16, line: &mut [Share])
     requires index { index < 2 * grid.now.k }
     requires line { length line.old ≡ 2 * grid.now.k }
     ensures { line.new ≡ axis_shares grid.now.k grid.now.shares axis index }

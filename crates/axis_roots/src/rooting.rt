@@ -182,3 +182,55 @@ pub fn header_of(alloc: Global, grid: &Grid) -> Result<Option<Header>, NoMemory>
         cols,
     }))
 }
+
+#[cfg(test)]
+mod tests {
+    use super::*;
+    use namespace_id::{Namespace, PARITY, Share};
+    use nmt_tree::node;
+    use square_layout::Square;
+    use std::test::Fail;
+
+    /// A share of a namespace of version 0 that ends in these two bytes.
+    fn share(high: u8, low: u8) -> Share {
+        let mut bytes = [0; 512];
+        bytes[27] = high;
+        bytes[28] = low;
+        Share(bytes)
+    }
+
+    /// By docs/RULES.md, "Trees" and "The code": the code of width 1 repeats its share.
+    #[test]
+    fn header_of_one_share(rt: HostRuntime) -> Result<(), Fail> {
+        let original = share(1, 2);
+        let shares = vec![in rt.alloc(); original; 1]?;
+        let grid = Grid::extend(rt.alloc(), &Square { k: 1, shares })?;
+        for i in 0..grid.shares.len() {
+            assert_eq!(rt; grid.shares[i], original, "{i}");
+        }
+        let mut name = [0; 29];
+        name.copy_from_slice(&original.0[..29]);
+        let parity = leaf(&PARITY, &original);
+        let upper = node(&leaf(&Namespace(name), &original), &parity);
+        let lower = node(&parity, &parity);
+        let header = header_of(rt.alloc(), &grid)?.expect(&rt, "the namespaces do not fall");
+        assert_eq!(rt; header.k, 1);
+        for axis in [Axis::Row, Axis::Col] {
+            assert_eq!(rt; header.root_of(axis, 0), upper);
+            assert_eq!(rt; header.root_of(axis, 1), lower);
+        }
+        Ok(())
+    }
+
+    #[test]
+    fn no_header_of_falling_namespaces(rt: HostRuntime) -> Result<(), Fail> {
+        let originals = [share(1, 2), share(1, 1), share(1, 3), share(1, 4)];
+        let mut shares = vec![in rt.alloc(); originals[0]; 4]?;
+        for i in 0..4 {
+            shares[i] = originals[i];
+        }
+        let grid = Grid::extend(rt.alloc(), &Square { k: 2, shares })?;
+        assert!(rt; header_of(rt.alloc(), &grid)?.is_none());
+        Ok(())
+    }
+}
