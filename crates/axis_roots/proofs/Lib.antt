@@ -1,2 +1,14 @@
+pub mod NumberLemmas
 pub mod AxisLemmas
+pub mod WordLemmas
+pub mod SumLemmas
+pub mod ExtensionLemmas
+pub mod HeaderLemmas
+pub mod LaidLemmas
+pub mod WrittenLemmas
+pub mod KeptLemmas
+pub mod FilledLemmas
+pub mod RootingLemmas
+pub mod MadeLemmas
+pub mod MessageLemmas
 pub mod OwnLemmas

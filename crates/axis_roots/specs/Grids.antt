@@ -1,6 +1,6 @@
 -- Extended squares, and the header that one has (Celestia specifications, "Data Structures";
 -- docs/RULES.md, "Extended squares").
-use Rattle.std.specs.Prelude.{◌≡◌, ◌<◌, ℕ, ◌+◌, ◌*◌, ◌&&◌, Bool, true, List, [], map, length, replicate, get_or, Option, Some, None, if◌then◌else◌}
+use Rattle.std.specs.Prelude.{◌≡◌, ◌<◌, ℕ, ◌+◌, ◌*◌, ◌&&◌, Bool, true, IsTrue, List, [], map, length, take, replicate, get_or, Option, Some, None, if◌then◌else◌}
 use Rattle.std.specs.List.{list_all}
 use Rattle.namespace_id.specs.declared.cells.Cell.{Cell}
 use Rattle.namespace_id.specs.declared.cells.Axis.{Axis}
@@ -8,7 +8,8 @@ use Rattle.namespace_id.specs.declared.cells.Axis.TheVariants.{Row, Col}
 use Rattle.namespace_id.specs.declared.namespaces.Namespace.{Namespace}
 use Rattle.namespace_id.specs.declared.shares.Share.{Share}
 use Rattle.namespace_id.specs.declared.digests.Digest.{Digest}
-use Rattle.namespace_id.specs.Cells.{is_width, name_of}
+use Rattle.namespace_id.specs.Cells.{is_width, is_in_square, name_of}
+use Rattle.nmt_tree.specs.Digests.{leaf_digest}
 use Rattle.nmt_tree.specs.Roots.{halvings, root, is_ordered}
 use Rattle.data_header.specs.Headers.{Roots}
 use Rattle.leopard_code.specs.Codewords.{ascending, IsCodeword}
@@ -57,6 +58,23 @@ pub record Extends (k : ℕ) (square grid : List Share) : Type 0 where
   pub quarter : (cell : Cell) → cell.row < k → cell.col < k → share_at (2 * k) grid cell ≡ share_at k square cell
   pub codewords : (axis : Axis) (index : ℕ) → index < 2 * k → IsCodeword k (axis_shares k grid axis index)
 
+-- ---- leaves
+
+-- the digest of the leaf over a cell, one for the trees over its row and over its column
+abbrev pub leaf_over : ℕ → List Share → Cell → Digest
+leaf_over k shares cell =
+    leaf_digest (name_of k cell (share_at (2 * k) shares cell)) (share_at (2 * k) shares cell)
+
+-- the digests of the leaves over all cells, row-major
+pub record AreLeaves (k : ℕ) (shares : List Share) (leaves : List Digest) : Type 0 where
+  pub count : length leaves ≡ 2 * k * (2 * k)
+  pub digests : (cell : Cell) → IsTrue (is_in_square k cell)
+      → get_or leaves (cell.row * (2 * k) + cell.col) (record { 0 = [] }) ≡ leaf_over k shares cell
+
+-- those along a row or a column
+abbrev pub axis_leaves : ℕ → List Share → Axis → ℕ → List Digest
+axis_leaves k shares axis index = map (leaf_over k shares) (axis_cells k axis index)
+
 -- ---- headers
 
 -- whether the leaf namespaces of a row or a column never fall, and its root
@@ -82,6 +100,10 @@ header_of_grid k shares =
     if are_ordered_axes k shares
     then Some (record { k = k; rows = axis_roots k shares Row; cols = axis_roots k shares Col })
     else None
+
+-- the namespace that a share begins with
+abbrev pub own_name : Share → Namespace
+own_name share = record { 0 = take 29 share.0 }
 
 -- the header of a square is that of its extension
 pub record IsHeaderOf (header : Roots) (square : SquareShares) : Type 0 where

@@ -35,7 +35,7 @@ pub enum CheckRefusal {
 }
 
 /// The place of a cell on its row or its column.
-fn position(axis: Axis, cell: Cell) -> u16
+pub(crate) fn position(axis: Axis, cell: Cell) -> u16
     ensures { result ≡ position axis cell }
 {
     match axis {

@@ -1,0 +1,8 @@
+use Rattle.std.proofs.Common.{◌≡◌, ℕ, ◌<◌, [], get_or}
+use Rattle.axis_roots.specs.Grids.{leaf_over, cell_on}
+use Rattle.axis_roots.proofs.rooting.read_leaves.Given as goal
+
+-- the digests so far
+abbrev pub invariant-loop-pos : goal.invariant-loop-pos
+invariant-loop-pos l =
+    (pos : ℕ) → pos < l.pos → get_or l.line pos (record { 0 = [] }) ≡ leaf_over l.fn.grid.k l.fn.grid.shares (cell_on l.fn.axis l.fn.index pos)

@@ -1,0 +1,138 @@
+//! Messages that are made from a grid.
+
+ghost use Rattle.std.specs.Prelude.{◌≡◌, ◌*◌, ◌<◌, ◌↔◌, IsTrue, IfSome, IsNone, length, Some, None, false, if◌then◌else◌};
+ghost use Rattle.namespace_id.specs.Cells.{is_in_square};
+ghost use Rattle.axis_roots.specs.Messages.{index as index_of};
+ghost use Rattle.axis_roots.specs.Openings.{OpensAt};
+ghost use Rattle.axis_roots.specs.Grids.{share_at, axis_names, axis_leaves, axis_root, is_ordered_axis};
+
+use crate::extending::{cell_on, read_axis};
+use crate::messages::{index, is_message, position};
+use crate::{Grid, Message};
+use namespace_id::{Axis, Cell, Namespace, PARITY, Share, leaf_namespace};
+use nmt_proofs::make_leaf;
+use nmt_tree::Tree;
+
+/// How many shares the longest axis has.
+const LONGEST: usize = 256;
+
+/// Copies the leaf namespaces along an axis.
+fn read_names(grid: &Grid, axis: Axis, index: u16, line: &mut [Namespace])
+    requires index { index < 2 * grid.now.k }
+    requires line { length line.old ≡ 2 * grid.now.k }
+    ensures { line.new ≡ axis_names grid.now.k grid.now.shares axis index }
+{
+    let k = grid.width();
+    for pos in 0..2 * k {
+        let cell = cell_on(axis, index, pos);
+        line[pos as usize] = leaf_namespace(k, cell, grid.cell(cell));
+    }
+}
+
+/// Fills a tree with the leaves along an axis, by way of these lines; false where their namespaces
+/// fall.
+fn fill_by_lines(
+    grid: &Grid,
+    axis: Axis,
+    index: u16,
+    names: &mut [Namespace],
+    shares: &mut [Share],
+    tree: &mut Tree,
+) -> bool
+    requires index { index < 2 * grid.now.k }
+    requires names { length names.old ≡ 2 * grid.now.k }
+    requires shares { length shares.old ≡ 2 * grid.now.k }
+    requires tree { tree.old.count ≡ 2 * grid.now.k }
+    ensures ordered { result ≡ is_ordered_axis grid.now.k grid.now.shares axis index }
+    ensures count { tree.new.count ≡ tree.old.count }
+    ensures leaves { tree.new.leaves ≡
+        (if is_ordered_axis grid.now.k grid.now.shares axis index
+        then Some (axis_leaves grid.now.k grid.now.shares axis index) else None) }
+{
+    read_names(grid, axis, index, names);
+    read_axis(grid, axis, index, shares);
+    tree.fill(names, shares)
+}
+
+/// Fills a tree with the leaves along an axis; false where their namespaces fall.
+fn fill_axis(grid: &Grid, axis: Axis, index: u16, tree: &mut Tree) -> bool
+    requires index { index < 2 * grid.now.k }
+    requires tree { tree.old.count ≡ 2 * grid.now.k }
+    ensures ordered { result ≡ is_ordered_axis grid.now.k grid.now.shares axis index }
+    ensures count { tree.new.count ≡ tree.old.count }
+    ensures leaves { tree.new.leaves ≡
+        (if is_ordered_axis grid.now.k grid.now.shares axis index
+        then Some (axis_leaves grid.now.k grid.now.shares axis index) else None) }
+{
+    let mut names = [PARITY; LONGEST];
+    let mut shares = [Share([0; 512]); LONGEST];
+    let count = 2 * grid.width() as usize;
+    fill_by_lines(
+        grid,
+        axis,
+        index,
+        &mut names[..count],
+        &mut shares[..count],
+        tree,
+    )
+}
+
+/// The message of a cell, opened along an axis; none exactly where the namespaces of that axis fall.
+///
+/// The tree is one for 2k leaves. Afterwards it is that of the axis, whatever it was. It takes no
+/// memory besides.
+pub fn message_of(grid: &Grid, cell: Cell, axis: Axis, tree: &mut Tree) -> Option<Message>
+    requires cell { IsTrue (is_in_square grid.now.k cell) }
+    requires tree { tree.old.count ≡ 2 * grid.now.k }
+    ensures none { IsNone result ↔
+        (is_ordered_axis grid.now.k grid.now.shares axis (index_of axis cell) ≡ false) }
+
+    // The message shows the grid's share, and opens it under the root of the axis.
+    ensures cell { IfSome result (λ message. message.cell ≡ cell) }
+    ensures axis { IfSome result (λ message. message.axis ≡ axis) }
+    ensures share { IfSome result (λ message.
+        message.share ≡ share_at (2 * grid.now.k) grid.now.shares cell) }
+    ensures opens { IfSome result (λ message. OpensAt grid.now.k message
+        (axis_root grid.now.k grid.now.shares axis (index_of axis cell))) }
+    ensures tree { tree.new.count ≡ tree.old.count }
+{
+    if !fill_axis(grid, axis, index(axis, cell), tree) {
+        return None;
+    }
+    let _k = grid.width();
+    let message = Message {
+        cell,
+        axis,
+        share: *grid.cell(cell),
+        path: make_leaf(tree, position(axis, cell)),
+    };
+    is_message(&message);
+    Some(message)
+}
+
+#[cfg(test)]
+mod tests {
+    use super::*;
+    use crate::{check, header_of};
+    use square_layout::Square;
+    use std::test::Fail;
+
+    #[test]
+    fn messages_of_one_share(rt: HostRuntime) -> Result<(), Fail> {
+        let shares = vec![in rt.alloc(); Share([7; 512]); 1]?;
+        let grid = Grid::extend(rt.alloc(), &Square { k: 1, shares })?;
+        let header = header_of(rt.alloc(), &grid)?.expect(&rt, "the namespaces do not fall");
+        let mut tree = Tree::new(rt.alloc(), 2)?;
+        for (row, col) in [(0, 0), (0, 1), (1, 0), (1, 1)] {
+            for axis in [Axis::Row, Axis::Col] {
+                let cell = Cell { row, col };
+                let message = message_of(&grid, cell, axis, &mut tree).expect(
+                    &rt,
+                    "the namespaces do not fall",
+                );
+                assert!(rt; check(&header, message).is_ok(), "{cell:?} {axis:?}");
+            }
+        }
+        Ok(())
+    }
+}
