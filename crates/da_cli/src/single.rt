@@ -16,7 +16,7 @@ pub(crate) enum Unread {
 }
 
 /// Why bytes are not one frame.
-fn unread(error: FrameError) -> Unread
+fn reason(error: FrameError) -> Unread
     ensures { result ≡ unread_of error }
 {
     match error {
@@ -36,7 +36,7 @@ pub(crate) fn header_in(alloc: Global, bytes: &[u8]) -> Result<Header, Unread>
     match read_only(alloc, bytes, b"H") {
         Ok(Frame::Header(header)) => Ok(header),
         Ok(_) => Err(Unread::BadForm(0)),
-        Err(error) => Err(unread(error)),
+        Err(error) => Err(reason(error)),
     }
 }
 
@@ -47,7 +47,7 @@ pub(crate) fn square_in(alloc: Global, bytes: &[u8]) -> Result<Square, Unread>
     match read_only(alloc, bytes, b"S") {
         Ok(Frame::Square(square)) => Ok(square),
         Ok(_) => Err(Unread::BadForm(0)),
-        Err(error) => Err(unread(error)),
+        Err(error) => Err(reason(error)),
     }
 }
 
@@ -58,6 +58,6 @@ pub(crate) fn block_in(alloc: Global, bytes: &[u8]) -> Result<Block, Unread>
     match read_only(alloc, bytes, b"V") {
         Ok(Frame::Block(block)) => Ok(block),
         Ok(_) => Err(Unread::BadForm(0)),
-        Err(error) => Err(unread(error)),
+        Err(error) => Err(reason(error)),
     }
 }
