@@ -1,7 +1,7 @@
 -- What is known of the blobs of a block where no check of them fails.
 use Rattle.std.proofs.Common.{◌≡◌, ◌∙◌, ℕ, zero, suc, ◌≤◌, ◌==◌, Bool, true, false, not, ◌&&◌, if◌then◌else◌, List, [], ◌∷◌, length, slice_index, slice_range, Option, Some, None, refl, sym, ap, subst, arith, ⊎_elim}
 use Rattle.std.specs.List.{AllByRecursion}
-use Rattle.std.specs.Option.{option_map_or}
+use Rattle.std.specs.Option.{option_map_or, option_or}
 use Rattle.std.proofs.lemmas.Bool.{true≢false}
 use Rattle.std.proofs.lemmas.Bool.Decides.{nat_tests}
 use Rattle.namespace_id.specs.declared.namespaces.NsError.{NsError}
@@ -13,7 +13,7 @@ use Rattle.square_layout.specs.declared.laying.LayError.{LayError}
 use Rattle.square_layout.specs.declared.laying.LayError.TheVariants.{BadBlob, EmptyBlob}
 use Rattle.square_layout.specs.Blocks.{HaveBytes}
 use Rattle.square_layout.specs.Layout.{in_order}
-use Rattle.square_layout.specs.Refusals.{namespace_refusal, bad_blob, empty_blob}
+use Rattle.square_layout.specs.Refusals.{namespace_refusal, bad_blob, empty_blob, blob_refusal}
 use Rattle.square_layout.proofs.NameLemmas.{IsBetween, All-in_order}
 
 -- ---- the namespace of a blob
@@ -99,9 +99,16 @@ no_empty_blob i (blob ∷ blobs) h =
 
 -- ---- the blobs of a block, as calls see them
 
-pub ordered_have_bytes : (here there order : List NamedBytes) → None ≡ empty_blob 0 here → here ≡ there → order ≡ in_order there → HaveBytes order
-ordered_have_bytes here there order none same is =
-    subst HaveBytes (sym is) (All-in_order (λ (b : NamedBytes). 1 ≤ length b.bytes) there (subst HaveBytes same (no_empty_blob 0 here (sym none))))
+no_refusal : (a b : Option LayError) → None ≡ option_or a b → (a ≡ None) × (b ≡ None)
+no_refusal None b h = (refl, sym h)
+no_refusal (Some e) b h = absurd cc
 
-pub all_between : (here there : List NamedBytes) → None ≡ bad_blob 0 here → here ≡ there → AllByRecursion IsBetween there
-all_between here there none same = subst (AllByRecursion IsBetween) same (no_bad_blob 0 here (sym none))
+pub ordered_have_bytes : (here there order : List NamedBytes) → None ≡ blob_refusal here → here ≡ there → order ≡ in_order there → HaveBytes order
+ordered_have_bytes here there order none same is =
+    let both = no_refusal (bad_blob 0 here) (empty_blob 0 here) none in
+    subst HaveBytes (sym is) (All-in_order (λ (b : NamedBytes). 1 ≤ length b.bytes) there (subst HaveBytes same (no_empty_blob 0 here both.1)))
+
+pub all_between : (here there : List NamedBytes) → None ≡ blob_refusal here → here ≡ there → AllByRecursion IsBetween there
+all_between here there none same =
+    let both = no_refusal (bad_blob 0 here) (empty_blob 0 here) none in
+    subst (AllByRecursion IsBetween) same (no_bad_blob 0 here both.0)

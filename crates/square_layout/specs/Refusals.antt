@@ -34,6 +34,10 @@ empty_blob i [] = None
 empty_blob i (blob ∷ blobs) =
     if length blob.bytes == 0 then Some (EmptyBlob i) else empty_blob (suc i) blobs
 
+-- the first check of blobs that fails: all namespaces come before all bytes
+abbrev pub blob_refusal : List NamedBytes → Option LayError
+blob_refusal blobs = option_or (bad_blob 0 blobs) (empty_blob 0 blobs)
+
 -- ---- the size
 
 -- the greatest square has 128 * 128 shares
@@ -58,11 +62,9 @@ size_refusal width count =
 
 -- ---- the block
 
--- the first check that fails: all namespaces come before all bytes, and the size comes last
+-- the first check that fails
 abbrev pub refusal_of : BlockParts → Option LayError
-refusal_of block =
-    option_or (bad_blob 0 block.blobs)
-    (option_or (empty_blob 0 block.blobs) (size_refusal block.width (needed block)))
+refusal_of block = option_or (blob_refusal block.blobs) (size_refusal block.width (needed block))
 
 -- a call answered the first check that fails, or, where none does, a value; but for want of memory
 abbrev pub Answers : {X : Type 0} → Result X LayError → Option LayError → Type 0

@@ -1,7 +1,7 @@
 //! Which blocks have no square.
 
 ghost use Rattle.std.specs.Prelude.{◌≡◌, ◌<◌, ◌≤◌, Some, None};
-ghost use Rattle.square_layout.specs.Refusals.{namespace_refusal, bad_blob, empty_blob, width_refusal, size_refusal};
+ghost use Rattle.square_layout.specs.Refusals.{namespace_refusal, bad_blob, empty_blob, blob_refusal, width_refusal, size_refusal};
 
 use crate::widths::shares_in;
 use crate::{LayError, MAX_SHARES};
@@ -16,7 +16,7 @@ fn namespace_refusal(name: &Namespace) -> Option<NsError>
 }
 
 /// The first blob whose namespace isn't one of a blob.
-pub fn bad_blob(blobs: &[Blob]) -> Option<LayError>
+fn bad_blob(blobs: &[Blob]) -> Option<LayError>
     ensures { result ≡ bad_blob 0 blobs.now }
 {
     for (i, blob) in blobs.iter().enumerate() {
@@ -28,7 +28,7 @@ pub fn bad_blob(blobs: &[Blob]) -> Option<LayError>
 }
 
 /// The first blob that has no bytes.
-pub fn empty_blob(blobs: &[Blob]) -> Option<LayError>
+fn empty_blob(blobs: &[Blob]) -> Option<LayError>
     ensures { result ≡ empty_blob 0 blobs.now }
 {
     for (i, blob) in blobs.iter().enumerate() {
@@ -37,6 +37,13 @@ pub fn empty_blob(blobs: &[Blob]) -> Option<LayError>
         }
     }
     None
+}
+
+/// The first check of blobs that fails: all namespaces come before all bytes.
+pub fn blob_refusal(blobs: &[Blob]) -> Option<LayError>
+    ensures { result ≡ blob_refusal blobs.now }
+{
+    bad_blob(blobs).or_else(|| empty_blob(blobs))
 }
 
 /// Why a square of the width `k` doesn't hold so many shares.

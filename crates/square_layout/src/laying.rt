@@ -11,7 +11,7 @@ ghost use Rattle.square_layout.specs.Blocks.{HaveBytes};
 ghost use Rattle.square_layout.specs.Layout.{in_order, compact_part, laid, needed, square_of};
 ghost use Rattle.square_layout.specs.Refusals.{max_shares, refusal_of, Answers};
 
-use crate::checking::{bad_blob, empty_blob, size_refusal};
+use crate::checking::{blob_refusal, size_refusal};
 use crate::counting::needed;
 use crate::ordering::blobs_in_order;
 use crate::putting::{put_blobs, put_padding, put_units};
@@ -102,10 +102,7 @@ pub fn lay(alloc: Global, block: &Block) -> Result<Square, LayError>
     ensures names { IfOk result (λ square.
         holds_along is_at_most (map name_in square.shares) ≡ true) }
 {
-    if let Some(refusal) = bad_blob(&block.blobs) {
-        return Err(refusal);
-    }
-    if let Some(refusal) = empty_blob(&block.blobs) {
+    if let Some(refusal) = blob_refusal(&block.blobs) {
         return Err(refusal);
     }
     let Ok(order) = blobs_in_order(alloc, &block.blobs) else {

@@ -14,13 +14,13 @@ use Rattle.square_layout.proofs.laying.lay.Goals as goal
 
 pub needed-count-requires-clause-some : goal.needed-count-requires-clause-some
 needed-count-requires-clause-some c =
-    ordered_have_bytes c.deref-2.result.now c.deref-3.result.now _ c.in_default-empty_blob.ensures (c.deref-2.ensures.value ∙ sym c.deref-3.ensures.value)
-    (ap lent c.deref-4.ensures.value ∙ c.in-Ok.ensures)
+    ordered_have_bytes c.deref.result.now c.deref-2.result.now _ c.in_default.ensures (c.deref.ensures.value ∙ sym c.deref-2.ensures.value)
+    (ap lent c.deref-3.ensures.value ∙ c.in-Ok.ensures)
 
 pub shares_of-requires-clause-some : goal.shares_of-requires-clause-some
 shares_of-requires-clause-some c =
-    ordered_have_bytes c.deref-2.result.now c.deref-3.result.now _ c.in_default-empty_blob.ensures (c.deref-2.ensures.value ∙ sym c.deref-3.ensures.value)
-    (ap lent c.deref-5.ensures.value ∙ c.in-Ok.ensures)
+    ordered_have_bytes c.deref.result.now c.deref-2.result.now _ c.in_default.ensures (c.deref.ensures.value ∙ sym c.deref-2.ensures.value)
+    (ap lent c.deref-4.ensures.value ∙ c.in-Ok.ensures)
 
 -- the layout fits, and padding fills what is left
 pub invariant_of-result : goal.invariant_of-result
