@@ -12,7 +12,8 @@ use Rattle.da_wire.specs.Spelling.{text_bytes, list_bytes, blob_bytes, width_num
 use Rattle.da_wire.specs.Reading.{blob_at, asked_width, block_at}
 use Rattle.da_wire.proofs.ReaderLemmas.{bind_some, bind_again, Takes-then, Takes-all}
 use Rattle.da_wire.proofs.NumberLemmas.{wide16, number_takes, number_again}
-use Rattle.da_wire.proofs.ListFieldLemmas.{IsField, text_field, blob_field, list_field}
+use Rattle.da_wire.proofs.TextFieldLemmas.{IsField, text_field, blob_field}
+use Rattle.da_wire.proofs.ListFieldLemmas.{list_field}
 
 abbrev pub block : ℕ → List (List ℕ) → List (List ℕ) → List NamedBytes → BlockParts
 block width units pay_units blobs = record { units = units; pay_units = pay_units; blobs = blobs; width = asked_width width }

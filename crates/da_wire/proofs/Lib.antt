@@ -13,6 +13,7 @@ pub mod MessageFormLemmas
 pub mod MissingFormLemmas
 pub mod RequestFormLemmas
 pub mod ManyLemmas
+pub mod TextFieldLemmas
 pub mod ListFieldLemmas
 pub mod BlockFormLemmas
 pub mod BlockPartLemmas

@@ -32,12 +32,14 @@ unfoldable pub values_of : {A : Type 0} → (List ℕ → A) → ℕ → ℕ →
 values_of value size zero bytes = []
 values_of value size (suc count) bytes = value (take size bytes) ∷ values_of value size count (drop size bytes)
 
+-- the digest that bytes are
 abbrev pub digest : List ℕ → Digest
 digest bytes = record { 0 = bytes }
 
 abbrev pub digests_of : ℕ → List ℕ → List Digest
 digests_of count bytes = values_of digest 90 count bytes
 
+-- the share that bytes are
 abbrev pub share : List ℕ → Share
 share bytes = record { 0 = bytes }
 

@@ -65,6 +65,7 @@ header_payload h = to_be_bytes w16 h.k ++ digest_bytes h.rows ++ digest_bytes h.
 abbrev pub share_bytes : List Share → List ℕ
 share_bytes shares = flat_map (λ s. s.0) shares
 
+-- a width, and its shares, row-major
 abbrev pub square_payload : SquareShares → List ℕ
 square_payload s = to_be_bytes w16 s.k ++ share_bytes s.shares
 
@@ -106,6 +107,7 @@ blob_bytes blob = blob.namespace.0 ++ 0 ∷ text_bytes blob.bytes
 abbrev pub width_number : Option ℕ → ℕ
 width_number width = option_map_or (λ k. k) width 0
 
+-- a width or 0, and three lists: units, units of payments, blobs
 abbrev pub block_payload : BlockParts → List ℕ
 block_payload b =
     to_be_bytes w16 (width_number b.width) ++ list_bytes text_bytes b.units
