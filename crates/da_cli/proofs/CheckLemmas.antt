@@ -6,6 +6,9 @@ use Rattle.namespace_id.specs.Bytes.{AreBytes}
 use Rattle.axis_roots.specs.declared.messages.Message as sent
 use Rattle.axis_roots.specs.declared.messages.CheckRefusal.{CheckRefusal}
 use Rattle.axis_roots.specs.Messages.{refusal_of, IsMessage}
+use Rattle.square_layout.specs.Blocks.{SquareShares}
+use Rattle.axis_roots.specs.Grids.{IsHeaderOf}
+use Rattle.axis_roots.specs.Own.{IsOwn}
 use Rattle.axis_roots.specs.Openings.{IsProved}
 use Rattle.da_wire.specs.Spelling.{message_kind}
 use Rattle.da_wire.specs.Laws.{MessageIsSpelled}
@@ -23,7 +26,7 @@ use Rattle.da_cli.specs.Statuses.{kind_of, output}
 use Rattle.da_cli.specs.Outcome.{Relation, Refuses}
 use Rattle.da_cli.specs.Judging.{Judged}
 use Rattle.da_cli.specs.Single.{header_in, error_of}
-use Rattle.da_cli.specs.Check.{message_in, IsProvedFrame, finding_of, line_of, is_ok, lines_of, are_ok, status_of, Lists, CheckOf}
+use Rattle.da_cli.specs.Check.{message_in, IsProvedFrame, IsOwnFrame, finding_of, line_of, is_ok, lines_of, are_ok, status_of, Lists, CheckOf}
 use Rattle.da_cli.specs.Meaning.{Meaning}
 
 -- the answer by what the two files are
@@ -105,3 +108,8 @@ finding_proved header frame spelled refusal roots bytes =
       λ e. let r = by_message header (message_in frame) e in (r.0, r.1, (refusal header r.0 roots (sized r.0 r.1)).0 r.2),
       λ p. ap (finding_by header) p.1 ∙ ap (λ (o : Option CheckRefusal). option_map_or Refused o Proved) ((refusal header p.0 roots (sized p.0 p.1)).1 p.2),
     )
+
+-- a message that is proved under the header of a square shows the square's own share, or they name a collision
+pub finding_own : (header : Roots) (frame : Raw) (square : SquareShares) → IsProvedFrame header frame
+    → ((h : Roots) (m : sent.Message) → IsProved h m → IsOwn h m) → IsHeaderOf header square → IsOwnFrame frame square
+finding_own header frame square proved law own = (proved.0, proved.1, law header proved.0 proved.2 square own)

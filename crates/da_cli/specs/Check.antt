@@ -1,12 +1,14 @@
 -- check HEADER MESSAGES: which messages of a list of frames are proved under a header.
-use Rattle.std.specs.Prelude.{◌≡◌, ℕ, List, [], ◌∷◌, codes, Bool, true, false, Option, Some, None, MatchResult, ◌==◌, if◌then◌else◌}
+use Rattle.std.specs.Prelude.{◌≡◌, ◌⊎◌, ℕ, List, [], ◌∷◌, codes, Bool, true, false, Option, Some, None, MatchResult, ◌==◌, if◌then◌else◌}
 use Rattle.std.specs.List.{flat_map, list_all}
 use Rattle.std.specs.Option.{option_map_or}
 use Rattle.data_header.specs.Headers.{Roots}
 use Rattle.axis_roots.specs.declared.messages.Message as sent
 use Rattle.axis_roots.specs.declared.messages.CheckRefusal.TheVariants.{OutOfSquare, NodeCount, Unordered, OtherRoot}
 use Rattle.axis_roots.specs.Messages.{refusal_of}
+use Rattle.square_layout.specs.Blocks.{SquareShares}
 use Rattle.axis_roots.specs.Openings.{IsProved}
+use Rattle.axis_roots.specs.Own.{ShowsOwn, NamesClash}
 use Rattle.da_wire.specs.Spelling.{message_kind}
 use Rattle.da_wire.specs.Reading.{Raw, message_at}
 use Rattle.da_wire.specs.Frames.{frames_of, bad_frame}
@@ -56,6 +58,12 @@ status_of all_ok = if all_ok then Done else Refused
 -- a frame is a message that is proved under the header
 abbrev pub IsProvedFrame : Roots → Raw → Type 0
 IsProvedFrame header frame = (m : sent.Message) × (message_in frame ≡ Some m) × IsProved header m
+
+-- a frame is a message that shows the square's own share, or the message and the square name a
+-- collision
+abbrev pub IsOwnFrame : Raw → SquareShares → Type 0
+IsOwnFrame frame square =
+    (m : sent.Message) × (message_in frame ≡ Some m) × (ShowsOwn m square ⊎ NamesClash m square)
 
 -- ---- the command
 

@@ -2,6 +2,7 @@
 
 ghost use Rattle.std.specs.Prelude.{◌≡◌, IsSome};
 ghost use Rattle.da_wire.specs.Spelling.{spelling};
+ghost use Rattle.da_wire.specs.declared.frames.Frame.TheVariants as FrameOf;
 ghost use Rattle.da_cli.specs.declared.words.Command.TheVariants.{Build, Header};
 ghost use Rattle.da_cli.specs.Gathered.{contents_of};
 ghost use Rattle.da_cli.specs.Squares.{Gives, Builds, Heads};
@@ -11,11 +12,36 @@ ghost use Rattle.da_cli.specs.Outcome.{Ends};
 use crate::files::file;
 use crate::single::{Unread, block_in, square_in};
 use crate::{Asked, Status};
-use axis_roots::{Grid, header_of};
+use axis_roots::{Grid, grid_laws, header_of};
 use da_io::{Sink, write_all};
-use da_wire::{Frame, SpellError, write_frame};
+use da_wire::{Frame, SpellError, wire_laws, write_frame};
+use data_header::Header;
+use namespace_id::{are_digests, are_shares};
 use square_layout::{Block, LayError, Square, lay};
 use std::alloc::Global;
+
+/// The frame of a square.
+fn square_frame(square: Square) -> Frame
+    ensures value { result ≡ FrameOf.Square square }
+    ensures spelled { IsSome (spelling result) }
+{
+    wire_laws();
+    are_shares(&square.shares);
+    let _k = square.k;
+    Frame::Square(square)
+}
+
+/// The frame of a header.
+fn header_frame(header: Header) -> Frame
+    ensures value { result ≡ FrameOf.Header header }
+    ensures spelled { IsSome (spelling result) }
+{
+    wire_laws();
+    are_digests(&header.rows);
+    are_digests(&header.cols);
+    let _k = header.k;
+    Frame::Header(header)
+}
 
 /// Writes one frame, as one piece.
 fn give<O: Sink>(alloc: Global, frame: &Frame, out: &mut O) -> Status
@@ -41,7 +67,7 @@ fn build_square<O: Sink>(alloc: Global, block: &Block, out: &mut O) -> Status
         (O.faults out.new) (out.new ≡ out.old) result }
 {
     match lay(alloc, block) {
-        Ok(square) => give(alloc, &Frame::Square(square), out),
+        Ok(square) => give(alloc, &square_frame(square), out),
         Err(LayError::NoMemory) => Status::NoMemory,
         Err(why) => Status::BadBlock(why),
     }
@@ -64,11 +90,13 @@ fn give_header<O: Sink>(alloc: Global, square: &Square, out: &mut O) -> Status
     ensures { Ends (Heads square.now) (O.taken out.old) (O.taken out.new) (O.faults out.old)
         (O.faults out.new) (out.new ≡ out.old) result }
 {
+    grid_laws();
+    let _k = square.k;
     let Ok(grid) = Grid::extend(alloc, square) else {
         return Status::NoMemory;
     };
     match header_of(alloc, &grid) {
-        Ok(Some(header)) => give(alloc, &Frame::Header(header), out),
+        Ok(Some(header)) => give(alloc, &header_frame(header), out),
         Ok(None) => Status::BadRequest(Asked::NoHeader),
         Err(_) => Status::NoMemory,
     }

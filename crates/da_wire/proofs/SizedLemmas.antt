@@ -1,6 +1,6 @@
 -- The length of each payload.
-use Rattle.std.proofs.Common.{◌≡◌, ◌∙◌, ℕ, ◌+◌, ◌*◌, ◌<◌, ◌≤◌, Bool, true, false, cond, List, ◌∷◌, length, length-append, Option, Some, None, ap, arith}
-use Rattle.std.specs.Prelude.{◌==◌}
+use Rattle.std.proofs.Common.{◌≡◌, ◌∙◌, ℕ, ◌+◌, ◌*◌, ◌<◌, ◌≤◌, Bool, true, false, cond, List, ◌∷◌, length, length-append, Option, Some, None, refl, sym, ap, subst, arith}
+use Rattle.std.specs.Prelude.{◌==◌, IsSome}
 use Rattle.std.proofs.Math.Nat.{mul-le-mul_left}
 use Rattle.std.proofs.lemmas.Bool.Decides.{nat_tests}
 use Rattle.namespace_id.specs.declared.namespaces.Namespace.{Namespace}
@@ -11,7 +11,7 @@ use Rattle.data_header.specs.Headers.{Roots, AreRoots}
 use Rattle.axis_roots.specs.declared.messages.Message as sent
 use Rattle.square_layout.specs.Blocks.{SquareShares, IsSquare}
 use Rattle.da_wire.specs.declared.frames.Frame.TheVariants.{Header, Square, Message, Missing, Request}
-use Rattle.da_wire.specs.Spelling.{spelled, header_kind, square_kind, message_kind, missing_kind, request_kind, digest_bytes, header_payload, square_payload, message_payload, missing_payload, request_payload}
+use Rattle.da_wire.specs.Spelling.{IsHeader, spelled, spelling, header_kind, square_kind, message_kind, missing_kind, request_kind, digest_bytes, header_payload, square_payload, message_payload, missing_payload, request_payload}
 use Rattle.da_wire.specs.Writing.{HasSize}
 use Rattle.da_wire.proofs.DigestBytesLemmas.{length-digest_bytes}
 use Rattle.da_wire.proofs.SquareFormLemmas.{length-share_bytes}
@@ -71,3 +71,13 @@ missing_beyond cells some many =
 
 pub request_sized : (name : Namespace) (n : ℕ) → n ≡ length name.0 → n ≤ 29 → HasSize (Request name) (Some n)
 request_sized name n e few = (e, spelled_within request_kind n (request_payload name) e (omega arith))
+
+-- a value with a spelling has one
+some_spelling : {A : Type 0} (o : Option A) (x : A) → o ≡ Some x → IsSome o
+some_spelling o x e = subst IsSome (sym e) refl
+
+pub header_spelled : (h : Roots) → IsHeader h → IsSome (spelling (Header h))
+header_spelled h is = some_spelling (spelling (Header h)) _ (header_sized h (2 + 360 * h.k) is.roots is.rows is.cols refl).1
+
+pub square_spelled : (s : SquareShares) → IsSquare s → AreShares s.shares → IsSome (spelling (Square s))
+square_spelled s is shares = some_spelling (spelling (Square s)) _ (square_sized s (2 + 512 * (s.k * s.k)) is shares refl).1

@@ -1,7 +1,11 @@
 //! What is spelled is read, and what is read is spelled.
 
-ghost use Rattle.std.specs.Prelude.{◌≡◌};
-ghost use Rattle.da_wire.specs.Spelling.{max_payload};
+ghost use Rattle.std.specs.Prelude.{◌≡◌, IsSome};
+ghost use Rattle.data_header.specs.Headers.{Roots};
+ghost use Rattle.namespace_id.specs.Shares.{AreShares};
+ghost use Rattle.square_layout.specs.Blocks.{SquareShares, IsSquare};
+ghost use Rattle.da_wire.specs.declared.frames.Frame.TheVariants.{Header, Square};
+ghost use Rattle.da_wire.specs.Spelling.{max_payload, spelling, IsHeader};
 ghost use Rattle.da_wire.specs.Laws.{SpelledIsRead, ReadIsSpelled, OneSpelling, MessageIsRead, MessageIsSpelled, FramesAreTheFile, FilesAreFrames};
 
 use crate::reading::MAX_PAYLOAD;
@@ -12,6 +16,11 @@ pub fn wire_laws()
     ensures read { SpelledIsRead }
     ensures spelled { ReadIsSpelled }
     ensures one { OneSpelling }
+
+    // Every header and every square has a spelling.
+    ensures headers { (header : Roots) → IsHeader header → IsSome (spelling (Header header)) }
+    ensures squares { (square : SquareShares) → IsSquare square → AreShares square.shares →
+        IsSome (spelling (Square square)) }
 
     // The payloads of messages.
     ensures message_read { MessageIsRead }

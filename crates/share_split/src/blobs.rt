@@ -31,14 +31,14 @@ pub const MAX_SEQUENCE_LENGTH: usize = 4_294_967_295;
 /// The version of all shares here.
 const SHARE_VERSION: u8 = 0;
 
-/// Why a blob was not split. The variants stand in the order in which they are tested.
+/// Why a blob or units were not split. The variants stand in the order in which they are tested.
 #[derive(Clone, Copy, Debug, PartialEq, Eq, Error)]
 pub enum SplitError {
     /// There are no bytes.
     #[error("a blob has at least one byte")]
     Empty,
     /// There are more than `MAX_SEQUENCE_LENGTH` bytes.
-    #[error("a blob has at most 4294967295 bytes")]
+    #[error("a sequence has at most 4294967295 bytes")]
     TooLong,
     /// There was no memory.
     #[error("out of memory")]

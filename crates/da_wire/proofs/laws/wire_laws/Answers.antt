@@ -1,6 +1,7 @@
 use Rattle.da_wire.proofs.MessageFormLemmas.{message_again, message_takes}
 use Rattle.da_wire.proofs.FrameLemmas.{spelled_is_read, read_is_spelled, one_spelling}
 use Rattle.da_wire.proofs.FrameListLemmas.{frames_are_the_file, files_are_frames}
+use Rattle.da_wire.proofs.SizedLemmas.{header_spelled, square_spelled}
 use Rattle.da_wire.proofs.laws.wire_laws.Goals as goal
 
 pub returns-clause-read : goal.returns-clause-read
@@ -11,6 +12,12 @@ returns-clause-spelled c = read_is_spelled
 
 pub returns-clause-one : goal.returns-clause-one
 returns-clause-one c = one_spelling
+
+pub returns-clause-headers : goal.returns-clause-headers
+returns-clause-headers c = header_spelled
+
+pub returns-clause-squares : goal.returns-clause-squares
+returns-clause-squares c = square_spelled
 
 pub returns-clause-message_read : goal.returns-clause-message_read
 returns-clause-message_read c = message_again
