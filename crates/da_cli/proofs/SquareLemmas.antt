@@ -1,21 +1,28 @@
 -- Lemmas on the commands build and header.
-use Rattle.std.proofs.Common.{◌≡◌, ◌∙◌, ℕ, List, Some, None, Result, Ok, Err, sym, ap, subst, inl, inr}
+use Rattle.std.proofs.Common.{◌≡◌, ◌∙◌, ℕ, List, [], ◌∷◌, Some, None, Result, Ok, Err, refl, sym, ap, subst, inl, inr}
 use Rattle.std.specs.Prelude.{◌⊎◌, MatchResult, MatchOption}
 use Rattle.std.specs.declared.option.Option.{Option}
 use Rattle.data_header.specs.Headers.{Roots}
 use Rattle.square_layout.specs.declared.laying.LayError.{LayError}
-use Rattle.square_layout.specs.Blocks.{BlockParts, SquareShares}
+use Rattle.namespace_id.specs.declared.shares.Share.{Share}
+use Rattle.square_layout.specs.Blocks.{BlockParts, SquareShares, IsSquare}
 use Rattle.square_layout.specs.Layout.{square_of}
 use Rattle.square_layout.specs.Refusals.{refusal_of}
+use Rattle.axis_roots.specs.Grids.{Extends, header_of_grid, IsHeaderOf}
 use Rattle.da_wire.specs.declared.frames.Frame.{Frame}
-use Rattle.da_wire.specs.declared.frames.Frame.TheVariants.{Square}
+use Rattle.da_wire.specs.declared.frames.Frame.TheVariants.{Header, Square}
+use Rattle.da_wire.specs.Spelling.{spelling}
 use Rattle.da_cli.specs.declared.status.Status.{Status}
-use Rattle.da_cli.specs.declared.status.Status.TheVariants.{BadBlock}
+use Rattle.da_cli.specs.declared.status.Status.TheVariants.{BadBlock, BadRequest}
+use Rattle.da_cli.specs.declared.status.Asked.TheVariants.{NoHeader}
 use Rattle.da_cli.specs.Statuses.{Kind, kind_of}
 use Rattle.da_cli.specs.Gathered.{file_of}
-use Rattle.da_cli.specs.Outcome.{Refuses}
-use Rattle.da_cli.specs.Single.{square_in, block_in}
-use Rattle.da_cli.specs.Squares.{Gives, Builds, BuildOf, Heads, HeaderOf}
+use Rattle.da_cli.specs.Outcome.{Relation, Refuses}
+use Rattle.da_cli.specs.Judging.{Judged}
+use Rattle.da_cli.specs.Single.{square_in, block_in, error_of}
+use Rattle.da_cli.specs.Squares.{Gives, Builds, BuildOf, HasNoHeader, Heads, HeaderOf}
+use Rattle.da_cli.specs.declared.words.Command.TheVariants as command
+use Rattle.da_cli.specs.Meaning.{Meaning}
 use Rattle.da_cli.proofs.EndLemmas.{IsAnswer}
 
 -- the status of an answer
@@ -44,3 +51,46 @@ by_square (Err at) w status h = absurd h
 
 pub header_answers : (files : List (List ℕ)) (w : List ℕ) (status : Status) → HeaderOf files w status → IsAnswer (kind_of status)
 header_answers files w status h = by_square (square_in (file_of files 0)) w status h
+
+-- the frame of the square of a block without a refusal
+pub builds_square : (block : BlockParts) (square : SquareShares) (frame : Frame) → refusal_of block ≡ None → square ≡ square_of block
+    → frame ≡ Square square → (w : List ℕ) (status : Status) → Gives frame w status → Builds block w status
+builds_square block square frame fine laid is w status gives =
+    let same : frame ≡ Square (square_of block) = is ∙ ap Square laid in
+    subst (λ (o : Option LayError). MatchOption o (Gives (Square (square_of block)) w status) (λ why. Refuses (BadBlock why) w status))
+    (sym fine) (ap spelling (sym same) ∙ gives.0, gives.1)
+
+-- the meaning of a file that is a block
+build_by : Result BlockParts ℕ → Relation
+build_by read = Judged (error_of read ∷ []) (λ w status. MatchResult read (λ block. Builds block w status) (λ at. ⊥))
+
+pub build_is : (files : List (List ℕ)) (block : BlockParts) → block_in (file_of files 0) ≡ Ok block → Builds block ≡ Meaning command.Build files
+build_is files block read = sym (ap build_by read)
+
+-- the header of a square's extension is the square's
+pub own_header : (square : SquareShares) (k : ℕ) (grid : List Share) (header : Roots) → IsSquare square → k ≡ square.k
+    → Extends square.k square.shares grid → Some header ≡ header_of_grid k grid → IsHeaderOf header square
+own_header square k grid header whole same extends is = record {
+  whole = whole;
+  grid = grid;
+  extends = extends;
+  roots = ap (λ (n : ℕ). header_of_grid n grid) (sym same) ∙ sym is;
+}
+
+-- the frame of the square's header
+pub heads_header : (square : SquareShares) (header : Roots) (frame : Frame) → IsHeaderOf header square → frame ≡ Header header
+    → (w : List ℕ) (status : Status) → Gives frame w status → Heads square w status
+heads_header square header frame own is w status gives = inl (header, own, (ap spelling (sym is) ∙ gives.0, gives.1))
+
+-- the square has no header
+pub heads_none : (square : SquareShares) (k : ℕ) (grid : List Share) → k ≡ square.k → None ≡ header_of_grid k grid
+    → ((header : Roots) → header_of_grid square.k grid ≡ None → IsHeaderOf header square → ⊥) → Heads square [] (BadRequest NoHeader)
+heads_none square k grid same is law =
+    inr ((λ header own. law header (ap (λ (n : ℕ). header_of_grid n grid) (sym same) ∙ sym is) own), (refl, refl))
+
+-- the meaning of a file that is a square
+header_by : Result SquareShares ℕ → Relation
+header_by read = Judged (error_of read ∷ []) (λ w status. MatchResult read (λ square. Heads square w status) (λ at. ⊥))
+
+pub header_is : (files : List (List ℕ)) (square : SquareShares) → square_in (file_of files 0) ≡ Ok square → Heads square ≡ Meaning command.Header files
+header_is files square read = sym (ap header_by read)

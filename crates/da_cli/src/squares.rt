@@ -3,7 +3,7 @@
 ghost use Rattle.std.specs.Prelude.{◌≡◌, IsSome};
 ghost use Rattle.da_wire.specs.Spelling.{spelling};
 ghost use Rattle.da_wire.specs.declared.frames.Frame.TheVariants as FrameOf;
-ghost use Rattle.da_cli.specs.declared.words.Command.TheVariants.{Build, Header};
+ghost use Rattle.da_cli.specs.declared.words.Command.TheVariants as CommandOf;
 ghost use Rattle.da_cli.specs.Gathered.{contents_of};
 ghost use Rattle.da_cli.specs.Squares.{Gives, Builds, Heads};
 ghost use Rattle.da_cli.specs.Meaning.{Meaning};
@@ -75,7 +75,7 @@ fn build_square<O: Sink>(alloc: Global, block: &Block, out: &mut O) -> Status
 
 /// Lays out the block in the file.
 pub(crate) fn build<O: Sink>(alloc: Global, files: &[Vec<u8>], out: &mut O) -> Status
-    ensures { Ends (Meaning Build (contents_of files.now)) (O.taken out.old) (O.taken out.new)
+    ensures { Ends (Meaning CommandOf.Build (contents_of files.now)) (O.taken out.old) (O.taken out.new)
         (O.faults out.old) (O.faults out.new) (out.new ≡ out.old) result }
 {
     match block_in(alloc, file(files, 0)) {
@@ -104,7 +104,7 @@ fn give_header<O: Sink>(alloc: Global, square: &Square, out: &mut O) -> Status
 
 /// Computes the header of the square in the file.
 pub(crate) fn header<O: Sink>(alloc: Global, files: &[Vec<u8>], out: &mut O) -> Status
-    ensures { Ends (Meaning Header (contents_of files.now)) (O.taken out.old) (O.taken out.new)
+    ensures { Ends (Meaning CommandOf.Header (contents_of files.now)) (O.taken out.old) (O.taken out.new)
         (O.faults out.old) (O.faults out.new) (out.new ≡ out.old) result }
 {
     match square_in(alloc, file(files, 0)) {

@@ -1,9 +1,12 @@
 //! The worked files of `build` and `header`.
 
-use super::{ROOT, Ran, tail_padding, text, texts};
+use super::{ROOT, Ran, SAMPLE, checked, tail_padding, text, texts};
 use crate::{Asked, Status, run};
+use axis_roots::{Grid, message_of};
 use da_io::{MemInputs, MemSink};
-use namespace_id::NsError;
+use da_wire::{Frame, read_only, write_frame};
+use namespace_id::{Axis, Cell, NsError};
+use nmt_tree::Tree;
 use square_layout::LayError;
 use std::alloc::Global;
 use std::test::Fail;
@@ -87,7 +90,7 @@ pub(super) fn ran(alloc: Global, command: &str, file: Vec<u8>) -> Result<Ran, Fa
 }
 
 /// The square of an empty block: one tail padding share.
-fn empty_square(alloc: Global) -> Result<Vec<u8>, Fail> {
+pub(super) fn empty_square(alloc: Global) -> Result<Vec<u8>, Fail> {
     let mut bytes = Vec::from_slice(alloc, &[b'S', 0, 0, 2, 2, 0, 1])?;
     tail_padding(&mut bytes)?;
     bytes.push(1)?;
@@ -96,7 +99,7 @@ fn empty_square(alloc: Global) -> Result<Vec<u8>, Fail> {
 }
 
 /// The header of this square: its row and its column are alike, and so are those of parity.
-fn empty_header(alloc: Global) -> Result<Vec<u8>, Fail> {
+pub(super) fn empty_header(alloc: Global) -> Result<Vec<u8>, Fail> {
     let mut bytes = Vec::from_slice(alloc, &[b'H', 0, 0, 1, 0x6a, 0, 1])?;
     for _ in 0..2 {
         tail_padding(&mut bytes)?;
@@ -250,5 +253,62 @@ fn falling_namespaces(rt: HostRuntime) -> Result<(), Fail> {
     assert!(rt; ended.out.bytes.is_empty());
     let note = "bad request: no header\n";
     assert_eq!(rt; ended.notes.bytes.as_slice(), note.as_bytes());
+    Ok(())
+}
+
+/// The frame of the message of cell (0, 0) on its row, made from a square's frame.
+fn first_message(alloc: Global, square: &[u8]) -> Result<Vec<u8>, Fail> {
+    let Frame::Square(square) = read_only(alloc, square, b"S")? else {
+        return Err(Fail::new("no square"));
+    };
+    let grid = Grid::extend(alloc, &square)?;
+    if square.k != 2 {
+        return Err(Fail::new("another width"));
+    }
+    let mut tree = Tree::new(alloc, 4)?;
+    let cell = Cell { row: 0, col: 0 };
+    let Some(message) = message_of(&grid, cell, Axis::Row, &mut tree) else {
+        return Err(Fail::new("falling namespaces"));
+    };
+    let mut bytes = Vec::new(alloc);
+    write_frame(&Frame::Message(message), &mut bytes)?;
+    Ok(bytes)
+}
+
+/// Appends the good message with some of its bytes changed, from a place on.
+fn put_changed(all: &mut Vec<u8>, good: &[u8], at: usize, bytes: &[u8]) -> Result<(), Fail> {
+    all.extend_from_slice(&good[..at])?;
+    all.extend_from_slice(bytes)?;
+    all.extend_from_slice(&good[at + bytes.len()..])?;
+    Ok(())
+}
+
+/// The message of cell (0, 0) of a square of width 2: as it is, with the last byte of its share
+/// changed, without its second node, in row 4, with a first node of zeros; and a sample request.
+#[test]
+fn messages_of_a_square(rt: HostRuntime) -> Result<(), Fail> {
+    let alloc = rt.alloc();
+    let three = [(0x0101, 1), (0x0102, 479), (0x0104, 1)];
+    let plan = Plan {
+        blobs: &three,
+        ..EMPTY
+    };
+    let square = ran(alloc, "build", block(alloc, plan)?)?.out.bytes;
+    let good = first_message(alloc, &square)?;
+    assert_eq!(rt; good.len(), 703);
+    let header = ran(alloc, "header", square)?.out.bytes;
+    let mut all = Vec::new(alloc);
+    all.extend_from_slice(&good)?;
+    put_changed(&mut all, &good, 521, &[1])?;
+    let mut shorter = Vec::new(alloc);
+    put_changed(&mut shorter, &good, 1, &[0, 0, 0x02, 0x60])?;
+    put_changed(&mut all, &shorter[..613], 522, &[1])?;
+    put_changed(&mut all, &good, 5, &[0, 4])?;
+    put_changed(&mut all, &good, 523, &[0; 90])?;
+    all.extend_from_slice(&SAMPLE)?;
+    let ended = checked(alloc, header, all)?;
+    assert_eq!(rt; ended.status, Status::Refused);
+    let lines = "ok\nrefused 4\nrefused 2\nrefused 1\nrefused 3\nrefused 0\n";
+    assert_eq!(rt; ended.out.bytes.as_slice(), lines.as_bytes());
     Ok(())
 }

@@ -1,5 +1,6 @@
 //! Runs that end with their row or with want of memory, whichever allocation fails.
 
+use super::squares::{empty_header, empty_square, ran};
 use super::{Change, Ran, SAMPLE, checked, header, inputs, list, message, run_words};
 use crate::Status;
 use std::alloc::Global;
@@ -72,5 +73,33 @@ fn words(rt: HostRuntime) -> Result<(), Fail> {
         let ran = run_over(rt.alloc(), words)?;
         assert!(rt; is_row(&ran, want, ""), "{words:?}");
     }
+    Ok(())
+}
+
+/// Whether a run over one file ended with these bytes and done, or with want of memory and nothing
+/// written.
+fn gives(ran: &Ran, want: &[u8]) -> bool {
+    let taken = ran.out.bytes.as_slice();
+    if ran.status == Status::NoMemory {
+        return taken.is_empty();
+    }
+    ran.status == Status::Done && taken == want
+}
+
+#[test]
+fn built(rt: HostRuntime) -> Result<(), Fail> {
+    let want = empty_square(rt.alloc())?;
+    let block = Vec::from_slice(rt.alloc(), b"V\0\0\0\x0e\0\0\0\0\0\0\0\0\0\0\0\0\0\0")?;
+    let ran = ran(rt.alloc(), "build", block)?;
+    assert!(rt; gives(&ran, &want));
+    Ok(())
+}
+
+#[test]
+fn headed(rt: HostRuntime) -> Result<(), Fail> {
+    let want = empty_header(rt.alloc())?;
+    let square = empty_square(rt.alloc())?;
+    let ran = ran(rt.alloc(), "header", square)?;
+    assert!(rt; gives(&ran, &want));
     Ok(())
 }
