@@ -2,7 +2,8 @@
 //! are over them.
 //!
 //! Shares have version 0. The length of a sequence stands in its first share alone, and zeros fill
-//! the last one up.
+//! the last one up. Units, as transactions, stand one after another in compact shares, each behind its
+//! length.
 #![tactic(auto)]
 
 mod blobs;
