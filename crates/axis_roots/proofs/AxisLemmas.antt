@@ -9,10 +9,12 @@ use Rattle.leopard_code.proofs.PointLemmas.{length-ascending, get_or-ascending}
 use Rattle.axis_roots.specs.Messages.{position, index}
 use Rattle.axis_roots.specs.Grids.{cell_on, axis_cells}
 
+-- the cell at a place of an axis is on it
 pub index-cell_on : (axis : Axis) (i pos : ℕ) → index axis (cell_on axis i pos) ≡ i
 index-cell_on Row i pos = refl
 index-cell_on Col i pos = refl
 
+-- and stands at that place
 pub position-cell_on : (axis : Axis) (i pos : ℕ) → position axis (cell_on axis i pos) ≡ pos
 position-cell_on Row i pos = refl
 position-cell_on Col i pos = refl
@@ -22,10 +24,12 @@ pub cell_on-own : (axis : Axis) (cell : Cell) → cell_on axis (index axis cell)
 cell_on-own Row cell = refl
 cell_on-own Col cell = refl
 
+-- an axis has 2k cells
 pub length-axis_cells : (k : ℕ) (axis : Axis) (i : ℕ) → length (axis_cells k axis i) ≡ 2 * k
 unfolding axis_cells
 length-axis_cells k axis i = length-map (ascending 0 (2 * k)) (cell_on axis i) ∙ length-ascending (2 * k) 0
 
+-- the cell at one place
 get_or-axis_cells : (k : ℕ) (axis : Axis) (i pos : ℕ) (d : Cell) → pos < 2 * k → get_or (axis_cells k axis i) pos d ≡ cell_on axis i pos
 unfolding axis_cells
 get_or-axis_cells k axis i pos d h =

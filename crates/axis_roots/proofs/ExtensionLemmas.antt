@@ -33,6 +33,7 @@ module _ (k : ℕ) (w : Cell → Share) (lines : Lines k w) where
       subst IsShare (get_or-along k w Col col row blank hr)
       (share_in word row blank (omega (arith, length-along k w Col col)) (lines.cols col hc).shares)
 
+  -- so have those of each row
   row_shares : (row : ℕ) → row < 2 * k → AreShares (map w (axis_cells k Row row))
   row_shares row hr =
       shares_each (map w (axis_cells k Row row)) blank (λ col h.

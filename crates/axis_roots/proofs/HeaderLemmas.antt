@@ -17,6 +17,7 @@ use Rattle.axis_roots.proofs.ExtensionLemmas.{extension_once}
 
 -- ---- a test of each of some numbers
 
+-- what the test of all says of one
 pub all-at : (p : ℕ → Bool) (n first : ℕ) → list_all p (ascending first n) ≡ true → (i : ℕ) → first ≤ i → i < first + n → p i ≡ true
 unfolding ascending
 all-at p zero first all i low high = absurd (omega arith)
@@ -27,6 +28,7 @@ all-at p (suc n) first all i low high =
       | inr here ↦ let e : first ≡ i = omega arith in ap p (sym e) ∙ both.0
     ]
 
+-- all pass where each one does
 pub all-each : (p : ℕ → Bool) (n first : ℕ) → ((i : ℕ) → first ≤ i → i < first + n → p i ≡ true) → list_all p (ascending first n) ≡ true
 unfolding ascending
 all-each p zero first each = refl
@@ -34,6 +36,7 @@ all-each p (suc n) first each =
     and_from (p first) (list_all p (ascending (suc first) n)) (each first (omega arith) (omega arith))
     (all-each p n (suc first) (λ i low high. each i (omega arith) (omega arith)))
 
+-- where not all pass, one fails
 one_fails : (p : ℕ → Bool) (n first : ℕ) → list_all p (ascending first n) ≡ false → (i : ℕ) × (i < first + n) × (p i ≡ false)
 unfolding ascending
 one_fails p zero first fails = absurd cc
@@ -47,6 +50,7 @@ one_fails p (suc n) first fails = elim (cases_Bool (p first)) [
 
 -- ---- the order of all axes
 
+-- where all axes are ordered, each one is
 pub ordered_axis : (k : ℕ) (shares : List Share) → are_ordered_axes k shares ≡ true → (axis : Axis) (index : ℕ) → index < 2 * k → is_ordered_axis k shares axis index ≡ true
 unfolding are_ordered_axes
 ordered_axis k shares all Row index h =
@@ -56,6 +60,7 @@ ordered_axis k shares all Col index h =
     let both = and_parts (list_all (is_ordered_axis k shares Row) (ascending 0 (2 * k))) (list_all (is_ordered_axis k shares Col) (ascending 0 (2 * k))) all in
     all-at (is_ordered_axis k shares Col) (2 * k) 0 both.1 index (omega arith) (omega arith)
 
+-- and the other way round
 pub ordered_axes : (k : ℕ) (shares : List Share) → ((axis : Axis) (index : ℕ) → index < 2 * k → is_ordered_axis k shares axis index ≡ true) → are_ordered_axes k shares ≡ true
 unfolding are_ordered_axes
 ordered_axes k shares each =
@@ -63,6 +68,7 @@ ordered_axes k shares each =
     (all-each (is_ordered_axis k shares Row) (2 * k) 0 (λ i low high. each Row i (omega arith)))
     (all-each (is_ordered_axis k shares Col) (2 * k) 0 (λ i low high. each Col i (omega arith)))
 
+-- where not all are, one falls
 falling_axis : (k : ℕ) (shares : List Share) → are_ordered_axes k shares ≡ false → (axis : Axis) × (index : ℕ) × (index < 2 * k) × (is_ordered_axis k shares axis index ≡ false)
 unfolding are_ordered_axes
 falling_axis k shares fails = elim (cases_Bool (list_all (is_ordered_axis k shares Row) (ascending 0 (2 * k)))) [
@@ -79,10 +85,12 @@ falling_axis k shares fails = elim (cases_Bool (list_all (is_ordered_axis k shar
 
 -- ---- headers
 
+-- what stands in an answer that is there
 some_if : (b : Bool) (roots header : Roots) → cond b (Some roots) None ≡ Some header → (b ≡ true) × (header ≡ roots)
 some_if true roots header e = (refl, cc)
 some_if false roots header e = absurd cc
 
+-- an answer that is not there
 none_if : (b : Bool) (roots : Roots) → cond b (Some roots) None ≡ None → b ≡ false
 none_if true roots e = absurd cc
 none_if false roots e = refl
@@ -91,6 +99,7 @@ none_if false roots e = refl
 abbrev all_roots : ℕ → List Share → Roots
 all_roots k shares = record { k = k; rows = axis_roots k shares Row; cols = axis_roots k shares Col }
 
+-- the root of one axis among all of them
 get_or-roots : (k : ℕ) (shares : List Share) (axis : Axis) (index : ℕ) → index < 2 * k → root_of (all_roots k shares) axis index ≡ axis_root k shares axis index
 get_or-roots k shares Row index h =
     let start : 0 + index ≡ index = omega arith in
@@ -132,6 +141,7 @@ pub header_made : (square : SquareShares) (grid : List Share) (header : Roots) �
     → header_of_grid square.k grid ≡ Some header → IsHeaderOf header square
 header_made square grid header is extended made = record { whole = is; grid = grid; extends = extended; roots = made }
 
+-- a square whose extension has none has no header
 pub header_not_made : (square : SquareShares) (grid : List Share) (header : Roots) → Extends square.k square.shares grid
     → header_of_grid square.k grid ≡ None → IsHeaderOf header square → ⊥
 header_not_made square grid header extended none h =

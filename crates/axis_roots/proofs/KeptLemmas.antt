@@ -36,6 +36,7 @@ front_kept k old new front later back axis i pos long was is h =
     ∙ ap (λ (line : List Share). get_or line pos blank) (sym was)
     ∙ get_or-along k (share_at (2 * k) old) axis i pos blank (omega arith)
 
+-- what stays when the 2k shares of an axis are written and their first k are those that were there
 pub axis_kept : (k : ℕ) (old new front later back : List Share) (axis : Axis) (i : ℕ) → length front ≡ k
     → axis_shares k old axis i ≡ front ++ later → axis_shares k new axis i ≡ front ++ back
     → ((cell : Cell) → IsTrue (is_in_square k cell) → index axis cell ≢ i → share_at (2 * k) new cell ≡ share_at (2 * k) old cell)

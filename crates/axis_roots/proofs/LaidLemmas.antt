@@ -26,6 +26,7 @@ use Rattle.axis_roots.proofs.HeaderLemmas.{ordered_axes}
 
 -- ---- a test along a list, pair by pair
 
+-- what it says of one pair
 along-at : {A : Type 0} (test : A → A → Bool) (xs : List A) (i : ℕ) (d : A) → holds_along test xs ≡ true → suc i < length xs → test (get_or xs i d) (get_or xs (suc i) d) ≡ true
 unfolding holds_along
 along-at test [] i d along h = absurd (omega arith)
@@ -33,6 +34,7 @@ along-at test (a ∷ []) i d along h = absurd (omega arith)
 along-at test (a ∷ b ∷ xs) zero d along h = (and_parts (test a b) (holds_along test (b ∷ xs)) along).0
 along-at test (a ∷ b ∷ xs) (suc i) d along h = along-at test (b ∷ xs) i d (and_parts (test a b) (holds_along test (b ∷ xs)) along).1 (omega arith)
 
+-- it holds along the list where it holds of each pair
 pub along-each : {A : Type 0} (test : A → A → Bool) (xs : List A) (d : A) → ((i : ℕ) → suc i < length xs → test (get_or xs i d) (get_or xs (suc i) d) ≡ true) → holds_along test xs ≡ true
 unfolding holds_along
 along-each test [] d each = refl
@@ -51,6 +53,7 @@ ordered-at names d i (suc more) ordered h =
     (at_most_trans (get_or names i d) (get_or names (i + more) d) (get_or names (suc (i + more)) d)
     (ordered-at names d i more ordered (omega arith)) (along-at is_at_most names (i + more) d ordered (omega arith)))
 
+-- the same, of two places in order
 ordered-le : (names : List Namespace) (d : Namespace) (i j : ℕ) → is_ordered names ≡ true → i ≤ j → j < length names → is_at_most (get_or names i d) (get_or names j d) ≡ true
 ordered-le names d i j ordered low high =
     let more : i + (j - i) ≡ j = omega arith in
@@ -58,6 +61,7 @@ ordered-le names d i j ordered low high =
 
 -- ---- cells of one axis
 
+-- a cell of the original square is in its quarter
 original-inside : (k : ℕ) (cell : Cell) → is_original k cell ≡ true → (cell.row < k) × (cell.col < k)
 original-inside k cell h = grind (arith, nat_tests)
 
@@ -70,6 +74,7 @@ original-before k Col i pos h = grind (arith, nat_tests)
 abbrev number : ℕ → Cell → ℕ
 number k cell = cell.row * k + cell.col
 
+-- a cell before another on an axis has no greater number
 number-before : (k : ℕ) (axis : Axis) (i pos : ℕ) → number k (cell_on axis i pos) ≤ number k (cell_on axis i (suc pos))
 number-before k Row i pos = omega arith
 number-before k Col i pos =
@@ -77,12 +82,15 @@ number-before k Col i pos =
 
 -- ---- the names along an axis
 
+-- what a share begins with is a namespace
 pub own_is_name : (share : Share) → IsShare share → IsNamespace (own_name share)
 own_is_name share is = record { size_is = length-take-le 29 share.0 (omega (arith, is.size_is)); fits = AreBytes-take 29 share.0 is.fits }
 
+-- in the original square a leaf has its share's namespace
 original_name : (k : ℕ) (cell : Cell) (share : Share) → is_original k cell ≡ true → name_of k cell share ≡ own_name share
 original_name k cell share t = ap (λ (b : Bool). cond b (own_name share) parity) t
 
+-- outside of it the namespace of parity shares
 parity_name : (k : ℕ) (cell : Cell) (share : Share) → is_original k cell ≡ false → name_of k cell share ≡ parity
 parity_name k cell share f = ap (λ (b : Bool). cond b (own_name share) parity) f
 
@@ -95,6 +103,7 @@ before_parity k cell share is = elim (cases_Bool (is_original k cell)) [
 
 module _ (square : SquareShares) (grid : List Share) (whole : IsSquare square) (extended : Extends square.k square.shares grid)
     (ordered : is_ordered (map own_name square.shares) ≡ true) where
+  -- each cell of the extension has a share
   axis_share : (axis : Axis) (i pos : ℕ) → i < 2 * square.k → pos < 2 * square.k → IsShare (share_at (2 * square.k) grid (cell_on axis i pos))
   axis_share axis i pos hi hp =
       let word = extended.codewords axis i hi in
@@ -111,6 +120,7 @@ module _ (square : SquareShares) (grid : List Share) (whole : IsSquare square) (
       ∙ ap own_name (extended.quarter cell low.0 low.1)
       ∙ sym (get_or-map own_name square.shares (number square.k cell) blank parity (omega (arith, whole.count)))
 
+  -- no namespace along an axis is followed by a smaller one
   step : (axis : Axis) (i pos : ℕ) → i < 2 * square.k → suc pos < 2 * square.k
       → is_at_most (name_of square.k (cell_on axis i pos) (share_at (2 * square.k) grid (cell_on axis i pos)))
       (name_of square.k (cell_on axis i (suc pos)) (share_at (2 * square.k) grid (cell_on axis i (suc pos)))) ≡ true
@@ -127,6 +137,7 @@ module _ (square : SquareShares) (grid : List Share) (whole : IsSquare square) (
         ∙ before_parity square.k (cell_on axis i pos) (share_at (2 * square.k) grid (cell_on axis i pos)) (axis_share axis i pos hi (omega arith))
   ]
 
+  -- so each axis is ordered
   axis_laid : (axis : Axis) (i : ℕ) → i < 2 * square.k → is_ordered_axis square.k grid axis i ≡ true
   axis_laid axis i hi =
       let name_at : Cell → Namespace = λ cell. name_of square.k cell (share_at (2 * square.k) grid cell) in
@@ -135,6 +146,7 @@ module _ (square : SquareShares) (grid : List Share) (whole : IsSquare square) (
       ap₂ is_at_most (get_or-along square.k name_at axis i pos parity (omega arith)) (get_or-along square.k name_at axis i (suc pos) parity next)
       ∙ step axis i pos hi next)
 
+-- an answer whose test holds is there
 some-cond : {A : Type 0} (b : Bool) (a : A) → b ≡ true → IsSome (cond b (Some a) None)
 some-cond b a t = subst (λ (c : Bool). IsSome (cond c (Some a) None)) (sym t) refl
 

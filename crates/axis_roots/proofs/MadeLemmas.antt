@@ -23,10 +23,12 @@ are_ordered_along k shares axis = list_all (is_ordered_axis k shares axis) (asce
 abbrev pub roots_along : ℕ → List Share → Axis → Option (List Digest)
 roots_along k shares axis = cond (are_ordered_along k shares axis) (Some (axis_roots k shares axis)) None
 
+-- no roots were found only where not all axes are ordered
 none_along : {A : Type 0} (b : Bool) (roots : List Digest) (items : A → List Digest) (made : Option A) → option_map items made ≡ cond b (Some roots) None → made ≡ None → b ≡ false
 none_along true roots items made is none = let both : None ≡ Some roots = sym (ap (option_map items) none) ∙ is in absurd cc
 none_along false roots items made is none = refl
 
+-- roots that were found are those of all axes
 some_along : {A : Type 0} (b : Bool) (roots : List Digest) (items : A → List Digest) (made : Option A) (found : A) → option_map items made ≡ cond b (Some roots) None → made ≡ Some found
     → (b ≡ true) × (items found ≡ roots)
 some_along true roots items made found is some = let both : Some (items found) ≡ Some roots = sym (ap (option_map items) some) ∙ is in (refl, cc)
@@ -46,10 +48,12 @@ no_rows k shares items made is none =
     sym (ap (λ (b : Bool). cond (b && are_ordered_along k shares Col)
     (Some (record { k = k; rows = axis_roots k shares Row; cols = axis_roots k shares Col })) None) falls)
 
+-- a pair of tests of which the second fails
 and_false : (b : Bool) → (b && false) ≡ false
 and_false true = refl
 and_false false = refl
 
+-- the same, of columns
 pub no_cols : {A : Type 0} (k : ℕ) (shares : List Share) (items : A → List Digest) (made : Option A)
     → option_map items made ≡ roots_along k shares Col → made ≡ None → None ≡ header_of_grid k shares
 unfolding are_ordered_axes
@@ -73,6 +77,7 @@ both_roots k n shares rows cols width by_rows by_cols =
 pub length-roots : (k : ℕ) (shares : List Share) (axis : Axis) (roots : List Digest) → roots ≡ axis_roots k shares axis → length roots ≡ 2 * k
 length-roots k shares axis roots is = ap length is ∙ length-map (ascending 0 (2 * k)) (axis_root k shares axis) ∙ length-ascending (2 * k) 0
 
+-- both kinds of roots make a header
 pub are_roots : (k n : ℕ) (shares : List Share) (rows cols : List Digest) → n ≡ k → IsTrue (is_width n)
     → rows ≡ axis_roots k shares Row → cols ≡ axis_roots k shares Col → AreRoots (record { k = n; rows = rows; cols = cols })
 are_roots k n shares rows cols same width by_rows by_cols = record {

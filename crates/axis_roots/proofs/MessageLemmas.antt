@@ -31,6 +31,7 @@ filled_leaves k shares axis i names line leaves by_names by_shares is =
     ∙ ap (λ (ls : List Digest). cond (is_ordered_axis k shares axis i) (Some ls) None)
     (sym (mapped_leaves (λ cell. name_of k cell (share_at (2 * k) shares cell)) (share_at (2 * k) shares) (axis_cells k axis i)))
 
+-- the place of a cell on its axis
 position-lt : (k : ℕ) (axis : Axis) (cell : Cell) → IsTrue (is_in_square k cell) → position axis cell < 2 * k
 position-lt k Row cell h = (inside k cell h).1
 position-lt k Col cell h = (inside k cell h).0

@@ -10,12 +10,15 @@ use Rattle.leopard_code.specs.Codewords.{ascending}
 use Rattle.leopard_code.proofs.PointLemmas.{length-ascending, get_or-ascending}
 use Rattle.leopard_code.proofs.TableLemmas.{row_before}
 
+-- what the test of a cell says
 pub inside : (k : ℕ) (cell : Cell) → IsTrue (is_in_square k cell) → (cell.row < 2 * k) × (cell.col < 2 * k)
 inside k cell h = grind (arith, nat_tests)
 
+-- and the other way round
 pub in_square : (k : ℕ) (cell : Cell) → cell.row < 2 * k → cell.col < 2 * k → IsTrue (is_in_square k cell)
 in_square k cell hr hc = grind (arith, nat_tests)
 
+-- a width is not 0
 pub width-ge : (k : ℕ) → IsTrue (is_width k) → 0 < k
 width-ge k h = grind (arith, nat_tests)
 
@@ -27,6 +30,7 @@ number-lt n cell hr hc = omega (arith, row_before cell.row n n hr)
 abbrev pub cell_of : ℕ → ℕ → Cell
 cell_of n number = record { row = number / n; col = number % n }
 
+-- the cell with the number of a cell is that cell
 pub cell_of-number : (n : ℕ) (cell : Cell) → cell.col < n → cell_of n (cell.row * n + cell.col) ≡ cell
 cell_of-number n cell h = ap₂ (λ (r c : ℕ). record { row = r; col = c }) (div-mul-add cell.row n cell.col h) (mod-mul-add cell.row n cell.col h)
 
@@ -35,6 +39,7 @@ pub numbers_differ : (n : ℕ) (cell other : Cell) → cell.col < n → other.co
 numbers_differ n cell other hc ho differ same =
     differ (sym (cell_of-number n other ho) ∙ ap (cell_of n) same ∙ cell_of-number n cell hc)
 
+-- the row of a number
 row-lt : (n number : ℕ) → 0 < n → number < n * n → number / n < n
 row-lt n number some h = (div-lt_iff_lt-mul some).1 h
 
@@ -42,10 +47,12 @@ row-lt n number some h = (div-lt_iff_lt-mul some).1 h
 pub listed : {A : Type 0} → ℕ → (Cell → A) → List A
 listed n f = map (λ number. f (cell_of n number)) (ascending 0 (n * n))
 
+-- it has as many values as there are cells
 pub length-listed : {A : Type 0} (n : ℕ) (f : Cell → A) → length (listed n f) ≡ n * n
 unfolding listed
 length-listed n f = length-map (ascending 0 (n * n)) (λ number. f (cell_of n number)) ∙ length-ascending (n * n) 0
 
+-- and the value at each cell
 pub get_or-listed : {A : Type 0} (n : ℕ) (f : Cell → A) (cell : Cell) (d : A) → cell.row < n → cell.col < n → get_or (listed n f) (cell.row * n + cell.col) d ≡ f cell
 unfolding listed
 get_or-listed n f cell d hr hc =

@@ -46,6 +46,7 @@ read_next k shares leaves line axis i pos place cell are hi hp long on at before
     ∙ ap (λ (n : ℕ). get_or leaves n none) (at ∙ ap (λ (c : Cell). c.row * (2 * k) + c.col) on)
     ∙ are.digests (cell_on axis i pos) (on_axis_in_square k axis i pos hi hp))
 
+-- the digests of leaves are those of their names and shares
 pub mapped_leaves : (name : Cell → Namespace) (share : Cell → Share) (cells : List Cell)
     → map (λ cell. leaf_digest (name cell) (share cell)) cells ≡ leaf_digests (map name cells) (map share cells)
 unfolding leaf_digests
@@ -84,6 +85,7 @@ pair_test digests i a b answer low high first second is =
 
 -- ---- strict roots
 
+-- a tree may have 2k leaves
 pub leaf_count-double : (k : ℕ) → IsTrue (is_width k) → IsTrue (is_leaf_count (2 * k))
 leaf_count-double k h = grind (arith, nat_tests)
 
@@ -97,6 +99,7 @@ root-leaves k shares axis i width =
     ∙ sym (root_is_span (halvings (2 * k)) (axis_names k shares axis i) (axis_shares k shares axis i)
     (length-along k (λ cell. name_of k cell (share_at (2 * k) shares cell)) axis i ∙ sym power) (length-along k (share_at (2 * k) shares) axis i ∙ sym power))
 
+-- the strict root of an axis, by its order
 strict-cond : (k : ℕ) (shares : List Share) (axis : Axis) (i : ℕ)
     → strict_root (halvings (2 * k)) (axis_names k shares axis i) (axis_shares k shares axis i) ≡ cond (is_ordered_axis k shares axis i) (Some (axis_root k shares axis i)) None
 unfolding strict_root axis_root
@@ -122,10 +125,12 @@ strict_missing k shares axis i line are is fails =
     ap is_ordered (sym (ap (map least_of) is ∙ names_along k shares axis i are)) ∙ fails in
     sym (strict-cond k shares axis i ∙ ap (λ (b : Bool). cond b (Some (axis_root k shares axis i)) None) names)
 
+-- what stands in an answer that is there
 some_of : (b : Bool) (made is : Digest) → Some made ≡ cond b (Some is) None → (b ≡ true) × (made ≡ is)
 some_of true made is e = (refl, cc)
 some_of false made is e = absurd cc
 
+-- an answer that is not there
 none_of : (b : Bool) (is : Digest) → None ≡ cond b (Some is) None → b ≡ false
 none_of true is e = absurd cc
 none_of false is e = refl
@@ -157,6 +162,7 @@ roots_next f roots i made h is before =
     (λ j l. let apart : j ≡ i → ⊥ = λ (e : j ≡ i). absurd (omega arith) in get_or-set_other roots i j made none apart ∙ before j l)
     (get_or-set_same roots i made none h ∙ is)
 
+-- the roots of all axes, one after another
 pub all_roots : (k : ℕ) (shares : List Share) (axis : Axis) (roots : List Digest) → length roots ≡ 2 * k
     → ((i : ℕ) → i < 2 * k → get_or roots i none ≡ axis_root k shares axis i) → roots ≡ axis_roots k shares axis
 all_roots k shares axis roots long each =
@@ -168,6 +174,7 @@ all_roots k shares axis roots long each =
     ∙ sym (get_or-map (axis_root k shares axis) (ascending 0 (2 * k)) i 0 none (omega (arith, length-ascending (2 * k) 0))
     ∙ ap (axis_root k shares axis) (get_or-ascending (2 * k) 0 i within ∙ start)))
 
+-- all axes are ordered where each one is
 pub all_ordered : (k n : ℕ) (shares : List Share) (axis : Axis) → ((i : ℕ) → i < n → is_ordered_axis k shares axis i ≡ true)
     → true ≡ list_all (is_ordered_axis k shares axis) (ascending 0 n)
 all_ordered k n shares axis each = sym (all-each (is_ordered_axis k shares axis) n 0 (λ i low high. each i (omega arith)))

@@ -26,6 +26,7 @@ codeword-words_sum k word first w (v ∷ ws) each =
     (codeword-multiple k w (word first) (each first (omega arith) (omega arith)))
     (codeword-words_sum k word (suc first) v ws (λ i low high. each i (omega arith) (omega arith)))
 
+-- one share of the sum of two lists
 get_or-shares_sum : (ss ts : List Share) (i : ℕ) (d : Share) → i < length ss → i < length ts → get_or (shares_sum ss ts) i d ≡ share_sum (get_or ss i d) (get_or ts i d)
 unfolding shares_sum
 get_or-shares_sum [] ts i d hs ht = absurd (omega arith)
@@ -33,6 +34,7 @@ get_or-shares_sum (s ∷ ss) [] i d hs ht = absurd (omega arith)
 get_or-shares_sum (s ∷ ss) (t ∷ ts) zero d hs ht = refl
 get_or-shares_sum (s ∷ ss) (t ∷ ts) (suc i) d hs ht = get_or-shares_sum ss ts i d (omega arith) (omega arith)
 
+-- one byte of the sum of two strings
 get_or-bytes_sum : (xs ys : List ℕ) (i : ℕ) → i < length xs → i < length ys → get_or (bytes_sum xs ys) i 0 ≡ bit_xor (get_or xs i 0) (get_or ys i 0)
 unfolding bytes_sum
 get_or-bytes_sum [] ys i hx hy = absurd (omega arith)

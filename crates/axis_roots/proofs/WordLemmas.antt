@@ -17,20 +17,24 @@ use Rattle.axis_roots.specs.Grids.{blank}
 
 -- ---- shares of lists
 
+-- a share of a list of shares
 pub share_in : (shares : List Share) (i : ℕ) (d : Share) → i < length shares → AreShares shares → IsShare (get_or shares i d)
 share_in [] i d h are = absurd (omega arith)
 share_in (share ∷ shares) zero d h are = are.0
 share_in (share ∷ shares) (suc i) d h are = share_in shares i d (omega arith) are.1
 
+-- a list whose elements are shares
 pub shares_each : (shares : List Share) (d : Share) → ((i : ℕ) → i < length shares → IsShare (get_or shares i d)) → AreShares shares
 shares_each [] d each = tt
 shares_each (share ∷ shares) d each = (each 0 (omega arith), shares_each shares d (λ i h. each (suc i) (omega arith)))
 
+-- zeros are bytes
 zero_bytes : (n i : ℕ) → slice_index (replicate n 0) i < 256
 zero_bytes zero i = omega arith
 zero_bytes (suc n) zero = omega arith
 zero_bytes (suc n) (suc i) = zero_bytes n i
 
+-- the share of zeros is a share
 blank_share : IsShare blank
 unfolding blank
 blank_share = record { size_is = length-replicate {A = ℕ} 512 0; fits = zero_bytes 512 }
@@ -44,6 +48,7 @@ share_anywhere shares i are = elim (cases_lt i (length shares)) [
 
 -- ---- the first k positions
 
+-- numbers that count up are ascending
 along_ascending : (n first : ℕ) → holds_along nat_lt (ascending first n) ≡ true
 unfolding ascending holds_along
 along_ascending zero first = refl
@@ -52,6 +57,7 @@ along_ascending (suc (suc n)) first =
     let next : nat_lt first (suc first) ≡ true = grind (arith, nat_tests) in
     and_from (nat_lt first (suc first)) (holds_along nat_lt (ascending (suc first) (suc n))) next (along_ascending (suc n) (suc first))
 
+-- and below their end
 below_ascending : (n first high : ℕ) → first + n ≤ high → list_all (λ pos. nat_lt pos high) (ascending first n) ≡ true
 unfolding ascending
 below_ascending zero first high h = refl
@@ -59,6 +65,7 @@ below_ascending (suc n) first high h =
     let here : nat_lt first high ≡ true = grind (arith, nat_tests) in
     and_from (nat_lt first high) (list_all (λ pos. nat_lt pos high) (ascending (suc first) n)) here (below_ascending n (suc first) high (omega arith))
 
+-- the first k places of a codeword are positions
 pub first_positions : (k : ℕ) → IsTrue (are_positions k (ascending 0 k))
 first_positions k =
     and_from (list_all (λ pos. nat_lt pos (2 * k)) (ascending 0 k)) (holds_along nat_lt (ascending 0 k)) (below_ascending k 0 (2 * k) (omega arith)) (along_ascending k 0)
@@ -83,9 +90,11 @@ one_word k word other width first second same =
     ∙ slice_get-get_or word i blank (omega (arith, first.count)) ∙ ap Some (same i h) ∙ sym (slice_get-get_or other i blank (omega (arith, second.count)))
     ∙ ap (slice_get other) (sym place))
 
+-- k shares, one for each of these
 length-mapped : (k : ℕ) (f : ℕ → Share) → length (map f (ascending 0 k)) ≡ k
 length-mapped k f = length-map (ascending 0 k) f ∙ length-ascending k 0
 
+-- they are shares where each one is
 are_mapped : (n first : ℕ) (f : ℕ → Share) → ((i : ℕ) → IsShare (f i)) → AreShares (map f (ascending first n))
 unfolding ascending
 are_mapped zero first f each = tt

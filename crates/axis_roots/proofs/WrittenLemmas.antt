@@ -11,6 +11,7 @@ use Rattle.axis_roots.specs.Grids.{blank, share_at, cell_on}
 use Rattle.axis_roots.proofs.NumberLemmas.{in_square}
 use Rattle.axis_roots.proofs.AxisLemmas.{index-cell_on, position-cell_on}
 
+-- the cells of an axis are in the square
 pub on_axis_in_square : (k : ℕ) (axis : Axis) (i pos : ℕ) → i < 2 * k → pos < 2 * k → IsTrue (is_in_square k (cell_on axis i pos))
 on_axis_in_square k Row i pos hi hp = in_square k (cell_on Row i pos) hi hp
 on_axis_in_square k Col i pos hi hp = in_square k (cell_on Col i pos) hp hi
@@ -19,6 +20,7 @@ on_axis_in_square k Col i pos hi hp = in_square k (cell_on Col i pos) hp hi
 pub other_axis : (axis : Axis) (i pos : ℕ) (cell other : Cell) → cell ≡ cell_on axis i pos → index axis other ≢ i → other ≢ cell
 other_axis axis i pos cell other on apart same = apart (ap (index axis) (same ∙ on) ∙ index-cell_on axis i pos)
 
+-- a cell before a place of an axis is not the one there
 other_place : (axis : Axis) (i pos place : ℕ) (cell : Cell) → cell ≡ cell_on axis i pos → place < pos → cell_on axis i place ≢ cell
 other_place axis i pos place cell on before same =
     let e : place ≡ pos = sym (position-cell_on axis i place) ∙ ap (position axis) (same ∙ on) ∙ position-cell_on axis i pos in absurd (omega arith)

@@ -79,8 +79,8 @@ fn fill_axis(grid: &Grid, axis: Axis, index: u16, tree: &mut Tree) -> bool
 
 /// The message of a cell, opened along an axis; none exactly where the namespaces of that axis fall.
 ///
-/// The tree is one for 2k leaves. Afterwards it is that of the axis, whatever it was. It takes no
-/// memory besides.
+/// The tree is one for 2k leaves. It is filled with those along the axis, whatever it held. The call
+/// takes no memory besides.
 pub fn message_of(grid: &Grid, cell: Cell, axis: Axis, tree: &mut Tree) -> Option<Message>
     requires cell { IsTrue (is_in_square grid.now.k cell) }
     requires tree { tree.old.count ≡ 2 * grid.now.k }
@@ -94,7 +94,12 @@ pub fn message_of(grid: &Grid, cell: Cell, axis: Axis, tree: &mut Tree) -> Optio
         message.share ≡ share_at (2 * grid.now.k) grid.now.shares cell) }
     ensures opens { IfSome result (λ message. OpensAt grid.now.k message
         (axis_root grid.now.k grid.now.shares axis (index_of axis cell))) }
-    ensures tree { tree.new.count ≡ tree.old.count }
+
+    // The tree is that of the axis, or empty where its namespaces fall.
+    ensures count { tree.new.count ≡ tree.old.count }
+    ensures leaves { tree.new.leaves ≡
+        (if is_ordered_axis grid.now.k grid.now.shares axis (index_of axis cell)
+        then Some (axis_leaves grid.now.k grid.now.shares axis (index_of axis cell)) else None) }
 {
     if !fill_axis(grid, axis, index(axis, cell), tree) {
         return None;

@@ -34,13 +34,14 @@ fn filled(alloc: Global, bytes: &[u8], count: usize, byte: u8) -> Result<Vec<u8>
     Ok(all)
 }
 
-/// The block of width 2 of a unit `abc`, a unit of payments `d`, and a blob `hi`.
-fn block(alloc: Global) -> Result<Vec<u8>, Fail> {
+/// The block of width 2 of a unit `abc`, a unit of payments `d`, and a blob `hi`, of this share
+/// version.
+fn block(alloc: Global, version: u8) -> Result<Vec<u8>, Fail> {
     let head = b"V\x00\x00\x00\x3e\x00\x02\x00\x00\x00\x01\x00\x00\x00\x03abc";
     let mut all = Vec::from_slice(alloc, head)?;
     all.extend_from_slice(b"\x00\x00\x00\x01\x00\x00\x00\x01d\x00\x00\x00\x01")?;
     all.extend_from_slice(&[9; 29])?;
-    all.extend_from_slice(b"\x00\x00\x00\x00\x02hi")?;
+    all.extend_from_slice(&[version, 0, 0, 0, 2, b'h', b'i'])?;
     Ok(all)
 }
 
@@ -51,7 +52,7 @@ fn frames_of_each_kind(rt: HostRuntime) -> Result<(), Fail> {
     let square = filled(alloc, b"S\x00\x00\x02\x02\x00\x01", 512, 5)?;
     let message = filled(alloc, b"M\x00\x00\x02\x06", 518, 0)?;
     let request = filled(alloc, b"P\x00\x00\x00\x1d", 29, 9)?;
-    let block = block(alloc)?;
+    let block = block(alloc, 0)?;
     let cases: [(&str, &[u8]); 10] = [
         ("H", &header),
         ("S", &square),
@@ -94,7 +95,7 @@ fn values_of_frames(rt: HostRuntime) -> Result<(), Fail> {
         }
         _ => return Err(Fail::new("no missing cells")),
     }
-    let block = block(alloc)?;
+    let block = block(alloc, 0)?;
     match read_only(alloc, &block, b"V")? {
         Frame::Block(block) => {
             let [unit] = block.units.as_slice() else {
@@ -123,13 +124,11 @@ fn values_of_frames(rt: HostRuntime) -> Result<(), Fail> {
 fn bytes_that_are_no_frame(rt: HostRuntime) -> Result<(), Fail> {
     let alloc = rt.alloc();
     let wide = filled(alloc, b"S\x00\x00\x12\x02\x00\x03", 4608, 5)?;
-    let mut turned = filled(alloc, b"M\x00\x00\x02\x06", 518, 0)?;
-    turned[9] = 2;
+    let turned = filled(alloc, b"M\x00\x00\x02\x06\0\0\0\0\x02", 513, 0)?;
     let mut many = EMPTY_BLOCK;
     many[7] = 0xff;
     let more = filled(alloc, b"V\x00\x00\x00\x0f", 15, 0)?;
-    let mut versioned = block(alloc)?;
-    versioned[60] = 1;
+    let versioned = block(alloc, 1)?;
     let falling = b"K\x00\x00\x00\x0e\x00\x01\x00\x00\x00\x02\x00\x01\x00\x01\x00\x00\x00\x00";
     let cases: [(&str, &[u8], FrameError); 11] = [
         ("no byte", b"", FrameError::Truncated(7)),

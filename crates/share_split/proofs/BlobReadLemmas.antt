@@ -16,15 +16,17 @@ use Rattle.share_split.specs.Joined.Piece.{padding, blob}
 use Rattle.share_split.proofs.FieldLemmas.{first_share_is_first}
 use Rattle.share_split.proofs.SequenceLemmas.{seq, first_passes, first_taken, later_passes, later_taken}
 use Rattle.share_split.proofs.RunLemmas.{AreLater, none_later, later_are, later_count}
-use Rattle.share_split.proofs.WalkLemmas.{Blobs, blobs_on, blobs_from-cons, blobs_from-nil}
+use Rattle.share_split.proofs.BlobWalkLemmas.{Blobs, blobs_on, blobs_from-cons, blobs_from-nil}
 
 -- what is read once the share before share i was taken into this sequence
 abbrev pub taken_on : ℕ → Sequence → List Share → Blobs
 taken_on i s shares = cond (is_complete s) (with_blob s (blobs_from i None shares)) (blobs_from i (Some s) shares)
 
+-- a complete sequence is closed
 whole_on : (i : ℕ) (s : Sequence) (shares : List Share) → s.size ≤ length s.content → taken_on i s shares ≡ with_blob s (blobs_from i None shares)
 whole_on i s shares le = ap (λ (b : Bool). cond b (with_blob s (blobs_from i None shares)) (blobs_from i (Some s) shares)) (le-leb _ _ le)
 
+-- an open one goes on
 open_on : (i : ℕ) (s : Sequence) (shares : List Share) → length s.content < s.size → taken_on i s shares ≡ blobs_from i (Some s) shares
 open_on i s shares lt =
     let no : is_complete s ≡ false = grind (arith, nat_tests) in
@@ -112,10 +114,12 @@ one_more : (s : Sequence) (empty : Bool) (r : Blobs) (more : List NamedBytes) �
 one_more s empty r more is e =
     ap (with_blob s) e ∙ ap (λ (b : Bool). Ok (cond b more (record { namespace = s.name; bytes = s.content } ∷ more))) is
 
+-- a blob has a length above 0
 some_size : (bytes : List ℕ) → (bytes ≡ [] → ⊥) → eqb (length bytes) 0 ≡ false
 some_size [] some = absurd (some refl)
 some_size (b ∷ bytes) some = grind (arith, nat_tests)
 
+-- all pieces, one after another
 pub pieces_read : (i : ℕ) (pieces : List Piece) → AllByRecursion IsPiece pieces → blobs_from i None (flat_map piece_shares pieces) ≡ Ok (flat_map piece_blobs pieces)
 pieces_read i [] are = blobs_from-nil i
 pieces_read i (padding name ∷ pieces) are =

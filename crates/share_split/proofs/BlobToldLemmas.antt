@@ -1,106 +1,22 @@
 -- Shares that are read as blobs are these blobs and padding.
-use Rattle.std.proofs.Common.{◌≡◌, ◌≢◌, ◌∙◌, ℕ, suc, ◌+◌, ◌<◌, ◌≤◌, Bool, true, false, cond, eqb, leb-true, leb-false, eqb-true, false-eqb, List, [], ◌∷◌, ◌++◌, length, take, drop, Option, Some, None, Ok, Err, refl, sym, ap, ap₂, subst, arith, length-drop, length-append, append_assoc, append-nil}
+use Rattle.std.proofs.Common.{◌≡◌, ◌∙◌, ℕ, suc, ◌+◌, ◌<◌, Bool, false, cond, eqb, List, [], ◌∷◌, ◌++◌, length, drop, Option, Some, None, Ok, refl, sym, ap, subst, arith, length-drop, length-append, append_assoc, append-nil}
 use Rattle.std.specs.Bool.{⊤}
-use Rattle.std.specs.Int.{div_ceil}
-use Rattle.std.specs.Option.{option_map_or}
 use Rattle.std.proofs.lemmas.Bool.Decides.{nat_tests}
-use Rattle.std.proofs.lemmas.List.{nil_from_length}
-use Rattle.namespace_id.specs.Names.{IsNamespace}
 use Rattle.namespace_id.specs.Bytes.{AreBytes}
 use Rattle.namespace_id.specs.Shares.{IsShare, AreShares}
 use Rattle.namespace_id.specs.declared.namespaces.Namespace.{Namespace}
 use Rattle.namespace_id.specs.declared.shares.Share.{Share}
 use Rattle.namespace_id.proofs.StringLemmas.{AreBytes-append}
-use Rattle.share_split.specs.declared.joining.JoinError.{JoinError}
-use Rattle.share_split.specs.Blobs.{NamedBytes, max_sequence_length, first_share, later_shares, blob_shares_of}
-use Rattle.share_split.specs.Walks.{name_in, size_in, Sequence, missing, is_complete, begun_by, extended_by, first_refusal, later_refusal, with_blob, blobs_from}
-use Rattle.share_split.specs.Joined.{Piece, piece_shares, piece_blobs, IsPiece, IsBlob, AreBlobs, padding_share}
-use Rattle.share_split.specs.Joined.Piece.{padding, blob}
-use Rattle.share_split.proofs.FieldLemmas.{IsFirst, IsLater, is_first_share}
-use Rattle.share_split.proofs.SequenceLemmas.{first_told, later_told, first_part, later_part, name_in-is, size_in-small, part-fits}
-use Rattle.share_split.proofs.RunLemmas.{AreLater, drop-parted, later_only, later_count}
-use Rattle.share_split.proofs.WalkLemmas.{Blobs, blobs_on, blobs_from-cons, blobs_from-nil, blobs_from-open}
-use Rattle.share_split.proofs.BlobReadLemmas.{padding_is, taken_on}
-
--- ---- what an answer tells
-
-checked : (o : Option JoinError) (r : Blobs) (blobs : List NamedBytes) → option_map_or Err o r ≡ Ok blobs → (o ≡ None) × (r ≡ Ok blobs)
-checked None r blobs e = (refl, e)
-checked (Some why) r blobs e = absurd cc
-
--- a complete sequence, and the others
-pub record IsClosed (s : Sequence) (r : Blobs) (blobs : List NamedBytes) : Type 0 where
-  pub others : List NamedBytes
-  pub rest : r ≡ Ok others
-  pub shown : cond (eqb s.size 0) others (record { namespace = s.name; bytes = s.content } ∷ others) ≡ blobs
-
-closed : (s : Sequence) (r : Blobs) (blobs : List NamedBytes) → with_blob s r ≡ Ok blobs → IsClosed s r blobs
-closed s (Err why) blobs e = absurd cc
-closed s (Ok others) blobs e = record { others = others; rest = refl; shown = cc }
-
-goes_on_by : {P : Type 0} (i : ℕ) (s : Sequence) (shares : List Share) (blobs : List NamedBytes) (b : Bool) → is_complete s ≡ b
-    → cond b (with_blob s (blobs_from i None shares)) (blobs_from i (Some s) shares) ≡ Ok blobs
-    → (s.size ≤ length s.content → IsClosed s (blobs_from i None shares) blobs → P)
-    → (length s.content < s.size → blobs_from i (Some s) shares ≡ Ok blobs → P) → P
-goes_on_by i s shares blobs true is e whole more = whole (leb-true _ _ is) (closed s (blobs_from i None shares) blobs e)
-goes_on_by i s shares blobs false is e whole more = more (leb-false _ _ is) e
-
--- a sequence was completed, or is still open
-goes_on : {P : Type 0} (i : ℕ) (s : Sequence) (shares : List Share) (blobs : List NamedBytes) → taken_on i s shares ≡ Ok blobs
-    → (s.size ≤ length s.content → IsClosed s (blobs_from i None shares) blobs → P)
-    → (length s.content < s.size → blobs_from i (Some s) shares ≡ Ok blobs → P) → P
-goes_on i s shares blobs e whole more = goes_on_by i s shares blobs (is_complete s) refl e whole more
-
--- ---- pieces
-
-whole_sequence : (name : Namespace) (bytes : List ℕ) (share : Share) (shares : List Share) → IsShare share → AreShares shares
-    → IsFirst 0 name (length bytes) bytes share → AreLater 0 name (drop 478 bytes) shares → share ∷ shares ≡ blob_shares_of name bytes
-whole_sequence name bytes share shares whole wholes first later =
-    let count : div_ceil (length (drop 478 bytes)) 482 ≡ _ = ap (λ (n : ℕ). div_ceil n 482) (length-drop 478 bytes) ∙ sym (later_count (length bytes)) in
-    ap₂ (λ (s : Share) (l : List Share). s ∷ l) (is_first_share name (length bytes) bytes share whole first) (later_only name (drop 478 bytes) shares wholes later)
-    ∙ ap (λ (n : ℕ). first_share name (length bytes) (take 478 bytes) ∷ later_shares n name (drop 478 bytes)) count
-
-with_piece : (piece : Piece) (shares : List Share) (blobs : List NamedBytes) → IsPiece piece → AreBlobs shares blobs → AreBlobs (piece_shares piece ++ shares) (piece_blobs piece ++ blobs)
-with_piece piece shares blobs is are = record {
-  pieces = piece ∷ are.pieces;
-  are_pieces = (is, are.are_pieces);
-  parts = ap (λ (l : List Share). piece_shares piece ++ l) are.parts;
-  shown = ap (λ (l : List NamedBytes). piece_blobs piece ++ l) are.shown;
-}
-
-abbrev one : Namespace → List ℕ → NamedBytes
-one name bytes = record { namespace = name; bytes = bytes }
-
-some_bytes : (bytes : List ℕ) → eqb (length bytes) 0 ≡ false → bytes ≢ []
-some_bytes bytes is none = absurd (false-eqb _ _ (sym is) (ap length none))
-
--- a sequence of no bytes is padding, another one is a blob
-sequence_by : (empty : Bool) (name : Namespace) (bytes : List ℕ) (all more : List Share) (others blobs : List NamedBytes)
-    → eqb (length bytes) 0 ≡ empty → IsNamespace name → length bytes ≤ max_sequence_length → AreBytes bytes
-    → all ≡ blob_shares_of name bytes ++ more → AreBlobs more others → cond empty others (one name bytes ∷ others) ≡ blobs → AreBlobs all blobs
-sequence_by true name bytes all more others blobs is named few fits parts behind shown =
-    let none : bytes ≡ [] = nil_from_length bytes (eqb-true _ _ is) in
-    let padded : padding_share name ∷ more ≡ all =
-    sym (parts ∙ ap (λ (l : List ℕ). blob_shares_of name l ++ more) none ∙ ap (λ (l : List Share). l ++ more) (padding_is name)) in
-    subst (λ (l : List Share). AreBlobs l blobs) padded
-    (subst (λ (l : List NamedBytes). AreBlobs (padding_share name ∷ more) l) shown (with_piece (padding name) more others named behind))
-sequence_by false name bytes all more others blobs is named few fits parts behind shown =
-    let is_blob : IsBlob (one name bytes) = record { name = named; some = some_bytes bytes is; few = few; fits = fits } in
-    subst (λ (l : List Share). AreBlobs l blobs) (sym parts)
-    (subst (λ (l : List NamedBytes). AreBlobs (blob_shares_of name bytes ++ more) l) shown (with_piece (blob (one name bytes)) more others is_blob behind))
-
-with_sequence : (size : ℕ) (bytes : List ℕ) (share : Share) (those more shares : List Share) (others blobs : List NamedBytes)
-    → IsShare share → AreShares those → length bytes ≡ size → size_in share ≡ size
-    → IsFirst 0 (name_in share) size bytes share → AreLater 0 (name_in share) (drop 478 bytes) those → AreBytes bytes
-    → shares ≡ those ++ more → AreBlobs more others
-    → cond (eqb size 0) others (one (name_in share) bytes ∷ others) ≡ blobs
-    → AreBlobs (share ∷ shares) blobs
-with_sequence size bytes share those more shares others blobs whole wholes len size_is first later fits parts behind shown =
-    let name : Namespace = name_in share in
-    let sized : IsFirst 0 name (length bytes) bytes share = subst (λ (n : ℕ). IsFirst 0 name n bytes share) (sym len) first in
-    sequence_by (eqb (length bytes) 0) name bytes (share ∷ shares) more others blobs refl (name_in-is share whole) (omega (arith, size_in-small share whole)) fits
-    (ap (λ (l : List Share). share ∷ l) parts ∙ ap (λ (l : List Share). l ++ more) (whole_sequence name bytes share those whole wholes sized later))
-    behind (ap (λ (n : ℕ). cond (eqb n 0) others (one name bytes ∷ others)) len ∙ shown)
+use Rattle.share_split.specs.Blobs.{NamedBytes}
+use Rattle.share_split.specs.Walks.{name_in, size_in, Sequence, missing, begun_by, extended_by, first_refusal, later_refusal, blobs_from}
+use Rattle.share_split.specs.Joined.{AreBlobs}
+use Rattle.share_split.proofs.FieldLemmas.{IsFirst, IsLater}
+use Rattle.share_split.proofs.NextLemmas.{first_told, later_told, first_part, later_part, part-fits}
+use Rattle.share_split.proofs.RunLemmas.{AreLater, drop-parted}
+use Rattle.share_split.proofs.BlobWalkLemmas.{blobs_on, blobs_from-cons, blobs_from-nil, blobs_from-open}
+use Rattle.share_split.proofs.BlobReadLemmas.{taken_on}
+use Rattle.share_split.proofs.PieceLemmas.{one, with_sequence}
+use Rattle.share_split.proofs.BlobAnswerLemmas.{checked, goes_on}
 
 -- ---- the walk
 
@@ -118,10 +34,12 @@ pub record IsRest (s : Sequence) (shares : List Share) (blobs : List NamedBytes)
   pub behind : AreBlobs more others
   pub shown : blobs ≡ record { namespace = s.name; bytes = s.content ++ text } ∷ others
 
+-- what shares are where a sequence may be open
 abbrev pub AreFrom : Option Sequence → List Share → List NamedBytes → Type 0
 AreFrom None shares blobs = AreBlobs shares blobs
 AreFrom (Some s) shares blobs = IsRest s shares blobs
 
+-- an open sequence has content to come
 abbrev pub IsOpen : Option Sequence → Type 0
 IsOpen None = ⊤
 IsOpen (Some s) = length s.content < s.size
@@ -208,9 +126,11 @@ extended_told i s share shares blobs whole open_still passed e after rest =
       shown = r.shown ∙ ap (λ (l : List ℕ). one s.name l ∷ r.others) (append_assoc s.content part r.text);
     })
 
+-- no shares are no blobs
 no_pieces : (blobs : List NamedBytes) → [] ≡ blobs → AreBlobs [] blobs
 no_pieces blobs e = record { pieces = []; are_pieces = tt; parts = refl; shown = sym e }
 
+-- shares that are read as blobs are these
 pub blobs_told : (shares : List Share) (i : ℕ) (so_far : Option Sequence) (blobs : List NamedBytes) → AreShares shares → IsOpen so_far
     → blobs_from i so_far shares ≡ Ok blobs → AreFrom so_far shares blobs
 blobs_told [] i None blobs wholes is e = no_pieces blobs (let nil = blobs_from-nil i in cc)

@@ -17,6 +17,7 @@ pub record IsCut (bytes name rest : List ℕ) (byte : ℕ) : Type 0 where
   pub byte_is : slice_index bytes 29 ≡ byte
   pub behind : drop 30 bytes ≡ rest
 
+-- the three parts of a share that was written
 pub cut : (bytes name rest : List ℕ) (byte : ℕ) → length name ≡ 29 → bytes ≡ name ++ byte ∷ rest → IsCut bytes name rest byte
 cut bytes name rest byte len e = record {
   front = ap (take 29) e ∙ take_at name (byte ∷ rest) 29 len;
@@ -31,10 +32,12 @@ four bytes part rest len e =
 
 -- ---- the fields of a share are all of it
 
+-- a share is its namespace, its info byte and the other bytes
 pub parts : (bytes : List ℕ) → length bytes ≡ 512 → bytes ≡ take 29 bytes ++ slice_index bytes 29 ∷ drop 30 bytes
 parts bytes len =
     sym (take-append-drop 29 bytes) ∙ ap (λ (l : List ℕ). take 29 bytes ++ l) (drop_more bytes 29 0 (omega arith))
 
+-- four bytes come next, and then the others
 pub fours : (bytes : List ℕ) (at : ℕ) → drop at bytes ≡ take 4 (drop at bytes) ++ drop (at + 4) bytes
 fours bytes at = sym (take-append-drop 4 (drop at bytes)) ∙ ap (λ (l : List ℕ). take 4 (drop at bytes) ++ l) (drop-drop 4 at bytes)
 
@@ -46,15 +49,19 @@ stated bytes at long fits =
 
 -- ---- the info byte
 
+-- version 0 and a start are the byte 1
 start_byte : (byte : ℕ) → byte / 2 ≡ 0 → eqb (byte % 2) 1 ≡ true → byte ≡ 1
 start_byte byte version start = let odd : byte % 2 ≡ 1 = eqb-true _ _ start in omega arith
 
+-- version 0 and no start are the byte 0
 later_byte : (byte : ℕ) → byte / 2 ≡ 0 → eqb (byte % 2) 1 ≡ false → byte ≡ 0
 later_byte byte version later = grind (arith, nat_tests)
 
+-- the info byte of a first share
 pub first_byte_is : (share : Share) → version_in share ≡ 0 → is_start share ≡ true → slice_index share.0 29 ≡ 1
 first_byte_is share version start = start_byte (slice_index share.0 29) version start
 
+-- the info byte of a later share
 pub later_byte_is : (share : Share) → version_in share ≡ 0 → is_start share ≡ false → slice_index share.0 29 ≡ 0
 later_byte_is share version later = later_byte (slice_index share.0 29) version later
 
@@ -62,5 +69,6 @@ later_byte_is share version later = later_byte (slice_index share.0 29) version 
 pub fields_first : (share : Share) → is_start share ≡ true → fields_in share ≡ drop 34 share.0
 fields_first share start = ap (λ (b : Bool). drop (cond b 34 30) share.0) start
 
+-- the fields of a later share begin behind its info byte
 pub fields_later : (share : Share) → is_start share ≡ false → fields_in share ≡ drop 30 share.0
 fields_later share later = ap (λ (b : Bool). drop (cond b 34 30) share.0) later

@@ -11,15 +11,18 @@ pub zeros_are : (n : ℕ) → is_zeros (replicate n 0) ≡ true
 zeros_are zero = refl
 zeros_are (suc n) = zeros_are n
 
+-- bytes that are zeros are so many zeros
 pub zeros_only : (bytes : List ℕ) → is_zeros bytes ≡ true → bytes ≡ replicate (length bytes) 0
 zeros_only [] e = refl
 zeros_only (b ∷ bytes) e =
     let both = and_parts (eqb b 0) (is_zeros bytes) e in
     ap₂ (λ (x : ℕ) (l : List ℕ). x ∷ l) (eqb-true b 0 both.0) (zeros_only bytes both.1)
 
+-- a front isn't longer than it was cut
 short : (n : ℕ) (text : List ℕ) → length (take n text) ≤ n
 short n text = omega (arith, length-take n text)
 
+-- a front that is filled has its zeros behind it
 filled_front_is : (n : ℕ) (text : List ℕ) → filled n (take n text) ≡ take n text ++ replicate (n - length (take n text)) 0
 filled_front_is n text = filled_is n (take n text) (short n text)
 
@@ -36,6 +39,7 @@ take-filled n m text len =
           ∙ take_all m (take n text) (omega (arith, short n text))
     ]
 
+-- only zeros stand behind the text
 pub drop-filled : (n m : ℕ) (text : List ℕ) → length text ≡ m → drop m (filled n (take n text)) ≡ replicate (n - m) 0
 drop-filled n m text len =
     elim (cases_lt m n) [
@@ -50,6 +54,7 @@ drop-filled n m text len =
           drop_all m (filled n (take n text)) few ∙ ap (λ (k : ℕ). replicate k 0) none
     ]
 
+-- so the test for zeros holds
 pub is_zeros-filled : (n m : ℕ) (text : List ℕ) → length text ≡ m → is_zeros (drop m (filled n (take n text))) ≡ true
 is_zeros-filled n m text len = ap is_zeros (drop-filled n m text len) ∙ zeros_are (n - m)
 

@@ -1,108 +1,30 @@
--- The reserved bytes of compact shares, and the places where units start.
-use Rattle.std.proofs.Common.{◌≡◌, ◌∙◌, ℕ, zero, suc, ◌+◌, ◌-◌, ◌*◌, ◌<◌, ◌≤◌, ◌^◌, inl, inr, Bool, true, false, cond, eqb, ltb, lt-ltb, le-ltb, eq-eqb, ne_eqb, ◌≢◌, List, [], ◌∷◌, length, drop, get_or, Option, Some, None, refl, sym, ap, ap₂, arith}
-use Rattle.std.proofs.lemmas.Bool.{cases_lt}
+-- What the reserved bytes of compact shares should state.
+use Rattle.std.proofs.Common.{◌≡◌, ◌∙◌, ℕ, zero, suc, ◌+◌, ◌-◌, ◌*◌, ◌<◌, ◌≤◌, ◌^◌, Bool, true, false, cond, eqb, eq-eqb, ne_eqb, ◌≢◌, List, [], ◌∷◌, length, drop, get_or, Option, Some, None, refl, sym, ap, ap₂, arith}
 use Rattle.std.proofs.lemmas.Bool.Decides.{nat_tests}
 use Rattle.std.proofs.lemmas.List.{drop_more, drop_all}
 use Rattle.namespace_id.specs.declared.shares.Share.{Share}
-use Rattle.share_split.specs.Units.{content_start, content_place, first_start, reserved_of}
+use Rattle.share_split.specs.Units.{content_start, content_place, reserved_of}
 use Rattle.share_split.specs.Walks.{reserved_in, bad_reserved}
 use Rattle.share_split.specs.Steps.{starts_past, head_start}
-
--- ---- the starts that don't lie before a place
-
-past-before : (from start : ℕ) (starts : List ℕ) → start < from → starts_past from (start ∷ starts) ≡ starts_past from starts
-unfolding starts_past
-past-before from start starts lt = ap (λ (b : Bool). cond b (starts_past from starts) (start ∷ starts)) (lt-ltb start from lt)
-
-past-behind : (from start : ℕ) (starts : List ℕ) → from ≤ start → starts_past from (start ∷ starts) ≡ start ∷ starts
-unfolding starts_past
-past-behind from start starts le = ap (λ (b : Bool). cond b (starts_past from starts) (start ∷ starts)) (le-ltb start from le)
-
-past-nil : (from : ℕ) → starts_past from [] ≡ []
-unfolding starts_past
-past-nil from = refl
-
-pub past_more : (from i : ℕ) (starts : List ℕ) → i < length starts → get_or starts i 0 < from → starts_past from (drop (i + 1) starts) ≡ starts_past from (drop i starts)
-past_more from i starts lt before =
-    sym (past-before from (get_or starts i 0) (drop (i + 1) starts) before) ∙ sym (ap (starts_past from) (drop_more starts i 0 lt))
-
-pub past_stop : (from i : ℕ) (starts : List ℕ) → i < length starts → from ≤ get_or starts i 0 → drop i starts ≡ starts_past from (drop i starts)
-past_stop from i starts lt le =
-    drop_more starts i 0 lt ∙ sym (past-behind from (get_or starts i 0) (drop (i + 1) starts) le) ∙ sym (ap (starts_past from) (drop_more starts i 0 lt))
-
-pub past_end : (from i : ℕ) (starts : List ℕ) → length starts ≤ i → drop i starts ≡ starts_past from (drop i starts)
-past_end from i starts le = drop_all i starts le ∙ sym (past-nil from) ∙ sym (ap (starts_past from) (drop_all i starts le))
-
--- ---- the first start in a share
-
-start-before : (place from to start : ℕ) (starts : List ℕ) → start < from → first_start place from to (start ∷ starts) ≡ first_start place from to starts
-unfolding first_start
-start-before place from to start starts lt =
-    ap (λ (b : Bool). cond b (first_start place from to starts) (cond (ltb start to) (place + (start - from)) 0)) (lt-ltb start from lt)
-
-start-behind : (place from to start : ℕ) (starts : List ℕ) → from ≤ start → first_start place from to (start ∷ starts) ≡ cond (ltb start to) (place + (start - from)) 0
-unfolding first_start
-start-behind place from to start starts le =
-    ap (λ (b : Bool). cond b (first_start place from to starts) (cond (ltb start to) (place + (start - from)) 0)) (le-ltb start from le)
-
-start-nil : (place from to : ℕ) → first_start place from to [] ≡ 0
-unfolding first_start
-start-nil place from to = refl
-
--- starts before a place that isn't past the content don't count
-start-past : (place low from to : ℕ) (starts : List ℕ) → low ≤ from → first_start place from to (starts_past low starts) ≡ first_start place from to starts
-start-past place low from to [] le = ap (first_start place from to) (past-nil low)
-start-past place low from to (start ∷ starts) le =
-    elim (cases_lt start low) [
-      | inl lt ↦
-          ap (first_start place from to) (past-before low start starts lt) ∙ start-past place low from to starts le
-          ∙ sym (start-before place from to start starts (omega arith))
-      | inr behind ↦ ap (first_start place from to) (past-behind low start starts behind)
-    ]
-
--- the first of the others decides
-head-past : (place from to : ℕ) (starts : List ℕ) → head_start place from to (starts_past from starts) ≡ first_start place from to starts
-head-past place from to [] = ap (head_start place from to) (past-nil from) ∙ sym (start-nil place from to)
-head-past place from to (start ∷ starts) =
-    elim (cases_lt start from) [
-      | inl lt ↦
-          ap (head_start place from to) (past-before from start starts lt) ∙ head-past place from to starts
-          ∙ sym (start-before place from to start starts lt)
-      | inr behind ↦
-          ap (head_start place from to) (past-behind from start starts behind) ∙ sym (start-behind place from to start starts behind)
-    ]
-
--- it lies in the share
-first_start-le : (place from to : ℕ) (starts : List ℕ) → first_start place from to starts ≤ place + (to - from)
-first_start-le place from to [] = omega (arith, start-nil place from to)
-first_start-le place from to (start ∷ starts) =
-    elim (cases_lt start from) [
-      | inl lt ↦ omega (arith, start-before place from to start starts lt, first_start-le place from to starts)
-      | inr behind ↦ elim (cases_lt start to) [
-        | inl inside ↦
-            let is : first_start place from to (start ∷ starts) ≡ place + (start - from) =
-            start-behind place from to start starts behind ∙ ap (λ (b : Bool). cond b (place + (start - from)) 0) (lt-ltb start to inside) in
-            omega arith
-        | inr past ↦
-            let is : first_start place from to (start ∷ starts) ≡ 0 =
-            start-behind place from to start starts behind ∙ ap (λ (b : Bool). cond b (place + (start - from)) 0) (le-ltb start to past) in
-            omega arith
-      ]
-    ]
+use Rattle.share_split.proofs.StartPastLemmas.{start-past, head-past, first_start-le}
 
 -- ---- the content of shares
 
+-- the number of a later share isn't 0
 later : (i : ℕ) → eqb (suc i) 0 ≡ false
 later i = grind (arith, nat_tests)
 
+-- where the content of a later share begins
 content_start-suc : (i : ℕ) → content_start (suc i) ≡ 474 + 478 * i
 content_start-suc i =
     let e : suc i - 1 ≡ i = omega arith in
     ap (λ (b : Bool). cond b 0 (474 + 478 * (suc i - 1))) (later i) ∙ ap (λ (k : ℕ). 474 + 478 * k) e
 
+-- the place of the content in a later share
 content_place-suc : (i : ℕ) → content_place (suc i) ≡ 34
 content_place-suc i = ap (λ (b : Bool). cond b 38 34) (later i)
 
+-- four bytes state the number
 pub reserved_of-small : (i : ℕ) (starts : List ℕ) → reserved_of i starts < 2 ^ 32
 reserved_of-small zero starts = omega (arith, first_start-le (content_place zero) (content_start zero) (content_start (suc zero)) starts)
 reserved_of-small (suc i) starts =
@@ -110,19 +32,23 @@ reserved_of-small (suc i) starts =
 
 -- ---- share by share
 
+-- the content of the next share begins later
 content_start-next : (i : ℕ) → content_start i ≤ content_start (suc i)
 content_start-next zero = omega arith
 content_start-next (suc i) = omega (arith, content_start-suc i, content_start-suc (suc i))
 
+-- the next share is checked first
 pub bad_reserved-cons : (i : ℕ) (starts : List ℕ) (share : Share) (shares : List Share)
     → bad_reserved i starts (share ∷ shares) ≡ cond (eqb (reserved_in share) (reserved_of i starts)) (bad_reserved (suc i) starts shares) (Some i)
 unfolding bad_reserved
 bad_reserved-cons i starts share shares = refl
 
+-- no share is bad
 pub bad_reserved-nil : (i : ℕ) (starts : List ℕ) → bad_reserved i starts [] ≡ None
 unfolding bad_reserved
 bad_reserved-nil i starts = refl
 
+-- starts before the content of a share don't count from there on
 bad_reserved-past : (low i : ℕ) (starts : List ℕ) (shares : List Share) → low ≤ content_start i → bad_reserved i (starts_past low starts) shares ≡ bad_reserved i starts shares
 bad_reserved-past low i starts [] le = bad_reserved-nil i (starts_past low starts) ∙ sym (bad_reserved-nil i starts)
 bad_reserved-past low i starts (share ∷ shares) le =
@@ -150,6 +76,7 @@ reserved_here i starts shares none good whole lt test before =
     ∙ sym (ap (bad_reserved i starts) (drop_more shares i none lt))
     ∙ before
 
+-- share i states what it should
 pub reserved_more : (i next stated should : ℕ) (starts left : List ℕ) (shares : List Share) (none : Share) (whole : Option ℕ) → i < length shares → next ≡ suc i
     → left ≡ starts_past (content_start i) starts
     → stated ≡ reserved_in (get_or shares i none) → should ≡ head_start (content_place i) (content_start i) (content_start next) left
@@ -163,6 +90,7 @@ reserved_more i next stated should starts left shares none whole lt next_is left
     ∙ bad_reserved-past (content_start i) (suc i) starts rest (content_start-next i)
     ∙ reserved_here i starts shares none true whole lt (eq-eqb _ _ number) before
 
+-- share i doesn't state what it should
 pub reserved_stop : (i next stated should : ℕ) (starts left : List ℕ) (shares : List Share) (none : Share) (whole : Option ℕ) → i < length shares → next ≡ suc i
     → left ≡ starts_past (content_start i) starts
     → stated ≡ reserved_in (get_or shares i none) → should ≡ head_start (content_place i) (content_start i) (content_start next) left
@@ -173,5 +101,6 @@ reserved_stop i next stated should starts left shares none whole lt next_is left
     should_is ∙ ap (λ (k : ℕ). head_start (content_place i) (content_start i) (content_start k) left) next_is ∙ number_here i starts left left_is in
     reserved_here i starts shares none false whole lt (ne_eqb _ _ (λ e. differ (stated_is ∙ e ∙ sym number))) before
 
+-- no share is left
 pub reserved_end : (i : ℕ) (starts : List ℕ) (shares : List Share) (whole : Option ℕ) → length shares ≤ i → bad_reserved i starts (drop i shares) ≡ whole → None ≡ whole
 reserved_end i starts shares whole le before = sym (bad_reserved-nil i starts) ∙ sym (ap (bad_reserved i starts) (drop_all i shares le)) ∙ before

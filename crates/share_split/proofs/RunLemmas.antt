@@ -11,7 +11,8 @@ use Rattle.share_split.specs.Blobs.{later_shares, share_count}
 use Rattle.share_split.specs.Units.{compact_count, reserved_of, later_compact_share, later_compact_shares}
 use Rattle.share_split.specs.Walks.{reserved_in, bad_reserved}
 use Rattle.share_split.proofs.LaterLemmas.{later_shares-none, later_shares-next}
-use Rattle.share_split.proofs.FieldLemmas.{IsLater, later_share_is_later, is_later_share, later_compact_is, is_later_compact}
+use Rattle.share_split.proofs.FieldLemmas.{IsLater, later_share_is_later, is_later_share}
+use Rattle.share_split.proofs.CompactFieldLemmas.{later_compact_is, is_later_compact}
 use Rattle.share_split.proofs.ReservedLemmas.{bad_reserved-cons, bad_reserved-nil, reserved_of-small}
 
 -- shares that go on with a sequence to its end, of whose content this text is left
@@ -36,12 +37,15 @@ drop-parted n part text few last =
 
 -- ---- blobs
 
+-- one share takes 482 bytes
 ceil-more : (n : ℕ) → 0 < n → div_ceil n 482 ≡ suc (div_ceil (n - 482) 482)
 ceil-more n some = omega arith
 
+-- the later shares of a blob are those of the bytes after the first 478
 pub later_count : (size : ℕ) → share_count size - 1 ≡ div_ceil (size - 478) 482
 later_count size = grind (arith, nat_tests)
 
+-- the later shares of a blob go on with it to its end
 pub later_are : (count : ℕ) (name : Namespace) (text : List ℕ) → length name.0 ≡ 29 → count ≡ div_ceil (length text) 482 → AreLater 0 name text (later_shares count name text)
 unfolding later_shares
 later_are zero name text len e = omega arith
@@ -49,6 +53,7 @@ later_are (suc count) name text len e =
     let some : 0 < length text = omega arith in
     (some, later_share_is_later name text len, later_are count name (drop 482 text) len (omega (arith, length-drop 482 text, ceil-more (length text) some)))
 
+-- shares that go on with a blob to its end are its later shares
 pub later_only : (name : Namespace) (text : List ℕ) (shares : List Share) → AreShares shares → AreLater 0 name text shares
     → shares ≡ later_shares (div_ceil (length text) 482) name text
 later_only name text [] whole later = sym (later_shares-none name text (div_ceil (length text) 482) (omega (arith, later)))
@@ -60,12 +65,15 @@ later_only name text (share ∷ shares) whole later =
 
 -- ---- units
 
+-- one compact share takes 478 bytes
 compact_ceil-more : (n : ℕ) → 0 < n → div_ceil n 478 ≡ suc (div_ceil (n - 478) 478)
 compact_ceil-more n some = omega arith
 
+-- the later compact shares are those of the bytes after the first 474
 pub later_compact_count : (size : ℕ) → compact_count size - 1 ≡ div_ceil (size - 474) 478
 later_compact_count size = grind (arith, nat_tests)
 
+-- the later compact shares go on with the sequence to its end
 pub later_compact_are : (count : ℕ) (name : Namespace) (i : ℕ) (starts text : List ℕ) → length name.0 ≡ 29 → count ≡ div_ceil (length text) 478
     → AreLater 4 name text (later_compact_shares count name i starts text)
 unfolding later_compact_shares
@@ -89,6 +97,7 @@ later_compact_good (suc count) name i starts text len =
     ∙ ap (λ (b : Bool). cond b (bad_reserved (suc i) starts rest) (Some i)) (eq-eqb _ _ (later_compact_is name (reserved_of i starts) text len (reserved_of-small i starts)).1)
     ∙ later_compact_good count name (suc i) starts (drop 478 text) len
 
+-- a test of one share that passed
 good_of : (n m : ℕ) (o : Option ℕ) (i : ℕ) (b : Bool) → eqb n m ≡ b → cond b o (Some i) ≡ None → (n ≡ m) × (o ≡ None)
 good_of n m o i true is h = (eqb-true n m is, h)
 good_of n m o i false is h = absurd cc
@@ -99,16 +108,19 @@ pub good_cons : (i : ℕ) (starts : List ℕ) (share : Share) (shares : List Sha
 good_cons i starts share shares e =
     good_of (reserved_in share) (reserved_of i starts) (bad_reserved (suc i) starts shares) i _ refl (sym (bad_reserved-cons i starts share shares) ∙ e)
 
+-- no shares are left
 compact-none : (name : Namespace) (i : ℕ) (starts text : List ℕ) (count : ℕ) → count ≡ 0 → later_compact_shares count name i starts text ≡ []
 unfolding later_compact_shares
 compact-none name i starts text count e = ap (λ (n : ℕ). later_compact_shares n name i starts text) e
 
+-- the next share, and then the others
 compact-next : (name : Namespace) (i : ℕ) (starts text : List ℕ) (count left : ℕ) → count ≡ suc left
     → later_compact_shares count name i starts text
     ≡ later_compact_share name (reserved_of i starts) (take 478 text) ∷ later_compact_shares left name (suc i) starts (drop 478 text)
 unfolding later_compact_shares
 compact-next name i starts text count left e = ap (λ (n : ℕ). later_compact_shares n name i starts text) e
 
+-- shares that go on with the sequence to its end by the rule are its later shares
 pub later_compact_only : (name : Namespace) (i : ℕ) (starts text : List ℕ) (shares : List Share) → AreShares shares → AreLater 4 name text shares
     → bad_reserved i starts shares ≡ None → shares ≡ later_compact_shares (div_ceil (length text) 478) name i starts text
 later_compact_only name i starts text [] whole later good = sym (compact-none name i starts text (div_ceil (length text) 478) (omega (arith, later)))

@@ -12,12 +12,12 @@ use Rattle.share_split.specs.declared.joining.JoinError.TheVariants.{BadReserved
 use Rattle.share_split.specs.Blobs.{max_sequence_length}
 use Rattle.share_split.specs.Units.{units_text, starts_from, reserved_of, first_compact_share, later_compact_shares, compact_count, compact_shares}
 use Rattle.share_split.specs.Walks.{Sequence, missing, is_complete, later_refusal, surplus_refusal, unit_refusal, taken_by, sequence_from, bad_reserved, reserved_units, units_in, units_of}
-use Rattle.share_split.proofs.FieldLemmas.{first_compact_is}
+use Rattle.share_split.proofs.CompactFieldLemmas.{first_compact_is}
 use Rattle.share_split.proofs.SequenceLemmas.{seq, first_passes, first_taken, later_passes, later_taken}
 use Rattle.share_split.proofs.RunLemmas.{AreLater, later_compact_are, later_compact_count, later_compact_good}
 use Rattle.share_split.proofs.ReservedLemmas.{bad_reserved-cons, reserved_of-small}
-use Rattle.share_split.proofs.TextLemmas.{units_again}
-use Rattle.share_split.proofs.WalkLemmas.{sequence_from-cons, sequence_from-whole}
+use Rattle.share_split.proofs.TextLawLemmas.{units_again}
+use Rattle.share_split.proofs.UnitWalkLemmas.{sequence_from-cons, sequence_from-whole}
 
 -- a share whose checks pass
 on : (i : ℕ) (so_far : Option Sequence) (share : Share) (shares : List Share) (t : Sequence) → unit_refusal i so_far share ≡ None → taken_by 4 i so_far share ≡ t
@@ -48,6 +48,7 @@ run_read i s text (share ∷ shares) all later =
     ∙ run_read (suc i) t rest shares (omega (arith, length-append s.content part, front)) later.2
     ∙ ap (λ (l : List ℕ). Ok (Some (seq s.first s.name s.size l))) (append_assoc s.content part rest ∙ ap (λ (l : List ℕ). s.content ++ l) (take-append-drop 478 text))
 
+-- where units start in their text
 abbrev starts : List (List ℕ) → List ℕ
 starts units = starts_from 0 units
 
@@ -86,6 +87,7 @@ reserved_good name units named few =
     (eq-eqb _ _ (first_compact_is name size reserved text named.size_is (omega arith) (reserved_of-small 0 (starts units))).1)
     ∙ later_compact_good (compact_count size - 1) name 1 (starts units) (drop 474 text) named.size_is
 
+-- the compact shares of units are read as these
 pub compact_read : (name : Namespace) (units : List (List ℕ)) → IsNamespace name → length (units_text units) ≤ max_sequence_length
     → units_of (compact_shares name units) ≡ Ok units
 compact_read name units named few =

@@ -1,83 +1,23 @@
 -- Shares that are read as units are their compact sequence.
-use Rattle.std.proofs.Common.{◌≡◌, ◌∙◌, ℕ, suc, ◌+◌, ◌-◌, ◌<◌, ◌≤◌, inl, inr, Bool, true, false, cond, leb-true, leb-false, List, [], ◌∷◌, ◌++◌, length, take, drop, Option, Some, None, Result, Ok, Err, refl, sym, ap, ap₂, subst, arith, length-drop, length-append, append_assoc, append-nil}
+use Rattle.std.proofs.Common.{◌≡◌, ◌∙◌, ℕ, ◌-◌, ◌<◌, inl, inr, List, [], ◌∷◌, ◌++◌, length, take, drop, Option, Some, None, Result, Ok, Err, refl, sym, ap, ap₂, subst, arith, length-drop, length-append}
 use Rattle.std.specs.Int.{div_ceil}
 use Rattle.std.specs.Option.{option_map_or}
-use Rattle.namespace_id.specs.Bytes.{AreBytes}
 use Rattle.namespace_id.specs.Shares.{AreShares}
 use Rattle.namespace_id.specs.declared.namespaces.Namespace.{Namespace}
 use Rattle.namespace_id.specs.declared.shares.Share.{Share}
 use Rattle.namespace_id.proofs.StringLemmas.{AreBytes-append}
-use Rattle.share_split.specs.declared.joining.JoinError.{JoinError}
 use Rattle.share_split.specs.declared.joining.JoinError.TheVariants.{BadReserved}
 use Rattle.share_split.specs.Units.{starts_from, reserved_of, first_compact_share, later_compact_shares, compact_count}
-use Rattle.share_split.specs.Walks.{name_in, size_in, Sequence, missing, is_complete, begun_by, extended_by, later_refusal, surplus_refusal, unit_refusal, sequence_from, units_from, bad_reserved, reserved_units, units_in, units_of}
+use Rattle.share_split.specs.Walks.{name_in, size_in, Sequence, begun_by, unit_refusal, sequence_from, units_from, bad_reserved, reserved_units, units_in, units_of}
 use Rattle.share_split.specs.Joined.{AreCompact, AreUnits}
-use Rattle.share_split.proofs.FieldLemmas.{IsFirst, is_first_compact}
-use Rattle.share_split.proofs.SequenceLemmas.{seq, first_told, later_told, first_part, later_part, name_in-is, size_in-small, part-fits}
+use Rattle.share_split.proofs.FieldLemmas.{IsFirst}
+use Rattle.share_split.proofs.CompactFieldLemmas.{is_first_compact}
+use Rattle.share_split.proofs.SequenceLemmas.{seq}
+use Rattle.share_split.proofs.NextLemmas.{first_told, first_part, name_in-is, size_in-small, part-fits}
 use Rattle.share_split.proofs.RunLemmas.{AreLater, drop-parted, good_cons, later_compact_only, later_compact_count}
-use Rattle.share_split.proofs.TextLemmas.{units_back}
-use Rattle.share_split.proofs.WalkLemmas.{One, sequence_from-cons, sequence_from-whole, sequence_from-open, sequence_from-none}
-
--- ---- what an answer tells
-
-checked : (o : Option JoinError) (r : One) (answer : Option Sequence) → option_map_or Err o r ≡ Ok answer → (o ≡ None) × (r ≡ Ok answer)
-checked None r answer e = (refl, e)
-checked (Some why) r answer e = absurd cc
-
-still_open : (done : Bool) (surplus : JoinError) (o : Option JoinError) → cond done (Some surplus) o ≡ None → (done ≡ false) × (o ≡ None)
-still_open true surplus o e = absurd cc
-still_open false surplus o e = (refl, e)
-
--- ---- the walk
-
--- what follows a sequence, to its end
-pub record IsEnd (s : Sequence) (shares : List Share) (answer : Option Sequence) : Type 0 where
-  pub text : List ℕ
-  pub later : AreLater 4 s.name text shares
-  pub all : s.size ≡ length s.content + length text
-  pub fits : AreBytes text
-  pub answer_is : answer ≡ Some (seq s.first s.name s.size (s.content ++ text))
-
-end_by : (done : Bool) (i : ℕ) (s : Sequence) (answer : Option Sequence) → is_complete s ≡ done → length s.content ≤ s.size → sequence_from i (Some s) [] ≡ Ok answer
-    → IsEnd s [] answer
-end_by true i s answer is le e =
-    let whole = sequence_from-whole i s is in
-    let same : Some s ≡ answer = cc in
-    let size : s.size ≤ length s.content = leb-true _ _ is in
-    record {
-      text = [];
-      later = refl;
-      all = omega arith;
-      fits = λ i. omega arith;
-      answer_is = sym same ∙ ap (λ (l : List ℕ). Some (seq s.first s.name s.size l)) (sym (append-nil s.content));
-    }
-end_by false i s answer is le e = let cut = sequence_from-open i s is in absurd cc
-
-run_told : (shares : List Share) (i : ℕ) (s : Sequence) (answer : Option Sequence) → AreShares shares → length s.content ≤ s.size
-    → sequence_from i (Some s) shares ≡ Ok answer → IsEnd s shares answer
-run_told [] i s answer wholes le e = end_by (is_complete s) i s answer refl le e
-run_told (share ∷ shares) i s answer wholes le e =
-    let t : Sequence = extended_by 4 s share in
-    let p = checked (unit_refusal i (Some s) share) (sequence_from (suc i) (Some t) shares) answer (sym (sequence_from-cons i (Some s) share shares) ∙ e) in
-    let q = still_open (is_complete s) (surplus_refusal i share) (later_refusal 4 i s share) p.0 in
-    let x = later_told 4 i s share wholes.0 q.1 in
-    let part : List ℕ = later_part 4 s share in
-    let so_far : length (s.content ++ part) ≡ length s.content + length part = length-append s.content part in
-    let r = run_told shares (suc i) t answer wholes.1 (omega (arith, so_far, x.within)) p.1 in
-    let text : List ℕ = part ++ r.text in
-    let both : length text ≡ length part + length r.text = length-append part r.text in
-    let behind : drop 478 text ≡ r.text = drop-parted 478 part r.text x.few (λ (k : length part < 478). omega (arith, x.full k, r.all, so_far)) in
-    record {
-      text = text;
-      later = (
-        omega (arith, both, r.all, so_far, leb-false _ _ q.0),
-        x.later r.text (omega (arith, r.all, so_far)),
-        subst (λ (l : List ℕ). AreLater 4 s.name l shares) (sym behind) r.later,
-      );
-      all = omega (arith, both, r.all, so_far);
-      fits = AreBytes-append part r.text (part-fits 4 (missing s) share wholes.0) r.fits;
-      answer_is = r.answer_is ∙ ap (λ (l : List ℕ). Some (seq s.first s.name s.size l)) (append_assoc s.content part r.text);
-    }
+use Rattle.share_split.proofs.TextLawLemmas.{units_back}
+use Rattle.share_split.proofs.UnitWalkLemmas.{One, sequence_from-cons, sequence_from-none}
+use Rattle.share_split.proofs.SequenceToldLemmas.{checked, run_told}
 
 -- ---- the whole sequence
 
@@ -86,10 +26,12 @@ pub record IsRead (shares : List Share) (text : List ℕ) (units : List (List �
   pub read : units_from 0 0 text ≡ Ok units
   pub good : bad_reserved 0 (starts_from 0 units) shares ≡ None
 
+-- no share states a wrong number
 good_by : (o : Option ℕ) (units answer : List (List ℕ)) → option_map_or (λ i. Err (BadReserved i)) o (Ok units) ≡ Ok answer → (o ≡ None) × (units ≡ answer)
 good_by None units answer e = let same : units ≡ answer = cc in (refl, same)
 good_by (Some i) units answer e = absurd cc
 
+-- units that were read are those of their text
 read_by : (shares : List Share) (text : List ℕ) (r : Result (List (List ℕ)) ℕ) (units : List (List ℕ)) → units_from 0 0 text ≡ r → reserved_units shares r ≡ Ok units
     → IsRead shares text units
 read_by shares text (Err at) units is e = absurd cc
@@ -106,6 +48,7 @@ sequence_of_text name starts text =
     first_compact_share name (length text) (reserved_of 0 starts) (take 474 text)
     ∷ later_compact_shares (compact_count (length text) - 1) name 1 starts (drop 474 text)
 
+-- a share that begins the sequence, and its later shares
 compact_told : (share : Share) (shares : List Share) (units : List (List ℕ)) (answer : Option Sequence) → AreShares (share ∷ shares)
     → sequence_from 0 None (share ∷ shares) ≡ Ok answer → units_in (share ∷ shares) (Ok answer) ≡ Ok units → AreCompact (share ∷ shares) units
 compact_told share shares units answer wholes e read =
@@ -142,10 +85,12 @@ compact_told share shares units answer wholes e read =
 
 -- ---- the law
 
+-- a sequence was read
 sequence_of : (shares : List Share) (r : One) (units : List (List ℕ)) → units_in shares r ≡ Ok units → (answer : Option Sequence) × (r ≡ Ok answer)
 sequence_of shares (Err why) units e = absurd cc
 sequence_of shares (Ok answer) units e = (answer, refl)
 
+-- shares that are read as units are theirs
 pub units_told : (shares : List Share) (units : List (List ℕ)) → AreShares shares → units_of shares ≡ Ok units → AreUnits shares units
 units_told [] units wholes e =
     let none : units_of [] ≡ Ok [] = ap (units_in []) (sequence_from-none 0) in

@@ -1,5 +1,5 @@
 -- Varints, written and read.
-use Rattle.std.proofs.Common.{◌≡◌, ◌≢◌, ◌∙◌, inl, inr, ℕ, zero, suc, ◌+◌, ◌-◌, ◌*◌, ◌/◌, ◌%◌, ◌^◌, ◌<◌, ◌≤◌, Bool, true, false, cond, eqb, lt-ltb, le-ltb, false-eqb, List, [], ◌∷◌, ◌++◌, length, Option, Some, None, refl, sym, ap, ap₂, subst, arith, pow-suc}
+use Rattle.std.proofs.Common.{◌≡◌, ◌≢◌, ◌∙◌, inl, inr, ℕ, zero, suc, ◌+◌, ◌-◌, ◌*◌, ◌/◌, ◌%◌, ◌^◌, ◌<◌, ◌≤◌, Bool, true, false, cond, eqb, lt-ltb, le-ltb, false-eqb, List, [], ◌∷◌, ◌++◌, length, Option, Some, None, refl, sym, ap, ap₂, arith, pow-suc}
 use Rattle.std.proofs.lemmas.Bool.{cases_lt}
 use Rattle.std.proofs.lemmas.Bool.Decides.{nat_tests}
 use Rattle.std.proofs.lemmas.Nat.{div_below}
@@ -15,28 +15,34 @@ passed false r y e = (refl, e)
 
 -- ---- written
 
+-- a number below 128 is one byte
 within-small : (more n : ℕ) → n < 128 → varint_within (suc more) n ≡ n ∷ []
 unfolding varint_within
 within-small more n lt = ap (λ (b : Bool). cond b (n ∷ []) ((n % 128 + 128) ∷ varint_within more (n / 128))) (lt-ltb n 128 lt)
 
+-- another number is its lowest seven bits, and the others
 within-large : (more n : ℕ) → 128 ≤ n → varint_within (suc more) n ≡ (n % 128 + 128) ∷ varint_within more (n / 128)
 unfolding varint_within
 within-large more n le = ap (λ (b : Bool). cond b (n ∷ []) ((n % 128 + 128) ∷ varint_within more (n / 128))) (le-ltb n 128 le)
 
 -- ---- read
 
+-- a byte below 128 is the number
 in-small : (more byte : ℕ) (rest : List ℕ) → byte < 128 → varint_in (suc more) (byte ∷ rest) ≡ Some (byte, rest)
 unfolding varint_in
 in-small more byte rest lt = ap (λ (b : Bool). cond b (Some (byte, rest)) (above_low (byte - 128) (varint_in more rest))) (lt-ltb byte 128 lt)
 
+-- another byte is the lowest seven bits
 in-large : (more byte : ℕ) (rest : List ℕ) → 128 ≤ byte → varint_in (suc more) (byte ∷ rest) ≡ above_low (byte - 128) (varint_in more rest)
 unfolding varint_in
 in-large more byte rest le = ap (λ (b : Bool). cond b (Some (byte, rest)) (above_low (byte - 128) (varint_in more rest))) (le-ltb byte 128 le)
 
+-- no byte may be read
 in-none : (bytes : List ℕ) → varint_in zero bytes ≡ None
 unfolding varint_in
 in-none bytes = refl
 
+-- no byte is there
 in-empty : (more : ℕ) → varint_in (suc more) [] ≡ None
 unfolding varint_in
 in-empty more = refl
@@ -48,6 +54,7 @@ pub record HasHigh (low n : ℕ) (rest : List ℕ) (o : Option (ℕ × List ℕ)
   pub some : 0 < high
   pub sum_is : low + 128 * high ≡ n
 
+-- a number that was read has a higher part that isn't 0
 above_some : (low n : ℕ) (rest : List ℕ) (o : Option (ℕ × List ℕ)) → above_low low o ≡ Some (n, rest) → HasHigh low n rest o
 above_some low n rest None e = absurd cc
 above_some low n rest (Some h) e =
@@ -61,6 +68,7 @@ above_some low n rest (Some h) e =
       sum_is = same.0;
     }
 
+-- a higher part that isn't 0 is read
 above_again : (low high : ℕ) (rest : List ℕ) → 0 < high → above_low low (Some (high, rest)) ≡ Some (low + 128 * high, rest)
 above_again low high rest some =
     let not_zero : eqb high 0 ≡ false = grind (arith, nat_tests) in
@@ -68,6 +76,7 @@ above_again low high rest some =
 
 -- ---- what is read is what was written
 
+-- a number that is read is spelled so
 pub varint_back : (more k : ℕ) (bytes : List ℕ) (n : ℕ) (rest : List ℕ) → more ≤ k → AreBytes bytes → varint_in more bytes ≡ Some (n, rest)
     → bytes ≡ varint_within k n ++ rest
 varint_back zero k bytes n rest le fits e = let none = in-none bytes in absurd cc
@@ -93,6 +102,7 @@ has_more : (more n : ℕ) → 0 < n → n < 128 ^ more → 0 < more
 has_more zero n some lt = absurd (omega arith)
 has_more (suc more) n some lt = omega arith
 
+-- a number that is spelled is read
 pub varint_again : (more k n : ℕ) (rest : List ℕ) → 0 < more → more ≤ k → n < 128 ^ more → varint_in more (varint_within k n ++ rest) ≡ Some (n, rest)
 varint_again zero k n rest some le lt = absurd (omega arith)
 varint_again (suc more) zero n rest some le lt = absurd (omega arith)
@@ -123,28 +133,3 @@ varint_shorter (suc more) (byte ∷ bytes) n rest e =
           let h = above_some (byte - 128) n rest (varint_in more bytes) (sym (in-large more byte bytes large) ∙ e) in
           omega (arith, varint_shorter more bytes h.high rest h.read)
     ]
-
--- ---- how great a number of so many bytes is
-
-power_some : (most : ℕ) → 0 < 128 ^ most
-power_some zero = omega arith
-power_some (suc most) = omega (arith, pow-suc 128 most, power_some most)
-
-pub pow_least : (most n : ℕ) → 0 < most → n < 128 → n < 128 ^ most
-pow_least zero n some lt = absurd (omega arith)
-pow_least (suc most) n some lt = omega (arith, pow-suc 128 most, power_some most)
-
-pub pow_next : (most low high : ℕ) → 0 < most → low < 128 → high < 128 ^ (most - 1) → low + 128 * high < 128 ^ most
-pow_next zero low high some small lt = absurd (omega arith)
-pow_next (suc most) low high some small lt =
-    let e : suc most - 1 ≡ most = omega arith in
-    let below : high < 128 ^ most = subst (λ (k : ℕ). high < 128 ^ k) e lt in
-    omega (arith, pow-suc 128 most)
-
-pub pow_few : (most n : ℕ) → most ≤ 4 → n < 128 ^ most → n < 2 ^ 28
-pow_few zero n le lt = omega arith
-pow_few (suc zero) n le lt = omega arith
-pow_few (suc (suc zero)) n le lt = omega arith
-pow_few (suc (suc (suc zero))) n le lt = omega arith
-pow_few (suc (suc (suc (suc zero)))) n le lt = omega arith
-pow_few (suc (suc (suc (suc (suc most))))) n le lt = absurd (omega arith)

@@ -49,8 +49,8 @@ unfoldable pub starts_past : ℕ → List ℕ → List ℕ
 starts_past from [] = []
 starts_past from (start ∷ starts) = if nat_lt start from then starts_past from starts else start ∷ starts
 
--- the place of the first of these starts in a share whose content has this place and goes from `from` to
--- `to`
+-- the place of the first of these starts in a share whose content has this place and goes from
+-- `from` to `to`
 abbrev pub head_start : ℕ → ℕ → ℕ → List ℕ → ℕ
 head_start place from to [] = 0
 head_start place from to (start ∷ starts) = if nat_lt start to then place + (start - from) else 0

@@ -19,7 +19,8 @@ use thiserror::Error;
 /// Why shares are not blobs, or not units. Each but the last has the number of a share.
 #[derive(Clone, Copy, Debug, PartialEq, Eq, Error)]
 pub enum JoinError {
-    /// No sequence is open and the share begins none, or it stands behind the one sequence of units.
+    /// No sequence is open and the share begins none, or it stands behind the one sequence of
+    /// units.
     #[error("share {0} begins no sequence")]
     NoStart(u64),
     /// The sequence that begins at this share isn't complete where another one begins or the list
@@ -77,15 +78,16 @@ fn closed(sequence: Open, blobs: &mut Vec<Blob>) -> Result<Option<Open>, JoinErr
     Ok(None)
 }
 
-/// The blobs that shares are, in their order. A share that begins a sequence of length 0 is padding,
-/// and is passed over.
+/// The blobs that shares are, in their order. A share that begins a sequence of length 0 is
+/// padding, and is passed over.
 ///
 /// Refuses, at the first share with one of these faults, in this order: a version that isn't 0
-/// (`BadVersion`); in a sequence another namespace than its first share's (`MixedNamespace`), then the
-/// start of another sequence (`Short`, with the first share of the one that is cut short); where no
-/// sequence is open a share that begins none (`NoStart`); a byte behind the content that isn't 0
-/// (`NonZeroFill`). Then shares that end in an open sequence (`Short`). Want of memory may come in place
-/// of any answer; it is taken as the content comes, and not for a length that a share promises.
+/// (`BadVersion`); in a sequence another namespace than its first share's (`MixedNamespace`), then
+/// the start of another sequence (`Short`, with the first share of the one that is cut short);
+/// where no sequence is open a share that begins none (`NoStart`); a byte behind the content that
+/// isn't 0 (`NonZeroFill`). Then shares that end in an open sequence (`Short`). Want of memory may
+/// come in place of any answer; it is taken as the content comes, and not for a length that a share
+/// promises.
 ///
 /// Celestia specifications, "Shares"; docs/RULES.md, "Reading shares".
 pub fn join_blobs(alloc: Global, shares: &[Share]) -> Result<Vec<Blob>, JoinError>
@@ -124,17 +126,18 @@ fn unit_sequence(alloc: Global, shares: &[Share]) -> Result<Option<Open>, JoinEr
     }
 }
 
-/// The units that compact shares are, in their order; none for no shares, and for a sequence of length
-/// 0.
+/// The units that compact shares are, in their order; none for no shares, and for a sequence of
+/// length 0.
 ///
 /// Refuses, at the first share with one of these faults, in this order: a version that isn't 0
 /// (`BadVersion`); in a sequence that isn't complete another namespace than its first share's
-/// (`MixedNamespace`), then the start of another sequence (`Short`, with the first share); where none is
-/// open a share that begins none, or any share after the one sequence (`NoStart`); a byte behind the
-/// content that isn't 0 (`NonZeroFill`). Then shares that end in an open sequence (`Short`). Then a length
-/// of a unit that is no shortest varint below 2^32, or that runs past the sequence with its unit
-/// (`BadVarint`, with the share in which it begins). Then reserved bytes that don't state where the first
-/// unit starts in their share (`BadReserved`). Want of memory may come in place of any answer.
+/// (`MixedNamespace`), then the start of another sequence (`Short`, with the first share); where
+/// none is open a share that begins none, or any share after the one sequence (`NoStart`); a byte
+/// behind the content that isn't 0 (`NonZeroFill`). Then shares that end in an open sequence
+/// (`Short`). Then a length of a unit that is no shortest varint below 2^32, or that runs past the
+/// sequence with its unit (`BadVarint`, with the share in which it begins). Then reserved bytes
+/// that don't state where the first unit starts in their share (`BadReserved`). Want of memory may
+/// come in place of any answer.
 ///
 /// Celestia specifications, "Shares", transaction shares; docs/RULES.md, "Reading shares".
 pub fn join_units(alloc: Global, shares: &[Share]) -> Result<Vec<Unit>, JoinError>

@@ -9,6 +9,7 @@
 
 mod blobs;
 mod compact;
+mod fields;
 mod joining;
 mod parsing;
 mod texts;

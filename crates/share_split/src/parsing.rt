@@ -5,10 +5,13 @@ ghost use Rattle.share_split.specs.Units.{content_place, content_start, starts_f
 ghost use Rattle.share_split.specs.Walks.{Joins, varint_in, unit_at, units_from, share_with, bad_reserved};
 ghost use Rattle.share_split.specs.Steps.{Gives, units_placed, starts_past, head_start};
 
-use crate::walking::reserved;
+use crate::fields::reserved;
 use crate::{FIRST_COMPACT_CONTENT, JoinError, LATER_COMPACT_CONTENT, SHARE_SIZE, Unit};
 use namespace_id::Share;
 use std::alloc::{AllocError, Global};
+
+/// A byte of a varint has seven bits of its number; the upper bit says that another byte follows.
+const RADIX: u64 = 128;
 
 /// The bytes of the longest varint of a length below 2^32, at seven bits a byte.
 const LONGEST_VARINT: u8 = 5;
@@ -16,8 +19,8 @@ const LONGEST_VARINT: u8 = 5;
 /// The lengths of units have up to 32 bits.
 const MAX_UNIT_LENGTH: u64 = 4_294_967_295;
 
-/// The number that a shortest varint of at most so many bytes states at the front, and the bytes after
-/// it.
+/// The number that a shortest varint of at most so many bytes states at the front, and the bytes
+/// after it.
 #[tactic(auto, unfolding(crate::specs::Walks::varint_in))]
 fn varint_in(most: u8, bytes: &[u8]) -> Option<(u64, &[u8])>
     requires { most ≤ 5 }
@@ -30,14 +33,15 @@ fn varint_in(most: u8, bytes: &[u8]) -> Option<(u64, &[u8])>
     let [byte, rest @ ..] = bytes else {
         return None;
     };
-    if *byte < 128 {
-        return Some((u64::from(*byte), rest));
+    let byte = u64::from(*byte);
+    if byte < RADIX {
+        return Some((byte, rest));
     }
     let (high, after) = varint_in(most - 1, rest)?;
     if high == 0 {
         return None;
     }
-    Some((u64::from(*byte - 128) + 128 * high, after))
+    Some((byte - RADIX + RADIX * high, after))
 }
 
 /// The unit at the front, and how many bytes it takes with its length.
@@ -88,8 +92,10 @@ impl Placed {
 ///
 /// Refuses the first length that is none or whose unit isn't all there (`BadVarint`).
 pub(crate) fn units_of_text(alloc: Global, text: &[u8]) -> Result<Placed, JoinError>
-    ensures units { Joins (λ placed. placed.units.items) result (units_placed (units_from 0 0 text.now)) }
-    ensures starts { IfOk result (λ placed. placed.starts.items ≡ starts_from 0 placed.units.items) }
+    ensures units { Joins (λ placed. placed.units.items) result
+        (units_placed (units_from 0 0 text.now)) }
+    ensures starts { IfOk result (λ placed.
+        placed.starts.items ≡ starts_from 0 placed.units.items) }
 {
     let mut placed = Placed {
         units: Vec::new(alloc),
@@ -128,11 +134,12 @@ fn content_start(i: usize) -> usize
     FIRST_COMPACT_CONTENT + LATER_COMPACT_CONTENT * (i - 1)
 }
 
-/// The number that the reserved bytes of share i should state, where these are the starts that don't
-/// lie before its content.
+/// The number that the reserved bytes of share i should state, where these are the starts that
+/// don't lie before its content.
 fn reserved_for(i: usize, starts: &[usize]) -> usize
     requires { i < 2 ^ 54 }
-    ensures { result ≡ head_start (content_place i) (content_start i) (content_start (i + 1)) starts.now }
+    ensures { result ≡
+        head_start (content_place i) (content_start i) (content_start (i + 1)) starts.now }
 {
     let content = if i == 0 {
         FIRST_COMPACT_CONTENT

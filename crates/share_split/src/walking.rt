@@ -1,107 +1,20 @@
 //! Sequences of shares, read share by share.
 
-ghost use Rattle.std.specs.Prelude.{◌≡◌, ◌≤◌, ◌+◌, ◌++◌, length, take, OnOk};
-ghost use Rattle.std.specs.Int.{w32, from_be_bytes};
-ghost use Rattle.namespace_id.specs.Names.{is_zeros};
-ghost use Rattle.share_split.specs.Walks.{name_in, version_in, is_start, size_in, fields_in, content_in, reserved_in, Sequence, missing, is_complete, begun_by, extended_by, is_filled, first_refusal, later_refusal, surplus_refusal, blob_refusal, taken_by, unit_refusal};
-ghost use Rattle.share_split.specs.Blobs.{later_content};
+ghost use Rattle.std.specs.Prelude.{◌≡◌, ◌≤◌, ◌++◌, take, OnOk};
+ghost use Rattle.share_split.specs.Walks.{content_in, first_refusal, surplus_refusal, blob_refusal, taken_by, unit_refusal};
 ghost use Rattle.share_split.specs.Steps.{Takes};
 
+use crate::JoinError;
 use crate::blobs::split_within;
-use crate::{FIRST_CONTENT, JoinError, LATER_CONTENT, SHARE_SIZE};
+use crate::fields::{content, is_filled, is_start, namespace, size, version};
 use namespace_id::{Namespace, Share};
 use std::alloc::{AllocError, Global};
 use std::marker::Model;
 
-/// The bytes of a namespace, which stands first in a share. The info byte stands behind it.
-///
-/// Celestia specifications, "Shares".
-const NAMESPACE_SIZE: usize = 29;
-
-/// The reserved bytes of a compact share, which stand before its content.
+/// The reserved bytes of a compact share, which stand before its content. Those of blobs have none.
 ///
 /// Celestia specifications, "Shares", transaction shares.
 const RESERVED_SIZE: usize = 4;
-
-/// The version of a share.
-fn version(share: &Share) -> u8
-    ensures { result ≡ version_in share.now }
-{
-    share.0[NAMESPACE_SIZE] / 2
-}
-
-/// Whether a share is the first one of a sequence.
-fn is_start(share: &Share) -> bool
-    ensures { result ≡ is_start share.now }
-{
-    share.0[NAMESPACE_SIZE] % 2 == 1
-}
-
-/// The namespace of a share.
-fn namespace(share: &Share) -> Namespace
-    ensures { result ≡ name_in share.now }
-{
-    let mut namespace = Namespace([0; NAMESPACE_SIZE]);
-    namespace.0.copy_from_slice(&share.0[..NAMESPACE_SIZE]);
-    namespace
-}
-
-/// The number that the first four bytes state, the highest first.
-fn number(bytes: &[u8]) -> u32
-    requires { 4 ≤ length bytes.now }
-    ensures { result ≡ from_be_bytes w32 (take 4 bytes.now) }
-{
-    u32::from_be_bytes([bytes[0], bytes[1], bytes[2], bytes[3]])
-}
-
-/// The length of the sequence that a share begins.
-fn size(share: &Share) -> u32
-    ensures { result ≡ size_in share.now }
-{
-    number(share.0.split_at(NAMESPACE_SIZE + 1).1)
-}
-
-/// The bytes behind the info byte and, in a first share, the length of the sequence.
-fn fields(share: &Share) -> &[u8]
-    ensures value { result.now ≡ fields_in share.now }
-    ensures some { later_content ≤ length result.now + 4 }
-{
-    if is_start(share) {
-        share.0.split_at(SHARE_SIZE - FIRST_CONTENT).1
-    } else {
-        share.0.split_at(SHARE_SIZE - LATER_CONTENT).1
-    }
-}
-
-/// The number that the reserved bytes of a compact share state.
-pub(crate) fn reserved(share: &Share) -> u32
-    ensures { result ≡ reserved_in share.now }
-{
-    number(fields(share))
-}
-
-/// The content of a share, which stands behind so many reserved bytes.
-fn content(share: &Share, reserved: usize) -> &[u8]
-    requires { reserved ≤ 4 }
-    ensures { result.now ≡ content_in reserved share.now }
-{
-    fields(share).split_at(reserved).1
-}
-
-/// Whether all bytes are 0.
-fn is_zeros(bytes: &[u8]) -> bool
-    ensures { result ≡ is_zeros bytes.now }
-{
-    bytes.iter().all(|byte| *byte == 0)
-}
-
-/// Whether all bytes behind so many bytes of content are 0.
-fn is_filled(share: &Share, reserved: usize, bytes: usize) -> bool
-    requires { reserved ≤ 4 }
-    ensures { result ≡ is_filled reserved bytes share.now }
-{
-    is_zeros(split_within(content(share, reserved), bytes).1)
-}
 
 /// Why share i begins no sequence.
 fn first_refusal(share: &Share, reserved: usize, i: u64) -> Option<JoinError>
@@ -146,7 +59,12 @@ impl Model for Open {
 
     ghost Value = { Sequence };
 
-    ghost view = { λ s. record { first = s.first; name = s.namespace; size = s.size; content = s.bytes.items } };
+    ghost view = { λ s. record {
+      first = s.first;
+      name = s.namespace;
+      size = s.size;
+      content = s.bytes.items;
+    } };
 }
 
 /// Appends the content of a share to that of its sequence, at most so many bytes.
@@ -157,13 +75,15 @@ fn put_content(
     most: usize,
 ) -> Result<(), AllocError>
     requires { reserved ≤ 4 }
-    ensures { OnOk result (bytes.new.items ≡ bytes.old.items ++ take most (content_in reserved share.now)) }
+    ensures { OnOk result
+        (bytes.new.items ≡ bytes.old.items ++ take most (content_in reserved share.now)) }
 {
     bytes.extend_from_slice(split_within(content(share, reserved), most).0)
 }
 
 impl Open {
-    ghost use Rattle.share_split.specs.Walks.{missing, is_complete, begun_by, extended_by, first_refusal, later_refusal};
+    ghost use Rattle.share_split.specs.Walks.{missing, is_complete, begun_by, extended_by};
+    ghost use Rattle.share_split.specs.Walks.{first_refusal, later_refusal};
 
     /// How many bytes of content are still to come.
     fn missing(&self) -> usize
@@ -183,7 +103,8 @@ impl Open {
     /// all that the share promises.
     fn begun(alloc: Global, share: &Share, reserved: usize, i: u64) -> Result<Open, JoinError>
         requires { reserved ≤ 4 }
-        ensures { Takes result (first_refusal reserved i share.now) (begun_by reserved i share.now) }
+        ensures { Takes result
+            (first_refusal reserved i share.now) (begun_by reserved i share.now) }
     {
         if let Some(refusal) = first_refusal(share, reserved, i) {
             return Err(refusal);
@@ -221,7 +142,8 @@ impl Open {
     /// The sequence with the content of share i.
     fn extended(self, share: &Share, reserved: usize, i: u64) -> Result<Open, JoinError>
         requires { reserved ≤ 4 }
-        ensures { Takes result (later_refusal reserved i self share.now) (extended_by reserved self share.now) }
+        ensures { Takes result
+            (later_refusal reserved i self share.now) (extended_by reserved self share.now) }
     {
         if let Some(refusal) = self.refusal(share, reserved, i) {
             return Err(refusal);

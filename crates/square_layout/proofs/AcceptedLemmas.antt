@@ -14,7 +14,8 @@ use Rattle.square_layout.specs.declared.laying.LayError.TheVariants.{BadBlob, Em
 use Rattle.square_layout.specs.Blocks.{HaveBytes}
 use Rattle.square_layout.specs.Layout.{in_order}
 use Rattle.square_layout.specs.Refusals.{namespace_refusal, bad_blob, empty_blob, blob_refusal}
-use Rattle.square_layout.proofs.NameLemmas.{IsBetween, All-in_order}
+use Rattle.square_layout.proofs.NameLemmas.{IsBetween}
+use Rattle.square_layout.proofs.BlobOrderLemmas.{All-in_order}
 
 -- ---- the namespace of a blob
 
@@ -96,6 +97,10 @@ no_empty_blob i [] h = tt
 no_empty_blob i (blob ∷ blobs) h =
     let both = empty_parts (length blob.bytes) i (empty_blob (suc i) blobs) h in
     (both.0, no_empty_blob (suc i) blobs both.1)
+
+pub blobs_between : (blobs : List NamedBytes) → AllByRecursion (λ blob. is_blob_namespace blob.namespace.0 ≡ true) blobs → AllByRecursion IsBetween blobs
+blobs_between [] h = tt
+blobs_between (blob ∷ blobs) h = (accepted_between blob (accepted_is blob.namespace.0 h.0), blobs_between blobs h.1)
 
 -- ---- the blobs of a block, as calls see them
 

@@ -1,6 +1,7 @@
 -- Sorting borrowed blobs by their namespaces gives them in the order in which they stand in a square.
-use Rattle.std.proofs.Common.{◌≡◌, ◌∙◌, ◌+◌, Bool, true, List, [], ◌∷◌, get_or, map, ◌&&◌, not, is_lt, is_le, Bor, Ordering, Less, Equal, Greater, refl, sym, ap, arith, inl, inr}
+use Rattle.std.proofs.Common.{true, false, if◌then◌else◌, ◌≡◌, ◌∙◌, ◌+◌, Bool, true, List, [], ◌∷◌, get_or, map, ◌&&◌, not, is_lt, is_le, Bor, Ordering, Less, Equal, Greater, refl, sym, ap, arith, inl, inr}
 use Rattle.std.proofs.lemmas.Bool.{cases_Bool, and_parts}
+use Rattle.std.specs.List.{AllByRecursion}
 use Rattle.std.specs.Ordering.{ordering_reverse}
 use Rattle.std.specs.List.Sorted.{ties, IsSortedByKey, IsStableByKey}
 use Rattle.std.proofs.lemmas.Cmp.{nat_list_cmp_total}
@@ -62,3 +63,17 @@ pub sorted_in_order : (xs ys : List (Bor NamedBytes)) → IsSortedByKey name_of 
 sorted_in_order xs ys up same =
     let rises : Rises named_at_most ys = Rises-from_neighbours names_rank ys (λ k d h. sym (at_most_is (name_of (get_or ys k d)) (name_of (get_or ys (k + 1) d))) ∙ ap not (up k d (omega arith) h)) in
     ap (map (λ (b : Bor NamedBytes). b.now)) (sorted_is names_rank xs ys rises same) ∙ map-order_by xs
+
+-- what holds of each blob holds of each in order
+pub All-put_in : (P : NamedBytes → Type 0) (blob : NamedBytes) (blobs : List NamedBytes) → P blob → AllByRecursion P blobs → AllByRecursion P (put_in blob blobs)
+unfolding put_in
+All-put_in P blob [] h k = (h, tt)
+All-put_in P blob (other ∷ others) h k = elim (is_at_most blob.namespace other.namespace) as (λ b. AllByRecursion P (if b then blob ∷ other ∷ others else other ∷ put_in blob others)) [
+  | true ↦ (h, k)
+  | false ↦ (k.0, All-put_in P blob others h k.1)
+]
+
+pub All-in_order : (P : NamedBytes → Type 0) (blobs : List NamedBytes) → AllByRecursion P blobs → AllByRecursion P (in_order blobs)
+unfolding in_order
+All-in_order P [] h = tt
+All-in_order P (blob ∷ blobs) h = All-put_in P blob (in_order blobs) h.0 (All-in_order P blobs h.1)

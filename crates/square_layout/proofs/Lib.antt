@@ -6,7 +6,9 @@ pub mod CountLemmas
 pub mod PutLemmas
 pub mod SizeLemmas
 pub mod LaidLemmas
+pub mod ShareNameLemmas
 pub mod NameLemmas
 pub mod AcceptedLemmas
-pub mod LawLemmas
+pub mod StandingLemmas
+pub mod LeastWidthLemmas
 pub mod OrderLawLemmas

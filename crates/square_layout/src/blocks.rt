@@ -6,7 +6,7 @@ use std::marker::Model;
 
 /// What is laid out as a square: units of transactions, units of payments for blobs, and blobs.
 ///
-/// `width` is the width that the square is to have at least, where one is asked for.
+/// `width` is the width that the square is to have, where one is asked for.
 ///
 /// Celestia specifications, "Square Layout".
 #[derive(Debug, Drop)]

@@ -3,11 +3,13 @@ use Rattle.share_split.specs.Walks.{Sequence, units_in}
 use Rattle.share_split.proofs.JoinLawLemmas.{units_law, units_whole}
 use Rattle.share_split.proofs.joining.join_units.Goals as goal
 
+-- no shares are no units
 pub returns-in_default-clause-units : goal.returns-in_default-clause-units
 returns-in_default-clause-units c =
     (units_law c.args.shares.now c.new.result.items c.are_shares.ensures).0
     (ap (units_in c.args.shares.now) (c.in_ok-sequence.ensures ∙ ap Ok c.in_default.is) ∙ ap Ok (sym c.new.ensures.items))
 
+-- shares that are read so are these units
 pub returns-clause-units : goal.returns-clause-units
 returns-clause-units c =
     (units_law c.args.shares.now c.in_ok-placed.placed.units.items c.are_shares.ensures).0

@@ -1,14 +1,16 @@
 use Rattle.std.proofs.Common.{◌∙◌, arith}
-use Rattle.share_split.proofs.ReservedLemmas.{past_more, past_stop, past_end}
+use Rattle.share_split.proofs.StartPastLemmas.{past_more, past_stop, past_end}
 use Rattle.share_split.proofs.parsing.starts_past.Goals.{then-loop-before-test+else-starts-before, else-loop-before-test}
 use Rattle.share_split.proofs.parsing.starts_past.Goals as goal
 
+-- one start more lies before the place
 pub loop-before-preserved : goal.loop-before-preserved
 loop-before-preserved c = record {
   within = omega arith;
   rest = past_more c.args.from c.loop-before.before c.args.starts.now c.loop-before-test.true c.if-starts-before.true ∙ c.loop-before.invariant.rest;
 }
 
+-- the next start doesn't lie before the place, or none is left
 pub returns : goal.returns
 returns c =
     c.split_at.ensures.back

@@ -2,9 +2,11 @@ use Rattle.std.proofs.Common.{◌∙◌, ◌<◌, ◌≡◌, ℕ, List, [], leng
 use Rattle.share_split.specs.Walks.{unit_at}
 use Rattle.std.proofs.lemmas.List.{drop-drop}
 use Rattle.namespace_id.proofs.StringLemmas.{AreBytes-drop}
-use Rattle.share_split.proofs.TextLemmas.{text_stop, text_end, text_more, starts_more, starts_end, unit_back}
+use Rattle.share_split.proofs.TextLemmas.{text_stop, text_end, text_more, starts_more, starts_end}
+use Rattle.share_split.proofs.UnitLemmas.{unit_back}
 use Rattle.share_split.proofs.parsing.units_of_text.Goals as goal
 
+-- no unit stands here
 pub returns-in_default-clause-units : goal.returns-in_default-clause-units
 returns-in_default-clause-units c =
     let text : List ℕ = c.args.text.now in
@@ -12,6 +14,7 @@ returns-in_default-clause-units c =
     inr (text_stop at c.share_with.result (drop at text) c.loop-at.placed.units.items _
     (ap unit_at (sym c.split_at.ensures.back) ∙ c.in_default.ensures.value) (omega (arith, c.loop-at-test.true, length-drop at text)) c.share_with.ensures c.loop-at.invariant.units)
 
+-- one unit more was read
 pub loop-at-preserved : goal.loop-at-preserved
 loop-at-preserved c =
     let text : List ℕ = c.args.text.now in
@@ -28,10 +31,12 @@ loop-at-preserved c =
           c.loop-at.placed.starts.items c.put.new.self.starts.items u.size_is c.in_ok-put.ensures.units c.in_ok-put.ensures.starts (c.loop-at.invariant.starts _);
     }
 
+-- no byte is left
 pub returns-clause-units : goal.returns-clause-units
 returns-clause-units c =
     text_end c.loop-at.at (drop c.loop-at.at c.args.text.now) c.loop-at.placed.units.items _
     (omega (arith, c.loop-at-test.false, length-drop c.loop-at.at c.args.text.now)) c.loop-at.invariant.units
 
+-- no unit is left
 pub returns-clause-starts : goal.returns-clause-starts
 returns-clause-starts c = starts_end c.loop-at.at c.loop-at.placed.units.items c.loop-at.placed.starts.items (c.loop-at.invariant.starts [])

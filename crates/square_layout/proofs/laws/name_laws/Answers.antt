@@ -1,7 +1,6 @@
 use Rattle.std.proofs.Common.{◌*◌, ◌-◌, length}
 use Rattle.square_layout.specs.Layout.{laid, width_for}
-use Rattle.square_layout.proofs.AcceptedLemmas.{accepted_is, is_accepted}
-use Rattle.square_layout.proofs.LawLemmas.{blobs_between}
+use Rattle.square_layout.proofs.AcceptedLemmas.{accepted_is, is_accepted, blobs_between}
 use Rattle.square_layout.proofs.NameLemmas.{names_rise}
 use Rattle.square_layout.proofs.laws.name_laws.Goals as goal
 

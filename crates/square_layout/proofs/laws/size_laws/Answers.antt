@@ -2,7 +2,7 @@ use Rattle.std.proofs.Common.{◌*◌}
 use Rattle.share_split.specs.Joined.{padding_share}
 use Rattle.namespace_id.specs.Names.{tail_padding}
 use Rattle.square_layout.specs.Layout.{laid, width_for}
-use Rattle.square_layout.proofs.LawLemmas.{least_width, holding_holds}
+use Rattle.square_layout.proofs.LeastWidthLemmas.{least_width, holding_holds}
 use Rattle.square_layout.proofs.LaidLemmas.{needed_is, length-padded, laid_fits}
 use Rattle.square_layout.proofs.laws.size_laws.Goals as goal
 

@@ -1,5 +1,5 @@
 use Rattle.square_layout.proofs.PlaceLemmas.{start_after-ge, start_after-near}
-use Rattle.square_layout.proofs.LawLemmas.{start_after-aligned, blob_stands}
+use Rattle.square_layout.proofs.StandingLemmas.{start_after-aligned, blob_stands}
 use Rattle.square_layout.proofs.laws.start_laws.Goals as goal
 
 pub returns-clause-behind : goal.returns-clause-behind

@@ -1,4 +1,4 @@
--- Walking over the shares of blobs, and of units, one share at a time.
+-- Walking over the shares of blobs, one share at a time.
 use Rattle.std.proofs.Common.{◌≡◌, ◌∙◌, ◌⊎◌, inl, inr, ℕ, suc, ◌+◌, ◌<◌, ◌≤◌, Bool, true, false, cond, not, ◌&&◌, eqb, List, [], ◌∷◌, ◌++◌, length, drop, get_or, Option, Some, None, Result, Ok, Err, refl, sym, ap, ap₂, arith, append_assoc, append-nil}
 use Rattle.std.specs.Option.{option_map_or}
 use Rattle.std.proofs.lemmas.List.{drop_more, drop_all}
@@ -6,13 +6,12 @@ use Rattle.namespace_id.specs.declared.shares.Share.{Share}
 use Rattle.share_split.specs.declared.joining.JoinError.{JoinError}
 use Rattle.share_split.specs.declared.joining.JoinError.TheVariants.{Short, NoMemory}
 use Rattle.share_split.specs.Blobs.{NamedBytes}
-use Rattle.share_split.specs.Walks.{Sequence, is_complete, with_blob, blob_refusal, taken_by, blobs_from, unit_refusal, sequence_from}
+use Rattle.share_split.specs.Walks.{Sequence, is_complete, with_blob, blob_refusal, taken_by, blobs_from}
 use Rattle.share_split.specs.Steps.{open_after, blobs_after, behind_blobs}
 
+-- what shares are read as
 abbrev pub Blobs : Type 0
 Blobs = Result (List NamedBytes) JoinError
-
--- ---- blobs
 
 -- what follows a share whose checks pass
 abbrev pub blobs_on : ℕ → Option Sequence → Share → List Share → Blobs
@@ -21,16 +20,19 @@ blobs_on i so_far share shares =
     (with_blob (taken_by 0 i so_far share) (blobs_from (suc i) None shares))
     (blobs_from (suc i) (Some (taken_by 0 i so_far share)) shares)
 
+-- the next share is checked first
 pub blobs_from-cons : (i : ℕ) (so_far : Option Sequence) (share : Share) (shares : List Share)
     → blobs_from i so_far (share ∷ shares) ≡ option_map_or Err (blob_refusal i so_far share) (blobs_on i so_far share shares)
 unfolding blobs_from
 blobs_from-cons i None share shares = refl
 blobs_from-cons i (Some s) share shares = refl
 
+-- no shares are no blobs
 pub blobs_from-nil : (i : ℕ) → blobs_from i None [] ≡ Ok []
 unfolding blobs_from
 blobs_from-nil i = refl
 
+-- shares that end in an open sequence are cut short
 pub blobs_from-open : (i : ℕ) (s : Sequence) → blobs_from i (Some s) [] ≡ Err (Short s.first)
 unfolding blobs_from
 blobs_from-open i s = refl
@@ -40,11 +42,13 @@ one_blob : (empty : Bool) (b : NamedBytes) (blobs more : List NamedBytes) → bl
 one_blob true b blobs more = ap (λ (l : List NamedBytes). l ++ more) (sym (append-nil blobs))
 one_blob false b blobs more = sym (append_assoc blobs (b ∷ []) more)
 
+-- blobs before it stay before it
 with_blob-behind : (s : Sequence) (blobs : List NamedBytes) (r : Blobs)
     → behind_blobs blobs (with_blob s r) ≡ behind_blobs (blobs ++ cond (not (eqb s.size 0)) (record { namespace = s.name; bytes = s.content } ∷ []) []) r
 with_blob-behind s blobs (Err e) = refl
 with_blob-behind s blobs (Ok more) = ap Ok (one_blob (eqb s.size 0) (record { namespace = s.name; bytes = s.content }) blobs more)
 
+-- one share was taken, and the blobs so far grew by what it completed
 closed_on : (done : Bool) (s : Sequence) (blobs : List NamedBytes) (next : Option Sequence → Blobs)
     → behind_blobs blobs (cond done (with_blob s (next None)) (next (Some s)))
     ≡ behind_blobs (blobs ++ cond (done && not (eqb s.size 0)) (record { namespace = s.name; bytes = s.content } ∷ []) []) (next (cond done None (Some s)))
@@ -96,64 +100,9 @@ unfolding blobs_from
 blobs_end i shares blobs whole le before =
     sym before ∙ ap (λ (l : List Share). behind_blobs blobs (blobs_from i None l)) (drop_all i shares le) ∙ ap Ok (append-nil blobs)
 
+-- none is left and a sequence is open
 pub blobs_cut : (i : ℕ) (shares : List Share) (blobs : List NamedBytes) (whole : Blobs) (s : Sequence) → length shares ≤ i
     → behind_blobs blobs (blobs_from i (Some s) (drop i shares)) ≡ whole → whole ≡ Err (Short s.first)
 unfolding blobs_from
 blobs_cut i shares blobs whole s le before =
     sym before ∙ ap (λ (l : List Share). behind_blobs blobs (blobs_from i (Some s) l)) (drop_all i shares le)
-
--- ---- the one sequence of units
-
-abbrev pub One : Type 0
-One = Result (Option Sequence) JoinError
-
-pub sequence_from-cons : (i : ℕ) (so_far : Option Sequence) (share : Share) (shares : List Share)
-    → sequence_from i so_far (share ∷ shares) ≡ option_map_or Err (unit_refusal i so_far share) (sequence_from (suc i) (Some (taken_by 4 i so_far share)) shares)
-unfolding sequence_from
-sequence_from-cons i None share shares = refl
-sequence_from-cons i (Some s) share shares = refl
-
-pub sequence_more : (i : ℕ) (shares : List Share) (none : Share) (so_far : Option Sequence) (sequence : Sequence) (whole : One)
-    → i < length shares
-    → unit_refusal i so_far (get_or shares i none) ≡ None → sequence ≡ taken_by 4 i so_far (get_or shares i none)
-    → sequence_from i so_far (drop i shares) ≡ whole
-    → sequence_from (i + 1) (Some sequence) (drop (i + 1) shares) ≡ whole
-sequence_more i shares none so_far sequence whole lt passed taken before =
-    let share : Share = get_or shares i none in
-    let rest : List Share = drop (i + 1) shares in
-    let e : i + 1 ≡ suc i = omega arith in
-    ap₂ (λ (k : ℕ) (s : Sequence). sequence_from k (Some s) rest) e taken
-    ∙ sym (ap (λ (o : Option JoinError). option_map_or Err o (sequence_from (suc i) (Some (taken_by 4 i so_far share)) rest)) passed)
-    ∙ sym (sequence_from-cons i so_far share rest)
-    ∙ sym (ap (sequence_from i so_far) (drop_more shares i none lt))
-    ∙ before
-
-pub sequence_stop : (i : ℕ) (shares : List Share) (none : Share) (so_far : Option Sequence) (whole : One) (error : JoinError)
-    → i < length shares → (error ≡ NoMemory) ⊎ (unit_refusal i so_far (get_or shares i none) ≡ Some error)
-    → sequence_from i so_far (drop i shares) ≡ whole
-    → (error ≡ NoMemory) ⊎ (whole ≡ Err error)
-sequence_stop i shares none so_far whole error lt (inl full) before = inl full
-sequence_stop i shares none so_far whole error lt (inr refused) before =
-    let share : Share = get_or shares i none in
-    let rest : List Share = drop (i + 1) shares in
-    inr (sym before
-    ∙ ap (sequence_from i so_far) (drop_more shares i none lt)
-    ∙ sequence_from-cons i so_far share rest
-    ∙ ap (λ (o : Option JoinError). option_map_or Err o (sequence_from (suc i) (Some (taken_by 4 i so_far share)) rest)) refused)
-
--- no share is left
-pub sequence_end : (i : ℕ) (shares : List Share) (so_far : Option Sequence) (whole : One) → length shares ≤ i
-    → sequence_from i so_far (drop i shares) ≡ whole → whole ≡ sequence_from i so_far []
-sequence_end i shares so_far whole le before = sym before ∙ ap (sequence_from i so_far) (drop_all i shares le)
-
-pub sequence_from-none : (i : ℕ) → sequence_from i None [] ≡ Ok None
-unfolding sequence_from
-sequence_from-none i = refl
-
-pub sequence_from-whole : (i : ℕ) (s : Sequence) → is_complete s ≡ true → sequence_from i (Some s) [] ≡ Ok (Some s)
-unfolding sequence_from
-sequence_from-whole i s e = ap (λ (b : Bool). cond b (Ok (Some s)) (Err (Short s.first))) e
-
-pub sequence_from-open : (i : ℕ) (s : Sequence) → is_complete s ≡ false → sequence_from i (Some s) [] ≡ Err (Short s.first)
-unfolding sequence_from
-sequence_from-open i s e = ap (λ (b : Bool). cond b (Ok (Some s)) (Err (Short s.first))) e
