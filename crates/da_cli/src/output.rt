@@ -3,8 +3,8 @@
 ghost use Rattle.std.specs.Prelude.{◌≡◌, ℕ, ◌+◌, ◌≤◌, ◌++◌, length, decimal};
 ghost use Rattle.da_cli.specs.Notes.{number_of, block_note, note_of, Notes};
 
-use crate::{Asked, Status};
 use crate::line::Line;
+use crate::{Asked, Status};
 use da_io::{Sink, write_all};
 use namespace_id::NsError;
 use square_layout::LayError;

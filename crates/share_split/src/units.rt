@@ -106,6 +106,7 @@ pub fn unit_laws()
 #[cfg(test)]
 mod tests {
     use super::*;
+    use crate::join_units;
     use namespace_id::TRANSACTION;
     use std::test::Fail;
 
@@ -148,6 +149,11 @@ mod tests {
             unit_shares(rt.alloc(), &TRANSACTION, &units, &mut out)?;
             assert_eq!(rt; out.len(), reserved.len(), "{name}");
             assert_eq!(rt; unit_share_count(&units), reserved.len() as u64, "{name}");
+            let back = join_units(rt.alloc(), &out)?;
+            assert_eq!(rt; back.len(), lens.len(), "{name}");
+            for (unit, len) in back.iter().zip(lens) {
+                assert_eq!(rt; unit.bytes.len(), *len, "{name}");
+            }
             for (i, share) in out.iter().enumerate() {
                 let at = if i == 0 { 34 } else { 30 };
                 assert_eq!(rt;

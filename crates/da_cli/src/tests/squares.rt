@@ -136,7 +136,7 @@ fn runs(alloc: Global, frame: &[u8]) -> Result<Vec<(usize, u16)>, Fail> {
     Ok(all)
 }
 
-/// By docs/RULES.md, "Layout".
+/// By docs/RULES.md, "From a block to its square".
 #[test]
 fn layouts(rt: HostRuntime) -> Result<(), Fail> {
     let alloc = rt.alloc();
@@ -146,22 +146,37 @@ fn layouts(rt: HostRuntime) -> Result<(), Fail> {
     let cases: [(&str, Plan<'_>, &[(usize, u16)]); 4] = [
         (
             "a gap before the first blob",
-            Plan { units: &[10], blobs: &wide, ..EMPTY },
+            Plan {
+                units: &[10],
+                blobs: &wide,
+                ..EMPTY
+            },
             &[(1, 1), (1, 0xff), (65, 0x0101), (189, 0xfffe)],
         ),
         (
             "a gap between blobs, which fall",
-            Plan { blobs: &falling, ..EMPTY },
+            Plan {
+                blobs: &falling,
+                ..EMPTY
+            },
             &[(2, 0x0101), (66, 0x0102), (188, 0xfffe)],
         ),
         (
             "a width that is asked for",
-            Plan { width: 4, blobs: &three, ..EMPTY },
+            Plan {
+                width: 4,
+                blobs: &three,
+                ..EMPTY
+            },
             &[(1, 0x0101), (2, 0x0102), (1, 0x0104), (12, 0xfffe)],
         ),
         (
             "units and payments",
-            Plan { units: &[472, 10], pay_units: &[300], ..EMPTY },
+            Plan {
+                units: &[472, 10],
+                pay_units: &[300],
+                ..EMPTY
+            },
             &[(2, 1), (1, 4), (1, 0xfffe)],
         ),
     ];
@@ -190,7 +205,10 @@ fn greatest_block(rt: HostRuntime) -> Result<(), Fail> {
     ];
     for (len, want, size, note) in cases {
         let blobs = [(0x0101, len)];
-        let plan = Plan { blobs: &blobs, ..EMPTY };
+        let plan = Plan {
+            blobs: &blobs,
+            ..EMPTY
+        };
         let built = ran(alloc, "build", block(alloc, plan)?)?;
         assert_eq!(rt; built.status, want);
         assert_eq!(rt; built.out.bytes.len(), size);
@@ -206,12 +224,21 @@ fn bad_blocks(rt: HostRuntime) -> Result<(), Fail> {
     let three = [(0x0101, 1), (0x0102, 479), (0x0104, 1)];
     let cases: [(u16, &[(u16, u32)], LayError, &str); 4] = [
         (0, &[(0xff, 1)], reserved, "bad block: 1 0 4\n"),
-        (0, &[(0x0101, 0)], LayError::EmptyBlob(0), "bad block: 2 0\n"),
+        (
+            0,
+            &[(0x0101, 0)],
+            LayError::EmptyBlob(0),
+            "bad block: 2 0\n",
+        ),
         (1, &three, LayError::WidthTooSmall(4), "bad block: 4 4\n"),
         (3, &three, LayError::BadWidth, "bad block: 5\n"),
     ];
     for (width, blobs, why, note) in cases {
-        let plan = Plan { width, blobs, ..EMPTY };
+        let plan = Plan {
+            width,
+            blobs,
+            ..EMPTY
+        };
         let built = ran(alloc, "build", block(alloc, plan)?)?;
         assert_eq!(rt; built.status, Status::BadBlock(why), "{note}");
         assert!(rt; built.out.bytes.is_empty(), "{note}");
