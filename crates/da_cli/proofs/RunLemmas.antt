@@ -1,19 +1,20 @@
 -- Lemmas on a whole run.
-use Rattle.std.proofs.Common.{◌≡◌, ℕ, ◌+◌, ◌-◌, List, take, drop, None, Some, Ok, Vec, String, Global, refl, sym, ap, ◌∙◌, subst, arith, ◌↔◌}
+use Rattle.std.proofs.Common.{◌≡◌, ℕ, ◌+◌, ◌-◌, ◌<◌, ◌≤◌, List, length, take, drop, None, Some, Ok, Vec, String, Global, refl, sym, ap, ◌∙◌, subst, arith, ◌↔◌}
 use Rattle.std.specs.Prelude.{MatchOption}
 use Rattle.std.specs.declared.option.Option.{Option}
 use Rattle.std.specs.String.{string_bytes}
-use Rattle.std.proofs.lemmas.List.{take-map, drop-map}
+use Rattle.std.proofs.lemmas.List.{take-map, drop-map, length-map}
 use Rattle.da_io.specs.Files.{Files}
 use Rattle.da_cli.specs.declared.words.Command.{Command}
 use Rattle.da_cli.specs.declared.words.Command.TheVariants.{Check, Build, Header}
 use Rattle.da_cli.specs.declared.words.Call.{Call}
 use Rattle.da_cli.specs.declared.status.Status.{Status}
-use Rattle.da_cli.specs.declared.status.Status.TheVariants.{BadInput, TooLong}
+use Rattle.da_cli.specs.declared.status.Status.TheVariants.{Done, Usage, PickFault, ReadFault, WriteFault, NoMemory, BadInput, TooLong, BadBlock, BadRequest, Refused}
+use Rattle.da_cli.specs.Limits.{file_limit}
 use Rattle.da_cli.specs.Statuses.{Kind, usage, fault, excess, form, request, memory, write, output, kind_of}
-use Rattle.da_cli.specs.Words.{words_of, call_of, file_words}
+use Rattle.da_cli.specs.Words.{words_of, call_of, file_words, names_in, names_of}
 use Rattle.da_cli.specs.Gathered.{Gathered, whole, long, absent, gathered, contents_of, Gathers}
-use Rattle.da_cli.specs.Outcome.{Relation, Refuses, Outputs, AnswersBy, Answers}
+use Rattle.da_cli.specs.Outcome.{Relation, Refuses, Outputs, AnswersBy, Answers, ExcessCause, IsOwnBy}
 use Rattle.da_cli.specs.Judging.{first_bad, Judged}
 use Rattle.da_cli.specs.Meaning.{judged_of, AnswerOf, Meaning}
 use Rattle.da_cli.specs.Run.{CommandOf, CallOf, RunOf, AnswersTold, CompletesBy, Completes}
@@ -46,6 +47,29 @@ names_here n words =
     let e : 1 + n - 1 ≡ n = omega arith in
     ap (λ (k : ℕ). words_of (take k (drop 1 words))) e ∙ sym (take-map string_bytes n (drop 1 words))
     ∙ ap (take n) (sym (drop-map string_bytes 1 words))
+
+-- a command's files are those that were read
+pub some_names : (words : List (String Global)) (call : Call) → Some call ≡ call_of (words_of words) → 0 < length (names_of (words_of words))
+    → 0 < length (take (1 + call.files - 1) (drop 1 words))
+some_names words call e some =
+    let names : names_of (words_of words) ≡ words_of (take (1 + call.files - 1) (drop 1 words)) =
+    ap (λ (o : Option Call). names_in o (words_of words)) (sym e) ∙ sym (names_here call.files words) in
+    subst (λ (n : ℕ). 0 < n) (ap length names ∙ length-map (take (1 + call.files - 1) (drop 1 words)) string_bytes) some
+
+-- with a command's own status the file that was read last gave no more than the limit
+pub excess_own : (told : Option Files) (names : List (List ℕ)) (picked : Option (List ℕ)) (given : ℕ) (status : Status) → IsOwnBy (kind_of status)
+    → (0 < length names → given ≤ file_limit) → ExcessCause told names picked given status
+excess_own told names picked given Done own h = h
+excess_own told names picked given Usage own h = tt
+excess_own told names picked given (PickFault i) own h = absurd own
+excess_own told names picked given (ReadFault i) own h = absurd own
+excess_own told names picked given WriteFault own h = h
+excess_own told names picked given NoMemory own h = tt
+excess_own told names picked given (BadInput i at) own h = h
+excess_own told names picked given (TooLong i) own h = absurd own
+excess_own told names picked given (BadBlock why) own h = h
+excess_own told names picked given (BadRequest why) own h = h
+excess_own told names picked given Refused own h = h
 
 -- the meaning over judged files
 judged_is : (judged : List (Option ℕ)) (A : Relation) (o : Option (ℕ × ℕ)) → first_bad 0 judged ≡ o

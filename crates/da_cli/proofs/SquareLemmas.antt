@@ -60,8 +60,8 @@ builds_square block square frame fine laid is w status gives =
     subst (λ (o : Option LayError). MatchOption o (Gives (Square (square_of block)) w status) (λ why. Refuses (BadBlock why) w status))
     (sym fine) (ap spelling (sym same) ∙ gives.0, gives.1)
 
--- the meaning of a file that is a block
-build_by : Result BlockParts ℕ → Relation
+-- the meaning of a file that is a block, or isn't
+abbrev build_by : Result BlockParts ℕ → Relation
 build_by read = Judged (error_of read ∷ []) (λ w status. MatchResult read (λ block. Builds block w status) (λ at. ⊥))
 
 pub build_is : (files : List (List ℕ)) (block : BlockParts) → block_in (file_of files 0) ≡ Ok block → Builds block ≡ Meaning command.Build files
@@ -88,8 +88,8 @@ pub heads_none : (square : SquareShares) (k : ℕ) (grid : List Share) → k ≡
 heads_none square k grid same is law =
     inr ((λ header own. law header (ap (λ (n : ℕ). header_of_grid n grid) (sym same) ∙ sym is) own), (refl, refl))
 
--- the meaning of a file that is a square
-header_by : Result SquareShares ℕ → Relation
+-- the meaning of a file that is a square, or isn't
+abbrev header_by : Result SquareShares ℕ → Relation
 header_by read = Judged (error_of read ∷ []) (λ w status. MatchResult read (λ square. Heads square w status) (λ at. ⊥))
 
 pub header_is : (files : List (List ℕ)) (square : SquareShares) → square_in (file_of files 0) ≡ Ok square → Heads square ≡ Meaning command.Header files

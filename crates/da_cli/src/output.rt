@@ -36,7 +36,8 @@ fn number_of(why: NsError) -> u64
 #[tactic(auto, using(crate::proofs::DigitLemmas::digits_fit))]
 fn note_block(line: &mut Line, why: LayError)
     requires { length line.old ≤ 11 }
-    ensures { line.new ≡ line.old ++ block_note why }
+    ensures value { line.new ≡ line.old ++ block_note why }
+    ensures few { length line.new ≤ 64 }
 {
     match why {
         LayError::BadBlob(i, why) => {
