@@ -7,7 +7,7 @@ use da_io::{MemInputs, MemSink};
 use da_wire::{Frame, read_only, write_frame};
 use namespace_id::{Axis, Cell, NsError};
 use nmt_tree::Tree;
-use square_layout::LayError;
+use square_layout::{LayError, Square};
 use std::alloc::Global;
 use std::test::Fail;
 
@@ -42,7 +42,7 @@ fn put_bytes(bytes: &mut Vec<u8>, len: u32) -> Result<(), Fail> {
 }
 
 fn put_units(bytes: &mut Vec<u8>, units: &[u32]) -> Result<(), Fail> {
-    bytes.extend_from_slice(&(units.len() as u32).to_be_bytes())?;
+    bytes.extend_from_slice(&[0, 0, 0, (units.len() % 256) as u8])?;
     for len in units {
         put_bytes(bytes, *len)?;
     }
@@ -61,14 +61,15 @@ fn block(alloc: Global, plan: Plan<'_>) -> Result<Vec<u8>, Fail> {
     let mut payload = Vec::from_slice(alloc, &plan.width.to_be_bytes())?;
     put_units(&mut payload, plan.units)?;
     put_units(&mut payload, plan.pay_units)?;
-    payload.extend_from_slice(&(plan.blobs.len() as u32).to_be_bytes())?;
+    payload.extend_from_slice(&[0, 0, 0, (plan.blobs.len() % 256) as u8])?;
     for (name, len) in plan.blobs {
         put_name(&mut payload, *name)?;
         payload.push(0)?;
         put_bytes(&mut payload, *len)?;
     }
     let mut bytes = Vec::from_slice(alloc, b"V")?;
-    bytes.extend_from_slice(&(payload.len() as u32).to_be_bytes())?;
+    let size = (payload.len() % (1 << 32)) as u32;
+    bytes.extend_from_slice(&size.to_be_bytes())?;
     bytes.extend_from_slice(&payload)?;
     Ok(bytes)
 }
@@ -123,13 +124,21 @@ fn empty_block(rt: HostRuntime) -> Result<(), Fail> {
     Ok(())
 }
 
+/// The square that a frame is.
+fn square_in(alloc: Global, frame: &[u8]) -> Result<Square, Fail> {
+    match read_only(alloc, frame, b"S")? {
+        Frame::Square(square) => Ok(square),
+        _ => Err(Fail::new("no square")),
+    }
+}
+
 /// The namespaces along a square's frame, by their last two bytes: how many shares each has, in order.
 fn runs(alloc: Global, frame: &[u8]) -> Result<Vec<(usize, u16)>, Fail> {
     let mut all: Vec<(usize, u16)> = Vec::new(alloc);
-    for share in frame[7..].chunks_exact(512) {
-        let name = u16::from_be_bytes([share[27], share[28]]);
+    for share in &square_in(alloc, frame)?.shares {
+        let name = u16::from_be_bytes([share.0[27], share.0[28]]);
         match all.last_mut() {
-            Some(last) if last.1 == name => last.0 += 1,
+            Some(last) if last.1 == name => last.0 = last.0.saturating_add(1),
             _ => all.push((1, name))?,
         }
     }
@@ -285,15 +294,12 @@ fn falling_namespaces(rt: HostRuntime) -> Result<(), Fail> {
 
 /// The frame of the message of cell (0, 0) on its row, made from a square's frame.
 fn first_message(alloc: Global, square: &[u8]) -> Result<Vec<u8>, Fail> {
-    let Frame::Square(square) = read_only(alloc, square, b"S")? else {
-        return Err(Fail::new("no square"));
-    };
-    let grid = Grid::extend(alloc, &square)?;
-    if square.k != 2 {
-        return Err(Fail::new("another width"));
-    }
+    let grid = Grid::extend(alloc, &square_in(alloc, square)?)?;
     let mut tree = Tree::new(alloc, 4)?;
     let cell = Cell { row: 0, col: 0 };
+    if grid.width() != 2 {
+        return Err(Fail::new("another width"));
+    }
     let Some(message) = message_of(&grid, cell, Axis::Row, &mut tree) else {
         return Err(Fail::new("falling namespaces"));
     };
@@ -302,16 +308,28 @@ fn first_message(alloc: Global, square: &[u8]) -> Result<Vec<u8>, Fail> {
     Ok(bytes)
 }
 
-/// Appends the good message with some of its bytes changed, from a place on.
-fn put_changed(all: &mut Vec<u8>, good: &[u8], at: usize, bytes: &[u8]) -> Result<(), Fail> {
-    all.extend_from_slice(&good[..at])?;
-    all.extend_from_slice(bytes)?;
-    all.extend_from_slice(&good[at + bytes.len()..])?;
+/// Appends the first bytes of a message, of which some are changed from a place on.
+fn put_changed(
+    all: &mut Vec<u8>,
+    good: &[u8],
+    size: usize,
+    changes: &[(usize, u8)],
+) -> Result<(), Fail> {
+    for (place, byte) in good.iter().take(size).enumerate() {
+        let mut byte = *byte;
+        for (at, other) in changes {
+            if *at == place {
+                byte = *other;
+            }
+        }
+        all.push(byte)?;
+    }
     Ok(())
 }
 
 /// The message of cell (0, 0) of a square of width 2: as it is, with the last byte of its share
-/// changed, without its second node, in row 4, with a first node of zeros; and a sample request.
+/// changed, without its second node, in row 4, with a first node that begins with another namespace;
+/// and a sample request.
 #[test]
 fn messages_of_a_square(rt: HostRuntime) -> Result<(), Fail> {
     let alloc = rt.alloc();
@@ -325,13 +343,16 @@ fn messages_of_a_square(rt: HostRuntime) -> Result<(), Fail> {
     assert_eq!(rt; good.len(), 703);
     let header = ran(alloc, "header", square)?.out.bytes;
     let mut all = Vec::new(alloc);
-    all.extend_from_slice(&good)?;
-    put_changed(&mut all, &good, 521, &[1])?;
-    let mut shorter = Vec::new(alloc);
-    put_changed(&mut shorter, &good, 1, &[0, 0, 0x02, 0x60])?;
-    put_changed(&mut all, &shorter[..613], 522, &[1])?;
-    put_changed(&mut all, &good, 5, &[0, 4])?;
-    put_changed(&mut all, &good, 523, &[0; 90])?;
+    let cases: [(usize, &[(usize, u8)]); 5] = [
+        (703, &[]),
+        (703, &[(521, 1)]),
+        (613, &[(3, 0x02), (4, 0x60), (522, 1)]),
+        (703, &[(6, 4)]),
+        (703, &[(523, 0xff)]),
+    ];
+    for (size, changes) in cases {
+        put_changed(&mut all, &good, size, changes)?;
+    }
     all.extend_from_slice(&SAMPLE)?;
     let ended = checked(alloc, header, all)?;
     assert_eq!(rt; ended.status, Status::Refused);
