@@ -145,58 +145,51 @@ fn runs(alloc: Global, frame: &[u8]) -> Result<Vec<(usize, u16)>, Fail> {
     Ok(all)
 }
 
+/// Whether the square of a block has these namespaces, and a header.
+fn lays(alloc: Global, plan: Plan<'_>, want: &[(usize, u16)]) -> Result<bool, Fail> {
+    let square = ran(alloc, "build", block(alloc, plan)?)?.out.bytes;
+    let found = runs(alloc, &square)?;
+    let head = ran(alloc, "header", square)?;
+    Ok(found.as_slice() == want && head.status == Status::Done)
+}
+
 /// By docs/RULES.md, "From a block to its square".
 #[test]
 fn layouts(rt: HostRuntime) -> Result<(), Fail> {
     let alloc = rt.alloc();
-    let wide = [(0x0101, 30_845)];
-    let falling = [(0x0102, 30_845), (0x0102, 1), (0x0101, 1)];
-    let three = [(0x0101, 1), (0x0102, 479), (0x0104, 1)];
-    let cases: [(&str, Plan<'_>, &[(usize, u16)]); 4] = [
-        (
-            "a gap before the first blob",
-            Plan {
-                units: &[10],
-                blobs: &wide,
-                ..EMPTY
-            },
-            &[(1, 1), (1, 0xff), (65, 0x0101), (189, 0xfffe)],
-        ),
-        (
-            "a gap between blobs, which fall",
-            Plan {
-                blobs: &falling,
-                ..EMPTY
-            },
-            &[(2, 0x0101), (66, 0x0102), (188, 0xfffe)],
-        ),
-        (
-            "a width that is asked for",
-            Plan {
-                width: 4,
-                blobs: &three,
-                ..EMPTY
-            },
-            &[(1, 0x0101), (2, 0x0102), (1, 0x0104), (12, 0xfffe)],
-        ),
-        (
-            "units and payments",
-            Plan {
-                units: &[472, 10],
-                pay_units: &[300],
-                ..EMPTY
-            },
-            &[(2, 1), (1, 4), (1, 0xfffe)],
-        ),
-    ];
-    for (name, plan, want) in cases {
-        let built = ran(alloc, "build", block(alloc, plan)?)?;
-        assert_eq!(rt; built.status, Status::Done, "{name}");
-        let found = runs(alloc, &built.out.bytes)?;
-        assert_eq!(rt; found.as_slice(), want, "{name}");
-        let head = ran(alloc, "header", built.out.bytes)?;
-        assert_eq!(rt; head.status, Status::Done, "{name}");
-    }
+    let gap_first = Plan {
+        units: &[10],
+        blobs: &[(0x0101, 30_845)],
+        ..EMPTY
+    };
+    let want = [(1, 1), (1, 0xff), (65, 0x0101), (189, 0xfffe)];
+    assert!(rt;
+        lays(alloc, gap_first, &want)?,
+        "a gap before the first blob"
+    );
+    let falling = Plan {
+        blobs: &[(0x0102, 30_845), (0x0102, 1), (0x0101, 1)],
+        ..EMPTY
+    };
+    let want = [(2, 0x0101), (66, 0x0102), (188, 0xfffe)];
+    assert!(rt;
+        lays(alloc, falling, &want)?,
+        "a gap between blobs, which fall"
+    );
+    let wider = Plan {
+        width: 4,
+        blobs: &[(0x0101, 1), (0x0102, 479), (0x0104, 1)],
+        ..EMPTY
+    };
+    let want = [(1, 0x0101), (2, 0x0102), (1, 0x0104), (12, 0xfffe)];
+    assert!(rt; lays(alloc, wider, &want)?, "a width that is asked for");
+    let units = Plan {
+        units: &[472, 10],
+        pay_units: &[300],
+        ..EMPTY
+    };
+    let want = [(2, 1), (1, 4), (1, 0xfffe)];
+    assert!(rt; lays(alloc, units, &want)?, "units and payments");
     Ok(())
 }
 
