@@ -301,17 +301,17 @@ fn first_message(alloc: Global, square: &[u8]) -> Result<Vec<u8>, Fail> {
     Ok(bytes)
 }
 
-/// Appends the first bytes of a message, of which some are changed from a place on.
+/// Appends the first bytes of a message, of which some are another value: from a place up to another.
 fn put_changed(
     all: &mut Vec<u8>,
     good: &[u8],
     size: usize,
-    changes: &[(usize, u8)],
+    changes: &[(usize, usize, u8)],
 ) -> Result<(), Fail> {
     for (place, byte) in good.iter().take(size).enumerate() {
         let mut byte = *byte;
-        for (at, other) in changes {
-            if *at == place {
+        for (from, to, other) in changes {
+            if *from <= place && place < *to {
                 byte = *other;
             }
         }
@@ -321,8 +321,7 @@ fn put_changed(
 }
 
 /// The message of cell (0, 0) of a square of width 2: as it is, with the last byte of its share
-/// changed, without its second node, in row 4, with a first node that begins with another namespace;
-/// and a sample request.
+/// changed, without its second node, in row 4, with a first node of zeros; and a sample request.
 #[test]
 fn messages_of_a_square(rt: HostRuntime) -> Result<(), Fail> {
     let alloc = rt.alloc();
@@ -336,12 +335,12 @@ fn messages_of_a_square(rt: HostRuntime) -> Result<(), Fail> {
     assert_eq!(rt; good.len(), 703);
     let header = ran(alloc, "header", square)?.out.bytes;
     let mut all = Vec::new(alloc);
-    let cases: [(usize, &[(usize, u8)]); 5] = [
+    let cases: [(usize, &[(usize, usize, u8)]); 5] = [
         (703, &[]),
-        (703, &[(521, 1)]),
-        (613, &[(3, 0x02), (4, 0x60), (522, 1)]),
-        (703, &[(6, 4)]),
-        (703, &[(523, 0xff)]),
+        (703, &[(521, 522, 1)]),
+        (613, &[(3, 4, 0x02), (4, 5, 0x60), (522, 523, 1)]),
+        (703, &[(6, 7, 4)]),
+        (703, &[(523, 613, 0)]),
     ];
     for (size, changes) in cases {
         put_changed(&mut all, &good, size, changes)?;

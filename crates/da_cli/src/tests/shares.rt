@@ -1,0 +1,107 @@
+//! Namespaces of blobs and shares of blobs that are refused, at the first and the last place at which
+//! each can be.
+
+use namespace_id::{Namespace, NsError, Share, TRANSACTION};
+use share_split::{JoinError, SplitError, blob_shares, join_blobs};
+use std::test::Fail;
+
+/// The namespace of version 0 whose id ends so.
+fn name(end: u16) -> Namespace {
+    let mut bytes = [0; 29];
+    bytes[27..].copy_from_slice(&end.to_be_bytes());
+    Namespace(bytes)
+}
+
+/// The namespace of a blob with another byte at this place.
+fn refusal(place: u8, byte: u8) -> Option<NsError> {
+    let mut bytes = name(0x0100).0;
+    for i in 0..29 {
+        if i == place as usize {
+            bytes[i] = byte;
+        }
+    }
+    Namespace::blob(&bytes).err()
+}
+
+#[test]
+fn namespaces(rt: HostRuntime) {
+    assert_eq!(rt; Namespace::blob(&[]).err(), Some(NsError::Length));
+    assert_eq!(rt; Namespace::blob(&[0; 30]).err(), Some(NsError::Length));
+    assert_eq!(rt; Namespace::blob(&[0; 29]).err(), Some(NsError::Reserved));
+    let cases = [
+        ("least version", 0, 1, Some(NsError::Version)),
+        ("greatest version", 0, 255, Some(NsError::Version)),
+        ("first byte of the prefix", 1, 1, Some(NsError::Prefix)),
+        ("last byte of the prefix", 18, 1, Some(NsError::Prefix)),
+        ("first byte behind the prefix", 19, 1, None),
+        ("greatest reserved", 27, 0, Some(NsError::Reserved)),
+        ("least of a blob", 28, 0, None),
+    ];
+    for (name, place, byte, want) in cases {
+        assert_eq!(rt; refusal(place, byte), want, "{name}");
+    }
+}
+
+/// A padding share.
+fn padding() -> Share {
+    let mut share = Share([0; 512]);
+    share.0[..29].copy_from_slice(&TRANSACTION.0);
+    share.0[29] = 1;
+    share
+}
+
+#[test]
+fn sequences(rt: HostRuntime) -> Result<(), Fail> {
+    let alloc = rt.alloc();
+    let mut shares = Vec::new(alloc);
+    assert_eq!(rt;
+        blob_shares(&name(0x0101), &[], &mut shares),
+        Err(SplitError::Empty)
+    );
+    blob_shares(&name(0x0101), &[7; 479], &mut shares)?;
+    let [first, later] = shares.as_slice() else {
+        panic!(rt; "{} shares", shares.len());
+    };
+    let mut version = padding();
+    version.0[29] = 255;
+    let mut filled_first = padding();
+    filled_first.0[34] = 1;
+    let mut filled_last = padding();
+    filled_last.0[511] = 1;
+    let cases = [
+        (
+            "a later share alone",
+            [*first, *later, *later],
+            JoinError::NoStart(2),
+        ),
+        (
+            "a second blob cut",
+            [*first, *later, *first],
+            JoinError::Short(2),
+        ),
+        (
+            "padding in a blob",
+            [*first, padding(), *later],
+            JoinError::MixedNamespace(1),
+        ),
+        (
+            "greatest version",
+            [version, *first, *later],
+            JoinError::BadVersion(0),
+        ),
+        (
+            "first byte of padding",
+            [filled_first, *first, *later],
+            JoinError::NonZeroFill(0),
+        ),
+        (
+            "last byte of padding",
+            [*first, *later, filled_last],
+            JoinError::NonZeroFill(2),
+        ),
+    ];
+    for (name, three, want) in cases {
+        assert_eq!(rt; join_blobs(alloc, &three).err(), Some(want), "{name}");
+    }
+    Ok(())
+}
