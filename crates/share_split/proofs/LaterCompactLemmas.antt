@@ -1,12 +1,11 @@
 -- Lemmas on later compact shares.
 use Rattle.std.proofs.Common.{◌≡◌, ◌∙◌, ℕ, zero, suc, ◌+◌, ◌-◌, ◌<◌, ◌≤◌, List, [], ◌∷◌, ◌++◌, take, drop, refl, sym, ap, ap₂, add-one, arith}
-use Rattle.std.proofs.lemmas.Bool.Decides.{nat_tests}
 use Rattle.std.proofs.lemmas.List.{append_assoc}
 use Rattle.namespace_id.specs.declared.namespaces.Namespace.{Namespace}
 use Rattle.namespace_id.specs.declared.shares.Share.{Share}
-use Rattle.share_split.specs.Units.{later_compact_content, content_start, content_place, reserved_of, later_compact_share, later_compact_shares}
-use Rattle.share_split.specs.Texts.{starts_on}
-use Rattle.share_split.proofs.StartLemmas.{first_start-on}
+use Rattle.share_split.specs.Units.{later_compact_content, content_start, starts_on, reserved_of, later_compact_share, later_compact_shares}
+use Rattle.share_split.proofs.StartLemmas.{reserved_of-on}
+use Rattle.share_split.proofs.PlaceLemmas.{content_start-next}
 
 pub later_compact_shares-none : (name : Namespace) (i : ℕ) (starts text : List ℕ) (count : ℕ) → count ≡ 0
     → later_compact_shares count name i starts text ≡ []
@@ -21,10 +20,6 @@ pub later_compact_shares-next : (name : Namespace) (i : ℕ) (starts text : List
 unfolding later_compact_shares
 later_compact_shares-next name i starts text count left e = ap (λ (n : ℕ). later_compact_shares n name i starts text) e
 
--- the content of a share is behind that of the share before
-content_start-grows : (i : ℕ) → content_start i ≤ content_start (suc i)
-content_start-grows i = grind (arith, nat_tests)
-
 -- starts before the first of them don't matter
 pub later_compact_shares-on : (name : Namespace) (from i : ℕ) (starts text : List ℕ) (count : ℕ) → from ≤ content_start i
     → later_compact_shares count name i (starts_on from starts) text ≡ later_compact_shares count name i starts text
@@ -35,8 +30,8 @@ later_compact_shares-on name from i starts text (suc count) h =
     let after : List ℕ = drop later_compact_content text in
     later_compact_shares-next name i (starts_on from starts) text (suc count) count refl
     ∙ ap₂ (λ (n : ℕ) (l : List Share). later_compact_share name n content ∷ l)
-    (first_start-on (content_place i) (content_start i) (content_start (suc i)) from starts h)
-    (later_compact_shares-on name from (suc i) starts after count (omega (arith, content_start-grows i)))
+    (reserved_of-on from i starts h)
+    (later_compact_shares-on name from (suc i) starts after count (omega (arith, (content_start-next i).0)))
     ∙ sym (later_compact_shares-next name i starts text (suc count) count refl)
 
 -- one share more is there, and the others are left

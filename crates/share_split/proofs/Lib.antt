@@ -2,6 +2,7 @@ pub mod WidthLemmas
 pub mod ShareLemmas
 pub mod LaterLemmas
 pub mod VarintLemmas
+pub mod PlaceLemmas
 pub mod StartLemmas
 pub mod CompactShareLemmas
 pub mod LaterCompactLemmas
@@ -16,7 +17,6 @@ pub mod VarintReadLemmas
 pub mod UnitLemmas
 pub mod TextLemmas
 pub mod TextLawLemmas
-pub mod StartPastLemmas
 pub mod ReservedLemmas
 pub mod BlobWalkLemmas
 pub mod UnitWalkLemmas

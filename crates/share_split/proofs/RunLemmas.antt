@@ -13,7 +13,8 @@ use Rattle.share_split.specs.Walks.{reserved_in, bad_reserved}
 use Rattle.share_split.proofs.LaterLemmas.{later_shares-none, later_shares-next}
 use Rattle.share_split.proofs.FieldLemmas.{IsLater, later_share_is_later, is_later_share}
 use Rattle.share_split.proofs.CompactFieldLemmas.{later_compact_is, is_later_compact}
-use Rattle.share_split.proofs.ReservedLemmas.{bad_reserved-cons, bad_reserved-nil, reserved_of-small}
+use Rattle.share_split.proofs.ReservedLemmas.{bad_reserved-cons, bad_reserved-nil}
+use Rattle.share_split.proofs.PlaceLemmas.{reserved_of-small}
 
 -- shares that go on with a sequence to its end, of whose content this text is left
 abbrev pub AreLater : ℕ → Namespace → List ℕ → List Share → Type 0

@@ -1,10 +1,9 @@
 -- Lemmas on where units start in their text.
-use Rattle.std.proofs.Common.{◌≡◌, ◌∙◌, ℕ, ◌+◌, ◌-◌, ◌<◌, ◌≤◌, nat_lt, true, false, List, [], ◌∷◌, ◌++◌, length, get_or, drop, sym, ap, refl, inl, inr, arith, length-append}
+use Rattle.std.proofs.Common.{◌≡◌, ◌∙◌, ℕ, ◌+◌, ◌<◌, ◌≤◌, nat_lt, true, false, List, [], ◌∷◌, ◌++◌, length, get_or, drop, sym, ap, refl, inl, inr, arith, length-append}
 use Rattle.std.proofs.lemmas.Bool.{cases_lt}
 use Rattle.std.proofs.lemmas.Bool.Decides.{nat_tests}
 use Rattle.std.proofs.lemmas.List.{drop_more, drop_all, get_or_default}
-use Rattle.share_split.specs.Units.{unit_text, units_text, starts_from, first_start}
-use Rattle.share_split.specs.Texts.{starts_on}
+use Rattle.share_split.specs.Units.{unit_text, units_text, starts_from, starts_on, content_start, place_in, first_place, reserved_of}
 
 -- ---- the starts from a place on
 
@@ -31,6 +30,25 @@ starts_on-on from earlier (start ∷ starts) h =
           ∙ sym (starts_on-before from start starts (omega arith))
       | inr le ↦ ap (λ (l : List ℕ). starts_on from l) (starts_on-at earlier start starts le)
     ]
+
+-- one start more is passed
+pub on_more : (from i : ℕ) (starts : List ℕ) → i < length starts → get_or starts i 0 < from
+    → starts_on from (drop (i + 1) starts) ≡ starts_on from (drop i starts)
+on_more from i starts lt before =
+    sym (starts_on-before from (get_or starts i 0) (drop (i + 1) starts) before)
+    ∙ sym (ap (starts_on from) (drop_more starts i 0 lt))
+
+-- the next start isn't passed
+pub on_stop : (from i : ℕ) (starts : List ℕ) → i < length starts → from ≤ get_or starts i 0
+    → drop i starts ≡ starts_on from (drop i starts)
+on_stop from i starts lt le =
+    drop_more starts i 0 lt
+    ∙ sym (starts_on-at from (get_or starts i 0) (drop (i + 1) starts) le)
+    ∙ sym (ap (starts_on from) (drop_more starts i 0 lt))
+
+-- all starts are passed
+pub on_end : (from i : ℕ) (starts : List ℕ) → length starts ≤ i → drop i starts ≡ starts_on from (drop i starts)
+on_end from i starts le = drop_all i starts le ∙ sym (starts_on-none from) ∙ sym (ap (starts_on from) (drop_all i starts le))
 
 -- ---- the next unit
 
@@ -87,62 +105,24 @@ starts-stay from start units index h =
           ap (λ (l : List ℕ). starts_on from l) none ∙ starts_on-none from ∙ sym none
     ]
 
--- ---- the first start in a share
+-- ---- the first unit that starts in a share
 
-pub first_start-none : (place from to : ℕ) → first_start place from to [] ≡ 0
-unfolding first_start
-first_start-none place from to = refl
+-- starts before the share's content don't matter
+pub reserved_of-on : (earlier i : ℕ) (starts : List ℕ) → earlier ≤ content_start i
+    → reserved_of i (starts_on earlier starts) ≡ reserved_of i starts
+reserved_of-on earlier i starts h = ap (first_place i) (starts_on-on (content_start i) earlier starts h)
 
-pub first_start-before : (place from to start : ℕ) (starts : List ℕ) → start < from
-    → first_start place from to (start ∷ starts) ≡ first_start place from to starts
-unfolding first_start
-first_start-before place from to start starts h = let e : nat_lt start from ≡ true = grind (arith, nat_tests) in rw e refl
-
-pub first_start-at : (place from to start : ℕ) (starts : List ℕ) → from ≤ start → start < to
-    → first_start place from to (start ∷ starts) ≡ place + (start - from)
-unfolding first_start
-first_start-at place from to start starts h lt =
-    let e : nat_lt start from ≡ false = grind (arith, nat_tests) in
-    let f : nat_lt start to ≡ true = grind (arith, nat_tests) in
-    rw (e, f) refl
-
-pub first_start-behind : (place from to start : ℕ) (starts : List ℕ) → from ≤ start → to ≤ start
-    → first_start place from to (start ∷ starts) ≡ 0
-unfolding first_start
-first_start-behind place from to start starts h le =
-    let e : nat_lt start from ≡ false = grind (arith, nat_tests) in
-    let f : nat_lt start to ≡ false = grind (arith, nat_tests) in
-    rw (e, f) refl
-
--- starts before the share don't matter
-pub first_start-on : (place from to earlier : ℕ) (starts : List ℕ) → earlier ≤ from
-    → first_start place from to (starts_on earlier starts) ≡ first_start place from to starts
-first_start-on place from to earlier [] h = ap (λ (l : List ℕ). first_start place from to l) (starts_on-none earlier)
-first_start-on place from to earlier (start ∷ starts) h =
-    elim (cases_lt start earlier) [
-      | inl lt ↦
-          ap (λ (l : List ℕ). first_start place from to l) (starts_on-before earlier start starts lt)
-          ∙ first_start-on place from to earlier starts h
-          ∙ sym (first_start-before place from to start starts (omega arith))
-      | inr le ↦ ap (λ (l : List ℕ). first_start place from to l) (starts_on-at earlier start starts le)
-    ]
+-- where they were passed, the first of the others decides
+pub reserved_of-left : (i start : ℕ) (units : List (List ℕ)) (index : ℕ) → (index < length units → content_start i ≤ start)
+    → reserved_of i (starts_from start (drop index units)) ≡ first_place i (starts_from start (drop index units))
+reserved_of-left i start units index h = ap (first_place i) (starts-stay (content_start i) start units index h)
 
 -- no unit is left
-pub start-none : (place from to start index : ℕ) (units : List (List ℕ)) → length units ≤ index
-    → first_start place from to (starts_from start (drop index units)) ≡ 0
-start-none place from to start index units h =
-    ap (λ (l : List ℕ). first_start place from to l) (starts_from-none start units index h) ∙ first_start-none place from to
+pub place-none : (i start : ℕ) (units : List (List ℕ)) (index : ℕ) → length units ≤ index
+    → first_place i (starts_from start (drop index units)) ≡ 0
+place-none i start units index h = ap (first_place i) (starts_from-none start units index h)
 
--- the next unit starts behind the share
-pub start-behind : (place from to start index : ℕ) (units : List (List ℕ)) → index < length units → from ≤ start → to ≤ start
-    → first_start place from to (starts_from start (drop index units)) ≡ 0
-start-behind place from to start index units lt h le =
-    ap (λ (l : List ℕ). first_start place from to l) (starts_from-front start units index lt)
-    ∙ first_start-behind place from to start _ h le
-
--- it starts in the share
-pub start-at : (place from to start index : ℕ) (units : List (List ℕ)) → index < length units → from ≤ start → start < to
-    → first_start place from to (starts_from start (drop index units)) ≡ place + (start - from)
-start-at place from to start index units lt h le =
-    ap (λ (l : List ℕ). first_start place from to l) (starts_from-front start units index lt)
-    ∙ first_start-at place from to start _ h le
+-- the next unit is the first
+pub place-next : (i start : ℕ) (units : List (List ℕ)) (index : ℕ) → index < length units
+    → first_place i (starts_from start (drop index units)) ≡ place_in i start
+place-next i start units index h = ap (first_place i) (starts_from-front start units index h)

@@ -15,7 +15,8 @@ use Rattle.share_split.specs.Walks.{Sequence, missing, is_complete, later_refusa
 use Rattle.share_split.proofs.CompactFieldLemmas.{first_compact_is}
 use Rattle.share_split.proofs.SequenceLemmas.{seq, first_passes, first_taken, later_passes, later_taken}
 use Rattle.share_split.proofs.RunLemmas.{AreLater, later_compact_are, later_compact_count, later_compact_good}
-use Rattle.share_split.proofs.ReservedLemmas.{bad_reserved-cons, reserved_of-small}
+use Rattle.share_split.proofs.ReservedLemmas.{bad_reserved-cons}
+use Rattle.share_split.proofs.PlaceLemmas.{reserved_of-small}
 use Rattle.share_split.proofs.TextLawLemmas.{units_again}
 use Rattle.share_split.proofs.UnitWalkLemmas.{sequence_from-cons, sequence_from-whole}
 

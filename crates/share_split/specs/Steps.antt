@@ -1,5 +1,5 @@
 -- What the steps of reading shares back answer.
-use Rattle.std.specs.Prelude.{◌≡◌, ◌⊎◌, ℕ, ◌+◌, ◌-◌, ◌==◌, ◌&&◌, nat_lt, not, List, [], ◌∷◌, ◌++◌, Option, Some, None, Result, Ok, Err, if◌then◌else◌}
+use Rattle.std.specs.Prelude.{◌≡◌, ◌⊎◌, ℕ, ◌==◌, ◌&&◌, not, List, [], ◌∷◌, ◌++◌, Option, Some, None, Result, Ok, Err, if◌then◌else◌}
 use Rattle.share_split.specs.declared.joining.JoinError.{JoinError}
 use Rattle.share_split.specs.declared.joining.JoinError.TheVariants.{BadVarint, NoMemory}
 use Rattle.share_split.specs.Blobs.{NamedBytes}
@@ -43,14 +43,3 @@ behind_units units (Ok more) = Ok (units ++ more)
 abbrev pub units_placed : Result (List (List ℕ)) ℕ → Result (List (List ℕ)) JoinError
 units_placed (Err at) = Err (BadVarint (share_with at))
 units_placed (Ok units) = Ok units
-
--- the starts that don't lie before a place
-unfoldable pub starts_past : ℕ → List ℕ → List ℕ
-starts_past from [] = []
-starts_past from (start ∷ starts) = if nat_lt start from then starts_past from starts else start ∷ starts
-
--- the place of the first of these starts in a share whose content has this place and goes from
--- `from` to `to`
-abbrev pub head_start : ℕ → ℕ → ℕ → List ℕ → ℕ
-head_start place from to [] = 0
-head_start place from to (start ∷ starts) = if nat_lt start to then place + (start - from) else 0

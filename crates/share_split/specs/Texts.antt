@@ -1,5 +1,5 @@
 -- Words on the text of units, on where they start in it, and on the shares that it takes.
-use Rattle.std.specs.Prelude.{◌≡◌, ℕ, ◌+◌, ◌≤◌, nat_lt, List, [], ◌∷◌, length, drop, if◌then◌else◌, Vec, vec_len, vec_capacity}
+use Rattle.std.specs.Prelude.{◌≡◌, ℕ, ◌+◌, ◌≤◌, List, length, drop, Vec, vec_len, vec_capacity}
 use Rattle.std.specs.declared.alloc.Global.{Global}
 use Rattle.share_split.specs.Units.{units_text, starts_from}
 use Rattle.share_split.specs.declared.texts.NextUnit.{NextUnit}
@@ -15,8 +15,3 @@ starts_of units next = starts_from next.start (drop next.index units)
 -- the next unit starts where the text of those before it ends
 abbrev pub IsNextOf : List (List ℕ) → NextUnit → Type 0
 IsNextOf units next = next.start + length (units_text (drop next.index units)) ≡ length (units_text units)
-
--- the starts that aren't before a place, where starts are ascending
-unfoldable pub starts_on : ℕ → List ℕ → List ℕ
-starts_on from [] = []
-starts_on from (start ∷ starts) = if nat_lt start from then starts_on from starts else start ∷ starts

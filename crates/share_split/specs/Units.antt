@@ -51,18 +51,25 @@ content_start i =
 abbrev pub content_place : ℕ → ℕ
 content_place i = if i == 0 then 38 else 34
 
--- the place, in a share whose content has this place and goes from `from` to `to` in the text, of the
--- first unit that starts in it; 0 where none does. Starts are ascending
-unfoldable pub first_start : ℕ → ℕ → ℕ → List ℕ → ℕ
-first_start place from to [] = 0
-first_start place from to (start ∷ starts) =
-    if nat_lt start from then first_start place from to starts else
-    (if nat_lt start to then place + (start - from) else 0)
+-- the starts from a place of the text on; starts are ascending
+unfoldable pub starts_on : ℕ → List ℕ → List ℕ
+starts_on from [] = []
+starts_on from (start ∷ starts) = if nat_lt start from then starts_on from starts else start ∷ starts
 
--- the number that the reserved bytes of share i state, where units start at these places of the text
+-- the place in share i of a unit that starts here in the text; 0 where that is behind the share's content
+abbrev pub place_in : ℕ → ℕ → ℕ
+place_in i start =
+    if nat_lt start (content_start (suc i)) then content_place i + (start - content_start i) else 0
+
+-- that of the first of some units, by where they start; 0 where there are none
+abbrev pub first_place : ℕ → List ℕ → ℕ
+first_place i [] = 0
+first_place i (start ∷ starts) = place_in i start
+
+-- the number that the reserved bytes of share i state, where units start at these places of the text: the
+-- place of the first unit that starts in the share's content, 0 where none does
 abbrev pub reserved_of : ℕ → List ℕ → ℕ
-reserved_of i starts =
-    first_start (content_place i) (content_start i) (content_start (suc i)) starts
+reserved_of i starts = first_place i (starts_on (content_start i) starts)
 
 -- the first compact share of a sequence: namespace, info byte, length of the sequence, reserved bytes,
 -- content

@@ -2,6 +2,7 @@
 
 ghost use Rattle.std.specs.Prelude.{◌≡◌, ◌+◌, ◌≤◌, ◌<◌, ◌++◌, ◌∷◌, [], ◌↔◌, length, take, drop, replicate, vec_len, vec_capacity, OnOk, OnErr, IsErrOf};
 ghost use Rattle.share_split.specs.Blobs.{first_content, later_content, max_sequence_length, info, first_share, later_share, later_shares, share_count, blob_shares_of, HasRoom};
+ghost use Rattle.share_split.specs.Joined.{padding_share};
 
 use namespace_id::{Namespace, Share, put};
 use std::marker::Model;
@@ -11,6 +12,16 @@ use thiserror::Error;
 ///
 /// Celestia specifications, "Shares".
 pub const SHARE_SIZE: usize = 512;
+
+/// The bytes of a namespace, which stands first in a share. The info byte stands behind it.
+///
+/// Celestia specifications, "Namespace", "Shares".
+pub const NAMESPACE_SIZE: usize = 29;
+
+/// The place of the length of a sequence in its first share: behind the namespace and the info byte.
+///
+/// Celestia specifications, "Shares".
+pub const LENGTH_PLACE: usize = 30;
 
 /// The bytes of content in the first share of a sequence: 512 without the namespace (29), the info
 /// byte (1) and the length of the sequence (4).
@@ -90,7 +101,7 @@ pub(crate) fn begun(namespace: &Namespace, start: bool) -> Share
 {
     let mut share = Share([0; SHARE_SIZE]);
     put(&mut share.0, 0, &namespace.0);
-    put(&mut share.0, 29, &[info(SHARE_VERSION, start)]);
+    put(&mut share.0, NAMESPACE_SIZE, &[info(SHARE_VERSION, start)]);
     share
 }
 
@@ -100,9 +111,18 @@ fn first_share(namespace: &Namespace, size: u32, content: &[u8]) -> Share
     ensures { result ≡ first_share namespace.now size content.now }
 {
     let mut share = begun(namespace, true);
-    put(&mut share.0, 30, &size.to_be_bytes());
+    put(&mut share.0, LENGTH_PLACE, &size.to_be_bytes());
     put(&mut share.0, SHARE_SIZE - FIRST_CONTENT, content);
     share
+}
+
+/// A padding share: the first share of a sequence of length 0, and zeros behind the length.
+///
+/// Celestia specifications, "Shares", padding.
+pub fn padding_share(namespace: &Namespace) -> Share
+    ensures { result ≡ padding_share namespace.now }
+{
+    first_share(namespace, 0, &[])
 }
 
 /// A later share of a sequence.

@@ -2,34 +2,17 @@
 
 ghost use Rattle.std.specs.Prelude.{◌≡◌, ◌+◌, ◌≤◌, ◌<◌, ◌^◌, ◌++◌, length};
 ghost use Rattle.share_split.specs.Blobs.{max_sequence_length, HasRoom};
-ghost use Rattle.share_split.specs.Units.{first_compact_content, later_compact_content, units_text, starts_from, content_start, content_place, reserved_of, first_compact_share, later_compact_share, later_compact_shares, compact_count, compact_shares};
+ghost use Rattle.share_split.specs.Units.{first_compact_content, later_compact_content, units_text, starts_from, content_start, reserved_of, first_compact_share, later_compact_share, later_compact_shares, compact_count, compact_shares};
 ghost use Rattle.share_split.specs.Texts.{starts_of};
 
 use crate::blobs::{begun, put_share, split_within};
+use crate::places::{content_start, place_in};
 use crate::texts::{NextUnit, next_on};
-use crate::{FIRST_COMPACT_CONTENT, LATER_COMPACT_CONTENT, SHARE_SIZE, Unit};
+use crate::{
+    FIRST_COMPACT_CONTENT, FIRST_CONTENT, LATER_COMPACT_CONTENT, LATER_CONTENT, LENGTH_PLACE,
+    SHARE_SIZE, Unit,
+};
 use namespace_id::{Namespace, Share, put};
-
-/// Where the content of a share begins in the text.
-fn content_start(share: usize) -> usize
-    requires { share ≤ 2 ^ 32 }
-    ensures { result ≡ content_start share }
-{
-    if share == 0 {
-        return 0;
-    }
-    FIRST_COMPACT_CONTENT + LATER_COMPACT_CONTENT * (share - 1)
-}
-
-/// The place of the content in a share.
-fn content_place(share: usize) -> usize
-    ensures { result ≡ content_place share }
-{
-    if share == 0 {
-        return SHARE_SIZE - FIRST_COMPACT_CONTENT;
-    }
-    SHARE_SIZE - LATER_COMPACT_CONTENT
-}
 
 /// The number that the reserved bytes of a share state: where in it the next unit starts, if it does.
 fn reserved_of(units: &[Unit], next: NextUnit, share: usize) -> u32
@@ -37,10 +20,10 @@ fn reserved_of(units: &[Unit], next: NextUnit, share: usize) -> u32
     requires place { next.index < length units.now → content_start share ≤ next.start }
     ensures { result ≡ reserved_of share (starts_of units.now next) }
 {
-    if next.index >= units.len() || next.start >= content_start(share + 1) {
+    if next.index >= units.len() {
         return 0;
     }
-    (content_place(share) + (next.start - content_start(share))) as u32
+    place_in(share, next.start)
 }
 
 /// The first compact share of a sequence of `size` bytes, which begins with this content.
@@ -49,8 +32,12 @@ fn first_compact_share(namespace: &Namespace, size: u32, reserved: u32, content:
     ensures { result ≡ first_compact_share namespace.now size reserved content.now }
 {
     let mut share = begun(namespace, true);
-    put(&mut share.0, 30, &size.to_be_bytes());
-    put(&mut share.0, 34, &reserved.to_be_bytes());
+    put(&mut share.0, LENGTH_PLACE, &size.to_be_bytes());
+    put(
+        &mut share.0,
+        SHARE_SIZE - FIRST_CONTENT,
+        &reserved.to_be_bytes(),
+    );
     put(&mut share.0, SHARE_SIZE - FIRST_COMPACT_CONTENT, content);
     share
 }
@@ -61,7 +48,11 @@ fn later_compact_share(namespace: &Namespace, reserved: u32, content: &[u8]) -> 
     ensures { result ≡ later_compact_share namespace.now reserved content.now }
 {
     let mut share = begun(namespace, false);
-    put(&mut share.0, 30, &reserved.to_be_bytes());
+    put(
+        &mut share.0,
+        SHARE_SIZE - LATER_CONTENT,
+        &reserved.to_be_bytes(),
+    );
     put(&mut share.0, SHARE_SIZE - LATER_COMPACT_CONTENT, content);
     share
 }

@@ -8,13 +8,8 @@ ghost use Rattle.share_split.specs.Walks.{name_in, version_in, is_start, size_in
 ghost use Rattle.share_split.specs.Walks.{content_in, reserved_in, is_filled};
 
 use crate::blobs::split_within;
-use crate::{FIRST_CONTENT, LATER_CONTENT, SHARE_SIZE};
+use crate::{FIRST_CONTENT, LATER_CONTENT, LENGTH_PLACE, NAMESPACE_SIZE, SHARE_SIZE};
 use namespace_id::{Namespace, Share};
-
-/// The bytes of a namespace, which stands first in a share. The info byte stands behind it.
-///
-/// Celestia specifications, "Shares".
-const NAMESPACE_SIZE: usize = 29;
 
 /// The version of a share.
 pub(crate) fn version(share: &Share) -> u8
@@ -51,7 +46,7 @@ fn number(bytes: &[u8]) -> u32
 pub(crate) fn size(share: &Share) -> u32
     ensures { result ≡ size_in share.now }
 {
-    number(share.0.split_at(NAMESPACE_SIZE + 1).1)
+    number(share.0.split_at(LENGTH_PLACE).1)
 }
 
 /// The bytes behind the info byte and, in a first share, the length of the sequence.

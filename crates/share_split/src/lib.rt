@@ -12,6 +12,7 @@ mod compact;
 mod fields;
 mod joining;
 mod parsing;
+mod places;
 mod texts;
 mod units;
 mod varints;
@@ -19,8 +20,8 @@ mod walking;
 mod widths;
 
 pub use blobs::{
-    Blob, FIRST_CONTENT, LATER_CONTENT, MAX_SEQUENCE_LENGTH, SHARE_SIZE, SplitError,
-    blob_share_count, blob_shares,
+    Blob, FIRST_CONTENT, LATER_CONTENT, LENGTH_PLACE, MAX_SEQUENCE_LENGTH, NAMESPACE_SIZE,
+    SHARE_SIZE, SplitError, blob_share_count, blob_shares, padding_share,
 };
 pub use joining::{JoinError, join_blobs, join_laws, join_units};
 pub use units::{

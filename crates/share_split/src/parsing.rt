@@ -1,12 +1,13 @@
 //! The text of units: the units in it, and the places where they start.
 
 ghost use Rattle.std.specs.Prelude.{◌≡◌, ◌+◌, ◌<◌, ◌≤◌, ◌*◌, ◌^◌, ◌∷◌, [], ◌++◌, length, Ok, IfOk, IfSome, OnOk};
-ghost use Rattle.share_split.specs.Units.{content_place, content_start, starts_from, reserved_of};
-ghost use Rattle.share_split.specs.Walks.{Joins, varint_in, unit_at, units_from, share_with, bad_reserved};
-ghost use Rattle.share_split.specs.Steps.{Gives, units_placed, starts_past, head_start};
+ghost use Rattle.share_split.specs.Units.{starts_from, starts_on, first_place};
+ghost use Rattle.share_split.specs.Walks.{Joins, varint_in, unit_at, units_from, bad_reserved};
+ghost use Rattle.share_split.specs.Steps.{Gives, units_placed};
 
 use crate::fields::reserved;
-use crate::{FIRST_COMPACT_CONTENT, JoinError, LATER_COMPACT_CONTENT, SHARE_SIZE, Unit};
+use crate::places::{content_start, place_in, share_with};
+use crate::{JoinError, Unit};
 use namespace_id::Share;
 use std::alloc::{AllocError, Global};
 
@@ -58,16 +59,6 @@ fn unit_at(text: &[u8]) -> Option<(&[u8], usize)>
     Some((unit, text.len() - after.len()))
 }
 
-/// Which share has the byte at this place of the text.
-fn share_with(at: usize) -> u64
-    ensures { result ≡ share_with at }
-{
-    if at < FIRST_COMPACT_CONTENT {
-        return 0;
-    }
-    (1 + (at - FIRST_COMPACT_CONTENT) / LATER_COMPACT_CONTENT) as u64
-}
-
 /// Units that were read, and where they start in their text.
 #[derive(Drop)]
 pub(crate) struct Placed {
@@ -112,9 +103,9 @@ pub(crate) fn units_of_text(alloc: Global, text: &[u8]) -> Result<Placed, JoinEr
     Ok(placed)
 }
 
-/// The starts that don't lie before a place.
-fn starts_past(starts: &[usize], from: usize) -> &[usize]
-    ensures { result.now ≡ starts_past from starts.now }
+/// The starts from a place of the text on.
+fn starts_on(starts: &[usize], from: usize) -> &[usize]
+    ensures { result.now ≡ starts_on from starts.now }
 {
     let mut before = 0;
     while before < starts.len() && starts[before] < from {
@@ -123,34 +114,14 @@ fn starts_past(starts: &[usize], from: usize) -> &[usize]
     starts.split_at(before).1
 }
 
-/// Where the content of share i of a sequence begins in the text.
-fn content_start(i: usize) -> usize
-    requires { i < 2 ^ 55 }
-    ensures { result ≡ content_start i }
+/// The place in a share of the first of some units, by where they start; 0 where there are none.
+fn first_place(share: usize, starts: &[usize]) -> u32
+    requires { share < 2 ^ 54 }
+    ensures { result ≡ first_place share starts.now }
 {
-    if i == 0 {
-        return 0;
-    }
-    FIRST_COMPACT_CONTENT + LATER_COMPACT_CONTENT * (i - 1)
-}
-
-/// The number that the reserved bytes of share i should state, where these are the starts that
-/// don't lie before its content.
-fn reserved_for(i: usize, starts: &[usize]) -> usize
-    requires { i < 2 ^ 54 }
-    ensures { result ≡
-        head_start (content_place i) (content_start i) (content_start (i + 1)) starts.now }
-{
-    let content = if i == 0 {
-        FIRST_COMPACT_CONTENT
-    } else {
-        LATER_COMPACT_CONTENT
-    };
     match starts {
-        [start, ..] if *start < content_start(i + 1) => {
-            SHARE_SIZE - content + start.saturating_sub(content_start(i))
-        }
-        _ => 0,
+        [start, ..] => place_in(share, *start),
+        [] => 0,
     }
 }
 
@@ -160,8 +131,8 @@ pub(crate) fn bad_reserved(shares: &[Share], starts: &[usize]) -> Option<u64>
 {
     let mut left = starts;
     for i in 0..shares.len() {
-        left = starts_past(left, content_start(i));
-        if reserved(&shares[i]) as usize != reserved_for(i, left) {
+        left = starts_on(left, content_start(i));
+        if reserved(&shares[i]) != first_place(i, left) {
             return Some(i as u64);
         }
     }

@@ -1,8 +1,8 @@
 //! The text of units: each behind its length, and where each starts.
 
 ghost use Rattle.std.specs.Prelude.{◌≡◌, ◌+◌, ◌<◌, ◌^◌, ◌++◌, length, vec_len, vec_capacity, ◌≤◌, IfOk};
-ghost use Rattle.share_split.specs.Units.{unit_text, units_text};
-ghost use Rattle.share_split.specs.Texts.{HasRoomFor, IsNextOf, starts_of, starts_on};
+ghost use Rattle.share_split.specs.Units.{unit_text, units_text, starts_on};
+ghost use Rattle.share_split.specs.Texts.{HasRoomFor, IsNextOf, starts_of};
 
 use crate::Unit;
 use crate::varints::{put_bytes, put_varint, varint_len};

@@ -1,28 +1,12 @@
 -- Lemmas on the shares of a square, one part behind another.
-use Rattle.std.proofs.Common.{◌≡◌, ◌∙◌, ℕ, ◌+◌, ◌-◌, ◌≤◌, List, [], ◌∷◌, ◌++◌, length, take, drop, replicate, refl, sym, ap, ap₂, subst, arith, length-append, append_assoc}
+use Rattle.std.proofs.Common.{◌≡◌, ◌∙◌, ℕ, ◌+◌, ◌-◌, ◌≤◌, List, [], ◌∷◌, ◌++◌, length, replicate, sym, ap, ap₂, subst, arith, length-append, append_assoc}
 use Rattle.std.proofs.lemmas.List.{length-replicate, append-nil}
-use Rattle.std.specs.Int.{w32, to_be_bytes}
 use Rattle.namespace_id.specs.declared.namespaces.Namespace.{Namespace}
 use Rattle.namespace_id.specs.declared.shares.Share.{Share}
-use Rattle.share_split.specs.Blobs.{NamedBytes, first_content, later_content, filled, first_share, blob_shares_of}
+use Rattle.share_split.specs.Blobs.{NamedBytes, blob_shares_of}
 use Rattle.share_split.specs.Joined.{padding_share}
-use Rattle.share_split.proofs.ShareLemmas.{share_of, begun_written}
 use Rattle.square_layout.specs.Layout.{shares_of, start_after, end_of, placed}
 use Rattle.square_layout.proofs.PlaceLemmas.{start_after-ge, end_of-ge, end_of-next, length-blob_shares_of}
-
--- the length and the content of padding
-zeros : replicate later_content 0 ≡ to_be_bytes w32 0 ++ filled first_content []
-zeros = refl
-
--- a namespace, an info byte and zeros are a padding share
-pub padding_written : (name : Namespace) (s t : List ℕ) → length name.0 ≡ 29
-    → s ≡ take 0 (replicate 512 0) ++ name.0 ++ drop (0 + length name.0) (replicate 512 0)
-    → t ≡ take 29 s ++ 1 ∷ [] ++ drop (29 + 1) s
-    → share_of t ≡ padding_share name
-unfolding first_share
-padding_written name s t n es et =
-    ap share_of (begun_written name.0 s t 1 1 n refl es et ∙ append_assoc name.0 (1 ∷ []) (replicate later_content 0)
-    ∙ ap (λ (l : List ℕ). name.0 ++ 1 ∷ l) zeros ∙ sym (append_assoc name.0 (1 ∷ to_be_bytes w32 0) (filled first_content [])))
 
 -- the padding before a blob, and its shares
 abbrev pub piece_of : Namespace → ℕ → NamedBytes → List Share

@@ -10,29 +10,9 @@ ghost use Rattle.square_layout.specs.Layout.{shares_of, start_after, end_of, pla
 ghost use Rattle.square_layout.specs.Refusals.{max_shares};
 
 use crate::counting::start_after;
-use namespace_id::{Namespace, NoMemory, PRIMARY_RESERVED_PADDING, Share, put};
-use share_split::{Blob, SHARE_SIZE, SplitError, Unit, blob_shares, unit_shares};
+use namespace_id::{Namespace, NoMemory, PRIMARY_RESERVED_PADDING, Share};
+use share_split::{Blob, SplitError, Unit, blob_shares, padding_share, unit_shares};
 use std::alloc::Global;
-
-/// The info byte of the first share of a sequence, in version 0.
-///
-/// Celestia specifications, "Shares".
-const START: u8 = 1;
-
-/// The place of the info byte in a share: behind the namespace.
-const INFO_PLACE: usize = 29;
-
-/// A padding share: the first of a sequence of length 0, and zeros behind it.
-///
-/// Celestia specifications, "Shares".
-fn padding_share(namespace: &Namespace) -> Share
-    ensures { result ≡ padding_share namespace.now }
-{
-    let mut share = Share([0; SHARE_SIZE]);
-    put(&mut share.0, 0, &namespace.0);
-    put(&mut share.0, INFO_PLACE, &[START]);
-    share
-}
 
 /// Appends padding shares until there are `to` shares.
 pub fn put_padding(namespace: &Namespace, to: usize, out: &mut Vec<Share>) -> Result<(), NoMemory>

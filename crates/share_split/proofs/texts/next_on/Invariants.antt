@@ -1,5 +1,6 @@
 use Rattle.std.proofs.Common.{length, ◌-◌, ◌≡◌}
-use Rattle.share_split.specs.Texts.{IsNextOf, starts_of, starts_on}
+use Rattle.share_split.specs.Units.{starts_on}
+use Rattle.share_split.specs.Texts.{IsNextOf, starts_of}
 use Rattle.share_split.proofs.texts.next_on.Given as goal
 
 -- the units passed start before the place
