@@ -2,7 +2,9 @@
 //! each can be.
 
 use namespace_id::{Namespace, NsError, Share, TRANSACTION};
-use share_split::{JoinError, SplitError, blob_shares, join_blobs};
+use share_split::{
+    JoinError, MAX_SEQUENCE_LENGTH, SplitError, Unit, blob_shares, join_blobs, unit_shares,
+};
 use std::test::Fail;
 
 /// The namespace of version 0 whose id ends so.
@@ -103,5 +105,35 @@ fn sequences(rt: HostRuntime) -> Result<(), Fail> {
     for (name, three, want) in cases {
         assert_eq!(rt; join_blobs(alloc, &three).err(), Some(want), "{name}");
     }
+    Ok(())
+}
+
+/// One byte more than a sequence may have: in a blob, in one unit with its length of five bytes, and by
+/// a last unit, whose length of one byte is too much. The test takes 4 GiB, once.
+#[test]
+fn too_long(rt: HostRuntime) -> Result<(), Fail> {
+    let alloc = rt.alloc();
+    let too_long = Err(SplitError::TooLong);
+    let mut out = Vec::new(alloc);
+    let mut bytes = Vec::new(alloc);
+    bytes.resize(MAX_SEQUENCE_LENGTH + 1, 7)?;
+    assert_eq!(rt; blob_shares(&name(0x0101), &bytes, &mut out), too_long);
+    bytes.truncate(MAX_SEQUENCE_LENGTH - 4);
+    let mut units = vec![in alloc; Unit { bytes }]?;
+    assert_eq!(rt;
+        unit_shares(alloc, &TRANSACTION, &units, &mut out),
+        too_long
+    );
+    for unit in &mut units {
+        unit.bytes.truncate(MAX_SEQUENCE_LENGTH - 5);
+    }
+    units.push(Unit {
+        bytes: Vec::new(alloc),
+    })?;
+    assert_eq!(rt;
+        unit_shares(alloc, &TRANSACTION, &units, &mut out),
+        too_long
+    );
+    assert!(rt; out.is_empty());
     Ok(())
 }

@@ -167,6 +167,12 @@ fn layouts(rt: HostRuntime) -> Result<(), Fail> {
         lays(alloc, gap_first, &want)?,
         "a gap before the first blob"
     );
+    let square = ran(alloc, "build", block(alloc, gap_first)?)?.out.bytes;
+    let square = square_in(alloc, &square)?;
+    let Some(first) = square.shares.get(2) else {
+        return Err(Fail::new("no blob"));
+    };
+    assert_eq!(rt; &first.0[29..34], [1, 0, 0, 0x78, 0x7d].as_slice());
     let falling = Plan {
         blobs: &[(0x0102, 30_845), (0x0102, 1), (0x0101, 1)],
         ..EMPTY
@@ -215,6 +221,11 @@ fn greatest_block(rt: HostRuntime) -> Result<(), Fail> {
         assert_eq!(rt; built.status, want);
         assert_eq!(rt; built.out.bytes.len(), size);
         assert_eq!(rt; built.notes.bytes.as_slice(), note.as_bytes());
+        if want == Status::Done {
+            let head = ran(alloc, "header", built.out.bytes)?;
+            assert_eq!(rt; head.status, Status::Done);
+            assert_eq!(rt; head.out.bytes.len(), 46_087);
+        }
     }
     Ok(())
 }
