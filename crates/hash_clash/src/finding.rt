@@ -11,6 +11,7 @@ use crate::openings::has_shape;
 use crate::sides::{Seen, Side, digest, look, size_of};
 use crate::{Clash, Opening, Preimage};
 use namespace_id::{Namespace, Share, are_namespaces, are_shares};
+use nmt_tree::halvings;
 
 /// Two strings, where they differ.
 fn differing(left: Preimage, right: Preimage) -> Option<(Preimage, Preimage)>
@@ -69,25 +70,6 @@ fn find(depth: u8, start: u16, a: Side, b: Side) -> Option<(Preimage, Preimage)>
     }
 }
 
-/// How often a number of leaves can be halved.
-fn depth_of(n: usize) -> u8
-    requires { IsTrue (is_leaf_count n) }
-    ensures value { result ≡ halvings n }
-    ensures bound { result ≤ 8 }
-{
-    match n {
-        1 => 0,
-        2 => 1,
-        4 => 2,
-        8 => 3,
-        16 => 4,
-        32 => 5,
-        64 => 6,
-        128 => 7,
-        _ => 8,
-    }
-}
-
 /// The collision that two openings of one place name, where they have one root and differ in
 /// namespace, share or nodes. `n` is a number of leaves, a power of two up to 256, and `pos` is
 /// below it; each opening has as many nodes as there are subtrees that don't hold the place. The
@@ -109,7 +91,7 @@ pub fn clash_paths(n: u16, pos: u16, a: &Opening, b: &Opening) -> Clash
     has_shape(b);
     let a_side = Side::Opened(pos, a, a.path.nodes());
     let b_side = Side::Opened(pos, b, b.path.nodes());
-    Clash::found(find(depth_of(n as usize), 0, a_side, b_side))
+    Clash::found(find(halvings(n as usize), 0, a_side, b_side))
 }
 
 /// The collision that an opening and a list of leaves name, where they have one root and the list
@@ -136,7 +118,7 @@ pub fn clash_path_leaves(
     are_namespaces(names);
     are_shares(shares);
     let side = Side::Opened(pos, a, a.path.nodes());
-    Clash::found(find(depth_of(n as usize), 0, side, Side::Listed(names, shares)))
+    Clash::found(find(halvings(n as usize), 0, side, Side::Listed(names, shares)))
 }
 
 /// The collision that two lists of leaves name, where they have one root and differ. Both have one
@@ -165,5 +147,5 @@ pub fn clash_leaves(
     are_shares(shares_b);
     let a_side = Side::Listed(names_a, shares_a);
     let b_side = Side::Listed(names_b, shares_b);
-    Clash::found(find(depth_of(names_a.len()), 0, a_side, b_side))
+    Clash::found(find(halvings(names_a.len()), 0, a_side, b_side))
 }

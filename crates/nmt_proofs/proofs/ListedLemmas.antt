@@ -1,19 +1,22 @@
 -- An opening that agrees with a list's part shows the list's leaves, and its nodes are the list's.
-use Rattle.std.proofs.Common.{◌≡◌, ◌∙◌, ℕ, zero, suc, ◌+◌, ◌^◌, ◌<◌, ◌≤◌, List, [], ◌∷◌, ◌++◌, length, take, drop, get_or, Bool, false, cond, ltb, Some, None, refl, sym, ap, ap₂, subst, subst₂, inl, inr, arith}
+use Rattle.std.proofs.Common.{◌≡◌, ◌∙◌, ℕ, zero, suc, ◌+◌, ◌^◌, ◌<◌, ◌≤◌, List, [], ◌∷◌, ◌++◌, length, take, drop, get_or, Bool, false, cond, ltb, Some, None, refl, sym, ap, subst, subst₂, inl, inr, arith}
 use Rattle.std.specs.List.{AllByRecursion, slice_get}
-use Rattle.std.proofs.lemmas.List.{map-append, take-append-drop}
+use Rattle.std.proofs.lemmas.List.{take-append-drop}
 use Rattle.std.proofs.lemmas.Bool.{cases_Bool, ltb-true, ltb-false, eqb-true}
 use Rattle.std.proofs.Math.Nat.{pow-suc}
 use Rattle.namespace_id.specs.declared.namespaces.Namespace.{Namespace}
 use Rattle.namespace_id.specs.declared.shares.Share.{Share}
 use Rattle.namespace_id.specs.declared.digests.Digest.{Digest}
 use Rattle.nmt_tree.specs.Roots.{root}
+use Rattle.nmt_tree.specs.Levels.{leaf_digests, span}
 use Rattle.nmt_proofs.specs.Parts.{Part, leaf, join, digest_of}
 use Rattle.nmt_proofs.specs.Openings.{Shown, begun, is_shown, outside, opened, no_digest, one_leaf}
-use Rattle.nmt_proofs.specs.Clashes.{Agree, HasDepth, ClashOr, clash_at, whole, AreLeaves, IsOpening, ArePlaces, AreListed, interval_root, interval_roots}
+use Rattle.nmt_proofs.specs.Clashes.{Agree, HasDepth, ClashOr, clash_at, whole, AreLeaves, IsOpening, ArePlaces, AreListed}
+use Rattle.nmt_proofs.specs.Making.{spans}
 use Rattle.nmt_proofs.proofs.AgreeLemmas.{clash_or, none_found, fit_together}
-use Rattle.nmt_proofs.proofs.WholeLemmas.{digest-whole, depth-whole, sized-whole, full-whole, whole-halved, one_list}
+use Rattle.nmt_proofs.proofs.WholeLemmas.{digest-whole, depth-whole, sized-whole, full-whole, whole-halved, whole_is_span, one_list}
 use Rattle.nmt_proofs.proofs.ShownLemmas.{single, half_counts, opening-sized, opening-deep}
+use Rattle.nmt_proofs.proofs.PutLemmas.{halved_nodes, no_node}
 
 -- places before the middle, and the others
 places-halves : (low mid high : ℕ) (xs : List Shown) → low ≤ mid → ArePlaces low high xs → ArePlaces low mid (take (begun mid xs) xs) × ArePlaces mid high (drop (begun mid xs) xs)
@@ -42,22 +45,18 @@ one_node [] d h e = absurd (omega arith)
 one_node (n ∷ m ∷ nodes) d h e = absurd (omega arith)
 one_node (n ∷ []) d h e = ap (λ (x : Digest). x ∷ []) e
 
-no_node : (nodes : List Digest) → length nodes ≡ 0 → nodes ≡ []
-no_node [] h = refl
-no_node (n ∷ nodes) h = absurd (omega arith)
-
 -- what is opened from a place on
 pub agreed : (d st : ℕ) (ns : List Namespace) (ss : List Share) (xs : List Shown) (nodes : List Digest) → ArePlaces st (st + 2 ^ d) xs → length nodes ≡ length (outside d st xs)
-    → Agree (opened d st xs nodes) (whole d (drop st ns) (drop st ss)) → AreListed ns ss xs × (nodes ≡ interval_roots ns ss (outside d st xs))
+    → Agree (opened d st xs nodes) (whole d (drop st ns) (drop st ss)) → AreListed ns ss xs × (nodes ≡ spans (leaf_digests ns ss) (outside d st xs))
 unfolding opened outside
-agreed zero st ns ss [] nodes of count a = (tt, one_node nodes (interval_root ns ss (st, 0)) count (a ∙ digest-whole 0 (drop st ns) (drop st ss)))
+agreed zero st ns ss [] nodes of count a = (tt, one_node nodes (span (leaf_digests ns ss) st 0) count (a ∙ whole_is_span 0 st ns ss))
 agreed zero st ns ss (s ∷ xs) nodes of count a =
     let at : s.from ≡ st = omega (arith, of.1, of.2) in
     let none : xs ≡ [] = no_more (s.from + 1) (st + 2 ^ 0) xs (omega (arith, of.1)) of.3 in (
       (subst (λ (k : ℕ). Agree s.part (whole 0 (drop k ns) (drop k ss))) (sym at) a, subst (λ (l : List Shown). AreListed ns ss l) (sym none) tt),
-      no_node nodes count,
+      no_node (leaf_digests ns ss) [] nodes refl count,
     )
-agreed (suc d) st ns ss [] nodes of count a = (tt, one_node nodes (interval_root ns ss (st, suc d)) count (a ∙ digest-whole (suc d) (drop st ns) (drop st ss)))
+agreed (suc d) st ns ss [] nodes of count a = (tt, one_node nodes (span (leaf_digests ns ss) st (suc d)) count (a ∙ whole_is_span (suc d) st ns ss))
 agreed (suc d) st ns ss (s ∷ ys) nodes of count a =
     let xs : List Shown = s ∷ ys in
     let m : ℕ = st + 2 ^ d in
@@ -76,8 +75,8 @@ agreed (suc d) st ns ss (s ∷ ys) nodes of count a =
     let l = agreed d st ns ss (take i xs) (take j nodes) parts.0 counts.0 both.0 in
     let r = agreed d m ns ss (drop i xs) (drop j nodes) parts.1 counts.1 both.1 in (
       subst (λ (x : List Shown). AreListed ns ss x) (take-append-drop i xs) (each-append _ (take i xs) (drop i xs) l.0 r.0),
-      sym (take-append-drop j nodes) ∙ ap₂ (λ (x y : List Digest). x ++ y) l.1 r.1
-          ∙ sym (ap (λ (b : Bool). interval_roots ns ss (cond b [] (lo ++ ro))) one_place ∙ map-append (interval_root ns ss) lo ro),
+      sym (take-append-drop j nodes)
+          ∙ halved_nodes (leaf_digests ns ss) (outside (suc d) st xs) lo ro (take j nodes) (drop j nodes) (ap (λ (b : Bool). cond b [] (lo ++ ro)) one_place) l.1 r.1,
     )
 
 -- the law of an opening under the root of a list
@@ -93,13 +92,13 @@ opening_law d xs nodes ns ss h g e =
 -- of one that shows single places
 pub places_law : (d : ℕ) (xs : List Shown) (nodes : List Digest) (ns : List Namespace) (ss : List Share) → IsOpening d xs nodes → ArePlaces 0 (2 ^ d) xs → AreLeaves d ns ss
     → digest_of (opened d 0 xs nodes) ≡ root d ns ss
-    → ClashOr (opened d 0 xs nodes) (whole d ns ss) (AreListed ns ss xs × (nodes ≡ interval_roots ns ss (outside d 0 xs)))
+    → ClashOr (opened d 0 xs nodes) (whole d ns ss) (AreListed ns ss xs × (nodes ≡ spans (leaf_digests ns ss) (outside d 0 xs)))
 places_law d xs nodes ns ss h of g e =
     let zero_first : 2 ^ d ≡ 0 + 2 ^ d = omega arith in
     let sized = opening-sized d xs nodes h in
     let full = sized-whole d ns ss g in
     let same : digest_of (opened d 0 xs nodes) ≡ digest_of (whole d ns ss) = e ∙ sym (digest-whole d ns ss) in
-    clash_or (opened d 0 xs nodes) (whole d ns ss) (AreListed ns ss xs × (nodes ≡ interval_roots ns ss (outside d 0 xs))) sized full same
+    clash_or (opened d 0 xs nodes) (whole d ns ss) (AreListed ns ss xs × (nodes ≡ spans (leaf_digests ns ss) (outside d 0 xs))) sized full same
     (λ none. agreed d 0 ns ss xs nodes (subst (λ (k : ℕ). ArePlaces 0 k xs) zero_first of) (eqb-true _ _ h.count)
     (none_found d (opened d 0 xs nodes) (whole d ns ss) (opening-deep d xs nodes h) (depth-whole d ns ss) sized full same none))
 
@@ -116,14 +115,14 @@ leaf_listed pos (m ∷ ns) [] n s h g a = absurd (omega arith)
 pub leaf_law : (d pos : ℕ) (n : Namespace) (s : Share) (nodes : List Digest) (ns : List Namespace) (ss : List Share) → IsOpening d (one_leaf pos n s) nodes → pos < 2 ^ d → AreLeaves d ns ss
     → digest_of (opened d 0 (one_leaf pos n s) nodes) ≡ root d ns ss
     → ClashOr (opened d 0 (one_leaf pos n s) nodes) (whole d ns ss)
-    ((slice_get ns pos ≡ Some n) × (slice_get ss pos ≡ Some s) × (nodes ≡ interval_roots ns ss (outside d 0 (one_leaf pos n s))))
+    ((slice_get ns pos ≡ Some n) × (slice_get ss pos ≡ Some s) × (nodes ≡ spans (leaf_digests ns ss) (outside d 0 (one_leaf pos n s))))
 leaf_law d pos n s nodes ns ss h lt g e =
     let xs : List Shown = one_leaf pos n s in
     let sized = opening-sized d xs nodes h in
     let full = sized-whole d ns ss g in
     let same : digest_of (opened d 0 xs nodes) ≡ digest_of (whole d ns ss) = e ∙ sym (digest-whole d ns ss) in
     clash_or (opened d 0 xs nodes) (whole d ns ss)
-    ((slice_get ns pos ≡ Some n) × (slice_get ss pos ≡ Some s) × (nodes ≡ interval_roots ns ss (outside d 0 xs))) sized full same
+    ((slice_get ns pos ≡ Some n) × (slice_get ss pos ≡ Some s) × (nodes ≡ spans (leaf_digests ns ss) (outside d 0 xs))) sized full same
     (λ none.
     let listed = agreed d 0 ns ss xs nodes (refl, omega arith, omega (arith, lt), tt) (eqb-true _ _ h.count)
     (none_found d (opened d 0 xs nodes) (whole d ns ss) (opening-deep d xs nodes h) (depth-whole d ns ss) sized full same none) in

@@ -1,5 +1,5 @@
 -- The part of a whole list of leaves.
-use Rattle.std.proofs.Common.{◌≡◌, ◌∙◌, ℕ, zero, suc, ◌+◌, ◌^◌, ◌≤◌, List, [], ◌∷◌, ◌++◌, length, take, drop, refl, sym, ap, ap₂, arith, length-drop}
+use Rattle.std.proofs.Common.{◌≡◌, ◌∙◌, ℕ, zero, suc, ◌+◌, ◌^◌, ◌≤◌, List, [], ◌∷◌, ◌++◌, length, take, drop, get_or, refl, sym, ap, ap₂, arith, length-drop}
 use Rattle.std.specs.List.{AllByRecursion}
 use Rattle.std.proofs.lemmas.List.{length-take-le, take-take, drop-drop, drop-take, take-append-drop}
 use Rattle.std.proofs.Math.Nat.{pow-suc}
@@ -9,7 +9,9 @@ use Rattle.namespace_id.specs.Names.{IsNamespace}
 use Rattle.namespace_id.specs.Shares.{IsShare}
 use Rattle.nmt_tree.specs.Digests.{node_digest}
 use Rattle.nmt_tree.specs.Roots.{root}
+use Rattle.nmt_tree.specs.Levels.{leaf_digests, span}
 use Rattle.nmt_proofs.specs.Parts.{join, digest_of}
+use Rattle.nmt_proofs.specs.Openings.{no_digest}
 use Rattle.nmt_proofs.specs.Clashes.{whole, AreLeaves, IsSized, HasDepth, Agree}
 use Rattle.nmt_proofs.proofs.AgreeLemmas.{IsFull}
 
@@ -101,6 +103,29 @@ pub whole-halved : (d st : ℕ) (ns : List Namespace) (ss : List Share)
     → whole (suc d) (drop st ns) (drop st ss) ≡ join (whole d (drop st ns) (drop st ss)) (whole d (drop (st + 2 ^ d) ns) (drop (st + 2 ^ d) ss))
 unfolding whole
 whole-halved d st ns ss = ap₂ join (whole-take d (drop st ns) (drop st ss)) (ap₂ (whole d) (drop-drop (2 ^ d) st ns) (drop-drop (2 ^ d) st ss))
+
+-- names without shares have no digest
+no_share : (ns : List Namespace) → digest_of (whole 0 ns []) ≡ no_digest
+unfolding whole
+no_share [] = refl
+no_share (n ∷ ns) = refl
+
+-- the part of one place has the digest of the leaf there
+one_is_leaf : (st : ℕ) (ns : List Namespace) (ss : List Share) → digest_of (whole 0 (drop st ns) (drop st ss)) ≡ get_or (leaf_digests ns ss) st no_digest
+unfolding whole leaf_digests
+one_is_leaf zero [] ss = refl
+one_is_leaf (suc st) [] ss = refl
+one_is_leaf zero (n ∷ ns) [] = refl
+one_is_leaf (suc st) (n ∷ ns) [] = no_share (drop st ns)
+one_is_leaf zero (n ∷ ns) (s ∷ ss) = refl
+one_is_leaf (suc st) (n ∷ ns) (s ∷ ss) = one_is_leaf st ns ss
+
+-- the digest of the part from a place of a list on is that over the leaves there
+pub whole_is_span : (d st : ℕ) (ns : List Namespace) (ss : List Share) → digest_of (whole d (drop st ns) (drop st ss)) ≡ span (leaf_digests ns ss) st d
+unfolding span
+whole_is_span zero st ns ss = one_is_leaf st ns ss
+whole_is_span (suc d) st ns ss =
+    ap digest_of (whole-halved d st ns ss) ∙ ap₂ node_digest (whole_is_span d st ns ss) (whole_is_span d (st + 2 ^ d) ns ss)
 
 same_one : {A : Type 0} (x y : A) (xs ys : List A) → length (x ∷ xs) ≡ 1 → length (y ∷ ys) ≡ 1 → x ≡ y → x ∷ xs ≡ y ∷ ys
 same_one x y [] [] h g e = ap (λ z. z ∷ []) e

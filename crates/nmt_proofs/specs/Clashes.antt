@@ -1,5 +1,5 @@
 -- Where two parts with one digest differ: two strings with one SHA-256 digest.
-use Rattle.std.specs.Prelude.{◌≡◌, ◌≢◌, ◌^◌, ◌<◌, ◌≤◌, ◌+◌, ℕ, zero, suc, List, [], ◌∷◌, ◌++◌, length, map, take, drop, true, if◌then◌else◌, Option, Some, None, MatchOption}
+use Rattle.std.specs.Prelude.{◌≡◌, ◌≢◌, ◌^◌, ◌<◌, ◌≤◌, ◌+◌, ℕ, zero, suc, List, [], ◌∷◌, ◌++◌, length, take, drop, true, if◌then◌else◌, Option, Some, None, MatchOption}
 use Rattle.std.specs.Option.{option_or}
 use Rattle.std.specs.List.{AllByRecursion}
 use Rattle.std.specs.Str.{bytes_eq}
@@ -11,7 +11,6 @@ use Rattle.namespace_id.specs.Bytes.{AreBytes}
 use Rattle.namespace_id.specs.Names.{IsNamespace, AreNamespaces}
 use Rattle.namespace_id.specs.Shares.{IsShare, AreShares}
 use Rattle.namespace_id.specs.Digests.{IsDigest, AreDigests}
-use Rattle.nmt_tree.specs.Roots.{root}
 use Rattle.nmt_proofs.specs.Parts.{Part, given, leaf, join, digest_of}
 use Rattle.nmt_proofs.specs.Openings.{Shown, has_count, no_digest}
 
@@ -118,11 +117,3 @@ ArePlaces low high (s ∷ shown) =
 abbrev pub AreListed : List Namespace → List Share → List Shown → Type 0
 AreListed names shares shown =
     AllByRecursion (λ s. Agree s.part (whole 0 (drop s.from names) (drop s.from shares))) shown
-
--- the root of an interval of a list, of which the place where it begins and its depth are told
-abbrev pub interval_root : List Namespace → List Share → ℕ × ℕ → Digest
-interval_root names shares interval =
-    root interval.1 (drop interval.0 names) (drop interval.0 shares)
-
-abbrev pub interval_roots : List Namespace → List Share → List (ℕ × ℕ) → List Digest
-interval_roots names shares intervals = map (interval_root names shares) intervals

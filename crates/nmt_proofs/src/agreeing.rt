@@ -6,9 +6,11 @@ ghost use Rattle.namespace_id.specs.declared.namespaces.Namespace.{Namespace};
 ghost use Rattle.namespace_id.specs.declared.shares.Share.{Share};
 ghost use Rattle.namespace_id.specs.declared.digests.Digest.{Digest};
 ghost use Rattle.nmt_tree.specs.Roots.{root};
+ghost use Rattle.nmt_tree.specs.Levels.{leaf_digests};
 ghost use Rattle.nmt_proofs.specs.Parts.{Part, digest_of};
 ghost use Rattle.nmt_proofs.specs.Openings.{Shown, one_leaf, opened, outside};
-ghost use Rattle.nmt_proofs.specs.Clashes.{IsClash, clash_at, ClashOr, IsSized, HasDepth, Agree, whole, AreLeaves, IsOpening, ArePlaces, AreListed, interval_roots};
+ghost use Rattle.nmt_proofs.specs.Clashes.{IsClash, clash_at, ClashOr, IsSized, HasDepth, Agree, whole, AreLeaves, IsOpening, ArePlaces, AreListed};
+ghost use Rattle.nmt_proofs.specs.Making.{spans};
 
 /// Where two parts of a tree have one digest, the strings at the first interval at which both have
 /// one and these differ are a SHA-256 collision; where there is no such interval, the parts agree.
@@ -29,16 +31,17 @@ pub fn clash_laws()
         ClashOr (opened depth 0 shown nodes) (whole depth names shares)
         (Agree (opened depth 0 shown nodes) (whole depth names shares)) }
 
-    // One that shows single places shows the list's leaves, and has the list's nodes.
+    // One that shows single places shows the list's leaves, and its nodes are the digests over
+    // the list's leaves in the intervals that hold nothing shown.
     ensures places { (depth : ℕ) (shown : List Shown) (nodes : List Digest)
         (names : List Namespace) (shares : List Share) →
         IsOpening depth shown nodes → ArePlaces 0 (2 ^ depth) shown → AreLeaves depth names shares →
         digest_of (opened depth 0 shown nodes) ≡ root depth names shares →
         ClashOr (opened depth 0 shown nodes) (whole depth names shares)
         (AreListed names shares shown
-        × (nodes ≡ interval_roots names shares (outside depth 0 shown))) }
+        × (nodes ≡ spans (leaf_digests names shares) (outside depth 0 shown))) }
 
-    // So does one of one leaf.
+    // The same for one that shows one leaf.
     ensures leaf { (depth pos : ℕ) (name : Namespace) (share : Share) (nodes : List Digest)
         (names : List Namespace) (shares : List Share) →
         IsOpening depth (one_leaf pos name share) nodes → pos < 2 ^ depth →
@@ -46,7 +49,8 @@ pub fn clash_laws()
         digest_of (opened depth 0 (one_leaf pos name share) nodes) ≡ root depth names shares →
         ClashOr (opened depth 0 (one_leaf pos name share) nodes) (whole depth names shares)
         ((slice_get names pos ≡ Some name) × (slice_get shares pos ≡ Some share)
-        × (nodes ≡ interval_roots names shares (outside depth 0 (one_leaf pos name share)))) }
+        × (nodes ≡ spans (leaf_digests names shares)
+        (outside depth 0 (one_leaf pos name share)))) }
 
     // Two openings of one leaf place under one root are one opening.
     ensures openings { (depth pos : ℕ) (name name' : Namespace) (share share' : Share)

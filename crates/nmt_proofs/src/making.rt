@@ -11,9 +11,8 @@ ghost use Rattle.nmt_proofs.specs.Pieces.{shown};
 
 use crate::Path;
 use crate::joining::{Piece, count_begun, count_outside, is_piece, size_of};
-use crate::opening::depth_of;
 use namespace_id::Digest;
-use nmt_tree::Tree;
+use nmt_tree::{Tree, halvings};
 
 /// The digest over the `size` leaves from place `from` on, of a tree that isn't empty.
 fn digest_in(tree: &Tree, from: u16, size: u16) -> Digest
@@ -91,7 +90,7 @@ pub fn make_leaf(tree: &Tree, pos: u16) -> Path
         size: 1,
         digest: digest_in(tree, pos, 1),
     }];
-    let depth = depth_of(tree.len());
+    let depth = halvings(tree.len() as usize);
     let mut nodes = blank_nodes();
     put_nodes(tree, depth, 0, &pieces, &mut nodes[..depth as usize]);
     path_of(&nodes[..depth as usize])

@@ -1,6 +1,6 @@
 //! Openings of leaves, and why they are refused.
 
-ghost use Rattle.std.specs.Prelude.{◌≡◌, ◌^◌, ◌≤◌, ◌<◌, ℕ, IsTrue, IsOk, IsErrOf, ◌↔◌, None, true, false};
+ghost use Rattle.std.specs.Prelude.{◌≡◌, ◌<◌, ℕ, IsTrue, IsOk, IsErrOf, ◌↔◌, None, true, false};
 ghost use Rattle.nmt_tree.specs.Roots.{is_leaf_count, halvings};
 ghost use Rattle.nmt_proofs.specs.Openings.{has_count, has_order, has_root, Opens, one_leaf};
 ghost use Rattle.nmt_proofs.specs.Causes.{HasCause};
@@ -8,7 +8,7 @@ ghost use Rattle.nmt_proofs.specs.Pieces.{shown};
 
 use crate::joining::{Piece, count_outside, joined};
 use namespace_id::{Digest, Namespace, Share};
-use nmt_tree::leaf;
+use nmt_tree::{halvings, leaf};
 use thiserror::Error;
 
 /// Why nodes do not open what is shown. The variants stand in the order in which they are tested.
@@ -28,25 +28,6 @@ pub enum OpenRefusal {
     Incomplete(u64),
 }
 
-/// How often a number of leaves can be halved.
-pub(crate) fn depth_of(n: u16) -> u8
-    requires { IsTrue (is_leaf_count n) }
-    ensures value { result ≡ halvings n }
-    ensures bound { result ≤ 8 }
-{
-    match n {
-        1 => 0,
-        2 => 1,
-        4 => 2,
-        8 => 3,
-        16 => 4,
-        32 => 5,
-        64 => 6,
-        128 => 7,
-        _ => 8,
-    }
-}
-
 /// Whether the nodes open the pieces under the root.
 fn open(n: u16, pieces: &[Piece], nodes: &[Digest], root: &Digest) -> Result<(), OpenRefusal>
     requires { IsTrue (is_leaf_count n) }
@@ -54,7 +35,7 @@ fn open(n: u16, pieces: &[Piece], nodes: &[Digest], root: &Digest) -> Result<(),
         (has_order (halvings n) (shown pieces.now) nodes.now)
         (has_root (halvings n) (shown pieces.now) nodes.now root.now) None }
 {
-    let depth = depth_of(n);
+    let depth = halvings(n as usize);
     if nodes.len() != count_outside(depth, 0, pieces) {
         return Err(OpenRefusal::NodeCount);
     }

@@ -1,6 +1,6 @@
 //! The roots of leaf lists, by plain recursion on their halves.
 
-ghost use Rattle.std.specs.Prelude.{◌≡◌, ◌^◌, ℕ, length, IsTrue};
+ghost use Rattle.std.specs.Prelude.{◌≡◌, ◌≤◌, ◌^◌, ℕ, length, IsTrue};
 ghost use Rattle.nmt_tree.specs.Roots.{is_leaf_count, halvings, root, is_ordered, strict_root};
 
 use crate::{leaf, node};
@@ -11,6 +11,25 @@ pub fn is_leaf_count(n: usize) -> bool
     ensures { result ≡ is_leaf_count n }
 {
     matches!(n, 1 | 2 | 4 | 8 | 16 | 32 | 64 | 128 | 256)
+}
+
+/// How often a number of leaves is halved until it is one: the depth of the tree over them.
+pub fn halvings(n: usize) -> u8
+    requires { IsTrue (is_leaf_count n) }
+    ensures value { result ≡ halvings n }
+    ensures bound { result ≤ 8 }
+{
+    match n {
+        1 => 0,
+        2 => 1,
+        4 => 2,
+        8 => 3,
+        16 => 4,
+        32 => 5,
+        64 => 6,
+        128 => 7,
+        _ => 8,
+    }
 }
 
 /// The root by the halves of the leaves.

@@ -4,15 +4,15 @@ use Rattle.hash_clash.proofs.MakerLemmas.{nodes_fit, opened_is, paths_clash}
 use Rattle.hash_clash.proofs.finding.clash_paths.Goals as goal
 
 pub find-requires-clause-a : goal.find-requires-clause-a
-find-requires-clause-a c = nodes_fit c.args.n c.args.pos c.depth_of.result c.args.a.now c.nodes.result.now c.requires.a_count c.nodes.ensures.value c.depth_of.ensures.value
+find-requires-clause-a c = nodes_fit c.args.n c.args.pos c.halvings.result c.args.a.now c.nodes.result.now c.requires.a_count c.nodes.ensures.value c.halvings.ensures.value
 
 pub find-requires-clause-b : goal.find-requires-clause-b
-find-requires-clause-b c = nodes_fit c.args.n c.args.pos c.depth_of.result c.args.b.now c.nodes-2.result.now c.requires.b_count c.nodes-2.ensures.value c.depth_of.ensures.value
+find-requires-clause-b c = nodes_fit c.args.n c.args.pos c.halvings.result c.args.b.now c.nodes-2.result.now c.requires.b_count c.nodes-2.ensures.value c.halvings.ensures.value
 
 pub found-requires : goal.found-requires
 found-requires c =
     paths_clash c.args.n c.args.pos c.args.a.now c.args.b.now c.find.result c.has_shape.ensures c.has_shape-2.ensures
     c.requires.a_count c.requires.b_count c.requires.root c.requires.apart
     (c.find.ensures ∙ ap₂ clash_at
-    (opened_is c.args.n c.args.pos c.depth_of.result c.args.a.now c.nodes.result.now c.nodes.ensures.value c.depth_of.ensures.value)
-    (opened_is c.args.n c.args.pos c.depth_of.result c.args.b.now c.nodes-2.result.now c.nodes-2.ensures.value c.depth_of.ensures.value))
+    (opened_is c.args.n c.args.pos c.halvings.result c.args.a.now c.nodes.result.now c.nodes.ensures.value c.halvings.ensures.value)
+    (opened_is c.args.n c.args.pos c.halvings.result c.args.b.now c.nodes-2.result.now c.nodes-2.ensures.value c.halvings.ensures.value))

@@ -14,16 +14,16 @@ use Rattle.nmt_proofs.proofs.making.make_leaf.Goals as goal
 
 pub put_nodes-requires-clause-count : goal.put_nodes-requires-clause-count
 put_nodes-requires-clause-count c =
-    let depth : c.depth_of-depth.result ≡ halvings c.args.tree.now.count = c.depth_of-depth.ensures.value ∙ ap (λ (k : ℕ). halvings k) c.len.ensures.value in
-    let power : 2 ^ c.depth_of-depth.result ≡ c.args.tree.now.count = ap (λ (k : ℕ). 2 ^ k) depth ∙ power_halvings c.args.tree.now.count c.len.ensures.count in
-    length-take-le _ _ (omega arith) ∙ sym (length-outside-one c.depth_of-depth.result 0 c.args.pos (given c.digest_in.result) (omega arith) (omega arith))
+    let depth : c.halvings-depth.result ≡ halvings c.args.tree.now.count = c.halvings-depth.ensures.value ∙ ap (λ (k : ℕ). halvings k) c.len.ensures.value in
+    let power : 2 ^ c.halvings-depth.result ≡ c.args.tree.now.count = ap (λ (k : ℕ). 2 ^ k) depth ∙ power_halvings c.args.tree.now.count c.len.ensures.count in
+    length-take-le _ _ (omega arith) ∙ sym (length-outside-one c.halvings-depth.result 0 c.args.pos (given c.digest_in.result) (omega arith) (omega arith))
 
 -- the path has the nodes outside of the place
 nodes : (c : goal.After-path_of) (leaves : List Digest) → c.args.tree.now.leaves ≡ Some leaves → c.path_of.result ≡ leaf_nodes c.args.tree.now.count leaves c.args.pos
 nodes c leaves e =
-    let depth : c.depth_of-depth.result ≡ halvings c.args.tree.now.count = c.depth_of-depth.ensures.value ∙ ap (λ (k : ℕ). halvings k) c.len.ensures.value in
-    let len : length c.put_nodes.new.nodes ≡ c.depth_of-depth.result = c.put_nodes.auto.nodes ∙ length-take-le _ _ (omega arith) in
-    c.path_of.ensures ∙ front c.put_nodes.new.nodes _ c.depth_of-depth.result len
+    let depth : c.halvings-depth.result ≡ halvings c.args.tree.now.count = c.halvings-depth.ensures.value ∙ ap (λ (k : ℕ). halvings k) c.len.ensures.value in
+    let len : length c.put_nodes.new.nodes ≡ c.halvings-depth.result = c.put_nodes.auto.nodes ∙ length-take-le _ _ (omega arith) in
+    c.path_of.ensures ∙ front c.put_nodes.new.nodes _ c.halvings-depth.result len
     ∙ c.put_nodes.ensures leaves e
     ∙ ap (λ (k : ℕ). spans leaves (outside k 0 (one c.args.pos (given c.digest_in.result)))) depth
     ∙ ap (λ (l : List (ℕ × ℕ)). spans leaves l) (outside-one (halvings c.args.tree.now.count) 0 c.args.pos (given c.digest_in.result) (given (get_or leaves c.args.pos no_digest)))

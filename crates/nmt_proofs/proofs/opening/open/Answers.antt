@@ -10,23 +10,23 @@ use Rattle.nmt_proofs.proofs.opening.open.Goals as goal
 
 pub returns-then-nodes-count_outside : goal.returns-then-nodes-count_outside
 returns-then-nodes-count_outside c =
-    ap (λ (k : ℕ). length c.args.nodes.now == length (outside k 0 (shown c.args.pieces.now))) (sym c.depth_of-depth.ensures.value)
+    ap (λ (k : ℕ). length c.args.nodes.now == length (outside k 0 (shown c.args.pieces.now))) (sym c.halvings-depth.ensures.value)
     ∙ ap (λ (k : ℕ). length c.args.nodes.now == k) (sym c.count_outside.ensures.count)
     ∙ other_count (length c.args.nodes.now) c.count_outside.result c.if-nodes-count_outside.true
 
 pub returns-in_default : goal.returns-in_default
 returns-in_default c =
-    let same : halvings c.args.n ≡ c.depth_of-depth.result = sym c.depth_of-depth.ensures.value in (
+    let same : halvings c.args.n ≡ c.halvings-depth.result = sym c.halvings-depth.ensures.value in (
       ap (λ (k : ℕ). length c.args.nodes.now == length (outside k 0 (shown c.args.pieces.now))) same
           ∙ one_count _ _ (c.if-nodes-count_outside.false ∙ c.count_outside.ensures.count),
       ap (λ (k : ℕ). has_order k (shown c.args.pieces.now) c.args.nodes.now) same
-          ∙ none_unordered (opened c.depth_of-depth.result 0 (shown c.args.pieces.now) c.args.nodes.now) (sym c.in_default.is ∙ c.joined.ensures),
+          ∙ none_unordered (opened c.halvings-depth.result 0 (shown c.args.pieces.now) c.args.nodes.now) (sym c.in_default.is ∙ c.joined.ensures),
     )
 
 pub returns-then-eq : goal.returns-then-eq
 returns-then-eq c =
-    let same : halvings c.args.n ≡ c.depth_of-depth.result = sym c.depth_of-depth.ensures.value in
-    let part = opened c.depth_of-depth.result 0 (shown c.args.pieces.now) c.args.nodes.now in
+    let same : halvings c.args.n ≡ c.halvings-depth.result = sym c.halvings-depth.ensures.value in
+    let part = opened c.halvings-depth.result 0 (shown c.args.pieces.now) c.args.nodes.now in
     let ordered = some_ordered part c.in-Some.value (sym c.in-Some.is ∙ c.joined.ensures) in (
       ap (λ (k : ℕ). length c.args.nodes.now == length (outside k 0 (shown c.args.pieces.now))) same
           ∙ one_count _ _ (c.if-nodes-count_outside.false ∙ c.count_outside.ensures.count),
@@ -38,8 +38,8 @@ returns-then-eq c =
 
 pub returns-else-eq : goal.returns-else-eq
 returns-else-eq c =
-    let same : halvings c.args.n ≡ c.depth_of-depth.result = sym c.depth_of-depth.ensures.value in
-    let part = opened c.depth_of-depth.result 0 (shown c.args.pieces.now) c.args.nodes.now in
+    let same : halvings c.args.n ≡ c.halvings-depth.result = sym c.halvings-depth.ensures.value in
+    let part = opened c.halvings-depth.result 0 (shown c.args.pieces.now) c.args.nodes.now in
     let ordered = some_ordered part c.in-Some.value (sym c.in-Some.is ∙ c.joined.ensures) in (
       ap (λ (k : ℕ). length c.args.nodes.now == length (outside k 0 (shown c.args.pieces.now))) same
           ∙ one_count _ _ (c.if-nodes-count_outside.false ∙ c.count_outside.ensures.count),
