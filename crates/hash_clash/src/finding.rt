@@ -8,10 +8,10 @@ ghost use Rattle.hash_clash.specs.Openings.{opened_at, is_counted, is_one_openin
 ghost use Rattle.hash_clash.specs.Sides.{part_of, IsSide};
 
 use crate::openings::has_shape;
-use crate::sides::{Seen, Side, digest, look, size_of};
+use crate::sides::{Seen, Side, digest, look};
 use crate::{Clash, Opening, Preimage};
 use namespace_id::{Namespace, Share, are_namespaces, are_shares};
-use nmt_tree::halvings;
+use nmt_tree::{halvings, leaf_count};
 
 /// Two strings, where they differ.
 fn differing(left: Preimage, right: Preimage) -> Option<(Preimage, Preimage)>
@@ -53,7 +53,7 @@ fn find(depth: u8, start: u16, a: Side, b: Side) -> Option<(Preimage, Preimage)>
         ),
         (Seen::Join(left, right), Seen::Join(other_left, other_right)) => {
             let below = depth - 1;
-            let middle = start + size_of(below);
+            let middle = start + leaf_count(below);
             let text = node_text(below, start, middle, left, right);
             let other_text = node_text(below, start, middle, other_left, other_right);
             let found = differing(text, other_text);

@@ -6,7 +6,7 @@ ghost use Rattle.hash_clash.specs.Sides.{part_of, IsSide, IsSeen};
 
 use crate::Opening;
 use namespace_id::{Digest, Namespace, Share};
-use nmt_tree::{leaf, node};
+use nmt_tree::{leaf, leaf_count, node};
 
 /// What is known of an interval.
 #[derive(Clone, Copy)]
@@ -30,14 +30,6 @@ pub(crate) enum Seen<'a> {
     Join(Side<'a>, Side<'a>),
 }
 
-/// How many places an interval has.
-pub(crate) fn size_of(depth: u8) -> u16
-    requires { depth ≤ 8 }
-    ensures { result ≡ 2 ^ depth }
-{
-    1 << depth
-}
-
 /// What an interval of 2 ^ depth places is.
 pub(crate) fn look<'a>(depth: u8, start: u16, side: Side<'a>) -> Seen<'a>
     requires depth { depth ≤ 8 }
@@ -51,7 +43,7 @@ pub(crate) fn look<'a>(depth: u8, start: u16, side: Side<'a>) -> Seen<'a>
             if depth == 0 {
                 return Seen::Leaf(&opening.name, &opening.share);
             }
-            if pos < start + size_of(depth - 1) {
+            if pos < start + leaf_count(depth - 1) {
                 let (left, right) = nodes.split_at(nodes.len() - 1);
                 Seen::Join(Side::Opened(pos, opening, left), Side::Given(&right[0]))
             } else {
@@ -84,7 +76,7 @@ pub(crate) fn digest(depth: u8, start: u16, side: Side) -> Digest
         Seen::Given(digest) => *digest,
         Seen::Leaf(name, share) => leaf(name, share),
         Seen::Join(left, right) => {
-            let middle = start + size_of(depth - 1);
+            let middle = start + leaf_count(depth - 1);
             let left = digest(depth - 1, start, left);
             let right = digest(depth - 1, middle, right);
             node(&left, &right)

@@ -7,7 +7,7 @@ ghost use Rattle.nmt_proofs.specs.Openings.{begun, is_shown, outside, opened};
 ghost use Rattle.nmt_proofs.specs.Pieces.{shown, shown_of};
 
 use namespace_id::Digest;
-use nmt_tree::join;
+use nmt_tree::{join, leaf_count};
 
 /// The digest of an interval that an opening shows.
 #[derive(Clone, Copy, Debug, PartialEq, Eq)]
@@ -30,21 +30,13 @@ pub(crate) fn count_begun(pieces: &[Piece], middle: u16) -> usize
     pieces.len()
 }
 
-/// How many places an interval has.
-pub(crate) fn size_of(depth: u8) -> u16
-    requires { depth ≤ 8 }
-    ensures { result ≡ 2 ^ depth }
-{
-    1 << depth
-}
-
 /// Whether the interval of this depth in which the piece begins is the piece.
 pub(crate) fn is_piece(depth: u8, piece: &Piece) -> bool
     requires { depth ≤ 8 }
     ensures shown { result ≡ is_shown depth (shown_of piece.now) }
     ensures halved { result ≡ false → 0 < depth }
 {
-    depth == 0 || piece.size == size_of(depth)
+    depth == 0 || piece.size == leaf_count(depth)
 }
 
 /// How many intervals hold no piece.
@@ -60,7 +52,7 @@ pub(crate) fn count_outside(depth: u8, start: u16, pieces: &[Piece]) -> usize
     if is_piece(depth, &pieces[0]) {
         return 0;
     }
-    let middle = start + size_of(depth - 1);
+    let middle = start + leaf_count(depth - 1);
     let (left, right) = pieces.split_at(count_begun(pieces, middle));
     count_outside(depth - 1, start, left) + count_outside(depth - 1, middle, right)
 }
@@ -85,7 +77,7 @@ pub(crate) fn joined(depth: u8, start: u16, pieces: &[Piece], nodes: &[Digest]) 
     if is_piece(depth, &pieces[0]) {
         return Some(pieces[0].digest);
     }
-    let middle = start + size_of(depth - 1);
+    let middle = start + leaf_count(depth - 1);
     let (left_pieces, right_pieces) = pieces.split_at(count_begun(pieces, middle));
     let (left_nodes, right_nodes) = nodes.split_at(count_outside(depth - 1, start, left_pieces));
     let left = joined(depth - 1, start, left_pieces, left_nodes)?;

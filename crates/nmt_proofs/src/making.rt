@@ -10,9 +10,9 @@ ghost use Rattle.nmt_proofs.specs.Making.{spans, AreAtLeaves, leaf_nodes, OpensD
 ghost use Rattle.nmt_proofs.specs.Pieces.{shown};
 
 use crate::Path;
-use crate::joining::{Piece, count_begun, count_outside, is_piece, size_of};
+use crate::joining::{Piece, count_begun, count_outside, is_piece};
 use namespace_id::Digest;
-use nmt_tree::{Tree, halvings};
+use nmt_tree::{Tree, halvings, leaf_count};
 
 /// The digest over the `size` leaves from place `from` on, of a tree that isn't empty.
 fn digest_in(tree: &Tree, from: u16, size: u16) -> Digest
@@ -37,13 +37,13 @@ fn put_nodes(tree: &Tree, depth: u8, start: u16, pieces: &[Piece], nodes: &mut [
         nodes.new ≡ spans leaves (outside depth start (shown pieces.now))) }
 {
     if pieces.is_empty() {
-        nodes[0] = digest_in(tree, start, size_of(depth));
+        nodes[0] = digest_in(tree, start, leaf_count(depth));
         return;
     }
     if is_piece(depth, &pieces[0]) {
         return;
     }
-    let middle = start + size_of(depth - 1);
+    let middle = start + leaf_count(depth - 1);
     let (left_pieces, right_pieces) = pieces.split_at(count_begun(pieces, middle));
     let left_count = count_outside(depth - 1, start, left_pieces);
     let (left_nodes, right_nodes) = nodes.split_at_mut(left_count);

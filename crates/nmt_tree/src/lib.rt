@@ -14,5 +14,5 @@ mod trees;
 
 pub use folding::fold_root;
 pub use hashing::{Unordered, join, leaf, node};
-pub use roots::{are_ordered, halvings, is_leaf_count, plain_root, strict_root};
+pub use roots::{are_ordered, halvings, is_leaf_count, leaf_count, plain_root, strict_root};
 pub use trees::{Tree, tree_laws};

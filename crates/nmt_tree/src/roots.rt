@@ -32,6 +32,14 @@ pub fn halvings(n: usize) -> u8
     }
 }
 
+/// How many leaves a tree of this depth has.
+pub fn leaf_count(depth: u8) -> u16
+    requires { depth ≤ 8 }
+    ensures { result ≡ 2 ^ depth }
+{
+    1 << depth
+}
+
 /// The root by the halves of the leaves.
 fn root_of(names: &[Namespace], shares: &[Share]) -> Digest
     requires count { IsTrue (is_leaf_count (length names.now)) }

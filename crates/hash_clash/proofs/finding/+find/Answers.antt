@@ -9,23 +9,23 @@ returns-in-Leaf-Leaf t c = of_leaves _ _ _ _ _ _ _ _ _ c.in-Leaf-Leaf.ensures c.
 pub returns-then-is_some : goal.returns-then-is_some
 returns-then-is_some t c =
     of_roots _ _ _ _ _ _ _ _ _
-    (joined_at c.args.depth c.args.start c.size_of.result c.args.a _ _ c.in-Join-Join.ensures c.size_of.ensures)
-    (joined_at c.args.depth c.args.start c.size_of.result c.args.b _ _ c.in-Join-Join.ensures' c.size_of.ensures)
+    (joined_at c.args.depth c.args.start c.leaf_count.result c.args.a _ _ c.in-Join-Join.ensures c.leaf_count.ensures)
+    (joined_at c.args.depth c.args.start c.leaf_count.result c.args.b _ _ c.in-Join-Join.ensures' c.leaf_count.ensures)
     c.node_text-text.ensures c.node_text-other_text.ensures c.differing-found.ensures (sym c.is_some.ensures ∙ c.if-is_some.true)
 
 pub returns-then-is_some-2 : goal.returns-then-is_some-2
 returns-then-is_some-2 t c =
     of_left _ _ _ _ _ _ _ _ _ _
-    (joined_at c.args.depth c.args.start c.size_of.result c.args.a _ _ c.in-Join-Join.ensures c.size_of.ensures)
-    (joined_at c.args.depth c.args.start c.size_of.result c.args.b _ _ c.in-Join-Join.ensures' c.size_of.ensures)
+    (joined_at c.args.depth c.args.start c.leaf_count.result c.args.a _ _ c.in-Join-Join.ensures c.leaf_count.ensures)
+    (joined_at c.args.depth c.args.start c.leaf_count.result c.args.b _ _ c.in-Join-Join.ensures' c.leaf_count.ensures)
     c.node_text-text.ensures c.node_text-other_text.ensures c.differing-found.ensures (sym c.is_some.ensures ∙ c.if-is_some.false)
     c.find-found.ensures (sym c.is_some-in-Join-Join.ensures ∙ c.if-is_some-2.true)
 
 pub returns-else-is_some-2 : goal.returns-else-is_some-2
 returns-else-is_some-2 t c =
     of_right _ _ _ _ _ _ _ _ _ _ _
-    (joined_at c.args.depth c.args.start c.size_of.result c.args.a _ _ c.in-Join-Join.ensures c.size_of.ensures)
-    (joined_at c.args.depth c.args.start c.size_of.result c.args.b _ _ c.in-Join-Join.ensures' c.size_of.ensures)
+    (joined_at c.args.depth c.args.start c.leaf_count.result c.args.a _ _ c.in-Join-Join.ensures c.leaf_count.ensures)
+    (joined_at c.args.depth c.args.start c.leaf_count.result c.args.b _ _ c.in-Join-Join.ensures' c.leaf_count.ensures)
     c.node_text-text.ensures c.node_text-other_text.ensures c.differing-found.ensures (sym c.is_some.ensures ∙ c.if-is_some.false)
     c.find-found.ensures (sym c.is_some-in-Join-Join.ensures ∙ c.if-is_some-2.false) c.find.ensures
 

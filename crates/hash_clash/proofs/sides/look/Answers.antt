@@ -10,14 +10,14 @@ returns-then-depth-eq0-2 c = leaf_listed c.args.depth c.args.start c.args.side c
 
 pub returns-then-pos-start : goal.returns-then-pos-start
 returns-then-pos-start c =
-    left_joined c.args.depth c.args.start c.in-Opened.pos c.size_of.result c.args.side c.in-Opened.opening c.in-Opened.nodes
-    c.split_at.result.0 c.split_at.result.1 _ c.in-Opened.is c.requires.side c.if-depth-eq0.false c.size_of.ensures c.if-pos-start.true
+    left_joined c.args.depth c.args.start c.in-Opened.pos c.leaf_count.result c.args.side c.in-Opened.opening c.in-Opened.nodes
+    c.split_at.result.0 c.split_at.result.1 _ c.in-Opened.is c.requires.side c.if-depth-eq0.false c.leaf_count.ensures c.if-pos-start.true
     c.split_at.ensures.front c.split_at.ensures.back refl
 
 pub returns-else-pos-start : goal.returns-else-pos-start
 returns-else-pos-start c =
-    right_joined c.args.depth c.args.start c.in-Opened.pos c.size_of.result c.args.side c.in-Opened.opening c.in-Opened.nodes
-    c.split_at-else-pos-start.result.0 c.split_at-else-pos-start.result.1 _ c.in-Opened.is c.requires.side c.if-depth-eq0.false c.size_of.ensures c.if-pos-start.false
+    right_joined c.args.depth c.args.start c.in-Opened.pos c.leaf_count.result c.args.side c.in-Opened.opening c.in-Opened.nodes
+    c.split_at-else-pos-start.result.0 c.split_at-else-pos-start.result.1 _ c.in-Opened.is c.requires.side c.if-depth-eq0.false c.leaf_count.ensures c.if-pos-start.false
     c.split_at-else-pos-start.ensures.front c.split_at-else-pos-start.ensures.back refl
 
 pub returns-else-depth-eq0-2 : goal.returns-else-depth-eq0-2

@@ -23,9 +23,9 @@ pub returns-clause-count : goal.returns-clause-count
 returns-clause-count t c =
     ap₂ (λ x y. x + y) c.count_outside.ensures.count c.count_outside-2.ensures.count
     ∙ sym (length-append _ _)
-    ∙ sym (ap length (outside_halves c.args.depth c.args.start c.args.pieces.now c.split_at.result.0.now c.split_at.result.1.now _ c.count_begun.result c.size_of.result
+    ∙ sym (ap length (outside_halves c.args.depth c.args.start c.args.pieces.now c.split_at.result.0.now c.split_at.result.1.now _ c.count_begun.result c.leaf_count.result
     (is_some _ _ c.is_empty.ensures c.if-is_empty.false) (sym c.is_piece.ensures.shown ∙ c.if-is_piece.false)
-    c.size_of.ensures c.count_begun.ensures.count c.split_at.ensures.front c.split_at.ensures.back))
+    c.leaf_count.ensures c.count_begun.ensures.count c.split_at.ensures.front c.split_at.ensures.back))
 
 pub returns-clause-bound : goal.returns-clause-bound
 returns-clause-bound t c =

@@ -27,9 +27,9 @@ count_outside-requires-clause-interval t c =
 pub split_at-requires-2 : goal.split_at-requires-2
 split_at-requires-2 t c =
     left_count (length c.args.nodes.now) c.count_outside.result _ _ _
-    (outside_halves c.args.depth c.args.start c.args.pieces.now c.split_at.result.0.now c.split_at.result.1.now _ c.count_begun.result c.size_of.result
+    (outside_halves c.args.depth c.args.start c.args.pieces.now c.split_at.result.0.now c.split_at.result.1.now _ c.count_begun.result c.leaf_count.result
     (is_some _ _ c.is_empty.ensures c.if-is_empty.false) (sym c.is_piece.ensures.shown ∙ c.if-is_piece.false)
-    c.size_of.ensures c.count_begun.ensures.count c.split_at.ensures.front c.split_at.ensures.back)
+    c.leaf_count.ensures c.count_begun.ensures.count c.split_at.ensures.front c.split_at.ensures.back)
     c.requires.count c.count_outside.ensures.count
 
 pub joined-requires : goal.joined-requires
@@ -46,9 +46,9 @@ joined-requires-2 t c =
         (
           omega arith,
           right_count (length c.args.nodes.now) c.count_outside.result (length c.split_at-2.result.1.now) _ _ _
-              (outside_halves c.args.depth c.args.start c.args.pieces.now c.split_at.result.0.now c.split_at.result.1.now _ c.count_begun.result c.size_of.result
+              (outside_halves c.args.depth c.args.start c.args.pieces.now c.split_at.result.0.now c.split_at.result.1.now _ c.count_begun.result c.leaf_count.result
               (is_some _ _ c.is_empty.ensures c.if-is_empty.false) (sym c.is_piece.ensures.shown ∙ c.if-is_piece.false)
-              c.size_of.ensures c.count_begun.ensures.count c.split_at.ensures.front c.split_at.ensures.back)
+              c.leaf_count.ensures c.count_begun.ensures.count c.split_at.ensures.front c.split_at.ensures.back)
               c.requires.count c.count_outside.ensures.count c.split_at-2.ensures.back_len,
         ),
       ),
@@ -58,11 +58,11 @@ pub returns-in_err-left : goal.returns-in_err-left
 returns-in_err-left t c =
     c.from_residual.ensures
     ∙ left_unordered _ (opened (c.args.depth - 1) c.args.start (shown c.split_at.result.0.now) c.split_at-2.result.0.now)
-    (opened (c.args.depth - 1) (c.args.start + c.size_of.result) (shown c.split_at.result.1.now) c.split_at-2.result.1.now)
+    (opened (c.args.depth - 1) (c.args.start + c.leaf_count.result) (shown c.split_at.result.1.now) c.split_at-2.result.1.now)
     (opened_halves c.args.depth c.args.start c.args.pieces.now c.split_at.result.0.now c.split_at.result.1.now c.args.nodes.now c.split_at-2.result.0.now c.split_at-2.result.1.now _
-    c.count_begun.result c.size_of.result c.count_outside.result
+    c.count_begun.result c.leaf_count.result c.count_outside.result
     (is_some _ _ c.is_empty.ensures c.if-is_empty.false) (sym c.is_piece.ensures.shown ∙ c.if-is_piece.false)
-    c.size_of.ensures c.count_begun.ensures.count c.split_at.ensures.front c.split_at.ensures.back
+    c.leaf_count.ensures c.count_begun.ensures.count c.split_at.ensures.front c.split_at.ensures.back
     c.count_outside.ensures.count c.split_at-2.ensures.front c.split_at-2.ensures.back)
     (sym c.in_err-left.was ∙ c.joined.ensures)
 
@@ -70,23 +70,23 @@ pub returns-in_err-right : goal.returns-in_err-right
 returns-in_err-right t c =
     c.from_residual-in_err-right.ensures
     ∙ right_unordered _ (opened (c.args.depth - 1) c.args.start (shown c.split_at.result.0.now) c.split_at-2.result.0.now)
-    (opened (c.args.depth - 1) (c.args.start + c.size_of.result) (shown c.split_at.result.1.now) c.split_at-2.result.1.now)
+    (opened (c.args.depth - 1) (c.args.start + c.leaf_count.result) (shown c.split_at.result.1.now) c.split_at-2.result.1.now)
     c.in_ok-left.left
     (opened_halves c.args.depth c.args.start c.args.pieces.now c.split_at.result.0.now c.split_at.result.1.now c.args.nodes.now c.split_at-2.result.0.now c.split_at-2.result.1.now _
-    c.count_begun.result c.size_of.result c.count_outside.result
+    c.count_begun.result c.leaf_count.result c.count_outside.result
     (is_some _ _ c.is_empty.ensures c.if-is_empty.false) (sym c.is_piece.ensures.shown ∙ c.if-is_piece.false)
-    c.size_of.ensures c.count_begun.ensures.count c.split_at.ensures.front c.split_at.ensures.back
+    c.leaf_count.ensures c.count_begun.ensures.count c.split_at.ensures.front c.split_at.ensures.back
     c.count_outside.ensures.count c.split_at-2.ensures.front c.split_at-2.ensures.back)
     (sym c.in_ok-left.was ∙ c.joined.ensures) (sym c.in_err-right.was ∙ c.joined-2.ensures)
 
 pub returns : goal.returns
 returns t c =
     both_ordered _ (opened (c.args.depth - 1) c.args.start (shown c.split_at.result.0.now) c.split_at-2.result.0.now)
-    (opened (c.args.depth - 1) (c.args.start + c.size_of.result) (shown c.split_at.result.1.now) c.split_at-2.result.1.now)
+    (opened (c.args.depth - 1) (c.args.start + c.leaf_count.result) (shown c.split_at.result.1.now) c.split_at-2.result.1.now)
     c.in_ok-left.left c.in_ok-right.right c.ordered_node.result
     (opened_halves c.args.depth c.args.start c.args.pieces.now c.split_at.result.0.now c.split_at.result.1.now c.args.nodes.now c.split_at-2.result.0.now c.split_at-2.result.1.now _
-    c.count_begun.result c.size_of.result c.count_outside.result
+    c.count_begun.result c.leaf_count.result c.count_outside.result
     (is_some _ _ c.is_empty.ensures c.if-is_empty.false) (sym c.is_piece.ensures.shown ∙ c.if-is_piece.false)
-    c.size_of.ensures c.count_begun.ensures.count c.split_at.ensures.front c.split_at.ensures.back
+    c.leaf_count.ensures c.count_begun.ensures.count c.split_at.ensures.front c.split_at.ensures.back
     c.count_outside.ensures.count c.split_at-2.ensures.front c.split_at-2.ensures.back)
     (sym c.in_ok-left.was ∙ c.joined.ensures) (sym c.in_ok-right.was ∙ c.joined-2.ensures) c.ordered_node.ensures

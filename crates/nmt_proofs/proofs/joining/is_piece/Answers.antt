@@ -8,4 +8,4 @@ returns-then-depth-eq0-clause-shown c = ap (λ d. d == 0) c.if-depth-eq0.true �
 
 pub returns-else-depth-eq0-clause-shown : goal.returns-else-depth-eq0-clause-shown
 returns-else-depth-eq0-clause-shown c =
-    ap (λ n. c.args.piece.now.size == n) c.size_of.ensures ∙ shown_size c.args.depth (shown_of c.args.piece.now) c.if-depth-eq0.false
+    ap (λ n. c.args.piece.now.size == n) c.leaf_count.ensures ∙ shown_size c.args.depth (shown_of c.args.piece.now) c.if-depth-eq0.false

@@ -10,7 +10,7 @@ use Rattle.nmt_proofs.proofs.making.+put_nodes.Goals as goal
 
 pub digest_in-requires-clause-size : goal.digest_in-requires-clause-size
 digest_in-requires-clause-size t c =
-    subst (λ (k : ℕ). IsTrue (is_leaf_count k)) (sym c.size_of.ensures) (leaf_count_power c.args.depth c.requires.depth).0
+    subst (λ (k : ℕ). IsTrue (is_leaf_count k)) (sym c.leaf_count.ensures) (leaf_count_power c.args.depth c.requires.depth).0
 
 pub bounds-nodes-0 : goal.bounds-nodes-0
 bounds-nodes-0 t c =
@@ -21,7 +21,7 @@ bounds-nodes-0 t c =
 pub returns-then-is_empty : goal.returns-then-is_empty
 returns-then-is_empty t c = λ leaves e.
     let none = outside_none c.args.depth c.args.start c.args.pieces.now (is_none _ _ c.is_empty.ensures c.if-is_empty.true) in
-    let depth : halvings c.size_of.result ≡ c.args.depth = ap (λ (k : ℕ). halvings k) c.size_of.ensures ∙ (leaf_count_power c.args.depth c.requires.depth).1 in
+    let depth : halvings c.leaf_count.result ≡ c.args.depth = ap (λ (k : ℕ). halvings k) c.leaf_count.ensures ∙ (leaf_count_power c.args.depth c.requires.depth).1 in
     one_node leaves _ c.args.start c.args.depth c.args.nodes.now c.digest_in.result none (c.requires.count ∙ ap length none)
     (c.digest_in.ensures leaves e ∙ ap (λ (k : ℕ). span leaves c.args.start k) depth)
 
@@ -32,9 +32,9 @@ returns-then-is_piece t c = λ leaves e.
 
 pub split_at_mut-left_nodes-requires : goal.split_at_mut-left_nodes-requires
 split_at_mut-left_nodes-requires t c =
-    left_count (length c.args.nodes.now) c.count_outside-left_count.result _ _ _ (outside_halves c.args.depth c.args.start c.args.pieces.now c.split_at.result.0.now c.split_at.result.1.now _ c.count_begun.result c.size_of-2.result
+    left_count (length c.args.nodes.now) c.count_outside-left_count.result _ _ _ (outside_halves c.args.depth c.args.start c.args.pieces.now c.split_at.result.0.now c.split_at.result.1.now _ c.count_begun.result c.leaf_count-2.result
     (is_some _ _ c.is_empty.ensures c.if-is_empty.false) (sym c.is_piece.ensures.shown ∙ c.if-is_piece.false)
-    c.size_of-2.ensures c.count_begun.ensures.count c.split_at.ensures.front c.split_at.ensures.back) c.requires.count c.count_outside-left_count.ensures.count
+    c.leaf_count-2.ensures c.count_begun.ensures.count c.split_at.ensures.front c.split_at.ensures.back) c.requires.count c.count_outside-left_count.ensures.count
 
 pub put_nodes-requires : goal.put_nodes-requires
 put_nodes-requires t c =
@@ -71,12 +71,12 @@ put_nodes-requires-2 t c =
           (
             omega arith,
             (
-              right_aligned c.args.depth c.args.start c.size_of-2.result some c.requires.aligned c.size_of-2.ensures,
+              right_aligned c.args.depth c.args.start c.leaf_count-2.result some c.requires.aligned c.leaf_count-2.ensures,
               (
                 omega arith,
-                right_count (length c.args.nodes.now) c.count_outside-left_count.result (length c.split_at_mut-left_nodes.result.1.now) _ _ _ (outside_halves c.args.depth c.args.start c.args.pieces.now c.split_at.result.0.now c.split_at.result.1.now _ c.count_begun.result c.size_of-2.result
+                right_count (length c.args.nodes.now) c.count_outside-left_count.result (length c.split_at_mut-left_nodes.result.1.now) _ _ _ (outside_halves c.args.depth c.args.start c.args.pieces.now c.split_at.result.0.now c.split_at.result.1.now _ c.count_begun.result c.leaf_count-2.result
                     (is_some _ _ c.is_empty.ensures c.if-is_empty.false) (sym c.is_piece.ensures.shown ∙ c.if-is_piece.false)
-                    c.size_of-2.ensures c.count_begun.ensures.count c.split_at.ensures.front c.split_at.ensures.back)
+                    c.leaf_count-2.ensures c.count_begun.ensures.count c.split_at.ensures.front c.split_at.ensures.back)
                     c.requires.count c.count_outside-left_count.ensures.count c.split_at_mut-left_nodes.ensures.back_len,
               ),
             ),
@@ -87,6 +87,6 @@ put_nodes-requires-2 t c =
 
 pub returns : goal.returns
 returns t c = λ leaves e.
-    halved_nodes leaves _ _ _ c.put_nodes.new.nodes c.put_nodes-2.new.nodes (outside_halves c.args.depth c.args.start c.args.pieces.now c.split_at.result.0.now c.split_at.result.1.now _ c.count_begun.result c.size_of-2.result
+    halved_nodes leaves _ _ _ c.put_nodes.new.nodes c.put_nodes-2.new.nodes (outside_halves c.args.depth c.args.start c.args.pieces.now c.split_at.result.0.now c.split_at.result.1.now _ c.count_begun.result c.leaf_count-2.result
     (is_some _ _ c.is_empty.ensures c.if-is_empty.false) (sym c.is_piece.ensures.shown ∙ c.if-is_piece.false)
-    c.size_of-2.ensures c.count_begun.ensures.count c.split_at.ensures.front c.split_at.ensures.back) (c.put_nodes.ensures leaves e) (c.put_nodes-2.ensures leaves e)
+    c.leaf_count-2.ensures c.count_begun.ensures.count c.split_at.ensures.front c.split_at.ensures.back) (c.put_nodes.ensures leaves e) (c.put_nodes-2.ensures leaves e)
