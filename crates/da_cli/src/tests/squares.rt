@@ -221,12 +221,23 @@ fn greatest_block(rt: HostRuntime) -> Result<(), Fail> {
         assert_eq!(rt; built.status, want);
         assert_eq!(rt; built.out.bytes.len(), size);
         assert_eq!(rt; built.notes.bytes.as_slice(), note.as_bytes());
-        if want == Status::Done {
-            let head = ran(alloc, "header", built.out.bytes)?;
-            assert_eq!(rt; head.status, Status::Done);
-            assert_eq!(rt; head.out.bytes.len(), 46_087);
-        }
     }
+    Ok(())
+}
+
+/// The header of a full square of the greatest width.
+#[test]
+fn greatest_square(rt: HostRuntime) -> Result<(), Fail> {
+    let alloc = rt.alloc();
+    let blobs = [(0x0101, 7_897_084)];
+    let plan = Plan {
+        blobs: &blobs,
+        ..EMPTY
+    };
+    let square = ran(alloc, "build", block(alloc, plan)?)?.out.bytes;
+    let head = ran(alloc, "header", square)?;
+    assert_eq!(rt; head.status, Status::Done);
+    assert_eq!(rt; head.out.bytes.len(), 46_087);
     Ok(())
 }
 
