@@ -10,15 +10,16 @@ use Rattle.namespace_id.specs.declared.cells.Axis.{Axis}
 use Rattle.namespace_id.specs.declared.cells.Axis.TheVariants.{Row, Col}
 use Rattle.namespace_id.specs.declared.namespaces.Namespace.{Namespace}
 use Rattle.namespace_id.specs.declared.shares.Share.{Share}
-use Rattle.namespace_id.specs.Shares.{IsShare}
+use Rattle.namespace_id.specs.Shares.{IsShare, name_in}
 use Rattle.namespace_id.specs.Names.{is_at_most, parity, IsNamespace}
 use Rattle.namespace_id.specs.Cells.{is_original, name_of}
 use Rattle.namespace_id.specs.Lists.{holds_along}
+use Rattle.namespace_id.proofs.ShareLemmas.{name_in-is}
 use Rattle.namespace_id.proofs.StringLemmas.{AreBytes-take}
 use Rattle.namespace_id.proofs.OrderLemmas.{at_most_refl, at_most_trans, at_most_parity}
 use Rattle.nmt_tree.specs.Roots.{is_ordered}
 use Rattle.square_layout.specs.Blocks.{SquareShares, IsSquare}
-use Rattle.axis_roots.specs.Grids.{blank, share_at, cell_on, axis_cells, axis_names, own_name, is_ordered_axis, are_ordered_axes, header_of_grid, Extends}
+use Rattle.axis_roots.specs.Grids.{blank, share_at, cell_on, axis_cells, axis_names, is_ordered_axis, are_ordered_axes, header_of_grid, Extends}
 use Rattle.axis_roots.proofs.NumberLemmas.{number-lt}
 use Rattle.axis_roots.proofs.AxisLemmas.{length-along, get_or-along}
 use Rattle.axis_roots.proofs.WordLemmas.{share_in}
@@ -82,27 +83,23 @@ number-before k Col i pos =
 
 -- ---- the names along an axis
 
--- what a share begins with is a namespace
-pub own_is_name : (share : Share) → IsShare share → IsNamespace (own_name share)
-own_is_name share is = record { size_is = length-take-le 29 share.0 (omega (arith, is.size_is)); fits = AreBytes-take 29 share.0 is.fits }
-
 -- in the original square a leaf has its share's namespace
-original_name : (k : ℕ) (cell : Cell) (share : Share) → is_original k cell ≡ true → name_of k cell share ≡ own_name share
-original_name k cell share t = ap (λ (b : Bool). cond b (own_name share) parity) t
+original_name : (k : ℕ) (cell : Cell) (share : Share) → is_original k cell ≡ true → name_of k cell share ≡ name_in share
+original_name k cell share t = ap (λ (b : Bool). cond b (name_in share) parity) t
 
 -- outside of it the namespace of parity shares
 parity_name : (k : ℕ) (cell : Cell) (share : Share) → is_original k cell ≡ false → name_of k cell share ≡ parity
-parity_name k cell share f = ap (λ (b : Bool). cond b (own_name share) parity) f
+parity_name k cell share f = ap (λ (b : Bool). cond b (name_in share) parity) f
 
 -- a name isn't above that of a parity share
 before_parity : (k : ℕ) (cell : Cell) (share : Share) → IsShare share → is_at_most (name_of k cell share) parity ≡ true
 before_parity k cell share is = elim (cases_Bool (is_original k cell)) [
-  | inl t ↦ ap (λ (name : Namespace). is_at_most name parity) (original_name k cell share t) ∙ at_most_parity (own_name share) (own_is_name share is)
+  | inl t ↦ ap (λ (name : Namespace). is_at_most name parity) (original_name k cell share t) ∙ at_most_parity (name_in share) (name_in-is share is)
   | inr f ↦ ap (λ (name : Namespace). is_at_most name parity) (parity_name k cell share f) ∙ at_most_refl parity
 ]
 
 module _ (square : SquareShares) (grid : List Share) (whole : IsSquare square) (extended : Extends square.k square.shares grid)
-    (ordered : is_ordered (map own_name square.shares) ≡ true) where
+    (ordered : is_ordered (map name_in square.shares) ≡ true) where
   -- each cell of the extension has a share
   axis_share : (axis : Axis) (i pos : ℕ) → i < 2 * square.k → pos < 2 * square.k → IsShare (share_at (2 * square.k) grid (cell_on axis i pos))
   axis_share axis i pos hi hp =
@@ -112,13 +109,13 @@ module _ (square : SquareShares) (grid : List Share) (whole : IsSquare square) (
 
   -- the name of a cell of the original square
   square_name : (cell : Cell) → is_original square.k cell ≡ true
-      → name_of square.k cell (share_at (2 * square.k) grid cell) ≡ get_or (map own_name square.shares) (number square.k cell) parity
+      → name_of square.k cell (share_at (2 * square.k) grid cell) ≡ get_or (map name_in square.shares) (number square.k cell) parity
   square_name cell t =
       let low = original-inside square.k cell t in
       let within : number square.k cell < square.k * square.k = number-lt square.k cell low.0 low.1 in
       original_name square.k cell (share_at (2 * square.k) grid cell) t
-      ∙ ap own_name (extended.quarter cell low.0 low.1)
-      ∙ sym (get_or-map own_name square.shares (number square.k cell) blank parity (omega (arith, whole.count)))
+      ∙ ap name_in (extended.quarter cell low.0 low.1)
+      ∙ sym (get_or-map name_in square.shares (number square.k cell) blank parity (omega (arith, whole.count)))
 
   -- no namespace along an axis is followed by a smaller one
   step : (axis : Axis) (i pos : ℕ) → i < 2 * square.k → suc pos < 2 * square.k
@@ -129,8 +126,8 @@ module _ (square : SquareShares) (grid : List Share) (whole : IsSquare square) (
         let low = original-inside square.k (cell_on axis i (suc pos)) t in
         let within : number square.k (cell_on axis i (suc pos)) < square.k * square.k = number-lt square.k (cell_on axis i (suc pos)) low.0 low.1 in
         ap₂ is_at_most (square_name (cell_on axis i pos) (original-before square.k axis i pos t)) (square_name (cell_on axis i (suc pos)) t)
-        ∙ ordered-le (map own_name square.shares) parity (number square.k (cell_on axis i pos)) (number square.k (cell_on axis i (suc pos))) ordered
-        (number-before square.k axis i pos) (omega (arith, length-map square.shares own_name, whole.count))
+        ∙ ordered-le (map name_in square.shares) parity (number square.k (cell_on axis i pos)) (number square.k (cell_on axis i (suc pos))) ordered
+        (number-before square.k axis i pos) (omega (arith, length-map square.shares name_in, whole.count))
     | inr f ↦
         ap (is_at_most (name_of square.k (cell_on axis i pos) (share_at (2 * square.k) grid (cell_on axis i pos))))
         (parity_name square.k (cell_on axis i (suc pos)) (share_at (2 * square.k) grid (cell_on axis i (suc pos))) f)
@@ -152,6 +149,6 @@ some-cond b a t = subst (λ (c : Bool). IsSome (cond c (Some a) None)) (sym t) r
 
 -- a square whose namespaces never fall has a header
 pub header_laid : (square : SquareShares) (grid : List Share) → IsSquare square → Extends square.k square.shares grid
-    → is_ordered (map own_name square.shares) ≡ true → IsSome (header_of_grid square.k grid)
+    → is_ordered (map name_in square.shares) ≡ true → IsSome (header_of_grid square.k grid)
 header_laid square grid whole extended ordered =
     some-cond (are_ordered_axes square.k grid) _ (ordered_axes square.k grid (axis_laid square grid whole extended ordered))

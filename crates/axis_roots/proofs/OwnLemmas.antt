@@ -16,12 +16,11 @@ use Rattle.namespace_id.specs.Bytes.{IsString}
 use Rattle.namespace_id.specs.Names.{IsNamespace, parity, AreNamespaces}
 use Rattle.namespace_id.specs.Shares.{IsShare, AreShares}
 use Rattle.namespace_id.specs.Cells.{is_width, is_in_square, is_original, name_of}
-use Rattle.namespace_id.proofs.StringLemmas.{AreBytes-take}
+use Rattle.namespace_id.proofs.ShareLemmas.{name_of-is}
 use Rattle.nmt_tree.specs.Roots.{halvings, root}
 use Rattle.nmt_proofs.specs.Parts.{Part, digest_of}
 use Rattle.nmt_proofs.specs.Openings.{one_leaf, opened}
 use Rattle.nmt_proofs.specs.Clashes.{IsClash, clash_at, whole, AreLeaves, IsOpening}
-use Rattle.nmt_proofs.proofs.DigestLemmas.{name-parity}
 use Rattle.nmt_proofs.proofs.ListedLemmas.{leaf_law}
 use Rattle.data_header.specs.Headers.{Roots, root_of}
 use Rattle.leopard_code.specs.Codewords.{ascending}
@@ -61,13 +60,9 @@ root_is k grid header Row i e h = ap (λ (r : Roots). root_of r Row i) (roots_ar
 root_is k grid header Col i e h = ap (λ (r : Roots). root_of r Col i) (roots_are k grid header e) ∙ root_in k grid Col i h
 
 -- the leaves of a row or a column of an extension
-name_is : (b : Bool) (share : Share) → IsShare share → IsNamespace (cond b (record { 0 = take 29 share.0 }) parity)
-name_is true share s = record { size_is = length-take-le 29 share.0 (omega (arith, s.size_is)); fits = AreBytes-take 29 share.0 s.fits }
-name_is false share s = name-parity
-
 names_are : (k : ℕ) (f : Cell → Share) (cells : List Cell) → AreShares (map f cells) → AreNamespaces (map (λ (cell : Cell). name_of k cell (f cell)) cells)
 names_are k f [] shares = tt
-names_are k f (cell ∷ cells) shares = (name_is (is_original k cell) (f cell) shares.0, names_are k f cells shares.1)
+names_are k f (cell ∷ cells) shares = (name_of-is k cell (f cell) shares.0, names_are k f cells shares.1)
 
 pub leaves_are : (k : ℕ) (square grid : List Share) (axis : Axis) (i : ℕ) → is_width k ≡ true → Extends k square grid → i < 2 * k
     → AreLeaves (halvings (2 * k)) (axis_names k grid axis i) (axis_shares k grid axis i)
@@ -126,7 +121,7 @@ accepted_own header m proved square own =
     let leaves = leaves_are k square.shares own.grid m.axis at own.whole.width own.extends at_below in
     let opening : IsOpening (halvings (2 * k)) (shown_by k m) m.path = record {
       count = opens.opened.count;
-      parts = ((refl, name_is (is_original k m.cell) m.share opens.sized.share, opens.sized.share), tt);
+      parts = ((refl, name_of-is k m.cell m.share opens.sized.share, opens.sized.share), tt);
       node_bytes = opens.sized.nodes;
     } in
     let value : digest_of (opened_by k m) ≡ root_for header m =

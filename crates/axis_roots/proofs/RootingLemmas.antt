@@ -14,6 +14,7 @@ use Rattle.namespace_id.specs.Shares.{IsShare, AreShares}
 use Rattle.namespace_id.specs.Names.{is_at_most, parity}
 use Rattle.namespace_id.specs.Digests.{least_of}
 use Rattle.namespace_id.specs.Cells.{is_width, is_original, name_of}
+use Rattle.namespace_id.proofs.ShareLemmas.{name_of-is}
 use Rattle.nmt_tree.specs.Digests.{leaf_digest}
 use Rattle.nmt_tree.specs.Roots.{is_leaf_count, halvings, root, is_ordered, strict_root}
 use Rattle.nmt_tree.specs.Levels.{leaf_digests, span}
@@ -53,14 +54,6 @@ unfolding leaf_digests
 mapped_leaves name share [] = refl
 mapped_leaves name share (cell ∷ cells) = ap (λ (l : List Digest). leaf_digest (name cell) (share cell) ∷ l) (mapped_leaves name share cells)
 
--- a leaf's namespace has 29 bytes
-length-name : (k : ℕ) (cell : Cell) (share : Share) → IsShare share → length (name_of k cell share).0 ≡ 29
-length-name k cell share is = elim (cases_Bool (is_original k cell)) [
-  | inl t ↦
-      ap (λ (b : Bool). length (cond b (record { 0 = take 29 share.0 }) parity).0) t ∙ length-take-le 29 share.0 (omega (arith, is.size_is))
-  | inr f ↦ ap (λ (b : Bool). length (cond b (record { 0 = take 29 share.0 }) parity).0) f ∙ length-replicate {A = ℕ} 29 255
-]
-
 -- the least namespaces of the leaves along an axis are their names
 names_along : (k : ℕ) (shares : List Share) (axis : Axis) (i : ℕ) → AreShares shares → map least_of (axis_leaves k shares axis i) ≡ axis_names k shares axis i
 names_along k shares axis i are =
@@ -71,7 +64,7 @@ names_along k shares axis i are =
     let share : Share = share_at (2 * k) shares cell in
     get_or-map least_of (axis_leaves k shares axis i) pos none parity (omega (arith, length-along k (leaf_over k shares) axis i))
     ∙ ap least_of (get_or-along k (leaf_over k shares) axis i pos none h)
-    ∙ least-leaf (name_of k cell share) share (length-name k cell share (share_anywhere shares (cell.row * (2 * k) + cell.col) are)))
+    ∙ least-leaf (name_of k cell share) share (name_of-is k cell share (share_anywhere shares (cell.row * (2 * k) + cell.col) are)).size_is)
 
 -- ---- the order of digests
 

@@ -1,6 +1,6 @@
 -- Extended squares, and the header that one has (Celestia specifications, "Data Structures";
 -- docs/RULES.md, "Extended squares").
-use Rattle.std.specs.Prelude.{◌≡◌, ◌<◌, ℕ, ◌+◌, ◌*◌, ◌&&◌, Bool, true, IsTrue, List, [], map, length, take, replicate, get_or, Option, Some, None, if◌then◌else◌}
+use Rattle.std.specs.Prelude.{◌≡◌, ◌<◌, ℕ, ◌+◌, ◌*◌, ◌&&◌, Bool, true, IsTrue, List, [], map, length, replicate, get_or, Option, Some, None, if◌then◌else◌}
 use Rattle.std.specs.List.{list_all}
 use Rattle.namespace_id.specs.declared.cells.Cell.{Cell}
 use Rattle.namespace_id.specs.declared.cells.Axis.{Axis}
@@ -100,10 +100,6 @@ header_of_grid k shares =
     if are_ordered_axes k shares
     then Some (record { k = k; rows = axis_roots k shares Row; cols = axis_roots k shares Col })
     else None
-
--- the namespace that a share begins with
-abbrev pub own_name : Share → Namespace
-own_name share = record { 0 = take 29 share.0 }
 
 -- the header of a square is that of its extension
 pub record IsHeaderOf (header : Roots) (square : SquareShares) : Type 0 where

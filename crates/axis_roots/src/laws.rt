@@ -3,7 +3,7 @@
 ghost use Rattle.std.specs.Prelude.{◌≡◌, ◌<◌, ◌*◌, ◌↔◌, ℕ, List, Some, None, IsSome, map, true, false};
 ghost use Rattle.namespace_id.specs.declared.cells.Axis.{Axis};
 ghost use Rattle.namespace_id.specs.declared.shares.Share.{Share};
-ghost use Rattle.namespace_id.specs.Shares.{AreShares};
+ghost use Rattle.namespace_id.specs.Shares.{AreShares, name_in};
 ghost use Rattle.nmt_tree.specs.Roots.{halvings, is_ordered, strict_root};
 ghost use Rattle.data_header.specs.Headers.{Roots, AreRoots, root_of};
 ghost use Rattle.square_layout.specs.Blocks.{SquareShares, IsSquare};
@@ -13,7 +13,7 @@ ghost use Rattle.axis_roots.specs.Messages.{refusal_of, IsMessage};
 ghost use Rattle.axis_roots.specs.Openings.{IsProved};
 ghost use Rattle.axis_roots.specs.Own.{IsOwn};
 ghost use Rattle.axis_roots.specs.Proved.{IsUnder, message_of};
-ghost use Rattle.axis_roots.specs.Grids.{Extends, IsHeaderOf, axis_names, axis_shares, is_ordered_axis, header_of_grid, own_name};
+ghost use Rattle.axis_roots.specs.Grids.{Extends, IsHeaderOf, axis_names, axis_shares, is_ordered_axis, header_of_grid};
 
 /// What is proved of a message under a header.
 pub fn message_laws()
@@ -62,6 +62,6 @@ pub fn grid_laws()
 
     // A square whose shares never fall in their namespaces, row by row, has a header.
     ensures laid { (square : SquareShares) (grid : List Share) → IsSquare square →
-        Extends square.k square.shares grid → is_ordered (map own_name square.shares) ≡ true →
+        Extends square.k square.shares grid → is_ordered (map name_in square.shares) ≡ true →
         IsSome (header_of_grid square.k grid) }
 {}

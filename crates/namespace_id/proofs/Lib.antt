@@ -1,5 +1,6 @@
 pub mod OrderLemmas
 pub mod StringLemmas
+pub mod ShareLemmas
 pub mod ElementLemmas
 pub mod TestLemmas
 pub mod AlongLemmas

@@ -1,5 +1,5 @@
 -- Lemmas on byte strings and their parts.
-use Rattle.std.proofs.Common.{◌≡◌, ◌∙◌, ℕ, zero, suc, ◌+◌, List, [], ◌∷◌, ◌++◌, length, take, drop, sym, ap, ap₂, inl, inr, arith}
+use Rattle.std.proofs.Common.{◌≡◌, ◌∙◌, ℕ, zero, suc, ◌+◌, ◌<◌, List, [], ◌∷◌, ◌++◌, length, take, drop, replicate, sym, ap, ap₂, inl, inr, arith}
 use Rattle.std.proofs.Math.Seq.{take-append_seam, drop-append_seam, drop-append-add}
 use Rattle.std.proofs.lemmas.Bool.{cases_lt}
 use Rattle.std.proofs.lemmas.List.{length-take, get_or-drop, get_or-take, get_or_past}
@@ -19,6 +19,12 @@ pub AreBytes-append : (a b : List ℕ) → AreBytes a → AreBytes b → AreByte
 AreBytes-append [] b h k i = k i
 AreBytes-append (x ∷ a) b h k zero = h 0
 AreBytes-append (x ∷ a) b h k (suc i) = AreBytes-append a b (λ j. h (suc j)) k i
+
+-- one byte, so many times
+pub AreBytes-replicate : (n byte : ℕ) → byte < 256 → AreBytes (replicate n byte)
+AreBytes-replicate zero byte h i = omega arith
+AreBytes-replicate (suc n) byte h zero = h
+AreBytes-replicate (suc n) byte h (suc i) = AreBytes-replicate n byte h i
 
 -- the front of two strings, and what is behind it
 pub front : (a b : List ℕ) (n : ℕ) → length a ≡ n → take n (a ++ b) ≡ a

@@ -1,10 +1,11 @@
 -- Widths, cells and leaf namespaces (Celestia specifications, "Data Structures").
-use Rattle.std.specs.Prelude.{◌≡◌, ℕ, ◌*◌, ◌==◌, ◌&&◌, ◌||◌, nat_lt, Bool, true, List, take, if◌then◌else◌}
+use Rattle.std.specs.Prelude.{◌≡◌, ℕ, ◌*◌, ◌==◌, ◌&&◌, ◌||◌, nat_lt, Bool, true, List, if◌then◌else◌}
 use Rattle.namespace_id.specs.declared.namespaces.Namespace.{Namespace}
 use Rattle.namespace_id.specs.declared.shares.Share.{Share}
 use Rattle.namespace_id.specs.declared.cells.Cell.{Cell}
 use Rattle.std.specs.List.{list_all}
 use Rattle.namespace_id.specs.Names.{parity}
+use Rattle.namespace_id.specs.Shares.{name_in}
 use Rattle.namespace_id.specs.Lists.{holds_along}
 
 -- whether a square may have this width: a power of two from 1 to 128 (docs/RULES.md, "Widths")
@@ -19,9 +20,9 @@ is_in_square k cell = nat_lt cell.row (2 * k) && nat_lt cell.col (2 * k)
 abbrev pub is_original : ℕ → Cell → Bool
 is_original k cell = nat_lt cell.row k && nat_lt cell.col k
 
--- the namespace of the leaf over a cell
+-- the namespace of the leaf over a cell: that of its share in the original square, and PARITY outside
 abbrev pub name_of : ℕ → Cell → Share → Namespace
-name_of k cell share = if is_original k cell then record { 0 = take 29 share.0 } else parity
+name_of k cell share = if is_original k cell then name_in share else parity
 
 -- whether the first cell comes before the second in row-major order
 abbrev pub is_before : Cell → Cell → Bool

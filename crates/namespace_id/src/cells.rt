@@ -51,9 +51,7 @@ pub fn leaf_namespace(k: u16, cell: Cell, share: &Share) -> Namespace
     if cell.row >= k || cell.col >= k {
         return PARITY;
     }
-    let mut bytes = [0; 29];
-    bytes.copy_from_slice(&share.0[..29]);
-    Namespace(bytes)
+    share.namespace()
 }
 
 /// Cells of the extended square of width `k`, strictly ascending in row-major order.

@@ -18,6 +18,6 @@ pub use digests::{Digest, are_digests, is_digest};
 pub use memory::NoMemory;
 pub use namespaces::{
     Namespace, NsError, PARITY, PAY_FOR_BLOB, PRIMARY_RESERVED_PADDING, TAIL_PADDING, TRANSACTION,
-    are_namespaces, is_namespace, namespace_order,
+    are_namespaces, is_namespace, is_zeros, namespace_order,
 };
 pub use shares::{Share, are_shares, is_share};

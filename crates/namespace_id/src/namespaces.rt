@@ -66,7 +66,7 @@ pub enum NsError {
 }
 
 /// Whether all bytes are 0.
-fn is_zeros(bytes: &[u8]) -> bool
+pub fn is_zeros(bytes: &[u8]) -> bool
     ensures { result ≡ is_zeros bytes.now }
 {
     bytes.iter().all(|byte| *byte == 0)

@@ -1,14 +1,26 @@
 //! Shares.
 
-ghost use Rattle.namespace_id.specs.Shares.{IsShare, AreShares};
+ghost use Rattle.std.specs.Prelude.{◌≡◌};
+ghost use Rattle.namespace_id.specs.Shares.{IsShare, AreShares, name_in};
 
-use crate::are_bytes;
+use crate::{Namespace, are_bytes};
 
 /// A share: 512 bytes, of which the first 29 are its namespace.
 ///
 /// Celestia specifications, "Shares".
 #[derive(Clone, Copy, Debug, PartialEq, Eq)]
 pub struct Share(pub [u8; 512]);
+
+impl Share {
+    /// The namespace that the share begins with, bytes 0 to 28.
+    pub fn namespace(&self) -> Namespace
+        ensures { result ≡ name_in self.now }
+    {
+        let mut bytes = [0; 29];
+        bytes.copy_from_slice(&self.0[..29]);
+        Namespace(bytes)
+    }
+}
 
 /// Says that a share has 512 bytes, each below 256. It changes nothing.
 pub fn is_share(share: &Share)

@@ -3,12 +3,12 @@ use Rattle.std.proofs.Common.{◌≡◌, ◌∙◌, ℕ, suc, ◌+◌, ◌<◌, 
 use Rattle.std.specs.Bool.{⊤}
 use Rattle.std.proofs.lemmas.Bool.Decides.{nat_tests}
 use Rattle.namespace_id.specs.Bytes.{AreBytes}
-use Rattle.namespace_id.specs.Shares.{IsShare, AreShares}
+use Rattle.namespace_id.specs.Shares.{IsShare, AreShares, name_in}
 use Rattle.namespace_id.specs.declared.namespaces.Namespace.{Namespace}
 use Rattle.namespace_id.specs.declared.shares.Share.{Share}
 use Rattle.namespace_id.proofs.StringLemmas.{AreBytes-append}
 use Rattle.share_split.specs.Blobs.{NamedBytes}
-use Rattle.share_split.specs.Walks.{name_in, size_in, Sequence, missing, begun_by, extended_by, first_refusal, later_refusal, blobs_from}
+use Rattle.share_split.specs.Walks.{size_in, Sequence, missing, begun_by, extended_by, first_refusal, later_refusal, blobs_from}
 use Rattle.share_split.specs.Joined.{AreBlobs}
 use Rattle.share_split.proofs.FieldLemmas.{IsFirst, IsLater}
 use Rattle.share_split.proofs.NextLemmas.{first_told, later_told, first_part, later_part, part-fits}

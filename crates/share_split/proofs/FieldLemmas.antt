@@ -2,11 +2,11 @@
 use Rattle.std.proofs.Common.{◌≡◌, ◌∙◌, ℕ, ◌-◌, ◌/◌, ◌%◌, ◌<◌, ◌^◌, eqb, true, false, List, ◌∷◌, ◌++◌, length, take, drop, sym, ap, ap₂, refl, arith, append_assoc}
 use Rattle.std.proofs.lemmas.Nat.{from_be_bytes-to_be_bytes_4}
 use Rattle.std.specs.Int.{w32, to_be_bytes, from_be_bytes}
-use Rattle.namespace_id.specs.Shares.{IsShare}
+use Rattle.namespace_id.specs.Shares.{IsShare, name_in}
 use Rattle.namespace_id.specs.declared.namespaces.Namespace.{Namespace}
 use Rattle.namespace_id.specs.declared.shares.Share.{Share}
 use Rattle.share_split.specs.Blobs.{filled, first_share, later_share}
-use Rattle.share_split.specs.Walks.{name_in, version_in, is_start, size_in, content_in}
+use Rattle.share_split.specs.Walks.{version_in, is_start, size_in, content_in}
 use Rattle.share_split.proofs.CutLemmas.{cut, four, parts, fours, stated, first_byte_is, later_byte_is, fields_first, fields_later}
 
 -- a share that begins a sequence under a namespace, whose content is all of a text

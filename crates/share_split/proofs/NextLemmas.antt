@@ -3,12 +3,12 @@ use Rattle.std.proofs.Common.{◌≡◌, ℕ, ◌+◌, ◌-◌, ◌<◌, ◌≤�
 use Rattle.std.proofs.lemmas.Slice.Eq.{bytes_eq-Decides}
 use Rattle.std.specs.Str.{bytes_eq}
 use Rattle.namespace_id.specs.Bytes.{AreBytes}
-use Rattle.namespace_id.specs.Shares.{IsShare}
+use Rattle.namespace_id.specs.Shares.{IsShare, name_in}
 use Rattle.namespace_id.specs.Names.{IsNamespace}
 use Rattle.namespace_id.specs.declared.shares.Share.{Share}
 use Rattle.namespace_id.proofs.StringLemmas.{AreBytes-take, AreBytes-drop}
 use Rattle.share_split.specs.declared.joining.JoinError.TheVariants.{NoStart, Short, BadVersion, NonZeroFill, MixedNamespace}
-use Rattle.share_split.specs.Walks.{name_in, version_in, is_start, size_in, fields_in, content_in, Sequence, missing, is_filled, first_refusal, later_refusal}
+use Rattle.share_split.specs.Walks.{version_in, is_start, size_in, fields_in, content_in, Sequence, missing, is_filled, first_refusal, later_refusal}
 use Rattle.share_split.proofs.FillLemmas.{filled_back}
 use Rattle.share_split.proofs.CutLemmas.{fields_first, fields_later}
 use Rattle.share_split.proofs.FieldLemmas.{IsFirst, IsLater}
@@ -21,13 +21,6 @@ first_part r share = take (size_in share) (content_in r share)
 -- the content that a share adds to this sequence
 abbrev pub later_part : ℕ → Sequence → Share → List ℕ
 later_part r s share = take (missing s) (content_in r share)
-
--- the namespace of a share is one
-pub name_in-is : (share : Share) → IsShare share → IsNamespace (name_in share)
-name_in-is share whole = record {
-  size_is = omega (arith, length-take 29 share.0, whole.size_is);
-  fits = AreBytes-take 29 share.0 whole.fits;
-}
 
 -- four bytes state the length of a sequence
 pub size_in-small : (share : Share) → IsShare share → size_in share < 2 ^ 32

@@ -4,15 +4,16 @@ use Rattle.std.specs.Int.{div_ceil}
 use Rattle.std.proofs.lemmas.List.{nil_from_length}
 use Rattle.namespace_id.specs.Names.{IsNamespace}
 use Rattle.namespace_id.specs.Bytes.{AreBytes}
-use Rattle.namespace_id.specs.Shares.{IsShare, AreShares}
+use Rattle.namespace_id.specs.Shares.{IsShare, AreShares, name_in}
 use Rattle.namespace_id.specs.declared.namespaces.Namespace.{Namespace}
 use Rattle.namespace_id.specs.declared.shares.Share.{Share}
+use Rattle.namespace_id.proofs.ShareLemmas.{name_in-is}
 use Rattle.share_split.specs.Blobs.{NamedBytes, max_sequence_length, first_share, later_shares, blob_shares_of}
-use Rattle.share_split.specs.Walks.{name_in, size_in}
+use Rattle.share_split.specs.Walks.{size_in}
 use Rattle.share_split.specs.Joined.{Piece, piece_shares, piece_blobs, IsPiece, IsBlob, AreBlobs, padding_share}
 use Rattle.share_split.specs.Joined.Piece.{padding, blob}
 use Rattle.share_split.proofs.FieldLemmas.{IsFirst, is_first_share}
-use Rattle.share_split.proofs.NextLemmas.{name_in-is, size_in-small}
+use Rattle.share_split.proofs.NextLemmas.{size_in-small}
 use Rattle.share_split.proofs.RunLemmas.{AreLater, later_only, later_count}
 use Rattle.share_split.proofs.BlobReadLemmas.{padding_is}
 

@@ -2,18 +2,19 @@
 use Rattle.std.proofs.Common.{◌≡◌, ◌∙◌, ℕ, ◌-◌, ◌<◌, inl, inr, List, [], ◌∷◌, ◌++◌, length, take, drop, Option, Some, None, Result, Ok, Err, refl, sym, ap, ap₂, subst, arith, length-drop, length-append}
 use Rattle.std.specs.Int.{div_ceil}
 use Rattle.std.specs.Option.{option_map_or}
-use Rattle.namespace_id.specs.Shares.{AreShares}
+use Rattle.namespace_id.specs.Shares.{AreShares, name_in}
 use Rattle.namespace_id.specs.declared.namespaces.Namespace.{Namespace}
 use Rattle.namespace_id.specs.declared.shares.Share.{Share}
 use Rattle.namespace_id.proofs.StringLemmas.{AreBytes-append}
+use Rattle.namespace_id.proofs.ShareLemmas.{name_in-is}
 use Rattle.share_split.specs.declared.joining.JoinError.TheVariants.{BadReserved}
 use Rattle.share_split.specs.Units.{starts_from, reserved_of, first_compact_share, later_compact_shares, compact_count}
-use Rattle.share_split.specs.Walks.{name_in, size_in, Sequence, begun_by, unit_refusal, sequence_from, units_from, bad_reserved, reserved_units, units_in, units_of}
+use Rattle.share_split.specs.Walks.{size_in, Sequence, begun_by, unit_refusal, sequence_from, units_from, bad_reserved, reserved_units, units_in, units_of}
 use Rattle.share_split.specs.Joined.{AreCompact, AreUnits}
 use Rattle.share_split.proofs.FieldLemmas.{IsFirst}
 use Rattle.share_split.proofs.CompactFieldLemmas.{is_first_compact}
 use Rattle.share_split.proofs.SequenceLemmas.{seq}
-use Rattle.share_split.proofs.NextLemmas.{first_told, first_part, name_in-is, size_in-small, part-fits}
+use Rattle.share_split.proofs.NextLemmas.{first_told, first_part, size_in-small, part-fits}
 use Rattle.share_split.proofs.RunLemmas.{AreLater, drop-parted, good_cons, later_compact_only, later_compact_count}
 use Rattle.share_split.proofs.TextLawLemmas.{units_back}
 use Rattle.share_split.proofs.UnitWalkLemmas.{One, sequence_from-cons, sequence_from-none}

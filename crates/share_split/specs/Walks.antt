@@ -7,15 +7,13 @@ use Rattle.std.specs.Option.{option_map_or}
 use Rattle.namespace_id.specs.declared.namespaces.Namespace.{Namespace}
 use Rattle.namespace_id.specs.declared.shares.Share.{Share}
 use Rattle.namespace_id.specs.Names.{is_zeros}
+use Rattle.namespace_id.specs.Shares.{name_in}
 use Rattle.share_split.specs.declared.joining.JoinError.{JoinError}
 use Rattle.share_split.specs.declared.joining.JoinError.TheVariants.{NoStart, Short, BadVersion, NonZeroFill, BadVarint, BadReserved, MixedNamespace, NoMemory}
 use Rattle.share_split.specs.Blobs.{NamedBytes}
 use Rattle.share_split.specs.Units.{first_compact_content, later_compact_content, starts_from, reserved_of}
 
--- ---- the fields of a share
-
-abbrev pub name_in : Share → Namespace
-name_in share = record { 0 = take 29 share.0 }
+-- ---- the fields of a share, behind its namespace
 
 abbrev pub version_in : Share → ℕ
 version_in share = slice_index share.0 29 / 2

@@ -2,14 +2,13 @@
 
 ghost use Rattle.std.specs.Prelude.{◌≡◌, ◌≤◌, ◌+◌, length, take};
 ghost use Rattle.std.specs.Int.{w32, from_be_bytes};
-ghost use Rattle.namespace_id.specs.Names.{is_zeros};
 ghost use Rattle.share_split.specs.Blobs.{later_content};
-ghost use Rattle.share_split.specs.Walks.{name_in, version_in, is_start, size_in, fields_in};
+ghost use Rattle.share_split.specs.Walks.{version_in, is_start, size_in, fields_in};
 ghost use Rattle.share_split.specs.Walks.{content_in, reserved_in, is_filled};
 
 use crate::blobs::split_within;
 use crate::{FIRST_CONTENT, LATER_CONTENT, LENGTH_PLACE, NAMESPACE_SIZE, SHARE_SIZE};
-use namespace_id::{Namespace, Share};
+use namespace_id::{Share, is_zeros};
 
 /// The version of a share.
 pub(crate) fn version(share: &Share) -> u8
@@ -23,15 +22,6 @@ pub(crate) fn is_start(share: &Share) -> bool
     ensures { result ≡ is_start share.now }
 {
     share.0[NAMESPACE_SIZE] % 2 == 1
-}
-
-/// The namespace of a share.
-pub(crate) fn namespace(share: &Share) -> Namespace
-    ensures { result ≡ name_in share.now }
-{
-    let mut namespace = Namespace([0; NAMESPACE_SIZE]);
-    namespace.0.copy_from_slice(&share.0[..NAMESPACE_SIZE]);
-    namespace
 }
 
 /// The number that the first four bytes state, the highest first.
@@ -74,13 +64,6 @@ pub(crate) fn content(share: &Share, reserved: usize) -> &[u8]
     ensures { result.now ≡ content_in reserved share.now }
 {
     fields(share).split_at(reserved).1
-}
-
-/// Whether all bytes are 0.
-fn is_zeros(bytes: &[u8]) -> bool
-    ensures { result ≡ is_zeros bytes.now }
-{
-    bytes.iter().all(|byte| *byte == 0)
 }
 
 /// Whether all bytes behind so many bytes of content are 0.

@@ -6,7 +6,7 @@ ghost use Rattle.share_split.specs.Steps.{Takes};
 
 use crate::JoinError;
 use crate::blobs::split_within;
-use crate::fields::{content, is_filled, is_start, namespace, size, version};
+use crate::fields::{content, is_filled, is_start, size, version};
 use namespace_id::{Namespace, Share};
 use std::alloc::{AllocError, Global};
 use std::marker::Model;
@@ -113,7 +113,7 @@ impl Open {
         put_content(&mut bytes, share, reserved, size(share) as usize)?;
         Ok(Open {
             first: i,
-            namespace: namespace(share),
+            namespace: share.namespace(),
             size: size(share),
             bytes,
         })
@@ -127,7 +127,7 @@ impl Open {
         if version(share) != 0 {
             return Some(JoinError::BadVersion(i));
         }
-        if namespace(share) != self.namespace {
+        if share.namespace() != self.namespace {
             return Some(JoinError::MixedNamespace(i));
         }
         if is_start(share) {

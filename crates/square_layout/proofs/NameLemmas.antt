@@ -8,10 +8,10 @@ use Rattle.namespace_id.specs.declared.shares.Share.{Share}
 use Rattle.namespace_id.specs.Lists.{holds_along}
 use Rattle.namespace_id.specs.Names.{is_at_most, transaction, pay_for_blob, primary_reserved_padding, tail_padding}
 use Rattle.namespace_id.proofs.OrderLemmas.{at_most_refl, at_most_trans, at_most_total}
+use Rattle.namespace_id.specs.Shares.{name_in}
 use Rattle.share_split.specs.Blobs.{NamedBytes, blob_shares_of}
 use Rattle.share_split.specs.Units.{unit_shares_of}
 use Rattle.share_split.specs.Joined.{padding_share}
-use Rattle.share_split.specs.Walks.{name_in}
 use Rattle.square_layout.specs.Blocks.{BlockParts}
 use Rattle.square_layout.specs.Layout.{put_in, in_order, start_after, shares_of, placed, compact_end, laid}
 use Rattle.square_layout.proofs.ShareNameLemmas.{AreNamed, blob_shares_of-named, unit_shares_of-named, padding-named}

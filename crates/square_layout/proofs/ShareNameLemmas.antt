@@ -5,10 +5,10 @@ use Rattle.std.specs.List.{AllByRecursion}
 use Rattle.namespace_id.specs.declared.namespaces.Namespace.{Namespace}
 use Rattle.namespace_id.specs.declared.shares.Share.{Share}
 use Rattle.namespace_id.proofs.StringLemmas.{front}
+use Rattle.namespace_id.specs.Shares.{name_in}
 use Rattle.share_split.specs.Blobs.{info, filled, first_content, later_content, first_share, later_share, later_shares, share_count, blob_shares_of}
 use Rattle.share_split.specs.Units.{units_text, starts_from, reserved_of, first_compact_content, later_compact_content, first_compact_share, later_compact_share, later_compact_shares, compact_count, unit_shares_of}
 use Rattle.share_split.specs.Joined.{padding_share}
-use Rattle.share_split.specs.Walks.{name_in}
 
 -- ---- the namespace of a share
 

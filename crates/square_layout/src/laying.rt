@@ -5,8 +5,8 @@ ghost use Rattle.namespace_id.specs.declared.namespaces.NsError.{NsError as Name
 ghost use Rattle.namespace_id.specs.Cells.{is_width};
 ghost use Rattle.namespace_id.specs.Lists.{holds_along};
 ghost use Rattle.namespace_id.specs.Names.{is_at_most, tail_padding};
+ghost use Rattle.namespace_id.specs.Shares.{name_in};
 ghost use Rattle.share_split.specs.Joined.{padding_share};
-ghost use Rattle.share_split.specs.Walks.{name_in};
 ghost use Rattle.square_layout.specs.Blocks.{HaveBytes};
 ghost use Rattle.square_layout.specs.Layout.{in_order, compact_part, laid, needed, square_of};
 ghost use Rattle.square_layout.specs.Refusals.{max_shares, refusal_of, Answers};

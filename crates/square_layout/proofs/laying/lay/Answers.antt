@@ -2,8 +2,8 @@ use Rattle.std.proofs.Common.{◌≤◌, ◌∙◌, ◌*◌, ◌-◌, List, leng
 use Rattle.namespace_id.specs.declared.shares.Share.{Share}
 use Rattle.namespace_id.specs.Lists.{holds_along}
 use Rattle.namespace_id.specs.Names.{is_at_most, tail_padding}
+use Rattle.namespace_id.specs.Shares.{name_in}
 use Rattle.share_split.specs.Joined.{padding_share}
-use Rattle.share_split.specs.Walks.{name_in}
 use Rattle.square_layout.specs.Blocks.{BlockParts}
 use Rattle.square_layout.specs.Layout.{laid, needed}
 use Rattle.square_layout.proofs.AcceptedLemmas.{ordered_have_bytes, all_between}

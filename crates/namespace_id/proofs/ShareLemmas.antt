@@ -1,0 +1,29 @@
+-- The namespaces of shares and of the leaves over them.
+use Rattle.std.proofs.Common.{ℕ, Bool, true, false, cond, take, refl, arith}
+use Rattle.std.proofs.lemmas.List.{length-take}
+use Rattle.namespace_id.specs.declared.cells.Cell.{Cell}
+use Rattle.namespace_id.specs.declared.shares.Share.{Share}
+use Rattle.namespace_id.specs.Names.{IsNamespace, parity}
+use Rattle.namespace_id.specs.Shares.{IsShare, name_in}
+use Rattle.namespace_id.specs.Cells.{is_original, name_of}
+use Rattle.namespace_id.proofs.StringLemmas.{AreBytes-take, AreBytes-replicate}
+
+-- what a share begins with is a namespace
+pub name_in-is : (share : Share) → IsShare share → IsNamespace (name_in share)
+name_in-is share whole = record {
+  size_is = omega (arith, length-take 29 share.0, whole.size_is);
+  fits = AreBytes-take 29 share.0 whole.fits;
+}
+
+-- and so is that of the shares that erasure coding adds
+pub parity-is : IsNamespace parity
+parity-is = record { size_is = refl; fits = AreBytes-replicate 29 255 (omega arith) }
+
+-- one of both is
+either : (original : Bool) (share : Share) → IsShare share → IsNamespace (cond original (name_in share) parity)
+either true share whole = name_in-is share whole
+either false share whole = parity-is
+
+-- a leaf has a namespace
+pub name_of-is : (k : ℕ) (cell : Cell) (share : Share) → IsShare share → IsNamespace (name_of k cell share)
+name_of-is k cell share whole = either (is_original k cell) share whole
