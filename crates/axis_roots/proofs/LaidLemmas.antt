@@ -4,18 +4,17 @@ use Rattle.std.specs.Prelude.{Some, None, IsSome}
 use Rattle.std.proofs.Math.Nat.{mul-le-mul_right}
 use Rattle.std.proofs.lemmas.Bool.{cases_Bool, and_parts, and_from}
 use Rattle.std.proofs.lemmas.Bool.Decides.{nat_tests}
-use Rattle.std.proofs.lemmas.List.{get_or-map, length-map, length-take-le}
+use Rattle.std.proofs.lemmas.List.{get_or-map, length-map}
 use Rattle.namespace_id.specs.declared.cells.Cell.{Cell}
 use Rattle.namespace_id.specs.declared.cells.Axis.{Axis}
 use Rattle.namespace_id.specs.declared.cells.Axis.TheVariants.{Row, Col}
 use Rattle.namespace_id.specs.declared.namespaces.Namespace.{Namespace}
 use Rattle.namespace_id.specs.declared.shares.Share.{Share}
 use Rattle.namespace_id.specs.Shares.{IsShare, name_in}
-use Rattle.namespace_id.specs.Names.{is_at_most, parity, IsNamespace}
+use Rattle.namespace_id.specs.Names.{is_at_most, parity}
 use Rattle.namespace_id.specs.Cells.{is_original, name_of}
 use Rattle.namespace_id.specs.Lists.{holds_along}
 use Rattle.namespace_id.proofs.ShareLemmas.{name_in-is}
-use Rattle.namespace_id.proofs.StringLemmas.{AreBytes-take}
 use Rattle.namespace_id.proofs.OrderLemmas.{at_most_refl, at_most_trans, at_most_parity}
 use Rattle.nmt_tree.specs.Roots.{is_ordered}
 use Rattle.square_layout.specs.Blocks.{SquareShares, IsSquare}

@@ -1,7 +1,7 @@
 -- An accepted message shows the share of the header's own square, or names a collision.
-use Rattle.std.proofs.Common.{◌≡◌, ◌∙◌, ℕ, ◌*◌, ◌^◌, ◌<◌, List, [], ◌∷◌, ◌+◌, length, map, get_or, take, zero, suc, true, false, Bool, cond, Some, None, refl, sym, ap, ap₂, subst, arith, inl, inr, length-take-le}
-use Rattle.std.specs.Prelude.{◌⊎◌, ◌↔◌, Result, IsOk, Option, MatchOption, nat_lt, ◌&&◌}
-use Rattle.std.specs.List.{AllByRecursion, slice_get}
+use Rattle.std.proofs.Common.{◌≡◌, ◌∙◌, ℕ, ◌*◌, ◌^◌, ◌<◌, List, [], ◌∷◌, ◌+◌, map, get_or, zero, suc, true, false, Bool, cond, Some, None, refl, sym, ap, subst, arith, inl, inr}
+use Rattle.std.specs.Prelude.{◌⊎◌, ◌↔◌, Result, IsOk, Option, MatchOption, nat_lt}
+use Rattle.std.specs.List.{slice_get}
 use Rattle.std.proofs.lemmas.Bool.{and_parts}
 use Rattle.std.proofs.lemmas.List.{get_or-map}
 use Rattle.std.proofs.lemmas.Bool.Decides.{nat_tests}
@@ -9,27 +9,23 @@ use Rattle.std.proofs.lemmas.Slice.Eq.{bytes_eq-Decides}
 use Rattle.namespace_id.specs.declared.cells.Cell.{Cell}
 use Rattle.namespace_id.specs.declared.cells.Axis.{Axis}
 use Rattle.namespace_id.specs.declared.cells.Axis.TheVariants.{Row, Col}
-use Rattle.namespace_id.specs.declared.namespaces.Namespace.{Namespace}
 use Rattle.namespace_id.specs.declared.shares.Share.{Share}
-use Rattle.namespace_id.specs.declared.digests.Digest.{Digest}
-use Rattle.namespace_id.specs.Bytes.{IsString}
-use Rattle.namespace_id.specs.Names.{IsNamespace, parity, AreNamespaces}
-use Rattle.namespace_id.specs.Shares.{IsShare, AreShares}
-use Rattle.namespace_id.specs.Cells.{is_width, is_in_square, is_original, name_of}
+use Rattle.namespace_id.specs.Names.{AreNamespaces}
+use Rattle.namespace_id.specs.Shares.{AreShares}
+use Rattle.namespace_id.specs.Cells.{is_width, is_in_square, name_of}
 use Rattle.namespace_id.proofs.ShareLemmas.{name_of-is}
 use Rattle.nmt_tree.specs.Roots.{halvings, root}
-use Rattle.nmt_proofs.specs.Parts.{Part, digest_of}
-use Rattle.nmt_proofs.specs.Openings.{one_leaf, opened}
-use Rattle.nmt_proofs.specs.Clashes.{IsClash, clash_at, whole, AreLeaves, IsOpening}
+use Rattle.nmt_proofs.specs.Parts.{digest_of}
+use Rattle.nmt_proofs.specs.Clashes.{IsClash, clash_at, AreLeaves, IsOpening}
 use Rattle.nmt_proofs.proofs.ListedLemmas.{leaf_law}
 use Rattle.data_header.specs.Headers.{Roots, root_of}
 use Rattle.leopard_code.specs.Codewords.{ascending}
 use Rattle.leopard_code.proofs.PointLemmas.{length-ascending, get_or-ascending}
-use Rattle.square_layout.specs.Blocks.{SquareShares, IsSquare}
+use Rattle.square_layout.specs.Blocks.{SquareShares}
 use Rattle.axis_roots.specs.declared.messages.Message.{Message}
 use Rattle.axis_roots.specs.Messages.{position, index, root_for, shown_by}
 use Rattle.axis_roots.specs.Openings.{OpensAt, IsProved}
-use Rattle.axis_roots.specs.Grids.{share_at, cell_on, axis_cells, axis_shares, axis_names, Extends, are_ordered_axes, axis_root, axis_roots, header_of_grid, IsHeaderOf}
+use Rattle.axis_roots.specs.Grids.{share_at, axis_cells, axis_shares, axis_names, Extends, are_ordered_axes, axis_root, axis_roots, header_of_grid}
 use Rattle.axis_roots.specs.Own.{opened_by, axis_tree, ShowsOwn, NamesClash, IsOwn}
 use Rattle.axis_roots.proofs.AxisLemmas.{cell_on-own, length-along, get_or-along}
 

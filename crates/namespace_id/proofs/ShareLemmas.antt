@@ -1,5 +1,5 @@
 -- The namespaces of shares and of the leaves over them.
-use Rattle.std.proofs.Common.{ℕ, Bool, true, false, cond, take, refl, arith}
+use Rattle.std.proofs.Common.{ℕ, Bool, true, false, cond, refl, arith}
 use Rattle.std.proofs.lemmas.List.{length-take}
 use Rattle.namespace_id.specs.declared.cells.Cell.{Cell}
 use Rattle.namespace_id.specs.declared.shares.Share.{Share}
