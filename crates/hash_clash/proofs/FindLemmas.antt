@@ -19,23 +19,26 @@ pub of_leaves : (p q : Part) (n m : Namespace) (s t : Share) (x y : List ℕ) (f
 unfolding clash_at
 of_leaves p q n m s t x y found ep eq ex ey is = is ∙ ap₂ (λ a b. apart_or a b None) ex ey ∙ sym (ap₂ clash_at ep eq)
 
-of_joins : (p q l r u v : Part) (x y : List ℕ) → p ≡ join l r → q ≡ join u v → x ≡ join_text (digest_of l) (digest_of r) → y ≡ join_text (digest_of u) (digest_of v)
-    → clash_at p q ≡ apart_or x y (option_or (clash_at l u) (clash_at r v))
+-- a comparison of two strings is the first of two searches
+apart_first : (b : Bool) (w : List ℕ × List ℕ) (rest : Option (List ℕ × List ℕ)) → cond b rest (Some w) ≡ option_or (cond b None (Some w)) rest
+apart_first true w rest = refl
+apart_first false w rest = refl
+
+-- of two joins: what their strings show, else the left halves, else the right ones
+of_joins : (p q l r u v : Part) (x y : List ℕ) (found : Option (List ℕ × List ℕ)) → p ≡ join l r → q ≡ join u v
+    → x ≡ join_text (digest_of l) (digest_of r) → y ≡ join_text (digest_of u) (digest_of v) → found ≡ apart_or x y None
+    → clash_at p q ≡ option_or found (option_or (clash_at l u) (clash_at r v))
 unfolding clash_at
-of_joins p q l r u v x y ep eq ex ey = ap₂ clash_at ep eq ∙ sym (ap₂ (λ a b. apart_or a b (option_or (clash_at l u) (clash_at r v))) ex ey)
+of_joins p q l r u v x y found ep eq ex ey is =
+    let rest : Option (List ℕ × List ℕ) = option_or (clash_at l u) (clash_at r v) in
+    ap₂ clash_at ep eq ∙ sym (ap₂ (λ a b. apart_or a b rest) ex ey) ∙ apart_first (bytes_eq x y) (x, y) rest ∙ ap (λ o. option_or o rest) (sym is)
 
-some_apart : (b : Bool) (w : List ℕ × List ℕ) (rest : Option (List ℕ × List ℕ)) → is_some (cond b None (Some w)) ≡ true → cond b None (Some w) ≡ cond b rest (Some w)
-some_apart true w rest h = absurd (true≢false (sym h))
-some_apart false w rest h = refl
-
-none_apart : (b : Bool) (w : List ℕ × List ℕ) (rest : Option (List ℕ × List ℕ)) → is_some (cond b None (Some w)) ≡ false → cond b rest (Some w) ≡ rest
-none_apart true w rest h = refl
-none_apart false w rest h = absurd (true≢false h)
-
+-- what the first of two searches finds is found
 some_first : (o p : Option (List ℕ × List ℕ)) → is_some o ≡ true → option_or o p ≡ o
 some_first None p h = absurd (true≢false (sym h))
 some_first (Some w) p h = refl
 
+-- where it finds nothing, the second says
 none_first : (o p : Option (List ℕ × List ℕ)) → is_some o ≡ false → option_or o p ≡ p
 none_first None p h = refl
 none_first (Some w) p h = absurd (true≢false h)
@@ -44,21 +47,23 @@ none_first (Some w) p h = absurd (true≢false h)
 pub of_roots : (p q l r u v : Part) (x y : List ℕ) (found : Option (List ℕ × List ℕ)) → p ≡ join l r → q ≡ join u v
     → x ≡ join_text (digest_of l) (digest_of r) → y ≡ join_text (digest_of u) (digest_of v) → found ≡ apart_or x y None → is_some found ≡ true → found ≡ clash_at p q
 of_roots p q l r u v x y found ep eq ex ey is some =
-    is ∙ some_apart (bytes_eq x y) (x, y) (option_or (clash_at l u) (clash_at r v)) (sym (ap is_some is) ∙ some) ∙ sym (of_joins p q l r u v x y ep eq ex ey)
+    sym (of_joins p q l r u v x y found ep eq ex ey is ∙ some_first found (option_or (clash_at l u) (clash_at r v)) some)
 
 -- of two joins whose strings don't
 of_halves : (p q l r u v : Part) (x y : List ℕ) (found : Option (List ℕ × List ℕ)) → p ≡ join l r → q ≡ join u v
     → x ≡ join_text (digest_of l) (digest_of r) → y ≡ join_text (digest_of u) (digest_of v) → found ≡ apart_or x y None → is_some found ≡ false
     → clash_at p q ≡ option_or (clash_at l u) (clash_at r v)
 of_halves p q l r u v x y found ep eq ex ey is none =
-    of_joins p q l r u v x y ep eq ex ey ∙ none_apart (bytes_eq x y) (x, y) (option_or (clash_at l u) (clash_at r v)) (sym (ap is_some is) ∙ none)
+    of_joins p q l r u v x y found ep eq ex ey is ∙ none_first found (option_or (clash_at l u) (clash_at r v)) none
 
+-- of two joins whose left halves differ
 pub of_left : (p q l r u v : Part) (x y : List ℕ) (found left : Option (List ℕ × List ℕ)) → p ≡ join l r → q ≡ join u v
     → x ≡ join_text (digest_of l) (digest_of r) → y ≡ join_text (digest_of u) (digest_of v) → found ≡ apart_or x y None → is_some found ≡ false
     → left ≡ clash_at l u → is_some left ≡ true → left ≡ clash_at p q
 of_left p q l r u v x y found left ep eq ex ey is none el some =
     el ∙ sym (of_halves p q l r u v x y found ep eq ex ey is none ∙ some_first (clash_at l u) (clash_at r v) (sym (ap is_some el) ∙ some))
 
+-- and of two joins whose left halves don't
 pub of_right : (p q l r u v : Part) (x y : List ℕ) (found left right : Option (List ℕ × List ℕ)) → p ≡ join l r → q ≡ join u v
     → x ≡ join_text (digest_of l) (digest_of r) → y ≡ join_text (digest_of u) (digest_of v) → found ≡ apart_or x y None → is_some found ≡ false
     → left ≡ clash_at l u → is_some left ≡ false → right ≡ clash_at r v → right ≡ clash_at p q

@@ -2,8 +2,9 @@
 use Rattle.std.proofs.Common.{◌≡◌, ◌∙◌, ◌<◌, ◌^◌, ℕ, List, [], length, get_or, Bool, true, false, ◌&&◌, Option, Some, None, refl, sym, ap, ap₂, subst, arith, IsTrue}
 use Rattle.std.specs.Prelude.{MatchOption, IsSomeAnd}
 use Rattle.std.specs.Bool.{Decides}
+use Rattle.std.specs.Str.{bytes_eq}
 use Rattle.std.specs.Cmp.Lexicographic.{pointwise}
-use Rattle.std.proofs.lemmas.Bool.{true≢false}
+use Rattle.std.proofs.lemmas.Bool.{both_ways}
 use Rattle.std.proofs.lemmas.Option.{get_or_from_slice_get}
 use Rattle.std.proofs.lemmas.Slice.Eq.{bytes_eq-Decides, slice_eq-Decides}
 use Rattle.namespace_id.specs.declared.namespaces.Namespace.{Namespace}
@@ -21,23 +22,28 @@ use Rattle.nmt_proofs.proofs.TwinLemmas.{node_count, twins_law}
 use Rattle.hash_clash.specs.declared.openings.Opening.{Opening}
 use Rattle.hash_clash.specs.Openings.{HasShape, opened_at, is_counted, is_one_name, is_one_share, is_one_digest, is_one_opening, is_leaf_at, is_one_list}
 
+-- two values that are told by their bytes are one exactly where these are
+bytes_decide : {A : Type 0} (text : A → List ℕ) (of : List ℕ → A) → ((a : A) → of (text a) ≡ a) → (a b : A) → Decides (bytes_eq (text a) (text b)) (a ≡ b)
+bytes_decide text of is a b =
+    (λ t. sym (is a) ∙ ap of ((bytes_eq-Decides (text a) (text b)).0 t) ∙ is b, λ e. (bytes_eq-Decides (text a) (text b)).1 (ap text e))
+
+-- two namespaces
 name_decides : (a b : Namespace) → Decides (is_one_name a b) (a ≡ b)
-name_decides a b = (λ t. let e : a.0 ≡ b.0 = (bytes_eq-Decides a.0 b.0).0 t in ap (λ (l : List ℕ). record { 0 = l }) e, λ e. (bytes_eq-Decides a.0 b.0).1 (ap (λ (x : Namespace). x.0) e))
+name_decides = bytes_decide (λ (x : Namespace). x.0) (λ l. record { 0 = l }) (λ x. refl)
 
+-- two shares
 share_decides : (a b : Share) → Decides (is_one_share a b) (a ≡ b)
-share_decides a b = (λ t. let e : a.0 ≡ b.0 = (bytes_eq-Decides a.0 b.0).0 t in ap (λ (l : List ℕ). record { 0 = l }) e, λ e. (bytes_eq-Decides a.0 b.0).1 (ap (λ (x : Share). x.0) e))
+share_decides = bytes_decide (λ (x : Share). x.0) (λ l. record { 0 = l }) (λ x. refl)
 
+-- two digests
 digest_decides : (a b : Digest) → Decides (is_one_digest a b) (a ≡ b)
-digest_decides a b = (λ t. let e : a.0 ≡ b.0 = (bytes_eq-Decides a.0 b.0).0 t in ap (λ (l : List ℕ). record { 0 = l }) e, λ e. (bytes_eq-Decides a.0 b.0).1 (ap (λ (x : Digest). x.0) e))
+digest_decides = bytes_decide (λ (x : Digest). x.0) (λ l. record { 0 = l }) (λ x. refl)
 
-no_more : (b : Bool) → b ≡ true → b ≡ false → ⊥
-no_more b t f = true≢false (sym t ∙ f)
-
--- where there is no fact, a clash is in hand
-some_clash : (found o : Option (List ℕ × List ℕ)) (Fact : Type 0) → found ≡ o → MatchOption o Fact (λ texts. IsClash texts.0 texts.1) → (Fact → ⊥)
+-- where a test fails that would hold by a fact, a clash is in hand
+some_clash : (found o : Option (List ℕ × List ℕ)) (Fact : Type 0) (test : Bool) → found ≡ o → MatchOption o Fact (λ texts. IsClash texts.0 texts.1) → (Fact → test ≡ true) → test ≡ false
     → IsSomeAnd found (λ texts. IsClash texts.0 texts.1)
-some_clash found None Fact e h never = absurd (never h)
-some_clash found (Some texts) Fact e h never = subst (λ (x : Option (List ℕ × List ℕ)). IsSomeAnd x (λ t. IsClash t.0 t.1)) (sym e) h
+some_clash found None Fact test e h holds fails = absurd (both_ways test fails (holds h))
+some_clash found (Some texts) Fact test e h holds fails = subst (λ (x : Option (List ℕ × List ℕ)). IsSomeAnd x (λ t. IsClash t.0 t.1)) (sym e) h
 
 -- the number of nodes
 pub nodes_fit : (n pos depth : ℕ) (a : Opening) (nodes : List Digest) → is_counted n pos a ≡ true → nodes ≡ a.path → depth ≡ halvings n → length nodes ≡ depth
@@ -63,12 +69,12 @@ pub paths_clash : (n pos : ℕ) (a b : Opening) (found : Option (List ℕ × Lis
     → digest_of (opened_at n pos a) ≡ digest_of (opened_at n pos b) → is_one_opening a b ≡ false → found ≡ clash_at (opened_at n pos a) (opened_at n pos b)
     → IsSomeAnd found (λ texts. IsClash texts.0 texts.1)
 paths_clash n pos a b found ha hb ca cb same apart e =
-    some_clash found (clash_at (opened_at n pos a) (opened_at n pos b)) ((a.name ≡ b.name) × (a.share ≡ b.share) × (a.path ≡ b.path)) e
+    some_clash found (clash_at (opened_at n pos a) (opened_at n pos b)) ((a.name ≡ b.name) × (a.share ≡ b.share) × (a.path ≡ b.path)) (is_one_opening a b) e
     (twins_law (halvings n) pos a.name b.name a.share b.share a.path b.path (opening_of n pos a ha ca) (opening_of n pos b hb cb) same)
-    (λ one. no_more (is_one_opening a b)
-    (ap₂ (λ (x y : Bool). x && y)
+    (λ one.
+    ap₂ (λ (x y : Bool). x && y)
     (ap₂ (λ (x y : Bool). x && y) ((name_decides a.name b.name).1 one.0) ((share_decides a.share b.share).1 one.1))
-    ((slice_eq-Decides digest_decides a.path b.path (pointwise is_one_digest a.path b.path) refl).1 one.2)) apart)
+    ((slice_eq-Decides digest_decides a.path b.path (pointwise is_one_digest a.path b.path) refl).1 one.2)) apart
 
 -- an opening and a list
 pub path_leaves_clash : (n pos : ℕ) (a : Opening) (names : List Namespace) (shares : List Share) (found : Option (List ℕ × List ℕ)) → IsTrue (is_leaf_count n) → pos < n
@@ -77,12 +83,12 @@ pub path_leaves_clash : (n pos : ℕ) (a : Opening) (names : List Namespace) (sh
     → found ≡ clash_at (opened_at n pos a) (whole (halvings n) names shares) → IsSomeAnd found (λ texts. IsClash texts.0 texts.1)
 path_leaves_clash n pos a names shares found count lt ha ca hn hs bn bs same apart e =
     let place : pos < 2 ^ halvings n = omega (arith, lt, power_halvings n count) in
-    some_clash found (clash_at (opened_at n pos a) (whole (halvings n) names shares)) _ e
+    some_clash found (clash_at (opened_at n pos a) (whole (halvings n) names shares)) _ (is_leaf_at names shares pos a.name a.share) e
     (leaf_law (halvings n) pos a.name a.share a.path names shares (opening_of n pos a ha ca) place (leaves_of n names shares count hn hs bn bs) same)
-    (λ one. no_more (is_leaf_at names shares pos a.name a.share)
-    (ap₂ (λ (x y : Bool). x && y)
+    (λ one.
+    ap₂ (λ (x y : Bool). x && y)
     ((name_decides (get_or names pos (record { 0 = [] })) a.name).1 (get_or_from_slice_get names pos a.name (record { 0 = [] }) one.0))
-    ((share_decides (get_or shares pos (record { 0 = [] })) a.share).1 (get_or_from_slice_get shares pos a.share (record { 0 = [] }) one.1))) apart)
+    ((share_decides (get_or shares pos (record { 0 = [] })) a.share).1 (get_or_from_slice_get shares pos a.share (record { 0 = [] }) one.1))) apart
 
 -- two lists
 pub leaves_clash : (n : ℕ) (names names' : List Namespace) (shares shares' : List Share) (found : Option (List ℕ × List ℕ)) → IsTrue (is_leaf_count n)
@@ -91,9 +97,9 @@ pub leaves_clash : (n : ℕ) (names names' : List Namespace) (shares shares' : L
     → root (halvings n) names shares ≡ root (halvings n) names' shares' → is_one_list names shares names' shares' ≡ false
     → found ≡ clash_at (whole (halvings n) names shares) (whole (halvings n) names' shares') → IsSomeAnd found (λ texts. IsClash texts.0 texts.1)
 leaves_clash n names names' shares shares' found count hn hs hn' hs' bn bs bn' bs' same apart e =
-    some_clash found (clash_at (whole (halvings n) names shares) (whole (halvings n) names' shares')) ((names ≡ names') × (shares ≡ shares')) e
+    some_clash found (clash_at (whole (halvings n) names shares) (whole (halvings n) names' shares')) ((names ≡ names') × (shares ≡ shares')) (is_one_list names shares names' shares') e
     (lists_law (halvings n) names names' shares shares' (leaves_of n names shares count hn hs bn bs) (leaves_of n names' shares' count hn' hs' bn' bs') same)
-    (λ one. no_more (is_one_list names shares names' shares')
-    (ap₂ (λ (x y : Bool). x && y)
+    (λ one.
+    ap₂ (λ (x y : Bool). x && y)
     ((slice_eq-Decides name_decides names names' (pointwise is_one_name names names') refl).1 one.0)
-    ((slice_eq-Decides share_decides shares shares' (pointwise is_one_share shares shares') refl).1 one.1)) apart)
+    ((slice_eq-Decides share_decides shares shares' (pointwise is_one_share shares shares') refl).1 one.1)) apart

@@ -1,6 +1,6 @@
 -- What an interval is, by what is known of it.
 use Rattle.std.proofs.Common.{◌≡◌, ◌∙◌, ℕ, zero, suc, ◌+◌, ◌-◌, ◌/◌, ◌^◌, ◌<◌, ◌≤◌, List, [], ◌∷◌, length, take, drop, get_or, true, false, ltb, refl, sym, ap, ap₂, subst, arith, length-drop, Bor}
-use Rattle.std.proofs.lemmas.Bool.Decides.{nat_tests}
+use Rattle.std.proofs.lemmas.Bool.{lt-ltb, le-ltb}
 use Rattle.std.proofs.lemmas.List.{length-take-le}
 use Rattle.namespace_id.specs.declared.namespaces.Namespace.{Namespace}
 use Rattle.namespace_id.specs.declared.shares.Share.{Share}
@@ -9,17 +9,11 @@ use Rattle.namespace_id.proofs.HalfLemmas.{half_power}
 use Rattle.nmt_proofs.specs.Parts.{given, leaf, join}
 use Rattle.nmt_proofs.specs.Openings.{opened, one_leaf, no_digest}
 use Rattle.nmt_proofs.specs.Clashes.{whole}
-use Rattle.nmt_proofs.proofs.TwinLemmas.{opened_left, opened_right}
+use Rattle.nmt_proofs.proofs.SingleLemmas.{opened_left, opened_right}
 use Rattle.hash_clash.specs.declared.openings.Opening.{Opening}
 use Rattle.hash_clash.specs.declared.sides.Side.{Side}
 use Rattle.hash_clash.specs.declared.sides.Side.TheVariants.{Given, Opened, Listed}
 use Rattle.hash_clash.specs.Sides.{part_of, IsSide, IsJoined}
-
-ltb-of : (a b : ℕ) → a < b → ltb a b ≡ true
-ltb-of a b h = grind (arith, nat_tests)
-
-ltb-not : (a b : ℕ) → b ≤ a → ltb a b ≡ false
-ltb-not a b h = grind (arith, nat_tests)
 
 -- one place that is opened is a leaf
 pub leaf_opened : (depth start pos : ℕ) (side : Side) (o : Bor Opening) (ns : Bor (List Digest)) → side ≡ Opened pos o ns → depth ≡ 0
@@ -27,6 +21,7 @@ pub leaf_opened : (depth start pos : ℕ) (side : Side) (o : Bor Opening) (ns : 
 unfolding opened
 leaf_opened depth start pos side o ns is none = ap₂ (λ (k : ℕ) (s : Side). part_of k start s) none is
 
+-- the part of one leaf is that leaf
 only : (names : List Namespace) (shares : List Share) (n : Namespace) (s : Share) → length names ≡ 1 → length shares ≡ 1 → whole 0 names shares ≡ leaf (get_or names 0 n) (get_or shares 0 s)
 unfolding whole
 only [] shares n s h g = absurd (omega (arith, h))
@@ -50,7 +45,7 @@ left_joined (suc d) start pos m side o ns ls rs g is fits several half lt left r
     let count : length ns.now ≡ suc d = subst (IsSide (suc d)) is fits in
     let cut : length ns.now - 1 ≡ d = omega (arith, count) in
     let size : m ≡ 2 ^ d = half ∙ ap (λ (k : ℕ). 2 ^ k) low in
-    let in_left : ltb pos (start + 2 ^ d) ≡ true = ltb-of pos (start + 2 ^ d) (omega (arith, lt, size)) in
+    let in_left : ltb pos (start + 2 ^ d) ≡ true = lt-ltb pos (start + 2 ^ d) (omega (arith, lt, size)) in
     let front : take d ns.now ≡ ls.now = ap (λ (k : ℕ). take k ns.now) (sym cut) ∙ sym left in
     let back : drop d ns.now ≡ rs.now = ap (λ (k : ℕ). drop k ns.now) (sym cut) ∙ sym right in
     record {
@@ -73,7 +68,7 @@ right_joined (suc d) start pos m side o ns ls rs g is fits several half le left 
     let low : suc d - 1 ≡ d = omega arith in
     let count : length ns.now ≡ suc d = subst (IsSide (suc d)) is fits in
     let size : m ≡ 2 ^ d = half ∙ ap (λ (k : ℕ). 2 ^ k) low in
-    let in_right : ltb pos (start + 2 ^ d) ≡ false = ltb-not pos (start + 2 ^ d) (omega (arith, le, size)) in
+    let in_right : ltb pos (start + 2 ^ d) ≡ false = le-ltb pos (start + 2 ^ d) (omega (arith, le, size)) in
     record {
       several = omega arith;
       part =
@@ -85,6 +80,7 @@ right_joined (suc d) start pos m side o ns ls rs g is fits several half le left 
       right_fits = ap length right ∙ omega (arith, count, length-drop 1 ns.now);
     }
 
+-- the part of a list, by its halves
 halved : (k : ℕ) (names : List Namespace) (shares : List Share)
     → whole (suc k) names shares ≡ join (whole k (take (2 ^ k) names) (take (2 ^ k) shares)) (whole k (drop (2 ^ k) names) (drop (2 ^ k) shares))
 unfolding whole

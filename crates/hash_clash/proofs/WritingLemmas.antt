@@ -10,6 +10,7 @@ use Rattle.namespace_id.proofs.StringLemmas.{put_next}
 abbrev pub laid : ℕ → List ℕ → List ℕ
 laid room before = before ++ replicate (room - length before) 0
 
+-- the room behind a part that is put behind others
 room_behind : (room : ℕ) (before part : List ℕ) → room - length before - length part ≡ room - length (before ++ part)
 room_behind room before part = omega (arith, length-append before part)
 
@@ -22,11 +23,13 @@ laid_more room before part old new at o a n =
     ∙ ap (λ (x : List ℕ). before ++ part ++ x) (drop-replicate (length part) (room - length before) 0)
     ∙ ap (λ (k : ℕ). before ++ part ++ replicate k 0) (room_behind room before part)
 
+-- every byte of zeros is 0
 zeros_at : (m i : ℕ) → slice_index (replicate m 0) i ≡ 0
 zeros_at zero i = refl
 zeros_at (suc m) zero = refl
 zeros_at (suc m) (suc i) = zeros_at m i
 
+-- so is every byte behind a string with zeros behind it
 zeros_after : (text : List ℕ) (m i : ℕ) → length text ≤ i → slice_index (text ++ replicate m 0) i ≡ 0
 zeros_after [] m i h = zeros_at m i
 zeros_after (x ∷ text) m zero h = absurd (omega arith)

@@ -29,13 +29,15 @@ abbrev pub is_counted : ℕ → ℕ → Opening → Bool
 is_counted n pos opening =
     has_count (halvings n) (one_leaf pos opening.name opening.share) opening.path
 
--- whether two namespaces, two shares, two digests are one
+-- whether two namespaces are one
 abbrev pub is_one_name : Namespace → Namespace → Bool
 is_one_name a b = bytes_eq a.0 b.0
 
+-- whether two shares are one
 abbrev pub is_one_share : Share → Share → Bool
 is_one_share a b = bytes_eq a.0 b.0
 
+-- whether two digests are one
 abbrev pub is_one_digest : Digest → Digest → Bool
 is_one_digest a b = bytes_eq a.0 b.0
 

@@ -3,6 +3,7 @@ use Rattle.std.proofs.Common.{◌≡◌, ◌≢◌, ◌⊎◌, ◌∙◌, ℕ, z
 use Rattle.std.specs.Prelude.{MatchOption}
 use Rattle.std.specs.Option.{option_or}
 use Rattle.std.specs.Str.{bytes_eq}
+use Rattle.std.proofs.lemmas.Option.{none-some}
 use Rattle.std.proofs.lemmas.Slice.Eq.{bytes_eq-Decides}
 use Rattle.std.proofs.lemmas.Bool.{cases_Bool, true≢false}
 use Rattle.sha2.specs.Sha256.{sha256}
@@ -17,9 +18,6 @@ pub digest-sized : (p : Part) → IsSized p → IsDigest (digest_of p)
 digest-sized (given d) h = h
 digest-sized (leaf n s) h = digest-leaf n s h.0
 digest-sized (join l r) h = digest-node (digest_of l) (digest_of r) (digest-sized l h.0) (digest-sized r h.1)
-
-none_some : {A : Type 0} {x : A} → None ≡ Some x → ⊥
-none_some e = cc
 
 -- what a comparison of two strings found
 pub compared : (x y a b : List ℕ) (rest : Option (List ℕ × List ℕ)) → apart_or x y rest ≡ Some (a, b)
@@ -36,17 +34,20 @@ compared x y a b rest e = elim (cases_Bool (bytes_eq x y)) [
 pub none_where : (x y : List ℕ) (rest : Option (List ℕ × List ℕ)) → apart_or x y rest ≡ None → (x ≡ y) × (rest ≡ None)
 none_where x y rest e = elim (cases_Bool (bytes_eq x y)) [
   | inl t ↦ ((bytes_eq-Decides x y).0 t, sym (ap (λ c. cond c rest (Some (x, y))) t) ∙ e)
-  | inr f ↦ absurd (none_some (sym e ∙ ap (λ c. cond c rest (Some (x, y))) f))
+  | inr f ↦ absurd (none-some _ (sym e ∙ ap (λ c. cond c rest (Some (x, y))) f))
 ]
 
+-- what either of two searches found
 or_cases : (o p : Option (List ℕ × List ℕ)) (w : List ℕ × List ℕ) → option_or o p ≡ Some w → (o ≡ Some w) ⊎ (p ≡ Some w)
 or_cases None p w e = inr e
 or_cases (Some x) p w e = inl e
 
+-- each of two found nothing, where neither found anything
 pub or_none : (o p : Option (List ℕ × List ℕ)) → option_or o p ≡ None → (o ≡ None) × (p ≡ None)
 or_none None p e = (refl, e)
-or_none (Some x) p e = absurd (none_some (sym e))
+or_none (Some x) p e = absurd (none-some _ (sym e))
 
+-- two different byte strings with one digest are a clash
 clash_of : (x y a b : List ℕ) → AreBytes x → AreBytes y → x ≢ y → sha256 x ≡ sha256 y → x ≡ a → y ≡ b → IsClash a b
 clash_of x y a b h g apart same e f =
     let clash : IsClash x y = record { left_bytes = h; right_bytes = g; apart = apart; digest = same } in
@@ -55,15 +56,15 @@ clash_of x y a b h g apart same e f =
 -- what was found is a clash
 pub found_is_clash : (p q : Part) (a b : List ℕ) → IsSized p → IsSized q → digest_of p ≡ digest_of q → clash_at p q ≡ Some (a, b) → IsClash a b
 unfolding clash_at
-found_is_clash (given d) q a b h k e f = absurd (none_some f)
-found_is_clash (leaf n s) (given d) a b h k e f = absurd (none_some f)
+found_is_clash (given d) q a b h k e f = absurd (none-some _ f)
+found_is_clash (leaf n s) (given d) a b h k e f = absurd (none-some _ f)
 found_is_clash (leaf n s) (leaf m t) a b h k e f = elim (compared (leaf_text n s) (leaf_text m t) a b None f) [
-  | inl x ↦ absurd (none_some x.1)
+  | inl x ↦ absurd (none-some _ x.1)
   | inr x ↦ clash_of (leaf_text n s) (leaf_text m t) a b (bytes-leaf n s h.0 h.1) (bytes-leaf m t k.0 k.1) x.0 (leaf_hash n m s t h.0 k.0 e) x.1 x.2
 ]
-found_is_clash (leaf n s) (join u v) a b h k e f = absurd (none_some f)
-found_is_clash (join l r) (given d) a b h k e f = absurd (none_some f)
-found_is_clash (join l r) (leaf m t) a b h k e f = absurd (none_some f)
+found_is_clash (leaf n s) (join u v) a b h k e f = absurd (none-some _ f)
+found_is_clash (join l r) (given d) a b h k e f = absurd (none-some _ f)
+found_is_clash (join l r) (leaf m t) a b h k e f = absurd (none-some _ f)
 found_is_clash (join l r) (join u v) a b h k e f =
     let hl = digest-sized l h.0 in
     let hr = digest-sized r h.1 in
@@ -99,18 +100,21 @@ none_found (suc n) (join l r) (join u v) dp dq h k e f =
     let sub = or_none (clash_at l u) (clash_at r v) x.1 in
     (none_found n l u dp.0 dq.0 h.0 k.0 same.0 sub.0, none_found n r v dp.1 dq.1 h.1 k.1 same.1 sub.1)
 
+-- what was found is a clash, and a fact holds where nothing was
 by_cases : (p q : Part) (Fact : Type 0) (o : Option (List ℕ × List ℕ)) → clash_at p q ≡ o → IsSized p → IsSized q → digest_of p ≡ digest_of q → (clash_at p q ≡ None → Fact)
     → MatchOption o Fact (λ texts. IsClash texts.0 texts.1)
 by_cases p q Fact None f h k e fact = fact f
 by_cases p q Fact (Some texts) f h k e fact = found_is_clash p q texts.0 texts.1 h k e f
 
--- a clash is in hand, or what follows where nothing was found
-pub clash_or : (p q : Part) (Fact : Type 0) → IsSized p → IsSized q → digest_of p ≡ digest_of q → (clash_at p q ≡ None → Fact) → ClashOr p q Fact
-clash_or p q Fact h k e fact = by_cases p q Fact (clash_at p q) refl h k e fact
+-- a clash is in hand, or what follows where both agree
+pub agree_or : (n : ℕ) (p q : Part) (Fact : Type 0) → HasDepth n p → HasDepth n q → IsSized p → IsSized q → digest_of p ≡ digest_of q → (Agree p q → Fact) → ClashOr p q Fact
+agree_or n p q Fact dp dq h k e fact = by_cases p q Fact (clash_at p q) refl h k e (λ none. fact (none_found n p q dp dq h k e none))
 
+-- a comparison of equal strings finds nothing where nothing comes after it
 same_texts : (x y : List ℕ) (rest : Option (List ℕ × List ℕ)) → x ≡ y → rest ≡ None → apart_or x y rest ≡ None
 same_texts x y rest e r = ap (λ c. cond c rest (Some (x, y))) ((bytes_eq-Decides x y).1 e) ∙ r
 
+-- neither of two found anything, where each found nothing
 both_none : (o p : Option (List ℕ × List ℕ)) → o ≡ None → p ≡ None → option_or o p ≡ None
 both_none o p e f = ap (λ x. option_or x p) e ∙ f
 

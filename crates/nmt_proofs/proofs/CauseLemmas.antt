@@ -1,34 +1,12 @@
 -- Each cause, from the checks of the body.
-use Rattle.std.proofs.Common.{◌≡◌, ℕ, Bool, true, false, Option, Some, None, refl, sym, ap, ◌∙◌, arith, inl, inr, Result, Ok, Err, IsOk, ◌==◌, List}
-use Rattle.std.proofs.lemmas.Bool.{cases_Bool, true≢false, eqb-true}
-use Rattle.std.proofs.lemmas.Bool.Decides.{nat_tests}
-use Rattle.std.proofs.lemmas.Slice.Eq.{bytes_eq-Decides}
-use Rattle.std.specs.Str.{bytes_eq}
-use Rattle.namespace_id.specs.declared.digests.Digest.{Digest}
+use Rattle.std.proofs.Common.{◌≡◌, ℕ, Bool, true, false, Option, Some, None, refl, sym, ◌∙◌, Result, Ok, Err, IsOk}
+use Rattle.std.proofs.lemmas.Bool.{true≢false}
 use Rattle.nmt_proofs.specs.declared.opening.OpenRefusal.{OpenRefusal}
 use Rattle.nmt_proofs.specs.declared.opening.OpenRefusal.TheVariants.{NodeCount, Unordered, OtherRoot, Incomplete}
 use Rattle.std.specs.Prelude.{IsErrOf}
 use Rattle.nmt_proofs.specs.Causes.{HasCause}
 
-pub other_count : (a b : ℕ) → (a ≡ b → ⊥) → (a == b) ≡ false
-other_count a b h = elim (cases_Bool (a == b)) [ inl t ↦ absurd (h (eqb-true a b t)) | inr f ↦ f ]
-
-same_self : (a : ℕ) → (a == a) ≡ true
-same_self a = grind (arith, nat_tests)
-
-pub one_count : (a b : ℕ) → a ≡ b → (a == b) ≡ true
-one_count a b h = elim (cases_Bool (a == b)) [ inl t ↦ t | inr f ↦ absurd (true≢false (sym (same_self a) ∙ ap (λ x. a == x) h ∙ f)) ]
-
-pub is_root : (d r : Digest) → d ≡ r → bytes_eq d.0 r.0 ≡ true
-is_root d r h = (bytes_eq-Decides d.0 r.0).1 (ap (λ (x : Digest). x.0) h)
-
-pub is_no_root : (d r : Digest) → (d ≡ r → ⊥) → bytes_eq d.0 r.0 ≡ false
-is_no_root d r h = elim (cases_Bool (bytes_eq d.0 r.0)) [
-  | inl t ↦ let same : d.0 ≡ r.0 = (bytes_eq-Decides d.0 r.0).0 t in absurd (h (ap (λ (l : List ℕ). record { 0 = l }) same))
-  | inr f ↦ f
-]
-
--- each cause is the answer's and no other's
+-- the answer is `Ok` exactly where every check holds
 pub accepts : (r : Result (Unit {0}) OpenRefusal) (c o v : Bool) (b : Option ℕ) → HasCause r c o v b
     → (IsOk r → (c ≡ true) × (o ≡ true) × (v ≡ true) × (b ≡ None)) × ((c ≡ true) × (o ≡ true) × (v ≡ true) × (b ≡ None) → IsOk r)
 accepts (Ok done) c o v b h = (λ k. h, λ k. refl)
@@ -37,6 +15,7 @@ accepts (Err Unordered) c o v b h = (λ k. absurd (cc), λ k. absurd (true≢fal
 accepts (Err OtherRoot) c o v b h = (λ k. absurd (cc), λ k. absurd (true≢false (sym k.2 ∙ h.2)))
 accepts (Err (Incomplete i)) c o v b h = (λ k. absurd (cc), λ k. absurd (cc))
 
+-- it names the count exactly where that is wrong
 pub node_count : (r : Result (Unit {0}) OpenRefusal) (c o v : Bool) (b : Option ℕ) → HasCause r c o v b → (IsErrOf r NodeCount → c ≡ false) × (c ≡ false → IsErrOf r NodeCount)
 node_count (Ok done) c o v b h = (λ k. absurd (cc), λ k. absurd (true≢false (sym h.0 ∙ k)))
 node_count (Err NodeCount) c o v b h = (λ k. h, λ k. refl)
@@ -44,6 +23,7 @@ node_count (Err Unordered) c o v b h = (λ k. absurd (cc), λ k. absurd (true≢
 node_count (Err OtherRoot) c o v b h = (λ k. absurd (cc), λ k. absurd (true≢false (sym h.0 ∙ k)))
 node_count (Err (Incomplete i)) c o v b h = (λ k. absurd (cc), λ k. absurd (true≢false (sym h.0 ∙ k)))
 
+-- the order exactly where the count is right and the order wrong
 pub unordered : (r : Result (Unit {0}) OpenRefusal) (c o v : Bool) (b : Option ℕ) → HasCause r c o v b
     → (IsErrOf r Unordered → (c ≡ true) × (o ≡ false)) × ((c ≡ true) × (o ≡ false) → IsErrOf r Unordered)
 unordered (Ok done) c o v b h = (λ k. absurd (cc), λ k. absurd (true≢false (sym h.1 ∙ k.1)))
@@ -52,6 +32,7 @@ unordered (Err Unordered) c o v b h = (λ k. h, λ k. refl)
 unordered (Err OtherRoot) c o v b h = (λ k. absurd (cc), λ k. absurd (true≢false (sym h.1 ∙ k.1)))
 unordered (Err (Incomplete i)) c o v b h = (λ k. absurd (cc), λ k. absurd (true≢false (sym h.1 ∙ k.1)))
 
+-- and the root exactly where it alone is wrong of the three
 pub other_root : (r : Result (Unit {0}) OpenRefusal) (c o v : Bool) (b : Option ℕ) → HasCause r c o v b
     → (IsErrOf r OtherRoot → (c ≡ true) × (o ≡ true) × (v ≡ false)) × ((c ≡ true) × (o ≡ true) × (v ≡ false) → IsErrOf r OtherRoot)
 other_root (Ok done) c o v b h = (λ k. absurd (cc), λ k. absurd (true≢false (sym h.2 ∙ k.2)))

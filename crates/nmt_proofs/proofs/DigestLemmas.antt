@@ -1,7 +1,8 @@
 -- Digests have 90 bytes, and end with the hash of the string that they stand for.
-use Rattle.std.proofs.Common.{◌≡◌, ◌∙◌, ℕ, zero, suc, ◌+◌, ◌≤◌, ◌<◌, ◌/◌, ◌%◌, ◌^◌, List, [], ◌∷◌, ◌++◌, length, take, drop, replicate, Bool, true, false, cond, refl, sym, ap, ap₂, arith, length-append, length-drop}
+use Rattle.std.proofs.Common.{◌≡◌, ◌∙◌, ℕ, zero, suc, ◌+◌, ◌≤◌, ◌<◌, ◌/◌, ◌%◌, ◌^◌, List, [], ◌∷◌, ◌++◌, length, take, drop, replicate, cond, refl, sym, ap, ap₂, arith, length-append, length-drop}
 use Rattle.std.specs.Int.{to_be_bytes, bytes_high_first, byte_at, w32}
 use Rattle.std.specs.Prelude.{slice_index}
+use Rattle.std.proofs.lemmas.Bool.{cond_both}
 use Rattle.std.proofs.lemmas.List.{length-take-le}
 use Rattle.sha2.specs.Sha256.{sha256, digest_bytes}
 use Rattle.sha2.proofs.Facts256.{length-sha256}
@@ -27,23 +28,28 @@ append_parts (x ∷ a) b (y ∷ c) d same e =
     let rest = append_parts a b c d (omega arith) tail in
     (ap₂ (λ (v : ℕ) (l : List ℕ). v ∷ l) head rest.0, rest.1)
 
+-- what is left of a number at 256 is a byte
 mod-lt : (m : ℕ) → m % 256 < 256
 mod-lt m = omega arith
 
+-- a byte of a number is one
 byte_at-lt : (k n : ℕ) → byte_at k n < 256
 byte_at-lt zero n = omega arith
 byte_at-lt (suc k) n = let m : ℕ = n / 256 ^ suc k in mod-lt m
 
+-- the bytes of a number, high byte first, are bytes
 bytes-high : (k n : ℕ) → AreBytes (bytes_high_first k n)
 bytes-high zero n i = omega arith
 bytes-high (suc k) n zero = byte_at-lt k n
 bytes-high (suc k) n (suc i) = bytes-high k n i
 
+-- so are those of the words of a hash value
 bytes-words : (h : List ℕ) (n : ℕ) → AreBytes (digest_bytes h n)
 unfolding digest_bytes
 bytes-words h zero i = omega arith
 bytes-words h (suc n) i = AreBytes-append (digest_bytes h n) (to_be_bytes w32 (slice_index h n)) (bytes-words h n) (bytes-high 4 (slice_index h n)) i
 
+-- so is one byte again and again
 bytes-replicate : (n byte : ℕ) → byte < 256 → AreBytes (replicate n byte)
 bytes-replicate zero byte h i = omega arith
 bytes-replicate (suc n) byte h zero = h
@@ -54,44 +60,46 @@ pub string-sha256 : (text : List ℕ) → IsString 32 (sha256 text)
 unfolding sha256
 string-sha256 text = record { size_is = length-sha256 text; fits = bytes-words _ 8 }
 
+-- two strings, one behind the other, are a string
 string-append : (m n k : ℕ) (a b : List ℕ) → m + n ≡ k → IsString m a → IsString n b → IsString k (a ++ b)
 string-append m n k a b sum h g = record {
   size_is = omega (arith, length-append a b, h.size_is, g.size_is, sum);
   fits = AreBytes-append a b h.fits g.fits;
 }
 
+-- so is a part of a string
 string-part : (from size n : ℕ) (a : List ℕ) → from + size ≤ n → IsString n a → IsString size (take size (drop from a))
 string-part from size n a within h = record {
   size_is = length-take-le size (drop from a) (omega (arith, length-drop from a, h.size_is));
   fits = AreBytes-take size (drop from a) (AreBytes-drop from a h.fits);
 }
 
-either : (b : Bool) (x y : Namespace) → IsNamespace x → IsNamespace y → IsNamespace (cond b x y)
-either true x y h g = h
-either false x y h g = g
-
+-- the least namespace of a digest is one
 pub name-least : (d : Digest) → IsDigest d → IsNamespace (least_of d)
 name-least d h = string-part 0 29 90 d.0 (omega arith) h
 
+-- so is its greatest
 pub name-greatest : (d : Digest) → IsDigest d → IsNamespace (greatest_of d)
 name-greatest d h = string-part 29 29 90 d.0 (omega arith) h
 
+-- so is that of parity shares
 pub name-parity : IsNamespace parity
 name-parity = record { size_is = refl; fits = bytes-replicate 29 255 (omega arith) }
 
+-- so is the greatest of a node
 pub name-joined : (l r : Digest) → IsDigest l → IsDigest r → IsNamespace (joined_greatest l r)
 unfolding joined_greatest
 name-joined l r h g =
-    either (is_parity (least_of l)) parity (cond (is_parity (least_of r)) (greatest_of l) (greater_of (greatest_of l) (greatest_of r))) name-parity
-    (either (is_parity (least_of r)) (greatest_of l) (greater_of (greatest_of l) (greatest_of r)) (name-greatest l h)
-    (either (is_at_most (greatest_of l) (greatest_of r)) (greatest_of r) (greatest_of l) (name-greatest r g) (name-greatest l h)))
+    cond_both (is_parity (least_of l)) parity (cond (is_parity (least_of r)) (greatest_of l) (greater_of (greatest_of l) (greatest_of r))) IsNamespace (λ t. name-parity)
+    (λ f. cond_both (is_parity (least_of r)) (greatest_of l) (greater_of (greatest_of l) (greatest_of r)) IsNamespace (λ t. name-greatest l h)
+    (λ f. cond_both (is_at_most (greatest_of l) (greatest_of r)) (greatest_of r) (greatest_of l) IsNamespace (λ t. name-greatest r g) (λ f. name-greatest l h)))
 
--- the digest of a leaf
+-- the digest of a leaf is one
 pub digest-leaf : (n : Namespace) (s : Share) → IsNamespace n → IsDigest (leaf_digest n s)
 unfolding leaf_digest
 digest-leaf n s h = string-append 58 32 90 (n.0 ++ n.0) (sha256 (leaf_text n s)) refl (string-append 29 29 58 n.0 n.0 refl h h) (string-sha256 (leaf_text n s))
 
--- and that of a node
+-- so is that of a node
 pub digest-node : (l r : Digest) → IsDigest l → IsDigest r → IsDigest (node_digest l r)
 unfolding node_digest
 digest-node l r h g =
@@ -99,14 +107,16 @@ digest-node l r h g =
     (string-append 29 29 58 (least_of l).0 (joined_greatest l r).0 refl (name-least l h) (name-joined l r h g))
     (string-sha256 (join_text l r))
 
+-- a byte before bytes
 cons_bytes : (a : ℕ) (bytes : List ℕ) → a < 256 → AreBytes bytes → AreBytes (a ∷ bytes)
 cons_bytes a bytes h g zero = h
 cons_bytes a bytes h g (suc i) = g i
 
--- the strings that are hashed are byte strings
+-- the string that is hashed for a leaf is a byte string
 pub bytes-leaf : (n : Namespace) (s : Share) → IsNamespace n → IsShare s → AreBytes (leaf_text n s)
 bytes-leaf n s h g = cons_bytes 0 (n.0 ++ s.0) (omega arith) (AreBytes-append n.0 s.0 h.fits g.fits)
 
+-- so is that for a node
 pub bytes-join : (l r : Digest) → IsDigest l → IsDigest r → AreBytes (join_text l r)
 bytes-join l r h g = cons_bytes 1 (l.0 ++ r.0) (omega arith) (AreBytes-append l.0 r.0 h.fits g.fits)
 

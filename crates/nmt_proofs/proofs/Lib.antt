@@ -1,5 +1,7 @@
-pub mod StepLemmas
+pub mod ListLemmas
 pub mod BegunLemmas
+pub mod SingleLemmas
+pub mod StepLemmas
 pub mod ValueLemmas
 pub mod CauseLemmas
 pub mod ShadowLemmas
@@ -8,8 +10,7 @@ pub mod DigestLemmas
 pub mod AgreeLemmas
 pub mod WholeLemmas
 pub mod ShownLemmas
+pub mod PutLemmas
 pub mod ListedLemmas
 pub mod TwinLemmas
 pub mod MadeLemmas
-pub mod PutLemmas
-pub mod SingleLemmas

@@ -1,8 +1,8 @@
 -- An opening that agrees with a list's part shows the list's leaves, and its nodes are the list's.
-use Rattle.std.proofs.Common.{◌≡◌, ◌∙◌, ℕ, zero, suc, ◌+◌, ◌^◌, ◌<◌, ◌≤◌, List, [], ◌∷◌, ◌++◌, length, take, drop, get_or, Bool, false, cond, ltb, Some, None, refl, sym, ap, subst, subst₂, inl, inr, arith}
-use Rattle.std.specs.List.{AllByRecursion, slice_get}
+use Rattle.std.proofs.Common.{◌≡◌, ◌∙◌, ℕ, zero, suc, ◌+◌, ◌^◌, ◌<◌, ◌≤◌, List, [], ◌∷◌, ◌++◌, length, take, drop, Bool, false, cond, Some, None, refl, sym, ap, subst, subst₂, arith}
+use Rattle.std.specs.List.{slice_get}
 use Rattle.std.proofs.lemmas.List.{take-append-drop}
-use Rattle.std.proofs.lemmas.Bool.{cases_Bool, ltb-true, ltb-false, eqb-true}
+use Rattle.std.proofs.lemmas.Bool.{eqb-true}
 use Rattle.std.proofs.Math.Nat.{pow-suc}
 use Rattle.namespace_id.specs.declared.namespaces.Namespace.{Namespace}
 use Rattle.namespace_id.specs.declared.shares.Share.{Share}
@@ -13,50 +13,31 @@ use Rattle.nmt_proofs.specs.Parts.{Part, leaf, join, digest_of}
 use Rattle.nmt_proofs.specs.Openings.{Shown, begun, is_shown, outside, opened, no_digest, one_leaf}
 use Rattle.nmt_proofs.specs.Clashes.{Agree, HasDepth, ClashOr, clash_at, whole, AreLeaves, IsOpening, ArePlaces, AreListed}
 use Rattle.nmt_proofs.specs.Making.{spans}
-use Rattle.nmt_proofs.proofs.AgreeLemmas.{clash_or, none_found, fit_together}
+use Rattle.nmt_proofs.proofs.ListLemmas.{each-append, same_one}
+use Rattle.nmt_proofs.proofs.BegunLemmas.{places-halves}
+use Rattle.nmt_proofs.proofs.SingleLemmas.{single}
+use Rattle.nmt_proofs.proofs.AgreeLemmas.{agree_or, fit_together}
 use Rattle.nmt_proofs.proofs.WholeLemmas.{digest-whole, depth-whole, sized-whole, full-whole, whole-halved, whole_is_span, one_list}
-use Rattle.nmt_proofs.proofs.ShownLemmas.{single, half_counts, opening-sized, opening-deep}
+use Rattle.nmt_proofs.proofs.ShownLemmas.{half_counts, opening-sized, opening-deep}
 use Rattle.nmt_proofs.proofs.PutLemmas.{halved_nodes, no_node}
 
--- places before the middle, and the others
-places-halves : (low mid high : ℕ) (xs : List Shown) → low ≤ mid → ArePlaces low high xs → ArePlaces low mid (take (begun mid xs) xs) × ArePlaces mid high (drop (begun mid xs) xs)
-unfolding begun
-places-halves low mid high [] h of = (tt, tt)
-places-halves low mid high (s ∷ xs) h of =
-    let Goal : Bool → Type 0 = λ b. ArePlaces low mid (take (cond b (suc (begun mid xs)) 0) (s ∷ xs)) × ArePlaces mid high (drop (cond b (suc (begun mid xs)) 0) (s ∷ xs)) in
-    elim (cases_Bool (ltb s.from mid)) [
-      | inl t ↦
-          let lt : s.from < mid = ltb-true s.from mid t in
-          let rest = places-halves (s.from + 1) mid high xs (omega (arith, lt)) of.3 in
-          subst Goal (sym t) ((of.0, of.1, lt, rest.0), rest.1)
-      | inr f ↦ subst Goal (sym f) (tt, (of.0, ltb-false s.from mid f, of.2, of.3))
-    ]
-
-each-append : {A : Type 0} (P : A → Type 0) (xs ys : List A) → AllByRecursion P xs → AllByRecursion P ys → AllByRecursion P (xs ++ ys)
-each-append P [] ys h k = k
-each-append P (x ∷ xs) ys h k = (h.0, each-append P xs ys h.1 k)
-
+-- where there is no place, none is shown
 no_more : (low high : ℕ) (xs : List Shown) → high ≤ low → ArePlaces low high xs → xs ≡ []
 no_more low high [] h of = refl
 no_more low high (s ∷ xs) h of = absurd (omega (arith, of.1, of.2))
 
-one_node : (nodes : List Digest) (d : Digest) → length nodes ≡ 1 → get_or nodes 0 no_digest ≡ d → nodes ≡ d ∷ []
-one_node [] d h e = absurd (omega arith)
-one_node (n ∷ m ∷ nodes) d h e = absurd (omega arith)
-one_node (n ∷ []) d h e = ap (λ (x : Digest). x ∷ []) e
-
--- what is opened from a place on
+-- where what is opened from a place on agrees with a list, its leaves and its nodes are the list's
 pub agreed : (d st : ℕ) (ns : List Namespace) (ss : List Share) (xs : List Shown) (nodes : List Digest) → ArePlaces st (st + 2 ^ d) xs → length nodes ≡ length (outside d st xs)
     → Agree (opened d st xs nodes) (whole d (drop st ns) (drop st ss)) → AreListed ns ss xs × (nodes ≡ spans (leaf_digests ns ss) (outside d st xs))
 unfolding opened outside
-agreed zero st ns ss [] nodes of count a = (tt, one_node nodes (span (leaf_digests ns ss) st 0) count (a ∙ whole_is_span 0 st ns ss))
+agreed zero st ns ss [] nodes of count a = (tt, same_one nodes (span (leaf_digests ns ss) st 0 ∷ []) no_digest count refl (a ∙ whole_is_span 0 st ns ss))
 agreed zero st ns ss (s ∷ xs) nodes of count a =
     let at : s.from ≡ st = omega (arith, of.1, of.2) in
     let none : xs ≡ [] = no_more (s.from + 1) (st + 2 ^ 0) xs (omega (arith, of.1)) of.3 in (
       (subst (λ (k : ℕ). Agree s.part (whole 0 (drop k ns) (drop k ss))) (sym at) a, subst (λ (l : List Shown). AreListed ns ss l) (sym none) tt),
       no_node (leaf_digests ns ss) [] nodes refl count,
     )
-agreed (suc d) st ns ss [] nodes of count a = (tt, one_node nodes (span (leaf_digests ns ss) st (suc d)) count (a ∙ whole_is_span (suc d) st ns ss))
+agreed (suc d) st ns ss [] nodes of count a = (tt, same_one nodes (span (leaf_digests ns ss) st (suc d) ∷ []) no_digest count refl (a ∙ whole_is_span (suc d) st ns ss))
 agreed (suc d) st ns ss (s ∷ ys) nodes of count a =
     let xs : List Shown = s ∷ ys in
     let m : ℕ = st + 2 ^ d in
@@ -79,15 +60,17 @@ agreed (suc d) st ns ss (s ∷ ys) nodes of count a =
           ∙ halved_nodes (leaf_digests ns ss) (outside (suc d) st xs) lo ro (take j nodes) (drop j nodes) (ap (λ (b : Bool). cond b [] (lo ++ ro)) one_place) l.1 r.1,
     )
 
+-- an opening under the root of a list: a clash is in hand, or what follows where both agree
+listed_or : (d : ℕ) (xs : List Shown) (nodes : List Digest) (ns : List Namespace) (ss : List Share) (Fact : Type 0) → IsOpening d xs nodes → AreLeaves d ns ss
+    → digest_of (opened d 0 xs nodes) ≡ root d ns ss → (Agree (opened d 0 xs nodes) (whole d ns ss) → Fact) → ClashOr (opened d 0 xs nodes) (whole d ns ss) Fact
+listed_or d xs nodes ns ss Fact h g e fact =
+    agree_or d (opened d 0 xs nodes) (whole d ns ss) Fact (opening-deep d xs nodes h) (depth-whole d ns ss)
+    (opening-sized d xs nodes h) (sized-whole d ns ss g) (e ∙ sym (digest-whole d ns ss)) fact
+
 -- the law of an opening under the root of a list
 pub opening_law : (d : ℕ) (xs : List Shown) (nodes : List Digest) (ns : List Namespace) (ss : List Share) → IsOpening d xs nodes → AreLeaves d ns ss
     → digest_of (opened d 0 xs nodes) ≡ root d ns ss → ClashOr (opened d 0 xs nodes) (whole d ns ss) (Agree (opened d 0 xs nodes) (whole d ns ss))
-opening_law d xs nodes ns ss h g e =
-    let sized = opening-sized d xs nodes h in
-    let full = sized-whole d ns ss g in
-    let same : digest_of (opened d 0 xs nodes) ≡ digest_of (whole d ns ss) = e ∙ sym (digest-whole d ns ss) in
-    clash_or (opened d 0 xs nodes) (whole d ns ss) (Agree (opened d 0 xs nodes) (whole d ns ss)) sized full same
-    (none_found d (opened d 0 xs nodes) (whole d ns ss) (opening-deep d xs nodes h) (depth-whole d ns ss) sized full same)
+opening_law d xs nodes ns ss h g e = listed_or d xs nodes ns ss (Agree (opened d 0 xs nodes) (whole d ns ss)) h g e (λ same. same)
 
 -- of one that shows single places
 pub places_law : (d : ℕ) (xs : List Shown) (nodes : List Digest) (ns : List Namespace) (ss : List Share) → IsOpening d xs nodes → ArePlaces 0 (2 ^ d) xs → AreLeaves d ns ss
@@ -95,12 +78,8 @@ pub places_law : (d : ℕ) (xs : List Shown) (nodes : List Digest) (ns : List Na
     → ClashOr (opened d 0 xs nodes) (whole d ns ss) (AreListed ns ss xs × (nodes ≡ spans (leaf_digests ns ss) (outside d 0 xs)))
 places_law d xs nodes ns ss h of g e =
     let zero_first : 2 ^ d ≡ 0 + 2 ^ d = omega arith in
-    let sized = opening-sized d xs nodes h in
-    let full = sized-whole d ns ss g in
-    let same : digest_of (opened d 0 xs nodes) ≡ digest_of (whole d ns ss) = e ∙ sym (digest-whole d ns ss) in
-    clash_or (opened d 0 xs nodes) (whole d ns ss) (AreListed ns ss xs × (nodes ≡ spans (leaf_digests ns ss) (outside d 0 xs))) sized full same
-    (λ none. agreed d 0 ns ss xs nodes (subst (λ (k : ℕ). ArePlaces 0 k xs) zero_first of) (eqb-true _ _ h.count)
-    (none_found d (opened d 0 xs nodes) (whole d ns ss) (opening-deep d xs nodes h) (depth-whole d ns ss) sized full same none))
+    listed_or d xs nodes ns ss (AreListed ns ss xs × (nodes ≡ spans (leaf_digests ns ss) (outside d 0 xs))) h g e
+    (agreed d 0 ns ss xs nodes (subst (λ (k : ℕ). ArePlaces 0 k xs) zero_first of) (eqb-true _ _ h.count))
 
 -- the list's leaf at a place
 leaf_listed : (pos : ℕ) (ns : List Namespace) (ss : List Share) (n : Namespace) (s : Share) → pos < length ns → pos < length ss
@@ -111,21 +90,16 @@ leaf_listed (suc pos) (m ∷ ns) (t ∷ ss) n s h g a = leaf_listed pos ns ss n 
 leaf_listed pos [] ss n s h g a = absurd (omega arith)
 leaf_listed pos (m ∷ ns) [] n s h g a = absurd (omega arith)
 
--- of one leaf
+-- of one that shows one leaf
 pub leaf_law : (d pos : ℕ) (n : Namespace) (s : Share) (nodes : List Digest) (ns : List Namespace) (ss : List Share) → IsOpening d (one_leaf pos n s) nodes → pos < 2 ^ d → AreLeaves d ns ss
     → digest_of (opened d 0 (one_leaf pos n s) nodes) ≡ root d ns ss
     → ClashOr (opened d 0 (one_leaf pos n s) nodes) (whole d ns ss)
     ((slice_get ns pos ≡ Some n) × (slice_get ss pos ≡ Some s) × (nodes ≡ spans (leaf_digests ns ss) (outside d 0 (one_leaf pos n s))))
 leaf_law d pos n s nodes ns ss h lt g e =
     let xs : List Shown = one_leaf pos n s in
-    let sized = opening-sized d xs nodes h in
-    let full = sized-whole d ns ss g in
-    let same : digest_of (opened d 0 xs nodes) ≡ digest_of (whole d ns ss) = e ∙ sym (digest-whole d ns ss) in
-    clash_or (opened d 0 xs nodes) (whole d ns ss)
-    ((slice_get ns pos ≡ Some n) × (slice_get ss pos ≡ Some s) × (nodes ≡ spans (leaf_digests ns ss) (outside d 0 xs))) sized full same
-    (λ none.
-    let listed = agreed d 0 ns ss xs nodes (refl, omega arith, omega (arith, lt), tt) (eqb-true _ _ h.count)
-    (none_found d (opened d 0 xs nodes) (whole d ns ss) (opening-deep d xs nodes h) (depth-whole d ns ss) sized full same none) in
+    listed_or d xs nodes ns ss ((slice_get ns pos ≡ Some n) × (slice_get ss pos ≡ Some s) × (nodes ≡ spans (leaf_digests ns ss) (outside d 0 xs))) h g e
+    (λ same.
+    let listed = agreed d 0 ns ss xs nodes (refl, omega arith, omega (arith, lt), tt) (eqb-true _ _ h.count) same in
     let here = leaf_listed pos ns ss n s (omega (arith, g.name_count)) (omega (arith, g.share_count)) listed.0.0 in
     (here.0, here.1, listed.1))
 
@@ -133,11 +107,8 @@ leaf_law d pos n s nodes ns ss h lt g e =
 pub lists_law : (d : ℕ) (ns ms : List Namespace) (ss ts : List Share) → AreLeaves d ns ss → AreLeaves d ms ts → root d ns ss ≡ root d ms ts
     → ClashOr (whole d ns ss) (whole d ms ts) ((ns ≡ ms) × (ss ≡ ts))
 lists_law d ns ms ss ts h g e =
-    let sized = sized-whole d ns ss h in
-    let sized' = sized-whole d ms ts g in
-    let same : digest_of (whole d ns ss) ≡ digest_of (whole d ms ts) = digest-whole d ns ss ∙ e ∙ sym (digest-whole d ms ts) in
-    clash_or (whole d ns ss) (whole d ms ts) ((ns ≡ ms) × (ss ≡ ts)) sized sized' same
-    (λ none. one_list d ns ms ss ts h g (none_found d (whole d ns ss) (whole d ms ts) (depth-whole d ns ss) (depth-whole d ms ts) sized sized' same none))
+    agree_or d (whole d ns ss) (whole d ms ts) ((ns ≡ ms) × (ss ≡ ts)) (depth-whole d ns ss) (depth-whole d ms ts)
+    (sized-whole d ns ss h) (sized-whole d ms ts g) (digest-whole d ns ss ∙ e ∙ sym (digest-whole d ms ts)) (one_list d ns ms ss ts h g)
 
 -- the law of two parts of which neither differs from a list's
 pub symmetric_law : (d : ℕ) (p q : Part) (ns : List Namespace) (ss : List Share) → HasDepth d p → HasDepth d q → AreLeaves d ns ss → clash_at p (whole d ns ss) ≡ None → clash_at q (whole d ns ss) ≡ None

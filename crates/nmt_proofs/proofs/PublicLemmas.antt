@@ -7,7 +7,7 @@ use Rattle.nmt_proofs.specs.declared.opening.OpenRefusal.{OpenRefusal}
 use Rattle.nmt_proofs.specs.Openings.{Shown, has_count, has_order, has_root, Opens, shadow}
 use Rattle.nmt_proofs.specs.Pieces.{shown}
 use Rattle.nmt_proofs.specs.Causes.{HasCause}
-use Rattle.nmt_proofs.proofs.ShadowLemmas.{AreInOrder, outside-shadow, alike-shadow}
+use Rattle.nmt_proofs.proofs.ShadowLemmas.{AreInOrder, given_alone, outside-parts, alike-shadow}
 use Rattle.nmt_proofs.proofs.CauseLemmas.{accepts}
 
 -- the checks see the same where pieces have the digests of what is shown
@@ -18,12 +18,13 @@ pub same_cause : (d : ℕ) (ps : List Piece) (ss : List Shown) (ns : List Digest
 same_cause d ps ss ns root b r e o h =
     let alike = alike-shadow d 0 ss ns o in
     let count : has_count d (shown ps) ns ≡ has_count d ss ns =
-    ap (λ (l : List Shown). has_count d l ns) e ∙ ap (λ (l : List (ℕ × ℕ)). length ns == length l) (outside-shadow d 0 ss) in
+    ap (λ (l : List Shown). has_count d l ns) e ∙ ap (λ (l : List (ℕ × ℕ)). length ns == length l) (outside-parts given_alone d 0 ss) in
     let order : has_order d (shown ps) ns ≡ has_order d ss ns = ap (λ (l : List Shown). has_order d l ns) e ∙ alike.order in
     let value : has_root d (shown ps) ns root ≡ has_root d ss ns root =
     ap (λ (l : List Shown). has_root d l ns root) e ∙ ap (λ (x : Digest). bytes_eq x.0 root.0) alike.digest in
     subst (λ (x : Bool × Bool × Bool). HasCause r x.0 x.1 x.2 b) (λ i. (count i, order i, value i)) h
 
+-- the answer is `Ok` exactly where the nodes open what is shown
 pub opens : (d : ℕ) (ss : List Shown) (ns : List Digest) (root : Digest) (r : Result (Unit {0}) OpenRefusal)
     → HasCause r (has_count d ss ns) (has_order d ss ns) (has_root d ss ns root) None
     → (IsOk r → Opens d ss ns root) × (Opens d ss ns root → IsOk r)

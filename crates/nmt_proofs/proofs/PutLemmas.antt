@@ -1,6 +1,6 @@
 -- Nodes written interval by interval.
 use Rattle.std.proofs.Common.{set, ◌-◌, ◌≡◌, ◌∙◌, ℕ, suc, ◌+◌, ◌*◌, ◌/◌, ◌%◌, ◌^◌, ◌<◌, List, [], ◌∷◌, ◌++◌, length, sym, ap, ap₂, arith}
-use Rattle.std.proofs.lemmas.List.{map-append}
+use Rattle.std.proofs.lemmas.List.{map-append, nil_from_length}
 use Rattle.std.proofs.lemmas.Nat.{div-add-mod'}
 use Rattle.std.proofs.Math.Nat.{pow-suc, mul_assoc, mul_comm, mul-mod_left, add-mod_right}
 use Rattle.namespace_id.specs.declared.digests.Digest.{Digest}
@@ -20,8 +20,7 @@ one_node leaves whole start depth (n ∷ []) d e h ed = ap (λ (x : Digest). x �
 
 -- one that is shown takes none
 pub no_node : (leaves : List Digest) (whole : List (ℕ × ℕ)) (ns : List Digest) → whole ≡ [] → length ns ≡ length whole → ns ≡ spans leaves whole
-no_node leaves whole [] e h = sym (ap (spans leaves) e)
-no_node leaves whole (n ∷ ns) e h = absurd (omega (arith, h, ap length e))
+no_node leaves whole ns e h = nil_from_length ns (h ∙ ap length e) ∙ sym (ap (spans leaves) e)
 
 -- a multiple of a power of two is one of the power below
 pub left_aligned : (d start : ℕ) → 0 < d → start % 2 ^ d ≡ 0 → start % 2 ^ (d - 1) ≡ 0

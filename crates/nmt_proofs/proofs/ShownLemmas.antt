@@ -1,42 +1,34 @@
 -- What is opened: its digests are sized, and its leaves stand at depth 0.
-use Rattle.std.proofs.Common.{◌≡◌, ◌∙◌, ℕ, zero, suc, ◌+◌, ◌^◌, ◌<◌, List, [], ◌∷◌, ◌++◌, length, take, drop, get_or, Bool, true, false, ◌==◌, cond, refl, sym, ap, subst, inl, inr, arith, length-append, length-drop}
+use Rattle.std.proofs.Common.{◌≡◌, ◌∙◌, ℕ, zero, suc, ◌+◌, ◌^◌, List, [], ◌∷◌, ◌++◌, length, take, drop, get_or, Bool, true, false, cond, refl, sym, ap, subst, inl, inr, arith, length-append, length-drop}
 use Rattle.std.proofs.lemmas.List.{length-take-le}
 use Rattle.std.proofs.lemmas.Bool.{cases_Bool, eqb-true, true≢false}
-use Rattle.std.proofs.Math.Nat.{pow-suc}
 use Rattle.namespace_id.specs.declared.digests.Digest.{Digest}
 use Rattle.namespace_id.specs.Digests.{IsDigest, AreDigests}
 use Rattle.nmt_proofs.specs.Parts.{Part, given, leaf, join}
 use Rattle.nmt_proofs.specs.Openings.{Shown, begun, is_shown, outside, opened, no_digest}
 use Rattle.nmt_proofs.specs.Clashes.{IsSized, HasDepth, IsShown, AreShown, IsOpening}
-use Rattle.nmt_proofs.proofs.WholeLemmas.{each-take, each-drop}
+use Rattle.nmt_proofs.proofs.ListLemmas.{each-take, each-drop}
+use Rattle.nmt_proofs.proofs.SingleLemmas.{single}
 
+-- what may be shown is sized
 pub shown-sized : (size : ℕ) (p : Part) → IsShown size p → IsSized p
 shown-sized size (given d) h = h
 shown-sized size (leaf n s) h = (h.1, h.2)
 shown-sized size (join l r) h = elim h [ ]
 
+-- and it stands for one place, if it is a leaf
 pub shown-flat : (size : ℕ) (p : Part) → IsShown size p → HasDepth 0 p
 shown-flat size (given d) h = tt
 shown-flat size (leaf n s) h = tt
 shown-flat size (join l r) h = elim h [ ]
 
-pub positive : (d : ℕ) → 0 < 2 ^ d
-positive zero = omega arith
-positive (suc d) = omega (arith, positive d, pow-suc 2 d)
-
--- an interval of more than one place isn't a single place
-pub single : (d : ℕ) (s : Shown) → s.size ≡ 1 → is_shown (suc d) s ≡ false
-unfolding is_shown
-single d s h = elim (cases_Bool (s.size == 2 ^ suc d)) [
-  | inl t ↦ absurd (omega (arith, eqb-true s.size (2 ^ suc d) t, h, positive d, pow-suc 2 d))
-  | inr f ↦ f
-]
-
+-- an interval of several places that is shown is a given digest
 shown-deep : (d : ℕ) (s : Shown) (p : Part) → s.part ≡ p → IsShown s.size p → is_shown (suc d) s ≡ true → HasDepth (suc d) p
 shown-deep d s (given e) is h t = tt
 shown-deep d s (leaf n a) is h t = absurd (true≢false (sym t ∙ single d s h.0))
 shown-deep d s (join l r) is h t = elim h [ ]
 
+-- the only node is a digest
 first_sized : (ns : List Digest) (o : Digest) → AreDigests ns → length ns ≡ 1 → IsDigest (get_or ns 0 o)
 first_sized [] o h e = absurd (omega arith)
 first_sized (n ∷ ns) o h e = h.0
@@ -48,6 +40,7 @@ half_counts b ns l r f e =
     let sum : length ns ≡ length l + length r = e ∙ ap (λ (c : Bool). length (cond c [] (l ++ r))) f ∙ length-append l r in
     (length-take-le (length l) ns (omega (arith, sum)), omega (arith, sum, length-drop (length l) ns))
 
+-- what is opened of shown parts and as many nodes as they leave out is sized
 pub sized-opened : (d st : ℕ) (ss : List Shown) (ns : List Digest) → AreShown ss → AreDigests ns → length ns ≡ length (outside d st ss) → IsSized (opened d st ss ns)
 unfolding opened outside
 sized-opened zero st [] ns h k e = first_sized ns no_digest k e
@@ -72,6 +65,7 @@ sized-opened (suc d) st (s ∷ ss) ns h k e =
           subst IsSized (sym (ap (λ (b : Bool). cond b s.part joined) f)) both
     ]
 
+-- and its leaves stand for one place each
 pub depth-opened : (d st : ℕ) (ss : List Shown) (ns : List Digest) → AreShown ss → HasDepth d (opened d st ss ns)
 unfolding opened outside
 depth-opened zero st [] ns h = tt
@@ -93,9 +87,10 @@ depth-opened (suc d) st (s ∷ ss) ns h =
           subst (HasDepth (suc d)) (sym (ap (λ (b : Bool). cond b s.part joined) f)) both
     ]
 
--- of an opening
+-- what an opening opens is sized
 pub opening-sized : (d : ℕ) (ss : List Shown) (ns : List Digest) → IsOpening d ss ns → IsSized (opened d 0 ss ns)
 opening-sized d ss ns h = sized-opened d 0 ss ns h.parts h.node_bytes (eqb-true _ _ h.count)
 
+-- and its leaves stand for one place each
 pub opening-deep : (d : ℕ) (ss : List Shown) (ns : List Digest) → IsOpening d ss ns → HasDepth d (opened d 0 ss ns)
 opening-deep d ss ns h = depth-opened d 0 ss ns h.parts

@@ -1,7 +1,6 @@
 -- The part of a whole list of leaves.
-use Rattle.std.proofs.Common.{◌≡◌, ◌∙◌, ℕ, zero, suc, ◌+◌, ◌^◌, ◌≤◌, List, [], ◌∷◌, ◌++◌, length, take, drop, get_or, refl, sym, ap, ap₂, arith, length-drop}
-use Rattle.std.specs.List.{AllByRecursion}
-use Rattle.std.proofs.lemmas.List.{length-take-le, take-take, drop-drop, drop-take, take-append-drop}
+use Rattle.std.proofs.Common.{◌≡◌, ◌∙◌, ℕ, zero, suc, ◌+◌, ◌^◌, ◌≤◌, List, [], ◌∷◌, take, drop, get_or, refl, ap, ap₂, arith, length-drop}
+use Rattle.std.proofs.lemmas.List.{length-take-le, take-take, drop-drop, drop-take}
 use Rattle.std.proofs.Math.Nat.{pow-suc}
 use Rattle.namespace_id.specs.declared.namespaces.Namespace.{Namespace}
 use Rattle.namespace_id.specs.declared.shares.Share.{Share}
@@ -13,18 +12,8 @@ use Rattle.nmt_tree.specs.Levels.{leaf_digests, span}
 use Rattle.nmt_proofs.specs.Parts.{join, digest_of}
 use Rattle.nmt_proofs.specs.Openings.{no_digest}
 use Rattle.nmt_proofs.specs.Clashes.{whole, AreLeaves, IsSized, HasDepth, Agree}
+use Rattle.nmt_proofs.proofs.ListLemmas.{each-take, each-drop, same_halves, same_one}
 use Rattle.nmt_proofs.proofs.AgreeLemmas.{IsFull}
-
--- facts of each element of a list hold of each of a part of it
-pub each-take : {A : Type 0} (P : A → Type 0) (n : ℕ) (xs : List A) → AllByRecursion P xs → AllByRecursion P (take n xs)
-each-take P zero xs h = tt
-each-take P (suc n) [] h = tt
-each-take P (suc n) (x ∷ xs) h = (h.0, each-take P n xs h.1)
-
-pub each-drop : {A : Type 0} (P : A → Type 0) (n : ℕ) (xs : List A) → AllByRecursion P xs → AllByRecursion P (drop n xs)
-each-drop P zero xs h = h
-each-drop P (suc n) [] h = tt
-each-drop P (suc n) (x ∷ xs) h = each-drop P n xs h.1
 
 -- the digest of the part is the root of the list
 pub digest-whole : (d : ℕ) (ns : List Namespace) (ss : List Share) → digest_of (whole d ns ss) ≡ root d ns ss
@@ -43,7 +32,7 @@ depth-whole zero [] ss = tt
 depth-whole zero (n ∷ ns) [] = tt
 depth-whole (suc d) ns ss = (depth-whole d (take (2 ^ d) ns) (take (2 ^ d) ss), depth-whole d (drop (2 ^ d) ns) (drop (2 ^ d) ss))
 
--- the halves of a list of leaves
+-- the left half of a list of leaves
 pub leaves-left : (d : ℕ) (ns : List Namespace) (ss : List Share) → AreLeaves (suc d) ns ss → AreLeaves d (take (2 ^ d) ns) (take (2 ^ d) ss)
 leaves-left d ns ss h = record {
   name_count = length-take-le (2 ^ d) ns (omega (arith, pow-suc 2 d, h.name_count));
@@ -52,6 +41,7 @@ leaves-left d ns ss h = record {
   share_bytes = each-take IsShare (2 ^ d) ss h.share_bytes;
 }
 
+-- and its right half
 pub leaves-right : (d : ℕ) (ns : List Namespace) (ss : List Share) → AreLeaves (suc d) ns ss → AreLeaves d (drop (2 ^ d) ns) (drop (2 ^ d) ss)
 leaves-right d ns ss h = record {
   name_count = omega (arith, pow-suc 2 d, h.name_count, length-drop (2 ^ d) ns);
@@ -127,11 +117,6 @@ whole_is_span zero st ns ss = one_is_leaf st ns ss
 whole_is_span (suc d) st ns ss =
     ap digest_of (whole-halved d st ns ss) ∙ ap₂ node_digest (whole_is_span d st ns ss) (whole_is_span d (st + 2 ^ d) ns ss)
 
-same_one : {A : Type 0} (x y : A) (xs ys : List A) → length (x ∷ xs) ≡ 1 → length (y ∷ ys) ≡ 1 → x ≡ y → x ∷ xs ≡ y ∷ ys
-same_one x y [] [] h g e = ap (λ z. z ∷ []) e
-same_one x y [] (z ∷ ys) h g e = absurd (omega (arith, g))
-same_one x y (z ∷ xs) ys h g e = absurd (omega (arith, h))
-
 -- two lists of leaves whose parts agree are one list
 pub one_list : (d : ℕ) (ns ms : List Namespace) (ss ts : List Share) → AreLeaves d ns ss → AreLeaves d ms ts → Agree (whole d ns ss) (whole d ms ts) → (ns ≡ ms) × (ss ≡ ts)
 unfolding whole
@@ -140,12 +125,9 @@ one_list zero (n ∷ ns) ms [] ts h g a = absurd (omega (arith, h.share_count))
 one_list zero (n ∷ ns) [] (s ∷ ss) ts h g a = absurd (omega (arith, g.name_count))
 one_list zero (n ∷ ns) (m ∷ ms) (s ∷ ss) [] h g a = absurd (omega (arith, g.share_count))
 one_list zero (n ∷ ns) (m ∷ ms) (s ∷ ss) (t ∷ ts) h g a =
-    (same_one n m ns ms h.name_count g.name_count a.0, same_one s t ss ts h.share_count g.share_count a.1)
+    (same_one (n ∷ ns) (m ∷ ms) n h.name_count g.name_count a.0, same_one (s ∷ ss) (t ∷ ts) s h.share_count g.share_count a.1)
 one_list (suc d) ns ms ss ts h g a =
     let size : ℕ = 2 ^ d in
     let l = one_list d (take size ns) (take size ms) (take size ss) (take size ts) (leaves-left d ns ss h) (leaves-left d ms ts g) a.0 in
     let r = one_list d (drop size ns) (drop size ms) (drop size ss) (drop size ts) (leaves-right d ns ss h) (leaves-right d ms ts g) a.1 in
-    (joined size ns ms l.0 r.0, joined size ss ts l.1 r.1)
-  where
-    joined : {A : Type 0} (i : ℕ) (xs ys : List A) → take i xs ≡ take i ys → drop i xs ≡ drop i ys → xs ≡ ys
-    joined i xs ys e f = sym (take-append-drop i xs) ∙ ap₂ (λ (x y : List _). x ++ y) e f ∙ take-append-drop i ys
+    (same_halves size ns ms l.0 r.0, same_halves size ss ts l.1 r.1)

@@ -98,6 +98,7 @@ IsShown size (given digest) = IsDigest digest
 IsShown size (leaf name share) = (size ≡ 1) × IsNamespace name × IsShare share
 IsShown size (join left right) = ⊥
 
+-- each shown part is one that an opening may show
 abbrev pub AreShown : List Shown → Type 0
 AreShown shown = AllByRecursion (λ s. IsShown s.size s.part) shown
 

@@ -71,9 +71,10 @@ pub record Opens (depth : ℕ) (shown : List Shown) (nodes : List Digest) (root 
 abbrev pub one_leaf : ℕ → Namespace → Share → List Shown
 one_leaf pos name share = record { from = pos; size = 1; part = leaf name share } ∷ []
 
--- shown parts of which only the digest is kept
+-- a shown part of which only the digest is kept
 abbrev pub shadow_of : Shown → Shown
 shadow_of s = record { from = s.from; size = s.size; part = given (digest_of s.part) }
 
+-- shown parts of which only the digests are kept
 abbrev pub shadow : List Shown → List Shown
 shadow ss = map shadow_of ss

@@ -6,12 +6,15 @@ use Rattle.std.proofs.lemmas.Bool.{and_parts, eqb-true}
 use Rattle.namespace_id.proofs.TestLemmas.{passes_below, passes_below-at, where_holds, where_holds-true}
 use Rattle.nmt_tree.specs.Roots.{is_leaf_count, halvings}
 
+-- a tree has at most 256 leaves
 pub leaf_count-le : (n : ℕ) → IsTrue (is_leaf_count n) → n ≤ 256
 leaf_count-le n h = grind (arith, nat_tests)
 
+-- half of more than one leaf is such a number too, and twice that half is the whole
 pub leaf_count-half : (n : ℕ) → IsTrue (is_leaf_count n) → (n ≡ 1 → ⊥) → IsTrue (is_leaf_count (n / 2)) × (0 < n) × (n / 2 + n / 2 ≡ n)
 leaf_count-half n h several = grind (arith, nat_tests)
 
+-- a test of all numbers of leaves
 powers_test : passes_below 257 (λ n. where_holds (is_leaf_count n) (2 ^ halvings n == n)) ≡ true
 unfolding passes_below
 powers_test = refl
@@ -21,9 +24,6 @@ pub power_halvings : (n : ℕ) → IsTrue (is_leaf_count n) → 2 ^ halvings n �
 power_halvings n h =
     let test = passes_below-at 257 (λ k. where_holds (is_leaf_count k) (2 ^ halvings k == k)) powers_test n (omega (arith, leaf_count-le n h)) in
     eqb-true _ _ (where_holds-true (is_leaf_count n) (2 ^ halvings n == n) test h)
-
-pub halvings-le : (n : ℕ) → halvings n ≤ 8
-halvings-le n = grind (arith, nat_tests)
 
 -- half of such a number is halved once less
 pub halvings_half : (n : ℕ) → IsTrue (is_leaf_count n) → (n ≡ 1 → ⊥) → halvings n ≡ suc (halvings (n / 2))

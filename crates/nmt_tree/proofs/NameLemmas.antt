@@ -1,6 +1,6 @@
 -- Names in order, and those of the digests over them.
-use Rattle.std.proofs.Common.{◌≡◌, ◌∙◌, ℕ, zero, suc, ◌<◌, ◌≤◌, List, [], ◌∷◌, ◌++◌, length, take, drop, get_or, Bool, true, false, cond, refl, ap, arith, length-append, length-drop}
-use Rattle.std.proofs.lemmas.Bool.{and_parts}
+use Rattle.std.proofs.Common.{◌≡◌, ◌∙◌, ℕ, zero, suc, ◌<◌, ◌≤◌, List, [], ◌∷◌, ◌++◌, length, take, drop, get_or, true, cond, refl, ap, arith, length-append, length-drop}
+use Rattle.std.proofs.lemmas.Bool.{and_parts, cond_both}
 use Rattle.std.proofs.lemmas.List.{append_assoc, length-take-le}
 use Rattle.sha2.specs.Sha256.{sha256}
 use Rattle.sha2.proofs.Facts256.{length-sha256}
@@ -64,11 +64,6 @@ pub greatest-leaf : (n : Namespace) (s : Share) → length n.0 ≡ 29 → greate
 unfolding leaf_digest
 greatest-leaf n s h = same_name _ _ (seconds n.0 n.0 (sha256 (0 ∷ n.0 ++ s.0)) h h)
 
--- either of two names has 29 bytes
-length-choice : (b : Bool) (x y : Namespace) → length x.0 ≡ 29 → length y.0 ≡ 29 → length (cond b x y).0 ≡ 29
-length-choice true x y hx hy = hx
-length-choice false x y hx hy = hy
-
 -- the least name of a digest has 29 bytes
 length-least : (d : Digest) → length d.0 ≡ 90 → length (least_of d).0 ≡ 29
 length-least d h = length-take-le 29 d.0 (omega arith)
@@ -81,9 +76,10 @@ length-greatest d h = length-take-le 29 (drop 29 d.0) (omega (arith, length-drop
 length-joined : (l r : Digest) → length l.0 ≡ 90 → length r.0 ≡ 90 → length (joined_greatest l r).0 ≡ 29
 unfolding joined_greatest
 length-joined l r hl hr =
-    length-choice (is_parity (least_of l)) parity (cond (is_parity (least_of r)) (greatest_of l) (greater_of (greatest_of l) (greatest_of r))) refl
-    (length-choice (is_parity (least_of r)) (greatest_of l) (greater_of (greatest_of l) (greatest_of r)) (length-greatest l hl)
-    (length-choice (is_at_most (greatest_of l) (greatest_of r)) (greatest_of r) (greatest_of l) (length-greatest r hr) (length-greatest l hl)))
+    let Has29 : Namespace → Type 0 = λ n. length n.0 ≡ 29 in
+    cond_both (is_parity (least_of l)) parity (cond (is_parity (least_of r)) (greatest_of l) (greater_of (greatest_of l) (greatest_of r))) Has29 (λ t. refl)
+    (λ f. cond_both (is_parity (least_of r)) (greatest_of l) (greater_of (greatest_of l) (greatest_of r)) Has29 (λ t. length-greatest l hl)
+    (λ f. cond_both (is_at_most (greatest_of l) (greatest_of r)) (greatest_of r) (greatest_of l) Has29 (λ t. length-greatest r hr) (λ f. length-greatest l hl)))
 
 -- a node's digest has 90 bytes
 pub length-node : (l r : Digest) → length l.0 ≡ 90 → length r.0 ≡ 90 → length (node_digest l r).0 ≡ 90

@@ -7,6 +7,7 @@ use Rattle.nmt_tree.specs.Digests.{leaf_digest, node_digest}
 use Rattle.nmt_tree.specs.Roots.{root}
 use Rattle.namespace_id.proofs.HalfLemmas.{depth_below, depth_zero, half_power}
 
+-- the root at depth 0 is the digest of the only leaf
 root_zero : (names : List Namespace) (shares : List Share) (d : Namespace) (e : Share) → length names ≡ 1 → length shares ≡ length names → leaf_digest (get_or names 0 d) (get_or shares 0 e) ≡ root 0 names shares
 unfolding root
 root_zero (name ∷ names) (share ∷ shares) d e h same = refl

@@ -8,15 +8,17 @@ use Rattle.nmt_tree.proofs.CountLemmas.{power_halvings}
 use Rattle.nmt_tree.proofs.LevelLemmas.{front}
 use Rattle.nmt_proofs.specs.Parts.{given, leaf}
 use Rattle.nmt_proofs.specs.Openings.{no_digest, outside}
-use Rattle.nmt_proofs.specs.Making.{spans, leaf_nodes}
-use Rattle.nmt_proofs.proofs.SingleLemmas.{one, outside-one, length-outside-one, one_opens}
+use Rattle.nmt_proofs.specs.Making.{spans, one_digest, leaf_nodes}
+use Rattle.nmt_proofs.proofs.SingleLemmas.{length-outside-one}
+use Rattle.nmt_proofs.proofs.ShadowLemmas.{outside-parts}
+use Rattle.nmt_proofs.proofs.MadeLemmas.{one_opens}
 use Rattle.nmt_proofs.proofs.making.make_leaf.Goals as goal
 
 pub put_nodes-requires-clause-count : goal.put_nodes-requires-clause-count
 put_nodes-requires-clause-count c =
     let depth : c.halvings-depth.result ≡ halvings c.args.tree.now.count = c.halvings-depth.ensures.value ∙ ap (λ (k : ℕ). halvings k) c.len.ensures.value in
     let power : 2 ^ c.halvings-depth.result ≡ c.args.tree.now.count = ap (λ (k : ℕ). 2 ^ k) depth ∙ power_halvings c.args.tree.now.count c.len.ensures.count in
-    length-take-le _ _ (omega arith) ∙ sym (length-outside-one c.halvings-depth.result 0 c.args.pos (given c.digest_in.result) (omega arith) (omega arith))
+    length-take-le _ _ (omega arith) ∙ sym (length-outside-one c.halvings-depth.result 0 c.args.pos (given c.digest_in.result))
 
 -- the path has the nodes outside of the place
 nodes : (c : goal.After-path_of) (leaves : List Digest) → c.args.tree.now.leaves ≡ Some leaves → c.path_of.result ≡ leaf_nodes c.args.tree.now.count leaves c.args.pos
@@ -25,8 +27,8 @@ nodes c leaves e =
     let len : length c.put_nodes.new.nodes ≡ c.halvings-depth.result = c.put_nodes.auto.nodes ∙ length-take-le _ _ (omega arith) in
     c.path_of.ensures ∙ front c.put_nodes.new.nodes _ c.halvings-depth.result len
     ∙ c.put_nodes.ensures leaves e
-    ∙ ap (λ (k : ℕ). spans leaves (outside k 0 (one c.args.pos (given c.digest_in.result)))) depth
-    ∙ ap (λ (l : List (ℕ × ℕ)). spans leaves l) (outside-one (halvings c.args.tree.now.count) 0 c.args.pos (given c.digest_in.result) (given (get_or leaves c.args.pos no_digest)))
+    ∙ ap (λ (k : ℕ). spans leaves (outside k 0 (one_digest c.args.pos c.digest_in.result))) depth
+    ∙ ap (λ (l : List (ℕ × ℕ)). spans leaves l) (outside-parts (λ x. given c.digest_in.result) (halvings c.args.tree.now.count) 0 (one_digest c.args.pos (get_or leaves c.args.pos no_digest)))
 
 -- the place is below the number of leaves
 place : (c : goal.After-path_of) → c.args.pos < 2 ^ halvings c.args.tree.now.count
