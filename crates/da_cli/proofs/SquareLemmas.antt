@@ -1,6 +1,6 @@
 -- Lemmas on the commands build and header.
 use Rattle.std.proofs.Common.{◌≡◌, ◌∙◌, ℕ, List, [], ◌∷◌, Some, None, Result, Ok, Err, refl, sym, ap, subst, inl, inr}
-use Rattle.std.specs.Prelude.{◌⊎◌, MatchResult, MatchOption}
+use Rattle.std.specs.Prelude.{MatchResult, MatchOption}
 use Rattle.std.specs.declared.option.Option.{Option}
 use Rattle.data_header.specs.Headers.{Roots}
 use Rattle.square_layout.specs.declared.laying.LayError.{LayError}
@@ -15,12 +15,12 @@ use Rattle.da_wire.specs.Spelling.{spelling}
 use Rattle.da_cli.specs.declared.status.Status.{Status}
 use Rattle.da_cli.specs.declared.status.Status.TheVariants.{BadBlock, BadRequest}
 use Rattle.da_cli.specs.declared.status.Asked.TheVariants.{NoHeader}
-use Rattle.da_cli.specs.Statuses.{Kind, kind_of}
+use Rattle.da_cli.specs.Statuses.{kind_of}
 use Rattle.da_cli.specs.Gathered.{file_of}
 use Rattle.da_cli.specs.Outcome.{Relation, Refuses}
 use Rattle.da_cli.specs.Judging.{Judged}
 use Rattle.da_cli.specs.Single.{square_in, block_in, error_of}
-use Rattle.da_cli.specs.Squares.{Gives, Builds, BuildOf, HasNoHeader, Heads, HeaderOf}
+use Rattle.da_cli.specs.Squares.{Gives, Builds, BuildOf, Heads, HeaderOf}
 use Rattle.da_cli.specs.declared.words.Command.TheVariants as command
 use Rattle.da_cli.specs.Meaning.{Meaning}
 use Rattle.da_cli.proofs.EndLemmas.{IsAnswer}

@@ -10,7 +10,6 @@ use Rattle.da_wire.specs.declared.frames.Frame.{Frame}
 use Rattle.da_wire.specs.declared.frames.Frame.TheVariants.{Header, Square}
 use Rattle.da_wire.specs.Spelling.{spelling}
 use Rattle.da_cli.specs.declared.status.Asked.TheVariants.{NoHeader}
-use Rattle.da_cli.specs.declared.status.Status.{Status}
 use Rattle.da_cli.specs.declared.status.Status.TheVariants.{Done, BadBlock, BadRequest}
 use Rattle.da_cli.specs.Gathered.{file_of}
 use Rattle.da_cli.specs.Single.{square_in, block_in, error_of}

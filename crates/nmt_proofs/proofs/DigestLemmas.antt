@@ -1,5 +1,5 @@
 -- Digests have 90 bytes, and end with the hash of the string that they stand for.
-use Rattle.std.proofs.Common.{◌≡◌, ◌∙◌, ℕ, zero, suc, ◌+◌, ◌≤◌, ◌<◌, ◌/◌, ◌%◌, ◌^◌, List, [], ◌∷◌, ◌++◌, length, take, drop, replicate, cond, refl, sym, ap, ap₂, arith, length-append, length-drop}
+use Rattle.std.proofs.Common.{◌≡◌, ◌∙◌, ℕ, zero, suc, ◌+◌, ◌≤◌, ◌<◌, ◌/◌, ◌%◌, ◌^◌, List, [], ◌∷◌, ◌++◌, length, take, drop, cond, refl, sym, ap, ap₂, arith, length-append, length-drop}
 use Rattle.std.specs.Int.{to_be_bytes, bytes_high_first, byte_at, w32}
 use Rattle.std.specs.Prelude.{slice_index}
 use Rattle.std.proofs.lemmas.Bool.{cond_both}
@@ -13,6 +13,7 @@ use Rattle.namespace_id.specs.Bytes.{AreBytes, IsString}
 use Rattle.namespace_id.specs.Names.{is_at_most, is_parity, parity, greater_of, IsNamespace}
 use Rattle.namespace_id.specs.Shares.{IsShare}
 use Rattle.namespace_id.specs.Digests.{least_of, greatest_of, IsDigest}
+use Rattle.namespace_id.proofs.ShareLemmas.{parity-is}
 use Rattle.namespace_id.proofs.StringLemmas.{AreBytes-take, AreBytes-drop, AreBytes-append}
 use Rattle.nmt_tree.specs.Digests.{leaf_digest, joined_greatest, node_digest}
 use Rattle.nmt_proofs.specs.Clashes.{leaf_text, join_text}
@@ -49,12 +50,6 @@ unfolding digest_bytes
 bytes-words h zero i = omega arith
 bytes-words h (suc n) i = AreBytes-append (digest_bytes h n) (to_be_bytes w32 (slice_index h n)) (bytes-words h n) (bytes-high 4 (slice_index h n)) i
 
--- so is one byte again and again
-bytes-replicate : (n byte : ℕ) → byte < 256 → AreBytes (replicate n byte)
-bytes-replicate zero byte h i = omega arith
-bytes-replicate (suc n) byte h zero = h
-bytes-replicate (suc n) byte h (suc i) = bytes-replicate n byte h i
-
 -- a SHA-256 digest is a string of 32 bytes
 pub string-sha256 : (text : List ℕ) → IsString 32 (sha256 text)
 unfolding sha256
@@ -82,15 +77,11 @@ name-least d h = string-part 0 29 90 d.0 (omega arith) h
 pub name-greatest : (d : Digest) → IsDigest d → IsNamespace (greatest_of d)
 name-greatest d h = string-part 29 29 90 d.0 (omega arith) h
 
--- so is that of parity shares
-pub name-parity : IsNamespace parity
-name-parity = record { size_is = refl; fits = bytes-replicate 29 255 (omega arith) }
-
 -- so is the greatest of a node
 pub name-joined : (l r : Digest) → IsDigest l → IsDigest r → IsNamespace (joined_greatest l r)
 unfolding joined_greatest
 name-joined l r h g =
-    cond_both (is_parity (least_of l)) parity (cond (is_parity (least_of r)) (greatest_of l) (greater_of (greatest_of l) (greatest_of r))) IsNamespace (λ t. name-parity)
+    cond_both (is_parity (least_of l)) parity (cond (is_parity (least_of r)) (greatest_of l) (greater_of (greatest_of l) (greatest_of r))) IsNamespace (λ t. parity-is)
     (λ f. cond_both (is_parity (least_of r)) (greatest_of l) (greater_of (greatest_of l) (greatest_of r)) IsNamespace (λ t. name-greatest l h)
     (λ f. cond_both (is_at_most (greatest_of l) (greatest_of r)) (greatest_of r) (greatest_of l) IsNamespace (λ t. name-greatest r g) (λ f. name-greatest l h)))
 
