@@ -38,11 +38,13 @@ roots_by : (b : Bool) (roots header : Roots) → cond b (Some roots) None ≡ So
 roots_by true roots header e = cc
 roots_by false roots header e = absurd cc
 
+-- the header of a grid has its roots
 pub roots_are : (k : ℕ) (grid : List Share) (header : Roots) → header_of_grid k grid ≡ Some header
     → header ≡ record { k = k; rows = axis_roots k grid Row; cols = axis_roots k grid Col }
 roots_are k grid header e =
     sym (roots_by (are_ordered_axes k grid) (record { k = k; rows = axis_roots k grid Row; cols = axis_roots k grid Col }) header e)
 
+-- a root of the list of all
 root_in : (k : ℕ) (grid : List Share) (axis : Axis) (i : ℕ) → i < 2 * k
     → get_or (axis_roots k grid axis) i (record { 0 = [] }) ≡ axis_root k grid axis i
 root_in k grid axis i h =
@@ -50,6 +52,7 @@ root_in k grid axis i h =
     get_or-map (axis_root k grid axis) (ascending 0 (2 * k)) i 0 (record { 0 = [] }) (omega (arith, length-ascending (2 * k) 0))
     ∙ ap (axis_root k grid axis) (get_or-ascending (2 * k) 0 i h ∙ start)
 
+-- a root of the header of a grid
 pub root_is : (k : ℕ) (grid : List Share) (header : Roots) (axis : Axis) (i : ℕ) → header_of_grid k grid ≡ Some header → i < 2 * k
     → root_of header axis i ≡ axis_root k grid axis i
 root_is k grid header Row i e h = ap (λ (r : Roots). root_of r Row i) (roots_are k grid header e) ∙ root_in k grid Row i h

@@ -2,6 +2,7 @@
 use Rattle.std.proofs.Common.{◌≡◌, ◌∙◌, ℕ, zero, suc, ◌+◌, ◌-◌, ◌<◌, ◌≤◌, List, [], ◌∷◌, Bool, true, false, ◌&&◌, refl, sym, ap, arith, length, drop, get_or, length-drop}
 use Rattle.namespace_id.specs.Lists.{holds_along}
 
+-- from one element on the test holds along where it does from the next on, and of both
 along-drop : {A : Type 0} (test : A → A → Bool) (xs : List A) (i : ℕ) (d : A) → suc i < length xs
     → holds_along test (drop i xs) ≡ (test (get_or xs i d) (get_or xs (suc i) d) && holds_along test (drop (suc i) xs))
 unfolding holds_along
@@ -10,7 +11,7 @@ along-drop test (a ∷ []) zero d h = absurd (omega arith)
 along-drop test (a ∷ b ∷ xs) zero d h = refl
 along-drop test (a ∷ xs) (suc i) d h = along-drop test xs i d (omega arith)
 
--- from one element on the test holds along where it does from the next on, and of this pair
+-- the same from the element before this one on
 along_step : {A : Type 0} (test : A → A → Bool) (xs : List A) (i : ℕ) (d : A) → 1 ≤ i → i < length xs
     → holds_along test (drop (i - 1) xs) ≡ (test (get_or xs (i - 1) d) (get_or xs i d) && holds_along test (drop i xs))
 along_step test xs i d low high =
@@ -18,6 +19,7 @@ along_step test xs i d low high =
     along-drop test xs (i - 1) d (omega arith)
     ∙ ap (λ (k : ℕ). test (get_or xs (i - 1) d) (get_or xs k d) && holds_along test (drop k xs)) next
 
+-- a list of fewer than two elements has no pair
 along_short : {A : Type 0} (test : A → A → Bool) (xs : List A) → length xs ≤ 1 → holds_along test xs ≡ true
 unfolding holds_along
 along_short test [] h = refl

@@ -9,18 +9,22 @@ use Rattle.namespace_id.specs.declared.namespaces.Namespace.{Namespace}
 use Rattle.namespace_id.specs.Bytes.{AreBytes}
 use Rattle.namespace_id.specs.Names.{is_at_most, parity, IsNamespace}
 
+-- an answer of a comparison is one of three
 cases_Ordering : (o : Ordering) → (o ≡ Less) ⊎ ((o ≡ Equal) ⊎ (o ≡ Greater))
 cases_Ordering Less = inl refl
 cases_Ordering Equal = inr (inl refl)
 cases_Ordering Greater = inr (inr refl)
 
+-- a byte string is equal to itself
 reflexive : (a : List ℕ) → slice_cmp nat_cmp a a ≡ Equal
 reflexive [] = refl
 reflexive (c ∷ a) = grind (arith, reflexive a)
 
+-- a namespace isn't above itself
 pub at_most_refl : (a : Namespace) → is_at_most a a ≡ true
 at_most_refl a = ap is_le (reflexive a.0)
 
+-- the order is transitive
 pub at_most_trans : (a b c : Namespace) → is_at_most a b ≡ true → is_at_most b c ≡ true → is_at_most a c ≡ true
 at_most_trans a b c h k = elim (cases_Ordering (slice_cmp nat_cmp a.0 b.0)) [
   | inl x ↦ elim (cases_Ordering (slice_cmp nat_cmp b.0 c.0)) [
@@ -36,6 +40,7 @@ at_most_trans a b c h k = elim (cases_Ordering (slice_cmp nat_cmp a.0 b.0)) [
   ]
 ]
 
+-- two namespaces of which none is above the other are one
 pub at_most_antisym : (a b : Namespace) → is_at_most a b ≡ true → is_at_most b a ≡ true → a ≡ b
 at_most_antisym a b h k = elim (cases_Ordering (slice_cmp nat_cmp a.0 b.0)) [
   | inl x ↦ absurd (true≢false (sym k ∙ ap is_le (nat_list_cmp_total.antisymm b.0 a.0 ∙ ap ordering_reverse x)))
@@ -45,6 +50,7 @@ at_most_antisym a b h k = elim (cases_Ordering (slice_cmp nat_cmp a.0 b.0)) [
   ]
 ]
 
+-- of two namespaces one isn't above the other
 pub at_most_total : (a b : Namespace) → (is_at_most a b ≡ true) ⊎ (is_at_most b a ≡ true)
 at_most_total a b = elim (cases_Ordering (slice_cmp nat_cmp a.0 b.0)) [
   | inl x ↦ inl (ap is_le x)
@@ -54,6 +60,7 @@ at_most_total a b = elim (cases_Ordering (slice_cmp nat_cmp a.0 b.0)) [
   ]
 ]
 
+-- a byte is below 255 or is 255
 byte_below : (c : ℕ) → c < 256 → (nat_cmp c 255 ≡ Less) ⊎ (c ≡ 255)
 byte_below c h = elim (cases_order c 255) [
   | inl e ↦ inr e
@@ -72,5 +79,6 @@ full_is_greatest (suc n) (c ∷ a) h k =
       | inr x ↦ subst (λ (z : ℕ). is_le (slice_cmp nat_cmp (z ∷ a) (replicate (suc n) 255)) ≡ true) (sym x) rest
     ]
 
+-- no namespace is above that of parity shares
 pub at_most_parity : (a : Namespace) → IsNamespace a → is_at_most a parity ≡ true
 at_most_parity a h = full_is_greatest 29 a.0 h.size_is h.fits

@@ -5,9 +5,11 @@ use Rattle.std.proofs.lemmas.Bool.{cases_lt}
 use Rattle.std.proofs.lemmas.List.{length-take, get_or-drop, get_or-take, get_or_past}
 use Rattle.namespace_id.specs.Bytes.{AreBytes}
 
+-- what is behind some bytes
 pub AreBytes-drop : (n : ℕ) (bytes : List ℕ) → AreBytes bytes → AreBytes (drop n bytes)
 AreBytes-drop n bytes h i = rw get_or-drop (h (n + i))
 
+-- the first bytes
 pub AreBytes-take : (n : ℕ) (bytes : List ℕ) → AreBytes bytes → AreBytes (take n bytes)
 AreBytes-take n bytes h i =
     elim (cases_lt i n) [
@@ -15,6 +17,7 @@ AreBytes-take n bytes h i =
       | inr le ↦ rw (get_or_past (take n bytes) i 0 (omega (arith, length-take n bytes))) (omega arith)
     ]
 
+-- bytes behind bytes
 pub AreBytes-append : (a b : List ℕ) → AreBytes a → AreBytes b → AreBytes (a ++ b)
 AreBytes-append [] b h k i = k i
 AreBytes-append (x ∷ a) b h k zero = h 0
@@ -26,11 +29,12 @@ AreBytes-replicate zero byte h i = omega arith
 AreBytes-replicate (suc n) byte h zero = h
 AreBytes-replicate (suc n) byte h (suc i) = AreBytes-replicate n byte h i
 
--- the front of two strings, and what is behind it
-pub front : (a b : List ℕ) (n : ℕ) → length a ≡ n → take n (a ++ b) ≡ a
+-- the front of two lists
+pub front : {A : Type 0} (a b : List A) (n : ℕ) → length a ≡ n → take n (a ++ b) ≡ a
 front a b n h = sym (ap (λ (m : ℕ). take m (a ++ b)) h) ∙ take-append_seam a b
 
-pub behind : (a b : List ℕ) (n : ℕ) → length a ≡ n → drop n (a ++ b) ≡ b
+-- what is behind it
+pub behind : {A : Type 0} (a b : List A) (n : ℕ) → length a ≡ n → drop n (a ++ b) ≡ b
 behind a b n h = sym (ap (λ (m : ℕ). drop m (a ++ b)) h) ∙ drop-append_seam a b
 
 -- a part that is put behind a front leaves the front, and what is behind the part

@@ -21,6 +21,7 @@ passes_below-at (suc n) p all a h =
 abbrev pub where_holds : Bool → Bool → Bool
 where_holds a b = cond a b true
 
+-- where the first holds, so does the second
 pub where_holds-true : (a b : Bool) → where_holds a b ≡ true → a ≡ true → b ≡ true
 where_holds-true true b h e = h
 where_holds-true false b h e = absurd cc

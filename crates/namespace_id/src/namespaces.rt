@@ -186,7 +186,7 @@ mod tests {
         let cases: [(&str, &[u8], Option<NsError>); 6] = [
             ("28 bytes", &[0; 28], Some(NsError::Length)),
             ("parity", &[0xff; 29], Some(NsError::Version)),
-            ("tail padding", &[0xfe; 29], Some(NsError::Version)),
+            ("tail padding", &TAIL_PADDING.0, Some(NsError::Version)),
             ("a byte in the prefix", &prefixed, Some(NsError::Prefix)),
             ("greatest reserved", &reserved, Some(NsError::Reserved)),
             ("least of a blob", &least, None),

@@ -8,7 +8,7 @@ use Rattle.std.proofs.Math.Nat.{pow-suc}
 use Rattle.namespace_id.specs.declared.digests.Digest.{Digest}
 use Rattle.nmt_tree.specs.Digests.{node_digest, is_ordered_join}
 use Rattle.nmt_tree.specs.Levels.{span, HasOrderedJoins}
-use Rattle.nmt_tree.proofs.LevelLemmas.{front, behind}
+use Rattle.namespace_id.proofs.StringLemmas.{front, behind}
 use Rattle.nmt_proofs.specs.Parts.{Part, join, digest_of, is_in_order}
 use Rattle.nmt_proofs.specs.Openings.{Shown, begun, is_shown, outside, opened, no_digest, Opens}
 use Rattle.nmt_proofs.specs.Making.{spans, AreAtLeaves}

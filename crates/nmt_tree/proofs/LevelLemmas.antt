@@ -1,12 +1,12 @@
 -- All levels over leaves: written one after another, and read.
 use Rattle.std.proofs.Common.{◌≡◌, ◌∙◌, ℕ, zero, suc, ◌+◌, ◌*◌, ◌/◌, ◌%◌, ◌^◌, ◌<◌, ◌≤◌, List, [], ◌∷◌, ◌++◌, length, take, drop, get_or, set, refl, sym, ap, ap₂, arith, IsTrue}
 use Rattle.std.proofs.lemmas.List.{get_or-take, take_more, take_more_set, length-take-le, take_all}
-use Rattle.std.proofs.Math.Seq.{take-append_seam, drop-append_seam}
 use Rattle.std.proofs.Math.Nat.{mul-add, mul-mod_left}
 use Rattle.std.proofs.lemmas.Nat.{div-add-mod'}
 use Rattle.namespace_id.specs.declared.namespaces.Namespace.{Namespace}
 use Rattle.namespace_id.specs.declared.shares.Share.{Share}
 use Rattle.namespace_id.specs.declared.digests.Digest.{Digest}
+use Rattle.namespace_id.proofs.StringLemmas.{front, behind}
 use Rattle.nmt_tree.specs.Digests.{leaf_digest}
 use Rattle.nmt_tree.specs.Roots.{is_leaf_count, halvings}
 use Rattle.nmt_tree.specs.Levels.{leaf_digests, pairs, levels, span}
@@ -31,14 +31,6 @@ leaves_more ns ss ls i n s d hn hs hl ed so_far =
     ∙ ap₂ (λ (l : List Digest) (x : Digest). l ++ x ∷ []) so_far ed
     ∙ sym (ap₂ leaf_digests (take_more ns i n hn) (take_more ss i s hs)
     ∙ leaf_digests-append (take i ns) (take i ss) (get_or ns i n) (get_or ss i s) (length-take-le i ns (omega arith) ∙ sym (length-take-le i ss (omega arith))))
-
--- the front of two lists, and what is behind it
-pub front : (a b : List Digest) (n : ℕ) → length a ≡ n → take n (a ++ b) ≡ a
-front a b n h = sym (ap (λ (m : ℕ). take m (a ++ b)) h) ∙ take-append_seam a b
-
--- what is behind it
-pub behind : (a b : List Digest) (n : ℕ) → length a ≡ n → drop n (a ++ b) ≡ b
-behind a b n h = sym (ap (λ (m : ℕ). drop m (a ++ b)) h) ∙ drop-append_seam a b
 
 -- a level is followed by those above it
 levels-suc : (d e : ℕ) (leaves : List Digest) → d ≡ suc e → levels d leaves ≡ leaves ++ levels e (pairs leaves)

@@ -5,7 +5,7 @@ use Rattle.namespace_id.specs.declared.digests.Digest.{Digest}
 use Rattle.nmt_tree.specs.Roots.{halvings}
 use Rattle.nmt_tree.specs.Trees.{AreTreeLeaves}
 use Rattle.nmt_tree.proofs.CountLemmas.{power_halvings}
-use Rattle.nmt_tree.proofs.LevelLemmas.{front}
+use Rattle.namespace_id.proofs.StringLemmas.{front}
 use Rattle.nmt_proofs.specs.Parts.{given, leaf}
 use Rattle.nmt_proofs.specs.Openings.{no_digest, outside}
 use Rattle.nmt_proofs.specs.Making.{spans, one_digest, leaf_nodes}

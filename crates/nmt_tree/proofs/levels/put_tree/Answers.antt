@@ -2,7 +2,7 @@ use Rattle.std.proofs.Common.{◌∙◌, ap, sym, length}
 use Rattle.nmt_tree.specs.Roots.{halvings}
 use Rattle.nmt_tree.specs.Levels.{levels}
 use Rattle.nmt_tree.proofs.SpanLemmas.{length-leaf_digests}
-use Rattle.nmt_tree.proofs.LevelLemmas.{front}
+use Rattle.namespace_id.proofs.StringLemmas.{front}
 use Rattle.nmt_tree.proofs.levels.put_tree.Goals as goal
 
 pub returns : goal.returns

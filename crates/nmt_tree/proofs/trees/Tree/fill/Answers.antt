@@ -2,7 +2,7 @@ use Rattle.std.proofs.Common.{◌≡◌, ◌∙◌, ◌++◌, ap, sym, length, a
 use Rattle.namespace_id.specs.declared.digests.Digest.{Digest}
 use Rattle.nmt_tree.specs.Levels.{leaf_digests}
 use Rattle.nmt_tree.specs.Trees.{StoredTree}
-use Rattle.nmt_tree.proofs.LevelLemmas.{front}
+use Rattle.namespace_id.proofs.StringLemmas.{front}
 use Rattle.nmt_tree.proofs.TreeLemmas.{IsFilled, filled_tree, strict_root_some, strict_root_none}
 use Rattle.nmt_tree.proofs.trees.Tree.fill.Goals as goal
 
