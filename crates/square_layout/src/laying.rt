@@ -24,7 +24,7 @@ use thiserror::Error;
 
 /// The shares of the greatest square: 128 * 128.
 ///
-/// Celestia specifications, "Data Structures".
+/// docs/RULES.md, "Widths".
 pub const MAX_SHARES: u64 = 16_384;
 
 /// Why a block has no square. The variants stand in the order in which they are tested.
