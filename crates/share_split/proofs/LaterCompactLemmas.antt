@@ -31,7 +31,7 @@ later_compact_shares-on name from i starts text (suc count) h =
     later_compact_shares-next name i (starts_on from starts) text (suc count) count refl
     ∙ ap₂ (λ (n : ℕ) (l : List Share). later_compact_share name n content ∷ l)
     (reserved_of-on from i starts h)
-    (later_compact_shares-on name from (suc i) starts after count (omega (arith, (content_start-next i).0)))
+    (later_compact_shares-on name from (suc i) starts after count (omega (arith, content_start-next i)))
     ∙ sym (later_compact_shares-next name i starts text (suc count) count refl)
 
 -- one share more is there, and the others are left

@@ -20,43 +20,40 @@ content_start-suc i =
 content_place-suc : (i : ℕ) → content_place (suc i) ≡ 34
 content_place-suc i = ap (λ (b : Bool). cond b 38 34) (later i)
 
--- the content of the next share begins later, by at most 478 bytes
-pub content_start-next : (i : ℕ) → (content_start i ≤ content_start (suc i)) × (content_start (suc i) ≤ content_start i + 478)
-content_start-next zero = (omega arith, omega arith)
-content_start-next (suc i) =
-    (omega (arith, content_start-suc i, content_start-suc (suc i)), omega (arith, content_start-suc i, content_start-suc (suc i)))
+-- the content of the next share begins later
+pub content_start-next : (i : ℕ) → content_start i < content_start (suc i)
+content_start-next zero = omega arith
+content_start-next (suc i) = omega (arith, content_start-suc i, content_start-suc (suc i))
 
--- no share has its content behind place 38
-pub content_place-le : (i : ℕ) → content_place i ≤ 38
-content_place-le zero = omega arith
-content_place-le (suc i) = omega (arith, content_place-suc i)
+-- the content goes to the end of the share
+content_end : (i : ℕ) → content_place i + content_start (suc i) ≡ 512 + content_start i
+content_end zero = omega arith
+content_end (suc i) = omega (arith, content_place-suc i, content_start-suc i, content_start-suc (suc i))
 
 -- ---- units that start in a share
 
 -- a unit that starts in front of the end of the content has its place
-pub place_in-within : (i start : ℕ) → start < content_start (suc i) → place_in i start ≡ content_place i + (start - content_start i)
+place_in-within : (i start : ℕ) → start < content_start (suc i) → place_in i start ≡ content_place i + (start - content_start i)
 place_in-within i start lt =
     ap (λ (b : Bool). cond b (content_place i + (start - content_start i)) 0) (lt-ltb start (content_start (suc i)) lt)
 
 -- one behind it has none
-pub place_in-behind : (i start : ℕ) → content_start (suc i) ≤ start → place_in i start ≡ 0
+place_in-behind : (i start : ℕ) → content_start (suc i) ≤ start → place_in i start ≡ 0
 place_in-behind i start le =
     ap (λ (b : Bool). cond b (content_place i + (start - content_start i)) 0) (le-ltb start (content_start (suc i)) le)
 
 -- the place is in the share
-pub place_in-small : (i start : ℕ) → place_in i start < 512 + 38
-place_in-small i start =
-    let next = content_start-next i in
-    elim (cases_lt start (content_start (suc i))) [
-      | inl lt ↦ omega (arith, next.1, content_place-le i, place_in-within i start lt)
-      | inr le ↦ omega (arith, place_in-behind i start le)
-    ]
+place_in-share : (i start : ℕ) → place_in i start < 512
+place_in-share i start = elim (cases_lt start (content_start (suc i))) [
+  | inl lt ↦ omega (arith, lt, content_end i, content_start-next i, place_in-within i start lt)
+  | inr le ↦ omega (arith, place_in-behind i start le)
+]
 
--- that of the first unit is
-first_place-small : (i : ℕ) (starts : List ℕ) → first_place i starts < 512 + 38
-first_place-small i [] = omega arith
-first_place-small i (start ∷ starts) = place_in-small i start
+-- so is that of the first unit
+first_place-share : (i : ℕ) (starts : List ℕ) → first_place i starts < 512
+first_place-share i [] = omega arith
+first_place-share i (start ∷ starts) = place_in-share i start
 
 -- four bytes state the number
 pub reserved_of-small : (i : ℕ) (starts : List ℕ) → reserved_of i starts < 2 ^ 32
-reserved_of-small i starts = omega (arith, first_place-small i (starts_on (content_start i) starts))
+reserved_of-small i starts = omega (arith, first_place-share i (starts_on (content_start i) starts))

@@ -26,7 +26,7 @@ bad_reserved-on earlier i starts (share ∷ shares) le =
     bad_reserved-cons i (starts_on earlier starts) share shares
     ∙ ap₂ (λ (n : ℕ) (o : Option ℕ). cond (eqb (reserved_in share) n) o (Some i))
     (reserved_of-on earlier i starts le)
-    (bad_reserved-on earlier (suc i) starts shares (omega (arith, (content_start-next i).0)))
+    (bad_reserved-on earlier (suc i) starts shares (omega (arith, content_start-next i)))
     ∙ sym (bad_reserved-cons i starts share shares)
 
 -- share i states what it should, or doesn't
@@ -51,7 +51,7 @@ reserved_more i next stated should starts left shares none whole lt next_is left
     let number : reserved_in (get_or shares i none) ≡ reserved_of i starts =
     sym stated_is ∙ same ∙ should_is ∙ ap (first_place i) left_is in
     ap₂ (λ (k : ℕ) (l : List ℕ). bad_reserved k l rest) next_is left_is
-    ∙ bad_reserved-on (content_start i) (suc i) starts rest (content_start-next i).0
+    ∙ bad_reserved-on (content_start i) (suc i) starts rest (omega (arith, content_start-next i))
     ∙ reserved_here i starts shares none true whole lt (eq-eqb _ _ number) before
 
 -- share i doesn't state what it should
