@@ -8,7 +8,8 @@ use Rattle.namespace_id.specs.declared.cells.Axis.TheVariants.{Row, Col}
 use Rattle.namespace_id.specs.declared.shares.Share.{Share}
 use Rattle.namespace_id.specs.Shares.{IsShare, AreShares}
 use Rattle.namespace_id.specs.Cells.{is_width}
-use Rattle.leopard_code.specs.Codewords.{ascending, column, IsCodeword, HasEntries}
+use Rattle.namespace_id.specs.Lists.{ascending}
+use Rattle.leopard_code.specs.Codewords.{column, IsCodeword, HasEntries}
 use Rattle.leopard_code.specs.Weights.{weighted}
 use Rattle.leopard_code.proofs.PointLemmas.{length-ascending, length-column}
 use Rattle.leopard_code.proofs.EntryLemmas.{get_or-column_at, byte_of_entry, same_shares}

@@ -11,7 +11,7 @@ use Rattle.namespace_id.specs.declared.shares.Share.{Share}
 use Rattle.namespace_id.specs.declared.digests.Digest.{Digest}
 use Rattle.namespace_id.specs.Cells.{is_width}
 use Rattle.data_header.specs.Headers.{AreRoots}
-use Rattle.leopard_code.specs.Codewords.{ascending}
+use Rattle.namespace_id.specs.Lists.{ascending}
 use Rattle.leopard_code.proofs.PointLemmas.{length-ascending}
 use Rattle.axis_roots.specs.Grids.{axis_root, axis_roots, is_ordered_axis, are_ordered_axes, header_of_grid}
 

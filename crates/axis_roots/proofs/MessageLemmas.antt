@@ -11,7 +11,8 @@ use Rattle.namespace_id.specs.Cells.{is_width, is_in_square, name_of}
 use Rattle.nmt_tree.specs.Digests.{leaf_digest}
 use Rattle.nmt_tree.specs.Roots.{halvings, is_ordered}
 use Rattle.nmt_tree.specs.Levels.{leaf_digests}
-use Rattle.nmt_proofs.specs.Openings.{Opens, no_digest}
+use Rattle.namespace_id.specs.Digests.{no_digest}
+use Rattle.nmt_proofs.specs.Openings.{Opens}
 use Rattle.nmt_proofs.specs.Making.{OpensLeaf}
 use Rattle.axis_roots.specs.declared.messages.Message.{Message}
 use Rattle.axis_roots.specs.Messages.{IsMessage, position, index, shown_by}

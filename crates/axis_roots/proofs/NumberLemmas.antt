@@ -6,7 +6,7 @@ use Rattle.std.proofs.lemmas.List.{get_or-map, length-map, ext_get_or}
 use Rattle.std.proofs.lemmas.Bool.Decides.{nat_tests}
 use Rattle.namespace_id.specs.declared.cells.Cell.{Cell}
 use Rattle.namespace_id.specs.Cells.{is_width, is_in_square}
-use Rattle.leopard_code.specs.Codewords.{ascending}
+use Rattle.namespace_id.specs.Lists.{ascending}
 use Rattle.leopard_code.proofs.PointLemmas.{length-ascending, get_or-ascending}
 use Rattle.leopard_code.proofs.TableLemmas.{row_before}
 

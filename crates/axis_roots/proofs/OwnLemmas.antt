@@ -19,7 +19,7 @@ use Rattle.nmt_proofs.specs.Parts.{digest_of}
 use Rattle.nmt_proofs.specs.Clashes.{IsClash, clash_at, AreLeaves, IsOpening}
 use Rattle.nmt_proofs.proofs.ListedLemmas.{leaf_law}
 use Rattle.data_header.specs.Headers.{Roots, root_of}
-use Rattle.leopard_code.specs.Codewords.{ascending}
+use Rattle.namespace_id.specs.Lists.{ascending}
 use Rattle.leopard_code.proofs.PointLemmas.{length-ascending, get_or-ascending}
 use Rattle.square_layout.specs.Blocks.{SquareShares}
 use Rattle.axis_roots.specs.declared.messages.Message.{Message}

@@ -21,7 +21,7 @@ use Rattle.nmt_tree.specs.Levels.{leaf_digests, span}
 use Rattle.nmt_tree.proofs.CountLemmas.{power_halvings}
 use Rattle.nmt_tree.proofs.NameLemmas.{least-leaf}
 use Rattle.nmt_tree.proofs.SpanLemmas.{root_is_span}
-use Rattle.leopard_code.specs.Codewords.{ascending}
+use Rattle.namespace_id.specs.Lists.{ascending}
 use Rattle.leopard_code.proofs.PointLemmas.{length-ascending, get_or-ascending}
 use Rattle.axis_roots.specs.Grids.{share_at, cell_on, axis_cells, axis_names, axis_shares, axis_leaves, axis_root, axis_roots, leaf_over, AreLeaves, is_ordered_axis}
 use Rattle.axis_roots.proofs.AxisLemmas.{length-along, get_or-along, is_along}

@@ -9,8 +9,8 @@ use Rattle.std.proofs.lemmas.Option.{slice_get-get_or, get_or_from_slice_get}
 use Rattle.namespace_id.specs.declared.shares.Share.{Share}
 use Rattle.namespace_id.specs.Shares.{IsShare, AreShares}
 use Rattle.namespace_id.specs.Cells.{is_width}
-use Rattle.namespace_id.specs.Lists.{holds_along}
-use Rattle.leopard_code.specs.Codewords.{ascending, are_positions, IsCodeword, HasEntries}
+use Rattle.namespace_id.specs.Lists.{holds_along, ascending}
+use Rattle.leopard_code.specs.Codewords.{are_positions, IsCodeword, HasEntries}
 use Rattle.leopard_code.proofs.PointLemmas.{length-ascending, get_or-ascending}
 use Rattle.leopard_code.proofs.LawLemmas.{one_codeword, through_shares}
 use Rattle.axis_roots.specs.Grids.{blank}

@@ -12,8 +12,10 @@ use Rattle.namespace_id.specs.Cells.{is_width, is_in_square, name_of}
 use Rattle.nmt_tree.specs.Digests.{leaf_digest}
 use Rattle.nmt_tree.specs.Roots.{halvings, root, is_ordered}
 use Rattle.data_header.specs.Headers.{Roots}
-use Rattle.leopard_code.specs.Codewords.{ascending, IsCodeword}
+use Rattle.namespace_id.specs.Lists.{ascending}
+use Rattle.leopard_code.specs.Codewords.{IsCodeword}
 use Rattle.square_layout.specs.Blocks.{SquareShares, IsSquare}
+use Rattle.namespace_id.specs.Digests.{no_digest}
 
 -- a grid as contracts see it: its width k, and 4 * k * k shares, row-major
 pub record GridShares : Type 0 where
@@ -69,7 +71,7 @@ leaf_over k shares cell =
 pub record AreLeaves (k : ℕ) (shares : List Share) (leaves : List Digest) : Type 0 where
   pub count : length leaves ≡ 2 * k * (2 * k)
   pub digests : (cell : Cell) → IsTrue (is_in_square k cell)
-      → get_or leaves (cell.row * (2 * k) + cell.col) (record { 0 = [] }) ≡ leaf_over k shares cell
+      → get_or leaves (cell.row * (2 * k) + cell.col) no_digest ≡ leaf_over k shares cell
 
 -- those along a row or a column
 abbrev pub axis_leaves : ℕ → List Share → Axis → ℕ → List Digest

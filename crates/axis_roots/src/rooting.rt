@@ -7,7 +7,7 @@ ghost use Rattle.namespace_id.specs.Cells.{is_in_square};
 ghost use Rattle.namespace_id.specs.Digests.{least_of};
 ghost use Rattle.namespace_id.specs.Shares.{AreShares};
 ghost use Rattle.nmt_tree.specs.Roots.{is_ordered, halvings, strict_root};
-ghost use Rattle.leopard_code.specs.Codewords.{ascending};
+ghost use Rattle.namespace_id.specs.Lists.{ascending};
 ghost use Rattle.axis_roots.specs.Grids.{leaf_over, AreLeaves, axis_leaves, axis_names, axis_shares, axis_roots, is_ordered_axis, header_of_grid};
 
 use crate::Grid;

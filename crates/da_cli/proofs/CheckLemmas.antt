@@ -15,7 +15,7 @@ use Rattle.da_wire.specs.Laws.{MessageIsSpelled}
 use Rattle.std.specs.declared.option.Option.{Option}
 use Rattle.data_header.specs.Headers.{Roots, AreRoots}
 use Rattle.da_wire.specs.Reading.{Raw, message_at}
-use Rattle.da_wire.specs.Frames.{frames_of, bad_frame}
+use Rattle.da_wire.specs.Frames.{frames_of, bad_frame, message_in}
 use Rattle.da_cli.specs.declared.status.Status.{Status}
 use Rattle.da_cli.specs.declared.status.Status.TheVariants.{BadInput}
 use Rattle.da_cli.specs.declared.checking.Finding.{Finding}
@@ -26,7 +26,7 @@ use Rattle.da_cli.specs.Statuses.{kind_of, output}
 use Rattle.da_cli.specs.Outcome.{Relation, Refuses}
 use Rattle.da_cli.specs.Judging.{Judged}
 use Rattle.da_cli.specs.Single.{header_in, error_of}
-use Rattle.da_cli.specs.Check.{message_in, IsProvedFrame, IsOwnFrame, finding_of, line_of, is_ok, lines_of, are_ok, status_of, Lists, CheckOf}
+use Rattle.da_cli.specs.Check.{IsProvedFrame, IsOwnFrame, finding_of, line_of, is_ok, lines_of, are_ok, status_of, Lists, CheckOf}
 use Rattle.da_cli.specs.Meaning.{Meaning}
 
 -- the answer by what the two files are

@@ -11,7 +11,7 @@ use Rattle.axis_roots.specs.Openings.{IsProved}
 use Rattle.axis_roots.specs.Own.{ShowsOwn, NamesClash}
 use Rattle.da_wire.specs.Spelling.{message_kind}
 use Rattle.da_wire.specs.Reading.{Raw, message_at}
-use Rattle.da_wire.specs.Frames.{frames_of, bad_frame}
+use Rattle.da_wire.specs.Frames.{frames_of, bad_frame, message_in}
 use Rattle.da_cli.specs.declared.status.Status.{Status}
 use Rattle.da_cli.specs.declared.status.Status.TheVariants.{Done, Refused}
 use Rattle.da_cli.specs.declared.checking.Finding.{Finding}
@@ -21,10 +21,6 @@ use Rattle.da_cli.specs.Single.{header_in, error_of}
 use Rattle.da_cli.specs.Outcome.{Relation}
 
 -- ---- the second file
-
--- the message of the grammar that a frame is, if it is one
-abbrev pub message_in : Raw → Option sent.Message
-message_in frame = if frame.kind == message_kind then message_at frame.payload else None
 
 -- what is found of a frame
 abbrev pub finding_of : Roots → Raw → Finding

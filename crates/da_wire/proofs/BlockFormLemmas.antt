@@ -5,10 +5,10 @@ use Rattle.std.specs.List.{AllByRecursion}
 use Rattle.std.proofs.lemmas.List.{length-append}
 use Rattle.std.proofs.lemmas.Option.{cond_some}
 use Rattle.namespace_id.specs.Bytes.{AreBytes}
-use Rattle.share_split.specs.Blobs.{NamedBytes}
-use Rattle.square_layout.specs.Blocks.{BlockParts}
+use Rattle.share_split.specs.Blobs.{NamedBytes, IsNamed}
+use Rattle.square_layout.specs.Blocks.{BlockParts, IsBlock}
 use Rattle.da_wire.specs.Fields.{◌>>=◌, number_at, text_at, list_at}
-use Rattle.da_wire.specs.Spelling.{text_bytes, list_bytes, blob_bytes, width_number, asks_for_zero, block_payload, IsNamed, IsBlock}
+use Rattle.da_wire.specs.Spelling.{text_bytes, list_bytes, blob_bytes, width_number, asks_for_zero, block_payload}
 use Rattle.da_wire.specs.Reading.{blob_at, asked_width, block_at}
 use Rattle.da_wire.proofs.ReaderLemmas.{bind_some, bind_again, Takes-then, Takes-all}
 use Rattle.da_wire.proofs.NumberLemmas.{wide16, number_takes, number_again}

@@ -9,9 +9,9 @@ use Rattle.namespace_id.specs.declared.digests.Digest.{Digest}
 use Rattle.namespace_id.specs.Bytes.{AreBytes}
 use Rattle.namespace_id.specs.Cells.{is_width}
 use Rattle.namespace_id.proofs.StringLemmas.{AreBytes-take, AreBytes-drop}
-use Rattle.data_header.specs.Headers.{Roots}
+use Rattle.data_header.specs.Headers.{Roots, IsHeader}
 use Rattle.da_wire.specs.Fields.{number_at, digests_of}
-use Rattle.da_wire.specs.Spelling.{digest_bytes, header_payload, IsHeader}
+use Rattle.da_wire.specs.Spelling.{digest_bytes, header_payload}
 use Rattle.da_wire.specs.Reading.{header_at}
 use Rattle.da_wire.proofs.ReaderLemmas.{bind_some, bind_again, if_false, if_false_again, if_true_again}
 use Rattle.da_wire.proofs.NumberLemmas.{wide16, number_takes, number_again}

@@ -1,6 +1,7 @@
 -- Lemmas on values that are read where the one before ended.
 use Rattle.std.proofs.Common.{◌≡◌, ◌∙◌, ℕ, suc, ◌+◌, ◌-◌, ◌<◌, ◌≤◌, List, [], ◌∷◌, ◌++◌, Option, Some, None, IsSome, refl, sym, ap, subst, arith, append_assoc, append-nil}
-use Rattle.da_wire.specs.Fields.{◌>>=◌, many_at, read_items, read_rest, Gives}
+use Rattle.namespace_id.specs.Answers.{Gives}
+use Rattle.da_wire.specs.Fields.{◌>>=◌, many_at, read_items, read_rest}
 
 -- a reader's values with one more before them
 abbrev pub after_first : {A : Type 0} → A → Option (List A × List ℕ) → Option (List A × List ℕ)

@@ -5,9 +5,9 @@ use Rattle.std.specs.Int.{w32, to_be_bytes}
 use Rattle.std.proofs.lemmas.List.{length-append}
 use Rattle.std.proofs.lemmas.Option.{some_pair_parts}
 use Rattle.namespace_id.specs.Bytes.{AreBytes}
-use Rattle.share_split.specs.Blobs.{NamedBytes}
+use Rattle.share_split.specs.Blobs.{NamedBytes, IsNamed}
 use Rattle.da_wire.specs.Fields.{◌>>=◌, number_at, byte_at, string_at, text_at}
-use Rattle.da_wire.specs.Spelling.{text_bytes, blob_bytes, IsNamed}
+use Rattle.da_wire.specs.Spelling.{text_bytes, blob_bytes}
 use Rattle.da_wire.specs.Reading.{blob_at}
 use Rattle.da_wire.proofs.ReaderLemmas.{bind_some, bind_again, if_true, Takes, Takes-is, Takes-then}
 use Rattle.da_wire.proofs.NumberLemmas.{wide32, number_takes, number_again}

@@ -10,14 +10,14 @@ use Rattle.namespace_id.specs.declared.cells.Axis.{Axis}
 use Rattle.namespace_id.specs.declared.namespaces.Namespace.{Namespace}
 use Rattle.namespace_id.specs.Names.{IsNamespace}
 use Rattle.namespace_id.specs.Cells.{CellList, AreCells}
-use Rattle.data_header.specs.Headers.{Roots}
+use Rattle.data_header.specs.Headers.{Roots, IsHeader}
 use Rattle.axis_roots.specs.declared.messages.Message as sent
 use Rattle.axis_roots.specs.Messages.{IsMessage}
 use Rattle.namespace_id.specs.Shares.{AreShares}
-use Rattle.square_layout.specs.Blocks.{BlockParts, SquareShares, IsSquare}
+use Rattle.square_layout.specs.Blocks.{BlockParts, SquareShares, IsSquare, IsBlock}
 use Rattle.da_wire.specs.declared.frames.Frame.{Frame}
 use Rattle.da_wire.specs.declared.frames.Frame.TheVariants.{Header, Square, Message, Missing, Sample, Request, Block}
-use Rattle.da_wire.specs.Spelling.{max_payload, frame, header_kind, square_kind, message_kind, missing_kind, sample_kind, request_kind, block_kind, cell_bytes, header_payload, square_payload, message_payload, missing_payload, sample_payload, request_payload, block_payload, asks_for_zero, spelled, spelling, IsFrame, IsHeader, IsCell, IsBlock}
+use Rattle.da_wire.specs.Spelling.{max_payload, frame, header_kind, square_kind, message_kind, missing_kind, sample_kind, request_kind, block_kind, cell_bytes, header_payload, square_payload, message_payload, missing_payload, sample_payload, request_payload, block_payload, asks_for_zero, spelled, spelling, IsFrame, IsCell}
 use Rattle.da_wire.specs.Reading.{value_at, is_kind}
 use Rattle.da_wire.proofs.ReaderLemmas.{if_false}
 use Rattle.da_wire.proofs.CellFieldLemmas.{length-cells_bytes}

@@ -87,8 +87,3 @@ read_items read = option_map_or (λ x. x.0) read []
 -- the bytes after what was read
 abbrev pub read_rest : {A : Type 0} → Option (A × List ℕ) → Option (List ℕ)
 read_rest read = option_map (λ x. x.1) read
-
--- what a reader answered, seen by `view`, is what reading gives
-abbrev pub Gives : {X Y : Type 0} → (X → Y) → Option X → Option Y → Type 0
-Gives view None read = read ≡ None
-Gives view (Some x) read = read ≡ Some (view x)

@@ -2,8 +2,9 @@
 use Rattle.std.specs.Prelude.{◌≡◌, ◌<◌, ◌≤◌, ℕ, zero, suc, ◌+◌, ◌-◌, List, [], ◌∷◌, length, Option, Some, None, Result, Ok, Err}
 use Rattle.std.specs.List.{flat_map}
 use Rattle.std.specs.Option.{option_map_or}
-use Rattle.da_wire.specs.Spelling.{max_payload, frame}
-use Rattle.da_wire.specs.Reading.{Raw, raw_of}
+use Rattle.da_wire.specs.Spelling.{max_payload, frame, message_kind}
+use Rattle.da_wire.specs.Reading.{Raw, raw_of, message_at}
+use Rattle.axis_roots.specs.declared.messages.Message.{Message}
 
 abbrev pub ok_of : {A E : Type 0} → Result A E → Option A
 ok_of (Ok x) = Some x
@@ -40,3 +41,7 @@ pub record IsRaw (raw : Raw) : Type 0 where
   pub kind : raw.kind < 256
   pub payload : length raw.payload ≤ max_payload
   pub size : raw.size ≡ 5 + length raw.payload
+
+-- the message of the grammar that a frame is, if it is one
+abbrev pub message_in : Raw → Option Message
+message_in frame = if frame.kind == message_kind then message_at frame.payload else None

@@ -14,10 +14,10 @@ use Rattle.namespace_id.specs.Names.{IsNamespace}
 use Rattle.namespace_id.specs.Digests.{AreDigests}
 use Rattle.namespace_id.specs.Shares.{AreShares}
 use Rattle.namespace_id.specs.Cells.{CellList, AreCells}
-use Rattle.data_header.specs.Headers.{Roots, AreRoots}
+use Rattle.data_header.specs.Headers.{Roots, AreRoots, IsHeader}
 use Rattle.axis_roots.specs.declared.messages.Message as sent
 use Rattle.axis_roots.specs.Messages.{IsMessage}
-use Rattle.square_layout.specs.Blocks.{BlockParts, SquareShares, IsSquare}
+use Rattle.square_layout.specs.Blocks.{BlockParts, SquareShares, IsSquare, IsBlock}
 use Rattle.share_split.specs.Blobs.{NamedBytes}
 use Rattle.da_wire.specs.declared.frames.Frame.{Frame}
 use Rattle.da_wire.specs.declared.frames.Frame.TheVariants.{Header, Square, Message, Missing, Sample, Request, Block}
@@ -136,28 +136,10 @@ spelling (Block b) = if asks_for_zero b.width then None else spelled block_kind 
 
 -- ---- the values that there are
 
--- a header whose digests have 90 bytes
-pub record IsHeader (h : Roots) : Type 0 where
-  pub roots : AreRoots h
-  pub rows : AreDigests h.rows
-  pub cols : AreDigests h.cols
-
 -- a cell has numbers of two bytes
 pub record IsCell (cell : Cell) : Type 0 where
   pub row : cell.row < 2 ^ 16
   pub col : cell.col < 2 ^ 16
-
--- bytes under a namespace of 29 bytes
-pub record IsNamed (blob : NamedBytes) : Type 0 where
-  pub name : IsNamespace blob.namespace
-  pub fits : AreBytes blob.bytes
-
--- a block of bytes, whose width has two bytes
-pub record IsBlock (b : BlockParts) : Type 0 where
-  pub units : AllByRecursion AreBytes b.units
-  pub pay_units : AllByRecursion AreBytes b.pay_units
-  pub blobs : AllByRecursion IsNamed b.blobs
-  pub width : IfSome b.width (λ k. k < 2 ^ 16)
 
 -- every value has the lengths and bounds of its type
 abbrev pub IsFrame : Frame → Type 0

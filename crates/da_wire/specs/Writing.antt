@@ -32,10 +32,6 @@ HasSize value size = MatchOption size (spelling value ≡ None)
 abbrev pub AppendsSpelling : Frame → List ℕ → List ℕ → Type 0
 AppendsSpelling value old new = (text : List ℕ) × (spelling value ≡ Some text) × (new ≡ old ++ text)
 
--- there is room for so many bytes
-abbrev pub HasRoom : Vec ℕ Global → ℕ → Type 0
-HasRoom out count = vec_len out + count ≤ vec_capacity out
-
 -- a payload so short that four bytes state its length, and count what it has
 abbrev pub IsShort : List ℕ → Type 0
 IsShort payload = length payload < 2 ^ 32

@@ -1,10 +1,11 @@
 //! The payload of a block: judged where it lies, then read; and written.
 
 ghost use Rattle.std.specs.Prelude.{◌≡◌, ◌+◌, ◌≤◌, ◌++◌, length, vec_len, vec_capacity, None, Some, IsSome, IfOk, IfSome, MatchOption};
-ghost use Rattle.da_wire.specs.Fields.{Gives, text_at, many_at, list_at, read_items, read_rest};
+ghost use Rattle.namespace_id.specs.Answers.{Gives, HasRoom};
+ghost use Rattle.da_wire.specs.Fields.{text_at, many_at, list_at, read_items, read_rest};
 ghost use Rattle.da_wire.specs.Reading.{blob_at, asked_width, block_at, GivesUnlessFull};
 ghost use Rattle.da_wire.specs.Spelling.{max_payload, text_bytes, list_bytes, blob_bytes, width_number, block_payload};
-ghost use Rattle.da_wire.specs.Writing.{HasSize, HasRoom, IsShort, IsWithin};
+ghost use Rattle.da_wire.specs.Writing.{HasSize, IsShort, IsWithin};
 ghost use Rattle.da_wire.specs.declared.frames.Frame.TheVariants as FrameOf;
 
 use crate::MAX_PAYLOAD;

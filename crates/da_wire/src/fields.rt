@@ -3,7 +3,8 @@
 ghost use Rattle.std.specs.Prelude.{◌≡◌, ◌≤◌, ◌*◌, length, IfOk, IfSome};
 ghost use Rattle.std.specs.Int.{w16, w32};
 ghost use Rattle.namespace_id.specs.Bytes.{IsString};
-ghost use Rattle.da_wire.specs.Fields.{number_at, byte_at, string_at, digests_at, text_at, Gives};
+ghost use Rattle.namespace_id.specs.Answers.{Gives};
+ghost use Rattle.da_wire.specs.Fields.{number_at, byte_at, string_at, digests_at, text_at};
 
 use namespace_id::{Namespace, Share};
 use share_split::SHARE_SIZE;

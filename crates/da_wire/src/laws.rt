@@ -1,11 +1,11 @@
 //! What is spelled is read, and what is read is spelled.
 
 ghost use Rattle.std.specs.Prelude.{◌≡◌, IsSome};
-ghost use Rattle.data_header.specs.Headers.{Roots};
+ghost use Rattle.data_header.specs.Headers.{Roots, IsHeader};
 ghost use Rattle.namespace_id.specs.Shares.{AreShares};
 ghost use Rattle.square_layout.specs.Blocks.{SquareShares, IsSquare};
 ghost use Rattle.da_wire.specs.declared.frames.Frame.TheVariants.{Header, Square};
-ghost use Rattle.da_wire.specs.Spelling.{max_payload, spelling, IsHeader};
+ghost use Rattle.da_wire.specs.Spelling.{max_payload, spelling};
 ghost use Rattle.da_wire.specs.Laws.{SpelledIsRead, ReadIsSpelled, OneSpelling, MessageIsRead, MessageIsSpelled, FramesAreTheFile, FilesAreFrames};
 
 use crate::reading::MAX_PAYLOAD;

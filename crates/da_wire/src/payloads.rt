@@ -3,7 +3,8 @@
 ghost use Rattle.std.specs.Prelude.{◌≡◌, ◌≤◌, ◌<◌, ◌*◌, length, take, drop, vec_len, None, Some, IfOk, IfSome, IsTrue, MatchOption, true};
 ghost use Rattle.std.specs.Int.{w16, from_be_bytes};
 ghost use Rattle.namespace_id.specs.Cells.{is_width, are_cells};
-ghost use Rattle.da_wire.specs.Fields.{Gives, digests_of, shares_of, cells_of};
+ghost use Rattle.namespace_id.specs.Answers.{Gives};
+ghost use Rattle.da_wire.specs.Fields.{digests_of, shares_of, cells_of};
 ghost use Rattle.da_wire.specs.Reading.{roots_of, header_at, square_at, axis_at, path_at, cell_at, message_at, is_next, are_next, missing_at, sample_at, request_at, GivesUnlessFull};
 
 use crate::fields::{NAME_SIZE, name_of, share_at, share_of, u8_at, u16_at, u32_at};

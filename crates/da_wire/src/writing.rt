@@ -3,7 +3,8 @@
 ghost use Rattle.std.specs.Prelude.{◌≡◌, ◌+◌, ◌≤◌, ◌++◌, ◌↔◌, ◌∷◌, [], length, vec_len, vec_capacity, OnOk, OnErr, IsErrOf, None, Some};
 ghost use Rattle.std.specs.List.{flat_map};
 ghost use Rattle.da_wire.specs.Spelling.{digest_bytes, share_bytes, axis_byte, cell_bytes, header_payload, square_payload, message_payload, missing_payload, sample_payload, spelling};
-ghost use Rattle.da_wire.specs.Writing.{kind_of, payload_of, HasSize, AppendsSpelling, HasRoom, IsShort};
+ghost use Rattle.namespace_id.specs.Answers.{HasRoom};
+ghost use Rattle.da_wire.specs.Writing.{kind_of, payload_of, HasSize, AppendsSpelling, IsShort};
 ghost use Rattle.da_wire.specs.declared.frames.Frame.TheVariants as FrameOf;
 
 use crate::blocks::{block_size, put_block};

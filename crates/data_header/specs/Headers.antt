@@ -5,6 +5,7 @@ use Rattle.namespace_id.specs.declared.cells.Axis.{Axis}
 use Rattle.namespace_id.specs.declared.cells.Axis.TheVariants.{Row, Col}
 use Rattle.namespace_id.specs.declared.digests.Digest.{Digest}
 use Rattle.namespace_id.specs.Cells.{is_width}
+use Rattle.namespace_id.specs.Digests.{AreDigests, no_digest}
 
 -- a header as contracts see it: its width k, and the 2k roots of its rows and of its columns
 pub record Roots : Type 0 where
@@ -18,6 +19,12 @@ pub record AreRoots (header : Roots) : Type 0 where
   pub rows : length header.rows ≡ 2 * header.k
   pub cols : length header.cols ≡ 2 * header.k
 
+-- a header whose digests have 90 bytes
+pub record IsHeader (header : Roots) : Type 0 where
+  pub roots : AreRoots header
+  pub rows : AreDigests header.rows
+  pub cols : AreDigests header.cols
+
 -- the roots along an axis
 abbrev pub roots_along : Roots → Axis → List Digest
 roots_along header Row = header.rows
@@ -25,4 +32,4 @@ roots_along header Col = header.cols
 
 -- the root of an axis
 abbrev pub root_of : Roots → Axis → ℕ → Digest
-root_of header axis index = get_or (roots_along header axis) index (record { 0 = [] })
+root_of header axis index = get_or (roots_along header axis) index no_digest

@@ -7,7 +7,8 @@ use Rattle.namespace_id.specs.declared.shares.Share.{Share}
 use Rattle.namespace_id.specs.declared.digests.Digest.{Digest}
 use Rattle.namespace_id.proofs.HalfLemmas.{half_power}
 use Rattle.nmt_proofs.specs.Parts.{given, leaf, join}
-use Rattle.nmt_proofs.specs.Openings.{opened, one_leaf, no_digest}
+use Rattle.namespace_id.specs.Digests.{no_digest}
+use Rattle.nmt_proofs.specs.Openings.{opened, one_leaf}
 use Rattle.nmt_proofs.specs.Clashes.{whole}
 use Rattle.nmt_proofs.proofs.SingleLemmas.{opened_left, opened_right}
 use Rattle.hash_clash.specs.declared.openings.Opening.{Opening}

@@ -6,7 +6,8 @@ use Rattle.namespace_id.specs.declared.shares.Share.{Share}
 use Rattle.namespace_id.specs.Shares.{AreShares}
 use Rattle.byte_polynomial.specs.Polynomial.{value_at, AreBytes, ArePoints, Takes}
 use Rattle.byte_polynomial.proofs.Through.{through}
-use Rattle.leopard_code.specs.Codewords.{ascending, points, column, IsCodeword}
+use Rattle.namespace_id.specs.Lists.{ascending}
+use Rattle.leopard_code.specs.Codewords.{points, column, IsCodeword}
 use Rattle.leopard_code.specs.Weights.{weighted, AreWeights, IsTable}
 use Rattle.namespace_id.specs.Cells.{is_width}
 use Rattle.leopard_code.proofs.LagrangeLemmas.{lagrange}

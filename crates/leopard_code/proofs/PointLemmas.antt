@@ -8,7 +8,8 @@ use Rattle.std.proofs.lemmas.Bool.Decides.{nat_tests}
 use Rattle.namespace_id.specs.declared.shares.Share.{Share}
 use Rattle.namespace_id.specs.Shares.{AreShares}
 use Rattle.byte_polynomial.specs.Polynomial.{value_at, AreBytes, Avoids, ArePoints, Takes}
-use Rattle.leopard_code.specs.Codewords.{ascending, column}
+use Rattle.namespace_id.specs.Lists.{ascending}
+use Rattle.leopard_code.specs.Codewords.{column}
 use Rattle.namespace_id.specs.Cells.{is_width}
 
 pub length-ascending : (n first : ℕ) → length (ascending first n) ≡ n

@@ -4,18 +4,13 @@ use Rattle.std.specs.List.{list_all}
 use Rattle.gf_cantor.specs.Field.{product}
 use Rattle.namespace_id.specs.declared.shares.Share.{Share}
 use Rattle.namespace_id.specs.Shares.{AreShares}
-use Rattle.namespace_id.specs.Lists.{holds_along}
+use Rattle.namespace_id.specs.Lists.{holds_along, ascending}
 use Rattle.byte_polynomial.specs.Polynomial.{AreBytes, Takes}
 
 -- the bytes at place b of each share
 unfoldable pub column : ℕ → List Share → List ℕ
 column b [] = []
 column b (share ∷ shares) = slice_index share.0 b ∷ column b shares
-
--- n numbers from the first on
-unfoldable pub ascending : ℕ → ℕ → List ℕ
-ascending first zero = []
-ascending first (suc n) = first ∷ ascending (suc first) n
 
 -- the points of the positions: the originals stand at k up to 2k, the recovery shares at 0 up to k
 unfoldable pub points : ℕ → List ℕ

@@ -4,7 +4,8 @@ use Rattle.gf_cantor.specs.Field.{product}
 use Rattle.namespace_id.specs.declared.shares.Share.{Share}
 use Rattle.namespace_id.specs.Cells.{is_width}
 use Rattle.byte_polynomial.specs.Polynomial.{value_at, AreBytes, Takes}
-use Rattle.leopard_code.specs.Codewords.{ascending, column}
+use Rattle.namespace_id.specs.Lists.{ascending}
+use Rattle.leopard_code.specs.Codewords.{column}
 
 -- the sum of the products of weights and bytes
 unfoldable pub weighted : List ℕ → List ℕ → ℕ

@@ -1,5 +1,5 @@
 -- Digests of leaves and nodes (Celestia specifications, "Data Structures").
-use Rattle.std.specs.Prelude.{List, take, drop}
+use Rattle.std.specs.Prelude.{List, take, drop, []}
 use Rattle.std.specs.List.{AllByRecursion}
 use Rattle.namespace_id.specs.declared.namespaces.Namespace.{Namespace}
 use Rattle.namespace_id.specs.declared.digests.Digest.{Digest}
@@ -19,3 +19,7 @@ least_of digest = record { 0 = take 29 digest.0 }
 -- the greatest namespace of a digest: the 29 bytes after those
 abbrev pub greatest_of : Digest → Namespace
 greatest_of digest = record { 0 = take 29 (drop 29 digest.0) }
+
+-- the digest that stands for none
+abbrev pub no_digest : Digest
+no_digest = record { 0 = [] }

@@ -4,3 +4,4 @@ pub mod Shares
 pub mod Digests
 pub mod Cells
 pub mod Lists
+pub mod Answers

@@ -1,5 +1,5 @@
 -- Namespaces, their order and the namespace of parity shares (Celestia specifications, "Namespace").
-use Rattle.std.specs.Prelude.{ℕ, List, [], ◌∷◌, ◌++◌, replicate, length, slice_index, slice_range, if◌then◌else◌, Bool, ◌==◌, ◌&&◌, not}
+use Rattle.std.specs.Prelude.{ℕ, List, [], ◌∷◌, ◌++◌, replicate, length, slice_index, slice_range, if◌then◌else◌, Bool, ◌==◌, ◌&&◌, not, Option, Some, None}
 use Rattle.std.specs.List.{list_all, AllByRecursion}
 use Rattle.std.specs.declared.cmp.Ordering.{Ordering}
 use Rattle.std.specs.Str.{bytes_eq}
@@ -7,6 +7,8 @@ use Rattle.std.specs.Ordering.{nat_cmp, is_le}
 use Rattle.std.specs.Cmp.Lexicographic.{slice_cmp}
 use Rattle.namespace_id.specs.declared.namespaces.Namespace.{Namespace}
 use Rattle.namespace_id.specs.Bytes.{IsString}
+use Rattle.namespace_id.specs.declared.namespaces.NsError.{NsError}
+use Rattle.namespace_id.specs.declared.namespaces.NsError.TheVariants.{Length, Version, Prefix, Reserved}
 
 -- a namespace has 29 bytes
 abbrev pub IsNamespace : Namespace → Type 0
@@ -64,3 +66,11 @@ abbrev pub is_blob_namespace : List ℕ → Bool
 is_blob_namespace bytes =
     (length bytes == 29) && (slice_index bytes 0 == 0) && is_zeros (slice_range bytes 1 19)
     && not (is_reserved bytes)
+
+-- why bytes are no namespace of a blob: the first check that fails
+abbrev pub namespace_refusal : List ℕ → Option NsError
+namespace_refusal bytes =
+    if not (length bytes == 29) then Some Length else
+    (if not (slice_index bytes 0 == 0) then Some Version else
+    (if not (is_zeros (slice_range bytes 1 19)) then Some Prefix else
+    (if is_reserved bytes then Some Reserved else None)))

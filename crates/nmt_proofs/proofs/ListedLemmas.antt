@@ -10,7 +10,8 @@ use Rattle.namespace_id.specs.declared.digests.Digest.{Digest}
 use Rattle.nmt_tree.specs.Roots.{root}
 use Rattle.nmt_tree.specs.Levels.{leaf_digests, span}
 use Rattle.nmt_proofs.specs.Parts.{Part, leaf, join, digest_of}
-use Rattle.nmt_proofs.specs.Openings.{Shown, begun, is_shown, outside, opened, no_digest, one_leaf}
+use Rattle.namespace_id.specs.Digests.{no_digest}
+use Rattle.nmt_proofs.specs.Openings.{Shown, begun, is_shown, outside, opened, one_leaf}
 use Rattle.nmt_proofs.specs.Clashes.{Agree, HasDepth, ClashOr, clash_at, whole, AreLeaves, IsOpening, ArePlaces, AreListed}
 use Rattle.nmt_proofs.specs.Making.{spans}
 use Rattle.nmt_proofs.proofs.ListLemmas.{each-append, same_one}

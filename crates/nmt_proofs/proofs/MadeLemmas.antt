@@ -10,7 +10,8 @@ use Rattle.nmt_tree.specs.Digests.{node_digest, is_ordered_join}
 use Rattle.nmt_tree.specs.Levels.{span, HasOrderedJoins}
 use Rattle.namespace_id.proofs.StringLemmas.{front, behind}
 use Rattle.nmt_proofs.specs.Parts.{Part, join, digest_of, is_in_order}
-use Rattle.nmt_proofs.specs.Openings.{Shown, begun, is_shown, outside, opened, no_digest, Opens}
+use Rattle.namespace_id.specs.Digests.{no_digest}
+use Rattle.nmt_proofs.specs.Openings.{Shown, begun, is_shown, outside, opened, Opens}
 use Rattle.nmt_proofs.specs.Making.{spans, AreAtLeaves}
 use Rattle.nmt_proofs.specs.Clashes.{ArePlaces}
 use Rattle.nmt_proofs.proofs.ListLemmas.{each-take, each-drop}

@@ -3,9 +3,9 @@ use Rattle.std.proofs.Common.{◌≡◌, ◌∙◌, ℕ, zero, suc, ◌+◌, ◌
 use Rattle.std.proofs.lemmas.List.{length-take-le}
 use Rattle.std.proofs.lemmas.Bool.{cases_Bool, eqb-true, true≢false}
 use Rattle.namespace_id.specs.declared.digests.Digest.{Digest}
-use Rattle.namespace_id.specs.Digests.{IsDigest, AreDigests}
+use Rattle.namespace_id.specs.Digests.{IsDigest, AreDigests, no_digest}
 use Rattle.nmt_proofs.specs.Parts.{Part, given, leaf, join}
-use Rattle.nmt_proofs.specs.Openings.{Shown, begun, is_shown, outside, opened, no_digest}
+use Rattle.nmt_proofs.specs.Openings.{Shown, begun, is_shown, outside, opened}
 use Rattle.nmt_proofs.specs.Clashes.{IsSized, HasDepth, IsShown, AreShown, IsOpening}
 use Rattle.nmt_proofs.proofs.ListLemmas.{each-take, each-drop}
 use Rattle.nmt_proofs.proofs.SingleLemmas.{single}

@@ -5,7 +5,8 @@ use Rattle.std.proofs.lemmas.Nat.{pow_pos}
 use Rattle.std.proofs.Math.Nat.{pow-suc}
 use Rattle.namespace_id.specs.declared.digests.Digest.{Digest}
 use Rattle.nmt_proofs.specs.Parts.{Part, given, join}
-use Rattle.nmt_proofs.specs.Openings.{Shown, begun, is_shown, outside, opened, no_digest}
+use Rattle.namespace_id.specs.Digests.{no_digest}
+use Rattle.nmt_proofs.specs.Openings.{Shown, begun, is_shown, outside, opened}
 
 -- a single place that shows a part
 abbrev pub one_place : ℕ → Part → List Shown

@@ -6,7 +6,8 @@ use Rattle.std.proofs.Math.Nat.{pow-suc}
 use Rattle.namespace_id.specs.declared.digests.Digest.{Digest}
 use Rattle.nmt_proofs.specs.declared.joining.Piece.{Piece}
 use Rattle.nmt_proofs.specs.Parts.{given, join}
-use Rattle.nmt_proofs.specs.Openings.{Shown, begun, is_shown, outside, opened, no_digest}
+use Rattle.namespace_id.specs.Digests.{no_digest}
+use Rattle.nmt_proofs.specs.Openings.{Shown, begun, is_shown, outside, opened}
 use Rattle.nmt_proofs.specs.Pieces.{shown, shown_of}
 use Rattle.nmt_proofs.proofs.SingleLemmas.{outside_empty, opened_empty}
 

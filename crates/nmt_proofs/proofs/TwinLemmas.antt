@@ -6,7 +6,8 @@ use Rattle.namespace_id.specs.declared.namespaces.Namespace.{Namespace}
 use Rattle.namespace_id.specs.declared.shares.Share.{Share}
 use Rattle.namespace_id.specs.declared.digests.Digest.{Digest}
 use Rattle.nmt_proofs.specs.Parts.{Part, leaf, digest_of}
-use Rattle.nmt_proofs.specs.Openings.{opened, no_digest, one_leaf, has_count}
+use Rattle.namespace_id.specs.Digests.{no_digest}
+use Rattle.nmt_proofs.specs.Openings.{opened, one_leaf, has_count}
 use Rattle.nmt_proofs.specs.Clashes.{Agree, ClashOr, IsOpening}
 use Rattle.nmt_proofs.proofs.ListLemmas.{same_halves, same_one}
 use Rattle.nmt_proofs.proofs.SingleLemmas.{one_place, length-outside-one, opened_left, opened_right}

@@ -10,7 +10,7 @@ use Rattle.nmt_tree.specs.Digests.{node_digest}
 use Rattle.nmt_tree.specs.Roots.{root}
 use Rattle.nmt_tree.specs.Levels.{leaf_digests, span}
 use Rattle.nmt_proofs.specs.Parts.{join, digest_of}
-use Rattle.nmt_proofs.specs.Openings.{no_digest}
+use Rattle.namespace_id.specs.Digests.{no_digest}
 use Rattle.nmt_proofs.specs.Clashes.{whole, AreLeaves, IsSized, HasDepth, Agree}
 use Rattle.nmt_proofs.proofs.ListLemmas.{each-take, each-drop, same_halves, same_one}
 use Rattle.nmt_proofs.proofs.AgreeLemmas.{IsFull}

@@ -10,9 +10,9 @@ use Rattle.namespace_id.specs.declared.digests.Digest.{Digest}
 use Rattle.namespace_id.specs.Bytes.{AreBytes}
 use Rattle.namespace_id.specs.Names.{IsNamespace, AreNamespaces}
 use Rattle.namespace_id.specs.Shares.{IsShare, AreShares}
-use Rattle.namespace_id.specs.Digests.{IsDigest, AreDigests}
+use Rattle.namespace_id.specs.Digests.{IsDigest, AreDigests, no_digest}
 use Rattle.nmt_proofs.specs.Parts.{Part, given, leaf, join, digest_of}
-use Rattle.nmt_proofs.specs.Openings.{Shown, has_count, no_digest}
+use Rattle.nmt_proofs.specs.Openings.{Shown, has_count}
 
 -- a SHA-256 collision: two different byte strings with one digest
 pub record IsClash (left right : List ℕ) : Type 0 where

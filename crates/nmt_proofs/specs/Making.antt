@@ -7,7 +7,8 @@ use Rattle.nmt_tree.specs.Digests.{leaf_digest}
 use Rattle.nmt_tree.specs.Roots.{halvings}
 use Rattle.nmt_tree.specs.Levels.{span}
 use Rattle.nmt_proofs.specs.Parts.{given, digest_of, is_in_order}
-use Rattle.nmt_proofs.specs.Openings.{Shown, outside, no_digest, Opens, one_leaf}
+use Rattle.namespace_id.specs.Digests.{no_digest}
+use Rattle.nmt_proofs.specs.Openings.{Shown, outside, Opens, one_leaf}
 
 -- the digests over intervals of leaves, each told by where it begins and its depth
 abbrev pub spans : List Digest → List (ℕ × ℕ) → List Digest

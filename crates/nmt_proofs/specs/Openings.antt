@@ -5,6 +5,7 @@ use Rattle.namespace_id.specs.declared.namespaces.Namespace.{Namespace}
 use Rattle.namespace_id.specs.declared.shares.Share.{Share}
 use Rattle.namespace_id.specs.declared.digests.Digest.{Digest}
 use Rattle.nmt_proofs.specs.Parts.{Part, given, leaf, join, digest_of, is_in_order}
+use Rattle.namespace_id.specs.Digests.{no_digest}
 
 -- a part that an opening shows: the places that it has, and what stands there
 pub record Shown : Type 0 where
@@ -31,10 +32,6 @@ outside (suc depth) start [] = (start, suc depth) ∷ []
 outside (suc depth) start (s ∷ shown) = if is_shown (suc depth) s then [] else
     outside depth start (take (begun (start + 2 ^ depth) (s ∷ shown)) (s ∷ shown))
     ++ outside depth (start + 2 ^ depth) (drop (begun (start + 2 ^ depth) (s ∷ shown)) (s ∷ shown))
-
--- the digest that stands for none
-abbrev pub no_digest : Digest
-no_digest = record { 0 = [] }
 
 -- the partial tree over these places: an interval that holds nothing shown takes the next node, an
 -- interval that is shown is the part, any other is the join of its halves, left first

@@ -5,6 +5,7 @@ use Rattle.namespace_id.specs.declared.namespaces.Namespace.{Namespace}
 use Rattle.namespace_id.specs.declared.shares.Share.{Share}
 use Rattle.namespace_id.specs.declared.digests.Digest.{Digest}
 use Rattle.nmt_tree.specs.Digests.{leaf_digest, node_digest, is_ordered_join}
+use Rattle.namespace_id.specs.Digests.{no_digest}
 
 -- the digests of leaves, by their namespaces and shares
 unfoldable pub leaf_digests : List Namespace → List Share → List Digest
@@ -14,7 +15,7 @@ leaf_digests (name ∷ names) (share ∷ shares) = leaf_digest name share ∷ le
 
 -- the digest over 2 ^ depth leaves from one place on, by the leaves' digests
 unfoldable pub span : List Digest → ℕ → ℕ → Digest
-span leaves start zero = get_or leaves start (record { 0 = [] })
+span leaves start zero = get_or leaves start no_digest
 span leaves start (suc depth) =
     node_digest (span leaves start depth) (span leaves (start + 2 ^ depth) depth)
 

@@ -6,6 +6,7 @@ use Rattle.namespace_id.specs.declared.digests.Digest.{Digest}
 use Rattle.namespace_id.specs.Names.{is_at_most}
 use Rattle.namespace_id.specs.Lists.{holds_along}
 use Rattle.nmt_tree.specs.Digests.{leaf_digest, node_digest}
+use Rattle.namespace_id.specs.Digests.{no_digest}
 
 -- whether a tree may have this many leaves
 abbrev pub is_leaf_count : ℕ → Bool
@@ -27,8 +28,8 @@ halvings n =
 -- one, else the node's over the roots of both halves
 unfoldable pub root : ℕ → List Namespace → List Share → Digest
 root zero (name ∷ names) (share ∷ shares) = leaf_digest name share
-root zero [] shares = record { 0 = [] }
-root zero (name ∷ names) [] = record { 0 = [] }
+root zero [] shares = no_digest
+root zero (name ∷ names) [] = no_digest
 root (suc depth) names shares =
     node_digest (root depth (take (2 ^ depth) names) (take (2 ^ depth) shares))
     (root depth (drop (2 ^ depth) names) (drop (2 ^ depth) shares))

@@ -1,6 +1,7 @@
 //! Trees that keep the digests of all their levels.
 
 ghost use Rattle.std.specs.Prelude.{◌≡◌, ◌≤◌, ◌<◌, ◌+◌, ◌%◌, ◌^◌, ℕ, List, [], length, get_or, IsTrue, true, Some, None, IfOk, IfSome, if◌then◌else◌};
+ghost use Rattle.namespace_id.specs.Digests.{no_digest};
 ghost use Rattle.namespace_id.specs.Names.{AreNamespaces};
 ghost use Rattle.namespace_id.specs.declared.namespaces.Namespace.{Namespace};
 ghost use Rattle.namespace_id.specs.declared.shares.Share.{Share};
@@ -124,7 +125,7 @@ impl Tree {
 pub fn tree_laws()
     ensures leaf { (names : List Namespace) (shares : List Share) (pos : ℕ) →
         (name : Namespace) (share : Share) → length names ≡ length shares → pos < length names →
-        get_or (leaf_digests names shares) pos (record { 0 = [] }) ≡
+        get_or (leaf_digests names shares) pos no_digest ≡
         leaf_digest (get_or names pos name) (get_or shares pos share) }
     ensures root { (depth : ℕ) (names : List Namespace) (shares : List Share) →
         length names ≡ 2 ^ depth → length shares ≡ 2 ^ depth →

@@ -4,6 +4,8 @@ use Rattle.std.specs.Int.{w32, to_be_bytes, div_ceil}
 use Rattle.std.specs.declared.alloc.Global.{Global}
 use Rattle.namespace_id.specs.declared.namespaces.Namespace.{Namespace}
 use Rattle.namespace_id.specs.declared.shares.Share.{Share}
+use Rattle.namespace_id.specs.Bytes.{AreBytes}
+use Rattle.namespace_id.specs.Names.{IsNamespace}
 
 -- the content of the first share of a sequence, and of a later one, in bytes
 abbrev pub first_content : ℕ
@@ -55,6 +57,7 @@ pub record NamedBytes : Type 0 where
   pub namespace : Namespace
   pub bytes : List ℕ
 
--- there is room for so many shares more
-abbrev pub HasRoom : Vec Share Global → ℕ → Type 0
-HasRoom out count = vec_len out + count ≤ vec_capacity out
+-- bytes under a namespace of 29 bytes
+pub record IsNamed (blob : NamedBytes) : Type 0 where
+  pub name : IsNamespace blob.namespace
+  pub fits : AreBytes blob.bytes

@@ -10,11 +10,6 @@ abbrev pub Takes : Result Sequence JoinError → Option JoinError → Sequence �
 Takes (Ok s) refusal taken = (refusal ≡ None) × (s ≡ taken)
 Takes (Err e) refusal taken = (e ≡ NoMemory) ⊎ (refusal ≡ Some e)
 
--- what a reader answered, seen by `view`, is what reading gives
-abbrev pub Gives : {X Y : Type 0} → (X → Y) → Option X → Option Y → Type 0
-Gives view None read = read ≡ None
-Gives view (Some x) read = read ≡ Some (view x)
-
 -- ---- blobs
 
 -- what is left of a sequence when it is complete, and the blob that it then is

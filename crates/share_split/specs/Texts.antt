@@ -4,10 +4,6 @@ use Rattle.std.specs.declared.alloc.Global.{Global}
 use Rattle.share_split.specs.Units.{units_text, starts_from}
 use Rattle.share_split.specs.declared.texts.NextUnit.{NextUnit}
 
--- there is room for so many bytes
-abbrev pub HasRoomFor : ℕ → Vec ℕ Global → Type 0
-HasRoomFor count out = vec_len out + count ≤ vec_capacity out
-
 -- where the next unit and those behind it start
 abbrev pub starts_of : List (List ℕ) → NextUnit → List ℕ
 starts_of units next = starts_from next.start (drop next.index units)

@@ -1,7 +1,8 @@
 //! The shares of a blob.
 
 ghost use Rattle.std.specs.Prelude.{◌≡◌, ◌+◌, ◌≤◌, ◌<◌, ◌++◌, ◌∷◌, [], ◌↔◌, length, take, drop, replicate, vec_len, vec_capacity, OnOk, OnErr, IsErrOf};
-ghost use Rattle.share_split.specs.Blobs.{first_content, later_content, max_sequence_length, info, first_share, later_share, later_shares, share_count, blob_shares_of, HasRoom};
+ghost use Rattle.namespace_id.specs.Answers.{HasRoom};
+ghost use Rattle.share_split.specs.Blobs.{first_content, later_content, max_sequence_length, info, first_share, later_share, later_shares, share_count, blob_shares_of};
 ghost use Rattle.share_split.specs.Joined.{padding_share};
 
 use namespace_id::{Namespace, Share, put};

@@ -1,7 +1,8 @@
 //! Compact shares, and the reserved bytes in them.
 
 ghost use Rattle.std.specs.Prelude.{◌≡◌, ◌+◌, ◌≤◌, ◌<◌, ◌^◌, ◌++◌, length};
-ghost use Rattle.share_split.specs.Blobs.{max_sequence_length, HasRoom};
+ghost use Rattle.namespace_id.specs.Answers.{HasRoom};
+ghost use Rattle.share_split.specs.Blobs.{max_sequence_length};
 ghost use Rattle.share_split.specs.Units.{first_compact_content, later_compact_content, units_text, starts_from, content_start, reserved_of, first_compact_share, later_compact_share, later_compact_shares, compact_count, compact_shares};
 ghost use Rattle.share_split.specs.Texts.{starts_of};
 

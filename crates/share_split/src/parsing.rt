@@ -3,7 +3,8 @@
 ghost use Rattle.std.specs.Prelude.{◌≡◌, ◌+◌, ◌<◌, ◌≤◌, ◌*◌, ◌^◌, ◌∷◌, [], ◌++◌, length, Ok, IfOk, IfSome, OnOk};
 ghost use Rattle.share_split.specs.Units.{starts_from, starts_on, first_place};
 ghost use Rattle.share_split.specs.Walks.{Joins, varint_in, unit_at, units_from, bad_reserved};
-ghost use Rattle.share_split.specs.Steps.{Gives, units_placed};
+ghost use Rattle.namespace_id.specs.Answers.{Gives};
+ghost use Rattle.share_split.specs.Steps.{units_placed};
 
 use crate::fields::reserved;
 use crate::places::{content_start, place_in, share_with};

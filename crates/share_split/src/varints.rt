@@ -2,14 +2,14 @@
 
 ghost use Rattle.std.specs.Prelude.{◌≡◌, ◌+◌, ◌≤◌, ◌++◌, length, vec_len, vec_capacity};
 ghost use Rattle.share_split.specs.Units.{varint};
-ghost use Rattle.share_split.specs.Texts.{HasRoomFor};
+ghost use Rattle.namespace_id.specs.Answers.{HasRoom};
 
 /// What a byte of a varint holds is below this number, and a byte behind which another follows is not.
 const LIMIT: usize = 128;
 
 /// Appends bytes for which there is room.
 pub(crate) fn put_bytes(out: &mut Vec<u8>, bytes: &[u8])
-    requires room { HasRoomFor (length bytes.now) out.old }
+    requires room { HasRoom out.old (length bytes.now) }
     ensures appended { out.new.items ≡ out.old.items ++ bytes.now }
     ensures len { vec_len out.new ≡ vec_len out.old + length bytes.now }
     ensures capacity { vec_capacity out.old ≤ vec_capacity out.new }
@@ -33,7 +33,7 @@ pub(crate) fn varint_len(n: usize) -> usize
 
 /// Appends the shortest varint of a number: seven bits in a byte, the lowest first.
 pub(crate) fn put_varint(out: &mut Vec<u8>, n: usize)
-    requires room { HasRoomFor (length (varint n)) out.old }
+    requires room { HasRoom out.old (length (varint n)) }
     ensures appended { out.new.items ≡ out.old.items ++ varint n }
     ensures len { vec_len out.new ≡ vec_len out.old + length (varint n) }
     ensures capacity { vec_capacity out.old ≤ vec_capacity out.new }

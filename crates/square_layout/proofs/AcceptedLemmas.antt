@@ -6,14 +6,14 @@ use Rattle.std.proofs.lemmas.Bool.{true≢false}
 use Rattle.std.proofs.lemmas.Bool.Decides.{nat_tests}
 use Rattle.namespace_id.specs.declared.namespaces.NsError.{NsError}
 use Rattle.namespace_id.specs.declared.namespaces.NsError.TheVariants.{Length, Version, Prefix, Reserved}
-use Rattle.namespace_id.specs.Names.{is_at_most, is_zeros, is_reserved, is_blob_namespace, primary_reserved_padding, tail_padding}
+use Rattle.namespace_id.specs.Names.{is_at_most, is_zeros, is_reserved, is_blob_namespace, primary_reserved_padding, tail_padding, namespace_refusal}
 use Rattle.namespace_id.proofs.OrderLemmas.{at_most_total}
 use Rattle.share_split.specs.Blobs.{NamedBytes}
 use Rattle.square_layout.specs.declared.laying.LayError.{LayError}
 use Rattle.square_layout.specs.declared.laying.LayError.TheVariants.{BadBlob, EmptyBlob}
 use Rattle.square_layout.specs.Blocks.{HaveBytes}
 use Rattle.square_layout.specs.Layout.{in_order}
-use Rattle.square_layout.specs.Refusals.{namespace_refusal, bad_blob, empty_blob, blob_refusal}
+use Rattle.square_layout.specs.Refusals.{bad_blob, empty_blob, blob_refusal}
 use Rattle.square_layout.proofs.NameLemmas.{IsBetween}
 use Rattle.square_layout.proofs.BlobOrderLemmas.{All-in_order}
 

@@ -5,7 +5,8 @@ use Rattle.std.specs.Option.{option_map_or}
 use Rattle.namespace_id.specs.declared.namespaces.NsError.{NsError}
 use Rattle.share_split.specs.Blobs.{NamedBytes}
 use Rattle.square_layout.specs.declared.laying.LayError.TheVariants.{BadBlob, EmptyBlob}
-use Rattle.square_layout.specs.Refusals.{namespace_refusal, bad_blob, empty_blob}
+use Rattle.namespace_id.specs.Names.{namespace_refusal}
+use Rattle.square_layout.specs.Refusals.{bad_blob, empty_blob}
 
 -- the first of them is looked at
 bad_blob-next : (i : ℕ) (blobs : List NamedBytes) (d : NamedBytes) → i < length blobs

@@ -1,9 +1,10 @@
 -- Blocks and squares as contracts see them.
-use Rattle.std.specs.Prelude.{◌≡◌, ◌≤◌, ℕ, ◌*◌, List, length, true, Option}
+use Rattle.std.specs.Prelude.{◌≡◌, ◌≤◌, ℕ, ◌*◌, List, length, true, Option, IfSome, ◌<◌, ◌^◌}
 use Rattle.std.specs.List.{AllByRecursion}
 use Rattle.namespace_id.specs.declared.shares.Share.{Share}
 use Rattle.namespace_id.specs.Cells.{is_width}
-use Rattle.share_split.specs.Blobs.{NamedBytes}
+use Rattle.share_split.specs.Blobs.{NamedBytes, IsNamed}
+use Rattle.namespace_id.specs.Bytes.{AreBytes}
 
 -- a block: units of transactions, units of payments for blobs, blobs, and the width that it asks for
 pub record BlockParts : Type 0 where
@@ -11,6 +12,13 @@ pub record BlockParts : Type 0 where
   pub pay_units : List (List ℕ)
   pub blobs : List NamedBytes
   pub width : Option ℕ
+
+-- a block of bytes, whose width has two bytes
+pub record IsBlock (block : BlockParts) : Type 0 where
+  pub units : AllByRecursion AreBytes block.units
+  pub pay_units : AllByRecursion AreBytes block.pay_units
+  pub blobs : AllByRecursion IsNamed block.blobs
+  pub width : IfSome block.width (λ k. k < 2 ^ 16)
 
 -- each blob has a byte
 abbrev pub HaveBytes : List NamedBytes → Type 0

@@ -4,7 +4,7 @@ use Rattle.std.specs.Prelude.{◌≡◌, ◌⊎◌, ℕ, suc, ◌-◌, ◌*◌, 
 use Rattle.std.specs.Option.{option_map_or, option_or}
 use Rattle.namespace_id.specs.declared.namespaces.NsError.{NsError}
 use Rattle.namespace_id.specs.declared.namespaces.NsError.TheVariants.{Length, Version, Prefix, Reserved}
-use Rattle.namespace_id.specs.Names.{is_zeros, is_reserved}
+use Rattle.namespace_id.specs.Names.{is_zeros, is_reserved, namespace_refusal}
 use Rattle.namespace_id.specs.Cells.{is_width}
 use Rattle.share_split.specs.Blobs.{NamedBytes}
 use Rattle.square_layout.specs.declared.laying.LayError.{LayError}
@@ -13,14 +13,6 @@ use Rattle.square_layout.specs.Blocks.{BlockParts}
 use Rattle.square_layout.specs.Layout.{needed}
 
 -- ---- blobs
-
--- why bytes are no namespace of a blob
-abbrev pub namespace_refusal : List ℕ → Option NsError
-namespace_refusal bytes =
-    if not (length bytes == 29) then Some Length else
-    (if not (slice_index bytes 0 == 0) then Some Version else
-    (if not (is_zeros (slice_range bytes 1 19)) then Some Prefix else
-    (if is_reserved bytes then Some Reserved else None)))
 
 -- the first blob, from blob i on, whose namespace isn't one of a blob
 unfoldable pub bad_blob : ℕ → List NamedBytes → Option LayError

@@ -1,7 +1,8 @@
 //! Which blocks have no square.
 
 ghost use Rattle.std.specs.Prelude.{◌≡◌, ◌<◌, ◌≤◌, Some, None};
-ghost use Rattle.square_layout.specs.Refusals.{namespace_refusal, bad_blob, empty_blob, blob_refusal, width_refusal, size_refusal};
+ghost use Rattle.namespace_id.specs.Names.{namespace_refusal};
+ghost use Rattle.square_layout.specs.Refusals.{bad_blob, empty_blob, blob_refusal, width_refusal, size_refusal};
 
 use crate::widths::shares_in;
 use crate::{LayError, MAX_SHARES};

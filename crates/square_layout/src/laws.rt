@@ -4,13 +4,12 @@ ghost use Rattle.std.specs.Prelude.{◌≡◌, ◌↔◌, ◌≤◌, ◌<◌, �
 ghost use Rattle.std.specs.List.{filter, AllByRecursion};
 ghost use Rattle.namespace_id.specs.declared.namespaces.Namespace.{Namespace};
 ghost use Rattle.namespace_id.specs.Lists.{holds_along};
-ghost use Rattle.namespace_id.specs.Names.{is_at_most, is_blob_namespace};
+ghost use Rattle.namespace_id.specs.Names.{is_at_most, is_blob_namespace, namespace_refusal};
 ghost use Rattle.namespace_id.specs.Shares.{name_in};
 ghost use Rattle.share_split.specs.Widths.{width_of};
 ghost use Rattle.share_split.specs.Blobs.{NamedBytes, blob_shares_of};
 ghost use Rattle.square_layout.specs.Blocks.{BlockParts};
 ghost use Rattle.square_layout.specs.Layout.{has_name, in_order, shares_of, start_after, end_of, compact_end, laid, needed, holding_from, width_for, square_of};
-ghost use Rattle.square_layout.specs.Refusals.{namespace_refusal};
 
 /// Blobs stand by ascending namespace, and blobs of one namespace as they came.
 pub fn order_laws()

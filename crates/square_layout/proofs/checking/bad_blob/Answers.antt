@@ -1,6 +1,6 @@
 use Rattle.std.proofs.Common.{◌∙◌, sym, ap, arith}
 use Rattle.share_split.specs.Blobs.{NamedBytes}
-use Rattle.square_layout.specs.Refusals.{namespace_refusal}
+use Rattle.namespace_id.specs.Names.{namespace_refusal}
 use Rattle.square_layout.proofs.RefusalLemmas.{bad_blob-found, bad_blob-passed, bad_blob-none}
 use Rattle.square_layout.proofs.checking.bad_blob.Goals as goal
 

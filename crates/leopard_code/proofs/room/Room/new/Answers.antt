@@ -1,6 +1,6 @@
 use Rattle.std.proofs.Common.{◌≡◌, ℕ, ◌≤◌, ◌++◌, List, length, drop, take, arith, sym, subst}
 use Rattle.byte_polynomial.specs.Polynomial.{ArePoints}
-use Rattle.leopard_code.specs.Codewords.{ascending}
+use Rattle.namespace_id.specs.Lists.{ascending}
 use Rattle.leopard_code.specs.Weights.{IsTable}
 use Rattle.leopard_code.proofs.PointLemmas.{ascending-from_places, points-ascending, width-le}
 use Rattle.leopard_code.proofs.TableLemmas.{lent_whole}

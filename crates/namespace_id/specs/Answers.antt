@@ -1,0 +1,12 @@
+-- What calls answer, and where they write.
+use Rattle.std.specs.Prelude.{◌≡◌, ℕ, ◌+◌, ◌≤◌, Option, Some, None, Vec, vec_len, vec_capacity}
+use Rattle.std.specs.declared.alloc.Global.{Global}
+
+-- what a reader answered, seen by `view`, is what reading gives
+abbrev pub Gives : {X Y : Type 0} → (X → Y) → Option X → Option Y → Type 0
+Gives view None read = read ≡ None
+Gives view (Some x) read = read ≡ Some (view x)
+
+-- there is room for so many values more
+abbrev pub HasRoom : {A : Type 0} → Vec A Global → ℕ → Type 0
+HasRoom out count = vec_len out + count ≤ vec_capacity out
