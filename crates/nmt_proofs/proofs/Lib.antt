@@ -14,3 +14,4 @@ pub mod PutLemmas
 pub mod ListedLemmas
 pub mod TwinLemmas
 pub mod MadeLemmas
+pub mod HashedLemmas

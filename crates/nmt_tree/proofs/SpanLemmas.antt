@@ -76,3 +76,19 @@ root_is_span (suc d) ns ss h k =
     ∙ ap (λ (l : List Digest). span l 0 d) (take-leaf_digests i ns ss same) ∙ span-take d i 0 (leaf_digests ns ss) (omega arith))
     (root_is_span d (drop i ns) (drop i ss) (omega (arith, length-drop i ns)) (omega (arith, length-drop i ss))
     ∙ ap (λ (l : List Digest). span l 0 d) (drop-leaf_digests i ns ss same) ∙ span-drop d i 0 (leaf_digests ns ss) ∙ ap (λ (j : ℕ). span (leaf_digests ns ss) j d) at)
+
+-- the digest over some leaves in the middle is the root of their list
+pub part_is_span : (d st : ℕ) (ns : List Namespace) (ss : List Share) → length ns ≡ length ss → st + 2 ^ d ≤ length ns
+    → root d (take (2 ^ d) (drop st ns)) (take (2 ^ d) (drop st ss)) ≡ span (leaf_digests ns ss) st d
+part_is_span d st ns ss same h =
+    let i : ℕ = 2 ^ d in
+    let start : st + 0 ≡ st = omega arith in
+    let behind : length (drop st ns) ≡ length (drop st ss) = omega (arith, length-drop st ns, length-drop st ss) in
+    root_is_span d (take i (drop st ns)) (take i (drop st ss))
+    (length-take-le i (drop st ns) (omega (arith, length-drop st ns)))
+    (length-take-le i (drop st ss) (omega (arith, length-drop st ss)))
+    ∙ ap (λ (l : List Digest). span l 0 d) (take-leaf_digests i (drop st ns) (drop st ss) behind)
+    ∙ span-take d i 0 (leaf_digests (drop st ns) (drop st ss)) (omega arith)
+    ∙ ap (λ (l : List Digest). span l 0 d) (drop-leaf_digests st ns ss same)
+    ∙ span-drop d st 0 (leaf_digests ns ss)
+    ∙ ap (λ (j : ℕ). span (leaf_digests ns ss) j d) start
