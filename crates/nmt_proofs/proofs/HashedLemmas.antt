@@ -8,20 +8,23 @@ use Rattle.std.proofs.lemmas.Nat.{pow_pos}
 use Rattle.std.proofs.Math.Nat.{pow-suc}
 use Rattle.nmt_proofs.specs.Parts.{Part, given, leaf, join, digest_of}
 use Rattle.nmt_proofs.specs.Clashes.{HasDepth, leaf_text, join_text, apart_or, clash_at}
-use Rattle.nmt_proofs.specs.Hashed.{Text, hashed, is_of, text_for, first_apart}
+use Rattle.nmt_proofs.specs.Hashed.{Text, hashed, is_one_interval, text_for, first_apart}
 use Rattle.nmt_proofs.proofs.ListLemmas.{each-append}
 
+-- what comes after two strings may come in two parts
 apart_seq : (a b : List ℕ) (o p : Option (List ℕ × List ℕ)) → apart_or a b (option_or o p) ≡ option_or (apart_or a b o) p
 apart_seq a b o p = elim (cases_Bool (bytes_eq a b)) [
   | inl t ↦ ap (λ (c : Bool). cond c (option_or o p) (Some (a, b))) t ∙ sym (ap (λ (c : Bool). option_or (cond c o (Some (a, b))) p) t)
   | inr f ↦ ap (λ (c : Bool). cond c (option_or o p) (Some (a, b))) f ∙ sym (ap (λ (c : Bool). option_or (cond c o (Some (a, b))) p) f)
 ]
 
+-- and so may what comes after a string and its counterpart
 map_seq : (s : Text) (x : Option (List ℕ)) (o p : Option (List ℕ × List ℕ))
     → option_map_or (λ text. apart_or s.text text (option_or o p)) x (option_or o p) ≡ option_or (option_map_or (λ text. apart_or s.text text o) x o) p
 map_seq s None o p = refl
 map_seq s (Some b) o p = apart_seq s.text b o p
 
+-- the first that differ in two lists together are those of the first list, else those of the second
 apart_append : (xs ys qs : List Text) → first_apart (xs ++ ys) qs ≡ option_or (first_apart xs qs) (first_apart ys qs)
 unfolding first_apart
 apart_append [] ys qs = refl
@@ -29,17 +32,20 @@ apart_append (s ∷ xs) ys qs =
     ap (λ (o : Option (List ℕ × List ℕ)). option_map_or (λ text. apart_or s.text text o) (text_for s qs) o) (apart_append xs ys qs)
     ∙ map_seq s (text_for s qs) (first_apart xs qs) (first_apart ys qs)
 
+-- other strings beside may be exchanged for others that give each string the same counterpart
 apart_same : (xs qs rs : List Text) → AllByRecursion (λ (s : Text). text_for s qs ≡ text_for s rs) xs → first_apart xs qs ≡ first_apart xs rs
 unfolding first_apart
 apart_same [] qs rs h = refl
 apart_same (s ∷ xs) qs rs h =
     ap₂ (λ (x : Option (List ℕ)) (o : Option (List ℕ × List ℕ)). option_map_or (λ text. apart_or s.text text o) x o) h.0 (apart_same xs qs rs h.1)
 
+-- nothing differs from no strings
 apart_none : (xs : List Text) → first_apart xs [] ≡ None
 unfolding first_apart text_for
 apart_none [] = refl
 apart_none (s ∷ xs) = apart_none xs
 
+-- what follows from a fact of each element
 each-imp : {A : Type 0} (P Q : A → Type 0) → ((a : A) → P a → Q a) → (xs : List A) → AllByRecursion P xs → AllByRecursion Q xs
 each-imp P Q f [] h = tt
 each-imp P Q f (x ∷ xs) h = (f x h.0, each-imp P Q f xs h.1)
@@ -48,6 +54,7 @@ each-imp P Q f (x ∷ xs) h = (f x h.0, each-imp P Q f xs h.1)
 abbrev IsWithin : ℕ → ℕ → ℕ → Text → Type 0
 IsWithin low high depth s = (low ≤ s.start) × (s.start < high) × (s.depth ≤ depth)
 
+-- each string of a part is hashed for an interval within it
 within : (d st : ℕ) (p : Part) → AllByRecursion (IsWithin st (st + 2 ^ d) d) (hashed d st p)
 unfolding hashed
 within zero st (given x) = tt
@@ -68,27 +75,32 @@ within (suc d) st (join l r) =
 abbrev IsElsewhere : Text → Text → Type 0
 IsElsewhere s t = s.start ≡ t.start → s.depth ≡ t.depth → ⊥
 
-elsewhere : (s t : Text) → IsElsewhere s t → is_of s t ≡ false
-unfolding is_of
+-- two strings of different intervals are not of one
+elsewhere : (s t : Text) → IsElsewhere s t → is_one_interval s t ≡ false
+unfolding is_one_interval
 elsewhere s t n = elim (cases_Bool ((s.start == t.start) && (s.depth == t.depth))) [
   | inl e ↦ let both = and_parts (s.start == t.start) (s.depth == t.depth) e in absurd (n (eqb-true _ _ both.0) (eqb-true _ _ both.1))
   | inr f ↦ f
 ]
 
+-- a string of another interval is passed over
 text_skip : (s t : Text) (ts : List Text) → IsElsewhere s t → text_for s (t ∷ ts) ≡ text_for s ts
 unfolding text_for
 text_skip s t ts n = ap (λ (c : Bool). cond c (Some t.text) (text_for s ts)) (elsewhere s t n)
 
+-- where all are of other intervals, there is none
 text_none : (s : Text) (ts : List Text) → AllByRecursion (IsElsewhere s) ts → text_for s ts ≡ None
 unfolding text_for
 text_none s [] h = refl
 text_none s (t ∷ ts) h = ap (λ (c : Bool). cond c (Some t.text) (text_for s ts)) (elsewhere s t h.0) ∙ text_none s ts h.1
 
+-- where there is none behind, it is the one in front
 text_front : (s : Text) (front back : List Text) → text_for s back ≡ None → text_for s (front ++ back) ≡ text_for s front
 unfolding text_for
 text_front s [] back h = h
-text_front s (t ∷ front) back h = ap (λ (o : Option (List ℕ)). cond (is_of s t) (Some t.text) o) (text_front s front back h)
+text_front s (t ∷ front) back h = ap (λ (o : Option (List ℕ)). cond (is_one_interval s t) (Some t.text) o) (text_front s front back h)
 
+-- where there is none in front, it is the one behind
 text_back : (s : Text) (front back : List Text) → AllByRecursion (IsElsewhere s) front → text_for s (front ++ back) ≡ text_for s back
 unfolding text_for
 text_back s [] back h = refl
@@ -96,7 +108,7 @@ text_back s (t ∷ front) back h = ap (λ (c : Bool). cond c (Some t.text) (text
 
 -- the first two strings that differ are found by going down both parts
 pub first_apart-clash_at : (d st : ℕ) (p q : Part) → HasDepth d p → HasDepth d q → first_apart (hashed d st p) (hashed d st q) ≡ clash_at p q
-unfolding hashed first_apart text_for clash_at is_of
+unfolding hashed first_apart text_for clash_at is_one_interval
 first_apart-clash_at zero st (given x) q dp dq = refl
 first_apart-clash_at (suc d) st (given x) q dp dq = refl
 first_apart-clash_at zero st (leaf n s) (given y) dp dq = refl

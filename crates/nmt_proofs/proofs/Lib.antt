@@ -15,3 +15,4 @@ pub mod ListedLemmas
 pub mod TwinLemmas
 pub mod MadeLemmas
 pub mod HashedLemmas
+pub mod OrderLemmas

@@ -11,7 +11,7 @@ use Rattle.nmt_tree.specs.Roots.{root}
 use Rattle.nmt_tree.specs.Levels.{leaf_digests, span}
 use Rattle.nmt_proofs.specs.Parts.{Part, leaf, join, digest_of}
 use Rattle.namespace_id.specs.Digests.{no_digest}
-use Rattle.nmt_proofs.specs.Openings.{Shown, begun, is_shown, outside, opened, one_leaf}
+use Rattle.nmt_proofs.specs.Openings.{Shown, begun, is_interval, outside, opened, one_leaf}
 use Rattle.nmt_proofs.specs.Clashes.{Agree, HasDepth, ClashOr, clash_at, whole, AreLeaves, IsOpening, ArePlaces, AreListed}
 use Rattle.nmt_proofs.specs.Making.{spans}
 use Rattle.nmt_proofs.proofs.ListLemmas.{each-append, same_one}
@@ -47,9 +47,9 @@ agreed (suc d) st ns ss (s ∷ ys) nodes of count a =
     let ro : List (ℕ × ℕ) = outside d m (drop i xs) in
     let j : ℕ = length lo in
     let end : st + 2 ^ suc d ≡ m + 2 ^ d = omega (arith, pow-suc 2 d) in
-    let one_place : is_shown (suc d) s ≡ false = single d s of.0 in
+    let one_place : is_interval (suc d) s ≡ false = single d s of.0 in
     let parts = places-halves st m (m + 2 ^ d) xs (omega arith) (subst (λ (k : ℕ). ArePlaces st k xs) end of) in
-    let counts = half_counts (is_shown (suc d) s) nodes lo ro one_place count in
+    let counts = half_counts (is_interval (suc d) s) nodes lo ro one_place count in
     let joined : Part = join (opened d st (take i xs) (take j nodes)) (opened d m (drop i xs) (drop j nodes)) in
     let halved : whole (suc d) (drop st ns) (drop st ss) ≡ join (whole d (drop st ns) (drop st ss)) (whole d (drop m ns) (drop m ss)) = whole-halved d st ns ss in
     let both : Agree joined (join (whole d (drop st ns) (drop st ss)) (whole d (drop m ns) (drop m ss))) =

@@ -10,7 +10,8 @@ pub record Text : Type 0 where
   pub depth : ℕ
   pub text : List ℕ
 
--- the strings of a part of 2 ^ depth places, the root's first, the left half's before the right half's
+-- the strings of a part of 2 ^ depth places from `start` on: its root's first, then those of its left
+-- half, then those of its right half; a given digest has none
 unfoldable pub hashed : ℕ → ℕ → Part → List Text
 hashed zero start (given digest) = []
 hashed zero start (leaf name share) = record { start = start; depth = 0; text = leaf_text name share } ∷ []
@@ -21,16 +22,17 @@ hashed (suc depth) start (join left right) =
     record { start = start; depth = suc depth; text = join_text (digest_of left) (digest_of right) }
     ∷ hashed depth start left ++ hashed depth (start + 2 ^ depth) right
 
--- whether two strings are of one interval
-unfoldable pub is_of : Text → Text → Bool
-is_of s t = (s.start == t.start) && (s.depth == t.depth)
+-- whether two strings are hashed for one interval
+unfoldable pub is_one_interval : Text → Text → Bool
+is_one_interval s t = (s.start == t.start) && (s.depth == t.depth)
 
--- the string of a list that is of the same interval, if there is one
+-- the string of a list that is hashed for the same interval, if there is one
 unfoldable pub text_for : Text → List Text → Option (List ℕ)
 text_for s [] = None
-text_for s (t ∷ texts) = if is_of s t then Some t.text else text_for s texts
+text_for s (t ∷ texts) = if is_one_interval s t then Some t.text else text_for s texts
 
--- the first two strings of one interval that differ
+-- the first string of a list that differs from the other list's string for the same interval, and
+-- that one; an interval for which the other list has none is passed over
 unfoldable pub first_apart : List Text → List Text → Option (List ℕ × List ℕ)
 first_apart [] others = None
 first_apart (s ∷ texts) others =

@@ -19,8 +19,11 @@ ghost use Rattle.nmt_proofs.specs.Hashed.{hashed, first_apart};
 /// Nothing assumes that SHA-256 has no collisions: `ClashOr` names the two strings, or gives the
 /// fact.
 pub fn clash_laws()
+    // By the lists of all strings that are hashed for either part.
     ensures hashed { (depth : ℕ) (p q : Part) → HasDepth depth p → HasDepth depth q →
         clash_at p q ≡ first_apart (hashed depth 0 p) (hashed depth 0 q) }
+
+    // What is found is a collision; where nothing is found, the parts agree.
     ensures found { (p q : Part) (a b : List ℕ) → IsSized p → IsSized q →
         digest_of p ≡ digest_of q → clash_at p q ≡ Some (a, b) → IsClash a b }
     ensures agree { (depth : ℕ) (p q : Part) → HasDepth depth p → HasDepth depth q →
