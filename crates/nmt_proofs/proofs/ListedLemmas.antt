@@ -91,7 +91,16 @@ leaf_listed (suc pos) (m ∷ ns) (t ∷ ss) n s h g a = leaf_listed pos ns ss n 
 leaf_listed pos [] ss n s h g a = absurd (omega arith)
 leaf_listed pos (m ∷ ns) [] n s h g a = absurd (omega arith)
 
--- of one that shows one leaf
+-- where what one leaf opens agrees with a list, the leaf and the nodes are the list's
+pub leaf_agreed : (d pos : ℕ) (n : Namespace) (s : Share) (nodes : List Digest) (ns : List Namespace) (ss : List Share) → IsOpening d (one_leaf pos n s) nodes → pos < 2 ^ d → AreLeaves d ns ss
+    → Agree (opened d 0 (one_leaf pos n s) nodes) (whole d ns ss)
+    → (slice_get ns pos ≡ Some n) × (slice_get ss pos ≡ Some s) × (nodes ≡ spans (leaf_digests ns ss) (outside d 0 (one_leaf pos n s)))
+leaf_agreed d pos n s nodes ns ss h lt g same =
+    let listed = agreed d 0 ns ss (one_leaf pos n s) nodes (refl, omega arith, omega (arith, lt), tt) (eqb-true _ _ h.count) same in
+    let here = leaf_listed pos ns ss n s (omega (arith, g.name_count)) (omega (arith, g.share_count)) listed.0.0 in
+    (here.0, here.1, listed.1)
+
+-- the law of an opening of one leaf
 pub leaf_law : (d pos : ℕ) (n : Namespace) (s : Share) (nodes : List Digest) (ns : List Namespace) (ss : List Share) → IsOpening d (one_leaf pos n s) nodes → pos < 2 ^ d → AreLeaves d ns ss
     → digest_of (opened d 0 (one_leaf pos n s) nodes) ≡ root d ns ss
     → ClashOr (opened d 0 (one_leaf pos n s) nodes) (whole d ns ss)
@@ -99,10 +108,7 @@ pub leaf_law : (d pos : ℕ) (n : Namespace) (s : Share) (nodes : List Digest) (
 leaf_law d pos n s nodes ns ss h lt g e =
     let xs : List Shown = one_leaf pos n s in
     listed_or d xs nodes ns ss ((slice_get ns pos ≡ Some n) × (slice_get ss pos ≡ Some s) × (nodes ≡ spans (leaf_digests ns ss) (outside d 0 xs))) h g e
-    (λ same.
-    let listed = agreed d 0 ns ss xs nodes (refl, omega arith, omega (arith, lt), tt) (eqb-true _ _ h.count) same in
-    let here = leaf_listed pos ns ss n s (omega (arith, g.name_count)) (omega (arith, g.share_count)) listed.0.0 in
-    (here.0, here.1, listed.1))
+    (leaf_agreed d pos n s nodes ns ss h lt g)
 
 -- the law of two lists with one root
 pub lists_law : (d : ℕ) (ns ms : List Namespace) (ss ts : List Share) → AreLeaves d ns ss → AreLeaves d ms ts → root d ns ss ≡ root d ms ts

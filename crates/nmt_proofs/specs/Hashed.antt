@@ -10,11 +10,12 @@ pub record Text : Type 0 where
   pub depth : ℕ
   pub text : List ℕ
 
--- the strings of a part of 2 ^ depth places from `start` on: its root's first, then those of its left
--- half, then those of its right half; a given digest has none
+-- the strings of a part of 2 ^ depth places from `start` on: its root's first, then those of its
+-- left half, then those of its right half; a given digest has none
 unfoldable pub hashed : ℕ → ℕ → Part → List Text
 hashed zero start (given digest) = []
-hashed zero start (leaf name share) = record { start = start; depth = 0; text = leaf_text name share } ∷ []
+hashed zero start (leaf name share) =
+    record { start = start; depth = 0; text = leaf_text name share } ∷ []
 hashed zero start (join left right) = []
 hashed (suc depth) start (given digest) = []
 hashed (suc depth) start (leaf name share) = []
@@ -36,4 +37,5 @@ text_for s (t ∷ texts) = if is_one_interval s t then Some t.text else text_for
 unfoldable pub first_apart : List Text → List Text → Option (List ℕ × List ℕ)
 first_apart [] others = None
 first_apart (s ∷ texts) others =
-    option_map_or (λ text. apart_or s.text text (first_apart texts others)) (text_for s others) (first_apart texts others)
+    option_map_or (λ text. apart_or s.text text (first_apart texts others)) (text_for s others)
+    (first_apart texts others)
