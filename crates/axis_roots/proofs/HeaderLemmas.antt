@@ -7,7 +7,6 @@ use Rattle.std.proofs.lemmas.List.{get_or-map, length-map, ext_get_or}
 use Rattle.namespace_id.specs.declared.cells.Axis.{Axis}
 use Rattle.namespace_id.specs.declared.cells.Axis.TheVariants.{Row, Col}
 use Rattle.namespace_id.specs.declared.shares.Share.{Share}
-use Rattle.namespace_id.specs.declared.digests.Digest.{Digest}
 use Rattle.namespace_id.specs.Digests.{no_digest}
 use Rattle.nmt_tree.specs.Roots.{halvings, root, strict_root}
 use Rattle.data_header.specs.Headers.{Roots, AreRoots, root_of}
@@ -89,14 +88,14 @@ falling_axis k shares fails = elim (cases_Bool (list_all (is_ordered_axis k shar
 -- ---- headers
 
 -- what stands in an answer that is there
-some_if : (b : Bool) (roots header : Roots) → cond b (Some roots) None ≡ Some header → (b ≡ true) × (header ≡ roots)
-some_if true roots header e = (refl, cc)
-some_if false roots header e = absurd cc
+pub some_if : {A : Type 0} (b : Bool) (made found : A) → cond b (Some made) None ≡ Some found → (b ≡ true) × (found ≡ made)
+some_if true made found e = (refl, cc)
+some_if false made found e = absurd cc
 
 -- an answer that is not there
-none_if : (b : Bool) (roots : Roots) → cond b (Some roots) None ≡ None → b ≡ false
-none_if true roots e = absurd cc
-none_if false roots e = refl
+pub none_if : {A : Type 0} (b : Bool) (made : A) → cond b (Some made) None ≡ None → b ≡ false
+none_if true made e = absurd cc
+none_if false made e = refl
 
 -- the roots of all rows and columns of a grid
 abbrev all_roots : ℕ → List Share → Roots
@@ -155,28 +154,23 @@ header_not_made square grid header extended none h =
     let same : h.grid ≡ grid = extension_once square.k square.shares h.grid grid h.whole.width h.extends extended in
     let both : Some header ≡ None = sym h.roots ∙ ap (header_of_grid square.k) same ∙ none in absurd cc
 
--- a strict root that is there
-some_digest : (b : Bool) (root digest : Digest) → cond b (Some root) None ≡ Some digest → (b ≡ true) × (root ≡ digest)
-some_digest true root digest e = (refl, cc)
-some_digest false root digest e = absurd cc
-
 -- a header whose roots are the strict roots of all rows and columns of a grid is the grid's
 pub header_by_strict : (k : ℕ) (shares : List Share) (header : Roots) → AreRoots header → header.k ≡ k
     → ((axis : Axis) (index : ℕ) → index < 2 * k → line_strict_root k axis index (axis_shares k shares axis index) ≡ Some (root_of header axis index))
     → header_of_grid k shares ≡ Some header
 unfolding strict_root line_root
 header_by_strict k shares header are width strict =
-    let each : (axis : Axis) (index : ℕ) → index < 2 * k → (is_ordered_axis k shares axis index ≡ true) × (axis_root k shares axis index ≡ root_of header axis index)
-    = λ axis index h. some_digest (is_ordered_axis k shares axis index) (axis_root k shares axis index) (root_of header axis index) (strict axis index h) in
+    let each : (axis : Axis) (index : ℕ) → index < 2 * k → (is_ordered_axis k shares axis index ≡ true) × (root_of header axis index ≡ axis_root k shares axis index)
+    = λ axis index h. some_if (is_ordered_axis k shares axis index) (axis_root k shares axis index) (root_of header axis index) (strict axis index h) in
     let ordered : are_ordered_axes k shares ≡ true = ordered_axes k shares (λ axis index h. (each axis index h).0) in
     let long : (axis : Axis) → length (axis_roots k shares axis) ≡ 2 * k
     = λ axis. length-map (ascending 0 (2 * k)) (axis_root k shares axis) ∙ length-ascending (2 * k) 0 in
     let wide : 2 * header.k ≡ 2 * k = ap (λ (n : ℕ). 2 * n) width in
     let rows : header.rows ≡ axis_roots k shares Row =
     ext_get_or no_digest header.rows (axis_roots k shares Row) (are.rows ∙ wide ∙ sym (long Row))
-    (λ i h. let below : i < 2 * k = omega (arith, are.rows, wide, long Row) in sym (get_or-roots k shares Row i below ∙ (each Row i below).1)) in
+    (λ i h. let below : i < 2 * k = omega (arith, are.rows, wide, long Row) in (each Row i below).1 ∙ sym (get_or-roots k shares Row i below)) in
     let cols : header.cols ≡ axis_roots k shares Col =
     ext_get_or no_digest header.cols (axis_roots k shares Col) (are.cols ∙ wide ∙ sym (long Col))
-    (λ i h. let below : i < 2 * k = omega (arith, are.cols, wide, long Col) in sym (get_or-roots k shares Col i below ∙ (each Col i below).1)) in
+    (λ i h. let below : i < 2 * k = omega (arith, are.cols, wide, long Col) in (each Col i below).1 ∙ sym (get_or-roots k shares Col i below)) in
     let same : header ≡ all_roots k shares = λ i. record { k = width i; rows = rows i; cols = cols i } in
     ap (λ (b : Bool). cond b (Some (all_roots k shares)) None) ordered ∙ ap Some (sym same)

@@ -1,9 +1,8 @@
 -- Messages made from the leaves along an axis.
-use Rattle.std.proofs.Common.{◌≡◌, ◌∙◌, ℕ, ◌*◌, ◌<◌, List, get_or, sym, ap, subst, IsTrue}
+use Rattle.std.proofs.Common.{◌≡◌, ◌∙◌, ℕ, ◌*◌, List, get_or, sym, ap, subst, IsTrue}
 use Rattle.std.specs.Prelude.{Option, Some}
 use Rattle.namespace_id.specs.declared.cells.Cell.{Cell}
 use Rattle.namespace_id.specs.declared.cells.Axis.{Axis}
-use Rattle.namespace_id.specs.declared.cells.Axis.TheVariants.{Row, Col}
 use Rattle.namespace_id.specs.declared.shares.Share.{Share}
 use Rattle.namespace_id.specs.declared.digests.Digest.{Digest}
 use Rattle.namespace_id.specs.Cells.{is_width, is_in_square, name_of}
@@ -16,15 +15,10 @@ use Rattle.axis_roots.specs.declared.messages.Message.{Message}
 use Rattle.axis_roots.specs.Messages.{IsMessage, position, index, shown_by}
 use Rattle.axis_roots.specs.Openings.{OpensAt}
 use Rattle.axis_roots.specs.Grids.{share_at, axis_root, leaf_over}
-use Rattle.axis_roots.proofs.NumberLemmas.{inside}
+use Rattle.axis_roots.proofs.NumberLemmas.{position-lt}
 use Rattle.axis_roots.proofs.AxisLemmas.{get_or-along, cell_on-own}
 use Rattle.axis_roots.proofs.RootingLemmas.{leaves_along, root-leaves}
 use Rattle.axis_roots.proofs.LineLemmas.{axis_leaves-cells}
-
--- the place of a cell on its axis
-position-lt : (k : ℕ) (axis : Axis) (cell : Cell) → IsTrue (is_in_square k cell) → position axis cell < 2 * k
-position-lt k Row cell h = (inside k cell h).1
-position-lt k Col cell h = (inside k cell h).0
 
 -- the leaf at the place of a cell on its axis
 own_leaf : (k : ℕ) (shares : List Share) (axis : Axis) (cell : Cell) (share : Share) → IsTrue (is_in_square k cell) → share ≡ share_at (2 * k) shares cell

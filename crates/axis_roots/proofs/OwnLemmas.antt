@@ -1,19 +1,16 @@
 -- A partial tree under a root of a square's header, and a message under the header: what they show is
 -- the square's, or they name a collision.
-use Rattle.std.proofs.Common.{◌≡◌, ◌∙◌, ℕ, ◌*◌, ◌<◌, List, [], ◌∷◌, get_or, zero, suc, true, Some, None, refl, sym, ap, subst, inl, inr, arith}
-use Rattle.std.specs.Prelude.{◌⊎◌, ◌↔◌, Result, IsOk, Option, MatchOption, nat_lt}
+use Rattle.std.proofs.Common.{◌≡◌, ◌∙◌, ℕ, ◌*◌, ◌<◌, List, [], ◌∷◌, get_or, zero, suc, true, Some, None, refl, sym, ap, subst, inl, inr}
+use Rattle.std.specs.Prelude.{◌⊎◌, ◌↔◌, Result, IsOk, Option, MatchOption}
 use Rattle.std.specs.List.{slice_get}
-use Rattle.std.proofs.lemmas.Bool.{and_parts}
-use Rattle.std.proofs.lemmas.Bool.Decides.{nat_tests}
 use Rattle.std.proofs.lemmas.Option.{none-some}
 use Rattle.std.proofs.lemmas.Slice.Eq.{bytes_eq-Decides}
 use Rattle.namespace_id.specs.declared.cells.Cell.{Cell}
 use Rattle.namespace_id.specs.declared.cells.Axis.{Axis}
-use Rattle.namespace_id.specs.declared.cells.Axis.TheVariants.{Row, Col}
 use Rattle.namespace_id.specs.declared.namespaces.Namespace.{Namespace}
 use Rattle.namespace_id.specs.declared.shares.Share.{Share}
 use Rattle.namespace_id.specs.declared.digests.Digest.{Digest}
-use Rattle.namespace_id.specs.Cells.{is_width, is_in_square, name_of}
+use Rattle.namespace_id.specs.Cells.{is_width, name_of}
 use Rattle.namespace_id.proofs.ShareLemmas.{name_of-is}
 use Rattle.nmt_tree.specs.Roots.{halvings}
 use Rattle.nmt_proofs.specs.Parts.{Part, digest_of}
@@ -31,6 +28,7 @@ use Rattle.axis_roots.specs.Lines.{line_root}
 use Rattle.axis_roots.specs.Grids.{share_at, axis_shares, axis_names, axis_tree, Extends, IsHeaderOf}
 use Rattle.axis_roots.specs.Own.{opened_by, NamesAt, AgreesAt, ShowsOwn, NamesClash, IsOwn}
 use Rattle.axis_roots.proofs.AxisLemmas.{cell_on-own, length-along, get_or-along}
+use Rattle.axis_roots.proofs.NumberLemmas.{position-lt, index-lt}
 use Rattle.axis_roots.proofs.LineLemmas.{leaf_count, line_leaves}
 use Rattle.axis_roots.proofs.ExtensionLemmas.{extension_once}
 use Rattle.axis_roots.proofs.HeaderLemmas.{header_width, header_root}
@@ -83,15 +81,6 @@ agrees_apart S axis i part whole agrees names = alike_apart part S axis i agrees
 pub own_apart : (m : Message) (S : SquareShares) → IsSquare S → ShowsOwn m S → NamesClash m S → ⊥
 own_apart m S whole shows names = alike_apart (opened_by S.k m) S m.axis (index m.axis m.cell) shows.grid whole shows.extends shows.alike names
 
--- where a cell of the square stands
-index_below : (k : ℕ) (axis : Axis) (cell : Cell) → is_in_square k cell ≡ true → index axis cell < 2 * k
-index_below k Row cell inside = let both = and_parts (nat_lt cell.row (2 * k)) (nat_lt cell.col (2 * k)) inside in grind (arith, nat_tests)
-index_below k Col cell inside = let both = and_parts (nat_lt cell.row (2 * k)) (nat_lt cell.col (2 * k)) inside in grind (arith, nat_tests)
-
-position_below : (k : ℕ) (axis : Axis) (cell : Cell) → is_in_square k cell ≡ true → position axis cell < 2 * k
-position_below k Row cell inside = let both = and_parts (nat_lt cell.row (2 * k)) (nat_lt cell.col (2 * k)) inside in grind (arith, nat_tests)
-position_below k Col cell inside = let both = and_parts (nat_lt cell.row (2 * k)) (nat_lt cell.col (2 * k)) inside in grind (arith, nat_tests)
-
 -- an entry that is there
 some_entry : {A : Type 0} (xs : List A) (i : ℕ) (d x : A) → slice_get xs i ≡ Some x → get_or xs i d ≡ x
 some_entry [] i d x e = absurd cc
@@ -120,8 +109,8 @@ shows_own : (k : ℕ) (m : Message) (square grid : List Share) (root : Digest) �
 shows_own k m square grid root opens extends same =
     let i : ℕ = index m.axis m.cell in
     let pos : ℕ = position m.axis m.cell in
-    let below : pos < 2 * k = position_below k m.axis m.cell opens.inside in
-    let leaves = leaves_are k square grid m.axis i opens.width extends (index_below k m.axis m.cell opens.inside) in
+    let below : pos < 2 * k = position-lt k m.axis m.cell opens.inside in
+    let leaves = leaves_are k square grid m.axis i opens.width extends (index-lt k m.axis m.cell opens.inside) in
     let listed = leaf_agreed (halvings (2 * k)) pos (name_of k m.cell m.share) m.share m.path (axis_names k grid m.axis i) (axis_shares k grid m.axis i)
     (opening_of k m root opens) (subst (λ (n : ℕ). pos < n) (leaf_count k opens.width) below) leaves same in
     share_on k grid m.axis m.cell m.share below listed.1
@@ -137,7 +126,7 @@ accepted_own header m proved square own =
     let opening : IsOpening d (shown_by k m) m.path = opening_of k m root opens in
     let value : digest_of (opened_by k m) ≡ root =
     ap (λ (bytes : List ℕ). record { 0 = bytes }) ((bytes_eq-Decides (digest_of (opened_by k m)).0 root.0).0 opens.opened.value) in
-    elim (names_or_agrees header square m.axis (index m.axis m.cell) (opened_by k m) own (index_below k m.axis m.cell opens.inside)
+    elim (names_or_agrees header square m.axis (index m.axis m.cell) (opened_by k m) own (index-lt k m.axis m.cell opens.inside)
     (opening-deep d (shown_by k m) m.path opening) (opening-sized d (shown_by k m) m.path opening) value) [
       | inl agrees ↦ inl (record {
         grid = agrees.grid;

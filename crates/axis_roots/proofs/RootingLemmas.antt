@@ -28,7 +28,7 @@ use Rattle.axis_roots.proofs.AxisLemmas.{length-along, get_or-along, is_along}
 use Rattle.axis_roots.proofs.WordLemmas.{share_anywhere}
 use Rattle.axis_roots.proofs.LineLemmas.{length-line_names, axis_names-cells, axis_leaves-cells}
 use Rattle.axis_roots.proofs.WrittenLemmas.{on_axis_in_square}
-use Rattle.axis_roots.proofs.HeaderLemmas.{all-at, all-each}
+use Rattle.axis_roots.proofs.HeaderLemmas.{all-at, all-each, some_if, none_if}
 
 -- ---- the leaves along an axis
 
@@ -113,28 +113,18 @@ strict_missing k shares axis i line are is fails =
     ap is_ordered (sym (ap (map least_of) is ∙ names_along k shares axis i are)) ∙ fails in
     sym (strict-cond k shares axis i ∙ ap (λ (b : Bool). cond b (Some (axis_root k shares axis i)) None) names)
 
--- what stands in an answer that is there
-some_of : (b : Bool) (made is : Digest) → Some made ≡ cond b (Some is) None → (b ≡ true) × (made ≡ is)
-some_of true made is e = (refl, cc)
-some_of false made is e = absurd cc
-
--- an answer that is not there
-none_of : (b : Bool) (is : Digest) → None ≡ cond b (Some is) None → b ≡ false
-none_of true is e = absurd cc
-none_of false is e = refl
-
 -- what a strict root says of its axis
 pub strict_some : (k : ℕ) (shares : List Share) (axis : Axis) (i : ℕ) (made : Digest)
     → Some made ≡ line_strict_root k axis i (axis_shares k shares axis i)
     → (is_ordered_axis k shares axis i ≡ true) × (made ≡ axis_root k shares axis i)
-strict_some k shares axis i made e = some_of (is_ordered_axis k shares axis i) made (axis_root k shares axis i) (e ∙ strict-cond k shares axis i)
+strict_some k shares axis i made e = some_if (is_ordered_axis k shares axis i) (axis_root k shares axis i) made (sym (e ∙ strict-cond k shares axis i))
 
 -- an axis without one falls, so not all are ordered
 pub strict_none : (k n : ℕ) (shares : List Share) (axis : Axis) (i : ℕ) → i < n
     → None ≡ line_strict_root k axis i (axis_shares k shares axis i)
     → false ≡ list_all (is_ordered_axis k shares axis) (ascending 0 n)
 strict_none k n shares axis i h e =
-    let falls : is_ordered_axis k shares axis i ≡ false = none_of (is_ordered_axis k shares axis i) (axis_root k shares axis i) (e ∙ strict-cond k shares axis i) in
+    let falls : is_ordered_axis k shares axis i ≡ false = none_if (is_ordered_axis k shares axis i) (axis_root k shares axis i) (sym (e ∙ strict-cond k shares axis i)) in
     sym (false_from_ne_true (list_all (is_ordered_axis k shares axis) (ascending 0 n))
     (λ (all : list_all (is_ordered_axis k shares axis) (ascending 0 n) ≡ true).
     let holds : is_ordered_axis k shares axis i ≡ true = all-at (is_ordered_axis k shares axis) n 0 all i (omega arith) (omega arith) in
