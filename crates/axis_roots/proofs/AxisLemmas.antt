@@ -7,7 +7,8 @@ use Rattle.namespace_id.specs.declared.cells.Axis.TheVariants.{Row, Col}
 use Rattle.namespace_id.specs.Lists.{ascending}
 use Rattle.leopard_code.proofs.PointLemmas.{length-ascending, get_or-ascending}
 use Rattle.axis_roots.specs.Messages.{position, index}
-use Rattle.axis_roots.specs.Grids.{cell_on, axis_cells}
+use Rattle.axis_roots.specs.Lines.{cell_on}
+use Rattle.axis_roots.specs.Grids.{axis_cells}
 
 -- the cell at a place of an axis is on it
 pub index-cell_on : (axis : Axis) (i pos : ℕ) → index axis (cell_on axis i pos) ≡ i

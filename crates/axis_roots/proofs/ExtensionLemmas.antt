@@ -15,7 +15,8 @@ use Rattle.leopard_code.proofs.PointLemmas.{length-ascending, length-column}
 use Rattle.leopard_code.proofs.EntryLemmas.{get_or-column_at, byte_of_entry, same_shares}
 use Rattle.leopard_code.proofs.LawLemmas.{generated}
 use Rattle.square_layout.specs.Blocks.{SquareShares, IsSquare}
-use Rattle.axis_roots.specs.Grids.{blank, share_at, cell_on, axis_cells, axis_shares, Extends}
+use Rattle.axis_roots.specs.Lines.{blank, cell_on}
+use Rattle.axis_roots.specs.Grids.{share_at, axis_cells, axis_shares, Extends}
 use Rattle.axis_roots.proofs.NumberLemmas.{width-ge, listed, length-listed, get_or-listed, same_listed}
 use Rattle.axis_roots.proofs.AxisLemmas.{length-along, get_or-along, is_along}
 use Rattle.axis_roots.proofs.WordLemmas.{share_in, shares_each, share_anywhere, first_positions, has_first, one_word, word_through}

@@ -5,7 +5,8 @@ use Rattle.namespace_id.specs.declared.cells.Axis.TheVariants.{Row, Col}
 use Rattle.namespace_id.specs.declared.shares.Share.{Share}
 use Rattle.namespace_id.specs.Cells.{is_width}
 use Rattle.leopard_code.specs.Codewords.{IsCodeword}
-use Rattle.axis_roots.specs.Grids.{GridShares, IsGrid, blank, share_at, cell_on, axis_shares, Extends}
+use Rattle.axis_roots.specs.Lines.{blank, cell_on}
+use Rattle.axis_roots.specs.Grids.{GridShares, IsGrid, share_at, axis_shares, Extends}
 use Rattle.axis_roots.proofs.AxisLemmas.{same_along}
 use Rattle.axis_roots.proofs.NumberLemmas.{in_square}
 use Rattle.axis_roots.proofs.ExtensionLemmas.{extends_by_lines}

@@ -1,17 +1,19 @@
 -- The header of a grid and of a square.
-use Rattle.std.proofs.Common.{◌≡◌, ◌∙◌, ℕ, zero, suc, ◌+◌, ◌*◌, ◌<◌, ◌≤◌, List, [], Bool, true, false, cond, ◌&&◌, refl, sym, ap, inl, inr, arith}
+use Rattle.std.proofs.Common.{◌≡◌, ◌∙◌, ℕ, zero, suc, ◌+◌, ◌*◌, ◌<◌, ◌≤◌, List, length, Bool, true, false, cond, ◌&&◌, refl, sym, ap, inl, inr, arith}
 use Rattle.std.specs.Prelude.{Some, None}
 use Rattle.std.specs.List.{list_all}
 use Rattle.std.proofs.lemmas.Bool.{cases_lt, cases_Bool, and_parts, and_from}
-use Rattle.std.proofs.lemmas.List.{get_or-map}
+use Rattle.std.proofs.lemmas.List.{get_or-map, length-map, ext_get_or}
 use Rattle.namespace_id.specs.declared.cells.Axis.{Axis}
 use Rattle.namespace_id.specs.declared.cells.Axis.TheVariants.{Row, Col}
 use Rattle.namespace_id.specs.declared.shares.Share.{Share}
+use Rattle.namespace_id.specs.Digests.{no_digest}
 use Rattle.nmt_tree.specs.Roots.{halvings, root, strict_root}
-use Rattle.data_header.specs.Headers.{Roots, root_of}
+use Rattle.data_header.specs.Headers.{Roots, AreRoots, root_of}
 use Rattle.namespace_id.specs.Lists.{ascending}
 use Rattle.leopard_code.proofs.PointLemmas.{length-ascending, get_or-ascending}
 use Rattle.square_layout.specs.Blocks.{SquareShares, IsSquare}
+use Rattle.axis_roots.specs.Lines.{line_root, line_strict_root}
 use Rattle.axis_roots.specs.Grids.{axis_names, axis_shares, axis_root, axis_roots, is_ordered_axis, are_ordered_axes, header_of_grid, Extends, IsHeaderOf}
 use Rattle.axis_roots.proofs.ExtensionLemmas.{extension_once}
 
@@ -86,14 +88,14 @@ falling_axis k shares fails = elim (cases_Bool (list_all (is_ordered_axis k shar
 -- ---- headers
 
 -- what stands in an answer that is there
-some_if : (b : Bool) (roots header : Roots) → cond b (Some roots) None ≡ Some header → (b ≡ true) × (header ≡ roots)
-some_if true roots header e = (refl, cc)
-some_if false roots header e = absurd cc
+pub some_if : {A : Type 0} (b : Bool) (made found : A) → cond b (Some made) None ≡ Some found → (b ≡ true) × (found ≡ made)
+some_if true made found e = (refl, cc)
+some_if false made found e = absurd cc
 
 -- an answer that is not there
-none_if : (b : Bool) (roots : Roots) → cond b (Some roots) None ≡ None → b ≡ false
-none_if true roots e = absurd cc
-none_if false roots e = refl
+pub none_if : {A : Type 0} (b : Bool) (made : A) → cond b (Some made) None ≡ None → b ≡ false
+none_if true made e = absurd cc
+none_if false made e = refl
 
 -- the roots of all rows and columns of a grid
 abbrev all_roots : ℕ → List Share → Roots
@@ -103,14 +105,18 @@ all_roots k shares = record { k = k; rows = axis_roots k shares Row; cols = axis
 get_or-roots : (k : ℕ) (shares : List Share) (axis : Axis) (index : ℕ) → index < 2 * k → root_of (all_roots k shares) axis index ≡ axis_root k shares axis index
 get_or-roots k shares Row index h =
     let start : 0 + index ≡ index = omega arith in
-    get_or-map (axis_root k shares Row) (ascending 0 (2 * k)) index 0 (record { 0 = [] }) (omega (arith, length-ascending (2 * k) 0))
+    get_or-map (axis_root k shares Row) (ascending 0 (2 * k)) index 0 no_digest (omega (arith, length-ascending (2 * k) 0))
     ∙ ap (axis_root k shares Row) (get_or-ascending (2 * k) 0 index h ∙ start)
 get_or-roots k shares Col index h =
     let start : 0 + index ≡ index = omega arith in
-    get_or-map (axis_root k shares Col) (ascending 0 (2 * k)) index 0 (record { 0 = [] }) (omega (arith, length-ascending (2 * k) 0))
+    get_or-map (axis_root k shares Col) (ascending 0 (2 * k)) index 0 no_digest (omega (arith, length-ascending (2 * k) 0))
     ∙ ap (axis_root k shares Col) (get_or-ascending (2 * k) 0 index h ∙ start)
 
--- the header's root of each axis is the root of its leaves
+-- the header has the grid's width
+pub header_width : (k : ℕ) (shares : List Share) (header : Roots) → header_of_grid k shares ≡ Some header → header.k ≡ k
+header_width k shares header e = ap (λ (roots : Roots). roots.k) (some_if (are_ordered_axes k shares) (all_roots k shares) header e).1
+
+-- its root of each axis is the root of the leaves along it
 pub header_root : (k : ℕ) (shares : List Share) (header : Roots) → header_of_grid k shares ≡ Some header → (axis : Axis) (index : ℕ) → index < 2 * k
     → root_of header axis index ≡ axis_root k shares axis index
 header_root k shares header e axis index h =
@@ -118,8 +124,8 @@ header_root k shares header e axis index h =
 
 -- and its strict root
 pub header_strict : (k : ℕ) (shares : List Share) (header : Roots) → header_of_grid k shares ≡ Some header → (axis : Axis) (index : ℕ) → index < 2 * k
-    → strict_root (halvings (2 * k)) (axis_names k shares axis index) (axis_shares k shares axis index) ≡ Some (root_of header axis index)
-unfolding strict_root axis_root
+    → line_strict_root k axis index (axis_shares k shares axis index) ≡ Some (root_of header axis index)
+unfolding strict_root line_root
 header_strict k shares header e axis index h =
     let ordered = ordered_axis k shares (some_if (are_ordered_axes k shares) (all_roots k shares) header e).0 axis index h in
     ap (λ (b : Bool). cond b (Some (root (halvings (2 * k)) (axis_names k shares axis index) (axis_shares k shares axis index))) None) ordered
@@ -147,3 +153,24 @@ pub header_not_made : (square : SquareShares) (grid : List Share) (header : Root
 header_not_made square grid header extended none h =
     let same : h.grid ≡ grid = extension_once square.k square.shares h.grid grid h.whole.width h.extends extended in
     let both : Some header ≡ None = sym h.roots ∙ ap (header_of_grid square.k) same ∙ none in absurd cc
+
+-- a header whose roots are the strict roots of all rows and columns of a grid is the grid's
+pub header_by_strict : (k : ℕ) (shares : List Share) (header : Roots) → AreRoots header → header.k ≡ k
+    → ((axis : Axis) (index : ℕ) → index < 2 * k → line_strict_root k axis index (axis_shares k shares axis index) ≡ Some (root_of header axis index))
+    → header_of_grid k shares ≡ Some header
+unfolding strict_root line_root
+header_by_strict k shares header are width strict =
+    let each : (axis : Axis) (index : ℕ) → index < 2 * k → (is_ordered_axis k shares axis index ≡ true) × (root_of header axis index ≡ axis_root k shares axis index)
+    = λ axis index h. some_if (is_ordered_axis k shares axis index) (axis_root k shares axis index) (root_of header axis index) (strict axis index h) in
+    let ordered : are_ordered_axes k shares ≡ true = ordered_axes k shares (λ axis index h. (each axis index h).0) in
+    let long : (axis : Axis) → length (axis_roots k shares axis) ≡ 2 * k
+    = λ axis. length-map (ascending 0 (2 * k)) (axis_root k shares axis) ∙ length-ascending (2 * k) 0 in
+    let wide : 2 * header.k ≡ 2 * k = ap (λ (n : ℕ). 2 * n) width in
+    let rows : header.rows ≡ axis_roots k shares Row =
+    ext_get_or no_digest header.rows (axis_roots k shares Row) (are.rows ∙ wide ∙ sym (long Row))
+    (λ i h. let below : i < 2 * k = omega (arith, are.rows, wide, long Row) in (each Row i below).1 ∙ sym (get_or-roots k shares Row i below)) in
+    let cols : header.cols ≡ axis_roots k shares Col =
+    ext_get_or no_digest header.cols (axis_roots k shares Col) (are.cols ∙ wide ∙ sym (long Col))
+    (λ i h. let below : i < 2 * k = omega (arith, are.cols, wide, long Col) in (each Col i below).1 ∙ sym (get_or-roots k shares Col i below)) in
+    let same : header ≡ all_roots k shares = λ i. record { k = width i; rows = rows i; cols = cols i } in
+    ap (λ (b : Bool). cond b (Some (all_roots k shares)) None) ordered ∙ ap Some (sym same)

@@ -8,7 +8,8 @@ use Rattle.namespace_id.specs.declared.shares.Share.{Share}
 use Rattle.namespace_id.specs.Cells.{is_in_square}
 use Rattle.leopard_code.specs.Codewords.{IsCodeword}
 use Rattle.axis_roots.specs.Messages.{position, index}
-use Rattle.axis_roots.specs.Grids.{blank, share_at, cell_on, axis_shares}
+use Rattle.axis_roots.specs.Lines.{blank, cell_on}
+use Rattle.axis_roots.specs.Grids.{share_at, axis_shares}
 use Rattle.axis_roots.proofs.AxisLemmas.{index-cell_on, cell_on-own, get_or-along, same_along}
 use Rattle.axis_roots.proofs.WrittenLemmas.{on_axis_in_square}
 

@@ -18,9 +18,11 @@ use Rattle.namespace_id.proofs.ShareLemmas.{name_in-is}
 use Rattle.namespace_id.proofs.OrderLemmas.{at_most_refl, at_most_trans, at_most_parity}
 use Rattle.nmt_tree.specs.Roots.{is_ordered}
 use Rattle.square_layout.specs.Blocks.{SquareShares, IsSquare}
-use Rattle.axis_roots.specs.Grids.{blank, share_at, cell_on, axis_cells, axis_names, is_ordered_axis, are_ordered_axes, header_of_grid, Extends}
+use Rattle.axis_roots.specs.Lines.{blank, cell_on}
+use Rattle.axis_roots.specs.Grids.{share_at, axis_cells, axis_shares, axis_names, is_ordered_axis, are_ordered_axes, header_of_grid, Extends}
 use Rattle.axis_roots.proofs.NumberLemmas.{number-lt}
-use Rattle.axis_roots.proofs.AxisLemmas.{length-along, get_or-along}
+use Rattle.axis_roots.proofs.AxisLemmas.{get_or-along}
+use Rattle.axis_roots.proofs.LineLemmas.{length-line_names, get_or-axis_names}
 use Rattle.axis_roots.proofs.WordLemmas.{share_in}
 use Rattle.axis_roots.proofs.HeaderLemmas.{ordered_axes}
 
@@ -136,10 +138,9 @@ module _ (square : SquareShares) (grid : List Share) (whole : IsSquare square) (
   -- so each axis is ordered
   axis_laid : (axis : Axis) (i : ℕ) → i < 2 * square.k → is_ordered_axis square.k grid axis i ≡ true
   axis_laid axis i hi =
-      let name_at : Cell → Namespace = λ cell. name_of square.k cell (share_at (2 * square.k) grid cell) in
       along-each is_at_most (axis_names square.k grid axis i) parity (λ pos h.
-      let next : suc pos < 2 * square.k = omega (arith, length-along square.k name_at axis i) in
-      ap₂ is_at_most (get_or-along square.k name_at axis i pos parity (omega arith)) (get_or-along square.k name_at axis i (suc pos) parity next)
+      let next : suc pos < 2 * square.k = omega (arith, length-line_names square.k axis i (axis_shares square.k grid axis i)) in
+      ap₂ is_at_most (get_or-axis_names square.k grid axis i pos parity (omega arith)) (get_or-axis_names square.k grid axis i (suc pos) parity next)
       ∙ step axis i pos hi next)
 
 -- an answer whose test holds is there

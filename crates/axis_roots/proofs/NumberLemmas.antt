@@ -5,8 +5,11 @@ use Rattle.std.proofs.lemmas.Nat.{div-mul-add, mod-mul-add, div-add-mod'}
 use Rattle.std.proofs.lemmas.List.{get_or-map, length-map, ext_get_or}
 use Rattle.std.proofs.lemmas.Bool.Decides.{nat_tests}
 use Rattle.namespace_id.specs.declared.cells.Cell.{Cell}
+use Rattle.namespace_id.specs.declared.cells.Axis.{Axis}
+use Rattle.namespace_id.specs.declared.cells.Axis.TheVariants.{Row, Col}
 use Rattle.namespace_id.specs.Cells.{is_width, is_in_square}
 use Rattle.namespace_id.specs.Lists.{ascending}
+use Rattle.axis_roots.specs.Messages.{position, index}
 use Rattle.leopard_code.proofs.PointLemmas.{length-ascending, get_or-ascending}
 use Rattle.leopard_code.proofs.TableLemmas.{row_before}
 
@@ -14,7 +17,17 @@ use Rattle.leopard_code.proofs.TableLemmas.{row_before}
 pub inside : (k : ℕ) (cell : Cell) → IsTrue (is_in_square k cell) → (cell.row < 2 * k) × (cell.col < 2 * k)
 inside k cell h = grind (arith, nat_tests)
 
--- and the other way round
+-- the place of a cell of the square on its axis
+pub position-lt : (k : ℕ) (axis : Axis) (cell : Cell) → IsTrue (is_in_square k cell) → position axis cell < 2 * k
+position-lt k Row cell h = (inside k cell h).1
+position-lt k Col cell h = (inside k cell h).0
+
+-- and which axis it is
+pub index-lt : (k : ℕ) (axis : Axis) (cell : Cell) → IsTrue (is_in_square k cell) → index axis cell < 2 * k
+index-lt k Row cell h = (inside k cell h).0
+index-lt k Col cell h = (inside k cell h).1
+
+-- a cell whose row and column are below 2k is in the square
 pub in_square : (k : ℕ) (cell : Cell) → cell.row < 2 * k → cell.col < 2 * k → IsTrue (is_in_square k cell)
 in_square k cell hr hc = grind (arith, nat_tests)
 

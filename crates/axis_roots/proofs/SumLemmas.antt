@@ -8,7 +8,7 @@ use Rattle.namespace_id.specs.Shares.{IsShare}
 use Rattle.leopard_code.specs.Codewords.{IsCodeword, bytes_sum, share_sum, shares_sum, share_multiple, shares_multiple}
 use Rattle.leopard_code.specs.Weights.{weighted}
 use Rattle.leopard_code.proofs.LinearLemmas.{codeword-sum, codeword-multiple}
-use Rattle.axis_roots.specs.Grids.{blank}
+use Rattle.axis_roots.specs.Lines.{blank}
 use Rattle.axis_roots.proofs.WordLemmas.{share_in}
 
 -- the sum of the words from one number on, each times its weight; the first weight stands alone

@@ -13,7 +13,7 @@ use Rattle.namespace_id.specs.Lists.{holds_along, ascending}
 use Rattle.leopard_code.specs.Codewords.{are_positions, IsCodeword, HasEntries}
 use Rattle.leopard_code.proofs.PointLemmas.{length-ascending, get_or-ascending}
 use Rattle.leopard_code.proofs.LawLemmas.{one_codeword, through_shares}
-use Rattle.axis_roots.specs.Grids.{blank}
+use Rattle.axis_roots.specs.Lines.{blank}
 
 -- ---- shares of lists
 

@@ -7,7 +7,8 @@ use Rattle.namespace_id.specs.declared.cells.Axis.TheVariants.{Row, Col}
 use Rattle.namespace_id.specs.declared.shares.Share.{Share}
 use Rattle.namespace_id.specs.Cells.{is_in_square}
 use Rattle.axis_roots.specs.Messages.{position, index}
-use Rattle.axis_roots.specs.Grids.{blank, share_at, cell_on}
+use Rattle.axis_roots.specs.Lines.{blank, cell_on}
+use Rattle.axis_roots.specs.Grids.{share_at}
 use Rattle.axis_roots.proofs.NumberLemmas.{in_square}
 use Rattle.axis_roots.proofs.AxisLemmas.{index-cell_on, position-cell_on}
 

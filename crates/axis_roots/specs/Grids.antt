@@ -1,6 +1,6 @@
 -- Extended squares, and the header that one has (Celestia specifications, "Data Structures";
 -- docs/RULES.md, "Extended squares").
-use Rattle.std.specs.Prelude.{◌≡◌, ◌<◌, ℕ, ◌+◌, ◌*◌, ◌&&◌, Bool, true, IsTrue, List, [], map, length, replicate, get_or, Option, Some, None, if◌then◌else◌}
+use Rattle.std.specs.Prelude.{◌≡◌, ◌<◌, ℕ, ◌+◌, ◌*◌, ◌&&◌, Bool, true, IsTrue, List, map, length, get_or, Option, Some, None, if◌then◌else◌}
 use Rattle.std.specs.List.{list_all}
 use Rattle.namespace_id.specs.declared.cells.Cell.{Cell}
 use Rattle.namespace_id.specs.declared.cells.Axis.{Axis}
@@ -10,11 +10,12 @@ use Rattle.namespace_id.specs.declared.shares.Share.{Share}
 use Rattle.namespace_id.specs.declared.digests.Digest.{Digest}
 use Rattle.namespace_id.specs.Cells.{is_width, is_in_square, name_of}
 use Rattle.nmt_tree.specs.Digests.{leaf_digest}
-use Rattle.nmt_tree.specs.Roots.{halvings, root, is_ordered}
+use Rattle.nmt_proofs.specs.Parts.{Part}
 use Rattle.data_header.specs.Headers.{Roots}
 use Rattle.namespace_id.specs.Lists.{ascending}
 use Rattle.leopard_code.specs.Codewords.{IsCodeword}
 use Rattle.square_layout.specs.Blocks.{SquareShares, IsSquare}
+use Rattle.axis_roots.specs.Lines.{blank, cell_on, line_names, is_ordered_line, line_root, line_tree}
 use Rattle.namespace_id.specs.Digests.{no_digest}
 
 -- a grid as contracts see it: its width k, and 4 * k * k shares, row-major
@@ -28,18 +29,9 @@ pub record IsGrid (grid : GridShares) : Type 0 where
 
 -- ---- rows and columns
 
--- 512 zeros
-unfoldable pub blank : Share
-blank = record { 0 = replicate 512 0 }
-
 -- the share of a cell in a row-major list with so many shares in a row
 abbrev pub share_at : ℕ → List Share → Cell → Share
 share_at in_row shares cell = get_or shares (cell.row * in_row + cell.col) blank
-
--- the cell at a place of a row or a column
-abbrev pub cell_on : Axis → ℕ → ℕ → Cell
-cell_on Row index pos = record { row = index; col = pos }
-cell_on Col index pos = record { row = pos; col = index }
 
 -- the 2k cells of a row or a column, their shares, and the namespaces of the leaves over them
 unfoldable pub axis_cells : ℕ → Axis → ℕ → List Cell
@@ -49,8 +41,17 @@ abbrev pub axis_shares : ℕ → List Share → Axis → ℕ → List Share
 axis_shares k shares axis index = map (share_at (2 * k) shares) (axis_cells k axis index)
 
 abbrev pub axis_names : ℕ → List Share → Axis → ℕ → List Namespace
-axis_names k shares axis index =
-    map (λ cell. name_of k cell (share_at (2 * k) shares cell)) (axis_cells k axis index)
+axis_names k shares axis index = line_names k axis index (axis_shares k shares axis index)
+
+-- whether these namespaces never fall, the root over the leaves, and the tree over them
+abbrev pub is_ordered_axis : ℕ → List Share → Axis → ℕ → Bool
+is_ordered_axis k shares axis index = is_ordered_line k axis index (axis_shares k shares axis index)
+
+abbrev pub axis_root : ℕ → List Share → Axis → ℕ → Digest
+axis_root k shares axis index = line_root k axis index (axis_shares k shares axis index)
+
+abbrev pub axis_tree : ℕ → List Share → Axis → ℕ → Part
+axis_tree k shares axis index = line_tree k axis index (axis_shares k shares axis index)
 
 -- ---- the extension of a square
 
@@ -68,26 +69,14 @@ leaf_over k shares cell =
     leaf_digest (name_of k cell (share_at (2 * k) shares cell)) (share_at (2 * k) shares cell)
 
 -- the digests of the leaves over all cells, row-major
-pub record AreLeaves (k : ℕ) (shares : List Share) (leaves : List Digest) : Type 0 where
+pub record AreLeafDigests (k : ℕ) (shares : List Share) (leaves : List Digest) : Type 0 where
   pub count : length leaves ≡ 2 * k * (2 * k)
   pub digests : (cell : Cell) → IsTrue (is_in_square k cell)
       → get_or leaves (cell.row * (2 * k) + cell.col) no_digest ≡ leaf_over k shares cell
 
--- those along a row or a column
-abbrev pub axis_leaves : ℕ → List Share → Axis → ℕ → List Digest
-axis_leaves k shares axis index = map (leaf_over k shares) (axis_cells k axis index)
-
 -- ---- headers
 
--- whether the leaf namespaces of a row or a column never fall, and its root
-abbrev pub is_ordered_axis : ℕ → List Share → Axis → ℕ → Bool
-is_ordered_axis k shares axis index = is_ordered (axis_names k shares axis index)
-
-unfoldable pub axis_root : ℕ → List Share → Axis → ℕ → Digest
-axis_root k shares axis index =
-    root (halvings (2 * k)) (axis_names k shares axis index) (axis_shares k shares axis index)
-
--- whether those of all rows and columns never fall, and the roots of all of one kind
+-- whether the leaf namespaces of no row and no column fall, and the roots of all of one kind
 unfoldable pub are_ordered_axes : ℕ → List Share → Bool
 are_ordered_axes k shares =
     list_all (is_ordered_axis k shares Row) (ascending 0 (2 * k))

@@ -45,22 +45,22 @@ root_for header m = root_of header m.axis (index m.axis m.cell)
 abbrev pub is_inside : Roots → Message → Bool
 is_inside header m = is_in_square header.k m.cell
 
-abbrev pub is_counted : Roots → Message → Bool
-is_counted header m = has_count (halvings (2 * header.k)) (shown_by header.k m) m.path
+abbrev pub has_node_count : Roots → Message → Bool
+has_node_count header m = has_count (halvings (2 * header.k)) (shown_by header.k m) m.path
 
-abbrev pub is_ordered : Roots → Message → Bool
-is_ordered header m = has_order (halvings (2 * header.k)) (shown_by header.k m) m.path
+abbrev pub has_ordered_joins : Roots → Message → Bool
+has_ordered_joins header m = has_order (halvings (2 * header.k)) (shown_by header.k m) m.path
 
-abbrev pub is_rooted : Roots → Message → Bool
-is_rooted header m = has_root (halvings (2 * header.k)) (shown_by header.k m) m.path (root_for header m)
+abbrev pub is_under_root : Roots → Message → Bool
+is_under_root header m = has_root (halvings (2 * header.k)) (shown_by header.k m) m.path (root_for header m)
 
 -- the first of the checks that fails
 abbrev pub refusal_of : Roots → Message → Option CheckRefusal
 refusal_of header m =
     if is_inside header m
-    then (if is_counted header m
-    then (if is_ordered header m
-    then (if is_rooted header m then None else Some OtherRoot)
+    then (if has_node_count header m
+    then (if has_ordered_joins header m
+    then (if is_under_root header m then None else Some OtherRoot)
     else Some Unordered)
     else Some NodeCount)
     else Some OutOfSquare

@@ -7,16 +7,16 @@ use Rattle.axis_roots.specs.declared.proved.Proved.{Proved}
 use Rattle.axis_roots.specs.Messages.{root_for}
 
 -- what a certificate keeps: the width, the message and the root
-abbrev pub width_of : Proved → ℕ
-width_of proved = proved.k
+abbrev pub kept_width : Proved → ℕ
+kept_width proved = proved.k
 
-abbrev pub message_of : Proved → Message
-message_of proved = proved.message
+abbrev pub kept_message : Proved → Message
+kept_message proved = proved.message
 
-abbrev pub root_of : Proved → Digest
-root_of proved = proved.root
+abbrev pub kept_root : Proved → Digest
+kept_root proved = proved.root
 
 -- a certificate is under each header that has its width, and its root of the message's axis
 pub record IsUnder (header : Roots) (proved : Proved) : Type 0 where
-  pub width : header.k ≡ width_of proved
-  pub root : root_for header (message_of proved) ≡ root_of proved
+  pub width : header.k ≡ kept_width proved
+  pub root : root_for header (kept_message proved) ≡ kept_root proved

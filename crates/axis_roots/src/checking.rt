@@ -4,7 +4,7 @@ ghost use Rattle.std.specs.Prelude.{◌≡◌, ◌↔◌, IsOk, IfOk, IfErr, Som
 ghost use Rattle.axis_roots.specs.Messages.{refusal_of};
 ghost use Rattle.axis_roots.specs.Openings.{IsProved};
 ghost use Rattle.axis_roots.specs.Own.{IsOwn};
-ghost use Rattle.axis_roots.specs.Proved.{IsUnder, message_of};
+ghost use Rattle.axis_roots.specs.Proved.{IsUnder, kept_message};
 
 use crate::messages::{index, opens};
 use crate::{CheckRefusal, Message, Proved};
@@ -24,7 +24,7 @@ pub struct RefusedMessage {
 pub fn check(header: &Header, message: Message) -> Result<Proved, RefusedMessage>
     ensures accepts { IsOk result ↔ IsProved header.now message }
     ensures under { IfOk result (IsUnder header.now) }
-    ensures message { IfOk result (λ proved. message_of proved ≡ message) }
+    ensures message { IfOk result (λ proved. kept_message proved ≡ message) }
     ensures own { IsOk result → IsOwn header.now message }
 
     // A refusal names the first check that fails, and hands the message back.

@@ -5,7 +5,8 @@ ghost use Rattle.namespace_id.specs.declared.cells.Cell.{Cell as Place};
 ghost use Rattle.namespace_id.specs.Cells.{is_width, is_in_square};
 ghost use Rattle.leopard_code.specs.Codewords.{IsCodeword};
 ghost use Rattle.axis_roots.specs.Messages.{position, index as index_of};
-ghost use Rattle.axis_roots.specs.Grids.{cell_on, share_at, axis_shares, Extends};
+ghost use Rattle.axis_roots.specs.Lines.{cell_on};
+ghost use Rattle.axis_roots.specs.Grids.{share_at, axis_shares, Extends};
 
 use crate::Grid;
 use leopard_code::{Room, extend};

@@ -16,7 +16,7 @@ mod rooting;
 
 pub use checking::{RefusedMessage, check};
 pub use grids::Grid;
-pub use laws::{grid_laws, message_laws};
+pub use laws::{grid_laws, message_laws, own_laws};
 pub use making::message_of;
 pub use messages::{CheckRefusal, Message, opens};
 pub use proved::Proved;

@@ -1,17 +1,18 @@
 //! Messages that are made from a grid.
 
-ghost use Rattle.std.specs.Prelude.{◌≡◌, ◌*◌, ◌<◌, ◌↔◌, IsTrue, IfSome, IsNone, length, Some, None, false, if◌then◌else◌};
+ghost use Rattle.std.specs.Prelude.{◌≡◌, ◌*◌, ◌<◌, ◌↔◌, IsTrue, IfSome, IsNone, length, Some, true, false};
 ghost use Rattle.namespace_id.specs.Cells.{is_in_square};
+ghost use Rattle.nmt_tree.specs.Levels.{leaf_digests};
 ghost use Rattle.axis_roots.specs.Messages.{index as index_of};
 ghost use Rattle.axis_roots.specs.Openings.{OpensAt};
-ghost use Rattle.axis_roots.specs.Grids.{share_at, axis_names, axis_leaves, axis_root, is_ordered_axis};
+ghost use Rattle.axis_roots.specs.Grids.{share_at, axis_names, axis_shares, axis_root, is_ordered_axis};
 
 use crate::extending::{cell_on, read_axis};
 use crate::messages::{index, is_message, position};
 use crate::{Grid, Message};
 use namespace_id::{Axis, Cell, Namespace, PARITY, Share, leaf_namespace};
 use nmt_proofs::make_leaf;
-use nmt_tree::Tree;
+use nmt_tree::{Tree, are_ordered};
 
 /// How many shares the longest axis has.
 const LONGEST: usize = 256;
@@ -30,7 +31,7 @@ fn read_names(grid: &Grid, axis: Axis, index: u16, line: &mut [Namespace])
 }
 
 /// Fills a tree with the leaves along an axis, by way of these lines; false where their namespaces
-/// fall.
+/// fall, and the tree is as it was.
 fn fill_by_lines(
     grid: &Grid,
     axis: Axis,
@@ -45,24 +46,30 @@ fn fill_by_lines(
     requires tree { tree.old.count ≡ 2 * grid.now.k }
     ensures ordered { result ≡ is_ordered_axis grid.now.k grid.now.shares axis index }
     ensures count { tree.new.count ≡ tree.old.count }
-    ensures leaves { tree.new.leaves ≡
-        (if is_ordered_axis grid.now.k grid.now.shares axis index
-        then Some (axis_leaves grid.now.k grid.now.shares axis index) else None) }
+    ensures leaves { result ≡ true → tree.new.leaves ≡
+        Some (leaf_digests (axis_names grid.now.k grid.now.shares axis index)
+        (axis_shares grid.now.k grid.now.shares axis index)) }
+    ensures kept { result ≡ false → tree.new ≡ tree.old }
 {
     read_names(grid, axis, index, names);
+    if !are_ordered(names) {
+        return false;
+    }
     read_axis(grid, axis, index, shares);
     tree.fill(names, shares)
 }
 
-/// Fills a tree with the leaves along an axis; false where their namespaces fall.
+/// Fills a tree with the leaves along an axis; false where their namespaces fall, and the tree is
+/// as it was.
 fn fill_axis(grid: &Grid, axis: Axis, index: u16, tree: &mut Tree) -> bool
     requires index { index < 2 * grid.now.k }
     requires tree { tree.old.count ≡ 2 * grid.now.k }
     ensures ordered { result ≡ is_ordered_axis grid.now.k grid.now.shares axis index }
     ensures count { tree.new.count ≡ tree.old.count }
-    ensures leaves { tree.new.leaves ≡
-        (if is_ordered_axis grid.now.k grid.now.shares axis index
-        then Some (axis_leaves grid.now.k grid.now.shares axis index) else None) }
+    ensures leaves { result ≡ true → tree.new.leaves ≡
+        Some (leaf_digests (axis_names grid.now.k grid.now.shares axis index)
+        (axis_shares grid.now.k grid.now.shares axis index)) }
+    ensures kept { result ≡ false → tree.new ≡ tree.old }
 {
     let mut names = [PARITY; LONGEST];
     let mut shares = [Share([0; 512]); LONGEST];
@@ -79,8 +86,8 @@ fn fill_axis(grid: &Grid, axis: Axis, index: u16, tree: &mut Tree) -> bool
 
 /// The message of a cell, opened along an axis; none exactly where the namespaces of that axis fall.
 ///
-/// The tree is one for 2k leaves. It is filled with those along the axis, whatever it held. The call
-/// takes no memory besides.
+/// The tree is one for 2k leaves. Where there is a message it is filled with those along the axis,
+/// whatever it held; otherwise it stays as it was. The call takes no memory besides.
 pub fn message_of(grid: &Grid, cell: Cell, axis: Axis, tree: &mut Tree) -> Option<Message>
     requires cell { IsTrue (is_in_square grid.now.k cell) }
     requires tree { tree.old.count ≡ 2 * grid.now.k }
@@ -95,11 +102,12 @@ pub fn message_of(grid: &Grid, cell: Cell, axis: Axis, tree: &mut Tree) -> Optio
     ensures opens { IfSome result (λ message. OpensAt grid.now.k message
         (axis_root grid.now.k grid.now.shares axis (index_of axis cell))) }
 
-    // The tree is that of the axis, or empty where its namespaces fall.
+    // The tree is that of the axis then; where the namespaces fall, it is as it was.
     ensures count { tree.new.count ≡ tree.old.count }
-    ensures leaves { tree.new.leaves ≡
-        (if is_ordered_axis grid.now.k grid.now.shares axis (index_of axis cell)
-        then Some (axis_leaves grid.now.k grid.now.shares axis (index_of axis cell)) else None) }
+    ensures leaves { IfSome result (λ message. tree.new.leaves ≡
+        Some (leaf_digests (axis_names grid.now.k grid.now.shares axis (index_of axis cell))
+        (axis_shares grid.now.k grid.now.shares axis (index_of axis cell)))) }
+    ensures kept { IsNone result → tree.new ≡ tree.old }
 {
     if !fill_axis(grid, axis, index(axis, cell), tree) {
         return None;

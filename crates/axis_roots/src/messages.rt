@@ -1,7 +1,7 @@
 //! Share messages, and whether one is proved under a header.
 
 ghost use Rattle.std.specs.Prelude.{◌≡◌, ◌↔◌, IsOk, IsErrOf, IsErrAnd, true, false};
-ghost use Rattle.axis_roots.specs.Messages.{position, index, is_inside, is_counted, is_ordered, is_rooted, refusal_of, refusal_in, IsMessage};
+ghost use Rattle.axis_roots.specs.Messages.{position, index, is_inside, has_node_count, has_ordered_joins, is_under_root, refusal_of, refusal_in, IsMessage};
 ghost use Rattle.axis_roots.specs.Openings.{IsProved};
 ghost use Rattle.axis_roots.specs.Own.{IsOwn};
 
@@ -75,13 +75,17 @@ pub fn opens(header: &Header, message: &Message) -> Result<(), CheckRefusal>
     ensures out_of_square { IsErrOf result CheckRefusal.OutOfSquare ↔
         (is_inside header.now message.now ≡ false) }
     ensures node_count { IsErrOf result CheckRefusal.NodeCount ↔
-        (is_inside header.now message.now ≡ true) × (is_counted header.now message.now ≡ false) }
+        (is_inside header.now message.now ≡ true)
+        × (has_node_count header.now message.now ≡ false) }
     ensures unordered { IsErrOf result CheckRefusal.Unordered ↔
-        (is_inside header.now message.now ≡ true) × (is_counted header.now message.now ≡ true)
-        × (is_ordered header.now message.now ≡ false) }
+        (is_inside header.now message.now ≡ true)
+        × (has_node_count header.now message.now ≡ true)
+        × (has_ordered_joins header.now message.now ≡ false) }
     ensures other_root { IsErrOf result CheckRefusal.OtherRoot ↔
-        (is_inside header.now message.now ≡ true) × (is_counted header.now message.now ≡ true)
-        × (is_ordered header.now message.now ≡ true) × (is_rooted header.now message.now ≡ false) }
+        (is_inside header.now message.now ≡ true)
+        × (has_node_count header.now message.now ≡ true)
+        × (has_ordered_joins header.now message.now ≡ true)
+        × (is_under_root header.now message.now ≡ false) }
 
     // All of these at once.
     ensures first { refusal_in result ≡ refusal_of header.now message.now }

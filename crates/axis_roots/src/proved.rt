@@ -20,28 +20,28 @@ pub struct Proved {
 
 impl Proved {
     ghost use Rattle.std.specs.Prelude.{◌≡◌};
-    ghost use Rattle.axis_roots.specs.Proved.{width_of, message_of, root_of};
+    ghost use Rattle.axis_roots.specs.Proved.{kept_width, kept_message, kept_root};
 
     /// A certificate of a message that opens.
     pub(crate) fn of(k: u16, message: Message, root: Digest) -> Proved
         requires { OpensAt k message root }
-        ensures width { width_of result ≡ k }
-        ensures message { message_of result ≡ message }
-        ensures root { root_of result ≡ root }
+        ensures width { kept_width result ≡ k }
+        ensures message { kept_message result ≡ message }
+        ensures root { kept_root result ≡ root }
     {
         Proved { k, message, root }
     }
 
     /// The message.
     pub fn message(&self) -> &Message
-        ensures { result.now ≡ message_of self.now }
+        ensures { result.now ≡ kept_message self.now }
     {
         &self.message
     }
 
     /// The message, and no certificate any more.
     pub fn into_message(self) -> Message
-        ensures { result ≡ message_of self }
+        ensures { result ≡ kept_message self }
     {
         self.message
     }

@@ -6,9 +6,11 @@ ghost use Rattle.std.specs.Option.{option_map};
 ghost use Rattle.namespace_id.specs.Cells.{is_in_square};
 ghost use Rattle.namespace_id.specs.Digests.{least_of};
 ghost use Rattle.namespace_id.specs.Shares.{AreShares};
-ghost use Rattle.nmt_tree.specs.Roots.{is_ordered, halvings, strict_root};
+ghost use Rattle.nmt_tree.specs.Roots.{is_ordered};
+ghost use Rattle.nmt_tree.specs.Levels.{leaf_digests};
 ghost use Rattle.namespace_id.specs.Lists.{ascending};
-ghost use Rattle.axis_roots.specs.Grids.{leaf_over, AreLeaves, axis_leaves, axis_names, axis_shares, axis_roots, is_ordered_axis, header_of_grid};
+ghost use Rattle.axis_roots.specs.Lines.{line_strict_root};
+ghost use Rattle.axis_roots.specs.Grids.{leaf_over, AreLeafDigests, axis_names, axis_shares, axis_roots, is_ordered_axis, header_of_grid};
 
 use crate::Grid;
 use crate::extending::cell_on;
@@ -30,7 +32,7 @@ fn leaf_over(grid: &Grid, cell: Cell) -> Digest
 /// Makes the digests of the leaves over all cells, each of them once.
 fn fill_leaves(grid: &Grid, leaves: &mut [Digest])
     requires { length leaves.old ≡ 2 * grid.now.k * (2 * grid.now.k) }
-    ensures { AreLeaves grid.now.k grid.now.shares leaves.new }
+    ensures { AreLeafDigests grid.now.k grid.now.shares leaves.new }
 {
     let side = 2 * grid.width() as usize;
     for number in 0..leaves.len() {
@@ -44,10 +46,11 @@ fn fill_leaves(grid: &Grid, leaves: &mut [Digest])
 
 /// Copies the digests of the leaves over an axis.
 fn read_leaves(grid: &Grid, leaves: &[Digest], axis: Axis, index: u16, line: &mut [Digest])
-    requires leaves { AreLeaves grid.now.k grid.now.shares leaves.now }
+    requires leaves { AreLeafDigests grid.now.k grid.now.shares leaves.now }
     requires index { index < 2 * grid.now.k }
     requires line { length line.old ≡ 2 * grid.now.k }
-    ensures { line.new ≡ axis_leaves grid.now.k grid.now.shares axis index }
+    ensures { line.new ≡ leaf_digests (axis_names grid.now.k grid.now.shares axis index)
+        (axis_shares grid.now.k grid.now.shares axis index) }
 {
     let k = grid.width();
     for pos in 0..2 * k {
@@ -76,11 +79,10 @@ fn root_along(
     line: &mut [Digest],
 ) -> Option<Digest>
     requires shares { AreShares grid.now.shares }
-    requires leaves { AreLeaves grid.now.k grid.now.shares leaves.now }
+    requires leaves { AreLeafDigests grid.now.k grid.now.shares leaves.now }
     requires index { index < 2 * grid.now.k }
     requires line { length line.old ≡ 2 * grid.now.k }
-    ensures { result ≡ strict_root (halvings (2 * grid.now.k))
-        (axis_names grid.now.k grid.now.shares axis index)
+    ensures { result ≡ line_strict_root grid.now.k axis index
         (axis_shares grid.now.k grid.now.shares axis index) }
 {
     let _k = grid.width();
@@ -101,7 +103,7 @@ fn put_roots(
     roots: &mut [Digest],
 ) -> bool
     requires shares { AreShares grid.now.shares }
-    requires leaves { AreLeaves grid.now.k grid.now.shares leaves.now }
+    requires leaves { AreLeafDigests grid.now.k grid.now.shares leaves.now }
     requires line { length line.old ≡ 2 * grid.now.k }
     requires roots { length roots.old ≡ 2 * grid.now.k }
     ensures ordered { result ≡
@@ -127,7 +129,7 @@ fn roots_of(
     line: &mut [Digest],
 ) -> Result<Option<Vec<Digest>>, NoMemory>
     requires shares { AreShares grid.now.shares }
-    requires leaves { AreLeaves grid.now.k grid.now.shares leaves.now }
+    requires leaves { AreLeafDigests grid.now.k grid.now.shares leaves.now }
     requires line { length line.old ≡ 2 * grid.now.k }
     ensures { IfOk result (λ roots. option_map (λ v. v.items) roots ≡
         (if list_all (is_ordered_axis grid.now.k grid.now.shares axis)
@@ -146,7 +148,7 @@ fn roots_of(
 
 /// The digests of the leaves over all cells.
 fn leaves_of(alloc: Global, grid: &Grid) -> Result<Vec<Digest>, NoMemory>
-    ensures { IfOk result (λ leaves. AreLeaves grid.now.k grid.now.shares leaves.items) }
+    ensures { IfOk result (λ leaves. AreLeafDigests grid.now.k grid.now.shares leaves.items) }
 {
     let side = 2 * grid.width() as usize;
     let Ok(mut leaves) = vec![in alloc; Digest([0; 90]); side * side] else {

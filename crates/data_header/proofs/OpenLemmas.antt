@@ -6,6 +6,7 @@ use Rattle.std.proofs.lemmas.Slice.Eq.{bytes_eq-Decides}
 use Rattle.namespace_id.specs.declared.cells.Axis.{Axis}
 use Rattle.namespace_id.specs.declared.cells.Axis.TheVariants.{Row, Col}
 use Rattle.namespace_id.specs.declared.digests.Digest.{Digest}
+use Rattle.namespace_id.specs.Digests.{no_digest}
 use Rattle.namespace_id.specs.Cells.{is_width}
 use Rattle.data_header.specs.Headers.{Roots, AreRoots, root_of}
 use Rattle.data_header.specs.DataRoots.{leaf_hash, inner_hash, merkle_root, root_halvings, data_root_of, path_of, led, root_place, OpensRoot}
@@ -50,7 +51,7 @@ opens-row header index path other h place path_is other_is =
     let rows_power : length header.rows ≡ 2 ^ d = h.rows ∙ axis.1 in
     let path_here : path ≡ path_of d header.rows index = path_is d rows_power in
     let count : length path ≡ d = ap length path_here ∙ length-path_of d header.rows index in
-    let e : Digest = record { 0 = [] } in
+    let e : Digest = no_digest in
     record {
       width = h.width;
       place = place;
@@ -74,7 +75,7 @@ opens-col header index path other h place path_is other_is =
     let cols_power : length header.cols ≡ 2 ^ d = h.cols ∙ axis.1 in
     let path_here : path ≡ path_of d header.cols index = path_is d cols_power in
     let count : length path ≡ d = ap length path_here ∙ length-path_of d header.cols index in
-    let e : Digest = record { 0 = [] } in
+    let e : Digest = no_digest in
     record {
       width = h.width;
       place = place;

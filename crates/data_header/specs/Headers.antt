@@ -1,6 +1,6 @@
 -- Headers: the roots of all rows and columns of an extended square (Celestia specifications, "Data
 -- Structures").
-use Rattle.std.specs.Prelude.{◌≡◌, ℕ, ◌*◌, List, [], length, get_or, true}
+use Rattle.std.specs.Prelude.{◌≡◌, ℕ, ◌*◌, List, length, get_or, true}
 use Rattle.namespace_id.specs.declared.cells.Axis.{Axis}
 use Rattle.namespace_id.specs.declared.cells.Axis.TheVariants.{Row, Col}
 use Rattle.namespace_id.specs.declared.digests.Digest.{Digest}

@@ -1,6 +1,6 @@
 //! Data roots, and proofs that an axis root is under one.
 
-ghost use Rattle.std.specs.Prelude.{◌≡◌, ◌<◌, ◌*◌, ◌↔◌, IsTrue, true};
+ghost use Rattle.std.specs.Prelude.{◌≡◌, ◌<◌, ◌*◌, ◌^◌, ◌↔◌, IsTrue, true};
 ghost use Rattle.data_header.specs.Headers.{root_of};
 ghost use Rattle.namespace_id.specs.Cells.{is_width};
 ghost use Rattle.data_header.specs.DataRoots.{root_halvings, root_place, data_root_of, OpensRoot};
@@ -42,7 +42,8 @@ pub fn make_root_proof(header: &Header, axis: Axis, index: u16) -> RootPath
 /// How often the 4k axis roots of a header can be halved.
 fn root_halvings(k: u16) -> usize
     requires { IsTrue (is_width k) }
-    ensures { result ≡ root_halvings k }
+    ensures value { result ≡ root_halvings k }
+    ensures power { 2 ^ result ≡ 4 * k }
 {
     match k {
         1 => 2,

@@ -14,3 +14,5 @@ pub mod PutLemmas
 pub mod ListedLemmas
 pub mod TwinLemmas
 pub mod MadeLemmas
+pub mod HashedLemmas
+pub mod OrderLemmas

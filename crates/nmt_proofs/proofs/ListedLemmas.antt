@@ -11,7 +11,7 @@ use Rattle.nmt_tree.specs.Roots.{root}
 use Rattle.nmt_tree.specs.Levels.{leaf_digests, span}
 use Rattle.nmt_proofs.specs.Parts.{Part, leaf, join, digest_of}
 use Rattle.namespace_id.specs.Digests.{no_digest}
-use Rattle.nmt_proofs.specs.Openings.{Shown, begun, is_shown, outside, opened, one_leaf}
+use Rattle.nmt_proofs.specs.Openings.{Shown, begun, is_interval, outside, opened, one_leaf}
 use Rattle.nmt_proofs.specs.Clashes.{Agree, HasDepth, ClashOr, clash_at, whole, AreLeaves, IsOpening, ArePlaces, AreListed}
 use Rattle.nmt_proofs.specs.Making.{spans}
 use Rattle.nmt_proofs.proofs.ListLemmas.{each-append, same_one}
@@ -47,9 +47,9 @@ agreed (suc d) st ns ss (s ∷ ys) nodes of count a =
     let ro : List (ℕ × ℕ) = outside d m (drop i xs) in
     let j : ℕ = length lo in
     let end : st + 2 ^ suc d ≡ m + 2 ^ d = omega (arith, pow-suc 2 d) in
-    let one_place : is_shown (suc d) s ≡ false = single d s of.0 in
+    let one_place : is_interval (suc d) s ≡ false = single d s of.0 in
     let parts = places-halves st m (m + 2 ^ d) xs (omega arith) (subst (λ (k : ℕ). ArePlaces st k xs) end of) in
-    let counts = half_counts (is_shown (suc d) s) nodes lo ro one_place count in
+    let counts = half_counts (is_interval (suc d) s) nodes lo ro one_place count in
     let joined : Part = join (opened d st (take i xs) (take j nodes)) (opened d m (drop i xs) (drop j nodes)) in
     let halved : whole (suc d) (drop st ns) (drop st ss) ≡ join (whole d (drop st ns) (drop st ss)) (whole d (drop m ns) (drop m ss)) = whole-halved d st ns ss in
     let both : Agree joined (join (whole d (drop st ns) (drop st ss)) (whole d (drop m ns) (drop m ss))) =
@@ -91,7 +91,16 @@ leaf_listed (suc pos) (m ∷ ns) (t ∷ ss) n s h g a = leaf_listed pos ns ss n 
 leaf_listed pos [] ss n s h g a = absurd (omega arith)
 leaf_listed pos (m ∷ ns) [] n s h g a = absurd (omega arith)
 
--- of one that shows one leaf
+-- where what one leaf opens agrees with a list, the leaf and the nodes are the list's
+pub leaf_agreed : (d pos : ℕ) (n : Namespace) (s : Share) (nodes : List Digest) (ns : List Namespace) (ss : List Share) → IsOpening d (one_leaf pos n s) nodes → pos < 2 ^ d → AreLeaves d ns ss
+    → Agree (opened d 0 (one_leaf pos n s) nodes) (whole d ns ss)
+    → (slice_get ns pos ≡ Some n) × (slice_get ss pos ≡ Some s) × (nodes ≡ spans (leaf_digests ns ss) (outside d 0 (one_leaf pos n s)))
+leaf_agreed d pos n s nodes ns ss h lt g same =
+    let listed = agreed d 0 ns ss (one_leaf pos n s) nodes (refl, omega arith, omega (arith, lt), tt) (eqb-true _ _ h.count) same in
+    let here = leaf_listed pos ns ss n s (omega (arith, g.name_count)) (omega (arith, g.share_count)) listed.0.0 in
+    (here.0, here.1, listed.1)
+
+-- the law of an opening of one leaf
 pub leaf_law : (d pos : ℕ) (n : Namespace) (s : Share) (nodes : List Digest) (ns : List Namespace) (ss : List Share) → IsOpening d (one_leaf pos n s) nodes → pos < 2 ^ d → AreLeaves d ns ss
     → digest_of (opened d 0 (one_leaf pos n s) nodes) ≡ root d ns ss
     → ClashOr (opened d 0 (one_leaf pos n s) nodes) (whole d ns ss)
@@ -99,10 +108,7 @@ pub leaf_law : (d pos : ℕ) (n : Namespace) (s : Share) (nodes : List Digest) (
 leaf_law d pos n s nodes ns ss h lt g e =
     let xs : List Shown = one_leaf pos n s in
     listed_or d xs nodes ns ss ((slice_get ns pos ≡ Some n) × (slice_get ss pos ≡ Some s) × (nodes ≡ spans (leaf_digests ns ss) (outside d 0 xs))) h g e
-    (λ same.
-    let listed = agreed d 0 ns ss xs nodes (refl, omega arith, omega (arith, lt), tt) (eqb-true _ _ h.count) same in
-    let here = leaf_listed pos ns ss n s (omega (arith, g.name_count)) (omega (arith, g.share_count)) listed.0.0 in
-    (here.0, here.1, listed.1))
+    (leaf_agreed d pos n s nodes ns ss h lt g)
 
 -- the law of two lists with one root
 pub lists_law : (d : ℕ) (ns ms : List Namespace) (ss ts : List Share) → AreLeaves d ns ss → AreLeaves d ms ts → root d ns ss ≡ root d ms ts

@@ -11,7 +11,7 @@ use Rattle.nmt_tree.specs.Levels.{span, HasOrderedJoins}
 use Rattle.namespace_id.proofs.StringLemmas.{front, behind}
 use Rattle.nmt_proofs.specs.Parts.{Part, join, digest_of, is_in_order}
 use Rattle.namespace_id.specs.Digests.{no_digest}
-use Rattle.nmt_proofs.specs.Openings.{Shown, begun, is_shown, outside, opened, Opens}
+use Rattle.nmt_proofs.specs.Openings.{Shown, begun, is_interval, outside, opened, Opens}
 use Rattle.nmt_proofs.specs.Making.{spans, AreAtLeaves}
 use Rattle.nmt_proofs.specs.Clashes.{ArePlaces}
 use Rattle.nmt_proofs.proofs.ListLemmas.{each-take, each-drop}
@@ -37,7 +37,7 @@ pub record IsMade (leaves : List Digest) (depth start : ℕ) (p : Part) : Type 0
   pub order : is_in_order p ≡ true
 
 -- three tests hold together
-and_true : (a b c : Bool) → a ≡ true → b ≡ true → c ≡ true → (a && b && c) ≡ true
+pub and_true : (a b c : Bool) → a ≡ true → b ≡ true → c ≡ true → (a && b && c) ≡ true
 and_true a b c ha hb hc = (λ i. ha i && hb i && hc i)
 
 -- the intervals outside and what is shown make the part over all leaves
@@ -55,17 +55,17 @@ made leaves (suc d) st (s ∷ ss) of each j =
     let i : ℕ = begun m xs in
     let lo : List (ℕ × ℕ) = outside d st (take i xs) in
     let ro : List (ℕ × ℕ) = outside d m (drop i xs) in
-    let single_place : is_shown (suc d) s ≡ false = single d s of.0 in
+    let single_place : is_interval (suc d) s ≡ false = single d s of.0 in
     let p : 2 ^ suc d ≡ 2 ^ d * 2 = pow-suc 2 d in
     let end : st + 2 ^ suc d ≡ m + 2 ^ d = omega (arith, p) in
     let parts = places-halves st m (m + 2 ^ d) xs (omega arith) (subst (λ (k : ℕ). ArePlaces st k xs) end of) in
-    let nodes : spans leaves (cond (is_shown (suc d) s) [] (lo ++ ro)) ≡ spans leaves lo ++ spans leaves ro =
+    let nodes : spans leaves (cond (is_interval (suc d) s) [] (lo ++ ro)) ≡ spans leaves lo ++ spans leaves ro =
     ap (λ (b : Bool). spans leaves (cond b [] (lo ++ ro))) single_place ∙ map-append (λ (x : ℕ × ℕ). span leaves x.0 x.1) lo ro in
     let count : length (spans leaves lo) ≡ length lo = length-map lo (λ (x : ℕ × ℕ). span leaves x.0 x.1) in
     let l : IsMade leaves d st (opened d st (take i xs) (spans leaves lo)) = made leaves d st (take i xs) parts.0 (each-take _ i xs each) j.0 in
     let r : IsMade leaves d m (opened d m (drop i xs) (spans leaves ro)) = made leaves d m (drop i xs) parts.1 (each-drop _ i xs each) j.1 in
-    let Of : List Digest → Part = λ ns. cond (is_shown (suc d) s) s.part (join (opened d st (take i xs) (take (length lo) ns)) (opened d m (drop i xs) (drop (length lo) ns))) in
-    let whole : Of (spans leaves (cond (is_shown (suc d) s) [] (lo ++ ro))) ≡ join (opened d st (take i xs) (spans leaves lo)) (opened d m (drop i xs) (spans leaves ro)) =
+    let Of : List Digest → Part = λ ns. cond (is_interval (suc d) s) s.part (join (opened d st (take i xs) (take (length lo) ns)) (opened d m (drop i xs) (drop (length lo) ns))) in
+    let whole : Of (spans leaves (cond (is_interval (suc d) s) [] (lo ++ ro))) ≡ join (opened d st (take i xs) (spans leaves lo)) (opened d m (drop i xs) (spans leaves ro)) =
     ap Of nodes
     ∙ ap (λ (b : Bool). cond b s.part (join (opened d st (take i xs) (take (length lo) (spans leaves lo ++ spans leaves ro))) (opened d m (drop i xs) (drop (length lo) (spans leaves lo ++ spans leaves ro))))) single_place
     ∙ ap₂ (λ (x y : List Digest). join (opened d st (take i xs) x) (opened d m (drop i xs) y)) (front (spans leaves lo) (spans leaves ro) (length lo) count) (behind (spans leaves lo) (spans leaves ro) (length lo) count) in

@@ -5,7 +5,7 @@ use Rattle.std.proofs.lemmas.List.{take-map, drop-map}
 use Rattle.namespace_id.specs.declared.digests.Digest.{Digest}
 use Rattle.nmt_tree.specs.Digests.{node_digest, is_ordered_join}
 use Rattle.nmt_proofs.specs.Parts.{Part, given, join, digest_of, is_in_order}
-use Rattle.nmt_proofs.specs.Openings.{Shown, begun, is_shown, outside, opened, shadow, shadow_of}
+use Rattle.nmt_proofs.specs.Openings.{Shown, begun, is_interval, outside, opened, shadow, shadow_of}
 use Rattle.nmt_proofs.proofs.ListLemmas.{each-take, each-drop}
 
 -- every shown part is in order
@@ -24,7 +24,7 @@ begun-parts f m (s ∷ ss) = ap (λ n. cond (ltb s.from m) (suc n) 0) (begun-par
 
 -- nor do the intervals outside
 pub outside-parts : (f : Part → Part) (d st : ℕ) (ss : List Shown) → outside d st (map (with_part f) ss) ≡ outside d st ss
-unfolding outside is_shown
+unfolding outside is_interval
 outside-parts f zero st [] = refl
 outside-parts f zero st (s ∷ ss) = refl
 outside-parts f (suc d) st [] = refl
@@ -38,7 +38,7 @@ outside-parts f (suc d) st (s ∷ ss) =
     ap (λ n. outside d st (take n ys)) e ∙ ap (outside d st) (take-map (with_part f) k xs) ∙ outside-parts f d st (take k xs) in
     let r : outside d m (drop (begun m ys) ys) ≡ outside d m (drop k xs) =
     ap (λ n. outside d m (drop n ys)) e ∙ ap (outside d m) (drop-map (with_part f) k xs) ∙ outside-parts f d m (drop k xs) in
-    ap₂ (λ (x y : List (ℕ × ℕ)). cond (is_shown (suc d) s) [] (x ++ y)) l r
+    ap₂ (λ (x y : List (ℕ × ℕ)). cond (is_interval (suc d) s) [] (x ++ y)) l r
 
 -- one digest, and in order alike
 pub record Alike (p q : Part) : Type 0 where
@@ -67,7 +67,7 @@ given_alone p = given (digest_of p)
 
 -- what is opened of the digests alone is alike
 pub alike-shadow : (d st : ℕ) (ss : List Shown) (ns : List Digest) → AreInOrder ss → Alike (opened d st (shadow ss) ns) (opened d st ss ns)
-unfolding opened is_shown
+unfolding opened is_interval
 alike-shadow zero st [] ns h = record { digest = refl; order = refl }
 alike-shadow zero st (s ∷ ss) ns h = record { digest = refl; order = sym h.0 }
 alike-shadow (suc d) st [] ns h = record { digest = refl; order = refl }
@@ -86,6 +86,6 @@ alike-shadow (suc d) st (s ∷ ss) ns h =
     alike_same _ _ _ (ap₂ (λ (x : List Shown) (n : ℕ). opened d st x (take n ns)) front c) (alike-shadow d st (take k xs) (take j ns) (each-take _ k xs h)) in
     let r : Alike (opened d m (drop k' (shadow xs)) (drop j' ns)) (opened d m (drop k xs) (drop j ns)) =
     alike_same _ _ _ (ap₂ (λ (x : List Shown) (n : ℕ). opened d m x (drop n ns)) back c) (alike-shadow d m (drop k xs) (drop j ns) (each-drop _ k xs h)) in
-    alike_choice (is_shown (suc d) s) (given (digest_of s.part)) (join (opened d st (take k' (shadow xs)) (take j' ns)) (opened d m (drop k' (shadow xs)) (drop j' ns)))
+    alike_choice (is_interval (suc d) s) (given (digest_of s.part)) (join (opened d st (take k' (shadow xs)) (take j' ns)) (opened d m (drop k' (shadow xs)) (drop j' ns)))
     s.part (join (opened d st (take k xs) (take j ns)) (opened d m (drop k xs) (drop j ns)))
     (record { digest = refl; order = sym h.0 }) (alike_join _ _ _ _ l r)

@@ -5,7 +5,7 @@ use Rattle.std.proofs.lemmas.Bool.{cases_Bool, eqb-true, true≢false}
 use Rattle.namespace_id.specs.declared.digests.Digest.{Digest}
 use Rattle.namespace_id.specs.Digests.{IsDigest, AreDigests, no_digest}
 use Rattle.nmt_proofs.specs.Parts.{Part, given, leaf, join}
-use Rattle.nmt_proofs.specs.Openings.{Shown, begun, is_shown, outside, opened}
+use Rattle.nmt_proofs.specs.Openings.{Shown, begun, is_interval, outside, opened}
 use Rattle.nmt_proofs.specs.Clashes.{IsSized, HasDepth, IsShown, AreShown, IsOpening}
 use Rattle.nmt_proofs.proofs.ListLemmas.{each-take, each-drop}
 use Rattle.nmt_proofs.proofs.SingleLemmas.{single}
@@ -23,7 +23,7 @@ shown-flat size (leaf n s) h = tt
 shown-flat size (join l r) h = elim h [ ]
 
 -- an interval of several places that is shown is a given digest
-shown-deep : (d : ℕ) (s : Shown) (p : Part) → s.part ≡ p → IsShown s.size p → is_shown (suc d) s ≡ true → HasDepth (suc d) p
+shown-deep : (d : ℕ) (s : Shown) (p : Part) → s.part ≡ p → IsShown s.size p → is_interval (suc d) s ≡ true → HasDepth (suc d) p
 shown-deep d s (given e) is h t = tt
 shown-deep d s (leaf n a) is h t = absurd (true≢false (sym t ∙ single d s h.0))
 shown-deep d s (join l r) is h t = elim h [ ]
@@ -54,10 +54,10 @@ sized-opened (suc d) st (s ∷ ss) ns h k e =
     let r : List (ℕ × ℕ) = outside d m (drop i xs) in
     let j : ℕ = length l in
     let joined : Part = join (opened d st (take i xs) (take j ns)) (opened d m (drop i xs) (drop j ns)) in
-    elim (cases_Bool (is_shown (suc d) s)) [
+    elim (cases_Bool (is_interval (suc d) s)) [
       | inl t ↦ subst IsSized (sym (ap (λ (b : Bool). cond b s.part joined) t)) (shown-sized s.size s.part h.0)
       | inr f ↦
-          let counts = half_counts (is_shown (suc d) s) ns l r f e in
+          let counts = half_counts (is_interval (suc d) s) ns l r f e in
           let both : IsSized joined = (
             sized-opened d st (take i xs) (take j ns) (each-take _ i xs h) (each-take IsDigest j ns k) counts.0,
             sized-opened d m (drop i xs) (drop j ns) (each-drop _ i xs h) (each-drop IsDigest j ns k) counts.1,
@@ -77,7 +77,7 @@ depth-opened (suc d) st (s ∷ ss) ns h =
     let i : ℕ = begun m xs in
     let j : ℕ = length (outside d st (take i xs)) in
     let joined : Part = join (opened d st (take i xs) (take j ns)) (opened d m (drop i xs) (drop j ns)) in
-    elim (cases_Bool (is_shown (suc d) s)) [
+    elim (cases_Bool (is_interval (suc d) s)) [
       | inl t ↦ subst (HasDepth (suc d)) (sym (ap (λ (b : Bool). cond b s.part joined) t)) (shown-deep d s s.part refl h.0 t)
       | inr f ↦
           let both : HasDepth (suc d) joined = (

@@ -6,15 +6,15 @@ use Rattle.std.proofs.Math.Nat.{pow-suc}
 use Rattle.namespace_id.specs.declared.digests.Digest.{Digest}
 use Rattle.nmt_proofs.specs.Parts.{Part, given, join}
 use Rattle.namespace_id.specs.Digests.{no_digest}
-use Rattle.nmt_proofs.specs.Openings.{Shown, begun, is_shown, outside, opened}
+use Rattle.nmt_proofs.specs.Openings.{Shown, begun, is_interval, outside, opened}
 
 -- a single place that shows a part
 abbrev pub one_place : ℕ → Part → List Shown
 one_place pos p = record { from = pos; size = 1; part = p } ∷ []
 
 -- a single place is no interval of two or more
-pub single : (d : ℕ) (s : Shown) → s.size ≡ 1 → is_shown (suc d) s ≡ false
-unfolding is_shown
+pub single : (d : ℕ) (s : Shown) → s.size ≡ 1 → is_interval (suc d) s ≡ false
+unfolding is_interval
 single d s h = ne_eqb s.size (2 ^ suc d) (λ e. omega (arith, pow-suc 2 d, h, e, pow_pos d))
 
 -- where nothing is shown, the whole interval is outside

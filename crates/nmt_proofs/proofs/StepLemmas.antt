@@ -7,7 +7,7 @@ use Rattle.namespace_id.specs.declared.digests.Digest.{Digest}
 use Rattle.nmt_proofs.specs.declared.joining.Piece.{Piece}
 use Rattle.nmt_proofs.specs.Parts.{given, join}
 use Rattle.namespace_id.specs.Digests.{no_digest}
-use Rattle.nmt_proofs.specs.Openings.{Shown, begun, is_shown, outside, opened}
+use Rattle.nmt_proofs.specs.Openings.{Shown, begun, is_interval, outside, opened}
 use Rattle.nmt_proofs.specs.Pieces.{shown, shown_of}
 use Rattle.nmt_proofs.proofs.SingleLemmas.{outside_empty, opened_empty}
 
@@ -26,7 +26,7 @@ opened_none d s [] ns h = opened_empty d s ns
 opened_none d s (p ∷ ps) ns h = absurd (omega arith)
 
 -- an interval that is a piece leaves nothing outside
-pub outside_shown : (d s : ℕ) (ps : List Piece) (o : Piece) → 0 < length ps → is_shown d (shown_of (get_or ps 0 o)) ≡ true → outside d s (shown ps) ≡ []
+pub outside_shown : (d s : ℕ) (ps : List Piece) (o : Piece) → 0 < length ps → is_interval d (shown_of (get_or ps 0 o)) ≡ true → outside d s (shown ps) ≡ []
 unfolding outside
 outside_shown d s [] o h e = absurd (omega arith)
 outside_shown zero s (p ∷ ps) o h e = refl
@@ -35,7 +35,7 @@ outside_shown (suc d) s (p ∷ ps) o h e =
     ap (λ b. cond b [] (outside d s (take (in_left d s xs) xs) ++ outside d (s + 2 ^ d) (drop (in_left d s xs) xs))) e
 
 -- and it is given by the piece's digest
-pub opened_shown : (d s : ℕ) (ps : List Piece) (ns : List Digest) (o : Piece) → 0 < length ps → is_shown d (shown_of (get_or ps 0 o)) ≡ true
+pub opened_shown : (d s : ℕ) (ps : List Piece) (ns : List Digest) (o : Piece) → 0 < length ps → is_interval d (shown_of (get_or ps 0 o)) ≡ true
     → opened d s (shown ps) ns ≡ given (get_or ps 0 o).digest
 unfolding opened
 opened_shown d s [] ns o h e = absurd (omega arith)
@@ -47,13 +47,13 @@ opened_shown (suc d) s (p ∷ ps) ns o h e =
     ap (λ b. cond b (given p.digest) (join (opened d s (take k xs) (take j ns)) (opened d (s + 2 ^ d) (drop k xs) (drop j ns)))) e
 
 -- an interval that is not what is shown in it has several places
-pub not_shown : (d : ℕ) (s : Shown) → is_shown d s ≡ false → (e : ℕ) × (d ≡ suc e)
-unfolding is_shown
+pub not_shown : (d : ℕ) (s : Shown) → is_interval d s ≡ false → (e : ℕ) × (d ≡ suc e)
+unfolding is_interval
 not_shown zero s h = absurd (cc)
 not_shown (suc d) s h = (d, refl)
 
 -- the intervals outside of an interval that is halved
-outside_halves_suc : (d s : ℕ) (ps : List Piece) (o : Piece) → 0 < length ps → is_shown (suc d) (shown_of (get_or ps 0 o)) ≡ false
+outside_halves_suc : (d s : ℕ) (ps : List Piece) (o : Piece) → 0 < length ps → is_interval (suc d) (shown_of (get_or ps 0 o)) ≡ false
     → outside (suc d) s (shown ps) ≡ outside d s (take (in_left d s (shown ps)) (shown ps)) ++ outside d (s + 2 ^ d) (drop (in_left d s (shown ps)) (shown ps))
 unfolding outside
 outside_halves_suc d s [] o h e = absurd (omega arith)
@@ -62,7 +62,7 @@ outside_halves_suc d s (p ∷ ps) o h e =
     ap (λ b. cond b [] (outside d s (take (in_left d s xs) xs) ++ outside d (s + 2 ^ d) (drop (in_left d s xs) xs))) e
 
 -- what is opened in an interval that is halved
-opened_halves_suc : (d s : ℕ) (ps : List Piece) (ns : List Digest) (o : Piece) → 0 < length ps → is_shown (suc d) (shown_of (get_or ps 0 o)) ≡ false
+opened_halves_suc : (d s : ℕ) (ps : List Piece) (ns : List Digest) (o : Piece) → 0 < length ps → is_interval (suc d) (shown_of (get_or ps 0 o)) ≡ false
     → opened (suc d) s (shown ps) ns ≡ join
     (opened d s (take (in_left d s (shown ps)) (shown ps)) (take (length (outside d s (take (in_left d s (shown ps)) (shown ps)))) ns))
     (opened d (s + 2 ^ d) (drop (in_left d s (shown ps)) (shown ps)) (drop (length (outside d s (take (in_left d s (shown ps)) (shown ps)))) ns))
@@ -75,7 +75,7 @@ opened_halves_suc d s (p ∷ ps) ns o h e =
     ap (λ b. cond b (given p.digest) (join (opened d s (take k xs) (take j ns)) (opened d (s + 2 ^ d) (drop k xs) (drop j ns)))) e
 
 -- the intervals outside of one that is halved, by the halves of the pieces
-pub outside_halves : (d s : ℕ) (ps l r : List Piece) (o : Piece) (k m : ℕ) → 0 < length ps → is_shown d (shown_of (get_or ps 0 o)) ≡ false
+pub outside_halves : (d s : ℕ) (ps l r : List Piece) (o : Piece) (k m : ℕ) → 0 < length ps → is_interval d (shown_of (get_or ps 0 o)) ≡ false
     → m ≡ 2 ^ (d - 1) → k ≡ begun (s + m) (shown ps) → l ≡ take k ps → r ≡ drop k ps
     → outside d s (shown ps) ≡ outside (d - 1) s (shown l) ++ outside (d - 1) (s + m) (shown r)
 outside_halves zero s ps l r o k m h e em ek el er = absurd (cc (not_shown zero (shown_of (get_or ps 0 o)) e).1)
@@ -88,7 +88,7 @@ outside_halves (suc d) s ps l r o k m h e em ek el er =
     ∙ (λ i. outside (sym low i) s ((take-map shown_of k ps ∙ ap shown (sym el)) i) ++ outside (sym low i) (s + m) ((drop-map shown_of k ps ∙ ap shown (sym er)) i))
 
 -- and what is opened in it, by the halves of the pieces and of the nodes
-pub opened_halves : (d s : ℕ) (ps l r : List Piece) (ns ln rn : List Digest) (o : Piece) (k m j : ℕ) → 0 < length ps → is_shown d (shown_of (get_or ps 0 o)) ≡ false
+pub opened_halves : (d s : ℕ) (ps l r : List Piece) (ns ln rn : List Digest) (o : Piece) (k m j : ℕ) → 0 < length ps → is_interval d (shown_of (get_or ps 0 o)) ≡ false
     → m ≡ 2 ^ (d - 1) → k ≡ begun (s + m) (shown ps) → l ≡ take k ps → r ≡ drop k ps
     → j ≡ length (outside (d - 1) s (shown l)) → ln ≡ take j ns → rn ≡ drop j ns
     → opened d s (shown ps) ns ≡ join (opened (d - 1) s (shown l) ln) (opened (d - 1) (s + m) (shown r) rn)
@@ -107,14 +107,14 @@ opened_halves (suc d) s ps l r ns ln rn o k m j h e em ek el er ej eln ern =
     ∙ (λ i. join (opened (suc d - 1) s (shown l) (sym eln i)) (opened (suc d - 1) (s + m) (shown r) (sym ern i)))
 
 -- an interval of one place in which something is shown is that
-pub shown_zero : (d : ℕ) (s : Shown) → d ≡ 0 → true ≡ is_shown d s
-unfolding is_shown
+pub shown_zero : (d : ℕ) (s : Shown) → d ≡ 0 → true ≡ is_interval d s
+unfolding is_interval
 shown_zero zero s h = refl
 shown_zero (suc d) s h = absurd (omega arith)
 
 -- one of several is what is shown if it has that size
-pub shown_size : (d : ℕ) (s : Shown) → (d ≡ 0 → ⊥) → (s.size == 2 ^ d) ≡ is_shown d s
-unfolding is_shown
+pub shown_size : (d : ℕ) (s : Shown) → (d ≡ 0 → ⊥) → (s.size == 2 ^ d) ≡ is_interval d s
+unfolding is_interval
 shown_size zero s h = absurd (h refl)
 shown_size (suc d) s h = refl
 

@@ -5,3 +5,4 @@ pub mod Causes
 pub mod Paths
 pub mod Clashes
 pub mod Making
+pub mod Hashed

@@ -6,9 +6,9 @@ use Rattle.namespace_id.specs.declared.digests.Digest.{Digest}
 use Rattle.nmt_tree.specs.Digests.{leaf_digest}
 use Rattle.nmt_tree.specs.Roots.{halvings}
 use Rattle.nmt_tree.specs.Levels.{span}
-use Rattle.nmt_proofs.specs.Parts.{given, digest_of, is_in_order}
+use Rattle.nmt_proofs.specs.Parts.{digest_of, is_in_order}
 use Rattle.namespace_id.specs.Digests.{no_digest}
-use Rattle.nmt_proofs.specs.Openings.{Shown, outside, Opens, one_leaf}
+use Rattle.nmt_proofs.specs.Openings.{Shown, outside, Opens, one_leaf, one_digest}
 
 -- the digests over intervals of leaves, each told by where it begins and its depth
 abbrev pub spans : List Digest → List (ℕ × ℕ) → List Digest
@@ -22,10 +22,6 @@ AreAtLeaves leaves low high (s ∷ shown) =
     (s.size ≡ 1) × (low ≤ s.from) × (s.from < high)
     × (digest_of s.part ≡ get_or leaves s.from no_digest) × (is_in_order s.part ≡ true)
     × AreAtLeaves leaves (s.from + 1) high shown
-
--- one leaf of which only the digest is shown
-abbrev pub one_digest : ℕ → Digest → List Shown
-one_digest pos digest = record { from = pos; size = 1; part = given digest } ∷ []
 
 -- the nodes that open the leaf at a place
 abbrev pub leaf_nodes : ℕ → List Digest → ℕ → List Digest

@@ -19,9 +19,9 @@ begun middle [] = 0
 begun middle (s ∷ shown) = if ltb s.from middle then suc (begun middle shown) else 0
 
 -- whether the interval of this depth in which a shown part begins is that part
-unfoldable pub is_shown : ℕ → Shown → Bool
-is_shown zero s = true
-is_shown (suc depth) s = s.size == 2 ^ suc depth
+unfoldable pub is_interval : ℕ → Shown → Bool
+is_interval zero s = true
+is_interval (suc depth) s = s.size == 2 ^ suc depth
 
 -- the intervals that hold nothing shown, left to right, of the 2 ^ depth places from `start`, which
 -- are halved until an interval holds nothing shown or is shown: where each begins, and its depth
@@ -29,7 +29,7 @@ unfoldable pub outside : ℕ → ℕ → List Shown → List (ℕ × ℕ)
 outside zero start [] = (start, 0) ∷ []
 outside zero start (s ∷ shown) = []
 outside (suc depth) start [] = (start, suc depth) ∷ []
-outside (suc depth) start (s ∷ shown) = if is_shown (suc depth) s then [] else
+outside (suc depth) start (s ∷ shown) = if is_interval (suc depth) s then [] else
     outside depth start (take (begun (start + 2 ^ depth) (s ∷ shown)) (s ∷ shown))
     ++ outside depth (start + 2 ^ depth) (drop (begun (start + 2 ^ depth) (s ∷ shown)) (s ∷ shown))
 
@@ -39,7 +39,7 @@ unfoldable pub opened : ℕ → ℕ → List Shown → List Digest → Part
 opened zero start [] nodes = given (get_or nodes 0 no_digest)
 opened zero start (s ∷ shown) nodes = s.part
 opened (suc depth) start [] nodes = given (get_or nodes 0 no_digest)
-opened (suc depth) start (s ∷ shown) nodes = if is_shown (suc depth) s then s.part else
+opened (suc depth) start (s ∷ shown) nodes = if is_interval (suc depth) s then s.part else
     (let middle : ℕ = start + 2 ^ depth in
     let k : ℕ = begun middle (s ∷ shown) in
     let j : ℕ = length (outside depth start (take k (s ∷ shown))) in
@@ -67,6 +67,10 @@ pub record Opens (depth : ℕ) (shown : List Shown) (nodes : List Digest) (root 
 -- one leaf
 abbrev pub one_leaf : ℕ → Namespace → Share → List Shown
 one_leaf pos name share = record { from = pos; size = 1; part = leaf name share } ∷ []
+
+-- one leaf of which only the digest is shown
+abbrev pub one_digest : ℕ → Digest → List Shown
+one_digest pos digest = record { from = pos; size = 1; part = given digest } ∷ []
 
 -- a shown part of which only the digest is kept
 abbrev pub shadow_of : Shown → Shown

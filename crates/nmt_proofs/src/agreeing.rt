@@ -11,6 +11,7 @@ ghost use Rattle.nmt_proofs.specs.Parts.{Part, digest_of};
 ghost use Rattle.nmt_proofs.specs.Openings.{Shown, one_leaf, opened, outside};
 ghost use Rattle.nmt_proofs.specs.Clashes.{IsClash, clash_at, ClashOr, IsSized, HasDepth, Agree, whole, AreLeaves, IsOpening, ArePlaces, AreListed};
 ghost use Rattle.nmt_proofs.specs.Making.{spans};
+ghost use Rattle.nmt_proofs.specs.Hashed.{hashed, first_apart};
 
 /// Where two parts of a tree have one digest, the strings at the first interval at which both have
 /// one and these differ are a SHA-256 collision; where there is no such interval, the parts agree.
@@ -18,6 +19,11 @@ ghost use Rattle.nmt_proofs.specs.Making.{spans};
 /// Nothing assumes that SHA-256 has no collisions: `ClashOr` names the two strings, or gives the
 /// fact.
 pub fn clash_laws()
+    // By the lists of all strings that are hashed for either part.
+    ensures hashed { (depth : ℕ) (p q : Part) → HasDepth depth p → HasDepth depth q →
+        clash_at p q ≡ first_apart (hashed depth 0 p) (hashed depth 0 q) }
+
+    // What is found is a collision; where nothing is found, the parts agree.
     ensures found { (p q : Part) (a b : List ℕ) → IsSized p → IsSized q →
         digest_of p ≡ digest_of q → clash_at p q ≡ Some (a, b) → IsClash a b }
     ensures agree { (depth : ℕ) (p q : Part) → HasDepth depth p → HasDepth depth q →

@@ -3,7 +3,7 @@
 ghost use Rattle.std.specs.Prelude.{ltb, ◌≡◌, ◌+◌, ◌^◌, ◌≤◌, ◌<◌, ℕ, length, true, false, Some, None, if◌then◌else◌};
 ghost use Rattle.nmt_tree.specs.Digests.{is_ordered_join, node_digest};
 ghost use Rattle.nmt_proofs.specs.Parts.{ordered_digest};
-ghost use Rattle.nmt_proofs.specs.Openings.{begun, is_shown, outside, opened};
+ghost use Rattle.nmt_proofs.specs.Openings.{begun, is_interval, outside, opened};
 ghost use Rattle.nmt_proofs.specs.Pieces.{shown, shown_of};
 
 use namespace_id::Digest;
@@ -33,7 +33,7 @@ pub(crate) fn count_begun(pieces: &[Piece], middle: u16) -> usize
 /// Whether the interval of this depth in which the piece begins is the piece.
 pub(crate) fn is_piece(depth: u8, piece: &Piece) -> bool
     requires { depth ≤ 8 }
-    ensures shown { result ≡ is_shown depth (shown_of piece.now) }
+    ensures shown { result ≡ is_interval depth (shown_of piece.now) }
     ensures halved { result ≡ false → 0 < depth }
 {
     depth == 0 || piece.size == leaf_count(depth)

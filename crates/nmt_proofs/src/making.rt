@@ -1,11 +1,15 @@
 //! Openings made from a stored tree.
 
-ghost use Rattle.std.specs.Prelude.{◌≡◌, ◌+◌, ◌%◌, ◌^◌, ◌≤◌, ◌<◌, ℕ, List, length, IsTrue, IsSome};
+ghost use Rattle.std.specs.Prelude.{◌≡◌, ◌↔◌, ◌+◌, ◌%◌, ◌^◌, ◌≤◌, ◌<◌, ℕ, List, length, true, IsTrue, IsSome};
 ghost use Rattle.std.specs.Option.{ForSome};
+ghost use Rattle.namespace_id.specs.declared.namespaces.Namespace.{Namespace};
+ghost use Rattle.namespace_id.specs.declared.shares.Share.{Share};
 ghost use Rattle.namespace_id.specs.declared.digests.Digest.{Digest};
 ghost use Rattle.nmt_tree.specs.Roots.{is_leaf_count, halvings};
-ghost use Rattle.nmt_tree.specs.Levels.{span, HasOrderedJoins};
+ghost use Rattle.nmt_tree.specs.Levels.{leaf_digests, span, HasOrderedJoins};
+ghost use Rattle.nmt_proofs.specs.Parts.{is_in_order};
 ghost use Rattle.nmt_proofs.specs.Openings.{Shown, outside, Opens};
+ghost use Rattle.nmt_proofs.specs.Clashes.{whole, AreLeaves};
 ghost use Rattle.nmt_proofs.specs.Making.{spans, AreAtLeaves, leaf_nodes, OpensDigest, OpensLeaf};
 ghost use Rattle.nmt_proofs.specs.Pieces.{shown};
 
@@ -97,11 +101,15 @@ pub fn make_leaf(tree: &Tree, pos: u16) -> Path
 }
 
 /// Where every join over leaves is ordered, the digests of the intervals that hold nothing shown
-/// open what is shown of them at single places.
+/// open what is shown of them at single places; and a list's joins are ordered where those of its
+/// part are.
 pub fn making_laws()
-    ensures { (depth : ℕ) (leaves : List Digest) (shown : List Shown) →
+    ensures opens { (depth : ℕ) (leaves : List Digest) (shown : List Shown) →
         AreAtLeaves leaves 0 (2 ^ depth) shown → HasOrderedJoins leaves 0 depth →
         Opens depth shown (spans leaves (outside depth 0 shown)) (span leaves 0 depth) }
+    ensures in_order { (depth : ℕ) (names : List Namespace) (shares : List Share) →
+        AreLeaves depth names shares → (HasOrderedJoins (leaf_digests names shares) 0 depth) ↔
+        (is_in_order (whole depth names shares) ≡ true) }
 {}
 
 #[cfg(test)]

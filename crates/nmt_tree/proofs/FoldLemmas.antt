@@ -1,12 +1,13 @@
 -- The root over digests, level by level.
-use Rattle.std.proofs.Common.{◌≡◌, ◌∙◌, ℕ, suc, ◌+◌, ◌/◌, ◌^◌, List, [], length, get_or, sym, ap, arith}
+use Rattle.std.proofs.Common.{◌≡◌, ◌∙◌, ℕ, suc, ◌+◌, ◌/◌, ◌^◌, List, length, get_or, sym, ap, arith}
 use Rattle.namespace_id.specs.declared.digests.Digest.{Digest}
+use Rattle.namespace_id.specs.Digests.{no_digest}
 use Rattle.nmt_tree.specs.Levels.{pairs, span}
 use Rattle.namespace_id.proofs.HalfLemmas.{depth_below, depth_zero, half_power}
 use Rattle.nmt_tree.proofs.PairLemmas.{length-pairs, span-pairs}
 
 -- the digest over one leaf
-pub span_one : (ds : List Digest) (depth : ℕ) (o : Digest) → length ds ≡ 1 → length ds ≡ 2 ^ depth → o ≡ record { 0 = [] } → get_or ds 0 o ≡ span ds 0 depth
+pub span_one : (ds : List Digest) (depth : ℕ) (o : Digest) → length ds ≡ 1 → length ds ≡ 2 ^ depth → o ≡ no_digest → get_or ds 0 o ≡ span ds 0 depth
 unfolding span
 span_one ds depth o one power eo =
     ap (λ (x : Digest). get_or ds 0 x) eo ∙ ap (λ (k : ℕ). span ds 0 k) (sym (depth_zero (length ds) depth one power))

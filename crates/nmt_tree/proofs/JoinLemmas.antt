@@ -8,7 +8,7 @@ use Rattle.namespace_id.specs.declared.namespaces.Namespace.{Namespace}
 use Rattle.namespace_id.specs.declared.shares.Share.{Share}
 use Rattle.namespace_id.specs.declared.digests.Digest.{Digest}
 use Rattle.namespace_id.specs.Names.{is_at_most, is_parity, parity, greater_of, AreNamespaces}
-use Rattle.namespace_id.specs.Digests.{least_of, greatest_of}
+use Rattle.namespace_id.specs.Digests.{least_of, greatest_of, no_digest}
 use Rattle.nmt_tree.specs.Digests.{joined_greatest, node_digest, is_ordered_join}
 use Rattle.nmt_tree.specs.Roots.{is_ordered}
 use Rattle.nmt_tree.specs.Levels.{leaf_digests, span, HasOrderedJoins}
@@ -61,7 +61,7 @@ over_node names s e l r h k =
     }
 
 -- the digest of one leaf
-over_leaf : (ns : List Namespace) (ss : List Share) (s : ℕ) → AreNamespaces ns → length ss ≡ length ns → s < length ns → IsOver ns s 0 (get_or (leaf_digests ns ss) s (record { 0 = [] }))
+over_leaf : (ns : List Namespace) (ss : List Share) (s : ℕ) → AreNamespaces ns → length ss ≡ length ns → s < length ns → IsOver ns s 0 (get_or (leaf_digests ns ss) s no_digest)
 unfolding leaf_digests
 over_leaf [] ss s h len lt = absurd (omega arith)
 over_leaf (n ∷ ns) [] s h len lt = absurd (omega arith)
@@ -74,7 +74,7 @@ over_leaf (n ∷ ns) (t ∷ ss) zero h len lt = record {
   greatest = greatest-leaf n t h.0.size_is;
 }
 over_leaf (n ∷ ns) (t ∷ ss) (suc s) h len lt =
-    let o : IsOver ns s 0 (get_or (leaf_digests ns ss) s (record { 0 = [] })) = over_leaf ns ss s h.1 (omega arith) (omega arith) in
+    let o : IsOver ns s 0 (get_or (leaf_digests ns ss) s no_digest) = over_leaf ns ss s h.1 (omega arith) (omega arith) in
     record { size = o.size; least = o.least; place = suc o.place; low = omega (arith, o.low); high = omega (arith, o.high); greatest = o.greatest }
 
 -- the digest over leaves of a list

@@ -6,6 +6,7 @@ use Rattle.std.proofs.lemmas.Nat.{div-add-mod'}
 use Rattle.namespace_id.specs.declared.namespaces.Namespace.{Namespace}
 use Rattle.namespace_id.specs.declared.shares.Share.{Share}
 use Rattle.namespace_id.specs.declared.digests.Digest.{Digest}
+use Rattle.namespace_id.specs.Digests.{no_digest}
 use Rattle.namespace_id.proofs.StringLemmas.{front, behind}
 use Rattle.nmt_tree.specs.Digests.{leaf_digest}
 use Rattle.nmt_tree.specs.Roots.{is_leaf_count, halvings}
@@ -65,7 +66,7 @@ levels_leaves n leaves is len =
 
 -- reading a leaf
 pub read_leaf : (n from : ℕ) (digests leaves : List Digest) (o : Digest) (size : ℕ) → IsTrue (is_leaf_count n) → size ≡ 1 → from < n → length leaves ≡ n
-    → digests ≡ levels (halvings n) leaves → o ≡ record { 0 = [] } → get_or digests from o ≡ span leaves from (halvings size)
+    → digests ≡ levels (halvings n) leaves → o ≡ no_digest → get_or digests from o ≡ span leaves from (halvings size)
 unfolding span
 read_leaf n from digests leaves o size is one within len e eo =
     sym (get_or-take n digests from o within)

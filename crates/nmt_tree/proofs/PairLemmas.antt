@@ -3,6 +3,7 @@ use Rattle.std.proofs.Common.{◌≡◌, ◌∙◌, ℕ, zero, suc, ◌+◌, ◌
 use Rattle.std.proofs.lemmas.List.{take_more, take_more_set, length-take-le, take_all, append_assoc, get_or-drop, drop-set-lt}
 use Rattle.std.proofs.Math.Nat.{pow-suc}
 use Rattle.namespace_id.specs.declared.digests.Digest.{Digest}
+use Rattle.namespace_id.specs.Digests.{no_digest}
 use Rattle.nmt_tree.specs.Digests.{node_digest}
 use Rattle.nmt_tree.specs.Levels.{pairs, span}
 
@@ -90,7 +91,7 @@ get_or-pairs (suc t) (a ∷ b ∷ ds) o h =
 -- the digest over leaves, from the level above them
 pub span-pairs : (e t : ℕ) (ds : List Digest) → 2 * t + 2 ^ suc e ≤ length ds → span (pairs ds) t e ≡ span ds (2 * t) (suc e)
 unfolding span
-span-pairs zero t ds h = get_or-pairs t ds (record { 0 = [] }) (omega arith)
+span-pairs zero t ds h = get_or-pairs t ds no_digest (omega arith)
 span-pairs (suc e) t ds h =
     let p : 2 ^ suc (suc e) ≡ 2 ^ suc e * 2 = pow-suc 2 (suc e) in
     let q : 2 ^ suc e ≡ 2 ^ e * 2 = pow-suc 2 e in

@@ -17,6 +17,7 @@ pub fn is_leaf_count(n: usize) -> bool
 pub fn halvings(n: usize) -> u8
     requires { IsTrue (is_leaf_count n) }
     ensures value { result ≡ halvings n }
+    ensures power { 2 ^ result ≡ n }
     ensures bound { result ≤ 8 }
 {
     match n {

@@ -1,6 +1,6 @@
 //! Trees that keep the digests of all their levels.
 
-ghost use Rattle.std.specs.Prelude.{◌≡◌, ◌≤◌, ◌<◌, ◌+◌, ◌%◌, ◌^◌, ℕ, List, [], length, get_or, IsTrue, true, Some, None, IfOk, IfSome, if◌then◌else◌};
+ghost use Rattle.std.specs.Prelude.{◌≡◌, ◌≤◌, ◌<◌, ◌+◌, ◌%◌, ◌^◌, ℕ, List, [], length, take, drop, get_or, IsTrue, true, Some, None, IfOk, IfSome, if◌then◌else◌};
 ghost use Rattle.namespace_id.specs.Digests.{no_digest};
 ghost use Rattle.namespace_id.specs.Names.{AreNamespaces};
 ghost use Rattle.namespace_id.specs.declared.namespaces.Namespace.{Namespace};
@@ -121,7 +121,8 @@ impl Tree {
 }
 
 /// A digest of a list of leaves is that of the leaf at its place; the root is the digest over all
-/// of them; and where their namespaces never fall, every join over them is ordered.
+/// of them, and the root of some neighbors is the digest over these; and where their namespaces never
+/// fall, every join over them is ordered.
 pub fn tree_laws()
     ensures leaf { (names : List Namespace) (shares : List Share) (pos : ℕ) →
         (name : Namespace) (share : Share) → length names ≡ length shares → pos < length names →
@@ -130,6 +131,10 @@ pub fn tree_laws()
     ensures root { (depth : ℕ) (names : List Namespace) (shares : List Share) →
         length names ≡ 2 ^ depth → length shares ≡ 2 ^ depth →
         root depth names shares ≡ span (leaf_digests names shares) 0 depth }
+    ensures part { (depth start : ℕ) (names : List Namespace) (shares : List Share) →
+        length names ≡ length shares → start + 2 ^ depth ≤ length names →
+        root depth (take (2 ^ depth) (drop start names)) (take (2 ^ depth) (drop start shares))
+        ≡ span (leaf_digests names shares) start depth }
     ensures ordered { (depth : ℕ) (names : List Namespace) (shares : List Share) →
         length names ≡ 2 ^ depth → length shares ≡ 2 ^ depth → AreNamespaces names →
         is_ordered names ≡ true → HasOrderedJoins (leaf_digests names shares) 0 depth }

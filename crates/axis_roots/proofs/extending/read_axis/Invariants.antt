@@ -1,5 +1,6 @@
 use Rattle.std.proofs.Common.{◌≡◌, ℕ, ◌*◌, ◌<◌, get_or}
-use Rattle.axis_roots.specs.Grids.{blank, cell_on, share_at}
+use Rattle.axis_roots.specs.Lines.{blank, cell_on}
+use Rattle.axis_roots.specs.Grids.{share_at}
 use Rattle.axis_roots.proofs.extending.read_axis.Given as goal
 
 -- the shares so far

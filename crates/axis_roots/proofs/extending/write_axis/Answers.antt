@@ -1,5 +1,6 @@
 use Rattle.std.proofs.Common.{◌*◌, sym, arith}
-use Rattle.axis_roots.specs.Grids.{blank, share_at}
+use Rattle.axis_roots.specs.Lines.{blank}
+use Rattle.axis_roots.specs.Grids.{share_at}
 use Rattle.axis_roots.proofs.AxisLemmas.{is_along}
 use Rattle.axis_roots.proofs.WrittenLemmas.{written_next, others_next}
 use Rattle.axis_roots.proofs.extending.write_axis.Goals as goal

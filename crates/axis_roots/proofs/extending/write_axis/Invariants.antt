@@ -2,7 +2,8 @@ use Rattle.std.proofs.Common.{◌≡◌, ◌≢◌, ℕ, ◌*◌, ◌<◌, get_o
 use Rattle.namespace_id.specs.declared.cells.Cell.{Cell}
 use Rattle.namespace_id.specs.Cells.{is_in_square}
 use Rattle.axis_roots.specs.Messages.{index}
-use Rattle.axis_roots.specs.Grids.{blank, cell_on, share_at}
+use Rattle.axis_roots.specs.Lines.{blank, cell_on}
+use Rattle.axis_roots.specs.Grids.{share_at}
 use Rattle.axis_roots.proofs.extending.write_axis.Given as goal
 
 -- the shares so far, and every cell of another axis

@@ -1,5 +1,6 @@
 use Rattle.axis_roots.proofs.ExtensionLemmas.{extension_there, extension_once}
-use Rattle.axis_roots.proofs.HeaderLemmas.{header_once, header_made, header_not_made, header_strict, header_falls}
+use Rattle.axis_roots.proofs.HeaderLemmas.{header_once, header_made, header_not_made, header_strict, header_falls, header_by_strict}
+use Rattle.axis_roots.proofs.LineLemmas.{line_leaves}
 use Rattle.axis_roots.proofs.LaidLemmas.{header_laid}
 use Rattle.axis_roots.proofs.laws.grid_laws.Goals as goal
 
@@ -26,3 +27,9 @@ returns-clause-falling c = header_falls
 
 pub returns-clause-laid : goal.returns-clause-laid
 returns-clause-laid c = header_laid
+
+pub returns-clause-by_strict : goal.returns-clause-by_strict
+returns-clause-by_strict c = header_by_strict
+
+pub returns-clause-line : goal.returns-clause-line
+returns-clause-line c = line_leaves

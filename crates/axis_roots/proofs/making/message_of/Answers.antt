@@ -1,4 +1,4 @@
-use Rattle.std.proofs.Common.{◌∙◌, sym}
+use Rattle.std.proofs.Common.{◌∙◌}
 use Rattle.axis_roots.proofs.MessageLemmas.{opens_made}
 use Rattle.axis_roots.proofs.making.message_of.Goals as goal
 
@@ -7,4 +7,4 @@ returns-clause-opens c =
     opens_made c.args.grid.now.k c.fill_axis.new.tree.count c.index.result c.position.result c.args.grid.now.shares
     (record { cell = c.args.cell; axis = c.args.axis; share = c.cell.result.now; path = c.make_leaf.result }) c.fill_axis.new.tree.leaves
     c.width-k.ensures.grid.width c.requires.cell c.is_message.ensures c.cell.ensures (c.fill_axis.ensures.count ∙ c.requires.tree) c.index.ensures
-    c.position.ensures (sym c.fill_axis.ensures.ordered ∙ c.if-not-fill_axis.false) c.fill_axis.ensures.leaves c.make_leaf.ensures.leaf
+    c.position.ensures (c.fill_axis.ensures.leaves c.if-not-fill_axis.false) c.make_leaf.ensures.leaf

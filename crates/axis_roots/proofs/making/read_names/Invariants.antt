@@ -1,7 +1,8 @@
 use Rattle.std.proofs.Common.{◌≡◌, ℕ, ◌*◌, ◌<◌, get_or}
 use Rattle.namespace_id.specs.Names.{parity}
 use Rattle.namespace_id.specs.Cells.{name_of}
-use Rattle.axis_roots.specs.Grids.{cell_on, share_at}
+use Rattle.axis_roots.specs.Lines.{cell_on}
+use Rattle.axis_roots.specs.Grids.{share_at}
 use Rattle.axis_roots.proofs.making.read_names.Given as goal
 
 -- the namespaces so far

@@ -1,6 +1,7 @@
-use Rattle.std.proofs.Common.{◌≡◌, ◌+◌, ◌*◌, ◌<◌, [], get_or, IsTrue}
+use Rattle.std.proofs.Common.{◌≡◌, ◌+◌, ◌*◌, ◌<◌, get_or, IsTrue}
 use Rattle.namespace_id.specs.declared.cells.Cell.{Cell}
 use Rattle.namespace_id.specs.Cells.{is_in_square}
+use Rattle.namespace_id.specs.Digests.{no_digest}
 use Rattle.axis_roots.specs.Grids.{leaf_over}
 use Rattle.axis_roots.proofs.rooting.fill_leaves.Given as goal
 
@@ -8,4 +9,4 @@ use Rattle.axis_roots.proofs.rooting.fill_leaves.Given as goal
 abbrev pub invariant-loop-number : goal.invariant-loop-number
 invariant-loop-number l =
     (cell : Cell) → IsTrue (is_in_square l.grid.k cell) → cell.row * (2 * l.grid.k) + cell.col < l.number
-    → get_or l.leaves (cell.row * (2 * l.grid.k) + cell.col) (record { 0 = [] }) ≡ leaf_over l.grid.k l.grid.shares cell
+    → get_or l.leaves (cell.row * (2 * l.grid.k) + cell.col) no_digest ≡ leaf_over l.grid.k l.grid.shares cell

@@ -1,6 +1,8 @@
-use Rattle.std.proofs.Common.{◌∙◌, ◌+◌, ◌*◌, ℕ, [], ap, arith}
+use Rattle.std.proofs.Common.{◌∙◌, ◌+◌, ◌*◌, ℕ, ap, sym, arith}
+use Rattle.namespace_id.specs.Digests.{no_digest}
 use Rattle.axis_roots.specs.Grids.{leaf_over}
 use Rattle.axis_roots.proofs.AxisLemmas.{is_along}
+use Rattle.axis_roots.proofs.LineLemmas.{axis_leaves-cells}
 use Rattle.axis_roots.proofs.RootingLemmas.{read_next}
 use Rattle.axis_roots.proofs.rooting.read_leaves.Goals as goal
 
@@ -12,5 +14,6 @@ loop-pos-preserved c =
 
 pub returns : goal.returns
 returns c =
-    is_along c.args.grid.now.k (leaf_over c.args.grid.now.k c.args.grid.now.shares) c.args.axis c.args.index (record { 0 = [] }) c.loop-pos.line
+    is_along c.args.grid.now.k (leaf_over c.args.grid.now.k c.args.grid.now.shares) c.args.axis c.args.index no_digest c.loop-pos.line
     (omega arith) (λ pos h. c.loop-pos.invariant pos (omega arith))
+    ∙ sym (axis_leaves-cells c.args.grid.now.k c.args.grid.now.shares c.args.axis c.args.index)

@@ -7,7 +7,7 @@ use Rattle.data_header.proofs.proving.open_root.Goals as goal
 pub returns : goal.returns
 returns c =
     let count : length c.args.path.now ≡ root_halvings c.args.k =
-    ap length (sym c.hashes.ensures.value) ∙ c.if-hashes-root_halvings.false ∙ c.root_halvings.ensures in
+    ap length (sym c.hashes.ensures.value) ∙ c.if-hashes-root_halvings.false ∙ c.root_halvings.ensures.value in
     let leads : c.led.result ≡ led (root_place c.args.k c.args.axis c.args.index) (leaf_hash c.args.digest.now) c.args.path.now =
     c.led.ensures
     ∙ ap₂ (λ (p : ℕ) (h : List ℕ). led p h c.hashes-2.result.now) c.root_place.ensures c.leaf_hash.ensures

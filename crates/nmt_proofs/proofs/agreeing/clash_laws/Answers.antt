@@ -1,3 +1,5 @@
+use Rattle.std.proofs.Common.{sym}
+use Rattle.nmt_proofs.proofs.HashedLemmas.{first_apart-clash_at}
 use Rattle.nmt_proofs.proofs.AgreeLemmas.{found_is_clash, none_found}
 use Rattle.nmt_proofs.proofs.WholeLemmas.{digest-whole, depth-whole, sized-whole}
 use Rattle.nmt_proofs.proofs.ShownLemmas.{opening-sized, opening-deep}
@@ -37,3 +39,6 @@ returns-clause-whole c = λ d ns ss h. (depth-whole d ns ss, sized-whole d ns ss
 
 pub returns-clause-root : goal.returns-clause-root
 returns-clause-root c = digest-whole
+
+pub returns-clause-hashed : goal.returns-clause-hashed
+returns-clause-hashed c = λ d p q dp dq. sym (first_apart-clash_at d 0 p q dp dq)

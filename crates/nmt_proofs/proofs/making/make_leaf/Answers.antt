@@ -8,8 +8,8 @@ use Rattle.nmt_tree.proofs.CountLemmas.{power_halvings}
 use Rattle.namespace_id.proofs.StringLemmas.{front}
 use Rattle.nmt_proofs.specs.Parts.{given, leaf}
 use Rattle.namespace_id.specs.Digests.{no_digest}
-use Rattle.nmt_proofs.specs.Openings.{outside}
-use Rattle.nmt_proofs.specs.Making.{spans, one_digest, leaf_nodes}
+use Rattle.nmt_proofs.specs.Openings.{outside, one_digest}
+use Rattle.nmt_proofs.specs.Making.{spans, leaf_nodes}
 use Rattle.nmt_proofs.proofs.SingleLemmas.{length-outside-one}
 use Rattle.nmt_proofs.proofs.ShadowLemmas.{outside-parts}
 use Rattle.nmt_proofs.proofs.MadeLemmas.{one_opens}

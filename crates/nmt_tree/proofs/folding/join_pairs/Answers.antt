@@ -1,6 +1,7 @@
-use Rattle.std.proofs.Common.{◌≡◌, ◌∙◌, ◌/◌, ℕ, length, take, [], ap, sym, refl, arith, length-set}
+use Rattle.std.proofs.Common.{◌≡◌, ◌∙◌, ◌/◌, ℕ, length, take, ap, sym, refl, arith, length-set}
 use Rattle.nmt_tree.specs.Levels.{pairs}
 use Rattle.nmt_tree.proofs.PairLemmas.{pairs_more_in_place, left_in_place, pairs-take}
+use Rattle.namespace_id.specs.Digests.{no_digest}
 use Rattle.nmt_tree.proofs.folding.join_pairs.Goals as goal
 
 pub loop-i-init : goal.loop-i-init
@@ -12,7 +13,7 @@ loop-i-preserved c =
     let same = c.loop-i.invariant in
     record {
       count = length-set c.loop-i.digests c.loop-i.i c.node.result ∙ same.count;
-      done = pairs_more_in_place c.args.digests.now c.loop-i.digests c.loop-i.i (record { 0 = [] }) c.node.result same.count (omega arith) c.node.ensures same.done same.left;
+      done = pairs_more_in_place c.args.digests.now c.loop-i.digests c.loop-i.i no_digest c.node.result same.count (omega arith) c.node.ensures same.done same.left;
       left = left_in_place c.args.digests.now c.loop-i.digests c.loop-i.i c.node.result same.left;
     }
 

@@ -1,7 +1,8 @@
-use Rattle.std.proofs.Common.{◌∙◌, ◌*◌, [], ap, sym, refl, arith}
+use Rattle.std.proofs.Common.{◌∙◌, ◌*◌, ap, sym, refl, arith}
 use Rattle.std.proofs.lemmas.List.{take_all}
 use Rattle.nmt_tree.specs.Levels.{pairs}
 use Rattle.nmt_tree.proofs.PairLemmas.{pairs_more}
+use Rattle.namespace_id.specs.Digests.{no_digest}
 use Rattle.nmt_tree.proofs.levels.put_pairs.Goals as goal
 
 pub loop-i-init : goal.loop-i-init
@@ -10,7 +11,7 @@ loop-i-init c = refl
 
 pub loop-i-preserved : goal.loop-i-preserved
 loop-i-preserved c =
-    pairs_more c.args.level.now c.loop-i.above c.loop-i.i (record { 0 = [] }) c.node.result (omega arith) (omega arith) c.node.ensures c.loop-i.invariant
+    pairs_more c.args.level.now c.loop-i.above c.loop-i.i no_digest c.node.result (omega arith) (omega arith) c.node.ensures c.loop-i.invariant
 
 pub returns : goal.returns
 returns c =
