@@ -8,6 +8,8 @@ pub mod CompactShareLemmas
 pub mod LaterCompactLemmas
 pub mod VarintLawLemmas
 pub mod UnitLawLemmas
+pub mod BlobLawLemmas
+pub mod ReservedLawLemmas
 pub mod FillLemmas
 pub mod CutLemmas
 pub mod FieldLemmas
