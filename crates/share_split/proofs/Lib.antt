@@ -1,4 +1,5 @@
 pub mod WidthLemmas
+pub mod WidthLawLemmas
 pub mod ShareLemmas
 pub mod LaterLemmas
 pub mod VarintLemmas

@@ -29,4 +29,4 @@ pub use laws::{blob_laws, size_laws};
 pub use units::{
     FIRST_COMPACT_CONTENT, LATER_COMPACT_CONTENT, Unit, unit_laws, unit_share_count, unit_shares,
 };
-pub use widths::{SUBTREE_ROOT_THRESHOLD, subtree_width};
+pub use widths::{SUBTREE_ROOT_THRESHOLD, subtree_width, width_laws};

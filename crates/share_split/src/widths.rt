@@ -2,7 +2,7 @@
 
 ghost use Rattle.std.specs.Prelude.{◌≡◌, ◌≤◌, ◌<◌, ◌^◌, ◌/◌, IsTrue, false};
 ghost use Rattle.std.specs.Int.{IsPowerOfTwo};
-ghost use Rattle.share_split.specs.Widths.{is_wide_enough, width_of};
+ghost use Rattle.share_split.specs.Widths.{is_wide_enough, width_of, WidthIsLesser};
 
 /// So many subtrees of one width hold a blob, unless they would have to be wider than the least
 /// square that holds it.
@@ -36,6 +36,11 @@ pub fn subtree_width(count: u64) -> u64
     }
     width
 }
+
+/// The width of subtrees is the one of the standard's formula.
+pub fn width_laws()
+    ensures formula { WidthIsLesser }
+{}
 
 #[cfg(test)]
 mod tests {
