@@ -1,9 +1,9 @@
 -- What the reserved bytes of compact shares state.
-use Rattle.std.proofs.Common.{◌≡◌, ◌∙◌, ℕ, suc, ◌+◌, ◌-◌, ◌<◌, ◌≤◌, ◌==◌, ◌&&◌, ◌||◌, nat_le, nat_lt, Bool, true, false, List, [], ◌∷◌, length, sym, ap, refl, inl, inr, arith}
+use Rattle.std.proofs.Common.{◌≡◌, ◌∙◌, ℕ, suc, ◌+◌, ◌-◌, ◌<◌, ◌≤◌, ◌==◌, ◌||◌, Bool, true, false, List, [], ◌∷◌, length, sym, ap, refl, inl, inr, arith}
 use Rattle.std.specs.List.{list_any, AllByRecursion}
 use Rattle.std.proofs.lemmas.Bool.{cases_lt, cases_Bool, true≢false}
 use Rattle.std.proofs.lemmas.Bool.Decides.{nat_tests}
-use Rattle.share_split.specs.Units.{unit_text, starts_from, starts_on, content_start, content_place, place_in, first_place, reserved_of}
+use Rattle.share_split.specs.Units.{unit_text, starts_from, content_start, content_place, place_in, first_place, reserved_of}
 use Rattle.share_split.specs.UnitLaws.{is_inside, IsFirstInside}
 use Rattle.share_split.proofs.StartLemmas.{starts_on-before, starts_on-at, starts_on-none}
 use Rattle.share_split.proofs.PlaceLemmas.{place_in-within, place_in-behind}
