@@ -69,7 +69,8 @@ pub record IsFirstInside (i : ℕ) (starts : List ℕ) (start : ℕ) : Type 0 wh
 
 -- the reserved bytes of a share state the place in it of the first unit that starts in its content
 abbrev pub ReservedIsFirst : Type 0
-ReservedIsFirst = (i at start : ℕ) (units : List (List ℕ)) → IsFirstInside i (starts_from at units) start
+ReservedIsFirst = (i at start : ℕ) (units : List (List ℕ))
+    → IsFirstInside i (starts_from at units) start
     → reserved_of i (starts_from at units) ≡ content_place i + (start - content_start i)
 
 -- and 0 where no unit starts in it

@@ -40,8 +40,10 @@ pub fn start_laws()
         ≡ blob_shares_of blob.namespace blob.bytes }
 
     // The compact shares stand in front, and padding everywhere else.
-    ensures front { (block : BlockParts) → take (compact_end block) (laid block) ≡ compact_part block }
-    ensures gap { (block : BlockParts) (before after : List NamedBytes) (blob : NamedBytes) (i : ℕ) →
+    ensures front { (block : BlockParts) →
+        take (compact_end block) (laid block) ≡ compact_part block }
+    ensures gap { (block : BlockParts) (before after : List NamedBytes) (blob : NamedBytes)
+        (i : ℕ) →
         in_order block.blobs ≡ before ++ blob ∷ after →
         end_of (compact_end block) before ≤ i →
         i < start_after (end_of (compact_end block) before) blob →
