@@ -5,10 +5,10 @@ use Rattle.std.proofs.lemmas.Bool.{cases_lt, cases_Bool}
 use Rattle.std.proofs.lemmas.Bool.Decides.{nat_tests}
 use Rattle.std.proofs.lemmas.Grind.{div_ceil_times}
 use Rattle.std.proofs.lemmas.Nat.{mul-le}
-use Rattle.std.proofs.Math.Nat.{pow-suc, one-le-pow}
+use Rattle.std.proofs.Math.Nat.{pow-suc, one-le-pow, mul-suc}
 use Rattle.std.proofs.Math.Pow.{pow_mono}
 use Rattle.share_split.specs.Widths.{is_wide_enough, width_from, width_of, IsLeastPower, IsLeastRoot}
-use Rattle.share_split.proofs.WidthLemmas.{width_from-suc, width_from-found}
+use Rattle.share_split.proofs.WidthLemmas.{power-double, width_from-suc, width_from-found}
 
 doubled : (width j : ℕ) → width * 2 ^ suc j ≡ width * 2 * 2 ^ j
 doubled width j =
@@ -115,4 +115,66 @@ width_is_lesser count root by_threshold by_square h threshold least square =
           let square_holds : count ≤ w * w = enough_square count w more (width_of-enough count h) in
           let at : by_square ≤ w = square.none_below w (width_of-power count) (least.none_below w square_holds) in
           omega (arith, at, below_threshold, below_square)
+    ]
+
+-- ---- there are such powers and roots
+
+-- the next power of two is twice as great
+power_above : (j k : ℕ) → 2 ^ j < 2 ^ k → 2 ^ j * 2 ≤ 2 ^ k
+power_above j k lt = elim (cases_lt j k) [
+  | inl below ↦
+      let next : suc j ≤ k = omega (arith, below) in
+      let greater : 2 ^ suc j ≤ 2 ^ k = pow_mono next in omega (arith, greater, pow-suc 2 j)
+  | inr above ↦ (let greater : 2 ^ k ≤ 2 ^ j = pow_mono above in absurd (omega (arith, greater, lt)))
+]
+
+pub least_power : (n : ℕ) → (least : ℕ) × IsLeastPower n least
+least_power zero =
+    (1, record { is_power = (0, refl); holds = omega arith; none_below = λ other p h. omega (arith, p.1, one-le-pow p.0 2 (omega arith)) })
+least_power (suc n) =
+    let before : (least : ℕ) × IsLeastPower n least = least_power n in
+    let j : ℕ = before.1.is_power.0 in
+    let is : before.0 ≡ 2 ^ j = before.1.is_power.1 in
+    let some : 1 ≤ 2 ^ j = one-le-pow j 2 (omega arith) in
+    elim (cases_lt n before.0) [
+      | inl lt ↦ (
+        before.0,
+        record {
+          is_power = before.1.is_power;
+          holds = omega (arith, lt);
+          none_below = λ other p h. before.1.none_below other p (omega (arith, h));
+        },
+      )
+      | inr le ↦ (
+        before.0 * 2,
+        record {
+          is_power = power-double before.0 before.1.is_power;
+          holds = omega (arith, before.1.holds, is, some);
+          none_below = λ other p h. (let more = power_above j p.0 (omega (arith, h, le, is, p.1)) in omega (arith, more, is, p.1));
+        },
+      )
+    ]
+
+-- a greater square has a greater root
+next_root : (root other n : ℕ) → root * root ≤ n → suc n ≤ other * other → suc root ≤ other
+next_root root other n le h = elim (cases_lt root other) [
+  | inl below ↦ omega (arith, below)
+  | inr above ↦ (let square = mul-le other other root root above above in absurd (omega (arith, square, le, h)))
+]
+
+pub least_root : (n : ℕ) → (least : ℕ) × IsLeastRoot n least
+least_root zero = (0, record { holds = omega arith; none_below = λ other h. omega arith })
+least_root (suc n) =
+    let before : (least : ℕ) × IsLeastRoot n least = least_root n in
+    let root : ℕ = before.0 in
+    elim (cases_lt n (root * root)) [
+      | inl lt ↦ (root, record { holds = omega (arith, lt); none_below = λ other h. before.1.none_below other (omega (arith, h)) })
+      | inr le ↦ (
+        suc root,
+        record {
+          holds = (let grows : root * root ≤ suc root * root = mul-le root root (suc root) root (omega arith) (omega arith) in
+              omega (arith, grows, mul-suc (suc root) root, before.1.holds));
+          none_below = λ other h. next_root root other n le h;
+        },
+      )
     ]
