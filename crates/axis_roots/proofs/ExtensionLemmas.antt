@@ -9,8 +9,7 @@ use Rattle.namespace_id.specs.declared.shares.Share.{Share}
 use Rattle.namespace_id.specs.Shares.{IsShare, AreShares}
 use Rattle.namespace_id.specs.Cells.{is_width}
 use Rattle.namespace_id.specs.Lists.{ascending}
-use Rattle.leopard_code.specs.Codewords.{column, IsCodeword, HasEntries}
-use Rattle.leopard_code.specs.Weights.{weighted}
+use Rattle.leopard_code.specs.Codewords.{column, IsCodeword, HasEntries, weighted}
 use Rattle.leopard_code.proofs.PointLemmas.{length-ascending, length-column}
 use Rattle.leopard_code.proofs.EntryLemmas.{get_or-column_at, byte_of_entry, same_shares}
 use Rattle.leopard_code.proofs.LawLemmas.{generated}

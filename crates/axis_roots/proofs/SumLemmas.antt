@@ -5,8 +5,7 @@ use Rattle.std.specs.Int.Bits.{xor_zero_r}
 use Rattle.std.proofs.lemmas.List.{get_or-map}
 use Rattle.namespace_id.specs.declared.shares.Share.{Share}
 use Rattle.namespace_id.specs.Shares.{IsShare}
-use Rattle.leopard_code.specs.Codewords.{IsCodeword, bytes_sum, share_sum, shares_sum, share_multiple, shares_multiple}
-use Rattle.leopard_code.specs.Weights.{weighted}
+use Rattle.leopard_code.specs.Codewords.{IsCodeword, bytes_sum, share_sum, shares_sum, share_multiple, shares_multiple, weighted}
 use Rattle.leopard_code.proofs.LinearLemmas.{codeword-sum, codeword-multiple}
 use Rattle.axis_roots.specs.Lines.{blank}
 use Rattle.axis_roots.proofs.WordLemmas.{share_in}

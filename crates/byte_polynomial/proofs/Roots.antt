@@ -5,8 +5,8 @@ use Rattle.std.specs.Int.Bits.{xor_self, xor_zero_r}
 use Rattle.std.proofs.lemmas.Nat.{xor_comm, xor_lt}
 use Rattle.gf_cantor.specs.Field.{product}
 use Rattle.gf_cantor.proofs.Laws.{product-xor, xor-product, product-zero, zero_factor}
-use Rattle.byte_polynomial.specs.Polynomial.{value_at, AreBytes, Avoids, ArePoints, Takes}
-use Rattle.byte_polynomial.proofs.Sums.{sum, scaled, value_at-sum, value_at-scaled, length-sum, length-scaled, AreBytes-sum, AreBytes-scaled, value_at-lt, xor_cancel, xor_zero-same, product_swap}
+use Rattle.byte_polynomial.specs.Polynomial.{value_at, AreCoefficients, Avoids, ArePoints, Takes}
+use Rattle.byte_polynomial.proofs.Sums.{sum, scaled, value_at-sum, value_at-scaled, length-sum, length-scaled, AreCoefficients-sum, AreCoefficients-scaled, value_at-lt, xor_cancel, xor_zero-same, product_swap}
 
 -- the quotient by x - r
 unfoldable pub quotient : ℕ → List ℕ → List ℕ
@@ -19,9 +19,9 @@ length-quotient r c [] = omega (arith, length-sum [] (scaled r []), length-scale
 length-quotient r c (d ∷ cs) =
     omega (arith, length-sum (d ∷ cs) (scaled r (quotient r (d ∷ cs))), length-scaled r (quotient r (d ∷ cs)), length-quotient r d cs)
 
-AreBytes-quotient : (r c : ℕ) (cs : List ℕ) → AreBytes cs → AreBytes (quotient r (c ∷ cs))
+AreCoefficients-quotient : (r c : ℕ) (cs : List ℕ) → AreCoefficients cs → AreCoefficients (quotient r (c ∷ cs))
 unfolding quotient
-AreBytes-quotient r c cs h = AreBytes-sum cs (scaled r (quotient r cs)) h (AreBytes-scaled r (quotient r cs))
+AreCoefficients-quotient r c cs h = AreCoefficients-sum cs (scaled r (quotient r cs)) h (AreCoefficients-scaled r (quotient r cs))
 
 -- (x + r) (p + r q) is x p + r s, where (x + r) q is p + s
 factor_step : (x r p s q : ℕ) → bit_xor p s ≡ product (bit_xor x r) q → product (bit_xor x r) (bit_xor p (product r q)) ≡ bit_xor (product x p) (product r s)
@@ -50,26 +50,26 @@ AreRoots cs (r ∷ rs) = (value_at cs r ≡ 0) × AreRoots cs rs
 at_root : (cs : List ℕ) (r x : ℕ) → value_at cs r ≡ 0 → value_at cs x ≡ product (bit_xor x r) (value_at (quotient r cs) x)
 at_root cs r x e = sym (xor_zero_r (value_at cs x)) ∙ ap (bit_xor (value_at cs x)) (sym e) ∙ factor cs r x
 
-quotient_roots : (c : ℕ) (cs : List ℕ) (r : ℕ) (rs : List ℕ) → AreBytes (c ∷ cs) → r < 256 → value_at (c ∷ cs) r ≡ 0 → Avoids r rs → ArePoints rs → AreRoots (c ∷ cs) rs
+quotient_roots : (c : ℕ) (cs : List ℕ) (r : ℕ) (rs : List ℕ) → AreCoefficients (c ∷ cs) → r < 256 → value_at (c ∷ cs) r ≡ 0 → Avoids r rs → ArePoints rs → AreRoots (c ∷ cs) rs
     → AreRoots (quotient r (c ∷ cs)) rs
-unfolding AreRoots Avoids ArePoints AreBytes
+unfolding AreRoots Avoids ArePoints AreCoefficients
 quotient_roots c cs r [] bytes hr e away points roots = tt
 quotient_roots c cs r (s ∷ rs) bytes hr e away points roots =
     let none : product (bit_xor s r) (value_at (quotient r (c ∷ cs)) s) ≡ 0 = sym (at_root (c ∷ cs) r s e) ∙ roots.0 in
     let apart : bit_xor s r ≢ 0 = λ same. away.0 (sym (xor_zero-same s r same)) in (
       zero_factor (bit_xor s r) (value_at (quotient r (c ∷ cs)) s) (omega arith) (xor_lt 8 s r points.0 hr)
-          (value_at-lt (quotient r (c ∷ cs)) s (AreBytes-quotient r c cs bytes.1)) none,
+          (value_at-lt (quotient r (c ∷ cs)) s (AreCoefficients-quotient r c cs bytes.1)) none,
       quotient_roots c cs r rs bytes hr e away.1 points.2 roots.1,
     )
 
-pub zero_everywhere : (cs rs : List ℕ) → length cs ≤ length rs → AreBytes cs → ArePoints rs → AreRoots cs rs → (x : ℕ) → value_at cs x ≡ 0
-unfolding value_at AreRoots ArePoints AreBytes
+pub zero_everywhere : (cs rs : List ℕ) → length cs ≤ length rs → AreCoefficients cs → ArePoints rs → AreRoots cs rs → (x : ℕ) → value_at cs x ≡ 0
+unfolding value_at AreRoots ArePoints AreCoefficients
 zero_everywhere [] rs few bytes points roots x = refl
 zero_everywhere (c ∷ cs) [] few bytes points roots x = absurd (omega arith)
 zero_everywhere (c ∷ cs) (r ∷ rs) few bytes points roots x =
     at_root (c ∷ cs) r x roots.0
     ∙ ap (product (bit_xor x r))
-    (zero_everywhere (quotient r (c ∷ cs)) rs (omega (arith, length-quotient r c cs)) (AreBytes-quotient r c cs bytes.1) points.2
+    (zero_everywhere (quotient r (c ∷ cs)) rs (omega (arith, length-quotient r c cs)) (AreCoefficients-quotient r c cs bytes.1) points.2
     (quotient_roots c cs r rs bytes points.0 roots.0 points.1 points.2 roots.1) x)
     ∙ product-zero (bit_xor x r)
 
@@ -82,9 +82,9 @@ sum_roots ps qs (x ∷ xs) (y ∷ ys) hp hq =
     (value_at-sum ps qs x ∙ ap₂ bit_xor hp.0 hq.0 ∙ xor_self y, sum_roots ps qs xs ys hp.1 hq.1)
 
 -- two polynomials of at most n coefficients that take the same values at n points are alike everywhere
-pub one_polynomial : (ps qs xs ys : List ℕ) → length ps ≤ length xs → length qs ≤ length xs → AreBytes ps → AreBytes qs → ArePoints xs
+pub one_polynomial : (ps qs xs ys : List ℕ) → length ps ≤ length xs → length qs ≤ length xs → AreCoefficients ps → AreCoefficients qs → ArePoints xs
     → Takes ps xs ys → Takes qs xs ys → (x : ℕ) → value_at ps x ≡ value_at qs x
 one_polynomial ps qs xs ys hp hq bp bq points tp tq x =
     xor_zero-same (value_at ps x) (value_at qs x)
     (sym (value_at-sum ps qs x)
-    ∙ zero_everywhere (sum ps qs) xs (omega (arith, length-sum ps qs)) (AreBytes-sum ps qs bp bq) points (sum_roots ps qs xs ys tp tq) x)
+    ∙ zero_everywhere (sum ps qs) xs (omega (arith, length-sum ps qs)) (AreCoefficients-sum ps qs bp bq) points (sum_roots ps qs xs ys tp tq) x)

@@ -6,7 +6,7 @@ use Rattle.std.proofs.lemmas.Nat.{xor_comm, xor_lt}
 use Rattle.gf_cantor.specs.Field.{product}
 use Rattle.gf_cantor.proofs.Additive.{xor_swap_middle}
 use Rattle.gf_cantor.proofs.Laws.{product-lt, product_comm, product_assoc, product-xor, product-zero}
-use Rattle.byte_polynomial.specs.Polynomial.{value_at, AreBytes}
+use Rattle.byte_polynomial.specs.Polynomial.{value_at, AreCoefficients}
 
 -- a pair that is there twice falls out
 pub xor_cancel : (a b c : ℕ) → bit_xor (bit_xor a b) (bit_xor a c) ≡ bit_xor b c
@@ -59,18 +59,18 @@ length-sum [] qs = omega arith
 length-sum (p ∷ ps) [] = omega arith
 length-sum (p ∷ ps) (q ∷ qs) = omega (arith, length-sum ps qs)
 
-pub AreBytes-sum : (ps qs : List ℕ) → AreBytes ps → AreBytes qs → AreBytes (sum ps qs)
-unfolding sum AreBytes
-AreBytes-sum [] qs hp hq = hq
-AreBytes-sum (p ∷ ps) [] hp hq = hp
-AreBytes-sum (p ∷ ps) (q ∷ qs) hp hq = (xor_lt 8 p q hp.0 hq.0, AreBytes-sum ps qs hp.1 hq.1)
+pub AreCoefficients-sum : (ps qs : List ℕ) → AreCoefficients ps → AreCoefficients qs → AreCoefficients (sum ps qs)
+unfolding sum AreCoefficients
+AreCoefficients-sum [] qs hp hq = hq
+AreCoefficients-sum (p ∷ ps) [] hp hq = hp
+AreCoefficients-sum (p ∷ ps) (q ∷ qs) hp hq = (xor_lt 8 p q hp.0 hq.0, AreCoefficients-sum ps qs hp.1 hq.1)
 
-pub AreBytes-scaled : (c : ℕ) (ps : List ℕ) → AreBytes (scaled c ps)
-unfolding scaled AreBytes
-AreBytes-scaled c [] = tt
-AreBytes-scaled c (p ∷ ps) = (product-lt c p, AreBytes-scaled c ps)
+pub AreCoefficients-scaled : (c : ℕ) (ps : List ℕ) → AreCoefficients (scaled c ps)
+unfolding scaled AreCoefficients
+AreCoefficients-scaled c [] = tt
+AreCoefficients-scaled c (p ∷ ps) = (product-lt c p, AreCoefficients-scaled c ps)
 
-pub value_at-lt : (ps : List ℕ) (x : ℕ) → AreBytes ps → value_at ps x < 256
-unfolding value_at AreBytes
+pub value_at-lt : (ps : List ℕ) (x : ℕ) → AreCoefficients ps → value_at ps x < 256
+unfolding value_at AreCoefficients
 value_at-lt [] x h = omega arith
 value_at-lt (p ∷ ps) x h = xor_lt 8 p (product x (value_at ps x)) h.0 (product-lt x (value_at ps x))

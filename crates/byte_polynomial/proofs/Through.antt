@@ -5,8 +5,8 @@ use Rattle.std.specs.Int.Bits.{xor_self, xor_zero_r}
 use Rattle.std.proofs.lemmas.Nat.{xor_lt}
 use Rattle.gf_cantor.specs.Field.{product}
 use Rattle.gf_cantor.proofs.Laws.{product_comm, product_assoc, xor-product, product-zero, zero-product, one-product, has_inverse, zero_factor}
-use Rattle.byte_polynomial.specs.Polynomial.{value_at, AreBytes, Avoids, ArePoints, Takes}
-use Rattle.byte_polynomial.proofs.Sums.{sum, scaled, value_at-sum, value_at-scaled, length-sum, length-scaled, AreBytes-sum, AreBytes-scaled, value_at-lt, xor_back, xor_zero-same}
+use Rattle.byte_polynomial.specs.Polynomial.{value_at, AreCoefficients, Avoids, ArePoints, Takes}
+use Rattle.byte_polynomial.proofs.Sums.{sum, scaled, value_at-sum, value_at-scaled, length-sum, length-scaled, AreCoefficients-sum, AreCoefficients-scaled, value_at-lt, xor_back, xor_zero-same}
 
 -- the product of x - r over the points
 unfoldable pub vanishing : List ℕ → List ℕ
@@ -19,11 +19,11 @@ length-vanishing [] = refl
 length-vanishing (r ∷ rs) =
     omega (arith, length-sum (0 ∷ vanishing rs) (scaled r (vanishing rs)), length-scaled r (vanishing rs), length-vanishing rs)
 
-pub AreBytes-vanishing : (rs : List ℕ) → AreBytes (vanishing rs)
-unfolding vanishing AreBytes
-AreBytes-vanishing [] = (omega arith, tt)
-AreBytes-vanishing (r ∷ rs) =
-    AreBytes-sum (0 ∷ vanishing rs) (scaled r (vanishing rs)) (omega arith, AreBytes-vanishing rs) (AreBytes-scaled r (vanishing rs))
+pub AreCoefficients-vanishing : (rs : List ℕ) → AreCoefficients (vanishing rs)
+unfolding vanishing AreCoefficients
+AreCoefficients-vanishing [] = (omega arith, tt)
+AreCoefficients-vanishing (r ∷ rs) =
+    AreCoefficients-sum (0 ∷ vanishing rs) (scaled r (vanishing rs)) (omega arith, AreCoefficients-vanishing rs) (AreCoefficients-scaled r (vanishing rs))
 
 pub value_at-vanishing : (r : ℕ) (rs : List ℕ) (x : ℕ) → value_at (vanishing (r ∷ rs)) x ≡ product (bit_xor x r) (value_at (vanishing rs) x)
 unfolding vanishing value_at
@@ -44,7 +44,7 @@ vanishing_elsewhere (r ∷ rs) x hx points away e =
     vanishing_elsewhere rs x hx points.2 away.1
     (zero_factor (bit_xor x r) (value_at (vanishing rs) x)
     (let apart : bit_xor x r ≢ 0 = λ same. away.0 (xor_zero-same x r same) in omega arith)
-    (xor_lt 8 x r hx points.0) (value_at-lt (vanishing rs) x (AreBytes-vanishing rs))
+    (xor_lt 8 x r hx points.0) (value_at-lt (vanishing rs) x (AreCoefficients-vanishing rs))
     (sym (value_at-vanishing r rs x) ∙ e))
 
 -- adding a multiple of a polynomial that is 0 at the points keeps the values there
@@ -86,8 +86,8 @@ mended y v d u hy hv e =
     ∙ product_comm (bit_xor y v) 1 ∙ one-product (bit_xor y v) (xor_lt 8 y v hy hv))
     ∙ xor_back v y
 
-pub through : (xs ys : List ℕ) → length xs ≡ length ys → ArePoints xs → AreBytes ys → (cs : List ℕ) × (length cs ≡ length xs) × AreBytes cs × Takes cs xs ys
-unfolding ArePoints AreBytes Takes
+pub through : (xs ys : List ℕ) → length xs ≡ length ys → ArePoints xs → AreCoefficients ys → (cs : List ℕ) × (length cs ≡ length xs) × AreCoefficients cs × Takes cs xs ys
+unfolding ArePoints AreCoefficients Takes
 through [] [] same points bytes = ([], refl, tt, tt)
 through [] (y ∷ ys) same points bytes = absurd (omega arith)
 through (x ∷ xs) [] same points bytes = absurd (omega arith)
@@ -97,11 +97,11 @@ through (x ∷ xs) (y ∷ ys) same points bytes =
     let ns : List ℕ = vanishing xs in
     let d : ℕ = value_at ns x in
     let apart : d ≢ 0 = vanishing_elsewhere xs x points.0 points.2 points.1 in
-    let u = has_inverse d (omega arith) (value_at-lt ns x (AreBytes-vanishing xs)) in
+    let u = has_inverse d (omega arith) (value_at-lt ns x (AreCoefficients-vanishing xs)) in
     let c : ℕ = product (bit_xor y (value_at cs x)) u.0 in (
       sum cs (scaled c ns),
       omega (arith, length-sum cs (scaled c ns), length-scaled c ns, length-vanishing xs, rest.1),
-      AreBytes-sum cs (scaled c ns) rest.2 (AreBytes-scaled c ns),
+      AreCoefficients-sum cs (scaled c ns) rest.2 (AreCoefficients-scaled c ns),
       (
         value_at-sum cs (scaled c ns) x ∙ ap (bit_xor (value_at cs x)) (value_at-scaled c ns x)
             ∙ mended y (value_at cs x) d u.0 bytes.0 (value_at-lt cs x rest.2) u.2,

@@ -4,11 +4,11 @@ use Rattle.std.specs.Prelude.{IfSome, slice_get, slice_index}
 use Rattle.std.proofs.lemmas.Option.{IfSome_then}
 use Rattle.namespace_id.specs.declared.shares.Share.{Share}
 use Rattle.namespace_id.specs.Shares.{AreShares}
-use Rattle.byte_polynomial.specs.Polynomial.{value_at, AreBytes, ArePoints, Takes}
+use Rattle.byte_polynomial.specs.Polynomial.{value_at, AreCoefficients, ArePoints, Takes}
 use Rattle.byte_polynomial.proofs.Through.{through}
 use Rattle.namespace_id.specs.Lists.{ascending}
-use Rattle.leopard_code.specs.Codewords.{points, column, IsCodeword}
-use Rattle.leopard_code.specs.Weights.{weighted, AreWeights, IsTable}
+use Rattle.leopard_code.specs.Codewords.{points, column, IsCodeword, weighted}
+use Rattle.leopard_code.specs.Weights.{AreWeights, IsTable}
 use Rattle.namespace_id.specs.Cells.{is_width}
 use Rattle.leopard_code.proofs.LagrangeLemmas.{lagrange}
 use Rattle.leopard_code.proofs.PointLemmas.{length-ascending, points-ascending, length-column, column-append, column_bytes, AreShares-append, takes-append, takes-ascending, width-le}
@@ -38,7 +38,7 @@ codeword_of k table originals recovery fits long_o long_r shares_o shares_r sums
       let narrow : k ≤ 128 = width-le k fits.width in
       let as_many : length (ascending k k) ≡ length ys = length-ascending k k ∙ sym long_o ∙ sym (length-column b originals) in
       let apart : ArePoints (ascending k k) = points-ascending k k (omega arith) in
-      let values : AreBytes ys = column_bytes b originals shares_o in
+      let values : AreCoefficients ys = column_bytes b originals shares_o in
       let found = through (ascending k k) ys as_many apart values in
       let behind : (j : ℕ) → j < k → IfSome (slice_get recovery j) (λ share. slice_index share.0 b ≡ value_at found.0 (0 + j)) =
       λ j l. IfSome_then (slice_get recovery j) (sums j b (omega arith) h) (λ share e.

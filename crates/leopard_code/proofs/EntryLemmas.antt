@@ -12,8 +12,8 @@ use Rattle.namespace_id.specs.Cells.{is_width}
 use Rattle.byte_polynomial.specs.Polynomial.{value_at, ArePoints, Takes}
 use Rattle.byte_polynomial.proofs.Through.{through}
 use Rattle.namespace_id.specs.Lists.{ascending}
-use Rattle.leopard_code.specs.Codewords.{column, points, point, points_at, are_positions, IsCodeword, HasEntries}
-use Rattle.leopard_code.specs.Weights.{weighted, AreWeights, IsEntry}
+use Rattle.leopard_code.specs.Codewords.{column, points, point, points_at, are_positions, IsCodeword, HasEntries, weighted}
+use Rattle.leopard_code.specs.Weights.{AreWeights, IsEntry}
 use Rattle.leopard_code.proofs.LagrangeLemmas.{lagrange}
 use Rattle.leopard_code.proofs.PointLemmas.{length-ascending, get_or-ascending, length-column, column_bytes, width-le}
 use Rattle.leopard_code.proofs.PositionLemmas.{points_differ, position-lt, takes-at, takes_each}

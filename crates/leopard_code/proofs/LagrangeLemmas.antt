@@ -4,11 +4,12 @@ use Rattle.std.specs.Prelude.{bit_xor}
 use Rattle.std.proofs.lemmas.Nat.{xor_comm}
 use Rattle.gf_cantor.specs.Field.{product}
 use Rattle.gf_cantor.proofs.Laws.{product-lt, product_comm, product_assoc, product-zero, one-product, has_inverse}
-use Rattle.byte_polynomial.specs.Polynomial.{value_at, AreBytes, Avoids, ArePoints, Takes}
-use Rattle.byte_polynomial.proofs.Sums.{sum, scaled, value_at-sum, value_at-scaled, length-sum, length-scaled, AreBytes-sum, AreBytes-scaled, value_at-lt}
-use Rattle.byte_polynomial.proofs.Through.{vanishing, length-vanishing, AreBytes-vanishing, value_at-vanishing, value_at-vanishing_none, vanishing_elsewhere, VanishesAt, vanishes, takes_still}
+use Rattle.byte_polynomial.specs.Polynomial.{value_at, AreCoefficients, Avoids, ArePoints, Takes}
+use Rattle.byte_polynomial.proofs.Sums.{sum, scaled, value_at-sum, value_at-scaled, length-sum, length-scaled, AreCoefficients-sum, AreCoefficients-scaled, value_at-lt}
+use Rattle.byte_polynomial.proofs.Through.{vanishing, length-vanishing, AreCoefficients-vanishing, value_at-vanishing, value_at-vanishing_none, vanishing_elsewhere, VanishesAt, vanishes, takes_still}
 use Rattle.byte_polynomial.proofs.Roots.{one_polynomial}
-use Rattle.leopard_code.specs.Weights.{weighted, away, AreWeights}
+use Rattle.leopard_code.specs.Codewords.{weighted}
+use Rattle.leopard_code.specs.Weights.{away, AreWeights}
 
 pub away-is : (rs : List ℕ) (x : ℕ) → value_at (vanishing rs) x ≡ away rs x
 unfolding away
@@ -79,10 +80,10 @@ more_left before p ps y ys c cs x (w ∷ ws) h rest first =
     ∙ sym (value_at-sum cs (scaled c (vanishing (before ++ ps))) x)
 
 -- a polynomial through the points that is 0 at those before, whose values the weights give
-lagrange_from : (before xs ys : List ℕ) → length xs ≡ length ys → ArePoints (before ++ xs) → AreBytes ys
-    → (cs : List ℕ) × (length cs ≤ length before + length xs) × AreBytes cs × VanishesAt cs before × Takes cs xs ys
+lagrange_from : (before xs ys : List ℕ) → length xs ≡ length ys → ArePoints (before ++ xs) → AreCoefficients ys
+    → (cs : List ℕ) × (length cs ≤ length before + length xs) × AreCoefficients cs × VanishesAt cs before × Takes cs xs ys
     × ((x : ℕ) (ws : List ℕ) → AreWeights before xs x ws → weighted ws ys ≡ value_at cs x)
-unfolding AreBytes Takes AreWeights weighted value_at VanishesAt
+unfolding AreCoefficients Takes AreWeights weighted value_at VanishesAt
 lagrange_from before [] [] same points bytes = ([], omega arith, tt, zero_vanishes before, tt, λ x ws h. none_left before x ws h)
 lagrange_from before [] (y ∷ ys) same points bytes = absurd (omega arith)
 lagrange_from before (p ∷ ps) [] same points bytes = absurd (omega arith)
@@ -93,13 +94,13 @@ lagrange_from before (p ∷ ps) (y ∷ ys) same points bytes =
     let ns : List ℕ = vanishing (before ++ ps) in
     let d : ℕ = value_at ns p in
     let apart : d ≢ 0 = vanishing_elsewhere (before ++ ps) p middle.0 middle.2 middle.1 in
-    let u = has_inverse d (omega arith) (value_at-lt ns p (AreBytes-vanishing (before ++ ps))) in
+    let u = has_inverse d (omega arith) (value_at-lt ns p (AreCoefficients-vanishing (before ++ ps))) in
     let c : ℕ = product y u.0 in
     let there = vanishes-append ns before ps (vanishes (before ++ ps)) in
     let there_rest = vanishes-append rest.0 before (p ∷ []) rest.3 in (
       sum rest.0 (scaled c ns),
       omega (arith, length-sum rest.0 (scaled c ns), length-scaled c ns, length-vanishing (before ++ ps), length-append before ps, length-append before (p ∷ []), rest.1),
-      AreBytes-sum rest.0 (scaled c ns) rest.2 (AreBytes-scaled c ns),
+      AreCoefficients-sum rest.0 (scaled c ns) rest.2 (AreCoefficients-scaled c ns),
       vanishes_still rest.0 ns c before there_rest.0 there.0,
       (
         value_at-sum rest.0 (scaled c ns) p ∙ ap₂ bit_xor there_rest.1.0 (value_at-scaled c ns p ∙ undone y u.0 d bytes.0 u.2),
@@ -109,7 +110,7 @@ lagrange_from before (p ∷ ps) (y ∷ ys) same points bytes =
     )
 
 -- the value of any polynomial of at most n coefficients, from its values at n points
-pub lagrange : (cs xs ys ws : List ℕ) (x : ℕ) → length xs ≡ length ys → length cs ≤ length xs → ArePoints xs → AreBytes cs → AreBytes ys
+pub lagrange : (cs xs ys ws : List ℕ) (x : ℕ) → length xs ≡ length ys → length cs ≤ length xs → ArePoints xs → AreCoefficients cs → AreCoefficients ys
     → Takes cs xs ys → AreWeights [] xs x ws → weighted ws ys ≡ value_at cs x
 lagrange cs xs ys ws x same few points bytes values takes weights =
     let found = lagrange_from [] xs ys same points values in

@@ -7,12 +7,12 @@ use Rattle.gf_cantor.proofs.Laws.{product-lt, has_inverse}
 use Rattle.namespace_id.specs.declared.shares.Share.{Share}
 use Rattle.namespace_id.specs.Shares.{IsShare, AreShares}
 use Rattle.namespace_id.specs.Cells.{is_width}
-use Rattle.byte_polynomial.specs.Polynomial.{value_at, AreBytes, ArePoints, Takes}
+use Rattle.byte_polynomial.specs.Polynomial.{value_at, AreCoefficients, ArePoints, Takes}
 use Rattle.byte_polynomial.proofs.Sums.{value_at-lt}
 use Rattle.byte_polynomial.proofs.Through.{through, vanishing_elsewhere}
 use Rattle.byte_polynomial.proofs.Roots.{one_polynomial}
-use Rattle.leopard_code.specs.Codewords.{column, points, point, points_at, are_positions, IsCodeword, HasEntries}
-use Rattle.leopard_code.specs.Weights.{weighted, away, AreWeights, IsEntry}
+use Rattle.leopard_code.specs.Codewords.{column, points, point, points_at, are_positions, IsCodeword, HasEntries, weighted}
+use Rattle.leopard_code.specs.Weights.{away, AreWeights, IsEntry}
 use Rattle.leopard_code.proofs.LagrangeLemmas.{lagrange, away-is, points_middle, undone}
 use Rattle.leopard_code.proofs.DifferenceLemmas.{away-lt}
 use Rattle.leopard_code.proofs.PointLemmas.{length-column, column_bytes, width-le}
@@ -51,7 +51,7 @@ get_or-picked (p ∷ known) ys (suc i) h = get_or-picked known ys i (omega arith
 
 -- one byte of two codewords with the same entries
 same_byte : (k : ℕ) (known ys zs : List ℕ) (pos : ℕ) (cs ds : List ℕ) → k ≤ 128 → length known ≡ k → IsTrue (are_positions k known) → pos < 2 * k
-    → length cs ≡ k → AreBytes cs → Takes cs (points k) ys → length ds ≡ k → AreBytes ds → Takes ds (points k) zs
+    → length cs ≡ k → AreCoefficients cs → Takes cs (points k) ys → length ds ≡ k → AreCoefficients ds → Takes ds (points k) zs
     → ((i : ℕ) → i < length known → get_or ys (get_or known i 0) 0 ≡ get_or zs (get_or known i 0) 0) → get_or ys pos 0 ≡ get_or zs pos 0
 same_byte k known ys zs pos cs ds few count positions within long_c bytes_c takes_c long_d bytes_d takes_d same =
     let xs : List ℕ = points_at k known in
@@ -113,7 +113,7 @@ pub through_shares : (k : ℕ) (known : List ℕ) (shares : List Share) → IsTr
 through_shares k known shares width count positions same fits =
     let xs : List ℕ = points_at k known in
     let apart : ArePoints xs = points_differ k known (width-le k width) positions in
-    let found : (b : ℕ) → (cs : List ℕ) × (length cs ≡ length xs) × AreBytes cs × Takes cs xs (column b shares) =
+    let found : (b : ℕ) → (cs : List ℕ) × (length cs ≡ length xs) × AreCoefficients cs × Takes cs xs (column b shares) =
     λ b. through xs (column b shares) (omega (arith, length-points_at k known, length-column b shares)) apart (column_bytes b shares fits) in
     let byte : ℕ → ℕ → ℕ = λ pos b. value_at (found b).0 (point k pos) in
     let entry : ℕ → Share = λ pos. record { 0 = listed 512 (byte pos) } in
@@ -130,8 +130,8 @@ through_shares k known shares width count positions same fits =
     (word, both.0, both.1)
 
 -- there are weights at each point
-weights_exist : (before ps : List ℕ) (x : ℕ) → ArePoints (before ++ ps) → (ws : List ℕ) × (length ws ≡ length ps) × AreBytes ws × AreWeights before ps x ws
-unfolding AreWeights AreBytes
+weights_exist : (before ps : List ℕ) (x : ℕ) → ArePoints (before ++ ps) → (ws : List ℕ) × (length ws ≡ length ps) × AreCoefficients ws × AreWeights before ps x ws
+unfolding AreWeights AreCoefficients
 weights_exist before [] x apart = ([], refl, tt, tt)
 weights_exist before (p ∷ ps) x apart =
     let middle = points_middle before p ps apart in
@@ -145,8 +145,8 @@ weights_exist before (p ∷ ps) x apart =
       (undone (away (before ++ ps) x) u.0 d (away-lt (before ++ ps) x) u.2, rest.3),
     )
 
-bytes_taken : (cs xs ys : List ℕ) → AreBytes cs → Takes cs xs ys → AreBytes ys
-unfolding Takes AreBytes
+bytes_taken : (cs xs ys : List ℕ) → AreCoefficients cs → Takes cs xs ys → AreCoefficients ys
+unfolding Takes AreCoefficients
 bytes_taken cs [] [] bytes takes = tt
 bytes_taken cs [] (y ∷ ys) bytes takes = elim takes [ ]
 bytes_taken cs (x ∷ xs) [] bytes takes = tt
@@ -160,7 +160,7 @@ entry_of_byte b v (s ∷ ss) (suc i) h e = entry_of_byte b v ss i (omega arith) 
 
 -- an entry is the same weighted sum of the known ones in each codeword
 pub generated : (k : ℕ) (known : List ℕ) (pos : ℕ) → IsTrue (is_width k) → length known ≡ k → IsTrue (are_positions k known) → pos < 2 * k
-    → (ws : List ℕ) × (length ws ≡ k) × AreBytes ws × ((word shares : List Share) → IsCodeword k word → length shares ≡ k → HasEntries known shares word → (b : ℕ) → b < 512
+    → (ws : List ℕ) × (length ws ≡ k) × AreCoefficients ws × ((word shares : List Share) → IsCodeword k word → length shares ≡ k → HasEntries known shares word → (b : ℕ) → b < 512
     → IfSome (slice_get word pos) (λ share. slice_index share.0 b ≡ weighted ws (column b shares)))
 generated k known pos width count positions within =
     let xs : List ℕ = points_at k known in

@@ -8,7 +8,7 @@ use Rattle.gf_cantor.proofs.Laws.{product-lt}
 use Rattle.namespace_id.specs.declared.shares.Share.{Share}
 use Rattle.namespace_id.specs.Shares.{IsShare, AreShares}
 use Rattle.byte_polynomial.specs.Polynomial.{Takes}
-use Rattle.byte_polynomial.proofs.Sums.{sum, scaled, value_at-sum, value_at-scaled, length-sum, length-scaled, AreBytes-sum, AreBytes-scaled}
+use Rattle.byte_polynomial.proofs.Sums.{sum, scaled, value_at-sum, value_at-scaled, length-sum, length-scaled, AreCoefficients-sum, AreCoefficients-scaled}
 use Rattle.leopard_code.specs.Codewords.{column, points, IsCodeword, bytes_sum, share_sum, shares_sum, shares_multiple}
 
 length-bytes_sum : (xs ys : List ℕ) → length xs ≡ length ys → length (bytes_sum xs ys) ≡ length xs
@@ -76,7 +76,7 @@ codeword-sum k word other cw co = record {
       let d = co.columns b h in (
         sum c.0 d.0,
         omega (arith, length-sum c.0 d.0, c.1, d.1),
-        AreBytes-sum c.0 d.0 c.2 d.2,
+        AreCoefficients-sum c.0 d.0 c.2 d.2,
         subst (Takes (sum c.0 d.0) (points k)) (sym (column-sum b word other h cw.shares co.shares))
             (takes-sum c.0 d.0 (points k) (column b word) (column b other) c.3 d.3),
       );
@@ -121,7 +121,7 @@ codeword-multiple k c word cw = record {
       let d = cw.columns b h in (
         scaled c d.0,
         length-scaled c d.0 ∙ d.1,
-        AreBytes-scaled c d.0,
+        AreCoefficients-scaled c d.0,
         subst (Takes (scaled c d.0) (points k)) (sym (column-multiple b c word h cw.shares)) (takes-multiple c d.0 (points k) (column b word) d.3),
       );
 }

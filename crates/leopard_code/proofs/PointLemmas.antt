@@ -7,7 +7,7 @@ use Rattle.std.proofs.lemmas.Option.{IfSome_then}
 use Rattle.std.proofs.lemmas.Bool.Decides.{nat_tests}
 use Rattle.namespace_id.specs.declared.shares.Share.{Share}
 use Rattle.namespace_id.specs.Shares.{AreShares}
-use Rattle.byte_polynomial.specs.Polynomial.{value_at, AreBytes, Avoids, ArePoints, Takes}
+use Rattle.byte_polynomial.specs.Polynomial.{value_at, AreCoefficients, Avoids, ArePoints, Takes}
 use Rattle.namespace_id.specs.Lists.{ascending}
 use Rattle.leopard_code.specs.Codewords.{column}
 use Rattle.namespace_id.specs.Cells.{is_width}
@@ -51,8 +51,8 @@ unfolding column
 column-append b [] ts = refl
 column-append b (s ∷ ss) ts = ap (λ (l : List ℕ). get_or s.0 b 0 ∷ l) (column-append b ss ts)
 
-pub column_bytes : (b : ℕ) (ss : List Share) → AreShares ss → AreBytes (column b ss)
-unfolding column AreBytes
+pub column_bytes : (b : ℕ) (ss : List Share) → AreShares ss → AreCoefficients (column b ss)
+unfolding column AreCoefficients
 column_bytes b [] h = tt
 column_bytes b (s ∷ ss) h = (h.0.fits b, column_bytes b ss h.1)
 

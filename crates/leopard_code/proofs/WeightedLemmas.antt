@@ -4,8 +4,7 @@ use Rattle.std.specs.Prelude.{bit_xor}
 use Rattle.std.proofs.lemmas.List.{drop_all}
 use Rattle.gf_cantor.specs.Field.{product}
 use Rattle.namespace_id.specs.declared.shares.Share.{Share}
-use Rattle.leopard_code.specs.Codewords.{column}
-use Rattle.leopard_code.specs.Weights.{weighted}
+use Rattle.leopard_code.specs.Codewords.{column, weighted}
 
 -- the sum from place i on begins with the product there
 pub weighted-drop : (ws : List ℕ) (ss : List Share) (b i : ℕ) (d : Share) → i < length ws → i < length ss

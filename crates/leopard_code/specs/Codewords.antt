@@ -1,11 +1,11 @@
 -- Codewords: lists of 2k shares whose byte columns are polynomials (docs/RULES.md, "The code").
-use Rattle.std.specs.Prelude.{◌≡◌, ℕ, zero, suc, Bool, ◌&&◌, nat_lt, if◌then◌else◌, ◌<◌, ◌+◌, ◌-◌, ◌*◌, List, [], ◌∷◌, ◌++◌, map, length, bit_xor, slice_get, slice_index}
+use Rattle.std.specs.Prelude.{◌≡◌, ℕ, Bool, ◌&&◌, nat_lt, if◌then◌else◌, ◌<◌, ◌+◌, ◌-◌, ◌*◌, List, [], ◌∷◌, ◌++◌, map, length, bit_xor, slice_get, slice_index}
 use Rattle.std.specs.List.{list_all}
 use Rattle.gf_cantor.specs.Field.{product}
 use Rattle.namespace_id.specs.declared.shares.Share.{Share}
 use Rattle.namespace_id.specs.Shares.{AreShares}
 use Rattle.namespace_id.specs.Lists.{holds_along, ascending}
-use Rattle.byte_polynomial.specs.Polynomial.{AreBytes, Takes}
+use Rattle.byte_polynomial.specs.Polynomial.{AreCoefficients, Takes}
 
 -- the bytes at place b of each share
 unfoldable pub column : ℕ → List Share → List ℕ
@@ -26,7 +26,7 @@ points_at k known = map (point k) known
 
 -- a polynomial of k coefficients takes the bytes at the points
 abbrev pub IsColumn : ℕ → List ℕ → Type 0
-IsColumn k bytes = (cs : List ℕ) × (length cs ≡ k) × AreBytes cs × Takes cs (points k) bytes
+IsColumn k bytes = (cs : List ℕ) × (length cs ≡ k) × AreCoefficients cs × Takes cs (points k) bytes
 
 -- 2k shares, k originals and then k recovery shares, each byte column a polynomial
 pub record IsCodeword (k : ℕ) (word : List Share) : Type 0 where
@@ -63,3 +63,9 @@ share_multiple c share = record { 0 = map (product c) share.0 }
 
 abbrev pub shares_multiple : ℕ → List Share → List Share
 shares_multiple c shares = map (share_multiple c) shares
+
+-- the sum of the products of weights and bytes
+unfoldable pub weighted : List ℕ → List ℕ → ℕ
+weighted [] ys = 0
+weighted (w ∷ ws) [] = 0
+weighted (w ∷ ws) (y ∷ ys) = bit_xor (product w y) (weighted ws ys)

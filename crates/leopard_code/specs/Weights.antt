@@ -3,15 +3,9 @@ use Rattle.std.specs.Prelude.{◌≡◌, ℕ, IsTrue, take, drop, ◌<◌, ◌+�
 use Rattle.gf_cantor.specs.Field.{product}
 use Rattle.namespace_id.specs.declared.shares.Share.{Share}
 use Rattle.namespace_id.specs.Cells.{is_width}
-use Rattle.byte_polynomial.specs.Polynomial.{value_at, AreBytes, Takes}
+use Rattle.byte_polynomial.specs.Polynomial.{value_at, AreCoefficients, Takes}
 use Rattle.namespace_id.specs.Lists.{ascending}
 use Rattle.leopard_code.specs.Codewords.{column}
-
--- the sum of the products of weights and bytes
-unfoldable pub weighted : List ℕ → List ℕ → ℕ
-weighted [] ys = 0
-weighted (w ∷ ws) [] = 0
-weighted (w ∷ ws) (y ∷ ys) = bit_xor (product w y) (weighted ws ys)
 
 -- the product of the differences of x and the points
 unfoldable pub away : List ℕ → ℕ → ℕ
@@ -46,5 +40,5 @@ pub record IsRoom (k : ℕ) (table row : List ℕ) : Type 0 where
 
 -- the share has the values at x of the polynomials through the shares at the points
 abbrev pub IsEntry : List ℕ → List Share → ℕ → Share → Type 0
-IsEntry xs shares x share = (b : ℕ) → b < 512 → (cs : List ℕ) → length cs ≡ length xs → AreBytes cs
+IsEntry xs shares x share = (b : ℕ) → b < 512 → (cs : List ℕ) → length cs ≡ length xs → AreCoefficients cs
     → Takes cs xs (column b shares) → slice_index share.0 b ≡ value_at cs x

@@ -4,9 +4,8 @@ ghost use Rattle.std.specs.Prelude.{◌≡◌, ◌<◌, ◌*◌, ℕ, List, IsTr
 ghost use Rattle.namespace_id.specs.declared.shares.Share.{Share};
 ghost use Rattle.namespace_id.specs.Shares.{AreShares};
 ghost use Rattle.namespace_id.specs.Cells.{is_width};
-ghost use Rattle.byte_polynomial.specs.Polynomial.{AreBytes};
-ghost use Rattle.leopard_code.specs.Codewords.{column, are_positions, IsCodeword, HasEntries, shares_sum, shares_multiple};
-ghost use Rattle.leopard_code.specs.Weights.{weighted};
+ghost use Rattle.byte_polynomial.specs.Polynomial.{AreCoefficients};
+ghost use Rattle.leopard_code.specs.Codewords.{column, are_positions, IsCodeword, HasEntries, shares_sum, shares_multiple, weighted};
 
 /// The laws of codewords. It changes nothing.
 pub fn code_laws()
@@ -33,7 +32,7 @@ pub fn code_laws()
     // Each entry is the same weighted sum of the known ones in every codeword.
     ensures generator { (k : ℕ) (known : List ℕ) (pos : ℕ) →
         IsTrue (is_width k) → length known ≡ k → IsTrue (are_positions k known) → pos < 2 * k →
-        (ws : List ℕ) × (length ws ≡ k) × AreBytes ws × ((word shares : List Share) →
+        (ws : List ℕ) × (length ws ≡ k) × AreCoefficients ws × ((word shares : List Share) →
         IsCodeword k word → length shares ≡ k → HasEntries known shares word →
         (b : ℕ) → b < 512 →
         IfSome (slice_get word pos)

@@ -44,7 +44,7 @@ pub(crate) fn point(k: usize, pos: usize) -> u8
     }
 }
 
-/// The points of k positions, with zeros behind them.
+/// The points of k positions, in the first k places.
 pub(crate) fn points_at(k: usize, known: &[u16]) -> [u8; 128]
     requires few { k ≤ 128 }
     requires known { (length known.now ≡ k) × IsTrue (are_positions k known.now) }

@@ -1,8 +1,7 @@
 //! Sums of shares with weights.
 
 ghost use Rattle.std.specs.Prelude.{◌≡◌, ℕ, ◌*◌, ◌<◌, length, take, drop, slice_get, slice_index, IfSome};
-ghost use Rattle.leopard_code.specs.Codewords.{column};
-ghost use Rattle.leopard_code.specs.Weights.{weighted};
+ghost use Rattle.leopard_code.specs.Codewords.{column, weighted};
 
 use gf_cantor::mul_row;
 use namespace_id::Share;

@@ -18,7 +18,7 @@ fn differences(points: &[u8], x: u8, start: u8) -> u8
     all
 }
 
-/// The product of the differences of each point and all others, with zeros behind.
+/// The product of the differences of each point and all others, each at the place of its point.
 pub(crate) fn denominators(points: &[u8]) -> [u8; 128]
     requires { length points.now ≤ 128 }
     ensures { AreDenominators points.now result }

@@ -1,7 +1,7 @@
 //! Namespaces and their order.
 
 ghost use Rattle.std.specs.Prelude.{◌≡◌, ◌⊎◌, true};
-ghost use Rattle.namespace_id.specs.Names.{is_at_most, is_zeros, parity, IsNamespace, AreNamespaces};
+ghost use Rattle.namespace_id.specs.Names.{is_at_most, is_zeros, parity, primary_reserved_padding, transaction, pay_for_blob, tail_padding, IsNamespace, AreNamespaces};
 ghost use Rattle.namespace_id.specs.declared.namespaces.Namespace.{Namespace as Name};
 
 use crate::are_bytes;
@@ -74,7 +74,8 @@ pub fn is_zeros(bytes: &[u8]) -> bool
 
 impl Namespace {
     ghost use Rattle.std.specs.Prelude.{◌≢◌, ◌↔◌, IsErrOf, IsOk, IfOk, IsTrue, length, slice_index, slice_range, false};
-    ghost use Rattle.namespace_id.specs.Names.{is_at_most, is_parity, greater_of, is_reserved, is_blob_namespace, is_zeros};
+    ghost use Rattle.std.specs.Result.{result_err};
+    ghost use Rattle.namespace_id.specs.Names.{is_at_most, is_parity, greater_of, is_reserved, is_blob_namespace, is_zeros, namespace_refusal};
 
     /// The namespace of a blob that these bytes are: one of version 0 that isn't reserved.
     ///
@@ -94,6 +95,7 @@ impl Namespace {
         ensures reserved { IsErrOf result NsError.Reserved ↔
             (length bytes.now ≡ 29) × (slice_index bytes.now 0 ≡ 0) ×
             (is_zeros (slice_range bytes.now 1 19) ≡ true) × (is_reserved bytes.now ≡ true) }
+        ensures first { result_err result ≡ namespace_refusal bytes.now }
 
         // What comes in is what is kept.
         ensures value { IfOk result (λ name. name.0 ≡ bytes.now) }
@@ -153,6 +155,15 @@ pub fn are_namespaces(names: &[Namespace])
         is_namespace(name);
     }
 }
+
+/// The namespaces that the standard names are these bytes.
+pub fn reserved_namespaces()
+    ensures parity { PARITY ≡ parity }
+    ensures primary_reserved_padding { PRIMARY_RESERVED_PADDING ≡ primary_reserved_padding }
+    ensures transaction { TRANSACTION ≡ transaction }
+    ensures pay_for_blob { PAY_FOR_BLOB ≡ pay_for_blob }
+    ensures tail_padding { TAIL_PADDING ≡ tail_padding }
+{}
 
 /// The order of namespaces is total, and none is above `PARITY`.
 pub fn namespace_order()

@@ -1,4 +1,5 @@
 pub mod WidthLemmas
+pub mod WidthLawLemmas
 pub mod ShareLemmas
 pub mod LaterLemmas
 pub mod VarintLemmas
@@ -8,6 +9,8 @@ pub mod CompactShareLemmas
 pub mod LaterCompactLemmas
 pub mod VarintLawLemmas
 pub mod UnitLawLemmas
+pub mod BlobLawLemmas
+pub mod ReservedLawLemmas
 pub mod FillLemmas
 pub mod CutLemmas
 pub mod FieldLemmas

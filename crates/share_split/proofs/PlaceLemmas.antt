@@ -33,12 +33,12 @@ content_end (suc i) = omega (arith, content_place-suc i, content_start-suc i, co
 -- ---- units that start in a share
 
 -- a unit that starts in front of the end of the content has its place
-place_in-within : (i start : ℕ) → start < content_start (suc i) → place_in i start ≡ content_place i + (start - content_start i)
+pub place_in-within : (i start : ℕ) → start < content_start (suc i) → place_in i start ≡ content_place i + (start - content_start i)
 place_in-within i start lt =
     ap (λ (b : Bool). cond b (content_place i + (start - content_start i)) 0) (lt-ltb start (content_start (suc i)) lt)
 
 -- one behind it has none
-place_in-behind : (i start : ℕ) → content_start (suc i) ≤ start → place_in i start ≡ 0
+pub place_in-behind : (i start : ℕ) → content_start (suc i) ≤ start → place_in i start ≡ 0
 place_in-behind i start le =
     ap (λ (b : Bool). cond b (content_place i + (start - content_start i)) 0) (le-ltb start (content_start (suc i)) le)
 

@@ -45,14 +45,14 @@ long_texts_take_many_shares (unit ∷ units) h =
 
 -- ---- they are shares
 
-AreBytes-none : AreBytes []
+pub AreBytes-none : AreBytes []
 AreBytes-none i = omega arith
 
 AreBytes-one : (byte : ℕ) → byte < 256 → AreBytes (byte ∷ [])
 AreBytes-one byte h zero = h
 AreBytes-one byte h (suc i) = omega arith
 
-AreBytes-cons : (byte : ℕ) (bytes : List ℕ) → byte < 256 → AreBytes bytes → AreBytes (byte ∷ bytes)
+pub AreBytes-cons : (byte : ℕ) (bytes : List ℕ) → byte < 256 → AreBytes bytes → AreBytes (byte ∷ bytes)
 AreBytes-cons byte bytes h fits zero = h
 AreBytes-cons byte bytes h fits (suc i) = fits i
 
@@ -61,7 +61,7 @@ AreBytes-zeros zero i = omega arith
 AreBytes-zeros (suc n) zero = omega arith
 AreBytes-zeros (suc n) (suc i) = AreBytes-zeros n i
 
-AreBytes-number : (n : ℕ) → AreBytes (to_be_bytes w32 n)
+pub AreBytes-number : (n : ℕ) → AreBytes (to_be_bytes w32 n)
 AreBytes-number n zero = omega arith
 AreBytes-number n (suc zero) = omega arith
 AreBytes-number n (suc (suc zero)) = omega arith
@@ -93,7 +93,7 @@ length-filled n content =
     omega (arith, length-take n (content ++ replicate n 0), length-append content (replicate n 0), length-replicate {A = ℕ} n 0)
 
 -- a share of a head and of content that fills it up
-share_fits : (front content : List ℕ) (n : ℕ) → AreBytes front → AreBytes content → length front + n ≡ 512
+pub share_fits : (front content : List ℕ) (n : ℕ) → AreBytes front → AreBytes content → length front + n ≡ 512
     → IsShare (record { 0 = front ++ filled n content })
 share_fits front content n fits content_fits e = record {
   size_is = omega (arith, length-append front (filled n content), length-filled n content);

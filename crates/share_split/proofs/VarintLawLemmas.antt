@@ -1,13 +1,13 @@
 -- A varint is read back, what is read is a varint, and none is shorter.
-use Rattle.std.proofs.Common.{◌≡◌, ◌≢◌, ◌∙◌, ℕ, zero, suc, ◌+◌, ◌-◌, ◌*◌, ◌/◌, ◌%◌, ◌^◌, ◌<◌, ◌≤◌, nat_lt, ◌==◌, true, false, List, [], ◌∷◌, ◌++◌, length, Option, Some, None, sym, ap, ap₂, refl, inl, inr, arith}
-use Rattle.std.proofs.lemmas.Bool.{cases_lt}
+use Rattle.std.proofs.Common.{◌≡◌, ◌≢◌, ◌∙◌, ℕ, zero, suc, ◌+◌, ◌-◌, ◌*◌, ◌/◌, ◌%◌, ◌^◌, ◌<◌, ◌≤◌, nat_lt, nat_le, ◌==◌, true, false, List, [], ◌∷◌, ◌++◌, length, Option, Some, None, sym, ap, ap₂, refl, inl, inr, arith}
+use Rattle.std.proofs.lemmas.Bool.{cases_lt, true≢false}
 use Rattle.std.proofs.lemmas.Bool.Decides.{nat_tests}
 use Rattle.std.proofs.lemmas.Option.{some_pair_parts}
 use Rattle.std.proofs.Math.Nat.{pow-suc, one-le-pow}
 use Rattle.namespace_id.specs.Bytes.{AreBytes}
 use Rattle.share_split.specs.Units.{varint_within, varint}
 use Rattle.share_split.specs.Walks.{above_low, varint_in}
-use Rattle.share_split.specs.UnitLaws.{stated}
+use Rattle.share_split.specs.UnitLaws.{stated, is_marked}
 use Rattle.share_split.proofs.VarintLemmas.{varint_within-low, varint_within-high, varint_within-more, length-varint-low, length-varint-high}
 
 -- ---- a varint is read back
@@ -124,3 +124,47 @@ varint_is_shortest n (byte ∷ next ∷ bytes) h some e =
           let shorter = varint_is_shortest (n / 128) (next ∷ bytes) (omega arith) (λ (none : next ∷ bytes ≡ []). absurd cc) high in
           omega (arith, length-varint-high n le h, shorter)
     ]
+
+-- ---- it states its number, and its last byte is marked
+
+within_states : (more n : ℕ) → n < 128 ^ suc more → stated (varint_within (suc more) n) ≡ n
+within_states zero n h =
+    let lt : n < 128 = omega (arith, pow-suc 128 0, h) in
+    ap stated (varint_within-low 0 n lt) ∙ omega (arith, stated-next n [], stated-none, lt)
+within_states (suc more) n h =
+    elim (cases_lt n 128) [
+      | inl lt ↦ ap stated (varint_within-low (suc more) n lt) ∙ omega (arith, stated-next n [], stated-none, lt)
+      | inr le ↦
+          let below : n / 128 < 128 ^ suc more = omega (arith, pow-suc 128 (suc more), h) in
+          let rest : List ℕ = varint_within (suc more) (n / 128) in
+          ap stated (varint_within-high (suc more) n le)
+          ∙ omega (arith, stated-next (n % 128 + 128) rest, within_states more (n / 128) below)
+    ]
+
+pub varint_states : (n : ℕ) → n < 2 ^ 64 → stated (varint n) ≡ n
+varint_states n h = within_states 9 n (omega arith)
+
+marked-one : (byte : ℕ) → byte < 128 → is_marked (byte ∷ []) ≡ true
+unfolding is_marked
+marked-one byte h = grind (arith, nat_tests)
+
+marked-more : (byte : ℕ) (bytes : List ℕ) → 128 ≤ byte → is_marked bytes ≡ true → is_marked (byte ∷ bytes) ≡ true
+unfolding is_marked
+marked-more byte [] h rest = absurd (true≢false (sym rest))
+marked-more byte (next ∷ bytes) h rest = let e : nat_le 128 byte ≡ true = grind (arith, nat_tests) in rw (e, rest) refl
+
+within_is_marked : (more n : ℕ) → n < 128 ^ suc more → is_marked (varint_within (suc more) n) ≡ true
+within_is_marked zero n h =
+    let lt : n < 128 = omega (arith, pow-suc 128 0, h) in
+    ap is_marked (varint_within-low 0 n lt) ∙ marked-one n lt
+within_is_marked (suc more) n h =
+    elim (cases_lt n 128) [
+      | inl lt ↦ ap is_marked (varint_within-low (suc more) n lt) ∙ marked-one n lt
+      | inr le ↦
+          let below : n / 128 < 128 ^ suc more = omega (arith, pow-suc 128 (suc more), h) in
+          ap is_marked (varint_within-high (suc more) n le)
+          ∙ marked-more (n % 128 + 128) (varint_within (suc more) (n / 128)) (omega arith) (within_is_marked more (n / 128) below)
+    ]
+
+pub varint_is_marked : (n : ℕ) → n < 2 ^ 64 → is_marked (varint n) ≡ true
+varint_is_marked n h = within_is_marked 9 n (omega arith)

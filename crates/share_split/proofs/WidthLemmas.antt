@@ -27,12 +27,12 @@ pub record IsOnTheWay (count width : ℕ) : Type 0 where
   pub value : width_from more width count ≡ width_of count
 
 -- a width that isn't enough is passed
-width_from-suc : (more width count : ℕ) → is_wide_enough count width ≡ false → width_from (suc more) width count ≡ width_from more (width * 2) count
+pub width_from-suc : (more width count : ℕ) → is_wide_enough count width ≡ false → width_from (suc more) width count ≡ width_from more (width * 2) count
 unfolding width_from
 width_from-suc more width count h = ap (λ (b : Bool). if b then width else width_from more (width * 2) count) h
 
 -- one that is enough is found
-width_from-found : (more width count : ℕ) → is_wide_enough count width ≡ true → width_from more width count ≡ width
+pub width_from-found : (more width count : ℕ) → is_wide_enough count width ≡ true → width_from more width count ≡ width
 unfolding width_from
 width_from-found zero width count h = refl
 width_from-found (suc more) width count h = ap (λ (b : Bool). if b then width else width_from more (width * 2) count) h

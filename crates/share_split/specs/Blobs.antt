@@ -1,11 +1,21 @@
 -- The shares of a blob (Celestia specifications, "Shares").
-use Rattle.std.specs.Prelude.{ℕ, zero, suc, ◌+◌, ◌-◌, ◌*◌, ◌≤◌, nat_le, Bool, true, false, List, [], ◌∷◌, ◌++◌, length, take, drop, replicate, if◌then◌else◌, Vec, vec_len, vec_capacity}
+use Rattle.std.specs.Prelude.{ℕ, zero, suc, ◌+◌, ◌-◌, ◌*◌, nat_le, Bool, true, false, List, [], ◌∷◌, ◌++◌, length, take, drop, replicate, if◌then◌else◌}
 use Rattle.std.specs.Int.{w32, to_be_bytes, div_ceil}
-use Rattle.std.specs.declared.alloc.Global.{Global}
 use Rattle.namespace_id.specs.declared.namespaces.Namespace.{Namespace}
 use Rattle.namespace_id.specs.declared.shares.Share.{Share}
 use Rattle.namespace_id.specs.Bytes.{AreBytes}
 use Rattle.namespace_id.specs.Names.{IsNamespace}
+
+-- a share, and the namespace that stands first in it, in bytes
+abbrev pub share_size : ℕ
+share_size = 512
+
+abbrev pub namespace_size : ℕ
+namespace_size = 29
+
+-- the place of the length of a sequence in its first share
+abbrev pub length_place : ℕ
+length_place = 30
 
 -- the content of the first share of a sequence, and of a later one, in bytes
 abbrev pub first_content : ℕ

@@ -5,4 +5,5 @@ pub mod Walks
 pub mod Joined
 pub mod Texts
 pub mod UnitLaws
+pub mod BlobLaws
 pub mod Steps

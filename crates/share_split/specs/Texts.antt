@@ -1,6 +1,5 @@
 -- Words on the text of units, on where they start in it, and on the shares that it takes.
-use Rattle.std.specs.Prelude.{◌≡◌, ℕ, ◌+◌, ◌≤◌, List, length, drop, Vec, vec_len, vec_capacity}
-use Rattle.std.specs.declared.alloc.Global.{Global}
+use Rattle.std.specs.Prelude.{◌≡◌, ℕ, ◌+◌, List, length, drop}
 use Rattle.share_split.specs.Units.{units_text, starts_from}
 use Rattle.share_split.specs.declared.texts.NextUnit.{NextUnit}
 

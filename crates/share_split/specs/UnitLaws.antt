@@ -1,12 +1,12 @@
 -- Laws of units and of their compact shares.
-use Rattle.std.specs.Prelude.{◌≡◌, ◌≢◌, ◌≤◌, ◌<◌, ◌+◌, ◌*◌, ◌%◌, ◌^◌, ℕ, List, [], ◌∷◌, ◌++◌, length, Some}
-use Rattle.std.specs.List.{AllByRecursion}
+use Rattle.std.specs.Prelude.{◌≡◌, ◌≢◌, ◌≤◌, ◌<◌, ◌+◌, ◌-◌, ◌*◌, ◌%◌, ◌^◌, ◌==◌, ◌&&◌, nat_le, nat_lt, ℕ, suc, Bool, true, false, List, [], ◌∷◌, ◌++◌, length, Some}
+use Rattle.std.specs.List.{list_any, AllByRecursion}
 use Rattle.namespace_id.specs.declared.namespaces.Namespace.{Namespace}
 use Rattle.namespace_id.specs.Bytes.{AreBytes}
 use Rattle.namespace_id.specs.Names.{IsNamespace}
 use Rattle.namespace_id.specs.Shares.{AreShares}
 use Rattle.share_split.specs.Blobs.{max_sequence_length}
-use Rattle.share_split.specs.Units.{varint, units_text, unit_shares_of, unit_share_count}
+use Rattle.share_split.specs.Units.{varint, units_text, starts_from, content_start, content_place, reserved_of, unit_shares_of, unit_share_count}
 use Rattle.share_split.specs.Walks.{varint_in}
 
 -- the compact shares of units are as many as counted
@@ -38,7 +38,43 @@ unfoldable pub stated : List ℕ → ℕ
 stated [] = 0
 stated (byte ∷ bytes) = byte % 128 + 128 * stated bytes
 
+-- a varint states its number
+abbrev pub VarintStates : Type 0
+VarintStates = (n : ℕ) → n < 2 ^ 64 → stated (varint n) ≡ n
+
+-- whether the upper bit is set in each byte but the last, and not in the last
+unfoldable pub is_marked : List ℕ → Bool
+is_marked [] = false
+is_marked (byte ∷ []) = nat_lt byte 128
+is_marked (byte ∷ next ∷ bytes) = nat_le 128 byte && is_marked (next ∷ bytes)
+
+-- a varint is marked so
+abbrev pub VarintIsMarked : Type 0
+VarintIsMarked = (n : ℕ) → n < 2 ^ 64 → is_marked (varint n) ≡ true
+
 -- no bytes that state a number are fewer than its varint
 abbrev pub VarintIsShortest : Type 0
 VarintIsShortest = (n : ℕ) (bytes : List ℕ) → n < 2 ^ 64 → bytes ≢ [] → stated bytes ≡ n
     → length (varint n) ≤ length bytes
+
+-- whether this place of the text is in the content of share i
+abbrev pub is_inside : ℕ → ℕ → Bool
+is_inside i at = nat_le (content_start i) at && nat_lt at (content_start (suc i))
+
+-- the least of some starts that are in the content of share i
+pub record IsFirstInside (i : ℕ) (starts : List ℕ) (start : ℕ) : Type 0 where
+  pub inside : is_inside i start ≡ true
+  pub among : list_any (λ other. other == start) starts ≡ true
+  pub least : AllByRecursion (λ other. is_inside i other ≡ true → start ≤ other) starts
+
+-- the reserved bytes of a share state the place in it of the first unit that starts in its content
+abbrev pub ReservedIsFirst : Type 0
+ReservedIsFirst = (i at start : ℕ) (units : List (List ℕ))
+    → IsFirstInside i (starts_from at units) start
+    → reserved_of i (starts_from at units) ≡ content_place i + (start - content_start i)
+
+-- and 0 where no unit starts in it
+abbrev pub ReservedIsNone : Type 0
+ReservedIsNone = (i at : ℕ) (units : List (List ℕ))
+    → AllByRecursion (λ start. is_inside i start ≡ false) (starts_from at units)
+    → reserved_of i (starts_from at units) ≡ 0

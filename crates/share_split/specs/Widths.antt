@@ -1,5 +1,6 @@
 -- How wide the subtrees over a blob's shares are (Celestia specifications, "Square Layout").
-use Rattle.std.specs.Prelude.{ℕ, zero, suc, ◌*◌, nat_le, Bool, ◌||◌, if◌then◌else◌}
+use Rattle.std.specs.Prelude.{◌≡◌, ◌≤◌, ◌^◌, ℕ, zero, suc, ◌*◌, min, nat_le, Bool, ◌||◌, if◌then◌else◌}
+use Rattle.std.specs.Int.{IsPowerOfTwo, div_ceil}
 
 -- so many subtrees of one width hold a blob, unless they would have to be wider than the least square
 -- that holds it
@@ -21,3 +22,24 @@ width_from (suc more) width count =
 -- is for every count up to 2 ^ 56
 abbrev pub width_of : ℕ → ℕ
 width_of count = width_from 28 1 count
+
+-- ---- the standard's formula
+
+-- the least power of two that isn't below n
+pub record IsLeastPower (n least : ℕ) : Type 0 where
+  pub is_power : IsPowerOfTwo least
+  pub holds : n ≤ least
+  pub none_below : (other : ℕ) → IsPowerOfTwo other → n ≤ other → least ≤ other
+
+-- the least number whose square isn't below n
+pub record IsLeastRoot (n least : ℕ) : Type 0 where
+  pub holds : n ≤ least * least
+  pub none_below : (other : ℕ) → n ≤ other * other → least ≤ other
+
+-- the width is the lesser of two powers of two: the least that isn't below a 64th of the shares, and the
+-- least that isn't below the width of the least square that holds them
+abbrev pub WidthIsLesser : Type 0
+WidthIsLesser = (count root by_threshold by_square : ℕ) → count ≤ 2 ^ 56
+    → IsLeastPower (div_ceil count subtree_root_threshold) by_threshold
+    → IsLeastRoot count root → IsLeastPower root by_square
+    → width_of count ≡ min by_threshold by_square

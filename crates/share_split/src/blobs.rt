@@ -1,6 +1,6 @@
 //! The shares of a blob.
 
-ghost use Rattle.std.specs.Prelude.{◌≡◌, ◌+◌, ◌≤◌, ◌<◌, ◌++◌, ◌∷◌, [], ◌↔◌, length, take, drop, replicate, vec_len, vec_capacity, OnOk, OnErr, IsErrOf};
+ghost use Rattle.std.specs.Prelude.{◌≡◌, ◌+◌, ◌^◌, ◌≤◌, ◌<◌, ◌++◌, ◌∷◌, [], ◌↔◌, length, take, drop, replicate, vec_len, vec_capacity, OnOk, OnErr, IsErrOf};
 ghost use Rattle.namespace_id.specs.Answers.{HasRoom};
 ghost use Rattle.share_split.specs.Blobs.{first_content, later_content, max_sequence_length, info, first_share, later_share, later_shares, share_count, blob_shares_of};
 ghost use Rattle.share_split.specs.Joined.{padding_share};
@@ -79,7 +79,9 @@ impl Model for Blob {
 /// Celestia specifications, "Shares".
 pub fn blob_share_count(len: u64) -> u64
     requires { 1 ≤ len }
-    ensures { result ≡ share_count len }
+    ensures value { result ≡ share_count len }
+    ensures some { 1 ≤ result }
+    ensures bound { result ≤ 2 ^ 56 }
 {
     if len <= FIRST_CONTENT as u64 {
         return 1;

@@ -11,6 +11,7 @@ mod blobs;
 mod compact;
 mod fields;
 mod joining;
+mod laws;
 mod parsing;
 mod places;
 mod texts;
@@ -24,7 +25,8 @@ pub use blobs::{
     SHARE_SIZE, SplitError, blob_share_count, blob_shares, padding_share,
 };
 pub use joining::{JoinError, join_blobs, join_laws, join_units};
+pub use laws::{blob_laws, size_laws};
 pub use units::{
     FIRST_COMPACT_CONTENT, LATER_COMPACT_CONTENT, Unit, unit_laws, unit_share_count, unit_shares,
 };
-pub use widths::{SUBTREE_ROOT_THRESHOLD, subtree_width};
+pub use widths::{SUBTREE_ROOT_THRESHOLD, subtree_width, width_laws};

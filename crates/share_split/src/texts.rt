@@ -6,7 +6,8 @@ ghost use Rattle.namespace_id.specs.Answers.{HasRoom};
 ghost use Rattle.share_split.specs.Texts.{IsNextOf, starts_of};
 
 use crate::Unit;
-use crate::varints::{put_bytes, put_varint, varint_len};
+use crate::varints::{put_varint, varint_len};
+use namespace_id::append;
 use std::alloc::{AllocError, Global};
 
 /// How many bytes a unit takes in the text: those of its length and its own.
@@ -36,7 +37,7 @@ fn put_unit(out: &mut Vec<u8>, unit: &Unit)
     ensures capacity { vec_capacity out.old ≤ vec_capacity out.new }
 {
     put_varint(out, unit.bytes.len());
-    put_bytes(out, &unit.bytes);
+    append(out, &unit.bytes);
 }
 
 /// The text of units, whose length is given. Refuses for want of memory alone, which is taken at once.

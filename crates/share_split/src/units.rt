@@ -3,7 +3,7 @@
 ghost use Rattle.std.specs.Prelude.{◌≡◌, ◌-◌, ◌^◌, ◌<◌, ◌++◌, ◌↔◌, length, min, OnOk, OnErr, IsErrOf};
 ghost use Rattle.share_split.specs.Blobs.{max_sequence_length};
 ghost use Rattle.share_split.specs.Units.{units_text, unit_shares_of, unit_share_count};
-ghost use Rattle.share_split.specs.UnitLaws.{UnitSharesAreCounted, LongTextsTakeManyShares, UnitSharesAreShares, VarintIsRead, ReadIsVarint, VarintIsShortest};
+ghost use Rattle.share_split.specs.UnitLaws.{UnitSharesAreCounted, LongTextsTakeManyShares, UnitSharesAreShares, VarintIsRead, ReadIsVarint, VarintStates, VarintIsMarked, VarintIsShortest, ReservedIsFirst, ReservedIsNone};
 
 use crate::compact::{compact_count, put_compact};
 use crate::texts::{text_size, units_text};
@@ -100,7 +100,13 @@ pub fn unit_laws()
     // Lengths as varints.
     ensures read { VarintIsRead }
     ensures one { ReadIsVarint }
+    ensures states { VarintStates }
+    ensures marked { VarintIsMarked }
     ensures shortest { VarintIsShortest }
+
+    // The reserved bytes of a share.
+    ensures reserved { ReservedIsFirst }
+    ensures unreserved { ReservedIsNone }
 {}
 
 #[cfg(test)]

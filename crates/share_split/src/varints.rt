@@ -4,18 +4,10 @@ ghost use Rattle.std.specs.Prelude.{◌≡◌, ◌+◌, ◌≤◌, ◌++◌, len
 ghost use Rattle.share_split.specs.Units.{varint};
 ghost use Rattle.namespace_id.specs.Answers.{HasRoom};
 
+use namespace_id::append;
+
 /// What a byte of a varint holds is below this number, and a byte behind which another follows is not.
 const LIMIT: usize = 128;
-
-/// Appends bytes for which there is room.
-pub(crate) fn put_bytes(out: &mut Vec<u8>, bytes: &[u8])
-    requires room { HasRoom out.old (length bytes.now) }
-    ensures appended { out.new.items ≡ out.old.items ++ bytes.now }
-    ensures len { vec_len out.new ≡ vec_len out.old + length bytes.now }
-    ensures capacity { vec_capacity out.old ≤ vec_capacity out.new }
-{
-    out.extend_from_slice(bytes).unwrap();
-}
 
 /// How many bytes the shortest varint of a number takes.
 pub(crate) fn varint_len(n: usize) -> usize
@@ -40,8 +32,8 @@ pub(crate) fn put_varint(out: &mut Vec<u8>, n: usize)
 {
     let mut rest = n;
     while rest >= LIMIT {
-        put_bytes(out, &[(rest % LIMIT + LIMIT) as u8]);
+        append(out, &[(rest % LIMIT + LIMIT) as u8]);
         rest /= LIMIT;
     }
-    put_bytes(out, &[rest as u8]);
+    append(out, &[rest as u8]);
 }

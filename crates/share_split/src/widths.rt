@@ -1,8 +1,8 @@
 //! How wide the subtrees over a blob's shares are.
 
-ghost use Rattle.std.specs.Prelude.{◌≡◌, ◌≤◌, ◌<◌, ◌^◌, ◌/◌, IsTrue, false};
+ghost use Rattle.std.specs.Prelude.{ℕ, ◌≡◌, ◌≤◌, ◌<◌, ◌^◌, ◌/◌, IsTrue, false};
 ghost use Rattle.std.specs.Int.{IsPowerOfTwo};
-ghost use Rattle.share_split.specs.Widths.{is_wide_enough, width_of};
+ghost use Rattle.share_split.specs.Widths.{is_wide_enough, width_of, IsLeastPower, IsLeastRoot, WidthIsLesser};
 
 /// So many subtrees of one width hold a blob, unless they would have to be wider than the least
 /// square that holds it.
@@ -36,6 +36,14 @@ pub fn subtree_width(count: u64) -> u64
     }
     width
 }
+
+/// The width of subtrees is the one of the standard's formula, and the least powers and roots that the
+/// formula speaks of are there.
+pub fn width_laws()
+    ensures formula { WidthIsLesser }
+    ensures powers { (n : ℕ) → (least : ℕ) × IsLeastPower n least }
+    ensures roots { (n : ℕ) → (least : ℕ) × IsLeastRoot n least }
+{}
 
 #[cfg(test)]
 mod tests {

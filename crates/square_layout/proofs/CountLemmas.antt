@@ -60,11 +60,10 @@ told_end end blobs = elim (cases_lt max_count end) [
 
 -- one blob more is counted
 pub counted_on : (end new whole : ℕ) (blob : NamedBytes) (blobs others : List NamedBytes) → blobs ≡ blob ∷ others
-    → new ≡ min (min (start_after end blob) max_count + shares_of blob) max_count
+    → new ≡ min (start_after end blob + shares_of blob) max_count
     → min (end_of end blobs) max_count ≡ whole → min (end_of new others) max_count ≡ whole
 counted_on end new whole blob blobs others left is so_far =
-    let sum : min (min (start_after end blob) max_count + shares_of blob) max_count ≡ min (start_after end blob + shares_of blob) max_count = omega arith in
-    ap (λ (n : ℕ). min (end_of n others) max_count) (is ∙ sum)
+    ap (λ (n : ℕ). min (end_of n others) max_count) is
     ∙ told_end (start_after end blob + shares_of blob) others
     ∙ sym (ap (λ (n : ℕ). min n max_count) (ap (end_of end) left ∙ end_of-next end blob others))
     ∙ so_far

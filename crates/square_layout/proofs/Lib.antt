@@ -12,3 +12,4 @@ pub mod AcceptedLemmas
 pub mod StandingLemmas
 pub mod LeastWidthLemmas
 pub mod OrderLawLemmas
+pub mod SquareLemmas

@@ -1,13 +1,13 @@
 -- Lemmas on where blobs start and end.
-use Rattle.std.proofs.Common.{◌≡◌, ◌∙◌, ℕ, zero, suc, ◌+◌, ◌-◌, ◌*◌, ◌<◌, ◌≤◌, nat_le, true, false, if◌then◌else◌, List, [], ◌∷◌, ◌++◌, length, drop, replicate, refl, ap, arith, length-append}
-use Rattle.std.specs.Int.{div_ceil}
+use Rattle.std.proofs.Common.{◌≡◌, ◌∙◌, ℕ, zero, suc, ◌+◌, ◌-◌, ◌*◌, ◌<◌, ◌≤◌, true, false, if◌then◌else◌, List, [], ◌∷◌, ◌++◌, length, replicate, refl, ap, arith, length-append}
 use Rattle.std.proofs.lemmas.Grind.{div_ceil_times}
 use Rattle.std.proofs.lemmas.List.{length-replicate}
 use Rattle.namespace_id.specs.declared.namespaces.Namespace.{Namespace}
 use Rattle.namespace_id.specs.declared.shares.Share.{Share}
 use Rattle.share_split.specs.Widths.{is_wide_enough, width_from, width_of}
-use Rattle.share_split.specs.Blobs.{NamedBytes, share_count, later_shares, blob_shares_of}
+use Rattle.share_split.specs.Blobs.{NamedBytes, blob_shares_of}
 use Rattle.share_split.specs.Joined.{padding_share}
+use Rattle.share_split.proofs.BlobLawLemmas.{length-blob_shares_of}
 use Rattle.square_layout.specs.Layout.{shares_of, start_after, end_of, placed}
 
 -- ---- the start of a blob
@@ -43,21 +43,6 @@ unfolding end_of
 end_of-next end blob blobs = refl
 
 -- ---- how many shares there are
-
-length-later_shares : (count : ℕ) (name : Namespace) (bytes : List ℕ) → length (later_shares count name bytes) ≡ count
-unfolding later_shares
-length-later_shares zero name bytes = refl
-length-later_shares (suc count) name bytes = ap suc (length-later_shares count name (drop 482 bytes))
-
-share_count-some : (size : ℕ) → 0 < share_count size
-share_count-some size = elim (nat_le size 478) as (λ b. 0 < (if b then 1 else 1 + div_ceil (size - 478) 482)) [ true ↦ omega arith | false ↦ omega arith ]
-
-pub length-blob_shares_of : (name : Namespace) (bytes : List ℕ) → length (blob_shares_of name bytes) ≡ share_count (length bytes)
-length-blob_shares_of name bytes =
-    let rest : length (later_shares (share_count (length bytes) - 1) name (drop 478 bytes)) ≡ share_count (length bytes) - 1 =
-    length-later_shares (share_count (length bytes) - 1) name (drop 478 bytes) in
-    let some : 0 < share_count (length bytes) = share_count-some (length bytes) in
-    ap suc rest ∙ omega (arith, some)
 
 pub length-placed : (name : Namespace) (end : ℕ) (blobs : List NamedBytes) → end + length (placed name end blobs) ≡ end_of end blobs
 unfolding placed end_of

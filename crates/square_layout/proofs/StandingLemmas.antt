@@ -1,18 +1,21 @@
 -- Where each blob stands in a layout.
-use Rattle.std.proofs.Common.{◌≡◌, ◌∙◌, ℕ, ◌+◌, ◌-◌, ◌%◌, List, [], ◌∷◌, ◌++◌, length, take, drop, replicate, refl, sym, ap, ap₂, arith, length-append, append_assoc}
+use Rattle.std.proofs.Common.{◌≡◌, ◌∙◌, ℕ, ◌+◌, ◌-◌, ◌*◌, ◌%◌, ◌<◌, ◌≤◌, get_or, Some, List, [], ◌∷◌, ◌++◌, length, take, drop, replicate, refl, sym, ap, ap₂, arith, length-append, append_assoc}
 use Rattle.std.specs.Int.{div_ceil}
 use Rattle.std.proofs.Math.Seq.{take-append_seam, drop-append_seam}
 use Rattle.std.proofs.Math.Nat.{mul-mod_left}
-use Rattle.std.proofs.lemmas.List.{length-replicate}
+use Rattle.std.proofs.lemmas.List.{length-replicate, append-nil, get_or-append-add, get_or_append_left, get_or-replicate}
+use Rattle.std.proofs.lemmas.Option.{slice_get-get_or}
+use Rattle.std.specs.List.{slice_get}
 use Rattle.namespace_id.specs.declared.namespaces.Namespace.{Namespace}
 use Rattle.namespace_id.specs.declared.shares.Share.{Share}
-use Rattle.namespace_id.specs.Names.{primary_reserved_padding}
+use Rattle.namespace_id.specs.Names.{primary_reserved_padding, tail_padding}
 use Rattle.share_split.specs.Widths.{width_of}
 use Rattle.share_split.specs.Blobs.{NamedBytes, blob_shares_of}
 use Rattle.share_split.specs.Joined.{padding_share}
 use Rattle.square_layout.specs.Blocks.{BlockParts}
-use Rattle.square_layout.specs.Layout.{shares_of, start_after, end_of, placed, in_order, compact_part, compact_end, laid}
-use Rattle.square_layout.proofs.PlaceLemmas.{start_after-ge, length-blob_shares_of}
+use Rattle.share_split.proofs.BlobLawLemmas.{length-blob_shares_of}
+use Rattle.square_layout.specs.Layout.{shares_of, start_after, end_of, placed, last_name, padding_name, in_order, compact_part, compact_end, laid, width_for, square_of}
+use Rattle.square_layout.proofs.PlaceLemmas.{start_after-ge, length-placed}
 use Rattle.square_layout.proofs.LaidLemmas.{length-compact_part}
 
 -- a blob starts at a multiple of its width
@@ -27,49 +30,117 @@ middle a b c at size ea eb =
     ∙ ap (take (length b)) (drop-append_seam a (b ++ c))
     ∙ take-append_seam b c
 
--- the shares of a blob among others, behind those before its start
-record StandsAt (name : Namespace) (end : ℕ) (front : List NamedBytes) (blob : NamedBytes) (back : List NamedBytes) : Type 0 where
-  before : List Share
-  behind : List Share
-  parts : placed name end (front ++ blob ∷ back) ≡ before ++ blob_shares_of blob.namespace blob.bytes ++ behind
-  start : end + length before ≡ start_after (end_of end front) blob
+-- ---- the parts of a layout
 
-stands_at : (name : Namespace) (end : ℕ) (front : List NamedBytes) (blob : NamedBytes) (back : List NamedBytes) → StandsAt name end front blob back
-unfolding placed end_of
-stands_at name end [] blob back = record {
-  before = replicate (start_after end blob - end) (padding_share name);
-  behind = placed blob.namespace (start_after end blob + shares_of blob) back;
-  parts = refl;
-  start = omega (arith, length-replicate (start_after end blob - end) (padding_share name), start_after-ge end blob);
-}
-stands_at name end (first ∷ front) blob back =
-    let gap : List Share = replicate (start_after end first - end) (padding_share name) in
-    let own : List Share = blob_shares_of first.namespace first.bytes in
+-- some blobs, and others behind them
+placed-append : (name : Namespace) (end : ℕ) (front back : List NamedBytes)
+    → placed name end (front ++ back) ≡ placed name end front ++ placed (last_name name front) (end_of end front) back
+unfolding placed end_of last_name
+placed-append name end [] back = refl
+placed-append name end (first ∷ front) back =
     let next : ℕ = start_after end first + shares_of first in
-    let rest : StandsAt first.namespace next front blob back = stands_at first.namespace next front blob back in
-    let mine : List Share = blob_shares_of blob.namespace blob.bytes in
-    let grouped : gap ++ own ++ (rest.before ++ mine ++ rest.behind) ≡ gap ++ own ++ rest.before ++ mine ++ rest.behind = simp append_assoc in
-    let long_gap : length gap ≡ start_after end first - end = length-replicate (start_after end first - end) (padding_share name) in
-    let long_own : length own ≡ shares_of first = length-blob_shares_of first.namespace first.bytes in
-    record {
-      before = gap ++ own ++ rest.before;
-      behind = rest.behind;
-      parts = ap (λ (l : List Share). gap ++ own ++ l) rest.parts ∙ grouped;
-      start = (let all : length (gap ++ own ++ rest.before) ≡ length gap + length own + length rest.before =
-          length-append (gap ++ own) rest.before ∙ ap (λ (n : ℕ). n + length rest.before) (length-append gap own) in
-          omega (arith, all, long_gap, long_own, rest.start, start_after-ge end first));
-    }
+    let own : List Share = replicate (start_after end first - end) (padding_share name) ++ blob_shares_of first.namespace first.bytes in
+    ap (λ (l : List Share). own ++ l) (placed-append first.namespace next front back)
+    ∙ sym (append_assoc own (placed first.namespace next front) (placed (last_name first.namespace front) (end_of next front) back))
+
+-- a blob, with padding before it and others behind
+placed-cons : (name : Namespace) (end : ℕ) (blob : NamedBytes) (back : List NamedBytes)
+    → placed name end (blob ∷ back)
+    ≡ replicate (start_after end blob - end) (padding_share name)
+    ++ (blob_shares_of blob.namespace blob.bytes ++ placed blob.namespace (start_after end blob + shares_of blob) back)
+unfolding placed
+placed-cons name end blob back =
+    append_assoc (replicate (start_after end blob - end) (padding_share name)) (blob_shares_of blob.namespace blob.bytes)
+    (placed blob.namespace (start_after end blob + shares_of blob) back)
+
+-- what precedes a blob in a layout, without the padding
+abbrev pub before_of : BlockParts → List NamedBytes → List Share
+before_of block front = compact_part block ++ placed primary_reserved_padding (compact_end block) front
+
+length-before_of : (block : BlockParts) (front : List NamedBytes) → length (before_of block front) ≡ end_of (compact_end block) front
+length-before_of block front =
+    length-append (compact_part block) (placed primary_reserved_padding (compact_end block) front)
+    ∙ ap (λ (n : ℕ). n + length (placed primary_reserved_padding (compact_end block) front)) (length-compact_part block)
+    ∙ length-placed primary_reserved_padding (compact_end block) front
+
+-- the padding before a blob
+abbrev pub gap_of : BlockParts → List NamedBytes → NamedBytes → List Share
+gap_of block front blob =
+    replicate (start_after (end_of (compact_end block) front) blob - end_of (compact_end block) front) (padding_share (padding_name front))
+
+-- what is behind a blob
+abbrev pub behind_of : BlockParts → List NamedBytes → NamedBytes → List NamedBytes → List Share
+behind_of block front blob back =
+    placed blob.namespace (start_after (end_of (compact_end block) front) blob + shares_of blob) back
+
+laid-parts : (block : BlockParts) (front back : List NamedBytes) (blob : NamedBytes) → in_order block.blobs ≡ front ++ blob ∷ back
+    → laid block ≡ before_of block front ++ (gap_of block front blob ++ (blob_shares_of blob.namespace blob.bytes ++ behind_of block front blob back))
+laid-parts block front back blob e =
+    let compact : List Share = compact_part block in
+    let end : ℕ = compact_end block in
+    let rest : List Share = gap_of block front blob ++ (blob_shares_of blob.namespace blob.bytes ++ behind_of block front blob back) in
+    ap (λ (l : List NamedBytes). compact ++ placed primary_reserved_padding end l) e
+    ∙ ap (λ (l : List Share). compact ++ l)
+    (placed-append primary_reserved_padding end front (blob ∷ back)
+    ∙ ap (λ (l : List Share). placed primary_reserved_padding end front ++ l) (placed-cons (padding_name front) (end_of end front) blob back))
+    ∙ sym (append_assoc compact (placed primary_reserved_padding end front) rest)
+
+-- ---- what stands where
+
+-- the compact shares stand in front
+pub compact_stands : (block : BlockParts) → take (compact_end block) (laid block) ≡ compact_part block
+compact_stands block =
+    ap (λ (n : ℕ). take n (laid block)) (sym (length-compact_part block))
+    ∙ take-append_seam (compact_part block) (placed primary_reserved_padding (compact_end block) (in_order block.blobs))
 
 -- the shares of each blob stand where it starts
 pub blob_stands : (block : BlockParts) (front back : List NamedBytes) (blob : NamedBytes) → in_order block.blobs ≡ front ++ blob ∷ back
     → take (shares_of blob) (drop (start_after (end_of (compact_end block) front) blob) (laid block)) ≡ blob_shares_of blob.namespace blob.bytes
 blob_stands block front back blob e =
-    let at : StandsAt primary_reserved_padding (compact_end block) front blob back = stands_at primary_reserved_padding (compact_end block) front blob back in
+    let end : ℕ = end_of (compact_end block) front in
+    let start : ℕ = start_after end blob in
+    let before : List Share = before_of block front in
+    let gap : List Share = gap_of block front blob in
     let mine : List Share = blob_shares_of blob.namespace blob.bytes in
-    let whole : laid block ≡ (compact_part block ++ at.before) ++ mine ++ at.behind =
-    ap (λ (l : List NamedBytes). compact_part block ++ placed primary_reserved_padding (compact_end block) l) e
-    ∙ ap (λ (l : List Share). compact_part block ++ l) at.parts ∙ simp append_assoc in
-    let place : start_after (end_of (compact_end block) front) blob ≡ length (compact_part block ++ at.before) =
-    sym (length-append (compact_part block) at.before ∙ ap (λ (n : ℕ). n + length at.before) (length-compact_part block) ∙ at.start) in
-    ap (λ (l : List Share). take (shares_of blob) (drop (start_after (end_of (compact_end block) front) blob) l)) whole
-    ∙ middle (compact_part block ++ at.before) mine at.behind _ _ place (sym (length-blob_shares_of blob.namespace blob.bytes))
+    let behind : List Share = behind_of block front blob back in
+    let whole : laid block ≡ (before ++ gap) ++ mine ++ behind =
+    laid-parts block front back blob e ∙ sym (append_assoc before gap (mine ++ behind)) ∙ sym (append_assoc (before ++ gap) mine behind) in
+    let place : start ≡ length (before ++ gap) =
+    omega (arith, length-append before gap, length-before_of block front, length-replicate (start - end) (padding_share (padding_name front)), start_after-ge end blob) in
+    ap (λ (l : List Share). take (shares_of blob) (drop start l)) whole
+    ∙ middle (before ++ gap) mine behind start (shares_of blob) place (sym (length-blob_shares_of blob.namespace blob.bytes))
+
+-- one of many alike, behind others
+alike_stands : (before : List Share) (n : ℕ) (share : Share) (behind : List Share) (i : ℕ) → length before ≤ i → i < length before + n
+    → slice_get (before ++ (replicate n share ++ behind)) i ≡ Some share
+alike_stands before n share behind i from below =
+    let place : i ≡ length before + (i - length before) = omega (arith, from) in
+    let many : length (replicate n share) ≡ n = length-replicate n share in
+    let inner : i - length before < length (replicate n share) = omega (arith, from, below, many) in
+    let size : i < length (before ++ (replicate n share ++ behind)) =
+    omega (arith, length-append before (replicate n share ++ behind), length-append (replicate n share) behind, many, below) in
+    slice_get-get_or (before ++ (replicate n share ++ behind)) i share size
+    ∙ ap Some
+    (ap (λ (k : ℕ). get_or (before ++ (replicate n share ++ behind)) k share) place
+    ∙ get_or-append-add before (replicate n share ++ behind) (i - length before) share
+    ∙ get_or_append_left (replicate n share) behind share (i - length before) inner
+    ∙ get_or-replicate n (i - length before) share share (omega (arith, inner, many)))
+
+-- padding with the namespace of the blob before stands in a gap
+pub gap_stands : (block : BlockParts) (front back : List NamedBytes) (blob : NamedBytes) (i : ℕ) → in_order block.blobs ≡ front ++ blob ∷ back
+    → end_of (compact_end block) front ≤ i → i < start_after (end_of (compact_end block) front) blob
+    → slice_get (laid block) i ≡ Some (padding_share (padding_name front))
+gap_stands block front back blob i e from below =
+    let end : ℕ = end_of (compact_end block) front in
+    let size : length (before_of block front) ≡ end = length-before_of block front in
+    ap (λ (l : List Share). slice_get l i) (laid-parts block front back blob e)
+    ∙ alike_stands (before_of block front) (start_after end blob - end) (padding_share (padding_name front))
+    (blob_shares_of blob.namespace blob.bytes ++ behind_of block front blob back) i (omega (arith, size, from)) (omega (arith, size, from, below))
+
+-- tail padding stands behind the layout
+pub tail_stands : (block : BlockParts) (i : ℕ) → length (laid block) ≤ i → i < width_for block * width_for block
+    → slice_get (square_of block).shares i ≡ Some (padding_share tail_padding)
+tail_stands block i from below =
+    let n : ℕ = width_for block * width_for block - length (laid block) in
+    ap (λ (l : List Share). slice_get (laid block ++ l) i) (sym (append-nil (replicate n (padding_share tail_padding))))
+    ∙ alike_stands (laid block) n (padding_share tail_padding) [] i from (omega (arith, from, below))

@@ -50,6 +50,16 @@ placed name end (blob ∷ blobs) =
     ++ blob_shares_of blob.namespace blob.bytes
     ++ placed blob.namespace (start_after end blob + shares_of blob) blobs
 
+-- the namespace of the last of some blobs, or this one where there is none
+unfoldable pub last_name : Namespace → List NamedBytes → Namespace
+last_name name [] = name
+last_name name (blob ∷ blobs) = last_name blob.namespace blobs
+
+-- the namespace of the padding behind these blobs, in order: that of the last of them,
+-- PRIMARY_RESERVED_PADDING where there is none
+abbrev pub padding_name : List NamedBytes → Namespace
+padding_name blobs = last_name primary_reserved_padding blobs
+
 -- where the last blob ends
 unfoldable pub end_of : ℕ → List NamedBytes → ℕ
 end_of end [] = end

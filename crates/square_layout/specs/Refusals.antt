@@ -1,10 +1,8 @@
 -- Which blocks have no square, and the first check that fails (docs/RULES.md, "From a block to its
 -- square").
-use Rattle.std.specs.Prelude.{◌≡◌, ◌⊎◌, ℕ, suc, ◌-◌, ◌*◌, ◌^◌, ◌==◌, nat_lt, min, not, List, [], ◌∷◌, length, slice_index, slice_range, Option, Some, None, Result, Ok, Err, if◌then◌else◌}
+use Rattle.std.specs.Prelude.{◌≡◌, ◌⊎◌, ℕ, suc, ◌-◌, ◌*◌, ◌^◌, ◌==◌, nat_lt, min, List, [], ◌∷◌, length, Option, Some, None, Result, Ok, Err, if◌then◌else◌}
 use Rattle.std.specs.Option.{option_map_or, option_or}
-use Rattle.namespace_id.specs.declared.namespaces.NsError.{NsError}
-use Rattle.namespace_id.specs.declared.namespaces.NsError.TheVariants.{Length, Version, Prefix, Reserved}
-use Rattle.namespace_id.specs.Names.{is_zeros, is_reserved, namespace_refusal}
+use Rattle.namespace_id.specs.Names.{namespace_refusal}
 use Rattle.namespace_id.specs.Cells.{is_width}
 use Rattle.share_split.specs.Blobs.{NamedBytes}
 use Rattle.square_layout.specs.declared.laying.LayError.{LayError}

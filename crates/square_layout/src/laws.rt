@@ -1,15 +1,20 @@
 //! What the definition of a layout means.
 
-ghost use Rattle.std.specs.Prelude.{◌≡◌, ◌↔◌, ◌≤◌, ◌<◌, ◌+◌, ◌*◌, ◌%◌, ◌^◌, ◌++◌, ◌∷◌, ℕ, List, length, take, drop, map, max, true, None};
-ghost use Rattle.std.specs.List.{filter, AllByRecursion};
+ghost use Rattle.std.specs.Prelude.{◌≡◌, ◌↔◌, ◌≤◌, ◌<◌, ◌+◌, ◌*◌, ◌%◌, ◌^◌, ◌++◌, ◌∷◌, ℕ, List, length, take, drop, map, max, true, Some, None};
+ghost use Rattle.std.specs.List.{filter, slice_get, AllByRecursion};
 ghost use Rattle.namespace_id.specs.declared.namespaces.Namespace.{Namespace};
+ghost use Rattle.namespace_id.specs.Cells.{is_width};
 ghost use Rattle.namespace_id.specs.Lists.{holds_along};
-ghost use Rattle.namespace_id.specs.Names.{is_at_most, is_blob_namespace, namespace_refusal};
-ghost use Rattle.namespace_id.specs.Shares.{name_in};
+ghost use Rattle.namespace_id.specs.Names.{is_at_most, is_blob_namespace, namespace_refusal, tail_padding};
+ghost use Rattle.namespace_id.specs.Shares.{AreShares, name_in};
 ghost use Rattle.share_split.specs.Widths.{width_of};
 ghost use Rattle.share_split.specs.Blobs.{NamedBytes, blob_shares_of};
-ghost use Rattle.square_layout.specs.Blocks.{BlockParts};
-ghost use Rattle.square_layout.specs.Layout.{has_name, in_order, shares_of, start_after, end_of, compact_end, laid, needed, holding_from, width_for, square_of};
+ghost use Rattle.share_split.specs.Joined.{padding_share};
+ghost use Rattle.square_layout.specs.Blocks.{BlockParts, IsBlock, IsSquare};
+ghost use Rattle.square_layout.specs.Layout.{has_name, in_order, shares_of, start_after, end_of, padding_name, compact_part, compact_end, laid, needed, holding_from, width_for, square_of};
+ghost use Rattle.square_layout.specs.Refusals.{max_shares, refusal_of};
+
+use crate::MAX_SHARES;
 
 /// Blobs stand by ascending namespace, and blobs of one namespace as they came.
 pub fn order_laws()
@@ -20,7 +25,8 @@ pub fn order_laws()
 {}
 
 /// A blob starts at the least multiple of the width of its subtrees that isn't before the end of what
-/// precedes it, and its shares stand there in the layout.
+/// precedes it, and its shares stand there in the layout. The padding before it has the namespace of
+/// what precedes it.
 pub fn start_laws()
     ensures behind { (end : ℕ) (blob : NamedBytes) → end ≤ start_after end blob }
     ensures near { (end : ℕ) (blob : NamedBytes) →
@@ -32,10 +38,24 @@ pub fn start_laws()
         take (shares_of blob)
         (drop (start_after (end_of (compact_end block) before) blob) (laid block))
         ≡ blob_shares_of blob.namespace blob.bytes }
+
+    // The compact shares stand in front, and padding everywhere else.
+    ensures front { (block : BlockParts) →
+        take (compact_end block) (laid block) ≡ compact_part block }
+    ensures gap { (block : BlockParts) (before after : List NamedBytes) (blob : NamedBytes)
+        (i : ℕ) →
+        in_order block.blobs ≡ before ++ blob ∷ after →
+        end_of (compact_end block) before ≤ i →
+        i < start_after (end_of (compact_end block) before) blob →
+        slice_get (laid block) i ≡ Some (padding_share (padding_name before)) }
+    ensures tail { (block : BlockParts) (i : ℕ) → length (laid block) ≤ i →
+        i < width_for block * width_for block →
+        slice_get (square_of block).shares i ≡ Some (padding_share tail_padding) }
 {}
 
 /// The layout has as many shares as are needed, but where 1 is needed for none; a square that holds
-/// them is full; the least width holds them, and no lesser power of two does.
+/// them is full; the least width holds them, and no lesser power of two does. A block that isn't refused
+/// has a square, and one of bytes has shares.
 pub fn size_laws()
     ensures needed { (block : BlockParts) → needed block ≡ max 1 (length (laid block)) }
     ensures full { (block : BlockParts) → needed block ≤ width_for block * width_for block →
@@ -43,6 +63,12 @@ pub fn size_laws()
     ensures holds { (count : ℕ) → count ≤ 128 * 128 →
         count ≤ holding_from 7 1 count * holding_from 7 1 count }
     ensures least { (count j : ℕ) → j ≤ 7 → count ≤ 2 ^ j * 2 ^ j → holding_from 7 1 count ≤ 2 ^ j }
+    ensures width { (count : ℕ) → is_width (holding_from 7 1 count) ≡ true }
+    ensures limit { MAX_SHARES ≡ max_shares }
+
+    // Squares and shares.
+    ensures square { (block : BlockParts) → refusal_of block ≡ None → IsSquare (square_of block) }
+    ensures shares { (block : BlockParts) → IsBlock block → AreShares (square_of block).shares }
 {}
 
 /// The checks of a blob's namespace pass what `Namespace::blob` takes; and where all namespaces are

@@ -4,8 +4,7 @@ use Rattle.std.specs.Int.Bits.{xor_assoc, xor_zero_r}
 use Rattle.std.proofs.lemmas.List.{get_or-replicate}
 use Rattle.gf_cantor.specs.Field.{product}
 use Rattle.namespace_id.specs.declared.shares.Share.{Share}
-use Rattle.leopard_code.specs.Codewords.{column}
-use Rattle.leopard_code.specs.Weights.{weighted}
+use Rattle.leopard_code.specs.Codewords.{column, weighted}
 use Rattle.leopard_code.proofs.WeightedLemmas.{weighted-drop, weighted-past}
 use Rattle.leopard_code.proofs.sums.weighted_sum.Goals as goal
 

@@ -1,7 +1,6 @@
 use Rattle.std.proofs.Common.{◌≡◌, ℕ, ◌<◌, drop, get_or}
 use Rattle.std.specs.Prelude.{bit_xor}
-use Rattle.leopard_code.specs.Codewords.{column}
-use Rattle.leopard_code.specs.Weights.{weighted}
+use Rattle.leopard_code.specs.Codewords.{column, weighted}
 use Rattle.leopard_code.proofs.sums.weighted_sum.Given as goal
 
 abbrev pub invariant-loop-i : goal.invariant-loop-i

@@ -1,7 +1,6 @@
 use Rattle.std.proofs.Common.{◌≡◌, ℕ, ◌*◌, ◌<◌, take, drop, length}
 use Rattle.std.specs.Prelude.{IfSome, slice_get, slice_index}
-use Rattle.leopard_code.specs.Codewords.{column}
-use Rattle.leopard_code.specs.Weights.{weighted}
+use Rattle.leopard_code.specs.Codewords.{column, weighted}
 use Rattle.leopard_code.proofs.sums.weighted_sums.Given as goal
 
 abbrev pub invariant-loop-j : goal.invariant-loop-j

@@ -2,24 +2,24 @@ use Rattle.std.proofs.Common.{◌∙◌, ℕ, ◌++◌, List, sym, ap, arith}
 use Rattle.share_split.proofs.VarintLemmas.{varint-low, length-varint-low, length-varint-high, varint-step, some-varint}
 use Rattle.share_split.proofs.varints.put_varint.Goals as goal
 
-pub put_bytes-requires : goal.put_bytes-requires
-put_bytes-requires c = record { room = omega (arith, c.requires.room, some-varint c.loop-rest.rest) }
+pub append-requires : goal.append-requires
+append-requires c = record { room = omega (arith, c.requires.room, some-varint c.loop-rest.rest) }
 
 pub loop-rest-preserved : goal.loop-rest-preserved
 loop-rest-preserved c = record {
-  all = varint-step c.loop-rest.out.items c.put_bytes.new.out.items _ c.loop-rest.rest
-      (omega arith) (omega arith) c.loop-rest.invariant.all c.put_bytes.ensures.appended;
+  all = varint-step c.loop-rest.out.items c.append.new.out.items _ c.loop-rest.rest
+      (omega arith) (omega arith) c.loop-rest.invariant.all c.append.ensures.appended;
   len = omega (arith, length-varint-high c.loop-rest.rest (omega arith) (omega arith));
   capacity = omega arith;
   fits = omega arith;
 }
 
-pub put_bytes-requires-2 : goal.put_bytes-requires-2
-put_bytes-requires-2 c = record { room = omega (arith, c.requires.room, some-varint c.loop-rest.rest) }
+pub append-requires-2 : goal.append-requires-2
+append-requires-2 c = record { room = omega (arith, c.requires.room, some-varint c.loop-rest.rest) }
 
 pub returns-clause-appended : goal.returns-clause-appended
 returns-clause-appended c =
-    c.put_bytes-2.ensures.appended
+    c.append-2.ensures.appended
     ∙ sym (ap (λ (x : List ℕ). c.loop-rest.out.items ++ x) (varint-low c.loop-rest.rest (omega arith)))
     ∙ c.loop-rest.invariant.all
 

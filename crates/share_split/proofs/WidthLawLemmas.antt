@@ -1,0 +1,180 @@
+-- The width of subtrees is the least power of two that is wide enough, and so the lesser of two.
+use Rattle.std.proofs.Common.{◌≡◌, ◌∙◌, ℕ, zero, suc, ◌*◌, ◌^◌, ◌<◌, ◌≤◌, min, true, inl, inr, refl, sym, ap, subst, arith, mul_assoc, mul_comm}
+use Rattle.std.specs.Int.{IsPowerOfTwo, div_ceil}
+use Rattle.std.proofs.lemmas.Bool.{cases_lt, cases_Bool}
+use Rattle.std.proofs.lemmas.Bool.Decides.{nat_tests}
+use Rattle.std.proofs.lemmas.Grind.{div_ceil_times}
+use Rattle.std.proofs.lemmas.Nat.{mul-le}
+use Rattle.std.proofs.Math.Nat.{pow-suc, one-le-pow, mul-suc}
+use Rattle.std.proofs.Math.Pow.{pow_mono}
+use Rattle.share_split.specs.Widths.{is_wide_enough, width_from, width_of, IsLeastPower, IsLeastRoot}
+use Rattle.share_split.proofs.WidthLemmas.{power-double, width_from-suc, width_from-found}
+
+doubled : (width j : ℕ) → width * 2 ^ suc j ≡ width * 2 * 2 ^ j
+doubled width j =
+    let twice : 2 ^ suc j ≡ 2 ^ j * 2 = pow-suc 2 j in
+    ap (λ (n : ℕ). width * n) (twice ∙ mul_comm (2 ^ j) 2) ∙ sym (mul_assoc width 2 (2 ^ j))
+
+-- ---- the first of the widths that are tried
+
+-- no lesser one is wide enough
+least_from : (more width count j : ℕ) → j ≤ more → is_wide_enough count (width * 2 ^ j) ≡ true → width_from more width count ≤ width * 2 ^ j
+unfolding width_from
+least_from zero width count zero h enough = omega arith
+least_from zero width count (suc j) h enough = absurd (omega (arith, h))
+least_from (suc more) width count zero h enough =
+    let one : width * 2 ^ 0 ≡ width = omega arith in
+    let here : is_wide_enough count width ≡ true = subst (λ (w : ℕ). is_wide_enough count w ≡ true) one enough in
+    omega (arith, width_from-found (suc more) width count here)
+least_from (suc more) width count (suc j) h enough = elim (cases_Bool (is_wide_enough count width)) [
+  | inl here ↦
+      let grows : width * 1 ≤ width * 2 ^ suc j = mul-le width 1 width (2 ^ suc j) (omega arith) (one-le-pow (suc j) 2 (omega arith)) in
+      omega (arith, width_from-found (suc more) width count here, grows)
+  | inr small ↦
+      let rest : width_from more (width * 2) count ≤ width * 2 * 2 ^ j =
+      least_from more (width * 2) count j (omega (arith, h)) (subst (λ (w : ℕ). is_wide_enough count w ≡ true) (doubled width j) enough) in
+      omega (arith, width_from-suc more width count small, rest, doubled width j)
+]
+
+-- it is at most the last
+most_from : (more width count : ℕ) → width_from more width count ≤ width * 2 ^ more
+unfolding width_from
+most_from zero width count = omega arith
+most_from (suc more) width count = elim (cases_Bool (is_wide_enough count width)) [
+  | inl here ↦
+      let grows : width * 1 ≤ width * 2 ^ suc more = mul-le width 1 width (2 ^ suc more) (omega arith) (one-le-pow (suc more) 2 (omega arith)) in
+      omega (arith, width_from-found (suc more) width count here, grows)
+  | inr small ↦ omega (arith, width_from-suc more width count small, most_from more (width * 2) count, doubled width more)
+]
+
+-- it is wide enough if the last is
+enough_from : (more width count : ℕ) → is_wide_enough count (width * 2 ^ more) ≡ true → is_wide_enough count (width_from more width count) ≡ true
+unfolding width_from
+enough_from zero width count last =
+    let one : width * 2 ^ 0 ≡ width = omega arith in subst (λ (w : ℕ). is_wide_enough count w ≡ true) one last
+enough_from (suc more) width count last = elim (cases_Bool (is_wide_enough count width)) [
+  | inl here ↦ subst (λ (w : ℕ). is_wide_enough count w ≡ true) (sym (width_from-found (suc more) width count here)) here
+  | inr small ↦
+      subst (λ (w : ℕ). is_wide_enough count w ≡ true) (sym (width_from-suc more width count small))
+      (enough_from more (width * 2) count (subst (λ (w : ℕ). is_wide_enough count w ≡ true) (doubled width more) last))
+]
+
+-- it is a power of two if the first is
+power_from : (more j count : ℕ) → IsPowerOfTwo (width_from more (2 ^ j) count)
+unfolding width_from
+power_from zero j count = (j, refl)
+power_from (suc more) j count = elim (cases_Bool (is_wide_enough count (2 ^ j))) [
+  | inl here ↦ (j, width_from-found (suc more) (2 ^ j) count here)
+  | inr small ↦
+      subst IsPowerOfTwo
+      (ap (λ (w : ℕ). width_from more w count) (pow-suc 2 j) ∙ sym (width_from-suc more (2 ^ j) count small)) (power_from more (suc j) count)
+]
+
+-- ---- the width
+
+width_of-power : (count : ℕ) → IsPowerOfTwo (width_of count)
+width_of-power count = power_from 28 0 count
+
+width_of-enough : (count : ℕ) → count ≤ 2 ^ 56 → is_wide_enough count (width_of count) ≡ true
+width_of-enough count h =
+    let last : is_wide_enough count (1 * 2 ^ 28) ≡ true = grind (arith, nat_tests) in
+    enough_from 28 1 count last
+
+-- no lesser power of two is wide enough
+width_of-least : (count power : ℕ) → IsPowerOfTwo power → is_wide_enough count power ≡ true → width_of count ≤ power
+width_of-least count power p enough = elim (cases_lt 28 p.0) [
+  | inr few ↦
+      let one : power ≡ 1 * 2 ^ p.0 = omega (arith, p.1) in
+      omega (arith, one, least_from 28 1 count p.0 few (subst (λ (w : ℕ). is_wide_enough count w ≡ true) one enough))
+  | inl many ↦
+      let greater : 2 ^ 28 ≤ 2 ^ p.0 = (let le : 28 ≤ p.0 = omega (arith, many) in pow_mono le) in
+      omega (arith, p.1, greater, most_from 28 1 count)
+]
+
+-- if 64 subtrees don't hold the shares, a square does
+enough_square : (count width : ℕ) → 64 * width < count → is_wide_enough count width ≡ true → count ≤ width * width
+enough_square count width more h = grind (arith, nat_tests)
+
+-- it is the lesser of two powers of two
+pub width_is_lesser : (count root by_threshold by_square : ℕ) → count ≤ 2 ^ 56
+    → IsLeastPower (div_ceil count 64) by_threshold → IsLeastRoot count root → IsLeastPower root by_square
+    → width_of count ≡ min by_threshold by_square
+width_is_lesser count root by_threshold by_square h threshold least square =
+    let w : ℕ = width_of count in
+    let rounded = div_ceil_times count 64 (omega arith) in
+    let threshold_enough : is_wide_enough count by_threshold ≡ true = grind (arith, nat_tests, rounded.0, threshold.holds) in
+    let squares : root * root ≤ by_square * by_square = mul-le root root by_square by_square square.holds square.holds in
+    let square_enough : is_wide_enough count by_square ≡ true = grind (arith, nat_tests, least.holds, squares) in
+    let below_threshold : w ≤ by_threshold = width_of-least count by_threshold threshold.is_power threshold_enough in
+    let below_square : w ≤ by_square = width_of-least count by_square square.is_power square_enough in
+    elim (cases_lt (64 * w) count) [
+      | inr held ↦
+          let at : by_threshold ≤ w = threshold.none_below w (width_of-power count) (omega (arith, rounded.1, held)) in
+          omega (arith, at, below_threshold, below_square)
+      | inl more ↦
+          let square_holds : count ≤ w * w = enough_square count w more (width_of-enough count h) in
+          let at : by_square ≤ w = square.none_below w (width_of-power count) (least.none_below w square_holds) in
+          omega (arith, at, below_threshold, below_square)
+    ]
+
+-- ---- there are such powers and roots
+
+-- the next power of two is twice as great
+power_above : (j k : ℕ) → 2 ^ j < 2 ^ k → 2 ^ j * 2 ≤ 2 ^ k
+power_above j k lt = elim (cases_lt j k) [
+  | inl below ↦
+      let next : suc j ≤ k = omega (arith, below) in
+      let greater : 2 ^ suc j ≤ 2 ^ k = pow_mono next in omega (arith, greater, pow-suc 2 j)
+  | inr above ↦ (let greater : 2 ^ k ≤ 2 ^ j = pow_mono above in absurd (omega (arith, greater, lt)))
+]
+
+pub least_power : (n : ℕ) → (least : ℕ) × IsLeastPower n least
+least_power zero =
+    (1, record { is_power = (0, refl); holds = omega arith; none_below = λ other p h. omega (arith, p.1, one-le-pow p.0 2 (omega arith)) })
+least_power (suc n) =
+    let before : (least : ℕ) × IsLeastPower n least = least_power n in
+    let j : ℕ = before.1.is_power.0 in
+    let is : before.0 ≡ 2 ^ j = before.1.is_power.1 in
+    let some : 1 ≤ 2 ^ j = one-le-pow j 2 (omega arith) in
+    elim (cases_lt n before.0) [
+      | inl lt ↦ (
+        before.0,
+        record {
+          is_power = before.1.is_power;
+          holds = omega (arith, lt);
+          none_below = λ other p h. before.1.none_below other p (omega (arith, h));
+        },
+      )
+      | inr le ↦ (
+        before.0 * 2,
+        record {
+          is_power = power-double before.0 before.1.is_power;
+          holds = omega (arith, before.1.holds, is, some);
+          none_below = λ other p h. (let more = power_above j p.0 (omega (arith, h, le, is, p.1)) in omega (arith, more, is, p.1));
+        },
+      )
+    ]
+
+-- a greater square has a greater root
+next_root : (root other n : ℕ) → root * root ≤ n → suc n ≤ other * other → suc root ≤ other
+next_root root other n le h = elim (cases_lt root other) [
+  | inl below ↦ omega (arith, below)
+  | inr above ↦ (let square = mul-le other other root root above above in absurd (omega (arith, square, le, h)))
+]
+
+pub least_root : (n : ℕ) → (least : ℕ) × IsLeastRoot n least
+least_root zero = (0, record { holds = omega arith; none_below = λ other h. omega arith })
+least_root (suc n) =
+    let before : (least : ℕ) × IsLeastRoot n least = least_root n in
+    let root : ℕ = before.0 in
+    elim (cases_lt n (root * root)) [
+      | inl lt ↦ (root, record { holds = omega (arith, lt); none_below = λ other h. before.1.none_below other (omega (arith, h)) })
+      | inr le ↦ (
+        suc root,
+        record {
+          holds = (let grows : root * root ≤ suc root * root = mul-le root root (suc root) root (omega arith) (omega arith) in
+              omega (arith, grows, mul-suc (suc root) root, before.1.holds));
+          none_below = λ other h. next_root root other n le h;
+        },
+      )
+    ]

@@ -1,0 +1,138 @@
+-- The square of a block is a square, and its shares are shares.
+use Rattle.std.proofs.Common.{◌≡◌, ◌∙◌, ℕ, zero, suc, ◌+◌, ◌-◌, ◌*◌, ◌^◌, ◌<◌, ◌≤◌, nat_le, nat_lt, min, Bool, true, false, if◌then◌else◌, List, [], ◌∷◌, ◌++◌, length, replicate, Option, Some, None, refl, sym, ap, arith, inl, inr, mul_assoc, mul_comm}
+use Rattle.std.specs.List.{AllByRecursion}
+use Rattle.std.specs.Option.{option_map_or}
+use Rattle.std.proofs.Math.Nat.{pow-suc, one-le-pow}
+use Rattle.std.proofs.lemmas.Bool.{cases_Bool}
+use Rattle.std.proofs.lemmas.Bool.Decides.{nat_tests}
+use Rattle.std.proofs.lemmas.Nat.{mul-le}
+use Rattle.namespace_id.specs.declared.namespaces.Namespace.{Namespace}
+use Rattle.namespace_id.specs.declared.shares.Share.{Share}
+use Rattle.namespace_id.specs.Cells.{is_width}
+use Rattle.namespace_id.specs.Names.{IsNamespace, transaction, pay_for_blob, primary_reserved_padding, tail_padding}
+use Rattle.namespace_id.specs.Shares.{IsShare, AreShares}
+use Rattle.namespace_id.proofs.StringLemmas.{AreBytes-append, AreBytes-replicate}
+use Rattle.share_split.specs.Blobs.{NamedBytes, IsNamed, blob_shares_of}
+use Rattle.share_split.specs.Units.{unit_shares_of}
+use Rattle.share_split.specs.Joined.{padding_share}
+use Rattle.share_split.proofs.BlobLawLemmas.{blob_shares_are_shares, padding_is_share}
+use Rattle.share_split.proofs.UnitLawLemmas.{unit_shares_are_shares}
+use Rattle.square_layout.specs.declared.laying.LayError.{LayError}
+use Rattle.square_layout.specs.declared.laying.LayError.TheVariants.{TooLarge, WidthTooSmall, BadWidth}
+use Rattle.square_layout.specs.Blocks.{BlockParts, IsBlock, IsSquare}
+use Rattle.square_layout.specs.Layout.{in_order, shares_of, start_after, placed, compact_end, laid, needed, holding_from, width_for, square_of}
+use Rattle.square_layout.specs.Refusals.{max_shares, max_count, blob_refusal, width_refusal, size_refusal, refusal_of}
+use Rattle.square_layout.proofs.AcceptedLemmas.{no_refusal}
+use Rattle.square_layout.proofs.BlobOrderLemmas.{All-in_order}
+use Rattle.square_layout.proofs.LaidLemmas.{length-padded, laid_fits}
+use Rattle.square_layout.proofs.LeastWidthLemmas.{holding_holds}
+use Rattle.square_layout.proofs.SizeLemmas.{is_width-double, holding_from-suc, holding_from-found}
+
+-- ---- the square is one
+
+width-doubled : (k more : ℕ) → k * 2 ^ suc more ≡ 128 → k * 2 * 2 ^ more ≡ 128
+width-doubled k more last =
+    let twice : 2 ^ suc more ≡ 2 ^ more * 2 = pow-suc 2 more in
+    mul_assoc k 2 (2 ^ more) ∙ ap (λ (n : ℕ). k * n) (mul_comm 2 (2 ^ more) ∙ sym twice) ∙ last
+
+-- a width of which so many doublings give the greatest is below it
+below_last : (k more : ℕ) → k * 2 ^ suc more ≡ 128 → k < 128
+below_last k more last =
+    let two : 2 ≤ 2 ^ suc more = omega (arith, pow-suc 2 more, one-le-pow more 2 (omega arith)) in
+    let grows : k * 2 ≤ k * 2 ^ suc more = mul-le k 2 k (2 ^ suc more) (omega arith) two in
+    omega (arith, grows, last)
+
+holding_from-width : (more k count : ℕ) → is_width k ≡ true → k * 2 ^ more ≡ 128 → is_width (holding_from more k count) ≡ true
+unfolding holding_from
+holding_from-width zero k count one last = one
+holding_from-width (suc more) k count one last = elim (cases_Bool (nat_le count (k * k))) [
+  | inl enough ↦ ap is_width (holding_from-found (suc more) k count enough) ∙ one
+  | inr small ↦
+      ap is_width (holding_from-suc more k count small ∙ ap (λ (w : ℕ). holding_from more w count) (mul_comm 2 k))
+      ∙ holding_from-width more (k * 2) count (is_width-double k one (below_last k more last)) (width-doubled k more last)
+]
+
+-- the least width is one
+pub least_is_width : (count : ℕ) → is_width (holding_from 7 1 count) ≡ true
+least_is_width count = holding_from-width 7 1 count refl refl
+
+if_none : (b : Bool) (e : LayError) (o : Option LayError) → (if b then Some e else o) ≡ None → (b ≡ false) × (o ≡ None)
+if_none true e o h = absurd cc
+if_none false e o h = (refl, h)
+
+if_passes : (b : Bool) (e : LayError) → (if b then None else Some e) ≡ None → b ≡ true
+if_passes true e h = refl
+if_passes false e h = absurd cc
+
+-- a width that isn't refused holds the shares
+size_passes : (width : Option ℕ) (count : ℕ) → size_refusal width count ≡ None
+    → (is_width (option_map_or (λ k. k) width (holding_from 7 1 count)) ≡ true)
+    × (count ≤ option_map_or (λ k. k) width (holding_from 7 1 count) * option_map_or (λ k. k) width (holding_from 7 1 count))
+size_passes None count h =
+    let fits = if_none (nat_lt max_shares count) (TooLarge (min count max_count)) None h in
+    let few : count ≤ 128 * 128 = grind (arith, nat_tests, fits.0) in
+    (least_is_width count, holding_holds count few)
+size_passes (Some k) count h =
+    let fits = if_none (nat_lt max_shares count) (TooLarge (min count max_count)) (width_refusal count k) h in
+    let asked = if_none (nat_lt (k * k) count) (WidthTooSmall count) (if is_width k then None else Some BadWidth) fits.1 in
+    let holds : count ≤ k * k = grind (arith, nat_tests, asked.0) in
+    (if_passes (is_width k) BadWidth asked.1, holds)
+
+pub square_is_square : (block : BlockParts) → refusal_of block ≡ None → IsSquare (square_of block)
+square_is_square block none =
+    let size = no_refusal (blob_refusal block.blobs) (size_refusal block.width (needed block)) (sym none) in
+    let k : ℕ = width_for block in
+    let passes = size_passes block.width (needed block) size.1 in
+    record {
+      width = passes.0;
+      count = length-padded (laid block) (padding_share tail_padding) (k * k) (laid_fits block (k * k) passes.1);
+    }
+
+-- ---- its shares are shares
+
+AreShares-append : (a b : List Share) → AreShares a → AreShares b → AreShares (a ++ b)
+AreShares-append [] b h k = k
+AreShares-append (share ∷ a) b h k = (h.0, AreShares-append a b h.1 k)
+
+AreShares-replicate : (n : ℕ) (share : Share) → IsShare share → AreShares (replicate n share)
+AreShares-replicate zero share h = tt
+AreShares-replicate (suc n) share h = (h, AreShares-replicate n share h)
+
+-- the namespaces of padding and of units
+low_is_namespace : (byte : ℕ) → byte < 256 → IsNamespace (record { 0 = replicate 28 0 ++ byte ∷ [] })
+low_is_namespace byte h = record {
+  size_is = refl;
+  fits = AreBytes-append (replicate 28 0) (replicate 1 byte) (AreBytes-replicate 28 0 (omega arith)) (AreBytes-replicate 1 byte h);
+}
+
+tail_is_namespace : IsNamespace tail_padding
+tail_is_namespace = record {
+  size_is = refl;
+  fits = AreBytes-append (replicate 28 0xFF) (replicate 1 0xFE) (AreBytes-replicate 28 0xFF (omega arith)) (AreBytes-replicate 1 0xFE (omega arith));
+}
+
+placed-are_shares : (name : Namespace) (end : ℕ) (blobs : List NamedBytes) → IsNamespace name → AllByRecursion IsNamed blobs → AreShares (placed name end blobs)
+unfolding placed
+placed-are_shares name end [] named all = tt
+placed-are_shares name end (blob ∷ blobs) named all =
+    let gap : List Share = replicate (start_after end blob - end) (padding_share name) in
+    let own : List Share = blob_shares_of blob.namespace blob.bytes in
+    let others : List Share = placed blob.namespace (start_after end blob + shares_of blob) blobs in
+    AreShares-append (gap ++ own) others
+    (AreShares-append gap own (AreShares-replicate (start_after end blob - end) (padding_share name) (padding_is_share name named))
+    (blob_shares_are_shares blob.namespace blob.bytes all.0.name all.0.fits))
+    (placed-are_shares blob.namespace (start_after end blob + shares_of blob) blobs all.0.name all.1)
+
+pub square_has_shares : (block : BlockParts) → IsBlock block → AreShares (square_of block).shares
+square_has_shares block is =
+    let units : List Share = unit_shares_of transaction block.units in
+    let pay_units : List Share = unit_shares_of pay_for_blob block.pay_units in
+    let blobs : List Share = placed primary_reserved_padding (compact_end block) (in_order block.blobs) in
+    let rest : ℕ = width_for block * width_for block - length (laid block) in
+    AreShares-append (laid block) (replicate rest (padding_share tail_padding))
+    (AreShares-append (units ++ pay_units) blobs
+    (AreShares-append units pay_units (unit_shares_are_shares transaction block.units (low_is_namespace 1 (omega arith)) is.units)
+    (unit_shares_are_shares pay_for_blob block.pay_units (low_is_namespace 4 (omega arith)) is.pay_units))
+    (placed-are_shares primary_reserved_padding (compact_end block) (in_order block.blobs) (low_is_namespace 0xFF (omega arith))
+    (All-in_order IsNamed block.blobs is.blobs)))
+    (AreShares-replicate rest (padding_share tail_padding) (padding_is_share tail_padding tail_is_namespace))
