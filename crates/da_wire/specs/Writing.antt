@@ -1,6 +1,5 @@
 -- The two parts of a spelling: a value's kind and its payload.
-use Rattle.std.specs.Prelude.{◌≡◌, ◌+◌, ◌≤◌, ◌<◌, ◌^◌, ℕ, List, ◌++◌, length, Vec, vec_len, vec_capacity, Option, Some, None, MatchOption}
-use Rattle.std.specs.declared.alloc.Global.{Global}
+use Rattle.std.specs.Prelude.{◌≡◌, ◌≤◌, ◌<◌, ◌^◌, ℕ, List, ◌++◌, length, Option, Some, None, MatchOption}
 use Rattle.da_wire.specs.declared.frames.Frame.{Frame}
 use Rattle.da_wire.specs.declared.frames.Frame.TheVariants.{Header, Square, Message, Missing, Sample, Request, Block}
 use Rattle.da_wire.specs.Spelling.{max_payload, frame, spelling, header_kind, square_kind, message_kind, missing_kind, sample_kind, request_kind, block_kind, header_payload, square_payload, message_payload, missing_payload, sample_payload, request_payload, block_payload}

@@ -5,7 +5,8 @@ ghost use Rattle.std.specs.Int.{w16, from_be_bytes};
 ghost use Rattle.namespace_id.specs.Cells.{is_width, are_cells};
 ghost use Rattle.namespace_id.specs.Answers.{Gives};
 ghost use Rattle.da_wire.specs.Fields.{digests_of, shares_of, cells_of};
-ghost use Rattle.da_wire.specs.Reading.{roots_of, header_at, square_at, axis_at, path_at, cell_at, message_at, is_next, are_next, missing_at, sample_at, request_at, GivesUnlessFull};
+ghost use Rattle.da_wire.specs.Steps.{is_next, are_next};
+ghost use Rattle.da_wire.specs.Reading.{roots_of, header_at, square_at, axis_at, path_at, cell_at, message_at, missing_at, sample_at, request_at, GivesUnlessFull};
 
 use crate::fields::{NAME_SIZE, name_of, share_at, share_of, u8_at, u16_at, u32_at};
 use axis_roots::Message;
