@@ -1,9 +1,9 @@
 -- What is spelled is read, what is read is spelled, and so each value has one spelling.
-use Rattle.std.proofs.Common.{◌≡◌, ◌∙◌, ℕ, ◌+◌, ◌<◌, ◌≤◌, Bool, true, false, ltb, eqb, cond, ◌&&◌, List, [], ◌∷◌, ◌++◌, length, Option, None, Some, Result, Ok, Err, refl, sym, ap, subst, arith, append-nil, le-ltb}
+use Rattle.std.proofs.Common.{◌≡◌, ◌∙◌, ℕ, ◌+◌, ◌<◌, ◌≤◌, Bool, true, false, ltb, eqb, cond, ◌&&◌, List, [], ◌∷◌, ◌++◌, length, drop, Option, None, Some, Result, Ok, Err, refl, sym, ap, subst, arith, append-nil, append_assoc, le-ltb}
 use Rattle.std.specs.Prelude.{slice_index}
 use Rattle.std.specs.Int.{w32, to_be_bytes}
 use Rattle.std.proofs.lemmas.Bool.Decides.{nat_tests}
-use Rattle.std.proofs.lemmas.List.{length-append, nil_from_length}
+use Rattle.std.proofs.lemmas.List.{length-append, nil_from_length, drop_at}
 use Rattle.std.proofs.lemmas.Option.{same_Some, some_pair_parts}
 use Rattle.namespace_id.specs.Bytes.{AreBytes}
 use Rattle.da_wire.specs.declared.frames.Frame.{Frame}
@@ -13,7 +13,7 @@ use Rattle.da_wire.specs.declared.frames.FrameError.TheVariants.{Truncated, BadK
 use Rattle.da_wire.specs.Spelling.{max_payload, frame, spelled, spelling, asks_for_zero, IsFrame, header_kind, square_kind, message_kind, missing_kind, sample_kind, request_kind, block_kind, header_payload, square_payload, message_payload, missing_payload, sample_payload, request_payload, block_payload}
 use Rattle.da_wire.specs.Reading.{Raw, raw_of, is_kind, value_at, valued, value_of, tested_raw, tested_frame, frame_of}
 use Rattle.da_wire.specs.Frames.{ok_of}
-use Rattle.da_wire.specs.Writing.{kind_of}
+use Rattle.da_wire.specs.Writing.{kind_of, AppendsSpelling, IsReadBack, appended}
 use Rattle.da_wire.specs.Laws.{SpelledIsRead, ReadIsSpelled, OneSpelling, IsSpelledFront}
 use Rattle.da_wire.proofs.ReaderLemmas.{if_false}
 use Rattle.da_wire.proofs.RawLemmas.{length-frame, raw_again, raw_takes}
@@ -91,6 +91,25 @@ tested_read test value text rest at passes is e =
 
 pub spelled_is_read : SpelledIsRead
 spelled_is_read value text rest at is e = tested_read (λ kind. true) value text rest at refl is e
+
+-- a kind, a length and a payload that were appended one after another are a frame
+pub frame_appended : (old first second new : List ℕ) (kind size : ℕ) (payload : List ℕ) → first ≡ old ++ kind ∷ [] → second ≡ first ++ to_be_bytes w32 size
+    → new ≡ second ++ payload → size ≡ length payload → new ≡ old ++ frame kind payload
+frame_appended old first second new kind size payload one two all len =
+    let text : List ℕ = to_be_bytes w32 size in
+    let behind : (old ++ kind ∷ []) ++ (text ++ payload) ≡ old ++ (kind ∷ text ++ payload) = append_assoc old (kind ∷ []) (text ++ payload) in
+    all ∙ ap (λ (l : List ℕ). l ++ payload) (two ∙ ap (λ (l : List ℕ). l ++ text) one)
+    ∙ append_assoc (old ++ kind ∷ []) text payload
+    ∙ behind
+    ∙ ap (λ (n : ℕ). old ++ (kind ∷ to_be_bytes w32 n ++ payload)) len
+
+-- what was written is read back
+pub written_back : (value : Frame) (old new : List ℕ) → IsFrame value → AppendsSpelling value old new → IsReadBack value (appended old new)
+written_back value old new is text rest =
+    let same : appended old new ≡ text.0 = ap (λ (l : List ℕ). drop (length old) l) text.2 ∙ drop_at old text.0 (length old) refl in
+    let all : 0 + length text.0 ≡ length text.0 = omega arith in
+    subst (λ (l : List ℕ). frame_of 0 (l ++ rest) ≡ Ok (value, length l)) (sym same)
+    (spelled_is_read value text.0 rest 0 is text.1 ∙ ap (λ (n : ℕ). Ok (value, n)) all)
 
 -- ---- read, then spelled
 
