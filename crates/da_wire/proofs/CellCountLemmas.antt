@@ -29,9 +29,9 @@ place_before : (k : ℕ) (a b : Cell) → is_in_square k a ≡ true → is_befor
 place_before k a b inside before = elim (cases_lt a.row b.row) [
   | inl above ↦ omega (arith, row_before (2 * k) a.row a.col b.row (row_inside k a inside).1 above)
   | inr not_above ↦
-    let same : a.row ≡ b.row = grind (arith, nat_tests) in
-    let left : a.col < b.col = grind (arith, nat_tests) in
-    omega (arith, ap (λ (row : ℕ). 2 * k * row) same, left)
+      let same : a.row ≡ b.row = grind (arith, nat_tests) in
+      let left : a.col < b.col = grind (arith, nat_tests) in
+      omega (arith, ap (λ (row : ℕ). 2 * k * row) same, left)
 ]
 
 -- a first cell, and the cells after it

@@ -67,7 +67,7 @@ raw_front bytes f n fits e =
 reader : IsReader Raw raw_in raw_text IsRaw
 reader = record {
   again = λ f rest is. ap (λ (r : Result Raw FrameError). option_map sized_raw (ok_of r)) (raw_read 0 f rest is)
-  ∙ ap (λ (n : ℕ). Some (f, n)) (is.size ∙ sym (length-frame f.kind f.payload));
+      ∙ ap (λ (n : ℕ). Some (f, n)) (is.size ∙ sym (length-frame f.kind f.payload));
   takes = raw_front;
   some = λ f is. omega (arith, length-frame f.kind f.payload);
 }

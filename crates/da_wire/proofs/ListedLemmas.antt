@@ -128,12 +128,12 @@ pub walked_some : {A : Type 0} (one : List ℕ → Option (A × ℕ)) (text : A 
 walked_some one text Is bytes xs stop at w e = elim w.end [
   | inl none ↦ let never : ⊥ = none-some at (sym none.1 ∙ e) in absurd never
   | inr more ↦
-    let front : List ℕ = flat_map text xs in
-    let same : length front ≡ at = let begins : 0 + length front ≡ at = same_Some (0 + length front) at (sym more.2 ∙ e) in omega (arith, begins) in
-    record {
-      within = omega (arith, same, more.0, ap length w.parts, length-append front w.rest);
-      front = sym (ap (λ (l : List ℕ). take at l) w.parts ∙ take_at front w.rest at same);
-      all = w.all;
-      none = ap (λ (l : List ℕ). one l) (ap (λ (l : List ℕ). drop at l) w.parts ∙ drop_at front w.rest at same) ∙ more.1;
-    }
+      let front : List ℕ = flat_map text xs in
+      let same : length front ≡ at = let begins : 0 + length front ≡ at = same_Some (0 + length front) at (sym more.2 ∙ e) in omega (arith, begins) in
+      record {
+        within = omega (arith, same, more.0, ap length w.parts, length-append front w.rest);
+        front = sym (ap (λ (l : List ℕ). take at l) w.parts ∙ take_at front w.rest at same);
+        all = w.all;
+        none = ap (λ (l : List ℕ). one l) (ap (λ (l : List ℕ). drop at l) w.parts ∙ drop_at front w.rest at same) ∙ more.1;
+      }
 ]
