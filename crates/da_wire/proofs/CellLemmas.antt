@@ -7,7 +7,7 @@ use Rattle.namespace_id.specs.declared.cells.Cell.{Cell}
 use Rattle.namespace_id.specs.Cells.{is_width, is_in_square, is_before, are_cells}
 use Rattle.namespace_id.specs.Lists.{holds_along}
 use Rattle.da_wire.specs.Fields.{cells_of}
-use Rattle.da_wire.specs.Reading.{is_next, are_next}
+use Rattle.da_wire.specs.Steps.{is_next, are_next}
 
 cells_suc : (n : ℕ) (bytes : List ℕ) → cells_of (suc n) bytes
     ≡ record { row = from_be_bytes w16 (take 2 bytes); col = from_be_bytes w16 (take 2 (drop 2 bytes)) } ∷ cells_of n (drop 4 bytes)

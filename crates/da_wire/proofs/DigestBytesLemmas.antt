@@ -6,7 +6,7 @@ use Rattle.namespace_id.specs.Digests.{AreDigests}
 use Rattle.da_wire.specs.Fields.{digest, digests_of, digests_at}
 use Rattle.da_wire.specs.Spelling.{digest_bytes}
 use Rattle.da_wire.proofs.ReaderLemmas.{Takes, Takes-is, front_takes, front_again}
-use Rattle.da_wire.proofs.ValueBytesLemmas.{AreTexts, length-values_of, are_values_of, value_bytes-of, length-value_bytes, of_value_bytes, values_of-spelled}
+use Rattle.da_wire.proofs.ValueBytesLemmas.{AreTexts, length-split_into, are_values_of, value_bytes-of, length-value_bytes, of_value_bytes, split_into-spelled}
 
 abbrev text : Digest → List ℕ
 text d = d.0
@@ -15,7 +15,7 @@ texts : AreTexts digest text
 texts = record { there = λ bytes. refl; back = λ d. refl }
 
 pub length-digests_of : (count : ℕ) (bytes : List ℕ) → length (digests_of count bytes) ≡ count
-length-digests_of count bytes = length-values_of digest 90 count bytes
+length-digests_of count bytes = length-split_into digest 90 count bytes
 
 pub are_digests_of : (count : ℕ) (bytes : List ℕ) → AreBytes bytes → 90 * count ≤ length bytes → AreDigests (digests_of count bytes)
 are_digests_of count bytes fits long = are_values_of digest text texts 90 count bytes fits long
@@ -27,7 +27,7 @@ pub length-digest_bytes : (digests : List Digest) → AreDigests digests → len
 length-digest_bytes digests all = length-value_bytes text 90 digests all
 
 pub digests_of-spelled : (count : ℕ) (bytes : List ℕ) (digests : List Digest) → AreDigests digests → length digests ≡ count → bytes ≡ digest_bytes digests → digests_of count bytes ≡ digests
-digests_of-spelled count bytes digests all len e = values_of-spelled digest text texts 90 count bytes digests all len e
+digests_of-spelled count bytes digests all len e = split_into-spelled digest text texts 90 count bytes digests all len e
 
 -- ---- the field
 

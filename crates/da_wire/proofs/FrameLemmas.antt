@@ -1,63 +1,117 @@
 -- What is spelled is read, what is read is spelled, and so each value has one spelling.
-use Rattle.std.proofs.Common.{◌≡◌, ◌∙◌, ℕ, ◌+◌, ◌≤◌, Bool, true, false, ltb, eqb, cond, ◌&&◌, List, [], ◌∷◌, ◌++◌, length, Option, None, Some, Result, Ok, Err, refl, sym, ap, subst, arith, append-nil, le-ltb}
+use Rattle.std.proofs.Common.{◌≡◌, ◌∙◌, ℕ, ◌+◌, ◌<◌, ◌≤◌, Bool, true, false, ltb, eqb, cond, ◌&&◌, List, [], ◌∷◌, ◌++◌, length, drop, Option, None, Some, Result, Ok, Err, refl, sym, ap, subst, arith, append-nil, append_assoc, le-ltb}
 use Rattle.std.specs.Prelude.{slice_index}
 use Rattle.std.specs.Int.{w32, to_be_bytes}
 use Rattle.std.proofs.lemmas.Bool.Decides.{nat_tests}
-use Rattle.std.proofs.lemmas.List.{length-append, nil_from_length}
-use Rattle.std.proofs.lemmas.Option.{some_pair_parts}
+use Rattle.std.proofs.lemmas.List.{length-append, nil_from_length, drop_at}
+use Rattle.std.proofs.lemmas.Option.{same_Some, some_pair_parts}
+use Rattle.namespace_id.specs.Bytes.{AreBytes}
 use Rattle.da_wire.specs.declared.frames.Frame.{Frame}
+use Rattle.da_wire.specs.declared.frames.Frame.TheVariants.{Header, Square, Message, Missing, Sample, Request, Block}
 use Rattle.da_wire.specs.declared.frames.FrameError.{FrameError}
 use Rattle.da_wire.specs.declared.frames.FrameError.TheVariants.{Truncated, BadKind}
-use Rattle.da_wire.specs.Spelling.{max_payload, frame}
-use Rattle.da_wire.specs.Reading.{Raw, raw_of, is_kind, value_at, valued, value_of, tested_frame, frame_of}
+use Rattle.da_wire.specs.Spelling.{max_payload, frame, spelled, spelling, asks_for_zero, IsFrame, header_kind, square_kind, message_kind, missing_kind, sample_kind, request_kind, block_kind, header_payload, square_payload, message_payload, missing_payload, sample_payload, request_payload, block_payload}
+use Rattle.da_wire.specs.Reading.{Raw, raw_of, is_kind, value_at, valued, value_of, tested_raw, tested_frame, frame_of}
 use Rattle.da_wire.specs.Frames.{ok_of}
-use Rattle.da_wire.specs.Laws.{SpelledIsRead, ReadIsSpelled, OneSpelling}
+use Rattle.da_wire.specs.Writing.{kind_of, AppendsSpelling, IsReadBack, appended}
+use Rattle.da_wire.specs.Laws.{SpelledIsRead, ReadIsSpelled, OneSpelling, IsSpelledFront}
+use Rattle.da_wire.proofs.ReaderLemmas.{if_false}
 use Rattle.da_wire.proofs.RawLemmas.{length-frame, raw_again, raw_takes}
 use Rattle.da_wire.proofs.ValueLemmas.{value_takes}
-use Rattle.da_wire.proofs.WrittenLemmas.{value_again}
+use Rattle.da_wire.proofs.WrittenLemmas.{IsWritten, value_again}
 
-abbrev Answer : Type 0
+abbrev pub Answer : Type 0
 Answer = Result (Frame × ℕ) FrameError
 
--- ---- spelled, then read
+-- ---- the kind is the first byte of a spelling
 
--- the test of no byte fails, and that of the kind holds
-tests_passed : (none of_kind : Bool) (empty wrong : FrameError) (read : Answer) → none ≡ false → of_kind ≡ true → cond none (Err empty) (cond of_kind read (Err wrong)) ≡ read
-tests_passed true of_kind empty wrong read p q = absurd cc
-tests_passed false true empty wrong read p q = refl
-tests_passed false false empty wrong read p q = absurd cc
+head_of : (kind : ℕ) (payload text : List ℕ) → spelled kind payload ≡ Some text → slice_index text 0 ≡ kind
+head_of kind payload text e =
+    let g = if_false (ltb max_payload (length payload)) (Some (frame kind payload)) text e in
+    ap (λ (l : List ℕ). slice_index l 0) (sym (same_Some (frame kind payload) text g.1))
 
-both_same : (a : Bool) → a ≡ true → (a && a) ≡ true
-both_same true e = refl
-both_same false e = absurd cc
+head_is : (value : Frame) (text : List ℕ) → spelling value ≡ Some text → slice_index text 0 ≡ kind_of value
+head_is (Header h) text e = head_of header_kind (header_payload h) text e
+head_is (Square s) text e = head_of square_kind (square_payload s) text e
+head_is (Message m) text e = head_of message_kind (message_payload m) text e
+head_is (Missing cells) text e =
+    head_of missing_kind (missing_payload cells) text (if_false (eqb (length cells.list) 0) (spelled missing_kind (missing_payload cells)) text e).1
+head_is (Sample cell axis) text e = head_of sample_kind (sample_payload cell axis) text e
+head_is (Request name) text e = head_of request_kind (request_payload name) text e
+head_is (Block b) text e =
+    head_of block_kind (block_payload b) text (if_false (asks_for_zero b.width) (spelled block_kind (block_payload b)) text e).1
+
+-- ---- the two tests before a frame is read
+
+tests_hold : (none a b : Bool) (empty wrong : FrameError) (read : Result Raw FrameError) → none ≡ false → a ≡ true → b ≡ true
+    → cond none (Err empty) (cond (a && b) read (Err wrong)) ≡ read
+tests_hold true a b empty wrong read p q r = absurd cc
+tests_hold false false b empty wrong read p q r = absurd cc
+tests_hold false true false empty wrong read p q r = absurd cc
+tests_hold false true true empty wrong read p q r = refl
+
+tests_held : (none a b : Bool) (empty wrong : FrameError) (read : Result Raw FrameError) (f : Raw)
+    → cond none (Err empty) (cond (a && b) read (Err wrong)) ≡ Ok f → (b ≡ true) × (read ≡ Ok f)
+tests_held true a b empty wrong read f e = absurd cc
+tests_held false false b empty wrong read f e = absurd cc
+tests_held false true true empty wrong read f e = (refl, e)
+tests_held false true false empty wrong read f e = absurd cc
 
 some_bytes : (byte : ℕ) (rest : List ℕ) → eqb (length (byte ∷ rest)) 0 ≡ false
 some_bytes byte rest = grind (arith, nat_tests)
 
-frame_read : (at kind : ℕ) (payload rest : List ℕ) (value : Frame) → is_kind kind ≡ true → length payload ≤ max_payload → value_at kind payload ≡ Some value
-    → frame_of at (frame kind payload ++ rest) ≡ Ok (value, at + length (frame kind payload))
-unfolding tested_frame
-frame_read at kind payload rest value kind_is few read =
+-- ---- spelled, then read
+
+tested_frame_read : (test : ℕ → Bool) (at kind : ℕ) (payload rest : List ℕ) (value : Frame) → is_kind kind ≡ true → test kind ≡ true → length payload ≤ max_payload
+    → value_at kind payload ≡ Some value → tested_frame test at (frame kind payload ++ rest) ≡ Ok (value, at + length (frame kind payload))
+unfolding tested_raw
+tested_frame_read test at kind payload rest value kind_is passes few read =
     let bytes : List ℕ = frame kind payload ++ rest in
     let some : eqb (length bytes) 0 ≡ false = some_bytes kind (to_be_bytes w32 (length payload) ++ payload ++ rest) in
     let f : Raw = record { kind = kind; payload = payload; size = 5 + length payload } in
-    tests_passed (eqb (length bytes) 0) (is_kind kind && is_kind kind) (Truncated at) (BadKind at) (value_of at (raw_of at bytes)) some (both_same (is_kind kind) kind_is)
-    ∙ ap (λ (r : Result Raw FrameError). value_of at r) (raw_again at kind payload rest few)
+    ap (λ (r : Result Raw FrameError). value_of at r)
+    (tests_hold (eqb (length bytes) 0) (is_kind kind) (test kind) (Truncated at) (BadKind at) (raw_of at bytes) some kind_is passes ∙ raw_again at kind payload rest few)
     ∙ ap (λ (o : Option Frame). valued at f o) read
     ∙ ap (λ (n : ℕ). Ok (value, at + n)) (sym (length-frame kind payload))
 
+-- a spelling has a byte
+pub spelled_some : (value : Frame) (text : List ℕ) → IsFrame value → spelling value ≡ Some text → 0 < length text
+spelled_some value text is e =
+    let w : IsWritten value text = value_again value text is e in
+    omega (arith, ap length w.text_is, length-frame w.kind w.payload)
+
+-- what was spelled is read where its kind passes the test
+pub tested_read : (test : ℕ → Bool) (value : Frame) (text rest : List ℕ) (at : ℕ) → test (kind_of value) ≡ true → IsFrame value → spelling value ≡ Some text
+    → tested_frame test at (text ++ rest) ≡ Ok (value, at + length text)
+tested_read test value text rest at passes is e =
+    let w : IsWritten value text = value_again value text is e in
+    let head : w.kind ≡ kind_of value = ap (λ (l : List ℕ). slice_index l 0) w.text_is ∙ head_is value text e in
+    subst (λ (l : List ℕ). tested_frame test at (l ++ rest) ≡ Ok (value, at + length l)) w.text_is
+    (tested_frame_read test at w.kind w.payload rest value w.kind_is (ap test head ∙ passes) w.few w.read)
+
 pub spelled_is_read : SpelledIsRead
-spelled_is_read value text rest at is e =
-    let w = value_again value text is e in
-    subst (λ (l : List ℕ). frame_of at (l ++ rest) ≡ Ok (value, at + length l)) w.text_is
-    (frame_read at w.kind w.payload rest value w.kind_is w.few w.read)
+spelled_is_read value text rest at is e = tested_read (λ kind. true) value text rest at refl is e
+
+-- a kind, a length and a payload that were appended one after another are a frame
+pub frame_appended : (old first second new : List ℕ) (kind size : ℕ) (payload : List ℕ) → first ≡ old ++ kind ∷ [] → second ≡ first ++ to_be_bytes w32 size
+    → new ≡ second ++ payload → size ≡ length payload → new ≡ old ++ frame kind payload
+frame_appended old first second new kind size payload one two all len =
+    let text : List ℕ = to_be_bytes w32 size in
+    let behind : (old ++ kind ∷ []) ++ (text ++ payload) ≡ old ++ (kind ∷ text ++ payload) = append_assoc old (kind ∷ []) (text ++ payload) in
+    all ∙ ap (λ (l : List ℕ). l ++ payload) (two ∙ ap (λ (l : List ℕ). l ++ text) one)
+    ∙ append_assoc (old ++ kind ∷ []) text payload
+    ∙ behind
+    ∙ ap (λ (n : ℕ). old ++ (kind ∷ to_be_bytes w32 n ++ payload)) len
+
+-- what was written is read back
+pub written_back : (value : Frame) (old new : List ℕ) → IsFrame value → AppendsSpelling value old new → IsReadBack value (appended old new)
+written_back value old new is text rest =
+    let same : appended old new ≡ text.0 = ap (λ (l : List ℕ). drop (length old) l) text.2 ∙ drop_at old text.0 (length old) refl in
+    let all : 0 + length text.0 ≡ length text.0 = omega arith in
+    subst (λ (l : List ℕ). frame_of 0 (l ++ rest) ≡ Ok (value, length l)) (sym same)
+    (spelled_is_read value text.0 rest 0 is text.1 ∙ ap (λ (n : ℕ). Ok (value, n)) all)
 
 -- ---- read, then spelled
-
-tested : (none of_kind : Bool) (empty wrong : FrameError) (read : Answer) (x : Frame × ℕ) → cond none (Err empty) (cond of_kind read (Err wrong)) ≡ Ok x → read ≡ Ok x
-tested true of_kind empty wrong read x e = absurd cc
-tested false true empty wrong read x e = e
-tested false false empty wrong read x e = absurd cc
 
 -- the value of a raw frame
 valued_some : (at : ℕ) (f : Raw) (o : Option Frame) (value : Frame) (next : ℕ) → valued at f o ≡ Ok (value, next) → (o ≡ Some value) × (at + f.size ≡ next)
@@ -73,23 +127,34 @@ raw_some at (Ok f) value next e =
     let v = valued_some at f (value_at f.kind f.payload) value next e in
     (f, refl, v.0, v.1)
 
-pub read_is_spelled : ReadIsSpelled
-unfolding tested_frame
-read_is_spelled value at next bytes fits e =
+-- what is read is spelled so, and its kind passes the test
+pub tested_spelled : (test : ℕ → Bool) (value : Frame) (at next : ℕ) (bytes : List ℕ) → AreBytes bytes → tested_frame test at bytes ≡ Ok (value, next)
+    → IsSpelledFront value at next bytes × (test (kind_of value) ≡ true)
+unfolding tested_raw
+tested_spelled test value at next bytes fits e =
     let kind : ℕ = slice_index bytes 0 in
-    let read = tested (eqb (length bytes) 0) (is_kind kind && is_kind kind) (Truncated at) (BadKind at) (value_of at (raw_of at bytes)) (value, next) e in
-    let r = raw_some at (raw_of at bytes) value next read in
-    let t = raw_takes at bytes r.0 fits r.1 in
-    let v = value_takes r.0.kind r.0.payload value t.payload_fits r.2 in
-    let within : ltb max_payload (length r.0.payload) ≡ false = le-ltb _ _ t.is.payload in
-    record {
-      text = frame r.0.kind r.0.payload;
-      rest = t.rest;
-      value_is = v.0;
-      spelled = v.1 ∙ ap (λ (b : Bool). cond b None (Some (frame r.0.kind r.0.payload))) within;
-      parts = t.parts;
-      end = sym r.3 ∙ ap (λ (n : ℕ). at + n) (t.is.size ∙ sym (length-frame r.0.kind r.0.payload));
-    }
+    let r = raw_some at (tested_raw test at bytes) value next e in
+    let f : Raw = r.0 in
+    let h = tests_held (eqb (length bytes) 0) (is_kind kind) (test kind) (Truncated at) (BadKind at) (raw_of at bytes) f r.1 in
+    let t = raw_takes at bytes f fits h.1 in
+    let v = value_takes f.kind f.payload value t.payload_fits r.2 in
+    let text : List ℕ = frame f.kind f.payload in
+    let within : ltb max_payload (length f.payload) ≡ false = le-ltb _ _ t.is.payload in
+    let is : spelling value ≡ Some text = v.1 ∙ ap (λ (b : Bool). cond b None (Some text)) within in
+    let first : kind ≡ kind_of value = ap (λ (l : List ℕ). slice_index l 0) t.parts ∙ head_is value text is in (
+      record {
+        text = text;
+        rest = t.rest;
+        value_is = v.0;
+        spelled = is;
+        parts = t.parts;
+        end = sym r.3 ∙ ap (λ (n : ℕ). at + n) (t.is.size ∙ sym (length-frame f.kind f.payload));
+      },
+      ap test (sym first) ∙ h.0,
+    )
+
+pub read_is_spelled : ReadIsSpelled
+read_is_spelled value at next bytes fits e = (tested_spelled (λ kind. true) value at next bytes fits e).0
 
 -- ---- one spelling
 

@@ -1,80 +1,91 @@
 -- A file that is a list of frames is these frames, one after another, and frames one after another are such a
 -- file.
-use Rattle.std.proofs.Common.{◌≡◌, ◌∙◌, ℕ, zero, suc, ◌+◌, ◌-◌, ◌≤◌, List, [], ◌∷◌, ◌++◌, length, drop, Option, None, Some, Result, Ok, Err, refl, sym, ap, subst, arith}
-use Rattle.std.specs.Int.{w32, to_be_bytes}
-use Rattle.std.specs.List.{AllByRecursion}
-use Rattle.std.specs.Option.{option_map_or}
-use Rattle.std.proofs.lemmas.List.{drop_at, length-drop}
+use Rattle.std.proofs.Common.{◌≡◌, ◌∙◌, ℕ, ◌+◌, ltb, Bool, true, false, cond, List, ◌++◌, length, drop, Option, None, Some, Result, Ok, Err, refl, sym, ap, arith}
+use Rattle.std.specs.Option.{option_map}
+use Rattle.std.proofs.lemmas.Option.{some_pair_parts, none-some}
 use Rattle.namespace_id.specs.Bytes.{AreBytes}
-use Rattle.namespace_id.proofs.StringLemmas.{AreBytes-drop}
 use Rattle.da_wire.specs.declared.frames.FrameError.{FrameError}
-use Rattle.da_wire.specs.Spelling.{frame}
-use Rattle.da_wire.specs.Reading.{Raw, raw_of}
-use Rattle.da_wire.specs.Frames.{ok_of, frames_from, frames_of, bad_frame_from, frames_bytes, IsRaw}
-use Rattle.da_wire.specs.Laws.{FramesAreTheFile, FilesAreFrames}
+use Rattle.da_wire.specs.declared.frames.FrameError.TheVariants.{Truncated, TooLong}
+use Rattle.da_wire.specs.Spelling.{max_payload, frame}
+use Rattle.da_wire.specs.Reading.{Raw, promised, raw_of}
+use Rattle.da_wire.specs.Frames.{ok_of, raw_in, frames_of, bad_frame, IsRaw}
+use Rattle.da_wire.specs.Laws.{FramesAreTheFile, FilesAreFrames, BadFrameIsFirst, RawIsFrame}
+use Rattle.da_wire.proofs.ReaderLemmas.{ok_some, map_some}
 use Rattle.da_wire.proofs.RawLemmas.{length-frame, raw_again, raw_takes}
-use Rattle.da_wire.proofs.WalkLemmas.{frames_on, bad_on}
+use Rattle.da_wire.proofs.ListedLemmas.{IsFront, IsReader, walk_again, stop_none, walked, walked_all, walked_some}
 
--- ---- frames as a file
+-- ---- one frame
 
-raw_read : (f : Raw) (rest : List ℕ) → IsRaw f → raw_of 0 (frame f.kind f.payload ++ rest) ≡ Ok f
-raw_read f rest is = raw_again 0 f.kind f.payload rest is.payload ∙ ap (λ (n : ℕ). Ok (record { kind = f.kind; payload = f.payload; size = n })) (sym is.size)
+abbrev pub raw_text : Raw → List ℕ
+raw_text raw = frame raw.kind raw.payload
 
-after_frame : (f : Raw) (rest : List ℕ) → IsRaw f → drop f.size (frame f.kind f.payload ++ rest) ≡ rest
-after_frame f rest is = drop_at (frame f.kind f.payload) rest f.size (length-frame f.kind f.payload ∙ sym is.size)
+pub raw_read : (at : ℕ) (f : Raw) (rest : List ℕ) → IsRaw f → raw_of at (raw_text f ++ rest) ≡ Ok f
+raw_read at f rest is = raw_again at f.kind f.payload rest is.payload ∙ ap (λ (n : ℕ). Ok (record { kind = f.kind; payload = f.payload; size = n })) (sym is.size)
 
--- the bytes of a frame but the first, and the bytes after it
-abbrev others : Raw → List ℕ → List ℕ
-others f rest = to_be_bytes w32 (length f.payload) ++ f.payload ++ rest
+pub raw_is_frame : RawIsFrame
+raw_is_frame at bytes f fits = (
+  λ e. let t = raw_takes at bytes f fits e in (t.is, t.rest, t.parts),
+  λ front. ap (λ (l : List ℕ). raw_of at l) front.2 ∙ raw_read at f front.1 front.0,
+)
 
-frames_again : (frames : List Raw) → AllByRecursion IsRaw frames → frames_of (frames_bytes frames) ≡ frames
-unfolding frames_from
-frames_again [] all = refl
-frames_again (f ∷ fs) all =
-    frames_on 0 (f.kind ∷ others f (frames_bytes fs)) f (raw_read f (frames_bytes fs) all.0) (omega (arith, all.0.size)) (omega arith)
-    ∙ ap (λ (l : List ℕ). f ∷ frames_from 0 l) (after_frame f (frames_bytes fs) all.0)
-    ∙ ap (λ (l : List Raw). f ∷ l) (frames_again fs all.1)
+-- ---- frames one after another
 
-none_bad : (at : ℕ) (frames : List Raw) → AllByRecursion IsRaw frames → bad_frame_from 0 at (frames_bytes frames) ≡ None
-unfolding bad_frame_from
-none_bad at [] all = refl
-none_bad at (f ∷ fs) all =
-    bad_on 0 at (f.kind ∷ others f (frames_bytes fs)) f (raw_read f (frames_bytes fs) all.0) (omega (arith, all.0.size)) (omega arith)
-    ∙ ap (λ (l : List ℕ). bad_frame_from 0 (at + f.size) l) (after_frame f (frames_bytes fs) all.0)
-    ∙ none_bad (at + f.size) fs all.1
+-- a frame that was read, and its length
+abbrev sized_raw : Raw → Raw × ℕ
+sized_raw raw = (raw, raw.size)
+
+-- whether a frame stands at the front doesn't depend on its offset
+ok_cond : {A E : Type 0} (b : Bool) (e f : E) (x y : Result A E) → ok_of x ≡ ok_of y → ok_of (cond b (Err e) x) ≡ ok_of (cond b (Err f) y)
+ok_cond true e f x y h = refl
+ok_cond false e f x y h = h
+
+ok_of-raw : (at : ℕ) (bytes : List ℕ) → ok_of (raw_of at bytes) ≡ ok_of (raw_of 0 bytes)
+unfolding raw_of
+ok_of-raw at bytes =
+    ok_cond (ltb (length bytes) 5) (Truncated at) (Truncated 0) _ _
+    (ok_cond (ltb max_payload (promised bytes)) (TooLong at) (TooLong 0) _ _
+    (ok_cond (ltb (length bytes) (5 + promised bytes)) (Truncated at) (Truncated 0) _ _ refl))
+
+pub raw_found : (at : ℕ) (bytes : List ℕ) (f : Raw) → raw_of at bytes ≡ Ok f → raw_in bytes ≡ Some (f, f.size)
+raw_found at bytes f e = ap (λ (o : Option Raw). option_map sized_raw o) (sym (ok_of-raw at bytes) ∙ ap ok_of e)
+
+pub raw_missed : (at : ℕ) (bytes : List ℕ) (why : FrameError) → raw_of at bytes ≡ Err why → raw_in bytes ≡ None
+raw_missed at bytes why e = ap (λ (o : Option Raw). option_map sized_raw o) (sym (ok_of-raw at bytes) ∙ ap ok_of e)
+
+raw_front : (bytes : List ℕ) (f : Raw) (n : ℕ) → AreBytes bytes → raw_in bytes ≡ Some (f, n) → IsFront Raw raw_text IsRaw bytes f n
+raw_front bytes f n fits e =
+    let m = map_some sized_raw (ok_of (raw_of 0 bytes)) (f, n) e in
+    let same = some_pair_parts m.0 f m.0.size n (ap (λ (x : Raw × ℕ). Some x) m.2) in
+    let t = raw_takes 0 bytes f fits (ok_some (raw_of 0 bytes) f (m.1 ∙ ap (λ (r : Raw). Some r) same.0)) in
+    record {
+      is = t.is;
+      size = sym same.1 ∙ ap (λ (r : Raw). r.size) same.0 ∙ t.is.size ∙ sym (length-frame f.kind f.payload);
+      rest = t.rest;
+      parts = t.parts;
+    }
+
+reader : IsReader Raw raw_in raw_text IsRaw
+reader = record {
+  again = λ f rest is. ap (λ (r : Result Raw FrameError). option_map sized_raw (ok_of r)) (raw_read 0 f rest is)
+      ∙ ap (λ (n : ℕ). Some (f, n)) (is.size ∙ sym (length-frame f.kind f.payload));
+  takes = raw_front;
+  some = λ f is. omega (arith, length-frame f.kind f.payload);
+}
 
 pub files_are_frames : FilesAreFrames
-files_are_frames frames all = (none_bad 0 frames all, frames_again frames all)
-
--- ---- a file as frames
-
--- where a file isn't bad, a frame stands
-not_bad : (r : Result Raw FrameError) (next : Raw → Option ℕ) (at : ℕ) → option_map_or next (ok_of r) (Some at) ≡ None → (f : Raw) × (r ≡ Ok f)
-not_bad (Ok f) next at e = (f, refl)
-not_bad (Err why) next at e = absurd cc
-
-frame_stands : (at byte : ℕ) (rest : List ℕ) → bad_frame_from 0 at (byte ∷ rest) ≡ None → (f : Raw) × (raw_of 0 (byte ∷ rest) ≡ Ok f)
-unfolding bad_frame_from
-frame_stands at byte rest e = not_bad (raw_of 0 (byte ∷ rest)) (λ raw. bad_frame_from (raw.size - 1) (suc at) rest) at e
-
--- these frames are just these bytes
-abbrev AreTheFile : List Raw → List ℕ → Type 0
-AreTheFile frames bytes = (frames_bytes frames ≡ bytes) × AllByRecursion IsRaw frames
-
-file_frames : (n at : ℕ) (bytes : List ℕ) → length bytes ≤ n → AreBytes bytes → bad_frame_from 0 at bytes ≡ None → AreTheFile (frames_of bytes) bytes
-unfolding frames_from
-file_frames n at [] short fits e = (refl, tt)
-file_frames zero at (byte ∷ rest) short fits e = absurd (omega arith)
-file_frames (suc n) at (byte ∷ rest) short fits e =
-    let r = frame_stands at byte rest e in
-    let t = raw_takes 0 (byte ∷ rest) r.0 fits r.1 in
-    let some : 5 ≤ r.0.size = omega (arith, t.is.size) in
-    let behind : List ℕ = drop r.0.size (byte ∷ rest) in
-    let left : behind ≡ t.rest = ap (λ (l : List ℕ). drop r.0.size l) t.parts ∙ after_frame r.0 t.rest t.is in
-    let shorter : length behind ≤ n = omega (arith, length-drop r.0.size (byte ∷ rest), some) in
-    let others = file_frames n (at + r.0.size) behind shorter (AreBytes-drop r.0.size (byte ∷ rest) fits) (sym (bad_on 0 at (byte ∷ rest) r.0 r.1 some (omega arith)) ∙ e) in
-    let all : frames_bytes (r.0 ∷ frames_of behind) ≡ byte ∷ rest = ap (λ (l : List ℕ). frame r.0.kind r.0.payload ++ l) (others.0 ∙ left) ∙ sym t.parts in
-    subst (λ (l : List Raw). AreTheFile l (byte ∷ rest)) (sym (frames_on 0 (byte ∷ rest) r.0 r.1 some (omega arith))) (all, (t.is, others.1))
+files_are_frames frames all = (stop_none raw_in raw_text IsRaw reader 0 frames all, walk_again raw_in raw_text IsRaw reader frames all)
 
 pub frames_are_the_file : FramesAreTheFile
-frames_are_the_file bytes fits e = file_frames (length bytes) 0 bytes (omega arith) fits e
+frames_are_the_file bytes fits e = walked_all raw_in raw_text IsRaw bytes (frames_of bytes) (bad_frame bytes) (walked raw_in raw_text IsRaw reader bytes fits) e
+
+-- no frame stands at the front, at no offset
+raw_none : (at : ℕ) (bytes : List ℕ) (r : Result Raw FrameError) → raw_in bytes ≡ None → raw_of at bytes ≡ r → (e : FrameError) × (raw_of at bytes ≡ Err e)
+raw_none at bytes (Err e) none is = (e, is)
+raw_none at bytes (Ok f) none is = absurd (none-some (f, f.size) (sym none ∙ raw_found at bytes f is))
+
+pub bad_frame_is_first : BadFrameIsFirst
+bad_frame_is_first bytes at fits e =
+    let s = walked_some raw_in raw_text IsRaw bytes (frames_of bytes) (bad_frame bytes) at (walked raw_in raw_text IsRaw reader bytes fits) e in
+    let behind : List ℕ = drop at bytes in
+    let refused = raw_none at behind (raw_of at behind) s.none refl in
+    (s.within, s.front, s.all, refused.0, refused.1)

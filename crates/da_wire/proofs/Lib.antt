@@ -21,7 +21,12 @@ pub mod ValueLemmas
 pub mod WrittenLemmas
 pub mod RawLemmas
 pub mod FrameLemmas
+pub mod OnlyLemmas
 pub mod WalkLemmas
+pub mod ListedLemmas
 pub mod FrameListLemmas
+pub mod ValueListLemmas
 pub mod SizeLemmas
 pub mod SizedLemmas
+pub mod CellCountLemmas
+pub mod SpelledLemmas

@@ -1,11 +1,13 @@
 -- Lemmas on readers: steps that did not fail and steps that do not fail, and what a reader took from
 -- the front of its bytes.
-use Rattle.std.proofs.Common.{◌≡◌, ◌∙◌, ℕ, ◌≤◌, Bool, true, false, cond, ltb, List, ◌++◌, length, take, drop, Option, None, Some, refl, sym, ap, ap₂, subst, arith, append_assoc, append-nil, length-take-le, ltb-false, le-ltb}
+use Rattle.std.proofs.Common.{◌≡◌, ◌∙◌, ℕ, ◌≤◌, Bool, true, false, cond, ltb, List, ◌++◌, length, take, drop, Option, None, Some, Result, Ok, Err, refl, sym, ap, ap₂, subst, arith, append_assoc, append-nil, length-take-le, ltb-false, le-ltb}
 use Rattle.std.proofs.lemmas.List.{take_at, drop_at, take-append-drop, length-append, nil_from_length}
-use Rattle.std.proofs.lemmas.Option.{some_pair_parts}
+use Rattle.std.specs.Option.{option_map}
+use Rattle.std.proofs.lemmas.Option.{some_pair_parts, same_Some}
 use Rattle.namespace_id.specs.Bytes.{AreBytes, IsString}
 use Rattle.namespace_id.proofs.StringLemmas.{AreBytes-take, AreBytes-drop}
 use Rattle.da_wire.specs.Fields.{◌>>=◌}
+use Rattle.da_wire.specs.Frames.{ok_of}
 
 -- ---- steps
 
@@ -16,6 +18,16 @@ bind_some (Some x) f y e = (x, refl, e)
 
 pub bind_again : {A B : Type 0} (r : Option A) (f : A → Option B) (x : A) (y : B) → r ≡ Some x → f x ≡ Some y → (r >>= f) ≡ Some y
 bind_again r f x y p q = subst (λ (s : Option _). (s >>= f) ≡ Some y) (sym p) q
+
+-- the value behind a map
+pub map_some : {A B : Type 0} (f : A → B) (r : Option A) (y : B) → option_map f r ≡ Some y → (x : A) × (r ≡ Some x) × (f x ≡ y)
+map_some f None y e = absurd cc
+map_some f (Some x) y e = (x, refl, same_Some (f x) y e)
+
+-- what a reader gave that did not refuse
+pub ok_some : {A E : Type 0} (r : Result A E) (x : A) → ok_of r ≡ Some x → r ≡ Ok x
+ok_some (Ok y) x e = ap (λ z. Ok z) (same_Some y x e)
+ok_some (Err why) x e = absurd cc
 
 -- a test that must fail
 pub if_false : {A : Type 0} (b : Bool) (r : Option A) (y : A) → cond b None r ≡ Some y → (b ≡ false) × (r ≡ Some y)

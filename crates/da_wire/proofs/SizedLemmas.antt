@@ -1,24 +1,24 @@
 -- The length of each payload.
-use Rattle.std.proofs.Common.{◌≡◌, ◌∙◌, ℕ, ◌+◌, ◌*◌, ◌<◌, ◌≤◌, Bool, true, false, cond, List, ◌∷◌, length, length-append, Option, Some, None, refl, sym, ap, subst, arith}
-use Rattle.std.specs.Prelude.{◌==◌, IsSome}
+use Rattle.std.proofs.Common.{◌≡◌, ◌∙◌, ℕ, ◌+◌, ◌*◌, ◌<◌, ◌≤◌, Bool, true, false, cond, List, ◌∷◌, length, length-append, Option, Some, None, ap, arith}
+use Rattle.std.specs.Prelude.{◌==◌}
 use Rattle.std.proofs.Math.Nat.{mul-le-mul_left}
 use Rattle.std.proofs.lemmas.Bool.Decides.{nat_tests}
 use Rattle.namespace_id.specs.declared.namespaces.Namespace.{Namespace}
 use Rattle.namespace_id.specs.Shares.{IsShare, AreShares}
 use Rattle.namespace_id.specs.Digests.{AreDigests}
 use Rattle.namespace_id.specs.Cells.{CellList, is_width}
-use Rattle.data_header.specs.Headers.{Roots, AreRoots, IsHeader}
+use Rattle.data_header.specs.Headers.{Roots, AreRoots}
 use Rattle.axis_roots.specs.declared.messages.Message as sent
 use Rattle.square_layout.specs.Blocks.{SquareShares, IsSquare}
 use Rattle.da_wire.specs.declared.frames.Frame.TheVariants.{Header, Square, Message, Missing, Request}
-use Rattle.da_wire.specs.Spelling.{spelled, spelling, header_kind, square_kind, message_kind, missing_kind, request_kind, digest_bytes, header_payload, square_payload, message_payload, missing_payload, request_payload}
+use Rattle.da_wire.specs.Spelling.{spelled, header_kind, square_kind, message_kind, missing_kind, request_kind, digest_bytes, header_payload, square_payload, message_payload, missing_payload, request_payload}
 use Rattle.da_wire.specs.Writing.{HasSize}
 use Rattle.da_wire.proofs.DigestBytesLemmas.{length-digest_bytes}
 use Rattle.da_wire.proofs.SquareFormLemmas.{length-share_bytes}
 use Rattle.da_wire.proofs.CellFieldLemmas.{length-cells_bytes}
 use Rattle.da_wire.proofs.SizeLemmas.{spelled_within, spelled_beyond}
 
-small_width : (k : ℕ) → is_width k ≡ true → k ≤ 128
+pub small_width : (k : ℕ) → is_width k ≡ true → k ≤ 128
 small_width k h = grind (arith, nat_tests)
 
 length-header : (h : Roots) → AreRoots h → AreDigests h.rows → AreDigests h.cols → 2 + 360 * h.k ≡ length (header_payload h)
@@ -34,7 +34,7 @@ header_sized h n roots rows cols e =
 length-square : (s : SquareShares) → IsSquare s → AreShares s.shares → 2 + 512 * (s.k * s.k) ≡ length (square_payload s)
 length-square s is shares = omega (arith, length-share_bytes s is shares)
 
-square_few : (k : ℕ) → k ≤ 128 → k * k ≤ 128 * 128
+pub square_few : (k : ℕ) → k ≤ 128 → k * k ≤ 128 * 128
 square_few k h = let by_k : k * k ≤ k * 128 = mul-le-mul_left k h in omega arith
 
 pub square_sized : (s : SquareShares) (n : ℕ) → IsSquare s → AreShares s.shares → n ≡ 2 + 512 * (s.k * s.k) → HasSize (Square s) (Some n)
@@ -71,13 +71,3 @@ missing_beyond cells some many =
 
 pub request_sized : (name : Namespace) (n : ℕ) → n ≡ length name.0 → n ≤ 29 → HasSize (Request name) (Some n)
 request_sized name n e few = (e, spelled_within request_kind n (request_payload name) e (omega arith))
-
--- a value with a spelling has one
-some_spelling : {A : Type 0} (o : Option A) (x : A) → o ≡ Some x → IsSome o
-some_spelling o x e = subst IsSome (sym e) refl
-
-pub header_spelled : (h : Roots) → IsHeader h → IsSome (spelling (Header h))
-header_spelled h is = some_spelling (spelling (Header h)) _ (header_sized h (2 + 360 * h.k) is.roots is.rows is.cols refl).1
-
-pub square_spelled : (s : SquareShares) → IsSquare s → AreShares s.shares → IsSome (spelling (Square s))
-square_spelled s is shares = some_spelling (spelling (Square s)) _ (square_sized s (2 + 512 * (s.k * s.k)) is shares refl).1

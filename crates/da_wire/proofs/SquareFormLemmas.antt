@@ -13,7 +13,7 @@ use Rattle.da_wire.specs.Spelling.{share_bytes, square_payload}
 use Rattle.da_wire.specs.Reading.{square_at}
 use Rattle.da_wire.proofs.ReaderLemmas.{bind_some, bind_again, if_false, if_false_again, if_true_again}
 use Rattle.da_wire.proofs.NumberLemmas.{wide16, number_takes, number_again}
-use Rattle.da_wire.proofs.ValueBytesLemmas.{AreTexts, length-values_of, are_values_of, value_bytes-of, length-value_bytes, values_of-spelled}
+use Rattle.da_wire.proofs.ValueBytesLemmas.{AreTexts, length-split_into, are_values_of, value_bytes-of, length-value_bytes, split_into-spelled}
 use Rattle.da_wire.proofs.HeaderFormLemmas.{width_le}
 
 abbrev text : Share → List ℕ
@@ -40,7 +40,7 @@ is_square : (k : ℕ) (bytes : List ℕ) → is_width k ≡ true → AreBytes by
 is_square k bytes width fits len =
     let long : 512 * (k * k) ≤ length bytes = omega arith in (
       (
-        record { width = width; count = length-values_of share 512 (k * k) bytes },
+        record { width = width; count = length-split_into share 512 (k * k) bytes },
         are_values_of share text texts 512 (k * k) bytes fits long,
       ),
       ap (λ (l : List ℕ). to_be_bytes w16 k ++ l) (sym (value_bytes-of share text texts 512 (k * k) bytes len)),
@@ -66,7 +66,7 @@ unfolding square_at
 square_again s is shares =
     let bytes : List ℕ = share_bytes s.shares in
     let few : s.k ≤ 128 = width_le s.k is.width in
-    let same : square_in s.k bytes ≡ s = ap (λ (l : List Share). square s.k l) (values_of-spelled share text texts 512 (s.k * s.k) bytes s.shares shares is.count refl) in
+    let same : square_in s.k bytes ≡ s = ap (λ (l : List Share). square s.k l) (split_into-spelled share text texts 512 (s.k * s.k) bytes s.shares shares is.count refl) in
     bind_again (number_at w16 (square_payload s)) after_width (s.k, bytes) s
     (number_again w16 (2 ^ 16) wide16 s.k bytes (omega (arith, few)))
     (if_false_again (not (is_width s.k)) (cond (eqb (length bytes) (512 * (s.k * s.k))) (Some (square_in s.k bytes)) None) s (not_from_true (is_width s.k) is.width)

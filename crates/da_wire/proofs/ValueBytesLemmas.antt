@@ -4,7 +4,7 @@ use Rattle.std.specs.List.{flat_map, AllByRecursion}
 use Rattle.std.proofs.lemmas.List.{take_at, drop_at, take-append-drop, length-append, length-drop, nil_from_length}
 use Rattle.namespace_id.specs.Bytes.{AreBytes, IsString}
 use Rattle.namespace_id.proofs.StringLemmas.{AreBytes-take, AreBytes-drop}
-use Rattle.da_wire.specs.Fields.{values_of}
+use Rattle.da_wire.specs.Fields.{split_into}
 
 -- values that are strings, and the strings that they are
 pub record AreTexts {A : Type 0} (value : List ℕ → A) (text : A → List ℕ) : Type 0 where
@@ -13,18 +13,18 @@ pub record AreTexts {A : Type 0} (value : List ℕ → A) (text : A → List ℕ
 
 -- ---- what is read of bytes
 
-pub length-values_of : {A : Type 0} (value : List ℕ → A) (size count : ℕ) (bytes : List ℕ) → length (values_of value size count bytes) ≡ count
-unfolding values_of
-length-values_of value size zero bytes = refl
-length-values_of value size (suc count) bytes = ap suc (length-values_of value size count (drop size bytes))
+pub length-split_into : {A : Type 0} (value : List ℕ → A) (size count : ℕ) (bytes : List ℕ) → length (split_into value size count bytes) ≡ count
+unfolding split_into
+length-split_into value size zero bytes = refl
+length-split_into value size (suc count) bytes = ap suc (length-split_into value size count (drop size bytes))
 
 -- behind the first of some values are the others
 others_long : (size count : ℕ) (bytes : List ℕ) → size * suc count ≤ length bytes → (size ≤ length bytes) × (size * count ≤ length (drop size bytes))
 others_long size count bytes long = let sum : size * suc count ≡ size + size * count = search arith in (omega arith, omega (arith, length-drop size bytes))
 
 pub are_values_of : {A : Type 0} (value : List ℕ → A) (text : A → List ℕ) (texts : AreTexts value text) (size count : ℕ) (bytes : List ℕ) → AreBytes bytes → size * count ≤ length bytes
-    → AllByRecursion (λ x. IsString size (text x)) (values_of value size count bytes)
-unfolding values_of
+    → AllByRecursion (λ x. IsString size (text x)) (split_into value size count bytes)
+unfolding split_into
 are_values_of value text texts size zero bytes fits long = tt
 are_values_of value text texts size (suc count) bytes fits long =
     let l = others_long size count bytes long in (
@@ -34,8 +34,8 @@ are_values_of value text texts size (suc count) bytes fits long =
 
 -- the values of bytes spell them
 pub value_bytes-of : {A : Type 0} (value : List ℕ → A) (text : A → List ℕ) (texts : AreTexts value text) (size count : ℕ) (bytes : List ℕ) → length bytes ≡ size * count
-    → flat_map text (values_of value size count bytes) ≡ bytes
-unfolding values_of
+    → flat_map text (split_into value size count bytes) ≡ bytes
+unfolding split_into
 value_bytes-of value text texts size zero bytes len =
     let none : length bytes ≡ 0 = omega arith in
     sym (nil_from_length bytes none)
@@ -57,16 +57,16 @@ length-value_bytes text size (x ∷ xs) all =
 
 -- the values of a spelling are those spelled
 pub of_value_bytes : {A : Type 0} (value : List ℕ → A) (text : A → List ℕ) (texts : AreTexts value text) (size : ℕ) (values : List A) → AllByRecursion (λ x. IsString size (text x)) values
-    → values_of value size (length values) (flat_map text values) ≡ values
-unfolding values_of
+    → split_into value size (length values) (flat_map text values) ≡ values
+unfolding split_into
 of_value_bytes value text texts size [] all = refl
 of_value_bytes {A} value text texts size (x ∷ xs) all =
     let first : take size (text x ++ flat_map text xs) ≡ text x = take_at (text x) (flat_map text xs) size all.0.size_is in
     let behind : drop size (text x ++ flat_map text xs) ≡ flat_map text xs = drop_at (text x) (flat_map text xs) size all.0.size_is in
     ap₂ (λ (y : A) (ys : List A). y ∷ ys) (ap value first ∙ texts.back x)
-    (ap (λ (l : List ℕ). values_of value size (length xs) l) behind ∙ of_value_bytes value text texts size xs all.1)
+    (ap (λ (l : List ℕ). split_into value size (length xs) l) behind ∙ of_value_bytes value text texts size xs all.1)
 
-pub values_of-spelled : {A : Type 0} (value : List ℕ → A) (text : A → List ℕ) (texts : AreTexts value text) (size count : ℕ) (bytes : List ℕ) (values : List A)
-    → AllByRecursion (λ x. IsString size (text x)) values → length values ≡ count → bytes ≡ flat_map text values → values_of value size count bytes ≡ values
-values_of-spelled value text texts size count bytes values all len e =
-    ap₂ (λ (n : ℕ) (l : List ℕ). values_of value size n l) (sym len) e ∙ of_value_bytes value text texts size values all
+pub split_into-spelled : {A : Type 0} (value : List ℕ → A) (text : A → List ℕ) (texts : AreTexts value text) (size count : ℕ) (bytes : List ℕ) (values : List A)
+    → AllByRecursion (λ x. IsString size (text x)) values → length values ≡ count → bytes ≡ flat_map text values → split_into value size count bytes ≡ values
+split_into-spelled value text texts size count bytes values all len e =
+    ap₂ (λ (n : ℕ) (l : List ℕ). split_into value size n l) (sym len) e ∙ of_value_bytes value text texts size values all

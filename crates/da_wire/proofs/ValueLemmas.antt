@@ -1,7 +1,6 @@
 -- A value that is read of a payload of its kind is what the payload spells.
 use Rattle.std.proofs.Common.{◌≡◌, ◌∙◌, ℕ, Bool, true, false, eqb, cond, List, Option, None, Some, refl, sym, ap, subst, eqb-true}
 use Rattle.std.specs.Option.{option_map}
-use Rattle.std.proofs.lemmas.Option.{same_Some}
 use Rattle.namespace_id.specs.declared.cells.Cell.{Cell}
 use Rattle.namespace_id.specs.declared.cells.Axis.{Axis}
 use Rattle.namespace_id.specs.Bytes.{AreBytes}
@@ -9,17 +8,13 @@ use Rattle.da_wire.specs.declared.frames.Frame.{Frame}
 use Rattle.da_wire.specs.declared.frames.Frame.TheVariants.{Header, Square, Message, Missing, Sample, Request, Block}
 use Rattle.da_wire.specs.Spelling.{header_kind, square_kind, message_kind, missing_kind, sample_kind, request_kind, block_kind, missing_payload, block_payload, spelled, spelling, IsFrame}
 use Rattle.da_wire.specs.Reading.{header_at, square_at, message_at, missing_at, sample_at, request_at, block_at, value_at}
+use Rattle.da_wire.proofs.ReaderLemmas.{map_some}
 use Rattle.da_wire.proofs.HeaderFormLemmas.{header_takes}
 use Rattle.da_wire.proofs.SquareFormLemmas.{square_takes}
 use Rattle.da_wire.proofs.MessageFormLemmas.{message_takes}
 use Rattle.da_wire.proofs.MissingFormLemmas.{missing_takes}
 use Rattle.da_wire.proofs.RequestFormLemmas.{sample_takes, request_takes}
 use Rattle.da_wire.proofs.BlockFormLemmas.{block_takes}
-
--- the value behind a map
-map_some : {A B : Type 0} (f : A → B) (r : Option A) (y : B) → option_map f r ≡ Some y → (x : A) × (r ≡ Some x) × (f x ≡ y)
-map_some f None y e = absurd cc
-map_some f (Some x) y e = (x, refl, same_Some (f x) y e)
 
 -- a value whose spelling is a frame of this kind with this payload
 abbrev pub Spells : ℕ → List ℕ → Frame → Type 0

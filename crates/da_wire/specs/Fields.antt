@@ -1,6 +1,6 @@
 -- Fields of a payload, read from the front of a byte string. A field that is read is a value and the
 -- bytes after it.
-use Rattle.std.specs.Prelude.{◌≡◌, ℕ, zero, suc, ◌*◌, List, [], ◌∷◌, length, take, drop, nat_lt, Option, Some, None, if◌then◌else◌}
+use Rattle.std.specs.Prelude.{ℕ, zero, suc, ◌*◌, List, [], ◌∷◌, length, take, drop, nat_lt, Option, Some, None, if◌then◌else◌}
 use Rattle.std.specs.Option.{option_map, option_map_or}
 use Rattle.std.specs.Int.{Width, w16, w32, byte_len, from_be_bytes}
 use Rattle.namespace_id.specs.declared.cells.Cell.{Cell}
@@ -28,23 +28,23 @@ byte_at [] = None
 byte_at (byte ∷ rest) = Some (byte, rest)
 
 -- so many values of one length, one after another
-unfoldable pub values_of : {A : Type 0} → (List ℕ → A) → ℕ → ℕ → List ℕ → List A
-values_of value size zero bytes = []
-values_of value size (suc count) bytes = value (take size bytes) ∷ values_of value size count (drop size bytes)
+unfoldable pub split_into : {A : Type 0} → (List ℕ → A) → ℕ → ℕ → List ℕ → List A
+split_into value size zero bytes = []
+split_into value size (suc count) bytes = value (take size bytes) ∷ split_into value size count (drop size bytes)
 
 -- the digest that bytes are
 abbrev pub digest : List ℕ → Digest
 digest bytes = record { 0 = bytes }
 
 abbrev pub digests_of : ℕ → List ℕ → List Digest
-digests_of count bytes = values_of digest 90 count bytes
+digests_of count bytes = split_into digest 90 count bytes
 
 -- the share that bytes are
 abbrev pub share : List ℕ → Share
 share bytes = record { 0 = bytes }
 
 abbrev pub shares_of : ℕ → List ℕ → List Share
-shares_of count bytes = values_of share 512 count bytes
+shares_of count bytes = split_into share 512 count bytes
 
 abbrev pub digests_at : ℕ → List ℕ → Option (List Digest × List ℕ)
 digests_at count bytes =

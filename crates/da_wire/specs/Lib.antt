@@ -1,6 +1,9 @@
 pub mod Fields
 pub mod Spelling
 pub mod Reading
+pub mod Steps
+pub mod Walks
 pub mod Frames
 pub mod Laws
 pub mod Writing
+pub mod Values

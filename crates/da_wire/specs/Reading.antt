@@ -1,6 +1,6 @@
 -- What is read of bytes, field by field, and the first refusal (docs/FORMATS.md).
-use Rattle.std.specs.Prelude.{◌≡◌, ◌⊎◌, ◌+◌, ◌*◌, ℕ, List, ◌∷◌, length, take, drop, slice_index, nat_lt, not, ◌==◌, ◌||◌, ◌&&◌, Bool, Option, Some, None, IsSome, Result, Ok, Err, IsOk, if◌then◌else◌}
-use Rattle.std.specs.List.{list_any, list_all}
+use Rattle.std.specs.Prelude.{◌≡◌, ◌⊎◌, ◌+◌, ◌*◌, ℕ, List, length, take, drop, slice_index, nat_lt, not, ◌==◌, ◌||◌, ◌&&◌, Bool, true, Option, Some, None, IsSome, Result, Ok, Err, IsOk, if◌then◌else◌}
+use Rattle.std.specs.List.{list_any}
 use Rattle.std.specs.Option.{option_map}
 use Rattle.std.specs.Int.{w16, w32, from_be_bytes}
 use Rattle.namespace_id.specs.declared.cells.Axis.{Axis}
@@ -8,8 +8,7 @@ use Rattle.namespace_id.specs.declared.cells.Axis.TheVariants.{Row, Col}
 use Rattle.namespace_id.specs.declared.cells.Cell.{Cell}
 use Rattle.namespace_id.specs.declared.namespaces.Namespace.{Namespace}
 use Rattle.namespace_id.specs.declared.digests.Digest.{Digest}
-use Rattle.namespace_id.specs.Cells.{is_width, is_in_square, is_before, are_cells, CellList}
-use Rattle.namespace_id.specs.Lists.{holds_along}
+use Rattle.namespace_id.specs.Cells.{is_width, are_cells, CellList}
 use Rattle.data_header.specs.Headers.{Roots}
 use Rattle.axis_roots.specs.declared.messages.Message as sent
 use Rattle.square_layout.specs.Blocks.{BlockParts, SquareShares}
@@ -80,14 +79,6 @@ message_at bytes = do
         path = path.0;
       })
       else None
-
--- whether a cell of the square of width k comes after another
-abbrev pub is_next : ℕ → Cell → Cell → Bool
-is_next k before cell = is_in_square k cell && is_before before cell
-
--- whether cells go on after one
-abbrev pub are_next : ℕ → Cell → List Cell → Bool
-are_next k before cells = list_all (is_in_square k) cells && holds_along is_before (before ∷ cells)
 
 -- a width k, a count from 1 on, so many cells of its square, strictly ascending in row-major order
 unfoldable pub missing_at : List ℕ → Option CellList
@@ -186,17 +177,25 @@ abbrev pub value_of : ℕ → Result Raw FrameError → Result (Frame × ℕ) Fr
 value_of at (Err e) = Err e
 value_of at (Ok raw) = valued at raw (value_at raw.kind raw.payload)
 
--- the frame at the front, of a kind that there is and that passes a test
-unfoldable pub tested_frame : (ℕ → Bool) → ℕ → List ℕ → Result (Frame × ℕ) FrameError
-tested_frame test at bytes =
+-- whether a kind is one of these
+abbrev pub is_among : List ℕ → ℕ → Bool
+is_among kinds kind = list_any (λ k. k == kind) kinds
+
+-- the frame at the front, of a kind that there is and that passes a test, whatever its payload holds
+unfoldable pub tested_raw : (ℕ → Bool) → ℕ → List ℕ → Result Raw FrameError
+tested_raw test at bytes =
     if length bytes == 0 then Err (Truncated at) else
     (if is_kind (slice_index bytes 0) && test (slice_index bytes 0)
-    then value_of at (raw_of at bytes)
+    then raw_of at bytes
     else Err (BadKind at))
 
--- the frame at the front, of any kind that there is
+-- the value of that frame, and the offset after it
+abbrev pub tested_frame : (ℕ → Bool) → ℕ → List ℕ → Result (Frame × ℕ) FrameError
+tested_frame test at bytes = value_of at (tested_raw test at bytes)
+
+-- the value of the frame at the front, of any kind that there is
 abbrev pub frame_of : ℕ → List ℕ → Result (Frame × ℕ) FrameError
-frame_of at bytes = tested_frame (λ kind. is_kind kind) at bytes
+frame_of at bytes = tested_frame (λ kind. true) at bytes
 
 -- the frame that all of the bytes are
 abbrev pub ended : ℕ → Result (Frame × ℕ) FrameError → Result Frame FrameError
@@ -205,7 +204,7 @@ ended size (Ok x) = if nat_lt x.1 size then Err (Trailing x.1) else Ok x.0
 
 -- the one frame of one of these kinds that the bytes are
 abbrev pub only_of : List ℕ → List ℕ → Result Frame FrameError
-only_of bytes kinds = ended (length bytes) (tested_frame (λ kind. list_any (λ k. k == kind) kinds) 0 bytes)
+only_of bytes kinds = ended (length bytes) (tested_frame (is_among kinds) 0 bytes)
 
 -- ---- what a call answered is what reading gives, or that memory ran out, in place of a value
 

@@ -1,6 +1,6 @@
 -- The one spelling of each value (docs/FORMATS.md).
-use Rattle.std.specs.Prelude.{◌<◌, ◌^◌, ℕ, List, [], ◌∷◌, ◌++◌, length, nat_lt, ◌==◌, Bool, false, Option, Some, None, IfSome, if◌then◌else◌}
-use Rattle.std.specs.List.{flat_map, AllByRecursion}
+use Rattle.std.specs.Prelude.{◌<◌, ◌^◌, ℕ, List, [], ◌∷◌, ◌++◌, length, nat_lt, ◌==◌, Bool, false, Option, Some, None, if◌then◌else◌}
+use Rattle.std.specs.List.{flat_map}
 use Rattle.std.specs.Option.{option_map_or}
 use Rattle.std.specs.Int.{w16, w32, to_be_bytes}
 use Rattle.namespace_id.specs.declared.cells.Axis.{Axis}
@@ -9,12 +9,10 @@ use Rattle.namespace_id.specs.declared.cells.Cell.{Cell}
 use Rattle.namespace_id.specs.declared.namespaces.Namespace.{Namespace}
 use Rattle.namespace_id.specs.declared.digests.Digest.{Digest}
 use Rattle.namespace_id.specs.declared.shares.Share.{Share}
-use Rattle.namespace_id.specs.Bytes.{AreBytes}
 use Rattle.namespace_id.specs.Names.{IsNamespace}
-use Rattle.namespace_id.specs.Digests.{AreDigests}
 use Rattle.namespace_id.specs.Shares.{AreShares}
 use Rattle.namespace_id.specs.Cells.{CellList, AreCells}
-use Rattle.data_header.specs.Headers.{Roots, AreRoots, IsHeader}
+use Rattle.data_header.specs.Headers.{Roots, IsHeader}
 use Rattle.axis_roots.specs.declared.messages.Message as sent
 use Rattle.axis_roots.specs.Messages.{IsMessage}
 use Rattle.square_layout.specs.Blocks.{BlockParts, SquareShares, IsSquare, IsBlock}

@@ -1,8 +1,8 @@
 -- The two parts of a spelling: a value's kind and its payload.
-use Rattle.std.specs.Prelude.{◌≡◌, ◌+◌, ◌≤◌, ◌<◌, ◌^◌, ℕ, List, ◌++◌, length, Vec, vec_len, vec_capacity, Option, Some, None, MatchOption}
-use Rattle.std.specs.declared.alloc.Global.{Global}
+use Rattle.std.specs.Prelude.{◌≡◌, ◌≤◌, ◌<◌, ◌^◌, ℕ, List, ◌++◌, length, drop, Ok, Option, Some, None, MatchOption}
 use Rattle.da_wire.specs.declared.frames.Frame.{Frame}
 use Rattle.da_wire.specs.declared.frames.Frame.TheVariants.{Header, Square, Message, Missing, Sample, Request, Block}
+use Rattle.da_wire.specs.Reading.{frame_of}
 use Rattle.da_wire.specs.Spelling.{max_payload, frame, spelling, header_kind, square_kind, message_kind, missing_kind, sample_kind, request_kind, block_kind, header_payload, square_payload, message_payload, missing_payload, sample_payload, request_payload, block_payload}
 
 abbrev pub kind_of : Frame → ℕ
@@ -39,3 +39,11 @@ IsShort payload = length payload < 2 ^ 32
 -- a length that is within the limit of a payload, none for one above it
 abbrev pub IsWithin : ℕ → Option ℕ → Type 0
 IsWithin size within = MatchOption within (max_payload < size) (λ n. (n ≡ size) × (n ≤ max_payload))
+
+-- the bytes that were appended
+abbrev pub appended : List ℕ → List ℕ → List ℕ
+appended old new = drop (length old) new
+
+-- bytes are read as a value, whatever follows them
+abbrev pub IsReadBack : Frame → List ℕ → Type 0
+IsReadBack value text = (rest : List ℕ) → frame_of 0 (text ++ rest) ≡ Ok (value, length text)

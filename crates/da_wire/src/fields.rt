@@ -7,10 +7,7 @@ ghost use Rattle.namespace_id.specs.Answers.{Gives};
 ghost use Rattle.da_wire.specs.Fields.{number_at, byte_at, string_at, digests_at, text_at};
 
 use namespace_id::{Namespace, Share};
-use share_split::SHARE_SIZE;
-
-/// The bytes of a namespace.
-pub(crate) const NAME_SIZE: usize = 29;
+use share_split::{NAMESPACE_SIZE, SHARE_SIZE};
 
 /// A number of two bytes, the higher first, and the bytes after it.
 pub(crate) fn u16_at(bytes: &[u8]) -> Option<(u16, &[u8])>
@@ -60,7 +57,7 @@ pub(crate) fn name_of(bytes: &[u8]) -> Namespace
     requires { length bytes.now ≡ 29 }
     ensures { result.0 ≡ bytes.now }
 {
-    let mut name = Namespace([0; NAME_SIZE]);
+    let mut name = Namespace([0; NAMESPACE_SIZE]);
     name.0.copy_from_slice(bytes);
     name
 }
@@ -80,10 +77,10 @@ pub(crate) fn share_at(bytes: &[u8]) -> Option<(Share, &[u8])>
 pub(crate) fn name_at(bytes: &[u8]) -> Option<(Namespace, &[u8])>
     ensures { Gives (λ x. (x.0.0, x.1.now)) result (string_at 29 bytes.now) }
 {
-    if bytes.len() < NAME_SIZE {
+    if bytes.len() < NAMESPACE_SIZE {
         return None;
     }
-    let (front, rest) = bytes.split_at(NAME_SIZE);
+    let (front, rest) = bytes.split_at(NAMESPACE_SIZE);
     Some((name_of(front), rest))
 }
 

@@ -51,7 +51,7 @@ pub enum FrameError {
     #[error("the payload of the frame at {0} is not in its form")]
     BadPayload(u64),
     /// A byte follows the frame.
-    #[error("bytes follow the frame at {0}")]
+    #[error("byte {0} follows the frame")]
     Trailing(u64),
     /// There was no memory.
     #[error("out of memory")]

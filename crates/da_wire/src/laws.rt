@@ -1,12 +1,19 @@
 //! What is spelled is read, and what is read is spelled.
 
-ghost use Rattle.std.specs.Prelude.{◌≡◌, IsSome};
+ghost use Rattle.std.specs.Prelude.{◌≡◌, ◌≢◌, ◌≤◌, ◌*◌, [], length, IsSome};
+ghost use Rattle.namespace_id.specs.declared.cells.Axis.{Axis};
+ghost use Rattle.namespace_id.specs.declared.cells.Cell.{Cell};
+ghost use Rattle.namespace_id.specs.declared.namespaces.Namespace as names;
+ghost use Rattle.namespace_id.specs.Names.{IsNamespace};
+ghost use Rattle.namespace_id.specs.Cells.{CellList, AreCells};
 ghost use Rattle.data_header.specs.Headers.{Roots, IsHeader};
 ghost use Rattle.namespace_id.specs.Shares.{AreShares};
+ghost use Rattle.axis_roots.specs.declared.messages.Message as sent;
+ghost use Rattle.axis_roots.specs.Messages.{IsMessage};
 ghost use Rattle.square_layout.specs.Blocks.{SquareShares, IsSquare};
-ghost use Rattle.da_wire.specs.declared.frames.Frame.TheVariants.{Header, Square};
+ghost use Rattle.da_wire.specs.declared.frames.Frame.TheVariants.{Header, Square, Message, Missing, Sample, Request};
 ghost use Rattle.da_wire.specs.Spelling.{max_payload, spelling};
-ghost use Rattle.da_wire.specs.Laws.{SpelledIsRead, ReadIsSpelled, OneSpelling, MessageIsRead, MessageIsSpelled, FramesAreTheFile, FilesAreFrames};
+ghost use Rattle.da_wire.specs.Laws.{SpelledIsRead, ReadIsSpelled, OneSpelling, OnlyIsSpelled, MessageIsRead, MessageIsSpelled, RawIsFrame, FramesAreTheFile, FilesAreFrames, BadFrameIsFirst, ValuesAreTheFile, FilesAreValues, BadValueIsFirst};
 
 use crate::reading::MAX_PAYLOAD;
 
@@ -16,18 +23,37 @@ pub fn wire_laws()
     ensures read { SpelledIsRead }
     ensures spelled { ReadIsSpelled }
     ensures one { OneSpelling }
+    ensures only { OnlyIsSpelled }
 
-    // Every header and every square has a spelling.
+    // What has a spelling. Missing cells are at most as many as their square has.
     ensures headers { (header : Roots) → IsHeader header → IsSome (spelling (Header header)) }
     ensures squares { (square : SquareShares) → IsSquare square → AreShares square.shares →
         IsSome (spelling (Square square)) }
+    ensures messages { (m : sent.Message) → IsMessage m → IsSome (spelling (Message m)) }
+    ensures missing { (cells : CellList) → AreCells cells → cells.list ≢ [] →
+        IsSome (spelling (Missing cells)) }
+    ensures cells { (cells : CellList) → AreCells cells →
+        length cells.list ≤ 4 * (cells.k * cells.k) }
+    ensures samples { (cell : Cell) (axis : Axis) → IsSome (spelling (Sample cell axis)) }
+    ensures requests { (name : names.Namespace) → IsNamespace name →
+        IsSome (spelling (Request name)) }
 
     // The payloads of messages.
     ensures message_read { MessageIsRead }
     ensures message_spelled { MessageIsSpelled }
 
-    // Files that are lists of frames.
+    // Frames of any kind, and files that are lists of them.
+    ensures raw { RawIsFrame }
     ensures frames { FramesAreTheFile }
     ensures files { FilesAreFrames }
+    ensures bad { BadFrameIsFirst }
     ensures limit { MAX_PAYLOAD ≡ max_payload }
+{}
+
+/// A file that is a list of frames in the grammar, of some kinds, is the spellings of its values, one
+/// after another.
+pub fn value_laws()
+    ensures values { ValuesAreTheFile }
+    ensures files { FilesAreValues }
+    ensures bad { BadValueIsFirst }
 {}

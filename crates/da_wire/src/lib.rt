@@ -5,6 +5,7 @@
 #![tactic(auto)]
 
 mod blocks;
+mod bounds;
 mod fields;
 mod frames;
 mod laws;
@@ -14,8 +15,11 @@ mod reading;
 mod tests;
 mod writing;
 
+pub use bounds::is_frame;
 pub use frames::{Frame, FrameError, RawFrame, SpellError};
-pub use laws::wire_laws;
+pub use laws::{value_laws, wire_laws};
 pub use payloads::message;
-pub use reading::{MAX_PAYLOAD, bad_frame, next_frame, raw, read_frame, read_only};
+pub use reading::{
+    MAX_PAYLOAD, bad_frame, bad_value, next_frame, next_value, raw, read_frame, read_only,
+};
 pub use writing::write_frame;

@@ -5,16 +5,17 @@ ghost use Rattle.std.specs.Int.{w16, from_be_bytes};
 ghost use Rattle.namespace_id.specs.Cells.{is_width, are_cells};
 ghost use Rattle.namespace_id.specs.Answers.{Gives};
 ghost use Rattle.da_wire.specs.Fields.{digests_of, shares_of, cells_of};
-ghost use Rattle.da_wire.specs.Reading.{roots_of, header_at, square_at, axis_at, path_at, cell_at, message_at, is_next, are_next, missing_at, sample_at, request_at, GivesUnlessFull};
+ghost use Rattle.da_wire.specs.Steps.{is_next, are_next};
+ghost use Rattle.da_wire.specs.Reading.{roots_of, header_at, square_at, axis_at, path_at, cell_at, message_at, missing_at, sample_at, request_at, GivesUnlessFull};
 
-use crate::fields::{NAME_SIZE, name_of, share_at, share_of, u8_at, u16_at, u32_at};
+use crate::fields::{name_of, share_at, share_of, u8_at, u16_at, u32_at};
 use axis_roots::Message;
 use data_header::Header;
 use namespace_id::{
     Axis, Cell, Cells, Digest, Namespace, Share, is_before, is_in_square, is_width,
 };
 use nmt_proofs::Path;
-use share_split::SHARE_SIZE;
+use share_split::{NAMESPACE_SIZE, SHARE_SIZE};
 use square_layout::Square;
 use std::alloc::{AllocError, Global};
 
@@ -124,7 +125,7 @@ pub(crate) fn sample(payload: &[u8]) -> Option<(Cell, Axis)>
 pub(crate) fn request(payload: &[u8]) -> Option<Namespace>
     ensures { result ≡ request_at payload.now }
 {
-    if payload.len() != NAME_SIZE {
+    if payload.len() != NAMESPACE_SIZE {
         return None;
     }
     Some(name_of(payload))

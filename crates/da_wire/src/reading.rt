@@ -1,10 +1,12 @@
 //! Reading frames from the front of bytes.
 
-ghost use Rattle.std.specs.Prelude.{◌≡◌, ◌↔◌, suc, ◌+◌, ◌<◌, ◌≤◌, ◌^◌, [], ◌∷◌, length, nat_lt, Ok, Err, IfOk, IfSome, IsSome, IsTrue, MatchOption};
-ghost use Rattle.std.specs.List.{list_any};
+ghost use Rattle.std.specs.Prelude.{◌≡◌, ◌↔◌, suc, ◌+◌, ◌<◌, ◌≤◌, ◌^◌, [], ◌∷◌, length, drop, Ok, Err, IsErr, IfOk, OnErr, IfSome, IsSome, IsNone, IsTrue, MatchOption};
+ghost use Rattle.std.specs.Option.{option_map};
+ghost use Rattle.namespace_id.specs.Answers.{Gives};
 ghost use Rattle.da_wire.specs.declared.frames.FrameError.TheVariants.{NoMemory};
-ghost use Rattle.da_wire.specs.Reading.{Reads, ReadsAt, raw_seen, raw_of, is_kind, value_at, value_of, tested_frame, frame_of, ended, only_of, GivesUnlessFull};
-ghost use Rattle.da_wire.specs.Frames.{frames_of, bad_frame, bad_frame_from};
+ghost use Rattle.da_wire.specs.Reading.{Reads, ReadsAt, raw_seen, raw_of, is_kind, value_at, value_of, is_among, tested_raw, frame_of, ended, only_of, GivesUnlessFull};
+ghost use Rattle.da_wire.specs.Frames.{frames_of, bad_frame};
+ghost use Rattle.da_wire.specs.Values.{value_in, value_and_rest, values_of, bad_value};
 
 use crate::blocks::{block, block_parts};
 use crate::payloads::{
@@ -125,7 +127,7 @@ fn refusal_before_more(frame: RawFrame<'_>) -> FrameError
 /// grammar.
 ///
 /// docs/FORMATS.md, "Frames" and "Payloads".
-#[tactic(auto, unfolding(crate::specs::Reading::tested_frame))]
+#[tactic(auto, unfolding(crate::specs::Reading::tested_raw))]
 pub fn read_frame(alloc: Global, bytes: &[u8], at: u64) -> Result<(Frame, u64), FrameError>
     requires { at + length bytes.now < 2 ^ 64 }
     ensures { Reads NoMemory (λ x. x) result (frame_of at bytes.now) }
@@ -139,16 +141,12 @@ pub fn read_frame(alloc: Global, bytes: &[u8], at: u64) -> Result<(Frame, u64), 
     valued(alloc, raw(bytes, at)?, at)
 }
 
-/// The value of the one frame that the bytes are, of one of these kinds.
-///
-/// Refuses what `read_frame` at offset 0 refuses, where a kind that isn't one of `kinds` is `BadKind`
-/// too; then a byte after the frame (`Trailing`), with its offset. Want of memory comes in place of a
-/// value alone.
-///
-/// docs/FORMATS.md, "Frames" and "Payloads".
-#[tactic(auto, unfolding(crate::specs::Reading::tested_frame))]
-pub fn read_only(alloc: Global, bytes: &[u8], kinds: &[u8]) -> Result<Frame, FrameError>
-    ensures { Reads NoMemory (λ x. x) result (only_of bytes.now kinds.now) }
+/// The frame at the front of bytes, of one of these kinds that there are, whatever its payload holds.
+#[tactic(auto, unfolding(crate::specs::Reading::tested_raw))]
+fn raw_among<'a>(bytes: &'a [u8], kinds: &[u8]) -> Result<RawFrame<'a>, FrameError>
+    ensures value { ReadsAt (λ f. raw_seen f) result (tested_raw (is_among kinds.now) 0 bytes.now) }
+    ensures some { IfOk result (λ f. 5 ≤ f.size) }
+    ensures within { IfOk result (λ f. f.size ≤ length bytes.now) }
 {
     if bytes.is_empty() {
         return Err(FrameError::Truncated(0));
@@ -156,7 +154,20 @@ pub fn read_only(alloc: Global, bytes: &[u8], kinds: &[u8]) -> Result<Frame, Fra
     if !is_kind(bytes[0]) || !kinds.contains(&bytes[0]) {
         return Err(FrameError::BadKind(0));
     }
-    let frame = raw(bytes, 0)?;
+    raw(bytes, 0)
+}
+
+/// The value of the one frame that the bytes are, of one of these kinds.
+///
+/// Refuses what `read_frame` at offset 0 refuses, where a kind that isn't one of `kinds` is `BadKind`
+/// too; then a byte after the frame (`Trailing`), with its offset. Want of memory comes in place of a
+/// value alone.
+///
+/// docs/FORMATS.md, "Frames" and "Payloads".
+pub fn read_only(alloc: Global, bytes: &[u8], kinds: &[u8]) -> Result<Frame, FrameError>
+    ensures { Reads NoMemory (λ x. x) result (only_of bytes.now kinds.now) }
+{
+    let frame = raw_among(bytes, kinds)?;
     if frame.size < bytes.len() as u64 {
         return Err(refusal_before_more(frame));
     }
@@ -171,6 +182,8 @@ pub fn read_only(alloc: Global, bytes: &[u8], kinds: &[u8]) -> Result<Frame, Fra
 pub fn next_frame(bytes: &[u8]) -> Option<(RawFrame<'_>, &[u8])>
     ensures frames { MatchOption result (frames_of bytes.now ≡ [])
         (λ x. frames_of bytes.now ≡ raw_seen x.0 ∷ frames_of x.1.now) }
+    ensures none { IsNone result ↔ IsErr (raw_of 0 bytes.now) }
+    ensures after { IfSome result (λ x. x.1.now ≡ drop x.0.size bytes.now) }
     ensures shorter { IfSome result (λ x. length x.1.now < length bytes.now) }
 {
     match raw(bytes, 0) {
@@ -194,4 +207,60 @@ pub fn bad_frame(bytes: &[u8]) -> Option<u64>
         }
     }
     None
+}
+
+/// The length of the frame at the front of bytes; none where no frame in the grammar, of one of these
+/// kinds, stands there.
+fn value_size(bytes: &[u8], kinds: &[u8]) -> Option<u64>
+    ensures size { result ≡ option_map (λ x. x.1) (value_in kinds.now bytes.now) }
+    ensures some { IfSome result (λ size. 0 < size) }
+    ensures within { IfSome result (λ size. size ≤ length bytes.now) }
+{
+    match raw_among(bytes, kinds) {
+        Ok(frame) if has_value(frame.kind, frame.payload) => Some(frame.size),
+        _ => None,
+    }
+}
+
+/// The offset of the first place at which no frame in the grammar, of one of these kinds, stands though
+/// bytes are left; none where the bytes are a list of such frames. It takes no memory.
+///
+/// docs/FORMATS.md, "Lists of frames".
+pub fn bad_value(bytes: &[u8], kinds: &[u8]) -> Option<u64>
+    ensures { result ≡ bad_value kinds.now bytes.now }
+{
+    let mut at = 0;
+    while at < bytes.len() {
+        match value_size(&bytes[at..], kinds) {
+            Some(size) => at += size as usize,
+            None => return Some(at as u64),
+        }
+    }
+    None
+}
+
+/// The value of the frame at the front of bytes, and the bytes after it; none where no frame in the
+/// grammar, of one of these kinds, stands there. Want of memory comes in place of a value alone.
+///
+/// docs/FORMATS.md, "Lists of frames".
+pub fn next_value<'a>(
+    alloc: Global,
+    bytes: &'a [u8],
+    kinds: &[u8],
+) -> Result<Option<(Frame, &'a [u8])>, AllocError>
+    ensures after { IfOk result (λ found.
+        Gives (λ x. (x.0, x.1.now)) found (value_and_rest kinds.now bytes.now)) }
+    ensures memory { OnErr result (IsSome (value_in kinds.now bytes.now)) }
+    ensures values { IfOk result (λ found. MatchOption found (values_of kinds.now bytes.now ≡ [])
+        (λ x. values_of kinds.now bytes.now ≡ x.0 ∷ values_of kinds.now x.1.now)) }
+    ensures shorter { IfOk result (λ found.
+        IfSome found (λ x. length x.1.now < length bytes.now)) }
+{
+    let Ok(frame) = raw_among(bytes, kinds) else {
+        return Ok(None);
+    };
+    match value(alloc, frame.kind, frame.payload)? {
+        Some(value) => Ok(Some((value, &bytes[frame.size as usize..]))),
+        None => Ok(None),
+    }
 }

@@ -4,10 +4,11 @@ ghost use Rattle.std.specs.Prelude.{◌≡◌, ◌+◌, ◌≤◌, ◌++◌, ◌
 ghost use Rattle.std.specs.List.{flat_map};
 ghost use Rattle.da_wire.specs.Spelling.{digest_bytes, share_bytes, axis_byte, cell_bytes, header_payload, square_payload, message_payload, missing_payload, sample_payload, spelling};
 ghost use Rattle.namespace_id.specs.Answers.{HasRoom};
-ghost use Rattle.da_wire.specs.Writing.{kind_of, payload_of, HasSize, AppendsSpelling, IsShort};
+ghost use Rattle.da_wire.specs.Writing.{kind_of, payload_of, HasSize, AppendsSpelling, IsReadBack, IsShort, appended};
 ghost use Rattle.da_wire.specs.declared.frames.Frame.TheVariants as FrameOf;
 
 use crate::blocks::{block_size, put_block};
+use crate::bounds::is_frame;
 use crate::{Frame, MAX_PAYLOAD, SpellError};
 use axis_roots::Message;
 use data_header::Header;
@@ -237,13 +238,14 @@ fn put_payload(out: &mut Vec<u8>, frame: &Frame)
     }
 }
 
-/// Appends the one spelling of a value.
+/// Appends the one spelling of a value, which is read back as the value.
 ///
 /// Refuses a value that has none (`Unspellable`), then want of memory; a refusal leaves `out` as it was.
 ///
 /// docs/FORMATS.md, "Frames" and "Payloads".
 pub fn write_frame(frame: &Frame, out: &mut Vec<u8>) -> Result<(), SpellError>
     ensures written { OnOk result (AppendsSpelling frame.now out.old.items out.new.items) }
+    ensures read_back { OnOk result (IsReadBack frame.now (appended out.old.items out.new.items)) }
     ensures unspellable { IsErrOf result SpellError.Unspellable ↔ (spelling frame.now ≡ None) }
     ensures unchanged { OnErr result (out.new.items ≡ out.old.items) }
 {
@@ -256,5 +258,6 @@ pub fn write_frame(frame: &Frame, out: &mut Vec<u8>) -> Result<(), SpellError>
     put(out, &[kind_of(frame)]);
     put(out, &size.to_be_bytes());
     put_payload(out, frame);
+    is_frame(frame);
     Ok(())
 }

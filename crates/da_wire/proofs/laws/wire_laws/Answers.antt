@@ -1,7 +1,9 @@
 use Rattle.da_wire.proofs.MessageFormLemmas.{message_again, message_takes}
 use Rattle.da_wire.proofs.FrameLemmas.{spelled_is_read, read_is_spelled, one_spelling}
-use Rattle.da_wire.proofs.FrameListLemmas.{frames_are_the_file, files_are_frames}
-use Rattle.da_wire.proofs.SizedLemmas.{header_spelled, square_spelled}
+use Rattle.da_wire.proofs.OnlyLemmas.{only_is_spelled}
+use Rattle.da_wire.proofs.FrameListLemmas.{raw_is_frame, frames_are_the_file, files_are_frames, bad_frame_is_first}
+use Rattle.da_wire.proofs.SpelledLemmas.{header_spelled, square_spelled, message_spelled, missing_spelled, sample_spelled, request_spelled}
+use Rattle.da_wire.proofs.CellCountLemmas.{cells_counted}
 use Rattle.da_wire.proofs.laws.wire_laws.Goals as goal
 
 pub returns-clause-read : goal.returns-clause-read
@@ -13,11 +15,29 @@ returns-clause-spelled c = read_is_spelled
 pub returns-clause-one : goal.returns-clause-one
 returns-clause-one c = one_spelling
 
+pub returns-clause-only : goal.returns-clause-only
+returns-clause-only c = only_is_spelled
+
 pub returns-clause-headers : goal.returns-clause-headers
 returns-clause-headers c = header_spelled
 
 pub returns-clause-squares : goal.returns-clause-squares
 returns-clause-squares c = square_spelled
+
+pub returns-clause-messages : goal.returns-clause-messages
+returns-clause-messages c = message_spelled
+
+pub returns-clause-missing : goal.returns-clause-missing
+returns-clause-missing c = missing_spelled
+
+pub returns-clause-cells : goal.returns-clause-cells
+returns-clause-cells c = cells_counted
+
+pub returns-clause-samples : goal.returns-clause-samples
+returns-clause-samples c = sample_spelled
+
+pub returns-clause-requests : goal.returns-clause-requests
+returns-clause-requests c = request_spelled
 
 pub returns-clause-message_read : goal.returns-clause-message_read
 returns-clause-message_read c = message_again
@@ -25,8 +45,14 @@ returns-clause-message_read c = message_again
 pub returns-clause-message_spelled : goal.returns-clause-message_spelled
 returns-clause-message_spelled c = message_takes
 
+pub returns-clause-raw : goal.returns-clause-raw
+returns-clause-raw c = raw_is_frame
+
 pub returns-clause-frames : goal.returns-clause-frames
 returns-clause-frames c = frames_are_the_file
 
 pub returns-clause-files : goal.returns-clause-files
 returns-clause-files c = files_are_frames
+
+pub returns-clause-bad : goal.returns-clause-bad
+returns-clause-bad c = bad_frame_is_first

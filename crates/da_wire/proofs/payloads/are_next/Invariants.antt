@@ -1,6 +1,6 @@
 use Rattle.std.proofs.Common.{◌≡◌, ◌-◌, ◌*◌, length}
 use Rattle.da_wire.specs.Fields.{cells_of}
-use Rattle.da_wire.specs.Reading.{are_next}
+use Rattle.da_wire.specs.Steps.{are_next}
 use Rattle.da_wire.proofs.payloads.are_next.Given as goal
 
 -- the cells of the rest decide
