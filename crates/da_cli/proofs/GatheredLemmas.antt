@@ -1,5 +1,5 @@
 -- Lemmas on reading the files of a list of names.
-use Rattle.std.proofs.Common.{◌≡◌, ℕ, zero, suc, ◌+◌, ◌<◌, ◌≤◌, nat_lt, Bool, true, false, cond, List, [], ◌∷◌, ◌++◌, length, drop, get_or, None, Some, Ok, Err, Vec, String, Global, refl, sym, ap, ◌∙◌, subst, arith, ⊎_elim, inl, inr, add-one, append_assoc, append-nil}
+use Rattle.std.proofs.Common.{◌≡◌, ℕ, zero, suc, ◌+◌, ◌-◌, ◌<◌, ◌≤◌, nat_lt, Bool, true, false, cond, List, [], ◌∷◌, ◌++◌, length, drop, get_or, None, Some, Ok, Err, Vec, String, Global, refl, sym, ap, ◌∙◌, subst, arith, ⊎_elim, inl, inr, add-one, append_assoc, append-nil}
 use Rattle.std.specs.Prelude.{⊤, ◌⊎◌}
 use Rattle.std.specs.declared.option.Option.{Option}
 use Rattle.std.specs.String.{string_bytes}
@@ -11,7 +11,9 @@ use Rattle.da_cli.specs.declared.gathering.Stop.{Stop}
 use Rattle.da_cli.specs.declared.gathering.Stop.TheVariants.{PickFault, ReadFault, TooLong, NoMemory}
 use Rattle.da_cli.specs.Limits.{file_limit}
 use Rattle.da_cli.specs.Words.{words_of}
-use Rattle.da_cli.specs.Gathered.{Gathered, whole, long, absent, with_front, gathered_one, gathered_from, gathered, contents_of, file_of, IsWord, ReadsFile, StopsFile, Gathers, StopsIn, AllRead}
+use Rattle.da_io.specs.Faults.{count_on}
+use Rattle.da_io.specs.declared.inputs.Ended.TheVariants as ended
+use Rattle.da_cli.specs.Gathered.{IsLast, PicksIn, StopsFile, Gathered, whole, long, absent, with_front, gathered_one, gathered_from, gathered, contents_of, file_of, IsWord, ReadsFile, Gathers, StopsIn, AllRead}
 
 -- these contents, and then what is gathered after them
 abbrev pub after : List (List ℕ) → Gathered → Gathered
@@ -121,6 +123,27 @@ stop_in told names i name picked last given (TooLong j) here all named why =
     let word = subst (IsWord names i) (sym named) (name_at names i name (drop (i + 1) names) here) in
     (why.1, subst (λ (n : ℕ). IsWord names n picked) (sym why.0) word, subst (AllRead told names) (sym why.0) all)
 stop_in told names i name picked last given NoMemory here all named why = tt
+
+-- the name at a place was picked last
+pub last_on : (names : List (List ℕ)) (i : ℕ) (name : List ℕ) (picked : Option (List ℕ)) (last : Ended) → drop i names ≡ name ∷ drop (i + 1) names
+    → picked ≡ Some name → last ≡ ended.Fine → IsWord names (i + 1 - 1) picked × (last ≡ ended.Fine)
+last_on names i name picked last here named fine =
+    let same : i ≡ i + 1 - 1 = omega arith in
+    (subst (λ (j : ℕ). IsWord names j picked) same (subst (IsWord names i) (sym named) (name_at names i name (drop (i + 1) names) here)), fine)
+
+pub last_at_end : (names : List (List ℕ)) (i : ℕ) (picked : Option (List ℕ)) (last : Ended) → i ≤ length names → length names ≤ i
+    → (0 < i → IsWord names (i - 1) picked × (last ≡ ended.Fine)) → IsLast names picked last
+last_at_end names i picked last few many h =
+    let same : i ≡ length names = omega arith in
+    λ some. let here : 0 < i = omega arith in (subst (λ (j : ℕ). IsWord names (j - 1) picked) same (h here).0, (h here).1)
+
+-- how many files were picked when file i was not read whole
+pub stop_picks : (i before now count : ℕ) (last : Ended) (given : ℕ) (stop : Stop) → i < count → StopsFile i last given stop
+    → now ≡ count_on before (i + 1) → PicksIn before now count (Err stop)
+stop_picks i before now count last given (PickFault j) h why e = e ∙ ap (λ (k : ℕ). count_on before (k + 1)) (sym why.0)
+stop_picks i before now count last given (ReadFault j) h why e = e ∙ ap (λ (k : ℕ). count_on before (k + 1)) (sym why.0)
+stop_picks i before now count last given (TooLong j) h why e = e ∙ ap (λ (k : ℕ). count_on before (k + 1)) (sym why.0)
+stop_picks i before now count last given NoMemory h why e = (i + 1, omega arith, e)
 
 below : (j i : ℕ) → j < i + 1 → (j < i) ⊎ (j ≡ i)
 below zero zero h = inr refl

@@ -1,5 +1,5 @@
 -- Lemmas on a whole run.
-use Rattle.std.proofs.Common.{◌≡◌, ℕ, ◌+◌, ◌-◌, ◌<◌, ◌≤◌, List, length, take, drop, None, Some, Ok, Vec, String, Global, refl, sym, ap, ◌∙◌, subst, arith, ◌↔◌}
+use Rattle.std.proofs.Common.{◌≡◌, ℕ, ◌+◌, ◌-◌, ◌<◌, ◌≤◌, List, length, take, drop, None, Some, Ok, Err, Vec, String, Global, refl, sym, ap, ◌∙◌, subst, arith, ◌↔◌}
 use Rattle.std.specs.Prelude.{MatchOption}
 use Rattle.std.specs.declared.option.Option.{Option}
 use Rattle.std.specs.String.{string_bytes}
@@ -13,11 +13,14 @@ use Rattle.da_cli.specs.declared.status.Status.TheVariants.{Done, Usage, PickFau
 use Rattle.da_cli.specs.Limits.{file_limit}
 use Rattle.da_cli.specs.Statuses.{Kind, usage, fault, excess, form, request, memory, write, output, kind_of}
 use Rattle.da_cli.specs.Words.{words_of, call_of, file_words, names_in, names_of}
-use Rattle.da_cli.specs.Gathered.{Gathered, whole, long, absent, gathered, contents_of, Gathers}
-use Rattle.da_cli.specs.Outcome.{Relation, Refuses, Outputs, AnswersBy, Answers, ExcessCause, IsOwnBy}
+use Rattle.da_cli.specs.Gathered.{Gathered, whole, long, absent, gathered, contents_of, Gathers, PicksIn}
+use Rattle.da_io.specs.Faults.{count_on}
+use Rattle.da_cli.specs.declared.gathering.Stop.{Stop}
+use Rattle.da_cli.specs.declared.gathering.Stop.TheVariants as stop
+use Rattle.da_cli.specs.Outcome.{Relation, Refuses, Outputs, AnswersBy, Answers, ExcessCause, LastBy, PickCount, IsOwnBy}
 use Rattle.da_cli.specs.Judging.{first_bad, Judged}
 use Rattle.da_cli.specs.Meaning.{judged_of, AnswerOf, Meaning}
-use Rattle.da_cli.specs.Run.{CommandOf, CallOf, RunOf, AnswersTold, CompletesBy, Completes}
+use Rattle.da_cli.specs.Run.{status_of, CommandOf, CallOf, RunOf, AnswersTold, CompletesBy, Completes}
 use Rattle.da_cli.specs.Laws.{FormLaw, BadInputLaw, ExcessLaw, AbsentLaw, IsDecided, FailureLaw}
 use Rattle.da_cli.proofs.EndLemmas.{IsAnswer, answer_output}
 use Rattle.da_cli.proofs.CheckLemmas.{check_last}
@@ -70,6 +73,53 @@ excess_own told names picked given (TooLong i) own h = absurd own
 excess_own told names picked given (BadBlock why) own h = h
 excess_own told names picked given (BadRequest why) own h = h
 excess_own told names picked given Refused own h = h
+
+-- a command's own status comes after all files were picked
+pub picks_own : (count before now : ℕ) (status : Status) → IsOwnBy (kind_of status) → now ≡ count_on before count → PickCount count before now status
+picks_own count before now Done own e = e
+picks_own count before now Usage own e = absurd own
+picks_own count before now (PickFault i) own e = absurd own
+picks_own count before now (ReadFault i) own e = absurd own
+picks_own count before now WriteFault own e = e
+picks_own count before now NoMemory own e = (count, omega arith, e)
+picks_own count before now (BadInput i at) own e = e
+picks_own count before now (TooLong i) own e = absurd own
+picks_own count before now (BadBlock why) own e = e
+picks_own count before now (BadRequest why) own e = e
+picks_own count before now Refused own e = e
+
+-- the status of files that were not read whole comes after the picks up to that file
+pub picks_stop : (count count' before now : ℕ) (stop : Stop) → count' ≡ count → PicksIn before now count' (Err stop)
+    → PickCount count before now (status_of stop)
+picks_stop count count' before now (stop.PickFault i) same h = h
+picks_stop count count' before now (stop.ReadFault i) same h = h
+picks_stop count count' before now (stop.TooLong i) same h = h
+picks_stop count count' before now stop.NoMemory same h = let few : h.0 ≤ count' = h.1 in (h.0, omega (arith, few, same), h.2)
+
+-- as many names as words that name files
+pub names_count : (words : List (String Global)) (call : Call) → Some call ≡ call_of (words_of words)
+    → length (take (1 + call.files - 1) (drop 1 words)) ≡ length (names_of (words_of words))
+names_count words call e =
+    let names : names_of (words_of words) ≡ words_of (take (1 + call.files - 1) (drop 1 words)) =
+    ap (λ (o : Option Call). names_in o (words_of words)) (sym e) ∙ sym (names_here call.files words) in
+    sym (ap length names ∙ length-map (take (1 + call.files - 1) (drop 1 words)) string_bytes)
+
+-- with a command's own status the last call was the end of the last file
+pub last_own : (k : Kind) (Last : Type 0) → IsOwnBy k → Last → LastBy k Last
+last_own usage Last own h = tt
+last_own fault Last own h = tt
+last_own excess Last own h = tt
+last_own form Last own h = h
+last_own request Last own h = h
+last_own memory Last own h = tt
+last_own write Last own h = h
+last_own output Last own h = h
+
+-- the names of a command's files are the words that were gathered
+pub names_same : (words : List (String Global)) (call : Call) → Some call ≡ call_of (words_of words)
+    → words_of (take (1 + call.files - 1) (drop 1 words)) ≡ names_of (words_of words)
+names_same words call e =
+    names_here call.files words ∙ ap (λ (o : Option Call). names_in o (words_of words)) e
 
 -- the meaning over judged files
 judged_is : (judged : List (Option ℕ)) (A : Relation) (o : Option (ℕ × ℕ)) → first_bad 0 judged ≡ o

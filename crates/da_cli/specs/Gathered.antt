@@ -1,6 +1,6 @@
 -- What the files of a list of names hold: they are read in its order, up to the first that can't be
 -- used.
-use Rattle.std.specs.Prelude.{◌≡◌, ℕ, zero, suc, ◌<◌, ◌≤◌, nat_lt, List, [], ◌∷◌, length, map, ⊤, Some, None, Ok, Err, Result, Vec, if◌then◌else◌}
+use Rattle.std.specs.Prelude.{◌≡◌, ℕ, zero, suc, ◌+◌, ◌-◌, ◌<◌, ◌≤◌, nat_lt, List, [], ◌∷◌, length, map, ⊤, Some, None, Ok, Err, Result, Vec, if◌then◌else◌}
 use Rattle.std.specs.declared.option.Option.{Option}
 use Rattle.std.specs.declared.alloc.Global.{Global}
 use Rattle.da_io.specs.Faults.{count_on}
@@ -51,6 +51,10 @@ abbrev pub IsWord : List (List ℕ) → ℕ → Option (List ℕ) → Type 0
 IsWord names i None = ⊥
 IsWord names i (Some name) = (i < length names) × (file_of names i ≡ name)
 
+-- the last call was of the last of these names, and did not fail
+abbrev pub IsLast : List (List ℕ) → Option (List ℕ) → Ended → Type 0
+IsLast names picked last = 0 < length names → IsWord names (length names - 1) picked × (last ≡ ended.Fine)
+
 -- each file before number i is there and within the limit
 abbrev pub AllRead : Option Files → List (List ℕ) → ℕ → Type 0
 AllRead None names i = ⊤
@@ -98,6 +102,14 @@ count_after before (Err (PickFault _)) = count_on before 1
 count_after before (Err (ReadFault _)) = count_on before 1
 count_after before (Err (TooLong _)) = before
 count_after before (Err NoMemory) = before
+
+-- how many files were picked: all, or those up to the one that stopped it
+abbrev pub PicksIn : ℕ → ℕ → ℕ → Result (Vec (Vec ℕ Global) Global) Stop → Type 0
+PicksIn before now count (Ok _) = now ≡ count_on before count
+PicksIn before now count (Err (PickFault i)) = now ≡ count_on before (i + 1)
+PicksIn before now count (Err (ReadFault i)) = now ≡ count_on before (i + 1)
+PicksIn before now count (Err (TooLong i)) = now ≡ count_on before (i + 1)
+PicksIn before now count (Err NoMemory) = (n : ℕ) × (n ≤ count) × (now ≡ count_on before n)
 
 -- but for an excess of length and want of memory, the file that was read last gave no more than the
 -- limit

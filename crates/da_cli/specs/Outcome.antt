@@ -1,9 +1,10 @@
 -- What a status says of the output, the inputs and their failures.
-use Rattle.std.specs.Prelude.{◌≡◌, ℕ, ◌<◌, ◌≤◌, List, [], ◌++◌, length, ⊤, ◌⊎◌, ◌↔◌, IsSome}
+use Rattle.std.specs.Prelude.{◌≡◌, ℕ, ◌+◌, ◌<◌, ◌≤◌, List, [], ◌++◌, length, ⊤, ◌⊎◌, ◌↔◌, IsSome}
 use Rattle.std.specs.declared.option.Option.{Option}
 use Rattle.std.specs.Io.KnownBytes.{Appends}
 use Rattle.da_io.specs.declared.inputs.Ended.{Ended}
 use Rattle.da_io.specs.declared.inputs.Ended.TheVariants as ended
+use Rattle.da_io.specs.Faults.{count_on}
 use Rattle.da_io.specs.Files.{Files}
 use Rattle.da_io.specs.Sinks.{AppendsPart}
 use Rattle.da_cli.specs.declared.status.Status.{Status}
@@ -91,6 +92,31 @@ ExcessCause told names picked given (BadRequest why) = 0 < length names → give
 ExcessCause told names picked given Refused = 0 < length names → given ≤ file_limit
 ExcessCause told names picked given Usage = ⊤
 ExcessCause told names picked given NoMemory = ⊤
+
+-- where files were judged, a fact of the last call on the inputs
+abbrev pub LastBy : Kind → Type 0 → Type 0
+LastBy usage Last = ⊤
+LastBy fault Last = ⊤
+LastBy excess Last = ⊤
+LastBy form Last = Last
+LastBy request Last = Last
+LastBy memory Last = ⊤
+LastBy write Last = Last
+LastBy output Last = Last
+
+-- how many picks a run makes: one for each file word, up to the one that a status of reading names
+abbrev pub PickCount : ℕ → ℕ → ℕ → Status → Type 0
+PickCount count before now Usage = now ≡ before
+PickCount count before now (PickFault i) = now ≡ count_on before (i + 1)
+PickCount count before now (ReadFault i) = now ≡ count_on before (i + 1)
+PickCount count before now (TooLong i) = now ≡ count_on before (i + 1)
+PickCount count before now NoMemory = (n : ℕ) × (n ≤ count) × (now ≡ count_on before n)
+PickCount count before now Done = now ≡ count_on before count
+PickCount count before now WriteFault = now ≡ count_on before count
+PickCount count before now (BadInput i at) = now ≡ count_on before count
+PickCount count before now (BadBlock why) = now ≡ count_on before count
+PickCount count before now (BadRequest why) = now ≡ count_on before count
+PickCount count before now Refused = now ≡ count_on before count
 
 -- a command, which stands over files that were read, doesn't decide on words or reading
 abbrev pub IsOwnBy : Kind → Type 0

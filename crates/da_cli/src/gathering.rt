@@ -1,9 +1,11 @@
 //! Reading the files of a command, in the order of the words.
 
-ghost use Rattle.std.specs.Prelude.{◌≡◌, ℕ, ◌≤◌, ◌<◌, length, IfErr, Some, Ok, Err};
+ghost use Rattle.std.specs.Prelude.{◌≡◌, ℕ, ◌≤◌, ◌<◌, length, IfErr, IfOk, Some, Ok, Err};
 ghost use Rattle.std.specs.String.{string_bytes};
 ghost use Rattle.da_cli.specs.Words.{words_of};
-ghost use Rattle.da_cli.specs.Gathered.{ReadsFile, StopsFile, Gathers, StopsIn, count_after, WithinLimit};
+ghost use Rattle.da_io.specs.Faults.{count_on};
+ghost use Rattle.da_io.specs.declared.inputs.Ended.TheVariants.{Fine};
+ghost use Rattle.da_cli.specs.Gathered.{IsLast, PicksIn, ReadsFile, StopsFile, Gathers, StopsIn, count_after, WithinLimit};
 
 use da_io::{InputFault, Inputs, read_all};
 use std::alloc::Global;
@@ -31,6 +33,8 @@ fn read_file<I: Inputs>(
     ensures stop { IfErr result (StopsFile i (I.ended inputs.new) (I.given inputs.new)) }
     ensures faults { I.faults inputs.new ≡ count_after (I.faults inputs.old) result }
     ensures within { WithinLimit (I.given inputs.new) result }
+    ensures picks { I.picks inputs.new ≡ count_on (I.picks inputs.old) 1 }
+    ensures fine { IfOk result (λ _. I.ended inputs.new ≡ Fine) }
     ensures picked { I.picked inputs.new ≡ Some (string_bytes name) }
     ensures files { I.files inputs.new ≡ I.files inputs.old }
 {
@@ -57,6 +61,9 @@ pub(crate) fn gather<I: Inputs>(
         (I.picked inputs.new) (I.ended inputs.new) (I.given inputs.new)) }
     ensures faults { I.faults inputs.new ≡ count_after (I.faults inputs.old) result }
     ensures within { 0 < length words.now → WithinLimit (I.given inputs.new) result }
+    ensures last { IfOk result (λ _. IsLast (words_of words.now) (I.picked inputs.new)
+        (I.ended inputs.new)) }
+    ensures picks { PicksIn (I.picks inputs.old) (I.picks inputs.new) (length words.now) result }
     ensures files { I.files inputs.new ≡ I.files inputs.old }
 {
     let mut contents = Vec::new(alloc);

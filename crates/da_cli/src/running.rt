@@ -1,11 +1,11 @@
 //! The top call.
 
-ghost use Rattle.std.specs.Prelude.{◌≡◌, ◌↔◌, ℕ, ◌≤◌, None, IsSome};
+ghost use Rattle.std.specs.Prelude.{◌≡◌, ◌↔◌, ℕ, ◌≤◌, length, None, IsSome};
 ghost use Rattle.da_cli.specs.declared.status.Status.TheVariants.{Usage};
 ghost use Rattle.da_cli.specs.Words.{words_of, call_of, names_of};
 ghost use Rattle.da_cli.specs.Statuses.{kind_of, input_count, output_count};
-ghost use Rattle.da_cli.specs.Gathered.{contents_of};
-ghost use Rattle.da_cli.specs.Outcome.{FaultCause, ExcessCause, Untouched, Ends};
+ghost use Rattle.da_cli.specs.Gathered.{contents_of, IsLast};
+ghost use Rattle.da_cli.specs.Outcome.{FaultCause, ExcessCause, LastBy, PickCount, Untouched, Ends};
 ghost use Rattle.da_cli.specs.Meaning.{Meaning};
 ghost use Rattle.da_cli.specs.Notes.{note_of, Notes};
 ghost use Rattle.da_cli.specs.Run.{status_of, AnswersTold, Completes};
@@ -61,6 +61,10 @@ fn answer<I: Inputs, O: Sink>(
         (I.picked inputs.new) (I.given inputs.new) result }
     ensures input_faults { I.faults inputs.new ≡ input_count (kind_of result) (I.faults inputs.old) }
     ensures output_faults { O.faults out.new ≡ output_count (kind_of result) (O.faults out.old) }
+    ensures picks { PickCount (length (names_of (words_of words.now))) (I.picks inputs.old)
+        (I.picks inputs.new) result }
+    ensures last { LastBy (kind_of result) (IsLast (names_of (words_of words.now)) (I.picked inputs.new)
+        (I.ended inputs.new)) }
     ensures files { I.files inputs.new ≡ I.files inputs.old }
     ensures told { IsSome (O.taken out.old) ↔ IsSome (O.taken out.new) }
 {
@@ -109,6 +113,10 @@ pub fn run<I: Inputs, O: Sink, N: Sink>(
     // Failures are counted, and none is hidden behind another status.
     ensures input_faults { I.faults inputs.new ≡ input_count (kind_of result) (I.faults inputs.old) }
     ensures output_faults { O.faults out.new ≡ output_count (kind_of result) (O.faults out.old) }
+    ensures picks { PickCount (length (names_of (words_of words.now))) (I.picks inputs.old)
+        (I.picks inputs.new) result }
+    ensures last { LastBy (kind_of result) (IsLast (names_of (words_of words.now)) (I.picked inputs.new)
+        (I.ended inputs.new)) }
 
     // What stays.
     ensures files { I.files inputs.new ≡ I.files inputs.old }

@@ -1,7 +1,9 @@
-use Rattle.std.proofs.Common.{◌≡◌, ◌≤◌, ◌<◌}
+use Rattle.std.proofs.Common.{◌≡◌, ◌≤◌, ◌<◌, ◌-◌}
+use Rattle.da_io.specs.declared.inputs.Ended.TheVariants.{Fine}
+use Rattle.da_io.specs.Faults.{count_on}
 use Rattle.da_cli.specs.Limits.{file_limit}
 use Rattle.da_cli.specs.Words.{words_of}
-use Rattle.da_cli.specs.Gathered.{AllRead, contents_of}
+use Rattle.da_cli.specs.Gathered.{AllRead, IsWord, contents_of}
 use Rattle.da_cli.proofs.GatheredLemmas.{HasCome}
 use Rattle.da_cli.proofs.gathering.gather.Given as goal
 
@@ -12,5 +14,7 @@ invariant-loop-i g l = record {
   all : AllRead (g.I.Inputs.files l.fn.inputs) (words_of l.words) l.i;
   within : 0 < l.i → g.I.Inputs.given l.inputs ≤ file_limit;
   faults : g.I.Inputs.faults l.inputs ≡ g.I.Inputs.faults l.fn.inputs;
+  last : 0 < l.i → IsWord (words_of l.words) (l.i - 1) (g.I.Inputs.picked l.inputs) × (g.I.Inputs.ended l.inputs ≡ Fine);
+  picks : g.I.Inputs.picks l.inputs ≡ count_on (g.I.Inputs.picks l.fn.inputs) l.i;
   files : g.I.Inputs.files l.inputs ≡ g.I.Inputs.files l.fn.inputs;
 }
