@@ -5,3 +5,4 @@ pub mod GatheredLemmas
 pub mod CheckLemmas
 pub mod SquareLemmas
 pub mod RunLemmas
+pub mod RanLemmas

@@ -9,5 +9,6 @@ pub mod Check
 pub mod Squares
 pub mod Meaning
 pub mod Run
+pub mod Ran
 pub mod Notes
 pub mod Laws
