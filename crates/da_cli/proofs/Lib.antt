@@ -7,3 +7,5 @@ pub mod CheckLemmas
 pub mod SquareLemmas
 pub mod RunLemmas
 pub mod RanLemmas
+pub mod OwnLemmas
+pub mod ChoiceLemmas

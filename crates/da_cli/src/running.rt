@@ -8,12 +8,14 @@ ghost use Rattle.da_cli.specs.Gathered.{contents_of, IsLast};
 ghost use Rattle.da_cli.specs.Outcome.{FaultCause, ExcessCause, LastBy, PickCount, Untouched, Ends};
 ghost use Rattle.da_cli.specs.Meaning.{Meaning};
 ghost use Rattle.da_cli.specs.Notes.{note_of, Notes};
+ghost use Rattle.da_cli.specs.Own.{AreOwn};
 ghost use Rattle.da_cli.specs.Ran.{Ran};
 ghost use Rattle.da_cli.specs.Run.{status_of, LeavesTold, Completes};
 
 use crate::Status;
 use crate::checking::check;
 use crate::gathering::{Stop, gather};
+use crate::laws::run_laws;
 use crate::output::note;
 use crate::squares::{build, header};
 use crate::words::{Command, call_of};
@@ -82,6 +84,10 @@ pub fn run<I: Inputs, O: Sink, N: Sink>(
     ensures complete { Completes (I.files inputs.old) (words_of words.now) (O.taken out.old)
         (O.taken out.new) result }
 
+    // Under the header of a square `ok` stands only for messages that show the square's own share, or
+    // name a collision, where the files are told.
+    ensures own { AreOwn (I.files inputs.old) (words_of words.now) }
+
     // `Usage` comes exactly where the words are no command. Where no word names a file, nothing is
     // read.
     ensures usage { (result ≡ Usage) ↔ (call_of (words_of words.now) ≡ None) }
@@ -114,6 +120,7 @@ pub fn run<I: Inputs, O: Sink, N: Sink>(
     ensures note { Notes (note_of result) (N.taken notes.old) (N.taken notes.new)
         (N.faults notes.old) (N.faults notes.new) }
 {
+    run_laws();
     let status = answer(alloc, words, inputs, out);
     note(status, notes);
     status
