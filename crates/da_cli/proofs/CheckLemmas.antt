@@ -26,7 +26,7 @@ use Rattle.da_cli.specs.Statuses.{kind_of, output}
 use Rattle.da_cli.specs.Outcome.{Relation, Refuses}
 use Rattle.da_cli.specs.Judging.{Judged}
 use Rattle.da_cli.specs.Single.{header_in, error_of}
-use Rattle.da_cli.specs.Check.{IsProvedFrame, IsOwnFrame, finding_of, line_of, is_ok, lines_of, are_ok, status_of, Lists, CheckOf}
+use Rattle.da_cli.specs.Check.{IsProvedFrame, IsOwnFrame, finding_of, line_of, is_ok, lines_of, are_ok, status_of_lines, Lists, CheckOf}
 use Rattle.da_cli.specs.Meaning.{Meaning}
 
 -- the answer by what the two files are
@@ -66,7 +66,7 @@ next_ok h rest after frame finding so_far ok frames found tested =
     ap (λ (b : Bool). so_far && b) here ∙ and_assoc so_far ok (are_ok h (frames_of after))
 
 -- an answer comes with its output
-status-kind : (all_ok : Bool) → kind_of (status_of all_ok) ≡ output
+status-kind : (all_ok : Bool) → kind_of (status_of_lines all_ok) ≡ output
 status-kind true = refl
 status-kind false = refl
 

@@ -1,15 +1,15 @@
 -- Lemmas on how commands end.
-use Rattle.std.proofs.Common.{◌≡◌, ℕ, zero, suc, ◌<◌, ◌≤◌, List, [], ◌∷◌, ◌++◌, length, get_or, inl, inr, Vec, Global, refl, sym, ap, ◌∙◌, subst, arith, IsSome, ◌↔◌, ◌⊎◌}
+use Rattle.std.proofs.Common.{◌≡◌, ℕ, zero, suc, ◌<◌, ◌≤◌, List, [], ◌∷◌, length, get_or, inl, inr, Vec, Global, refl, sym, ap, ◌∙◌, subst, arith, IsSome, ◌↔◌, ◌⊎◌}
 use Rattle.std.specs.declared.option.Option.{Option}
 use Rattle.std.specs.Io.KnownBytes.{Appends}
 use Rattle.std.proofs.KnownBytes.{Appends-nil}
 use Rattle.da_io.specs.Faults.{count_on}
-use Rattle.da_io.specs.Sinks.{AppendsPart}
+use Rattle.da_io.specs.Sinks.{IsProperPrefix, AppendsPart}
 use Rattle.da_cli.specs.declared.status.Status.{Status}
 use Rattle.da_cli.specs.declared.status.Status.TheVariants.{WriteFault, BadInput}
 use Rattle.da_cli.specs.Statuses.{Kind, usage, fault, excess, form, request, memory, write, output, kind_of, output_count}
 use Rattle.da_cli.specs.Gathered.{contents_of, file_of}
-use Rattle.da_cli.specs.Outcome.{Relation, Refuses, Outputs, AnswersBy, UntouchedBy, IsOwnBy, Ends}
+use Rattle.da_cli.specs.Outcome.{Relation, Refuses, Outputs, LeavesBy, UntouchedBy, IsOwnBy, Ends}
 
 -- file i of a list
 pub file_some : (files : List (Vec ℕ Global)) (i : ℕ) (file : Vec ℕ Global) → i < length files → file ≡ get_or files i file
@@ -34,7 +34,7 @@ ends_as M N old new before now Same status e ends = subst (λ (R : Relation). En
 pub ends_refused : (i at : ℕ) (old : Option (List ℕ)) (before : ℕ) (Same : Type 0) → Same
     → Ends (Refuses (BadInput i at)) old old before before Same (BadInput i at)
 ends_refused i at old before Same same = record {
-  answers = ([], (refl, refl), Appends-nil old);
+  leaves = ([], (refl, refl), Appends-nil old);
   faults = refl;
   told = (λ s. s, λ s. s);
   untouched = same;
@@ -59,7 +59,7 @@ answer_output status e = subst IsAnswer (sym e) tt
 pub ends_request : (M : Relation) (old : Option (List ℕ)) (before : ℕ) (Same : Type 0) (status : Status) → kind_of status ≡ request → M [] status → Same
     → Ends M old old before before Same status
 ends_request M old before Same status e meant same = record {
-  answers = subst (λ (k : Kind). AnswersBy k M old old status) (sym e) ([], meant, Appends-nil old);
+  leaves = subst (λ (k : Kind). LeavesBy k M old old status) (sym e) ([], meant, Appends-nil old);
   faults = ap (λ (k : Kind). output_count k before) (sym e);
   told = (λ s. s, λ s. s);
   untouched = subst (λ (k : Kind). UntouchedBy k Same) (sym e) same;
@@ -72,27 +72,27 @@ outputs_within : (M N : Relation) (old new : Option (List ℕ)) (status : Status
 outputs_within M N old new status h o = (o.0, h o.0 status o.1, o.2)
 
 front_within : (M N : Relation) (part : List ℕ) → ((w : List ℕ) (s : Status) → M w s → N w s)
-    → (part ≡ []) ⊎ ((w : List ℕ) × (s : Status) × M w s × ((more : List ℕ) × (w ≡ part ++ more)))
-    → (part ≡ []) ⊎ ((w : List ℕ) × (s : Status) × N w s × ((more : List ℕ) × (w ≡ part ++ more)))
+    → (part ≡ []) ⊎ ((w : List ℕ) × (s : Status) × M w s × IsProperPrefix part w)
+    → (part ≡ []) ⊎ ((w : List ℕ) × (s : Status) × N w s × IsProperPrefix part w)
 front_within M N part h (inl e) = inl e
 front_within M N part h (inr o) = inr (o.0, o.1, h o.0 o.1 o.2, o.3)
 
-pub answers_within : (k : Kind) (M N : Relation) (old new : Option (List ℕ)) (status : Status) → ((w : List ℕ) (s : Status) → M w s → N w s)
-    → AnswersBy k M old new status → AnswersBy k N old new status
-answers_within usage M N old new status h a = outputs_within M N old new status h a
-answers_within fault M N old new status h a = tt
-answers_within excess M N old new status h a = outputs_within M N old new status h a
-answers_within form M N old new status h a = outputs_within M N old new status h a
-answers_within request M N old new status h a = outputs_within M N old new status h a
-answers_within memory M N old new status h a = (a.0, a.1, front_within M N a.0 h a.2)
-answers_within write M N old new status h a = (a.0, a.1, h a.0 a.1 a.2, a.3)
-answers_within output M N old new status h a = outputs_within M N old new status h a
+pub leaves_within : (k : Kind) (M N : Relation) (old new : Option (List ℕ)) (status : Status) → ((w : List ℕ) (s : Status) → M w s → N w s)
+    → LeavesBy k M old new status → LeavesBy k N old new status
+leaves_within usage M N old new status h a = outputs_within M N old new status h a
+leaves_within fault M N old new status h a = tt
+leaves_within excess M N old new status h a = outputs_within M N old new status h a
+leaves_within form M N old new status h a = outputs_within M N old new status h a
+leaves_within request M N old new status h a = outputs_within M N old new status h a
+leaves_within memory M N old new status h a = (a.0, a.1, front_within M N a.0 h a.2)
+leaves_within write M N old new status h a = (a.0, a.1, h a.0 a.1 a.2, a.3)
+leaves_within output M N old new status h a = outputs_within M N old new status h a
 
 -- a meaning of which another is a part
 pub ends_within : (M N : Relation) (old new : Option (List ℕ)) (before now : ℕ) (Same : Type 0) (status : Status)
     → ((w : List ℕ) (s : Status) → M w s → N w s) → Ends M old new before now Same status → Ends N old new before now Same status
 ends_within M N old new before now Same status h ends = record {
-  answers = answers_within (kind_of status) M N old new status h ends.answers;
+  leaves = leaves_within (kind_of status) M N old new status h ends.leaves;
   faults = ends.faults;
   told = ends.told;
   untouched = ends.untouched;
@@ -104,7 +104,7 @@ pub ends_whole : (M : Relation) (bytes : List ℕ) (status : Status) (old new : 
     → kind_of status ≡ output → M bytes status → Appends old new bytes → now ≡ before → (IsSome old ↔ IsSome new)
     → Ends M old new before now Same status
 ends_whole M bytes status old new before now Same last meant taken same told = record {
-  answers = subst (λ (k : Kind). AnswersBy k M old new status) (sym last) (bytes, meant, taken);
+  leaves = subst (λ (k : Kind). LeavesBy k M old new status) (sym last) (bytes, meant, taken);
   faults = same ∙ ap (λ (k : Kind). output_count k before) (sym last);
   told = told;
   untouched = subst (λ (k : Kind). UntouchedBy k Same) (sym last) tt;
@@ -116,7 +116,7 @@ pub ends_in_fault : (M : Relation) (bytes : List ℕ) (status : Status) (old new
     → M bytes status → AppendsPart old new bytes → now ≡ count_on before 1 → (IsSome old ↔ IsSome new)
     → Ends M old new before now Same WriteFault
 ends_in_fault M bytes status old new before now Same meant taken counted told = record {
-  answers = (bytes, status, meant, taken);
+  leaves = (bytes, status, meant, taken);
   faults = counted;
   told = told;
   untouched = tt;

@@ -1,5 +1,5 @@
 -- Lemmas on reading the files of a list of names.
-use Rattle.std.proofs.Common.{◌≡◌, ℕ, zero, suc, ◌+◌, ◌<◌, ◌≤◌, nat_lt, Bool, true, false, cond, List, [], ◌∷◌, ◌++◌, length, drop, get_or, None, Some, Ok, Err, Vec, String, Global, refl, sym, ap, ◌∙◌, subst, arith, ⊎_elim, inl, inr, add-one, append_assoc, append-nil}
+use Rattle.std.proofs.Common.{◌≡◌, ℕ, zero, suc, ◌+◌, ◌-◌, ◌<◌, ◌≤◌, nat_lt, Bool, true, false, cond, List, [], ◌∷◌, ◌++◌, length, drop, get_or, None, Some, Ok, Err, Vec, String, Global, refl, sym, ap, ◌∙◌, subst, arith, ⊎_elim, inl, inr, add-one, append_assoc, append-nil}
 use Rattle.std.specs.Prelude.{⊤, ◌⊎◌}
 use Rattle.std.specs.declared.option.Option.{Option}
 use Rattle.std.specs.String.{string_bytes}
@@ -11,23 +11,15 @@ use Rattle.da_cli.specs.declared.gathering.Stop.{Stop}
 use Rattle.da_cli.specs.declared.gathering.Stop.TheVariants.{PickFault, ReadFault, TooLong, NoMemory}
 use Rattle.da_cli.specs.Limits.{file_limit}
 use Rattle.da_cli.specs.Words.{words_of}
-use Rattle.da_cli.specs.Gathered.{Gathered, whole, long, absent, with_front, gathered_one, gathered_from, gathered, contents_of, file_of, IsWord, ReadsFile, StopsFile, Gathers, StopsIn, AllRead}
+use Rattle.da_io.specs.Faults.{count_on}
+use Rattle.da_io.specs.declared.inputs.Ended.TheVariants as ended
+use Rattle.da_cli.specs.Gathered.{Gathered, whole, long, absent, after, gathered_one, gathered_from, gathered, contents_of, file_of, IsWord, IsLastOf, PicksIn, ReadsFile, StopsFile, Gathers, StopsIn, AllRead}
 
--- these contents, and then what is gathered after them
-abbrev pub after : List (List ℕ) → Gathered → Gathered
-after front (whole contents) = whole (front ++ contents)
-after front (long i) = long i
-after front (absent i) = absent i
-
-after-with_front : (front : List (List ℕ)) (content : List ℕ) (g : Gathered) → after front (with_front content g) ≡ after (front ++ content ∷ []) g
-after-with_front front content (whole contents) = ap whole (sym (append_assoc front (content ∷ []) contents))
-after-with_front front content (long i) = refl
-after-with_front front content (absent i) = refl
-
--- reading has come to name i, with these contents
-abbrev pub HasCome : Option Files → List (List ℕ) → ℕ → List (List ℕ) → Type 0
-HasCome None names i contents = ⊤
-HasCome (Some files) names i contents = gathered files names ≡ after contents (gathered_from files i (drop i names))
+-- one more content in front of what is gathered after them
+after-after : (front : List (List ℕ)) (content : List ℕ) (g : Gathered) → after front (after (content ∷ []) g) ≡ after (front ++ content ∷ []) g
+after-after front content (whole contents) = ap whole (sym (append_assoc front (content ∷ []) contents))
+after-after front content (long i) = refl
+after-after front content (absent i) = refl
 
 -- name i, and then the later ones
 pub word_here : (words : List (String Global)) (i : ℕ) (word : String Global) → i < length words → word ≡ get_or words i word
@@ -54,46 +46,50 @@ from_here files names i name here =
     ap (gathered_from files i) here
     ∙ ap (λ (j : ℕ). gathered_one i (files name) (gathered_from files j (drop (i + 1) names))) next
 
-within : (i : ℕ) (content : List ℕ) (later : Gathered) → length content ≤ file_limit → gathered_one i (Some content) later ≡ with_front content later
+within : (i : ℕ) (content : List ℕ) (later : Gathered) → length content ≤ file_limit → gathered_one i (Some content) later ≡ after (content ∷ []) later
 within i content later h =
     let e : nat_lt file_limit (length content) ≡ false = grind (arith, nat_tests) in
-    ap (λ (b : Bool). cond b (long i) (with_front content later)) e
+    ap (λ (b : Bool). cond b (long i) (after (content ∷ []) later)) e
 
 beyond : (i : ℕ) (content : List ℕ) (later : Gathered) → file_limit < length content → gathered_one i (Some content) later ≡ long i
 beyond i content later h =
     let e : nat_lt file_limit (length content) ≡ true = grind (arith, nat_tests) in
-    ap (λ (b : Bool). cond b (long i) (with_front content later)) e
+    ap (λ (b : Bool). cond b (long i) (after (content ∷ []) later)) e
 
 -- one more file was read whole
-pub come_on : (told : Option Files) (names : List (List ℕ)) (i : ℕ) (contents : List (List ℕ)) (name : List ℕ) (content : Vec ℕ Global)
-    → HasCome told names i contents → drop i names ≡ name ∷ drop (i + 1) names → ReadsFile told name (Ok content)
-    → HasCome told names (i + 1) (contents ++ content.items ∷ [])
+pub come_on : (told : Option Files) (names : List (List ℕ)) (i : ℕ) (contents : List (List ℕ)) (name content : List ℕ)
+    → Gathers told names i (Ok contents) → drop i names ≡ name ∷ drop (i + 1) names → ReadsFile told name (Ok content)
+    → Gathers told names (i + 1) (Ok (contents ++ content ∷ []))
 come_on None names i contents name content come here read = tt
 come_on (Some files) names i contents name content come here read =
     let later = gathered_from files (i + 1) (drop (i + 1) names) in
-    let next : gathered_from files i (drop i names) ≡ with_front content.items later =
-    from_here files names i name here ∙ ap (λ (o : Option (List ℕ)). gathered_one i o later) read.0 ∙ within i content.items later read.1 in
-    come ∙ ap (after contents) next ∙ after-with_front contents content.items later
+    let next : gathered_from files i (drop i names) ≡ after (content ∷ []) later =
+    from_here files names i name here ∙ ap (λ (o : Option (List ℕ)). gathered_one i o later) read.0 ∙ within i content later read.1 in
+    come ∙ ap (after contents) next ∙ after-after contents content later
+
+-- the files of all names hold these contents, where files are told
+abbrev pub AllGathered : Option Files → List (List ℕ) → List (List ℕ) → Type 0
+AllGathered None names contents = ⊤
+AllGathered (Some files) names contents = gathered files names ≡ whole contents
 
 -- all were read
-pub come_to_end : (told : Option Files) (names : List (List ℕ)) (i : ℕ) (contents : Vec (Vec ℕ Global) Global)
-    → HasCome told names i (contents_of contents.items) → length names ≤ i → Gathers told names (Ok contents)
+pub all_gathered : (told : Option Files) (names : List (List ℕ)) (count : ℕ) (contents : List (List ℕ))
+    → Gathers told names count (Ok contents) → length names ≤ count → AllGathered told names contents
 unfolding gathered_from
-come_to_end None names i contents come h = tt
-come_to_end (Some files) names i contents come h =
-    let none : drop i names ≡ [] = grind (arith, common_steps) in
-    come ∙ ap (λ (ns : List (List ℕ)). after (contents_of contents.items) (gathered_from files i ns)) none
-    ∙ ap whole (append-nil (contents_of contents.items))
+all_gathered None names count contents come h = tt
+all_gathered (Some files) names count contents come h =
+    let none : drop count names ≡ [] = grind (arith, common_steps) in
+    come ∙ ap (λ (ns : List (List ℕ)). after contents (gathered_from files count ns)) none ∙ ap whole (append-nil contents)
 
 -- file i was not read whole
-pub stop_here : (told : Option Files) (names : List (List ℕ)) (i : ℕ) (contents : List (List ℕ)) (name : List ℕ) (last : Ended) (given : ℕ) (stop : Stop)
-    → HasCome told names i contents → drop i names ≡ name ∷ drop (i + 1) names → ReadsFile told name (Err stop)
-    → StopsFile i last given stop → Gathers told names (Err stop)
-stop_here None names i contents name last given stop come here read why = tt
-stop_here (Some files) names i contents name last given (PickFault j) come here read why = tt
-stop_here (Some files) names i contents name last given (ReadFault j) come here read why = tt
-stop_here (Some files) names i contents name last given NoMemory come here read why = tt
-stop_here (Some files) names i contents name last given (TooLong j) come here read why =
+pub stop_here : (told : Option Files) (names : List (List ℕ)) (i count : ℕ) (contents : List (List ℕ)) (name : List ℕ) (last : Ended) (given : ℕ) (stop : Stop)
+    → Gathers told names i (Ok contents) → drop i names ≡ name ∷ drop (i + 1) names → ReadsFile told name (Err stop)
+    → StopsFile i last given stop → Gathers told names count (Err stop)
+stop_here None names i count contents name last given stop come here read why = tt
+stop_here (Some files) names i count contents name last given (PickFault j) come here read why = tt
+stop_here (Some files) names i count contents name last given (ReadFault j) come here read why = tt
+stop_here (Some files) names i count contents name last given NoMemory come here read why = tt
+stop_here (Some files) names i count contents name last given (TooLong j) come here read why =
     let later = gathered_from files (i + 1) (drop (i + 1) names) in
     let next : gathered_from files i (drop i names) ≡ long i =
     from_here files names i name here ∙ ap (λ (o : Option (List ℕ)). gathered_one i o later) read.1 ∙ beyond i read.0 later read.2 in
@@ -122,6 +118,21 @@ stop_in told names i name picked last given (TooLong j) here all named why =
     (why.1, subst (λ (n : ℕ). IsWord names n picked) (sym why.0) word, subst (AllRead told names) (sym why.0) all)
 stop_in told names i name picked last given NoMemory here all named why = tt
 
+-- the name at a place was picked last
+pub last_on : (names : List (List ℕ)) (i : ℕ) (name : List ℕ) (picked : Option (List ℕ)) (last : Ended) → drop i names ≡ name ∷ drop (i + 1) names
+    → picked ≡ Some name → last ≡ ended.Fine → IsLastOf names (i + 1) picked last
+last_on names i name picked last here named fine =
+    let same : i ≡ i + 1 - 1 = omega arith in
+    λ some. (subst (λ (j : ℕ). IsWord names j picked) same (subst (IsWord names i) (sym named) (name_at names i name (drop (i + 1) names) here)), fine)
+
+-- how many files were picked when file i was not read whole
+pub stop_picks : (i before now count : ℕ) (last : Ended) (given : ℕ) (stop : Stop) → i < count → StopsFile i last given stop
+    → now ≡ count_on before (i + 1) → PicksIn {T = List (List ℕ)} before now count (Err stop)
+stop_picks i before now count last given (PickFault j) h why e = e ∙ ap (λ (k : ℕ). count_on before (k + 1)) (sym why.0)
+stop_picks i before now count last given (ReadFault j) h why e = e ∙ ap (λ (k : ℕ). count_on before (k + 1)) (sym why.0)
+stop_picks i before now count last given (TooLong j) h why e = e ∙ ap (λ (k : ℕ). count_on before (k + 1)) (sym why.0)
+stop_picks i before now count last given NoMemory h why e = (i + 1, omega arith, e)
+
 below : (j i : ℕ) → j < i + 1 → (j < i) ⊎ (j ≡ i)
 below zero zero h = inr refl
 below zero (suc i) h = inl (omega arith)
@@ -133,7 +144,7 @@ all_read_none None names = tt
 all_read_none (Some files) names = λ j h. absurd (omega arith)
 
 -- one more file is there and within the limit
-pub all_read_on : (told : Option Files) (names : List (List ℕ)) (i : ℕ) (name : List ℕ) (content : Vec ℕ Global)
+pub all_read_on : (told : Option Files) (names : List (List ℕ)) (i : ℕ) (name content : List ℕ)
     → AllRead told names i → drop i names ≡ name ∷ drop (i + 1) names → ReadsFile told name (Ok content) → AllRead told names (i + 1)
 all_read_on None names i name content before here read = tt
 all_read_on (Some files) names i name content before here read = λ j hj.
@@ -141,7 +152,7 @@ all_read_on (Some files) names i name content before here read = λ j hj.
     (λ (lt : j < i). before j lt)
     (λ (same : j ≡ i).
     let named : file_of names j ≡ name = ap (file_of names) same ∙ (name_at names i name (drop (i + 1) names) here).1 in
-    (content.items, ap files named ∙ read.0, read.1))
+    (content, ap files named ∙ read.0, read.1))
     (below j i hj)
 
 -- the contents of one more file

@@ -2,6 +2,10 @@ pub mod DigitLemmas
 pub mod WriteLemmas
 pub mod EndLemmas
 pub mod GatheredLemmas
+pub mod SingleLemmas
 pub mod CheckLemmas
 pub mod SquareLemmas
 pub mod RunLemmas
+pub mod RanLemmas
+pub mod OwnLemmas
+pub mod ChoiceLemmas

@@ -1,24 +1,28 @@
 -- Lemmas on a whole run.
-use Rattle.std.proofs.Common.{◌≡◌, ℕ, ◌+◌, ◌-◌, ◌<◌, ◌≤◌, List, length, take, drop, None, Some, Ok, Vec, String, Global, refl, sym, ap, ◌∙◌, subst, arith, ◌↔◌}
+use Rattle.std.proofs.Common.{◌≡◌, ℕ, ◌+◌, ◌-◌, ◌<◌, List, [], length, take, drop, None, Some, Err, String, Global, refl, inl, sym, ap, ◌∙◌, subst, arith, ◌↔◌}
 use Rattle.std.specs.Prelude.{MatchOption}
 use Rattle.std.specs.declared.option.Option.{Option}
 use Rattle.std.specs.String.{string_bytes}
+use Rattle.std.proofs.lemmas.Grind.{common_steps}
+use Rattle.std.proofs.KnownBytes.{Appends-nil}
 use Rattle.std.proofs.lemmas.List.{take-map, drop-map, length-map}
 use Rattle.da_io.specs.Files.{Files}
 use Rattle.da_cli.specs.declared.words.Command.{Command}
 use Rattle.da_cli.specs.declared.words.Command.TheVariants.{Check, Build, Header}
 use Rattle.da_cli.specs.declared.words.Call.{Call}
 use Rattle.da_cli.specs.declared.status.Status.{Status}
-use Rattle.da_cli.specs.declared.status.Status.TheVariants.{Done, Usage, PickFault, ReadFault, WriteFault, NoMemory, BadInput, TooLong, BadBlock, BadRequest, Refused}
-use Rattle.da_cli.specs.Limits.{file_limit}
+use Rattle.da_cli.specs.declared.status.Status.TheVariants.{BadInput, TooLong}
 use Rattle.da_cli.specs.Statuses.{Kind, usage, fault, excess, form, request, memory, write, output, kind_of}
 use Rattle.da_cli.specs.Words.{words_of, call_of, file_words, names_in, names_of}
-use Rattle.da_cli.specs.Gathered.{Gathered, whole, long, absent, gathered, contents_of, Gathers}
-use Rattle.da_cli.specs.Outcome.{Relation, Refuses, Outputs, AnswersBy, Answers, ExcessCause, IsOwnBy}
+use Rattle.da_cli.specs.Gathered.{Gathered, whole, long, absent, gathered, Gathers}
+use Rattle.da_cli.specs.declared.gathering.Stop.{Stop}
+use Rattle.da_cli.specs.declared.gathering.Stop.TheVariants as stop
+use Rattle.da_cli.specs.Outcome.{Relation, Refuses, Outputs, LeavesBy, Leaves}
 use Rattle.da_cli.specs.Judging.{first_bad, Judged}
 use Rattle.da_cli.specs.Meaning.{judged_of, AnswerOf, Meaning}
-use Rattle.da_cli.specs.Run.{CommandOf, CallOf, RunOf, AnswersTold, CompletesBy, Completes}
+use Rattle.da_cli.specs.Run.{status_of, CommandOf, CallOf, RunOf, LeavesTold, CompletesBy, Completes}
 use Rattle.da_cli.specs.Laws.{FormLaw, BadInputLaw, ExcessLaw, AbsentLaw, IsDecided, FailureLaw}
+use Rattle.da_cli.proofs.GatheredLemmas.{AllGathered}
 use Rattle.da_cli.proofs.EndLemmas.{IsAnswer, answer_output}
 use Rattle.da_cli.proofs.CheckLemmas.{check_last}
 use Rattle.da_cli.proofs.SquareLemmas.{build_answers, header_answers}
@@ -30,16 +34,27 @@ run_of_call words call files g e read =
     ap (λ (o : Option Call). CallOf o files words) e ∙ ap (CommandOf call.command) read
 
 -- a command over files that were read whole
-pub command_told : (told : Option Files) (words : List (List ℕ)) (names : List (List ℕ)) (call : Call) (contents : Vec (Vec ℕ Global) Global)
-    (read : List (Vec ℕ Global)) (old new : Option (List ℕ)) (status : Status) → Some call ≡ call_of words → names ≡ file_words call.files words
-    → Gathers told names (Ok contents) → read ≡ contents.items → Answers (Meaning call.command (contents_of read)) old new status
-    → AnswersTold told words old new status
-command_told None words names call contents read old new status e named gathers lent answers = tt
-command_told (Some files) words names call contents read old new status e named gathers lent answers =
-    let same : RunOf files words ≡ Meaning call.command (contents_of read) =
-    run_of_call words call files (whole (contents_of contents.items)) (sym e) (ap (gathered files) (sym named) ∙ gathers)
-    ∙ ap (λ (cs : List (Vec ℕ Global)). Meaning call.command (contents_of cs)) (sym lent) in
-    subst (λ (M : Relation). Answers M old new status) (sym same) answers
+pub command_told : (told : Option Files) (words : List (List ℕ)) (call : Call) (contents : List (List ℕ)) (old new : Option (List ℕ)) (status : Status)
+    → call_of words ≡ Some call → AllGathered told (names_of words) contents → Leaves (Meaning call.command contents) old new status
+    → LeavesTold told words old new status
+command_told None words call contents old new status e all leaves = tt
+command_told (Some files) words call contents old new status e all leaves =
+    let named : names_of words ≡ file_words call.files words = ap (λ (o : Option Call). names_in o words) e in
+    let same : RunOf files words ≡ Meaning call.command contents =
+    run_of_call words call files (whole contents) e (ap (gathered files) (sym named) ∙ all) in
+    subst (λ (M : Relation). Leaves M old new status) (sym same) leaves
+
+-- files that were not read whole
+pub stopped_told : (told : Option Files) (words : List (List ℕ)) (call : Call) (count : ℕ) (old : Option (List ℕ)) (stop : Stop)
+    → call_of words ≡ Some call → Gathers told (names_of words) count (Err stop) → LeavesTold told words old old (status_of stop)
+stopped_told None words call count old stop e read = tt
+stopped_told (Some files) words call count old (stop.PickFault i) e read = tt
+stopped_told (Some files) words call count old (stop.ReadFault i) e read = tt
+stopped_told (Some files) words call count old stop.NoMemory e read = ([], Appends-nil old, inl refl)
+stopped_told (Some files) words call count old (stop.TooLong i) e read =
+    let named : names_of words ≡ file_words call.files words = ap (λ (o : Option Call). names_in o words) e in
+    let same : RunOf files words ≡ Refuses (TooLong i) = run_of_call words call files (long i) e (ap (gathered files) (sym named) ∙ read) in
+    subst (λ (M : Relation). Outputs M old old (TooLong i)) (sym same) ([], (refl, refl), Appends-nil old)
 
 -- the names of the files, as a slice of the words gives them
 pub names_here : (n : ℕ) (words : List (String Global)) → words_of (take (1 + n - 1) (drop 1 words)) ≡ file_words n (words_of words)
@@ -48,28 +63,18 @@ names_here n words =
     ap (λ (k : ℕ). words_of (take k (drop 1 words))) e ∙ sym (take-map string_bytes n (drop 1 words))
     ∙ ap (take n) (sym (drop-map string_bytes 1 words))
 
--- a command's files are those that were read
-pub some_names : (words : List (String Global)) (call : Call) → Some call ≡ call_of (words_of words) → 0 < length (names_of (words_of words))
-    → 0 < length (take (1 + call.files - 1) (drop 1 words))
-some_names words call e some =
-    let names : names_of (words_of words) ≡ words_of (take (1 + call.files - 1) (drop 1 words)) =
-    ap (λ (o : Option Call). names_in o (words_of words)) (sym e) ∙ sym (names_here call.files words) in
-    subst (λ (n : ℕ). 0 < n) (ap length names ∙ length-map (take (1 + call.files - 1) (drop 1 words)) string_bytes) some
+-- the names of a command's files are the words that were gathered
+pub names_same : (words : List (String Global)) (call : Call) → Some call ≡ call_of (words_of words)
+    → words_of (take (1 + call.files - 1) (drop 1 words)) ≡ names_of (words_of words)
+names_same words call e =
+    names_here call.files words ∙ ap (λ (o : Option Call). names_in o (words_of words)) e
 
--- with a command's own status the file that was read last gave no more than the limit
-pub excess_own : (told : Option Files) (names : List (List ℕ)) (picked : Option (List ℕ)) (given : ℕ) (status : Status) → IsOwnBy (kind_of status)
-    → (0 < length names → given ≤ file_limit) → ExcessCause told names picked given status
-excess_own told names picked given Done own h = h
-excess_own told names picked given Usage own h = tt
-excess_own told names picked given (PickFault i) own h = absurd own
-excess_own told names picked given (ReadFault i) own h = absurd own
-excess_own told names picked given WriteFault own h = h
-excess_own told names picked given NoMemory own h = tt
-excess_own told names picked given (BadInput i at) own h = h
-excess_own told names picked given (TooLong i) own h = absurd own
-excess_own told names picked given (BadBlock why) own h = h
-excess_own told names picked given (BadRequest why) own h = h
-excess_own told names picked given Refused own h = h
+-- as many names as a command has file words
+pub files_count : (words : List (String Global)) (call : Call) → Some call ≡ call_of (words_of words) → call.files < length words
+    → call.files ≡ length (names_of (words_of words))
+files_count words call e few =
+    let here : length (take (1 + call.files - 1) (drop 1 words)) ≡ call.files = grind (arith, common_steps) in
+    sym (sym (ap length (names_same words call e)) ∙ length-map (take (1 + call.files - 1) (drop 1 words)) string_bytes ∙ here)
 
 -- the meaning over judged files
 judged_is : (judged : List (Option ℕ)) (A : Relation) (o : Option (ℕ × ℕ)) → first_bad 0 judged ≡ o
@@ -148,7 +153,7 @@ answer_kind : (M : Relation) (old new : Option (List ℕ)) (status : Status) (k 
 answer_kind M old new status k e last outputs = subst IsAnswer e (last outputs.0 outputs.1)
 
 completes_by : (M : Relation) (old new : Option (List ℕ)) (status : Status) (k : Kind) → kind_of status ≡ k
-    → ((w : List ℕ) → M w status → IsAnswer (kind_of status)) → AnswersBy k M old new status → CompletesBy k M old new status
+    → ((w : List ℕ) → M w status → IsAnswer (kind_of status)) → LeavesBy k M old new status → CompletesBy k M old new status
 completes_by M old new status usage e last h = answer_kind M old new status usage e last h
 completes_by M old new status fault e last h = tt
 completes_by M old new status excess e last h = answer_kind M old new status excess e last h
@@ -160,9 +165,9 @@ completes_by M old new status output e last h = h
 
 -- over files in their forms a run completes
 pub completes : (told : Option Files) (words : List (List ℕ)) (old new : Option (List ℕ)) (status : Status)
-    → AnswersTold told words old new status → Completes told words old new status
+    → LeavesTold told words old new status → Completes told words old new status
 completes None words old new status h = tt
 completes (Some files) words old new status h = λ call contents e read fine.
     let M = AnswerOf call.command contents in
     completes_by M old new status (kind_of status) refl (λ w. answer_last call.command contents w status)
-    (subst (λ (R : Relation). Answers R old new status) (run_in_form files words call contents e read fine) h)
+    (subst (λ (R : Relation). Leaves R old new status) (run_in_form files words call contents e read fine) h)

@@ -20,7 +20,7 @@ use Rattle.da_cli.specs.Gathered.{file_of}
 use Rattle.da_cli.specs.Outcome.{Relation, Refuses}
 use Rattle.da_cli.specs.Judging.{Judged}
 use Rattle.da_cli.specs.Single.{square_in, block_in, error_of}
-use Rattle.da_cli.specs.Squares.{Gives, Builds, BuildOf, Heads, HeaderOf}
+use Rattle.da_cli.specs.Squares.{Writes, Builds, BuildOf, Heads, HeaderOf}
 use Rattle.da_cli.specs.declared.words.Command.TheVariants as command
 use Rattle.da_cli.specs.Meaning.{Meaning}
 use Rattle.da_cli.proofs.EndLemmas.{IsAnswer}
@@ -30,7 +30,7 @@ status_answers : (status wanted : Status) → status ≡ wanted → IsAnswer (ki
 status_answers status wanted e h = subst (λ (s : Status). IsAnswer (kind_of s)) (sym e) h
 
 by_refusal : (o : Option LayError) (frame : Frame) (w : List ℕ) (status : Status)
-    → MatchOption o (Gives frame w status) (λ why. Refuses (BadBlock why) w status) → IsAnswer (kind_of status)
+    → MatchOption o (Writes frame w status) (λ why. Refuses (BadBlock why) w status) → IsAnswer (kind_of status)
 by_refusal None frame w status h = status_answers status _ h.1 tt
 by_refusal (Some why) frame w status h = status_answers status _ h.1 tt
 
@@ -54,10 +54,10 @@ header_answers files w status h = by_square (square_in (file_of files 0)) w stat
 
 -- the frame of the square of a block without a refusal
 pub builds_square : (block : BlockParts) (square : SquareShares) (frame : Frame) → refusal_of block ≡ None → square ≡ square_of block
-    → frame ≡ Square square → (w : List ℕ) (status : Status) → Gives frame w status → Builds block w status
+    → frame ≡ Square square → (w : List ℕ) (status : Status) → Writes frame w status → Builds block w status
 builds_square block square frame fine laid is w status gives =
     let same : frame ≡ Square (square_of block) = is ∙ ap Square laid in
-    subst (λ (o : Option LayError). MatchOption o (Gives (Square (square_of block)) w status) (λ why. Refuses (BadBlock why) w status))
+    subst (λ (o : Option LayError). MatchOption o (Writes (Square (square_of block)) w status) (λ why. Refuses (BadBlock why) w status))
     (sym fine) (ap spelling (sym same) ∙ gives.0, gives.1)
 
 -- the meaning of a file that is a block, or isn't
@@ -79,7 +79,7 @@ own_header square k grid header whole same extends is = record {
 
 -- the frame of the square's header
 pub heads_header : (square : SquareShares) (header : Roots) (frame : Frame) → IsHeaderOf header square → frame ≡ Header header
-    → (w : List ℕ) (status : Status) → Gives frame w status → Heads square w status
+    → (w : List ℕ) (status : Status) → Writes frame w status → Heads square w status
 heads_header square header frame own is w status gives = inl (header, own, (ap spelling (sym is) ∙ gives.0, gives.1))
 
 -- the square has no header

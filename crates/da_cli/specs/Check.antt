@@ -1,5 +1,5 @@
 -- check HEADER MESSAGES: which messages of a list of frames are proved under a header.
-use Rattle.std.specs.Prelude.{◌≡◌, ◌⊎◌, ℕ, List, [], ◌∷◌, codes, Bool, true, false, Option, Some, None, MatchResult, ◌==◌, if◌then◌else◌}
+use Rattle.std.specs.Prelude.{◌≡◌, ◌⊎◌, ℕ, List, [], ◌∷◌, codes, Bool, true, false, Option, Some, MatchResult, if◌then◌else◌}
 use Rattle.std.specs.List.{flat_map, list_all}
 use Rattle.std.specs.Option.{option_map_or}
 use Rattle.data_header.specs.Headers.{Roots}
@@ -9,8 +9,7 @@ use Rattle.axis_roots.specs.Messages.{refusal_of}
 use Rattle.square_layout.specs.Blocks.{SquareShares}
 use Rattle.axis_roots.specs.Openings.{IsProved}
 use Rattle.axis_roots.specs.Own.{ShowsOwn, NamesClash}
-use Rattle.da_wire.specs.Spelling.{message_kind}
-use Rattle.da_wire.specs.Reading.{Raw, message_at}
+use Rattle.da_wire.specs.Reading.{Raw}
 use Rattle.da_wire.specs.Frames.{frames_of, bad_frame, message_in}
 use Rattle.da_cli.specs.declared.status.Status.{Status}
 use Rattle.da_cli.specs.declared.status.Status.TheVariants.{Done, Refused}
@@ -48,8 +47,8 @@ lines_of header frames = flat_map (λ frame. line_of (finding_of header frame)) 
 abbrev pub are_ok : Roots → List Raw → Bool
 are_ok header frames = list_all (λ frame. is_ok (finding_of header frame)) frames
 
-abbrev pub status_of : Bool → Status
-status_of all_ok = if all_ok then Done else Refused
+abbrev pub status_of_lines : Bool → Status
+status_of_lines all_ok = if all_ok then Done else Refused
 
 -- a frame is a message that is proved under the header
 abbrev pub IsProvedFrame : Roots → Raw → Type 0
@@ -69,7 +68,7 @@ check_judged files = error_of (header_in (file_of files 0)) ∷ bad_frame (file_
 
 -- a line for each frame; Done where all are proved
 abbrev pub Lists : Roots → List Raw → Relation
-Lists header frames w status = (w ≡ lines_of header frames) × (status ≡ status_of (are_ok header frames))
+Lists header frames w status = (w ≡ lines_of header frames) × (status ≡ status_of_lines (are_ok header frames))
 
 -- the lines of the second file's frames under the header in the first
 abbrev pub CheckOf : List (List ℕ) → Relation

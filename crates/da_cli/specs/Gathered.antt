@@ -1,6 +1,6 @@
 -- What the files of a list of names hold: they are read in its order, up to the first that can't be
 -- used.
-use Rattle.std.specs.Prelude.{◌≡◌, ℕ, zero, suc, ◌<◌, ◌≤◌, nat_lt, List, [], ◌∷◌, length, map, ⊤, Some, None, Ok, Err, Result, Vec, if◌then◌else◌}
+use Rattle.std.specs.Prelude.{◌≡◌, ℕ, zero, suc, ◌+◌, ◌-◌, ◌<◌, ◌≤◌, nat_lt, List, [], ◌∷◌, ◌++◌, length, map, drop, ⊤, ◌⊎◌, Some, None, Ok, Err, Result, Vec, if◌then◌else◌}
 use Rattle.std.specs.declared.option.Option.{Option}
 use Rattle.std.specs.declared.alloc.Global.{Global}
 use Rattle.da_io.specs.Faults.{count_on}
@@ -17,16 +17,17 @@ pub data Gathered : Type 0 where
   long : ℕ → Gathered
   absent : ℕ → Gathered
 
-abbrev pub with_front : List ℕ → Gathered → Gathered
-with_front content (whole contents) = whole (content ∷ contents)
-with_front content (long i) = long i
-with_front content (absent i) = absent i
+-- these contents, and then what is gathered after them
+abbrev pub after : List (List ℕ) → Gathered → Gathered
+after front (whole contents) = whole (front ++ contents)
+after front (long i) = long i
+after front (absent i) = absent i
 
 -- one more file: its number, its content, and what the later ones give
 abbrev pub gathered_one : ℕ → Option (List ℕ) → Gathered → Gathered
 gathered_one i None later = absent i
 gathered_one i (Some content) later =
-    if nat_lt file_limit (length content) then long i else with_front content later
+    if nat_lt file_limit (length content) then long i else after (content ∷ []) later
 
 -- the first name has this number
 unfoldable pub gathered_from : Files → ℕ → List (List ℕ) → Gathered
@@ -40,6 +41,15 @@ gathered files names = gathered_from files 0 names
 abbrev pub contents_of : List (Vec ℕ Global) → List (List ℕ)
 contents_of contents = map (λ (v : Vec ℕ Global). v.items) contents
 
+-- an answer as bytes: of one file, of some
+abbrev pub bytes_read : Result (Vec ℕ Global) Stop → Result (List ℕ) Stop
+bytes_read (Ok content) = Ok content.items
+bytes_read (Err stop) = Err stop
+
+abbrev pub files_read : Result (Vec (Vec ℕ Global) Global) Stop → Result (List (List ℕ)) Stop
+files_read (Ok contents) = Ok (contents_of contents.items)
+files_read (Err stop) = Err stop
+
 -- file i, empty where there is none
 unfoldable pub file_of : List (List ℕ) → ℕ → List ℕ
 file_of [] i = []
@@ -51,29 +61,38 @@ abbrev pub IsWord : List (List ℕ) → ℕ → Option (List ℕ) → Type 0
 IsWord names i None = ⊥
 IsWord names i (Some name) = (i < length names) × (file_of names i ≡ name)
 
--- each file before number i is there and within the limit
+-- the last call was of the last of the first `count` names, and did not fail
+abbrev pub IsLastOf : List (List ℕ) → ℕ → Option (List ℕ) → Ended → Type 0
+IsLastOf names count picked last = 0 < count → IsWord names (count - 1) picked × (last ≡ ended.Fine)
+
+-- the same of all names
+abbrev pub IsLast : List (List ℕ) → Option (List ℕ) → Ended → Type 0
+IsLast names picked last = IsLastOf names (length names) picked last
+
+-- each file before number i is there and within the limit, where files are told
 abbrev pub AllRead : Option Files → List (List ℕ) → ℕ → Type 0
 AllRead None names i = ⊤
 AllRead (Some files) names i = (j : ℕ) → j < i →
     (content : List ℕ) × (files (file_of names j) ≡ Some content) × (length content ≤ file_limit)
 
 -- what reading the file of one name answers, where files are told
-abbrev pub ReadsFile : Option Files → List ℕ → Result (Vec ℕ Global) Stop → Type 0
+abbrev pub ReadsFile : Option Files → List ℕ → Result (List ℕ) Stop → Type 0
 ReadsFile None name result = ⊤
-ReadsFile (Some files) name (Ok content) = (files name ≡ Some content.items) × (length content.items ≤ file_limit)
+ReadsFile (Some files) name (Ok content) = (files name ≡ Some content) × (length content ≤ file_limit)
 ReadsFile (Some files) name (Err (TooLong i)) = (content : List ℕ) × (files name ≡ Some content) × (file_limit < length content)
 ReadsFile (Some files) name (Err (PickFault i)) = ⊤
 ReadsFile (Some files) name (Err (ReadFault i)) = ⊤
 ReadsFile (Some files) name (Err NoMemory) = ⊤
 
--- what reading the files of a list of names answers, where files are told
-abbrev pub Gathers : Option Files → List (List ℕ) → Result (Vec (Vec ℕ Global) Global) Stop → Type 0
-Gathers None names result = ⊤
-Gathers (Some files) names (Ok contents) = gathered files names ≡ whole (contents_of contents.items)
-Gathers (Some files) names (Err (TooLong i)) = gathered files names ≡ long i
-Gathers (Some files) names (Err (PickFault i)) = ⊤
-Gathers (Some files) names (Err (ReadFault i)) = ⊤
-Gathers (Some files) names (Err NoMemory) = ⊤
+-- what reading the files of the first `count` names answers, where files are told: of all names these
+-- contents are gathered, and then what the later names give
+abbrev pub Gathers : Option Files → List (List ℕ) → ℕ → Result (List (List ℕ)) Stop → Type 0
+Gathers None names count result = ⊤
+Gathers (Some files) names count (Ok contents) = gathered files names ≡ after contents (gathered_from files count (drop count names))
+Gathers (Some files) names count (Err (TooLong i)) = gathered files names ≡ long i
+Gathers (Some files) names count (Err (PickFault i)) = ⊤
+Gathers (Some files) names count (Err (ReadFault i)) = ⊤
+Gathers (Some files) names count (Err NoMemory) = ⊤
 
 -- why reading file i, which has this name, stopped: a failure was the last call, more than the limit
 -- was given
@@ -83,8 +102,8 @@ StopsFile i last given (ReadFault j) = (j ≡ i) × (last ≡ ended.ReadFailed)
 StopsFile i last given (TooLong j) = (j ≡ i) × (file_limit < given)
 StopsFile i last given NoMemory = ⊤
 
--- why reading the files stopped: the last call was of the named word, and each file before it was read
--- whole
+-- why reading the files stopped: the last call was of the named word, and each file before it is there
+-- and within the limit, where files are told
 abbrev pub StopsIn : Option Files → List (List ℕ) → Option (List ℕ) → Ended → ℕ → Stop → Type 0
 StopsIn told names picked last given (PickFault i) = (last ≡ ended.PickFailed) × IsWord names i picked × AllRead told names i
 StopsIn told names picked last given (ReadFault i) = (last ≡ ended.ReadFailed) × IsWord names i picked × AllRead told names i
@@ -99,11 +118,19 @@ count_after before (Err (ReadFault _)) = count_on before 1
 count_after before (Err (TooLong _)) = before
 count_after before (Err NoMemory) = before
 
--- but for an excess of length and want of memory, the file that was read last gave no more than the
--- limit
-abbrev pub WithinLimit : {T : Type 0} → ℕ → Result T Stop → Type 0
-WithinLimit given (Ok _) = given ≤ file_limit
-WithinLimit given (Err (PickFault _)) = given ≤ file_limit
-WithinLimit given (Err (ReadFault _)) = given ≤ file_limit
-WithinLimit given (Err (TooLong _)) = ⊤
-WithinLimit given (Err NoMemory) = ⊤
+-- how many files were picked: all, or those up to the one that stopped it
+abbrev pub PicksIn : {T : Type 0} → ℕ → ℕ → ℕ → Result T Stop → Type 0
+PicksIn before now count (Ok _) = now ≡ count_on before count
+PicksIn before now count (Err (PickFault i)) = now ≡ count_on before (i + 1)
+PicksIn before now count (Err (ReadFault i)) = now ≡ count_on before (i + 1)
+PicksIn before now count (Err (TooLong i)) = now ≡ count_on before (i + 1)
+PicksIn before now count (Err NoMemory) = (n : ℕ) × (n ≤ count) × (now ≡ count_on before n)
+
+-- but for an excess of length, the file that was picked last gave no more than the limit; Idle: where
+-- memory ran out, no file was picked
+abbrev pub WithinLimit : {T : Type 0} → ℕ → Type 0 → Result T Stop → Type 0
+WithinLimit given Idle (Ok _) = given ≤ file_limit
+WithinLimit given Idle (Err (PickFault _)) = given ≤ file_limit
+WithinLimit given Idle (Err (ReadFault _)) = given ≤ file_limit
+WithinLimit given Idle (Err (TooLong _)) = ⊤
+WithinLimit given Idle (Err NoMemory) = Idle ⊎ (given ≤ file_limit)

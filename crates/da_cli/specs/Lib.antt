@@ -7,7 +7,10 @@ pub mod Judging
 pub mod Single
 pub mod Check
 pub mod Squares
+pub mod Choices
 pub mod Meaning
 pub mod Run
+pub mod Ran
 pub mod Notes
+pub mod Own
 pub mod Laws

@@ -14,15 +14,15 @@ use Rattle.da_cli.specs.declared.status.Status.{Status}
 use Rattle.da_cli.specs.declared.status.Status.TheVariants.{Done, Usage, PickFault, ReadFault, WriteFault, NoMemory, BadInput, TooLong, BadBlock, BadRequest, Refused}
 
 -- the numbers of the refusals of a namespace
-abbrev pub number_of : NsError → ℕ
-number_of Length = 1
-number_of Version = 2
-number_of Prefix = 3
-number_of Reserved = 4
+abbrev pub refusal_number : NsError → ℕ
+refusal_number Length = 1
+refusal_number Version = 2
+refusal_number Prefix = 3
+refusal_number Reserved = 4
 
 -- why a block can't be laid out: the number of the refusal, and what it tells
 abbrev pub block_note : LayError → List ℕ
-block_note (lay.BadBlob i why) = codes "1 " ++ decimal i ++ codes " " ++ decimal (number_of why)
+block_note (lay.BadBlob i why) = codes "1 " ++ decimal i ++ codes " " ++ decimal (refusal_number why)
 block_note (lay.EmptyBlob i) = codes "2 " ++ decimal i
 block_note (lay.TooLarge needed) = codes "3 " ++ decimal needed
 block_note (lay.WidthTooSmall needed) = codes "4 " ++ decimal needed

@@ -11,7 +11,7 @@ use Rattle.da_cli.specs.declared.gathering.Stop.TheVariants as stop
 use Rattle.da_cli.specs.Statuses.{Kind, usage, fault, excess, form, request, memory, write, output, kind_of}
 use Rattle.da_cli.specs.Words.{call_of, file_words}
 use Rattle.da_cli.specs.Gathered.{Gathered, whole, long, absent, gathered}
-use Rattle.da_cli.specs.Outcome.{Relation, Refuses, Outputs, OutputsPart, OutputsFront, Answers}
+use Rattle.da_cli.specs.Outcome.{Relation, Refuses, Outputs, OutputsPart, OutputsFront, Leaves}
 use Rattle.da_cli.specs.Judging.{first_bad}
 use Rattle.da_cli.specs.Meaning.{judged_of, AnswerOf, Meaning}
 
@@ -30,9 +30,9 @@ abbrev pub RunOf : Files → List (List ℕ) → Relation
 RunOf files words = CallOf (call_of words) files words
 
 -- the output that a status leaves, where the files are told
-abbrev pub AnswersTold : Option Files → List (List ℕ) → Option (List ℕ) → Option (List ℕ) → Status → Type 0
-AnswersTold None words old new status = ⊤
-AnswersTold (Some files) words old new status = Answers (RunOf files words) old new status
+abbrev pub LeavesTold : Option Files → List (List ℕ) → Option (List ℕ) → Option (List ℕ) → Status → Type 0
+LeavesTold None words old new status = ⊤
+LeavesTold (Some files) words old new status = Leaves (RunOf files words) old new status
 
 -- how a command ends over files in their forms: with its answer, or because of a failure or of want of
 -- memory

@@ -1,5 +1,5 @@
 -- Files of one frame of a kind, and nothing else.
-use Rattle.std.specs.Prelude.{◌≡◌, ℕ, List, [], ◌∷◌, Some, None, Result, Ok, Err, ⊤}
+use Rattle.std.specs.Prelude.{◌≡◌, ℕ, List, [], ◌∷◌, Some, None, Result, Ok, Err, IsOk}
 use Rattle.std.specs.declared.option.Option.{Option}
 use Rattle.std.specs.Option.{option_map_or}
 use Rattle.data_header.specs.Headers.{Roots}
@@ -58,11 +58,11 @@ unread_of (BadPayload at) = unread.BadForm at
 unread_of (Trailing at) = unread.BadForm at
 unread_of NoMemory = unread.NoMemory
 
--- what a call answered is what the file is, unless memory ran out
+-- what a call answered is what the file is, or that memory ran out, in place of a value alone
 abbrev pub ReadsSingle : {A : Type 0} → Result A Unread → Result A ℕ → Type 0
 ReadsSingle (Ok value) read = read ≡ Ok value
 ReadsSingle (Err (unread.BadForm at)) read = read ≡ Err at
-ReadsSingle (Err unread.NoMemory) read = ⊤
+ReadsSingle (Err unread.NoMemory) read = IsOk read
 
 -- where a file leaves its form, if it does
 abbrev pub error_of : {A : Type 0} → Result A ℕ → Option ℕ

@@ -16,15 +16,15 @@ use Rattle.da_cli.specs.Single.{square_in, block_in, error_of}
 use Rattle.da_cli.specs.Outcome.{Relation, Refuses}
 
 -- the output is the spelling of one frame
-abbrev pub Gives : Frame → Relation
-Gives frame w status = (spelling frame ≡ Some w) × (status ≡ Done)
+abbrev pub Writes : Frame → Relation
+Writes frame w status = (spelling frame ≡ Some w) × (status ≡ Done)
 
 -- ---- build
 
 -- the first refusal of the block, or the frame of its square
 abbrev pub Builds : BlockParts → Relation
 Builds block w status =
-    MatchOption (refusal_of block) (Gives (Square (square_of block)) w status) (λ why. Refuses (BadBlock why) w status)
+    MatchOption (refusal_of block) (Writes (Square (square_of block)) w status) (λ why. Refuses (BadBlock why) w status)
 
 -- the one file is a block and nothing else
 abbrev pub build_judged : List (List ℕ) → List (Option ℕ)
@@ -43,7 +43,7 @@ HasNoHeader square = (header : Roots) → IsHeaderOf header square → ⊥
 -- the frame of the square's header, or the refusal of a square that has none
 abbrev pub Heads : SquareShares → Relation
 Heads square w status =
-    ((header : Roots) × IsHeaderOf header square × Gives (Header header) w status)
+    ((header : Roots) × IsHeaderOf header square × Writes (Header header) w status)
     ⊎ (HasNoHeader square × Refuses (BadRequest NoHeader) w status)
 
 -- the one file is a square and nothing else

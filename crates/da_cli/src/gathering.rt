@@ -1,9 +1,11 @@
 //! Reading the files of a command, in the order of the words.
 
-ghost use Rattle.std.specs.Prelude.{◌≡◌, ℕ, ◌≤◌, ◌<◌, length, IfErr, Some, Ok, Err};
+ghost use Rattle.std.specs.Prelude.{◌≡◌, ℕ, ◌≤◌, ◌<◌, length, IfErr, IfOk, Some, Ok, Err};
 ghost use Rattle.std.specs.String.{string_bytes};
 ghost use Rattle.da_cli.specs.Words.{words_of};
-ghost use Rattle.da_cli.specs.Gathered.{ReadsFile, StopsFile, Gathers, StopsIn, count_after, WithinLimit};
+ghost use Rattle.da_io.specs.Faults.{count_on};
+ghost use Rattle.da_io.specs.declared.inputs.Ended.TheVariants.{Fine};
+ghost use Rattle.da_cli.specs.Gathered.{bytes_read, files_read, IsLastOf, PicksIn, ReadsFile, StopsFile, Gathers, StopsIn, count_after, WithinLimit};
 
 use da_io::{InputFault, Inputs, read_all};
 use std::alloc::Global;
@@ -27,10 +29,12 @@ fn read_file<I: Inputs>(
     i: u32,
     inputs: &mut I,
 ) -> Result<Vec<u8>, Stop>
-    ensures content { ReadsFile (I.files inputs.old) (string_bytes name) result }
+    ensures content { ReadsFile (I.files inputs.old) (string_bytes name) (bytes_read result) }
     ensures stop { IfErr result (StopsFile i (I.ended inputs.new) (I.given inputs.new)) }
     ensures faults { I.faults inputs.new ≡ count_after (I.faults inputs.old) result }
-    ensures within { WithinLimit (I.given inputs.new) result }
+    ensures within { WithinLimit (I.given inputs.new) ⊥ result }
+    ensures picks { I.picks inputs.new ≡ count_on (I.picks inputs.old) 1 }
+    ensures fine { IfOk result (λ _. I.ended inputs.new ≡ Fine) }
     ensures picked { I.picked inputs.new ≡ Some (string_bytes name) }
     ensures files { I.files inputs.new ≡ I.files inputs.old }
 {
@@ -45,22 +49,30 @@ fn read_file<I: Inputs>(
     }
 }
 
-/// Picks and reads each file to its end, and stops at the first failure or excess of length.
+/// Picks and reads the files of the first `count` words to their ends, and stops at the first
+/// failure or excess of length.
 pub(crate) fn gather<I: Inputs>(
     alloc: Global,
     words: &[String],
+    count: usize,
     inputs: &mut I,
 ) -> Result<Vec<Vec<u8>>, Stop>
-    requires { length words.now < 16 }
-    ensures contents { Gathers (I.files inputs.old) (words_of words.now) result }
+    requires few { length words.now < 16 }
+    requires count { count ≤ length words.now }
+    ensures contents { Gathers (I.files inputs.old) (words_of words.now) count (files_read result) }
     ensures stop { IfErr result (StopsIn (I.files inputs.old) (words_of words.now)
         (I.picked inputs.new) (I.ended inputs.new) (I.given inputs.new)) }
     ensures faults { I.faults inputs.new ≡ count_after (I.faults inputs.old) result }
-    ensures within { 0 < length words.now → WithinLimit (I.given inputs.new) result }
+    ensures within { 0 < count →
+        WithinLimit (I.given inputs.new) (inputs.new ≡ inputs.old) result }
+    ensures last { IfOk result (λ _. IsLastOf (words_of words.now) count (I.picked inputs.new)
+        (I.ended inputs.new)) }
+    ensures picks { PicksIn (I.picks inputs.old) (I.picks inputs.new) count result }
+    ensures idle { count ≡ 0 → inputs.new ≡ inputs.old }
     ensures files { I.files inputs.new ≡ I.files inputs.old }
 {
     let mut contents = Vec::new(alloc);
-    for i in 0..words.len() {
+    for i in 0..count {
         let Ok(name) = words[i].clone() else {
             return Err(Stop::NoMemory);
         };

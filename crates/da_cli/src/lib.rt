@@ -5,6 +5,7 @@
 #![tactic(auto)]
 
 mod checking;
+mod choices;
 mod files;
 mod gathering;
 mod laws;
@@ -18,6 +19,7 @@ mod status;
 mod tests;
 mod words;
 
+pub use choices::{Choice, choice_laws};
 pub use gathering::FILE_LIMIT;
 pub use laws::run_laws;
 pub use running::run;

@@ -1,7 +1,7 @@
 //! The line that goes with a status.
 
 ghost use Rattle.std.specs.Prelude.{◌≡◌, ℕ, ◌+◌, ◌≤◌, ◌++◌, length, decimal};
-ghost use Rattle.da_cli.specs.Notes.{number_of, block_note, note_of, Notes};
+ghost use Rattle.da_cli.specs.Notes.{refusal_number, block_note, note_of, Notes};
 
 use crate::line::Line;
 use crate::{Asked, Status};
@@ -21,8 +21,8 @@ fn around(line: &mut Line, front: &[u8], number: u64, back: &[u8])
 }
 
 /// The number of a refusal of a namespace.
-fn number_of(why: NsError) -> u64
-    ensures { result ≡ number_of why }
+fn refusal_number(why: NsError) -> u64
+    ensures { result ≡ refusal_number why }
 {
     match why {
         NsError::Length => 1,
@@ -42,7 +42,7 @@ fn note_block(line: &mut Line, why: LayError)
     match why {
         LayError::BadBlob(i, why) => {
             around(line, b"1 ", i, b" ");
-            around(line, b"", number_of(why), b"");
+            around(line, b"", refusal_number(why), b"");
         }
         LayError::EmptyBlob(i) => around(line, b"2 ", i, b""),
         LayError::TooLarge(needed) => around(line, b"3 ", needed, b""),

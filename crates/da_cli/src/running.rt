@@ -1,18 +1,21 @@
 //! The top call.
 
-ghost use Rattle.std.specs.Prelude.{◌≡◌, ◌↔◌, ℕ, ◌≤◌, None, IsSome};
+ghost use Rattle.std.specs.Prelude.{◌≡◌, ◌↔◌, ℕ, ◌≤◌, length, [], None, IsSome};
 ghost use Rattle.da_cli.specs.declared.status.Status.TheVariants.{Usage};
 ghost use Rattle.da_cli.specs.Words.{words_of, call_of, names_of};
 ghost use Rattle.da_cli.specs.Statuses.{kind_of, input_count, output_count};
-ghost use Rattle.da_cli.specs.Gathered.{contents_of};
-ghost use Rattle.da_cli.specs.Outcome.{FaultCause, ExcessCause, Untouched, Ends};
+ghost use Rattle.da_cli.specs.Gathered.{contents_of, IsLast};
+ghost use Rattle.da_cli.specs.Outcome.{FaultCause, ExcessCause, LastBy, PickCount, Untouched, Ends};
 ghost use Rattle.da_cli.specs.Meaning.{Meaning};
 ghost use Rattle.da_cli.specs.Notes.{note_of, Notes};
-ghost use Rattle.da_cli.specs.Run.{status_of, AnswersTold, Completes};
+ghost use Rattle.da_cli.specs.Own.{AreOwn};
+ghost use Rattle.da_cli.specs.Ran.{Ran};
+ghost use Rattle.da_cli.specs.Run.{status_of, LeavesTold, Completes};
 
 use crate::Status;
 use crate::checking::check;
 use crate::gathering::{Stop, gather};
+use crate::laws::run_laws;
 use crate::output::note;
 use crate::squares::{build, header};
 use crate::words::{Command, call_of};
@@ -50,24 +53,12 @@ fn answer<I: Inputs, O: Sink>(
     inputs: &mut I,
     out: &mut O,
 ) -> Status
-    ensures meaning { AnswersTold (I.files inputs.old) (words_of words.now) (O.taken out.old)
-        (O.taken out.new) result }
-    ensures usage { (result ≡ Usage) ↔ (call_of (words_of words.now) ≡ None) }
-    ensures idle { result ≡ Usage → inputs.new ≡ inputs.old }
-    ensures untouched { Untouched (out.new ≡ out.old) result }
-    ensures fault { FaultCause (I.files inputs.old) (names_of (words_of words.now))
-        (I.picked inputs.new) (I.ended inputs.new) result }
-    ensures excess { ExcessCause (I.files inputs.old) (names_of (words_of words.now))
-        (I.picked inputs.new) (I.given inputs.new) result }
-    ensures input_faults { I.faults inputs.new ≡ input_count (kind_of result) (I.faults inputs.old) }
-    ensures output_faults { O.faults out.new ≡ output_count (kind_of result) (O.faults out.old) }
-    ensures files { I.files inputs.new ≡ I.files inputs.old }
-    ensures told { IsSome (O.taken out.old) ↔ IsSome (O.taken out.new) }
+    ensures { Ran I.Inputs O.Sink (words_of words.now) inputs.old inputs.new out.old out.new result }
 {
     let Some(call) = call_of(words) else {
         return Status::Usage;
     };
-    match gather(alloc, &words[1..1 + call.files], inputs) {
+    match gather(alloc, &words[1..1 + call.files], call.files, inputs) {
         Ok(contents) => execute(alloc, call.command, &contents, out),
         Err(stop) => status_of(stop),
     }
@@ -88,14 +79,19 @@ pub fn run<I: Inputs, O: Sink, N: Sink>(
     notes: &mut N,
 ) -> Status
     // Words, files, output and status belong together, where the files are told.
-    ensures meaning { AnswersTold (I.files inputs.old) (words_of words.now) (O.taken out.old)
+    ensures meaning { LeavesTold (I.files inputs.old) (words_of words.now) (O.taken out.old)
         (O.taken out.new) result }
     ensures complete { Completes (I.files inputs.old) (words_of words.now) (O.taken out.old)
         (O.taken out.new) result }
 
-    // `Usage` comes exactly where the words are no command, and then nothing is read.
+    // Under the header of a square `ok` stands only for messages that show the square's own share, or
+    // name a collision, where the files are told.
+    ensures own { AreOwn (I.files inputs.old) (words_of words.now) }
+
+    // `Usage` comes exactly where the words are no command. Where no word names a file, nothing is
+    // read.
     ensures usage { (result ≡ Usage) ↔ (call_of (words_of words.now) ≡ None) }
-    ensures idle { result ≡ Usage → inputs.new ≡ inputs.old }
+    ensures idle { names_of (words_of words.now) ≡ [] → inputs.new ≡ inputs.old }
 
     // What is decided before the output leaves it as it was.
     ensures untouched { Untouched (out.new ≡ out.old) result }
@@ -104,11 +100,17 @@ pub fn run<I: Inputs, O: Sink, N: Sink>(
     ensures fault { FaultCause (I.files inputs.old) (names_of (words_of words.now))
         (I.picked inputs.new) (I.ended inputs.new) result }
     ensures excess { ExcessCause (I.files inputs.old) (names_of (words_of words.now))
-        (I.picked inputs.new) (I.given inputs.new) result }
+        (I.picked inputs.new) (I.given inputs.new) (inputs.new ≡ inputs.old) result }
 
     // Failures are counted, and none is hidden behind another status.
     ensures input_faults { I.faults inputs.new ≡ input_count (kind_of result) (I.faults inputs.old) }
     ensures output_faults { O.faults out.new ≡ output_count (kind_of result) (O.faults out.old) }
+
+    // Each word that names a file is picked once, and the last one last.
+    ensures picks { PickCount (length (names_of (words_of words.now))) (I.picks inputs.old)
+        (I.picks inputs.new) result }
+    ensures last { LastBy (kind_of result) (IsLast (names_of (words_of words.now))
+        (I.picked inputs.new) (I.ended inputs.new)) }
 
     // What stays.
     ensures files { I.files inputs.new ≡ I.files inputs.old }
@@ -118,6 +120,7 @@ pub fn run<I: Inputs, O: Sink, N: Sink>(
     ensures note { Notes (note_of result) (N.taken notes.old) (N.taken notes.new)
         (N.faults notes.old) (N.faults notes.new) }
 {
+    run_laws();
     let status = answer(alloc, words, inputs, out);
     note(status, notes);
     status

@@ -5,7 +5,7 @@ ghost use Rattle.da_wire.specs.Spelling.{spelling};
 ghost use Rattle.da_wire.specs.declared.frames.Frame.TheVariants as FrameOf;
 ghost use Rattle.da_cli.specs.declared.words.Command.TheVariants as CommandOf;
 ghost use Rattle.da_cli.specs.Gathered.{contents_of};
-ghost use Rattle.da_cli.specs.Squares.{Gives, Builds, Heads};
+ghost use Rattle.da_cli.specs.Squares.{Writes, Builds, Heads};
 ghost use Rattle.da_cli.specs.Meaning.{Meaning};
 ghost use Rattle.da_cli.specs.Outcome.{Ends};
 
@@ -46,7 +46,7 @@ fn header_frame(header: Header) -> Frame
 /// Writes one frame, as one piece.
 fn give<O: Sink>(alloc: Global, frame: &Frame, out: &mut O) -> Status
     requires { IsSome (spelling frame.now) }
-    ensures { Ends (Gives frame.now) (O.taken out.old) (O.taken out.new) (O.faults out.old)
+    ensures { Ends (Writes frame.now) (O.taken out.old) (O.taken out.new) (O.faults out.old)
         (O.faults out.new) (out.new ≡ out.old) result }
 {
     let mut text = Vec::new(alloc);

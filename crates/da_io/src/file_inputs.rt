@@ -1,6 +1,8 @@
 //! Files of the system, which tell nothing of their bytes.
 
 ghost use Rattle.std.specs.Prelude.{◌≤◌};
+ghost use Rattle.std.specs.Io.{ReadsAtMost};
+ghost use Rattle.std.specs.Io.KnownBytes.{ReadConsumes};
 ghost use Rattle.da_io.specs.Faults.{max_count};
 
 use crate::{Ended, Inputs, PickFailed, ReadFailed};
@@ -18,13 +20,16 @@ pub struct FileInputs<'a> {
     ended: Ended,
     given: u64,
     faults: u64,
+    picks: u64,
     ghost few_given: { given ≤ max_count },
     ghost few_faults: { faults ≤ max_count },
+    ghost few_picks: { picks ≤ max_count },
 }
 
 impl<'a> FileInputs<'a> {
     ghost use Rattle.std.specs.Prelude.{◌≡◌, None};
     ghost use Rattle.da_io.specs.declared.inputs.Ended.TheVariants.{Fine};
+    ghost use Rattle.da_io.specs.Faults.{CountsFault, GivesCounted, read_end};
 
     /// The files of the system, none of them picked.
     pub fn new(rt: &'a HostRuntime) -> FileInputs<'a>
@@ -32,6 +37,7 @@ impl<'a> FileInputs<'a> {
         ensures ended { ⟦<FileInputs<'a> as Inputs>⟧.ended result ≡ Fine }
         ensures faults { ⟦<FileInputs<'a> as Inputs>⟧.faults result ≡ 0 }
         ensures given { ⟦<FileInputs<'a> as Inputs>⟧.given result ≡ 0 }
+        ensures picks { ⟦<FileInputs<'a> as Inputs>⟧.picks result ≡ 0 }
     {
         FileInputs {
             rt,
@@ -40,12 +46,48 @@ impl<'a> FileInputs<'a> {
             ended: Ended::Fine,
             given: 0,
             faults: 0,
+            picks: 0,
         }
+    }
+
+    /// Counts what a read answered, and hands it on.
+    fn settle(&mut self, answer: Result<usize, ReadFailed>) -> Result<usize, ReadFailed>
+        ensures answer { result ≡ answer }
+        ensures given { GivesCounted self.old.given self.new.given answer }
+        ensures ended { self.new.ended ≡ read_end answer }
+        ensures faults { CountsFault self.old.faults self.new.faults answer }
+        ensures picks { self.new.picks ≡ self.old.picks }
+        ensures picked { self.new.picked ≡ self.old.picked }
+    {
+        match answer {
+            Ok(count) => {
+                self.given = self.given.saturating_add(count as u64);
+                self.ended = Ended::Fine;
+            }
+            Err(_) => {
+                self.ended = Ended::ReadFailed;
+                self.faults = self.faults.saturating_add(1);
+            }
+        }
+        answer
+    }
+}
+
+/// Reads once: what a stream gives is what is answered.
+fn read_once<R: Read>(reader: &mut R, buf: &mut [u8]) -> Result<usize, ReadFailed>
+    ensures bound { ReadsAtMost result buf.new }
+    ensures bytes { ReadConsumes (R.remaining reader.old) (R.remaining reader.new) result buf.new }
+{
+    match reader.read(buf) {
+        Ok(count) => Ok(count),
+        Err(_) => Err(ReadFailed),
     }
 }
 
 impl Inputs for FileInputs<'_> {
-    ghost use Rattle.std.specs.Prelude.{None};
+    ghost use Rattle.std.specs.Prelude.{◌≡◌, ◌↔◌, None, Some, IsOk, IsSome};
+    ghost use Rattle.std.specs.String.{string_bytes};
+    ghost use Rattle.da_io.specs.Faults.{count_on, CountsFault, pick_end};
     ghost use Rattle.da_io.specs.Files.{name_bytes};
 
     ghost files = { λ f. None };
@@ -60,15 +102,27 @@ impl Inputs for FileInputs<'_> {
 
     ghost given = { λ f. f.given };
 
-    ghost counted = { λ f. (f.few_given, f.few_faults) };
+    ghost picks = { λ f. f.picks };
+
+    ghost counted = { λ f. (f.few_given, f.few_faults, f.few_picks) };
 
     ghost told = { λ f. (λ h. h, λ h. h) };
 
     /// Opens the file with this path.
-    fn pick(&mut self, name: String) -> Result<(), PickFailed> {
+    fn pick(&mut self, name: String) -> Result<(), PickFailed>
+        ensures picked { name_bytes self.new.picked ≡ Some (string_bytes name) }
+        ensures ended { self.new.ended ≡ pick_end result }
+        ensures given { self.new.given ≡ 0 }
+        ensures picks { self.new.picks ≡ count_on self.old.picks 1 }
+        ensures faults { CountsFault self.old.faults self.new.faults result }
+
+        // A file is open exactly where the pick did not fail.
+        ensures open { IsOk result ↔ IsSome self.new.file }
+    {
         let opened = File::open(self.rt, name.as_str());
         self.picked = Some(name);
         self.given = 0;
+        self.picks = self.picks.saturating_add(1);
         match opened {
             Ok(file) => {
                 self.file = Some(file);
@@ -86,21 +140,12 @@ impl Inputs for FileInputs<'_> {
 
     /// Reads from the open file by one call of the system.
     fn read(&mut self, buf: &mut [u8]) -> Result<usize, ReadFailed> {
-        let Some(file) = &mut self.file else {
-            self.ended = Ended::Fine;
-            return Ok(0);
-        };
-        match file.read(buf) {
-            Ok(count) => {
-                self.given = self.given.saturating_add(count as u64);
-                self.ended = Ended::Fine;
-                Ok(count)
+        match &mut self.file {
+            Some(file) => {
+                let answer = read_once(file, buf);
+                self.settle(answer)
             }
-            Err(_) => {
-                self.ended = Ended::ReadFailed;
-                self.faults = self.faults.saturating_add(1);
-                Err(ReadFailed)
-            }
+            None => self.settle(Ok(0)),
         }
     }
 }

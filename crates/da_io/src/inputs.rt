@@ -6,7 +6,7 @@ ghost use Rattle.std.specs.String.{string_bytes};
 ghost use Rattle.std.specs.Io.{ReadsAtMost};
 ghost use Rattle.std.specs.Io.KnownBytes.{ReadConsumes};
 ghost use Rattle.da_io.specs.declared.inputs.Ended.{Ended};
-ghost use Rattle.da_io.specs.Faults.{max_count, CountsFault, GivesCounted, pick_end, read_end};
+ghost use Rattle.da_io.specs.Faults.{max_count, count_on, CountsFault, GivesCounted, pick_end, read_end};
 ghost use Rattle.da_io.specs.Files.{Files, Picks};
 
 use thiserror::Error;
@@ -39,7 +39,8 @@ pub trait Inputs {
     /// The files by name, where they are told. No call changes them, or whether they are told.
     ghost files: { Self → Option Files };
 
-    /// The unread bytes of the picked file, told where the files are. None before the first pick.
+    /// The unread bytes of the picked file, told where the files are; no bytes
+    /// before the first pick.
     ghost rest: { Self → Option (List ℕ) };
 
     /// The name that was given to the last pick, whether it failed or not; none before the first.
@@ -54,6 +55,9 @@ pub trait Inputs {
     /// How many bytes reads gave since the last pick. The count stops at 2^64 - 1.
     ghost given: { Self → ℕ };
 
+    /// How many picks there were, failed ones too. The count stops at 2^64 - 1.
+    ghost picks: { Self → ℕ };
+
     /// Goes to the front of the file with this name, which is kept.
     ///
     /// A name that isn't there is a failure. After a failure no bytes are left.
@@ -62,6 +66,7 @@ pub trait Inputs {
         ensures ended { ended self.new ≡ pick_end result }
         ensures files { files self.new ≡ files self.old }
         ensures given { given self.new ≡ 0 }
+        ensures picks { picks self.new ≡ count_on (picks self.old) 1 }
         ensures rest { Picks (files self.old) (string_bytes name) (rest self.new) result }
         ensures faults { CountsFault (faults self.old) (faults self.new) result };
 
@@ -71,6 +76,7 @@ pub trait Inputs {
     fn read(&mut self, buf: &mut [u8]) -> Result<usize, ReadFailed>
         ensures bound { ReadsAtMost result buf.new }
         ensures given { GivesCounted (given self.old) (given self.new) result }
+        ensures picks { picks self.new ≡ picks self.old }
         ensures rest { ReadConsumes (rest self.old) (rest self.new) result buf.new }
         ensures picked { picked self.new ≡ picked self.old }
         ensures ended { ended self.new ≡ read_end result }
@@ -78,7 +84,7 @@ pub trait Inputs {
         ensures faults { CountsFault (faults self.old) (faults self.new) result };
 
     /// Counts keep within their end.
-    ghost counted: { (inputs : Self) → (given inputs ≤ max_count) × (faults inputs ≤ max_count) };
+    ghost counted: { (inputs : Self) → (given inputs ≤ max_count) × (faults inputs ≤ max_count) × (picks inputs ≤ max_count) };
 
     /// What is left is told where the files are.
     ghost told: { (inputs : Self) → IsSome (files inputs) ↔ IsSome (rest inputs) };

@@ -27,9 +27,11 @@ pub struct MemInputs {
     ended: Ended,
     given: u64,
     faults: u64,
+    picks: u64,
     ghost takes: { 0 < piece },
     ghost few_given: { given ≤ max_count },
     ghost few_faults: { faults ≤ max_count },
+    ghost few_picks: { picks ≤ max_count },
 }
 
 impl MemInputs {
@@ -38,6 +40,8 @@ impl MemInputs {
 
     /// Files with these names and contents, none of them picked. Each read gives at most `piece`
     /// bytes, and the calls with a number in `fail` fail.
+    ///
+    /// Names may stand twice: the second file of a name is never picked.
     pub fn new(
         names: Vec<String>,
         contents: Vec<Vec<u8>>,
@@ -62,6 +66,7 @@ impl MemInputs {
         ensures ended { ⟦<MemInputs as Inputs>⟧.ended result ≡ Fine }
         ensures faults { ⟦<MemInputs as Inputs>⟧.faults result ≡ 0 }
         ensures given { ⟦<MemInputs as Inputs>⟧.given result ≡ 0 }
+        ensures picks { ⟦<MemInputs as Inputs>⟧.picks result ≡ 0 }
     {
         MemInputs {
             names,
@@ -75,6 +80,7 @@ impl MemInputs {
             ended: Ended::Fine,
             given: 0,
             faults: 0,
+            picks: 0,
         }
     }
 }
@@ -142,7 +148,9 @@ impl Inputs for MemInputs {
 
     ghost given = { λ m. m.given };
 
-    ghost counted = { λ m. (m.few_given, m.few_faults) };
+    ghost picks = { λ m. m.picks };
+
+    ghost counted = { λ m. (m.few_given, m.few_faults, m.few_picks) };
 
     ghost told = { λ m. (λ _. refl, λ _. refl) };
 
@@ -152,6 +160,7 @@ impl Inputs for MemInputs {
         ensures ended { self.new.ended ≡ pick_end result }
         ensures files { files_of self.new ≡ files_of self.old }
         ensures given { self.new.given ≡ 0 }
+        ensures picks { self.new.picks ≡ count_on self.old.picks 1 }
         ensures rest { Picks (files_of self.old) (string_bytes name) (rest_of self.new) result }
         ensures faults { CountsFault self.old.faults self.new.faults result }
 
@@ -173,6 +182,7 @@ impl Inputs for MemInputs {
         self.file = None;
         self.place = 0;
         self.given = 0;
+        self.picks = self.picks.saturating_add(1);
         self.ended = Ended::PickFailed;
         if fails {
             self.faults = self.faults.saturating_add(1);
@@ -192,6 +202,7 @@ impl Inputs for MemInputs {
     fn read(&mut self, buf: &mut [u8]) -> Result<usize, ReadFailed>
         ensures bound { ReadsAtMost result buf.new }
         ensures given { GivesCounted self.old.given self.new.given result }
+        ensures picks { self.new.picks ≡ self.old.picks }
         ensures rest { ReadConsumes (rest_of self.old) (rest_of self.new) result buf.new }
         ensures picked { picked_of self.new ≡ picked_of self.old }
         ensures ended { self.new.ended ≡ read_end result }

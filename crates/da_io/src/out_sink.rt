@@ -28,7 +28,11 @@ impl<W: Write + Drop> OutSink<W> {
 }
 
 impl<W: Write + Drop> Sink for OutSink<W> {
-    ghost use Rattle.std.specs.Prelude.{None};
+    ghost use Rattle.std.specs.Prelude.{None, ◌≡◌};
+    ghost use Rattle.std.specs.Io.{WritesAtMost};
+    ghost use Rattle.std.specs.Io.KnownBytes.{WriteAppends};
+    ghost use Rattle.da_io.specs.Faults.{CountsFault};
+    ghost use Rattle.da_io.specs.Sinks.{TakesSome, TakesNothing};
 
     ghost taken = { λ s. None };
 
@@ -37,7 +41,15 @@ impl<W: Write + Drop> Sink for OutSink<W> {
     ghost counted = { λ s. s.few_faults };
 
     /// Writes by one call of the system. None taken of a piece that isn't empty is a failure.
-    fn write(&mut self, bytes: &[u8]) -> Result<usize, WriteFailed> {
+    fn write(&mut self, bytes: &[u8]) -> Result<usize, WriteFailed>
+        ensures bound { WritesAtMost result bytes.now }
+        ensures some { TakesSome result bytes.now }
+        ensures empty { TakesNothing bytes.now result (self.new ≡ self.old) }
+        ensures faults { CountsFault self.old.faults self.new.faults result }
+
+        // What is answered is what the stream took.
+        ensures stream { WriteAppends (W.contents self.old.stream) (W.contents self.new.stream) result bytes.now }
+    {
         if bytes.is_empty() {
             return Ok(0);
         }

@@ -3,6 +3,7 @@ ghost use Rattle.std.specs.Prelude.{◌<◌};
 use super::*;
 use std::alloc::Global;
 use std::fs;
+use std::io::Cursor;
 use std::test::Fail;
 
 fn text(alloc: Global, text: &str) -> Result<String, Fail> {
@@ -88,18 +89,31 @@ fn real_files(rt: HostRuntime) -> Result<(), Fail> {
     let alloc = rt.alloc();
     fs::write(&rt, "da_io_small", "0123456789")?;
     let mut inputs = FileInputs::new(&rt);
-    assert_eq!(rt;
-        inputs.pick(text(alloc, "da_io_none")?),
-        Err(PickFailed),
-        "absent"
-    );
-    assert_eq!(rt; inputs.pick(text(alloc, "da_io_small")?), Ok(()), "there");
+    let there = inputs.pick(text(alloc, "da_io_small")?);
+    let absent = inputs.pick(text(alloc, "da_io_none")?);
+    let nothing = read_all(alloc, &mut inputs, 10).map(|content| content.len());
+    let again = inputs.pick(text(alloc, "da_io_small")?);
     let content = read_all(alloc, &mut inputs, 10);
     fs::remove_file(&rt, "da_io_small")?;
+    assert_eq!(rt; there, Ok(()), "there");
+    assert_eq!(rt; absent, Err(PickFailed), "absent");
+    assert_eq!(rt; nothing, Ok(0), "what is left after a failed pick");
+    assert_eq!(rt; again, Ok(()), "there again");
     let Ok(content) = content else {
         return Err(Fail::new("not read"));
     };
     assert_eq!(rt; content.as_slice(), b"0123456789".as_slice());
+    Ok(())
+}
+
+/// A folder opens as a file does, and cannot be read.
+#[test]
+fn folders(rt: HostRuntime) -> Result<(), Fail> {
+    let alloc = rt.alloc();
+    let mut inputs = FileInputs::new(&rt);
+    assert_eq!(rt; inputs.pick(text(alloc, ".")?), Ok(()));
+    let content = read_all(alloc, &mut inputs, 10).map(|content| content.len());
+    assert_eq!(rt; content, Err(InputFault::ReadFailed));
     Ok(())
 }
 
@@ -113,5 +127,19 @@ fn real_sinks(rt: HostRuntime) -> Result<(), Fail> {
     assert_eq!(rt; written.as_str(), "0123456789");
     let mut full = OutSink::new(fs::File::create(&rt, "/dev/full")?);
     assert_eq!(rt; write_all(&mut full, b"0"), Err(WriteFailed), "full");
+    Ok(())
+}
+
+/// A stream that takes a part of a piece, and then none.
+#[test]
+fn streams_with_little_room(rt: HostRuntime) -> Result<(), Fail> {
+    let mut room = [0; 7];
+    let mut out = OutSink::new(Cursor::new(room.as_mut_slice()));
+    let part = out.write(b"0123456789");
+    let none = out.write(b"789");
+    assert_eq!(rt; part, Ok(7), "a part");
+    assert_eq!(rt; none, Err(WriteFailed), "no room");
+    drop(out);
+    assert_eq!(rt; room.as_slice(), b"0123456".as_slice());
     Ok(())
 }

@@ -49,6 +49,7 @@ pub fn read_all<I: Inputs>(alloc: Global, inputs: &mut I, limit: u64) -> Result<
 
     // What stays.
     ensures picked { I.picked inputs.new ≡ I.picked inputs.old }
+    ensures picks { I.picks inputs.new ≡ I.picks inputs.old }
     ensures files { I.files inputs.new ≡ I.files inputs.old }
 {
     let mut content = Vec::new(alloc);

@@ -1,43 +1,54 @@
-use Rattle.std.proofs.Common.{Ok, Err, subst, arith, ◌∙◌}
+use Rattle.std.proofs.Common.{Ok, Err, subst, arith, ◌∙◌, ◌+◌, ◌≡◌, ℕ}
 use Rattle.std.specs.declared.option.Option.{Option}
 use Rattle.std.specs.String.{string_bytes}
-use Rattle.std.proofs.lemmas.List.{length-map}
 use Rattle.da_io.specs.Files.{Files}
 use Rattle.da_cli.specs.Words.{words_of}
-use Rattle.da_cli.specs.Gathered.{ReadsFile, contents_of}
-use Rattle.da_cli.proofs.GatheredLemmas.{come_on, come_to_end, stop_here, stop_in, all_read_on, name_here, contents_more}
+use Rattle.da_cli.specs.Gathered.{Gathers, ReadsFile, contents_of}
+use Rattle.da_cli.proofs.GatheredLemmas.{last_on, stop_picks, come_on, stop_here, stop_in, all_read_on, name_here, contents_more}
 use Rattle.da_cli.proofs.gathering.gather.Goals as goal
 
 -- the file that stops it is read from the files that are told at the start
 pub returns-in-Err-clause-contents : goal.returns-in-Err-clause-contents
 returns-in-Err-clause-contents g c =
-    let here = name_here c.args.words.now c.loop-i.i c.index-words-i.result c.in-Ok.name c.loop-i-test.true c.index-words-i.is c.in-Ok.ensures.cases in
+    let here = name_here c.args.words.now c.loop-i.i c.index-words-i.result c.in-Ok.name (omega arith) c.index-words-i.is c.in-Ok.ensures.cases in
     let read = subst (λ (o : Option Files). ReadsFile o (string_bytes c.in-Ok.name) (Err c.in-Err.stop)) c.loop-i.invariant.files c.in-Err.ensures.content in
-    stop_here (g.I.Inputs.files c.args.inputs.now) (words_of c.args.words.now) c.loop-i.i (contents_of c.loop-i.contents.items) (string_bytes c.in-Ok.name) _ _ c.in-Err.stop
+    stop_here (g.I.Inputs.files c.args.inputs.now) (words_of c.args.words.now) c.loop-i.i c.args.count (contents_of c.loop-i.contents.items) (string_bytes c.in-Ok.name) _ _ c.in-Err.stop
     c.loop-i.invariant.come here read c.in-Err.ensures.stop
 
 pub returns-in-Err-clause-stop : goal.returns-in-Err-clause-stop
 returns-in-Err-clause-stop g c =
-    let here = name_here c.args.words.now c.loop-i.i c.index-words-i.result c.in-Ok.name c.loop-i-test.true c.index-words-i.is c.in-Ok.ensures.cases in
+    let here = name_here c.args.words.now c.loop-i.i c.index-words-i.result c.in-Ok.name (omega arith) c.index-words-i.is c.in-Ok.ensures.cases in
     stop_in (g.I.Inputs.files c.args.inputs.now) (words_of c.args.words.now) c.loop-i.i (string_bytes c.in-Ok.name) _ _ _ c.in-Err.stop
     here c.loop-i.invariant.all c.in-Err.ensures.picked c.in-Err.ensures.stop
+
+pub returns-in-Err-clause-picks : goal.returns-in-Err-clause-picks
+returns-in-Err-clause-picks g c =
+    stop_picks c.loop-i.i _ _ _ _ _ c.in-Err.stop c.loop-i-test.true c.in-Err.ensures.stop
+    (omega (arith, c.in-Err.ensures.picks, c.loop-i.invariant.picks))
+
+pub returns-in_default-push-clause-picks : goal.returns-in_default-push-clause-picks
+returns-in_default-push-clause-picks g c =
+    (c.loop-i.i + 1, omega (arith, c.loop-i-test.true), omega (arith, c.in-Ok-read_file.ensures.picks, c.loop-i.invariant.picks))
 
 pub loop-i-preserved : goal.loop-i-preserved
 loop-i-preserved g c =
     let told = g.I.Inputs.files c.args.inputs.now in
-    let here = name_here c.args.words.now c.loop-i.i c.index-words-i.result c.in-Ok.name c.loop-i-test.true c.index-words-i.is c.in-Ok.ensures.cases in
-    let read = subst (λ (o : Option Files). ReadsFile o (string_bytes c.in-Ok.name) (Ok c.in-Ok-read_file.content)) c.loop-i.invariant.files c.in-Ok-read_file.ensures.content in
-    let come = come_on told (words_of c.args.words.now) c.loop-i.i (contents_of c.loop-i.contents.items) (string_bytes c.in-Ok.name) c.in-Ok-read_file.content
+    let here = name_here c.args.words.now c.loop-i.i c.index-words-i.result c.in-Ok.name (omega arith) c.index-words-i.is c.in-Ok.ensures.cases in
+    let read = subst (λ (o : Option Files). ReadsFile o (string_bytes c.in-Ok.name) (Ok c.in-Ok-read_file.content.items)) c.loop-i.invariant.files c.in-Ok-read_file.ensures.content in
+    let come = come_on told (words_of c.args.words.now) c.loop-i.i (contents_of c.loop-i.contents.items) (string_bytes c.in-Ok.name) c.in-Ok-read_file.content.items
     c.loop-i.invariant.come here read in
     record {
       come = rw (c.in-Ok-push.ensures.items, contents_more c.loop-i.contents.items c.in-Ok-read_file.content) come;
-      all = all_read_on told (words_of c.args.words.now) c.loop-i.i (string_bytes c.in-Ok.name) c.in-Ok-read_file.content c.loop-i.invariant.all here read;
+      all = all_read_on told (words_of c.args.words.now) c.loop-i.i (string_bytes c.in-Ok.name) c.in-Ok-read_file.content.items c.loop-i.invariant.all here read;
       within = (λ some. c.in-Ok-read_file.ensures.within);
       faults = c.in-Ok-read_file.ensures.faults ∙ c.loop-i.invariant.faults;
+      last = last_on (words_of c.args.words.now) c.loop-i.i (string_bytes c.in-Ok.name) _ _ here c.in-Ok-read_file.ensures.picked c.in-Ok-read_file.ensures.fine;
+      picks = omega (arith, c.in-Ok-read_file.ensures.picks, c.loop-i.invariant.picks);
+      idle = (λ none. absurd (omega arith));
       files = c.in-Ok-read_file.ensures.files ∙ c.loop-i.invariant.files;
     }
 
 pub returns-clause-contents : goal.returns-clause-contents
 returns-clause-contents g c =
-    come_to_end (g.I.Inputs.files c.args.inputs.now) (words_of c.args.words.now) c.loop-i.i c.loop-i.contents c.loop-i.invariant.come
-    (omega (arith, length-map c.args.words.now string_bytes))
+    let end : c.loop-i.i ≡ c.args.count = omega arith in
+    subst (λ (n : ℕ). Gathers (g.I.Inputs.files c.args.inputs.now) (words_of c.args.words.now) n (Ok (contents_of c.loop-i.contents.items))) end c.loop-i.invariant.come

@@ -14,7 +14,7 @@ returns-in-BadBlob-clause-few c =
       simp length-append at (ap length c.around.ensures),
       simp length-append at (ap length c.around-in-BadBlob.ensures),
       digits_fit c.in-BadBlob.i (omega arith),
-      digits_fit c.number_of.result (omega arith),
+      digits_fit c.refusal_number.result (omega arith),
     )
 
 pub returns-in-EmptyBlob-clause-few : goal.returns-in-EmptyBlob-clause-few

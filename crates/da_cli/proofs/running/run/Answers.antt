@@ -1,5 +1,9 @@
 use Rattle.da_cli.proofs.RunLemmas.{completes}
+use Rattle.da_cli.proofs.OwnLemmas.{are_own}
 use Rattle.da_cli.proofs.running.run.Goals as goal
 
 pub returns-clause-complete : goal.returns-clause-complete
 returns-clause-complete g c = completes _ _ _ _ _ c.answer-status.ensures.meaning
+
+pub returns-clause-own : goal.returns-clause-own
+returns-clause-own g c = are_own _ _ c.run_laws.ensures.own

@@ -1,6 +1,6 @@
 use Rattle.std.proofs.Common.{◌∙◌, refl, sym, subst}
 use Rattle.square_layout.specs.Blocks.{IsSquare}
-use Rattle.da_cli.specs.Squares.{Gives, Heads}
+use Rattle.da_cli.specs.Squares.{Writes, Heads}
 use Rattle.da_cli.proofs.EndLemmas.{ends_within, ends_request}
 use Rattle.da_cli.proofs.SquareLemmas.{own_header, heads_header, heads_none}
 use Rattle.da_cli.proofs.squares.give_header.Goals as goal
@@ -11,7 +11,7 @@ returns-in-Ok-Some g c =
     let whole = subst IsSquare c.square.view_is c.square.invariant in
     let own = own_header c.args.square.now c.in-Ok.grid.k c.in-Ok.grid.shares c.in-Ok-Some.header whole c.in-Ok.ensures.k c.in-Ok.ensures.extends
     (sym c.in-Ok-Some.field-0-is ∙ c.in-Ok-Some.ensures) in
-    ends_within (Gives c.header_frame.result) (Heads c.args.square.now) _ _ _ _ _ _
+    ends_within (Writes c.header_frame.result) (Heads c.args.square.now) _ _ _ _ _ _
     (heads_header c.args.square.now c.in-Ok-Some.header c.header_frame.result own c.header_frame.ensures.value) c.give.ensures
 
 -- the square has none

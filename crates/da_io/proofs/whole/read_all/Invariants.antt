@@ -10,6 +10,7 @@ invariant-loop-count g l = record {
   given : g.I.Inputs.given l.inputs ≡ count_on (g.I.Inputs.given l.fn.inputs) (vec_len l.content);
   limit : vec_len l.content ≤ l.limit;
   faults : g.I.Inputs.faults l.inputs ≡ g.I.Inputs.faults l.fn.inputs;
+  picks : g.I.Inputs.picks l.inputs ≡ g.I.Inputs.picks l.fn.inputs;
   picked : g.I.Inputs.picked l.inputs ≡ g.I.Inputs.picked l.fn.inputs;
   files : g.I.Inputs.files l.inputs ≡ g.I.Inputs.files l.fn.inputs;
 }

@@ -1,0 +1,104 @@
+-- Lemmas on the line `ok` under the header of a square.
+use Rattle.std.proofs.Common.{◌≡◌, ◌∙◌, ℕ, zero, suc, ◌+◌, ◌-◌, Bool, true, false, cond, List, [], ◌∷◌, length, take, drop, None, Some, Ok, Err, IfSome, refl, ap, subst, slice_index}
+use Rattle.std.specs.Prelude.{nat_lt, codes, slice_get, ◌*◌}
+use Rattle.std.specs.declared.option.Option.{Option}
+use Rattle.std.specs.Option.{option_map_or}
+use Rattle.std.specs.List.{AllByRecursion}
+use Rattle.std.proofs.lemmas.List.{length-map}
+use Rattle.namespace_id.specs.Bytes.{AreBytes}
+use Rattle.namespace_id.specs.Lists.{ascending}
+use Rattle.namespace_id.specs.declared.cells.Axis.{Axis}
+use Rattle.namespace_id.specs.declared.cells.Axis.TheVariants.{Row, Col}
+use Rattle.namespace_id.specs.declared.shares.Share.{Share}
+use Rattle.namespace_id.proofs.StringLemmas.{AreBytes-take, AreBytes-drop}
+use Rattle.data_header.specs.Headers.{Roots, AreRoots}
+use Rattle.square_layout.specs.Blocks.{SquareShares}
+use Rattle.axis_roots.specs.Grids.{IsHeaderOf, are_ordered_axes, axis_root, axis_roots}
+use Rattle.axis_roots.specs.declared.messages.CheckRefusal.TheVariants.{OutOfSquare, NodeCount, Unordered, OtherRoot}
+use Rattle.da_wire.specs.declared.frames.FrameError.TheVariants as wire
+use Rattle.da_wire.specs.Spelling.{max_payload}
+use Rattle.da_wire.specs.Reading.{Raw, promised, raw_of}
+use Rattle.da_wire.specs.Frames.{ok_of, frames_from}
+use Rattle.da_io.specs.Files.{Files}
+use Rattle.da_cli.specs.declared.checking.Finding.{Finding}
+use Rattle.da_cli.specs.declared.checking.Finding.TheVariants.{Proved, NoMessage, Refused}
+use Rattle.da_cli.specs.Check.{finding_of, line_of, IsOwnFrame}
+use Rattle.da_cli.specs.Own.{AreOwn}
+
+-- ---- the header of a square has a width and its count of roots
+
+length-ascending : (n first : ℕ) → length (ascending first n) ≡ n
+unfolding ascending
+length-ascending zero first = refl
+length-ascending (suc n) first = ap suc (length-ascending n (suc first))
+
+length-axis_roots : (k : ℕ) (grid : List Share) (axis : Axis) → length (axis_roots k grid axis) ≡ 2 * k
+length-axis_roots k grid axis = length-map (ascending 0 (2 * k)) (axis_root k grid axis) ∙ length-ascending (2 * k) 0
+
+made_is : (ordered : Bool) (made header : Roots) → cond ordered (Some made) None ≡ Some header → made ≡ header
+made_is true made header e = cc
+made_is false made header e = absurd cc
+
+own_roots : (header : Roots) (square : SquareShares) → IsHeaderOf header square → AreRoots header
+own_roots header square own =
+    let made : Roots = record { k = square.k; rows = axis_roots square.k own.grid Row; cols = axis_roots square.k own.grid Col } in
+    let roots : AreRoots made = record {
+      width = own.whole.width;
+      rows = length-axis_roots square.k own.grid Row;
+      cols = length-axis_roots square.k own.grid Col;
+    } in
+    subst AreRoots (made_is (are_ordered_axes square.k own.grid) made header own.roots) roots
+
+-- ---- frames of a byte string have bytes
+
+abbrev HasBytes : Raw → Type 0
+HasBytes raw = AreBytes raw.payload
+
+raw_bytes : (a b c : Bool) (raw : Raw) → HasBytes raw
+    → IfSome (ok_of (cond a (Err (wire.Truncated 0)) (cond b (Err (wire.TooLong 0)) (cond c (Err (wire.Truncated 0)) (Ok raw))))) HasBytes
+raw_bytes true b c raw h = tt
+raw_bytes false true c raw h = tt
+raw_bytes false false true raw h = tt
+raw_bytes false false false raw h = h
+
+front_bytes : (bytes : List ℕ) → AreBytes bytes → IfSome (ok_of (raw_of 0 bytes)) HasBytes
+unfolding raw_of
+front_bytes bytes fits =
+    raw_bytes (nat_lt (length bytes) 5) (nat_lt max_payload (promised bytes)) (nat_lt (length bytes) (5 + promised bytes))
+    (record { kind = slice_index bytes 0; payload = take (promised bytes) (drop 5 bytes); size = 5 + promised bytes })
+    (AreBytes-take (promised bytes) (drop 5 bytes) (AreBytes-drop 5 bytes fits))
+
+frames_on : (o : Option Raw) (rest : List ℕ) → IfSome o HasBytes → ((skip : ℕ) → AllByRecursion HasBytes (frames_from skip rest))
+    → AllByRecursion HasBytes (option_map_or (λ (raw : Raw). raw ∷ frames_from (raw.size - 1) rest) o [])
+frames_on None rest h later = tt
+frames_on (Some raw) rest h later = (h, later (raw.size - 1))
+
+frames_fit : (bytes : List ℕ) → AreBytes bytes → (skip : ℕ) → AllByRecursion HasBytes (frames_from skip bytes)
+unfolding frames_from
+frames_fit [] fits skip = tt
+frames_fit (byte ∷ rest) fits zero = frames_on (ok_of (raw_of 0 (byte ∷ rest))) rest (front_bytes (byte ∷ rest) fits) (frames_fit rest (λ j. fits (suc j)))
+frames_fit (byte ∷ rest) fits (suc skip) = frames_fit rest (λ j. fits (suc j)) skip
+
+all_at : {X : Type 0} (P : X → Type 0) (xs : List X) (i : ℕ) (x : X) → AllByRecursion P xs → slice_get xs i ≡ Some x → P x
+all_at P [] i x all e = absurd cc
+all_at P (y ∷ xs) zero x all e = let same : y ≡ x = cc in subst P same all.0
+all_at P (y ∷ xs) (suc i) x all e = all_at P xs i x all.1 e
+
+-- ---- the line `ok`
+
+ok_is_proved : (found : Finding) → line_of found ≡ codes "ok\n" → found ≡ Proved
+ok_is_proved Proved e = refl
+ok_is_proved NoMessage e = absurd cc
+ok_is_proved (Refused OutOfSquare) e = absurd cc
+ok_is_proved (Refused NodeCount) e = absurd cc
+ok_is_proved (Refused Unordered) e = absurd cc
+ok_is_proved (Refused OtherRoot) e = absurd cc
+
+-- by what is known of frames that are found proved under the header of a square
+pub are_own : (told : Option Files) (words : List (List ℕ))
+    → ((header : Roots) (frame : Raw) (square : SquareShares) → AreRoots header → AreBytes frame.payload → IsHeaderOf header square
+    → finding_of header frame ≡ Proved → IsOwnFrame frame square)
+    → AreOwn told words
+are_own None words law = tt
+are_own (Some files) words law = λ contents header square i frame command read first own fits here ok.
+    law header frame square (own_roots header square own) (all_at HasBytes _ i frame (frames_fit _ fits 0) here) own (ok_is_proved (finding_of header frame) ok)

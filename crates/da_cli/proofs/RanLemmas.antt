@@ -1,0 +1,210 @@
+-- How a run ended, from how its files were read and how its command ended.
+use Rattle.std.proofs.Common.{◌≡◌, ◌∙◌, ℕ, zero, suc, ◌<◌, ◌≤◌, List, length, None, Some, Result, Ok, Err, IfOk, IfErr, refl, sym, ap, subst, arith, inl, inr, ◌⊎◌}
+use Rattle.std.specs.declared.option.Option.{Option}
+use Rattle.da_io.specs.Faults.{count_on}
+use Rattle.da_io.specs.Files.{Files}
+use Rattle.da_io.specs.declared.inputs.Ended.{Ended}
+use Rattle.da_io.specs.declared.inputs.Inputs as inputs
+use Rattle.da_io.specs.declared.sink.Sink as sink
+use Rattle.da_cli.specs.declared.gathering.Stop.{Stop}
+use Rattle.da_cli.specs.declared.gathering.Stop.TheVariants as stop
+use Rattle.da_cli.specs.declared.status.Status.{Status}
+use Rattle.da_cli.specs.declared.status.Status.TheVariants.{Usage, PickFault, ReadFault, TooLong}
+use Rattle.da_cli.specs.declared.words.Call.{Call}
+use Rattle.da_cli.specs.Limits.{file_limit}
+use Rattle.da_cli.specs.Words.{call_of, names_of}
+use Rattle.da_cli.specs.Statuses.{Kind, usage, fault, excess, form, request, memory, write, output, kind_of, input_count, output_count}
+use Rattle.da_cli.specs.Gathered.{Gathers, IsWord, IsLastOf, PicksIn, StopsIn, WithinLimit, count_after}
+use Rattle.da_cli.specs.Outcome.{Untouched, FaultCause, GivenBy, ExcessCause, LastBy, PicksBy, PickCount, IsOwnBy, Ends}
+use Rattle.da_cli.specs.Meaning.{Meaning}
+use Rattle.da_cli.specs.Run.{status_of}
+use Rattle.da_cli.specs.Ran.{Ran}
+use Rattle.da_cli.proofs.GatheredLemmas.{all_gathered}
+use Rattle.da_cli.proofs.RunLemmas.{command_told, stopped_told}
+
+-- how reading the files of the first names ended
+pub record HasGathered {I : Type 0} (i : inputs.Ghosts I) (names : List (List ℕ)) (count : ℕ) (before now : I) (result : Result (List (List ℕ)) Stop) : Type 0 where
+  pub contents : Gathers (i.files before) names count result
+  pub stop : IfErr result (StopsIn (i.files before) names (i.picked now) (i.ended now) (i.given now))
+  pub faults : i.faults now ≡ count_after (i.faults before) result
+  pub within : 0 < count → WithinLimit (i.given now) (now ≡ before) result
+  pub last : IfOk result (λ (contents : List (List ℕ)). IsLastOf names count (i.picked now) (i.ended now))
+  pub picks : PicksIn (i.picks before) (i.picks now) count result
+  pub idle : count ≡ 0 → now ≡ before
+  pub files : i.files now ≡ i.files before
+
+-- ---- a command's own status, which comes after all files were read
+
+fault_own : (told : Option Files) (names : List (List ℕ)) (picked : Option (List ℕ)) (last : Ended) (status : Status) → IsOwnBy (kind_of status)
+    → FaultCause told names picked last status
+fault_own told names picked last (PickFault i) own = absurd own
+fault_own told names picked last (ReadFault i) own = absurd own
+fault_own told names picked last status own = tt
+
+-- the file that was picked last gave no more than the limit, or there are no files
+few_or_idle : (n given : ℕ) (Idle : Type 0) → (0 < n → given ≤ file_limit) → (n ≡ 0 → Idle) → Idle ⊎ (given ≤ file_limit)
+few_or_idle zero given Idle few idle = inl (idle refl)
+few_or_idle (suc n) given Idle few idle = inr (few (omega arith))
+
+given_own : (k : Kind) (names : List (List ℕ)) (given : ℕ) (Idle : Type 0) → IsOwnBy k → (0 < length names → given ≤ file_limit)
+    → (length names ≡ 0 → Idle) → GivenBy k names given Idle
+given_own usage names given Idle own few idle = tt
+given_own fault names given Idle own few idle = absurd own
+given_own excess names given Idle own few idle = tt
+given_own form names given Idle own few idle = few
+given_own request names given Idle own few idle = few
+given_own memory names given Idle own few idle = few_or_idle (length names) given Idle few idle
+given_own write names given Idle own few idle = few
+given_own output names given Idle own few idle = few
+
+excess_own : (told : Option Files) (names : List (List ℕ)) (picked : Option (List ℕ)) (given : ℕ) (Idle : Type 0) (status : Status) → IsOwnBy (kind_of status)
+    → (0 < length names → given ≤ file_limit) → (length names ≡ 0 → Idle) → ExcessCause told names picked given Idle status
+excess_own told names picked given Idle (TooLong i) own few idle = absurd own
+excess_own told names picked given Idle status own few idle = given_own (kind_of status) names given Idle own few idle
+
+-- no failure of the inputs is counted
+input_own : (k : Kind) (before : ℕ) → IsOwnBy k → before ≡ input_count k before
+input_own usage before own = refl
+input_own fault before own = absurd own
+input_own excess before own = refl
+input_own form before own = refl
+input_own request before own = refl
+input_own memory before own = refl
+input_own write before own = refl
+input_own output before own = refl
+
+picks_by : (k : Kind) (count before now : ℕ) → IsOwnBy k → now ≡ count_on before count → PicksBy k count before now
+picks_by usage count before now own e = absurd own
+picks_by fault count before now own e = absurd own
+picks_by excess count before now own e = absurd own
+picks_by form count before now own e = e
+picks_by request count before now own e = e
+picks_by memory count before now own e = (count, omega arith, e)
+picks_by write count before now own e = e
+picks_by output count before now own e = e
+
+picks_own : (count before now : ℕ) (status : Status) → IsOwnBy (kind_of status) → now ≡ count_on before count → PickCount count before now status
+picks_own count before now (PickFault i) own e = absurd own
+picks_own count before now (ReadFault i) own e = absurd own
+picks_own count before now (TooLong i) own e = absurd own
+picks_own count before now status own e = picks_by (kind_of status) count before now own e
+
+-- the last call was the end of the last file
+last_own : (k : Kind) (Last : Type 0) → Last → LastBy k Last
+last_own usage Last h = tt
+last_own fault Last h = tt
+last_own excess Last h = tt
+last_own form Last h = h
+last_own request Last h = h
+last_own memory Last h = tt
+last_own write Last h = h
+last_own output Last h = h
+
+-- ---- files that were not read whole
+
+stop_usage : (stop : Stop) → status_of stop ≡ Usage → ⊥
+stop_usage (stop.PickFault i) e = cc
+stop_usage (stop.ReadFault i) e = cc
+stop_usage (stop.TooLong i) e = cc
+stop_usage stop.NoMemory e = cc
+
+stop_untouched : (Same : Type 0) (stop : Stop) → Same → Untouched Same (status_of stop)
+stop_untouched Same (stop.PickFault i) same = same
+stop_untouched Same (stop.ReadFault i) same = same
+stop_untouched Same (stop.TooLong i) same = same
+stop_untouched Same stop.NoMemory same = tt
+
+stop_fault : (told : Option Files) (names : List (List ℕ)) (picked : Option (List ℕ)) (last : Ended) (given : ℕ) (stop : Stop)
+    → StopsIn told names picked last given stop → FaultCause told names picked last (status_of stop)
+stop_fault told names picked last given (stop.PickFault i) why = why
+stop_fault told names picked last given (stop.ReadFault i) why = why
+stop_fault told names picked last given (stop.TooLong i) why = tt
+stop_fault told names picked last given stop.NoMemory why = tt
+
+-- a named file is one of the names
+some_names : (names : List (List ℕ)) (i : ℕ) (picked : Option (List ℕ)) → IsWord names i picked → 0 < length names
+some_names names i None word = absurd word
+some_names names i (Some name) word = omega (arith, word.0)
+
+memory_given : (n given : ℕ) (Idle : Type 0) → (0 < n → Idle ⊎ (given ≤ file_limit)) → (n ≡ 0 → Idle) → Idle ⊎ (given ≤ file_limit)
+memory_given zero given Idle few idle = inl (idle refl)
+memory_given (suc n) given Idle few idle = few (omega arith)
+
+stop_excess : (told : Option Files) (names : List (List ℕ)) (picked : Option (List ℕ)) (last : Ended) (given : ℕ) (Idle : Type 0) (stop : Stop)
+    → StopsIn told names picked last given stop → (0 < length names → WithinLimit {T = List (List ℕ)} given Idle (Err stop))
+    → (length names ≡ 0 → Idle) → ExcessCause told names picked given Idle (status_of stop)
+stop_excess told names picked last given Idle (stop.PickFault i) why few idle = few (some_names names i picked why.1)
+stop_excess told names picked last given Idle (stop.ReadFault i) why few idle = few (some_names names i picked why.1)
+stop_excess told names picked last given Idle (stop.TooLong i) why few idle = why
+stop_excess told names picked last given Idle stop.NoMemory why few idle = memory_given (length names) given Idle few idle
+
+stop_inputs : (stop : Stop) (before : ℕ) → count_after {T = List (List ℕ)} before (Err stop) ≡ input_count (kind_of (status_of stop)) before
+stop_inputs (stop.PickFault i) before = refl
+stop_inputs (stop.ReadFault i) before = refl
+stop_inputs (stop.TooLong i) before = refl
+stop_inputs stop.NoMemory before = refl
+
+stop_outputs : (stop : Stop) (before : ℕ) → before ≡ output_count (kind_of (status_of stop)) before
+stop_outputs (stop.PickFault i) before = refl
+stop_outputs (stop.ReadFault i) before = refl
+stop_outputs (stop.TooLong i) before = refl
+stop_outputs stop.NoMemory before = refl
+
+stop_picks : (count before now : ℕ) (stop : Stop) → PicksIn {T = List (List ℕ)} before now count (Err stop) → PickCount count before now (status_of stop)
+stop_picks count before now (stop.PickFault i) h = h
+stop_picks count before now (stop.ReadFault i) h = h
+stop_picks count before now (stop.TooLong i) h = h
+stop_picks count before now stop.NoMemory h = h
+
+stop_last : (Last : Type 0) (stop : Stop) → LastBy (kind_of (status_of stop)) Last
+stop_last Last (stop.PickFault i) = tt
+stop_last Last (stop.ReadFault i) = tt
+stop_last Last (stop.TooLong i) = tt
+stop_last Last stop.NoMemory = tt
+
+-- ---- a run
+
+module _ {I O : Type 0} (i : inputs.Ghosts I) (o : sink.Ghosts O) where
+  -- a command ended so, over its files, which were read
+  pub ran_command : (words : List (List ℕ)) (call : Call) (contents : List (List ℕ)) (before now : I) (old new : O) (status : Status)
+      → call_of words ≡ Some call → call.files ≡ length (names_of words) → HasGathered i (names_of words) call.files before now (Ok contents)
+      → Ends (Meaning call.command contents) (o.taken old) (o.taken new) (o.faults old) (o.faults new) (new ≡ old) status
+      → Ran i o words before now old new status
+  ran_command words call contents before now old new status e count came ends = record {
+    meaning = command_told (i.files before) words call contents (o.taken old) (o.taken new) status e
+        (all_gathered (i.files before) (names_of words) call.files contents came.contents (omega (arith, count))) ends.leaves;
+    usage = (λ u. absurd (subst (λ (s : Status). IsOwnBy (kind_of s)) u ends.own), λ none. absurd cc);
+    idle = (λ none. came.idle (count ∙ ap length none));
+    untouched = ends.untouched;
+    fault = fault_own (i.files before) (names_of words) (i.picked now) (i.ended now) status ends.own;
+    excess = excess_own (i.files before) (names_of words) (i.picked now) (i.given now) (now ≡ before) status ends.own
+        (λ some. came.within (subst (λ (n : ℕ). 0 < n) (sym count) some)) (λ none. came.idle (count ∙ none));
+    input_faults = came.faults ∙ input_own (kind_of status) (i.faults before) ends.own;
+    output_faults = ends.faults;
+    picks = picks_own (length (names_of words)) (i.picks before) (i.picks now) status ends.own
+        (subst (λ (n : ℕ). i.picks now ≡ count_on (i.picks before) n) count came.picks);
+    last = last_own (kind_of status) _ (subst (λ (n : ℕ). IsLastOf (names_of words) n (i.picked now) (i.ended now)) count came.last);
+    files = came.files;
+    told = ends.told;
+  }
+
+  -- a command's files were not read whole
+  pub ran_stopped : (words : List (List ℕ)) (call : Call) (before now : I) (out : O) (stop : Stop)
+      → call_of words ≡ Some call → call.files ≡ length (names_of words) → HasGathered i (names_of words) call.files before now (Err stop)
+      → Ran i o words before now out out (status_of stop)
+  ran_stopped words call before now out stop e count came = record {
+    meaning = stopped_told (i.files before) words call call.files (o.taken out) stop e came.contents;
+    usage = (λ u. absurd (stop_usage stop u), λ none. absurd cc);
+    idle = (λ none. came.idle (count ∙ ap length none));
+    untouched = stop_untouched (out ≡ out) stop refl;
+    fault = stop_fault (i.files before) (names_of words) (i.picked now) (i.ended now) (i.given now) stop came.stop;
+    excess = stop_excess (i.files before) (names_of words) (i.picked now) (i.ended now) (i.given now) (now ≡ before) stop came.stop
+        (λ some. came.within (subst (λ (n : ℕ). 0 < n) (sym count) some)) (λ none. came.idle (count ∙ none));
+    input_faults = came.faults ∙ stop_inputs stop (i.faults before);
+    output_faults = stop_outputs stop (o.faults out);
+    picks = stop_picks (length (names_of words)) (i.picks before) (i.picks now) stop
+        (subst (λ (n : ℕ). PicksIn {T = List (List ℕ)} (i.picks before) (i.picks now) n (Err stop)) count came.picks);
+    last = stop_last _ stop;
+    files = came.files;
+    told = (λ s. s, λ s. s);
+  }
