@@ -2,7 +2,7 @@
 use Rattle.std.proofs.Common.{◌≡◌, ◌∙◌, ℕ, zero, suc, ◌+◌, ◌-◌, Bool, true, false, cond, List, [], ◌∷◌, length, take, drop, None, Some, Ok, Err, IfSome, refl, ap, subst, slice_index}
 use Rattle.std.specs.Prelude.{nat_lt, codes, slice_get, ◌*◌}
 use Rattle.std.specs.declared.option.Option.{Option}
-use Rattle.std.specs.Option.{option_map_or}
+use Rattle.std.specs.Option.{option_map, option_map_or}
 use Rattle.std.specs.List.{AllByRecursion}
 use Rattle.std.proofs.lemmas.List.{length-map}
 use Rattle.namespace_id.specs.Bytes.{AreBytes}
@@ -18,7 +18,8 @@ use Rattle.axis_roots.specs.declared.messages.CheckRefusal.TheVariants.{OutOfSqu
 use Rattle.da_wire.specs.declared.frames.FrameError.TheVariants as wire
 use Rattle.da_wire.specs.Spelling.{max_payload}
 use Rattle.da_wire.specs.Reading.{Raw, promised, raw_of}
-use Rattle.da_wire.specs.Frames.{ok_of, frames_from}
+use Rattle.da_wire.specs.Frames.{ok_of, raw_in}
+use Rattle.da_wire.specs.Walks.{walk_from}
 use Rattle.da_io.specs.Files.{Files}
 use Rattle.da_cli.specs.declared.checking.Finding.{Finding}
 use Rattle.da_cli.specs.declared.checking.Finding.TheVariants.{Proved, NoMessage, Refused}
@@ -55,28 +56,30 @@ abbrev HasBytes : Raw → Type 0
 HasBytes raw = AreBytes raw.payload
 
 raw_bytes : (a b c : Bool) (raw : Raw) → HasBytes raw
-    → IfSome (ok_of (cond a (Err (wire.Truncated 0)) (cond b (Err (wire.TooLong 0)) (cond c (Err (wire.Truncated 0)) (Ok raw))))) HasBytes
+    → IfSome (option_map (λ (r : Raw). (r, r.size)) (ok_of (cond a (Err (wire.Truncated 0)) (cond b (Err (wire.TooLong 0)) (cond c (Err (wire.Truncated 0)) (Ok raw))))))
+    (λ (x : Raw × ℕ). HasBytes x.0)
 raw_bytes true b c raw h = tt
 raw_bytes false true c raw h = tt
 raw_bytes false false true raw h = tt
 raw_bytes false false false raw h = h
 
-front_bytes : (bytes : List ℕ) → AreBytes bytes → IfSome (ok_of (raw_of 0 bytes)) HasBytes
+front_bytes : (bytes : List ℕ) → AreBytes bytes → IfSome (raw_in bytes) (λ (x : Raw × ℕ). HasBytes x.0)
 unfolding raw_of
 front_bytes bytes fits =
     raw_bytes (nat_lt (length bytes) 5) (nat_lt max_payload (promised bytes)) (nat_lt (length bytes) (5 + promised bytes))
     (record { kind = slice_index bytes 0; payload = take (promised bytes) (drop 5 bytes); size = 5 + promised bytes })
     (AreBytes-take (promised bytes) (drop 5 bytes) (AreBytes-drop 5 bytes fits))
 
-frames_on : (o : Option Raw) (rest : List ℕ) → IfSome o HasBytes → ((skip : ℕ) → AllByRecursion HasBytes (frames_from skip rest))
-    → AllByRecursion HasBytes (option_map_or (λ (raw : Raw). raw ∷ frames_from (raw.size - 1) rest) o [])
+frames_on : (o : Option (Raw × ℕ)) (rest : List ℕ) → IfSome o (λ (x : Raw × ℕ). HasBytes x.0)
+    → ((skip : ℕ) → AllByRecursion HasBytes (walk_from raw_in skip rest))
+    → AllByRecursion HasBytes (option_map_or (λ (x : Raw × ℕ). x.0 ∷ walk_from raw_in (x.1 - 1) rest) o [])
 frames_on None rest h later = tt
-frames_on (Some raw) rest h later = (h, later (raw.size - 1))
+frames_on (Some x) rest h later = (h, later (x.1 - 1))
 
-frames_fit : (bytes : List ℕ) → AreBytes bytes → (skip : ℕ) → AllByRecursion HasBytes (frames_from skip bytes)
-unfolding frames_from
+frames_fit : (bytes : List ℕ) → AreBytes bytes → (skip : ℕ) → AllByRecursion HasBytes (walk_from raw_in skip bytes)
+unfolding walk_from
 frames_fit [] fits skip = tt
-frames_fit (byte ∷ rest) fits zero = frames_on (ok_of (raw_of 0 (byte ∷ rest))) rest (front_bytes (byte ∷ rest) fits) (frames_fit rest (λ j. fits (suc j)))
+frames_fit (byte ∷ rest) fits zero = frames_on (raw_in (byte ∷ rest)) rest (front_bytes (byte ∷ rest) fits) (frames_fit rest (λ j. fits (suc j)))
 frames_fit (byte ∷ rest) fits (suc skip) = frames_fit rest (λ j. fits (suc j)) skip
 
 all_at : {X : Type 0} (P : X → Type 0) (xs : List X) (i : ℕ) (x : X) → AllByRecursion P xs → slice_get xs i ≡ Some x → P x

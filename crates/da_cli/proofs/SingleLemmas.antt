@@ -10,7 +10,7 @@ use Rattle.da_wire.specs.declared.frames.Frame.TheVariants.{Header, Square, Bloc
 use Rattle.da_wire.specs.declared.frames.FrameError.{FrameError}
 use Rattle.da_wire.specs.declared.frames.FrameError.TheVariants.{Truncated, BadKind, TooLong, BadPayload, Trailing, NoMemory}
 use Rattle.da_wire.specs.Spelling.{max_payload, header_kind, square_kind, block_kind}
-use Rattle.da_wire.specs.Reading.{Raw, raw_of, promised, is_kind, value_at, valued, value_of, tested_frame, ended, only_of, header_at, square_at, block_at, Reads}
+use Rattle.da_wire.specs.Reading.{Raw, raw_of, promised, is_kind, value_at, valued, value_of, tested_raw, ended, only_of, header_at, square_at, block_at, Reads}
 use Rattle.da_cli.specs.Single.{header_of, square_of, block_of, single, header_in, square_in, block_in, unread_of, ReadsSingle}
 
 -- a value that an answer has is of a kind, and an answer without a value isn't want of memory
@@ -30,8 +30,8 @@ module _ {A : Type 0} (value : Frame → Option A) where
   raw_kind false false true raw h = λ e. cc
   raw_kind false false false raw h = valued_kind raw (value_at raw.kind raw.payload) h
 
-  tested_kind : (none known is : Bool) (read : Result (Frame × ℕ) FrameError) → (is ≡ true → IsOfKind (λ (x : Frame × ℕ). value x.0) read)
-      → IsOfKind (λ (x : Frame × ℕ). value x.0) (cond none (Err (Truncated 0)) (cond (known && (is || false)) read (Err (BadKind 0))))
+  tested_kind : (none known is : Bool) (read : Result Raw FrameError) → (is ≡ true → IsOfKind (λ (x : Frame × ℕ). value x.0) (value_of 0 read))
+      → IsOfKind (λ (x : Frame × ℕ). value x.0) (value_of 0 (cond none (Err (Truncated 0)) (cond (known && (is || false)) read (Err (BadKind 0)))))
   tested_kind true known is read h = λ e. cc
   tested_kind false false is read h = λ e. cc
   tested_kind false true false read h = λ e. cc
@@ -48,12 +48,12 @@ module _ {A : Type 0} (value : Frame → Option A) where
   -- the frame that is read is of the kind that was asked for
   only_kind : (kind : ℕ) (bytes : List ℕ) → ((payload : List ℕ) → IfSome (value_at kind payload) (λ (v : Frame). IsSome (value v)))
       → IsOfKind value (only_of bytes (kind ∷ []))
-  unfolding raw_of tested_frame
+  unfolding raw_of tested_raw
   only_kind kind bytes h =
       let first : ℕ = slice_index bytes 0 in
       let payload : List ℕ = take (promised bytes) (drop 5 bytes) in
       ended_kind (length bytes) _
-      (tested_kind (length bytes == 0) (is_kind first) (kind == first) (value_of 0 (raw_of 0 bytes))
+      (tested_kind (length bytes == 0) (is_kind first) (kind == first) (raw_of 0 bytes)
       (λ e. raw_kind (nat_lt (length bytes) 5) (nat_lt max_payload (promised bytes)) (nat_lt (length bytes) (5 + promised bytes))
       (record { kind = first; payload = payload; size = 5 + promised bytes })
       (subst (λ (k : ℕ). IfSome (value_at k payload) (λ (v : Frame). IsSome (value v))) (eqb-true kind first e) (h payload))))
