@@ -3,6 +3,7 @@ pub mod WriteLemmas
 pub mod EndLemmas
 pub mod GatheredLemmas
 pub mod SingleLemmas
+pub mod FileLemmas
 pub mod CheckLemmas
 pub mod SquareLemmas
 pub mod RunLemmas

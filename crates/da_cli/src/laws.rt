@@ -1,24 +1,26 @@
 //! What the relation of a run says of each kind of words and files.
 
-ghost use Rattle.std.specs.Prelude.{◌≡◌, ◌↔◌, List, IsSome, true};
-ghost use Rattle.std.specs.List.{AllByRecursion};
-ghost use Rattle.namespace_id.specs.declared.shares.Share.{Share};
-ghost use Rattle.namespace_id.specs.Names.{is_blob_namespace};
-ghost use Rattle.square_layout.specs.Blocks.{BlockParts, SquareShares, IsSquare};
-ghost use Rattle.square_layout.specs.Layout.{square_of};
-ghost use Rattle.axis_roots.specs.Grids.{Extends, header_of_grid, IsHeaderOf};
+ghost use Rattle.std.specs.Prelude.{◌≡◌, ◌↔◌, ℕ, List, Ok, Some, None};
 ghost use Rattle.namespace_id.specs.Bytes.{AreBytes};
-ghost use Rattle.data_header.specs.Headers.{Roots, AreRoots};
+ghost use Rattle.namespace_id.specs.Shares.{AreShares};
+ghost use Rattle.square_layout.specs.Blocks.{BlockParts, SquareShares, IsSquare, IsBlock};
+ghost use Rattle.square_layout.specs.Layout.{square_of};
+ghost use Rattle.square_layout.specs.Refusals.{refusal_of};
+ghost use Rattle.axis_roots.specs.Grids.{IsHeaderOf};
+ghost use Rattle.data_header.specs.Headers.{Roots, AreRoots, IsHeader};
+ghost use Rattle.da_wire.specs.declared.frames.Frame.TheVariants.{Header, Square, Block};
+ghost use Rattle.da_wire.specs.Spelling.{spelling};
 ghost use Rattle.da_wire.specs.Reading.{Raw};
 ghost use Rattle.da_cli.specs.declared.checking.Finding.TheVariants.{Proved};
 ghost use Rattle.da_cli.specs.Limits.{file_limit};
+ghost use Rattle.da_cli.specs.Single.{header_in, square_in, block_in};
 ghost use Rattle.da_cli.specs.Check.{finding_of, IsProvedFrame, IsOwnFrame};
 ghost use Rattle.da_cli.specs.Laws.{FormLaw, BadInputLaw, ExcessLaw, AbsentLaw, FailureLaw};
 
 use crate::gathering::FILE_LIMIT;
 use axis_roots::{grid_laws, message_laws};
 use da_wire::wire_laws;
-use square_layout::name_laws;
+use square_layout::{name_laws, size_laws};
 
 /// What belongs to a run, by what its files hold, so that each refusal of `run` is exact.
 pub fn run_laws()
@@ -41,15 +43,27 @@ pub fn run_laws()
         AreBytes frame.payload → IsHeaderOf header square → finding_of header frame ≡ Proved →
         IsOwnFrame frame square }
 
-    // The square of a block has a header, whose blobs all have namespaces of blobs.
-    ensures headed { (block : BlockParts) (grid : List Share) →
-        AllByRecursion (λ blob. is_blob_namespace blob.namespace.0 ≡ true) block.blobs →
-        IsSquare (square_of block) → Extends (square_of block).k (square_of block).shares grid →
-        IsSome (header_of_grid (square_of block).k grid) }
+    // A file is read as a header, a square, a block exactly where it is that value's one spelling.
+    ensures header_file { (bytes : List ℕ) (header : Roots) → AreBytes bytes →
+        (header_in bytes ≡ Ok header)
+        ↔ (IsHeader header × (spelling (Header header) ≡ Some bytes)) }
+    ensures square_file { (bytes : List ℕ) (square : SquareShares) → AreBytes bytes →
+        (square_in bytes ≡ Ok square)
+        ↔ (IsSquare square × AreShares square.shares × (spelling (Square square) ≡ Some bytes)) }
+    ensures block_file { (bytes : List ℕ) (block : BlockParts) → AreBytes bytes →
+        (block_in bytes ≡ Ok block) ↔ (IsBlock block × (spelling (Block block) ≡ Some bytes)) }
+
+    // The square of a block that isn't refused is read back from its spelling, and has a header.
+    ensures built { (block : BlockParts) → IsBlock block → refusal_of block ≡ None →
+        (text : List ℕ) × (spelling (Square (square_of block)) ≡ Some text)
+        × (square_in text ≡ Ok (square_of block)) }
+    ensures headed { (block : BlockParts) → IsBlock block → refusal_of block ≡ None →
+        (header : Roots) × IsHeaderOf header (square_of block) }
     ensures limit { FILE_LIMIT ≡ file_limit }
 {
     message_laws();
     wire_laws();
     grid_laws();
+    size_laws();
     name_laws();
 }

@@ -32,7 +32,7 @@ only_spelled value bytes kinds fits e =
     let all : front.text ≡ bytes = sym (append-nil front.text) ∙ ap (λ (l : List ℕ). front.text ++ l) (sym (nil_from_length front.rest none)) ∙ sym front.parts in
     (front.value_is, front.spelled ∙ ap (λ (l : List ℕ). Some l) all, t.1)
 
-spelled_only : (value : Frame) (bytes kinds : List ℕ) → IsFrame value → spelling value ≡ Some bytes → is_among kinds (kind_of value) ≡ true
+pub spelled_only : (value : Frame) (bytes kinds : List ℕ) → IsFrame value → spelling value ≡ Some bytes → is_among kinds (kind_of value) ≡ true
     → only_of bytes kinds ≡ Ok value
 spelled_only value bytes kinds is e wanted =
     let whole : ltb (0 + length bytes) (length bytes) ≡ false = le-ltb _ _ (omega arith) in

@@ -43,6 +43,11 @@ OnlyIsSpelled = (value : Frame) (bytes kinds : List ℕ) → AreBytes bytes
     → (only_of bytes kinds ≡ Ok value)
     ↔ (IsFrame value × (spelling value ≡ Some bytes) × (is_among kinds (kind_of value) ≡ true))
 
+-- the spelling of a value of such a kind is read so, whatever its bytes
+abbrev pub SpelledIsOnly : Type 0
+SpelledIsOnly = (value : Frame) (bytes kinds : List ℕ) → IsFrame value → spelling value ≡ Some bytes
+    → is_among kinds (kind_of value) ≡ true → only_of bytes kinds ≡ Ok value
+
 -- the same of the payloads of messages
 abbrev pub MessageIsRead : Type 0
 MessageIsRead = (m : Message) → IsMessage m → message_at (message_payload m) ≡ Some m

@@ -13,7 +13,7 @@ ghost use Rattle.axis_roots.specs.Messages.{IsMessage};
 ghost use Rattle.square_layout.specs.Blocks.{SquareShares, IsSquare};
 ghost use Rattle.da_wire.specs.declared.frames.Frame.TheVariants.{Header, Square, Message, Missing, Sample, Request};
 ghost use Rattle.da_wire.specs.Spelling.{max_payload, spelling};
-ghost use Rattle.da_wire.specs.Laws.{SpelledIsRead, ReadIsSpelled, OneSpelling, OnlyIsSpelled, MessageIsRead, MessageIsSpelled, RawIsFrame, FramesAreTheFile, FilesAreFrames, BadFrameIsFirst, ValuesAreTheFile, FilesAreValues, BadValueIsFirst};
+ghost use Rattle.da_wire.specs.Laws.{SpelledIsRead, ReadIsSpelled, OneSpelling, OnlyIsSpelled, SpelledIsOnly, MessageIsRead, MessageIsSpelled, RawIsFrame, FramesAreTheFile, FilesAreFrames, BadFrameIsFirst, ValuesAreTheFile, FilesAreValues, BadValueIsFirst};
 
 use crate::reading::MAX_PAYLOAD;
 
@@ -24,6 +24,7 @@ pub fn wire_laws()
     ensures spelled { ReadIsSpelled }
     ensures one { OneSpelling }
     ensures only { OnlyIsSpelled }
+    ensures only_read { SpelledIsOnly }
 
     // What has a spelling. Missing cells are at most as many as their square has.
     ensures headers { (header : Roots) → IsHeader header → IsSome (spelling (Header header)) }

@@ -11,9 +11,9 @@ use Rattle.namespace_id.proofs.OrderLemmas.{at_most_total}
 use Rattle.share_split.specs.Blobs.{NamedBytes}
 use Rattle.square_layout.specs.declared.laying.LayError.{LayError}
 use Rattle.square_layout.specs.declared.laying.LayError.TheVariants.{BadBlob, EmptyBlob}
-use Rattle.square_layout.specs.Blocks.{HaveBytes}
-use Rattle.square_layout.specs.Layout.{in_order}
-use Rattle.square_layout.specs.Refusals.{bad_blob, empty_blob, blob_refusal}
+use Rattle.square_layout.specs.Blocks.{BlockParts, HaveBytes}
+use Rattle.square_layout.specs.Layout.{in_order, needed}
+use Rattle.square_layout.specs.Refusals.{bad_blob, empty_blob, blob_refusal, size_refusal, refusal_of}
 use Rattle.square_layout.proofs.NameLemmas.{IsBetween}
 use Rattle.square_layout.proofs.BlobOrderLemmas.{All-in_order}
 
@@ -84,6 +84,15 @@ no_bad_blob i (blob ∷ blobs) h =
     let both = refused_some (namespace_refusal blob.namespace.0) i (bad_blob (suc i) blobs) h in
     (accepted_between blob both.0, no_bad_blob (suc i) blobs both.1)
 
+-- each is the namespace of a blob
+blobs_named : (i : ℕ) (blobs : List NamedBytes) → bad_blob i blobs ≡ None
+    → AllByRecursion (λ blob. is_blob_namespace blob.namespace.0 ≡ true) blobs
+unfolding bad_blob
+blobs_named i [] h = tt
+blobs_named i (blob ∷ blobs) h =
+    let both = refused_some (namespace_refusal blob.namespace.0) i (bad_blob (suc i) blobs) h in
+    (is_accepted blob.namespace.0 both.0, blobs_named (suc i) blobs both.1)
+
 empty_parts : (n i : ℕ) (rest : Option LayError) → (if n == 0 then Some (EmptyBlob i) else rest) ≡ None → (1 ≤ n) × (rest ≡ None)
 empty_parts zero i rest h = absurd cc
 empty_parts (suc n) i rest h =
@@ -117,3 +126,10 @@ pub all_between : (here there : List NamedBytes) → None ≡ blob_refusal here 
 all_between here there none same =
     let both = no_refusal (bad_blob 0 here) (empty_blob 0 here) none in
     subst (AllByRecursion IsBetween) same (no_bad_blob 0 here both.0)
+
+-- the blobs of a block that isn't refused have namespaces of blobs
+pub block_named : (block : BlockParts) → refusal_of block ≡ None
+    → AllByRecursion (λ blob. is_blob_namespace blob.namespace.0 ≡ true) block.blobs
+block_named block none =
+    let of_blobs = no_refusal (blob_refusal block.blobs) (size_refusal block.width (needed block)) (sym none) in
+    blobs_named 0 block.blobs (no_refusal (bad_blob 0 block.blobs) (empty_blob 0 block.blobs) (sym of_blobs.0)).0

@@ -71,11 +71,13 @@ pub fn size_laws()
     ensures shares { (block : BlockParts) → IsBlock block → AreShares (square_of block).shares }
 {}
 
-/// The checks of a blob's namespace pass what `Namespace::blob` takes; and where all namespaces are
-/// those of blobs, the namespaces of a square's shares never fall.
+/// The checks of a blob's namespace pass what `Namespace::blob` takes; the blobs of a block that isn't
+/// refused have such namespaces; and where all have, the namespaces of the square's shares never fall.
 pub fn name_laws()
     ensures accepted { (bytes : List ℕ) →
         (namespace_refusal bytes ≡ None) ↔ (is_blob_namespace bytes ≡ true) }
+    ensures named { (block : BlockParts) → refusal_of block ≡ None →
+        AllByRecursion (λ blob. is_blob_namespace blob.namespace.0 ≡ true) block.blobs }
     ensures rising { (block : BlockParts) →
         AllByRecursion (λ blob. is_blob_namespace blob.namespace.0 ≡ true) block.blobs →
         holds_along is_at_most (map name_in (square_of block).shares) ≡ true }

@@ -1,4 +1,6 @@
 use Rattle.square_layout.specs.Layout.{square_of}
+use Rattle.axis_roots.specs.Grids.{header_of_grid}
+use Rattle.da_cli.proofs.FileLemmas.{header_file, square_file, block_file, square_again, some_there}
 use Rattle.da_cli.proofs.RunLemmas.{form_law, bad_input_law, excess_law, absent_law, failure_law}
 use Rattle.da_cli.proofs.CheckLemmas.{finding_proved, finding_own}
 use Rattle.da_cli.proofs.laws.run_laws.Goals as goal
@@ -27,6 +29,28 @@ returns-clause-own c = λ header frame square roots bytes own found.
     ((finding_proved header frame c.wire_laws.ensures.message_spelled c.message_laws.ensures.refusal roots bytes).0 found)
     c.message_laws.ensures.own own
 
+pub returns-clause-header_file : goal.returns-clause-header_file
+returns-clause-header_file c = header_file c.wire_laws.ensures.only
+
+pub returns-clause-square_file : goal.returns-clause-square_file
+returns-clause-square_file c = square_file c.wire_laws.ensures.only
+
+pub returns-clause-block_file : goal.returns-clause-block_file
+returns-clause-block_file c = block_file c.wire_laws.ensures.only
+
+-- the square of a block that isn't refused is one of shares, which has a spelling
+pub returns-clause-built : goal.returns-clause-built
+returns-clause-built c = λ block is none.
+    let square = c.size_laws.ensures.square block none in
+    let shares = c.size_laws.ensures.shares block is in
+    square_again c.wire_laws.ensures.only_read (square_of block) square shares (c.wire_laws.ensures.squares (square_of block) square shares)
+
+-- its namespaces never fall, so its extension has a header
 pub returns-clause-headed : goal.returns-clause-headed
-returns-clause-headed c = λ block grid names square extends.
-    c.grid_laws.ensures.laid (square_of block) grid square extends (c.name_laws.ensures.rising block names)
+returns-clause-headed c = λ block is none.
+    let square = c.size_laws.ensures.square block none in
+    let grid = c.grid_laws.ensures.extension (square_of block) square (c.size_laws.ensures.shares block is) in
+    let header = some_there (header_of_grid (square_of block).k grid.0)
+        (c.grid_laws.ensures.laid (square_of block) grid.0 square grid.1
+        (c.name_laws.ensures.rising block (c.name_laws.ensures.named block none))) in
+    (header.0, c.grid_laws.ensures.header (square_of block) grid.0 header.0 square grid.1 header.1)

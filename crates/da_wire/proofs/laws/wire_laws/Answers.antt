@@ -1,6 +1,6 @@
 use Rattle.da_wire.proofs.MessageFormLemmas.{message_again, message_takes}
 use Rattle.da_wire.proofs.FrameLemmas.{spelled_is_read, read_is_spelled, one_spelling}
-use Rattle.da_wire.proofs.OnlyLemmas.{only_is_spelled}
+use Rattle.da_wire.proofs.OnlyLemmas.{only_is_spelled, spelled_only}
 use Rattle.da_wire.proofs.FrameListLemmas.{raw_is_frame, frames_are_the_file, files_are_frames, bad_frame_is_first}
 use Rattle.da_wire.proofs.SpelledLemmas.{header_spelled, square_spelled, message_spelled, missing_spelled, sample_spelled, request_spelled}
 use Rattle.da_wire.proofs.CellCountLemmas.{cells_counted}
@@ -17,6 +17,9 @@ returns-clause-one c = one_spelling
 
 pub returns-clause-only : goal.returns-clause-only
 returns-clause-only c = only_is_spelled
+
+pub returns-clause-only_read : goal.returns-clause-only_read
+returns-clause-only_read c = spelled_only
 
 pub returns-clause-headers : goal.returns-clause-headers
 returns-clause-headers c = header_spelled
