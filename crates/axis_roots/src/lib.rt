@@ -18,6 +18,6 @@ pub use checking::{RefusedMessage, check};
 pub use grids::Grid;
 pub use laws::{grid_laws, message_laws, own_laws};
 pub use making::message_of;
-pub use messages::{CheckRefusal, Message, opens};
+pub use messages::{CheckRefusal, Message, message_law, opens};
 pub use proved::Proved;
 pub use rooting::header_of;

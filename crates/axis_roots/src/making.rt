@@ -8,7 +8,7 @@ ghost use Rattle.axis_roots.specs.Openings.{OpensAt};
 ghost use Rattle.axis_roots.specs.Grids.{share_at, axis_names, axis_shares, axis_root, is_ordered_axis};
 
 use crate::extending::{cell_on, read_axis};
-use crate::messages::{index, is_message, position};
+use crate::messages::{index, message_law, position};
 use crate::{Grid, Message};
 use namespace_id::{Axis, Cell, Namespace, PARITY, Share, leaf_namespace};
 use nmt_proofs::make_leaf;
@@ -119,7 +119,7 @@ pub fn message_of(grid: &Grid, cell: Cell, axis: Axis, tree: &mut Tree) -> Optio
         share: *grid.cell(cell),
         path: make_leaf(tree, position(axis, cell)),
     };
-    is_message(&message);
+    message_law(&message);
     Some(message)
 }
 

@@ -6,7 +6,7 @@ ghost use Rattle.axis_roots.specs.Openings.{IsProved};
 ghost use Rattle.axis_roots.specs.Own.{IsOwn};
 
 use data_header::Header;
-use namespace_id::{Axis, Cell, Share, are_digests, is_in_square, is_share, leaf_namespace};
+use namespace_id::{Axis, Cell, Share, digests_law, is_in_square, leaf_namespace, share_law};
 use nmt_proofs::{OpenRefusal, Path, open_leaf};
 use thiserror::Error;
 
@@ -54,14 +54,14 @@ pub(crate) fn index(axis: Axis, cell: Cell) -> u16
     }
 }
 
-/// Says that a message has its shape. It changes nothing.
-pub(crate) fn is_message(message: &Message)
+/// A message has numbers of two bytes, a share, and up to 8 digests. It changes nothing.
+pub fn message_law(message: &Message)
     ensures { IsMessage message.now }
 {
     let _row = message.cell.row;
     let _col = message.cell.col;
-    is_share(&message.share);
-    are_digests(message.path.nodes());
+    share_law(&message.share);
+    digests_law(message.path.nodes());
 }
 
 /// Whether the message's nodes open its share, with the leaf namespace of its cell, under the
@@ -94,7 +94,7 @@ pub fn opens(header: &Header, message: &Message) -> Result<(), CheckRefusal>
     // square name a collision.
     ensures own { IsOk result → IsOwn header.now message.now }
 {
-    is_message(message);
+    message_law(message);
     if !is_in_square(header.k, message.cell) {
         return Err(CheckRefusal::OutOfSquare);
     }

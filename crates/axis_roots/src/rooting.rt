@@ -16,7 +16,7 @@ use crate::Grid;
 use crate::extending::cell_on;
 use crate::grids::place;
 use data_header::Header;
-use namespace_id::{Axis, Cell, Digest, NoMemory, are_shares, leaf_namespace};
+use namespace_id::{Axis, Cell, Digest, NoMemory, leaf_namespace, shares_law};
 use nmt_tree::{fold_root, leaf};
 use std::alloc::Global;
 
@@ -167,7 +167,7 @@ fn leaves_of(alloc: Global, grid: &Grid) -> Result<Vec<Digest>, NoMemory>
 pub fn header_of(alloc: Global, grid: &Grid) -> Result<Option<Header>, NoMemory>
     ensures { IfOk result (λ header. header ≡ header_of_grid grid.now.k grid.now.shares) }
 {
-    are_shares(&grid.shares);
+    shares_law(&grid.shares);
     let leaves = leaves_of(alloc, grid)?;
     let Ok(mut line) = vec![in alloc; Digest([0; 90]); 2 * grid.k as usize] else {
         return Err(NoMemory);

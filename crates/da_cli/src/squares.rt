@@ -16,7 +16,7 @@ use axis_roots::{Grid, grid_laws, header_of};
 use da_io::{Sink, write_all};
 use da_wire::{Frame, SpellError, wire_laws, write_frame};
 use data_header::Header;
-use namespace_id::{are_digests, are_shares};
+use namespace_id::{digests_law, shares_law};
 use square_layout::{Block, LayError, Square, lay};
 use std::alloc::Global;
 
@@ -26,7 +26,7 @@ fn square_frame(square: Square) -> Frame
     ensures spelled { IsSome (spelling result) }
 {
     wire_laws();
-    are_shares(&square.shares);
+    shares_law(&square.shares);
     let _k = square.k;
     Frame::Square(square)
 }
@@ -37,8 +37,8 @@ fn header_frame(header: Header) -> Frame
     ensures spelled { IsSome (spelling result) }
 {
     wire_laws();
-    are_digests(&header.rows);
-    are_digests(&header.cols);
+    digests_law(&header.rows);
+    digests_law(&header.cols);
     let _k = header.k;
     Frame::Header(header)
 }

@@ -15,7 +15,7 @@ mod reading;
 mod tests;
 mod writing;
 
-pub use bounds::is_frame;
+pub use bounds::frame_law;
 pub use frames::{Frame, FrameError, RawFrame, SpellError};
 pub use laws::{value_laws, wire_laws};
 pub use payloads::message;

@@ -8,12 +8,12 @@ ghost use Rattle.da_wire.specs.Writing.{kind_of, payload_of, HasSize, AppendsSpe
 ghost use Rattle.da_wire.specs.declared.frames.Frame.TheVariants as FrameOf;
 
 use crate::blocks::{block_size, put_block};
-use crate::bounds::is_frame;
+use crate::bounds::frame_law;
 use crate::{Frame, MAX_PAYLOAD, SpellError};
 use axis_roots::Message;
 use data_header::Header;
 use namespace_id::{
-    Axis, Cell, Cells, Digest, Namespace, Share, are_digests, are_shares, is_share,
+    Axis, Cell, Cells, Digest, Namespace, Share, digests_law, share_law, shares_law,
 };
 use square_layout::Square;
 
@@ -154,8 +154,8 @@ fn kind_of(frame: &Frame) -> u8
 fn header_size(header: &Header) -> u32
     ensures { HasSize (FrameOf.Header header.now) (Some result) }
 {
-    are_digests(&header.rows);
-    are_digests(&header.cols);
+    digests_law(&header.rows);
+    digests_law(&header.cols);
     2 + 360 * u32::from(header.k)
 }
 
@@ -163,7 +163,7 @@ fn header_size(header: &Header) -> u32
 fn square_size(square: &Square) -> u32
     ensures { HasSize (FrameOf.Square square.now) (Some result) }
 {
-    are_shares(&square.shares);
+    shares_law(&square.shares);
     2 + 512 * (u32::from(square.k) * u32::from(square.k))
 }
 
@@ -172,8 +172,8 @@ fn message_size(message: &Message) -> u32
     ensures { HasSize (FrameOf.Message message.now) (Some result) }
 {
     let nodes = message.path.nodes();
-    is_share(&message.share);
-    are_digests(nodes);
+    share_law(&message.share);
+    digests_law(nodes);
     518 + 90 * nodes.len() as u32
 }
 
@@ -258,6 +258,6 @@ pub fn write_frame(frame: &Frame, out: &mut Vec<u8>) -> Result<(), SpellError>
     put(out, &[kind_of(frame)]);
     put(out, &size.to_be_bytes());
     put_payload(out, frame);
-    is_frame(frame);
+    frame_law(frame);
     Ok(())
 }

@@ -5,7 +5,7 @@ ghost use Rattle.sha2.specs.Sha256.{sha256};
 ghost use Rattle.nmt_proofs.specs.Clashes.{IsClash};
 
 use crate::Preimage;
-use namespace_id::are_bytes;
+use namespace_id::bytes_law;
 use sha2::{Digest as _, Sha256};
 use std::marker::Model;
 
@@ -44,8 +44,8 @@ impl Clash {
         ensures left { IfSome result (λ clash. clash.left ≡ left) }
         ensures right { IfSome result (λ clash. clash.right ≡ right) }
     {
-        are_bytes(left.bytes());
-        are_bytes(right.bytes());
+        bytes_law(left.bytes());
+        bytes_law(right.bytes());
         if left.bytes() == right.bytes() {
             return None;
         }

@@ -7,10 +7,10 @@ ghost use Rattle.nmt_proofs.specs.Clashes.{join_text, apart_or, clash_at, whole}
 ghost use Rattle.hash_clash.specs.Openings.{opened_at, is_counted, is_one_opening, is_leaf_at, is_one_list};
 ghost use Rattle.hash_clash.specs.Sides.{part_of, IsSide};
 
-use crate::openings::has_shape;
+use crate::openings::shape_law;
 use crate::sides::{Seen, Side, digest, look};
 use crate::{Clash, Opening, Preimage};
-use namespace_id::{Namespace, Share, are_namespaces, are_shares};
+use namespace_id::{Namespace, Share, namespaces_law, shares_law};
 use nmt_tree::{halvings, leaf_count};
 
 /// Two strings, where they differ.
@@ -87,8 +87,8 @@ pub fn clash_paths(n: u16, pos: u16, a: &Opening, b: &Opening) -> Clash
     ensures { clash_at (opened_at n pos a.now) (opened_at n pos b.now)
         ≡ Some (result.left, result.right) }
 {
-    has_shape(a);
-    has_shape(b);
+    shape_law(a);
+    shape_law(b);
     let a_side = Side::Opened(pos, a, a.path.nodes());
     let b_side = Side::Opened(pos, b, b.path.nodes());
     Clash::found(find(halvings(n as usize), 0, a_side, b_side))
@@ -114,9 +114,9 @@ pub fn clash_path_leaves(
     ensures { clash_at (opened_at n pos a.now) (whole (halvings n) names.now shares.now)
         ≡ Some (result.left, result.right) }
 {
-    has_shape(a);
-    are_namespaces(names);
-    are_shares(shares);
+    shape_law(a);
+    namespaces_law(names);
+    shares_law(shares);
     let side = Side::Opened(pos, a, a.path.nodes());
     Clash::found(find(halvings(n as usize), 0, side, Side::Listed(names, shares)))
 }
@@ -141,10 +141,10 @@ pub fn clash_leaves(
         (whole (halvings (length names_a.now)) names_b.now shares_b.now)
         ≡ Some (result.left, result.right) }
 {
-    are_namespaces(names_a);
-    are_shares(shares_a);
-    are_namespaces(names_b);
-    are_shares(shares_b);
+    namespaces_law(names_a);
+    shares_law(shares_a);
+    namespaces_law(names_b);
+    shares_law(shares_b);
     let a_side = Side::Listed(names_a, shares_a);
     let b_side = Side::Listed(names_b, shares_b);
     Clash::found(find(halvings(names_a.len()), 0, a_side, b_side))

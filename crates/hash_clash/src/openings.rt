@@ -2,7 +2,7 @@
 
 ghost use Rattle.hash_clash.specs.Openings.{HasShape};
 
-use namespace_id::{Namespace, Share, are_digests, is_namespace, is_share};
+use namespace_id::{Namespace, Share, digests_law, namespace_law, share_law};
 use nmt_proofs::Path;
 
 /// The leaf over a share, with its namespace, and the nodes that open it.
@@ -14,10 +14,10 @@ pub struct Opening {
 }
 
 /// Says that an opening has its shape. It changes nothing.
-pub(crate) fn has_shape(opening: &Opening)
+pub(crate) fn shape_law(opening: &Opening)
     ensures { HasShape opening.now }
 {
-    is_namespace(&opening.name);
-    is_share(&opening.share);
-    are_digests(opening.path.nodes());
+    namespace_law(&opening.name);
+    share_law(&opening.share);
+    digests_law(opening.path.nodes());
 }

@@ -10,7 +10,7 @@ use crate::Room;
 use crate::points::{point, points_at};
 use crate::sums::{weighted_sum, weighted_sums};
 use crate::weights::{denominators, weight_row};
-use namespace_id::{Share, are_shares};
+use namespace_id::{Share, shares_law};
 
 /// Makes the recovery shares: the originals followed by them are a codeword. It takes no memory.
 pub fn extend(room: &mut Room, originals: &[Share], recovery: &mut [Share])
@@ -19,9 +19,9 @@ pub fn extend(room: &mut Room, originals: &[Share], recovery: &mut [Share])
     ensures codeword { IsCodeword room.old (originals.now ++ recovery.new) }
     ensures kept { room.new ≡ room.old }
 {
-    are_shares(originals);
+    shares_law(originals);
     weighted_sums(&room.weights, originals, recovery);
-    are_shares(recovery);
+    shares_law(recovery);
 }
 
 /// The entry at `x` of the codeword that has the shares at the points.
@@ -80,11 +80,11 @@ pub fn rebuild(room: &mut Room, known: &[u16], shares: &[Share], all: &mut [Shar
     ensures known { HasEntries known.now shares.now all.new }
     ensures kept { room.new ≡ room.old }
 {
-    are_shares(shares);
+    shares_law(shares);
     let k = room.k as usize;
     let points = points_at(k, known);
     fill_entries(k, &points[..k], known, shares, all, &mut room.row);
-    are_shares(all);
+    shares_law(all);
 }
 
 #[cfg(test)]

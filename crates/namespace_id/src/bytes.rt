@@ -6,7 +6,7 @@ ghost use Rattle.namespace_id.specs.Bytes.{AreBytes};
 
 /// Says that the bytes of a slice are below 256. It does nothing: a proof that needs the fact of
 /// a slice that it doesn't read calls it.
-pub fn are_bytes(bytes: &[u8])
+pub fn bytes_law(bytes: &[u8])
     ensures { AreBytes bytes.now }
 {}
 

@@ -3,7 +3,7 @@
 ghost use Rattle.std.specs.Prelude.{◌≡◌};
 ghost use Rattle.namespace_id.specs.Digests.{least_of, greatest_of, IsDigest, AreDigests};
 
-use crate::{Namespace, are_bytes};
+use crate::{Namespace, bytes_law};
 
 /// The digest of a leaf or a node: 90 bytes, its least namespace, its greatest namespace and a
 /// SHA-256 value.
@@ -33,17 +33,17 @@ impl Digest {
 }
 
 /// Says that a digest has 90 bytes, each below 256. It changes nothing.
-pub fn is_digest(digest: &Digest)
+pub fn digest_law(digest: &Digest)
     ensures { IsDigest digest.now }
 {
-    are_bytes(&digest.0);
+    bytes_law(&digest.0);
 }
 
 /// Says that each digest of a slice has 90 bytes, each below 256. It changes nothing.
-pub fn are_digests(digests: &[Digest])
+pub fn digests_law(digests: &[Digest])
     ensures { AreDigests digests.now }
 {
     for digest in digests {
-        is_digest(digest);
+        digest_law(digest);
     }
 }

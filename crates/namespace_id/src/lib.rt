@@ -12,12 +12,12 @@ mod memory;
 mod namespaces;
 mod shares;
 
-pub use bytes::{append, are_bytes, put};
+pub use bytes::{append, bytes_law, put};
 pub use cells::{Axis, Cell, Cells, is_before, is_in_square, is_width, leaf_namespace};
-pub use digests::{Digest, are_digests, is_digest};
+pub use digests::{Digest, digest_law, digests_law};
 pub use memory::NoMemory;
 pub use namespaces::{
     Namespace, NsError, PARITY, PAY_FOR_BLOB, PRIMARY_RESERVED_PADDING, TAIL_PADDING, TRANSACTION,
-    are_namespaces, is_namespace, is_zeros, namespace_order, reserved_namespaces,
+    is_zeros, namespace_law, namespace_order, namespaces_law, reserved_namespaces,
 };
-pub use shares::{Share, are_shares, is_share};
+pub use shares::{Share, share_law, shares_law};

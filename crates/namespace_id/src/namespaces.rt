@@ -4,7 +4,7 @@ ghost use Rattle.std.specs.Prelude.{◌≡◌, ◌⊎◌, true};
 ghost use Rattle.namespace_id.specs.Names.{is_at_most, is_zeros, parity, primary_reserved_padding, transaction, pay_for_blob, tail_padding, IsNamespace, AreNamespaces};
 ghost use Rattle.namespace_id.specs.declared.namespaces.Namespace.{Namespace as Name};
 
-use crate::are_bytes;
+use crate::bytes_law;
 use thiserror::Error;
 
 /// A namespace: a version byte and a 28-byte id. Namespaces compare as byte strings.
@@ -141,18 +141,18 @@ impl Namespace {
 }
 
 /// Says that a namespace has 29 bytes, each below 256. It changes nothing.
-pub fn is_namespace(name: &Namespace)
+pub fn namespace_law(name: &Namespace)
     ensures { IsNamespace name.now }
 {
-    are_bytes(&name.0);
+    bytes_law(&name.0);
 }
 
 /// Says that each namespace of a slice has 29 bytes, each below 256. It changes nothing.
-pub fn are_namespaces(names: &[Namespace])
+pub fn namespaces_law(names: &[Namespace])
     ensures { AreNamespaces names.now }
 {
     for name in names {
-        is_namespace(name);
+        namespace_law(name);
     }
 }
 

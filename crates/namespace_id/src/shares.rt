@@ -3,7 +3,7 @@
 ghost use Rattle.std.specs.Prelude.{◌≡◌};
 ghost use Rattle.namespace_id.specs.Shares.{IsShare, AreShares, name_in};
 
-use crate::{Namespace, are_bytes};
+use crate::{Namespace, bytes_law};
 
 /// A share: 512 bytes, of which the first 29 are its namespace.
 ///
@@ -23,17 +23,17 @@ impl Share {
 }
 
 /// Says that a share has 512 bytes, each below 256. It changes nothing.
-pub fn is_share(share: &Share)
+pub fn share_law(share: &Share)
     ensures { IsShare share.now }
 {
-    are_bytes(&share.0);
+    bytes_law(&share.0);
 }
 
 /// Says that each share of a slice has 512 bytes, each below 256. It changes nothing.
-pub fn are_shares(shares: &[Share])
+pub fn shares_law(shares: &[Share])
     ensures { AreShares shares.now }
 {
     for share in shares {
-        is_share(share);
+        share_law(share);
     }
 }

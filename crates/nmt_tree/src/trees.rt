@@ -12,7 +12,7 @@ ghost use Rattle.nmt_tree.specs.Trees.{AreTreeLeaves, digest_over};
 
 use crate::are_ordered;
 use crate::levels::{put_tree, read};
-use namespace_id::{Digest, Namespace, NoMemory, Share, are_namespaces};
+use namespace_id::{Digest, Namespace, NoMemory, Share, namespaces_law};
 use std::alloc::Global;
 use std::marker::Model;
 
@@ -86,7 +86,7 @@ impl Tree {
         if !are_ordered(names) {
             return false;
         }
-        are_namespaces(names);
+        namespaces_law(names);
         put_tree(names, shares, &mut self.digests);
         self.is_full = true;
         true

@@ -12,7 +12,7 @@ ghost use Rattle.share_split.specs.Steps.{open_after, blobs_after};
 use crate::parsing::{bad_reserved, units_of_text};
 use crate::walking::{Open, with_blob_share, with_unit_share};
 use crate::{Blob, Unit};
-use namespace_id::{Share, are_shares};
+use namespace_id::{Share, shares_law};
 use std::alloc::{AllocError, Global};
 use thiserror::Error;
 
@@ -94,7 +94,7 @@ pub fn join_blobs(alloc: Global, shares: &[Share]) -> Result<Vec<Blob>, JoinErro
     ensures read { Joins (λ blobs. blobs.items) result (blobs_of shares.now) }
     ensures blobs { IfOk result (λ blobs. AreBlobs shares.now blobs.items) }
 {
-    are_shares(shares);
+    shares_law(shares);
     let mut blobs = Vec::new(alloc);
     let mut open = None;
     for i in 0..shares.len() {
@@ -144,7 +144,7 @@ pub fn join_units(alloc: Global, shares: &[Share]) -> Result<Vec<Unit>, JoinErro
     ensures read { Joins (λ units. units.items) result (units_of shares.now) }
     ensures units { IfOk result (λ units. AreUnits shares.now units.items) }
 {
-    are_shares(shares);
+    shares_law(shares);
     let Some(sequence) = unit_sequence(alloc, shares)? else {
         return Ok(Vec::new(alloc));
     };

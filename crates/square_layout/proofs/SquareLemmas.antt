@@ -111,17 +111,17 @@ tail_is_namespace = record {
   fits = AreBytes-append (replicate 28 0xFF) (replicate 1 0xFE) (AreBytes-replicate 28 0xFF (omega arith)) (AreBytes-replicate 1 0xFE (omega arith));
 }
 
-placed-are_shares : (name : Namespace) (end : ℕ) (blobs : List NamedBytes) → IsNamespace name → AllByRecursion IsNamed blobs → AreShares (placed name end blobs)
+placed-shares_law : (name : Namespace) (end : ℕ) (blobs : List NamedBytes) → IsNamespace name → AllByRecursion IsNamed blobs → AreShares (placed name end blobs)
 unfolding placed
-placed-are_shares name end [] named all = tt
-placed-are_shares name end (blob ∷ blobs) named all =
+placed-shares_law name end [] named all = tt
+placed-shares_law name end (blob ∷ blobs) named all =
     let gap : List Share = replicate (start_after end blob - end) (padding_share name) in
     let own : List Share = blob_shares_of blob.namespace blob.bytes in
     let others : List Share = placed blob.namespace (start_after end blob + shares_of blob) blobs in
     AreShares-append (gap ++ own) others
     (AreShares-append gap own (AreShares-replicate (start_after end blob - end) (padding_share name) (padding_is_share name named))
     (blob_shares_are_shares blob.namespace blob.bytes all.0.name all.0.fits))
-    (placed-are_shares blob.namespace (start_after end blob + shares_of blob) blobs all.0.name all.1)
+    (placed-shares_law blob.namespace (start_after end blob + shares_of blob) blobs all.0.name all.1)
 
 pub square_has_shares : (block : BlockParts) → IsBlock block → AreShares (square_of block).shares
 square_has_shares block is =
@@ -133,6 +133,6 @@ square_has_shares block is =
     (AreShares-append (units ++ pay_units) blobs
     (AreShares-append units pay_units (unit_shares_are_shares transaction block.units (low_is_namespace 1 (omega arith)) is.units)
     (unit_shares_are_shares pay_for_blob block.pay_units (low_is_namespace 4 (omega arith)) is.pay_units))
-    (placed-are_shares primary_reserved_padding (compact_end block) (in_order block.blobs) (low_is_namespace 0xFF (omega arith))
+    (placed-shares_law primary_reserved_padding (compact_end block) (in_order block.blobs) (low_is_namespace 0xFF (omega arith))
     (All-in_order IsNamed block.blobs is.blobs)))
     (AreShares-replicate rest (padding_share tail_padding) (padding_is_share tail_padding tail_is_namespace))

@@ -18,5 +18,5 @@ sized h k n rows cols seen are rows_are cols_are same =
 pub returns : goal.returns
 returns c =
     sized c.args.header.now _ _ _ _ c.header.view_is c.header.invariant
-    (subst (λ (l : List Digest). AreDigests l) c.deref.ensures.value c.are_digests.ensures)
-    (subst (λ (l : List Digest). AreDigests l) c.deref-2.ensures.value c.are_digests-2.ensures) c.from.ensures
+    (subst (λ (l : List Digest). AreDigests l) c.deref.ensures.value c.digests_law.ensures)
+    (subst (λ (l : List Digest). AreDigests l) c.deref-2.ensures.value c.digests_law-2.ensures) c.from.ensures

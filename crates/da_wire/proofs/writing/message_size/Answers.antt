@@ -6,5 +6,5 @@ use Rattle.da_wire.proofs.writing.message_size.Goals as goal
 
 pub returns : goal.returns
 returns c =
-    let nodes = subst (λ (l : List Digest). AreDigests l) c.nodes-nodes.ensures.value c.are_digests.ensures in
-    message_sized c.args.message.now _ c.is_share.ensures nodes (omega (arith, c.nodes-nodes.ensures.bound, ap length c.nodes-nodes.ensures.value)) (omega (arith, ap length c.nodes-nodes.ensures.value))
+    let nodes = subst (λ (l : List Digest). AreDigests l) c.nodes-nodes.ensures.value c.digests_law.ensures in
+    message_sized c.args.message.now _ c.share_law.ensures nodes (omega (arith, c.nodes-nodes.ensures.bound, ap length c.nodes-nodes.ensures.value)) (omega (arith, ap length c.nodes-nodes.ensures.value))

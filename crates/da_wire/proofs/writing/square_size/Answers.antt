@@ -18,4 +18,4 @@ sized s k m n shares seen is are em en =
 pub returns : goal.returns
 returns c =
     sized c.args.square.now _ _ _ _ c.square.view_is c.square.invariant
-    (subst (λ (l : List Share). AreShares l) c.deref.ensures.value c.are_shares.ensures) c.from.ensures c.from-2.ensures
+    (subst (λ (l : List Share). AreShares l) c.deref.ensures.value c.shares_law.ensures) c.from.ensures c.from-2.ensures

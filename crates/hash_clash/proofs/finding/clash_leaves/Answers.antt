@@ -7,5 +7,5 @@ pub found-requires : goal.found-requires
 found-requires c =
     leaves_clash (length c.args.names_a.now) c.args.names_a.now c.args.names_b.now c.args.shares_a.now c.args.shares_b.now c.find.result c.requires.leaves
     refl c.requires.a_pairs c.requires.b_names c.requires.b_shares
-    c.are_namespaces.ensures c.are_shares.ensures c.are_namespaces-2.ensures c.are_shares-2.ensures c.requires.root c.requires.apart
+    c.namespaces_law.ensures c.shares_law.ensures c.namespaces_law-2.ensures c.shares_law-2.ensures c.requires.root c.requires.apart
     (c.find.ensures ∙ ap (λ (k : ℕ). clash_at (whole k c.args.names_a.now c.args.shares_a.now) (whole k c.args.names_b.now c.args.shares_b.now)) c.halvings.ensures.value)

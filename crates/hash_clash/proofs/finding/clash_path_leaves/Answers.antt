@@ -9,7 +9,7 @@ find-requires-clause-a c = nodes_fit c.args.n c.args.pos c.halvings.result c.arg
 pub found-requires : goal.found-requires
 found-requires c =
     path_leaves_clash c.args.n c.args.pos c.args.a.now c.args.names.now c.args.shares.now c.find.result c.requires.leaves c.requires.place
-    c.has_shape.ensures c.requires.count c.requires.names c.requires.shares c.are_namespaces.ensures c.are_shares.ensures c.requires.root c.requires.apart
+    c.shape_law.ensures c.requires.count c.requires.names c.requires.shares c.namespaces_law.ensures c.shares_law.ensures c.requires.root c.requires.apart
     (c.find.ensures ∙ ap₂ clash_at
     (opened_is c.args.n c.args.pos c.halvings.result c.args.a.now c.nodes.result.now c.nodes.ensures.value c.halvings.ensures.value)
     (ap (λ (k : ℕ). whole k c.args.names.now c.args.shares.now) c.halvings.ensures.value))

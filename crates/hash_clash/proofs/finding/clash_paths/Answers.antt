@@ -11,7 +11,7 @@ find-requires-clause-b c = nodes_fit c.args.n c.args.pos c.halvings.result c.arg
 
 pub found-requires : goal.found-requires
 found-requires c =
-    paths_clash c.args.n c.args.pos c.args.a.now c.args.b.now c.find.result c.has_shape.ensures c.has_shape-2.ensures
+    paths_clash c.args.n c.args.pos c.args.a.now c.args.b.now c.find.result c.shape_law.ensures c.shape_law-2.ensures
     c.requires.a_count c.requires.b_count c.requires.root c.requires.apart
     (c.find.ensures ∙ ap₂ clash_at
     (opened_is c.args.n c.args.pos c.halvings.result c.args.a.now c.nodes.result.now c.nodes.ensures.value c.halvings.ensures.value)

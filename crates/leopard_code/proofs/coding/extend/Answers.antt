@@ -7,4 +7,4 @@ pub returns-clause-codeword : goal.returns-clause-codeword
 returns-clause-codeword c =
     let table : IsTable c.args.room.now c.deref.result.now =
     subst (λ (l : List ℕ). IsTable c.args.room.now l) (sym c.deref.ensures.value) (subst (λ (k : ℕ). IsTable k c.room.inside.weights.items) c.room.view_is c.room.invariant.is_table) in
-    codeword_of c.args.room.now c.deref.result.now c.args.originals.now c.weighted_sums.new.all table c.requires.originals (omega arith) c.are_shares.ensures c.are_shares-2.ensures (λ j b l h. c.weighted_sums.ensures j b (omega arith) h)
+    codeword_of c.args.room.now c.deref.result.now c.args.originals.now c.weighted_sums.new.all table c.requires.originals (omega arith) c.shares_law.ensures c.shares_law-2.ensures (λ j b l h. c.weighted_sums.ensures j b (omega arith) h)

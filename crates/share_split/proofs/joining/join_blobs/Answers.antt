@@ -25,7 +25,7 @@ returns-in-None-clause-read c = blobs_end c.loop-i.i c.args.shares.now c.loop-i.
 -- shares that are read so are these blobs
 pub returns-in-None-clause-blobs : goal.returns-in-None-clause-blobs
 returns-in-None-clause-blobs c =
-    (blobs_law c.args.shares.now c.loop-i.blobs.items c.are_shares.ensures).0
+    (blobs_law c.args.shares.now c.loop-i.blobs.items c.shares_law.ensures).0
     (blobs_end c.loop-i.i c.args.shares.now c.loop-i.blobs.items _ c.loop-i-test.false (rw c.in-None.is at c.loop-i.invariant))
 
 -- no share is left, and a sequence is open

@@ -15,7 +15,7 @@ filled c =
     let whole : take c.self.inside.digests.len (c.put_tree.new.digests ++ drop (length c.put_tree.new.digests) c.self.inside.digests.items) ≡ c.put_tree.new.digests =
     front c.put_tree.new.digests _ c.self.inside.digests.len len in
     filled_tree c.self.inside.count _ c.args.names.now c.args.shares.now c.self.invariant.is_count (c.requires.names ∙ sym count) (c.requires.shares ∙ sym count)
-    c.are_namespaces.ensures (sym c.are_ordered.ensures ∙ c.if-not-are_ordered.false) (omega (arith, c.self.invariant.room, ap length whole)) (whole ∙ c.put_tree.ensures)
+    c.namespaces_law.ensures (sym c.are_ordered.ensures ∙ c.if-not-are_ordered.false) (omega (arith, c.self.invariant.room, ap length whole)) (whole ∙ c.put_tree.ensures)
 
 pub returns-then-not-are_ordered-clause-root : goal.returns-then-not-are_ordered-clause-root
 returns-then-not-are_ordered-clause-root c = strict_root_none _ c.args.names.now c.args.shares.now (sym c.are_ordered.ensures ∙ c.if-not-are_ordered.true)
