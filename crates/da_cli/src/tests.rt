@@ -5,6 +5,7 @@ use da_io::{MemInputs, MemSink};
 use std::alloc::Global;
 use std::test::Fail;
 
+mod files;
 mod shares;
 mod squares;
 mod want_of_memory;
