@@ -6,6 +6,7 @@ use std::alloc::Global;
 use std::test::Fail;
 
 mod celestia;
+mod files;
 mod shares;
 mod squares;
 mod want_of_memory;

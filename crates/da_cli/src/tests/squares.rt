@@ -74,12 +74,18 @@ fn block(alloc: Global, plan: Plan<'_>) -> Result<Vec<u8>, Fail> {
     Ok(bytes)
 }
 
-/// Runs a command over one file, where nothing fails.
-pub(super) fn ran(alloc: Global, command: &str, file: Vec<u8>) -> Result<Ran, Fail> {
+/// Runs a command over one file, with room for so many bytes of output and a write of it that fails.
+fn ran_into(
+    alloc: Global,
+    command: &str,
+    file: Vec<u8>,
+    room: usize,
+    fail: u64,
+) -> Result<Ran, Fail> {
     let contents = vec![in alloc; file]?;
     let names = vec![in alloc; text(alloc, "f")?]?;
     let mut inputs = MemInputs::new(names, contents, 1 << 20, Vec::new(alloc));
-    let Ok(mut out) = MemSink::new(alloc, 1 << 24, 1 << 20, Vec::new(alloc)) else {
+    let Ok(mut out) = MemSink::new(alloc, room, 1 << 20, vec![in alloc; fail]?) else {
         return Err(Fail::new("no memory"));
     };
     let Ok(mut notes) = MemSink::new(alloc, 100, 100, Vec::new(alloc)) else {
@@ -88,6 +94,11 @@ pub(super) fn ran(alloc: Global, command: &str, file: Vec<u8>) -> Result<Ran, Fa
     let words = texts(alloc, &[command, "f"])?;
     let status = run(alloc, &words, &mut inputs, &mut out, &mut notes);
     Ok(Ran { status, out, notes })
+}
+
+/// Runs a command over one file, where nothing fails.
+pub(super) fn ran(alloc: Global, command: &str, file: Vec<u8>) -> Result<Ran, Fail> {
+    ran_into(alloc, command, file, 1 << 24, u64::MAX)
 }
 
 /// The square of an empty block: one tail padding share.
@@ -121,6 +132,30 @@ fn empty_block(rt: HostRuntime) -> Result<(), Fail> {
     let head = ran(alloc, "header", empty_square(alloc)?)?;
     assert_eq!(rt; head.status, Status::Done);
     assert_eq!(rt; head.out.bytes.as_slice(), empty_header(alloc)?.as_slice());
+    Ok(())
+}
+
+/// The second write fails, and a frame needs none; then there is little room, or no write.
+#[test]
+fn frames_in_one_piece(rt: HostRuntime) -> Result<(), Fail> {
+    let alloc = rt.alloc();
+    let cases = [
+        ("one piece", 1000, 1, Status::Done, 1000),
+        ("little room", 100, 99, Status::WriteFault, 100),
+        ("no write", 1000, 0, Status::WriteFault, 0),
+    ];
+    for (name, room, fail, want, size) in cases {
+        let built = ran_into(alloc, "build", block(alloc, EMPTY)?, room, fail)?;
+        assert_eq!(rt; built.status, want, "{name}");
+        let square = empty_square(alloc)?;
+        let front = square.get(..size).unwrap_or(&square);
+        assert_eq!(rt; built.out.bytes.as_slice(), front, "{name}");
+        let head = ran_into(alloc, "header", empty_square(alloc)?, room, fail)?;
+        assert_eq!(rt; head.status, want, "{name}");
+        let header = empty_header(alloc)?;
+        let front = header.get(..size).unwrap_or(&header);
+        assert_eq!(rt; head.out.bytes.as_slice(), front, "{name}");
+    }
     Ok(())
 }
 
