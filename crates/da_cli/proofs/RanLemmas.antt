@@ -150,11 +150,11 @@ stop_outputs (stop.ReadFault i) before = refl
 stop_outputs (stop.TooLong i) before = refl
 stop_outputs stop.NoMemory before = refl
 
-stop_picks : (count before now : ℕ) (stop : Stop) → PicksIn {T = List (List ℕ)} before now count (Err stop) → PickCount count before now (status_of stop)
-stop_picks count before now (stop.PickFault i) h = h
-stop_picks count before now (stop.ReadFault i) h = h
-stop_picks count before now (stop.TooLong i) h = h
-stop_picks count before now stop.NoMemory h = h
+stop_counts : (count before now : ℕ) (stop : Stop) → PicksIn {T = List (List ℕ)} before now count (Err stop) → PickCount count before now (status_of stop)
+stop_counts count before now (stop.PickFault i) h = h
+stop_counts count before now (stop.ReadFault i) h = h
+stop_counts count before now (stop.TooLong i) h = h
+stop_counts count before now stop.NoMemory h = h
 
 stop_last : (Last : Type 0) (stop : Stop) → LastBy (kind_of (status_of stop)) Last
 stop_last Last (stop.PickFault i) = tt
@@ -202,7 +202,7 @@ module _ {I O : Type 0} (i : inputs.Ghosts I) (o : sink.Ghosts O) where
         (λ some. came.within (subst (λ (n : ℕ). 0 < n) (sym count) some)) (λ none. came.idle (count ∙ none));
     input_faults = came.faults ∙ stop_inputs stop (i.faults before);
     output_faults = stop_outputs stop (o.faults out);
-    picks = stop_picks (length (names_of words)) (i.picks before) (i.picks now) stop
+    picks = stop_counts (length (names_of words)) (i.picks before) (i.picks now) stop
         (subst (λ (n : ℕ). PicksIn {T = List (List ℕ)} (i.picks before) (i.picks now) n (Err stop)) count came.picks);
     last = stop_last _ stop;
     files = came.files;

@@ -53,7 +53,8 @@ fn answer<I: Inputs, O: Sink>(
     inputs: &mut I,
     out: &mut O,
 ) -> Status
-    ensures { Ran I.Inputs O.Sink (words_of words.now) inputs.old inputs.new out.old out.new result }
+    ensures { Ran I.Inputs O.Sink (words_of words.now) inputs.old inputs.new out.old out.new
+        result }
 {
     let Some(call) = call_of(words) else {
         return Status::Usage;
@@ -84,8 +85,8 @@ pub fn run<I: Inputs, O: Sink, N: Sink>(
     ensures complete { Completes (I.files inputs.old) (words_of words.now) (O.taken out.old)
         (O.taken out.new) result }
 
-    // Under the header of a square `ok` stands only for messages that show the square's own share, or
-    // name a collision, where the files are told.
+    // Under the header of a square `ok` stands only for messages that show the square's own share
+    // or name a collision, where the files are told.
     ensures own { AreOwn (I.files inputs.old) (words_of words.now) }
 
     // `Usage` comes exactly where the words are no command. Where no word names a file, nothing is

@@ -32,8 +32,8 @@ pub enum Status {
     BadInput(u32, u64),
     /// This file has more bytes than `FILE_LIMIT`.
     TooLong(u32),
-    /// The block can't be laid out as a square. No run has `LayError::NoMemory` here: want of memory
-    /// is a status of its own.
+    /// The block can't be laid out as a square. No run has `LayError::NoMemory` here: want of
+    /// memory is a status of its own.
     BadBlock(LayError),
     /// What the files ask for can't be answered.
     BadRequest(Asked),

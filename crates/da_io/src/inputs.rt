@@ -39,8 +39,8 @@ pub trait Inputs {
     /// The files by name, where they are told. No call changes them, or whether they are told.
     ghost files: { Self → Option Files };
 
-    /// The unread bytes of the picked file, told where the files are; no bytes
-    /// before the first pick.
+    /// The unread bytes of the picked file, told where the files are. No bytes before the first
+    /// pick.
     ghost rest: { Self → Option (List ℕ) };
 
     /// The name that was given to the last pick, whether it failed or not; none before the first.
@@ -84,7 +84,8 @@ pub trait Inputs {
         ensures faults { CountsFault (faults self.old) (faults self.new) result };
 
     /// Counts keep within their end.
-    ghost counted: { (inputs : Self) → (given inputs ≤ max_count) × (faults inputs ≤ max_count) × (picks inputs ≤ max_count) };
+    ghost counted: { (inputs : Self) → (given inputs ≤ max_count) ×
+        (faults inputs ≤ max_count) × (picks inputs ≤ max_count) };
 
     /// What is left is told where the files are.
     ghost told: { (inputs : Self) → IsSome (files inputs) ↔ IsSome (rest inputs) };

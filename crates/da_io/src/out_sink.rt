@@ -48,7 +48,8 @@ impl<W: Write + Drop> Sink for OutSink<W> {
         ensures faults { CountsFault self.old.faults self.new.faults result }
 
         // What is answered is what the stream took.
-        ensures stream { WriteAppends (W.contents self.old.stream) (W.contents self.new.stream) result bytes.now }
+        ensures stream { WriteAppends (W.contents self.old.stream) (W.contents self.new.stream)
+            result bytes.now }
     {
         if bytes.is_empty() {
             return Ok(0);

@@ -74,7 +74,7 @@ fn block(alloc: Global, plan: Plan<'_>) -> Result<Vec<u8>, Fail> {
     Ok(bytes)
 }
 
-/// Runs a command over one file, with room for so many bytes of output and a write of it that fails.
+/// Runs a command over one file, with room for so many bytes of output, of which one write fails.
 fn ran_into(
     alloc: Global,
     command: &str,
