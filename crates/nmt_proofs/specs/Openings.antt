@@ -1,5 +1,5 @@
 -- Openings: the partial tree that shown parts and given nodes make.
-use Rattle.std.specs.Prelude.{◌≡◌, ℕ, zero, suc, ◌+◌, ◌^◌, List, [], ◌∷◌, ◌++◌, length, map, take, drop, get_or, Bool, true, ◌==◌, ltb, if◌then◌else◌}
+use Rattle.std.specs.Prelude.{◌≡◌, ℕ, zero, suc, ◌+◌, ◌^◌, List, [], ◌∷◌, ◌++◌, length, map, take, drop, get_or, Bool, true, false, not, ◌==◌, ltb, if◌then◌else◌}
 use Rattle.std.specs.Str.{bytes_eq}
 use Rattle.namespace_id.specs.declared.namespaces.Namespace.{Namespace}
 use Rattle.namespace_id.specs.declared.shares.Share.{Share}
@@ -22,6 +22,11 @@ begun middle (s ∷ shown) = if ltb s.from middle then suc (begun middle shown) 
 unfoldable pub is_interval : ℕ → Shown → Bool
 is_interval zero s = true
 is_interval (suc depth) s = s.size == 2 ^ suc depth
+
+-- whether an interval of this depth holds something shown and isn't itself shown, so that it is halved
+abbrev pub is_halved : ℕ → List Shown → Bool
+is_halved depth [] = false
+is_halved depth (s ∷ shown) = not (is_interval depth s)
 
 -- the intervals that hold nothing shown, left to right, of the 2 ^ depth places from `start`, which
 -- are halved until an interval holds nothing shown or is shown: where each begins, and its depth

@@ -14,7 +14,7 @@ ghost use Rattle.nmt_proofs.specs.Making.{spans, AreAtLeaves, leaf_nodes, OpensD
 ghost use Rattle.nmt_proofs.specs.Pieces.{shown};
 
 use crate::Path;
-use crate::joining::{Piece, count_begun, count_outside, is_piece};
+use crate::joining::{Piece, count_outside, halves, is_piece};
 use namespace_id::Digest;
 use nmt_tree::{Tree, halvings, leaf_count};
 
@@ -47,8 +47,7 @@ fn put_nodes(tree: &Tree, depth: u8, start: u16, pieces: &[Piece], nodes: &mut [
     if is_piece(depth, &pieces[0]) {
         return;
     }
-    let middle = start + leaf_count(depth - 1);
-    let (left_pieces, right_pieces) = pieces.split_at(count_begun(pieces, middle));
+    let (middle, left_pieces, right_pieces) = halves(depth, start, pieces);
     let left_count = count_outside(depth - 1, start, left_pieces);
     let (left_nodes, right_nodes) = nodes.split_at_mut(left_count);
     put_nodes(tree, depth - 1, start, left_pieces, left_nodes);
