@@ -10,9 +10,9 @@ use Rattle.namespace_id.specs.Cells.{is_in_square, name_of}
 use Rattle.nmt_tree.specs.Roots.{halvings}
 use Rattle.nmt_proofs.specs.Openings.{Shown, one_leaf, has_count, has_order, has_root}
 use Rattle.data_header.specs.Headers.{Roots, root_of}
-use Rattle.axis_roots.specs.declared.messages.Message.{Message}
-use Rattle.axis_roots.specs.declared.messages.CheckRefusal.{CheckRefusal}
-use Rattle.axis_roots.specs.declared.messages.CheckRefusal.TheVariants.{OutOfSquare, NodeCount, Unordered, OtherRoot}
+use Rattle.axis_roots.specs.declared.message.messages.Message.{Message}
+use Rattle.axis_roots.specs.declared.message.messages.CheckRefusal.{CheckRefusal}
+use Rattle.axis_roots.specs.declared.message.messages.CheckRefusal.TheVariants.{OutOfSquare, NodeCount, Unordered, OtherRoot}
 
 -- every message has numbers of two bytes, a share, and up to 8 digests
 pub record IsMessage (m : Message) : Type 0 where

@@ -9,7 +9,7 @@ use Rattle.namespace_id.specs.Digests.{IsDigest}
 use Rattle.namespace_id.specs.Cells.{is_width, is_in_square}
 use Rattle.nmt_tree.specs.Roots.{halvings}
 use Rattle.nmt_proofs.specs.Openings.{Opens}
-use Rattle.axis_roots.specs.declared.messages.Message.{Message}
+use Rattle.axis_roots.specs.declared.message.messages.Message.{Message}
 use Rattle.data_header.specs.Headers.{Roots}
 use Rattle.axis_roots.specs.Messages.{IsMessage, shown_by, root_for}
 

@@ -2,8 +2,8 @@
 use Rattle.std.specs.Prelude.{◌≡◌, ℕ}
 use Rattle.namespace_id.specs.declared.digests.Digest.{Digest}
 use Rattle.data_header.specs.Headers.{Roots}
-use Rattle.axis_roots.specs.declared.messages.Message.{Message}
-use Rattle.axis_roots.specs.declared.proved.Proved.{Proved}
+use Rattle.axis_roots.specs.declared.message.messages.Message.{Message}
+use Rattle.axis_roots.specs.declared.message.proved.Proved.{Proved}
 use Rattle.axis_roots.specs.Messages.{root_for}
 
 -- what a certificate keeps: the width, the message and the root
