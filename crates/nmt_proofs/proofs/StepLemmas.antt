@@ -120,8 +120,8 @@ pub left_count : (n k : ℕ) (whole left right : List (ℕ × ℕ)) → whole �
 left_count n k whole left right e en ek = omega (arith, en ∙ ap length e ∙ length-append left right, ek)
 
 -- twice the half of an interval is the interval
-pub half_power : (d : ℕ) → 0 < d → 2 ^ (d - 1) + 2 ^ (d - 1) ≡ 2 ^ d
-half_power d h =
+pub twice_half : (d : ℕ) → 0 < d → 2 ^ (d - 1) + 2 ^ (d - 1) ≡ 2 ^ d
+twice_half d h =
     let e : d ≡ suc (d - 1) = omega arith in
     let twice : 2 ^ suc (d - 1) ≡ 2 ^ (d - 1) * 2 = pow-suc 2 (d - 1) in
     omega (arith, twice, ap (λ x. 2 ^ x) e)

@@ -1,5 +1,5 @@
 -- Row-major lists, and the numbers of their cells.
-use Rattle.std.proofs.Common.{◌≡◌, ◌≢◌, ◌∙◌, ℕ, ◌+◌, ◌*◌, ◌/◌, ◌%◌, ◌<◌, List, length, get_or, map, sym, ap, ap₂, arith, IsTrue}
+use Rattle.std.proofs.Common.{◌≡◌, ◌∙◌, ℕ, ◌+◌, ◌*◌, ◌/◌, ◌%◌, ◌<◌, List, length, get_or, map, sym, ap, ap₂, arith, IsTrue}
 use Rattle.std.proofs.Math.Nat.{div-lt_iff_lt-mul}
 use Rattle.std.proofs.lemmas.Nat.{div-mul-add, mod-mul-add, div-add-mod'}
 use Rattle.std.proofs.lemmas.List.{get_or-map, length-map, ext_get_or}
@@ -46,11 +46,6 @@ cell_of n number = record { row = number / n; col = number % n }
 -- the cell with the number of a cell is that cell
 pub cell_of-number : (n : ℕ) (cell : Cell) → cell.col < n → cell_of n (cell.row * n + cell.col) ≡ cell
 cell_of-number n cell h = ap₂ (λ (r c : ℕ). record { row = r; col = c }) (div-mul-add cell.row n cell.col h) (mod-mul-add cell.row n cell.col h)
-
--- different cells have different numbers
-pub numbers_differ : (n : ℕ) (cell other : Cell) → cell.col < n → other.col < n → other ≢ cell → other.row * n + other.col ≢ cell.row * n + cell.col
-numbers_differ n cell other hc ho differ same =
-    differ (sym (cell_of-number n other ho) ∙ ap (cell_of n) same ∙ cell_of-number n cell hc)
 
 -- the row of a number
 row-lt : (n number : ℕ) → 0 < n → number < n * n → number / n < n

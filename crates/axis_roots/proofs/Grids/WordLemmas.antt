@@ -1,5 +1,5 @@
 -- Codewords by their first k shares.
-use Rattle.std.proofs.Common.{◌≡◌, ◌∙◌, ℕ, zero, suc, ◌+◌, ◌*◌, ◌<◌, ◌≤◌, List, [], ◌∷◌, length, get_or, map, replicate, refl, sym, ap, subst, inl, inr, arith, true, IsTrue}
+use Rattle.std.proofs.Common.{◌≡◌, ◌∙◌, ℕ, zero, suc, ◌+◌, ◌*◌, ◌<◌, ◌≤◌, List, [], ◌∷◌, length, get_or, map, refl, sym, ap, subst, inl, inr, arith, true, IsTrue}
 use Rattle.std.specs.Prelude.{Some, slice_get, slice_index, nat_lt}
 use Rattle.std.specs.List.{list_all}
 use Rattle.std.proofs.lemmas.Bool.{cases_lt, and_from}
@@ -9,6 +9,7 @@ use Rattle.std.proofs.lemmas.Option.{slice_get-get_or, get_or_from_slice_get}
 use Rattle.namespace_id.specs.declared.shares.Share.{Share}
 use Rattle.namespace_id.specs.Shares.{IsShare, AreShares}
 use Rattle.namespace_id.specs.Cells.{is_width}
+use Rattle.namespace_id.proofs.StringLemmas.{AreBytes-replicate}
 use Rattle.namespace_id.specs.Lists.{holds_along, ascending}
 use Rattle.leopard_code.specs.Codewords.{are_positions, IsCodeword, HasEntries}
 use Rattle.leopard_code.proofs.PointLemmas.{length-ascending, get_or-ascending}
@@ -28,16 +29,10 @@ pub shares_each : (shares : List Share) (d : Share) → ((i : ℕ) → i < lengt
 shares_each [] d each = tt
 shares_each (share ∷ shares) d each = (each 0 (omega arith), shares_each shares d (λ i h. each (suc i) (omega arith)))
 
--- zeros are bytes
-zero_bytes : (n i : ℕ) → slice_index (replicate n 0) i < 256
-zero_bytes zero i = omega arith
-zero_bytes (suc n) zero = omega arith
-zero_bytes (suc n) (suc i) = zero_bytes n i
-
 -- the share of zeros is a share
 blank_share : IsShare blank
 unfolding blank
-blank_share = record { size_is = length-replicate {A = ℕ} 512 0; fits = zero_bytes 512 }
+blank_share = record { size_is = length-replicate {A = ℕ} 512 0; fits = AreBytes-replicate 512 0 (omega arith) }
 
 -- any place of a list of shares has a share
 pub share_anywhere : (shares : List Share) (i : ℕ) → AreShares shares → IsShare (get_or shares i blank)

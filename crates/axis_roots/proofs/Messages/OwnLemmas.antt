@@ -1,9 +1,9 @@
 -- A partial tree under a root of a square's header, and a message under the header: what they show is
 -- the square's, or they name a collision.
-use Rattle.std.proofs.Common.{◌≡◌, ◌∙◌, ℕ, ◌*◌, ◌<◌, List, [], ◌∷◌, get_or, zero, suc, true, Some, None, refl, sym, ap, subst, inl, inr}
-use Rattle.std.specs.Prelude.{◌⊎◌, ◌↔◌, Result, IsOk, Option, MatchOption}
+use Rattle.std.proofs.Common.{◌≡◌, ◌∙◌, ℕ, ◌*◌, ◌<◌, List, true, Some, None, refl, sym, ap, subst, inl, inr}
+use Rattle.std.specs.Prelude.{◌⊎◌, Option, MatchOption}
 use Rattle.std.specs.List.{slice_get}
-use Rattle.std.proofs.lemmas.Option.{none-some}
+use Rattle.std.proofs.lemmas.Option.{none-some, get_or_from_slice_get}
 use Rattle.std.proofs.lemmas.Slice.Eq.{bytes_eq-Decides}
 use Rattle.namespace_id.specs.declared.cells.Cell.{Cell}
 use Rattle.namespace_id.specs.declared.cells.Axis.{Axis}
@@ -81,17 +81,11 @@ agrees_apart S axis i part whole agrees names = alike_apart part S axis i agrees
 pub own_apart : (m : Message) (S : SquareShares) → IsSquare S → ShowsOwn m S → NamesClash m S → ⊥
 own_apart m S whole shows names = alike_apart (opened_by S.k m) S m.axis (index m.axis m.cell) shows.grid whole shows.extends shows.alike names
 
--- an entry that is there
-some_entry : {A : Type 0} (xs : List A) (i : ℕ) (d x : A) → slice_get xs i ≡ Some x → get_or xs i d ≡ x
-some_entry [] i d x e = absurd cc
-some_entry (y ∷ xs) zero d x e = cc
-some_entry (y ∷ xs) (suc i) d x e = some_entry xs i d x e
-
 -- the share of a cell on its row or column
 share_on : (k : ℕ) (grid : List Share) (axis : Axis) (cell : Cell) (share : Share) → position axis cell < 2 * k
     → slice_get (axis_shares k grid axis (index axis cell)) (position axis cell) ≡ Some share → share ≡ share_at (2 * k) grid cell
 share_on k grid axis cell share h e =
-    sym (some_entry (axis_shares k grid axis (index axis cell)) (position axis cell) share share e)
+    sym (get_or_from_slice_get (axis_shares k grid axis (index axis cell)) (position axis cell) share share e)
     ∙ get_or-along k (share_at (2 * k) grid) axis (index axis cell) (position axis cell) share h
     ∙ ap (share_at (2 * k) grid) (cell_on-own axis cell)
 
@@ -136,7 +130,3 @@ accepted_own header m proved square own =
       })
       | inr names ↦ inr names
     ]
-
--- the same of an answer
-pub answer_own : {T E : Type 0} (result : Result T E) (header : Roots) (m : Message) → (IsOk result ↔ IsProved header m) → IsOk result → IsOwn header m
-answer_own result header m accepts ok = accepted_own header m (accepts.0 ok)

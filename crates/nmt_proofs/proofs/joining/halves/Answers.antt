@@ -1,6 +1,6 @@
 use Rattle.std.proofs.Common.{arith}
 use Rattle.nmt_proofs.specs.Pieces.{shown}
-use Rattle.nmt_proofs.proofs.StepLemmas.{deep, outside_halves, opened_halves, half_power}
+use Rattle.nmt_proofs.proofs.StepLemmas.{deep, outside_halves, opened_halves, twice_half}
 use Rattle.nmt_proofs.proofs.joining.halves.Goals as goal
 
 pub overflow_sub-depth : goal.overflow_sub-depth
@@ -10,7 +10,7 @@ pub returns-clause-depth : goal.returns-clause-depth
 returns-clause-depth c = deep c.args.depth (shown c.args.pieces.now) c.requires.halved
 
 pub returns-clause-size : goal.returns-clause-size
-returns-clause-size c = half_power c.args.depth (deep c.args.depth (shown c.args.pieces.now) c.requires.halved)
+returns-clause-size c = twice_half c.args.depth (deep c.args.depth (shown c.args.pieces.now) c.requires.halved)
 
 pub returns-clause-outside : goal.returns-clause-outside
 returns-clause-outside c =
