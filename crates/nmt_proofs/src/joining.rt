@@ -1,4 +1,9 @@
 //! The value of an opening, by recursion on intervals.
+//!
+//! An interval of 2^depth places takes the next node where it holds no piece, is a piece, or is
+//! halved by `halves`. This serves any pieces, one leaf, a range or none, where climbing from a
+//! leaf by the bits of its place would serve one leaf alone. It is at most nine deep, and takes no
+//! memory.
 
 ghost use Rattle.std.specs.Prelude.{ltb, ◌≡◌, ◌+◌, ◌-◌, ◌^◌, ◌≤◌, ◌<◌, ◌++◌, ℕ, List, length, take, drop, true, false, Some, None, if◌then◌else◌};
 ghost use Rattle.namespace_id.specs.declared.digests.Digest.{Digest};

@@ -1,4 +1,4 @@
-//! Openings made from a stored tree.
+//! Openings made from a stored tree, by the recursion on intervals that reads them.
 
 ghost use Rattle.std.specs.Prelude.{◌≡◌, ◌↔◌, ◌+◌, ◌%◌, ◌^◌, ◌≤◌, ◌<◌, ℕ, List, length, true, IsTrue, IsSome};
 ghost use Rattle.std.specs.Option.{ForSome};
@@ -71,10 +71,11 @@ fn blank_nodes() -> [Digest; 8] {
     [Digest([0; 90]); 8]
 }
 
-/// The nodes that open the leaf at place `pos` of a tree that isn't empty: the digests of the
-/// greatest subtrees that don't hold the place, left to right.
+/// Makes the NMT inclusion proof of one leaf: the nodes that open the leaf at place `pos`, below
+/// the number of leaves, of a tree that isn't empty. They are the digests of the greatest subtrees
+/// that don't hold the place, left to right, as many as the tree has levels below its root.
 ///
-/// It takes no memory.
+/// It takes no memory, and hashes nothing.
 ///
 /// Celestia specifications, "Data Structures", namespaced Merkle tree inclusion proofs.
 pub fn make_leaf(tree: &Tree, pos: u16) -> Path
