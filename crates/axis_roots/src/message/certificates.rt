@@ -10,17 +10,20 @@ use super::messages::{CheckRefusal, Message, index, opens};
 use super::proved::Proved;
 use data_header::Header;
 
-/// A message that is not proved, and why.
+/// A sample that is not proved, handed back unchanged, and why.
 #[derive(Debug, Drop)]
 pub struct RefusedMessage {
     pub message: Message,
     pub why: CheckRefusal,
 }
 
-/// The certificate of a message that `opens` accepts under the header.
+/// Verifies a sample under a data availability header, as `opens` does, and makes the certificate
+/// of one that is accepted.
 ///
 /// Refuses what `opens` refuses, with its reason, and hands the message back unchanged. It takes no
-/// memory.
+/// memory. Who only wants the judgement, and not to hand the message on, calls `opens`.
+///
+/// docs/RULES.md, "Proved messages".
 pub fn check(header: &Header, message: Message) -> Result<Proved, RefusedMessage>
     ensures accepts { IsOk result ↔ IsProved header.now message }
     ensures under { IfOk result (IsUnder header.now) }
@@ -55,7 +58,8 @@ mod tests {
         Share(bytes)
     }
 
-    /// The header of width 1 with the root of row 0 of an empty block; its other roots are any bytes.
+    /// The header of width 1 with the root of row 0 of an empty block; its other roots are any
+    /// bytes.
     fn header(alloc: Global, parity: &Digest) -> Result<Header, Fail> {
         let root = node(&leaf(&TAIL_PADDING, &padding_share()), parity);
         let rows = vec![in alloc; root, Digest([7; 90])]?;

@@ -1,4 +1,5 @@
-//! Messages that are made from a grid.
+//! Messages that are made from a grid. What answers many samples of one axis may fill one tree and
+//! read it for each; here one message fills it anew.
 
 ghost use Rattle.std.specs.Prelude.{◌≡◌, ◌*◌, ◌<◌, ◌↔◌, IsTrue, IfSome, IsNone, length, Some, true, false};
 ghost use Rattle.namespace_id.specs.Cells.{is_in_square};
@@ -13,10 +14,14 @@ use namespace_id::{Axis, Cell};
 use nmt_proofs::make_leaf;
 use nmt_tree::Tree;
 
-/// The message of a cell, opened along an axis; none exactly where the namespaces of that axis fall.
+/// Makes the sample of a cell: its share with the inclusion proof along an axis. There is none
+/// exactly where the namespaces of that axis fall. Row and column of the cell are below 2k.
 ///
 /// The tree is one for 2k leaves. Where there is a message it is filled with those along the axis,
 /// whatever it held; otherwise it stays as it was. The call takes no memory besides.
+///
+/// Celestia specifications, "Data Structures", namespaced Merkle tree inclusion proofs;
+/// docs/RULES.md, "Proved messages".
 pub fn message_of(grid: &Grid, cell: Cell, axis: Axis, tree: &mut Tree) -> Option<Message>
     requires cell { IsTrue (is_in_square grid.now.k cell) }
     requires tree { tree.old.count ≡ 2 * grid.now.k }
@@ -41,7 +46,7 @@ pub fn message_of(grid: &Grid, cell: Cell, axis: Axis, tree: &mut Tree) -> Optio
     if !fill_axis(grid, axis, index(axis, cell), tree) {
         return None;
     }
-    let _k = grid.width();
+    grid.law();
     let message = Message {
         cell,
         axis,

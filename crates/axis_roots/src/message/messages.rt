@@ -1,4 +1,4 @@
-//! Share messages, and whether one is proved under a header.
+//! Samples, which are called share messages, and whether one is proved under a header.
 
 ghost use Rattle.std.specs.Prelude.{◌≡◌, ◌↔◌, IsOk, IsErrOf, IsErrAnd, true, false};
 ghost use Rattle.axis_roots.specs.Messages.{position, index, is_inside, has_node_count, has_ordered_joins, is_under_root, refusal_of, refusal_in, IsMessage};
@@ -10,9 +10,13 @@ use namespace_id::{Axis, Cell, Share, digests_law, is_in_square, leaf_namespace,
 use nmt_proofs::{OpenRefusal, Path, open_leaf};
 use thiserror::Error;
 
-/// A share of a cell, with the nodes that open it under the root of its row or its column.
+/// A sample: a share of a cell with its inclusion proof under the root of its row or its column. It
+/// is called a share message, since it is what one node sends to another.
 ///
-/// The cell may be any: whether a square has it is for `opens`.
+/// The cell may be any, and so may the nodes: whether a square has the cell and whether the nodes
+/// open the share is for `opens`.
+///
+/// docs/RULES.md, "Proved messages".
 #[derive(Debug, Drop)]
 pub struct Message {
     pub cell: Cell,
@@ -58,18 +62,24 @@ pub(crate) fn index(axis: Axis, cell: Cell) -> u16
 pub fn message_law(message: &Message)
     ensures { IsMessage message.now }
 {
+    // Reading the numbers of the cell tells that they have two bytes.
     let _row = message.cell.row;
     let _col = message.cell.col;
     share_law(&message.share);
     digests_law(message.path.nodes());
 }
 
-/// Whether the message's nodes open its share, with the leaf namespace of its cell, under the
-/// header's root of its axis. Under the header of a square it then shows the share that the square's
-/// extension has at its cell, or it and the square name two strings with one SHA-256 digest.
+/// Verifies a sample under a data availability header: whether its nodes open its share, with the
+/// leaf namespace of its cell, under the header's root of its axis. Under the header of a square it
+/// then shows the share that the square's extension has at its cell, or it and the square name two
+/// strings with one SHA-256 digest.
 ///
-/// Refuses a cell outside the square, then what `open_leaf` refuses, in its order. It takes no
-/// memory.
+/// Refuses a cell outside the square, then another number of nodes than 2k has halvings, then a
+/// join that is not ordered, then another root. It takes no memory. `check` judges alike, and keeps
+/// what it accepts as a certificate.
+///
+/// Celestia specifications, "Data Structures", namespaced Merkle tree inclusion proofs;
+/// docs/RULES.md, "Proved messages".
 pub fn opens(header: &Header, message: &Message) -> Result<(), CheckRefusal>
     ensures accepts { IsOk result ↔ IsProved header.now message.now }
     ensures out_of_square { IsErrOf result CheckRefusal.OutOfSquare ↔

@@ -5,11 +5,13 @@ ghost use Rattle.axis_roots.specs.Openings.{OpensAt, OpensAt-prop};
 use super::messages::Message;
 use namespace_id::Digest;
 
-/// A message that is proved: its cell is in the square of width k, and its nodes open its share at the
-/// cell under a root, which it keeps. So it is proved under every header of that width with that root
-/// of the message's axis.
+/// A certificate of a verified sample: its cell is in the square of width k, and its nodes open its
+/// share at the cell under a root, which it keeps. So it is proved under every header of that width
+/// with that root of the message's axis.
 ///
 /// Only `check` makes one.
+///
+/// docs/RULES.md, "Proved messages".
 #[derive(Drop)]
 pub struct Proved {
     k: u16,

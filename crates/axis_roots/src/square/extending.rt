@@ -1,4 +1,8 @@
-//! The extension of a square.
+//! The extension of a square: the two-dimensional Reed-Solomon code.
+//!
+//! The square is copied into the upper left quarter, then the first k rows are extended, and then
+//! all 2k columns. The k lower rows are codewords then too, since the code is linear. Each axis is
+//! copied into one line, extended there by `leopard_code`, and written back.
 
 ghost use Rattle.std.specs.Prelude.{◌≡◌, ◌≢◌, ◌*◌, ◌<◌, ◌≤◌, ◌⊎◌, ℕ, IsTrue, IfOk, length, take, map};
 ghost use Rattle.namespace_id.specs.declared.cells.Cell.{Cell as Place};
@@ -86,7 +90,7 @@ fn fill_grid(room: &mut Room, grid: &mut Grid, square: &Square, line: &mut [Shar
     copy_square(grid, square);
     extend_axes(room, grid, Axis::Row, square.k, line);
     extend_axes(room, grid, Axis::Col, 2 * square.k, line);
-    let _k = grid.width();
+    grid.law();
 }
 
 impl Grid {
@@ -102,13 +106,14 @@ impl Grid {
         Ok(Grid::of(k, shares))
     }
 
-    /// The extension of a square: its rows and its columns are codewords, and the square stands in its
-    /// upper left quarter.
+    /// Extends a square: makes the extended data square (EDS) of which all rows and columns are
+    /// codewords, and in whose upper left quarter the square stands.
     ///
-    /// It takes all memory at its start: 4 * k * k shares for the grid, 2k to work in, and what a room
-    /// for the code needs.
+    /// It takes all memory at its start: 4 * k * k shares for the grid, 2k to work in, and what a
+    /// room for the code needs. The one refusal is that it is out of memory.
     ///
-    /// Celestia specifications, "Data Structures", erasure coding.
+    /// Celestia specifications, "Data Structures", erasure coding; Al-Bassam, Sonnino, Buterin and
+    /// Khoffi, 2-dimensional Reed-Solomon encoded Merkle tree.
     pub fn extend(alloc: Global, square: &Square) -> Result<Grid, NoMemory>
         ensures k { IfOk result (λ grid. grid.k ≡ square.now.k) }
         ensures extends { IfOk result (λ grid.

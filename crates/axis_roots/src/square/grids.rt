@@ -1,4 +1,4 @@
-//! Extended data squares.
+//! Extended data squares, as values: shares in one row-major list.
 
 ghost use Rattle.std.specs.Prelude.{◌≡◌, ◌+◌, ◌*◌, ◌<◌, IsTrue};
 ghost use Rattle.namespace_id.specs.Cells.{is_width, is_in_square};
@@ -6,8 +6,9 @@ ghost use Rattle.namespace_id.specs.Cells.{is_width, is_in_square};
 use namespace_id::{Cell, Share};
 use std::marker::Model;
 
-/// An extended data square: 2k by 2k shares, row-major. Its type keeps that `k` is a width and that
-/// there are so many shares, and nothing of codewords: any shares may stand in it.
+/// An extended data square (EDS): 2k by 2k shares of 512 bytes, row-major. Its type keeps that `k`
+/// is a width and that there are so many shares, and nothing of codewords: any shares may stand in
+/// it.
 ///
 /// Celestia specifications, "Data Structures", erasure coding.
 #[derive(Debug, Drop)]
@@ -41,7 +42,8 @@ impl Grid {
     ghost use Rattle.namespace_id.specs.declared.cells.Cell.{Cell as Place};
     ghost use Rattle.axis_roots.specs.Grids.{IsGrid, share_at};
 
-    /// Takes the shares as they are, 4 * k * k of them, row-major. It takes no memory.
+    /// Takes the shares as they are, 4 * k * k of them, row-major, for a width `k`. It takes no
+    /// memory.
     pub fn of(k: u16, shares: Vec<Share>) -> Grid
         requires width { IsTrue (is_width k) }
         requires count { vec_len shares ≡ 2 * k * (2 * k) }
@@ -50,7 +52,15 @@ impl Grid {
         Grid { k, shares }
     }
 
-    /// The width, and what is true of every grid.
+    /// Says what is true of every grid. It changes nothing.
+    pub(crate) fn law(&self)
+        ensures { IsGrid self.now }
+    {
+        let _k = self.k;
+    }
+
+    /// The width k of the original square; the grid has twice as many rows and columns. What is
+    /// true of every grid is said with it.
     pub fn width(&self) -> u16
         ensures value { result ≡ self.now.k }
         ensures grid { IsGrid self.now }
@@ -58,7 +68,7 @@ impl Grid {
         self.k
     }
 
-    /// The share of a cell of the square.
+    /// The share of a cell, whose row and column are below 2k.
     pub fn cell(&self, cell: Cell) -> &Share
         requires { IsTrue (is_in_square self.now.k cell) }
         ensures { result.now ≡ share_at (2 * self.now.k) self.now.shares cell }
@@ -66,7 +76,7 @@ impl Grid {
         &self.shares[place(self.k, cell)]
     }
 
-    /// Puts a share into a cell of the square.
+    /// Puts a share into a cell, whose row and column are below 2k, in place of what stood there.
     pub fn set(&mut self, cell: Cell, share: &Share)
         requires { IsTrue (is_in_square self.old.k cell) }
         ensures k { self.new.k ≡ self.old.k }

@@ -1,5 +1,5 @@
-//! The lines of a grid, its rows and columns: which cells one has, and the shares and leaf namespaces
-//! along it.
+//! The lines of a grid, its rows and columns: which cells one has, and the shares and leaf
+//! namespaces along it.
 
 ghost use Rattle.std.specs.Prelude.{◌≡◌, ◌≢◌, ◌*◌, ◌<◌, IsTrue, length};
 ghost use Rattle.namespace_id.specs.declared.cells.Cell.{Cell as Place};

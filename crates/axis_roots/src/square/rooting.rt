@@ -1,4 +1,8 @@
 //! The header of a grid.
+//!
+//! Each cell is a leaf of its row's tree and of its column's, under one namespace, so all leaves
+//! are hashed once, into a table of 4k^2 digests. An axis then copies its line of 2k digests and
+//! folds it in place: a stored tree for each would keep levels that nobody reads.
 
 ghost use Rattle.std.specs.Prelude.{◌≡◌, ◌*◌, ◌+◌, ◌<◌, ℕ, List, IsTrue, IfOk, length, map, true, Some, None, if◌then◌else◌};
 ghost use Rattle.std.specs.List.{list_all};
@@ -85,7 +89,7 @@ fn root_along(
     ensures { result ≡ line_strict_root grid.now.k axis index
         (axis_shares grid.now.k grid.now.shares axis index) }
 {
-    let _k = grid.width();
+    grid.law();
     read_leaves(grid, leaves, axis, index, line);
     if are_ordered(line) {
         Some(fold_root(line))
@@ -158,10 +162,12 @@ fn leaves_of(alloc: Global, grid: &Grid) -> Result<Vec<Digest>, NoMemory>
     Ok(leaves)
 }
 
-/// The header of a grid: the strict roots of all rows and columns, none where the namespaces of one
-/// of them fall. Each leaf is hashed once, for its row and its column.
+/// The data availability header (DAH) of a grid: the strict roots of all 2k rows and 2k columns,
+/// over their shares under the leaf namespaces of their cells. There is none exactly where the
+/// namespaces of a row or a column fall. Each leaf is hashed once, for its row and its column.
 ///
-/// It takes memory for 4 * k * k digests of leaves, and for 6k digests besides.
+/// It takes memory for 4 * k * k digests of leaves, and for 6k digests besides. The one refusal is
+/// that it is out of memory.
 ///
 /// Celestia specifications, "Data Structures", available data header.
 pub fn header_of(alloc: Global, grid: &Grid) -> Result<Option<Header>, NoMemory>

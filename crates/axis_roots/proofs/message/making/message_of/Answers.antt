@@ -6,5 +6,5 @@ pub returns-clause-opens : goal.returns-clause-opens
 returns-clause-opens c =
     opens_made c.args.grid.now.k c.fill_axis.new.tree.count c.index.result c.position.result c.args.grid.now.shares
     (record { cell = c.args.cell; axis = c.args.axis; share = c.cell.result.now; path = c.make_leaf.result }) c.fill_axis.new.tree.leaves
-    c.width-k.ensures.grid.width c.requires.cell c.message_law.ensures c.cell.ensures (c.fill_axis.ensures.count ∙ c.requires.tree) c.index.ensures
+    c.law.ensures.width c.requires.cell c.message_law.ensures c.cell.ensures (c.fill_axis.ensures.count ∙ c.requires.tree) c.index.ensures
     c.position.ensures (c.fill_axis.ensures.leaves c.if-not-fill_axis.false) c.make_leaf.ensures.leaf

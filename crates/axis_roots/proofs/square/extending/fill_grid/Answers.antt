@@ -10,5 +10,5 @@ returns-clause-extends c =
     let half : c.extend_axes.new.grid.k ≡ c.args.square.now.k = c.extend_axes.ensures.k ∙ copied in
     filled_grid c.args.square.now.k c.args.grid.now.k c.copy_square.new.grid.k c.extend_axes.new.grid.k c.square.inside.k (2 * c.square.inside.k)
     c.args.square.now.shares c.copy_square.new.grid.shares c.extend_axes.new.grid.shares c.extend_axes-2.new.grid
-    c.requires.grid copied half (c.extend_axes-2.ensures.k ∙ half) width (ap (λ (x : ℕ). 2 * x) width) c.width-k.ensures.grid
+    c.requires.grid copied half (c.extend_axes-2.ensures.k ∙ half) width (ap (λ (x : ℕ). 2 * x) width) c.law.ensures
     c.copy_square.ensures.quarter c.extend_axes.ensures.codewords c.extend_axes.ensures.kept c.extend_axes-2.ensures.codewords c.extend_axes-2.ensures.kept
