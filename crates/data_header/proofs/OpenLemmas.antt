@@ -32,6 +32,7 @@ data_root-axes header h =
     ap (λ (n : ℕ). merkle_root n (header.rows ++ header.cols)) axis.0
     ∙ merkle_root-append (root_halvings header.k - 1) header.rows header.cols (h.rows ∙ axis.1)
 
+-- the data root is the hash over the roots of rows and of columns, however these were made
 pub data_root-halves : (header : Roots) (rows cols : List ℕ) → AreRoots header
     → IsRootOf header.rows rows → IsRootOf header.cols cols
     → inner_hash rows cols ≡ data_root_of header

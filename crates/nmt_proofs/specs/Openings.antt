@@ -51,15 +51,15 @@ opened (suc depth) start (s ∷ shown) nodes = if is_interval (suc depth) s then
     join (opened depth start (take k (s ∷ shown)) (take j nodes))
     (opened depth middle (drop k (s ∷ shown)) (drop j nodes)))
 
--- whether there are as many nodes as intervals to take one
+-- whether an opening has as many nodes as intervals to take one
 abbrev pub has_count : ℕ → List Shown → List Digest → Bool
 has_count depth shown nodes = length nodes == length (outside depth 0 shown)
 
--- whether every join is ordered
+-- whether every join of an opening is ordered
 abbrev pub has_order : ℕ → List Shown → List Digest → Bool
 has_order depth shown nodes = is_in_order (opened depth 0 shown nodes)
 
--- whether the value is the root
+-- whether the digest of the tree that an opening makes is the root
 abbrev pub has_root : ℕ → List Shown → List Digest → Digest → Bool
 has_root depth shown nodes root = bytes_eq (digest_of (opened depth 0 shown nodes)).0 root.0
 
@@ -69,11 +69,11 @@ pub record Opens (depth : ℕ) (shown : List Shown) (nodes : List Digest) (root 
   pub order : has_order depth shown nodes ≡ true
   pub value : has_root depth shown nodes root ≡ true
 
--- one leaf
+-- what an inclusion proof shows: one leaf at its place
 abbrev pub one_leaf : ℕ → Namespace → Share → List Shown
 one_leaf pos name share = record { from = pos; size = 1; part = leaf name share } ∷ []
 
--- one leaf of which only the digest is shown
+-- one place of which only the digest of the leaf is shown
 abbrev pub one_digest : ℕ → Digest → List Shown
 one_digest pos digest = record { from = pos; size = 1; part = given digest } ∷ []
 
