@@ -1,15 +1,2 @@
-pub mod NumberLemmas
-pub mod AxisLemmas
-pub mod WordLemmas
-pub mod LineLemmas
-pub mod SumLemmas
-pub mod ExtensionLemmas
-pub mod HeaderLemmas
-pub mod LaidLemmas
-pub mod WrittenLemmas
-pub mod KeptLemmas
-pub mod FilledLemmas
-pub mod RootingLemmas
-pub mod MadeLemmas
-pub mod MessageLemmas
-pub mod OwnLemmas
+pub mod Grids
+pub mod Messages

@@ -1,6 +1,6 @@
--- Extended squares, and the header that one has (Celestia specifications, "Data Structures";
+-- Extended data squares, and the data availability header that one has (Celestia specifications, "Data Structures";
 -- docs/RULES.md, "Extended squares").
-use Rattle.std.specs.Prelude.{◌≡◌, ◌<◌, ℕ, ◌+◌, ◌*◌, ◌&&◌, Bool, true, IsTrue, List, map, length, get_or, Option, Some, None, if◌then◌else◌, replicate}
+use Rattle.std.specs.Prelude.{◌≡◌, ◌<◌, ℕ, ◌+◌, ◌*◌, ◌&&◌, Bool, true, IsTrue, List, map, length, get_or, Option, Some, None, if◌then◌else◌}
 use Rattle.std.specs.List.{list_all}
 use Rattle.namespace_id.specs.declared.cells.Cell.{Cell}
 use Rattle.namespace_id.specs.declared.cells.Axis.{Axis}
@@ -23,6 +23,7 @@ pub record GridShares : Type 0 where
   pub k : ℕ
   pub shares : List Share
 
+-- the k of a grid is a width, and it has 2k by 2k shares
 pub record IsGrid (grid : GridShares) : Type 0 where
   pub width : is_width grid.k ≡ true
   pub count : length grid.shares ≡ 2 * grid.k * (2 * grid.k)
@@ -33,23 +34,27 @@ pub record IsGrid (grid : GridShares) : Type 0 where
 abbrev pub share_at : ℕ → List Share → Cell → Share
 share_at in_row shares cell = get_or shares (cell.row * in_row + cell.col) blank
 
--- the 2k cells of a row or a column, their shares, and the namespaces of the leaves over them
+-- the 2k cells of a row or a column
 unfoldable pub axis_cells : ℕ → Axis → ℕ → List Cell
 axis_cells k axis index = map (cell_on axis index) (ascending 0 (2 * k))
 
+-- the shares along a row or a column of a grid
 abbrev pub axis_shares : ℕ → List Share → Axis → ℕ → List Share
 axis_shares k shares axis index = map (share_at (2 * k) shares) (axis_cells k axis index)
 
+-- the leaf namespaces along a row or a column of a grid
 abbrev pub axis_names : ℕ → List Share → Axis → ℕ → List Namespace
 axis_names k shares axis index = line_names k axis index (axis_shares k shares axis index)
 
--- whether these namespaces never fall, the root over the leaves, and the tree over them
+-- whether the leaf namespaces along a row or a column never fall
 abbrev pub is_ordered_axis : ℕ → List Share → Axis → ℕ → Bool
 is_ordered_axis k shares axis index = is_ordered_line k axis index (axis_shares k shares axis index)
 
+-- the root over the leaves along a row or a column
 abbrev pub axis_root : ℕ → List Share → Axis → ℕ → Digest
 axis_root k shares axis index = line_root k axis index (axis_shares k shares axis index)
 
+-- the tree over the leaves along a row or a column, in which no digest is given
 abbrev pub axis_tree : ℕ → List Share → Axis → ℕ → Part
 axis_tree k shares axis index = line_tree k axis index (axis_shares k shares axis index)
 
@@ -76,12 +81,13 @@ pub record AreLeafDigests (k : ℕ) (shares : List Share) (leaves : List Digest)
 
 -- ---- headers
 
--- whether the leaf namespaces of no row and no column fall, and the roots of all of one kind
+-- whether the leaf namespaces of no row and no column fall
 unfoldable pub are_ordered_axes : ℕ → List Share → Bool
 are_ordered_axes k shares =
     list_all (is_ordered_axis k shares Row) (ascending 0 (2 * k))
     && list_all (is_ordered_axis k shares Col) (ascending 0 (2 * k))
 
+-- the roots of all rows, or of all columns, in their order
 abbrev pub axis_roots : ℕ → List Share → Axis → List Digest
 axis_roots k shares axis = map (axis_root k shares axis) (ascending 0 (2 * k))
 

@@ -13,7 +13,7 @@ use Rattle.nmt_tree.specs.Roots.{halvings, root, is_ordered, strict_root}
 use Rattle.nmt_proofs.specs.Parts.{Part}
 use Rattle.nmt_proofs.specs.Clashes.{whole}
 
--- 512 zeros
+-- the share of 512 zeros, which stands for one that a list does not have
 unfoldable pub blank : Share
 blank = record { 0 = replicate 512 0 }
 
@@ -28,19 +28,19 @@ unfoldable pub line_names : ℕ → Axis → ℕ → List Share → List Namespa
 line_names k axis index line =
     map (λ pos. name_of k (cell_on axis index pos) (get_or line pos blank)) (ascending 0 (2 * k))
 
--- whether they never fall
+-- whether the leaf namespaces of a line never fall
 abbrev pub is_ordered_line : ℕ → Axis → ℕ → List Share → Bool
 is_ordered_line k axis index line = is_ordered (line_names k axis index line)
 
--- the root over these leaves
+-- the root over the leaves of a line
 unfoldable pub line_root : ℕ → Axis → ℕ → List Share → Digest
 line_root k axis index line = root (halvings (2 * k)) (line_names k axis index line) line
 
--- the same, none where their namespaces fall
+-- the root over the leaves of a line, none where their namespaces fall
 abbrev pub line_strict_root : ℕ → Axis → ℕ → List Share → Option Digest
 line_strict_root k axis index line =
     strict_root (halvings (2 * k)) (line_names k axis index line) line
 
--- the tree over these leaves
+-- the tree over the leaves of a line, in which no digest is given
 abbrev pub line_tree : ℕ → Axis → ℕ → List Share → Part
 line_tree k axis index line = whole (halvings (2 * k)) (line_names k axis index line) line

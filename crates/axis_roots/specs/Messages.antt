@@ -1,4 +1,5 @@
--- Share messages, and when one is proved under a header.
+-- Samples, which are called share messages, and when one is proved under a header (docs/RULES.md,
+-- "Proved messages").
 use Rattle.std.specs.Prelude.{◌<◌, ◌≤◌, ◌^◌, ◌*◌, ℕ, List, length, Bool, Option, Some, None, Result, Ok, Err, if◌then◌else◌}
 use Rattle.namespace_id.specs.declared.cells.Cell.{Cell}
 use Rattle.namespace_id.specs.declared.cells.Axis.{Axis}
@@ -10,9 +11,9 @@ use Rattle.namespace_id.specs.Cells.{is_in_square, name_of}
 use Rattle.nmt_tree.specs.Roots.{halvings}
 use Rattle.nmt_proofs.specs.Openings.{Shown, one_leaf, has_count, has_order, has_root}
 use Rattle.data_header.specs.Headers.{Roots, root_of}
-use Rattle.axis_roots.specs.declared.messages.Message.{Message}
-use Rattle.axis_roots.specs.declared.messages.CheckRefusal.{CheckRefusal}
-use Rattle.axis_roots.specs.declared.messages.CheckRefusal.TheVariants.{OutOfSquare, NodeCount, Unordered, OtherRoot}
+use Rattle.axis_roots.specs.declared.message.messages.Message.{Message}
+use Rattle.axis_roots.specs.declared.message.messages.CheckRefusal.{CheckRefusal}
+use Rattle.axis_roots.specs.declared.message.messages.CheckRefusal.TheVariants.{OutOfSquare, NodeCount, Unordered, OtherRoot}
 
 -- every message has numbers of two bytes, a share, and up to 8 digests
 pub record IsMessage (m : Message) : Type 0 where
@@ -41,20 +42,25 @@ shown_by k m = one_leaf (position m.axis m.cell) (name_of k m.cell m.share) m.sh
 abbrev pub root_for : Roots → Message → Digest
 root_for header m = root_of header m.axis (index m.axis m.cell)
 
--- the four checks, in their order: the cell, the number of nodes, the joins, the root
+-- ---- the four checks, in their order
+
+-- whether the cell of a message is in the square
 abbrev pub is_inside : Roots → Message → Bool
 is_inside header m = is_in_square header.k m.cell
 
+-- whether a message has as many nodes as a row or a column of 2k leaves has halvings
 abbrev pub has_node_count : Roots → Message → Bool
 has_node_count header m = has_count (halvings (2 * header.k)) (shown_by header.k m) m.path
 
+-- whether every join of the tree that a message opens is ordered
 abbrev pub has_ordered_joins : Roots → Message → Bool
 has_ordered_joins header m = has_order (halvings (2 * header.k)) (shown_by header.k m) m.path
 
+-- whether a message opens the header's root of its axis
 abbrev pub is_under_root : Roots → Message → Bool
 is_under_root header m = has_root (halvings (2 * header.k)) (shown_by header.k m) m.path (root_for header m)
 
--- the first of the checks that fails
+-- the refusal of a message: for the first of the four checks that fails, none where all hold
 abbrev pub refusal_of : Roots → Message → Option CheckRefusal
 refusal_of header m =
     if is_inside header m
@@ -65,7 +71,7 @@ refusal_of header m =
     else Some NodeCount)
     else Some OutOfSquare
 
--- the refusal of an answer
+-- the refusal that an answer gives, none of an `Ok`
 abbrev pub refusal_in : {T E : Type 0} → Result T E → Option E
 refusal_in (Ok _) = None
 refusal_in (Err why) = Some why

@@ -9,22 +9,23 @@ use Rattle.namespace_id.specs.Digests.{IsDigest}
 use Rattle.namespace_id.specs.Cells.{is_width, is_in_square}
 use Rattle.nmt_tree.specs.Roots.{halvings}
 use Rattle.nmt_proofs.specs.Openings.{Opens}
-use Rattle.axis_roots.specs.declared.messages.Message.{Message}
+use Rattle.axis_roots.specs.declared.message.messages.Message.{Message}
 use Rattle.data_header.specs.Headers.{Roots}
 use Rattle.axis_roots.specs.Messages.{IsMessage, shown_by, root_for}
 
--- its cell is in the square of width k, and its nodes open its share, under the leaf namespace of its
--- cell, at its place
+-- the cell of a message is in the square of width k, and its nodes open its share, under the leaf
+-- namespace of the cell, at its place
 pub record OpensAt (k : ℕ) (m : Message) (root : Digest) : Type 0 where
   pub width : is_width k ≡ true
   pub inside : is_in_square k m.cell ≡ true
   pub sized : IsMessage m
   pub opened : Opens (halvings (2 * k)) (shown_by k m) m.path root
 
--- two proofs of it are one
+-- two proofs that a digest has 90 bytes are one
 IsDigest-prop : (digest : Digest) → IsProp (IsDigest digest)
 IsDigest-prop digest = hlevel (le_prop, ℕ_set)
 
+-- two proofs that a message opens under a root are one
 pub OpensAt-prop : (k : ℕ) (m : Message) (root : Digest) → IsProp (OpensAt k m root)
 OpensAt-prop k m root = hlevel (le_prop, ℕ_set, Bool-set, AllByRecursion-prop IsDigest IsDigest-prop)
 

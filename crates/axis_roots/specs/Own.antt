@@ -8,7 +8,7 @@ use Rattle.nmt_proofs.specs.Parts.{Part}
 use Rattle.nmt_proofs.specs.Openings.{opened}
 use Rattle.nmt_proofs.specs.Clashes.{IsClash, clash_at, Agree}
 use Rattle.square_layout.specs.Blocks.{SquareShares}
-use Rattle.axis_roots.specs.declared.messages.Message.{Message}
+use Rattle.axis_roots.specs.declared.message.messages.Message.{Message}
 use Rattle.axis_roots.specs.Messages.{index, shown_by}
 use Rattle.axis_roots.specs.Grids.{Extends, share_at, axis_tree, IsHeaderOf}
 

@@ -2,17 +2,19 @@
 use Rattle.std.specs.Prelude.{◌≡◌, ℕ}
 use Rattle.namespace_id.specs.declared.digests.Digest.{Digest}
 use Rattle.data_header.specs.Headers.{Roots}
-use Rattle.axis_roots.specs.declared.messages.Message.{Message}
-use Rattle.axis_roots.specs.declared.proved.Proved.{Proved}
+use Rattle.axis_roots.specs.declared.message.messages.Message.{Message}
+use Rattle.axis_roots.specs.declared.message.proved.Proved.{Proved}
 use Rattle.axis_roots.specs.Messages.{root_for}
 
--- what a certificate keeps: the width, the message and the root
+-- the width that a certificate keeps
 abbrev pub kept_width : Proved → ℕ
 kept_width proved = proved.k
 
+-- the message that a certificate keeps
 abbrev pub kept_message : Proved → Message
 kept_message proved = proved.message
 
+-- the root that a certificate keeps
 abbrev pub kept_root : Proved → Digest
 kept_root proved = proved.root
 

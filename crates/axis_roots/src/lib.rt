@@ -1,23 +1,19 @@
-//! Extended squares with their headers, share messages, and whether these are proved under a header.
+//! Extended data squares (EDS) with their data availability headers, samples, and whether these are
+//! proved under a header.
 //!
-//! `Grid::extend` makes the extension of a square and `header_of` the header of a grid; `message_of`
-//! opens one share of a grid along a row or a column. `Proved` is the certificate of a message: a
-//! value of it is a message whose nodes open its share under a root, and only `check` makes one.
+//! `Grid::extend` makes the extension of a square and `header_of` the header of a grid;
+//! `message_of` makes a sample, one share with its inclusion proof along a row or a column. `opens`
+//! judges one, and `Proved` is the certificate of one that it accepts: only `check` makes it.
+//!
+//! The two are folders: `square` stands on the code and the layout of squares, `message` on
+//! inclusion proofs and headers.
 #![tactic(auto)]
 
-mod checking;
-mod extending;
-mod grids;
-mod laws;
-mod making;
-mod messages;
-mod proved;
-mod rooting;
+mod message;
+mod square;
 
-pub use checking::{RefusedMessage, check};
-pub use grids::Grid;
-pub use laws::{grid_laws, message_laws, own_laws};
-pub use making::message_of;
-pub use messages::{CheckRefusal, Message, message_law, opens};
-pub use proved::Proved;
-pub use rooting::header_of;
+pub use message::{
+    CheckRefusal, Message, Proved, RefusedMessage, check, message_law, message_laws, message_of,
+    opens, own_laws,
+};
+pub use square::{Grid, grid_laws, header_of};

@@ -14,7 +14,7 @@ use Rattle.namespace_id.proofs.StringLemmas.{AreBytes-take, AreBytes-drop}
 use Rattle.data_header.specs.Headers.{Roots, AreRoots}
 use Rattle.square_layout.specs.Blocks.{SquareShares}
 use Rattle.axis_roots.specs.Grids.{IsHeaderOf, are_ordered_axes, axis_root, axis_roots}
-use Rattle.axis_roots.specs.declared.messages.CheckRefusal.TheVariants.{OutOfSquare, NodeCount, Unordered, OtherRoot}
+use Rattle.axis_roots.specs.declared.message.messages.CheckRefusal.TheVariants.{OutOfSquare, NodeCount, Unordered, OtherRoot}
 use Rattle.da_wire.specs.declared.frames.FrameError.TheVariants as wire
 use Rattle.da_wire.specs.Spelling.{max_payload}
 use Rattle.da_wire.specs.Reading.{Raw, promised, raw_of}

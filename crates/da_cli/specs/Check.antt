@@ -3,8 +3,8 @@ use Rattle.std.specs.Prelude.{◌≡◌, ◌⊎◌, ℕ, List, [], ◌∷◌, co
 use Rattle.std.specs.List.{flat_map, list_all}
 use Rattle.std.specs.Option.{option_map_or}
 use Rattle.data_header.specs.Headers.{Roots}
-use Rattle.axis_roots.specs.declared.messages.Message as sent
-use Rattle.axis_roots.specs.declared.messages.CheckRefusal.TheVariants.{OutOfSquare, NodeCount, Unordered, OtherRoot}
+use Rattle.axis_roots.specs.declared.message.messages.Message as sent
+use Rattle.axis_roots.specs.declared.message.messages.CheckRefusal.TheVariants.{OutOfSquare, NodeCount, Unordered, OtherRoot}
 use Rattle.axis_roots.specs.Messages.{refusal_of}
 use Rattle.square_layout.specs.Blocks.{SquareShares}
 use Rattle.axis_roots.specs.Openings.{IsProved}

@@ -8,7 +8,7 @@ use Rattle.namespace_id.specs.Shares.{IsShare, AreShares}
 use Rattle.namespace_id.specs.Digests.{AreDigests}
 use Rattle.namespace_id.specs.Cells.{CellList, is_width}
 use Rattle.data_header.specs.Headers.{Roots, AreRoots}
-use Rattle.axis_roots.specs.declared.messages.Message as sent
+use Rattle.axis_roots.specs.declared.message.messages.Message as sent
 use Rattle.square_layout.specs.Blocks.{SquareShares, IsSquare}
 use Rattle.da_wire.specs.declared.frames.Frame.TheVariants.{Header, Square, Message, Missing, Request}
 use Rattle.da_wire.specs.Spelling.{spelled, header_kind, square_kind, message_kind, missing_kind, request_kind, digest_bytes, header_payload, square_payload, message_payload, missing_payload, request_payload}

@@ -11,7 +11,7 @@ use Rattle.namespace_id.specs.declared.namespaces.Namespace.{Namespace}
 use Rattle.namespace_id.specs.Names.{IsNamespace}
 use Rattle.namespace_id.specs.Cells.{CellList, AreCells}
 use Rattle.data_header.specs.Headers.{Roots, IsHeader}
-use Rattle.axis_roots.specs.declared.messages.Message as sent
+use Rattle.axis_roots.specs.declared.message.messages.Message as sent
 use Rattle.axis_roots.specs.Messages.{IsMessage}
 use Rattle.namespace_id.specs.Shares.{AreShares}
 use Rattle.square_layout.specs.Blocks.{BlockParts, SquareShares, IsSquare, IsBlock}

@@ -5,7 +5,7 @@ use Rattle.std.specs.Option.{option_map}
 use Rattle.da_wire.specs.Spelling.{max_payload, frame, message_kind}
 use Rattle.da_wire.specs.Reading.{Raw, raw_of, message_at}
 use Rattle.da_wire.specs.Walks.{walk_from, stop_from}
-use Rattle.axis_roots.specs.declared.messages.Message.{Message}
+use Rattle.axis_roots.specs.declared.message.messages.Message.{Message}
 
 -- what a reader gave that did not refuse
 abbrev pub ok_of : {A E : Type 0} → Result A E → Option A

@@ -10,7 +10,7 @@ use Rattle.namespace_id.specs.declared.namespaces.Namespace.{Namespace}
 use Rattle.namespace_id.specs.declared.digests.Digest.{Digest}
 use Rattle.namespace_id.specs.Cells.{is_width, are_cells, CellList}
 use Rattle.data_header.specs.Headers.{Roots}
-use Rattle.axis_roots.specs.declared.messages.Message as sent
+use Rattle.axis_roots.specs.declared.message.messages.Message as sent
 use Rattle.square_layout.specs.Blocks.{BlockParts, SquareShares}
 use Rattle.share_split.specs.Blobs.{NamedBytes}
 use Rattle.da_wire.specs.declared.frames.Frame.{Frame}

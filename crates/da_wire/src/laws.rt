@@ -8,7 +8,7 @@ ghost use Rattle.namespace_id.specs.Names.{IsNamespace};
 ghost use Rattle.namespace_id.specs.Cells.{CellList, AreCells};
 ghost use Rattle.data_header.specs.Headers.{Roots, IsHeader};
 ghost use Rattle.namespace_id.specs.Shares.{AreShares};
-ghost use Rattle.axis_roots.specs.declared.messages.Message as sent;
+ghost use Rattle.axis_roots.specs.declared.message.messages.Message as sent;
 ghost use Rattle.axis_roots.specs.Messages.{IsMessage};
 ghost use Rattle.square_layout.specs.Blocks.{SquareShares, IsSquare};
 ghost use Rattle.da_wire.specs.declared.frames.Frame.TheVariants.{Header, Square, Message, Missing, Sample, Request};

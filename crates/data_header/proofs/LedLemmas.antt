@@ -12,18 +12,22 @@ use Rattle.data_header.proofs.RootLemmas.{merkle_root-zero, merkle_root-suc, pat
 abbrev pub raised : ℕ → List ℕ → List ℕ → List ℕ
 raised place top hash = if place % 2 == 0 then inner_hash top hash else inner_hash hash top
 
+-- at an even place the next hash stands on the right
 pub raised-even : (place : ℕ) (top hash : List ℕ) → place % 2 ≡ 0 → inner_hash top hash ≡ raised place top hash
 raised-even place top hash h =
     let test : (place % 2 == 0) ≡ true = grind (arith, nat_tests) in rw test
 
+-- at an odd place the next hash stands on the left
 pub raised-odd : (place : ℕ) (top hash : List ℕ) → (place % 2 ≡ 0 → ⊥) → inner_hash hash top ≡ raised place top hash
 raised-odd place top hash h =
     let test : (place % 2 == 0) ≡ false = grind (arith, nat_tests) in rw test
 
+-- a hash more leads one level up
 pub led-cons : (place : ℕ) (top hash : List ℕ) (hashes : List (List ℕ)) → led place top (hash ∷ hashes) ≡ led (place / 2) (raised place top hash) hashes
 unfolding led
 led-cons place top hash hashes = refl
 
+-- no hashes lead nowhere
 pub led-nil : (place : ℕ) (top : List ℕ) → led place top [] ≡ top
 unfolding led
 led-nil place top = refl
@@ -66,13 +70,14 @@ led-right (x ∷ hashes) place top hash h =
     ∙ led-right hashes (place / 2) (raised place top x) hash below
     ∙ ap (λ (t : List ℕ). inner_hash hash t) (sym (led-cons place top x hashes))
 
--- the same, with a depth for the number of hashes
+-- a hash at the upper end, where the place is in the left half, with a depth for the number of hashes
 pub led-left-power : (hashes : List (List ℕ)) (d place : ℕ) (top hash : List ℕ) → length hashes ≡ d → place < 2 ^ d
     → led place top (hashes ++ hash ∷ []) ≡ inner_hash (led place top hashes) hash
 led-left-power hashes d place top hash count h =
     let power : 2 ^ length hashes ≡ 2 ^ d = ap (λ (k : ℕ). 2 ^ k) count in
     led-left hashes place top hash (omega arith)
 
+-- a hash at the upper end, where the place is in the right half, with a depth for the number of hashes
 pub led-right-power : (hashes : List (List ℕ)) (d place : ℕ) (top hash : List ℕ) → length hashes ≡ d → place < 2 ^ d
     → led (2 ^ d + place) top (hashes ++ hash ∷ []) ≡ inner_hash hash (led place top hashes)
 led-right-power hashes d place top hash count h =

@@ -8,7 +8,7 @@ use Rattle.namespace_id.specs.declared.cells.Axis.TheVariants.{Row, Col}
 use Rattle.namespace_id.specs.declared.digests.Digest.{Digest}
 use Rattle.namespace_id.specs.Digests.{no_digest}
 use Rattle.namespace_id.specs.Cells.{is_width}
-use Rattle.data_header.specs.Headers.{Roots, AreRoots, root_of}
+use Rattle.data_header.specs.Headers.{Roots, AreRoots, roots_along, root_of}
 use Rattle.data_header.specs.DataRoots.{leaf_hash, inner_hash, merkle_root, root_halvings, data_root_of, path_of, led, root_place, OpensRoot}
 use Rattle.std.proofs.Math.Seq.{take-append_seam, drop-append_seam}
 use Rattle.data_header.proofs.CountLemmas.{root_halvings-axis}
@@ -32,6 +32,7 @@ data_root-axes header h =
     ap (λ (n : ℕ). merkle_root n (header.rows ++ header.cols)) axis.0
     ∙ merkle_root-append (root_halvings header.k - 1) header.rows header.cols (h.rows ∙ axis.1)
 
+-- the data root is the hash over the roots of rows and of columns, however these were made
 pub data_root-halves : (header : Roots) (rows cols : List ℕ) → AreRoots header
     → IsRootOf header.rows rows → IsRootOf header.cols cols
     → inner_hash rows cols ≡ data_root_of header
@@ -40,56 +41,61 @@ data_root-halves header rows cols h row_root col_root =
     let d : ℕ = root_halvings header.k - 1 in
     ap₂ inner_hash (row_root d (h.rows ∙ axis.1)) (col_root d (h.cols ∙ axis.1)) ∙ sym (data_root-axes header h)
 
--- the path along the rows, and then the root over the columns
-pub opens-row : (header : Roots) (index : ℕ) (path : List (List ℕ)) (other : List ℕ) → AreRoots header → index < 2 * header.k
-    → IsPathOf header.rows index path → IsRootOf header.cols other
-    → OpensRoot (data_root_of header) header.k Row index (root_of header Row index) (path ++ other ∷ [])
-opens-row header index path other h place path_is other_is =
-    let axis = root_halvings-axis header.k h.width in
+-- the hash over what stands along an axis and what stands along the other: rows on the left
+abbrev pub joined : Axis → List ℕ → List ℕ → List ℕ
+joined Row along across = inner_hash along across
+joined Col along across = inner_hash across along
+
+-- the roots along the other axis
+abbrev pub roots_across : Roots → Axis → List Digest
+roots_across header Row = header.cols
+roots_across header Col = header.rows
+
+-- the number of roots along an axis, and along the other
+counts : (header : Roots) (axis : Axis) → AreRoots header
+    → (length (roots_along header axis) ≡ 2 * header.k) × (length (roots_across header axis) ≡ 2 * header.k)
+counts header Row h = (h.rows, h.cols)
+counts header Col h = (h.cols, h.rows)
+
+-- the data root, from the roots over one axis and over the other
+data_root-joined : (header : Roots) (axis : Axis) → AreRoots header → data_root_of header
+    ≡ joined axis (merkle_root (root_halvings header.k - 1) (roots_along header axis)) (merkle_root (root_halvings header.k - 1) (roots_across header axis))
+data_root-joined header Row h = data_root-axes header h
+data_root-joined header Col h = data_root-axes header h
+
+-- where a path along an axis leads, with the root over the other axis behind it
+led-axis : (k : ℕ) (axis : Axis) (index d : ℕ) (path : List (List ℕ)) (top other : List ℕ) → 2 * k ≡ 2 ^ d → index < 2 ^ d → length path ≡ d
+    → led (root_place k axis index) top (path ++ other ∷ []) ≡ joined axis (led index top path) other
+led-axis k Row index d path top other power below count = led-left-power path d index top other count below
+led-axis k Col index d path top other power below count =
+    ap (λ (n : ℕ). led (n + index) top (path ++ other ∷ [])) power ∙ led-right-power path d index top other count below
+
+-- the path along an axis, and then the root over the other axis, lead to the data root
+pub opens-axis : (header : Roots) (axis : Axis) (index : ℕ) (path : List (List ℕ)) (other : List ℕ) → AreRoots header → index < 2 * header.k
+    → IsPathOf (roots_along header axis) index path → IsRootOf (roots_across header axis) other
+    → OpensRoot (data_root_of header) header.k axis index (root_of header axis index) (path ++ other ∷ [])
+opens-axis header axis index path other h place path_is other_is =
+    let halvings = root_halvings-axis header.k h.width in
     let d : ℕ = root_halvings header.k - 1 in
-    let below : index < 2 ^ d = omega (arith, axis.1) in
-    let rows_power : length header.rows ≡ 2 ^ d = h.rows ∙ axis.1 in
-    let path_here : path ≡ path_of d header.rows index = path_is d rows_power in
-    let count : length path ≡ d = ap length path_here ∙ length-path_of d header.rows index in
-    let e : Digest = no_digest in
+    let digests : List Digest = roots_along header axis in
+    let below : index < 2 ^ d = omega (arith, halvings.1) in
+    let power : length digests ≡ 2 ^ d = (counts header axis h).0 ∙ halvings.1 in
+    let path_here : path ≡ path_of d digests index = path_is d power in
+    let count : length path ≡ d = ap length path_here ∙ length-path_of d digests index in
+    let top : List ℕ = leaf_hash (get_or digests index no_digest) in
     record {
       width = h.width;
       place = place;
-      count = omega (arith, length-append path (other ∷ []), axis.0);
+      count = omega (arith, length-append path (other ∷ []), halvings.0);
       leads =
-          led-left-power path d index (leaf_hash (get_or header.rows index e)) other count below
-          ∙ ap₂ inner_hash
-          (ap (led index (leaf_hash (get_or header.rows index e))) path_here ∙ led-path_of d header.rows index e below rows_power)
-          (other_is d (h.cols ∙ axis.1))
-          ∙ sym (data_root-axes header h);
+          led-axis header.k axis index d path top other halvings.1 below count
+          ∙ ap₂ (joined axis)
+          (ap (led index top) path_here ∙ led-path_of d digests index no_digest below power)
+          (other_is d ((counts header axis h).1 ∙ halvings.1))
+          ∙ sym (data_root-joined header axis h);
     }
 
--- the path along the columns, and then the root over the rows
-pub opens-col : (header : Roots) (index : ℕ) (path : List (List ℕ)) (other : List ℕ) → AreRoots header → index < 2 * header.k
-    → IsPathOf header.cols index path → IsRootOf header.rows other
-    → OpensRoot (data_root_of header) header.k Col index (root_of header Col index) (path ++ other ∷ [])
-opens-col header index path other h place path_is other_is =
-    let axis = root_halvings-axis header.k h.width in
-    let d : ℕ = root_halvings header.k - 1 in
-    let below : index < 2 ^ d = omega (arith, axis.1) in
-    let cols_power : length header.cols ≡ 2 ^ d = h.cols ∙ axis.1 in
-    let path_here : path ≡ path_of d header.cols index = path_is d cols_power in
-    let count : length path ≡ d = ap length path_here ∙ length-path_of d header.cols index in
-    let e : Digest = no_digest in
-    record {
-      width = h.width;
-      place = place;
-      count = omega (arith, length-append path (other ∷ []), axis.0);
-      leads =
-          ap (λ (n : ℕ). led (n + index) (leaf_hash (get_or header.cols index e)) (path ++ other ∷ [])) axis.1
-          ∙ led-right-power path d index (leaf_hash (get_or header.cols index e)) other count below
-          ∙ ap₂ inner_hash
-          (other_is d (h.rows ∙ axis.1))
-          (ap (led index (leaf_hash (get_or header.cols index e))) path_here ∙ led-path_of d header.cols index e below cols_power)
-          ∙ sym (data_root-axes header h);
-    }
-
--- the same of equal things
+-- a path that opens a root of a header opens it where header, axis and path are named otherwise
 pub opens-same : (header now : Roots) (axis same : Axis) (index : ℕ) (path hashes : List (List ℕ)) → header ≡ now → same ≡ axis → hashes ≡ path
     → OpensRoot (data_root_of header) header.k axis index (root_of header axis index) path
     → OpensRoot (data_root_of now) now.k same index (root_of now same index) hashes

@@ -13,37 +13,42 @@ unfolding merkle_root
 merkle_root-zero (digest ∷ digests) d h = refl
 merkle_root-zero [] d h = absurd (omega arith)
 
+-- the root of one digest, by a depth that its number has
 pub merkle_root-one : (digests : List Digest) (d : Digest) (depth : ℕ) → length digests ≡ 1 → length digests ≡ 2 ^ depth
     → leaf_hash (get_or digests 0 d) ≡ merkle_root depth digests
 merkle_root-one digests d depth h power =
     merkle_root-zero digests d h ∙ ap (λ (k : ℕ). merkle_root k digests) (sym (depth_zero (length digests) depth h power))
 
+-- the root of more digests, by its halves
 pub merkle_root-suc : (depth : ℕ) (digests : List Digest)
     → merkle_root (suc depth) digests ≡ inner_hash (merkle_root depth (take (2 ^ depth) digests)) (merkle_root depth (drop (2 ^ depth) digests))
 unfolding merkle_root
 merkle_root-suc depth digests = refl
 
--- the hashes from a place in the left half, and from one in the right half
+-- the hashes from a place in the left half
 pub path_of-low : (depth : ℕ) (digests : List Digest) (place : ℕ) → place < 2 ^ depth
     → path_of (suc depth) digests place ≡ path_of depth (take (2 ^ depth) digests) place ++ merkle_root depth (drop (2 ^ depth) digests) ∷ []
 unfolding path_of
 path_of-low depth digests place h =
     let test : nat_lt place (2 ^ depth) ≡ true = grind (arith, nat_tests) in rw test
 
+-- the hashes from a place in the right half
 pub path_of-high : (depth : ℕ) (digests : List Digest) (place : ℕ) → 2 ^ depth ≤ place
     → path_of (suc depth) digests place ≡ path_of depth (drop (2 ^ depth) digests) (place - 2 ^ depth) ++ merkle_root depth (take (2 ^ depth) digests) ∷ []
 unfolding path_of
 path_of-high depth digests place h =
     let test : nat_lt place (2 ^ depth) ≡ false = grind (arith, nat_tests) in rw test
 
+-- one digest has no hashes above it
 pub path_of-one : (digests : List Digest) (place depth : ℕ) → length digests ≡ 1 → length digests ≡ 2 ^ depth → [] ≡ path_of depth digests place
 unfolding path_of
 path_of-one digests place depth h power = ap (λ (k : ℕ). path_of k digests place) (sym (depth_zero (length digests) depth h power))
 
--- what the recursions ensure of the digests that they are given: their root, and the path from a place
+-- a hash is the root of digests, by whatever depth their number has
 abbrev pub IsRootOf : List Digest → List ℕ → Type 0
 IsRootOf digests hash = (k : ℕ) → length digests ≡ 2 ^ k → hash ≡ merkle_root k digests
 
+-- hashes are those from a place of digests, by whatever depth their number has
 abbrev pub IsPathOf : List Digest → ℕ → List (List ℕ) → Type 0
 IsPathOf digests place path = (k : ℕ) → length digests ≡ 2 ^ k → path ≡ path_of k digests place
 
@@ -61,7 +66,7 @@ pub are_halves : (digests left right : List Digest) → (length digests ≡ 1 �
 are_halves digests left right several left_is right_is left_len right_len =
     record { several = several; left_is = left_is; right_is = right_is; left_len = left_len; right_len = right_len }
 
--- their depth is one less, by the halves' places in the definitions
+-- the halves of 2 ^ depth digests, where the depth is that of the halves and one more
 pub record AtDepth (digests left right : List Digest) (depth d : ℕ) : Type 0 where
   pub below : depth ≡ suc d
   pub half_is : length digests / 2 ≡ 2 ^ d
@@ -70,6 +75,7 @@ pub record AtDepth (digests left right : List Digest) (depth d : ℕ) : Type 0 w
   pub left_is : left ≡ take (2 ^ d) digests
   pub right_is : right ≡ drop (2 ^ d) digests
 
+-- halves of 2 ^ depth digests have such a depth
 pub halves_depth : (digests left right : List Digest) (depth : ℕ) → AreHalves digests left right → length digests ≡ 2 ^ depth
     → (d : ℕ) × AtDepth digests left right depth d
 halves_depth digests left right depth h power =

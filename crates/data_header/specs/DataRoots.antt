@@ -8,10 +8,11 @@ use Rattle.namespace_id.specs.declared.digests.Digest.{Digest}
 use Rattle.namespace_id.specs.Cells.{is_width}
 use Rattle.data_header.specs.Headers.{Roots}
 
--- the hash of a leaf, here an axis root, and of two hashes
+-- the hash of a leaf of the plain Merkle tree, here an axis root (RFC 6962, 2.1: prefix 0x00)
 unfoldable pub leaf_hash : Digest → List ℕ
 leaf_hash digest = sha256 (0 ∷ digest.0)
 
+-- the hash of a node over two hashes (RFC 6962, 2.1: prefix 0x01)
 unfoldable pub inner_hash : List ℕ → List ℕ → List ℕ
 inner_hash left right = sha256 (1 ∷ left ++ right)
 
@@ -40,7 +41,7 @@ root_halvings k =
     (if k == 32 then 7 else
     (if k == 64 then 8 else 9))))))
 
--- the data root: over the row roots, and then the column roots
+-- the data root of a header: the plain Merkle root over its row roots, and then its column roots
 abbrev pub data_root_of : Roots → List ℕ
 data_root_of header = merkle_root (root_halvings header.k) (header.rows ++ header.cols)
 

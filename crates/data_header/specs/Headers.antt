@@ -1,5 +1,5 @@
--- Headers: the roots of all rows and columns of an extended square (Celestia specifications, "Data
--- Structures").
+-- Data availability headers: the roots of all rows and columns of an extended data square (Celestia
+-- specifications, "Data Structures").
 use Rattle.std.specs.Prelude.{◌≡◌, ℕ, ◌*◌, List, length, get_or, true}
 use Rattle.namespace_id.specs.declared.cells.Axis.{Axis}
 use Rattle.namespace_id.specs.declared.cells.Axis.TheVariants.{Row, Col}
@@ -13,7 +13,7 @@ pub record Roots : Type 0 where
   pub rows : List Digest
   pub cols : List Digest
 
--- its k is a width, and it has 2k roots each
+-- the k of a header is a width, and it has 2k row roots and 2k column roots
 pub record AreRoots (header : Roots) : Type 0 where
   pub width : is_width header.k ≡ true
   pub rows : length header.rows ≡ 2 * header.k

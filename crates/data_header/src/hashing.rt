@@ -1,4 +1,8 @@
-//! The plain Merkle tree over axis roots.
+//! The plain Merkle tree over axis roots, with the prefixes of RFC 6962: 0x00 for a leaf, 0x01 for
+//! a node.
+//!
+//! Roots and paths are recursions on halves that keep nothing and hash anew each time. A header has
+//! at most 512 axis roots, so a proof costs about a thousand hashes and no memory.
 
 ghost use Rattle.std.specs.Prelude.{◌≡◌, ◌^◌, ◌<◌, ℕ, length, IsTrue};
 ghost use Rattle.data_header.specs.DataRoots.{leaf_hash, inner_hash, is_root_count, merkle_root, path_of, led};
@@ -7,7 +11,9 @@ use crate::RootPath;
 use namespace_id::Digest;
 use sha2::{Digest as _, Sha256};
 
-/// The hash of a leaf.
+/// The hash of a leaf: of the byte 0x00 and a digest.
+///
+/// RFC 6962, 2.1.
 #[tactic(auto, unfolding(crate::specs::DataRoots::leaf_hash))]
 pub(crate) fn leaf_hash(digest: &Digest) -> [u8; 32]
     ensures { result ≡ leaf_hash digest.now }
@@ -18,7 +24,9 @@ pub(crate) fn leaf_hash(digest: &Digest) -> [u8; 32]
     hasher.finalize()
 }
 
-/// The hash of two hashes.
+/// The hash of a node: of the byte 0x01 and two hashes.
+///
+/// RFC 6962, 2.1.
 #[tactic(auto, unfolding(crate::specs::DataRoots::inner_hash))]
 pub(crate) fn inner_hash(left: &[u8; 32], right: &[u8; 32]) -> [u8; 32]
     ensures { result ≡ inner_hash left.now right.now }
@@ -71,7 +79,9 @@ pub(crate) fn path_of(digests: &[Digest], place: usize) -> RootPath
     }
 }
 
-/// Where hashes lead from a place upwards.
+/// Where hashes lead from a place upwards: at an odd place the next hash stands on the left.
+///
+/// RFC 6962, 2.1.1.
 pub(crate) fn led(place: usize, hash: [u8; 32], hashes: &[[u8; 32]]) -> [u8; 32]
     ensures { result ≡ led place hash hashes.now }
 {

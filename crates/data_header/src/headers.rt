@@ -1,4 +1,4 @@
-//! Headers.
+//! Data availability headers.
 
 ghost use Rattle.std.specs.Prelude.{◌≡◌, ◌≢◌, ◌*◌, ◌<◌, ◌↔◌, ◌⊎◌, IsErrOf, IfOk, vec_len, true, false};
 ghost use Rattle.namespace_id.specs.Cells.{is_width};
@@ -19,8 +19,10 @@ pub enum HeaderError {
     Count,
 }
 
-/// The roots of all rows and columns of an extended square of 2k by 2k shares, 2k roots each. They
-/// may be any digests: no square needs to stand behind them.
+/// A data availability header (DAH): the roots of all rows and columns of an extended data square
+/// of 2k by 2k shares, 2k roots each, from the first row down and from the first column on. Its
+/// type keeps that `k` is a width and that there are so many; they may be any digests, and no
+/// square needs to stand behind them.
 ///
 /// Celestia specifications, "Data Structures", available data header.
 #[derive(Drop)]
@@ -43,7 +45,7 @@ impl Model for Header {
 }
 
 impl Header {
-    /// Takes the roots as they are. It takes no memory.
+    /// Takes the roots as they are, 2k digests each. It takes no memory.
     ///
     /// Refuses a `k` that is no width, then a list that doesn't have 2k roots. A refusal drops both
     /// lists.
@@ -69,7 +71,7 @@ impl Header {
         Ok(Header { k, rows, cols })
     }
 
-    /// The root of an axis. The index is below 2k.
+    /// The root of an axis, the row or column of this index, below 2k.
     pub fn root_of(&self, axis: Axis, index: u16) -> Digest
         requires { index < 2 * self.now.k }
         ensures { result ≡ root_of self.now axis index }

@@ -1,5 +1,5 @@
-//! Headers of extended data squares: the roots of all axes, the data root over them, and proofs that
-//! an axis root is under a data root.
+//! Data availability headers (DAH) of extended data squares: the roots of all axes, the data root
+//! over them, and proofs that an axis root is under a data root.
 #![tactic(auto)]
 
 mod hashing;

@@ -1,10 +1,14 @@
-//! The hashes that lead from an axis root to a data root.
+//! The hashes that lead from an axis root to a data root, in an array, so that they take no memory.
 
 ghost use Rattle.std.specs.Prelude.{◌≡◌, ◌<◌, ◌≤◌, [], ◌∷◌, ◌++◌, length};
 
 use std::marker::Model;
 
-/// Up to 9 hashes, from the leaf upwards: of a header's 4k roots, k up to 128, each leaves out.
+/// A Merkle proof of an axis root under a data root: the hashes that lead from the leaf upwards, of
+/// 32 bytes each, as many as a header's 4k roots have halvings, up to 9. Any hashes may stand in
+/// it: whether they lead to a data root is for `open_root`.
+///
+/// RFC 6962, 2.1.1.
 #[derive(Clone, Debug, Drop)]
 pub struct RootPath {
     count: u8,
@@ -33,7 +37,7 @@ impl RootPath {
         }
     }
 
-    /// Adds a hash at the upper end.
+    /// Adds a hash at the upper end. There are fewer than 9 before it.
     pub fn push(&mut self, hash: [u8; 32])
         requires { length self.old < 9 }
         ensures { self.new ≡ self.old ++ hash ∷ [] }

@@ -9,8 +9,8 @@ use crate::hashing::{inner_hash, leaf_hash, led, merkle_root, path_of};
 use crate::{Header, RootPath};
 use namespace_id::{Axis, Digest, is_width};
 
-/// The data root of a header: the plain SHA-256 Merkle root over its 2k row roots and then its 2k
-/// column roots. It takes no memory.
+/// The data root of a data availability header, 32 bytes: the plain SHA-256 Merkle root over its 2k
+/// row roots and then its 2k column roots. It takes no memory.
 ///
 /// Celestia specifications, "Data Structures", available data header; RFC 6962, 2.1.
 pub fn data_root(header: &Header) -> [u8; 32]
@@ -19,8 +19,10 @@ pub fn data_root(header: &Header) -> [u8; 32]
     inner_hash(&merkle_root(&header.rows), &merkle_root(&header.cols))
 }
 
-/// The hashes that lead from the root of an axis to the data root. The index is below 2k. It takes no
-/// memory.
+/// Makes the Merkle proof of an axis root under the header's data root: the hashes from the leaf
+/// upwards, as many as 4k has halvings. The index is below 2k. It takes no memory.
+///
+/// Celestia specifications, "Data Structures", available data header; RFC 6962, 2.1.1.
 pub fn make_root_proof(header: &Header, axis: Axis, index: u16) -> RootPath
     requires { index < 2 * header.now.k }
     ensures { OpensRoot (data_root_of header.now) header.now.k axis index (root_of header.now axis index) result }
@@ -67,9 +69,13 @@ fn root_place(k: u16, axis: Axis, index: u16) -> usize
     }
 }
 
-/// Whether the path leads from the root of that axis of a header of width `k` to the data root: `k` is
-/// a width, the index is below 2k, there are as many hashes as 4k has halvings, and they lead to
-/// `root`.
+/// Verifies a Merkle proof of an axis root: whether the path leads from `digest`, as the root of
+/// that axis of a header of width `k`, to the data root.
+///
+/// It answers false for a `k` that is no width, for an index that isn't below 2k, for another
+/// number of hashes than 4k has halvings, and where they don't lead to `root`. It takes no memory.
+///
+/// Celestia specifications, "Data Structures", available data header; RFC 6962, 2.1.1.
 pub fn open_root(
     root: &[u8; 32],
     k: u16,

@@ -18,7 +18,7 @@ use Rattle.nmt_proofs.specs.Parts.{digest_of}
 use Rattle.nmt_proofs.specs.Openings.{one_leaf, opened}
 use Rattle.nmt_proofs.specs.Clashes.{IsClash, clash_at, whole, AreLeaves, IsOpening}
 use Rattle.nmt_proofs.proofs.ListedLemmas.{leaf_law, lists_law}
-use Rattle.nmt_proofs.proofs.TwinLemmas.{node_count, twins_law}
+use Rattle.nmt_proofs.proofs.TwinLemmas.{length-nodes, twins_law}
 use Rattle.hash_clash.specs.declared.openings.Opening.{Opening}
 use Rattle.hash_clash.specs.Openings.{HasShape, opened_at, is_counted, is_one_name, is_one_share, is_one_digest, is_one_opening, is_leaf_at, is_one_list}
 
@@ -47,7 +47,7 @@ some_clash found (Some texts) Fact test e h holds fails = subst (λ (x : Option 
 
 -- the number of nodes
 pub nodes_fit : (n pos depth : ℕ) (a : Opening) (nodes : List Digest) → is_counted n pos a ≡ true → nodes ≡ a.path → depth ≡ halvings n → length nodes ≡ depth
-nodes_fit n pos depth a nodes h e d = ap length e ∙ node_count (halvings n) pos a.name a.share a.path h ∙ sym d
+nodes_fit n pos depth a nodes h e d = ap length e ∙ length-nodes (halvings n) pos a.name a.share a.path h ∙ sym d
 
 -- an opening, by its values
 pub opening_of : (n pos : ℕ) (a : Opening) → HasShape a → is_counted n pos a ≡ true → IsOpening (halvings n) (one_leaf pos a.name a.share) a.path

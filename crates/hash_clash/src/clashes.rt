@@ -1,4 +1,4 @@
-//! Collisions.
+//! SHA-256 collisions.
 
 ghost use Rattle.std.specs.Prelude.{◌≡◌, ◌↔◌, IsSome, IsSomeAnd, IfSome, Some};
 ghost use Rattle.sha2.specs.Sha256.{sha256};
@@ -9,7 +9,9 @@ use namespace_id::bytes_law;
 use sha2::{Digest as _, Sha256};
 use std::marker::Model;
 
-/// A SHA-256 collision: two different strings with one digest.
+/// A SHA-256 collision: two different strings with one digest. Each value of the type is one.
+///
+/// FIPS 180-4 for SHA-256; docs/RULES.md, "Collisions".
 #[derive(Clone, Debug, Drop)]
 pub struct Clash {
     left: Preimage,
@@ -38,7 +40,8 @@ fn digest_of(bytes: &[u8]) -> [u8; 32]
 }
 
 impl Clash {
-    /// The collision that two strings are; none where they are equal, or have two digests.
+    /// The collision that two strings are; none where they are equal, then none where they have two
+    /// digests, and both strings are gone then.
     pub fn of(left: Preimage, right: Preimage) -> Option<Clash>
         ensures some { IsSome result ↔ IsClash left right }
         ensures left { IfSome result (λ clash. clash.left ≡ left) }

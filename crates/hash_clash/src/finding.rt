@@ -1,4 +1,9 @@
 //! The collision that two openings or lists with one root name.
+//!
+//! Both trees are walked down together, from the root and into the left half first, to the first
+//! interval for which both have a string and these differ: above it all strings are equal, so these
+//! two have one digest. The digests of both halves are made anew at each interval, so that nothing
+//! is kept: for lists of n leaves that is about n log n hashes, and no memory.
 
 ghost use Rattle.std.specs.Prelude.{◌≡◌, ◌+◌, ◌^◌, ◌≤◌, ◌<◌, length, IsTrue, true, false, Some, None};
 ghost use Rattle.nmt_tree.specs.Roots.{is_leaf_count, halvings, root};
@@ -70,13 +75,15 @@ fn find(depth: u8, start: u16, a: Side, b: Side) -> Option<(Preimage, Preimage)>
     }
 }
 
-/// The collision that two openings of one place name, where they have one root and differ in
-/// namespace, share or nodes. `n` is a number of leaves, a power of two up to 256, and `pos` is
-/// below it; each opening has as many nodes as there are subtrees that don't hold the place. The
-/// order of joins plays no part.
+/// The SHA-256 collision that two inclusion proofs of one place name, where they have one root and
+/// differ in namespace, share or nodes. `n` is a number of leaves, a power of two up to 256, and
+/// `pos` is below it; each proof has as many nodes as there are subtrees that don't hold the place.
+/// The order of joins plays no part.
 ///
 /// The strings are those at the first interval, root first and left half before right half, for
 /// which both openings have a string and these differ. It takes no memory.
+///
+/// docs/RULES.md, "Collisions".
 pub fn clash_paths(n: u16, pos: u16, a: &Opening, b: &Opening) -> Clash
     requires leaves { IsTrue (is_leaf_count n) }
     requires place { pos < n }
@@ -94,9 +101,13 @@ pub fn clash_paths(n: u16, pos: u16, a: &Opening, b: &Opening) -> Clash
     Clash::found(find(halvings(n as usize), 0, a_side, b_side))
 }
 
-/// The collision that an opening and a list of leaves name, where they have one root and the list
-/// has another namespace or another share at the place. Shapes and strings are as for
-/// `clash_paths`; the list has `n` leaves. It takes no memory.
+/// The SHA-256 collision that an inclusion proof and a list of leaves name, where they have one
+/// root and the list has another namespace or another share at the place. The list has `n` leaves,
+/// a power of two up to 256; `pos` is below it, and the proof has as many nodes as there are
+/// subtrees that don't hold the place. The strings are chosen as by `clash_paths`. It takes no
+/// memory.
+///
+/// docs/RULES.md, "Collisions".
 pub fn clash_path_leaves(
     n: u16,
     pos: u16,
@@ -121,9 +132,11 @@ pub fn clash_path_leaves(
     Clash::found(find(halvings(n as usize), 0, side, Side::Listed(names, shares)))
 }
 
-/// The collision that two lists of leaves name, where they have one root and differ. Both have one
-/// number of leaves, a power of two up to 256; strings are as for `clash_paths`. It takes no
-/// memory.
+/// The SHA-256 collision that two lists of leaves name, where they have one root and differ. Both
+/// have one number of leaves, a power of two up to 256. The strings are chosen as by `clash_paths`.
+/// It takes no memory.
+///
+/// docs/RULES.md, "Collisions".
 pub fn clash_leaves(
     names_a: &[Namespace],
     shares_a: &[Share],

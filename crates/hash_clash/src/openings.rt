@@ -1,11 +1,12 @@
-//! Openings of one leaf, as values.
+//! Openings of one leaf, as values: inclusion proofs together with what they open.
 
 ghost use Rattle.hash_clash.specs.Openings.{HasShape};
 
 use namespace_id::{Namespace, Share, digests_law, namespace_law, share_law};
 use nmt_proofs::Path;
 
-/// The leaf over a share, with its namespace, and the nodes that open it.
+/// An NMT inclusion proof with its leaf: the namespace, the share, and the nodes that open them.
+/// Which place of how many leaves they open is told beside it.
 #[derive(Clone, Debug, Drop)]
 pub struct Opening {
     pub name: Namespace,

@@ -1,4 +1,4 @@
-//! Strings that were hashed.
+//! Strings that were hashed, in an array, so that a collision is named with no memory.
 
 ghost use Rattle.std.specs.Prelude.{◌≡◌, ◌<◌, ◌≤◌, ◌+◌, ◌↔◌, [], ◌∷◌, ◌++◌, length, replicate, IsNone, IfSome};
 ghost use Rattle.nmt_proofs.specs.Clashes.{leaf_text, join_text};
@@ -7,14 +7,16 @@ ghost use Rattle.hash_clash.specs.Preimages.{longest};
 use namespace_id::{Digest, Namespace, Share, put};
 use std::marker::Model;
 
-/// The length of the longest string that a tree hashes: a prefix, a namespace and a share.
-const LONGEST: usize = 1 + 29 + 512;
+/// The length in bytes of the longest string that a tree hashes: a prefix, a namespace and a share.
+const LONGEST_STRING: usize = 1 + 29 + 512;
 
-/// A string of up to 542 bytes, which SHA-256 hashes.
+/// A string of up to 542 bytes that SHA-256 hashes. So long is what a tree hashes for a leaf: a
+/// prefix of one byte, a namespace of 29 and a share of 512. For a node it is a prefix and two
+/// digests of 90.
 #[derive(Clone, Debug, Drop)]
 pub struct Preimage {
     len: u16,
-    bytes: [u8; LONGEST],
+    bytes: [u8; LONGEST_STRING],
 }
 
 impl Model for Preimage {
@@ -29,10 +31,10 @@ impl Model for Preimage {
 }
 
 /// No byte written.
-fn blank() -> [u8; LONGEST]
+fn blank() -> [u8; LONGEST_STRING]
     ensures { result ≡ replicate longest 0 }
 {
-    [0; LONGEST]
+    [0; LONGEST_STRING]
 }
 
 impl Preimage {
@@ -46,12 +48,12 @@ impl Preimage {
         }
     }
 
-    /// The string of these bytes; none where there are more than 542.
+    /// The string of these bytes; none exactly where there are more than 542.
     pub fn of(bytes: &[u8]) -> Option<Preimage>
         ensures none { IsNone result ↔ (longest < length bytes.now) }
         ensures value { IfSome result (λ preimage. preimage ≡ bytes.now) }
     {
-        if bytes.len() > LONGEST {
+        if bytes.len() > LONGEST_STRING {
             return None;
         }
         let mut all = blank();

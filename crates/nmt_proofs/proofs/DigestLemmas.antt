@@ -1,9 +1,10 @@
 -- Digests have 90 bytes, and end with the hash of the string that they stand for.
-use Rattle.std.proofs.Common.{◌≡◌, ◌∙◌, ℕ, zero, suc, ◌+◌, ◌≤◌, ◌<◌, ◌/◌, ◌%◌, ◌^◌, List, [], ◌∷◌, ◌++◌, length, take, drop, cond, refl, sym, ap, ap₂, arith, length-append, length-drop}
+use Rattle.std.proofs.Common.{◌≡◌, ◌∙◌, ℕ, zero, suc, ◌+◌, ◌≤◌, ◌<◌, ◌/◌, ◌^◌, List, [], ◌∷◌, ◌++◌, length, take, drop, cond, refl, sym, ap, ap₂, arith, length-append, length-drop}
 use Rattle.std.specs.Int.{to_be_bytes, bytes_high_first, byte_at, w32}
 use Rattle.std.specs.Prelude.{slice_index}
 use Rattle.std.proofs.lemmas.Bool.{cond_both}
 use Rattle.std.proofs.lemmas.List.{length-take-le}
+use Rattle.std.proofs.Math.Nat.{mod-lt}
 use Rattle.sha2.specs.Sha256.{sha256, digest_bytes}
 use Rattle.sha2.proofs.Facts256.{length-sha256}
 use Rattle.namespace_id.specs.declared.namespaces.Namespace.{Namespace}
@@ -29,14 +30,10 @@ append_parts (x ∷ a) b (y ∷ c) d same e =
     let rest = append_parts a b c d (omega arith) tail in
     (ap₂ (λ (v : ℕ) (l : List ℕ). v ∷ l) head rest.0, rest.1)
 
--- what is left of a number at 256 is a byte
-mod-lt : (m : ℕ) → m % 256 < 256
-mod-lt m = omega arith
-
 -- a byte of a number is one
 byte_at-lt : (k n : ℕ) → byte_at k n < 256
 byte_at-lt zero n = omega arith
-byte_at-lt (suc k) n = let m : ℕ = n / 256 ^ suc k in mod-lt m
+byte_at-lt (suc k) n = mod-lt (n / 256 ^ suc k) (omega arith)
 
 -- the bytes of a number, high byte first, are bytes
 bytes-high : (k n : ℕ) → AreBytes (bytes_high_first k n)

@@ -34,6 +34,6 @@ left_aligned d start h aligned =
     ap (λ (k : ℕ). k % 2 ^ (d - 1)) split ∙ mul-mod_left (q * 2) (2 ^ (d - 1))
 
 -- so is the middle
-pub right_aligned : (d start m : ℕ) → 0 < d → start % 2 ^ d ≡ 0 → m ≡ 2 ^ (d - 1) → (start + m) % 2 ^ (d - 1) ≡ 0
+pub right_aligned : (d start m : ℕ) → 0 < d → start % 2 ^ d ≡ 0 → m ≡ start + 2 ^ (d - 1) → m % 2 ^ (d - 1) ≡ 0
 right_aligned d start m h aligned em =
-    ap (λ (k : ℕ). (start + k) % 2 ^ (d - 1)) em ∙ add-mod_right start (2 ^ (d - 1)) ∙ left_aligned d start h aligned
+    ap (λ (k : ℕ). k % 2 ^ (d - 1)) em ∙ add-mod_right start (2 ^ (d - 1)) ∙ left_aligned d start h aligned

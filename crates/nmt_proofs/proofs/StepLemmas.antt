@@ -1,13 +1,13 @@
 -- The three kinds of intervals, one at a time.
 use Rattle.std.proofs.Common.{◌≡◌, ℕ, zero, suc, ◌+◌, ◌-◌, ◌*◌, ◌^◌, ◌<◌, ◌≤◌, List, [], ◌∷◌, ◌++◌, Bool, true, false, ◌==◌, cond, refl, sym, ap, ap₂, ◌∙◌, arith, length, take, drop, get_or, length-append}
-use Rattle.std.proofs.lemmas.Bool.{eqb-true, true≢false}
+use Rattle.std.proofs.lemmas.Bool.{eqb-true, not-true, not_from_false, true≢false}
 use Rattle.std.proofs.lemmas.List.{take-map, drop-map}
 use Rattle.std.proofs.Math.Nat.{pow-suc}
 use Rattle.namespace_id.specs.declared.digests.Digest.{Digest}
 use Rattle.nmt_proofs.specs.declared.joining.Piece.{Piece}
-use Rattle.nmt_proofs.specs.Parts.{given, join}
+use Rattle.nmt_proofs.specs.Parts.{Part, given, join}
 use Rattle.namespace_id.specs.Digests.{no_digest}
-use Rattle.nmt_proofs.specs.Openings.{Shown, begun, is_interval, outside, opened}
+use Rattle.nmt_proofs.specs.Openings.{Shown, begun, is_interval, is_halved, outside, opened}
 use Rattle.nmt_proofs.specs.Pieces.{shown, shown_of}
 use Rattle.nmt_proofs.proofs.SingleLemmas.{outside_empty, opened_empty}
 
@@ -46,65 +46,58 @@ opened_shown (suc d) s (p ∷ ps) ns o h e =
     let j : ℕ = length (outside d s (take k xs)) in
     ap (λ b. cond b (given p.digest) (join (opened d s (take k xs) (take j ns)) (opened d (s + 2 ^ d) (drop k xs) (drop j ns)))) e
 
--- an interval that is not what is shown in it has several places
-pub not_shown : (d : ℕ) (s : Shown) → is_interval d s ≡ false → (e : ℕ) × (d ≡ suc e)
+-- an interval that holds pieces and isn't one is halved
+pub halved : (d : ℕ) (ps : List Piece) (o : Piece) (b c : Bool) → b ≡ (length ps == 0) → b ≡ false → c ≡ is_interval d (shown_of (get_or ps 0 o)) → c ≡ false
+    → is_halved d (shown ps) ≡ true
+halved d [] o b c eb hb ec hc = absurd (true≢false (sym eb ∙ hb))
+halved d (p ∷ ps) o b c eb hb ec hc = not_from_false _ (sym ec ∙ hc)
+
+-- so it has several places
+pub deep : (d : ℕ) (xs : List Shown) → is_halved d xs ≡ true → 0 < d
 unfolding is_interval
-not_shown zero s h = absurd (cc)
-not_shown (suc d) s h = (d, refl)
-
--- the intervals outside of an interval that is halved
-outside_halves_suc : (d s : ℕ) (ps : List Piece) (o : Piece) → 0 < length ps → is_interval (suc d) (shown_of (get_or ps 0 o)) ≡ false
-    → outside (suc d) s (shown ps) ≡ outside d s (take (in_left d s (shown ps)) (shown ps)) ++ outside d (s + 2 ^ d) (drop (in_left d s (shown ps)) (shown ps))
-unfolding outside
-outside_halves_suc d s [] o h e = absurd (omega arith)
-outside_halves_suc d s (p ∷ ps) o h e =
-    let xs : List Shown = shown (p ∷ ps) in
-    ap (λ b. cond b [] (outside d s (take (in_left d s xs) xs) ++ outside d (s + 2 ^ d) (drop (in_left d s xs) xs))) e
-
--- what is opened in an interval that is halved
-opened_halves_suc : (d s : ℕ) (ps : List Piece) (ns : List Digest) (o : Piece) → 0 < length ps → is_interval (suc d) (shown_of (get_or ps 0 o)) ≡ false
-    → opened (suc d) s (shown ps) ns ≡ join
-    (opened d s (take (in_left d s (shown ps)) (shown ps)) (take (length (outside d s (take (in_left d s (shown ps)) (shown ps)))) ns))
-    (opened d (s + 2 ^ d) (drop (in_left d s (shown ps)) (shown ps)) (drop (length (outside d s (take (in_left d s (shown ps)) (shown ps)))) ns))
-unfolding opened
-opened_halves_suc d s [] ns o h e = absurd (omega arith)
-opened_halves_suc d s (p ∷ ps) ns o h e =
-    let xs : List Shown = shown (p ∷ ps) in
-    let k : ℕ = in_left d s xs in
-    let j : ℕ = length (outside d s (take k xs)) in
-    ap (λ b. cond b (given p.digest) (join (opened d s (take k xs) (take j ns)) (opened d (s + 2 ^ d) (drop k xs) (drop j ns)))) e
+deep d [] h = absurd (cc)
+deep zero (x ∷ xs) h = absurd (cc)
+deep (suc d) (x ∷ xs) h = omega arith
 
 -- the intervals outside of one that is halved, by the halves of the pieces
-pub outside_halves : (d s : ℕ) (ps l r : List Piece) (o : Piece) (k m : ℕ) → 0 < length ps → is_interval d (shown_of (get_or ps 0 o)) ≡ false
+pub outside_halves : (d s : ℕ) (ps l r : List Piece) (k m : ℕ) → is_halved d (shown ps) ≡ true
     → m ≡ 2 ^ (d - 1) → k ≡ begun (s + m) (shown ps) → l ≡ take k ps → r ≡ drop k ps
     → outside d s (shown ps) ≡ outside (d - 1) s (shown l) ++ outside (d - 1) (s + m) (shown r)
-outside_halves zero s ps l r o k m h e em ek el er = absurd (cc (not_shown zero (shown_of (get_or ps 0 o)) e).1)
-outside_halves (suc d) s ps l r o k m h e em ek el er =
+unfolding outside is_interval
+outside_halves d s [] l r k m h em ek el er = absurd (cc)
+outside_halves zero s (p ∷ ps) l r k m h em ek el er = absurd (cc)
+outside_halves (suc d) s (p ∷ ps) l r k m h em ek el er =
     let low : suc d - 1 ≡ d = omega arith in
-    let mid : 2 ^ d ≡ m = ap (λ x. 2 ^ x) (sym low) ∙ sym em in
-    let cut : in_left d s (shown ps) ≡ k = ap (λ x. begun (s + x) (shown ps)) mid ∙ sym ek in
-    outside_halves_suc d s ps o h e
-    ∙ (λ i. outside d s (take (cut i) (shown ps)) ++ outside d (s + mid i) (drop (cut i) (shown ps)))
-    ∙ (λ i. outside (sym low i) s ((take-map shown_of k ps ∙ ap shown (sym el)) i) ++ outside (sym low i) (s + m) ((drop-map shown_of k ps ∙ ap shown (sym er)) i))
+    let xs : List Shown = shown (p ∷ ps) in
+    ap (λ b. cond b [] (outside d s (take (in_left d s xs) xs) ++ outside d (s + 2 ^ d) (drop (in_left d s xs) xs))) (not-true _ h)
+    ∙ ap (λ x. outside d s (take (begun (s + x) xs) xs) ++ outside d (s + x) (drop (begun (s + x) xs) xs)) (ap (λ x. 2 ^ x) (sym low) ∙ sym em)
+    ∙ ap₂ (λ x y. outside d s x ++ outside d (s + m) y)
+    (ap (λ j. take j xs) (sym ek) ∙ take-map shown_of k (p ∷ ps) ∙ ap shown (sym el))
+    (ap (λ j. drop j xs) (sym ek) ∙ drop-map shown_of k (p ∷ ps) ∙ ap shown (sym er))
+    ∙ ap (λ x. outside x s (shown l) ++ outside x (s + m) (shown r)) (sym low)
 
 -- and what is opened in it, by the halves of the pieces and of the nodes
-pub opened_halves : (d s : ℕ) (ps l r : List Piece) (ns ln rn : List Digest) (o : Piece) (k m j : ℕ) → 0 < length ps → is_interval d (shown_of (get_or ps 0 o)) ≡ false
+pub opened_halves : (d s : ℕ) (ps l r : List Piece) (k m : ℕ) → is_halved d (shown ps) ≡ true
     → m ≡ 2 ^ (d - 1) → k ≡ begun (s + m) (shown ps) → l ≡ take k ps → r ≡ drop k ps
-    → j ≡ length (outside (d - 1) s (shown l)) → ln ≡ take j ns → rn ≡ drop j ns
+    → (ns ln rn : List Digest) (j : ℕ) → j ≡ length (outside (d - 1) s (shown l)) → ln ≡ take j ns → rn ≡ drop j ns
     → opened d s (shown ps) ns ≡ join (opened (d - 1) s (shown l) ln) (opened (d - 1) (s + m) (shown r) rn)
-opened_halves zero s ps l r ns ln rn o k m j h e em ek el er ej eln ern = absurd (cc (not_shown zero (shown_of (get_or ps 0 o)) e).1)
-opened_halves (suc d) s ps l r ns ln rn o k m j h e em ek el er ej eln ern =
+unfolding opened is_interval
+opened_halves d s [] l r k m h em ek el er ns ln rn j ej eln ern = absurd (cc)
+opened_halves zero s (p ∷ ps) l r k m h em ek el er ns ln rn j ej eln ern = absurd (cc)
+opened_halves (suc d) s (p ∷ ps) l r k m h em ek el er ns ln rn j ej eln ern =
     let low : suc d - 1 ≡ d = omega arith in
-    let mid : 2 ^ d ≡ m = ap (λ x. 2 ^ x) (sym low) ∙ sym em in
-    let cut : in_left d s (shown ps) ≡ k = ap (λ x. begun (s + x) (shown ps)) mid ∙ sym ek in
-    let left : take k (shown ps) ≡ shown l = take-map shown_of k ps ∙ ap shown (sym el) in
-    let right : drop k (shown ps) ≡ shown r = drop-map shown_of k ps ∙ ap shown (sym er) in
-    let count : length (outside d s (take k (shown ps))) ≡ j = ap₂ (λ (x : ℕ) (y : List Shown). length (outside x s y)) (sym low) left ∙ sym ej in
-    opened_halves_suc d s ps ns o h e
-    ∙ (λ i. join (opened d s (take (cut i) (shown ps)) (take (length (outside d s (take (cut i) (shown ps)))) ns))
-    (opened d (s + mid i) (drop (cut i) (shown ps)) (drop (length (outside d s (take (cut i) (shown ps)))) ns)))
-    ∙ (λ i. join (opened (sym low i) s (left i) (take (count i) ns)) (opened (sym low i) (s + m) (right i) (drop (count i) ns)))
-    ∙ (λ i. join (opened (suc d - 1) s (shown l) (sym eln i)) (opened (suc d - 1) (s + m) (shown r) (sym ern i)))
+    let xs : List Shown = shown (p ∷ ps) in
+    let Joined : ℕ → List Shown → List Shown → Part = λ mid x y.
+    let i : ℕ = length (outside d s x) in
+    join (opened d s x (take i ns)) (opened d mid y (drop i ns)) in
+    ap (λ b. cond b (given p.digest) (Joined (s + 2 ^ d) (take (in_left d s xs) xs) (drop (in_left d s xs) xs))) (not-true _ h)
+    ∙ ap (λ x. Joined (s + x) (take (begun (s + x) xs) xs) (drop (begun (s + x) xs) xs)) (ap (λ x. 2 ^ x) (sym low) ∙ sym em)
+    ∙ ap₂ (λ x y. Joined (s + m) x y)
+    (ap (λ i. take i xs) (sym ek) ∙ take-map shown_of k (p ∷ ps) ∙ ap shown (sym el))
+    (ap (λ i. drop i xs) (sym ek) ∙ drop-map shown_of k (p ∷ ps) ∙ ap shown (sym er))
+    ∙ ap (λ x. join (opened x s (shown l) (take (length (outside x s (shown l))) ns)) (opened x (s + m) (shown r) (drop (length (outside x s (shown l))) ns))) (sym low)
+    ∙ ap (λ i. join (opened (suc d - 1) s (shown l) (take i ns)) (opened (suc d - 1) (s + m) (shown r) (drop i ns))) (sym ej)
+    ∙ ap₂ (λ x y. join (opened (suc d - 1) s (shown l) x) (opened (suc d - 1) (s + m) (shown r) y)) (sym eln) (sym ern)
 
 -- an interval of one place in which something is shown is that
 pub shown_zero : (d : ℕ) (s : Shown) → d ≡ 0 → true ≡ is_interval d s
@@ -127,8 +120,8 @@ pub left_count : (n k : ℕ) (whole left right : List (ℕ × ℕ)) → whole �
 left_count n k whole left right e en ek = omega (arith, en ∙ ap length e ∙ length-append left right, ek)
 
 -- twice the half of an interval is the interval
-pub half_power : (d : ℕ) → 0 < d → 2 ^ (d - 1) + 2 ^ (d - 1) ≡ 2 ^ d
-half_power d h =
+pub twice_half : (d : ℕ) → 0 < d → 2 ^ (d - 1) + 2 ^ (d - 1) ≡ 2 ^ d
+twice_half d h =
     let e : d ≡ suc (d - 1) = omega arith in
     let twice : 2 ^ suc (d - 1) ≡ 2 ^ (d - 1) * 2 = pow-suc 2 (d - 1) in
     omega (arith, twice, ap (λ x. 2 ^ x) e)

@@ -32,8 +32,8 @@ one_opening (suc d) st pos p q ns ms h k a =
     ]
 
 -- the number of nodes of an opening of one leaf
-pub node_count : (d pos : ℕ) (n : Namespace) (s : Share) (nodes : List Digest) → has_count d (one_leaf pos n s) nodes ≡ true → length nodes ≡ d
-node_count d pos n s nodes h = eqb-true _ _ h ∙ length-outside-one d 0 pos (leaf n s)
+pub length-nodes : (d pos : ℕ) (n : Namespace) (s : Share) (nodes : List Digest) → has_count d (one_leaf pos n s) nodes ≡ true → length nodes ≡ d
+length-nodes d pos n s nodes h = eqb-true _ _ h ∙ length-outside-one d 0 pos (leaf n s)
 
 -- the law of two openings of one leaf place under one root
 pub twins_law : (d pos : ℕ) (n m : Namespace) (s t : Share) (ns ms : List Digest) → IsOpening d (one_leaf pos n s) ns → IsOpening d (one_leaf pos m t) ms
@@ -44,5 +44,5 @@ twins_law d pos n m s t ns ms h g e =
     (opening-deep d (one_leaf pos n s) ns h) (opening-deep d (one_leaf pos m t) ms g)
     (opening-sized d (one_leaf pos n s) ns h) (opening-sized d (one_leaf pos m t) ms g) e
     (λ same.
-    let one = one_opening d 0 pos (leaf n s) (leaf m t) ns ms (node_count d pos n s ns h.count) (node_count d pos m t ms g.count) same in
+    let one = one_opening d 0 pos (leaf n s) (leaf m t) ns ms (length-nodes d pos n s ns h.count) (length-nodes d pos m t ms g.count) same in
     (one.0.0, one.0.1, one.1))

@@ -1,5 +1,5 @@
 -- Openings: the partial tree that shown parts and given nodes make.
-use Rattle.std.specs.Prelude.{◌≡◌, ℕ, zero, suc, ◌+◌, ◌^◌, List, [], ◌∷◌, ◌++◌, length, map, take, drop, get_or, Bool, true, ◌==◌, ltb, if◌then◌else◌}
+use Rattle.std.specs.Prelude.{◌≡◌, ℕ, zero, suc, ◌+◌, ◌^◌, List, [], ◌∷◌, ◌++◌, length, map, take, drop, get_or, Bool, true, false, not, ◌==◌, ltb, if◌then◌else◌}
 use Rattle.std.specs.Str.{bytes_eq}
 use Rattle.namespace_id.specs.declared.namespaces.Namespace.{Namespace}
 use Rattle.namespace_id.specs.declared.shares.Share.{Share}
@@ -22,6 +22,11 @@ begun middle (s ∷ shown) = if ltb s.from middle then suc (begun middle shown) 
 unfoldable pub is_interval : ℕ → Shown → Bool
 is_interval zero s = true
 is_interval (suc depth) s = s.size == 2 ^ suc depth
+
+-- whether an interval of this depth holds something shown and isn't itself shown, so that it is halved
+abbrev pub is_halved : ℕ → List Shown → Bool
+is_halved depth [] = false
+is_halved depth (s ∷ shown) = not (is_interval depth s)
 
 -- the intervals that hold nothing shown, left to right, of the 2 ^ depth places from `start`, which
 -- are halved until an interval holds nothing shown or is shown: where each begins, and its depth
@@ -46,15 +51,15 @@ opened (suc depth) start (s ∷ shown) nodes = if is_interval (suc depth) s then
     join (opened depth start (take k (s ∷ shown)) (take j nodes))
     (opened depth middle (drop k (s ∷ shown)) (drop j nodes)))
 
--- whether there are as many nodes as intervals to take one
+-- whether an opening has as many nodes as intervals to take one
 abbrev pub has_count : ℕ → List Shown → List Digest → Bool
 has_count depth shown nodes = length nodes == length (outside depth 0 shown)
 
--- whether every join is ordered
+-- whether every join of an opening is ordered
 abbrev pub has_order : ℕ → List Shown → List Digest → Bool
 has_order depth shown nodes = is_in_order (opened depth 0 shown nodes)
 
--- whether the value is the root
+-- whether the digest of the tree that an opening makes is the root
 abbrev pub has_root : ℕ → List Shown → List Digest → Digest → Bool
 has_root depth shown nodes root = bytes_eq (digest_of (opened depth 0 shown nodes)).0 root.0
 
@@ -64,11 +69,11 @@ pub record Opens (depth : ℕ) (shown : List Shown) (nodes : List Digest) (root 
   pub order : has_order depth shown nodes ≡ true
   pub value : has_root depth shown nodes root ≡ true
 
--- one leaf
+-- what an inclusion proof shows: one leaf at its place
 abbrev pub one_leaf : ℕ → Namespace → Share → List Shown
 one_leaf pos name share = record { from = pos; size = 1; part = leaf name share } ∷ []
 
--- one leaf of which only the digest is shown
+-- one place of which only the digest of the leaf is shown
 abbrev pub one_digest : ℕ → Digest → List Shown
 one_digest pos digest = record { from = pos; size = 1; part = given digest } ∷ []
 

@@ -11,19 +11,19 @@ pub data Part : Type 0 where
   leaf : (name : Namespace) (share : Share) → Part
   join : (left right : Part) → Part
 
--- its digest
+-- the digest of a part: of a leaf or a node the namespaced hash
 abbrev pub digest_of : Part → Digest
 digest_of (given digest) = digest
 digest_of (leaf name share) = leaf_digest name share
 digest_of (join left right) = node_digest (digest_of left) (digest_of right)
 
--- whether every join in it is ordered
+-- whether every join in a part is ordered
 abbrev pub is_in_order : Part → Bool
 is_in_order (given digest) = true
 is_in_order (leaf name share) = true
 is_in_order (join left right) =
     is_in_order left && is_in_order right && is_ordered_join (digest_of left) (digest_of right)
 
--- its digest, where every join in it is ordered
+-- the digest of a part in which every join is ordered, none of another
 unfoldable pub ordered_digest : Part → Option Digest
 ordered_digest part = if is_in_order part then Some (digest_of part) else None

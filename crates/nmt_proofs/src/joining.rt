@@ -1,9 +1,15 @@
 //! The value of an opening, by recursion on intervals.
+//!
+//! An interval of 2^depth places takes the next node where it holds no piece, is a piece, or is
+//! halved by `halves`. This serves any pieces, one leaf, a range or none, where climbing from a
+//! leaf by the bits of its place would serve one leaf alone. It is at most nine deep, and takes no
+//! memory.
 
-ghost use Rattle.std.specs.Prelude.{ltb, ◌≡◌, ◌+◌, ◌^◌, ◌≤◌, ◌<◌, ℕ, length, true, false, Some, None, if◌then◌else◌};
+ghost use Rattle.std.specs.Prelude.{ltb, ◌≡◌, ◌+◌, ◌-◌, ◌^◌, ◌≤◌, ◌<◌, ◌++◌, ℕ, List, length, take, drop, true, false, Some, None, if◌then◌else◌};
+ghost use Rattle.namespace_id.specs.declared.digests.Digest.{Digest};
 ghost use Rattle.nmt_tree.specs.Digests.{is_ordered_join, node_digest};
-ghost use Rattle.nmt_proofs.specs.Parts.{ordered_digest};
-ghost use Rattle.nmt_proofs.specs.Openings.{begun, is_interval, outside, opened};
+ghost use Rattle.nmt_proofs.specs.Parts.{join, ordered_digest};
+ghost use Rattle.nmt_proofs.specs.Openings.{begun, is_interval, is_halved, outside, opened};
 ghost use Rattle.nmt_proofs.specs.Pieces.{shown, shown_of};
 
 use namespace_id::Digest;
@@ -39,6 +45,32 @@ pub(crate) fn is_piece(depth: u8, piece: &Piece) -> bool
     depth == 0 || piece.size == leaf_count(depth)
 }
 
+/// An interval that holds pieces and isn't one, by its halves: where the right one begins, and the
+/// pieces of the left one and of the right one.
+pub(crate) fn halves(depth: u8, start: u16, pieces: &[Piece]) -> (u16, &[Piece], &[Piece])
+    requires depth { depth ≤ 8 }
+    requires interval { start + 2 ^ depth ≤ 256 }
+    requires halved { is_halved depth (shown pieces.now) ≡ true }
+    ensures depth { 0 < depth }
+    ensures size { 2 ^ (depth - 1) + 2 ^ (depth - 1) ≡ 2 ^ depth }
+    ensures middle { result.0 ≡ start + 2 ^ (depth - 1) }
+    ensures outside { outside depth start (shown pieces.now) ≡
+        outside (depth - 1) start (shown result.1.now)
+        ++ outside (depth - 1) result.0 (shown result.2.now) }
+
+    // The left half takes the first nodes, as many as it leaves intervals out.
+    ensures opened { (nodes left right : List Digest) (count : ℕ) →
+        count ≡ length (outside (depth - 1) start (shown result.1.now)) →
+        left ≡ take count nodes → right ≡ drop count nodes →
+        opened depth start (shown pieces.now) nodes ≡
+        join (opened (depth - 1) start (shown result.1.now) left)
+        (opened (depth - 1) result.0 (shown result.2.now) right) }
+{
+    let middle = start + leaf_count(depth - 1);
+    let (left, right) = pieces.split_at(count_begun(pieces, middle));
+    (middle, left, right)
+}
+
 /// How many intervals hold no piece.
 pub(crate) fn count_outside(depth: u8, start: u16, pieces: &[Piece]) -> usize
     requires depth { depth ≤ 8 }
@@ -52,8 +84,7 @@ pub(crate) fn count_outside(depth: u8, start: u16, pieces: &[Piece]) -> usize
     if is_piece(depth, &pieces[0]) {
         return 0;
     }
-    let middle = start + leaf_count(depth - 1);
-    let (left, right) = pieces.split_at(count_begun(pieces, middle));
+    let (middle, left, right) = halves(depth, start, pieces);
     count_outside(depth - 1, start, left) + count_outside(depth - 1, middle, right)
 }
 
@@ -77,8 +108,7 @@ pub(crate) fn joined(depth: u8, start: u16, pieces: &[Piece], nodes: &[Digest]) 
     if is_piece(depth, &pieces[0]) {
         return Some(pieces[0].digest);
     }
-    let middle = start + leaf_count(depth - 1);
-    let (left_pieces, right_pieces) = pieces.split_at(count_begun(pieces, middle));
+    let (middle, left_pieces, right_pieces) = halves(depth, start, pieces);
     let (left_nodes, right_nodes) = nodes.split_at(count_outside(depth - 1, start, left_pieces));
     let left = joined(depth - 1, start, left_pieces, left_nodes)?;
     let right = joined(depth - 1, middle, right_pieces, right_nodes)?;

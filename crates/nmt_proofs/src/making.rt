@@ -1,4 +1,4 @@
-//! Openings made from a stored tree.
+//! Openings made from a stored tree, by the recursion on intervals that reads them.
 
 ghost use Rattle.std.specs.Prelude.{◌≡◌, ◌↔◌, ◌+◌, ◌%◌, ◌^◌, ◌≤◌, ◌<◌, ℕ, List, length, true, IsTrue, IsSome};
 ghost use Rattle.std.specs.Option.{ForSome};
@@ -14,7 +14,7 @@ ghost use Rattle.nmt_proofs.specs.Making.{spans, AreAtLeaves, leaf_nodes, OpensD
 ghost use Rattle.nmt_proofs.specs.Pieces.{shown};
 
 use crate::Path;
-use crate::joining::{Piece, count_begun, count_outside, is_piece};
+use crate::joining::{Piece, count_outside, halves, is_piece};
 use namespace_id::Digest;
 use nmt_tree::{Tree, halvings, leaf_count};
 
@@ -47,8 +47,7 @@ fn put_nodes(tree: &Tree, depth: u8, start: u16, pieces: &[Piece], nodes: &mut [
     if is_piece(depth, &pieces[0]) {
         return;
     }
-    let middle = start + leaf_count(depth - 1);
-    let (left_pieces, right_pieces) = pieces.split_at(count_begun(pieces, middle));
+    let (middle, left_pieces, right_pieces) = halves(depth, start, pieces);
     let left_count = count_outside(depth - 1, start, left_pieces);
     let (left_nodes, right_nodes) = nodes.split_at_mut(left_count);
     put_nodes(tree, depth - 1, start, left_pieces, left_nodes);
@@ -72,10 +71,11 @@ fn blank_nodes() -> [Digest; 8] {
     [Digest([0; 90]); 8]
 }
 
-/// The nodes that open the leaf at place `pos` of a tree that isn't empty: the digests of the
-/// greatest subtrees that don't hold the place, left to right.
+/// Makes the NMT inclusion proof of one leaf: the nodes that open the leaf at place `pos`, below
+/// the number of leaves, of a tree that isn't empty. They are the digests of the greatest subtrees
+/// that don't hold the place, left to right, as many as the tree has levels below its root.
 ///
-/// It takes no memory.
+/// It takes no memory, and hashes nothing.
 ///
 /// Celestia specifications, "Data Structures", namespaced Merkle tree inclusion proofs.
 pub fn make_leaf(tree: &Tree, pos: u16) -> Path

@@ -1,4 +1,4 @@
-//! Openings of leaves, and why they are refused.
+//! Openings of leaves, which are inclusion proofs, and why they are refused.
 
 ghost use Rattle.std.specs.Prelude.{◌≡◌, ◌<◌, ℕ, IsTrue, IsOk, IsErrOf, ◌↔◌, None, true, false};
 ghost use Rattle.nmt_tree.specs.Roots.{is_leaf_count, halvings};
@@ -49,9 +49,10 @@ fn open(n: u16, pieces: &[Piece], nodes: &[Digest], root: &Digest) -> Result<(),
     }
 }
 
-/// Whether the nodes open the leaf over `share`, with namespace `name`, at place `pos` of `n` leaves
-/// under the root. `n` is a power of two, at most 256, and `pos` is below it; the nodes are the
-/// digests of the greatest subtrees that don't hold the place, left to right.
+/// Verifies an NMT inclusion proof of one leaf: whether the nodes open the leaf over `share`, with
+/// namespace `name`, at place `pos` of `n` leaves under the root. `n` is a power of two, at most
+/// 256, and `pos` is below it; the nodes are the digests of the greatest subtrees that don't hold
+/// the place, left to right, as many as `n` has halvings.
 ///
 /// Refuses another number of nodes, then a join that is not ordered, then another root. It takes no
 /// memory.

@@ -1,11 +1,17 @@
 //! The nodes of an opening of one leaf.
+//!
+//! They stand in an array, not a `Vec`, so that an inclusion proof is made and read with no memory.
 
 ghost use Rattle.std.specs.Prelude.{◌≡◌, ◌<◌, ◌≤◌, [], ◌∷◌, ◌++◌, length};
 
 use namespace_id::Digest;
 use std::marker::Model;
 
-/// Up to 8 digests, left to right: the nodes that open one leaf of a tree of up to 256.
+/// An NMT inclusion proof of one leaf: the digests of the greatest subtrees that don't hold its
+/// place, left to right, up to 8 of 90 bytes for a tree of up to 256 leaves. Any digests may stand
+/// in it: whether they open a leaf is for `open_leaf`.
+///
+/// Celestia specifications, "Data Structures", namespaced Merkle tree inclusion proofs.
 #[derive(Clone, Debug, Drop)]
 pub struct Path {
     count: u8,
@@ -35,7 +41,7 @@ impl Path {
         }
     }
 
-    /// Adds a node at the right end.
+    /// Adds a node at the right end. There are fewer than 8 before it.
     pub fn push(&mut self, node: Digest)
         requires { length self.old < 8 }
         ensures { self.new ≡ self.old ++ node ∷ [] }

@@ -1,4 +1,8 @@
 //! The root over digests of leaves, joined in place.
+//!
+//! Each level is written over the front of the one below it, so the slice with the leaves is all
+//! the memory: for roots of which no part is asked again. `Tree` keeps the levels for inclusion
+//! proofs.
 
 ghost use Rattle.std.specs.Prelude.{◌≡◌, ◌/◌, ◌*◌, ◌^◌, ℕ, length, take, IsTrue};
 ghost use Rattle.nmt_tree.specs.Roots.{is_leaf_count, halvings};

@@ -1,4 +1,5 @@
-//! The digests of leaves and nodes.
+//! The digests of leaves and nodes: namespaced hashes of 90 bytes, the least and the greatest
+//! namespace below and a SHA-256 value.
 
 ghost use Rattle.std.specs.Prelude.{◌≡◌, ◌++◌, IsTrue, IsOk, IsErr, IfOk, ◌↔◌, false};
 ghost use Rattle.nmt_tree.specs.Digests.{leaf_digest, joined_greatest, node_digest, is_ordered_join};
@@ -71,7 +72,10 @@ pub fn node(left: &Digest, right: &Digest) -> Digest
 /// The digest of the node over two digests, where their join is ordered: the left one's greatest
 /// namespace is at most the right one's least, and neither has its least above its greatest.
 ///
-/// Refuses every other join.
+/// Refuses every other join. It takes no memory.
+///
+/// Celestia specifications, "Data Structures", namespaced Merkle trees; that a digest's own
+/// namespaces are looked at too is docs/RULES.md, "Trees".
 #[tactic(auto, unfolding(crate::specs::Digests::is_ordered_join))]
 pub fn join(left: &Digest, right: &Digest) -> Result<Digest, Unordered>
     ensures ordered { IsOk result ↔ IsTrue (is_ordered_join left.now right.now) }

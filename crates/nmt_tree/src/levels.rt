@@ -1,5 +1,9 @@
 //! The digests of all levels of a tree in one slice: the leaves first, then each level above them,
 //! the root last.
+//!
+//! Level above level, and no tree of pointers: 2n - 1 digests in one piece of memory, and the
+//! digest over 2^d leaves at a multiple of 2^d is read after d steps, each to the half place one
+//! level up.
 
 ghost use Rattle.std.specs.Prelude.{◌≡◌, ◌≤◌, ◌+◌, ◌*◌, ◌%◌, List, length, take, IsTrue};
 ghost use Rattle.namespace_id.specs.declared.digests.Digest.{Digest};

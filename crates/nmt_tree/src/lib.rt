@@ -1,5 +1,5 @@
-//! Namespaced Merkle trees: the digests of leaves and nodes, the roots of leaf lists, and stored
-//! trees.
+//! Namespaced Merkle trees (NMT): the digests of leaves and nodes, the roots of leaf lists, and
+//! stored trees.
 //!
 //! `leaf`, `node` and `join` make one digest; `plain_root` and `strict_root` are the plain
 //! recursions that say what the root of a list is. A `Tree` keeps the digests of all levels, and

@@ -1,4 +1,7 @@
 //! The roots of leaf lists, by plain recursion on their halves.
+//!
+//! This is the definition, run: it keeps nothing, and hashes all leaves anew for each call. What is
+//! asked more than one root or proof of the same leaves has `Tree` and `fold_root`.
 
 ghost use Rattle.std.specs.Prelude.{◌≡◌, ◌≤◌, ◌^◌, ℕ, length, IsTrue};
 ghost use Rattle.nmt_tree.specs.Roots.{is_leaf_count, halvings, root, is_ordered, strict_root};
@@ -6,14 +9,20 @@ ghost use Rattle.nmt_tree.specs.Roots.{is_leaf_count, halvings, root, is_ordered
 use crate::{leaf, node};
 use namespace_id::{Digest, Namespace, Share};
 
-/// Whether a tree may have this many leaves: a power of two from 1 to 256.
+/// Whether a tree may have this many leaves: a power of two from 1 to 256, the 2k of the greatest
+/// width.
+///
+/// docs/RULES.md, "Trees".
 pub fn is_leaf_count(n: usize) -> bool
     ensures { result ≡ is_leaf_count n }
 {
     matches!(n, 1 | 2 | 4 | 8 | 16 | 32 | 64 | 128 | 256)
 }
 
-/// How often a number of leaves is halved until it is one: the depth of the tree over them.
+/// How often a number of leaves is halved until it is one: the depth of the tree over them, and the
+/// number of nodes of an inclusion proof of one leaf.
+///
+/// docs/RULES.md, "Trees".
 pub fn halvings(n: usize) -> u8
     requires { IsTrue (is_leaf_count n) }
     ensures value { result ≡ halvings n }
@@ -33,7 +42,9 @@ pub fn halvings(n: usize) -> u8
     }
 }
 
-/// How many leaves a tree of this depth has.
+/// How many leaves a tree of this depth has. The depth is at most 8.
+///
+/// docs/RULES.md, "Trees".
 pub fn leaf_count(depth: u8) -> u16
     requires { depth ≤ 8 }
     ensures { result ≡ 2 ^ depth }

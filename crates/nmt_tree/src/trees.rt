@@ -1,4 +1,8 @@
 //! Trees that keep the digests of all their levels.
+//!
+//! An inclusion proof is made of the digests over subtrees. From a stored tree they are read;
+//! without one, each proof would hash all leaves anew, which for the proofs of a whole axis is 2k
+//! times as much.
 
 ghost use Rattle.std.specs.Prelude.{◌≡◌, ◌≤◌, ◌<◌, ◌+◌, ◌%◌, ◌^◌, ℕ, List, [], length, take, drop, get_or, IsTrue, true, Some, None, IfOk, IfSome, if◌then◌else◌};
 ghost use Rattle.namespace_id.specs.Digests.{no_digest};
@@ -16,8 +20,8 @@ use namespace_id::{Digest, Namespace, NoMemory, Share, namespaces_law};
 use std::alloc::Global;
 use std::marker::Model;
 
-/// A tree over a power of two of leaves from 1 to 256. It is empty, or keeps the digests of all its
-/// levels, over leaves whose namespaces never fall.
+/// A namespaced Merkle tree (NMT) that keeps the digests of all its levels. It is for a power of
+/// two of leaves from 1 to 256, and either empty or over leaves whose namespaces never fall.
 ///
 /// Celestia specifications, "Data Structures", namespaced Merkle trees.
 #[derive(Drop)]
@@ -39,7 +43,8 @@ impl Model for Tree {
 }
 
 impl Tree {
-    /// An empty tree for `n` leaves. It takes the memory for all levels, 2n - 1 digests.
+    /// An empty tree for `n` leaves, a power of two from 1 to 256. It takes all memory at its
+    /// start, 2n - 1 digests of 90 bytes, and refuses only where there is none.
     pub fn new(alloc: Global, n: u16) -> Result<Tree, NoMemory>
         requires { IsTrue (is_leaf_count n) }
         ensures count { IfOk result (λ tree. tree.count ≡ n) }
@@ -66,10 +71,13 @@ impl Tree {
         self.count
     }
 
-    /// Puts leaves in place of all that the tree held, where their namespaces never fall; otherwise
-    /// it answers false, and the tree is empty. There are as many leaves as the tree is for.
+    /// Puts leaves in place of all that the tree held: as many namespaces and shares as the tree is
+    /// for, leaf by leaf. Where a namespace is followed by a smaller one it answers false, and the
+    /// tree is empty.
     ///
     /// It takes no memory.
+    ///
+    /// Celestia specifications, "Data Structures", namespaced Merkle trees.
     pub fn fill(&mut self, names: &[Namespace], shares: &[Share]) -> bool
         requires names { length names.now ≡ self.old.count }
         requires shares { length shares.now ≡ self.old.count }
@@ -92,8 +100,8 @@ impl Tree {
         true
     }
 
-    /// The digest over the `size` leaves from place `from` on; none exactly where the tree is
-    /// empty. `size` is a power of two, and `from` a multiple of it.
+    /// The digest over the `size` leaves from place `from` on, counted from 0; none exactly where
+    /// the tree is empty. `size` is a power of two, and `from` a multiple of it. Nothing is hashed.
     pub fn digest(&self, from: u16, size: u16) -> Option<Digest>
         requires size { IsTrue (is_leaf_count size) }
         requires aligned { from % size ≡ 0 }
@@ -112,7 +120,7 @@ impl Tree {
         }
     }
 
-    /// The digest over all leaves; none exactly where the tree is empty.
+    /// The root, which is the digest over all leaves; none exactly where the tree is empty.
     pub fn root(&self) -> Option<Digest>
         ensures { result ≡ digest_over self.now 0 self.now.count }
     {
@@ -121,8 +129,8 @@ impl Tree {
 }
 
 /// A digest of a list of leaves is that of the leaf at its place; the root is the digest over all
-/// of them, and the root of some neighbors is the digest over these; and where their namespaces never
-/// fall, every join over them is ordered.
+/// of them, and the root of some neighbors is the digest over these; and where their namespaces
+/// never fall, every join over them is ordered.
 pub fn tree_laws()
     ensures leaf { (names : List Namespace) (shares : List Share) (pos : ℕ) →
         (name : Namespace) (share : Share) → length names ≡ length shares → pos < length names →

@@ -4,7 +4,7 @@ use Rattle.nmt_tree.specs.Levels.{span}
 use Rattle.nmt_tree.proofs.CountLemmas.{leaf_count_power}
 use Rattle.nmt_proofs.specs.Openings.{outside}
 use Rattle.nmt_proofs.specs.Pieces.{shown}
-use Rattle.nmt_proofs.proofs.StepLemmas.{outside_none, outside_shown, outside_halves, half_power, is_none, is_some, left_count, right_count}
+use Rattle.nmt_proofs.proofs.StepLemmas.{outside_none, outside_shown, halved, is_none, is_some, left_count, right_count}
 use Rattle.nmt_proofs.proofs.PutLemmas.{halved_nodes, one_node, no_node, left_aligned, right_aligned}
 use Rattle.nmt_proofs.proofs.making.+put_nodes.Goals as goal
 
@@ -30,63 +30,26 @@ returns-then-is_piece t c = λ leaves e.
     no_node leaves _ c.args.nodes.now
     (outside_shown c.args.depth c.args.start c.args.pieces.now _ (is_some _ _ c.is_empty.ensures c.if-is_empty.false) (sym c.is_piece.ensures.shown ∙ c.if-is_piece.true)) c.requires.count
 
+pub halves-middle-requires-clause-halved : goal.halves-middle-requires-clause-halved
+halves-middle-requires-clause-halved t c = halved c.args.depth c.args.pieces.now _ _ _ c.is_empty.ensures c.if-is_empty.false c.is_piece.ensures.shown c.if-is_piece.false
+
 pub split_at_mut-left_nodes-requires : goal.split_at_mut-left_nodes-requires
 split_at_mut-left_nodes-requires t c =
-    left_count (length c.args.nodes.now) c.count_outside-left_count.result _ _ _ (outside_halves c.args.depth c.args.start c.args.pieces.now c.split_at.result.0.now c.split_at.result.1.now _ c.count_begun.result c.leaf_count-2.result
-    (is_some _ _ c.is_empty.ensures c.if-is_empty.false) (sym c.is_piece.ensures.shown ∙ c.if-is_piece.false)
-    c.leaf_count-2.ensures c.count_begun.ensures.count c.split_at.ensures.front c.split_at.ensures.back) c.requires.count c.count_outside-left_count.ensures.count
+    left_count (length c.args.nodes.now) c.count_outside-left_count.result _ _ _ c.halves-middle.ensures.outside c.requires.count c.count_outside-left_count.ensures.count
 
 pub put_nodes-requires : goal.put_nodes-requires
 put_nodes-requires t c =
-    let some = c.is_piece.ensures.halved c.if-is_piece.false in
-    let twice = half_power c.args.depth some in (
-      omega arith,
-      (
-        c.requires.filled,
-        (
-          omega arith,
-          (
-            omega arith,
-            (
-              left_aligned c.args.depth c.args.start some c.requires.aligned,
-              (
-                omega arith,
-                c.split_at_mut-left_nodes.ensures.front_len ∙ c.count_outside-left_count.ensures.count,
-              ),
-            ),
-          ),
-        ),
-      ),
-    )
+    let aligned = left_aligned c.args.depth c.args.start c.halves-middle.ensures.depth c.requires.aligned in
+    let count = c.split_at_mut-left_nodes.ensures.front_len ∙ c.count_outside-left_count.ensures.count in
+    (omega arith, (c.requires.filled, (omega arith, (omega arith, (aligned, (omega arith, count))))))
 
 pub put_nodes-requires-2 : goal.put_nodes-requires-2
 put_nodes-requires-2 t c =
-    let some = c.is_piece.ensures.halved c.if-is_piece.false in
-    let twice = half_power c.args.depth some in (
-      omega arith,
-      (
-        c.requires.filled,
-        (
-          omega arith,
-          (
-            omega arith,
-            (
-              right_aligned c.args.depth c.args.start c.leaf_count-2.result some c.requires.aligned c.leaf_count-2.ensures,
-              (
-                omega arith,
-                right_count (length c.args.nodes.now) c.count_outside-left_count.result (length c.split_at_mut-left_nodes.result.1.now) _ _ _ (outside_halves c.args.depth c.args.start c.args.pieces.now c.split_at.result.0.now c.split_at.result.1.now _ c.count_begun.result c.leaf_count-2.result
-                    (is_some _ _ c.is_empty.ensures c.if-is_empty.false) (sym c.is_piece.ensures.shown ∙ c.if-is_piece.false)
-                    c.leaf_count-2.ensures c.count_begun.ensures.count c.split_at.ensures.front c.split_at.ensures.back)
-                    c.requires.count c.count_outside-left_count.ensures.count c.split_at_mut-left_nodes.ensures.back_len,
-              ),
-            ),
-          ),
-        ),
-      ),
-    )
+    let aligned = right_aligned c.args.depth c.args.start c.halves-middle.result.0 c.halves-middle.ensures.depth c.requires.aligned c.halves-middle.ensures.middle in
+    let count = right_count (length c.args.nodes.now) c.count_outside-left_count.result (length c.split_at_mut-left_nodes.result.1.now) _ _ _ c.halves-middle.ensures.outside
+    c.requires.count c.count_outside-left_count.ensures.count c.split_at_mut-left_nodes.ensures.back_len in
+    (omega arith, (c.requires.filled, (omega arith, (omega arith, (aligned, (omega arith, count))))))
 
 pub returns : goal.returns
 returns t c = λ leaves e.
-    halved_nodes leaves _ _ _ c.put_nodes.new.nodes c.put_nodes-2.new.nodes (outside_halves c.args.depth c.args.start c.args.pieces.now c.split_at.result.0.now c.split_at.result.1.now _ c.count_begun.result c.leaf_count-2.result
-    (is_some _ _ c.is_empty.ensures c.if-is_empty.false) (sym c.is_piece.ensures.shown ∙ c.if-is_piece.false)
-    c.leaf_count-2.ensures c.count_begun.ensures.count c.split_at.ensures.front c.split_at.ensures.back) (c.put_nodes.ensures leaves e) (c.put_nodes-2.ensures leaves e)
+    halved_nodes leaves _ _ _ c.put_nodes.new.nodes c.put_nodes-2.new.nodes c.halves-middle.ensures.outside (c.put_nodes.ensures leaves e) (c.put_nodes-2.ensures leaves e)

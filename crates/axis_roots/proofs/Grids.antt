@@ -1,0 +1,13 @@
+-- Grids, their extension and their headers.
+pub mod NumberLemmas
+pub mod AxisLemmas
+pub mod WordLemmas
+pub mod LineLemmas
+pub mod SumLemmas
+pub mod ExtensionLemmas
+pub mod HeaderLemmas
+pub mod LaidLemmas
+pub mod WrittenLemmas
+pub mod KeptLemmas
+pub mod FilledLemmas
+pub mod RootingLemmas

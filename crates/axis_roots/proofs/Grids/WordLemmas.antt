@@ -1,0 +1,114 @@
+-- Codewords by their first k shares.
+use Rattle.std.proofs.Common.{◌≡◌, ◌∙◌, ℕ, zero, suc, ◌+◌, ◌*◌, ◌<◌, ◌≤◌, List, [], ◌∷◌, length, get_or, map, refl, sym, ap, subst, inl, inr, arith, true, IsTrue}
+use Rattle.std.specs.Prelude.{Some, slice_get, slice_index, nat_lt}
+use Rattle.std.specs.List.{list_all}
+use Rattle.std.proofs.lemmas.Bool.{cases_lt, and_from}
+use Rattle.std.proofs.lemmas.Bool.Decides.{nat_tests}
+use Rattle.std.proofs.lemmas.List.{get_or_past, length-replicate, get_or-map, length-map}
+use Rattle.std.proofs.lemmas.Option.{slice_get-get_or, get_or_from_slice_get}
+use Rattle.namespace_id.specs.declared.shares.Share.{Share}
+use Rattle.namespace_id.specs.Shares.{IsShare, AreShares}
+use Rattle.namespace_id.specs.Cells.{is_width}
+use Rattle.namespace_id.proofs.StringLemmas.{AreBytes-replicate}
+use Rattle.namespace_id.specs.Lists.{holds_along, ascending}
+use Rattle.leopard_code.specs.Codewords.{are_positions, IsCodeword, HasEntries}
+use Rattle.leopard_code.proofs.PointLemmas.{length-ascending, get_or-ascending}
+use Rattle.leopard_code.proofs.LawLemmas.{one_codeword, through_shares}
+use Rattle.axis_roots.specs.Lines.{blank}
+
+-- ---- shares of lists
+
+-- a share of a list of shares
+pub share_in : (shares : List Share) (i : ℕ) (d : Share) → i < length shares → AreShares shares → IsShare (get_or shares i d)
+share_in [] i d h are = absurd (omega arith)
+share_in (share ∷ shares) zero d h are = are.0
+share_in (share ∷ shares) (suc i) d h are = share_in shares i d (omega arith) are.1
+
+-- a list whose elements are shares
+pub shares_each : (shares : List Share) (d : Share) → ((i : ℕ) → i < length shares → IsShare (get_or shares i d)) → AreShares shares
+shares_each [] d each = tt
+shares_each (share ∷ shares) d each = (each 0 (omega arith), shares_each shares d (λ i h. each (suc i) (omega arith)))
+
+-- the share of zeros is a share
+blank_share : IsShare blank
+unfolding blank
+blank_share = record { size_is = length-replicate {A = ℕ} 512 0; fits = AreBytes-replicate 512 0 (omega arith) }
+
+-- any place of a list of shares has a share
+pub share_anywhere : (shares : List Share) (i : ℕ) → AreShares shares → IsShare (get_or shares i blank)
+share_anywhere shares i are = elim (cases_lt i (length shares)) [
+  | inl within ↦ share_in shares i blank within are
+  | inr past ↦ subst IsShare (sym (get_or_past shares i blank past)) blank_share
+]
+
+-- ---- the first k positions
+
+-- numbers that count up are ascending
+along_ascending : (n first : ℕ) → holds_along nat_lt (ascending first n) ≡ true
+unfolding ascending holds_along
+along_ascending zero first = refl
+along_ascending (suc zero) first = refl
+along_ascending (suc (suc n)) first =
+    let next : nat_lt first (suc first) ≡ true = grind (arith, nat_tests) in
+    and_from (nat_lt first (suc first)) (holds_along nat_lt (ascending (suc first) (suc n))) next (along_ascending (suc n) (suc first))
+
+-- and below their end
+below_ascending : (n first high : ℕ) → first + n ≤ high → list_all (λ pos. nat_lt pos high) (ascending first n) ≡ true
+unfolding ascending
+below_ascending zero first high h = refl
+below_ascending (suc n) first high h =
+    let here : nat_lt first high ≡ true = grind (arith, nat_tests) in
+    and_from (nat_lt first high) (list_all (λ pos. nat_lt pos high) (ascending (suc first) n)) here (below_ascending n (suc first) high (omega arith))
+
+-- the first k places of a codeword are positions
+pub first_positions : (k : ℕ) → IsTrue (are_positions k (ascending 0 k))
+first_positions k =
+    and_from (list_all (λ pos. nat_lt pos (2 * k)) (ascending 0 k)) (holds_along nat_lt (ascending 0 k)) (below_ascending k 0 (2 * k) (omega arith)) (along_ascending k 0)
+
+-- a list begins with its first k entries
+pub has_first : (k : ℕ) (word shares : List Share) → k ≤ length word → length shares ≡ k
+    → ((i : ℕ) → i < k → get_or word i blank ≡ get_or shares i blank) → HasEntries (ascending 0 k) shares word
+has_first k word shares long count same i h =
+    let within : i < k = omega (arith, length-ascending k 0) in
+    let start : 0 + i ≡ i = omega arith in
+    ap (slice_get word) (get_or-ascending k 0 i within ∙ start)
+    ∙ slice_get-get_or word i blank (omega arith) ∙ ap Some (same i within) ∙ sym (slice_get-get_or shares i blank (omega arith))
+
+-- two codewords with the same first k shares are one
+pub one_word : (k : ℕ) (word other : List Share) → IsTrue (is_width k) → IsCodeword k word → IsCodeword k other
+    → ((i : ℕ) → i < k → get_or word i blank ≡ get_or other i blank) → word ≡ other
+one_word k word other width first second same =
+    one_codeword k (ascending 0 k) word other width (length-ascending k 0) (first_positions k) first second (λ i h.
+    let start : 0 + i ≡ i = omega arith in
+    let place : slice_index (ascending 0 k) i ≡ i = get_or-ascending k 0 i h ∙ start in
+    ap (slice_get word) place
+    ∙ slice_get-get_or word i blank (omega (arith, first.count)) ∙ ap Some (same i h) ∙ sym (slice_get-get_or other i blank (omega (arith, second.count)))
+    ∙ ap (slice_get other) (sym place))
+
+-- k shares, one for each of these
+length-mapped : (k : ℕ) (f : ℕ → Share) → length (map f (ascending 0 k)) ≡ k
+length-mapped k f = length-map (ascending 0 k) f ∙ length-ascending k 0
+
+-- they are shares where each one is
+are_mapped : (n first : ℕ) (f : ℕ → Share) → ((i : ℕ) → IsShare (f i)) → AreShares (map f (ascending first n))
+unfolding ascending
+are_mapped zero first f each = tt
+are_mapped (suc n) first f each = (each first, are_mapped n (suc first) f each)
+
+-- a codeword begins with any k shares
+pub word_through : (k : ℕ) (f : ℕ → Share) → IsTrue (is_width k) → ((i : ℕ) → IsShare (f i))
+    → (word : List Share) × IsCodeword k word × ((i : ℕ) → i < k → get_or word i blank ≡ f i)
+word_through k f width each =
+    let shares : List Share = map f (ascending 0 k) in
+    let long : length shares ≡ k = length-mapped k f in
+    let found = through_shares k (ascending 0 k) shares width (length-ascending k 0) (first_positions k) long (are_mapped k 0 f each) in (
+      found.0,
+      found.1,
+      λ i h.
+          let start : 0 + i ≡ i = omega arith in
+          let known : i < length (ascending 0 k) = omega (arith, length-ascending k 0) in
+          let place : slice_index (ascending 0 k) i ≡ i = get_or-ascending k 0 i h ∙ start in
+          get_or_from_slice_get found.0 i (f i) blank
+          (ap (slice_get found.0) (sym place) ∙ found.2 i known ∙ slice_get-get_or shares i blank (omega arith)
+          ∙ ap Some (get_or-map f (ascending 0 k) i 0 blank known ∙ ap f place)),
+    )

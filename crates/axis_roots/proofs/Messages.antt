@@ -1,0 +1,4 @@
+-- Messages and certificates.
+pub mod MadeLemmas
+pub mod MessageLemmas
+pub mod OwnLemmas

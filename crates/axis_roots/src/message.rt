@@ -1,0 +1,15 @@
+//! Share messages, whether one is proved under a header, and certificates of those that are.
+//!
+//! All but `making` stand on the header and on inclusion proofs, and not on grids.
+
+mod certificates;
+mod laws;
+mod making;
+mod messages;
+mod proved;
+
+pub use certificates::{RefusedMessage, check};
+pub use laws::{message_laws, own_laws};
+pub use making::message_of;
+pub use messages::{CheckRefusal, Message, message_law, opens};
+pub use proved::Proved;

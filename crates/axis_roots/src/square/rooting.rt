@@ -1,0 +1,244 @@
+//! The header of a grid.
+//!
+//! Each cell is a leaf of its row's tree and of its column's, under one namespace, so all leaves
+//! are hashed once, into a table of 4k^2 digests. An axis then copies its line of 2k digests and
+//! folds it in place: a stored tree for each would keep levels that nobody reads.
+
+ghost use Rattle.std.specs.Prelude.{◌≡◌, ◌*◌, ◌+◌, ◌<◌, ℕ, List, IsTrue, IfOk, length, map, true, Some, None, if◌then◌else◌};
+ghost use Rattle.std.specs.List.{list_all};
+ghost use Rattle.std.specs.Option.{option_map};
+ghost use Rattle.namespace_id.specs.Cells.{is_in_square};
+ghost use Rattle.namespace_id.specs.Digests.{least_of};
+ghost use Rattle.namespace_id.specs.Shares.{AreShares};
+ghost use Rattle.nmt_tree.specs.Roots.{is_ordered};
+ghost use Rattle.nmt_tree.specs.Levels.{leaf_digests};
+ghost use Rattle.namespace_id.specs.Lists.{ascending};
+ghost use Rattle.axis_roots.specs.Lines.{line_strict_root};
+ghost use Rattle.axis_roots.specs.Grids.{leaf_over, AreLeafDigests, axis_names, axis_shares, axis_roots, is_ordered_axis, header_of_grid};
+
+use super::grids::place;
+use super::lines::cell_on;
+use crate::Grid;
+use data_header::Header;
+use namespace_id::{Axis, Cell, Digest, NoMemory, leaf_namespace, shares_law};
+use nmt_tree::{fold_root, leaf};
+use std::alloc::Global;
+
+/// The digest of the leaf over a cell.
+fn leaf_over(grid: &Grid, cell: Cell) -> Digest
+    requires { IsTrue (is_in_square grid.now.k cell) }
+    ensures { result ≡ leaf_over grid.now.k grid.now.shares cell }
+{
+    let name = leaf_namespace(grid.width(), cell, grid.cell(cell));
+    leaf(&name, grid.cell(cell))
+}
+
+/// Makes the digests of the leaves over all cells, each of them once.
+fn fill_leaves(grid: &Grid, leaves: &mut [Digest])
+    requires { length leaves.old ≡ 2 * grid.now.k * (2 * grid.now.k) }
+    ensures { AreLeafDigests grid.now.k grid.now.shares leaves.new }
+{
+    let side = 2 * grid.width() as usize;
+    for number in 0..leaves.len() {
+        let cell = Cell {
+            row: (number / side) as u16,
+            col: (number % side) as u16,
+        };
+        leaves[number] = leaf_over(grid, cell);
+    }
+}
+
+/// Copies the digests of the leaves over an axis.
+fn read_leaves(grid: &Grid, leaves: &[Digest], axis: Axis, index: u16, line: &mut [Digest])
+    requires leaves { AreLeafDigests grid.now.k grid.now.shares leaves.now }
+    requires index { index < 2 * grid.now.k }
+    requires line { length line.old ≡ 2 * grid.now.k }
+    ensures { line.new ≡ leaf_digests (axis_names grid.now.k grid.now.shares axis index)
+        (axis_shares grid.now.k grid.now.shares axis index) }
+{
+    let k = grid.width();
+    for pos in 0..2 * k {
+        line[pos as usize] = leaves[place(k, cell_on(axis, index, pos))];
+    }
+}
+
+/// Whether the least namespaces of digests never fall.
+fn are_ordered(digests: &[Digest]) -> bool
+    ensures { result ≡ is_ordered (map least_of digests.now) }
+{
+    for i in 1..digests.len() {
+        if !digests[i - 1].least().is_at_most(&digests[i].least()) {
+            return false;
+        }
+    }
+    true
+}
+
+/// The strict root of an axis.
+fn root_along(
+    grid: &Grid,
+    leaves: &[Digest],
+    axis: Axis,
+    index: u16,
+    line: &mut [Digest],
+) -> Option<Digest>
+    requires shares { AreShares grid.now.shares }
+    requires leaves { AreLeafDigests grid.now.k grid.now.shares leaves.now }
+    requires index { index < 2 * grid.now.k }
+    requires line { length line.old ≡ 2 * grid.now.k }
+    ensures { result ≡ line_strict_root grid.now.k axis index
+        (axis_shares grid.now.k grid.now.shares axis index) }
+{
+    grid.law();
+    read_leaves(grid, leaves, axis, index, line);
+    if are_ordered(line) {
+        Some(fold_root(line))
+    } else {
+        None
+    }
+}
+
+/// Writes the strict roots of all axes of one kind; false where one of them has none.
+fn put_roots(
+    grid: &Grid,
+    leaves: &[Digest],
+    axis: Axis,
+    line: &mut [Digest],
+    roots: &mut [Digest],
+) -> bool
+    requires shares { AreShares grid.now.shares }
+    requires leaves { AreLeafDigests grid.now.k grid.now.shares leaves.now }
+    requires line { length line.old ≡ 2 * grid.now.k }
+    requires roots { length roots.old ≡ 2 * grid.now.k }
+    ensures ordered { result ≡
+        list_all (is_ordered_axis grid.now.k grid.now.shares axis) (ascending 0 (2 * grid.now.k)) }
+    ensures roots { result ≡ true →
+        roots.new ≡ axis_roots grid.now.k grid.now.shares axis }
+{
+    for index in 0..2 * grid.width() {
+        let Some(root) = root_along(grid, leaves, axis, index, line) else {
+            return false;
+        };
+        roots[index as usize] = root;
+    }
+    true
+}
+
+/// The strict roots of all axes of one kind, where each of them has one.
+fn roots_of(
+    alloc: Global,
+    grid: &Grid,
+    leaves: &[Digest],
+    axis: Axis,
+    line: &mut [Digest],
+) -> Result<Option<Vec<Digest>>, NoMemory>
+    requires shares { AreShares grid.now.shares }
+    requires leaves { AreLeafDigests grid.now.k grid.now.shares leaves.now }
+    requires line { length line.old ≡ 2 * grid.now.k }
+    ensures { IfOk result (λ roots. option_map (λ v. v.items) roots ≡
+        (if list_all (is_ordered_axis grid.now.k grid.now.shares axis)
+        (ascending 0 (2 * grid.now.k))
+        then Some (axis_roots grid.now.k grid.now.shares axis) else None)) }
+{
+    let Ok(mut roots) = vec![in alloc; Digest([0; 90]); 2 * grid.width() as usize] else {
+        return Err(NoMemory);
+    };
+    if put_roots(grid, leaves, axis, line, &mut roots) {
+        Ok(Some(roots))
+    } else {
+        Ok(None)
+    }
+}
+
+/// The digests of the leaves over all cells.
+fn leaves_of(alloc: Global, grid: &Grid) -> Result<Vec<Digest>, NoMemory>
+    ensures { IfOk result (λ leaves. AreLeafDigests grid.now.k grid.now.shares leaves.items) }
+{
+    let side = 2 * grid.width() as usize;
+    let Ok(mut leaves) = vec![in alloc; Digest([0; 90]); side * side] else {
+        return Err(NoMemory);
+    };
+    fill_leaves(grid, &mut leaves);
+    Ok(leaves)
+}
+
+/// The data availability header (DAH) of a grid: the strict roots of all 2k rows and 2k columns,
+/// over their shares under the leaf namespaces of their cells. There is none exactly where the
+/// namespaces of a row or a column fall. Each leaf is hashed once, for its row and its column.
+///
+/// It takes memory for 4 * k * k digests of leaves, and for 6k digests besides. The one refusal is
+/// that it is out of memory.
+///
+/// Celestia specifications, "Data Structures", available data header.
+pub fn header_of(alloc: Global, grid: &Grid) -> Result<Option<Header>, NoMemory>
+    ensures { IfOk result (λ header. header ≡ header_of_grid grid.now.k grid.now.shares) }
+{
+    shares_law(&grid.shares);
+    let leaves = leaves_of(alloc, grid)?;
+    let Ok(mut line) = vec![in alloc; Digest([0; 90]); 2 * grid.k as usize] else {
+        return Err(NoMemory);
+    };
+    let Some(rows) = roots_of(alloc, grid, &leaves, Axis::Row, &mut line)? else {
+        return Ok(None);
+    };
+    let Some(cols) = roots_of(alloc, grid, &leaves, Axis::Col, &mut line)? else {
+        return Ok(None);
+    };
+    Ok(Some(Header {
+        k: grid.k,
+        rows,
+        cols,
+    }))
+}
+
+#[cfg(test)]
+mod tests {
+    use super::*;
+    use namespace_id::{Namespace, PARITY, Share};
+    use nmt_tree::node;
+    use square_layout::Square;
+    use std::test::Fail;
+
+    /// A share of a namespace of version 0 that ends in these two bytes.
+    fn share(high: u8, low: u8) -> Share {
+        let mut bytes = [0; 512];
+        bytes[27] = high;
+        bytes[28] = low;
+        Share(bytes)
+    }
+
+    /// By docs/RULES.md, "Trees" and "The code": the code of width 1 repeats its share.
+    #[test]
+    fn header_of_one_share(rt: HostRuntime) -> Result<(), Fail> {
+        let original = share(1, 2);
+        let shares = vec![in rt.alloc(); original; 1]?;
+        let grid = Grid::extend(rt.alloc(), &Square { k: 1, shares })?;
+        for i in 0..grid.shares.len() {
+            assert_eq!(rt; grid.shares[i], original, "{i}");
+        }
+        let mut name = [0; 29];
+        name.copy_from_slice(&original.0[..29]);
+        let parity = leaf(&PARITY, &original);
+        let upper = node(&leaf(&Namespace(name), &original), &parity);
+        let lower = node(&parity, &parity);
+        let header = header_of(rt.alloc(), &grid)?.expect(&rt, "the namespaces do not fall");
+        assert_eq!(rt; header.k, 1);
+        for axis in [Axis::Row, Axis::Col] {
+            assert_eq!(rt; header.root_of(axis, 0), upper);
+            assert_eq!(rt; header.root_of(axis, 1), lower);
+        }
+        Ok(())
+    }
+
+    #[test]
+    fn no_header_of_falling_namespaces(rt: HostRuntime) -> Result<(), Fail> {
+        let originals = [share(1, 2), share(1, 1), share(1, 3), share(1, 4)];
+        let mut shares = vec![in rt.alloc(); originals[0]; 4]?;
+        for i in 0..4 {
+            shares[i] = originals[i];
+        }
+        let grid = Grid::extend(rt.alloc(), &Square { k: 2, shares })?;
+        assert!(rt; header_of(rt.alloc(), &grid)?.is_none());
+        Ok(())
+    }
+}
