@@ -4,19 +4,19 @@ ghost use Rattle.std.specs.Prelude.{◌≡◌, ◌⊎◌, true};
 ghost use Rattle.namespace_id.specs.Names.{is_at_most, is_zeros, parity, primary_reserved_padding, transaction, pay_for_blob, tail_padding, IsNamespace, AreNamespaces};
 ghost use Rattle.namespace_id.specs.declared.namespaces.Namespace.{Namespace as Name};
 
-use crate::bytes_law;
+use crate::{NAMESPACE_SIZE, bytes_law};
 use thiserror::Error;
 
 /// A namespace: a version byte and a 28-byte id. Namespaces compare as byte strings.
 ///
 /// Celestia specifications, "Namespace".
 #[derive(Clone, Copy, Debug, PartialEq, Eq, PartialOrd, Ord)]
-pub struct Namespace(pub [u8; 29]);
+pub struct Namespace(pub [u8; NAMESPACE_SIZE]);
 
 /// The namespace of the shares that erasure coding adds: 29 bytes 0xFF.
 ///
 /// Celestia specifications, "Namespace".
-pub const PARITY: Namespace = Namespace([0xff; 29]);
+pub const PARITY: Namespace = Namespace([0xff; NAMESPACE_SIZE]);
 
 /// The greatest of the namespaces of version 0 that are reserved: the id 0xFF.
 ///
@@ -100,7 +100,7 @@ impl Namespace {
         // What comes in is what is kept.
         ensures value { IfOk result (λ name. name.0 ≡ bytes.now) }
     {
-        if bytes.len() != 29 {
+        if bytes.len() != NAMESPACE_SIZE {
             return Err(NsError::Length);
         }
         if bytes[0] != 0 {
@@ -109,7 +109,7 @@ impl Namespace {
         if !is_zeros(&bytes[1..19]) {
             return Err(NsError::Prefix);
         }
-        let mut text = [0; 29];
+        let mut text = [0; NAMESPACE_SIZE];
         text.copy_from_slice(bytes);
         let name = Namespace(text);
         if name.is_at_most(&PRIMARY_RESERVED_PADDING) {
