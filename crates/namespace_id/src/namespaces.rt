@@ -181,8 +181,8 @@ mod tests {
     use super::*;
 
     /// Version 0, 18 zero bytes, and `low` as ten big-endian bytes.
-    fn version_0(low: u16) -> [u8; 29] {
-        let mut bytes = [0; 29];
+    fn version_0(low: u16) -> [u8; NAMESPACE_SIZE] {
+        let mut bytes = [0; NAMESPACE_SIZE];
         bytes[27..].copy_from_slice(&low.to_be_bytes());
         bytes
     }
@@ -190,13 +190,13 @@ mod tests {
     /// By the Celestia specifications, "Namespace", and docs/RULES.md, "Namespaces".
     #[test]
     fn blob_namespaces(rt: HostRuntime) {
-        let mut prefixed = [0; 29];
+        let mut prefixed = [0; NAMESPACE_SIZE];
         prefixed[1] = 1;
         let reserved = version_0(0xff);
         let least = version_0(0x100);
         let cases: [(&str, &[u8], Option<NsError>); 6] = [
             ("28 bytes", &[0; 28], Some(NsError::Length)),
-            ("parity", &[0xff; 29], Some(NsError::Version)),
+            ("parity", &[0xff; NAMESPACE_SIZE], Some(NsError::Version)),
             ("tail padding", &TAIL_PADDING.0, Some(NsError::Version)),
             ("a byte in the prefix", &prefixed, Some(NsError::Prefix)),
             ("greatest reserved", &reserved, Some(NsError::Reserved)),

@@ -5,24 +5,19 @@ use Rattle.namespace_id.specs.declared.namespaces.Namespace.{Namespace}
 use Rattle.namespace_id.specs.declared.shares.Share.{Share}
 use Rattle.namespace_id.specs.Bytes.{AreBytes}
 use Rattle.namespace_id.specs.Names.{IsNamespace}
+use Rattle.namespace_id.specs.Sizes.{namespace_size, share_size}
 
--- a share, and the namespace that stands first in it, in bytes
-abbrev pub share_size : ℕ
-share_size = 512
-
-abbrev pub namespace_size : ℕ
-namespace_size = 29
-
--- the place of the length of a sequence in its first share
+-- the place of the length of a sequence in its first share: behind the namespace and the info byte
 abbrev pub length_place : ℕ
-length_place = 30
+length_place = namespace_size + 1
 
--- the content of the first share of a sequence, and of a later one, in bytes
+-- the bytes of content in the first share of a sequence: without the namespace, the info byte and the length
 abbrev pub first_content : ℕ
-first_content = 478
+first_content = share_size - namespace_size - 1 - 4
 
+-- the bytes of content in a later share of a sequence: without the namespace and the info byte
 abbrev pub later_content : ℕ
-later_content = 482
+later_content = share_size - namespace_size - 1
 
 -- the greatest length of a sequence: four bytes state it
 abbrev pub max_sequence_length : ℕ
@@ -45,7 +40,7 @@ first_share name size content =
 unfoldable pub later_share : Namespace → List ℕ → Share
 later_share name content = record { 0 = name.0 ++ info 0 false ∷ filled later_content content }
 
--- so many later shares, 482 bytes each
+-- so many later shares, as much content in each as it holds
 unfoldable pub later_shares : ℕ → Namespace → List ℕ → List Share
 later_shares zero name bytes = []
 later_shares (suc count) name bytes =
@@ -67,7 +62,7 @@ pub record NamedBytes : Type 0 where
   pub namespace : Namespace
   pub bytes : List ℕ
 
--- bytes under a namespace of 29 bytes
+-- bytes under a namespace
 pub record IsNamed (blob : NamedBytes) : Type 0 where
   pub name : IsNamespace blob.namespace
   pub fits : AreBytes blob.bytes

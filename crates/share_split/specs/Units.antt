@@ -4,15 +4,16 @@ use Rattle.std.specs.List.{flat_map}
 use Rattle.std.specs.Int.{w32, to_be_bytes, div_ceil}
 use Rattle.namespace_id.specs.declared.namespaces.Namespace.{Namespace}
 use Rattle.namespace_id.specs.declared.shares.Share.{Share}
-use Rattle.share_split.specs.Blobs.{info, filled}
+use Rattle.namespace_id.specs.Sizes.{share_size}
+use Rattle.share_split.specs.Blobs.{first_content, later_content, info, filled}
 
--- the content of the first compact share, and of a later one, in bytes: four reserved bytes come before
--- it
+-- the bytes of content in the first compact share of a sequence: four reserved bytes come before it
 abbrev pub first_compact_content : ℕ
-first_compact_content = 474
+first_compact_content = first_content - 4
 
+-- the bytes of content in a later compact share: four reserved bytes come before it
 abbrev pub later_compact_content : ℕ
-later_compact_content = 478
+later_compact_content = later_content - 4
 
 -- ---- the text of units
 
@@ -49,7 +50,7 @@ content_start i =
 
 -- the place of the content in share i
 abbrev pub content_place : ℕ → ℕ
-content_place i = if i == 0 then 38 else 34
+content_place i = if i == 0 then share_size - first_compact_content else share_size - later_compact_content
 
 -- the starts from a place of the text on; starts are ascending
 unfoldable pub starts_on : ℕ → List ℕ → List ℕ

@@ -5,35 +5,25 @@ ghost use Rattle.namespace_id.specs.Answers.{HasRoom};
 ghost use Rattle.share_split.specs.Blobs.{first_content, later_content, max_sequence_length, info, first_share, later_share, later_shares, share_count, blob_shares_of};
 ghost use Rattle.share_split.specs.Joined.{padding_share};
 
-use namespace_id::{Namespace, Share, put};
+use namespace_id::{NAMESPACE_SIZE, Namespace, SHARE_SIZE, Share, put};
 use std::marker::Model;
 use thiserror::Error;
-
-/// The bytes of a share.
-///
-/// Celestia specifications, "Shares".
-pub const SHARE_SIZE: usize = 512;
-
-/// The bytes of a namespace, which stands first in a share. The info byte stands behind it.
-///
-/// Celestia specifications, "Namespace", "Shares".
-pub const NAMESPACE_SIZE: usize = 29;
 
 /// The place of the length of a sequence in its first share: behind the namespace and the info byte.
 ///
 /// Celestia specifications, "Shares".
-pub const LENGTH_PLACE: usize = 30;
+pub const LENGTH_PLACE: usize = NAMESPACE_SIZE + 1;
 
-/// The bytes of content in the first share of a sequence: 512 without the namespace (29), the info
-/// byte (1) and the length of the sequence (4).
+/// The bytes of content in the first share of a sequence: a share without the namespace, the info byte
+/// (1) and the length of the sequence (4).
 ///
 /// Celestia specifications, "Shares".
-pub const FIRST_CONTENT: usize = 478;
+pub const FIRST_CONTENT: usize = SHARE_SIZE - NAMESPACE_SIZE - 1 - 4;
 
-/// The bytes of content in a later share: 512 without the namespace (29) and the info byte (1).
+/// The bytes of content in a later share: a share without the namespace and the info byte (1).
 ///
 /// Celestia specifications, "Shares".
-pub const LATER_CONTENT: usize = 482;
+pub const LATER_CONTENT: usize = SHARE_SIZE - NAMESPACE_SIZE - 1;
 
 /// The greatest length of a sequence in bytes: four bytes state it.
 ///
@@ -213,7 +203,7 @@ mod tests {
     /// info byte, and in a first share the length of the sequence.
     #[test]
     fn shares(rt: HostRuntime) -> Result<(), Fail> {
-        let mut name = [0; 29];
+        let mut name = [0; NAMESPACE_SIZE];
         name[27] = 1;
         name[28] = 1;
         let name = Namespace(name);

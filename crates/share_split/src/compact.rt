@@ -10,10 +10,9 @@ use crate::blobs::{begun, put_share, split_within};
 use crate::places::{content_start, place_in};
 use crate::texts::{NextUnit, next_on};
 use crate::{
-    FIRST_COMPACT_CONTENT, FIRST_CONTENT, LATER_COMPACT_CONTENT, LATER_CONTENT, LENGTH_PLACE,
-    SHARE_SIZE, Unit,
+    FIRST_COMPACT_CONTENT, FIRST_CONTENT, LATER_COMPACT_CONTENT, LATER_CONTENT, LENGTH_PLACE, Unit,
 };
-use namespace_id::{Namespace, Share, put};
+use namespace_id::{Namespace, SHARE_SIZE, Share, put};
 
 /// The number that the reserved bytes of a share state: where in it the next unit starts, if it does.
 fn reserved_of(units: &[Unit], next: NextUnit, share: usize) -> u32
