@@ -5,10 +5,10 @@ use Rattle.namespace_id.specs.declared.namespaces.Namespace.{Namespace}
 use Rattle.namespace_id.specs.Bytes.{AreBytes}
 use Rattle.namespace_id.specs.Names.{IsNamespace}
 use Rattle.namespace_id.specs.Shares.{IsShare, AreShares}
-use Rattle.namespace_id.proofs.StringLemmas.{AreBytes-append, AreBytes-take, AreBytes-drop}
+use Rattle.namespace_id.proofs.StringLemmas.{AreBytes-none, AreBytes-cons, AreBytes-append, AreBytes-take, AreBytes-drop}
 use Rattle.share_split.specs.Blobs.{info, filled, first_content, later_content, first_share, later_share, later_shares, share_count, blob_shares_of}
 use Rattle.share_split.specs.Joined.{padding_share}
-use Rattle.share_split.proofs.UnitLawLemmas.{AreBytes-none, AreBytes-cons, AreBytes-number, share_fits}
+use Rattle.share_split.proofs.UnitLawLemmas.{AreBytes-number, share_fits}
 
 -- ---- their number
 

@@ -9,7 +9,7 @@ use Rattle.namespace_id.specs.declared.namespaces.Namespace.{Namespace}
 use Rattle.namespace_id.specs.Bytes.{AreBytes}
 use Rattle.namespace_id.specs.Names.{IsNamespace}
 use Rattle.namespace_id.specs.Shares.{IsShare, AreShares}
-use Rattle.namespace_id.proofs.StringLemmas.{AreBytes-append, AreBytes-take, AreBytes-drop}
+use Rattle.namespace_id.proofs.StringLemmas.{AreBytes-none, AreBytes-cons, AreBytes-replicate, AreBytes-append, AreBytes-take, AreBytes-drop}
 use Rattle.share_split.specs.Blobs.{max_sequence_length, info, filled}
 use Rattle.share_split.specs.Units.{first_compact_content, later_compact_content, varint_within, varint, unit_text, units_text, starts_from, reserved_of, first_compact_share, later_compact_share, later_compact_shares, compact_count, unit_shares_of, unit_share_count}
 use Rattle.share_split.proofs.VarintLemmas.{varint_within-low, varint_within-high}
@@ -45,22 +45,6 @@ long_texts_take_many_shares (unit ∷ units) h =
 
 -- ---- they are shares
 
-pub AreBytes-none : AreBytes []
-AreBytes-none i = omega arith
-
-AreBytes-one : (byte : ℕ) → byte < 256 → AreBytes (byte ∷ [])
-AreBytes-one byte h zero = h
-AreBytes-one byte h (suc i) = omega arith
-
-pub AreBytes-cons : (byte : ℕ) (bytes : List ℕ) → byte < 256 → AreBytes bytes → AreBytes (byte ∷ bytes)
-AreBytes-cons byte bytes h fits zero = h
-AreBytes-cons byte bytes h fits (suc i) = fits i
-
-AreBytes-zeros : (n : ℕ) → AreBytes (replicate n 0)
-AreBytes-zeros zero i = omega arith
-AreBytes-zeros (suc n) zero = omega arith
-AreBytes-zeros (suc n) (suc i) = AreBytes-zeros n i
-
 pub AreBytes-number : (n : ℕ) → AreBytes (to_be_bytes w32 n)
 AreBytes-number n zero = omega arith
 AreBytes-number n (suc zero) = omega arith
@@ -73,7 +57,7 @@ unfolding varint_within
 AreBytes-varint_within zero n = AreBytes-none
 AreBytes-varint_within (suc more) n =
     elim (cases_lt n 128) [
-      | inl lt ↦ subst (λ (l : List ℕ). AreBytes l) (sym (varint_within-low more n lt)) (AreBytes-one n (omega arith))
+      | inl lt ↦ subst (λ (l : List ℕ). AreBytes l) (sym (varint_within-low more n lt)) (AreBytes-cons n [] (omega arith) AreBytes-none)
       | inr le ↦
           subst (λ (l : List ℕ). AreBytes l) (sym (varint_within-high more n le))
           (AreBytes-cons (n % 128 + 128) (varint_within more (n / 128)) (omega arith) (AreBytes-varint_within more (n / 128)))
@@ -86,7 +70,7 @@ AreBytes-units_text (unit ∷ units) all =
     (AreBytes-append (varint (length unit)) unit (AreBytes-varint_within 10 (length unit)) all.0) (AreBytes-units_text units all.1)
 
 AreBytes-filled : (n : ℕ) (content : List ℕ) → AreBytes content → AreBytes (filled n content)
-AreBytes-filled n content fits = AreBytes-take n (content ++ replicate n 0) (AreBytes-append content (replicate n 0) fits (AreBytes-zeros n))
+AreBytes-filled n content fits = AreBytes-take n (content ++ replicate n 0) (AreBytes-append content (replicate n 0) fits (AreBytes-replicate n 0 (omega arith)))
 
 length-filled : (n : ℕ) (content : List ℕ) → length (filled n content) ≡ n
 length-filled n content =

@@ -1,5 +1,5 @@
 -- One unit at the front of a text.
-use Rattle.std.proofs.Common.{◌≡◌, ◌∙◌, ℕ, ◌+◌, ◌-◌, ◌^◌, ◌<◌, ◌≤◌, Bool, true, false, cond, ◌&&◌, ltb, leb, lt-ltb, le-leb, ltb-true, leb-true, List, ◌++◌, length, take, drop, Option, Some, None, refl, sym, ap, ap₂, subst, arith, append_assoc, take-append-drop, length-append, length-drop, length-take-le}
+use Rattle.std.proofs.Common.{◌≡◌, ◌∙◌, ℕ, ◌+◌, ◌-◌, ◌^◌, ◌<◌, ◌≤◌, Bool, true, cond, ◌&&◌, ltb, leb, lt-ltb, le-leb, ltb-true, leb-true, List, ◌++◌, length, take, drop, Option, Some, None, refl, sym, ap, ap₂, subst, arith, append_assoc, take-append-drop, length-append, length-drop, length-take-le}
 use Rattle.std.proofs.lemmas.Bool.{and_parts, and_from}
 use Rattle.std.proofs.lemmas.List.{take_at, drop_at}
 use Rattle.std.proofs.lemmas.Option.{cond_some}

@@ -1,15 +1,14 @@
 -- A varint is read back, what is read is a varint, and none is shorter.
-use Rattle.std.proofs.Common.{◌≡◌, ◌≢◌, ◌∙◌, ℕ, zero, suc, ◌+◌, ◌-◌, ◌*◌, ◌/◌, ◌%◌, ◌^◌, ◌<◌, ◌≤◌, nat_lt, nat_le, ◌==◌, true, false, List, [], ◌∷◌, ◌++◌, length, Option, Some, None, sym, ap, ap₂, refl, inl, inr, arith}
+use Rattle.std.proofs.Common.{◌≡◌, ◌≢◌, ◌∙◌, ℕ, zero, suc, ◌+◌, ◌*◌, ◌/◌, ◌%◌, ◌^◌, ◌<◌, ◌≤◌, nat_le, true, List, [], ◌∷◌, ◌++◌, length, Some, sym, ap, refl, inl, inr, arith}
 use Rattle.std.proofs.lemmas.Bool.{cases_lt, true≢false}
 use Rattle.std.proofs.lemmas.Bool.Decides.{nat_tests}
-use Rattle.std.proofs.lemmas.Option.{some_pair_parts}
-use Rattle.std.proofs.Math.Nat.{pow-suc, one-le-pow}
+use Rattle.std.proofs.Math.Nat.{pow-suc}
 use Rattle.namespace_id.specs.Bytes.{AreBytes}
 use Rattle.share_split.specs.Units.{varint_within, varint}
-use Rattle.share_split.specs.Walks.{above_low, varint_in}
+use Rattle.share_split.specs.Walks.{varint_in}
 use Rattle.share_split.specs.UnitLaws.{stated, is_marked}
 use Rattle.share_split.proofs.VarintReadLemmas.{varint_back, varint_again}
-use Rattle.share_split.proofs.VarintLemmas.{varint_within-low, varint_within-high, varint_within-more, length-varint-low, length-varint-high}
+use Rattle.share_split.proofs.VarintLemmas.{varint_within-low, varint_within-high, length-varint-low, length-varint-high}
 
 -- ---- a varint is read back, and what is read is a varint
 
