@@ -31,14 +31,21 @@ info version start = 2 * version + (if start then 1 else 0)
 abbrev pub filled : ℕ → List ℕ → List ℕ
 filled n content = take n (content ++ replicate n 0)
 
--- the first share of a sequence: namespace, info byte, length of the sequence, content
-unfoldable pub first_share : Namespace → ℕ → List ℕ → Share
-first_share name size content =
-    record { 0 = name.0 ++ info 0 true ∷ to_be_bytes w32 size ++ filled first_content content }
+-- a share of a sequence: namespace, info byte, the fields behind it, and content filled with zeros to the
+-- end of the share
+unfoldable pub sequence_share : Namespace → Bool → List ℕ → List ℕ → Share
+sequence_share name start fields content = record {
+  0 = name.0 ++ (info 0 start ∷ (fields
+      ++ filled (share_size - namespace_size - 1 - length fields) content));
+}
 
--- a later share: namespace, info byte, content
-unfoldable pub later_share : Namespace → List ℕ → Share
-later_share name content = record { 0 = name.0 ++ info 0 false ∷ filled later_content content }
+-- the first share of a blob's sequence, whose one field is the length of the sequence
+abbrev pub first_share : Namespace → ℕ → List ℕ → Share
+first_share name size content = sequence_share name true (to_be_bytes w32 size) content
+
+-- a later share of a blob's sequence, which has no fields
+abbrev pub later_share : Namespace → List ℕ → Share
+later_share name content = sequence_share name false [] content
 
 -- so many later shares, as much content in each as it holds
 unfoldable pub later_shares : ℕ → Namespace → List ℕ → List Share
@@ -46,10 +53,13 @@ later_shares zero name bytes = []
 later_shares (suc count) name bytes =
     later_share name (take later_content bytes) ∷ later_shares count name (drop later_content bytes)
 
+-- how many shares so many bytes take, of which the first share and each later one hold at most so many
+abbrev pub count_from : ℕ → ℕ → ℕ → ℕ
+count_from first later size = if nat_le size first then 1 else 1 + div_ceil (size - first) later
+
 -- how many shares a blob of so many bytes takes
 abbrev pub share_count : ℕ → ℕ
-share_count size =
-    if nat_le size first_content then 1 else 1 + div_ceil (size - first_content) later_content
+share_count size = count_from first_content later_content size
 
 -- the shares of a blob
 abbrev pub blob_shares_of : Namespace → List ℕ → List Share
