@@ -6,8 +6,7 @@ ghost use Rattle.namespace_id.specs.Bytes.{IsString};
 ghost use Rattle.namespace_id.specs.Answers.{Gives};
 ghost use Rattle.da_wire.specs.Fields.{number_at, byte_at, string_at, digests_at, text_at};
 
-use namespace_id::{Namespace, Share};
-use share_split::{NAMESPACE_SIZE, SHARE_SIZE};
+use namespace_id::{NAMESPACE_SIZE, Namespace, SHARE_SIZE, Share};
 
 /// A number of two bytes, the higher first, and the bytes after it.
 pub(crate) fn u16_at(bytes: &[u8]) -> Option<(u16, &[u8])>

@@ -12,10 +12,10 @@ use crate::fields::{name_of, share_at, share_of, u8_at, u16_at, u32_at};
 use axis_roots::Message;
 use data_header::Header;
 use namespace_id::{
-    Axis, Cell, Cells, Digest, Namespace, Share, is_before, is_in_square, is_width,
+    Axis, Cell, Cells, Digest, NAMESPACE_SIZE, Namespace, SHARE_SIZE, Share, is_before, is_in_square,
+    is_width,
 };
 use nmt_proofs::Path;
-use share_split::{NAMESPACE_SIZE, SHARE_SIZE};
 use square_layout::Square;
 use std::alloc::{AllocError, Global};
 

@@ -11,7 +11,8 @@ use Rattle.leopard_code.specs.Codewords.{points, column, IsCodeword, weighted}
 use Rattle.leopard_code.specs.Weights.{AreWeights, IsTable}
 use Rattle.namespace_id.specs.Cells.{is_width}
 use Rattle.leopard_code.proofs.LagrangeLemmas.{lagrange}
-use Rattle.leopard_code.proofs.PointLemmas.{length-ascending, points-ascending, length-column, column-append, column_bytes, AreShares-append, takes-append, takes-ascending, width-le}
+use Rattle.namespace_id.proofs.WidthLemmas.{is_width-le}
+use Rattle.leopard_code.proofs.PointLemmas.{length-ascending, points-ascending, length-column, column-append, column_bytes, AreShares-append, takes-append, takes-ascending}
 
 pub table_of : (k : ℕ) (ps table : List ℕ) → IsTrue (is_width k) → ps ≡ ascending k k → length table ≡ k * k
     → ((j : ℕ) → j < length ps → AreWeights [] ps j (take (length ps) (drop (j * length ps) table))) → IsTable k table
@@ -35,7 +36,7 @@ codeword_of k table originals recovery fits long_o long_r shares_o shares_r sums
   shares = AreShares-append originals recovery shares_o shares_r;
   columns = λ b h.
       let ys : List ℕ = column b originals in
-      let narrow : k ≤ 128 = width-le k fits.width in
+      let narrow : k ≤ 128 = is_width-le k fits.width in
       let as_many : length (ascending k k) ≡ length ys = length-ascending k k ∙ sym long_o ∙ sym (length-column b originals) in
       let apart : ArePoints (ascending k k) = points-ascending k k (omega arith) in
       let values : AreCoefficients ys = column_bytes b originals shares_o in

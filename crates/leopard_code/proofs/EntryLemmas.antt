@@ -15,7 +15,8 @@ use Rattle.namespace_id.specs.Lists.{ascending}
 use Rattle.leopard_code.specs.Codewords.{column, points, point, points_at, are_positions, IsCodeword, HasEntries, weighted}
 use Rattle.leopard_code.specs.Weights.{AreWeights, IsEntry}
 use Rattle.leopard_code.proofs.LagrangeLemmas.{lagrange}
-use Rattle.leopard_code.proofs.PointLemmas.{length-ascending, get_or-ascending, length-column, column_bytes, width-le}
+use Rattle.namespace_id.proofs.WidthLemmas.{is_width-le}
+use Rattle.leopard_code.proofs.PointLemmas.{length-ascending, get_or-ascending, length-column, column_bytes}
 use Rattle.leopard_code.proofs.PositionLemmas.{points_differ, position-lt, takes-at, takes_each}
 
 -- the byte of a share that a list may have
@@ -156,7 +157,7 @@ pub rebuilt : (k n : ℕ) (xs known : List ℕ) (shares word : List Share) → k
     → length shares ≡ n → AreShares shares → length word ≡ 2 * n → AreShares word → xs ≡ points_at k known
     → ((pos : ℕ) → pos < 2 * k → IfSome (slice_get word pos) (λ share. IsEntry xs shares (point k pos) share)) → IsCodeword n word × HasEntries known shares word
 rebuilt k n xs known shares word e width count positions same shares_fit long word_fits are entries =
-    let few : n ≤ 128 = omega (arith, e, width-le k width) in
+    let few : n ≤ 128 = omega (arith, e, is_width-le k width) in
     let by_points : (pos : ℕ) → pos < 2 * k → IfSome (slice_get word pos) (λ share. IsEntry (points_at k known) shares (point k pos) share) =
     subst (λ (l : List ℕ). (pos : ℕ) → pos < 2 * k → IfSome (slice_get word pos) (λ share. IsEntry l shares (point k pos) share)) are entries in
     let by_width : (pos : ℕ) → pos < 2 * n → IfSome (slice_get word pos) (λ share. IsEntry (points_at n known) shares (point n pos) share) =

@@ -15,7 +15,8 @@ use Rattle.leopard_code.specs.Codewords.{column, points, point, points_at, are_p
 use Rattle.leopard_code.specs.Weights.{away, AreWeights, IsEntry}
 use Rattle.leopard_code.proofs.LagrangeLemmas.{lagrange, away-is, points_middle, undone}
 use Rattle.leopard_code.proofs.DifferenceLemmas.{away-lt}
-use Rattle.leopard_code.proofs.PointLemmas.{length-column, column_bytes, width-le}
+use Rattle.namespace_id.proofs.WidthLemmas.{is_width-le}
+use Rattle.leopard_code.proofs.PointLemmas.{length-column, column_bytes}
 use Rattle.leopard_code.proofs.PositionLemmas.{points_differ, position-lt, takes-at, takes_each}
 use Rattle.leopard_code.proofs.EntryLemmas.{byte_of, get_or-column, get_or-points, length-points, length-points_at, same_shares, rebuilt}
 
@@ -71,7 +72,7 @@ one_codeword k known word other width count positions cw co same =
     same_shares word other (cw.count ∙ sym co.count) cw.shares co.shares (λ b pos hb hp.
     let c = cw.columns b hb in
     let d = co.columns b hb in
-    same_byte k known (column b word) (column b other) pos c.0 d.0 (width-le k width) count positions (omega (arith, cw.count)) c.1 c.2 c.3 d.1 d.2 d.3
+    same_byte k known (column b word) (column b other) pos c.0 d.0 (is_width-le k width) count positions (omega (arith, cw.count)) c.1 c.2 c.3 d.1 d.2 d.3
     (λ i h. get_or-column b word (get_or known i 0) ∙ ap (byte_of b) (same i (omega arith)) ∙ sym (get_or-column b other (get_or known i 0))))
 
 -- a list by its elements
@@ -112,7 +113,7 @@ pub through_shares : (k : ℕ) (known : List ℕ) (shares : List Share) → IsTr
     → length shares ≡ k → AreShares shares → (word : List Share) × IsCodeword k word × HasEntries known shares word
 through_shares k known shares width count positions same fits =
     let xs : List ℕ = points_at k known in
-    let apart : ArePoints xs = points_differ k known (width-le k width) positions in
+    let apart : ArePoints xs = points_differ k known (is_width-le k width) positions in
     let found : (b : ℕ) → (cs : List ℕ) × (length cs ≡ length xs) × AreCoefficients cs × Takes cs xs (column b shares) =
     λ b. through xs (column b shares) (omega (arith, length-points_at k known, length-column b shares)) apart (column_bytes b shares fits) in
     let byte : ℕ → ℕ → ℕ = λ pos b. value_at (found b).0 (point k pos) in
@@ -164,7 +165,7 @@ pub generated : (k : ℕ) (known : List ℕ) (pos : ℕ) → IsTrue (is_width k)
     → IfSome (slice_get word pos) (λ share. slice_index share.0 b ≡ weighted ws (column b shares)))
 generated k known pos width count positions within =
     let xs : List ℕ = points_at k known in
-    let apart : ArePoints xs = points_differ k known (width-le k width) positions in
+    let apart : ArePoints xs = points_differ k known (is_width-le k width) positions in
     let long : length xs ≡ k = length-points_at k known ∙ count in
     let weights = weights_exist [] xs (point k pos) apart in (
       weights.0,

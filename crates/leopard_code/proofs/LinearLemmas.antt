@@ -17,7 +17,8 @@ length-bytes_sum [] ys e = refl
 length-bytes_sum (x ∷ xs) [] e = absurd (omega arith)
 length-bytes_sum (x ∷ xs) (y ∷ ys) e = ap suc (length-bytes_sum xs ys (omega arith))
 
-get_or-bytes_sum : (xs ys : List ℕ) (i : ℕ) → i < length xs → i < length ys → get_or (bytes_sum xs ys) i 0 ≡ bit_xor (get_or xs i 0) (get_or ys i 0)
+-- the byte at a place of a sum
+pub get_or-bytes_sum : (xs ys : List ℕ) (i : ℕ) → i < length xs → i < length ys → get_or (bytes_sum xs ys) i 0 ≡ bit_xor (get_or xs i 0) (get_or ys i 0)
 unfolding bytes_sum
 get_or-bytes_sum [] ys i hx hy = absurd (omega arith)
 get_or-bytes_sum (x ∷ xs) [] i hx hy = absurd (omega arith)

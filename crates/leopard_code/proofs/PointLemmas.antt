@@ -1,16 +1,14 @@
 -- The points of the positions.
-use Rattle.std.proofs.Common.{◌≡◌, ℕ, zero, suc, ◌+◌, ◌<◌, ◌≤◌, List, [], ◌∷◌, ◌++◌, length, take, get_or, refl, sym, ap, ◌∙◌, arith, IsTrue}
+use Rattle.std.proofs.Common.{◌≡◌, ℕ, zero, suc, ◌+◌, ◌<◌, ◌≤◌, List, [], ◌∷◌, ◌++◌, length, take, get_or, refl, sym, ap, ◌∙◌, arith}
 use Rattle.std.specs.Prelude.{IfSome, slice_get, slice_index}
 use Rattle.std.proofs.lemmas.Grind.{same_number_lists}
 use Rattle.std.proofs.lemmas.List.{length-take-le, get_or-take}
 use Rattle.std.proofs.lemmas.Option.{IfSome_then}
-use Rattle.std.proofs.lemmas.Bool.Decides.{nat_tests}
 use Rattle.namespace_id.specs.declared.shares.Share.{Share}
 use Rattle.namespace_id.specs.Shares.{AreShares}
 use Rattle.byte_polynomial.specs.Polynomial.{value_at, AreCoefficients, Avoids, ArePoints, Takes}
 use Rattle.namespace_id.specs.Lists.{ascending}
 use Rattle.leopard_code.specs.Codewords.{column}
-use Rattle.namespace_id.specs.Cells.{is_width}
 
 pub length-ascending : (n first : ℕ) → length (ascending first n) ≡ n
 unfolding ascending
@@ -80,6 +78,3 @@ takes-ascending cs b (suc n) first (s ∷ ss) same h = (
       let next : first + suc j ≡ suc first + j = omega arith in
       IfSome_then (slice_get ss j) (h (suc j) (omega arith)) (λ share e. e ∙ ap (value_at cs) next)),
 )
-
-pub width-le : (k : ℕ) → IsTrue (is_width k) → k ≤ 128
-width-le k h = grind (arith, nat_tests)

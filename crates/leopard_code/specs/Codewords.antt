@@ -4,6 +4,7 @@ use Rattle.std.specs.List.{list_all}
 use Rattle.gf_cantor.specs.Field.{product}
 use Rattle.namespace_id.specs.declared.shares.Share.{Share}
 use Rattle.namespace_id.specs.Shares.{AreShares}
+use Rattle.namespace_id.specs.Sizes.{share_size}
 use Rattle.namespace_id.specs.Lists.{holds_along, ascending}
 use Rattle.byte_polynomial.specs.Polynomial.{AreCoefficients, Takes}
 
@@ -32,7 +33,7 @@ IsColumn k bytes = (cs : List ℕ) × (length cs ≡ k) × AreCoefficients cs ×
 pub record IsCodeword (k : ℕ) (word : List Share) : Type 0 where
   pub count : length word ≡ 2 * k
   pub shares : AreShares word
-  pub columns : (b : ℕ) → b < 512 → IsColumn k (column b word)
+  pub columns : (b : ℕ) → b < share_size → IsColumn k (column b word)
 
 -- whether these are positions of a codeword, strictly ascending
 abbrev pub are_positions : ℕ → List ℕ → Bool

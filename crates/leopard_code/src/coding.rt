@@ -12,7 +12,11 @@ use crate::sums::{weighted_sum, weighted_sums};
 use crate::weights::{denominators, weight_row};
 use namespace_id::{Share, shares_law};
 
-/// Makes the recovery shares: the originals followed by them are a codeword. It takes no memory.
+/// Reed-Solomon encoding of one axis: makes the k recovery (parity) shares of k original ones. The
+/// originals followed by them are a codeword. It takes no memory.
+///
+/// Celestia specifications, "Data Structures", 2D Reed-Solomon encoding scheme; docs/RULES.md, "The
+/// code".
 pub fn extend(room: &mut Room, originals: &[Share], recovery: &mut [Share])
     requires originals { length originals.now ≡ room.old }
     requires recovery { length recovery.old ≡ room.old }
@@ -69,8 +73,12 @@ fn fill_entries(
     }
 }
 
-/// Makes all 2k entries of the codeword that has the k shares at the k known positions. It takes no
-/// memory.
+/// Reed-Solomon recovery of one axis: makes all 2k shares of the codeword that has the k shares at the
+/// k known positions. The positions ascend, share i stands at the i-th of them, and `all` is in the
+/// order of positions: k originals, then k recovery (parity) shares. It takes no memory.
+///
+/// Celestia specifications, "Data Structures", 2D Reed-Solomon encoding scheme; docs/RULES.md, "The
+/// code".
 pub fn rebuild(room: &mut Room, known: &[u16], shares: &[Share], all: &mut [Share])
     requires known { length known.now ≡ room.old }
     requires positions { IsTrue (are_positions room.old known.now) }
@@ -91,13 +99,13 @@ pub fn rebuild(room: &mut Room, known: &[u16], shares: &[Share], all: &mut [Shar
 mod tests {
     use super::*;
     use crate::are_positions;
-    use namespace_id::{NoMemory, is_width};
+    use namespace_id::{NoMemory, SHARE_SIZE, is_width};
     use std::alloc::Global;
     use std::test::Fail;
 
-    /// A share of one byte, 512 times.
+    /// A share of one byte throughout.
     fn share(byte: u8) -> Share {
-        Share([byte; 512])
+        Share([byte; SHARE_SIZE])
     }
 
     // Expected bytes: by a Python program with products of polynomials modulo 0x11D.
@@ -186,7 +194,7 @@ mod tests {
     fn greatest_width(rt: HostRuntime) -> Result<(), Fail> {
         let mut originals = [share(0); 128];
         for i in 0..128 {
-            for b in 0..512 {
+            for b in 0..SHARE_SIZE {
                 originals[i].0[b] = ((i * b + 7 * i + b) % 256) as u8;
             }
         }

@@ -3,6 +3,7 @@
 ghost use Rattle.std.specs.Prelude.{◌≡◌, ◌<◌, ◌*◌, ℕ, List, IsTrue, IfSome, length, slice_get, slice_index};
 ghost use Rattle.namespace_id.specs.declared.shares.Share.{Share};
 ghost use Rattle.namespace_id.specs.Shares.{AreShares};
+ghost use Rattle.namespace_id.specs.Sizes.{share_size};
 ghost use Rattle.namespace_id.specs.Cells.{is_width};
 ghost use Rattle.byte_polynomial.specs.Polynomial.{AreCoefficients};
 ghost use Rattle.leopard_code.specs.Codewords.{column, are_positions, IsCodeword, HasEntries, shares_sum, shares_multiple, weighted};
@@ -34,7 +35,7 @@ pub fn code_laws()
         IsTrue (is_width k) → length known ≡ k → IsTrue (are_positions k known) → pos < 2 * k →
         (ws : List ℕ) × (length ws ≡ k) × AreCoefficients ws × ((word shares : List Share) →
         IsCodeword k word → length shares ≡ k → HasEntries known shares word →
-        (b : ℕ) → b < 512 →
+        (b : ℕ) → b < share_size →
         IfSome (slice_get word pos)
         (λ share. slice_index share.0 b ≡ weighted ws (column b shares))) }
 {}

@@ -25,6 +25,8 @@ fn are_ascending(known: &[u16]) -> bool
 }
 
 /// Whether these are positions of a codeword, all below 2k and strictly ascending.
+///
+/// docs/RULES.md, "Points".
 pub fn are_positions(k: u16, known: &[u16]) -> bool
     ensures { result ≡ are_positions k known.now }
 {

@@ -8,7 +8,8 @@ use namespace_id::NoMemory;
 use std::alloc::Global;
 use std::marker::Model;
 
-/// The weights of the code of one width, and what a call works in. Contracts see it as its width.
+/// An encoder and decoder: the weights of the code of one width, and what a call works in. Contracts
+/// see it as its width.
 #[derive(Drop)]
 pub struct Room {
     pub(crate) k: u16,

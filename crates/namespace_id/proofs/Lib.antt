@@ -5,3 +5,4 @@ pub mod ElementLemmas
 pub mod TestLemmas
 pub mod AlongLemmas
 pub mod HalfLemmas
+pub mod WidthLemmas

@@ -17,6 +17,15 @@ AreBytes-take n bytes h i =
       | inr le ↦ rw (get_or_past (take n bytes) i 0 (omega (arith, length-take n bytes))) (omega arith)
     ]
 
+-- no bytes
+pub AreBytes-none : AreBytes []
+AreBytes-none i = omega arith
+
+-- a byte before bytes
+pub AreBytes-cons : (byte : ℕ) (bytes : List ℕ) → byte < 256 → AreBytes bytes → AreBytes (byte ∷ bytes)
+AreBytes-cons byte bytes h fits zero = h
+AreBytes-cons byte bytes h fits (suc i) = fits i
+
 -- bytes behind bytes
 pub AreBytes-append : (a b : List ℕ) → AreBytes a → AreBytes b → AreBytes (a ++ b)
 AreBytes-append [] b h k i = k i

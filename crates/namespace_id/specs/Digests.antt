@@ -4,21 +4,22 @@ use Rattle.std.specs.List.{AllByRecursion}
 use Rattle.namespace_id.specs.declared.namespaces.Namespace.{Namespace}
 use Rattle.namespace_id.specs.declared.digests.Digest.{Digest}
 use Rattle.namespace_id.specs.Bytes.{IsString}
+use Rattle.namespace_id.specs.Sizes.{namespace_size, digest_size}
 
 -- a digest has 90 bytes
 abbrev pub IsDigest : Digest → Type 0
-IsDigest digest = IsString 90 digest.0
+IsDigest digest = IsString digest_size digest.0
 
 abbrev pub AreDigests : List Digest → Type 0
 AreDigests digests = AllByRecursion IsDigest digests
 
 -- the least namespace of a digest: its first 29 bytes
 abbrev pub least_of : Digest → Namespace
-least_of digest = record { 0 = take 29 digest.0 }
+least_of digest = record { 0 = take namespace_size digest.0 }
 
 -- the greatest namespace of a digest: the 29 bytes after those
 abbrev pub greatest_of : Digest → Namespace
-greatest_of digest = record { 0 = take 29 (drop 29 digest.0) }
+greatest_of digest = record { 0 = take namespace_size (drop namespace_size digest.0) }
 
 -- the digest that stands for none
 abbrev pub no_digest : Digest

@@ -1,3 +1,4 @@
+pub mod Sizes
 pub mod Bytes
 pub mod Names
 pub mod Shares

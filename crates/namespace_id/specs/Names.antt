@@ -7,12 +7,13 @@ use Rattle.std.specs.Ordering.{nat_cmp, is_le}
 use Rattle.std.specs.Cmp.Lexicographic.{slice_cmp}
 use Rattle.namespace_id.specs.declared.namespaces.Namespace.{Namespace}
 use Rattle.namespace_id.specs.Bytes.{IsString}
+use Rattle.namespace_id.specs.Sizes.{namespace_size}
 use Rattle.namespace_id.specs.declared.namespaces.NsError.{NsError}
 use Rattle.namespace_id.specs.declared.namespaces.NsError.TheVariants.{Length, Version, Prefix, Reserved}
 
 -- a namespace has 29 bytes
 abbrev pub IsNamespace : Namespace → Type 0
-IsNamespace name = IsString 29 name.0
+IsNamespace name = IsString namespace_size name.0
 
 abbrev pub AreNamespaces : List Namespace → Type 0
 AreNamespaces names = AllByRecursion IsNamespace names
@@ -31,7 +32,7 @@ greater_of a b = if is_at_most a b then b else a
 
 -- the namespace of the shares that erasure coding adds: 29 bytes 0xFF
 abbrev pub parity : Namespace
-parity = record { 0 = replicate 29 0xFF }
+parity = record { 0 = replicate namespace_size 0xFF }
 
 -- whether a namespace is that of these shares
 abbrev pub is_parity : Namespace → Bool
@@ -64,13 +65,13 @@ is_reserved bytes = is_at_most (record { 0 = bytes }) primary_reserved_padding
 -- a blob may choose, and not reserved
 abbrev pub is_blob_namespace : List ℕ → Bool
 is_blob_namespace bytes =
-    (length bytes == 29) && (slice_index bytes 0 == 0) && is_zeros (slice_range bytes 1 19)
+    (length bytes == namespace_size) && (slice_index bytes 0 == 0) && is_zeros (slice_range bytes 1 19)
     && not (is_reserved bytes)
 
 -- why bytes are no namespace of a blob: the first check that fails
 abbrev pub namespace_refusal : List ℕ → Option NsError
 namespace_refusal bytes =
-    if not (length bytes == 29) then Some Length else
+    if not (length bytes == namespace_size) then Some Length else
     (if not (slice_index bytes 0 == 0) then Some Version else
     (if not (is_zeros (slice_range bytes 1 19)) then Some Prefix else
     (if is_reserved bytes then Some Reserved else None)))

@@ -3,22 +3,22 @@
 ghost use Rattle.std.specs.Prelude.{◌≡◌};
 ghost use Rattle.namespace_id.specs.Digests.{least_of, greatest_of, IsDigest, AreDigests};
 
-use crate::{Namespace, bytes_law};
+use crate::{DIGEST_SIZE, NAMESPACE_SIZE, Namespace, bytes_law};
 
-/// The digest of a leaf or a node: 90 bytes, its least namespace, its greatest namespace and a
-/// SHA-256 value.
+/// A namespaced hash: the value of a leaf or a node of a namespaced Merkle tree (NMT). 90 bytes:
+/// the least namespace below it, the greatest, and a SHA-256 value.
 ///
 /// Celestia specifications, "Data Structures", namespaced Merkle trees.
 #[derive(Clone, Copy, Debug, PartialEq, Eq)]
-pub struct Digest(pub [u8; 90]);
+pub struct Digest(pub [u8; DIGEST_SIZE]);
 
 impl Digest {
     /// The least namespace below the node, bytes 0 to 28.
     pub fn least(&self) -> Namespace
         ensures { result ≡ least_of self.now }
     {
-        let mut bytes = [0; 29];
-        bytes.copy_from_slice(&self.0[..29]);
+        let mut bytes = [0; NAMESPACE_SIZE];
+        bytes.copy_from_slice(&self.0[..NAMESPACE_SIZE]);
         Namespace(bytes)
     }
 
@@ -26,8 +26,8 @@ impl Digest {
     pub fn greatest(&self) -> Namespace
         ensures { result ≡ greatest_of self.now }
     {
-        let mut bytes = [0; 29];
-        bytes.copy_from_slice(&self.0[29..58]);
+        let mut bytes = [0; NAMESPACE_SIZE];
+        bytes.copy_from_slice(&self.0[NAMESPACE_SIZE..2 * NAMESPACE_SIZE]);
         Namespace(bytes)
     }
 }

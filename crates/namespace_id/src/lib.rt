@@ -11,6 +11,7 @@ mod digests;
 mod memory;
 mod namespaces;
 mod shares;
+mod sizes;
 
 pub use bytes::{append, bytes_law, put};
 pub use cells::{Axis, Cell, Cells, is_before, is_in_square, is_width, leaf_namespace};
@@ -21,3 +22,4 @@ pub use namespaces::{
     is_zeros, namespace_law, namespace_order, namespaces_law, reserved_namespaces,
 };
 pub use shares::{Share, share_law, shares_law};
+pub use sizes::{DIGEST_SIZE, HASH_SIZE, NAMESPACE_SIZE, SHARE_SIZE, sizes_laws};

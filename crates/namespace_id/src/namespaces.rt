@@ -4,19 +4,19 @@ ghost use Rattle.std.specs.Prelude.{◌≡◌, ◌⊎◌, true};
 ghost use Rattle.namespace_id.specs.Names.{is_at_most, is_zeros, parity, primary_reserved_padding, transaction, pay_for_blob, tail_padding, IsNamespace, AreNamespaces};
 ghost use Rattle.namespace_id.specs.declared.namespaces.Namespace.{Namespace as Name};
 
-use crate::bytes_law;
+use crate::{NAMESPACE_SIZE, bytes_law};
 use thiserror::Error;
 
 /// A namespace: a version byte and a 28-byte id. Namespaces compare as byte strings.
 ///
 /// Celestia specifications, "Namespace".
 #[derive(Clone, Copy, Debug, PartialEq, Eq, PartialOrd, Ord)]
-pub struct Namespace(pub [u8; 29]);
+pub struct Namespace(pub [u8; NAMESPACE_SIZE]);
 
 /// The namespace of the shares that erasure coding adds: 29 bytes 0xFF.
 ///
 /// Celestia specifications, "Namespace".
-pub const PARITY: Namespace = Namespace([0xff; 29]);
+pub const PARITY: Namespace = Namespace([0xff; NAMESPACE_SIZE]);
 
 /// The greatest of the namespaces of version 0 that are reserved: the id 0xFF.
 ///
@@ -100,7 +100,7 @@ impl Namespace {
         // What comes in is what is kept.
         ensures value { IfOk result (λ name. name.0 ≡ bytes.now) }
     {
-        if bytes.len() != 29 {
+        if bytes.len() != NAMESPACE_SIZE {
             return Err(NsError::Length);
         }
         if bytes[0] != 0 {
@@ -109,7 +109,7 @@ impl Namespace {
         if !is_zeros(&bytes[1..19]) {
             return Err(NsError::Prefix);
         }
-        let mut text = [0; 29];
+        let mut text = [0; NAMESPACE_SIZE];
         text.copy_from_slice(bytes);
         let name = Namespace(text);
         if name.is_at_most(&PRIMARY_RESERVED_PADDING) {
@@ -181,8 +181,8 @@ mod tests {
     use super::*;
 
     /// Version 0, 18 zero bytes, and `low` as ten big-endian bytes.
-    fn version_0(low: u16) -> [u8; 29] {
-        let mut bytes = [0; 29];
+    fn version_0(low: u16) -> [u8; NAMESPACE_SIZE] {
+        let mut bytes = [0; NAMESPACE_SIZE];
         bytes[27..].copy_from_slice(&low.to_be_bytes());
         bytes
     }
@@ -190,13 +190,13 @@ mod tests {
     /// By the Celestia specifications, "Namespace", and docs/RULES.md, "Namespaces".
     #[test]
     fn blob_namespaces(rt: HostRuntime) {
-        let mut prefixed = [0; 29];
+        let mut prefixed = [0; NAMESPACE_SIZE];
         prefixed[1] = 1;
         let reserved = version_0(0xff);
         let least = version_0(0x100);
         let cases: [(&str, &[u8], Option<NsError>); 6] = [
             ("28 bytes", &[0; 28], Some(NsError::Length)),
-            ("parity", &[0xff; 29], Some(NsError::Version)),
+            ("parity", &[0xff; NAMESPACE_SIZE], Some(NsError::Version)),
             ("tail padding", &TAIL_PADDING.0, Some(NsError::Version)),
             ("a byte in the prefix", &prefixed, Some(NsError::Prefix)),
             ("greatest reserved", &reserved, Some(NsError::Reserved)),

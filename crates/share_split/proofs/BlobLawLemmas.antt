@@ -1,14 +1,14 @@
 -- How many shares a blob has, and that they are shares.
-use Rattle.std.proofs.Common.{◌≡◌, ◌∙◌, ℕ, zero, suc, ◌+◌, ◌-◌, ◌<◌, nat_le, true, false, if◌then◌else◌, List, [], ◌∷◌, ◌++◌, length, take, drop, refl, ap, subst, arith, length-append, append_assoc}
+use Rattle.std.proofs.Common.{◌≡◌, ◌∙◌, ℕ, zero, suc, ◌+◌, ◌-◌, ◌<◌, nat_le, true, false, if◌then◌else◌, List, [], length, take, drop, refl, ap, arith}
 use Rattle.std.specs.Int.{w32, to_be_bytes, div_ceil}
 use Rattle.namespace_id.specs.declared.namespaces.Namespace.{Namespace}
 use Rattle.namespace_id.specs.Bytes.{AreBytes}
 use Rattle.namespace_id.specs.Names.{IsNamespace}
 use Rattle.namespace_id.specs.Shares.{IsShare, AreShares}
-use Rattle.namespace_id.proofs.StringLemmas.{AreBytes-append, AreBytes-take, AreBytes-drop}
-use Rattle.share_split.specs.Blobs.{info, filled, first_content, later_content, first_share, later_share, later_shares, share_count, blob_shares_of}
+use Rattle.namespace_id.proofs.StringLemmas.{AreBytes-none, AreBytes-take, AreBytes-drop}
+use Rattle.share_split.specs.Blobs.{first_content, later_content, later_shares, share_count, blob_shares_of}
 use Rattle.share_split.specs.Joined.{padding_share}
-use Rattle.share_split.proofs.UnitLawLemmas.{AreBytes-none, AreBytes-cons, AreBytes-number, share_fits}
+use Rattle.share_split.proofs.UnitLawLemmas.{AreBytes-number, sequence_fits}
 
 -- ---- their number
 
@@ -30,38 +30,20 @@ length-blob_shares_of name bytes =
 
 -- ---- they are shares
 
-first_fits : (name : Namespace) (size : ℕ) (content : List ℕ) → IsNamespace name → AreBytes content → IsShare (first_share name size content)
-unfolding first_share
-first_fits name size content named fits =
-    let begun : List ℕ = info 0 true ∷ to_be_bytes w32 size in
-    let begun_fits : AreBytes begun = AreBytes-cons 1 (to_be_bytes w32 size) (omega arith) (AreBytes-number size) in
-    share_fits (name.0 ++ begun) content first_content (AreBytes-append name.0 begun named.fits begun_fits) fits
-    (omega (arith, length-append name.0 begun, named.size_is))
-
-later_fits : (name : Namespace) (content : List ℕ) → IsNamespace name → AreBytes content → IsShare (later_share name content)
-unfolding later_share
-later_fits name content named fits =
-    let begun : List ℕ = info 0 false ∷ [] in
-    let begun_fits : AreBytes begun = AreBytes-cons 0 [] (omega arith) AreBytes-none in
-    let grouped : (name.0 ++ begun) ++ filled later_content content ≡ name.0 ++ (begun ++ filled later_content content) =
-    append_assoc name.0 begun (filled later_content content) in
-    subst (λ (l : List ℕ). IsShare (record { 0 = l })) grouped
-    (share_fits (name.0 ++ begun) content later_content (AreBytes-append name.0 begun named.fits begun_fits) fits
-    (omega (arith, length-append name.0 begun, named.size_is)))
-
 later_are_shares : (count : ℕ) (name : Namespace) (bytes : List ℕ) → IsNamespace name → AreBytes bytes → AreShares (later_shares count name bytes)
 unfolding later_shares
 later_are_shares zero name bytes named fits = tt
 later_are_shares (suc count) name bytes named fits = (
-  later_fits name (take later_content bytes) named (AreBytes-take later_content bytes fits),
+  sequence_fits name false [] (take later_content bytes) (omega arith) named AreBytes-none (AreBytes-take later_content bytes fits),
   later_are_shares count name (drop later_content bytes) named (AreBytes-drop later_content bytes fits),
 )
 
 pub blob_shares_are_shares : (name : Namespace) (bytes : List ℕ) → IsNamespace name → AreBytes bytes → AreShares (blob_shares_of name bytes)
 blob_shares_are_shares name bytes named fits = (
-  first_fits name (length bytes) (take first_content bytes) named (AreBytes-take first_content bytes fits),
+  sequence_fits name true (to_be_bytes w32 (length bytes)) (take first_content bytes) (omega arith) named
+      (AreBytes-number (length bytes)) (AreBytes-take first_content bytes fits),
   later_are_shares (share_count (length bytes) - 1) name (drop first_content bytes) named (AreBytes-drop first_content bytes fits),
 )
 
 pub padding_is_share : (name : Namespace) → IsNamespace name → IsShare (padding_share name)
-padding_is_share name named = first_fits name 0 [] named AreBytes-none
+padding_is_share name named = sequence_fits name true (to_be_bytes w32 0) [] (omega arith) named (AreBytes-number 0) AreBytes-none

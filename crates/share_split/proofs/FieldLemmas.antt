@@ -1,11 +1,11 @@
 -- Shares of a sequence, told by their fields: those of blobs.
-use Rattle.std.proofs.Common.{◌≡◌, ◌∙◌, ℕ, ◌-◌, ◌/◌, ◌%◌, ◌<◌, ◌^◌, eqb, true, false, List, ◌∷◌, ◌++◌, length, take, drop, sym, ap, ap₂, refl, arith, append_assoc}
+use Rattle.std.proofs.Common.{◌≡◌, ◌∙◌, ℕ, ◌-◌, ◌/◌, ◌%◌, ◌<◌, ◌^◌, eqb, true, false, List, ◌∷◌, ◌++◌, length, take, drop, sym, ap, ap₂, refl, arith}
 use Rattle.std.proofs.lemmas.Nat.{from_be_bytes-to_be_bytes_4}
 use Rattle.std.specs.Int.{w32, to_be_bytes, from_be_bytes}
 use Rattle.namespace_id.specs.Shares.{IsShare, name_in}
 use Rattle.namespace_id.specs.declared.namespaces.Namespace.{Namespace}
 use Rattle.namespace_id.specs.declared.shares.Share.{Share}
-use Rattle.share_split.specs.Blobs.{filled, first_share, later_share}
+use Rattle.share_split.specs.Blobs.{filled, sequence_share, first_share, later_share}
 use Rattle.share_split.specs.Walks.{version_in, is_start, size_in, content_in}
 use Rattle.share_split.proofs.CutLemmas.{cut, four, parts, fours, stated, first_byte_is, later_byte_is, fields_first, fields_later}
 
@@ -34,12 +34,12 @@ share_of bytes = record { 0 = bytes }
 
 -- the first share has its fields
 pub first_share_is_first : (name : Namespace) (size : ℕ) (text : List ℕ) → length name.0 ≡ 29 → size < 2 ^ 32 → IsFirst 0 name size text (first_share name size (take 478 text))
-unfolding first_share
+unfolding sequence_share
 first_share_is_first name size text len few =
     let number : List ℕ = to_be_bytes w32 size in
     let content : List ℕ = filled 478 (take 478 text) in
     let share : Share = first_share name size (take 478 text) in
-    let c = cut share.0 name.0 (number ++ content) 1 len (append_assoc name.0 (1 ∷ number) content) in
+    let c = cut share.0 name.0 (number ++ content) 1 len refl in
     let f = four share.0 number content refl c.behind in
     let start : is_start share ≡ true = ap (λ (b : ℕ). eqb (b % 2) 1) c.byte_is in
     record {
@@ -52,7 +52,7 @@ first_share_is_first name size text len few =
 
 -- a later share has its fields
 pub later_share_is_later : (name : Namespace) (text : List ℕ) → length name.0 ≡ 29 → IsLater 0 name text (later_share name (take 482 text))
-unfolding later_share
+unfolding sequence_share
 later_share_is_later name text len =
     let content : List ℕ = filled 482 (take 482 text) in
     let share : Share = later_share name (take 482 text) in
@@ -67,7 +67,7 @@ later_share_is_later name text len =
 
 -- a share with the fields of the first one is it
 pub is_first_share : (name : Namespace) (size : ℕ) (text : List ℕ) (share : Share) → IsShare share → IsFirst 0 name size text share → share ≡ first_share name size (take 478 text)
-unfolding first_share
+unfolding sequence_share
 is_first_share name size text share whole first =
     let bytes : List ℕ = share.0 in
     let content : List ℕ = filled 478 (take 478 text) in
@@ -76,12 +76,11 @@ is_first_share name size text share whole first =
     ap share_of
     (parts bytes whole.size_is
     ∙ ap₂ (λ (l : List ℕ) (b : ℕ). l ++ b ∷ drop 30 bytes) (ap (λ (n : Namespace). n.0) first.name_is) (first_byte_is share first.version_is first.start_is)
-    ∙ ap (λ (l : List ℕ). name.0 ++ 1 ∷ l) (fours bytes 30 ∙ ap₂ (λ (x y : List ℕ). x ++ y) number behind)
-    ∙ sym (append_assoc name.0 (1 ∷ to_be_bytes w32 size) content))
+    ∙ ap (λ (l : List ℕ). name.0 ++ (1 ∷ l)) (fours bytes 30 ∙ ap₂ (λ (x y : List ℕ). x ++ y) number behind))
 
 -- a share with the fields of a later one is it
 pub is_later_share : (name : Namespace) (text : List ℕ) (share : Share) → IsShare share → IsLater 0 name text share → share ≡ later_share name (take 482 text)
-unfolding later_share
+unfolding sequence_share
 is_later_share name text share whole later =
     let bytes : List ℕ = share.0 in
     let content : List ℕ = filled 482 (take 482 text) in

@@ -2,10 +2,10 @@ pub mod WidthLemmas
 pub mod WidthLawLemmas
 pub mod ShareLemmas
 pub mod LaterLemmas
+pub mod CountLemmas
 pub mod VarintLemmas
 pub mod PlaceLemmas
 pub mod StartLemmas
-pub mod CompactShareLemmas
 pub mod LaterCompactLemmas
 pub mod VarintLawLemmas
 pub mod UnitLawLemmas

@@ -15,6 +15,7 @@ use Rattle.share_split.proofs.FieldLemmas.{IsLater, later_share_is_later, is_lat
 use Rattle.share_split.proofs.CompactFieldLemmas.{later_compact_is, is_later_compact}
 use Rattle.share_split.proofs.ReservedLemmas.{bad_reserved-cons, bad_reserved-nil}
 use Rattle.share_split.proofs.PlaceLemmas.{reserved_of-small}
+use Rattle.share_split.proofs.LaterCompactLemmas.{later_compact_shares-none, later_compact_shares-next}
 
 -- shares that go on with a sequence to its end, of whose content this text is left
 abbrev pub AreLater : ℕ → Namespace → List ℕ → List Share → Type 0
@@ -109,25 +110,13 @@ pub good_cons : (i : ℕ) (starts : List ℕ) (share : Share) (shares : List Sha
 good_cons i starts share shares e =
     good_of (reserved_in share) (reserved_of i starts) (bad_reserved (suc i) starts shares) i _ refl (sym (bad_reserved-cons i starts share shares) ∙ e)
 
--- no shares are left
-compact-none : (name : Namespace) (i : ℕ) (starts text : List ℕ) (count : ℕ) → count ≡ 0 → later_compact_shares count name i starts text ≡ []
-unfolding later_compact_shares
-compact-none name i starts text count e = ap (λ (n : ℕ). later_compact_shares n name i starts text) e
-
--- the next share, and then the others
-compact-next : (name : Namespace) (i : ℕ) (starts text : List ℕ) (count left : ℕ) → count ≡ suc left
-    → later_compact_shares count name i starts text
-    ≡ later_compact_share name (reserved_of i starts) (take 478 text) ∷ later_compact_shares left name (suc i) starts (drop 478 text)
-unfolding later_compact_shares
-compact-next name i starts text count left e = ap (λ (n : ℕ). later_compact_shares n name i starts text) e
-
 -- shares that go on with the sequence to its end by the rule are its later shares
 pub later_compact_only : (name : Namespace) (i : ℕ) (starts text : List ℕ) (shares : List Share) → AreShares shares → AreLater 4 name text shares
     → bad_reserved i starts shares ≡ None → shares ≡ later_compact_shares (div_ceil (length text) 478) name i starts text
-later_compact_only name i starts text [] whole later good = sym (compact-none name i starts text (div_ceil (length text) 478) (omega (arith, later)))
+later_compact_only name i starts text [] whole later good = sym (later_compact_shares-none name i starts text (div_ceil (length text) 478) (omega (arith, later)))
 later_compact_only name i starts text (share ∷ shares) whole later good =
     let rest : List ℕ = drop 478 text in
     let g = good_cons i starts share shares good in
     let next : div_ceil (length text) 478 ≡ suc (div_ceil (length rest) 478) = compact_ceil-more (length text) later.0 ∙ ap (λ (n : ℕ). suc (div_ceil n 478)) (sym (length-drop 478 text)) in
     ap₂ (λ (s : Share) (l : List Share). s ∷ l) (is_later_compact name (reserved_of i starts) text share whole.0 (later.1, g.0)) (later_compact_only name (suc i) starts rest shares whole.1 later.2 g.1)
-    ∙ sym (compact-next name i starts text (div_ceil (length text) 478) (div_ceil (length rest) 478) next)
+    ∙ sym (later_compact_shares-next name i starts text (div_ceil (length text) 478) (div_ceil (length rest) 478) next)

@@ -1,12 +1,12 @@
 -- A share that is written part by part, with zeros behind.
-use Rattle.std.proofs.Common.{◌≡◌, ◌∙◌, ℕ, ◌+◌, ◌-◌, ◌≤◌, true, false, List, [], ◌∷◌, ◌++◌, length, take, drop, replicate, sym, ap, ap₂, refl, arith, length-append}
+use Rattle.std.proofs.Common.{◌≡◌, ◌∙◌, ℕ, ◌+◌, ◌-◌, ◌≤◌, Bool, List, [], ◌∷◌, ◌++◌, length, take, drop, replicate, sym, ap, ap₂, refl, arith, length-append}
 use Rattle.std.proofs.lemmas.List.{drop-replicate, take-replicate, append_assoc}
 use Rattle.std.proofs.Math.Seq.{take-append-add}
 use Rattle.std.specs.Int.{w32, to_be_bytes}
 use Rattle.namespace_id.proofs.StringLemmas.{put_next}
 use Rattle.namespace_id.specs.declared.namespaces.Namespace.{Namespace}
 use Rattle.namespace_id.specs.declared.shares.Share.{Share}
-use Rattle.share_split.specs.Blobs.{first_content, later_content, info, filled, first_share, later_share}
+use Rattle.share_split.specs.Blobs.{later_content, info, filled, sequence_share}
 
 -- what is written so far, and zeros behind it up to the size of a share
 abbrev pub laid : List ℕ → List ℕ
@@ -60,37 +60,32 @@ begun_written name s t start info_byte n i es et =
     let two : t ≡ laid (head name start) = laid_more name (start ∷ []) s t 29 one (sym n) et in
     two ∙ head_laid name start n ∙ ap (λ (j : ℕ). head name j ++ replicate later_content 0) i
 
-pub later_written : (name : Namespace) (content t u : List ℕ) → length name.0 ≡ 29 → length content ≤ later_content
-    → t ≡ head name.0 (info 0 false) ++ replicate later_content 0
-    → u ≡ take 30 t ++ content ++ drop (30 + length content) t
-    → share_of u ≡ later_share name content
-unfolding later_share
-later_written name content t u n h et eu =
-    let start : List ℕ = head name.0 (info 0 false) in
-    let size : length start ≡ 30 = length-head name.0 (info 0 false) n in
-    let two : t ≡ laid start = et ∙ sym (head_laid name.0 (info 0 false) n) in
-    let whole : u ≡ laid (start ++ content) = laid_more start content t u 30 two (sym size) eu in
+-- a share of a sequence is its parts, one behind another, and zeros
+pub sequence_written : (name : Namespace) (start : Bool) (fields content t u v : List ℕ) → length name.0 ≡ 29
+    → length fields + length content ≤ later_content
+    → t ≡ head name.0 (info 0 start) ++ replicate later_content 0
+    → u ≡ take 30 t ++ fields ++ drop (30 + length fields) t
+    → v ≡ take (30 + length fields) u ++ content ++ drop (30 + length fields + length content) u
+    → share_of v ≡ sequence_share name start fields content
+unfolding sequence_share
+sequence_written name start fields content t u v n h et eu ev =
+    let first : List ℕ = head name.0 (info 0 start) in
+    let rest : List ℕ = filled (later_content - length fields) content in
+    let begins : length first ≡ 30 = length-head name.0 (info 0 start) n in
+    let two : t ≡ laid first = et ∙ sym (head_laid name.0 (info 0 start) n) in
+    let three : u ≡ laid (first ++ fields) = laid_more first fields t u 30 two (sym begins) eu in
+    let place : length (first ++ fields) ≡ 30 + length fields = length-append first fields ∙ ap (λ (k : ℕ). k + length fields) begins in
+    let whole : v ≡ laid (first ++ fields ++ content) = laid_more (first ++ fields) content u v (30 + length fields) three (sym place) ev in
     ap share_of
     (whole
-    ∙ laid_filled start content later_content (ap (λ (k : ℕ). k + later_content) size) h
-    ∙ append_assoc name.0 (info 0 false ∷ []) (filled later_content content))
+    ∙ laid_filled (first ++ fields) content (later_content - length fields) (omega (arith, place, h)) (omega (arith, h))
+    ∙ append_assoc first fields rest
+    ∙ append_assoc name.0 (info 0 start ∷ []) (fields ++ rest))
 
-pub first_written : (name : Namespace) (content size_bytes t u v : List ℕ) (size : ℕ) → length name.0 ≡ 29 → length content ≤ first_content
-    → size_bytes ≡ to_be_bytes w32 size
-    → t ≡ head name.0 (info 0 true) ++ replicate later_content 0
-    → u ≡ take 30 t ++ size_bytes ++ drop (30 + length size_bytes) t
-    → v ≡ take 34 u ++ content ++ drop (34 + length content) u
-    → share_of v ≡ first_share name size content
-unfolding first_share
-first_written name content size_bytes t u v size n h b et eu ev =
-    let start : List ℕ = head name.0 (info 0 true) in
-    let begins : length start ≡ 30 = length-head name.0 (info 0 true) n in
-    let two : t ≡ laid start = et ∙ sym (head_laid name.0 (info 0 true) n) in
-    let three : u ≡ laid (start ++ size_bytes) = laid_more start size_bytes t u 30 two (sym begins) eu in
-    let place : length (start ++ size_bytes) ≡ 34 = length-append start size_bytes ∙ ap₂ (λ (k l : ℕ). k + l) begins (ap length b) in
-    let whole : v ≡ laid (start ++ size_bytes ++ content) = laid_more (start ++ size_bytes) content u v 34 three (sym place) ev in
-    ap share_of
-    (whole
-    ∙ laid_filled (start ++ size_bytes) content first_content (ap (λ (k : ℕ). k + first_content) place) h
-    ∙ ap (λ (x : List ℕ). x ++ filled first_content content) (append_assoc name.0 (info 0 true ∷ []) size_bytes)
-    ∙ ap (λ (x : List ℕ). name.0 ++ info 0 true ∷ x ++ filled first_content content) b)
+-- the two fields of a first compact share, four bytes each
+pub eight_written : (s r t u : List ℕ) (size reserved : ℕ) → s ≡ to_be_bytes w32 size → r ≡ to_be_bytes w32 reserved
+    → t ≡ take 0 (replicate 8 0) ++ s ++ drop (0 + length s) (replicate 8 0) → u ≡ take 4 t ++ r ++ drop (4 + length r) t
+    → u ≡ to_be_bytes w32 size ++ to_be_bytes w32 reserved
+eight_written s r t u size reserved es er et eu =
+    eu ∙ ap₂ (λ (x y : List ℕ). take 4 x ++ y ++ drop (4 + length y) x)
+    (et ∙ ap (λ (x : List ℕ). take 0 (replicate 8 0) ++ x ++ drop (0 + length x) (replicate 8 0)) es) er

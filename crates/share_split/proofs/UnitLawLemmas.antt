@@ -1,5 +1,5 @@
 -- How many compact shares there are, and that they are shares.
-use Rattle.std.proofs.Common.{◌≡◌, ℕ, zero, suc, ◌+◌, ◌-◌, ◌/◌, ◌%◌, ◌<◌, nat_le, ◌^◌, true, false, List, [], ◌∷◌, ◌++◌, length, take, drop, replicate, sym, ap, refl, inl, inr, arith, subst, length-append, length-take}
+use Rattle.std.proofs.Common.{◌≡◌, ℕ, zero, suc, ◌+◌, ◌-◌, ◌/◌, ◌%◌, ◌<◌, nat_le, ◌^◌, ◌≤◌, Bool, true, false, List, [], ◌∷◌, ◌++◌, length, take, drop, replicate, sym, ap, refl, inl, inr, arith, subst, length-append, length-take}
 use Rattle.std.specs.List.{AllByRecursion}
 use Rattle.std.specs.Int.{w32, to_be_bytes}
 use Rattle.std.proofs.lemmas.Bool.{cases_lt}
@@ -9,9 +9,9 @@ use Rattle.namespace_id.specs.declared.namespaces.Namespace.{Namespace}
 use Rattle.namespace_id.specs.Bytes.{AreBytes}
 use Rattle.namespace_id.specs.Names.{IsNamespace}
 use Rattle.namespace_id.specs.Shares.{IsShare, AreShares}
-use Rattle.namespace_id.proofs.StringLemmas.{AreBytes-append, AreBytes-take, AreBytes-drop}
-use Rattle.share_split.specs.Blobs.{max_sequence_length, info, filled}
-use Rattle.share_split.specs.Units.{first_compact_content, later_compact_content, varint_within, varint, unit_text, units_text, starts_from, reserved_of, first_compact_share, later_compact_share, later_compact_shares, compact_count, unit_shares_of, unit_share_count}
+use Rattle.namespace_id.proofs.StringLemmas.{AreBytes-none, AreBytes-cons, AreBytes-replicate, AreBytes-append, AreBytes-take, AreBytes-drop}
+use Rattle.share_split.specs.Blobs.{max_sequence_length, later_content, info, filled, sequence_share}
+use Rattle.share_split.specs.Units.{first_compact_content, later_compact_content, varint_within, varint, unit_text, units_text, starts_from, reserved_of, later_compact_shares, compact_count, unit_shares_of, unit_share_count}
 use Rattle.share_split.proofs.VarintLemmas.{varint_within-low, varint_within-high}
 
 -- ---- their number
@@ -45,22 +45,6 @@ long_texts_take_many_shares (unit ∷ units) h =
 
 -- ---- they are shares
 
-pub AreBytes-none : AreBytes []
-AreBytes-none i = omega arith
-
-AreBytes-one : (byte : ℕ) → byte < 256 → AreBytes (byte ∷ [])
-AreBytes-one byte h zero = h
-AreBytes-one byte h (suc i) = omega arith
-
-pub AreBytes-cons : (byte : ℕ) (bytes : List ℕ) → byte < 256 → AreBytes bytes → AreBytes (byte ∷ bytes)
-AreBytes-cons byte bytes h fits zero = h
-AreBytes-cons byte bytes h fits (suc i) = fits i
-
-AreBytes-zeros : (n : ℕ) → AreBytes (replicate n 0)
-AreBytes-zeros zero i = omega arith
-AreBytes-zeros (suc n) zero = omega arith
-AreBytes-zeros (suc n) (suc i) = AreBytes-zeros n i
-
 pub AreBytes-number : (n : ℕ) → AreBytes (to_be_bytes w32 n)
 AreBytes-number n zero = omega arith
 AreBytes-number n (suc zero) = omega arith
@@ -73,7 +57,7 @@ unfolding varint_within
 AreBytes-varint_within zero n = AreBytes-none
 AreBytes-varint_within (suc more) n =
     elim (cases_lt n 128) [
-      | inl lt ↦ subst (λ (l : List ℕ). AreBytes l) (sym (varint_within-low more n lt)) (AreBytes-one n (omega arith))
+      | inl lt ↦ subst (λ (l : List ℕ). AreBytes l) (sym (varint_within-low more n lt)) (AreBytes-cons n [] (omega arith) AreBytes-none)
       | inr le ↦
           subst (λ (l : List ℕ). AreBytes l) (sym (varint_within-high more n le))
           (AreBytes-cons (n % 128 + 128) (varint_within more (n / 128)) (omega arith) (AreBytes-varint_within more (n / 128)))
@@ -86,45 +70,44 @@ AreBytes-units_text (unit ∷ units) all =
     (AreBytes-append (varint (length unit)) unit (AreBytes-varint_within 10 (length unit)) all.0) (AreBytes-units_text units all.1)
 
 AreBytes-filled : (n : ℕ) (content : List ℕ) → AreBytes content → AreBytes (filled n content)
-AreBytes-filled n content fits = AreBytes-take n (content ++ replicate n 0) (AreBytes-append content (replicate n 0) fits (AreBytes-zeros n))
+AreBytes-filled n content fits = AreBytes-take n (content ++ replicate n 0) (AreBytes-append content (replicate n 0) fits (AreBytes-replicate n 0 (omega arith)))
 
 length-filled : (n : ℕ) (content : List ℕ) → length (filled n content) ≡ n
 length-filled n content =
     omega (arith, length-take n (content ++ replicate n 0), length-append content (replicate n 0), length-replicate {A = ℕ} n 0)
 
--- a share of a head and of content that fills it up
-pub share_fits : (front content : List ℕ) (n : ℕ) → AreBytes front → AreBytes content → length front + n ≡ 512
-    → IsShare (record { 0 = front ++ filled n content })
-share_fits front content n fits content_fits e = record {
-  size_is = omega (arith, length-append front (filled n content), length-filled n content);
-  fits = AreBytes-append front (filled n content) fits (AreBytes-filled n content content_fits);
-}
+-- an info byte is a byte
+info-lt : (start : Bool) → info 0 start < 256
+info-lt true = omega arith
+info-lt false = omega arith
 
-first_compact_fits : (name : Namespace) (size reserved : ℕ) (content : List ℕ) → IsNamespace name → AreBytes content
-    → IsShare (first_compact_share name size reserved content)
-unfolding first_compact_share
-first_compact_fits name size reserved content named fits =
-    let begun : List ℕ = info 0 true ∷ to_be_bytes w32 size in
-    let begun_fits : AreBytes begun = AreBytes-cons 1 (to_be_bytes w32 size) (omega arith) (AreBytes-number size) in
-    share_fits (name.0 ++ begun ++ to_be_bytes w32 reserved) content first_compact_content
-    (AreBytes-append (name.0 ++ begun) (to_be_bytes w32 reserved) (AreBytes-append name.0 begun named.fits begun_fits) (AreBytes-number reserved)) fits
-    (omega (arith, length-append (name.0 ++ begun) (to_be_bytes w32 reserved), length-append name.0 begun, named.size_is))
-
-later_compact_fits : (name : Namespace) (reserved : ℕ) (content : List ℕ) → IsNamespace name → AreBytes content
-    → IsShare (later_compact_share name reserved content)
-unfolding later_compact_share
-later_compact_fits name reserved content named fits =
-    let begun : List ℕ = info 0 false ∷ to_be_bytes w32 reserved in
-    let begun_fits : AreBytes begun = AreBytes-cons 0 (to_be_bytes w32 reserved) (omega arith) (AreBytes-number reserved) in
-    share_fits (name.0 ++ begun) content later_compact_content (AreBytes-append name.0 begun named.fits begun_fits) fits
-    (omega (arith, length-append name.0 begun, named.size_is))
+-- a share of a sequence is a share, where its fields have room in it
+pub sequence_fits : (name : Namespace) (start : Bool) (fields content : List ℕ) → length fields ≤ later_content → IsNamespace name
+    → AreBytes fields → AreBytes content → IsShare (sequence_share name start fields content)
+unfolding sequence_share
+sequence_fits name start fields content few named fits content_fits =
+    let n : ℕ = later_content - length fields in
+    let rest : List ℕ = fields ++ filled n content in
+    record {
+      size_is = omega (
+        arith,
+        few,
+        named.size_is,
+        length-append name.0 (info 0 start ∷ rest),
+        length-append fields (filled n content),
+        length-filled n content,
+      );
+      fits = AreBytes-append name.0 (info 0 start ∷ rest) named.fits
+          (AreBytes-cons (info 0 start) rest (info-lt start) (AreBytes-append fields (filled n content) fits (AreBytes-filled n content content_fits)));
+    }
 
 later_are_shares : (name : Namespace) (i : ℕ) (starts text : List ℕ) (count : ℕ) → IsNamespace name → AreBytes text
     → AreShares (later_compact_shares count name i starts text)
 unfolding later_compact_shares
 later_are_shares name i starts text zero named fits = tt
 later_are_shares name i starts text (suc count) named fits = (
-  later_compact_fits name (reserved_of i starts) (take later_compact_content text) named (AreBytes-take later_compact_content text fits),
+  sequence_fits name false (to_be_bytes w32 (reserved_of i starts)) (take later_compact_content text) (omega arith) named
+      (AreBytes-number (reserved_of i starts)) (AreBytes-take later_compact_content text fits),
   later_are_shares name (suc i) starts (drop later_compact_content text) count named (AreBytes-drop later_compact_content text fits),
 )
 
@@ -135,6 +118,8 @@ unit_shares_are_shares name (unit ∷ units) named all =
     let text : List ℕ = units_text (unit ∷ units) in
     let fits : AreBytes text = AreBytes-units_text (unit ∷ units) all in
     let starts : List ℕ = starts_from 0 (unit ∷ units) in (
-      first_compact_fits name (length text) (reserved_of 0 starts) (take first_compact_content text) named (AreBytes-take first_compact_content text fits),
+      sequence_fits name true (to_be_bytes w32 (length text) ++ to_be_bytes w32 (reserved_of 0 starts)) (take first_compact_content text) (omega arith) named
+          (AreBytes-append (to_be_bytes w32 (length text)) (to_be_bytes w32 (reserved_of 0 starts)) (AreBytes-number (length text)) (AreBytes-number (reserved_of 0 starts)))
+          (AreBytes-take first_compact_content text fits),
       later_are_shares name 1 starts (drop first_compact_content text) (compact_count (length text) - 1) named (AreBytes-drop first_compact_content text fits),
     )

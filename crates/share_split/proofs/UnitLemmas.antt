@@ -1,23 +1,13 @@
 -- One unit at the front of a text.
-use Rattle.std.proofs.Common.{◌≡◌, ◌∙◌, ℕ, ◌+◌, ◌-◌, ◌^◌, ◌<◌, ◌≤◌, Bool, true, false, cond, ◌&&◌, ltb, leb, lt-ltb, le-leb, ltb-true, leb-true, List, ◌++◌, length, take, drop, Option, Some, None, refl, sym, ap, ap₂, subst, arith, append_assoc, take-append-drop, length-append, length-drop, length-take-le}
-use Rattle.std.proofs.lemmas.Bool.{and_parts}
+use Rattle.std.proofs.Common.{◌≡◌, ◌∙◌, ℕ, ◌+◌, ◌-◌, ◌^◌, ◌<◌, ◌≤◌, Bool, true, cond, ◌&&◌, ltb, leb, lt-ltb, le-leb, ltb-true, leb-true, List, ◌++◌, length, take, drop, Option, Some, None, refl, sym, ap, ap₂, subst, arith, append_assoc, take-append-drop, length-append, length-drop, length-take-le}
+use Rattle.std.proofs.lemmas.Bool.{and_parts, and_from}
 use Rattle.std.proofs.lemmas.List.{take_at, drop_at}
-use Rattle.std.proofs.lemmas.Option.{some_pair_parts}
+use Rattle.std.proofs.lemmas.Option.{cond_some}
 use Rattle.namespace_id.specs.Bytes.{AreBytes}
 use Rattle.namespace_id.proofs.StringLemmas.{AreBytes-take, AreBytes-drop}
 use Rattle.share_split.specs.Units.{varint, unit_text}
 use Rattle.share_split.specs.Walks.{varint_in, unit_of, unit_at}
 use Rattle.share_split.proofs.VarintReadLemmas.{varint_back, varint_again, varint_shorter}
-
--- two tests that hold
-both_true : (a b : Bool) → a ≡ true → b ≡ true → (a && b) ≡ true
-both_true true b p q = q
-both_true false b p q = absurd cc
-
--- a test that must hold
-held : {A : Type 0} (b : Bool) (r : Option A) (y : A) → cond b r None ≡ Some y → (b ≡ true) × (r ≡ Some y)
-held true r y e = (refl, e)
-held false r y e = absurd cc
 
 -- a length that was read, and a unit that is all there
 pub record IsReadUnit (text unit : List ℕ) (size : ℕ) : Type 0 where
@@ -34,9 +24,8 @@ pub record IsReadUnit (text unit : List ℕ) (size : ℕ) : Type 0 where
 of_read : (text unit : List ℕ) (size : ℕ) (o : Option (ℕ × List ℕ)) → varint_in 5 text ≡ o → unit_of (length text) o ≡ Some (unit, size) → IsReadUnit text unit size
 of_read text unit size None e is = absurd cc
 of_read text unit size (Some x) e is =
-    let h = held (ltb x.0 (2 ^ 32) && leb x.0 (length x.1)) (Some (take x.0 x.1, length text - length x.1 + x.0)) (unit, size) is in
+    let h = cond_some (ltb x.0 (2 ^ 32) && leb x.0 (length x.1)) (take x.0 x.1, length text - length x.1 + x.0) (unit, size) is in
     let tests = and_parts (ltb x.0 (2 ^ 32)) (leb x.0 (length x.1)) h.0 in
-    let same = some_pair_parts (take x.0 x.1) unit (length text - length x.1 + x.0) size h.1 in
     record {
       count = x.0;
       rest = x.1;
@@ -44,8 +33,8 @@ of_read text unit size (Some x) e is =
       few = ltb-true _ _ tests.0;
       within = leb-true _ _ tests.1;
       shorter = varint_shorter 5 text x.0 x.1 e;
-      unit_is = same.0;
-      size_is = same.1;
+      unit_is = ap (λ (p : List ℕ × ℕ). p.0) h.1;
+      size_is = ap (λ (p : List ℕ × ℕ). p.1) h.1;
     }
 
 -- what was read
@@ -57,7 +46,7 @@ pub unit_read : (text rest unit after : List ℕ) (count : ℕ) → varint_in 5 
     → unit ≡ take count rest → length after + count ≡ length rest → unit_at text ≡ Some (unit, length text - length after)
 unit_read text rest unit after count read few within unit_is left =
     let shorter = varint_shorter 5 text count rest read in
-    let tests : (ltb count (2 ^ 32) && leb count (length rest)) ≡ true = both_true _ _ (lt-ltb _ _ (omega arith)) (le-leb _ _ within) in
+    let tests : (ltb count (2 ^ 32) && leb count (length rest)) ≡ true = and_from _ _ (lt-ltb _ _ (omega arith)) (le-leb _ _ within) in
     let size : length text - length rest + count ≡ length text - length after = omega arith in
     ap (unit_of (length text)) read
     ∙ ap (λ (b : Bool). cond b (Some (take count rest, length text - length rest + count)) None) tests
@@ -99,7 +88,7 @@ unit_again unit rest few =
     let text : List ℕ = unit_text unit ++ rest in
     let nested : text ≡ varint n ++ (unit ++ rest) = append_assoc (varint n) unit rest in
     let read : varint_in 5 text ≡ Some (n, unit ++ rest) = ap (varint_in 5) nested ∙ varint_again 5 10 n (unit ++ rest) (omega arith) (omega arith) (omega arith) in
-    let within : (ltb n (2 ^ 32) && leb n (length (unit ++ rest))) ≡ true = both_true _ _ (lt-ltb _ _ few) (le-leb _ _ (omega (arith, length-append unit rest))) in
+    let within : (ltb n (2 ^ 32) && leb n (length (unit ++ rest))) ≡ true = and_from _ _ (lt-ltb _ _ few) (le-leb _ _ (omega (arith, length-append unit rest))) in
     let size : length text - length (unit ++ rest) + n ≡ length (unit_text unit) =
     omega (arith, length-append (unit_text unit) rest, length-append (varint n) unit, length-append unit rest) in
     ap (unit_of (length text)) read

@@ -1,106 +1,24 @@
 -- A varint is read back, what is read is a varint, and none is shorter.
-use Rattle.std.proofs.Common.{◌≡◌, ◌≢◌, ◌∙◌, ℕ, zero, suc, ◌+◌, ◌-◌, ◌*◌, ◌/◌, ◌%◌, ◌^◌, ◌<◌, ◌≤◌, nat_lt, nat_le, ◌==◌, true, false, List, [], ◌∷◌, ◌++◌, length, Option, Some, None, sym, ap, ap₂, refl, inl, inr, arith}
+use Rattle.std.proofs.Common.{◌≡◌, ◌≢◌, ◌∙◌, ℕ, zero, suc, ◌+◌, ◌*◌, ◌/◌, ◌%◌, ◌^◌, ◌<◌, ◌≤◌, nat_le, true, List, [], ◌∷◌, ◌++◌, length, Some, sym, ap, refl, inl, inr, arith}
 use Rattle.std.proofs.lemmas.Bool.{cases_lt, true≢false}
 use Rattle.std.proofs.lemmas.Bool.Decides.{nat_tests}
-use Rattle.std.proofs.lemmas.Option.{some_pair_parts}
-use Rattle.std.proofs.Math.Nat.{pow-suc, one-le-pow}
+use Rattle.std.proofs.Math.Nat.{pow-suc}
 use Rattle.namespace_id.specs.Bytes.{AreBytes}
 use Rattle.share_split.specs.Units.{varint_within, varint}
-use Rattle.share_split.specs.Walks.{above_low, varint_in}
+use Rattle.share_split.specs.Walks.{varint_in}
 use Rattle.share_split.specs.UnitLaws.{stated, is_marked}
-use Rattle.share_split.proofs.VarintLemmas.{varint_within-low, varint_within-high, varint_within-more, length-varint-low, length-varint-high}
+use Rattle.share_split.proofs.VarintReadLemmas.{varint_back, varint_again}
+use Rattle.share_split.proofs.VarintLemmas.{varint_within-low, varint_within-high, length-varint-low, length-varint-high}
 
--- ---- a varint is read back
+-- ---- a varint is read back, and what is read is a varint
 
-varint_in-low : (more byte : ℕ) (rest : List ℕ) → byte < 128 → varint_in (suc more) (byte ∷ rest) ≡ Some (byte, rest)
-unfolding varint_in
-varint_in-low more byte rest h = let e : nat_lt byte 128 ≡ true = grind (arith, nat_tests) in rw e refl
-
-varint_in-high : (more byte : ℕ) (rest : List ℕ) → 128 ≤ byte → varint_in (suc more) (byte ∷ rest) ≡ above_low (byte - 128) (varint_in more rest)
-unfolding varint_in
-varint_in-high more byte rest h = let e : nat_lt byte 128 ≡ false = grind (arith, nat_tests) in rw e refl
-
-above_low-some : (low high : ℕ) (rest : List ℕ) → 0 < high → above_low low (Some (high, rest)) ≡ Some (low + 128 * high, rest)
-above_low-some low high rest h = let e : (high == 0) ≡ false = grind (arith, nat_tests) in rw e refl
-
-within_is_read : (more n : ℕ) (rest : List ℕ) → n < 128 ^ suc more → varint_in (suc more) (varint_within (suc more) n ++ rest) ≡ Some (n, rest)
-within_is_read zero n rest h =
-    let lt : n < 128 = omega (arith, pow-suc 128 0, h) in
-    ap (λ (l : List ℕ). varint_in 1 (l ++ rest)) (varint_within-low 0 n lt) ∙ varint_in-low 0 n rest lt
-within_is_read (suc more) n rest h =
-    elim (cases_lt n 128) [
-      | inl lt ↦ ap (λ (l : List ℕ). varint_in (suc (suc more)) (l ++ rest)) (varint_within-low (suc more) n lt) ∙ varint_in-low (suc more) n rest lt
-      | inr le ↦
-          let below : n / 128 < 128 ^ suc more = omega (arith, pow-suc 128 (suc more), h) in
-          let behind : List ℕ = varint_within (suc more) (n / 128) ++ rest in
-          let number : n % 128 + 128 - 128 + 128 * (n / 128) ≡ n = omega arith in
-          ap (λ (l : List ℕ). varint_in (suc (suc more)) (l ++ rest)) (varint_within-high (suc more) n le)
-          ∙ varint_in-high (suc more) (n % 128 + 128) behind (omega arith)
-          ∙ ap (λ (r : Option (ℕ × List ℕ)). above_low (n % 128 + 128 - 128) r) (within_is_read more (n / 128) rest below)
-          ∙ above_low-some (n % 128 + 128 - 128) (n / 128) rest (omega arith)
-          ∙ ap (λ (m : ℕ). Some (m, rest)) number
-    ]
-
--- ten bytes are no more than five, where five hold the number
-varint-five : (n : ℕ) → n < 128 ^ 5 → varint n ≡ varint_within 5 n
-varint-five n h =
-    sym (varint_within-more 4 n h
-    ∙ varint_within-more 5 n (omega arith)
-    ∙ varint_within-more 6 n (omega arith)
-    ∙ varint_within-more 7 n (omega arith)
-    ∙ varint_within-more 8 n (omega arith))
-
+-- the varint of a length is read back, whatever follows it
 pub varint_is_read : (n : ℕ) (rest : List ℕ) → n < 2 ^ 32 → varint_in 5 (varint n ++ rest) ≡ Some (n, rest)
-varint_is_read n rest h =
-    ap (λ (l : List ℕ). varint_in 5 (l ++ rest)) (varint-five n (omega arith)) ∙ within_is_read 4 n rest (omega arith)
+varint_is_read n rest h = varint_again 5 10 n rest (omega arith) (omega arith) (omega arith)
 
--- ---- what is read is a varint
-
--- what a higher part was
-above_low-is : (low : ℕ) (read : Option (ℕ × List ℕ)) (n : ℕ) (rest : List ℕ) → above_low low read ≡ Some (n, rest)
-    → (high : ℕ) × (read ≡ Some (high, rest)) × (0 < high) × (n ≡ low + 128 * high)
-above_low-is low None n rest e = absurd cc
-above_low-is low (Some read) n rest e =
-    elim (cases_lt 0 read.0) [
-      | inl lt ↦
-          let same = some_pair_parts (low + 128 * read.0) n read.1 rest (sym (above_low-some low read.0 read.1 lt) ∙ e) in
-          (read.0, ap (λ (l : List ℕ). Some (read.0, l)) same.1, lt, sym same.0)
-      | inr le ↦
-          let zero_is : (read.0 == 0) ≡ true = grind (arith, nat_tests) in
-          let none : above_low low (Some read) ≡ None = rw zero_is refl in
-          absurd cc
-    ]
-
-read_is_within : (more : ℕ) (bytes rest : List ℕ) (n : ℕ) → AreBytes bytes → varint_in more bytes ≡ Some (n, rest)
-    → (bytes ≡ varint_within more n ++ rest) × (n < 128 ^ more)
-unfolding varint_in
-read_is_within zero bytes rest n fits e = absurd cc
-read_is_within (suc more) [] rest n fits e = absurd cc
-read_is_within (suc more) (byte ∷ bytes) rest n fits e =
-    elim (cases_lt byte 128) [
-      | inl lt ↦
-          let same = some_pair_parts byte n bytes rest (sym (varint_in-low more byte bytes lt) ∙ e) in
-          let spelled : varint_within (suc more) n ≡ n ∷ [] = varint_within-low more n (omega (arith, same.0)) in (
-            ap₂ (λ (x : ℕ) (xs : List ℕ). x ∷ xs) same.0 same.1 ∙ sym (ap (λ (l : List ℕ). l ++ rest) spelled),
-            omega (arith, same.0, pow-suc 128 more, one-le-pow more 128 (omega arith)),
-          )
-      | inr le ↦
-          let found = above_low-is (byte - 128) (varint_in more bytes) n rest (sym (varint_in-high more byte bytes le) ∙ e) in
-          let before = read_is_within more bytes rest found.0 (λ i. fits (suc i)) found.1 in
-          let byte_fits : byte < 256 = fits 0 in
-          let low : n % 128 + 128 ≡ byte = omega (arith, found.3) in
-          let high : n / 128 ≡ found.0 = omega (arith, found.3) in
-          let spelled : varint_within (suc more) n ≡ byte ∷ varint_within more found.0
-          = varint_within-high more n (omega (arith, found.2, found.3)) ∙ ap₂ (λ (x m : ℕ). x ∷ varint_within more m) low high in (
-            ap (λ (l : List ℕ). byte ∷ l) before.0 ∙ sym (ap (λ (l : List ℕ). l ++ rest) spelled),
-            omega (arith, found.3, before.1, pow-suc 128 more),
-          )
-    ]
-
+-- what is read as a number is its varint
 pub read_is_varint : (bytes rest : List ℕ) (n : ℕ) → AreBytes bytes → varint_in 5 bytes ≡ Some (n, rest) → bytes ≡ varint n ++ rest
-read_is_varint bytes rest n fits e =
-    let read = read_is_within 5 bytes rest n fits e in
-    read.0 ∙ sym (ap (λ (l : List ℕ). l ++ rest) (varint-five n read.1))
+read_is_varint bytes rest n fits e = varint_back 5 10 bytes n rest (omega arith) fits e
 
 -- ---- none is shorter
 

@@ -1,29 +1,14 @@
 -- Varints, written and read.
-use Rattle.std.proofs.Common.{◌≡◌, ◌≢◌, ◌∙◌, inl, inr, ℕ, zero, suc, ◌+◌, ◌-◌, ◌*◌, ◌/◌, ◌%◌, ◌^◌, ◌<◌, ◌≤◌, Bool, true, false, cond, eqb, lt-ltb, le-ltb, false-eqb, List, [], ◌∷◌, ◌++◌, length, Option, Some, None, refl, sym, ap, ap₂, arith, pow-suc}
+use Rattle.std.proofs.Common.{◌≡◌, ◌≢◌, ◌∙◌, inl, inr, ℕ, zero, suc, ◌+◌, ◌-◌, ◌*◌, ◌/◌, ◌%◌, ◌^◌, ◌<◌, ◌≤◌, Bool, false, cond, eqb, lt-ltb, le-ltb, false-eqb, List, [], ◌∷◌, ◌++◌, length, Option, Some, None, refl, sym, ap, ap₂, arith, pow-suc}
 use Rattle.std.proofs.lemmas.Bool.{cases_lt}
 use Rattle.std.proofs.lemmas.Bool.Decides.{nat_tests}
 use Rattle.std.proofs.lemmas.Nat.{div_below}
 use Rattle.std.proofs.lemmas.Option.{some_pair_parts}
+use Rattle.std.proofs.NetLemmas.Options.{cond_none}
 use Rattle.namespace_id.specs.Bytes.{AreBytes}
 use Rattle.share_split.specs.Units.{varint_within}
 use Rattle.share_split.specs.Walks.{varint_in, above_low}
-
--- a test that must fail
-pub passed : {A : Type 0} (b : Bool) (r : Option A) (y : A) → cond b None r ≡ Some y → (b ≡ false) × (r ≡ Some y)
-passed true r y e = absurd cc
-passed false r y e = (refl, e)
-
--- ---- written
-
--- a number below 128 is one byte
-within-small : (more n : ℕ) → n < 128 → varint_within (suc more) n ≡ n ∷ []
-unfolding varint_within
-within-small more n lt = ap (λ (b : Bool). cond b (n ∷ []) ((n % 128 + 128) ∷ varint_within more (n / 128))) (lt-ltb n 128 lt)
-
--- another number is its lowest seven bits, and the others
-within-large : (more n : ℕ) → 128 ≤ n → varint_within (suc more) n ≡ (n % 128 + 128) ∷ varint_within more (n / 128)
-unfolding varint_within
-within-large more n le = ap (λ (b : Bool). cond b (n ∷ []) ((n % 128 + 128) ∷ varint_within more (n / 128))) (le-ltb n 128 le)
+use Rattle.share_split.proofs.VarintLemmas.{varint_within-low, varint_within-high}
 
 -- ---- read
 
@@ -58,7 +43,7 @@ pub record HasHigh (low n : ℕ) (rest : List ℕ) (o : Option (ℕ × List ℕ)
 above_some : (low n : ℕ) (rest : List ℕ) (o : Option (ℕ × List ℕ)) → above_low low o ≡ Some (n, rest) → HasHigh low n rest o
 above_some low n rest None e = absurd cc
 above_some low n rest (Some h) e =
-    let p = passed (eqb h.0 0) (Some (low + 128 * h.0, h.1)) (n, rest) e in
+    let p = cond_none (eqb h.0 0) (Some (low + 128 * h.0, h.1)) (n, rest) e in
     let same = some_pair_parts (low + 128 * h.0) n h.1 rest p.1 in
     let zero_not : h.0 ≢ 0 = false-eqb h.0 0 (sym p.0) in
     record {
@@ -87,14 +72,14 @@ varint_back (suc more) (suc k) (byte ∷ bytes) n rest le fits e =
       | inl lt ↦
           let same = some_pair_parts byte n bytes rest (sym (in-small more byte bytes lt) ∙ e) in
           ap₂ (λ (b : ℕ) (l : List ℕ). b ∷ l) same.0 same.1
-          ∙ sym (ap (λ (l : List ℕ). l ++ rest) (within-small k n (omega (arith, same.0))))
+          ∙ sym (ap (λ (l : List ℕ). l ++ rest) (varint_within-low k n (omega (arith, same.0))))
       | inr large ↦
           let byte_fits : byte < 256 = fits 0 in
           let h = above_some (byte - 128) n rest (varint_in more bytes) (sym (in-large more byte bytes large) ∙ e) in
           let low : n % 128 + 128 ≡ byte = omega (arith, h.sum_is) in
           let high : n / 128 ≡ h.high = omega (arith, h.sum_is) in
           ap (λ (l : List ℕ). byte ∷ l) (varint_back more k bytes h.high rest (omega arith) (λ i. fits (suc i)) h.read)
-          ∙ sym (ap (λ (l : List ℕ). l ++ rest) (within-large k n (omega (arith, h.sum_is, h.some)) ∙ ap₂ (λ (b m : ℕ). b ∷ varint_within k m) low high))
+          ∙ sym (ap (λ (l : List ℕ). l ++ rest) (varint_within-high k n (omega (arith, h.sum_is, h.some)) ∙ ap₂ (λ (b m : ℕ). b ∷ varint_within k m) low high))
     ]
 
 -- a number above 0 takes a byte
@@ -108,12 +93,12 @@ varint_again zero k n rest some le lt = absurd (omega arith)
 varint_again (suc more) zero n rest some le lt = absurd (omega arith)
 varint_again (suc more) (suc k) n rest some le lt =
     elim (cases_lt n 128) [
-      | inl small ↦ ap (λ (l : List ℕ). varint_in (suc more) (l ++ rest)) (within-small k n small) ∙ in-small more n rest small
+      | inl small ↦ ap (λ (l : List ℕ). varint_in (suc more) (l ++ rest)) (varint_within-low k n small) ∙ in-small more n rest small
       | inr large ↦
           let below : n < 128 ^ more * 128 = omega (arith, pow-suc 128 more) in
           let high : n / 128 < 128 ^ more = div_below n 128 (128 ^ more) (omega arith) below in
           let sum_is : n % 128 + 128 - 128 + 128 * (n / 128) ≡ n = omega arith in
-          ap (λ (l : List ℕ). varint_in (suc more) (l ++ rest)) (within-large k n large)
+          ap (λ (l : List ℕ). varint_in (suc more) (l ++ rest)) (varint_within-high k n large)
           ∙ in-large more (n % 128 + 128) (varint_within k (n / 128) ++ rest) (omega arith)
           ∙ ap (above_low (n % 128 + 128 - 128)) (varint_again more k (n / 128) rest (has_more more (n / 128) (omega arith) high) (omega arith) high)
           ∙ above_again (n % 128 + 128 - 128) (n / 128) rest (omega arith)

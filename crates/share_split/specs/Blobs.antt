@@ -5,24 +5,19 @@ use Rattle.namespace_id.specs.declared.namespaces.Namespace.{Namespace}
 use Rattle.namespace_id.specs.declared.shares.Share.{Share}
 use Rattle.namespace_id.specs.Bytes.{AreBytes}
 use Rattle.namespace_id.specs.Names.{IsNamespace}
+use Rattle.namespace_id.specs.Sizes.{namespace_size, share_size}
 
--- a share, and the namespace that stands first in it, in bytes
-abbrev pub share_size : ℕ
-share_size = 512
-
-abbrev pub namespace_size : ℕ
-namespace_size = 29
-
--- the place of the length of a sequence in its first share
+-- the place of the length of a sequence in its first share: behind the namespace and the info byte
 abbrev pub length_place : ℕ
-length_place = 30
+length_place = namespace_size + 1
 
--- the content of the first share of a sequence, and of a later one, in bytes
+-- the bytes of content in the first share of a sequence: without the namespace, the info byte and the length
 abbrev pub first_content : ℕ
-first_content = 478
+first_content = share_size - namespace_size - 1 - 4
 
+-- the bytes of content in a later share of a sequence: without the namespace and the info byte
 abbrev pub later_content : ℕ
-later_content = 482
+later_content = share_size - namespace_size - 1
 
 -- the greatest length of a sequence: four bytes state it
 abbrev pub max_sequence_length : ℕ
@@ -36,25 +31,35 @@ info version start = 2 * version + (if start then 1 else 0)
 abbrev pub filled : ℕ → List ℕ → List ℕ
 filled n content = take n (content ++ replicate n 0)
 
--- the first share of a sequence: namespace, info byte, length of the sequence, content
-unfoldable pub first_share : Namespace → ℕ → List ℕ → Share
-first_share name size content =
-    record { 0 = name.0 ++ info 0 true ∷ to_be_bytes w32 size ++ filled first_content content }
+-- a share of a sequence: namespace, info byte, the fields behind it, and content filled with zeros to the
+-- end of the share
+unfoldable pub sequence_share : Namespace → Bool → List ℕ → List ℕ → Share
+sequence_share name start fields content = record {
+  0 = name.0 ++ (info 0 start ∷ (fields
+      ++ filled (share_size - namespace_size - 1 - length fields) content));
+}
 
--- a later share: namespace, info byte, content
-unfoldable pub later_share : Namespace → List ℕ → Share
-later_share name content = record { 0 = name.0 ++ info 0 false ∷ filled later_content content }
+-- the first share of a blob's sequence, whose one field is the length of the sequence
+abbrev pub first_share : Namespace → ℕ → List ℕ → Share
+first_share name size content = sequence_share name true (to_be_bytes w32 size) content
 
--- so many later shares, 482 bytes each
+-- a later share of a blob's sequence, which has no fields
+abbrev pub later_share : Namespace → List ℕ → Share
+later_share name content = sequence_share name false [] content
+
+-- so many later shares, as much content in each as it holds
 unfoldable pub later_shares : ℕ → Namespace → List ℕ → List Share
 later_shares zero name bytes = []
 later_shares (suc count) name bytes =
     later_share name (take later_content bytes) ∷ later_shares count name (drop later_content bytes)
 
+-- how many shares so many bytes take, of which the first share and each later one hold at most so many
+abbrev pub count_from : ℕ → ℕ → ℕ → ℕ
+count_from first later size = if nat_le size first then 1 else 1 + div_ceil (size - first) later
+
 -- how many shares a blob of so many bytes takes
 abbrev pub share_count : ℕ → ℕ
-share_count size =
-    if nat_le size first_content then 1 else 1 + div_ceil (size - first_content) later_content
+share_count size = count_from first_content later_content size
 
 -- the shares of a blob
 abbrev pub blob_shares_of : Namespace → List ℕ → List Share
@@ -67,7 +72,7 @@ pub record NamedBytes : Type 0 where
   pub namespace : Namespace
   pub bytes : List ℕ
 
--- bytes under a namespace of 29 bytes
+-- bytes under a namespace
 pub record IsNamed (blob : NamedBytes) : Type 0 where
   pub name : IsNamespace blob.namespace
   pub fits : AreBytes blob.bytes

@@ -1,18 +1,19 @@
 -- Units as compact shares (Celestia specifications, "Shares", transaction shares).
-use Rattle.std.specs.Prelude.{ℕ, zero, suc, ◌+◌, ◌-◌, ◌*◌, ◌/◌, ◌%◌, ◌==◌, nat_le, nat_lt, true, false, List, [], ◌∷◌, ◌++◌, length, take, drop, if◌then◌else◌}
+use Rattle.std.specs.Prelude.{ℕ, zero, suc, ◌+◌, ◌-◌, ◌*◌, ◌/◌, ◌%◌, ◌==◌, nat_lt, true, false, List, [], ◌∷◌, ◌++◌, length, take, drop, if◌then◌else◌}
 use Rattle.std.specs.List.{flat_map}
-use Rattle.std.specs.Int.{w32, to_be_bytes, div_ceil}
+use Rattle.std.specs.Int.{w32, to_be_bytes}
 use Rattle.namespace_id.specs.declared.namespaces.Namespace.{Namespace}
 use Rattle.namespace_id.specs.declared.shares.Share.{Share}
-use Rattle.share_split.specs.Blobs.{info, filled}
+use Rattle.namespace_id.specs.Sizes.{share_size}
+use Rattle.share_split.specs.Blobs.{first_content, later_content, sequence_share, count_from}
 
--- the content of the first compact share, and of a later one, in bytes: four reserved bytes come before
--- it
+-- the bytes of content in the first compact share of a sequence: four reserved bytes come before it
 abbrev pub first_compact_content : ℕ
-first_compact_content = 474
+first_compact_content = first_content - 4
 
+-- the bytes of content in a later compact share: four reserved bytes come before it
 abbrev pub later_compact_content : ℕ
-later_compact_content = 478
+later_compact_content = later_content - 4
 
 -- ---- the text of units
 
@@ -49,7 +50,7 @@ content_start i =
 
 -- the place of the content in share i
 abbrev pub content_place : ℕ → ℕ
-content_place i = if i == 0 then 38 else 34
+content_place i = if i == 0 then share_size - first_compact_content else share_size - later_compact_content
 
 -- the starts from a place of the text on; starts are ascending
 unfoldable pub starts_on : ℕ → List ℕ → List ℕ
@@ -71,19 +72,14 @@ first_place i (start ∷ starts) = place_in i start
 abbrev pub reserved_of : ℕ → List ℕ → ℕ
 reserved_of i starts = first_place i (starts_on (content_start i) starts)
 
--- the first compact share of a sequence: namespace, info byte, length of the sequence, reserved bytes,
--- content
-unfoldable pub first_compact_share : Namespace → ℕ → ℕ → List ℕ → Share
-first_compact_share name size reserved content = record {
-  0 = name.0 ++ info 0 true ∷ to_be_bytes w32 size ++ to_be_bytes w32 reserved
-      ++ filled first_compact_content content;
-}
+-- the first compact share of a sequence, whose fields are the length of the sequence and the reserved bytes
+abbrev pub first_compact_share : Namespace → ℕ → ℕ → List ℕ → Share
+first_compact_share name size reserved content =
+    sequence_share name true (to_be_bytes w32 size ++ to_be_bytes w32 reserved) content
 
--- a later compact share: namespace, info byte, reserved bytes, content
-unfoldable pub later_compact_share : Namespace → ℕ → List ℕ → Share
-later_compact_share name reserved content = record {
-  0 = name.0 ++ info 0 false ∷ to_be_bytes w32 reserved ++ filled later_compact_content content;
-}
+-- a later compact share of a sequence, whose one field is the reserved bytes
+abbrev pub later_compact_share : Namespace → ℕ → List ℕ → Share
+later_compact_share name reserved content = sequence_share name false (to_be_bytes w32 reserved) content
 
 -- so many later compact shares, from share i on, over what is left of the text
 unfoldable pub later_compact_shares : ℕ → Namespace → ℕ → List ℕ → List ℕ → List Share
@@ -94,9 +90,7 @@ later_compact_shares (suc count) name i starts text =
 
 -- how many compact shares a text of this length takes
 abbrev pub compact_count : ℕ → ℕ
-compact_count size =
-    if nat_le size first_compact_content then 1 else
-    1 + div_ceil (size - first_compact_content) later_compact_content
+compact_count size = count_from first_compact_content later_compact_content size
 
 -- the one compact sequence of these units, of length 0 where there are none
 abbrev pub compact_shares : Namespace → List (List ℕ) → List Share

@@ -8,27 +8,28 @@ use Rattle.namespace_id.specs.declared.namespaces.Namespace.{Namespace}
 use Rattle.namespace_id.specs.declared.shares.Share.{Share}
 use Rattle.namespace_id.specs.Names.{is_zeros}
 use Rattle.namespace_id.specs.Shares.{name_in}
+use Rattle.namespace_id.specs.Sizes.{namespace_size}
 use Rattle.share_split.specs.declared.joining.JoinError.{JoinError}
 use Rattle.share_split.specs.declared.joining.JoinError.TheVariants.{NoStart, Short, BadVersion, NonZeroFill, BadVarint, BadReserved, MixedNamespace, NoMemory}
-use Rattle.share_split.specs.Blobs.{NamedBytes}
+use Rattle.share_split.specs.Blobs.{length_place, NamedBytes}
 use Rattle.share_split.specs.Units.{first_compact_content, later_compact_content, starts_from, reserved_of}
 
 -- ---- the fields of a share, behind its namespace
 
 abbrev pub version_in : Share → ℕ
-version_in share = slice_index share.0 29 / 2
+version_in share = slice_index share.0 namespace_size / 2
 
 -- whether it is the first share of a sequence
 abbrev pub is_start : Share → Bool
-is_start share = slice_index share.0 29 % 2 == 1
+is_start share = slice_index share.0 namespace_size % 2 == 1
 
 -- the length of the sequence that a first share begins
 abbrev pub size_in : Share → ℕ
-size_in share = from_be_bytes w32 (take 4 (drop 30 share.0))
+size_in share = from_be_bytes w32 (take 4 (drop length_place share.0))
 
 -- the bytes after the namespace, the info byte and, in a first share, the length
 abbrev pub fields_in : Share → List ℕ
-fields_in share = drop (if is_start share then 34 else 30) share.0
+fields_in share = drop (if is_start share then length_place + 4 else length_place) share.0
 
 -- the content, which stands behind so many reserved bytes: none in the shares of blobs, four in
 -- compact shares

@@ -2,43 +2,36 @@
 
 ghost use Rattle.std.specs.Prelude.{◌≡◌, ◌+◌, ◌^◌, ◌≤◌, ◌<◌, ◌++◌, ◌∷◌, [], ◌↔◌, length, take, drop, replicate, vec_len, vec_capacity, OnOk, OnErr, IsErrOf};
 ghost use Rattle.namespace_id.specs.Answers.{HasRoom};
-ghost use Rattle.share_split.specs.Blobs.{first_content, later_content, max_sequence_length, info, first_share, later_share, later_shares, share_count, blob_shares_of};
+ghost use Rattle.share_split.specs.Blobs.{first_content, later_content, max_sequence_length, info, sequence_share, first_share, later_share, later_shares, count_from, share_count, blob_shares_of};
 ghost use Rattle.share_split.specs.Joined.{padding_share};
 
-use namespace_id::{Namespace, Share, put};
+use namespace_id::{NAMESPACE_SIZE, Namespace, SHARE_SIZE, Share, put};
 use std::marker::Model;
 use thiserror::Error;
-
-/// The bytes of a share.
-///
-/// Celestia specifications, "Shares".
-pub const SHARE_SIZE: usize = 512;
-
-/// The bytes of a namespace, which stands first in a share. The info byte stands behind it.
-///
-/// Celestia specifications, "Namespace", "Shares".
-pub const NAMESPACE_SIZE: usize = 29;
 
 /// The place of the length of a sequence in its first share: behind the namespace and the info byte.
 ///
 /// Celestia specifications, "Shares".
-pub const LENGTH_PLACE: usize = 30;
+pub const LENGTH_PLACE: usize = NAMESPACE_SIZE + 1;
 
-/// The bytes of content in the first share of a sequence: 512 without the namespace (29), the info
-/// byte (1) and the length of the sequence (4).
+/// The bytes of content in the first share of a sequence: a share without the namespace, the info byte
+/// (1) and the length of the sequence (4).
 ///
 /// Celestia specifications, "Shares".
-pub const FIRST_CONTENT: usize = 478;
+pub const FIRST_CONTENT: usize = SHARE_SIZE - NAMESPACE_SIZE - 1 - 4;
 
-/// The bytes of content in a later share: 512 without the namespace (29) and the info byte (1).
+/// The bytes of content in a later share: a share without the namespace and the info byte (1).
 ///
 /// Celestia specifications, "Shares".
-pub const LATER_CONTENT: usize = 482;
+pub const LATER_CONTENT: usize = SHARE_SIZE - NAMESPACE_SIZE - 1;
 
 /// The greatest length of a sequence in bytes: four bytes state it.
 ///
 /// Celestia specifications, "Shares".
 pub const MAX_SEQUENCE_LENGTH: usize = 4_294_967_295;
+
+/// The place of the fields of a share: behind the namespace and the info byte.
+const FIELDS_PLACE: usize = NAMESPACE_SIZE + 1;
 
 /// The version of all shares here.
 const SHARE_VERSION: u8 = 0;
@@ -74,6 +67,19 @@ impl Model for Blob {
     ghost view = { λ b. record { namespace = b.namespace; bytes = b.bytes.items } };
 }
 
+/// How many shares so many bytes take, of which the first share and each later one hold at most so
+/// many.
+pub(crate) fn count_from(first: usize, later: usize, size: u128) -> u128
+    requires first { 1 ≤ first }
+    requires later { 1 ≤ later }
+    ensures { result ≡ count_from first later size }
+{
+    if size <= first as u128 {
+        return 1;
+    }
+    1 + (size - first as u128).div_ceil(later as u128)
+}
+
 /// How many shares a blob of so many bytes takes.
 ///
 /// Celestia specifications, "Shares".
@@ -83,10 +89,7 @@ pub fn blob_share_count(len: u64) -> u64
     ensures some { 1 ≤ result }
     ensures bound { result ≤ 2 ^ 56 }
 {
-    if len <= FIRST_CONTENT as u64 {
-        return 1;
-    }
-    1 + (len - FIRST_CONTENT as u64).div_ceil(LATER_CONTENT as u64)
+    count_from(FIRST_CONTENT, LATER_CONTENT, len as u128) as u64
 }
 
 /// The info byte of a share: its version, and whether it is the first of a sequence.
@@ -97,8 +100,8 @@ fn info(version: u8, start: bool) -> u8
     2 * version + u8::from(start)
 }
 
-/// A share without its content: the namespace and the info byte, and zeros behind them.
-pub(crate) fn begun(namespace: &Namespace, start: bool) -> Share
+/// A share without its fields and its content: the namespace and the info byte, and zeros behind them.
+fn begun(namespace: &Namespace, start: bool) -> Share
     ensures value { result.0 ≡ namespace.now.0 ++ info 0 start ∷ [] ++ replicate later_content 0 }
     ensures name { length namespace.now.0 ≡ 29 }
 {
@@ -108,15 +111,29 @@ pub(crate) fn begun(namespace: &Namespace, start: bool) -> Share
     share
 }
 
+/// A share of a sequence: the namespace, the info byte, the fields behind it and the content, and zeros
+/// behind them.
+pub(crate) fn sequence_share(
+    namespace: &Namespace,
+    start: bool,
+    fields: &[u8],
+    content: &[u8],
+) -> Share
+    requires { length fields.now + length content.now ≤ later_content }
+    ensures { result ≡ sequence_share namespace.now start fields.now content.now }
+{
+    let mut share = begun(namespace, start);
+    put(&mut share.0, FIELDS_PLACE, fields);
+    put(&mut share.0, FIELDS_PLACE + fields.len(), content);
+    share
+}
+
 /// The first share of a sequence of `size` bytes, which begins with this content.
 fn first_share(namespace: &Namespace, size: u32, content: &[u8]) -> Share
     requires { length content.now ≤ first_content }
     ensures { result ≡ first_share namespace.now size content.now }
 {
-    let mut share = begun(namespace, true);
-    put(&mut share.0, LENGTH_PLACE, &size.to_be_bytes());
-    put(&mut share.0, SHARE_SIZE - FIRST_CONTENT, content);
-    share
+    sequence_share(namespace, true, &size.to_be_bytes(), content)
 }
 
 /// A padding share: the first share of a sequence of length 0, and zeros behind the length.
@@ -133,9 +150,7 @@ fn later_share(namespace: &Namespace, content: &[u8]) -> Share
     requires { length content.now ≤ later_content }
     ensures { result ≡ later_share namespace.now content.now }
 {
-    let mut share = begun(namespace, false);
-    put(&mut share.0, SHARE_SIZE - LATER_CONTENT, content);
-    share
+    sequence_share(namespace, false, &[], content)
 }
 
 /// The first bytes, at most so many, and the others.
@@ -213,7 +228,7 @@ mod tests {
     /// info byte, and in a first share the length of the sequence.
     #[test]
     fn shares(rt: HostRuntime) -> Result<(), Fail> {
-        let mut name = [0; 29];
+        let mut name = [0; NAMESPACE_SIZE];
         name[27] = 1;
         name[28] = 1;
         let name = Namespace(name);

@@ -1,18 +1,16 @@
 //! Compact shares, and the reserved bytes in them.
 
 ghost use Rattle.std.specs.Prelude.{◌≡◌, ◌+◌, ◌≤◌, ◌<◌, ◌^◌, ◌++◌, length};
+ghost use Rattle.std.specs.Int.{w32, to_be_bytes};
 ghost use Rattle.namespace_id.specs.Answers.{HasRoom};
 ghost use Rattle.share_split.specs.Blobs.{max_sequence_length};
 ghost use Rattle.share_split.specs.Units.{first_compact_content, later_compact_content, units_text, starts_from, content_start, reserved_of, first_compact_share, later_compact_share, later_compact_shares, compact_count, compact_shares};
 ghost use Rattle.share_split.specs.Texts.{starts_of};
 
-use crate::blobs::{begun, put_share, split_within};
+use crate::blobs::{count_from, put_share, sequence_share, split_within};
 use crate::places::{content_start, place_in};
 use crate::texts::{NextUnit, next_on};
-use crate::{
-    FIRST_COMPACT_CONTENT, FIRST_CONTENT, LATER_COMPACT_CONTENT, LATER_CONTENT, LENGTH_PLACE,
-    SHARE_SIZE, Unit,
-};
+use crate::{FIRST_COMPACT_CONTENT, LATER_COMPACT_CONTENT, Unit};
 use namespace_id::{Namespace, Share, put};
 
 /// The number that the reserved bytes of a share state: where in it the next unit starts, if it does.
@@ -27,20 +25,22 @@ fn reserved_of(units: &[Unit], next: NextUnit, share: usize) -> u32
     place_in(share, next.start)
 }
 
+/// The fields of the first compact share: the length of the sequence, and the reserved bytes.
+fn first_fields(size: u32, reserved: u32) -> [u8; 8]
+    ensures { result ≡ to_be_bytes w32 size ++ to_be_bytes w32 reserved }
+{
+    let mut fields = [0; 8];
+    put(&mut fields, 0, &size.to_be_bytes());
+    put(&mut fields, 4, &reserved.to_be_bytes());
+    fields
+}
+
 /// The first compact share of a sequence of `size` bytes, which begins with this content.
 fn first_compact_share(namespace: &Namespace, size: u32, reserved: u32, content: &[u8]) -> Share
     requires { length content.now ≤ first_compact_content }
     ensures { result ≡ first_compact_share namespace.now size reserved content.now }
 {
-    let mut share = begun(namespace, true);
-    put(&mut share.0, LENGTH_PLACE, &size.to_be_bytes());
-    put(
-        &mut share.0,
-        SHARE_SIZE - FIRST_CONTENT,
-        &reserved.to_be_bytes(),
-    );
-    put(&mut share.0, SHARE_SIZE - FIRST_COMPACT_CONTENT, content);
-    share
+    sequence_share(namespace, true, &first_fields(size, reserved), content)
 }
 
 /// A later compact share of a sequence.
@@ -48,14 +48,7 @@ fn later_compact_share(namespace: &Namespace, reserved: u32, content: &[u8]) -> 
     requires { length content.now ≤ later_compact_content }
     ensures { result ≡ later_compact_share namespace.now reserved content.now }
 {
-    let mut share = begun(namespace, false);
-    put(
-        &mut share.0,
-        SHARE_SIZE - LATER_CONTENT,
-        &reserved.to_be_bytes(),
-    );
-    put(&mut share.0, SHARE_SIZE - LATER_COMPACT_CONTENT, content);
-    share
+    sequence_share(namespace, false, &reserved.to_be_bytes(), content)
 }
 
 /// Appends so many later compact shares, over what is behind the first one's content in the text.
@@ -87,10 +80,7 @@ fn put_later_compact(
 pub(crate) fn compact_count(size: u128) -> u128
     ensures { result ≡ compact_count size }
 {
-    if size <= FIRST_COMPACT_CONTENT as u128 {
-        return 1;
-    }
-    1 + (size - FIRST_COMPACT_CONTENT as u128).div_ceil(LATER_COMPACT_CONTENT as u128)
+    count_from(FIRST_COMPACT_CONTENT, LATER_COMPACT_CONTENT, size)
 }
 
 /// Appends the one compact sequence of units, whose text and number of shares are given.

@@ -7,8 +7,8 @@ ghost use Rattle.share_split.specs.Walks.{version_in, is_start, size_in, fields_
 ghost use Rattle.share_split.specs.Walks.{content_in, reserved_in, is_filled};
 
 use crate::blobs::split_within;
-use crate::{FIRST_CONTENT, LATER_CONTENT, LENGTH_PLACE, NAMESPACE_SIZE, SHARE_SIZE};
-use namespace_id::{Share, is_zeros};
+use crate::{FIRST_CONTENT, LATER_CONTENT, LENGTH_PLACE};
+use namespace_id::{NAMESPACE_SIZE, SHARE_SIZE, Share, is_zeros};
 
 /// The version of a share.
 pub(crate) fn version(share: &Share) -> u8

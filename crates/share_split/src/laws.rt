@@ -1,20 +1,19 @@
 //! The sizes of shares, and the laws of the shares of blobs.
 
 ghost use Rattle.std.specs.Prelude.{◌≡◌, ◌+◌, ◌^◌};
-ghost use Rattle.share_split.specs.Blobs.{share_size, namespace_size, length_place, first_content, later_content, max_sequence_length};
+ghost use Rattle.namespace_id.specs.Sizes.{share_size, namespace_size};
+ghost use Rattle.share_split.specs.Blobs.{length_place, first_content, later_content, max_sequence_length};
 ghost use Rattle.share_split.specs.Units.{first_compact_content, later_compact_content};
 ghost use Rattle.share_split.specs.Widths.{subtree_root_threshold};
 ghost use Rattle.share_split.specs.BlobLaws.{BlobSharesAreCounted, BlobSharesAreShares, PaddingIsShare};
 
 use crate::{
     FIRST_COMPACT_CONTENT, FIRST_CONTENT, LATER_COMPACT_CONTENT, LATER_CONTENT, LENGTH_PLACE,
-    MAX_SEQUENCE_LENGTH, NAMESPACE_SIZE, SHARE_SIZE, SUBTREE_ROOT_THRESHOLD,
+    MAX_SEQUENCE_LENGTH, SUBTREE_ROOT_THRESHOLD,
 };
 
 /// The constants are the numbers of the definitions, and the parts of a share fill it.
 pub fn size_laws()
-    ensures share_size { SHARE_SIZE ≡ share_size }
-    ensures namespace_size { NAMESPACE_SIZE ≡ namespace_size }
     ensures length_place { LENGTH_PLACE ≡ length_place }
     ensures first_content { FIRST_CONTENT ≡ first_content }
     ensures later_content { LATER_CONTENT ≡ later_content }

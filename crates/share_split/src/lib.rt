@@ -21,8 +21,8 @@ mod walking;
 mod widths;
 
 pub use blobs::{
-    Blob, FIRST_CONTENT, LATER_CONTENT, LENGTH_PLACE, MAX_SEQUENCE_LENGTH, NAMESPACE_SIZE,
-    SHARE_SIZE, SplitError, blob_share_count, blob_shares, padding_share,
+    Blob, FIRST_CONTENT, LATER_CONTENT, LENGTH_PLACE, MAX_SEQUENCE_LENGTH, SplitError,
+    blob_share_count, blob_shares, padding_share,
 };
 pub use joining::{JoinError, join_blobs, join_laws, join_units};
 pub use laws::{blob_laws, size_laws};

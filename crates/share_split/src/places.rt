@@ -4,7 +4,8 @@ ghost use Rattle.std.specs.Prelude.{◌≡◌, ◌<◌, ◌≤◌, ◌^◌};
 ghost use Rattle.share_split.specs.Units.{content_start, content_place, place_in};
 ghost use Rattle.share_split.specs.Walks.{share_with};
 
-use crate::{FIRST_COMPACT_CONTENT, LATER_COMPACT_CONTENT, SHARE_SIZE};
+use crate::{FIRST_COMPACT_CONTENT, LATER_COMPACT_CONTENT};
+use namespace_id::SHARE_SIZE;
 
 /// Where the content of a share begins in the text.
 pub(crate) fn content_start(share: usize) -> usize

@@ -8,21 +8,21 @@ ghost use Rattle.share_split.specs.UnitLaws.{UnitSharesAreCounted, LongTextsTake
 use crate::compact::{compact_count, put_compact};
 use crate::texts::{text_size, units_text};
 use crate::{MAX_SEQUENCE_LENGTH, SplitError};
-use namespace_id::{Namespace, Share};
+use namespace_id::{NAMESPACE_SIZE, Namespace, SHARE_SIZE, Share};
 use std::alloc::Global;
 use std::marker::Model;
 
-/// The bytes of content in the first compact share of a sequence: 512 without the namespace (29), the
+/// The bytes of content in the first compact share of a sequence: a share without the namespace, the
 /// info byte (1), the length of the sequence (4) and the reserved bytes (4).
 ///
 /// Celestia specifications, "Shares", transaction shares.
-pub const FIRST_COMPACT_CONTENT: usize = 474;
+pub const FIRST_COMPACT_CONTENT: usize = SHARE_SIZE - NAMESPACE_SIZE - 1 - 4 - 4;
 
-/// The bytes of content in a later compact share: 512 without the namespace (29), the info byte (1) and
+/// The bytes of content in a later compact share: a share without the namespace, the info byte (1) and
 /// the reserved bytes (4).
 ///
 /// Celestia specifications, "Shares", transaction shares.
-pub const LATER_COMPACT_CONTENT: usize = 478;
+pub const LATER_COMPACT_CONTENT: usize = SHARE_SIZE - NAMESPACE_SIZE - 1 - 4;
 
 /// A unit of compact shares: the bytes of a transaction, or of a payment for blobs.
 ///

@@ -1,6 +1,6 @@
 -- Sorting borrowed blobs by their namespaces gives them in the order in which they stand in a square.
-use Rattle.std.proofs.Common.{true, false, if◌then◌else◌, ◌≡◌, ◌∙◌, ◌+◌, Bool, true, List, [], ◌∷◌, get_or, map, ◌&&◌, not, is_lt, is_le, Bor, Ordering, Less, Equal, Greater, refl, sym, ap, arith, inl, inr}
-use Rattle.std.proofs.lemmas.Bool.{cases_Bool, and_parts}
+use Rattle.std.proofs.Common.{true, false, if◌then◌else◌, ◌≡◌, ◌∙◌, ◌+◌, Bool, true, List, [], ◌∷◌, get_or, map, not, is_lt, is_le, Bor, Ordering, Less, Equal, Greater, refl, sym, ap, arith, inl, inr}
+use Rattle.std.proofs.lemmas.Bool.{cases_Bool, and_parts, and_from}
 use Rattle.std.specs.List.{AllByRecursion}
 use Rattle.std.specs.Ordering.{ordering_reverse}
 use Rattle.std.specs.List.Sorted.{ties, IsSortedByKey, IsStableByKey}
@@ -31,16 +31,13 @@ turned Greater = refl
 at_most_is : (a b : Namespace) → not (is_lt (namespace_cmp b a)) ≡ is_at_most a b
 at_most_is a b = ap (λ (o : Ordering). not (is_lt o)) (nat_list_cmp_total.antisymm b.0 a.0) ∙ turned (namespace_cmp a b)
 
-both_true : (a b : Bool) → a ≡ true → b ≡ true → (a && b) ≡ true
-both_true a b h k = ap (λ (x : Bool). x && b) h ∙ k
-
 names_rank : Ranks named_at_most named_level
 names_rank = record {
   total = λ x y. at_most_total (name_of x) (name_of y);
   trans = λ x y z. at_most_trans (name_of x) (name_of y) (name_of z);
   parts = λ x y h. (let both = and_parts (not (is_lt (namespace_cmp (name_of x) (name_of y)))) (not (is_lt (namespace_cmp (name_of y) (name_of x)))) h in
       (sym (at_most_is (name_of x) (name_of y)) ∙ both.1, sym (at_most_is (name_of y) (name_of x)) ∙ both.0));
-  from = λ x y h k. both_true (not (is_lt (namespace_cmp (name_of x) (name_of y)))) (not (is_lt (namespace_cmp (name_of y) (name_of x))))
+  from = λ x y h k. and_from (not (is_lt (namespace_cmp (name_of x) (name_of y)))) (not (is_lt (namespace_cmp (name_of y) (name_of x))))
       (at_most_is (name_of y) (name_of x) ∙ k) (at_most_is (name_of x) (name_of y) ∙ h);
 }
 

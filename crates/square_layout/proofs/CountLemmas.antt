@@ -1,15 +1,12 @@
 -- Lemmas on loops over borrowed blobs, and on ends that are told up to 2^64 - 1.
-use Rattle.std.proofs.Common.{◌≡◌, ◌∙◌, ℕ, suc, ◌+◌, ◌*◌, ◌<◌, ◌≤◌, min, List, [], ◌∷◌, length, drop, get_or, map, sym, ap, ap₂, subst, arith, inl, inr, add-one, drop-cons, Bor}
-use Rattle.std.specs.Int.{div_ceil}
+use Rattle.std.proofs.Common.{◌≡◌, ◌∙◌, ℕ, suc, ◌+◌, ◌<◌, ◌≤◌, min, List, [], ◌∷◌, length, drop, get_or, map, sym, ap, ap₂, subst, arith, inl, inr, add-one, drop-cons, Bor}
 use Rattle.std.proofs.lemmas.Bool.{cases_lt}
 use Rattle.std.proofs.lemmas.List.{drop-map, drop_all, length-map}
-use Rattle.std.proofs.lemmas.Grind.{div_ceil_times}
-use Rattle.share_split.specs.Widths.{width_of}
 use Rattle.share_split.specs.Blobs.{NamedBytes}
 use Rattle.square_layout.specs.Blocks.{HaveBytes}
 use Rattle.square_layout.specs.Layout.{shares_of, start_after, end_of}
 use Rattle.square_layout.specs.Refusals.{max_count}
-use Rattle.square_layout.proofs.PlaceLemmas.{width_of-some, start_after-ge, end_of-ge, end_of-next}
+use Rattle.square_layout.proofs.PlaceLemmas.{end_of-ge, end_of-next}
 
 -- the blobs that are borrowed
 abbrev pub lent : List (Bor NamedBytes) → List NamedBytes
@@ -30,21 +27,6 @@ drop-lent_all blobs i h = drop_all i (lent blobs) (omega (arith, h, length-map b
 
 pub have_bytes-next : (blobs others : List NamedBytes) (b : NamedBytes) → blobs ≡ b ∷ others → HaveBytes blobs → (1 ≤ length b.bytes) × HaveBytes others
 have_bytes-next blobs others b e h = let both : HaveBytes (b ∷ others) = subst HaveBytes e h in both
-
--- a start that is told, from an end that is told
-told_start : (end : ℕ) (blob : NamedBytes)
-    → min (div_ceil (min end max_count) (width_of (shares_of blob)) * width_of (shares_of blob)) max_count ≡ min (start_after end blob) max_count
-told_start end blob = elim (cases_lt max_count end) [
-  | inl above ↦
-      let low : min end max_count ≡ max_count = omega (arith, above) in
-      let left = (div_ceil_times max_count (width_of (shares_of blob)) (width_of-some (shares_of blob))).0 in
-      let right = start_after-ge end blob in
-      ap (λ (n : ℕ). min (div_ceil n (width_of (shares_of blob)) * width_of (shares_of blob)) max_count) low
-      ∙ omega (arith, left, right, above)
-  | inr within ↦
-      let same : min end max_count ≡ end = omega (arith, within) in
-      ap (λ (n : ℕ). min (div_ceil n (width_of (shares_of blob)) * width_of (shares_of blob)) max_count) same
-]
 
 -- an end that is told, from one that is told
 pub told_end : (end : ℕ) (blobs : List NamedBytes) → min (end_of (min end max_count) blobs) max_count ≡ min (end_of end blobs) max_count

@@ -1,5 +1,5 @@
 use super::*;
-use namespace_id::{Namespace, NsError, Share};
+use namespace_id::{NAMESPACE_SIZE, Namespace, NsError, Share};
 use share_split::{Blob, Unit};
 use std::alloc::Global;
 use std::test::Fail;
@@ -25,7 +25,7 @@ const RESERVED: u16 = 0x00ff;
 
 /// Version 0, 18 zero bytes, and `low` as ten big-endian bytes.
 fn version_0(low: u16) -> Namespace {
-    let mut bytes = [0; 29];
+    let mut bytes = [0; NAMESPACE_SIZE];
     bytes[27..].copy_from_slice(&low.to_be_bytes());
     Namespace(bytes)
 }
@@ -51,7 +51,10 @@ fn blobs_of(alloc: Global, lens: &[(u16, usize)]) -> Result<Vec<Blob>, Fail> {
 
 fn run_of(share: &Share) -> (u16, bool) {
     let low = u16::from_be_bytes([share.0[27], share.0[28]]);
-    (low, share.0[29..34] == [1, 0, 0, 0, 0])
+    (
+        low,
+        share.0[NAMESPACE_SIZE..NAMESPACE_SIZE + 5] == [1, 0, 0, 0, 0],
+    )
 }
 
 /// Whether shares are these runs.

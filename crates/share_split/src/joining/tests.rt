@@ -3,12 +3,12 @@
 ghost use Rattle.std.specs.Prelude.{◌<◌};
 
 use crate::{JoinError, blob_shares, join_blobs, join_units};
-use namespace_id::{Namespace, Share, TRANSACTION};
+use namespace_id::{NAMESPACE_SIZE, Namespace, SHARE_SIZE, Share, TRANSACTION};
 use std::test::Fail;
 
 /// A namespace of a blob.
 fn name(low: u8) -> Namespace {
-    let mut bytes = [0; 29];
+    let mut bytes = [0; NAMESPACE_SIZE];
     bytes[27] = 1;
     bytes[28] = low;
     Namespace(bytes)
@@ -25,8 +25,8 @@ fn changed(share: &Share, at: usize, byte: u8) -> Share
 
 /// The first share of a compact sequence of length 0.
 fn no_units() -> Share {
-    let mut share = Share([0; 512]);
-    share.0[..29].copy_from_slice(&TRANSACTION.0);
+    let mut share = Share([0; SHARE_SIZE]);
+    share.0[..NAMESPACE_SIZE].copy_from_slice(&TRANSACTION.0);
     share.0[29] = 1;
     share
 }
@@ -38,8 +38,8 @@ fn units() -> [Share; 2] {
     first.0[37] = 38;
     first.0[38..40].copy_from_slice(&[0xd8, 3]);
     first.0[40..].copy_from_slice(&[5; 472]);
-    let mut second = Share([0; 512]);
-    second.0[..29].copy_from_slice(&TRANSACTION.0);
+    let mut second = Share([0; SHARE_SIZE]);
+    second.0[..NAMESPACE_SIZE].copy_from_slice(&TRANSACTION.0);
     second.0[33] = 34;
     second.0[34] = 10;
     second.0[35..45].copy_from_slice(&[6; 10]);

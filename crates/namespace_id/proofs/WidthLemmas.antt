@@ -1,0 +1,8 @@
+-- What is known of the width of a square.
+use Rattle.std.proofs.Common.{◌≡◌, ℕ, ◌≤◌, true, arith}
+use Rattle.std.proofs.lemmas.Bool.Decides.{nat_tests}
+use Rattle.namespace_id.specs.Cells.{is_width}
+
+-- a width is at most 128
+pub is_width-le : (k : ℕ) → is_width k ≡ true → k ≤ 128
+is_width-le k h = grind (arith, nat_tests)
