@@ -10,15 +10,21 @@ use Rattle.da_wire.specs.declared.frames.Frame.{Frame}
 use Rattle.da_wire.specs.declared.frames.Frame.TheVariants.{Header, Square, Message, Missing, Sample, Request, Block}
 use Rattle.da_wire.specs.declared.frames.FrameError.{FrameError}
 use Rattle.da_wire.specs.declared.frames.FrameError.TheVariants.{Truncated, BadKind}
-use Rattle.da_wire.specs.Spelling.{max_payload, frame, spelled, spelling, asks_for_zero, IsFrame, header_kind, square_kind, message_kind, missing_kind, sample_kind, request_kind, block_kind, header_payload, square_payload, message_payload, missing_payload, sample_payload, request_payload, block_payload}
+use Rattle.da_wire.specs.Spelling.{max_payload, frame, spelled, spelling, IsFrame, header_kind, square_kind, message_kind, missing_kind, sample_kind, request_kind, block_kind}
+use Rattle.da_wire.specs.kinds.Block.{asks_for_zero, block_payload}
+use Rattle.da_wire.specs.kinds.Header.{header_payload}
+use Rattle.da_wire.specs.kinds.Square.{square_payload}
+use Rattle.da_wire.specs.kinds.Message.{message_payload}
+use Rattle.da_wire.specs.kinds.Missing.{missing_payload}
+use Rattle.da_wire.specs.kinds.Requests.{sample_payload, request_payload}
 use Rattle.da_wire.specs.Reading.{Raw, raw_of, is_kind, value_at, valued, value_of, tested_raw, tested_frame, frame_of}
 use Rattle.da_wire.specs.Frames.{ok_of}
 use Rattle.da_wire.specs.Writing.{kind_of, AppendsSpelling, IsReadBack, appended}
 use Rattle.da_wire.specs.Laws.{SpelledIsRead, ReadIsSpelled, OneSpelling, IsSpelledFront}
-use Rattle.da_wire.proofs.ReaderLemmas.{if_false}
+use Rattle.da_wire.proofs.codec.Readers.{if_false}
 use Rattle.da_wire.proofs.RawLemmas.{length-frame, raw_again, raw_takes}
-use Rattle.da_wire.proofs.ValueLemmas.{value_takes}
-use Rattle.da_wire.proofs.WrittenLemmas.{IsWritten, value_again}
+use Rattle.da_wire.proofs.kinds.Read.{value_takes}
+use Rattle.da_wire.proofs.kinds.Written.{IsWritten, value_again}
 
 abbrev pub Answer : Type 0
 Answer = Result (Frame × ℕ) FrameError

@@ -10,7 +10,7 @@ use Rattle.da_wire.specs.Spelling.{max_payload, frame}
 use Rattle.da_wire.specs.Reading.{Raw, promised, raw_of}
 use Rattle.da_wire.specs.Frames.{ok_of, raw_in, frames_of, bad_frame, IsRaw}
 use Rattle.da_wire.specs.Laws.{FramesAreTheFile, FilesAreFrames, BadFrameIsFirst, RawIsFrame}
-use Rattle.da_wire.proofs.ReaderLemmas.{ok_some, map_some}
+use Rattle.da_wire.proofs.codec.Readers.{ok_some, map_some}
 use Rattle.da_wire.proofs.RawLemmas.{length-frame, raw_again, raw_takes}
 use Rattle.da_wire.proofs.ListedLemmas.{IsFront, IsReader, walk_again, stop_none, walked, walked_all, walked_some}
 

@@ -8,8 +8,8 @@ use Rattle.da_wire.specs.declared.frames.FrameError.TheVariants.{Truncated, TooL
 use Rattle.da_wire.specs.Spelling.{max_payload, frame}
 use Rattle.da_wire.specs.Reading.{Raw, promised, raw_of}
 use Rattle.da_wire.specs.Frames.{IsRaw}
-use Rattle.da_wire.proofs.NumberLemmas.{wide32}
-use Rattle.da_wire.proofs.ByteFieldLemmas.{AreBytes-rest}
+use Rattle.da_wire.proofs.codec.Numbers.{wide32}
+use Rattle.da_wire.proofs.codec.Strings.{AreBytes-rest}
 
 -- ---- three tests that must fail
 

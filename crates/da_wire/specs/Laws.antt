@@ -6,8 +6,9 @@ use Rattle.axis_roots.specs.declared.messages.Message.{Message}
 use Rattle.axis_roots.specs.Messages.{IsMessage}
 use Rattle.da_wire.specs.declared.frames.Frame.{Frame}
 use Rattle.da_wire.specs.declared.frames.FrameError.{FrameError}
-use Rattle.da_wire.specs.Spelling.{frame, message_payload, spelling, IsFrame}
-use Rattle.da_wire.specs.Reading.{Raw, raw_of, message_at, is_among, tested_frame, frame_of, only_of}
+use Rattle.da_wire.specs.Spelling.{frame, spelling, IsFrame}
+use Rattle.da_wire.specs.kinds.Message.{message_payload, message_at}
+use Rattle.da_wire.specs.Reading.{Raw, raw_of, is_among, tested_frame, frame_of, only_of}
 use Rattle.da_wire.specs.Writing.{kind_of}
 use Rattle.da_wire.specs.Frames.{frames_of, bad_frame, frames_bytes, IsRaw}
 use Rattle.da_wire.specs.Values.{values_of, bad_value, values_bytes, IsValue}

@@ -4,8 +4,8 @@ use Rattle.std.specs.List.{flat_map}
 use Rattle.std.specs.Option.{option_map, option_map_or}
 use Rattle.da_wire.specs.declared.frames.Frame.{Frame}
 use Rattle.da_wire.specs.Spelling.{spelling, IsFrame}
-use Rattle.da_wire.specs.Writing.{kind_of}
 use Rattle.da_wire.specs.Reading.{is_among, tested_frame}
+use Rattle.da_wire.specs.Writing.{kind_of}
 use Rattle.da_wire.specs.Frames.{ok_of}
 use Rattle.da_wire.specs.Walks.{walk_from, stop_from}
 

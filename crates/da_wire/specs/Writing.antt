@@ -3,7 +3,13 @@ use Rattle.std.specs.Prelude.{◌≡◌, ◌≤◌, ◌<◌, ◌^◌, ℕ, List,
 use Rattle.da_wire.specs.declared.frames.Frame.{Frame}
 use Rattle.da_wire.specs.declared.frames.Frame.TheVariants.{Header, Square, Message, Missing, Sample, Request, Block}
 use Rattle.da_wire.specs.Reading.{frame_of}
-use Rattle.da_wire.specs.Spelling.{max_payload, frame, spelling, header_kind, square_kind, message_kind, missing_kind, sample_kind, request_kind, block_kind, header_payload, square_payload, message_payload, missing_payload, sample_payload, request_payload, block_payload}
+use Rattle.da_wire.specs.Spelling.{max_payload, frame, spelling, header_kind, square_kind, message_kind, missing_kind, sample_kind, request_kind, block_kind}
+use Rattle.da_wire.specs.kinds.Header.{header_payload}
+use Rattle.da_wire.specs.kinds.Square.{square_payload}
+use Rattle.da_wire.specs.kinds.Message.{message_payload}
+use Rattle.da_wire.specs.kinds.Missing.{missing_payload}
+use Rattle.da_wire.specs.kinds.Requests.{sample_payload, request_payload}
+use Rattle.da_wire.specs.kinds.Block.{block_payload}
 
 abbrev pub kind_of : Frame → ℕ
 kind_of (Header h) = header_kind

@@ -8,10 +8,12 @@ ghost use Rattle.da_wire.specs.Reading.{Reads, ReadsAt, raw_seen, raw_of, is_kin
 ghost use Rattle.da_wire.specs.Frames.{frames_of, bad_frame};
 ghost use Rattle.da_wire.specs.Values.{value_in, value_and_rest, values_of, bad_value};
 
-use crate::blocks::{block, block_parts};
-use crate::payloads::{
-    header, header_parts, message, missing, missing_parts, request, sample, square, square_parts,
-};
+use crate::kinds::block::{block, block_parts};
+use crate::kinds::header::{header, header_parts};
+use crate::kinds::message::message;
+use crate::kinds::missing::{missing, missing_parts};
+use crate::kinds::requests::{request, sample};
+use crate::kinds::square::{square, square_parts};
 use crate::{Frame, FrameError, RawFrame};
 use std::alloc::{AllocError, Global};
 

@@ -1,0 +1,13 @@
+pub mod HeaderForm
+pub mod SquareForm
+pub mod CellLoops
+pub mod MessageForm
+pub mod MissingForm
+pub mod RequestForms
+pub mod BlockForm
+pub mod BlockParts
+pub mod Read
+pub mod Written
+pub mod PayloadSizes
+pub mod CellCounts
+pub mod Spelled
