@@ -23,8 +23,8 @@ use Rattle.da_wire.specs.Writing.{kind_of, AppendsSpelling, IsReadBack, appended
 use Rattle.da_wire.specs.Laws.{SpelledIsRead, ReadIsSpelled, OneSpelling, IsSpelledFront}
 use Rattle.da_wire.proofs.codec.Readers.{if_false}
 use Rattle.da_wire.proofs.RawLemmas.{length-frame, raw_again, raw_takes}
-use Rattle.da_wire.proofs.kinds.Read.{value_takes}
-use Rattle.da_wire.proofs.kinds.Written.{IsWritten, value_again}
+use Rattle.da_wire.proofs.kinds.Form.{IsWritten}
+use Rattle.da_wire.proofs.kinds.Forms.{value_takes, value_again}
 
 abbrev pub Answer : Type 0
 Answer = Result (Frame × ℕ) FrameError

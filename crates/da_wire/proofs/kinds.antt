@@ -1,3 +1,4 @@
+pub mod Form
 pub mod HeaderForm
 pub mod SquareForm
 pub mod CellLoops
@@ -6,8 +7,7 @@ pub mod MissingForm
 pub mod RequestForms
 pub mod BlockForm
 pub mod BlockParts
-pub mod Read
-pub mod Written
 pub mod PayloadSizes
 pub mod CellCounts
 pub mod Spelled
+pub mod Forms

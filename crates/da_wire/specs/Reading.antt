@@ -1,9 +1,12 @@
 -- What is read of bytes, field by field, and the first refusal (docs/FORMATS.md).
-use Rattle.std.specs.Prelude.{ℕ, List, length, take, drop, nat_lt, Option, Some, None, if◌then◌else◌, ◌≡◌, ◌⊎◌, ◌+◌, slice_index, ◌==◌, ◌||◌, ◌&&◌, Bool, true, IsSome, Result, Ok, Err, IsOk}
-use Rattle.std.specs.Option.{option_map}
+use Rattle.std.specs.Prelude.{ℕ, List, length, take, drop, nat_lt, Option, Some, None, if◌then◌else◌, ◌≡◌, ◌⊎◌, ◌+◌, slice_index, ◌==◌, ◌&&◌, Bool, true, false, IsSome, Result, Ok, Err, IsOk}
+use Rattle.std.specs.Option.{option_map, option_map_or}
 use Rattle.std.specs.Int.{w32, from_be_bytes}
 use Rattle.std.specs.List.{list_any}
 use Rattle.da_wire.specs.declared.frames.Frame.{Frame}
+use Rattle.da_wire.specs.declared.kinds.Kind.{Kind}
+use Rattle.da_wire.specs.declared.kinds.Kind.TheVariants as kinds
+use Rattle.da_wire.specs.codec.Fields.{◌>>=◌}
 use Rattle.da_wire.specs.declared.frames.Frame.TheVariants.{Header, Square, Message, Missing, Sample, Request, Block}
 use Rattle.da_wire.specs.declared.frames.RawFrame.{RawFrame}
 use Rattle.da_wire.specs.declared.frames.FrameError.{FrameError}
@@ -16,24 +19,36 @@ use Rattle.da_wire.specs.kinds.Missing.{missing_at}
 use Rattle.da_wire.specs.kinds.Requests.{sample_at, request_at}
 use Rattle.da_wire.specs.kinds.Block.{block_at}
 
--- ---- payloads: all of the bytes are the fields, and nothing is left over
+-- ---- kinds
+
+-- the kind that a byte is
+abbrev pub kind_at : ℕ → Option Kind
+kind_at byte =
+    if byte == header_kind then Some kinds.Header else
+    (if byte == square_kind then Some kinds.Square else
+    (if byte == message_kind then Some kinds.Message else
+    (if byte == missing_kind then Some kinds.Missing else
+    (if byte == sample_kind then Some kinds.Sample else
+    (if byte == request_kind then Some kinds.Request else
+    (if byte == block_kind then Some kinds.Block else None))))))
 
 -- whether there are values of this kind
 abbrev pub is_kind : ℕ → Bool
-is_kind kind =
-    (kind == header_kind) || (kind == square_kind) || (kind == message_kind) || (kind == missing_kind)
-    || (kind == sample_kind) || (kind == request_kind) || (kind == block_kind)
+is_kind byte = option_map_or (λ kind. true) (kind_at byte) false
 
--- the value of this kind whose payload the bytes are
+-- the value of a kind whose payload the bytes are
+abbrev pub value_of_kind : Kind → List ℕ → Option Frame
+value_of_kind kinds.Header payload = option_map Header (header_at payload)
+value_of_kind kinds.Square payload = option_map Square (square_at payload)
+value_of_kind kinds.Message payload = option_map Message (message_at payload)
+value_of_kind kinds.Missing payload = option_map Missing (missing_at payload)
+value_of_kind kinds.Sample payload = option_map (λ s. Sample s.0 s.1) (sample_at payload)
+value_of_kind kinds.Request payload = option_map Request (request_at payload)
+value_of_kind kinds.Block payload = option_map Block (block_at payload)
+
+-- the value of the kind that a byte is, whose payload the bytes are
 unfoldable pub value_at : ℕ → List ℕ → Option Frame
-value_at kind payload =
-    if kind == header_kind then option_map Header (header_at payload) else
-    (if kind == square_kind then option_map Square (square_at payload) else
-    (if kind == message_kind then option_map Message (message_at payload) else
-    (if kind == missing_kind then option_map Missing (missing_at payload) else
-    (if kind == sample_kind then option_map (λ s. Sample s.0 s.1) (sample_at payload) else
-    (if kind == request_kind then option_map Request (request_at payload) else
-    (if kind == block_kind then option_map Block (block_at payload) else None))))))
+value_at byte payload = kind_at byte >>= (λ kind. value_of_kind kind payload)
 
 -- ---- frames: `at` is the offset of the bytes in their file
 

@@ -5,6 +5,8 @@ use Rattle.namespace_id.specs.Cells.{AreCells}
 use Rattle.data_header.specs.Headers.{IsHeader}
 use Rattle.square_layout.specs.Blocks.{IsSquare, IsBlock}
 use Rattle.da_wire.specs.declared.frames.Frame.{Frame}
+use Rattle.da_wire.specs.declared.kinds.Kind.{Kind}
+use Rattle.da_wire.specs.declared.kinds.Kind.TheVariants as kinds
 use Rattle.da_wire.specs.declared.frames.Frame.TheVariants.{Header, Square, Message, Missing, Sample, Request, Block}
 use Rattle.namespace_id.specs.Names.{IsNamespace}
 use Rattle.namespace_id.specs.Shares.{AreShares}
@@ -42,6 +44,16 @@ request_kind = 0x50
 
 abbrev pub block_kind : ℕ
 block_kind = 0x56
+
+-- the byte that a kind is
+abbrev pub kind_byte : Kind → ℕ
+kind_byte kinds.Header = header_kind
+kind_byte kinds.Square = square_kind
+kind_byte kinds.Message = message_kind
+kind_byte kinds.Missing = missing_kind
+kind_byte kinds.Sample = sample_kind
+kind_byte kinds.Request = request_kind
+kind_byte kinds.Block = block_kind
 
 -- a frame: its kind, the length of its payload in four bytes, its payload
 abbrev pub frame : ℕ → List ℕ → List ℕ

@@ -1,12 +1,13 @@
 //! Writing frames: room for all of a spelling is made first, and then no write can fail.
 
-ghost use Rattle.std.specs.Prelude.{◌≡◌, ◌<◌, ◌*◌, length, None, Some, ◌+◌, ◌++◌, ◌↔◌, OnOk, OnErr, IsErrOf};
+ghost use Rattle.std.specs.Prelude.{◌≡◌, ◌*◌, length, None, Some, ◌+◌, ◌++◌, ◌↔◌, OnOk, OnErr, IsErrOf};
 ghost use Rattle.namespace_id.specs.Answers.{HasRoom};
-ghost use Rattle.da_wire.specs.Spelling.{spelling};
+ghost use Rattle.da_wire.specs.Spelling.{kind_byte, spelling};
 ghost use Rattle.da_wire.specs.Writing.{kind_of, payload_of, HasSize, AppendsSpelling, IsReadBack, IsShort, appended};
 
 use crate::bounds::frame_law;
 use crate::codec::appending::put;
+use crate::kinds::Kind;
 use crate::kinds::block::{block_size, put_block};
 use crate::kinds::header::{header_size, put_header};
 use crate::kinds::message::{message_size, put_message};
@@ -16,17 +17,17 @@ use crate::kinds::square::{put_square, square_size};
 use crate::{Frame, SpellError};
 
 /// The kind of a value.
-fn kind_of(frame: &Frame) -> u8
-    ensures { result ≡ kind_of frame.now }
+fn kind_of(frame: &Frame) -> Kind
+    ensures { kind_byte result ≡ kind_of frame.now }
 {
     match frame {
-        Frame::Header(_) => b'H',
-        Frame::Square(_) => b'S',
-        Frame::Message(_) => b'M',
-        Frame::Missing(_) => b'K',
-        Frame::Sample(..) => b'Q',
-        Frame::Request(_) => b'P',
-        Frame::Block(_) => b'V',
+        Frame::Header(_) => Kind::Header,
+        Frame::Square(_) => Kind::Square,
+        Frame::Message(_) => Kind::Message,
+        Frame::Missing(_) => Kind::Missing,
+        Frame::Sample(..) => Kind::Sample,
+        Frame::Request(_) => Kind::Request,
+        Frame::Block(_) => Kind::Block,
     }
 }
 
@@ -79,7 +80,7 @@ pub fn write_frame(frame: &Frame, out: &mut Vec<u8>) -> Result<(), SpellError>
     if out.reserve(5 + size as usize).is_err() {
         return Err(SpellError::NoMemory);
     }
-    put(out, &[kind_of(frame)]);
+    put(out, &[kind_of(frame).byte()]);
     put(out, &size.to_be_bytes());
     put_payload(out, frame);
     frame_law(frame);

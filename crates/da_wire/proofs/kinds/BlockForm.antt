@@ -14,6 +14,9 @@ use Rattle.da_wire.proofs.codec.Readers.{bind_some, bind_again, Takes-then, Take
 use Rattle.da_wire.proofs.codec.Numbers.{wide16, number_takes, number_again}
 use Rattle.da_wire.proofs.codec.Texts.{IsField, text_field, blob_field}
 use Rattle.da_wire.proofs.codec.Lists.{list_field}
+use Rattle.da_wire.specs.declared.kinds.Kind.TheVariants as kinds
+use Rattle.da_wire.specs.declared.frames.Frame.TheVariants as frames
+use Rattle.da_wire.proofs.kinds.Form.{IsForm}
 
 abbrev pub block : ℕ → List (List ℕ) → List (List ℕ) → List NamedBytes → BlockParts
 block width units pay_units blobs = record { units = units; pay_units = pay_units; blobs = blobs; width = asked_width width }
@@ -137,3 +140,12 @@ block_again b is some few =
     let s1 : after_width (width, r1) ≡ Some b = bind_again (list_at text_at r1) (after_units width) (b.units, r2) b (units_field.again b.units r2 is.units (omega arith)) s2 in
     subst (λ (l : List ℕ). (number_at w16 l >>= after_width) ≡ Some b) (joined b)
     (bind_again (number_at w16 (to_be_bytes w16 width ++ r1)) after_width (width, r1) b (number_again w16 (2 ^ 16) wide16 width r1 (width_few b.width is.width)) s1)
+
+-- the form of this kind
+pub block_form : IsForm kinds.Block frames.Block block_at block_payload (λ b. asks_for_zero b.width)
+block_form = record {
+  read_is = λ bytes. refl;
+  spelled_is = λ x. refl;
+  takes = block_takes;
+  again = λ x is some few. block_again x is some (omega arith);
+}

@@ -1,5 +1,5 @@
 -- A header that is read of a payload is what the payload spells, and the payload that a header has is read.
-use Rattle.std.proofs.Common.{◌≡◌, ◌∙◌, ℕ, ◌+◌, ◌*◌, ◌^◌, ◌≤◌, true, not, eqb, cond, List, ◌++◌, length, take, drop, Option, None, Some, sym, ap, ap₂, subst, arith, length-take-le, eqb-true, eq-eqb}
+use Rattle.std.proofs.Common.{refl, ◌≡◌, ◌∙◌, ℕ, ◌+◌, ◌*◌, ◌^◌, ◌≤◌, true, not, eqb, cond, List, ◌++◌, length, take, drop, Option, None, Some, sym, ap, ap₂, subst, arith, length-take-le, eqb-true, eq-eqb}
 use Rattle.std.specs.Int.{w16, to_be_bytes}
 use Rattle.std.proofs.lemmas.Bool.{not-false, not_from_true}
 use Rattle.std.proofs.lemmas.Bool.Decides.{nat_tests}
@@ -16,6 +16,9 @@ use Rattle.da_wire.specs.kinds.Header.{header_payload, header_at}
 use Rattle.da_wire.proofs.codec.Readers.{bind_some, bind_again, if_false, if_false_again, if_true_again}
 use Rattle.da_wire.proofs.codec.Numbers.{wide16, number_takes, number_again}
 use Rattle.da_wire.proofs.codec.Digests.{length-digests_of, are_digests_of, digest_bytes-of, length-digest_bytes, digests_of-spelled}
+use Rattle.da_wire.specs.declared.kinds.Kind.TheVariants as kinds
+use Rattle.da_wire.specs.declared.frames.Frame.TheVariants as frames
+use Rattle.da_wire.proofs.kinds.Form.{IsForm, never}
 
 pub width_le : (k : ℕ) → is_width k ≡ true → k ≤ 128
 width_le k h = grind (arith, nat_tests)
@@ -94,3 +97,12 @@ header_again h is =
     (if_false_again (not (is_width h.k)) (cond (eqb (length (body h)) (360 * h.k)) (Some (roots_in h.k (body h))) None) h (not_from_true (is_width h.k) is.roots.width)
     (if_true_again (eqb (length (body h)) (360 * h.k)) (Some (roots_in h.k (body h))) h
     (eq-eqb _ _ len.1) (ap (λ (r : Roots). Some r) same)))
+
+-- the form of this kind
+pub header_form : IsForm kinds.Header frames.Header header_at header_payload never
+header_form = record {
+  read_is = λ bytes. refl;
+  spelled_is = λ x. refl;
+  takes = λ bytes x fits e. let t = header_takes bytes x fits e in (t.0, t.1, refl);
+  again = λ x is some few. header_again x is;
+}

@@ -14,6 +14,9 @@ use Rattle.da_wire.proofs.codec.Readers.{bind_some, bind_again, Takes, Takes-the
 use Rattle.da_wire.proofs.codec.Strings.{string_takes, string_again}
 use Rattle.da_wire.proofs.codec.Cells.{cell_takes, cell_again}
 use Rattle.da_wire.proofs.codec.Paths.{axis_takes, axis_again, path_takes, path_again}
+use Rattle.da_wire.specs.declared.kinds.Kind.TheVariants as kinds
+use Rattle.da_wire.specs.declared.frames.Frame.TheVariants as frames
+use Rattle.da_wire.proofs.kinds.Form.{IsForm, never}
 
 abbrev message : Cell → Axis → List ℕ → List Digest → Message
 message cell axis share path = record { cell = cell; axis = axis; share = record { 0 = share }; path = path }
@@ -65,3 +68,12 @@ message_again m is =
     let s3 : after_axis m.cell (m.axis, r3) ≡ Some m = bind_again (string_at 512 r3) (after_share m.cell m.axis) (m.share.0, r4) m (string_again 512 m.share.0 r4 is.share.size_is) s4 in
     let s2 : after_cell (m.cell, r2) ≡ Some m = bind_again (axis_at r2) (after_axis m.cell) (m.axis, r3) m (axis_again m.axis r3) s3 in
     bind_again (cell_at (message_payload m)) after_cell (m.cell, r2) m (cell_again m.cell r2 in_cell) s2
+
+-- the form of this kind
+pub message_form : IsForm kinds.Message frames.Message message_at message_payload never
+message_form = record {
+  read_is = λ bytes. refl;
+  spelled_is = λ x. refl;
+  takes = λ bytes x fits e. let t = message_takes bytes x fits e in (t.0, t.1, refl);
+  again = λ x is some few. message_again x is;
+}

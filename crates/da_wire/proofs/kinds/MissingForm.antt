@@ -1,6 +1,6 @@
 -- Missing cells that are read of a payload are what the payload spells, and the payload that missing cells
 -- have is read.
-use Rattle.std.proofs.Common.{◌≡◌, ◌∙◌, ℕ, ◌*◌, ◌^◌, ◌<◌, ◌≤◌, true, false, not, ltb, eqb, ◌&&◌, ◌||◌, cond, Bool, List, [], ◌∷◌, ◌++◌, length, Option, None, Some, refl, sym, ap, ap₂, subst, arith, eqb-true, eq-eqb, ltb-true}
+use Rattle.std.proofs.Common.{◌+◌, ◌≡◌, ◌∙◌, ℕ, ◌*◌, ◌^◌, ◌<◌, ◌≤◌, true, false, not, ltb, eqb, ◌&&◌, ◌||◌, cond, Bool, List, [], ◌∷◌, ◌++◌, length, Option, None, Some, refl, sym, ap, ap₂, subst, arith, eqb-true, eq-eqb, ltb-true}
 use Rattle.std.specs.Int.{w16, w32, to_be_bytes}
 use Rattle.std.specs.List.{flat_map, list_all, AllByRecursion}
 use Rattle.std.proofs.lemmas.Bool.{and_parts, not-false, not_from_true}
@@ -16,6 +16,10 @@ use Rattle.da_wire.proofs.codec.Readers.{bind_some, bind_again, if_false, if_fal
 use Rattle.da_wire.proofs.codec.Numbers.{wide16, wide32, number_takes, number_again}
 use Rattle.da_wire.proofs.codec.Cells.{length-cells_of, length-cells_bytes, cells_bytes-of, cells_of-bytes}
 use Rattle.da_wire.proofs.kinds.HeaderForm.{width_le}
+use Rattle.da_wire.specs.declared.kinds.Kind.TheVariants as kinds
+use Rattle.da_wire.specs.declared.frames.Frame.TheVariants as frames
+use Rattle.da_wire.proofs.kinds.Form.{IsForm}
+use Rattle.std.proofs.lemmas.List.{length-append}
 
 abbrev cell_list : ℕ → List Cell → CellList
 cell_list k list = record { k = k; list = list }
@@ -98,3 +102,23 @@ missing_again cells are some few =
     let tail : List ℕ = to_be_bytes w32 count ++ bytes in
     bind_again (number_at w16 (missing_payload cells)) after_width (cells.k, tail) cells (number_again w16 (2 ^ 16) wide16 cells.k tail (omega (arith, narrow)))
     (bind_again (number_at w32 tail) (after_count cells.k) (count, bytes) cells (number_again w32 (2 ^ 32) wide32 count bytes few) counted)
+
+-- six bytes, and four for each cell
+missing_length : (cells : CellList) → length (missing_payload cells) ≡ 6 + 4 * length cells.list
+missing_length cells =
+    let tail : List ℕ = to_be_bytes w32 (length cells.list) ++ flat_map cell_bytes cells.list in
+    let all : length (missing_payload cells) ≡ length (to_be_bytes w16 cells.k) + length tail = length-append (to_be_bytes w16 cells.k) tail in
+    let behind : length tail ≡ length (to_be_bytes w32 (length cells.list)) + length (flat_map cell_bytes cells.list) = length-append (to_be_bytes w32 (length cells.list)) (flat_map cell_bytes cells.list) in
+    let two : length (to_be_bytes w16 cells.k) ≡ 2 = refl in
+    let four : length (to_be_bytes w32 (length cells.list)) ≡ 4 = refl in
+    let each : length (flat_map cell_bytes cells.list) ≡ 4 * length cells.list = length-cells_bytes cells.list in
+    omega (arith, all, behind, two, four, each)
+
+-- the form of this kind
+pub missing_form : IsForm kinds.Missing frames.Missing missing_at missing_payload (λ cells. eqb (length cells.list) 0)
+missing_form = record {
+  read_is = λ bytes. refl;
+  spelled_is = λ x. refl;
+  takes = missing_takes;
+  again = λ x is some few. missing_again x is some (omega (arith, few, missing_length x));
+}

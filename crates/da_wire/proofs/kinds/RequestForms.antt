@@ -12,6 +12,9 @@ use Rattle.da_wire.specs.kinds.Requests.{sample_payload, request_payload, sample
 use Rattle.da_wire.proofs.codec.Readers.{bind_some, bind_again, if_true_again, Takes-then, Takes-all}
 use Rattle.da_wire.proofs.codec.Cells.{cell_takes, cell_again}
 use Rattle.da_wire.proofs.codec.Paths.{axis_takes, axis_again}
+use Rattle.da_wire.specs.declared.kinds.Kind.TheVariants as kinds
+use Rattle.da_wire.specs.declared.frames.Frame.TheVariants as frames
+use Rattle.da_wire.proofs.kinds.Form.{IsForm, never}
 
 -- ---- a sample
 
@@ -57,3 +60,21 @@ request_takes payload name fits e =
 pub request_again : (name : Namespace) → IsNamespace name → request_at (request_payload name) ≡ Some name
 unfolding request_at
 request_again name is = if_true_again (eqb (length name.0) 29) (Some (named name.0)) name (eq-eqb _ _ is.size_is) refl
+
+-- the form of this kind
+pub request_form : IsForm kinds.Request frames.Request request_at request_payload never
+request_form = record {
+  read_is = λ bytes. refl;
+  spelled_is = λ x. refl;
+  takes = λ bytes x fits e. let t = request_takes bytes x fits e in (t.0, t.1, refl);
+  again = λ x is some few. request_again x is;
+}
+
+-- the form of this kind
+pub sample_form : IsForm kinds.Sample (λ s. frames.Sample s.0 s.1) sample_at (λ s. sample_payload s.0 s.1) never
+sample_form = record {
+  read_is = λ bytes. refl;
+  spelled_is = λ x. refl;
+  takes = λ bytes x fits e. let t = sample_takes bytes x fits e in (t.0, t.1, refl);
+  again = λ x is some few. sample_again x.0 x.1 is;
+}

@@ -15,6 +15,9 @@ use Rattle.da_wire.proofs.codec.Readers.{bind_some, bind_again, if_false, if_fal
 use Rattle.da_wire.proofs.codec.Numbers.{wide16, number_takes, number_again}
 use Rattle.da_wire.proofs.codec.Split.{AreTexts, length-split_into, are_values_of, value_bytes-of, length-value_bytes, split_into-spelled}
 use Rattle.da_wire.proofs.kinds.HeaderForm.{width_le}
+use Rattle.da_wire.specs.declared.kinds.Kind.TheVariants as kinds
+use Rattle.da_wire.specs.declared.frames.Frame.TheVariants as frames
+use Rattle.da_wire.proofs.kinds.Form.{IsForm, never}
 
 abbrev text : Share → List ℕ
 text s = s.0
@@ -72,3 +75,12 @@ square_again s is shares =
     (if_false_again (not (is_width s.k)) (cond (eqb (length bytes) (512 * (s.k * s.k))) (Some (square_in s.k bytes)) None) s (not_from_true (is_width s.k) is.width)
     (if_true_again (eqb (length bytes) (512 * (s.k * s.k))) (Some (square_in s.k bytes)) s
     (eq-eqb _ _ (length-share_bytes s is shares)) (ap (λ (x : SquareShares). Some x) same)))
+
+-- the form of this kind
+pub square_form : IsForm kinds.Square frames.Square square_at square_payload never
+square_form = record {
+  read_is = λ bytes. refl;
+  spelled_is = λ x. refl;
+  takes = λ bytes x fits e. let t = square_takes bytes x fits e in (t.0, t.1, refl);
+  again = λ x is some few. square_again x is.0 is.1;
+}

@@ -1,9 +1,9 @@
 //! Fields of a payload, appended where there is room for them.
 
-ghost use Rattle.std.specs.Prelude.{◌≡◌, ◌≤◌, ◌<◌, length, vec_len, ◌+◌, ◌++◌, vec_capacity};
+ghost use Rattle.std.specs.Prelude.{◌≡◌, ◌≤◌, length, vec_len, ◌+◌, ◌++◌, vec_capacity};
 ghost use Rattle.namespace_id.specs.Answers.{HasRoom};
 ghost use Rattle.da_wire.specs.codec.Texts.{digest_bytes, axis_byte, cell_bytes, text_bytes};
-ghost use Rattle.da_wire.specs.Writing.{IsShort, appended};
+ghost use Rattle.da_wire.specs.Writing.{IsShort};
 
 use namespace_id::{Axis, Cell, Digest};
 

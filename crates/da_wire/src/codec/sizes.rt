@@ -1,6 +1,6 @@
 //! How many bytes the fields of a payload have.
 
-ghost use Rattle.std.specs.Prelude.{◌≤◌, ◌<◌, length, None, Some, ◌+◌};
+ghost use Rattle.std.specs.Prelude.{◌≤◌, length, None, Some, ◌+◌};
 ghost use Rattle.da_wire.specs.Spelling.{max_payload};
 ghost use Rattle.da_wire.specs.codec.Texts.{text_bytes};
 ghost use Rattle.da_wire.specs.Writing.{IsWithin};

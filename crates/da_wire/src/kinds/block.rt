@@ -1,6 +1,6 @@
 //! The payload of a block: judged where it lies, then read; and written.
 
-ghost use Rattle.std.specs.Prelude.{◌≡◌, ◌≤◌, ◌<◌, length, vec_len, None, Some, IfOk, IfSome, MatchOption, ◌+◌, ◌++◌, vec_capacity, IsSome};
+ghost use Rattle.std.specs.Prelude.{◌≡◌, ◌≤◌, length, vec_len, None, Some, IfOk, IfSome, MatchOption, ◌+◌, ◌++◌, vec_capacity, IsSome};
 ghost use Rattle.namespace_id.specs.Answers.{Gives, HasRoom};
 ghost use Rattle.da_wire.specs.codec.Fields.{text_at, many_at, list_at, read_items, read_rest};
 ghost use Rattle.da_wire.specs.Reading.{GivesUnlessFull};

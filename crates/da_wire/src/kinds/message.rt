@@ -1,11 +1,11 @@
 //! The payload of a share message.
 
-ghost use Rattle.std.specs.Prelude.{◌≡◌, ◌<◌, ◌*◌, length, None, Some, ◌+◌, ◌++◌};
+ghost use Rattle.std.specs.Prelude.{◌≡◌, ◌*◌, length, None, Some, ◌+◌, ◌++◌};
 ghost use Rattle.namespace_id.specs.Answers.{HasRoom};
 ghost use Rattle.da_wire.specs.codec.Fields.{axis_at, path_at, cell_at};
 ghost use Rattle.da_wire.specs.kinds.Message.{message_at, message_payload};
 ghost use Rattle.da_wire.specs.codec.Texts.{axis_byte};
-ghost use Rattle.da_wire.specs.Writing.{HasSize, appended};
+ghost use Rattle.da_wire.specs.Writing.{HasSize};
 ghost use Rattle.da_wire.specs.declared.frames.Frame.TheVariants as FrameOf;
 
 use crate::codec::appending::{axis_byte, put, put_cell, put_digests};

@@ -9,7 +9,7 @@ ghost use Rattle.da_wire.specs.kinds.Missing.{is_next, are_next, missing_at, mis
 ghost use Rattle.da_wire.specs.Reading.{GivesUnlessFull};
 ghost use Rattle.da_wire.specs.codec.Texts.{cell_bytes};
 ghost use Rattle.std.specs.List.{flat_map};
-ghost use Rattle.da_wire.specs.Writing.{HasSize, IsShort, appended};
+ghost use Rattle.da_wire.specs.Writing.{HasSize, IsShort};
 ghost use Rattle.da_wire.specs.declared.frames.Frame.TheVariants as FrameOf;
 
 use crate::MAX_PAYLOAD;

@@ -1,11 +1,11 @@
 //! The payloads of requests: for the sample of a cell, and for the shares of a namespace.
 
-ghost use Rattle.std.specs.Prelude.{◌≡◌, ◌≤◌, ◌<◌, length, None, Some, ◌+◌, ◌++◌};
+ghost use Rattle.std.specs.Prelude.{◌≡◌, ◌≤◌, length, None, Some, ◌+◌, ◌++◌};
 ghost use Rattle.namespace_id.specs.Answers.{HasRoom};
 ghost use Rattle.da_wire.specs.codec.Fields.{axis_at, cell_at};
 ghost use Rattle.da_wire.specs.kinds.Requests.{sample_at, request_at, sample_payload};
 ghost use Rattle.da_wire.specs.codec.Texts.{axis_byte};
-ghost use Rattle.da_wire.specs.Writing.{HasSize, appended};
+ghost use Rattle.da_wire.specs.Writing.{HasSize};
 ghost use Rattle.da_wire.specs.declared.frames.Frame.TheVariants as FrameOf;
 
 use crate::codec::appending::{axis_byte, put, put_cell};

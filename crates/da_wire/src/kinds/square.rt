@@ -1,13 +1,13 @@
 //! The payload of an original square.
 
-ghost use Rattle.std.specs.Prelude.{◌≡◌, ◌<◌, ◌*◌, length, vec_len, None, Some, IfOk, IfSome, IsTrue, MatchOption, ◌+◌, ◌++◌};
+ghost use Rattle.std.specs.Prelude.{◌≡◌, ◌*◌, length, vec_len, None, Some, IfOk, IfSome, IsTrue, MatchOption, ◌+◌, ◌++◌};
 ghost use Rattle.namespace_id.specs.Cells.{is_width};
 ghost use Rattle.namespace_id.specs.Answers.{HasRoom};
 ghost use Rattle.da_wire.specs.codec.Fields.{shares_of};
 ghost use Rattle.da_wire.specs.kinds.Square.{square_at, square_payload};
 ghost use Rattle.da_wire.specs.Reading.{GivesUnlessFull};
 ghost use Rattle.da_wire.specs.codec.Texts.{share_bytes};
-ghost use Rattle.da_wire.specs.Writing.{HasSize, appended};
+ghost use Rattle.da_wire.specs.Writing.{HasSize};
 ghost use Rattle.da_wire.specs.declared.frames.Frame.TheVariants as FrameOf;
 
 use crate::codec::appending::put;
