@@ -5,6 +5,7 @@ pub mod CellLoops
 pub mod MessageForm
 pub mod MissingForm
 pub mod RequestForms
+pub mod Blobs
 pub mod BlockForm
 pub mod BlockParts
 pub mod PayloadSizes

@@ -1,15 +1,14 @@
 -- Lists that are read are those that were written, and lists that were written are read.
 use Rattle.std.proofs.Common.{◌≡◌, ℕ, zero, suc, ◌+◌, ◌^◌, ◌<◌, ◌≤◌, List, [], ◌∷◌, ◌++◌, length, Option, Some, refl, sym, ap, subst, arith, append_assoc}
-use Rattle.std.specs.Int.{w32, to_be_bytes}
+use Rattle.std.specs.Int.{Width, to_be_bytes}
 use Rattle.std.specs.List.{flat_map, AllByRecursion}
 use Rattle.std.proofs.lemmas.List.{length-append}
 use Rattle.std.proofs.lemmas.Option.{some_pair_parts}
 use Rattle.namespace_id.specs.Bytes.{AreBytes}
-use Rattle.da_wire.specs.codec.Fields.{◌>>=◌, number_at, many_at, list_at}
+use Rattle.da_wire.specs.codec.Fields.{◌>>=◌, count_at, many_at, list_at}
 use Rattle.da_wire.specs.codec.Texts.{list_bytes}
 use Rattle.da_wire.proofs.codec.Readers.{bind_some, bind_again, Takes, Takes-is, Takes-then}
-use Rattle.da_wire.proofs.codec.Numbers.{wide32, number_takes, number_again}
-use Rattle.da_wire.proofs.codec.Lengths.{count_few}
+use Rattle.da_wire.proofs.codec.Numbers.{IsWide, count_takes, count_again}
 use Rattle.da_wire.proofs.codec.Texts.{IsField}
 
 -- ---- values, one after another
@@ -51,28 +50,31 @@ many_again {A} read text Is field (x ∷ xs) rest all few =
 
 -- ---- a list behind its count
 
-list_takes : {A : Type 0} (read : List ℕ → Option (A × List ℕ)) (text : A → List ℕ) (Is : A → Type 0) (field : IsField read text Is) (bytes : List ℕ) (xs : List A) (rest : List ℕ)
-    → AreBytes bytes → list_at read bytes ≡ Some (xs, rest) → Takes bytes (list_bytes text xs) rest × AllByRecursion Is xs
+-- what `list_at` does after the count
+abbrev after_count : {A : Type 0} → (List ℕ → Option (A × List ℕ)) → ℕ × List ℕ → Option (List A × List ℕ)
+after_count read count = many_at read count.0 count.1
+
+-- values that are read stand behind their count, which is within the limit
+pub list_takes : {A : Type 0} (read : List ℕ → Option (A × List ℕ)) (text : A → List ℕ) (Is : A → Type 0) (field : IsField read text Is)
+    (w : Width) (bound : ℕ) (wide : IsWide w bound) (limit : ℕ) (bytes : List ℕ) (xs : List A) (rest : List ℕ)
+    → AreBytes bytes → list_at w limit read bytes ≡ Some (xs, rest) → Takes bytes (list_bytes w text xs) rest × AllByRecursion Is xs × (length xs ≤ limit)
 unfolding list_at
-list_takes {A} read text Is field bytes xs rest fits e =
-    let all : List A × List ℕ = (xs, rest) in
-    let a = bind_some (number_at w32 bytes) (λ count. many_at read count.0 count.1) all e in
-    let t = number_takes w32 (2 ^ 32) wide32 bytes a.0.0 a.0.1 fits a.1 in
+list_takes {A} read text Is field w bound wide limit bytes xs rest fits e =
+    let a = bind_some (count_at w limit bytes) (after_count read) (xs, rest) e in
+    let t = count_takes w bound wide limit bytes a.0.0 a.0.1 fits a.1 in
     let u = many_take read text Is field a.0.0 a.0.1 xs rest t.0.rest_fits a.2 in
-    let both = Takes-then bytes (to_be_bytes w32 a.0.0) a.0.1 (flat_map text xs) rest t.0 u.0 in
-    (subst (λ (n : ℕ). Takes bytes (to_be_bytes w32 n ++ flat_map text xs) rest) (sym u.2) both, u.1)
+    let both = Takes-then bytes (to_be_bytes w a.0.0) a.0.1 (flat_map text xs) rest t.0 u.0 in
+    (subst (λ (n : ℕ). Takes bytes (to_be_bytes w n ++ flat_map text xs) rest) (sym u.2) both, u.1, subst (λ (n : ℕ). n ≤ limit) (sym u.2) t.1)
 
-list_again : {A : Type 0} (read : List ℕ → Option (A × List ℕ)) (text : A → List ℕ) (Is : A → Type 0) (field : IsField read text Is) (xs : List A) (rest : List ℕ)
-    → AllByRecursion Is xs → length (list_bytes text xs) < 2 ^ 32 → list_at read (list_bytes text xs ++ rest) ≡ Some (xs, rest)
+-- values behind their count are read, where the count fits its width and its limit
+pub list_again : {A : Type 0} (read : List ℕ → Option (A × List ℕ)) (text : A → List ℕ) (Is : A → Type 0) (field : IsField read text Is)
+    (w : Width) (bound : ℕ) (wide : IsWide w bound) (limit : ℕ) (xs : List A) (rest : List ℕ)
+    → AllByRecursion Is xs → length (flat_map text xs) < 2 ^ 32 → length xs < bound → length xs ≤ limit → list_at w limit read (list_bytes w text xs ++ rest) ≡ Some (xs, rest)
 unfolding list_at
-list_again {A} read text Is field xs rest all few =
-    let count : length xs ≤ length (flat_map text xs) = count_few text field.some xs in
-    bind_again (number_at w32 (list_bytes text xs ++ rest)) (λ (count : ℕ × List ℕ). many_at read count.0 count.1) (length xs, flat_map text xs ++ rest) (xs, rest)
-    (number_again w32 (2 ^ 32) wide32 (length xs) (flat_map text xs ++ rest) (omega arith)) (many_again read text Is field xs rest all (omega arith))
-
-pub list_field : {A : Type 0} (read : List ℕ → Option (A × List ℕ)) (text : A → List ℕ) (Is : A → Type 0) → IsField read text Is → IsField (list_at read) (list_bytes text) (λ xs. AllByRecursion Is xs)
-list_field read text Is field = record {
-  takes = list_takes read text Is field;
-  again = list_again read text Is field;
-  some = λ xs. omega arith;
-}
+list_again {A} read text Is field w bound wide limit xs rest all short lt few =
+    let count : List ℕ = to_be_bytes w (length xs) in
+    let tail : List ℕ = flat_map text xs ++ rest in
+    let read_all : List A × List ℕ = (xs, rest) in
+    subst (λ (l : List ℕ). (count_at w limit l >>= after_count read) ≡ Some read_all) (sym (append_assoc count (flat_map text xs) rest))
+    (bind_again (count_at w limit (count ++ tail)) (after_count read) (length xs, tail) read_all
+    (count_again w bound wide limit (length xs) tail lt few) (many_again read text Is field xs rest all short))

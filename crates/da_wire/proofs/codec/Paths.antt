@@ -39,22 +39,22 @@ axis_again Col rest = refl
 -- ---- the path
 
 -- what `path_at` does after the count
-abbrev after_count : ℕ × List ℕ → Option (List Digest × List ℕ)
-after_count count = cond (ltb 8 count.0) None (digests_at count.0 count.1)
+abbrev after_count : ℕ → ℕ × List ℕ → Option (List Digest × List ℕ)
+after_count limit count = cond (ltb limit count.0) None (digests_at count.0 count.1)
 
-pub path_takes : (bytes : List ℕ) (path : List Digest) (rest : List ℕ) → AreBytes bytes → path_at bytes ≡ Some (path, rest) → Takes bytes (length path ∷ digest_bytes path) rest × (length path ≤ 8) × AreDigests path
+pub path_takes : (limit : ℕ) (bytes : List ℕ) (path : List Digest) (rest : List ℕ) → AreBytes bytes → path_at limit bytes ≡ Some (path, rest) → Takes bytes (length path ∷ digest_bytes path) rest × (length path ≤ limit) × AreDigests path
 unfolding path_at
-path_takes bytes path rest fits e =
+path_takes limit bytes path rest fits e =
     let read : List Digest × List ℕ = (path, rest) in
-    let a = bind_some (byte_at bytes) after_count read e in
+    let a = bind_some (byte_at bytes) (after_count limit) read e in
     let t = byte_takes bytes a.0.0 a.0.1 fits a.1 in
-    let b = if_false (ltb 8 a.0.0) (digests_at a.0.0 a.0.1) read a.2 in
+    let b = if_false (ltb limit a.0.0) (digests_at a.0.0 a.0.1) read a.2 in
     let d = digests_take a.0.0 a.0.1 path rest t.0.rest_fits b.1 in
-    let few : a.0.0 ≤ 8 = ltb-false 8 a.0.0 b.0 in
+    let few : a.0.0 ≤ limit = ltb-false limit a.0.0 b.0 in
     let both : Takes bytes (a.0.0 ∷ digest_bytes path) rest = Takes-then bytes (a.0.0 ∷ []) a.0.1 (digest_bytes path) rest t.0 d.0 in
     (subst (λ (n : ℕ). Takes bytes (n ∷ digest_bytes path) rest) (sym d.1) both, omega (arith, d.1, few), d.2)
 
-pub path_again : (path : List Digest) (rest : List ℕ) → length path ≤ 8 → AreDigests path → path_at (length path ∷ digest_bytes path ++ rest) ≡ Some (path, rest)
+pub path_again : (limit : ℕ) (path : List Digest) (rest : List ℕ) → length path ≤ limit → AreDigests path → path_at limit (length path ∷ digest_bytes path ++ rest) ≡ Some (path, rest)
 unfolding path_at
-path_again path rest few all =
-    if_false_again (ltb 8 (length path)) (digests_at (length path) (digest_bytes path ++ rest)) (path, rest) (le-ltb _ _ few) (digests_again path rest all)
+path_again limit path rest few all =
+    if_false_again (ltb limit (length path)) (digests_at (length path) (digest_bytes path ++ rest)) (path, rest) (le-ltb _ _ few) (digests_again path rest all)

@@ -1,19 +1,20 @@
 -- A block that is read of a payload is what the payload spells, and the payload that a block has is read.
-use Rattle.std.proofs.Common.{◌≡◌, ◌∙◌, ℕ, Bool, ◌+◌, ◌^◌, ◌<◌, true, false, eqb, cond, List, [], ◌++◌, length, Option, None, Some, IfSome, refl, sym, ap, subst, arith, append_assoc, append-nil, eqb-true}
-use Rattle.std.specs.Int.{w16, to_be_bytes}
-use Rattle.std.specs.List.{AllByRecursion}
+use Rattle.std.proofs.Common.{◌≤◌, ◌≡◌, ◌∙◌, ℕ, Bool, ◌+◌, ◌^◌, ◌<◌, true, false, eqb, cond, List, [], ◌++◌, length, Option, None, Some, IfSome, refl, sym, ap, subst, arith, append_assoc, append-nil, eqb-true}
+use Rattle.std.specs.Int.{w16, w32, to_be_bytes}
+use Rattle.std.specs.List.{flat_map, AllByRecursion}
 use Rattle.std.proofs.lemmas.List.{length-append}
 use Rattle.std.proofs.lemmas.Option.{cond_some}
 use Rattle.namespace_id.specs.Bytes.{AreBytes}
 use Rattle.share_split.specs.Blobs.{NamedBytes, IsNamed}
 use Rattle.square_layout.specs.Blocks.{BlockParts, IsBlock}
-use Rattle.da_wire.specs.codec.Fields.{◌>>=◌, number_at, text_at, list_at}
-use Rattle.da_wire.specs.codec.Texts.{text_bytes, list_bytes}
-use Rattle.da_wire.specs.kinds.Block.{blob_bytes, width_number, asks_for_zero, block_payload, blob_at, asked_width, block_at}
+use Rattle.da_wire.specs.codec.Fields.{◌>>=◌, number_at}
+use Rattle.da_wire.specs.kinds.Block.{most, blob_bytes, width_number, asks_for_zero, block_payload, blob_at, asked_width, block_at, unit_at, counted_at, unit_bytes, counted_bytes}
 use Rattle.da_wire.proofs.codec.Readers.{bind_some, bind_again, Takes-then, Takes-all}
-use Rattle.da_wire.proofs.codec.Numbers.{wide16, number_takes, number_again}
-use Rattle.da_wire.proofs.codec.Texts.{IsField, text_field, blob_field}
-use Rattle.da_wire.proofs.codec.Lists.{list_field}
+use Rattle.da_wire.proofs.codec.Numbers.{wide16, wide32, number_takes, number_again}
+use Rattle.da_wire.proofs.codec.Texts.{IsField}
+use Rattle.da_wire.proofs.codec.Lengths.{count_few}
+use Rattle.da_wire.proofs.kinds.Blobs.{unit_field, blob_field}
+use Rattle.da_wire.proofs.codec.Lists.{list_takes, list_again}
 use Rattle.da_wire.specs.declared.kinds.Kind.TheVariants as kinds
 use Rattle.da_wire.specs.declared.frames.Frame.TheVariants as frames
 use Rattle.da_wire.proofs.kinds.Form.{IsForm}
@@ -26,19 +27,32 @@ abbrev pub after_blobs : ℕ → List (List ℕ) → List (List ℕ) → List Na
 after_blobs width units pay_units blobs = cond (eqb (length blobs.1) 0) (Some (block width units pay_units blobs.0)) None
 
 abbrev pub after_pay_units : ℕ → List (List ℕ) → List (List ℕ) × List ℕ → Option BlockParts
-after_pay_units width units pay_units = list_at blob_at pay_units.1 >>= after_blobs width units pay_units.0
+after_pay_units width units pay_units = counted_at blob_at pay_units.1 >>= after_blobs width units pay_units.0
 
 abbrev pub after_units : ℕ → List (List ℕ) × List ℕ → Option BlockParts
-after_units width units = list_at text_at units.1 >>= after_pay_units width units.0
+after_units width units = counted_at unit_at units.1 >>= after_pay_units width units.0
 
 abbrev pub after_width : ℕ × List ℕ → Option BlockParts
-after_width width = list_at text_at width.1 >>= after_units width.0
+after_width width = counted_at unit_at width.1 >>= after_units width.0
 
-units_field : IsField (list_at text_at) (list_bytes text_bytes) (λ xs. AllByRecursion AreBytes xs)
-units_field = list_field text_at text_bytes AreBytes text_field
+-- values behind their count in four bytes are a field
+counted_field : {A : Type 0} (read : List ℕ → Option (A × List ℕ)) (text : A → List ℕ) (Is : A → Type 0) → IsField read text Is
+    → IsField (counted_at read) (counted_bytes text) (λ xs. AllByRecursion Is xs)
+counted_field read text Is field = record {
+  takes = λ bytes xs rest fits e. let t = list_takes read text Is field w32 (2 ^ 32) wide32 most bytes xs rest fits e in (t.0, t.1);
+  again = λ xs rest all few.
+      let count : length xs ≤ length (flat_map text xs) = count_few text field.some xs in
+      list_again read text Is field w32 (2 ^ 32) wide32 most xs rest all (omega arith) (omega arith) (omega arith);
+  some = λ xs. omega arith;
+}
 
-blobs_field : IsField (list_at blob_at) (list_bytes blob_bytes) (λ xs. AllByRecursion IsNamed xs)
-blobs_field = list_field blob_at blob_bytes IsNamed blob_field
+-- so are units
+units_field : IsField (counted_at unit_at) (counted_bytes unit_bytes) (λ xs. AllByRecursion AreBytes xs)
+units_field = counted_field unit_at unit_bytes AreBytes unit_field
+
+-- so are blobs
+blobs_field : IsField (counted_at blob_at) (counted_bytes blob_bytes) (λ xs. AllByRecursion IsNamed xs)
+blobs_field = counted_field blob_at blob_bytes IsNamed blob_field
 
 -- ---- the width
 
@@ -62,12 +76,12 @@ width_few (Some k) few = few
 -- ---- read
 
 -- the fields of a block's payload are all of it
-joined : (b : BlockParts) → to_be_bytes w16 (width_number b.width) ++ (list_bytes text_bytes b.units ++ (list_bytes text_bytes b.pay_units ++ list_bytes blob_bytes b.blobs)) ≡ block_payload b
+joined : (b : BlockParts) → to_be_bytes w16 (width_number b.width) ++ (counted_bytes unit_bytes b.units ++ (counted_bytes unit_bytes b.pay_units ++ counted_bytes blob_bytes b.blobs)) ≡ block_payload b
 joined b =
     let number : List ℕ = to_be_bytes w16 (width_number b.width) in
-    let units : List ℕ = list_bytes text_bytes b.units in
-    let pay_units : List ℕ = list_bytes text_bytes b.pay_units in
-    let blobs : List ℕ = list_bytes blob_bytes b.blobs in
+    let units : List ℕ = counted_bytes unit_bytes b.units in
+    let pay_units : List ℕ = counted_bytes unit_bytes b.pay_units in
+    let blobs : List ℕ = counted_bytes blob_bytes b.blobs in
     sym (append_assoc (number ++ units) pay_units blobs ∙ append_assoc number units (pay_units ++ blobs))
 
 -- what a payload that is read as a block tells
@@ -76,11 +90,11 @@ IsRead payload b = IsBlock b × (payload ≡ block_payload b) × (asks_for_zero 
 
 block_is : (payload : List ℕ) (width : ℕ) (units pay_units : List (List ℕ)) (blobs : List NamedBytes) → width < 2 ^ 16
     → AllByRecursion AreBytes units → AllByRecursion AreBytes pay_units → AllByRecursion IsNamed blobs
-    → payload ≡ to_be_bytes w16 width ++ (list_bytes text_bytes units ++ (list_bytes text_bytes pay_units ++ list_bytes blob_bytes blobs))
+    → payload ≡ to_be_bytes w16 width ++ (counted_bytes unit_bytes units ++ (counted_bytes unit_bytes pay_units ++ counted_bytes blob_bytes blobs))
     → IsRead payload (block width units pay_units blobs)
 block_is payload width units pay_units blobs few us ps bs parts =
     let w = width_is width few in
-    let text : ℕ → List ℕ = λ n. to_be_bytes w16 n ++ (list_bytes text_bytes units ++ (list_bytes text_bytes pay_units ++ list_bytes blob_bytes blobs)) in (
+    let text : ℕ → List ℕ = λ n. to_be_bytes w16 n ++ (counted_bytes unit_bytes units ++ (counted_bytes unit_bytes pay_units ++ counted_bytes blob_bytes blobs)) in (
       record { units = us; pay_units = ps; blobs = bs; width = w.2 },
       parts ∙ ap text (sym w.0) ∙ joined (block width units pay_units blobs),
       w.1,
@@ -93,19 +107,19 @@ pub block_takes : (payload : List ℕ) (b : BlockParts) → AreBytes payload →
 unfolding block_at
 block_takes payload b fits e =
     let w = bind_some (number_at w16 payload) after_width b e in
-    let u = bind_some (list_at text_at w.0.1) (after_units w.0.0) b w.2 in
-    let p = bind_some (list_at text_at u.0.1) (after_pay_units w.0.0 u.0.0) b u.2 in
-    let n = bind_some (list_at blob_at p.0.1) (after_blobs w.0.0 u.0.0 p.0.0) b p.2 in
+    let u = bind_some (counted_at unit_at w.0.1) (after_units w.0.0) b w.2 in
+    let p = bind_some (counted_at unit_at u.0.1) (after_pay_units w.0.0 u.0.0) b u.2 in
+    let n = bind_some (counted_at blob_at p.0.1) (after_blobs w.0.0 u.0.0 p.0.0) b p.2 in
     let g = cond_some (eqb (length n.0.1) 0) (block w.0.0 u.0.0 p.0.0 n.0.0) b n.2 in
     let t0 = number_takes w16 (2 ^ 16) wide16 payload w.0.0 w.0.1 fits w.1 in
     let t1 = units_field.takes w.0.1 u.0.0 u.0.1 t0.0.rest_fits u.1 in
     let t2 = units_field.takes u.0.1 p.0.0 p.0.1 t1.0.rest_fits p.1 in
     let t3 = blobs_field.takes p.0.1 n.0.0 n.0.1 t2.0.rest_fits n.1 in
-    let s3 : List ℕ = list_bytes blob_bytes n.0.0 in
-    let s2 : List ℕ = list_bytes text_bytes p.0.0 ++ s3 in
-    let s1 : List ℕ = list_bytes text_bytes u.0.0 ++ s2 in
-    let e2 = Takes-then u.0.1 (list_bytes text_bytes p.0.0) p.0.1 s3 n.0.1 t2.0 t3.0 in
-    let e1 = Takes-then w.0.1 (list_bytes text_bytes u.0.0) u.0.1 s2 n.0.1 t1.0 e2 in
+    let s3 : List ℕ = counted_bytes blob_bytes n.0.0 in
+    let s2 : List ℕ = counted_bytes unit_bytes p.0.0 ++ s3 in
+    let s1 : List ℕ = counted_bytes unit_bytes u.0.0 ++ s2 in
+    let e2 = Takes-then u.0.1 (counted_bytes unit_bytes p.0.0) p.0.1 s3 n.0.1 t2.0 t3.0 in
+    let e1 = Takes-then w.0.1 (counted_bytes unit_bytes u.0.0) u.0.1 s2 n.0.1 t1.0 e2 in
     let e0 = Takes-then payload (to_be_bytes w16 w.0.0) w.0.1 s1 n.0.1 t0.0 e1 in
     let all : payload ≡ to_be_bytes w16 w.0.0 ++ s1 = Takes-all payload (to_be_bytes w16 w.0.0 ++ s1) n.0.1 e0 (eqb-true (length n.0.1) 0 g.0) in
     same_read payload (block w.0.0 u.0.0 p.0.0 n.0.0) b g.1
@@ -114,12 +128,12 @@ block_takes payload b fits e =
 -- ---- spelled
 
 -- the lengths of the parts
-block_length : (b : BlockParts) → length (block_payload b) ≡ 2 + length (list_bytes text_bytes b.units) + length (list_bytes text_bytes b.pay_units) + length (list_bytes blob_bytes b.blobs)
+block_length : (b : BlockParts) → length (block_payload b) ≡ 2 + length (counted_bytes unit_bytes b.units) + length (counted_bytes unit_bytes b.pay_units) + length (counted_bytes blob_bytes b.blobs)
 block_length b =
     let number : List ℕ = to_be_bytes w16 (width_number b.width) in
-    let units : List ℕ = list_bytes text_bytes b.units in
-    let pay_units : List ℕ = list_bytes text_bytes b.pay_units in
-    let blobs : List ℕ = list_bytes blob_bytes b.blobs in
+    let units : List ℕ = counted_bytes unit_bytes b.units in
+    let pay_units : List ℕ = counted_bytes unit_bytes b.pay_units in
+    let blobs : List ℕ = counted_bytes blob_bytes b.blobs in
     omega (arith, length-append number units, length-append (number ++ units) pay_units, length-append (number ++ units ++ pay_units) blobs)
 
 pub block_again : (b : BlockParts) → IsBlock b → asks_for_zero b.width ≡ false → length (block_payload b) < 2 ^ 32 → block_at (block_payload b) ≡ Some b
@@ -127,17 +141,17 @@ unfolding block_at
 block_again b is some few =
     let len = block_length b in
     let width : ℕ = width_number b.width in
-    let r3 : List ℕ = list_bytes blob_bytes b.blobs in
-    let r2 : List ℕ = list_bytes text_bytes b.pay_units ++ r3 in
-    let r1 : List ℕ = list_bytes text_bytes b.units ++ r2 in
+    let r3 : List ℕ = counted_bytes blob_bytes b.blobs in
+    let r2 : List ℕ = counted_bytes unit_bytes b.pay_units ++ r3 in
+    let r1 : List ℕ = counted_bytes unit_bytes b.units ++ r2 in
     let same : block width b.units b.pay_units b.blobs ≡ b = ap (λ (w : Option ℕ). record b { width = w }) (asked_again b.width some) in
-    let blobs : list_at blob_at r3 ≡ Some (b.blobs, []) =
-    subst (λ (l : List ℕ). list_at blob_at l ≡ Some (b.blobs, [])) (append-nil r3) (blobs_field.again b.blobs [] is.blobs (omega arith)) in
+    let blobs : counted_at blob_at r3 ≡ Some (b.blobs, []) =
+    subst (λ (l : List ℕ). counted_at blob_at l ≡ Some (b.blobs, [])) (append-nil r3) (blobs_field.again b.blobs [] is.blobs (omega arith)) in
     let s3 : after_pay_units width b.units (b.pay_units, r3) ≡ Some b =
-    bind_again (list_at blob_at r3) (after_blobs width b.units b.pay_units) (b.blobs, []) b blobs (ap (λ (x : BlockParts). Some x) same) in
+    bind_again (counted_at blob_at r3) (after_blobs width b.units b.pay_units) (b.blobs, []) b blobs (ap (λ (x : BlockParts). Some x) same) in
     let s2 : after_units width (b.units, r2) ≡ Some b =
-    bind_again (list_at text_at r2) (after_pay_units width b.units) (b.pay_units, r3) b (units_field.again b.pay_units r3 is.pay_units (omega arith)) s3 in
-    let s1 : after_width (width, r1) ≡ Some b = bind_again (list_at text_at r1) (after_units width) (b.units, r2) b (units_field.again b.units r2 is.units (omega arith)) s2 in
+    bind_again (counted_at unit_at r2) (after_pay_units width b.units) (b.pay_units, r3) b (units_field.again b.pay_units r3 is.pay_units (omega arith)) s3 in
+    let s1 : after_width (width, r1) ≡ Some b = bind_again (counted_at unit_at r1) (after_units width) (b.units, r2) b (units_field.again b.units r2 is.units (omega arith)) s2 in
     subst (λ (l : List ℕ). (number_at w16 l >>= after_width) ≡ Some b) (joined b)
     (bind_again (number_at w16 (to_be_bytes w16 width ++ r1)) after_width (width, r1) b (number_again w16 (2 ^ 16) wide16 width r1 (width_few b.width is.width)) s1)
 

@@ -3,8 +3,8 @@ use Rattle.std.proofs.Common.{◌≡◌, ◌∙◌, ℕ, Bool, eqb, cond, List, 
 use Rattle.std.specs.Int.{w16}
 use Rattle.std.proofs.lemmas.Option.{same_Some}
 use Rattle.square_layout.specs.Blocks.{BlockParts}
-use Rattle.da_wire.specs.codec.Fields.{◌>>=◌, number_at, text_at, list_at, read_items, read_rest}
-use Rattle.da_wire.specs.kinds.Block.{blob_at, block_at}
+use Rattle.da_wire.specs.codec.Fields.{◌>>=◌, number_at, read_items, read_rest}
+use Rattle.da_wire.specs.kinds.Block.{blob_at, block_at, unit_at, counted_at}
 use Rattle.da_wire.proofs.kinds.BlockForm.{block, after_width, after_units, after_pay_units, after_blobs}
 
 -- a step that was made, and one that could not be
@@ -22,21 +22,21 @@ no_width payload e = ap (λ (r : Option (ℕ × List ℕ)). r >>= after_width) e
 
 -- what is left to read after each part
 pub from_units : (payload : List ℕ) (width : ℕ) (units : List ℕ) → number_at w16 payload ≡ Some (width, units)
-    → block_at payload ≡ (list_at text_at units >>= after_units width)
+    → block_at payload ≡ (counted_at unit_at units >>= after_units width)
 unfolding block_at
 from_units payload width units e = ap (λ (r : Option (ℕ × List ℕ)). r >>= after_width) e
 
 pub from_pay_units : (payload : List ℕ) (width : ℕ) (units pay_units : List ℕ) → number_at w16 payload ≡ Some (width, units)
-    → read_rest (list_at text_at units) ≡ Some pay_units
-    → block_at payload ≡ (list_at text_at pay_units >>= after_pay_units width (read_items (list_at text_at units)))
-from_pay_units payload width units pay_units e u = from_units payload width units e ∙ made (list_at text_at units) (after_units width) pay_units u
+    → read_rest (counted_at unit_at units) ≡ Some pay_units
+    → block_at payload ≡ (counted_at unit_at pay_units >>= after_pay_units width (read_items (counted_at unit_at units)))
+from_pay_units payload width units pay_units e u = from_units payload width units e ∙ made (counted_at unit_at units) (after_units width) pay_units u
 
 pub from_blobs : (payload : List ℕ) (width : ℕ) (units pay_units blobs : List ℕ) → number_at w16 payload ≡ Some (width, units)
-    → read_rest (list_at text_at units) ≡ Some pay_units → read_rest (list_at text_at pay_units) ≡ Some blobs
-    → block_at payload ≡ (list_at blob_at blobs >>= after_blobs width (read_items (list_at text_at units)) (read_items (list_at text_at pay_units)))
+    → read_rest (counted_at unit_at units) ≡ Some pay_units → read_rest (counted_at unit_at pay_units) ≡ Some blobs
+    → block_at payload ≡ (counted_at blob_at blobs >>= after_blobs width (read_items (counted_at unit_at units)) (read_items (counted_at unit_at pay_units)))
 from_blobs payload width units pay_units blobs e u p =
     from_pay_units payload width units pay_units e u
-    ∙ made (list_at text_at pay_units) (after_pay_units width (read_items (list_at text_at units))) blobs p
+    ∙ made (counted_at unit_at pay_units) (after_pay_units width (read_items (counted_at unit_at units))) blobs p
 
 -- all of it was read, or bytes are left
 by_rest : (none : Bool) (rest : List ℕ) (b : BlockParts) (read : Option BlockParts) → eqb (length rest) 0 ≡ none → read ≡ cond (eqb (length rest) 0) (Some b) None
@@ -44,10 +44,10 @@ by_rest : (none : Bool) (rest : List ℕ) (b : BlockParts) (read : Option BlockP
 by_rest none rest b read is e = e ∙ ap (λ (t : Bool). cond t (Some b) None) is
 
 pub from_rest : (payload : List ℕ) (width : ℕ) (units pay_units blobs rest : List ℕ) (none : Bool) → number_at w16 payload ≡ Some (width, units)
-    → read_rest (list_at text_at units) ≡ Some pay_units → read_rest (list_at text_at pay_units) ≡ Some blobs → read_rest (list_at blob_at blobs) ≡ Some rest
+    → read_rest (counted_at unit_at units) ≡ Some pay_units → read_rest (counted_at unit_at pay_units) ≡ Some blobs → read_rest (counted_at blob_at blobs) ≡ Some rest
     → eqb (length rest) 0 ≡ none
-    → block_at payload ≡ cond none (Some (block width (read_items (list_at text_at units)) (read_items (list_at text_at pay_units)) (read_items (list_at blob_at blobs)))) None
+    → block_at payload ≡ cond none (Some (block width (read_items (counted_at unit_at units)) (read_items (counted_at unit_at pay_units)) (read_items (counted_at blob_at blobs)))) None
 from_rest payload width units pay_units blobs rest none e u p b is =
-    by_rest none rest (block width (read_items (list_at text_at units)) (read_items (list_at text_at pay_units)) (read_items (list_at blob_at blobs))) (block_at payload) is
+    by_rest none rest (block width (read_items (counted_at unit_at units)) (read_items (counted_at unit_at pay_units)) (read_items (counted_at blob_at blobs))) (block_at payload) is
     (from_blobs payload width units pay_units blobs e u p
-    ∙ made (list_at blob_at blobs) (after_blobs width (read_items (list_at text_at units)) (read_items (list_at text_at pay_units))) rest b)
+    ∙ made (counted_at blob_at blobs) (after_blobs width (read_items (counted_at unit_at units)) (read_items (counted_at unit_at pay_units))) rest b)

@@ -2,7 +2,7 @@
 -- bytes after it.
 use Rattle.std.specs.Prelude.{ℕ, zero, suc, ◌*◌, List, [], ◌∷◌, length, take, drop, nat_lt, Option, Some, None, if◌then◌else◌, ◌==◌}
 use Rattle.std.specs.Option.{option_map, option_map_or}
-use Rattle.std.specs.Int.{Width, w16, w32, byte_len, from_be_bytes}
+use Rattle.std.specs.Int.{Width, w16, byte_len, from_be_bytes}
 use Rattle.namespace_id.specs.declared.cells.Cell.{Cell}
 use Rattle.namespace_id.specs.declared.digests.Digest.{Digest}
 use Rattle.namespace_id.specs.declared.shares.Share.{Share}
@@ -72,16 +72,24 @@ cell_at bytes = do
   col ← number_at w16 row.1
   Some (record { row = row.0; col = col.0 }, col.1)
 
--- a count of at most 8, and so many digests
-unfoldable pub path_at : List ℕ → Option (List Digest × List ℕ)
-path_at bytes = do
+-- a count in one byte, at most the limit, and so many digests
+unfoldable pub path_at : ℕ → List ℕ → Option (List Digest × List ℕ)
+path_at limit bytes = do
   count ← byte_at bytes
-  if nat_lt 8 count.0 then None else digests_at count.0 count.1
+  if nat_lt limit count.0 then None else digests_at count.0 count.1
 
--- a byte string behind its length in four bytes
-unfoldable pub text_at : List ℕ → Option (List ℕ × List ℕ)
-text_at bytes = do
-  size ← number_at w32 bytes
+-- ---- values whose lengths differ
+
+-- a count or a length of this width, at most the limit
+unfoldable pub count_at : Width → ℕ → List ℕ → Option (ℕ × List ℕ)
+count_at w limit bytes = do
+  count ← number_at w bytes
+  if nat_lt limit count.0 then None else Some count
+
+-- a byte string behind its length, which has this width and is at most the limit
+unfoldable pub text_at : Width → ℕ → List ℕ → Option (List ℕ × List ℕ)
+text_at w limit bytes = do
+  size ← count_at w limit bytes
   string_at size.0 size.1
 
 -- so many values, each read where the one before ended
@@ -92,10 +100,10 @@ many_at one (suc count) bytes = do
   others ← many_at one count first.1
   Some (first.0 ∷ others.0, others.1)
 
--- a count in four bytes, and so many values
-unfoldable pub list_at : {A : Type 0} → (List ℕ → Option (A × List ℕ)) → List ℕ → Option (List A × List ℕ)
-list_at one bytes = do
-  count ← number_at w32 bytes
+-- a count of this width, at most the limit, and so many values
+unfoldable pub list_at : {A : Type 0} → Width → ℕ → (List ℕ → Option (A × List ℕ)) → List ℕ → Option (List A × List ℕ)
+list_at w limit one bytes = do
+  count ← count_at w limit bytes
   many_at one count.0 count.1
 
 -- the values that were read, no values where none could be

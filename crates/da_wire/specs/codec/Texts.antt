@@ -1,6 +1,6 @@
 -- The bytes that each field of a payload is written as.
 use Rattle.std.specs.Prelude.{ℕ, List, length, ◌<◌, ◌^◌, ◌++◌}
-use Rattle.std.specs.Int.{w16, w32, to_be_bytes}
+use Rattle.std.specs.Int.{Width, w16, to_be_bytes}
 use Rattle.namespace_id.specs.declared.cells.Cell.{Cell}
 use Rattle.namespace_id.specs.declared.digests.Digest.{Digest}
 use Rattle.namespace_id.specs.declared.shares.Share.{Share}
@@ -23,13 +23,13 @@ axis_byte Col = 1
 abbrev pub cell_bytes : Cell → List ℕ
 cell_bytes cell = to_be_bytes w16 cell.row ++ to_be_bytes w16 cell.col
 
--- a byte string behind its length
-abbrev pub text_bytes : List ℕ → List ℕ
-text_bytes text = to_be_bytes w32 (length text) ++ text
+-- a byte string behind its length in a number of this width
+abbrev pub text_bytes : Width → List ℕ → List ℕ
+text_bytes w text = to_be_bytes w (length text) ++ text
 
--- values behind their count
-abbrev pub list_bytes : {A : Type 0} → (A → List ℕ) → List A → List ℕ
-list_bytes bytes_of values = to_be_bytes w32 (length values) ++ flat_map bytes_of values
+-- values behind their count in a number of this width
+abbrev pub list_bytes : {A : Type 0} → Width → (A → List ℕ) → List A → List ℕ
+list_bytes w bytes_of values = to_be_bytes w (length values) ++ flat_map bytes_of values
 
 -- a cell has numbers of two bytes
 pub record IsCell (cell : Cell) : Type 0 where

@@ -1,6 +1,7 @@
 //! Fields of a payload, appended where there is room for them.
 
 ghost use Rattle.std.specs.Prelude.{◌≡◌, ◌≤◌, length, vec_len, ◌+◌, ◌++◌, vec_capacity};
+ghost use Rattle.std.specs.Int.{w32};
 ghost use Rattle.namespace_id.specs.Answers.{HasRoom};
 ghost use Rattle.da_wire.specs.codec.Texts.{digest_bytes, axis_byte, cell_bytes, text_bytes};
 ghost use Rattle.da_wire.specs.Writing.{IsShort};
@@ -52,10 +53,10 @@ pub(crate) fn axis_byte(axis: Axis) -> u8
 
 /// Appends a byte string behind its length.
 pub(crate) fn put_text(out: &mut Vec<u8>, text: &[u8])
-    requires few { IsShort (text_bytes text.now) }
-    requires room { HasRoom out.old (length (text_bytes text.now)) }
-    ensures appended { out.new.items ≡ out.old.items ++ text_bytes text.now }
-    ensures len { vec_len out.new ≡ vec_len out.old + length (text_bytes text.now) }
+    requires few { IsShort (text_bytes w32 text.now) }
+    requires room { HasRoom out.old (length (text_bytes w32 text.now)) }
+    ensures appended { out.new.items ≡ out.old.items ++ text_bytes w32 text.now }
+    ensures len { vec_len out.new ≡ vec_len out.old + length (text_bytes w32 text.now) }
     ensures capacity { vec_capacity out.old ≤ vec_capacity out.new }
 {
     put(out, &(text.len() as u32).to_be_bytes());

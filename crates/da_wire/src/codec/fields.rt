@@ -3,7 +3,7 @@
 ghost use Rattle.std.specs.Prelude.{◌≡◌, ◌≤◌, ◌<◌, ◌*◌, length, None, Some, []};
 ghost use Rattle.std.specs.Int.{w16, from_be_bytes, w32};
 ghost use Rattle.namespace_id.specs.Answers.{Gives};
-ghost use Rattle.da_wire.specs.codec.Fields.{digests_of, text_at, number_at, byte_at, string_at, axis_at, path_at, cell_at};
+ghost use Rattle.da_wire.specs.codec.Fields.{digests_of, text_at, count_at, number_at, byte_at, string_at, axis_at, path_at, cell_at};
 
 use crate::codec::sizes::DIGEST_SIZE;
 use namespace_id::{Axis, Cell, Digest, Namespace, Share};
@@ -95,12 +95,24 @@ pub(crate) fn name_at(bytes: &[u8]) -> Option<(Namespace, &[u8])>
     Some((name_of(front), rest))
 }
 
-/// A byte string behind its length in four bytes, and the bytes after it.
-#[tactic(auto, unfolding(crate::specs::codec::Fields::text_at))]
-pub(crate) fn text_at(bytes: &[u8]) -> Option<(&[u8], &[u8])>
-    ensures { Gives (λ x. (x.0.now, x.1.now)) result (text_at bytes.now) }
+/// A count or a length of four bytes, at most the limit, and the bytes after it.
+#[tactic(auto, unfolding(crate::specs::codec::Fields::count_at))]
+pub(crate) fn count_at(bytes: &[u8], limit: u32) -> Option<(u32, &[u8])>
+    ensures { Gives (λ x. (x.0, x.1.now)) result (count_at w32 limit bytes.now) }
 {
-    let (size, rest) = u32_at(bytes)?;
+    let (count, rest) = u32_at(bytes)?;
+    if count > limit {
+        return None;
+    }
+    Some((count, rest))
+}
+
+/// A byte string behind its length of four bytes, at most the limit, and the bytes after it.
+#[tactic(auto, unfolding(crate::specs::codec::Fields::text_at))]
+pub(crate) fn text_at(bytes: &[u8], limit: u32) -> Option<(&[u8], &[u8])>
+    ensures { Gives (λ x. (x.0.now, x.1.now)) result (text_at w32 limit bytes.now) }
+{
+    let (size, rest) = count_at(bytes, limit)?;
     if rest.len() < size as usize {
         return None;
     }
@@ -149,7 +161,7 @@ pub(crate) fn path_of(count: u8, bytes: &[u8]) -> Path
 /// A count of at most 8, so many digests, and the bytes after them.
 #[tactic(auto, unfolding(crate::specs::codec::Fields::path_at))]
 pub(crate) fn path_at(bytes: &[u8]) -> Option<(Path, &[u8])>
-    ensures { Gives (λ x. (x.0, x.1.now)) result (path_at bytes.now) }
+    ensures { Gives (λ x. (x.0, x.1.now)) result (path_at 8 bytes.now) }
 {
     let (count, rest) = u8_at(bytes)?;
     if count > 8 {

@@ -1,6 +1,7 @@
 //! How many bytes the fields of a payload have.
 
 ghost use Rattle.std.specs.Prelude.{◌≤◌, length, None, Some, ◌+◌};
+ghost use Rattle.std.specs.Int.{w32};
 ghost use Rattle.da_wire.specs.Spelling.{max_payload};
 ghost use Rattle.da_wire.specs.codec.Texts.{text_bytes};
 ghost use Rattle.da_wire.specs.Writing.{IsWithin};
@@ -41,7 +42,7 @@ pub(crate) fn with_bytes(size: u32, bytes: &[u8]) -> Option<u32>
 /// A length with that of a byte string behind its length more.
 pub(crate) fn with_text(size: u32, text: &[u8]) -> Option<u32>
     requires { size ≤ max_payload }
-    ensures { IsWithin (size + length (text_bytes text.now)) result }
+    ensures { IsWithin (size + length (text_bytes w32 text.now)) result }
 {
     with_bytes(longer(size, COUNT_SIZE)?, text)
 }

@@ -2,16 +2,15 @@
 
 ghost use Rattle.std.specs.Prelude.{◌≡◌, ◌≤◌, length, vec_len, None, Some, IfOk, IfSome, MatchOption, ◌+◌, ◌++◌, vec_capacity, IsSome};
 ghost use Rattle.namespace_id.specs.Answers.{Gives, HasRoom};
-ghost use Rattle.da_wire.specs.codec.Fields.{text_at, many_at, list_at, read_items, read_rest};
+ghost use Rattle.da_wire.specs.codec.Fields.{many_at, read_items, read_rest};
 ghost use Rattle.da_wire.specs.Reading.{GivesUnlessFull};
-ghost use Rattle.da_wire.specs.kinds.Block.{blob_at, asked_width, block_at, blob_bytes, width_number, block_payload};
+ghost use Rattle.da_wire.specs.kinds.Block.{blob_at, asked_width, block_at, blob_bytes, width_number, block_payload, unit_at, counted_at, unit_bytes, counted_bytes};
 ghost use Rattle.da_wire.specs.Spelling.{max_payload};
-ghost use Rattle.da_wire.specs.codec.Texts.{text_bytes, list_bytes};
 ghost use Rattle.da_wire.specs.Writing.{HasSize, IsShort, appended, IsWithin};
 ghost use Rattle.da_wire.specs.declared.frames.Frame.TheVariants as FrameOf;
 
 use crate::codec::appending::{put, put_text};
-use crate::codec::fields::{name_at, text_at, u8_at, u16_at, u32_at};
+use crate::codec::fields::{count_at, name_at, text_at, u8_at, u16_at};
 use crate::codec::sizes::{COUNT_SIZE, WIDTH_SIZE, longer, with_bytes, with_text};
 use namespace_id::Namespace;
 use share_split::{Blob, Unit};
@@ -41,17 +40,17 @@ fn blob_at(bytes: &[u8]) -> Option<(Namespace, &[u8], &[u8])>
     if version != SHARE_VERSION {
         return None;
     }
-    let (text, rest) = text_at(rest)?;
+    let (text, rest) = text_at(rest, u32::MAX)?;
     Some((name, text, rest))
 }
 
 /// The bytes after so many units.
 fn after_units(count: u32, bytes: &[u8]) -> Option<&[u8]>
-    ensures { Gives (λ x. x.now) result (read_rest (many_at text_at count bytes.now)) }
+    ensures { Gives (λ x. x.now) result (read_rest (many_at unit_at count bytes.now)) }
 {
     let mut rest = bytes;
     for _ in 0..count {
-        let (_text, after) = text_at(rest)?;
+        let (_text, after) = text_at(rest, u32::MAX)?;
         rest = after;
     }
     Some(rest)
@@ -60,9 +59,9 @@ fn after_units(count: u32, bytes: &[u8]) -> Option<&[u8]>
 /// The bytes after a list of units.
 #[tactic(auto, unfolding(crate::specs::codec::Fields::list_at))]
 fn after_unit_list(bytes: &[u8]) -> Option<&[u8]>
-    ensures { Gives (λ x. x.now) result (read_rest (list_at text_at bytes.now)) }
+    ensures { Gives (λ x. x.now) result (read_rest (counted_at unit_at bytes.now)) }
 {
-    let (count, rest) = u32_at(bytes)?;
+    let (count, rest) = count_at(bytes, u32::MAX)?;
     after_units(count, rest)
 }
 
@@ -81,9 +80,9 @@ fn after_blobs(count: u32, bytes: &[u8]) -> Option<&[u8]>
 /// The bytes after a list of blobs.
 #[tactic(auto, unfolding(crate::specs::codec::Fields::list_at))]
 fn after_blob_list(bytes: &[u8]) -> Option<&[u8]>
-    ensures { Gives (λ x. x.now) result (read_rest (list_at blob_at bytes.now)) }
+    ensures { Gives (λ x. x.now) result (read_rest (counted_at blob_at bytes.now)) }
 {
-    let (count, rest) = u32_at(bytes)?;
+    let (count, rest) = count_at(bytes, u32::MAX)?;
     after_blobs(count, rest)
 }
 
@@ -91,14 +90,14 @@ fn after_blob_list(bytes: &[u8]) -> Option<&[u8]>
 pub(crate) fn block_parts(payload: &[u8]) -> Option<BlockFields<'_>>
     ensures parts { MatchOption result (block_at payload.now ≡ None)
         (λ f. block_at payload.now ≡ Some (record {
-          units = read_items (list_at text_at f.units.now);
-          pay_units = read_items (list_at text_at f.pay_units.now);
-          blobs = read_items (list_at blob_at f.blobs.now);
+          units = read_items (counted_at unit_at f.units.now);
+          pay_units = read_items (counted_at unit_at f.pay_units.now);
+          blobs = read_items (counted_at blob_at f.blobs.now);
           width = asked_width f.width;
         })) }
-    ensures units { IfSome result (λ f. IsSome (list_at text_at f.units.now)) }
-    ensures pay_units { IfSome result (λ f. IsSome (list_at text_at f.pay_units.now)) }
-    ensures blobs { IfSome result (λ f. IsSome (list_at blob_at f.blobs.now)) }
+    ensures units { IfSome result (λ f. IsSome (counted_at unit_at f.units.now)) }
+    ensures pay_units { IfSome result (λ f. IsSome (counted_at unit_at f.pay_units.now)) }
+    ensures blobs { IfSome result (λ f. IsSome (counted_at blob_at f.blobs.now)) }
 {
     let (width, units) = u16_at(payload)?;
     let pay_units = after_unit_list(units)?;
@@ -117,13 +116,13 @@ pub(crate) fn block_parts(payload: &[u8]) -> Option<BlockFields<'_>>
 
 /// So many units, one after another.
 fn units_of(alloc: Global, count: u32, bytes: &[u8]) -> Result<Vec<Unit>, AllocError>
-    requires { IsSome (many_at text_at count bytes.now) }
-    ensures { IfOk result (λ units. units.items ≡ read_items (many_at text_at count bytes.now)) }
+    requires { IsSome (many_at unit_at count bytes.now) }
+    ensures { IfOk result (λ units. units.items ≡ read_items (many_at unit_at count bytes.now)) }
 {
     let mut units = Vec::with_capacity(alloc, count as usize)?;
     let mut rest = bytes;
     for _ in 0..count {
-        let (text, after) = text_at(rest).unwrap();
+        let (text, after) = text_at(rest, u32::MAX).unwrap();
         let bytes = Vec::from_slice(alloc, text)?;
         units.push(Unit { bytes })?;
         rest = after;
@@ -134,10 +133,10 @@ fn units_of(alloc: Global, count: u32, bytes: &[u8]) -> Result<Vec<Unit>, AllocE
 /// A list of units.
 #[tactic(auto, unfolding(crate::specs::codec::Fields::list_at))]
 fn unit_list(alloc: Global, bytes: &[u8]) -> Result<Vec<Unit>, AllocError>
-    requires { IsSome (list_at text_at bytes.now) }
-    ensures { IfOk result (λ units. units.items ≡ read_items (list_at text_at bytes.now)) }
+    requires { IsSome (counted_at unit_at bytes.now) }
+    ensures { IfOk result (λ units. units.items ≡ read_items (counted_at unit_at bytes.now)) }
 {
-    let (count, rest) = u32_at(bytes).unwrap();
+    let (count, rest) = count_at(bytes, u32::MAX).unwrap();
     units_of(alloc, count, rest)
 }
 
@@ -160,10 +159,10 @@ fn blobs_of(alloc: Global, count: u32, bytes: &[u8]) -> Result<Vec<Blob>, AllocE
 /// A list of blobs.
 #[tactic(auto, unfolding(crate::specs::codec::Fields::list_at))]
 fn blob_list(alloc: Global, bytes: &[u8]) -> Result<Vec<Blob>, AllocError>
-    requires { IsSome (list_at blob_at bytes.now) }
-    ensures { IfOk result (λ blobs. blobs.items ≡ read_items (list_at blob_at bytes.now)) }
+    requires { IsSome (counted_at blob_at bytes.now) }
+    ensures { IfOk result (λ blobs. blobs.items ≡ read_items (counted_at blob_at bytes.now)) }
 {
-    let (count, rest) = u32_at(bytes).unwrap();
+    let (count, rest) = count_at(bytes, u32::MAX).unwrap();
     blobs_of(alloc, count, rest)
 }
 
@@ -196,7 +195,7 @@ pub(crate) fn block(alloc: Global, payload: &[u8]) -> Result<Option<Block>, Allo
 /// A length with that of a list of units more.
 fn with_units(size: u32, units: &[Unit]) -> Option<u32>
     requires { size ≤ max_payload }
-    ensures { IsWithin (size + length (list_bytes text_bytes units.now)) result }
+    ensures { IsWithin (size + length (counted_bytes unit_bytes units.now)) result }
 {
     let mut size = longer(size, COUNT_SIZE)?;
     for unit in units {
@@ -217,7 +216,7 @@ fn with_blob(size: u32, blob: &Blob) -> Option<u32>
 /// A length with that of a list of blobs more.
 fn with_blobs(size: u32, blobs: &[Blob]) -> Option<u32>
     requires { size ≤ max_payload }
-    ensures { IsWithin (size + length (list_bytes blob_bytes blobs.now)) result }
+    ensures { IsWithin (size + length (counted_bytes blob_bytes blobs.now)) result }
 {
     let mut size = longer(size, COUNT_SIZE)?;
     for blob in blobs {
@@ -240,10 +239,10 @@ pub(crate) fn block_size(block: &Block) -> Option<u32>
 
 /// Appends a list of units.
 fn put_units(out: &mut Vec<u8>, units: &[Unit])
-    requires few { IsShort (list_bytes text_bytes units.now) }
-    requires room { HasRoom out.old (length (list_bytes text_bytes units.now)) }
-    ensures appended { out.new.items ≡ out.old.items ++ list_bytes text_bytes units.now }
-    ensures len { vec_len out.new ≡ vec_len out.old + length (list_bytes text_bytes units.now) }
+    requires few { IsShort (counted_bytes unit_bytes units.now) }
+    requires room { HasRoom out.old (length (counted_bytes unit_bytes units.now)) }
+    ensures appended { out.new.items ≡ out.old.items ++ counted_bytes unit_bytes units.now }
+    ensures len { vec_len out.new ≡ vec_len out.old + length (counted_bytes unit_bytes units.now) }
     ensures capacity { vec_capacity out.old ≤ vec_capacity out.new }
 {
     put(out, &(units.len() as u32).to_be_bytes());
@@ -267,9 +266,9 @@ fn put_blob(out: &mut Vec<u8>, blob: &Blob)
 
 /// Appends a list of blobs.
 fn put_blobs(out: &mut Vec<u8>, blobs: &[Blob])
-    requires few { IsShort (list_bytes blob_bytes blobs.now) }
-    requires room { HasRoom out.old (length (list_bytes blob_bytes blobs.now)) }
-    ensures appended { out.new.items ≡ out.old.items ++ list_bytes blob_bytes blobs.now }
+    requires few { IsShort (counted_bytes blob_bytes blobs.now) }
+    requires room { HasRoom out.old (length (counted_bytes blob_bytes blobs.now)) }
+    ensures appended { out.new.items ≡ out.old.items ++ counted_bytes blob_bytes blobs.now }
 {
     put(out, &(blobs.len() as u32).to_be_bytes());
     for blob in blobs {

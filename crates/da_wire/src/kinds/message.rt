@@ -1,9 +1,9 @@
 //! The payload of a share message.
 
 ghost use Rattle.std.specs.Prelude.{◌≡◌, ◌*◌, length, None, Some, ◌+◌, ◌++◌};
-ghost use Rattle.namespace_id.specs.Answers.{HasRoom};
+ghost use Rattle.namespace_id.specs.Answers.{Gives, HasRoom};
 ghost use Rattle.da_wire.specs.codec.Fields.{axis_at, path_at, cell_at};
-ghost use Rattle.da_wire.specs.kinds.Message.{message_at, message_payload};
+ghost use Rattle.da_wire.specs.kinds.Message.{message_front, message_at, message_payload};
 ghost use Rattle.da_wire.specs.codec.Texts.{axis_byte};
 ghost use Rattle.da_wire.specs.Writing.{HasSize};
 ghost use Rattle.da_wire.specs.declared.frames.Frame.TheVariants as FrameOf;
@@ -18,6 +18,24 @@ use share_split::SHARE_SIZE;
 /// The bytes of a message whose path has no nodes: its cell, its axis, its share, and the count 0.
 const BARE_SIZE: usize = CELL_SIZE + 1 + SHARE_SIZE + 1;
 
+/// The message at the front of bytes, and the bytes after it.
+#[tactic(auto, unfolding(crate::specs::kinds::Message::message_front))]
+fn message_front(bytes: &[u8]) -> Option<(Message, &[u8])>
+    ensures { Gives (λ x. (x.0, x.1.now)) result (message_front bytes.now) }
+{
+    let (cell, rest) = cell_at(bytes)?;
+    let (axis, rest) = axis_at(rest)?;
+    let (share, rest) = share_at(rest)?;
+    let (path, rest) = path_at(rest)?;
+    let message = Message {
+        cell,
+        axis,
+        share,
+        path,
+    };
+    Some((message, rest))
+}
+
 /// The message whose payload the bytes are; none where they aren't in the grammar of M. It takes no
 /// memory.
 ///
@@ -26,19 +44,11 @@ const BARE_SIZE: usize = CELL_SIZE + 1 + SHARE_SIZE + 1;
 pub fn message(payload: &[u8]) -> Option<Message>
     ensures { result ≡ message_at payload.now }
 {
-    let (cell, rest) = cell_at(payload)?;
-    let (axis, rest) = axis_at(rest)?;
-    let (share, rest) = share_at(rest)?;
-    let (path, rest) = path_at(rest)?;
+    let (message, rest) = message_front(payload)?;
     if !rest.is_empty() {
         return None;
     }
-    Some(Message {
-        cell,
-        axis,
-        share,
-        path,
-    })
+    Some(message)
 }
 
 /// The length of the payload of a message.
