@@ -1,4 +1,5 @@
--- What is read of bytes, field by field, and the first refusal (docs/FORMATS.md).
+-- What is read of the front of bytes: the kind, the frame, its value, or the first refusal
+-- (docs/FORMATS.md).
 use Rattle.std.specs.Prelude.{ℕ, List, length, take, drop, nat_lt, Option, Some, None, if◌then◌else◌, ◌≡◌, ◌⊎◌, ◌+◌, slice_index, ◌==◌, ◌&&◌, Bool, true, false, IsSome, Result, Ok, Err, IsOk}
 use Rattle.std.specs.Option.{option_map, option_map_or}
 use Rattle.std.specs.Int.{w32, from_be_bytes}
@@ -79,6 +80,7 @@ abbrev pub valued : ℕ → Raw → Option Frame → Result (Frame × ℕ) Frame
 valued at raw None = Err (BadPayload at)
 valued at raw (Some value) = Ok (value, at + raw.size)
 
+-- the value of a frame of any kind that was read, and the offset after it
 abbrev pub value_of : ℕ → Result Raw FrameError → Result (Frame × ℕ) FrameError
 value_of at (Err e) = Err e
 value_of at (Ok raw) = valued at raw (value_at raw.kind raw.payload)
@@ -114,16 +116,17 @@ only_of bytes kinds = ended (length bytes) (tested_frame (is_among kinds) 0 byte
 
 -- ---- what a call answered is what reading gives, or that memory ran out, in place of a value
 
+-- a call answers what reading gives, or that memory ran out in place of a value
 abbrev pub Reads : {X Y : Type 0} → FrameError → (X → Y) → Result X FrameError → Result Y FrameError → Type 0
 Reads full view (Ok x) read = read ≡ Ok (view x)
 Reads full view (Err e) read = ((e ≡ full) × IsOk read) ⊎ (read ≡ Err e)
 
--- the same of a call that takes no memory
+-- a call that takes no memory answers what reading gives
 abbrev pub ReadsAt : {X Y : Type 0} → (X → Y) → Result X FrameError → Result Y FrameError → Type 0
 ReadsAt view (Ok x) read = read ≡ Ok (view x)
 ReadsAt view (Err e) read = read ≡ Err e
 
--- the same of a payload's value
+-- a call answers the value that a payload holds, or that memory ran out where there is one
 abbrev pub GivesUnlessFull : {X E : Type 0} → Result (Option X) E → Option X → Type 0
 GivesUnlessFull (Ok x) read = read ≡ x
 GivesUnlessFull (Err e) read = IsSome read

@@ -23,25 +23,31 @@ use Rattle.da_wire.specs.kinds.Block.{block_payload, asks_for_zero}
 abbrev pub max_payload : ℕ
 max_payload = 16777216
 
--- the kinds: `H`, `S`, `M`, `K`, `Q`, `P` and `V`
+-- the kind of a header: `H`
 abbrev pub header_kind : ℕ
 header_kind = 0x48
 
+-- the kind of an original square: `S`
 abbrev pub square_kind : ℕ
 square_kind = 0x53
 
+-- the kind of a share message: `M`
 abbrev pub message_kind : ℕ
 message_kind = 0x4d
 
+-- the kind of missing cells: `K`
 abbrev pub missing_kind : ℕ
 missing_kind = 0x4b
 
+-- the kind of a request for the sample of a cell: `Q`
 abbrev pub sample_kind : ℕ
 sample_kind = 0x51
 
+-- the kind of a request for the shares of a namespace: `P`
 abbrev pub request_kind : ℕ
 request_kind = 0x50
 
+-- the kind of a block: `V`
 abbrev pub block_kind : ℕ
 block_kind = 0x56
 

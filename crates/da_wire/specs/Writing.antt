@@ -11,6 +11,7 @@ use Rattle.da_wire.specs.kinds.Missing.{missing_payload}
 use Rattle.da_wire.specs.kinds.Requests.{sample_payload, request_payload}
 use Rattle.da_wire.specs.kinds.Block.{block_payload}
 
+-- the byte of the kind of a value
 abbrev pub kind_of : Frame → ℕ
 kind_of (Header h) = header_kind
 kind_of (Square s) = square_kind
@@ -20,6 +21,7 @@ kind_of (Sample cell axis) = sample_kind
 kind_of (Request name) = request_kind
 kind_of (Block b) = block_kind
 
+-- the payload that a value is written as
 abbrev pub payload_of : Frame → List ℕ
 payload_of (Header h) = header_payload h
 payload_of (Square s) = square_payload s

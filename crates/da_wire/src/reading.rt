@@ -8,6 +8,7 @@ ghost use Rattle.da_wire.specs.Reading.{Reads, ReadsAt, raw_seen, raw_of, is_kin
 ghost use Rattle.da_wire.specs.Frames.{frames_of, bad_frame};
 ghost use Rattle.da_wire.specs.Values.{value_in, value_and_rest, values_of, bad_value};
 
+use crate::codec::sizes::HEAD_SIZE;
 use crate::kinds::Kind;
 use crate::kinds::block::{block, block_parts};
 use crate::kinds::header::{header, header_parts};
@@ -41,20 +42,20 @@ pub fn raw(bytes: &[u8], at: u64) -> Result<RawFrame<'_>, FrameError>
     ensures some { IfOk result (λ f. 5 ≤ f.size) }
     ensures within { IfOk result (λ f. f.size ≤ length bytes.now) }
 {
-    if bytes.len() < 5 {
+    if bytes.len() < HEAD_SIZE {
         return Err(FrameError::Truncated(at));
     }
     let size = u32::from_be_bytes([bytes[1], bytes[2], bytes[3], bytes[4]]);
     if size > MAX_PAYLOAD {
         return Err(FrameError::TooLong(at));
     }
-    if bytes.len() < 5 + size as usize {
+    if bytes.len() < HEAD_SIZE + size as usize {
         return Err(FrameError::Truncated(at));
     }
     Ok(RawFrame {
         kind: bytes[0],
-        payload: &bytes[5..5 + size as usize],
-        size: 5 + u64::from(size),
+        payload: &bytes[HEAD_SIZE..HEAD_SIZE + size as usize],
+        size: HEAD_SIZE as u64 + u64::from(size),
     })
 }
 

@@ -1,12 +1,13 @@
 //! Writing frames: room for all of a spelling is made first, and then no write can fail.
 
-ghost use Rattle.std.specs.Prelude.{◌≡◌, ◌*◌, length, None, Some, ◌+◌, ◌++◌, ◌↔◌, OnOk, OnErr, IsErrOf};
+ghost use Rattle.std.specs.Prelude.{◌≡◌, length, None, ◌+◌, ◌++◌, ◌↔◌, OnOk, OnErr, IsErrOf};
 ghost use Rattle.namespace_id.specs.Answers.{HasRoom};
 ghost use Rattle.da_wire.specs.Spelling.{kind_byte, spelling};
 ghost use Rattle.da_wire.specs.Writing.{kind_of, payload_of, HasSize, AppendsSpelling, IsReadBack, IsShort, appended};
 
 use crate::bounds::frame_law;
 use crate::codec::appending::put;
+use crate::codec::sizes::HEAD_SIZE;
 use crate::kinds::Kind;
 use crate::kinds::block::{block_size, put_block};
 use crate::kinds::header::{header_size, put_header};
@@ -77,7 +78,7 @@ pub fn write_frame(frame: &Frame, out: &mut Vec<u8>) -> Result<(), SpellError>
     let Some(size) = payload_size(frame) else {
         return Err(SpellError::Unspellable);
     };
-    if out.reserve(5 + size as usize).is_err() {
+    if out.reserve(HEAD_SIZE + size as usize).is_err() {
         return Err(SpellError::NoMemory);
     }
     put(out, &[kind_of(frame).byte()]);

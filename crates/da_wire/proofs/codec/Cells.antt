@@ -13,6 +13,7 @@ use Rattle.da_wire.specs.codec.Texts.{cell_bytes, IsCell}
 use Rattle.da_wire.proofs.codec.Readers.{bind_some, bind_again, Takes, Takes-is, Takes-then}
 use Rattle.da_wire.proofs.codec.Numbers.{wide16, number_takes, number_again}
 
+-- the cell of this row and column
 abbrev cell : ℕ → ℕ → Cell
 cell row col = record { row = row; col = col }
 
@@ -22,6 +23,7 @@ cell row col = record { row = row; col = col }
 abbrev after_col : ℕ → ℕ × List ℕ → Option (Cell × List ℕ)
 after_col row col = Some (cell row col.0, col.1)
 
+-- what `cell_at` does after the row
 abbrev after_row : ℕ × List ℕ → Option (Cell × List ℕ)
 after_row row = number_at w16 row.1 >>= after_col row.0
 
@@ -32,6 +34,7 @@ cell_is bytes row col after c rest same_cell same_rest is t =
     subst (λ (x : Cell). Takes bytes (cell_bytes x) rest × IsCell x) same_cell
     (Takes-is bytes (cell_bytes (cell row col)) (cell_bytes (cell row col)) after rest refl same_rest t, is)
 
+-- a cell that is read is the one that was written
 pub cell_takes : (bytes : List ℕ) (c : Cell) (rest : List ℕ) → AreBytes bytes → cell_at bytes ≡ Some (c, rest) → Takes bytes (cell_bytes c) rest × IsCell c
 unfolding cell_at
 cell_takes bytes c rest fits e =
@@ -44,6 +47,7 @@ cell_takes bytes c rest fits e =
     cell_is bytes a.0.0 b.0.0 b.0.1 c rest same.0 same.1 (record { row = t.1; col = u.1 })
     (Takes-then bytes (to_be_bytes w16 a.0.0) a.0.1 (to_be_bytes w16 b.0.0) b.0.1 t.0 u.0)
 
+-- a cell that was written is read, whatever follows it
 pub cell_again : (c : Cell) (rest : List ℕ) → IsCell c → cell_at (cell_bytes c ++ rest) ≡ Some (c, rest)
 unfolding cell_at
 cell_again c rest is =
@@ -54,11 +58,13 @@ cell_again c rest is =
 
 -- ---- cells one after another
 
+-- so many cells as were asked for are read
 pub length-cells_of : (count : ℕ) (bytes : List ℕ) → length (cells_of count bytes) ≡ count
 unfolding cells_of
 length-cells_of zero bytes = refl
 length-cells_of (suc count) bytes = ap suc (length-cells_of count (drop 4 bytes))
 
+-- each cell is written in four bytes
 pub length-cells_bytes : (cells : List Cell) → length (flat_map cell_bytes cells) ≡ 4 * length cells
 length-cells_bytes [] = refl
 length-cells_bytes (c ∷ cs) =

@@ -1,4 +1,4 @@
--- Lemmas on the lengths of payloads.
+-- How long a payload is, and what its parts add to it.
 use Rattle.std.proofs.Common.{◌≡◌, ◌∙◌, ℕ, zero, suc, ◌+◌, ◌<◌, ◌≤◌, nat_lt, Bool, true, false, cond, List, [], ◌∷◌, ◌++◌, length, length-append, drop, get_or, Some, None, refl, sym, ap, arith}
 use Rattle.std.specs.List.{flat_map}
 use Rattle.std.proofs.lemmas.Bool.Decides.{nat_tests}
@@ -10,6 +10,7 @@ spelled_within kind n payload e h =
     let within : nat_lt max_payload (length payload) ≡ false = grind (arith, nat_tests) in
     ap (λ (b : Bool). cond b None (Some (frame kind payload))) within
 
+-- a payload above the limit has no spelling
 pub spelled_beyond : (kind n : ℕ) (payload : List ℕ) → n ≡ length payload → max_payload < n → spelled kind payload ≡ None
 spelled_beyond kind n payload e h =
     let beyond : nat_lt max_payload (length payload) ≡ true = grind (arith, nat_tests) in

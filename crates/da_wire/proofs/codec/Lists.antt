@@ -13,6 +13,7 @@ use Rattle.da_wire.proofs.codec.Texts.{IsField}
 
 -- ---- values, one after another
 
+-- values that are read one after another are those that were written
 many_take : {A : Type 0} (read : List ℕ → Option (A × List ℕ)) (text : A → List ℕ) (Is : A → Type 0) (field : IsField read text Is) (count : ℕ) (bytes : List ℕ) (xs : List A) (rest : List ℕ)
     → AreBytes bytes → many_at read count bytes ≡ Some (xs, rest) → Takes bytes (flat_map text xs) rest × AllByRecursion Is xs × (length xs ≡ count)
 unfolding many_at
@@ -31,6 +32,7 @@ many_take {A} read text Is field (suc count) bytes xs rest fits e =
     subst (λ (l : List A). Takes bytes (flat_map text l) rest × AllByRecursion Is l × (length l ≡ suc count)) same.0
     (Takes-is bytes (flat_map text (a.0.0 ∷ b.0.0)) (flat_map text (a.0.0 ∷ b.0.0)) b.0.1 rest refl same.1 both, (t.1, u.1), ap suc u.2)
 
+-- values that were written one after another are read, whatever follows them
 many_again : {A : Type 0} (read : List ℕ → Option (A × List ℕ)) (text : A → List ℕ) (Is : A → Type 0) (field : IsField read text Is) (xs : List A) (rest : List ℕ)
     → AllByRecursion Is xs → length (flat_map text xs) < 2 ^ 32 → many_at read (length xs) (flat_map text xs ++ rest) ≡ Some (xs, rest)
 unfolding many_at

@@ -14,6 +14,7 @@ pub record IsWide (w : Width) (limit : ℕ) : Type 0 where
   pub again : (n : ℕ) → n < limit → from_be_bytes w (to_be_bytes w n) ≡ n
   pub below : (bytes : List ℕ) → AreBytes bytes → from_be_bytes w bytes < limit
 
+-- numbers below 2 ^ 16 are strings of two bytes
 pub wide16 : IsWide w16 (2 ^ 16)
 wide16 = record {
   len = λ n. refl;
@@ -22,6 +23,7 @@ wide16 = record {
   below = λ bytes fits. omega (arith, fits 0, fits 1);
 }
 
+-- numbers below 2 ^ 32 are strings of four bytes
 pub wide32 : IsWide w32 (2 ^ 32)
 wide32 = record {
   len = λ n. refl;
@@ -30,6 +32,7 @@ wide32 = record {
   below = λ bytes fits. omega (arith, fits 0, fits 1, fits 2, fits 3);
 }
 
+-- a number that is read is the one that was written, and fits its width
 pub number_takes : (w : Width) (limit : ℕ) (wide : IsWide w limit) (bytes : List ℕ) (n : ℕ) (rest : List ℕ) → AreBytes bytes → number_at w bytes ≡ Some (n, rest)
     → Takes bytes (to_be_bytes w n) rest × (n < limit)
 number_takes w limit wide bytes n rest fits e =
@@ -37,6 +40,7 @@ number_takes w limit wide bytes n rest fits e =
     let spelled : to_be_bytes w n ≡ take (byte_len w) bytes = ap (to_be_bytes w) (sym t.1) ∙ wide.back (take (byte_len w) bytes) t.0.size_is t.0.fits in
     (Takes-is bytes (take (byte_len w) bytes) (to_be_bytes w n) rest rest (sym spelled) refl t.2, subst (λ (m : ℕ). m < limit) t.1 (wide.below (take (byte_len w) bytes) t.0.fits))
 
+-- a number that fits its width and was written is read, whatever follows it
 pub number_again : (w : Width) (limit : ℕ) (wide : IsWide w limit) (n : ℕ) (rest : List ℕ) → n < limit → number_at w (to_be_bytes w n ++ rest) ≡ Some (n, rest)
 number_again w limit wide n rest lt =
     subst (λ (m : ℕ). number_at w (to_be_bytes w n ++ rest) ≡ Some (m, rest)) (wide.again n lt) (front_again (from_be_bytes w) (byte_len w) (to_be_bytes w n) rest (wide.len n))

@@ -1,4 +1,4 @@
--- Lemmas on readers: steps that did not fail and steps that do not fail, and what a reader took from
+-- What every reader goes by: steps that did not fail and steps that do not, and what was taken from
 -- the front of its bytes.
 use Rattle.std.proofs.Common.{◌≡◌, ◌∙◌, ℕ, ◌≤◌, Bool, true, false, cond, ltb, List, ◌++◌, length, take, drop, Option, None, Some, Result, Ok, Err, refl, sym, ap, ap₂, subst, arith, append_assoc, append-nil, length-take-le, ltb-false, le-ltb}
 use Rattle.std.proofs.lemmas.List.{take_at, drop_at, take-append-drop, length-append, nil_from_length}
@@ -16,6 +16,7 @@ pub bind_some : {A B : Type 0} (r : Option A) (f : A → Option B) (y : B) → (
 bind_some None f y e = absurd cc
 bind_some (Some x) f y e = (x, refl, e)
 
+-- two steps that are made one after the other are made together
 pub bind_again : {A B : Type 0} (r : Option A) (f : A → Option B) (x : A) (y : B) → r ≡ Some x → f x ≡ Some y → (r >>= f) ≡ Some y
 bind_again r f x y p q = subst (λ (s : Option _). (s >>= f) ≡ Some y) (sym p) q
 
@@ -34,6 +35,7 @@ pub if_false : {A : Type 0} (b : Bool) (r : Option A) (y : A) → cond b None r 
 if_false true r y e = absurd cc
 if_false false r y e = (refl, e)
 
+-- a test that fails lets the reader behind it answer
 pub if_false_again : {A : Type 0} (b : Bool) (r : Option A) (y : A) → b ≡ false → r ≡ Some y → cond b None r ≡ Some y
 if_false_again true r y h e = absurd cc
 if_false_again false r y h e = e
@@ -43,6 +45,7 @@ pub if_true : {A : Type 0} (b : Bool) (r : Option A) (y : A) → cond b r None �
 if_true true r y e = (refl, e)
 if_true false r y e = absurd cc
 
+-- a test that holds lets the reader behind it answer
 pub if_true_again : {A : Type 0} (b : Bool) (r : Option A) (y : A) → b ≡ true → r ≡ Some y → cond b r None ≡ Some y
 if_true_again true r y h e = e
 if_true_again false r y h e = absurd cc
@@ -54,12 +57,14 @@ pub record Takes (bytes text rest : List ℕ) : Type 0 where
   pub parts : bytes ≡ text ++ rest
   pub rest_fits : AreBytes rest
 
+-- what two readers take one after the other is taken together
 pub Takes-then : (a x b y c : List ℕ) → Takes a x b → Takes b y c → Takes a (x ++ y) c
 Takes-then a x b y c p q = record {
   parts = p.parts ∙ ap (λ (t : List ℕ). x ++ t) q.parts ∙ sym (append_assoc x y c);
   rest_fits = q.rest_fits;
 }
 
+-- a taken string and the bytes after it may be replaced by equal ones
 pub Takes-is : (bytes a b r s : List ℕ) → a ≡ b → r ≡ s → Takes bytes a r → Takes bytes b s
 Takes-is bytes a b r s p q t = record {
   parts = t.parts ∙ ap₂ (λ (x y : List ℕ). x ++ y) p q;
@@ -70,6 +75,7 @@ Takes-is bytes a b r s p q t = record {
 pub Takes-all : (bytes text rest : List ℕ) → Takes bytes text rest → length rest ≡ 0 → bytes ≡ text
 Takes-all bytes text rest t none = t.parts ∙ ap (λ (l : List ℕ). text ++ l) (nil_from_length rest none) ∙ append-nil text
 
+-- bytes are a front of any length and the bytes after it
 pub Takes-front : (size : ℕ) (bytes : List ℕ) → AreBytes bytes → Takes bytes (take size bytes) (drop size bytes)
 Takes-front size bytes fits = record { parts = sym (take-append-drop size bytes); rest_fits = AreBytes-drop size bytes fits }
 
@@ -79,6 +85,7 @@ Takes-front size bytes fits = record { parts = sym (take-append-drop size bytes)
 abbrev pub front_at : {A : Type 0} → (List ℕ → A) → ℕ → List ℕ → Option (A × List ℕ)
 front_at f size bytes = cond (ltb (length bytes) size) None (Some (f (take size bytes), drop size bytes))
 
+-- a field of a known length that is read is that front of the bytes
 pub front_takes : {A : Type 0} (f : List ℕ → A) (size : ℕ) (bytes : List ℕ) (value : A) (rest : List ℕ) → AreBytes bytes → front_at f size bytes ≡ Some (value, rest)
     → IsString size (take size bytes) × (f (take size bytes) ≡ value) × Takes bytes (take size bytes) rest
 front_takes {A} f size bytes value rest fits e =
@@ -92,6 +99,7 @@ front_takes {A} f size bytes value rest fits e =
       Takes-is bytes (take size bytes) (take size bytes) (drop size bytes) rest refl same.1 (Takes-front size bytes fits),
     )
 
+-- a field of a known length that was written is read, whatever follows it
 pub front_again : {A : Type 0} (f : List ℕ → A) (size : ℕ) (text rest : List ℕ) → length text ≡ size → front_at f size (text ++ rest) ≡ Some (f text, rest)
 front_again f size text rest len =
     let long : ltb (length (text ++ rest)) size ≡ false = le-ltb _ _ (omega (arith, length-append text rest)) in

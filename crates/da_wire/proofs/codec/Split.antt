@@ -13,6 +13,7 @@ pub record AreTexts {A : Type 0} (value : List ℕ → A) (text : A → List ℕ
 
 -- ---- what is read of bytes
 
+-- so many values as were asked for are read
 pub length-split_into : {A : Type 0} (value : List ℕ → A) (size count : ℕ) (bytes : List ℕ) → length (split_into value size count bytes) ≡ count
 unfolding split_into
 length-split_into value size zero bytes = refl
@@ -22,6 +23,7 @@ length-split_into value size (suc count) bytes = ap suc (length-split_into value
 others_long : (size count : ℕ) (bytes : List ℕ) → size * suc count ≤ length bytes → (size ≤ length bytes) × (size * count ≤ length (drop size bytes))
 others_long size count bytes long = let sum : size * suc count ≡ size + size * count = search arith in (omega arith, omega (arith, length-drop size bytes))
 
+-- each value that is read has the one length
 pub are_values_of : {A : Type 0} (value : List ℕ → A) (text : A → List ℕ) (texts : AreTexts value text) (size count : ℕ) (bytes : List ℕ) → AreBytes bytes → size * count ≤ length bytes
     → AllByRecursion (λ x. IsString size (text x)) (split_into value size count bytes)
 unfolding split_into
@@ -46,6 +48,7 @@ value_bytes-of value text texts size (suc count) bytes len =
 
 -- ---- what is read of a spelling
 
+-- each value is written in the one length
 pub length-value_bytes : {A : Type 0} (text : A → List ℕ) (size : ℕ) (values : List A) → AllByRecursion (λ x. IsString size (text x)) values → length (flat_map text values) ≡ size * length values
 length-value_bytes text size [] all = let none : 0 ≡ size * 0 = omega arith in none
 length-value_bytes text size (x ∷ xs) all =
@@ -66,6 +69,7 @@ of_value_bytes {A} value text texts size (x ∷ xs) all =
     ap₂ (λ (y : A) (ys : List A). y ∷ ys) (ap value first ∙ texts.back x)
     (ap (λ (l : List ℕ). split_into value size (length xs) l) behind ∙ of_value_bytes value text texts size xs all.1)
 
+-- the values of a spelling are those spelled
 pub split_into-spelled : {A : Type 0} (value : List ℕ → A) (text : A → List ℕ) (texts : AreTexts value text) (size count : ℕ) (bytes : List ℕ) (values : List A)
     → AllByRecursion (λ x. IsString size (text x)) values → length values ≡ count → bytes ≡ flat_map text values → split_into value size count bytes ≡ values
 split_into-spelled value text texts size count bytes values all len e =

@@ -22,6 +22,7 @@ unit_field = record {
 
 -- ---- a blob
 
+-- the blob of this namespace and these bytes
 abbrev blob : List ℕ → List ℕ → NamedBytes
 blob name bytes = record { namespace = record { 0 = name }; bytes = bytes }
 
@@ -29,18 +30,22 @@ blob name bytes = record { namespace = record { 0 = name }; bytes = bytes }
 abbrev after_text : List ℕ → List ℕ × List ℕ → Option (NamedBytes × List ℕ)
 after_text name text = Some (blob name text.0, text.1)
 
+-- what `blob_at` does after the share version
 abbrev after_version : List ℕ → ℕ × List ℕ → Option (NamedBytes × List ℕ)
 after_version name version = cond (eqb version.0 0) (unit_at version.1) None >>= after_text name
 
+-- what `blob_at` does after the namespace
 abbrev after_name : List ℕ × List ℕ → Option (NamedBytes × List ℕ)
 after_name name = byte_at name.1 >>= after_version name.0
 
+-- a blob that is answered is the one that its fields make up
 blob_is : (bytes : List ℕ) (name text : List ℕ) (after : List ℕ) (b : NamedBytes) (rest : List ℕ) → blob name text ≡ b → after ≡ rest → IsNamed (blob name text) → Takes bytes (blob_bytes (blob name text)) after
     → Takes bytes (blob_bytes b) rest × IsNamed b
 blob_is bytes name text after b rest same_blob same_rest is t =
     subst (λ (x : NamedBytes). Takes bytes (blob_bytes x) rest × IsNamed x) same_blob
     (Takes-is bytes (blob_bytes (blob name text)) (blob_bytes (blob name text)) after rest refl same_rest t, is)
 
+-- a blob that is read is the one that was written
 blob_takes : (bytes : List ℕ) (b : NamedBytes) (rest : List ℕ) → AreBytes bytes → blob_at bytes ≡ Some (b, rest) → Takes bytes (blob_bytes b) rest × IsNamed b
 unfolding blob_at
 blob_takes bytes b rest fits e =
@@ -59,6 +64,7 @@ blob_takes bytes b rest fits e =
     blob_is bytes a.0.0 x.0.0 x.0.1 b rest same.0 same.1 (record { name = t0.1; fits = t2.1 })
     (Takes-then bytes a.0.0 a.0.1 (0 ∷ unit_bytes x.0.0) x.0.1 t0.0 tail)
 
+-- a blob that was written is read, whatever follows it
 blob_again : (b : NamedBytes) (rest : List ℕ) → IsNamed b → length (blob_bytes b) < 2 ^ 32 → blob_at (blob_bytes b ++ rest) ≡ Some (b, rest)
 unfolding blob_at
 blob_again b rest is few =
@@ -73,6 +79,7 @@ blob_again b rest is few =
     bind_again (string_at 29 (name ++ 0 ∷ tail)) after_name (name, 0 ∷ tail) read (string_again 29 name (0 ∷ tail) is.name.size_is) text in
     subst (λ (l : List ℕ). (string_at 29 l >>= after_name) ≡ Some read) (sym joined) all
 
+-- a blob is a field
 pub blob_field : IsField blob_at blob_bytes IsNamed
 blob_field = record {
   takes = blob_takes;

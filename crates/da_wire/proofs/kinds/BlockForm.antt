@@ -19,6 +19,7 @@ use Rattle.da_wire.specs.declared.kinds.Kind.TheVariants as kinds
 use Rattle.da_wire.specs.declared.frames.Frame.TheVariants as frames
 use Rattle.da_wire.proofs.kinds.Form.{IsForm}
 
+-- the block of these lists that asks for the width that a number asks for
 abbrev pub block : ℕ → List (List ℕ) → List (List ℕ) → List NamedBytes → BlockParts
 block width units pay_units blobs = record { units = units; pay_units = pay_units; blobs = blobs; width = asked_width width }
 
@@ -26,12 +27,15 @@ block width units pay_units blobs = record { units = units; pay_units = pay_unit
 abbrev pub after_blobs : ℕ → List (List ℕ) → List (List ℕ) → List NamedBytes × List ℕ → Option BlockParts
 after_blobs width units pay_units blobs = cond (eqb (length blobs.1) 0) (Some (block width units pay_units blobs.0)) None
 
+-- what `block_at` does after the units of payments
 abbrev pub after_pay_units : ℕ → List (List ℕ) → List (List ℕ) × List ℕ → Option BlockParts
 after_pay_units width units pay_units = counted_at blob_at pay_units.1 >>= after_blobs width units pay_units.0
 
+-- what `block_at` does after the units
 abbrev pub after_units : ℕ → List (List ℕ) × List ℕ → Option BlockParts
 after_units width units = counted_at unit_at units.1 >>= after_pay_units width units.0
 
+-- what `block_at` does after the width
 abbrev pub after_width : ℕ × List ℕ → Option BlockParts
 after_width width = counted_at unit_at width.1 >>= after_units width.0
 
@@ -62,13 +66,16 @@ width_by : (k : ℕ) (zero : Bool) → k < 2 ^ 16 → eqb k 0 ≡ zero
 width_by k true lt e = rw e (sym (eqb-true k 0 e), refl, tt)
 width_by k false lt e = rw e (refl, e, lt)
 
+-- a number that is read is the one that its width is written as, and no width is 0
 width_is : (k : ℕ) → k < 2 ^ 16 → (width_number (asked_width k) ≡ k) × (asks_for_zero (asked_width k) ≡ false) × IfSome (asked_width k) (λ n. n < 2 ^ 16)
 width_is k lt = width_by k (eqb k 0) lt refl
 
+-- the number that a width is written as asks for the width
 asked_again : (width : Option ℕ) → asks_for_zero width ≡ false → asked_width (width_number width) ≡ width
 asked_again None some = refl
 asked_again (Some k) some = ap (λ (b : Bool). cond b None (Some k)) some
 
+-- the number that a width is written as fits two bytes
 width_few : (width : Option ℕ) → IfSome width (λ n. n < 2 ^ 16) → width_number width < 2 ^ 16
 width_few None few = omega arith
 width_few (Some k) few = few
@@ -88,6 +95,7 @@ joined b =
 abbrev pub IsRead : List ℕ → BlockParts → Type 0
 IsRead payload b = IsBlock b × (payload ≡ block_payload b) × (asks_for_zero b.width ≡ false)
 
+-- the fields of a payload make up a block that the payload spells
 block_is : (payload : List ℕ) (width : ℕ) (units pay_units : List (List ℕ)) (blobs : List NamedBytes) → width < 2 ^ 16
     → AllByRecursion AreBytes units → AllByRecursion AreBytes pay_units → AllByRecursion IsNamed blobs
     → payload ≡ to_be_bytes w16 width ++ (counted_bytes unit_bytes units ++ (counted_bytes unit_bytes pay_units ++ counted_bytes blob_bytes blobs))
@@ -100,9 +108,11 @@ block_is payload width units pay_units blobs few us ps bs parts =
       w.1,
     )
 
+-- what a payload tells of a block it tells of an equal one
 same_read : (payload : List ℕ) (x b : BlockParts) → x ≡ b → IsRead payload x → IsRead payload b
 same_read payload x b e is = subst (λ (y : BlockParts). IsRead payload y) e is
 
+-- a block that is read of a payload is what the payload spells
 pub block_takes : (payload : List ℕ) (b : BlockParts) → AreBytes payload → block_at payload ≡ Some b → IsRead payload b
 unfolding block_at
 block_takes payload b fits e =
@@ -136,6 +146,7 @@ block_length b =
     let blobs : List ℕ = counted_bytes blob_bytes b.blobs in
     omega (arith, length-append number units, length-append (number ++ units) pay_units, length-append (number ++ units ++ pay_units) blobs)
 
+-- the payload of a block that asks for no width 0 is read as the block
 pub block_again : (b : BlockParts) → IsBlock b → asks_for_zero b.width ≡ false → length (block_payload b) < 2 ^ 32 → block_at (block_payload b) ≡ Some b
 unfolding block_at
 block_again b is some few =

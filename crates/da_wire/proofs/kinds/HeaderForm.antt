@@ -20,9 +20,11 @@ use Rattle.da_wire.specs.declared.kinds.Kind.TheVariants as kinds
 use Rattle.da_wire.specs.declared.frames.Frame.TheVariants as frames
 use Rattle.da_wire.proofs.kinds.Form.{IsForm, never}
 
+-- a width is at most 128
 pub width_le : (k : ℕ) → is_width k ≡ true → k ≤ 128
 width_le k h = grind (arith, nat_tests)
 
+-- the header of this width and these roots
 abbrev roots : ℕ → List Digest → List Digest → Roots
 roots k rows cols = record { k = k; rows = rows; cols = cols }
 
@@ -36,6 +38,7 @@ after_width k = cond (not (is_width k.0)) None (cond (eqb (length k.1) (360 * k.
 
 -- ---- read
 
+-- a width and the bytes of its roots are a header, and spell it
 is_header : (k : ℕ) (bytes : List ℕ) → is_width k ≡ true → AreBytes bytes → length bytes ≡ 360 * k → IsHeader (roots_in k bytes) × (to_be_bytes w16 k ++ bytes ≡ header_payload (roots_in k bytes))
 is_header k bytes width fits len =
     let front : length (take (180 * k) bytes) ≡ 180 * k = length-take-le (180 * k) bytes (omega arith) in
@@ -52,6 +55,7 @@ is_header k bytes width fits len =
       ap (λ (l : List ℕ). to_be_bytes w16 k ++ l) (sym both),
     )
 
+-- a header that is read of a payload is what the payload spells
 pub header_takes : (payload : List ℕ) (h : Roots) → AreBytes payload → header_at payload ≡ Some h → IsHeader h × (payload ≡ header_payload h)
 unfolding header_at
 header_takes payload h fits e =
@@ -68,6 +72,7 @@ header_takes payload h fits e =
 abbrev body : Roots → List ℕ
 body h = digest_bytes h.rows ++ digest_bytes h.cols
 
+-- the rows of a header have 180 bytes for each k, its rows and columns 360
 body_length : (h : Roots) → IsHeader h → (length (digest_bytes h.rows) ≡ 180 * h.k) × (length (body h) ≡ 360 * h.k)
 body_length h is =
     let rows : length (digest_bytes h.rows) ≡ 90 * length h.rows = length-digest_bytes h.rows is.rows in
@@ -75,13 +80,7 @@ body_length h is =
     let sum : length (body h) ≡ length (digest_bytes h.rows) + length (digest_bytes h.cols) = length-append (digest_bytes h.rows) (digest_bytes h.cols) in
     (omega (arith, rows, is.roots.rows), omega (arith, rows, cols, sum, is.roots.rows, is.roots.cols))
 
-pub header_length : (h : Roots) → IsHeader h → length (header_payload h) ≡ 2 + 360 * h.k
-header_length h is =
-    let sum : length (header_payload h) ≡ length (to_be_bytes w16 h.k) + length (body h) = length-append (to_be_bytes w16 h.k) (body h) in
-    let two : length (to_be_bytes w16 h.k) ≡ 2 = wide16.len h.k in
-    let digests : length (body h) ≡ 360 * h.k = (body_length h is).1 in
-    omega (arith, sum, two, digests)
-
+-- the payload of a header is read as the header
 pub header_again : (h : Roots) → IsHeader h → header_at (header_payload h) ≡ Some h
 unfolding header_at
 header_again h is =

@@ -19,6 +19,7 @@ use Rattle.da_wire.specs.declared.frames.Frame.TheVariants as frames
 use Rattle.da_wire.proofs.kinds.Form.{IsForm, never}
 use Rattle.da_wire.proofs.codec.Texts.{IsField}
 
+-- the message of these fields
 abbrev message : Cell → Axis → List ℕ → List Digest → Message
 message cell axis share path = record { cell = cell; axis = axis; share = record { 0 = share }; path = path }
 
@@ -26,12 +27,15 @@ message cell axis share path = record { cell = cell; axis = axis; share = record
 abbrev after_path : Cell → Axis → List ℕ → List Digest × List ℕ → Option (Message × List ℕ)
 after_path cell axis share path = Some (message cell axis share path.0, path.1)
 
+-- what `message_front` does after the share
 abbrev after_share : Cell → Axis → List ℕ × List ℕ → Option (Message × List ℕ)
 after_share cell axis share = path_at 8 share.1 >>= after_path cell axis share.0
 
+-- what `message_front` does after the axis
 abbrev after_axis : Cell → Axis × List ℕ → Option (Message × List ℕ)
 after_axis cell axis = string_at 512 axis.1 >>= after_share cell axis.0
 
+-- what `message_front` does after the cell
 abbrev after_cell : Cell × List ℕ → Option (Message × List ℕ)
 after_cell cell = axis_at cell.1 >>= after_axis cell.0
 

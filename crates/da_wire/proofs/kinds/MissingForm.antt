@@ -1,9 +1,9 @@
 -- Missing cells that are read of a payload are what the payload spells, and the payload that missing cells
 -- have is read.
-use Rattle.std.proofs.Common.{◌+◌, ◌≡◌, ◌∙◌, ℕ, ◌*◌, ◌^◌, ◌<◌, ◌≤◌, true, false, not, ltb, eqb, ◌&&◌, ◌||◌, cond, Bool, List, [], ◌∷◌, ◌++◌, length, Option, None, Some, refl, sym, ap, ap₂, subst, arith, eqb-true, eq-eqb, ltb-true}
+use Rattle.std.proofs.Common.{◌+◌, ◌≡◌, ◌∙◌, ℕ, ◌*◌, ◌^◌, ◌<◌, ◌≤◌, true, false, not, ltb, eqb, ◌&&◌, ◌||◌, cond, List, [], ◌∷◌, ◌++◌, length, Option, None, Some, refl, sym, ap, ap₂, subst, arith, eqb-true, eq-eqb, ltb-true}
 use Rattle.std.specs.Int.{w16, w32, to_be_bytes}
 use Rattle.std.specs.List.{flat_map, list_all, AllByRecursion}
-use Rattle.std.proofs.lemmas.Bool.{and_parts, not-false, not_from_true}
+use Rattle.std.proofs.lemmas.Bool.{and_parts, or_parts, or_from, not-false, not_from_true}
 use Rattle.std.proofs.lemmas.Option.{cond_some}
 use Rattle.namespace_id.specs.declared.cells.Cell.{Cell}
 use Rattle.namespace_id.specs.Bytes.{AreBytes}
@@ -19,8 +19,8 @@ use Rattle.da_wire.proofs.kinds.HeaderForm.{width_le}
 use Rattle.da_wire.specs.declared.kinds.Kind.TheVariants as kinds
 use Rattle.da_wire.specs.declared.frames.Frame.TheVariants as frames
 use Rattle.da_wire.proofs.kinds.Form.{IsForm}
-use Rattle.std.proofs.lemmas.List.{length-append}
 
+-- the list of cells of the square of this width
 abbrev cell_list : ℕ → List Cell → CellList
 cell_list k list = record { k = k; list = list }
 
@@ -30,14 +30,11 @@ after_count k count =
     cond (eqb count.0 0 || not (eqb (length count.1) (4 * count.0))) None
     (cond (are_cells k (cells_of count.0 count.1)) (Some (cell_list k (cells_of count.0 count.1))) None)
 
+-- what `missing_at` does after the width
 abbrev after_width : ℕ × List ℕ → Option CellList
 after_width k = number_at w32 k.1 >>= after_count k.0
 
 -- ---- read
-
-neither : (a b : Bool) → (a || b) ≡ false → (a ≡ false) × (b ≡ false)
-neither true b e = absurd cc
-neither false b e = (refl, e)
 
 -- a count and so many bytes are missing cells
 missing_is : (payload : List ℕ) (k count : ℕ) (rest : List ℕ) → eqb count 0 ≡ false → length rest ≡ 4 * count → are_cells k (cells_of count rest) ≡ true → Takes payload (to_be_bytes w16 k ++ to_be_bytes w32 count) rest
@@ -50,6 +47,7 @@ missing_is payload k count rest some len are t =
       subst (λ (m : ℕ). eqb m 0 ≡ false) n some,
     )
 
+-- missing cells that are read of a payload are what the payload spells, and are some
 pub missing_takes : (payload : List ℕ) (cells : CellList) → AreBytes payload → missing_at payload ≡ Some cells
     → AreCells cells × (payload ≡ missing_payload cells) × (eqb (length cells.list) 0 ≡ false)
 unfolding missing_at
@@ -60,7 +58,7 @@ missing_takes payload cells fits e =
     let u = number_takes w32 (2 ^ 32) wide32 a.0.1 b.0.0 b.0.1 t.0.rest_fits b.1 in
     let read : Option CellList = cond (are_cells a.0.0 (cells_of b.0.0 b.0.1)) (Some (cell_list a.0.0 (cells_of b.0.0 b.0.1))) None in
     let c = if_false (eqb b.0.0 0 || not (eqb (length b.0.1) (4 * b.0.0))) read cells b.2 in
-    let n = neither (eqb b.0.0 0) (not (eqb (length b.0.1) (4 * b.0.0))) c.0 in
+    let n = or_parts (eqb b.0.0 0) (not (eqb (length b.0.1) (4 * b.0.0))) c.0 in
     let g = cond_some (are_cells a.0.0 (cells_of b.0.0 b.0.1)) (cell_list a.0.0 (cells_of b.0.0 b.0.1)) cells c.1 in
     let len : length b.0.1 ≡ 4 * b.0.0 = eqb-true (length b.0.1) (4 * b.0.0) (not-false (eqb (length b.0.1) (4 * b.0.0)) n.1) in
     let both = Takes-then payload (to_be_bytes w16 a.0.0) a.0.1 (to_be_bytes w32 b.0.0) b.0.1 t.0 u.0 in
@@ -79,10 +77,7 @@ in_square k (c ∷ cs) few all =
     let col : c.col < 2 * k = ltb-true c.col (2 * k) both.1 in
     (record { row = omega arith; col = omega arith }, in_square k cs few here.1)
 
-neither_again : (a b : Bool) → a ≡ false → b ≡ false → (a || b) ≡ false
-neither_again true b p q = absurd cc
-neither_again false b p q = q
-
+-- the payload of missing cells is read as them
 pub missing_again : (cells : CellList) → AreCells cells → eqb (length cells.list) 0 ≡ false → length cells.list < 2 ^ 32 → missing_at (missing_payload cells) ≡ Some cells
 unfolding missing_at
 missing_again cells are some few =
@@ -97,22 +92,15 @@ missing_again cells are some few =
     let cells_read : read ≡ Some cells =
     if_true_again (are_cells cells.k (cells_of count bytes)) (Some (cell_list cells.k (cells_of count bytes))) cells
     (subst (λ (l : List Cell). are_cells cells.k l ≡ true) (sym same) are) (ap (λ (l : List Cell). Some (cell_list cells.k l)) same) in
-    let tests : (eqb count 0 || not (eqb (length bytes) (4 * count))) ≡ false = neither_again (eqb count 0) (not (eqb (length bytes) (4 * count))) some (not_from_true (eqb (length bytes) (4 * count)) len) in
+    let tests : (eqb count 0 || not (eqb (length bytes) (4 * count))) ≡ false = or_from (eqb count 0) (not (eqb (length bytes) (4 * count))) some (not_from_true (eqb (length bytes) (4 * count)) len) in
     let counted : after_count cells.k (count, bytes) ≡ Some cells = if_false_again (eqb count 0 || not (eqb (length bytes) (4 * count))) read cells tests cells_read in
     let tail : List ℕ = to_be_bytes w32 count ++ bytes in
     bind_again (number_at w16 (missing_payload cells)) after_width (cells.k, tail) cells (number_again w16 (2 ^ 16) wide16 cells.k tail (omega (arith, narrow)))
     (bind_again (number_at w32 tail) (after_count cells.k) (count, bytes) cells (number_again w32 (2 ^ 32) wide32 count bytes few) counted)
 
--- six bytes, and four for each cell
-missing_length : (cells : CellList) → length (missing_payload cells) ≡ 6 + 4 * length cells.list
-missing_length cells =
-    let tail : List ℕ = to_be_bytes w32 (length cells.list) ++ flat_map cell_bytes cells.list in
-    let all : length (missing_payload cells) ≡ length (to_be_bytes w16 cells.k) + length tail = length-append (to_be_bytes w16 cells.k) tail in
-    let behind : length tail ≡ length (to_be_bytes w32 (length cells.list)) + length (flat_map cell_bytes cells.list) = length-append (to_be_bytes w32 (length cells.list)) (flat_map cell_bytes cells.list) in
-    let two : length (to_be_bytes w16 cells.k) ≡ 2 = refl in
-    let four : length (to_be_bytes w32 (length cells.list)) ≡ 4 = refl in
-    let each : length (flat_map cell_bytes cells.list) ≡ 4 * length cells.list = length-cells_bytes cells.list in
-    omega (arith, all, behind, two, four, each)
+-- the payload of missing cells has six bytes, and four for each cell
+pub length-missing : (cells : CellList) → 6 + 4 * length cells.list ≡ length (missing_payload cells)
+length-missing cells = omega (arith, length-cells_bytes cells.list)
 
 -- the form of this kind
 pub missing_form : IsForm kinds.Missing frames.Missing missing_at missing_payload (λ cells. eqb (length cells.list) 0)
@@ -120,5 +108,5 @@ missing_form = record {
   read_is = λ bytes. refl;
   spelled_is = λ x. refl;
   takes = missing_takes;
-  again = λ x is some few. missing_again x is some (omega (arith, few, missing_length x));
+  again = λ x is some few. missing_again x is some (omega (arith, few, length-missing x));
 }

@@ -22,9 +22,11 @@ use Rattle.da_wire.proofs.kinds.Form.{IsForm, never}
 abbrev after_axis : Cell → Axis × List ℕ → Option (Cell × Axis)
 after_axis cell axis = cond (eqb (length axis.1) 0) (Some (cell, axis.0)) None
 
+-- what `sample_at` does after the cell
 abbrev after_cell : Cell × List ℕ → Option (Cell × Axis)
 after_cell cell = axis_at cell.1 >>= after_axis cell.0
 
+-- a request for a sample that is read of a payload is what the payload spells
 pub sample_takes : (payload : List ℕ) (s : Cell × Axis) → AreBytes payload → sample_at payload ≡ Some s → IsCell s.0 × (payload ≡ sample_payload s.0 s.1)
 unfolding sample_at
 sample_takes payload s fits e =
@@ -37,6 +39,7 @@ sample_takes payload s fits e =
     subst (λ (x : Cell × Axis). IsCell x.0 × (payload ≡ sample_payload x.0 x.1)) g.1
     (t.1, Takes-all payload (sample_payload a.0.0 b.0.0) b.0.1 both (eqb-true (length b.0.1) 0 g.0))
 
+-- the payload of a request for a sample is read as the request
 pub sample_again : (cell : Cell) (axis : Axis) → IsCell cell → sample_at (sample_payload cell axis) ≡ Some (cell, axis)
 unfolding sample_at
 sample_again cell axis is =
@@ -47,9 +50,11 @@ sample_again cell axis is =
 
 -- ---- a namespace
 
+-- the namespace that bytes are
 abbrev named : List ℕ → Namespace
 named bytes = record { 0 = bytes }
 
+-- a request for a namespace that is read of a payload is what the payload spells
 pub request_takes : (payload : List ℕ) (name : Namespace) → AreBytes payload → request_at payload ≡ Some name → IsNamespace name × (payload ≡ request_payload name)
 unfolding request_at
 request_takes payload name fits e =
@@ -57,6 +62,7 @@ request_takes payload name fits e =
     subst (λ (x : Namespace). IsNamespace x × (payload ≡ request_payload x)) g.1
     (record { size_is = eqb-true (length payload) 29 g.0; fits = fits }, refl)
 
+-- the payload of a request for a namespace is read as the request
 pub request_again : (name : Namespace) → IsNamespace name → request_at (request_payload name) ≡ Some name
 unfolding request_at
 request_again name is = if_true_again (eqb (length name.0) 29) (Some (named name.0)) name (eq-eqb _ _ is.size_is) refl

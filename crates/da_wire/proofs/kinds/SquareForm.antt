@@ -19,12 +19,15 @@ use Rattle.da_wire.specs.declared.kinds.Kind.TheVariants as kinds
 use Rattle.da_wire.specs.declared.frames.Frame.TheVariants as frames
 use Rattle.da_wire.proofs.kinds.Form.{IsForm, never}
 
+-- the bytes of a share
 abbrev text : Share → List ℕ
 text s = s.0
 
+-- a share is its bytes
 texts : AreTexts share text
 texts = record { there = λ bytes. refl; back = λ s. refl }
 
+-- the square of this width and these shares
 abbrev square : ℕ → List Share → SquareShares
 square k shares = record { k = k; shares = shares }
 
@@ -38,6 +41,7 @@ after_width k = cond (not (is_width k.0)) None (cond (eqb (length k.1) (512 * (k
 
 -- ---- read
 
+-- a width and the bytes of its shares are a square, and spell it
 is_square : (k : ℕ) (bytes : List ℕ) → is_width k ≡ true → AreBytes bytes → length bytes ≡ 512 * (k * k)
     → (IsSquare (square_in k bytes) × AreShares (shares_of (k * k) bytes)) × (to_be_bytes w16 k ++ bytes ≡ square_payload (square_in k bytes))
 is_square k bytes width fits len =
@@ -49,6 +53,7 @@ is_square k bytes width fits len =
       ap (λ (l : List ℕ). to_be_bytes w16 k ++ l) (sym (value_bytes-of share text texts 512 (k * k) bytes len)),
     )
 
+-- a square that is read of a payload is what the payload spells
 pub square_takes : (payload : List ℕ) (s : SquareShares) → AreBytes payload → square_at payload ≡ Some s → (IsSquare s × AreShares s.shares) × (payload ≡ square_payload s)
 unfolding square_at
 square_takes payload s fits e =
@@ -61,9 +66,11 @@ square_takes payload s fits e =
 
 -- ---- spelled
 
+-- the shares of a square have 512 bytes each
 pub length-share_bytes : (s : SquareShares) → IsSquare s → AreShares s.shares → length (share_bytes s.shares) ≡ 512 * (s.k * s.k)
 length-share_bytes s is shares = length-value_bytes text 512 s.shares shares ∙ ap (λ (n : ℕ). 512 * n) is.count
 
+-- the payload of a square is read as the square
 pub square_again : (s : SquareShares) → IsSquare s → AreShares s.shares → square_at (square_payload s) ≡ Some s
 unfolding square_at
 square_again s is shares =

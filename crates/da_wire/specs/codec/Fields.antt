@@ -9,6 +9,7 @@ use Rattle.namespace_id.specs.declared.shares.Share.{Share}
 use Rattle.namespace_id.specs.declared.cells.Axis.{Axis}
 use Rattle.namespace_id.specs.declared.cells.Axis.TheVariants.{Row, Col}
 
+-- a reader, and what is read after it; none where the first reads none
 infixl 10 ◌>>=◌
 abbrev pub ◌>>=◌ : {A B : Type 0} → Option A → (A → Option B) → Option B
 None >>= f = None
@@ -38,6 +39,7 @@ split_into value size (suc count) bytes = value (take size bytes) ∷ split_into
 abbrev pub digest : List ℕ → Digest
 digest bytes = record { 0 = bytes }
 
+-- so many digests, one after another
 abbrev pub digests_of : ℕ → List ℕ → List Digest
 digests_of count bytes = split_into digest 90 count bytes
 
@@ -45,9 +47,11 @@ digests_of count bytes = split_into digest 90 count bytes
 abbrev pub share : List ℕ → Share
 share bytes = record { 0 = bytes }
 
+-- so many shares, one after another
 abbrev pub shares_of : ℕ → List ℕ → List Share
 shares_of count bytes = split_into share 512 count bytes
 
+-- so many digests at the front, and the bytes after them
 abbrev pub digests_at : ℕ → List ℕ → Option (List Digest × List ℕ)
 digests_at count bytes =
     if nat_lt (length bytes) (90 * count) then None else
@@ -60,12 +64,14 @@ cells_of (suc count) bytes =
     record { row = from_be_bytes w16 (take 2 bytes); col = from_be_bytes w16 (take 2 (drop 2 bytes)) }
     ∷ cells_of count (drop 4 bytes)
 
+-- an axis in one byte: 0 for a row, 1 for a column
 unfoldable pub axis_at : List ℕ → Option (Axis × List ℕ)
 axis_at bytes = do
   byte ← byte_at bytes
   if byte.0 == 0 then Some (Row, byte.1) else
       if byte.0 == 1 then Some (Col, byte.1) else None
 
+-- a cell: its row and its column, in two bytes each
 unfoldable pub cell_at : List ℕ → Option (Cell × List ℕ)
 cell_at bytes = do
   row ← number_at w16 bytes

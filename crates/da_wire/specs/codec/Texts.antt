@@ -16,10 +16,12 @@ digest_bytes digests = flat_map (λ d. d.0) digests
 abbrev pub share_bytes : List Share → List ℕ
 share_bytes shares = flat_map (λ s. s.0) shares
 
+-- the byte of an axis: 0 for a row, 1 for a column
 abbrev pub axis_byte : Axis → ℕ
 axis_byte Row = 0
 axis_byte Col = 1
 
+-- a cell: its row and its column, in two bytes each
 abbrev pub cell_bytes : Cell → List ℕ
 cell_bytes cell = to_be_bytes w16 cell.row ++ to_be_bytes w16 cell.col
 

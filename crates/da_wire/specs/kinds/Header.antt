@@ -6,6 +6,7 @@ use Rattle.data_header.specs.Headers.{Roots}
 use Rattle.da_wire.specs.codec.Fields.{◌>>=◌, number_at, digests_of}
 use Rattle.da_wire.specs.codec.Texts.{digest_bytes}
 
+-- a width, the roots of the rows, the roots of the columns
 abbrev pub header_payload : Roots → List ℕ
 header_payload h = to_be_bytes w16 h.k ++ digest_bytes h.rows ++ digest_bytes h.cols
 

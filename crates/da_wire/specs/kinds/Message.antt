@@ -5,6 +5,7 @@ use Rattle.std.specs.Int.{w16, to_be_bytes}
 use Rattle.da_wire.specs.codec.Fields.{◌>>=◌, string_at, share, axis_at, cell_at, path_at}
 use Rattle.da_wire.specs.codec.Texts.{digest_bytes, axis_byte}
 
+-- a cell, an axis, a share, and a path behind the number of its nodes
 abbrev pub message_payload : sent.Message → List ℕ
 message_payload m =
     to_be_bytes w16 m.cell.row ++ to_be_bytes w16 m.cell.col ++ axis_byte m.axis ∷ []

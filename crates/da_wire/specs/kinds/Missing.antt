@@ -8,6 +8,7 @@ use Rattle.da_wire.specs.codec.Fields.{◌>>=◌, number_at, cells_of}
 use Rattle.namespace_id.specs.Lists.{holds_along}
 use Rattle.da_wire.specs.codec.Texts.{cell_bytes}
 
+-- a width, and cells behind their count
 abbrev pub missing_payload : CellList → List ℕ
 missing_payload cells =
     to_be_bytes w16 cells.k ++ to_be_bytes w32 (length cells.list) ++ flat_map cell_bytes cells.list

@@ -1,14 +1,13 @@
 //! Fields of a payload, read from the front of its bytes.
 
-ghost use Rattle.std.specs.Prelude.{◌≡◌, ◌≤◌, ◌<◌, ◌*◌, length, None, Some, []};
-ghost use Rattle.std.specs.Int.{w16, from_be_bytes, w32};
+ghost use Rattle.std.specs.Prelude.{◌≡◌, ◌≤◌, ◌*◌, length};
+ghost use Rattle.std.specs.Int.{w16, w32};
 ghost use Rattle.namespace_id.specs.Answers.{Gives};
 ghost use Rattle.da_wire.specs.codec.Fields.{digests_of, text_at, count_at, number_at, byte_at, string_at, axis_at, path_at, cell_at};
 
-use crate::codec::sizes::DIGEST_SIZE;
+use crate::codec::sizes::{DIGEST_SIZE, NAMESPACE_SIZE, PATH_LIMIT, SHARE_SIZE};
 use namespace_id::{Axis, Cell, Digest, Namespace, Share};
 use nmt_proofs::Path;
-use share_split::{NAMESPACE_SIZE, SHARE_SIZE};
 
 /// A number of two bytes, the higher first, and the bytes after it.
 pub(crate) fn u16_at(bytes: &[u8]) -> Option<(u16, &[u8])>
@@ -164,7 +163,7 @@ pub(crate) fn path_at(bytes: &[u8]) -> Option<(Path, &[u8])>
     ensures { Gives (λ x. (x.0, x.1.now)) result (path_at 8 bytes.now) }
 {
     let (count, rest) = u8_at(bytes)?;
-    if count > 8 {
+    if count > PATH_LIMIT {
         return None;
     }
     if rest.len() < DIGEST_SIZE * count as usize {

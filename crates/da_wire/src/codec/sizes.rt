@@ -1,15 +1,22 @@
 //! How many bytes the fields of a payload have.
 
-ghost use Rattle.std.specs.Prelude.{◌≤◌, length, None, Some, ◌+◌};
+ghost use Rattle.std.specs.Prelude.{◌≤◌, length, ◌+◌};
 ghost use Rattle.std.specs.Int.{w32};
 ghost use Rattle.da_wire.specs.Spelling.{max_payload};
 ghost use Rattle.da_wire.specs.codec.Texts.{text_bytes};
 ghost use Rattle.da_wire.specs.Writing.{IsWithin};
 
 use crate::MAX_PAYLOAD;
+pub(crate) use share_split::{NAMESPACE_SIZE, SHARE_SIZE};
+
+/// The bytes in front of a payload: its kind, and its length.
+pub(crate) const HEAD_SIZE: usize = 5;
 
 /// The bytes of a digest.
 pub(crate) const DIGEST_SIZE: usize = 90;
+
+/// The most nodes of a path.
+pub(crate) const PATH_LIMIT: u8 = 8;
 
 /// The bytes of a cell.
 pub(crate) const CELL_SIZE: usize = 4;

@@ -6,7 +6,7 @@ ghost use Rattle.da_wire.specs.codec.Fields.{many_at, read_items, read_rest};
 ghost use Rattle.da_wire.specs.Reading.{GivesUnlessFull};
 ghost use Rattle.da_wire.specs.kinds.Block.{blob_at, asked_width, block_at, blob_bytes, width_number, block_payload, unit_at, counted_at, unit_bytes, counted_bytes};
 ghost use Rattle.da_wire.specs.Spelling.{max_payload};
-ghost use Rattle.da_wire.specs.Writing.{HasSize, IsShort, appended, IsWithin};
+ghost use Rattle.da_wire.specs.Writing.{HasSize, IsShort, IsWithin};
 ghost use Rattle.da_wire.specs.declared.frames.Frame.TheVariants as FrameOf;
 
 use crate::codec::appending::{put, put_text};
@@ -16,6 +16,9 @@ use namespace_id::Namespace;
 use share_split::{Blob, Unit};
 use square_layout::Block;
 use std::alloc::{AllocError, Global};
+
+/// The greatest count or length: any number of four bytes.
+const MOST: u32 = u32::MAX;
 
 /// The share version of every blob.
 const SHARE_VERSION: u8 = 0;
@@ -40,7 +43,7 @@ fn blob_at(bytes: &[u8]) -> Option<(Namespace, &[u8], &[u8])>
     if version != SHARE_VERSION {
         return None;
     }
-    let (text, rest) = text_at(rest, u32::MAX)?;
+    let (text, rest) = text_at(rest, MOST)?;
     Some((name, text, rest))
 }
 
@@ -50,7 +53,7 @@ fn after_units(count: u32, bytes: &[u8]) -> Option<&[u8]>
 {
     let mut rest = bytes;
     for _ in 0..count {
-        let (_text, after) = text_at(rest, u32::MAX)?;
+        let (_text, after) = text_at(rest, MOST)?;
         rest = after;
     }
     Some(rest)
@@ -61,7 +64,7 @@ fn after_units(count: u32, bytes: &[u8]) -> Option<&[u8]>
 fn after_unit_list(bytes: &[u8]) -> Option<&[u8]>
     ensures { Gives (λ x. x.now) result (read_rest (counted_at unit_at bytes.now)) }
 {
-    let (count, rest) = count_at(bytes, u32::MAX)?;
+    let (count, rest) = count_at(bytes, MOST)?;
     after_units(count, rest)
 }
 
@@ -82,7 +85,7 @@ fn after_blobs(count: u32, bytes: &[u8]) -> Option<&[u8]>
 fn after_blob_list(bytes: &[u8]) -> Option<&[u8]>
     ensures { Gives (λ x. x.now) result (read_rest (counted_at blob_at bytes.now)) }
 {
-    let (count, rest) = count_at(bytes, u32::MAX)?;
+    let (count, rest) = count_at(bytes, MOST)?;
     after_blobs(count, rest)
 }
 
@@ -122,7 +125,7 @@ fn units_of(alloc: Global, count: u32, bytes: &[u8]) -> Result<Vec<Unit>, AllocE
     let mut units = Vec::with_capacity(alloc, count as usize)?;
     let mut rest = bytes;
     for _ in 0..count {
-        let (text, after) = text_at(rest, u32::MAX).unwrap();
+        let (text, after) = text_at(rest, MOST).unwrap();
         let bytes = Vec::from_slice(alloc, text)?;
         units.push(Unit { bytes })?;
         rest = after;
@@ -136,7 +139,7 @@ fn unit_list(alloc: Global, bytes: &[u8]) -> Result<Vec<Unit>, AllocError>
     requires { IsSome (counted_at unit_at bytes.now) }
     ensures { IfOk result (λ units. units.items ≡ read_items (counted_at unit_at bytes.now)) }
 {
-    let (count, rest) = count_at(bytes, u32::MAX).unwrap();
+    let (count, rest) = count_at(bytes, MOST).unwrap();
     units_of(alloc, count, rest)
 }
 
@@ -162,7 +165,7 @@ fn blob_list(alloc: Global, bytes: &[u8]) -> Result<Vec<Blob>, AllocError>
     requires { IsSome (counted_at blob_at bytes.now) }
     ensures { IfOk result (λ blobs. blobs.items ≡ read_items (counted_at blob_at bytes.now)) }
 {
-    let (count, rest) = count_at(bytes, u32::MAX).unwrap();
+    let (count, rest) = count_at(bytes, MOST).unwrap();
     blobs_of(alloc, count, rest)
 }
 

@@ -1,19 +1,16 @@
 //! The payload of a share message.
 
-ghost use Rattle.std.specs.Prelude.{◌≡◌, ◌*◌, length, None, Some, ◌+◌, ◌++◌};
+ghost use Rattle.std.specs.Prelude.{◌≡◌, length, Some, ◌+◌, ◌++◌};
 ghost use Rattle.namespace_id.specs.Answers.{Gives, HasRoom};
-ghost use Rattle.da_wire.specs.codec.Fields.{axis_at, path_at, cell_at};
 ghost use Rattle.da_wire.specs.kinds.Message.{message_front, message_at, message_payload};
-ghost use Rattle.da_wire.specs.codec.Texts.{axis_byte};
 ghost use Rattle.da_wire.specs.Writing.{HasSize};
 ghost use Rattle.da_wire.specs.declared.frames.Frame.TheVariants as FrameOf;
 
 use crate::codec::appending::{axis_byte, put, put_cell, put_digests};
 use crate::codec::fields::{axis_at, cell_at, path_at, share_at};
-use crate::codec::sizes::{CELL_SIZE, DIGEST_SIZE};
+use crate::codec::sizes::{CELL_SIZE, DIGEST_SIZE, SHARE_SIZE};
 use axis_roots::Message;
 use namespace_id::{digests_law, share_law};
-use share_split::SHARE_SIZE;
 
 /// The bytes of a message whose path has no nodes: its cell, its axis, its share, and the count 0.
 const BARE_SIZE: usize = CELL_SIZE + 1 + SHARE_SIZE + 1;

@@ -1,18 +1,15 @@
 //! The payloads of requests: for the sample of a cell, and for the shares of a namespace.
 
-ghost use Rattle.std.specs.Prelude.{◌≡◌, ◌≤◌, length, None, Some, ◌+◌, ◌++◌};
+ghost use Rattle.std.specs.Prelude.{◌≡◌, length, Some, ◌+◌, ◌++◌};
 ghost use Rattle.namespace_id.specs.Answers.{HasRoom};
-ghost use Rattle.da_wire.specs.codec.Fields.{axis_at, cell_at};
 ghost use Rattle.da_wire.specs.kinds.Requests.{sample_at, request_at, sample_payload};
-ghost use Rattle.da_wire.specs.codec.Texts.{axis_byte};
 ghost use Rattle.da_wire.specs.Writing.{HasSize};
 ghost use Rattle.da_wire.specs.declared.frames.Frame.TheVariants as FrameOf;
 
 use crate::codec::appending::{axis_byte, put, put_cell};
 use crate::codec::fields::{axis_at, cell_at, name_of};
-use crate::codec::sizes::CELL_SIZE;
-use namespace_id::{Axis, Cell, Namespace};
-use share_split::NAMESPACE_SIZE;
+use crate::codec::sizes::{CELL_SIZE, NAMESPACE_SIZE};
+use namespace_id::{Axis, Cell, Namespace, namespace_law};
 
 /// The bytes of a request for a sample: its cell and its axis.
 pub(crate) const SAMPLE_SIZE: u32 = CELL_SIZE as u32 + 1;
@@ -41,19 +38,12 @@ pub(crate) fn request(payload: &[u8]) -> Option<Namespace>
     Some(name_of(payload))
 }
 
-/// How many bytes a namespace has.
-fn bytes_of_name(text: &[u8; 29]) -> u32
-    ensures value { result ≡ length text.now }
-    ensures few { result ≤ 29 }
-{
-    text.len() as u32
-}
-
 /// The length of the payload of a namespace request.
 pub(crate) fn request_size(name: &Namespace) -> u32
     ensures { HasSize (FrameOf.Request name.now) (Some result) }
 {
-    bytes_of_name(&name.0)
+    namespace_law(name);
+    NAMESPACE_SIZE as u32
 }
 
 /// Appends the payload of a sample request.

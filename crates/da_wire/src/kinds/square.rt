@@ -12,9 +12,8 @@ ghost use Rattle.da_wire.specs.declared.frames.Frame.TheVariants as FrameOf;
 
 use crate::codec::appending::put;
 use crate::codec::fields::{share_of, u16_at};
-use crate::codec::sizes::WIDTH_SIZE;
+use crate::codec::sizes::{SHARE_SIZE, WIDTH_SIZE};
 use namespace_id::{Share, is_width, shares_law};
-use share_split::SHARE_SIZE;
 use square_layout::Square;
 use std::alloc::{AllocError, Global};
 

@@ -1,6 +1,6 @@
 use Rattle.std.proofs.Common.{length, ap, arith}
 use Rattle.namespace_id.specs.Cells.{CellList}
-use Rattle.da_wire.proofs.kinds.PayloadSizes.{length-missing}
+use Rattle.da_wire.proofs.kinds.MissingForm.{length-missing}
 use Rattle.da_wire.proofs.kinds.missing.put_missing.Goals as goal
 
 pub overflow_cast-len : goal.overflow_cast-len
