@@ -11,10 +11,11 @@ use Rattle.axis_roots.specs.Grids.{IsHeaderOf}
 use Rattle.axis_roots.specs.Own.{IsOwn}
 use Rattle.axis_roots.specs.Openings.{IsProved}
 use Rattle.da_wire.specs.Spelling.{message_kind}
+use Rattle.da_wire.specs.Reading.{Raw}
+use Rattle.da_wire.specs.kinds.Message.{message_at}
 use Rattle.da_wire.specs.Laws.{MessageIsSpelled}
 use Rattle.std.specs.declared.option.Option.{Option}
 use Rattle.data_header.specs.Headers.{Roots, AreRoots}
-use Rattle.da_wire.specs.Reading.{Raw, message_at}
 use Rattle.da_wire.specs.Frames.{frames_of, bad_frame, message_in}
 use Rattle.da_cli.specs.declared.status.Status.{Status}
 use Rattle.da_cli.specs.declared.status.Status.TheVariants.{BadInput}

@@ -10,7 +10,10 @@ use Rattle.da_wire.specs.declared.frames.Frame.TheVariants.{Header, Square, Bloc
 use Rattle.da_wire.specs.declared.frames.FrameError.{FrameError}
 use Rattle.da_wire.specs.declared.frames.FrameError.TheVariants.{Truncated, BadKind, TooLong, BadPayload, Trailing, NoMemory}
 use Rattle.da_wire.specs.Spelling.{max_payload, header_kind, square_kind, block_kind}
-use Rattle.da_wire.specs.Reading.{Raw, raw_of, promised, is_kind, value_at, valued, value_of, tested_raw, ended, only_of, header_at, square_at, block_at, Reads}
+use Rattle.da_wire.specs.Reading.{Raw, raw_of, promised, is_kind, value_at, valued, value_of, tested_raw, ended, only_of, Reads}
+use Rattle.da_wire.specs.kinds.Header.{header_at}
+use Rattle.da_wire.specs.kinds.Square.{square_at}
+use Rattle.da_wire.specs.kinds.Block.{block_at}
 use Rattle.da_cli.specs.Single.{header_of, square_of, block_of, single, header_in, square_in, block_in, unread_of, ReadsSingle}
 
 -- a value that an answer has is of a kind, and an answer without a value isn't want of memory

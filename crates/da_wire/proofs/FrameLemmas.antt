@@ -10,26 +10,35 @@ use Rattle.da_wire.specs.declared.frames.Frame.{Frame}
 use Rattle.da_wire.specs.declared.frames.Frame.TheVariants.{Header, Square, Message, Missing, Sample, Request, Block}
 use Rattle.da_wire.specs.declared.frames.FrameError.{FrameError}
 use Rattle.da_wire.specs.declared.frames.FrameError.TheVariants.{Truncated, BadKind}
-use Rattle.da_wire.specs.Spelling.{max_payload, frame, spelled, spelling, asks_for_zero, IsFrame, header_kind, square_kind, message_kind, missing_kind, sample_kind, request_kind, block_kind, header_payload, square_payload, message_payload, missing_payload, sample_payload, request_payload, block_payload}
+use Rattle.da_wire.specs.Spelling.{max_payload, frame, spelled, spelling, IsFrame, header_kind, square_kind, message_kind, missing_kind, sample_kind, request_kind, block_kind}
+use Rattle.da_wire.specs.kinds.Block.{asks_for_zero, block_payload}
+use Rattle.da_wire.specs.kinds.Header.{header_payload}
+use Rattle.da_wire.specs.kinds.Square.{square_payload}
+use Rattle.da_wire.specs.kinds.Message.{message_payload}
+use Rattle.da_wire.specs.kinds.Missing.{missing_payload}
+use Rattle.da_wire.specs.kinds.Requests.{sample_payload, request_payload}
 use Rattle.da_wire.specs.Reading.{Raw, raw_of, is_kind, value_at, valued, value_of, tested_raw, tested_frame, frame_of}
 use Rattle.da_wire.specs.Frames.{ok_of}
 use Rattle.da_wire.specs.Writing.{kind_of, AppendsSpelling, IsReadBack, appended}
 use Rattle.da_wire.specs.Laws.{SpelledIsRead, ReadIsSpelled, OneSpelling, IsSpelledFront}
-use Rattle.da_wire.proofs.ReaderLemmas.{if_false}
+use Rattle.da_wire.proofs.codec.Readers.{if_false}
 use Rattle.da_wire.proofs.RawLemmas.{length-frame, raw_again, raw_takes}
-use Rattle.da_wire.proofs.ValueLemmas.{value_takes}
-use Rattle.da_wire.proofs.WrittenLemmas.{IsWritten, value_again}
+use Rattle.da_wire.proofs.kinds.Form.{IsWritten}
+use Rattle.da_wire.proofs.kinds.Forms.{value_takes, value_again}
 
+-- what reading a frame gives: a value and the offset after it, or a refusal
 abbrev pub Answer : Type 0
 Answer = Result (Frame × ℕ) FrameError
 
 -- ---- the kind is the first byte of a spelling
 
+-- a spelling begins with the byte of its kind
 head_of : (kind : ℕ) (payload text : List ℕ) → spelled kind payload ≡ Some text → slice_index text 0 ≡ kind
 head_of kind payload text e =
     let g = if_false (ltb max_payload (length payload)) (Some (frame kind payload)) text e in
     ap (λ (l : List ℕ). slice_index l 0) (sym (same_Some (frame kind payload) text g.1))
 
+-- a spelling begins with the byte of the kind of its value
 head_is : (value : Frame) (text : List ℕ) → spelling value ≡ Some text → slice_index text 0 ≡ kind_of value
 head_is (Header h) text e = head_of header_kind (header_payload h) text e
 head_is (Square s) text e = head_of square_kind (square_payload s) text e
@@ -43,6 +52,7 @@ head_is (Block b) text e =
 
 -- ---- the two tests before a frame is read
 
+-- where all tests are passed, what is behind them is answered
 tests_hold : (none a b : Bool) (empty wrong : FrameError) (read : Result Raw FrameError) → none ≡ false → a ≡ true → b ≡ true
     → cond none (Err empty) (cond (a && b) read (Err wrong)) ≡ read
 tests_hold true a b empty wrong read p q r = absurd cc
@@ -50,6 +60,7 @@ tests_hold false false b empty wrong read p q r = absurd cc
 tests_hold false true false empty wrong read p q r = absurd cc
 tests_hold false true true empty wrong read p q r = refl
 
+-- where a frame is answered, all tests were passed
 tests_held : (none a b : Bool) (empty wrong : FrameError) (read : Result Raw FrameError) (f : Raw)
     → cond none (Err empty) (cond (a && b) read (Err wrong)) ≡ Ok f → (b ≡ true) × (read ≡ Ok f)
 tests_held true a b empty wrong read f e = absurd cc
@@ -57,11 +68,13 @@ tests_held false false b empty wrong read f e = absurd cc
 tests_held false true true empty wrong read f e = (refl, e)
 tests_held false true false empty wrong read f e = absurd cc
 
+-- bytes that have a first one are not none
 some_bytes : (byte : ℕ) (rest : List ℕ) → eqb (length (byte ∷ rest)) 0 ≡ false
 some_bytes byte rest = grind (arith, nat_tests)
 
 -- ---- spelled, then read
 
+-- a frame whose kind passes the test and whose payload is read is read, whatever follows it
 tested_frame_read : (test : ℕ → Bool) (at kind : ℕ) (payload rest : List ℕ) (value : Frame) → is_kind kind ≡ true → test kind ≡ true → length payload ≤ max_payload
     → value_at kind payload ≡ Some value → tested_frame test at (frame kind payload ++ rest) ≡ Ok (value, at + length (frame kind payload))
 unfolding tested_raw
@@ -89,6 +102,7 @@ tested_read test value text rest at passes is e =
     subst (λ (l : List ℕ). tested_frame test at (l ++ rest) ≡ Ok (value, at + length l)) w.text_is
     (tested_frame_read test at w.kind w.payload rest value w.kind_is (ap test head ∙ passes) w.few w.read)
 
+-- what was spelled is read, whatever follows it
 pub spelled_is_read : SpelledIsRead
 spelled_is_read value text rest at is e = tested_read (λ kind. true) value text rest at refl is e
 
@@ -120,6 +134,7 @@ valued_some at f (Some v) value next e =
     let same = some_pair_parts v value (at + f.size) next (ap (λ (r : Answer). ok_of r) e) in
     (ap (λ (x : Frame). Some x) same.0, same.1)
 
+-- a value that is read is that of a frame of any kind
 raw_some : (at : ℕ) (r : Result Raw FrameError) (value : Frame) (next : ℕ) → value_of at r ≡ Ok (value, next)
     → (f : Raw) × (r ≡ Ok f) × (value_at f.kind f.payload ≡ Some value) × (at + f.size ≡ next)
 raw_some at (Err why) value next e = absurd cc
@@ -153,11 +168,13 @@ tested_spelled test value at next bytes fits e =
       ap test (sym first) ∙ h.0,
     )
 
+-- what is read is spelled so at the front of the bytes
 pub read_is_spelled : ReadIsSpelled
 read_is_spelled value at next bytes fits e = (tested_spelled (λ kind. true) value at next bytes fits e).0
 
 -- ---- one spelling
 
+-- no spelling is a proper prefix of another, and two values have two spellings
 pub one_spelling : OneSpelling
 one_spelling value other text more is other_is e other_e =
     let short : frame_of 0 (text ++ more) ≡ Ok (value, 0 + length text) = spelled_is_read value text more 0 is e in

@@ -10,18 +10,21 @@ use Rattle.da_wire.specs.Spelling.{max_payload, frame}
 use Rattle.da_wire.specs.Reading.{Raw, promised, raw_of}
 use Rattle.da_wire.specs.Frames.{ok_of, raw_in, frames_of, bad_frame, IsRaw}
 use Rattle.da_wire.specs.Laws.{FramesAreTheFile, FilesAreFrames, BadFrameIsFirst, RawIsFrame}
-use Rattle.da_wire.proofs.ReaderLemmas.{ok_some, map_some}
+use Rattle.da_wire.proofs.codec.Readers.{ok_some, map_some}
 use Rattle.da_wire.proofs.RawLemmas.{length-frame, raw_again, raw_takes}
 use Rattle.da_wire.proofs.ListedLemmas.{IsFront, IsReader, walk_again, stop_none, walked, walked_all, walked_some}
 
 -- ---- one frame
 
+-- the bytes of a frame of any kind
 abbrev pub raw_text : Raw → List ℕ
 raw_text raw = frame raw.kind raw.payload
 
+-- a frame of any kind is read, whatever follows it
 pub raw_read : (at : ℕ) (f : Raw) (rest : List ℕ) → IsRaw f → raw_of at (raw_text f ++ rest) ≡ Ok f
 raw_read at f rest is = raw_again at f.kind f.payload rest is.payload ∙ ap (λ (n : ℕ). Ok (record { kind = f.kind; payload = f.payload; size = n })) (sym is.size)
 
+-- a frame of any kind is at the front exactly where the bytes begin with its bytes
 pub raw_is_frame : RawIsFrame
 raw_is_frame at bytes f fits = (
   λ e. let t = raw_takes at bytes f fits e in (t.is, t.rest, t.parts),
@@ -39,6 +42,7 @@ ok_cond : {A E : Type 0} (b : Bool) (e f : E) (x y : Result A E) → ok_of x ≡
 ok_cond true e f x y h = refl
 ok_cond false e f x y h = h
 
+-- whether a frame of any kind stands at the front doesn't depend on the offset
 ok_of-raw : (at : ℕ) (bytes : List ℕ) → ok_of (raw_of at bytes) ≡ ok_of (raw_of 0 bytes)
 unfolding raw_of
 ok_of-raw at bytes =
@@ -46,12 +50,15 @@ ok_of-raw at bytes =
     (ok_cond (ltb max_payload (promised bytes)) (TooLong at) (TooLong 0) _ _
     (ok_cond (ltb (length bytes) (5 + promised bytes)) (Truncated at) (Truncated 0) _ _ refl))
 
+-- a frame that is read at some offset stands at the front
 pub raw_found : (at : ℕ) (bytes : List ℕ) (f : Raw) → raw_of at bytes ≡ Ok f → raw_in bytes ≡ Some (f, f.size)
 raw_found at bytes f e = ap (λ (o : Option Raw). option_map sized_raw o) (sym (ok_of-raw at bytes) ∙ ap ok_of e)
 
+-- where reading at some offset refuses, no frame stands at the front
 pub raw_missed : (at : ℕ) (bytes : List ℕ) (why : FrameError) → raw_of at bytes ≡ Err why → raw_in bytes ≡ None
 raw_missed at bytes why e = ap (λ (o : Option Raw). option_map sized_raw o) (sym (ok_of-raw at bytes) ∙ ap ok_of e)
 
+-- the bytes at the front of which a frame stands begin with its bytes
 raw_front : (bytes : List ℕ) (f : Raw) (n : ℕ) → AreBytes bytes → raw_in bytes ≡ Some (f, n) → IsFront Raw raw_text IsRaw bytes f n
 raw_front bytes f n fits e =
     let m = map_some sized_raw (ok_of (raw_of 0 bytes)) (f, n) e in
@@ -64,6 +71,7 @@ raw_front bytes f n fits e =
       parts = t.parts;
     }
 
+-- frames of any kind are read one after another
 reader : IsReader Raw raw_in raw_text IsRaw
 reader = record {
   again = λ f rest is. ap (λ (r : Result Raw FrameError). option_map sized_raw (ok_of r)) (raw_read 0 f rest is)
@@ -72,9 +80,11 @@ reader = record {
   some = λ f is. omega (arith, length-frame f.kind f.payload);
 }
 
+-- frames, one after another, are a file that is a list of them
 pub files_are_frames : FilesAreFrames
 files_are_frames frames all = (stop_none raw_in raw_text IsRaw reader 0 frames all, walk_again raw_in raw_text IsRaw reader frames all)
 
+-- a file that is a list of frames is these frames, one after another
 pub frames_are_the_file : FramesAreTheFile
 frames_are_the_file bytes fits e = walked_all raw_in raw_text IsRaw bytes (frames_of bytes) (bad_frame bytes) (walked raw_in raw_text IsRaw reader bytes fits) e
 
@@ -83,6 +93,7 @@ raw_none : (at : ℕ) (bytes : List ℕ) (r : Result Raw FrameError) → raw_in 
 raw_none at bytes (Err e) none is = (e, is)
 raw_none at bytes (Ok f) none is = absurd (none-some (f, f.size) (sym none ∙ raw_found at bytes f is))
 
+-- before the first place at which no frame stands there are frames alone
 pub bad_frame_is_first : BadFrameIsFirst
 bad_frame_is_first bytes at fits e =
     let s = walked_some raw_in raw_text IsRaw bytes (frames_of bytes) (bad_frame bytes) at (walked raw_in raw_text IsRaw reader bytes fits) e in

@@ -24,6 +24,7 @@ pub record IsReader (A : Type 0) (one : List ℕ → Option (A × ℕ)) (text : 
 
 -- ---- values as a file
 
+-- values that are written one after another are those that a walk finds
 pub walk_again : {A : Type 0} (one : List ℕ → Option (A × ℕ)) (text : A → List ℕ) (Is : A → Type 0) → IsReader A one text Is
     → (xs : List A) → AllByRecursion Is xs → walk_from one 0 (flat_map text xs) ≡ xs
 unfolding walk_from
@@ -35,6 +36,7 @@ walk_again {A} one text Is reader (x ∷ xs) all =
     ∙ ap (λ (l : List ℕ). x ∷ walk_from one 0 l) (drop_at (text x) rest (length (text x)) refl)
     ∙ ap (λ (l : List A). x ∷ l) (walk_again one text Is reader xs all.1)
 
+-- a walk over values that are written one after another stops nowhere
 pub stop_none : {A : Type 0} (one : List ℕ → Option (A × ℕ)) (text : A → List ℕ) (Is : A → Type 0) → IsReader A one text Is
     → (at : ℕ) (xs : List A) → AllByRecursion Is xs → stop_from one 0 at (flat_map text xs) ≡ None
 unfolding stop_from
@@ -95,6 +97,7 @@ walked_by {A} one text Is reader at bytes (Some x) some fits e later =
     subst (λ (l : List A). IsWalked A one text Is at bytes l stop) (sym (walk_on one bytes x.0 x.1 e long some)) more in
     subst (λ (o : Option ℕ). IsWalked A one text Is at bytes (walk_from one 0 bytes) o) (sym (stop_on one at bytes x.0 x.1 e long some)) found
 
+-- what a walk finds is at the front of the bytes, by recursion on a bound of their length
 walked_within : {A : Type 0} (one : List ℕ → Option (A × ℕ)) (text : A → List ℕ) (Is : A → Type 0) → IsReader A one text Is
     → (most at : ℕ) (bytes : List ℕ) → length bytes ≤ most → AreBytes bytes → IsWalked A one text Is at bytes (walk_from one 0 bytes) (stop_from one 0 at bytes)
 unfolding walk_from stop_from
@@ -104,6 +107,7 @@ walked_within one text Is reader (suc most) at (b ∷ bytes) short fits =
     walked_by one text Is reader at (b ∷ bytes) (one (b ∷ bytes)) (omega arith) fits refl
     (λ n some. walked_within one text Is reader most (at + n) (drop n (b ∷ bytes)) (omega (arith, length-drop n (b ∷ bytes))) (AreBytes-drop n (b ∷ bytes) fits))
 
+-- what a walk finds is at the front of the bytes, up to where it stops
 pub walked : {A : Type 0} (one : List ℕ → Option (A × ℕ)) (text : A → List ℕ) (Is : A → Type 0) → IsReader A one text Is
     → (bytes : List ℕ) → AreBytes bytes → IsWalked A one text Is 0 bytes (walk_from one 0 bytes) (stop_from one 0 0 bytes)
 walked one text Is reader bytes fits = walked_within one text Is reader (length bytes) 0 bytes (omega arith) fits
@@ -123,6 +127,7 @@ pub record IsStop (A : Type 0) (one : List ℕ → Option (A × ℕ)) (text : A 
   pub all : AllByRecursion Is xs
   pub none : one (drop at bytes) ≡ None
 
+-- where a walk stops, the values before stand in front of that place
 pub walked_some : {A : Type 0} (one : List ℕ → Option (A × ℕ)) (text : A → List ℕ) (Is : A → Type 0) (bytes : List ℕ) (xs : List A) (stop : Option ℕ) (at : ℕ)
     → IsWalked A one text Is 0 bytes xs stop → stop ≡ Some at → IsStop A one text Is bytes xs at
 walked_some one text Is bytes xs stop at w e = elim w.end [

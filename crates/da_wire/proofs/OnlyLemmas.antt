@@ -11,10 +11,12 @@ use Rattle.da_wire.specs.Writing.{kind_of}
 use Rattle.da_wire.specs.Laws.{OnlyIsSpelled, IsSpelledFront}
 use Rattle.da_wire.proofs.FrameLemmas.{Answer, tested_read, tested_spelled}
 
+-- a value that is answered behind a test passed it
 ended_cond : (b : Bool) (why : FrameError) (v value : Frame) → ◌≡◌ {A = Result Frame FrameError} (cond b (Err why) (Ok v)) (Ok value) → (b ≡ false) × (v ≡ value)
 ended_cond true why v value e = absurd cc
 ended_cond false why v value e = (refl, cc)
 
+-- a value that is answered as all of the bytes ends no earlier than they do
 ended_ok : (size : ℕ) (r : Answer) (value : Frame) → ended size r ≡ Ok value → (next : ℕ) × (r ≡ Ok (value, next)) × (size ≤ next)
 ended_ok size (Err why) value e = absurd cc
 ended_ok size (Ok x) value e =
@@ -32,6 +34,7 @@ only_spelled value bytes kinds fits e =
     let all : front.text ≡ bytes = sym (append-nil front.text) ∙ ap (λ (l : List ℕ). front.text ++ l) (sym (nil_from_length front.rest none)) ∙ sym front.parts in
     (front.value_is, front.spelled ∙ ap (λ (l : List ℕ). Some l) all, t.1)
 
+-- bytes that spell a value of one of these kinds are read as it
 pub spelled_only : (value : Frame) (bytes kinds : List ℕ) → IsFrame value → spelling value ≡ Some bytes → is_among kinds (kind_of value) ≡ true
     → only_of bytes kinds ≡ Ok value
 spelled_only value bytes kinds is e wanted =
@@ -40,6 +43,7 @@ spelled_only value bytes kinds is e wanted =
     (ap (λ (l : List ℕ). tested_frame (is_among kinds) 0 l) (sym (append-nil bytes)) ∙ tested_read (is_among kinds) value bytes [] 0 wanted is e)
     ∙ ap (λ (b : Bool). cond b (Err (Trailing (0 + length bytes))) (Ok value)) whole
 
+-- bytes are read as one frame exactly where they spell a value of one of these kinds
 pub only_is_spelled : OnlyIsSpelled
 only_is_spelled value bytes kinds fits =
     (only_spelled value bytes kinds fits, λ p. spelled_only value bytes kinds p.0 p.1 p.2)

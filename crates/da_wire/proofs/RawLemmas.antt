@@ -8,11 +8,12 @@ use Rattle.da_wire.specs.declared.frames.FrameError.TheVariants.{Truncated, TooL
 use Rattle.da_wire.specs.Spelling.{max_payload, frame}
 use Rattle.da_wire.specs.Reading.{Raw, promised, raw_of}
 use Rattle.da_wire.specs.Frames.{IsRaw}
-use Rattle.da_wire.proofs.NumberLemmas.{wide32}
-use Rattle.da_wire.proofs.ByteFieldLemmas.{AreBytes-rest}
+use Rattle.da_wire.proofs.codec.Numbers.{wide32}
+use Rattle.da_wire.proofs.codec.Strings.{AreBytes-rest}
 
 -- ---- three tests that must fail
 
+-- where a frame is answered, none of the three refusals held
 tests_failed : {A E : Type 0} (a b c : Bool) (x y z : E) (w v : A) → ◌≡◌ {A = Result A E} (cond a (Err x) (cond b (Err y) (cond c (Err z) (Ok w)))) (Ok v)
     → (a ≡ false) × (b ≡ false) × (c ≡ false) × (w ≡ v)
 tests_failed true b c x y z w v e = absurd cc
@@ -20,6 +21,7 @@ tests_failed false true c x y z w v e = absurd cc
 tests_failed false false true x y z w v e = absurd cc
 tests_failed false false false x y z w v e = (refl, refl, refl, cc)
 
+-- where none of the three refusals holds, the frame is answered
 tests_fail : {A E : Type 0} (a b c : Bool) (x y z : E) (w : A) → a ≡ false → b ≡ false → c ≡ false
     → ◌≡◌ {A = Result A E} (cond a (Err x) (cond b (Err y) (cond c (Err z) (Ok w)))) (Ok w)
 tests_fail true b c x y z w p q r = absurd cc
@@ -33,14 +35,17 @@ tests_fail false false false x y z w p q r = refl
 abbrev raw : ℕ → ℕ → List ℕ → Raw
 raw kind size behind = record { kind = kind; payload = take size behind; size = 5 + size }
 
+-- the frame of any kind that has this payload
 abbrev framed : ℕ → List ℕ → Raw
 framed kind payload = record { kind = kind; payload = payload; size = 5 + length payload }
 
+-- a frame has five bytes more than its payload
 pub length-frame : (kind : ℕ) (payload : List ℕ) → length (frame kind payload) ≡ 5 + length payload
 length-frame kind payload =
     let four : length (to_be_bytes w32 (length payload)) ≡ 4 = refl in
     omega (arith, length-append (to_be_bytes w32 (length payload)) payload, four)
 
+-- a frame whose payload is within the limit is read, whatever follows it
 pub raw_again : (at kind : ℕ) (payload rest : List ℕ) → length payload ≤ max_payload → raw_of at (frame kind payload ++ rest) ≡ Ok (framed kind payload)
 unfolding raw_of
 raw_again at kind payload rest few =
@@ -78,6 +83,7 @@ sized after n fits long is =
     let all : take 4 after ++ drop 4 after ≡ after = take-append-drop 4 after in
     (len, sym (both ∙ all))
 
+-- bytes that begin with a kind, a length within the limit and so many bytes begin with a frame
 raw_front : (kind : ℕ) (after : List ℕ) (n : ℕ) → AreBytes (kind ∷ after) → n ≤ max_payload → 5 + n ≤ length (kind ∷ after) → n ≡ from_be_bytes w32 (take 4 after)
     → IsRawFront (kind ∷ after) (raw kind n (drop 4 after))
 raw_front kind after n fits few long is =
@@ -93,6 +99,7 @@ raw_front kind after n fits few long is =
       rest_fits = AreBytes-drop n (drop 4 after) behind_fits;
     }
 
+-- bytes at whose front a frame of any kind is read begin with its bytes
 pub raw_takes : (at : ℕ) (bytes : List ℕ) (f : Raw) → AreBytes bytes → raw_of at bytes ≡ Ok f → IsRawFront bytes f
 unfolding raw_of
 raw_takes at [] f fits e =

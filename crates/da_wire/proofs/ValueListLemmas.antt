@@ -13,7 +13,7 @@ use Rattle.da_wire.specs.Reading.{Raw, is_among, value_at, valued, value_of, tes
 use Rattle.da_wire.specs.Frames.{ok_of}
 use Rattle.da_wire.specs.Values.{value_in, values_of, bad_value, text_of, IsValue}
 use Rattle.da_wire.specs.Laws.{ValuesAreTheFile, FilesAreValues, BadValueIsFirst, IsSpelledFront}
-use Rattle.da_wire.proofs.ReaderLemmas.{ok_some}
+use Rattle.da_wire.proofs.codec.Readers.{ok_some}
 use Rattle.da_wire.proofs.FrameLemmas.{Answer, spelled_some, tested_read, tested_spelled}
 use Rattle.da_wire.proofs.ListedLemmas.{IsFront, IsReader, walk_again, stop_none, walked, walked_all, walked_some}
 
@@ -22,6 +22,7 @@ text_is : (o : Option (List ℕ)) → IsSome o → o ≡ Some (option_map_or (λ
 text_is None some = absurd cc
 text_is (Some text) some = refl
 
+-- a value of one of these kinds that is spelled is read, whatever follows it
 value_again : (kinds : List ℕ) (value : Frame) (rest : List ℕ) → IsValue kinds value
     → value_in kinds (text_of value ++ rest) ≡ Some (value, length (text_of value))
 value_again kinds value rest is =
@@ -29,6 +30,7 @@ value_again kinds value rest is =
     ap (λ (r : Answer). ok_of r) (tested_read (is_among kinds) value (text_of value) rest 0 is.kind is.is (text_is (spelling value) is.spelled))
     ∙ ap (λ (n : ℕ). Some (value, n)) all
 
+-- bytes at whose front such a value is read begin with its spelling
 value_front : (kinds : List ℕ) (bytes : List ℕ) (value : Frame) (next : ℕ) → AreBytes bytes → value_in kinds bytes ≡ Some (value, next)
     → IsFront Frame text_of (IsValue kinds) bytes value next
 value_front kinds bytes value next fits e =
@@ -46,13 +48,16 @@ value_front kinds bytes value next fits e =
 text_some : (kinds : List ℕ) (value : Frame) → IsValue kinds value → 0 < length (text_of value)
 text_some kinds value is = spelled_some value (text_of value) is.is (text_is (spelling value) is.spelled)
 
+-- values of these kinds are read one after another
 reader : (kinds : List ℕ) → IsReader Frame (value_in kinds) text_of (IsValue kinds)
 reader kinds = record { again = value_again kinds; takes = value_front kinds; some = text_some kinds }
 
+-- spellings of such values, one after another, are a file that is a list of them
 pub files_are_values : FilesAreValues
 files_are_values kinds values all =
     (stop_none (value_in kinds) text_of (IsValue kinds) (reader kinds) 0 values all, walk_again (value_in kinds) text_of (IsValue kinds) (reader kinds) values all)
 
+-- a file that is a list of such values is their spellings, one after another
 pub values_are_the_file : ValuesAreTheFile
 values_are_the_file kinds bytes fits e =
     walked_all (value_in kinds) text_of (IsValue kinds) bytes (values_of kinds bytes) (bad_value kinds bytes) (walked (value_in kinds) text_of (IsValue kinds) (reader kinds) bytes fits) e
@@ -69,6 +74,7 @@ value_none kinds at bytes (Ok x) fits none is =
     let never : None ≡ Some (x.0, 0 + length front.text) = sym none ∙ ap (λ (r : Answer). ok_of r) read in
     absurd (none-some (x.0, 0 + length front.text) never)
 
+-- before the first place at which no such value stands there are such values alone
 pub bad_value_is_first : BadValueIsFirst
 bad_value_is_first kinds bytes at fits e =
     let s = walked_some (value_in kinds) text_of (IsValue kinds) bytes (values_of kinds bytes) (bad_value kinds bytes) at (walked (value_in kinds) text_of (IsValue kinds) (reader kinds) bytes fits) e in
@@ -99,6 +105,7 @@ pub size_found : (o : Option (Frame × ℕ)) (n : ℕ) → Some n ≡ option_map
 size_found None n e = absurd cc
 size_found (Some x) n e = (x.0, ap (λ (m : ℕ). Some (x.0, m)) (sym (same_Some n x.1 e)))
 
+-- where no length was found, there is no value
 pub size_missed : (o : Option (Frame × ℕ)) → None ≡ option_map (λ (x : Frame × ℕ). x.1) o → o ≡ None
 size_missed None e = refl
 size_missed (Some x) e = absurd cc

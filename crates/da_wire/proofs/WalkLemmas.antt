@@ -1,4 +1,4 @@
--- Lemmas on walking over values that are read one after another.
+-- Walking over bytes: a value at the front, none at the front, and no bytes left.
 use Rattle.std.proofs.Common.{◌≡◌, ◌∙◌, ℕ, zero, suc, ◌+◌, ◌-◌, ◌<◌, ◌≤◌, List, [], ◌∷◌, length, length-drop, take, drop, Option, Some, None, refl, ap, ap₂, arith}
 use Rattle.std.specs.Option.{option_map_or}
 use Rattle.std.proofs.lemmas.List.{take_all}
@@ -11,6 +11,7 @@ walk_skip one zero bytes = refl
 walk_skip one (suc n) [] = refl
 walk_skip one (suc n) (b ∷ bytes) = walk_skip one n bytes
 
+-- a search for the first bad place passes over the bytes of a value before
 stop_skip : {A : Type 0} (one : List ℕ → Option (A × ℕ)) (n at : ℕ) (bytes : List ℕ) → stop_from one n at bytes ≡ stop_from one 0 (at + n) (drop n bytes)
 unfolding stop_from
 stop_skip one zero at bytes = let e : at ≡ at + 0 = omega arith in ap (λ (k : ℕ). stop_from one 0 k bytes) e
@@ -19,17 +20,20 @@ stop_skip one (suc n) at (b ∷ bytes) =
     let e : suc at + n ≡ at + suc n = omega arith in
     stop_skip one n (suc at) bytes ∙ ap (λ (k : ℕ). stop_from one 0 k (drop n bytes)) e
 
+-- leaving out one byte and then n - 1 leaves out n
 drop_one : (n : ℕ) (bytes : List ℕ) → 0 < n → 0 < length bytes → drop (n - 1) (drop 1 bytes) ≡ drop n bytes
 drop_one zero bytes h k = absurd (omega arith)
 drop_one (suc n) [] h k = absurd (omega arith)
 drop_one (suc n) (b ∷ bytes) h k = let e : suc n - 1 ≡ n = omega arith in ap (λ (m : ℕ). drop m bytes) e
 
+-- what stands at the front decides where the first bad place is
 stop_front : {A : Type 0} (one : List ℕ → Option (A × ℕ)) (at : ℕ) (bytes : List ℕ) (o : Option (A × ℕ)) → 0 < length bytes → one bytes ≡ o
     → stop_from one 0 at bytes ≡ option_map_or (λ x. stop_from one (x.1 - 1) (suc at) (drop 1 bytes)) o (Some at)
 unfolding stop_from
 stop_front one at [] o h e = absurd (omega arith)
 stop_front {A} one at (b ∷ bytes) o h e = ap (λ (r : Option (A × ℕ)). option_map_or (λ x. stop_from one (x.1 - 1) (suc at) bytes) r (Some at)) e
 
+-- what stands at the front decides what a walk finds first
 walk_front : {A : Type 0} (one : List ℕ → Option (A × ℕ)) (bytes : List ℕ) (o : Option (A × ℕ)) → 0 < length bytes → one bytes ≡ o
     → walk_from one 0 bytes ≡ option_map_or (λ x. x.0 ∷ walk_from one (x.1 - 1) (drop 1 bytes)) o []
 unfolding walk_from
@@ -45,6 +49,7 @@ stop_on one at bytes x n e some h =
     ∙ stop_skip one (n - 1) (suc at) (drop 1 bytes)
     ∙ ap₂ (λ (k : ℕ) (l : List ℕ). stop_from one 0 k l) next (drop_one n bytes some h)
 
+-- a walk finds the value at the front, and goes on behind it
 pub walk_on : {A : Type 0} (one : List ℕ → Option (A × ℕ)) (bytes : List ℕ) (x : A) (n : ℕ) → one bytes ≡ Some (x, n) → 0 < n → 0 < length bytes
     → walk_from one 0 bytes ≡ x ∷ walk_from one 0 (drop n bytes)
 walk_on {A} one bytes x n e some h =
@@ -55,6 +60,7 @@ walk_on {A} one bytes x n e some h =
 pub stop_here : {A : Type 0} (one : List ℕ → Option (A × ℕ)) (at : ℕ) (bytes : List ℕ) → one bytes ≡ None → 0 < length bytes → stop_from one 0 at bytes ≡ Some at
 stop_here one at bytes e h = stop_front one at bytes None h e
 
+-- a walk finds nothing where no value stands at the front
 pub walk_stop : {A : Type 0} (one : List ℕ → Option (A × ℕ)) (bytes : List ℕ) → one bytes ≡ None → walk_from one 0 bytes ≡ []
 unfolding walk_from
 walk_stop one [] e = refl

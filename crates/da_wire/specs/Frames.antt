@@ -1,9 +1,10 @@
 -- Files that are lists of frames, of which only the framing counts (docs/FORMATS.md).
-use Rattle.std.specs.Prelude.{◌≡◌, ◌<◌, ◌≤◌, ℕ, zero, suc, ◌+◌, ◌-◌, ◌==◌, List, [], ◌∷◌, length, Option, Some, None, Result, Ok, Err, if◌then◌else◌}
+use Rattle.std.specs.Prelude.{◌≡◌, ◌<◌, ◌≤◌, ℕ, ◌+◌, ◌==◌, List, length, Option, Some, None, Result, Ok, Err, if◌then◌else◌}
 use Rattle.std.specs.List.{flat_map}
 use Rattle.std.specs.Option.{option_map}
 use Rattle.da_wire.specs.Spelling.{max_payload, frame, message_kind}
-use Rattle.da_wire.specs.Reading.{Raw, raw_of, message_at}
+use Rattle.da_wire.specs.Reading.{Raw, raw_of}
+use Rattle.da_wire.specs.kinds.Message.{message_at}
 use Rattle.da_wire.specs.Walks.{walk_from, stop_from}
 use Rattle.axis_roots.specs.declared.message.messages.Message.{Message}
 

@@ -6,8 +6,9 @@ use Rattle.axis_roots.specs.declared.message.messages.Message.{Message}
 use Rattle.axis_roots.specs.Messages.{IsMessage}
 use Rattle.da_wire.specs.declared.frames.Frame.{Frame}
 use Rattle.da_wire.specs.declared.frames.FrameError.{FrameError}
-use Rattle.da_wire.specs.Spelling.{frame, message_payload, spelling, IsFrame}
-use Rattle.da_wire.specs.Reading.{Raw, raw_of, message_at, is_among, tested_frame, frame_of, only_of}
+use Rattle.da_wire.specs.Spelling.{frame, spelling, IsFrame}
+use Rattle.da_wire.specs.kinds.Message.{message_payload, message_at}
+use Rattle.da_wire.specs.Reading.{Raw, raw_of, is_among, tested_frame, frame_of, only_of}
 use Rattle.da_wire.specs.Writing.{kind_of}
 use Rattle.da_wire.specs.Frames.{frames_of, bad_frame, frames_bytes, IsRaw}
 use Rattle.da_wire.specs.Values.{values_of, bad_value, values_bytes, IsValue}
@@ -43,15 +44,16 @@ OnlyIsSpelled = (value : Frame) (bytes kinds : List ℕ) → AreBytes bytes
     → (only_of bytes kinds ≡ Ok value)
     ↔ (IsFrame value × (spelling value ≡ Some bytes) × (is_among kinds (kind_of value) ≡ true))
 
--- the spelling of a value of such a kind is read so, whatever its bytes
+-- the spelling of a value of one of some kinds is read as the one frame, whatever its bytes
 abbrev pub SpelledIsOnly : Type 0
 SpelledIsOnly = (value : Frame) (bytes kinds : List ℕ) → IsFrame value → spelling value ≡ Some bytes
     → is_among kinds (kind_of value) ≡ true → only_of bytes kinds ≡ Ok value
 
--- the same of the payloads of messages
+-- the payload of a message is read as the message
 abbrev pub MessageIsRead : Type 0
 MessageIsRead = (m : Message) → IsMessage m → message_at (message_payload m) ≡ Some m
 
+-- a message that is read of a payload is what the payload spells
 abbrev pub MessageIsSpelled : Type 0
 MessageIsSpelled = (payload : List ℕ) (m : Message) → AreBytes payload → message_at payload ≡ Some m
     → IsMessage m × (payload ≡ message_payload m)
@@ -61,7 +63,7 @@ abbrev pub FramesAreTheFile : Type 0
 FramesAreTheFile = (bytes : List ℕ) → AreBytes bytes → bad_frame bytes ≡ None
     → (frames_bytes (frames_of bytes) ≡ bytes) × AllByRecursion IsRaw (frames_of bytes)
 
--- and frames, one after another, are such a file
+-- frames, one after another, are a file that is a list of frames
 abbrev pub FilesAreFrames : Type 0
 FilesAreFrames = (frames : List Raw) → AllByRecursion IsRaw frames
     → (bad_frame (frames_bytes frames) ≡ None) × (frames_of (frames_bytes frames) ≡ frames)
@@ -80,19 +82,20 @@ RawIsFrame = (at : ℕ) (bytes : List ℕ) (raw : Raw) → AreBytes bytes
 
 -- ---- files that are lists of frames in the grammar, of some kinds
 
--- such a file is just these values' spellings, one after another
+-- a file that is a list of frames of some kinds is just their values' spellings, one after another
 abbrev pub ValuesAreTheFile : Type 0
 ValuesAreTheFile = (kinds bytes : List ℕ) → AreBytes bytes → bad_value kinds bytes ≡ None
     → (values_bytes (values_of kinds bytes) ≡ bytes)
     × AllByRecursion (IsValue kinds) (values_of kinds bytes)
 
--- and such values' spellings, one after another, are such a file
+-- the spellings of values of some kinds, one after another, are a file that is a list of such frames
 abbrev pub FilesAreValues : Type 0
 FilesAreValues = (kinds : List ℕ) (values : List Frame) → AllByRecursion (IsValue kinds) values
     → (bad_value kinds (values_bytes values) ≡ None)
     × (values_of kinds (values_bytes values) ≡ values)
 
--- before the first place at which no such frame stands there are such frames alone, and there none stands
+-- before the first place at which no frame of some kinds stands there are such frames alone, and there
+-- none stands
 abbrev pub BadValueIsFirst : Type 0
 BadValueIsFirst = (kinds bytes : List ℕ) (at : ℕ) → AreBytes bytes → bad_value kinds bytes ≡ Some at
     → (at < length bytes) × (values_bytes (values_of kinds bytes) ≡ take at bytes)

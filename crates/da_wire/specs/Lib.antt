@@ -1,7 +1,7 @@
-pub mod Fields
+pub mod codec
+pub mod kinds
 pub mod Spelling
 pub mod Reading
-pub mod Steps
 pub mod Walks
 pub mod Frames
 pub mod Laws

@@ -4,8 +4,8 @@ use Rattle.std.specs.List.{flat_map}
 use Rattle.std.specs.Option.{option_map, option_map_or}
 use Rattle.da_wire.specs.declared.frames.Frame.{Frame}
 use Rattle.da_wire.specs.Spelling.{spelling, IsFrame}
-use Rattle.da_wire.specs.Writing.{kind_of}
 use Rattle.da_wire.specs.Reading.{is_among, tested_frame}
+use Rattle.da_wire.specs.Writing.{kind_of}
 use Rattle.da_wire.specs.Frames.{ok_of}
 use Rattle.da_wire.specs.Walks.{walk_from, stop_from}
 
@@ -13,7 +13,8 @@ use Rattle.da_wire.specs.Walks.{walk_from, stop_from}
 abbrev pub value_in : List ℕ → List ℕ → Option (Frame × ℕ)
 value_in kinds bytes = ok_of (tested_frame (is_among kinds) 0 bytes)
 
--- that value, and the bytes after its frame
+-- the value of the frame at the front that is in the grammar and of one of these kinds, and the bytes
+-- after it
 abbrev pub value_and_rest : List ℕ → List ℕ → Option (Frame × List ℕ)
 value_and_rest kinds bytes = option_map (λ x. (x.0, drop x.1 bytes)) (value_in kinds bytes)
 
@@ -22,8 +23,8 @@ value_and_rest kinds bytes = option_map (λ x. (x.0, drop x.1 bytes)) (value_in 
 abbrev pub values_of : List ℕ → List ℕ → List Frame
 values_of kinds bytes = walk_from (value_in kinds) 0 bytes
 
--- the offset of the first place at which no such frame stands though bytes are left, none where the file
--- is a list of such frames
+-- the offset of the first place at which no frame in the grammar and of one of these kinds stands though
+-- bytes are left, none where the file is a list of such frames
 abbrev pub bad_value : List ℕ → List ℕ → Option ℕ
 bad_value kinds bytes = stop_from (value_in kinds) 0 0 bytes
 

@@ -3,8 +3,15 @@ use Rattle.std.specs.Prelude.{◌≡◌, ◌≤◌, ◌<◌, ◌^◌, ℕ, List,
 use Rattle.da_wire.specs.declared.frames.Frame.{Frame}
 use Rattle.da_wire.specs.declared.frames.Frame.TheVariants.{Header, Square, Message, Missing, Sample, Request, Block}
 use Rattle.da_wire.specs.Reading.{frame_of}
-use Rattle.da_wire.specs.Spelling.{max_payload, frame, spelling, header_kind, square_kind, message_kind, missing_kind, sample_kind, request_kind, block_kind, header_payload, square_payload, message_payload, missing_payload, sample_payload, request_payload, block_payload}
+use Rattle.da_wire.specs.Spelling.{max_payload, frame, spelling, header_kind, square_kind, message_kind, missing_kind, sample_kind, request_kind, block_kind}
+use Rattle.da_wire.specs.kinds.Header.{header_payload}
+use Rattle.da_wire.specs.kinds.Square.{square_payload}
+use Rattle.da_wire.specs.kinds.Message.{message_payload}
+use Rattle.da_wire.specs.kinds.Missing.{missing_payload}
+use Rattle.da_wire.specs.kinds.Requests.{sample_payload, request_payload}
+use Rattle.da_wire.specs.kinds.Block.{block_payload}
 
+-- the byte of the kind of a value
 abbrev pub kind_of : Frame → ℕ
 kind_of (Header h) = header_kind
 kind_of (Square s) = square_kind
@@ -14,6 +21,7 @@ kind_of (Sample cell axis) = sample_kind
 kind_of (Request name) = request_kind
 kind_of (Block b) = block_kind
 
+-- the payload that a value is written as
 abbrev pub payload_of : Frame → List ℕ
 payload_of (Header h) = header_payload h
 payload_of (Square s) = square_payload s

@@ -7,7 +7,8 @@ ghost use Rattle.namespace_id.specs.Cells.{AreCells};
 ghost use Rattle.data_header.specs.Headers.{IsHeader};
 ghost use Rattle.share_split.specs.Blobs.{IsNamed};
 ghost use Rattle.square_layout.specs.Blocks.{IsBlock};
-ghost use Rattle.da_wire.specs.Spelling.{IsCell, IsFrame};
+ghost use Rattle.da_wire.specs.codec.Texts.{IsCell};
+ghost use Rattle.da_wire.specs.Spelling.{IsFrame};
 
 use crate::Frame;
 use axis_roots::message_law;

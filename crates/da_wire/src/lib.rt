@@ -4,12 +4,11 @@
 //! refusal of the stated order. A writer appends the one spelling.
 #![tactic(auto)]
 
-mod blocks;
 mod bounds;
-mod fields;
+mod codec;
 mod frames;
+mod kinds;
 mod laws;
-mod payloads;
 mod reading;
 #[cfg(test)]
 mod tests;
@@ -17,8 +16,8 @@ mod writing;
 
 pub use bounds::frame_law;
 pub use frames::{Frame, FrameError, RawFrame, SpellError};
+pub use kinds::message::message;
 pub use laws::{value_laws, wire_laws};
-pub use payloads::message;
 pub use reading::{
     MAX_PAYLOAD, bad_frame, bad_value, next_frame, next_value, raw, read_frame, read_only,
 };

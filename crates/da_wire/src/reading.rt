@@ -4,14 +4,18 @@ ghost use Rattle.std.specs.Prelude.{◌≡◌, ◌↔◌, suc, ◌+◌, ◌<◌,
 ghost use Rattle.std.specs.Option.{option_map};
 ghost use Rattle.namespace_id.specs.Answers.{Gives};
 ghost use Rattle.da_wire.specs.declared.frames.FrameError.TheVariants.{NoMemory};
-ghost use Rattle.da_wire.specs.Reading.{Reads, ReadsAt, raw_seen, raw_of, is_kind, value_at, value_of, is_among, tested_raw, frame_of, ended, only_of, GivesUnlessFull};
+ghost use Rattle.da_wire.specs.Reading.{Reads, ReadsAt, raw_seen, raw_of, is_kind, value_of_kind, value_at, value_of, is_among, tested_raw, frame_of, ended, only_of, GivesUnlessFull};
 ghost use Rattle.da_wire.specs.Frames.{frames_of, bad_frame};
 ghost use Rattle.da_wire.specs.Values.{value_in, value_and_rest, values_of, bad_value};
 
-use crate::blocks::{block, block_parts};
-use crate::payloads::{
-    header, header_parts, message, missing, missing_parts, request, sample, square, square_parts,
-};
+use crate::codec::sizes::HEAD_SIZE;
+use crate::kinds::Kind;
+use crate::kinds::block::{block, block_parts};
+use crate::kinds::header::{header, header_parts};
+use crate::kinds::message::message;
+use crate::kinds::missing::{missing, missing_parts};
+use crate::kinds::requests::{request, sample};
+use crate::kinds::square::{square, square_parts};
 use crate::{Frame, FrameError, RawFrame};
 use std::alloc::{AllocError, Global};
 
@@ -38,20 +42,20 @@ pub fn raw(bytes: &[u8], at: u64) -> Result<RawFrame<'_>, FrameError>
     ensures some { IfOk result (λ f. 5 ≤ f.size) }
     ensures within { IfOk result (λ f. f.size ≤ length bytes.now) }
 {
-    if bytes.len() < 5 {
+    if bytes.len() < HEAD_SIZE {
         return Err(FrameError::Truncated(at));
     }
     let size = u32::from_be_bytes([bytes[1], bytes[2], bytes[3], bytes[4]]);
     if size > MAX_PAYLOAD {
         return Err(FrameError::TooLong(at));
     }
-    if bytes.len() < 5 + size as usize {
+    if bytes.len() < HEAD_SIZE + size as usize {
         return Err(FrameError::Truncated(at));
     }
     Ok(RawFrame {
         kind: bytes[0],
-        payload: &bytes[5..5 + size as usize],
-        size: 5 + u64::from(size),
+        payload: &bytes[HEAD_SIZE..HEAD_SIZE + size as usize],
+        size: HEAD_SIZE as u64 + u64::from(size),
     })
 }
 
@@ -59,40 +63,58 @@ pub fn raw(bytes: &[u8], at: u64) -> Result<RawFrame<'_>, FrameError>
 fn is_kind(kind: u8) -> bool
     ensures { result ≡ is_kind kind }
 {
-    matches!(kind, b'H' | b'S' | b'M' | b'K' | b'Q' | b'P' | b'V')
+    Kind::of(kind).is_some()
 }
 
 /// The value of this kind whose payload the bytes are.
+fn value_of_kind(alloc: Global, kind: Kind, payload: &[u8]) -> Result<Option<Frame>, AllocError>
+    ensures { GivesUnlessFull result (value_of_kind kind payload.now) }
+{
+    match kind {
+        Kind::Header => Ok(header(alloc, payload)?.map(Frame::Header)),
+        Kind::Square => Ok(square(alloc, payload)?.map(Frame::Square)),
+        Kind::Message => Ok(message(payload).map(Frame::Message)),
+        Kind::Missing => Ok(missing(alloc, payload)?.map(Frame::Missing)),
+        Kind::Sample => Ok(sample(payload).map(|(cell, axis)| Frame::Sample(cell, axis))),
+        Kind::Request => Ok(request(payload).map(Frame::Request)),
+        Kind::Block => Ok(block(alloc, payload)?.map(Frame::Block)),
+    }
+}
+
+/// The value of the kind that a byte is, whose payload the bytes are.
 #[tactic(auto, unfolding(crate::specs::Reading::value_at))]
 fn value(alloc: Global, kind: u8, payload: &[u8]) -> Result<Option<Frame>, AllocError>
     ensures { GivesUnlessFull result (value_at kind payload.now) }
 {
-    match kind {
-        b'H' => Ok(header(alloc, payload)?.map(Frame::Header)),
-        b'S' => Ok(square(alloc, payload)?.map(Frame::Square)),
-        b'M' => Ok(message(payload).map(Frame::Message)),
-        b'K' => Ok(missing(alloc, payload)?.map(Frame::Missing)),
-        b'Q' => Ok(sample(payload).map(|(cell, axis)| Frame::Sample(cell, axis))),
-        b'P' => Ok(request(payload).map(Frame::Request)),
-        b'V' => Ok(block(alloc, payload)?.map(Frame::Block)),
-        _ => Ok(None),
+    match Kind::of(kind) {
+        Some(kind) => value_of_kind(alloc, kind, payload),
+        None => Ok(None),
     }
 }
 
-/// Whether the payload is in the grammar of its kind. It takes no memory.
+/// Whether the payload is in the grammar of this kind. It takes no memory.
+fn is_in_form(kind: Kind, payload: &[u8]) -> bool
+    ensures { IsTrue result ↔ IsSome (value_of_kind kind payload.now) }
+{
+    match kind {
+        Kind::Header => header_parts(payload).is_some(),
+        Kind::Square => square_parts(payload).is_some(),
+        Kind::Message => message(payload).is_some(),
+        Kind::Missing => missing_parts(payload).is_some(),
+        Kind::Sample => sample(payload).is_some(),
+        Kind::Request => request(payload).is_some(),
+        Kind::Block => block_parts(payload).is_some(),
+    }
+}
+
+/// Whether the payload is in the grammar of the kind that a byte is. It takes no memory.
 #[tactic(auto, unfolding(crate::specs::Reading::value_at))]
 fn has_value(kind: u8, payload: &[u8]) -> bool
     ensures { IsTrue result ↔ IsSome (value_at kind payload.now) }
 {
-    match kind {
-        b'H' => header_parts(payload).is_some(),
-        b'S' => square_parts(payload).is_some(),
-        b'M' => message(payload).is_some(),
-        b'K' => missing_parts(payload).is_some(),
-        b'Q' => sample(payload).is_some(),
-        b'P' => request(payload).is_some(),
-        b'V' => block_parts(payload).is_some(),
-        _ => false,
+    match Kind::of(kind) {
+        Some(kind) => is_in_form(kind, payload),
+        None => false,
     }
 }
 

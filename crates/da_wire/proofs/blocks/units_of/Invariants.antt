@@ -1,8 +1,0 @@
-use Rattle.std.proofs.Common.{◌≡◌, ◌-◌}
-use Rattle.da_wire.specs.Fields.{text_at, many_at}
-use Rattle.da_wire.proofs.ManyLemmas.{after_some}
-use Rattle.da_wire.proofs.blocks.units_of.Given as goal
-
--- those so far and those that are left are all
-abbrev pub invariant-loop : goal.invariant-loop
-invariant-loop l = after_some l.units.items (many_at text_at (l.count - l.counter) l.rest) ≡ many_at text_at l.count l.bytes

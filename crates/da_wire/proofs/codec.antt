@@ -1,0 +1,12 @@
+pub mod SplitLoops
+pub mod Readers
+pub mod Numbers
+pub mod Strings
+pub mod Split
+pub mod Digests
+pub mod Cells
+pub mod Paths
+pub mod Many
+pub mod Texts
+pub mod Lists
+pub mod Lengths

@@ -1,0 +1,41 @@
+-- How long a payload is, and what its parts add to it.
+use Rattle.std.proofs.Common.{◌≡◌, ◌∙◌, ℕ, zero, suc, ◌+◌, ◌<◌, ◌≤◌, nat_lt, Bool, true, false, cond, List, [], ◌∷◌, ◌++◌, length, length-append, drop, get_or, Some, None, refl, sym, ap, arith}
+use Rattle.std.specs.List.{flat_map}
+use Rattle.std.proofs.lemmas.Bool.Decides.{nat_tests}
+use Rattle.da_wire.specs.Spelling.{max_payload, frame, spelled}
+
+-- a payload within the limit
+pub spelled_within : (kind n : ℕ) (payload : List ℕ) → n ≡ length payload → n ≤ max_payload → spelled kind payload ≡ Some (frame kind payload)
+spelled_within kind n payload e h =
+    let within : nat_lt max_payload (length payload) ≡ false = grind (arith, nat_tests) in
+    ap (λ (b : Bool). cond b None (Some (frame kind payload))) within
+
+-- a payload above the limit has no spelling
+pub spelled_beyond : (kind n : ℕ) (payload : List ℕ) → n ≡ length payload → max_payload < n → spelled kind payload ≡ None
+spelled_beyond kind n payload e h =
+    let beyond : nat_lt max_payload (length payload) ≡ true = grind (arith, nat_tests) in
+    ap (λ (b : Bool). cond b None (Some (frame kind payload))) beyond
+
+-- what an element adds, and then what the later ones do
+pub flat_here : {A : Type 0} (f : A → List ℕ) (xs : List A) (i : ℕ) (d : A) → i < length xs
+    → flat_map f (drop i xs) ≡ f (get_or xs i d) ++ flat_map f (drop (i + 1) xs)
+flat_here f [] i d h = absurd (omega arith)
+flat_here f (x ∷ xs) zero d h = refl
+flat_here f (x ∷ xs) (suc i) d h =
+    let next : suc i + 1 ≡ suc (i + 1) = omega arith in
+    flat_here f xs i d (omega arith) ∙ sym (ap (λ (k : ℕ). f (get_or xs i d) ++ flat_map f (drop k (x ∷ xs))) next)
+
+-- no more values than bytes
+pub count_few : {A : Type 0} (text : A → List ℕ) → ((x : A) → 0 < length (text x)) → (xs : List A) → length xs ≤ length (flat_map text xs)
+count_few text some [] = omega arith
+count_few text some (x ∷ xs) =
+    let sum : length (text x ++ flat_map text xs) ≡ length (text x) + length (flat_map text xs) = length-append (text x) (flat_map text xs) in
+    omega (arith, sum, some x, count_few text some xs)
+
+-- none of them longer than all
+pub part_few : {A : Type 0} (text : A → List ℕ) (xs : List A) (i : ℕ) (x : A) → i < length xs → x ≡ get_or xs i x → length (text x) ≤ length (flat_map text xs)
+part_few text [] i x h e = absurd (omega arith)
+part_few {A} text (x ∷ xs) zero y h e =
+    let same : length (text y) ≡ length (text x) = ap (λ (z : A). length (text z)) e in
+    omega (arith, same, length-append (text x) (flat_map text xs))
+part_few text (x ∷ xs) (suc i) y h e = omega (arith, part_few text xs i y (omega arith) e, length-append (text x) (flat_map text xs))

@@ -1,0 +1,120 @@
+-- Values that are read each where the one before ended: a loop that passes over them, and one that keeps
+-- them.
+use Rattle.std.proofs.Common.{◌≡◌, ◌∙◌, ℕ, suc, ◌+◌, ◌-◌, ◌<◌, ◌≤◌, List, [], ◌∷◌, ◌++◌, Option, Some, None, IsSome, refl, sym, ap, subst, arith, append_assoc, append-nil}
+use Rattle.namespace_id.specs.Answers.{Gives}
+use Rattle.da_wire.specs.codec.Fields.{◌>>=◌, many_at, read_items, read_rest}
+
+-- a reader's values with one more before them
+abbrev pub after_first : {A : Type 0} → A → Option (List A × List ℕ) → Option (List A × List ℕ)
+after_first x read = read >>= (λ others. Some (x ∷ others.0, others.1))
+
+-- a reader's values with some before them
+abbrev pub after_some : {A : Type 0} → List A → Option (List A × List ℕ) → Option (List A × List ℕ)
+after_some xs read = read >>= (λ others. Some (xs ++ others.0, others.1))
+
+-- no values are read of any bytes
+many_zero : {A : Type 0} (one : List ℕ → Option (A × List ℕ)) (bytes : List ℕ) → many_at one 0 bytes ≡ Some ([], bytes)
+unfolding many_at
+many_zero one bytes = refl
+
+-- reading one more value reads the first, and then the others
+many_suc : {A : Type 0} (one : List ℕ → Option (A × List ℕ)) (n : ℕ) (bytes : List ℕ) (x : A) (after : List ℕ) → one bytes ≡ Some (x, after)
+    → many_at one (suc n) bytes ≡ after_first x (many_at one n after)
+unfolding many_at
+many_suc {A} one n bytes x after e = ap (λ (r : Option (A × List ℕ)). r >>= (λ first. after_first first.0 (many_at one n first.1))) e
+
+-- where the first value can't be read, no values can
+many_suc_none : {A : Type 0} (one : List ℕ → Option (A × List ℕ)) (n : ℕ) (bytes : List ℕ) → one bytes ≡ None → many_at one (suc n) bytes ≡ None
+unfolding many_at
+many_suc_none {A} one n bytes e = ap (λ (r : Option (A × List ℕ)). r >>= (λ first. after_first first.0 (many_at one n first.1))) e
+
+-- the next of those that are left
+many_left : {A : Type 0} (one : List ℕ → Option (A × List ℕ)) (count i : ℕ) (rest : List ℕ) (x : A) (after : List ℕ) → i < count → one rest ≡ Some (x, after)
+    → many_at one (count - i) rest ≡ after_first x (many_at one (count - (i + 1)) after)
+many_left one count i rest x after h e =
+    let left : count - i ≡ suc (count - (i + 1)) = omega arith in
+    ap (λ (n : ℕ). many_at one n rest) left ∙ many_suc one (count - (i + 1)) rest x after e
+
+-- where the next of those that are left can't be read, no more can
+many_none : {A : Type 0} (one : List ℕ → Option (A × List ℕ)) (count i : ℕ) (rest : List ℕ) → i < count → one rest ≡ None → many_at one (count - i) rest ≡ None
+many_none one count i rest h e =
+    let left : count - i ≡ suc (count - (i + 1)) = omega arith in
+    ap (λ (n : ℕ). many_at one n rest) left ∙ many_suc_none one (count - (i + 1)) rest e
+
+-- where none are left, none are read
+many_done : {A : Type 0} (one : List ℕ → Option (A × List ℕ)) (count i : ℕ) (rest : List ℕ) → count ≤ i → many_at one (count - i) rest ≡ Some ([], rest)
+many_done one count i rest h =
+    let none : count - i ≡ 0 = omega arith in
+    ap (λ (n : ℕ). many_at one n rest) none ∙ many_zero one rest
+
+-- ---- what a call read
+
+-- it answers a value where one can be read, and that value
+pub gives_some : {X Y : Type 0} (view : X → Y) (answer : Option X) (read : Option Y) → Gives view answer read → IsSome read → IsSome answer
+gives_some view None read e some = subst (λ (r : Option _). IsSome r) e some
+gives_some view (Some x) read e some = refl
+
+-- the value that a call answers is the one that is read
+pub gives_value : {X Y : Type 0} (view : X → Y) (answer : Option X) (read : Option Y) (x : X) → Gives view answer read → answer ≡ Some x → read ≡ Some (view x)
+gives_value {X} view answer read x e is = subst (λ (a : Option X). Gives view a read) is e
+
+-- ---- a loop that passes over them
+
+-- a value in front changes nothing of the bytes after all
+rest_after_first : {A : Type 0} (x : A) (read : Option (List A × List ℕ)) → read_rest (after_first x read) ≡ read_rest read
+rest_after_first x None = refl
+rest_after_first x (Some r) = refl
+
+-- passing over the next value leaves the bytes after all as they are
+pub passed_more : {A : Type 0} (one : List ℕ → Option (A × List ℕ)) (count i : ℕ) (rest : List ℕ) (x : A) (after : List ℕ) (all : Option (List ℕ)) → i < count → one rest ≡ Some (x, after)
+    → read_rest (many_at one (count - i) rest) ≡ all → read_rest (many_at one (count - (i + 1)) after) ≡ all
+passed_more {A} one count i rest x after all h e done =
+    sym (ap (λ (r : Option (List A × List ℕ)). read_rest r) (many_left one count i rest x after h e) ∙ rest_after_first x (many_at one (count - (i + 1)) after)) ∙ done
+
+-- where the next value can't be read, there are no bytes after all
+pub passed_none : {A : Type 0} (one : List ℕ → Option (A × List ℕ)) (count i : ℕ) (rest : List ℕ) (all : Option (List ℕ)) → i < count → one rest ≡ None
+    → read_rest (many_at one (count - i) rest) ≡ all → all ≡ None
+passed_none {A} one count i rest all h e done = sym done ∙ ap (λ (r : Option (List A × List ℕ)). read_rest r) (many_none one count i rest h e)
+
+-- where none are left, the bytes at hand are those after all
+pub passed_end : {A : Type 0} (one : List ℕ → Option (A × List ℕ)) (count i : ℕ) (rest : List ℕ) (all : Option (List ℕ)) → count ≤ i
+    → read_rest (many_at one (count - i) rest) ≡ all → all ≡ Some rest
+passed_end {A} one count i rest all h done = sym done ∙ ap (λ (r : Option (List A × List ℕ)). read_rest r) (many_done one count i rest h)
+
+-- ---- a loop that keeps them
+
+-- a value may be kept before the others are read
+some_before : {A : Type 0} (xs : List A) (x : A) (read : Option (List A × List ℕ)) → after_some xs (after_first x read) ≡ after_some (xs ++ x ∷ []) read
+some_before xs x None = refl
+some_before {A} xs x (Some r) = ap (λ (l : List A). Some (l, r.1)) (sym (append_assoc xs (x ∷ []) r.0))
+
+-- keeping the next value leaves all values as they are
+pub kept_more : {A : Type 0} (one : List ℕ → Option (A × List ℕ)) (count i : ℕ) (rest : List ℕ) (xs : List A) (x : A) (after : List ℕ) (all : Option (List A × List ℕ)) → i < count → one rest ≡ Some (x, after)
+    → after_some xs (many_at one (count - i) rest) ≡ all → after_some (xs ++ x ∷ []) (many_at one (count - (i + 1)) after) ≡ all
+kept_more {A} one count i rest xs x after all h e done =
+    sym (ap (λ (r : Option (List A × List ℕ)). after_some xs r) (many_left one count i rest x after h e) ∙ some_before xs x (many_at one (count - (i + 1)) after)) ∙ done
+
+-- where none are left, the kept values are all
+pub kept_end : {A : Type 0} (one : List ℕ → Option (A × List ℕ)) (count i : ℕ) (rest : List ℕ) (xs : List A) (all : Option (List A × List ℕ)) → count ≤ i
+    → after_some xs (many_at one (count - i) rest) ≡ all → xs ≡ read_items all
+kept_end {A} one count i rest xs all h done =
+    let whole : all ≡ Some (xs ++ [], rest) = sym done ∙ ap (λ (r : Option (List A × List ℕ)). after_some xs r) (many_done one count i rest h) in
+    sym (ap (λ (r : Option (List A × List ℕ)). read_items r) whole ∙ append-nil xs)
+
+-- values that stand behind others were read
+some_read : {A : Type 0} (xs : List A) (read : Option (List A × List ℕ)) → IsSome (after_some xs read) → IsSome read
+some_read xs None some = some
+some_read xs (Some r) some = refl
+
+-- where one value and more are read, the first is
+one_some : {A : Type 0} (one : List ℕ → Option (A × List ℕ)) (n : ℕ) (bytes : List ℕ) (read : Option (A × List ℕ)) → one bytes ≡ read → IsSome (many_at one (suc n) bytes) → IsSome read
+one_some one n bytes None e some = subst (λ (r : Option _). IsSome r) (many_suc_none one n bytes e) some
+one_some one n bytes (Some x) e some = refl
+
+-- the next can be read where all can
+pub next_some : {A : Type 0} (one : List ℕ → Option (A × List ℕ)) (count i : ℕ) (rest : List ℕ) (xs : List A) (all : Option (List A × List ℕ)) → i < count → IsSome all
+    → after_some xs (many_at one (count - i) rest) ≡ all → IsSome (one rest)
+next_some {A} one count i rest xs all h some done =
+    let left : count - i ≡ suc (count - (i + 1)) = omega arith in
+    let read : IsSome (many_at one (count - i) rest) = some_read xs (many_at one (count - i) rest) (subst (λ (r : Option (List A × List ℕ)). IsSome r) (sym done) some) in
+    one_some one (count - (i + 1)) rest (one rest) refl (subst (λ (n : ℕ). IsSome (many_at one n rest)) left read)

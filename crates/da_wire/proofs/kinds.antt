@@ -1,0 +1,14 @@
+pub mod Form
+pub mod HeaderForm
+pub mod SquareForm
+pub mod CellLoops
+pub mod MessageForm
+pub mod MissingForm
+pub mod RequestForms
+pub mod Blobs
+pub mod BlockForm
+pub mod BlockParts
+pub mod PayloadSizes
+pub mod CellCounts
+pub mod Spelled
+pub mod Forms

@@ -1,0 +1,77 @@
+-- What is read of a payload of any kind is what the payload spells, and what is spelled is read.
+use Rattle.std.proofs.Common.{◌≡◌, ◌∙◌, ℕ, Bool, true, false, eqb, cond, List, Option, None, Some, refl, sym, ap, subst, eqb-true}
+use Rattle.std.proofs.lemmas.Option.{same_Some}
+use Rattle.namespace_id.specs.Bytes.{AreBytes}
+use Rattle.da_wire.specs.declared.frames.Frame.{Frame}
+use Rattle.da_wire.specs.declared.frames.Frame.TheVariants.{Header, Square, Message, Missing, Sample, Request, Block}
+use Rattle.da_wire.specs.declared.kinds.Kind.{Kind}
+use Rattle.da_wire.specs.declared.kinds.Kind.TheVariants as kinds
+use Rattle.da_wire.specs.Spelling.{kind_byte, spelled, spelling, IsFrame}
+use Rattle.da_wire.specs.Reading.{kind_at, value_of_kind, value_at}
+use Rattle.da_wire.proofs.codec.Readers.{bind_some}
+use Rattle.da_wire.proofs.kinds.Form.{Spells, IsWritten, form_takes, form_written}
+use Rattle.da_wire.proofs.kinds.HeaderForm.{header_form}
+use Rattle.da_wire.proofs.kinds.SquareForm.{square_form}
+use Rattle.da_wire.proofs.kinds.MessageForm.{message_form}
+use Rattle.da_wire.proofs.kinds.MissingForm.{missing_form}
+use Rattle.da_wire.proofs.kinds.RequestForms.{sample_form, request_form}
+use Rattle.da_wire.proofs.kinds.BlockForm.{block_form}
+
+-- ---- the byte of a kind
+
+-- the byte of each kind is read as the kind
+kind_again : (kind : Kind) → kind_at (kind_byte kind) ≡ Some kind
+kind_again kinds.Header = refl
+kind_again kinds.Square = refl
+kind_again kinds.Message = refl
+kind_again kinds.Missing = refl
+kind_again kinds.Sample = refl
+kind_again kinds.Request = refl
+kind_again kinds.Block = refl
+
+-- a byte is that of a kind, or it is looked for among the others
+by_byte : (here : Bool) (byte : ℕ) (kind found : Kind) (others : Option Kind) → eqb byte (kind_byte kind) ≡ here → cond here (Some kind) others ≡ Some found
+    → (others ≡ Some found → byte ≡ kind_byte found) → byte ≡ kind_byte found
+by_byte true byte kind found others is e later = eqb-true byte (kind_byte kind) is ∙ ap (λ (k : Kind). kind_byte k) (same_Some kind found e)
+by_byte false byte kind found others is e later = later e
+
+-- a byte that is read as a kind is that kind's byte
+kind_takes : (byte : ℕ) (found : Kind) → kind_at byte ≡ Some found → byte ≡ kind_byte found
+kind_takes byte found e =
+    by_byte (eqb byte (kind_byte kinds.Header)) byte kinds.Header found _ refl e (λ e1.
+    by_byte (eqb byte (kind_byte kinds.Square)) byte kinds.Square found _ refl e1 (λ e2.
+    by_byte (eqb byte (kind_byte kinds.Message)) byte kinds.Message found _ refl e2 (λ e3.
+    by_byte (eqb byte (kind_byte kinds.Missing)) byte kinds.Missing found _ refl e3 (λ e4.
+    by_byte (eqb byte (kind_byte kinds.Sample)) byte kinds.Sample found _ refl e4 (λ e5.
+    by_byte (eqb byte (kind_byte kinds.Request)) byte kinds.Request found _ refl e5 (λ e6.
+    by_byte (eqb byte (kind_byte kinds.Block)) byte kinds.Block found None refl e6 (λ e7. absurd cc)))))))
+
+-- ---- values
+
+-- a value of each kind is spelled by the payload of which it is read
+spelled_by : (kind : Kind) (payload : List ℕ) (value : Frame) → AreBytes payload → value_of_kind kind payload ≡ Some value → Spells kind payload value
+spelled_by kinds.Header = form_takes _ _ _ _ _ header_form
+spelled_by kinds.Square = form_takes _ _ _ _ _ square_form
+spelled_by kinds.Message = form_takes _ _ _ _ _ message_form
+spelled_by kinds.Missing = form_takes _ _ _ _ _ missing_form
+spelled_by kinds.Sample = form_takes _ _ _ _ _ sample_form
+spelled_by kinds.Request = form_takes _ _ _ _ _ request_form
+spelled_by kinds.Block = form_takes _ _ _ _ _ block_form
+
+-- a value that is read of a payload is what the payload spells
+pub value_takes : (byte : ℕ) (payload : List ℕ) (value : Frame) → AreBytes payload → value_at byte payload ≡ Some value
+    → IsFrame value × (spelling value ≡ spelled byte payload)
+unfolding value_at
+value_takes byte payload value fits e =
+    let k = bind_some (kind_at byte) (λ (kind : Kind). value_of_kind kind payload) value e in
+    subst (λ (n : ℕ). IsFrame value × (spelling value ≡ spelled n payload)) (sym (kind_takes byte k.0 k.1)) (spelled_by k.0 payload value fits k.2)
+
+-- the payload of a value that is spelled is read as the value
+pub value_again : (value : Frame) (text : List ℕ) → IsFrame value → spelling value ≡ Some text → IsWritten value text
+value_again (Header h) = form_written _ _ _ _ _ header_form (kind_again kinds.Header) h
+value_again (Square s) = form_written _ _ _ _ _ square_form (kind_again kinds.Square) s
+value_again (Message m) = form_written _ _ _ _ _ message_form (kind_again kinds.Message) m
+value_again (Missing cells) = form_written _ _ _ _ _ missing_form (kind_again kinds.Missing) cells
+value_again (Sample cell axis) = form_written _ _ _ _ _ sample_form (kind_again kinds.Sample) (cell, axis)
+value_again (Request name) = form_written _ _ _ _ _ request_form (kind_again kinds.Request) name
+value_again (Block b) = form_written _ _ _ _ _ block_form (kind_again kinds.Block) b

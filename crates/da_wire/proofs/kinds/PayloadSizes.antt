@@ -1,0 +1,85 @@
+-- The length of each payload.
+use Rattle.std.proofs.Common.{◌≡◌, ◌∙◌, ℕ, ◌+◌, ◌*◌, ◌<◌, ◌≤◌, Bool, false, cond, List, ◌∷◌, length, length-append, Option, Some, None, ap, arith}
+use Rattle.std.specs.Prelude.{◌==◌}
+use Rattle.std.proofs.Math.Nat.{mul-le-mul_left}
+use Rattle.std.proofs.lemmas.Bool.Decides.{nat_tests}
+use Rattle.namespace_id.specs.declared.namespaces.Namespace.{Namespace}
+use Rattle.namespace_id.specs.Shares.{IsShare, AreShares}
+use Rattle.namespace_id.specs.Digests.{AreDigests}
+use Rattle.namespace_id.specs.Cells.{CellList}
+use Rattle.data_header.specs.Headers.{Roots, AreRoots}
+use Rattle.axis_roots.specs.declared.message.messages.Message as sent
+use Rattle.square_layout.specs.Blocks.{SquareShares, IsSquare}
+use Rattle.da_wire.specs.declared.frames.Frame.TheVariants.{Header, Square, Message, Missing, Request}
+use Rattle.da_wire.specs.Spelling.{spelled, header_kind, square_kind, message_kind, missing_kind, request_kind}
+use Rattle.da_wire.specs.codec.Texts.{digest_bytes}
+use Rattle.da_wire.specs.kinds.Header.{header_payload}
+use Rattle.da_wire.specs.kinds.Square.{square_payload}
+use Rattle.da_wire.specs.kinds.Message.{message_payload}
+use Rattle.da_wire.specs.kinds.Missing.{missing_payload}
+use Rattle.da_wire.specs.kinds.Requests.{request_payload}
+use Rattle.da_wire.specs.Writing.{HasSize}
+use Rattle.da_wire.proofs.codec.Digests.{length-digest_bytes}
+use Rattle.da_wire.proofs.kinds.HeaderForm.{width_le}
+use Rattle.da_wire.proofs.kinds.MissingForm.{length-missing}
+use Rattle.da_wire.proofs.kinds.SquareForm.{length-share_bytes}
+use Rattle.da_wire.proofs.codec.Lengths.{spelled_within, spelled_beyond}
+
+-- the payload of a header has two bytes, and 360 for each k
+length-header : (h : Roots) → AreRoots h → AreDigests h.rows → AreDigests h.cols → 2 + 360 * h.k ≡ length (header_payload h)
+length-header h roots rows cols =
+    omega (arith, length-append (digest_bytes h.rows) (digest_bytes h.cols), length-digest_bytes h.rows rows, length-digest_bytes h.cols cols, roots.rows, roots.cols)
+
+-- a header has a spelling, and this is its payload's length
+pub header_sized : (h : Roots) (n : ℕ) → AreRoots h → AreDigests h.rows → AreDigests h.cols → n ≡ 2 + 360 * h.k → HasSize (Header h) (Some n)
+header_sized h n roots rows cols e =
+    let size : n ≡ length (header_payload h) = e ∙ length-header h roots rows cols in
+    let small : h.k ≤ 128 = width_le h.k roots.width in
+    (size, spelled_within header_kind n (header_payload h) size (omega arith))
+
+-- the payload of a square has two bytes, and 512 for each share
+length-square : (s : SquareShares) → IsSquare s → AreShares s.shares → 2 + 512 * (s.k * s.k) ≡ length (square_payload s)
+length-square s is shares = omega (arith, length-share_bytes s is shares)
+
+-- a square of width 128 at most has at most 128 times 128 shares
+pub square_few : (k : ℕ) → k ≤ 128 → k * k ≤ 128 * 128
+square_few k h = let by_k : k * k ≤ k * 128 = mul-le-mul_left k h in omega arith
+
+-- a square has a spelling, and this is its payload's length
+pub square_sized : (s : SquareShares) (n : ℕ) → IsSquare s → AreShares s.shares → n ≡ 2 + 512 * (s.k * s.k) → HasSize (Square s) (Some n)
+square_sized s n is shares e =
+    let size : n ≡ length (square_payload s) = e ∙ length-square s is shares in
+    let few : s.k * s.k ≤ 128 * 128 = square_few s.k (width_le s.k is.width) in
+    (size, spelled_within square_kind n (square_payload s) size (omega arith))
+
+-- the payload of a message has 518 bytes, and 90 for each node
+length-message : (m : sent.Message) → IsShare m.share → AreDigests m.path → 518 + 90 * length m.path ≡ length (message_payload m)
+length-message m share nodes =
+    omega (arith, length-append m.share.0 (length m.path ∷ digest_bytes m.path), share.size_is, length-digest_bytes m.path nodes)
+
+-- a message has a spelling, and this is its payload's length
+pub message_sized : (m : sent.Message) (n : ℕ) → IsShare m.share → AreDigests m.path → length m.path ≤ 8 → n ≡ 518 + 90 * length m.path → HasSize (Message m) (Some n)
+message_sized m n share nodes few e =
+    let size : n ≡ length (message_payload m) = e ∙ length-message m share nodes in
+    (size, spelled_within message_kind n (message_payload m) size (omega arith))
+
+-- cells that are some pass the test of none
+some_cells : (n : ℕ) (x : Option (List ℕ)) → (n ≡ 0 → ⊥) → cond (n == 0) None x ≡ x
+some_cells n x h = let e : (n == 0) ≡ false = grind (arith, nat_tests) in ap (λ (b : Bool). cond b None x) e
+
+-- some missing cells within the limit have a spelling, and this is their payload's length
+pub missing_sized : (cells : CellList) (n : ℕ) → (length cells.list ≡ 0 → ⊥) → length cells.list ≤ 4194302 → n ≡ 6 + 4 * length cells.list
+    → HasSize (Missing cells) (Some n)
+missing_sized cells n some few e =
+    let size : n ≡ length (missing_payload cells) = e ∙ length-missing cells in
+    (size, some_cells (length cells.list) (spelled missing_kind (missing_payload cells)) some ∙ spelled_within missing_kind n (missing_payload cells) size (omega arith))
+
+-- missing cells above the limit have no spelling
+pub missing_beyond : (cells : CellList) → (length cells.list ≡ 0 → ⊥) → 4194302 < length cells.list → HasSize (Missing cells) None
+missing_beyond cells some many =
+    some_cells (length cells.list) (spelled missing_kind (missing_payload cells)) some
+    ∙ spelled_beyond missing_kind (6 + 4 * length cells.list) (missing_payload cells) (length-missing cells) (omega arith)
+
+-- a request for a namespace has a spelling, and this is its payload's length
+pub request_sized : (name : Namespace) (n : ℕ) → n ≡ length name.0 → n ≤ 29 → HasSize (Request name) (Some n)
+request_sized name n e few = (e, spelled_within request_kind n (request_payload name) e (omega arith))

@@ -1,0 +1,54 @@
+-- The values that have a spelling.
+use Rattle.std.proofs.Common.{◌≡◌, ℕ, ◌+◌, ◌*◌, ◌≤◌, [], length, Option, Some, refl, sym, subst, arith}
+use Rattle.std.specs.Prelude.{IsSome}
+use Rattle.std.proofs.lemmas.List.{nil_from_length}
+use Rattle.namespace_id.specs.declared.cells.Cell.{Cell}
+use Rattle.namespace_id.specs.declared.cells.Axis.{Axis}
+use Rattle.namespace_id.specs.declared.namespaces.Namespace.{Namespace}
+use Rattle.namespace_id.specs.Names.{IsNamespace}
+use Rattle.namespace_id.specs.Shares.{AreShares}
+use Rattle.namespace_id.specs.Cells.{CellList, AreCells}
+use Rattle.data_header.specs.Headers.{Roots, IsHeader}
+use Rattle.axis_roots.specs.declared.message.messages.Message as sent
+use Rattle.axis_roots.specs.Messages.{IsMessage}
+use Rattle.square_layout.specs.Blocks.{SquareShares, IsSquare}
+use Rattle.da_wire.specs.declared.frames.Frame.TheVariants.{Header, Square, Message, Missing, Sample, Request}
+use Rattle.da_wire.specs.Spelling.{spelling, sample_kind}
+use Rattle.da_wire.specs.kinds.Requests.{sample_payload}
+use Rattle.da_wire.proofs.codec.Lengths.{spelled_within}
+use Rattle.da_wire.proofs.kinds.HeaderForm.{width_le}
+use Rattle.da_wire.proofs.kinds.PayloadSizes.{square_few, header_sized, square_sized, message_sized, missing_sized, request_sized}
+use Rattle.da_wire.proofs.kinds.CellCounts.{cells_counted, width_of_cells}
+
+-- what is equal to some spelling is some
+has_spelling : {A : Type 0} (o : Option A) (x : A) → o ≡ Some x → IsSome o
+has_spelling o x e = subst IsSome (sym e) refl
+
+-- each header has a spelling
+pub header_spelled : (h : Roots) → IsHeader h → IsSome (spelling (Header h))
+header_spelled h is = has_spelling (spelling (Header h)) _ (header_sized h (2 + 360 * h.k) is.roots is.rows is.cols refl).1
+
+-- each square has a spelling
+pub square_spelled : (s : SquareShares) → IsSquare s → AreShares s.shares → IsSome (spelling (Square s))
+square_spelled s is shares = has_spelling (spelling (Square s)) _ (square_sized s (2 + 512 * (s.k * s.k)) is shares refl).1
+
+-- each message has a spelling
+pub message_spelled : (m : sent.Message) → IsMessage m → IsSome (spelling (Message m))
+message_spelled m is = has_spelling (spelling (Message m)) _ (message_sized m (518 + 90 * length m.path) is.share is.nodes is.few refl).1
+
+-- missing cells have a spelling where there are any
+pub missing_spelled : (cells : CellList) → AreCells cells → (cells.list ≡ [] → ⊥) → IsSome (spelling (Missing cells))
+missing_spelled cells are some =
+    let k : ℕ = cells.k in
+    let few : k * k ≤ 128 * 128 = square_few k (width_le k (width_of_cells cells are)) in
+    let counted : length cells.list ≤ 4 * (k * k) = cells_counted cells are in
+    has_spelling (spelling (Missing cells)) _
+    (missing_sized cells (6 + 4 * length cells.list) (λ none. some (nil_from_length cells.list none)) (omega (arith, few, counted)) refl).1
+
+-- each request for a sample has a spelling
+pub sample_spelled : (cell : Cell) (axis : Axis) → IsSome (spelling (Sample cell axis))
+sample_spelled cell axis = has_spelling (spelling (Sample cell axis)) _ (spelled_within sample_kind 5 (sample_payload cell axis) refl (omega arith))
+
+-- each request for a namespace has a spelling
+pub request_spelled : (name : Namespace) → IsNamespace name → IsSome (spelling (Request name))
+request_spelled name is = has_spelling (spelling (Request name)) _ (request_sized name 29 (sym is.size_is) (omega arith)).1

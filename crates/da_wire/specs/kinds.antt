@@ -1,0 +1,6 @@
+pub mod Header
+pub mod Square
+pub mod Message
+pub mod Missing
+pub mod Requests
+pub mod Block

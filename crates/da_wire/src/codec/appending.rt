@@ -1,0 +1,64 @@
+//! Fields of a payload, appended where there is room for them.
+
+ghost use Rattle.std.specs.Prelude.{◌≡◌, ◌≤◌, length, vec_len, ◌+◌, ◌++◌, vec_capacity};
+ghost use Rattle.std.specs.Int.{w32};
+ghost use Rattle.namespace_id.specs.Answers.{HasRoom};
+ghost use Rattle.da_wire.specs.codec.Texts.{digest_bytes, axis_byte, cell_bytes, text_bytes};
+ghost use Rattle.da_wire.specs.Writing.{IsShort};
+
+use namespace_id::{Axis, Cell, Digest};
+
+/// Appends bytes for which there is room.
+pub(crate) fn put(out: &mut Vec<u8>, bytes: &[u8])
+    requires room { HasRoom out.old (length bytes.now) }
+    ensures appended { out.new.items ≡ out.old.items ++ bytes.now }
+    ensures len { vec_len out.new ≡ vec_len out.old + length bytes.now }
+    ensures capacity { vec_capacity out.old ≤ vec_capacity out.new }
+{
+    out.extend_from_slice(bytes).unwrap();
+}
+
+/// Appends digests, one after another.
+pub(crate) fn put_digests(out: &mut Vec<u8>, digests: &[Digest])
+    requires room { HasRoom out.old (length (digest_bytes digests.now)) }
+    ensures appended { out.new.items ≡ out.old.items ++ digest_bytes digests.now }
+    ensures len { vec_len out.new ≡ vec_len out.old + length (digest_bytes digests.now) }
+    ensures capacity { vec_capacity out.old ≤ vec_capacity out.new }
+{
+    for digest in digests {
+        put(out, &digest.0);
+    }
+}
+
+/// Appends a cell, its row first.
+pub(crate) fn put_cell(out: &mut Vec<u8>, cell: Cell)
+    requires room { HasRoom out.old (length (cell_bytes cell)) }
+    ensures appended { out.new.items ≡ out.old.items ++ cell_bytes cell }
+    ensures len { vec_len out.new ≡ vec_len out.old + length (cell_bytes cell) }
+    ensures capacity { vec_capacity out.old ≤ vec_capacity out.new }
+{
+    put(out, &cell.row.to_be_bytes());
+    put(out, &cell.col.to_be_bytes());
+}
+
+/// The byte that an axis is.
+pub(crate) fn axis_byte(axis: Axis) -> u8
+    ensures { result ≡ axis_byte axis }
+{
+    match axis {
+        Axis::Row => 0,
+        Axis::Col => 1,
+    }
+}
+
+/// Appends a byte string behind its length.
+pub(crate) fn put_text(out: &mut Vec<u8>, text: &[u8])
+    requires few { IsShort (text_bytes w32 text.now) }
+    requires room { HasRoom out.old (length (text_bytes w32 text.now)) }
+    ensures appended { out.new.items ≡ out.old.items ++ text_bytes w32 text.now }
+    ensures len { vec_len out.new ≡ vec_len out.old + length (text_bytes w32 text.now) }
+    ensures capacity { vec_capacity out.old ≤ vec_capacity out.new }
+{
+    put(out, &(text.len() as u32).to_be_bytes());
+    put(out, text);
+}

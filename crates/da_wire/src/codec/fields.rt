@@ -1,0 +1,174 @@
+//! Fields of a payload, read from the front of its bytes.
+
+ghost use Rattle.std.specs.Prelude.{◌≡◌, ◌≤◌, ◌*◌, length};
+ghost use Rattle.std.specs.Int.{w16, w32};
+ghost use Rattle.namespace_id.specs.Answers.{Gives};
+ghost use Rattle.da_wire.specs.codec.Fields.{digests_of, text_at, count_at, number_at, byte_at, string_at, axis_at, path_at, cell_at};
+
+use crate::codec::sizes::{DIGEST_SIZE, NAMESPACE_SIZE, PATH_LIMIT, SHARE_SIZE};
+use namespace_id::{Axis, Cell, Digest, Namespace, Share};
+use nmt_proofs::Path;
+
+/// A number of two bytes, the higher first, and the bytes after it.
+pub(crate) fn u16_at(bytes: &[u8]) -> Option<(u16, &[u8])>
+    ensures { Gives (λ x. (x.0, x.1.now)) result (number_at w16 bytes.now) }
+{
+    if bytes.len() < 2 {
+        return None;
+    }
+    let (front, rest) = bytes.split_at(2);
+    Some((u16::from_be_bytes([front[0], front[1]]), rest))
+}
+
+/// A number of four bytes, the highest first, and the bytes after it.
+pub(crate) fn u32_at(bytes: &[u8]) -> Option<(u32, &[u8])>
+    ensures { Gives (λ x. (x.0, x.1.now)) result (number_at w32 bytes.now) }
+{
+    if bytes.len() < 4 {
+        return None;
+    }
+    let (front, rest) = bytes.split_at(4);
+    let number = u32::from_be_bytes([front[0], front[1], front[2], front[3]]);
+    Some((number, rest))
+}
+
+/// A byte, and the bytes after it.
+pub(crate) fn u8_at(bytes: &[u8]) -> Option<(u8, &[u8])>
+    ensures { Gives (λ x. (x.0, x.1.now)) result (byte_at bytes.now) }
+{
+    match bytes {
+        [] => None,
+        [byte, rest @ ..] => Some((*byte, rest)),
+    }
+}
+
+/// The share that 512 bytes are.
+pub(crate) fn share_of(bytes: &[u8]) -> Share
+    requires { length bytes.now ≡ 512 }
+    ensures { result.0 ≡ bytes.now }
+{
+    let mut share = Share([0; SHARE_SIZE]);
+    share.0.copy_from_slice(bytes);
+    share
+}
+
+/// The namespace that 29 bytes are.
+pub(crate) fn name_of(bytes: &[u8]) -> Namespace
+    requires { length bytes.now ≡ 29 }
+    ensures { result.0 ≡ bytes.now }
+{
+    let mut name = Namespace([0; NAMESPACE_SIZE]);
+    name.0.copy_from_slice(bytes);
+    name
+}
+
+/// The digest that 90 bytes are.
+pub(crate) fn digest_of(bytes: &[u8]) -> Digest
+    requires { length bytes.now ≡ 90 }
+    ensures { result.0 ≡ bytes.now }
+{
+    let mut digest = Digest([0; DIGEST_SIZE]);
+    digest.0.copy_from_slice(bytes);
+    digest
+}
+
+/// A share, and the bytes after it.
+pub(crate) fn share_at(bytes: &[u8]) -> Option<(Share, &[u8])>
+    ensures { Gives (λ x. (x.0.0, x.1.now)) result (string_at 512 bytes.now) }
+{
+    if bytes.len() < SHARE_SIZE {
+        return None;
+    }
+    let (front, rest) = bytes.split_at(SHARE_SIZE);
+    Some((share_of(front), rest))
+}
+
+/// A namespace, and the bytes after it.
+pub(crate) fn name_at(bytes: &[u8]) -> Option<(Namespace, &[u8])>
+    ensures { Gives (λ x. (x.0.0, x.1.now)) result (string_at 29 bytes.now) }
+{
+    if bytes.len() < NAMESPACE_SIZE {
+        return None;
+    }
+    let (front, rest) = bytes.split_at(NAMESPACE_SIZE);
+    Some((name_of(front), rest))
+}
+
+/// A count or a length of four bytes, at most the limit, and the bytes after it.
+#[tactic(auto, unfolding(crate::specs::codec::Fields::count_at))]
+pub(crate) fn count_at(bytes: &[u8], limit: u32) -> Option<(u32, &[u8])>
+    ensures { Gives (λ x. (x.0, x.1.now)) result (count_at w32 limit bytes.now) }
+{
+    let (count, rest) = u32_at(bytes)?;
+    if count > limit {
+        return None;
+    }
+    Some((count, rest))
+}
+
+/// A byte string behind its length of four bytes, at most the limit, and the bytes after it.
+#[tactic(auto, unfolding(crate::specs::codec::Fields::text_at))]
+pub(crate) fn text_at(bytes: &[u8], limit: u32) -> Option<(&[u8], &[u8])>
+    ensures { Gives (λ x. (x.0.now, x.1.now)) result (text_at w32 limit bytes.now) }
+{
+    let (size, rest) = count_at(bytes, limit)?;
+    if rest.len() < size as usize {
+        return None;
+    }
+    Some(rest.split_at(size as usize))
+}
+
+/// The axis that a byte is, 0 for a row and 1 for a column, and the bytes after it.
+#[tactic(auto, unfolding(crate::specs::codec::Fields::axis_at))]
+pub(crate) fn axis_at(bytes: &[u8]) -> Option<(Axis, &[u8])>
+    ensures { Gives (λ x. (x.0, x.1.now)) result (axis_at bytes.now) }
+{
+    let (byte, rest) = u8_at(bytes)?;
+    match byte {
+        0 => Some((Axis::Row, rest)),
+        1 => Some((Axis::Col, rest)),
+        _ => None,
+    }
+}
+
+/// A cell, its row first, and the bytes after it.
+#[tactic(auto, unfolding(crate::specs::codec::Fields::cell_at))]
+pub(crate) fn cell_at(bytes: &[u8]) -> Option<(Cell, &[u8])>
+    ensures { Gives (λ x. (x.0, x.1.now)) result (cell_at bytes.now) }
+{
+    let (row, rest) = u16_at(bytes)?;
+    let (col, rest) = u16_at(rest)?;
+    Some((Cell { row, col }, rest))
+}
+
+/// So many digests, one after another, which are all of the bytes.
+pub(crate) fn path_of(count: u8, bytes: &[u8]) -> Path
+    requires few { count ≤ 8 }
+    requires all { length bytes.now ≡ 90 * count }
+    ensures { result ≡ digests_of count bytes.now }
+{
+    let mut path = Path::new();
+    let mut rest = bytes;
+    for _ in 0..count {
+        let (front, after) = rest.split_at(DIGEST_SIZE);
+        path.push(digest_of(front));
+        rest = after;
+    }
+    path
+}
+
+/// A count of at most 8, so many digests, and the bytes after them.
+#[tactic(auto, unfolding(crate::specs::codec::Fields::path_at))]
+pub(crate) fn path_at(bytes: &[u8]) -> Option<(Path, &[u8])>
+    ensures { Gives (λ x. (x.0, x.1.now)) result (path_at 8 bytes.now) }
+{
+    let (count, rest) = u8_at(bytes)?;
+    if count > PATH_LIMIT {
+        return None;
+    }
+    if rest.len() < DIGEST_SIZE * count as usize {
+        return None;
+    }
+    let (nodes, rest) = rest.split_at(DIGEST_SIZE * count as usize);
+    Some((path_of(count, nodes), rest))
+}

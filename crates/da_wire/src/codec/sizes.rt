@@ -1,0 +1,55 @@
+//! How many bytes the fields of a payload have.
+
+ghost use Rattle.std.specs.Prelude.{◌≤◌, length, ◌+◌};
+ghost use Rattle.std.specs.Int.{w32};
+ghost use Rattle.da_wire.specs.Spelling.{max_payload};
+ghost use Rattle.da_wire.specs.codec.Texts.{text_bytes};
+ghost use Rattle.da_wire.specs.Writing.{IsWithin};
+
+use crate::MAX_PAYLOAD;
+pub(crate) use share_split::{NAMESPACE_SIZE, SHARE_SIZE};
+
+/// The bytes in front of a payload: its kind, and its length.
+pub(crate) const HEAD_SIZE: usize = 5;
+
+/// The bytes of a digest.
+pub(crate) const DIGEST_SIZE: usize = 90;
+
+/// The most nodes of a path.
+pub(crate) const PATH_LIMIT: u8 = 8;
+
+/// The bytes of a cell.
+pub(crate) const CELL_SIZE: usize = 4;
+
+/// The bytes that state a width.
+pub(crate) const WIDTH_SIZE: u32 = 2;
+
+/// The bytes that state a count or a length.
+pub(crate) const COUNT_SIZE: usize = 4;
+
+/// A length with so many bytes more, none where it is above the limit of a payload.
+pub(crate) fn longer(size: u32, more: usize) -> Option<u32>
+    requires { size ≤ max_payload }
+    ensures { IsWithin (size + more) result }
+{
+    if more > (MAX_PAYLOAD - size) as usize {
+        return None;
+    }
+    Some(size + more as u32)
+}
+
+/// A length with that of a byte string more.
+pub(crate) fn with_bytes(size: u32, bytes: &[u8]) -> Option<u32>
+    requires { size ≤ max_payload }
+    ensures { IsWithin (size + length bytes.now) result }
+{
+    longer(size, bytes.len())
+}
+
+/// A length with that of a byte string behind its length more.
+pub(crate) fn with_text(size: u32, text: &[u8]) -> Option<u32>
+    requires { size ≤ max_payload }
+    ensures { IsWithin (size + length (text_bytes w32 text.now)) result }
+{
+    with_bytes(longer(size, COUNT_SIZE)?, text)
+}

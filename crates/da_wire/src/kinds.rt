@@ -1,0 +1,57 @@
+//! The kinds of frames, each with what reads, measures and appends its payload.
+
+ghost use Rattle.std.specs.Prelude.{◌≡◌};
+ghost use Rattle.da_wire.specs.Spelling.{kind_byte};
+ghost use Rattle.da_wire.specs.Reading.{kind_at};
+
+pub(crate) mod block;
+pub(crate) mod header;
+pub(crate) mod message;
+pub(crate) mod missing;
+pub(crate) mod requests;
+pub(crate) mod square;
+
+/// The kinds of which there are values.
+#[derive(Clone, Copy)]
+pub(crate) enum Kind {
+    Header,
+    Square,
+    Message,
+    Missing,
+    Sample,
+    Request,
+    Block,
+}
+
+impl Kind {
+    /// The kind that a byte is.
+    pub(crate) fn of(byte: u8) -> Option<Kind>
+        ensures { result ≡ kind_at byte }
+    {
+        match byte {
+            b'H' => Some(Kind::Header),
+            b'S' => Some(Kind::Square),
+            b'M' => Some(Kind::Message),
+            b'K' => Some(Kind::Missing),
+            b'Q' => Some(Kind::Sample),
+            b'P' => Some(Kind::Request),
+            b'V' => Some(Kind::Block),
+            _ => None,
+        }
+    }
+
+    /// The byte that a kind is.
+    pub(crate) fn byte(self) -> u8
+        ensures { result ≡ kind_byte self }
+    {
+        match self {
+            Kind::Header => b'H',
+            Kind::Square => b'S',
+            Kind::Message => b'M',
+            Kind::Missing => b'K',
+            Kind::Sample => b'Q',
+            Kind::Request => b'P',
+            Kind::Block => b'V',
+        }
+    }
+}

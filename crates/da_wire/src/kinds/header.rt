@@ -1,0 +1,86 @@
+//! The payload of a header.
+
+ghost use Rattle.std.specs.Prelude.{◌≡◌, ◌*◌, length, vec_len, None, Some, IfOk, IfSome, IsTrue, MatchOption, ◌+◌, ◌++◌};
+ghost use Rattle.namespace_id.specs.Cells.{is_width};
+ghost use Rattle.namespace_id.specs.Answers.{HasRoom};
+ghost use Rattle.da_wire.specs.codec.Fields.{digests_of};
+ghost use Rattle.da_wire.specs.kinds.Header.{roots_of, header_at, header_payload};
+ghost use Rattle.da_wire.specs.Reading.{GivesUnlessFull};
+ghost use Rattle.da_wire.specs.Writing.{HasSize};
+ghost use Rattle.da_wire.specs.declared.frames.Frame.TheVariants as FrameOf;
+
+use crate::codec::appending::{put, put_digests};
+use crate::codec::fields::{digest_of, u16_at};
+use crate::codec::sizes::{DIGEST_SIZE, WIDTH_SIZE};
+use data_header::Header;
+use namespace_id::{Digest, digests_law, is_width};
+use std::alloc::{AllocError, Global};
+
+/// The bytes of 2k roots, for each k.
+const SIDE_SIZE: usize = 2 * DIGEST_SIZE;
+
+/// The bytes of all roots, 4k of them, for each k.
+const ROOTS_SIZE: usize = 2 * SIDE_SIZE;
+
+/// So many digests, one after another, which are all of the bytes.
+fn roots_of(alloc: Global, count: usize, bytes: &[u8]) -> Result<Vec<Digest>, AllocError>
+    requires { length bytes.now ≡ 90 * count }
+    ensures value { IfOk result (λ roots. roots.items ≡ digests_of count bytes.now) }
+    ensures len { IfOk result (λ roots. vec_len roots ≡ count) }
+{
+    let mut roots = Vec::with_capacity(alloc, count)?;
+    let mut rest = bytes;
+    for _ in 0..count {
+        let (front, after) = rest.split_at(DIGEST_SIZE);
+        roots.push(digest_of(front))?;
+        rest = after;
+    }
+    Ok(roots)
+}
+
+/// The width of a header, and the bytes of its roots, of which all are there.
+#[tactic(auto, unfolding(crate::specs::kinds::Header::header_at))]
+pub(crate) fn header_parts(payload: &[u8]) -> Option<(u16, &[u8])>
+    ensures parts { MatchOption result (header_at payload.now ≡ None)
+        (λ x. header_at payload.now ≡ Some (roots_of x.0 x.1.now)) }
+    ensures width { IfSome result (λ x. IsTrue (is_width x.0)) }
+    ensures all { IfSome result (λ x. length x.1.now ≡ 360 * x.0) }
+{
+    let (k, roots) = u16_at(payload)?;
+    if !is_width(k) || roots.len() != ROOTS_SIZE * k as usize {
+        return None;
+    }
+    Some((k, roots))
+}
+
+/// The header whose payload the bytes are. No memory is taken before they are known to be one.
+pub(crate) fn header(alloc: Global, payload: &[u8]) -> Result<Option<Header>, AllocError>
+    ensures { GivesUnlessFull result (header_at payload.now) }
+{
+    let Some((k, roots)) = header_parts(payload) else {
+        return Ok(None);
+    };
+    let (rows, cols) = roots.split_at(SIDE_SIZE * k as usize);
+    let rows = roots_of(alloc, 2 * k as usize, rows)?;
+    let cols = roots_of(alloc, 2 * k as usize, cols)?;
+    Ok(Some(Header { k, rows, cols }))
+}
+
+/// The length of the payload of a header.
+pub(crate) fn header_size(header: &Header) -> u32
+    ensures { HasSize (FrameOf.Header header.now) (Some result) }
+{
+    digests_law(&header.rows);
+    digests_law(&header.cols);
+    WIDTH_SIZE + ROOTS_SIZE as u32 * u32::from(header.k)
+}
+
+/// Appends the payload of a header.
+pub(crate) fn put_header(out: &mut Vec<u8>, header: &Header)
+    requires room { HasRoom out.old (length (header_payload header.now)) }
+    ensures appended { out.new.items ≡ out.old.items ++ header_payload header.now }
+{
+    put(out, &header.k.to_be_bytes());
+    put_digests(out, &header.rows);
+    put_digests(out, &header.cols);
+}

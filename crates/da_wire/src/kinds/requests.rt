@@ -1,0 +1,56 @@
+//! The payloads of requests: for the sample of a cell, and for the shares of a namespace.
+
+ghost use Rattle.std.specs.Prelude.{◌≡◌, length, Some, ◌+◌, ◌++◌};
+ghost use Rattle.namespace_id.specs.Answers.{HasRoom};
+ghost use Rattle.da_wire.specs.kinds.Requests.{sample_at, request_at, sample_payload};
+ghost use Rattle.da_wire.specs.Writing.{HasSize};
+ghost use Rattle.da_wire.specs.declared.frames.Frame.TheVariants as FrameOf;
+
+use crate::codec::appending::{axis_byte, put, put_cell};
+use crate::codec::fields::{axis_at, cell_at, name_of};
+use crate::codec::sizes::{CELL_SIZE, NAMESPACE_SIZE};
+use namespace_id::{Axis, Cell, Namespace, namespace_law};
+
+/// The bytes of a request for a sample: its cell and its axis.
+pub(crate) const SAMPLE_SIZE: u32 = CELL_SIZE as u32 + 1;
+
+/// The sample request whose payload the bytes are.
+#[tactic(auto, unfolding(crate::specs::kinds::Requests::sample_at))]
+pub(crate) fn sample(payload: &[u8]) -> Option<(Cell, Axis)>
+    ensures { result ≡ sample_at payload.now }
+{
+    let (cell, rest) = cell_at(payload)?;
+    let (axis, rest) = axis_at(rest)?;
+    if !rest.is_empty() {
+        return None;
+    }
+    Some((cell, axis))
+}
+
+/// The namespace request whose payload the bytes are.
+#[tactic(auto, unfolding(crate::specs::kinds::Requests::request_at))]
+pub(crate) fn request(payload: &[u8]) -> Option<Namespace>
+    ensures { result ≡ request_at payload.now }
+{
+    if payload.len() != NAMESPACE_SIZE {
+        return None;
+    }
+    Some(name_of(payload))
+}
+
+/// The length of the payload of a namespace request.
+pub(crate) fn request_size(name: &Namespace) -> u32
+    ensures { HasSize (FrameOf.Request name.now) (Some result) }
+{
+    namespace_law(name);
+    NAMESPACE_SIZE as u32
+}
+
+/// Appends the payload of a sample request.
+pub(crate) fn put_sample(out: &mut Vec<u8>, cell: Cell, axis: Axis)
+    requires room { HasRoom out.old (length (sample_payload cell axis)) }
+    ensures appended { out.new.items ≡ out.old.items ++ sample_payload cell axis }
+{
+    put_cell(out, cell);
+    put(out, &[axis_byte(axis)]);
+}

@@ -1,0 +1,88 @@
+//! The payload of an original square.
+
+ghost use Rattle.std.specs.Prelude.{◌≡◌, ◌*◌, length, vec_len, None, Some, IfOk, IfSome, IsTrue, MatchOption, ◌+◌, ◌++◌};
+ghost use Rattle.namespace_id.specs.Cells.{is_width};
+ghost use Rattle.namespace_id.specs.Answers.{HasRoom};
+ghost use Rattle.da_wire.specs.codec.Fields.{shares_of};
+ghost use Rattle.da_wire.specs.kinds.Square.{square_at, square_payload};
+ghost use Rattle.da_wire.specs.Reading.{GivesUnlessFull};
+ghost use Rattle.da_wire.specs.codec.Texts.{share_bytes};
+ghost use Rattle.da_wire.specs.Writing.{HasSize};
+ghost use Rattle.da_wire.specs.declared.frames.Frame.TheVariants as FrameOf;
+
+use crate::codec::appending::put;
+use crate::codec::fields::{share_of, u16_at};
+use crate::codec::sizes::{SHARE_SIZE, WIDTH_SIZE};
+use namespace_id::{Share, is_width, shares_law};
+use square_layout::Square;
+use std::alloc::{AllocError, Global};
+
+/// So many shares, one after another, which are all of the bytes.
+fn shares_of(alloc: Global, count: usize, bytes: &[u8]) -> Result<Vec<Share>, AllocError>
+    requires { length bytes.now ≡ 512 * count }
+    ensures value { IfOk result (λ shares. shares.items ≡ shares_of count bytes.now) }
+    ensures len { IfOk result (λ shares. vec_len shares ≡ count) }
+{
+    let mut shares = Vec::with_capacity(alloc, count)?;
+    let mut rest = bytes;
+    for _ in 0..count {
+        let (front, after) = rest.split_at(SHARE_SIZE);
+        shares.push(share_of(front))?;
+        rest = after;
+    }
+    Ok(shares)
+}
+
+/// The width of a square, and the bytes of its shares, of which all are there.
+#[tactic(auto, unfolding(crate::specs::kinds::Square::square_at))]
+pub(crate) fn square_parts(payload: &[u8]) -> Option<(u16, &[u8])>
+    ensures parts { MatchOption result (square_at payload.now ≡ None)
+        (λ x. square_at payload.now ≡
+        Some (record { k = x.0; shares = shares_of (x.0 * x.0) x.1.now })) }
+    ensures width { IfSome result (λ x. IsTrue (is_width x.0)) }
+    ensures all { IfSome result (λ x. length x.1.now ≡ 512 * (x.0 * x.0)) }
+{
+    let (k, shares) = u16_at(payload)?;
+    if !is_width(k) || shares.len() != SHARE_SIZE * (k as usize * k as usize) {
+        return None;
+    }
+    Some((k, shares))
+}
+
+/// The square whose payload the bytes are. No memory is taken before they are known to be one.
+pub(crate) fn square(alloc: Global, payload: &[u8]) -> Result<Option<Square>, AllocError>
+    ensures { GivesUnlessFull result (square_at payload.now) }
+{
+    let Some((k, bytes)) = square_parts(payload) else {
+        return Ok(None);
+    };
+    let shares = shares_of(alloc, k as usize * k as usize, bytes)?;
+    Ok(Some(Square { k, shares }))
+}
+
+/// The length of the payload of a square.
+pub(crate) fn square_size(square: &Square) -> u32
+    ensures { HasSize (FrameOf.Square square.now) (Some result) }
+{
+    shares_law(&square.shares);
+    WIDTH_SIZE + SHARE_SIZE as u32 * (u32::from(square.k) * u32::from(square.k))
+}
+
+/// Appends shares, one after another.
+fn put_shares(out: &mut Vec<u8>, shares: &[Share])
+    requires room { HasRoom out.old (length (share_bytes shares.now)) }
+    ensures appended { out.new.items ≡ out.old.items ++ share_bytes shares.now }
+{
+    for share in shares {
+        put(out, &share.0);
+    }
+}
+
+/// Appends the payload of a square.
+pub(crate) fn put_square(out: &mut Vec<u8>, square: &Square)
+    requires room { HasRoom out.old (length (square_payload square.now)) }
+    ensures appended { out.new.items ≡ out.old.items ++ square_payload square.now }
+{
+    put(out, &square.k.to_be_bytes());
+    put_shares(out, &square.shares);
+}
