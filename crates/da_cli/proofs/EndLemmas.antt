@@ -1,5 +1,5 @@
 -- Lemmas on how commands end.
-use Rattle.std.proofs.Common.{◌≡◌, ℕ, zero, suc, ◌<◌, ◌≤◌, List, [], ◌∷◌, length, get_or, inl, inr, Vec, Global, refl, sym, ap, ◌∙◌, subst, arith, IsSome, ◌↔◌, ◌⊎◌}
+use Rattle.std.proofs.Common.{◌≡◌, ℕ, List, [], inl, inr, refl, sym, ap, ◌∙◌, subst, IsSome, ◌↔◌, ◌⊎◌}
 use Rattle.std.specs.declared.option.Option.{Option}
 use Rattle.std.specs.Io.KnownBytes.{Appends}
 use Rattle.std.proofs.KnownBytes.{Appends-nil}
@@ -8,22 +8,7 @@ use Rattle.da_io.specs.Sinks.{IsProperPrefix, AppendsPart}
 use Rattle.da_cli.specs.declared.status.Status.{Status}
 use Rattle.da_cli.specs.declared.status.Status.TheVariants.{WriteFault, BadInput}
 use Rattle.da_cli.specs.Statuses.{Kind, usage, fault, excess, form, request, memory, write, output, kind_of, output_count}
-use Rattle.da_cli.specs.Gathered.{contents_of, file_of}
 use Rattle.da_cli.specs.Outcome.{Relation, Refuses, Outputs, LeavesBy, UntouchedBy, IsOwnBy, Ends}
-
--- file i of a list
-pub file_some : (files : List (Vec ℕ Global)) (i : ℕ) (file : Vec ℕ Global) → i < length files → file ≡ get_or files i file
-    → file.items ≡ file_of (contents_of files) i
-unfolding file_of
-file_some [] i file h e = absurd (omega arith)
-file_some (f ∷ files) zero file h e = ap (λ (v : Vec ℕ Global). v.items) e
-file_some (f ∷ files) (suc i) file h e = file_some files i file (omega arith) e
-
-pub file_none : (files : List (Vec ℕ Global)) (i : ℕ) → length files ≤ i → [] ≡ file_of (contents_of files) i
-unfolding file_of
-file_none [] i h = refl
-file_none (f ∷ files) zero h = absurd (omega arith)
-file_none (f ∷ files) (suc i) h = file_none files i (omega arith)
 
 -- a command with a meaning that is another's
 pub ends_as : (M N : Relation) (old new : Option (List ℕ)) (before now : ℕ) (Same : Type 0) (status : Status) → M ≡ N
@@ -54,6 +39,10 @@ IsAnswer output = Unit {0}
 
 pub answer_output : (status : Status) → kind_of status ≡ output → IsAnswer (kind_of status)
 answer_output status e = subst IsAnswer (sym e) tt
+
+-- the status of an answer
+pub status_answers : (status wanted : Status) → status ≡ wanted → IsAnswer (kind_of wanted) → IsAnswer (kind_of status)
+status_answers status wanted e h = subst (λ (s : Status). IsAnswer (kind_of s)) (sym e) h
 
 -- what the files ask for is refused
 pub ends_request : (M : Relation) (old : Option (List ℕ)) (before : ℕ) (Same : Type 0) (status : Status) → kind_of status ≡ request → M [] status → Same

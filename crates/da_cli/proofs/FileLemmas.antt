@@ -1,5 +1,5 @@
 -- Files that are one value's spelling, and the square of a block.
-use Rattle.std.proofs.Common.{◌≡◌, ◌∙◌, ◌↔◌, ℕ, true, List, [], ◌∷◌, Option, None, Some, IsSome, Result, Ok, Err, refl, sym, ap}
+use Rattle.std.proofs.Common.{◌≡◌, ◌∙◌, ◌↔◌, ℕ, List, [], ◌∷◌, Option, None, Some, IsSome, Result, Ok, Err, refl, ap}
 use Rattle.std.specs.Option.{option_map_or}
 use Rattle.namespace_id.specs.Bytes.{AreBytes}
 use Rattle.namespace_id.specs.Shares.{AreShares}
@@ -8,11 +8,10 @@ use Rattle.square_layout.specs.Blocks.{BlockParts, SquareShares, IsSquare, IsBlo
 use Rattle.da_wire.specs.declared.frames.Frame.{Frame}
 use Rattle.da_wire.specs.declared.frames.Frame.TheVariants.{Header, Square, Block}
 use Rattle.da_wire.specs.declared.frames.FrameError.{FrameError}
-use Rattle.da_wire.specs.Spelling.{spelling, IsFrame, header_kind, square_kind, block_kind}
-use Rattle.da_wire.specs.Reading.{is_among, only_of}
-use Rattle.da_wire.specs.Writing.{kind_of}
+use Rattle.da_wire.specs.Spelling.{spelling, header_kind, square_kind, block_kind}
+use Rattle.da_wire.specs.Reading.{only_of}
 use Rattle.da_wire.specs.Laws.{OnlyIsSpelled, SpelledIsOnly}
-use Rattle.da_cli.specs.Single.{header_of, square_of, block_of, single, header_in, square_in, block_in}
+use Rattle.da_cli.specs.commands.Frames.{header_of, square_of, block_of, single, header_in, square_in, block_in}
 
 -- a frame whose value of a kind is this one is that value's frame
 header_frame : (frame : Frame) (header : Roots) → header_of frame ≡ Some header → frame ≡ Header header
@@ -47,27 +46,30 @@ pub header_file : OnlyIsSpelled → (bytes : List ℕ) (header : Roots) → AreB
     → (header_in bytes ≡ Ok header) ↔ (IsHeader header × (spelling (Header header) ≡ Some bytes))
 header_file only bytes header fits =
     let read = only_of bytes (header_kind ∷ []) in
-    let law = only (Header header) bytes (header_kind ∷ []) fits in
-    (λ h. let is = law.0 (single_value header_of Header header_frame (λ x. refl) read header h) in (is.0, is.1),
-    λ h. value_single header_of Header header_frame (λ x. refl) read header (law.1 (h.0, h.1, refl)))
+    let law = only (Header header) bytes (header_kind ∷ []) fits in (
+      λ h. let is = law.0 (single_value header_of Header header_frame (λ x. refl) read header h) in (is.0, is.1),
+      λ h. value_single header_of Header header_frame (λ x. refl) read header (law.1 (h.0, h.1, refl)),
+    )
 
 -- the same of a square
 pub square_file : OnlyIsSpelled → (bytes : List ℕ) (square : SquareShares) → AreBytes bytes
     → (square_in bytes ≡ Ok square) ↔ (IsSquare square × AreShares square.shares × (spelling (Square square) ≡ Some bytes))
 square_file only bytes square fits =
     let read = only_of bytes (square_kind ∷ []) in
-    let law = only (Square square) bytes (square_kind ∷ []) fits in
-    (λ h. let is = law.0 (single_value square_of Square square_frame (λ x. refl) read square h) in (is.0.0, is.0.1, is.1),
-    λ h. value_single square_of Square square_frame (λ x. refl) read square (law.1 ((h.0, h.1), h.2, refl)))
+    let law = only (Square square) bytes (square_kind ∷ []) fits in (
+      λ h. let is = law.0 (single_value square_of Square square_frame (λ x. refl) read square h) in (is.0.0, is.0.1, is.1),
+      λ h. value_single square_of Square square_frame (λ x. refl) read square (law.1 ((h.0, h.1), h.2, refl)),
+    )
 
 -- the same of a block
 pub block_file : OnlyIsSpelled → (bytes : List ℕ) (block : BlockParts) → AreBytes bytes
     → (block_in bytes ≡ Ok block) ↔ (IsBlock block × (spelling (Block block) ≡ Some bytes))
 block_file only bytes block fits =
     let read = only_of bytes (block_kind ∷ []) in
-    let law = only (Block block) bytes (block_kind ∷ []) fits in
-    (λ h. let is = law.0 (single_value block_of Block block_frame (λ x. refl) read block h) in (is.0, is.1),
-    λ h. value_single block_of Block block_frame (λ x. refl) read block (law.1 (h.0, h.1, refl)))
+    let law = only (Block block) bytes (block_kind ∷ []) fits in (
+      λ h. let is = law.0 (single_value block_of Block block_frame (λ x. refl) read block h) in (is.0, is.1),
+      λ h. value_single block_of Block block_frame (λ x. refl) read block (law.1 (h.0, h.1, refl)),
+    )
 
 -- the value of an option that has one
 pub some_there : {A : Type 0} (o : Option A) → IsSome o → (x : A) × (o ≡ Some x)
@@ -78,6 +80,9 @@ some_there (Some x) h = (x, refl)
 pub square_again : SpelledIsOnly → (square : SquareShares) → IsSquare square → AreShares square.shares → IsSome (spelling (Square square))
     → (text : List ℕ) × (spelling (Square square) ≡ Some text) × (square_in text ≡ Ok square)
 square_again again square is shares spelled =
-    let text = some_there (spelling (Square square)) spelled in
-    (text.0, text.1, value_single square_of Square square_frame (λ x. refl) (only_of text.0 (square_kind ∷ [])) square
-    (again (Square square) text.0 (square_kind ∷ []) (is, shares) text.1 refl))
+    let text = some_there (spelling (Square square)) spelled in (
+      text.0,
+      text.1,
+      value_single square_of Square square_frame (λ x. refl) (only_of text.0 (square_kind ∷ [])) square
+          (again (Square square) text.0 (square_kind ∷ []) (is, shares) text.1 refl),
+    )

@@ -21,9 +21,9 @@ use Rattle.da_wire.specs.Reading.{Raw, promised, raw_of}
 use Rattle.da_wire.specs.Frames.{ok_of, raw_in}
 use Rattle.da_wire.specs.Walks.{walk_from}
 use Rattle.da_io.specs.Files.{Files}
-use Rattle.da_cli.specs.declared.checking.Finding.{Finding}
-use Rattle.da_cli.specs.declared.checking.Finding.TheVariants.{Proved, NoMessage, Refused}
-use Rattle.da_cli.specs.Check.{finding_of, line_of, IsOwnFrame}
+use Rattle.da_cli.specs.declared.commands.check.Finding.{Finding}
+use Rattle.da_cli.specs.declared.commands.check.Finding.TheVariants.{Proved, NoMessage, Refused}
+use Rattle.da_cli.specs.commands.Check.{finding_of, line_of, IsOwnFrame}
 use Rattle.da_cli.specs.Own.{AreOwn}
 
 -- ---- the header of a square has a width and its count of roots

@@ -7,8 +7,8 @@ use Rattle.std.proofs.lemmas.Grind.{common_steps}
 use Rattle.std.proofs.KnownBytes.{Appends-nil}
 use Rattle.std.proofs.lemmas.List.{take-map, drop-map, length-map}
 use Rattle.da_io.specs.Files.{Files}
-use Rattle.da_cli.specs.declared.words.Command.{Command}
-use Rattle.da_cli.specs.declared.words.Command.TheVariants.{Check, Build, Header}
+use Rattle.da_cli.specs.declared.commands.Command.{Command}
+use Rattle.da_cli.specs.declared.commands.Command.TheVariants.{Check, Build, Header}
 use Rattle.da_cli.specs.declared.words.Call.{Call}
 use Rattle.da_cli.specs.declared.status.Status.{Status}
 use Rattle.da_cli.specs.declared.status.Status.TheVariants.{BadInput, TooLong}
@@ -25,7 +25,8 @@ use Rattle.da_cli.specs.Laws.{FormLaw, BadInputLaw, ExcessLaw, AbsentLaw, IsDeci
 use Rattle.da_cli.proofs.GatheredLemmas.{AllGathered}
 use Rattle.da_cli.proofs.EndLemmas.{IsAnswer, answer_output}
 use Rattle.da_cli.proofs.CheckLemmas.{check_last}
-use Rattle.da_cli.proofs.SquareLemmas.{build_answers, header_answers}
+use Rattle.da_cli.proofs.BuildLemmas.{build_answers}
+use Rattle.da_cli.proofs.HeaderLemmas.{header_answers}
 
 -- the relation of words that are a command
 run_of_call : (words : List (List ℕ)) (call : Call) (files : Files) (g : Gathered) → call_of words ≡ Some call

@@ -2,7 +2,7 @@
 use Rattle.std.specs.Prelude.{◌≡◌, ℕ, List, ⊤, Some, None}
 use Rattle.std.specs.declared.option.Option.{Option}
 use Rattle.da_io.specs.Files.{Files}
-use Rattle.da_cli.specs.declared.words.Command.{Command}
+use Rattle.da_cli.specs.declared.commands.Command.{Command}
 use Rattle.da_cli.specs.declared.words.Call.{Call}
 use Rattle.da_cli.specs.declared.status.Status.{Status}
 use Rattle.da_cli.specs.declared.status.Status.TheVariants.{Usage, PickFault, ReadFault, TooLong, NoMemory}
