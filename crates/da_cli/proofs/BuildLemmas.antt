@@ -20,15 +20,18 @@ use Rattle.da_cli.specs.commands.Build.{block_file, Builds, BuildOf}
 use Rattle.da_cli.specs.Meaning.{Meaning}
 use Rattle.da_cli.proofs.EndLemmas.{IsAnswer, status_answers}
 
+-- what build writes for a block, or refuses it with, is an answer
 by_refusal : (o : Option LayError) (frame : Frame) (w : List ℕ) (status : Status)
     → MatchOption o (Writes frame w status) (λ why. Refuses (BadBlock why) w status) → IsAnswer (kind_of status)
 by_refusal None frame w status h = status_answers status _ h.1 tt
 by_refusal (Some why) frame w status h = status_answers status _ h.1 tt
 
+-- what build answers to a file that was read is an answer
 by_block : (read : Result BlockParts ℕ) (w : List ℕ) (status : Status) → MatchResult read (λ block. Builds block w status) (λ at. ⊥) → IsAnswer (kind_of status)
 by_block (Ok block) w status h = by_refusal (refusal_of block) (Square (square_of block)) w status h
 by_block (Err at) w status h = absurd h
 
+-- what build answers to its files is an answer
 pub build_answers : (files : List (List ℕ)) (w : List ℕ) (status : Status) → BuildOf files w status → IsAnswer (kind_of status)
 build_answers files w status h = by_block (block_in (block_file files)) w status h
 
@@ -44,5 +47,6 @@ builds_square block square frame fine laid is w status gives =
 abbrev build_by : Result BlockParts ℕ → Relation
 build_by read = Judged (error_of read ∷ []) (λ w status. MatchResult read (λ block. Builds block w status) (λ at. ⊥))
 
+-- the meaning of build over a BLOCK that is a block
 pub build_is : (files : List (List ℕ)) (block : BlockParts) → block_in (block_file files) ≡ Ok block → Builds block ≡ Meaning command.Build files
 build_is files block read = sym (ap build_by read)

@@ -32,6 +32,7 @@ use Rattle.da_cli.specs.Meaning.{Meaning}
 abbrev answer_by : Result Roots ℕ → List Raw → Relation
 answer_by a frames w status = MatchResult a (λ h. Lists h frames w status) (λ at. ⊥)
 
+-- the meaning of check by what HEADER is and where MESSAGES leaves its form
 abbrev meaning_by : List (List ℕ) → Result Roots ℕ → Option ℕ → Relation
 meaning_by files a b = Judged (error_of a ∷ b ∷ []) (answer_by a (frames_of (messages_file files)))
 
@@ -51,6 +52,7 @@ pub next_line : (h : Roots) (rest after line : List ℕ) (frame : Raw) (finding 
 next_line h rest after line frame finding frames found shown =
     ap (lines_of h) frames ∙ ap (λ (l : List ℕ). l ++ lines_of h (frames_of after)) (sym (shown ∙ ap line_of found))
 
+-- three tests may be grouped from either end
 and_assoc : (a b c : Bool) → (a && (b && c)) ≡ ((a && b) && c)
 and_assoc true b c = refl
 and_assoc false b c = refl
@@ -69,29 +71,36 @@ status-kind : (all_ok : Bool) → kind_of (status_of_lines all_ok) ≡ output
 status-kind true = refl
 status-kind false = refl
 
+-- lines come with the status of a complete output
 pub lists_last : (h : Roots) (frames : List Raw) (w : List ℕ) (status : Status) → Lists h frames w status → kind_of status ≡ output
 lists_last h frames w status l = ap kind_of l.1 ∙ status-kind _
 
+-- what check answers comes with a complete output, by what HEADER is
 by_header : (a : Result Roots ℕ) (frames : List Raw) (w : List ℕ) (status : Status) → answer_by a frames w status → kind_of status ≡ output
 by_header (Ok h) frames w status l = lists_last h frames w status l
 by_header (Err at) frames w status l = absurd l
 
+-- what check answers comes with a complete output
 pub check_last : (files : List (List ℕ)) (w : List ℕ) (status : Status) → CheckOf files w status → kind_of status ≡ output
 check_last files w status l = by_header (header_in (header_file files)) (frames_of (messages_file files)) w status l
 
 -- ---- `ok`
 
+-- what is found of a frame, by the message that it is
 abbrev finding_by : Roots → Option sent.Message → Finding
 finding_by h o = option_map_or (λ m. option_map_or Refused (refusal_of h m) Proved) o NoMessage
 
+-- a message that is found proved has no refusal
 none_refused : (o : Option CheckRefusal) → option_map_or Refused o Proved ≡ Proved → o ≡ None
 none_refused None e = refl
 none_refused (Some why) e = absurd cc
 
+-- a frame that is found proved is a message without a refusal
 by_message : (h : Roots) (o : Option sent.Message) → finding_by h o ≡ Proved → (m : sent.Message) × (o ≡ Some m) × (refusal_of h m ≡ None)
 by_message h None e = absurd cc
 by_message h (Some m) e = (m, refl, none_refused (refusal_of h m) e)
 
+-- a value that is there where a test holds is there
 in_grammar : (b : Bool) (o : Option sent.Message) (m : sent.Message) → cond b o None ≡ Some m → o ≡ Some m
 in_grammar true o m e = e
 in_grammar false o m e = absurd cc

@@ -1,7 +1,6 @@
--- Lemmas on how commands end.
-use Rattle.std.proofs.Common.{◌≡◌, ℕ, List, [], inl, inr, refl, sym, ap, ◌∙◌, subst, IsSome, ◌↔◌, ◌⊎◌}
+-- How commands end.
+use Rattle.std.proofs.Common.{◌≡◌, ℕ, List, [], inl, inr, refl, sym, ap, subst, IsSome, ◌↔◌, ◌⊎◌}
 use Rattle.std.specs.declared.option.Option.{Option}
-use Rattle.std.specs.Io.KnownBytes.{Appends}
 use Rattle.std.proofs.KnownBytes.{Appends-nil}
 use Rattle.da_io.specs.Faults.{count_on}
 use Rattle.da_io.specs.Sinks.{IsProperPrefix, AppendsPart}
@@ -79,18 +78,6 @@ ends_within M N old new before now Same status h ends = record {
   told = ends.told;
   untouched = ends.untouched;
   own = ends.own;
-}
-
--- the output of a meaning was taken whole
-pub ends_whole : (M : Relation) (bytes : List ℕ) (status : Status) (old new : Option (List ℕ)) (before now : ℕ) (Same : Type 0)
-    → kind_of status ≡ output → M bytes status → Appends old new bytes → now ≡ before → (IsSome old ↔ IsSome new)
-    → Ends M old new before now Same status
-ends_whole M bytes status old new before now Same last meant taken same told = record {
-  leaves = subst (λ (k : Kind). LeavesBy k M old new status) (sym last) (bytes, meant, taken);
-  faults = same ∙ ap (λ (k : Kind). output_count k before) (sym last);
-  told = told;
-  untouched = subst (λ (k : Kind). UntouchedBy k Same) (sym last) tt;
-  own = subst IsOwnBy (sym last) tt;
 }
 
 -- a write failed after the front of the output of a meaning

@@ -18,16 +18,19 @@ header_frame : (frame : Frame) (header : Roots) → header_of frame ≡ Some hea
 header_frame (Header h) header e = cc
 header_frame frame header e = absurd cc
 
+-- a frame with this square is the frame of the square
 square_frame : (frame : Frame) (square : SquareShares) → square_of frame ≡ Some square → frame ≡ Square square
 square_frame (Square s) square e = cc
 square_frame frame square e = absurd cc
 
+-- a frame with this block is the frame of the block
 block_frame : (frame : Frame) (block : BlockParts) → block_of frame ≡ Some block → frame ≡ Block block
 block_frame (Block b) block e = cc
 block_frame frame block e = absurd cc
 
 module _ {A : Type 0} (value : Frame → Option A) (make : A → Frame) (is_made : (frame : Frame) (x : A) → value frame ≡ Some x → frame ≡ make x)
     (is_value : (x : A) → value (make x) ≡ Some x) where
+  -- a frame with a value is the frame of the value, by what the frame is read as
   made_by : (frame : Frame) (o : Option A) (x : A) → value frame ≡ o → option_map_or {U = Result A ℕ} Ok o (Err 0) ≡ Ok x → frame ≡ make x
   made_by frame None x e h = absurd cc
   made_by frame (Some y) x e h = let same : y ≡ x = cc in is_made frame x (e ∙ ap Some same)
@@ -37,6 +40,7 @@ module _ {A : Type 0} (value : Frame → Option A) (make : A → Frame) (is_made
   single_value (Err error) x h = absurd cc
   single_value (Ok frame) x h = ap Ok (made_by frame (value frame) x refl h)
 
+  -- a file that is read as a value's frame is read as the value
   value_single : (read : Result Frame FrameError) (x : A) → read ≡ Ok (make x) → single value read ≡ Ok x
   value_single read x h =
       ap (single value) h ∙ ap (λ (o : Option A). option_map_or {U = Result A ℕ} Ok o (Err 0)) (is_value x)
@@ -51,7 +55,7 @@ header_file only bytes header fits =
       λ h. value_single header_of Header header_frame (λ x. refl) read header (law.1 (h.0, h.1, refl)),
     )
 
--- the same of a square
+-- a file is read as a square exactly where it is the square's one spelling
 pub square_file : OnlyIsSpelled → (bytes : List ℕ) (square : SquareShares) → AreBytes bytes
     → (square_in bytes ≡ Ok square) ↔ (IsSquare square × AreShares square.shares × (spelling (Square square) ≡ Some bytes))
 square_file only bytes square fits =
@@ -61,7 +65,7 @@ square_file only bytes square fits =
       λ h. value_single square_of Square square_frame (λ x. refl) read square (law.1 ((h.0, h.1), h.2, refl)),
     )
 
--- the same of a block
+-- a file is read as a block exactly where it is the block's one spelling
 pub block_file : OnlyIsSpelled → (bytes : List ℕ) (block : BlockParts) → AreBytes bytes
     → (block_in bytes ≡ Ok block) ↔ (IsBlock block × (spelling (Block block) ≡ Some bytes))
 block_file only bytes block fits =

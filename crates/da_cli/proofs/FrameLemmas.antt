@@ -1,4 +1,4 @@
--- Lemmas on files of one frame: memory runs out in place of a value alone.
+-- Files of one frame: memory runs out in place of a value alone.
 use Rattle.std.proofs.Common.{◌≡◌, ℕ, ◌+◌, Bool, true, false, cond, ◌&&◌, ◌||◌, List, [], ◌∷◌, length, take, drop, None, Some, Result, Ok, Err, IsSome, IsOk, IfSome, refl, ap, subst, inl, inr, eqb-true, slice_index}
 use Rattle.std.specs.Prelude.{◌==◌, nat_lt}
 use Rattle.std.specs.declared.option.Option.{Option}
@@ -19,10 +19,12 @@ IsOfKind value (Ok x) = IsSome (value x)
 IsOfKind value (Err e) = e ≡ NoMemory → ⊥
 
 module _ {A : Type 0} (value : Frame → Option A) where
+  -- a payload that was read is of the kind, or a refusal
   valued_kind : (raw : Raw) (o : Option Frame) → IfSome o (λ (v : Frame). IsSome (value v)) → IsOfKind (λ (x : Frame × ℕ). value x.0) (valued 0 raw o)
   valued_kind raw None h = λ e. cc
   valued_kind raw (Some v) h = h
 
+  -- a frame behind its tests of length is of the kind, or a refusal
   raw_kind : (a b c : Bool) (raw : Raw) → IfSome (value_at raw.kind raw.payload) (λ (v : Frame). IsSome (value v))
       → IsOfKind (λ (x : Frame × ℕ). value x.0) (value_of 0 (cond a (Err (Truncated 0)) (cond b (Err (TooLong 0)) (cond c (Err (Truncated 0)) (Ok raw)))))
   raw_kind true b c raw h = λ e. cc
@@ -30,6 +32,7 @@ module _ {A : Type 0} (value : Frame → Option A) where
   raw_kind false false true raw h = λ e. cc
   raw_kind false false false raw h = valued_kind raw (value_at raw.kind raw.payload) h
 
+  -- a frame behind the test of its kind is of the kind, or a refusal
   tested_kind : (none known is : Bool) (read : Result Raw FrameError) → (is ≡ true → IsOfKind (λ (x : Frame × ℕ). value x.0) (value_of 0 read))
       → IsOfKind (λ (x : Frame × ℕ). value x.0) (value_of 0 (cond none (Err (Truncated 0)) (cond (known && (is || false)) read (Err (BadKind 0)))))
   tested_kind true known is read h = λ e. cc
@@ -37,10 +40,12 @@ module _ {A : Type 0} (value : Frame → Option A) where
   tested_kind false true false read h = λ e. cc
   tested_kind false true true read h = h refl
 
+  -- a frame with nothing behind it is of the kind, or a refusal
   trailing : (b : Bool) (x : Frame × ℕ) → IsSome (value x.0) → IsOfKind value (cond b (Err (Trailing x.1)) (Ok x.0))
   trailing true x h = λ e. cc
   trailing false x h = h
 
+  -- a file that was read up to its end is of the kind, or a refusal
   ended_kind : (size : ℕ) (read : Result (Frame × ℕ) FrameError) → IsOfKind (λ (x : Frame × ℕ). value x.0) read → IsOfKind value (ended size read)
   ended_kind size (Err e) h = h
   ended_kind size (Ok x) h = trailing (nat_lt x.1 size) x h
@@ -58,10 +63,12 @@ module _ {A : Type 0} (value : Frame → Option A) where
       (record { kind = first; payload = payload; size = 5 + promised bytes })
       (subst (λ (k : ℕ). IfSome (value_at k payload) (λ (v : Frame). IsSome (value v))) (eqb-true kind first e) (h payload))))
 
+  -- a value that is there is given
   some_given : (o : Option A) → IsSome o → IsOk {E = ℕ} (option_map_or Ok o (Err 0))
   some_given None h = absurd cc
   some_given (Some a) h = refl
 
+  -- a file that is read as a frame of the kind is read as a value
   full_single : (read : Result Frame FrameError) → IsOfKind value read → IsOk read → IsOk (single value read)
   full_single (Ok v) h ok = some_given (value v) h
   full_single (Err e) h ok = absurd cc
@@ -87,35 +94,42 @@ some_header : (o : Option Roots) → IfSome (option_map Header o) (λ (v : Frame
 some_header None = tt
 some_header (Some header) = refl
 
+-- a payload of the kind of headers makes a frame of this kind
 header_kinds : (payload : List ℕ) → IfSome (value_at header_kind payload) (λ (v : Frame). IsSome (header_of v))
 unfolding value_at
 header_kinds payload = some_header (header_at payload)
 
+-- a square that was read makes a frame of its kind
 some_square : (o : Option SquareShares) → IfSome (option_map Square o) (λ (v : Frame). IsSome (square_of v))
 some_square None = tt
 some_square (Some square) = refl
 
+-- a payload of the kind of squares makes a frame of this kind
 square_kinds : (payload : List ℕ) → IfSome (value_at square_kind payload) (λ (v : Frame). IsSome (square_of v))
 unfolding value_at
 square_kinds payload = some_square (square_at payload)
 
+-- a block that was read makes a frame of its kind
 some_block : (o : Option BlockParts) → IfSome (option_map Block o) (λ (v : Frame). IsSome (block_of v))
 some_block None = tt
 some_block (Some block) = refl
 
+-- a payload of the kind of blocks makes a frame of this kind
 block_kinds : (payload : List ℕ) → IfSome (value_at block_kind payload) (λ (v : Frame). IsSome (block_of v))
 unfolding value_at
 block_kinds payload = some_block (block_at payload)
 
--- why a file was not read as a header, a square, a block
+-- why a file was not read as a header
 pub header_unread : (bytes : List ℕ) (error : FrameError) → Reads NoMemory (λ (v : Frame). v) (Err error) (only_of bytes (header_kind ∷ []))
     → ReadsSingle (Err (unread_of error)) (header_in bytes)
 header_unread bytes error h = unread_single header_of error _ (only_kind header_of header_kind bytes header_kinds) h
 
+-- why a file was not read as a square
 pub square_unread : (bytes : List ℕ) (error : FrameError) → Reads NoMemory (λ (v : Frame). v) (Err error) (only_of bytes (square_kind ∷ []))
     → ReadsSingle (Err (unread_of error)) (square_in bytes)
 square_unread bytes error h = unread_single square_of error _ (only_kind square_of square_kind bytes square_kinds) h
 
+-- why a file was not read as a block
 pub block_unread : (bytes : List ℕ) (error : FrameError) → Reads NoMemory (λ (v : Frame). v) (Err error) (only_of bytes (block_kind ∷ []))
     → ReadsSingle (Err (unread_of error)) (block_in bytes)
 block_unread bytes error h = unread_single block_of error _ (only_kind block_of block_kind bytes block_kinds) h

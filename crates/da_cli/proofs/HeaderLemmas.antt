@@ -20,14 +20,17 @@ use Rattle.da_cli.specs.commands.Header.{square_file, Heads, HeaderOf}
 use Rattle.da_cli.specs.Meaning.{Meaning}
 use Rattle.da_cli.proofs.EndLemmas.{IsAnswer, status_answers}
 
+-- what header answers to a square is an answer
 heads_answers : (square : SquareShares) (w : List ℕ) (status : Status) → Heads square w status → IsAnswer (kind_of status)
 heads_answers square w status (inl h) = status_answers status _ h.2.1 tt
 heads_answers square w status (inr h) = status_answers status _ h.1.1 tt
 
+-- what header answers to a file that was read is an answer
 by_square : (read : Result SquareShares ℕ) (w : List ℕ) (status : Status) → MatchResult read (λ square. Heads square w status) (λ at. ⊥) → IsAnswer (kind_of status)
 by_square (Ok square) w status h = heads_answers square w status h
 by_square (Err at) w status h = absurd h
 
+-- what header answers to its files is an answer
 pub header_answers : (files : List (List ℕ)) (w : List ℕ) (status : Status) → HeaderOf files w status → IsAnswer (kind_of status)
 header_answers files w status h = by_square (square_in (square_file files)) w status h
 
@@ -56,5 +59,6 @@ heads_none square k grid same is law =
 abbrev header_by : Result SquareShares ℕ → Relation
 header_by read = Judged (error_of read ∷ []) (λ w status. MatchResult read (λ square. Heads square w status) (λ at. ⊥))
 
+-- the meaning of header over a SQUARE that is a square
 pub header_is : (files : List (List ℕ)) (square : SquareShares) → square_in (square_file files) ≡ Ok square → Heads square ≡ Meaning command.Header files
 header_is files square read = sym (ap header_by read)

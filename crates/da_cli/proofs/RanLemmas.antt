@@ -35,6 +35,7 @@ pub record HasGathered {I : Type 0} (i : inputs.Ghosts I) (names : List (List �
 
 -- ---- a command's own status, which comes after all files were read
 
+-- a command's status names no failed pick or read
 fault_own : (told : Option Files) (names : List (List ℕ)) (picked : Option (List ℕ)) (last : Ended) (status : Status) → IsOwnBy (kind_of status)
     → FaultCause told names picked last status
 fault_own told names picked last (PickFault i) own = absurd own
@@ -46,6 +47,7 @@ few_or_idle : (n given : ℕ) (Idle : Type 0) → (0 < n → given ≤ file_limi
 few_or_idle zero given Idle few idle = inl (idle refl)
 few_or_idle (suc n) given Idle few idle = inr (few (omega arith))
 
+-- over files that were read the file picked last gave no more than the limit
 given_own : (r : Reading) (names : List (List ℕ)) (given : ℕ) (Idle : Type 0) → IsOwn r → (0 < length names → given ≤ file_limit)
     → (length names ≡ 0 → Idle) → GivenReading r names given Idle
 given_own unread names given Idle own few idle = tt
@@ -54,6 +56,7 @@ given_own exceeded names given Idle own few idle = tt
 given_own begun names given Idle own few idle = few_or_idle (length names) given Idle few idle
 given_own finished names given Idle own few idle = few
 
+-- a command's status names no file that is too long
 excess_own : (told : Option Files) (names : List (List ℕ)) (picked : Option (List ℕ)) (given : ℕ) (Idle : Type 0) (status : Status) → IsOwnBy (kind_of status)
     → (0 < length names → given ≤ file_limit) → (length names ≡ 0 → Idle) → ExcessCause told names picked given Idle status
 excess_own told names picked given Idle (TooLong i) own few idle = absurd own
@@ -75,6 +78,7 @@ picks_by exceeded count before now own e = absurd own
 picks_by begun count before now own e = (count, omega arith, e)
 picks_by finished count before now own e = e
 
+-- with a command's status each file was picked once
 picks_own : (count before now : ℕ) (status : Status) → IsOwnBy (kind_of status) → now ≡ count_on before count → PickCount count before now status
 picks_own count before now (PickFault i) own e = absurd own
 picks_own count before now (ReadFault i) own e = absurd own
@@ -91,18 +95,21 @@ last_own finished Last h = h
 
 -- ---- files that were not read whole
 
+-- files that were not read whole are no matter of words
 stop_usage : (stop : Stop) → status_of stop ≡ Usage → ⊥
 stop_usage (stop.PickFault i) e = cc
 stop_usage (stop.ReadFault i) e = cc
 stop_usage (stop.TooLong i) e = cc
 stop_usage stop.NoMemory e = cc
 
+-- files that were not read whole leave the output as it was
 stop_untouched : (Same : Type 0) (stop : Stop) → Same → Untouched Same (status_of stop)
 stop_untouched Same (stop.PickFault i) same = same
 stop_untouched Same (stop.ReadFault i) same = same
 stop_untouched Same (stop.TooLong i) same = same
 stop_untouched Same stop.NoMemory same = tt
 
+-- the failed pick or read that stopped the reading is the cause of the status
 stop_fault : (told : Option Files) (names : List (List ℕ)) (picked : Option (List ℕ)) (last : Ended) (given : ℕ) (stop : Stop)
     → StopsIn told names picked last given stop → FaultCause told names picked last (status_of stop)
 stop_fault told names picked last given (stop.PickFault i) why = why
@@ -115,10 +122,12 @@ some_names : (names : List (List ℕ)) (i : ℕ) (picked : Option (List ℕ)) �
 some_names names i None word = absurd word
 some_names names i (Some name) word = omega (arith, word.0)
 
+-- where memory ran out the file picked last gave no more than the limit, or there are no files
 memory_given : (n given : ℕ) (Idle : Type 0) → (0 < n → Idle ⊎ (given ≤ file_limit)) → (n ≡ 0 → Idle) → Idle ⊎ (given ≤ file_limit)
 memory_given zero given Idle few idle = inl (idle refl)
 memory_given (suc n) given Idle few idle = few (omega arith)
 
+-- the file that was too long is the cause of the status; with another one no file was
 stop_excess : (told : Option Files) (names : List (List ℕ)) (picked : Option (List ℕ)) (last : Ended) (given : ℕ) (Idle : Type 0) (stop : Stop)
     → StopsIn told names picked last given stop → (0 < length names → WithinLimit {T = List (List ℕ)} given Idle (Err stop))
     → (length names ≡ 0 → Idle) → ExcessCause told names picked given Idle (status_of stop)
@@ -127,24 +136,28 @@ stop_excess told names picked last given Idle (stop.ReadFault i) why few idle = 
 stop_excess told names picked last given Idle (stop.TooLong i) why few idle = why
 stop_excess told names picked last given Idle stop.NoMemory why few idle = memory_given (length names) given Idle few idle
 
+-- the failure that stopped the reading is counted
 stop_inputs : (stop : Stop) (before : ℕ) → count_after {T = List (List ℕ)} before (Err stop) ≡ input_count (kind_of (status_of stop)) before
 stop_inputs (stop.PickFault i) before = refl
 stop_inputs (stop.ReadFault i) before = refl
 stop_inputs (stop.TooLong i) before = refl
 stop_inputs stop.NoMemory before = refl
 
+-- reading counts no failure of the output
 stop_outputs : (stop : Stop) (before : ℕ) → before ≡ output_count (kind_of (status_of stop)) before
 stop_outputs (stop.PickFault i) before = refl
 stop_outputs (stop.ReadFault i) before = refl
 stop_outputs (stop.TooLong i) before = refl
 stop_outputs stop.NoMemory before = refl
 
+-- the files up to the one that stopped the reading were picked
 stop_counts : (count before now : ℕ) (stop : Stop) → PicksIn {T = List (List ℕ)} before now count (Err stop) → PickCount count before now (status_of stop)
 stop_counts count before now (stop.PickFault i) h = h
 stop_counts count before now (stop.ReadFault i) h = h
 stop_counts count before now (stop.TooLong i) h = h
 stop_counts count before now stop.NoMemory h = h
 
+-- files that were not read whole say nothing of their last call
 stop_last : (Last : Type 0) (stop : Stop) → LastBy (kind_of (status_of stop)) Last
 stop_last Last (stop.PickFault i) = tt
 stop_last Last (stop.ReadFault i) = tt

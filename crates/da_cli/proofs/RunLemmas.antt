@@ -1,4 +1,4 @@
--- Lemmas on a whole run.
+-- A whole run: what words, files, output and status belong together.
 use Rattle.std.proofs.Common.{◌≡◌, ℕ, Bool, true, false, ◌+◌, ◌-◌, ◌<◌, List, [], length, take, drop, None, Some, Err, String, Global, refl, inl, sym, ap, ◌∙◌, subst, arith, ◌↔◌}
 use Rattle.std.specs.Prelude.{MatchOption}
 use Rattle.std.specs.declared.option.Option.{Option}
@@ -89,25 +89,30 @@ as_one M N w status e = (
   λ h. subst (λ (R : Relation). R w status) (sym e) h,
 )
 
+-- over files in their forms the words' relation is the command's answer
 run_in_form : (files : Files) (words : List (List ℕ)) (call : Call) (contents : List (List ℕ)) → call_of words ≡ Some call
     → gathered files (file_words call.files words) ≡ whole contents → first_bad 0 (judged_of call.command contents) ≡ None
     → RunOf files words ≡ AnswerOf call.command contents
 run_in_form files words call contents e read fine =
     run_of_call words call files (whole contents) e read ∙ judged_is (judged_of call.command contents) (AnswerOf call.command contents) None fine
 
+-- over files in their forms just the command's answer belongs to the run
 pub form_law : FormLaw
 form_law files words call contents w status e read fine =
     as_one (RunOf files words) (AnswerOf call.command contents) w status (run_in_form files words call contents e read fine)
 
+-- where a file isn't in its form just `BadInput` belongs to the run
 pub bad_input_law : BadInputLaw
 bad_input_law files words call contents i at w status e read bad =
     as_one (RunOf files words) (Refuses (BadInput i at)) w status
     (run_of_call words call files (whole contents) e read ∙ judged_is (judged_of call.command contents) (AnswerOf call.command contents) (Some (i, at)) bad)
 
+-- where a file is too long just `TooLong` belongs to the run
 pub excess_law : ExcessLaw
 excess_law files words call i w status e read =
     as_one (RunOf files words) (Refuses (TooLong i)) w status (run_of_call words call files (long i) e read)
 
+-- where a file isn't there nothing belongs to the run
 pub absent_law : AbsentLaw
 absent_law files words call i w status e read run =
     subst (λ (R : Relation). R w status) (run_of_call words call files (absent i) e read) run
@@ -127,20 +132,24 @@ decided_answer false Decided h = absurd h
 decided : (status : Status) (k : Kind) → kind_of status ≡ k → IsDecided k → IsDecided (kind_of status)
 decided status k e h = subst IsDecided (sym e) h
 
+-- what a command over judged files comes to is decided by words and files
 by_judged : (o : Option (ℕ × ℕ)) (command : Command) (files : List (List ℕ)) (w : List ℕ) (status : Status)
     → MatchOption o (AnswerOf command files w status) (λ bad. Refuses (BadInput bad.0 bad.1) w status) → IsDecided (kind_of status)
 by_judged None command files w status h = decided_answer (row_of (kind_of status)).in_form _ (answer_last command files w status h)
 by_judged (Some bad) command files w status h = decided status form (ap kind_of h.1) tt
 
+-- what a command over gathered files comes to is decided by words and files
 by_gathered : (g : Gathered) (command : Command) (w : List ℕ) (status : Status) → CommandOf command g w status → IsDecided (kind_of status)
 by_gathered (whole contents) command w status h = by_judged (first_bad 0 (judged_of command contents)) command contents w status h
 by_gathered (long i) command w status h = decided status excess (ap kind_of h.1) tt
 by_gathered (absent i) command w status h = absurd h
 
+-- what words come to is decided by words and files
 by_call : (o : Option Call) (files : Files) (words : List (List ℕ)) (w : List ℕ) (status : Status) → CallOf o files words w status → IsDecided (kind_of status)
 by_call None files words w status h = decided status usage (ap kind_of h.1) tt
 by_call (Some call) files words w status h = by_gathered (gathered files (file_words call.files words)) call.command w status h
 
+-- no failure and no want of memory belongs to a run
 pub failure_law : FailureLaw
 failure_law files words w status h = by_call (call_of words) files words w status h
 
