@@ -1,4 +1,4 @@
--- Lemmas on the command check.
+-- What the command check answers.
 use Rattle.std.proofs.Common.{◌≡◌, ◌∙◌, ℕ, Bool, true, false, ◌&&◌, cond, List, [], ◌∷◌, ◌++◌, Some, None, Result, Ok, Err, refl, sym, ap, ap₂}
 use Rattle.std.specs.Prelude.{MatchResult, ◌↔◌, ◌==◌}
 use Rattle.std.specs.Option.{option_map_or}
@@ -19,32 +19,32 @@ use Rattle.data_header.specs.Headers.{Roots, AreRoots}
 use Rattle.da_wire.specs.Frames.{frames_of, bad_frame, message_in}
 use Rattle.da_cli.specs.declared.status.Status.{Status}
 use Rattle.da_cli.specs.declared.status.Status.TheVariants.{BadInput}
-use Rattle.da_cli.specs.declared.checking.Finding.{Finding}
-use Rattle.da_cli.specs.declared.checking.Finding.TheVariants.{Proved, NoMessage, Refused}
-use Rattle.da_cli.specs.declared.words.Command.TheVariants.{Check}
-use Rattle.da_cli.specs.Gathered.{file_of}
+use Rattle.da_cli.specs.declared.commands.check.Finding.{Finding}
+use Rattle.da_cli.specs.declared.commands.check.Finding.TheVariants.{Proved, NoMessage, Refused}
+use Rattle.da_cli.specs.declared.commands.Command.TheVariants.{Check}
 use Rattle.da_cli.specs.Statuses.{kind_of, output}
 use Rattle.da_cli.specs.Outcome.{Relation, Refuses}
 use Rattle.da_cli.specs.Judging.{Judged}
-use Rattle.da_cli.specs.Single.{header_in, error_of}
-use Rattle.da_cli.specs.Check.{IsProvedFrame, IsOwnFrame, finding_of, line_of, is_ok, lines_of, are_ok, status_of_lines, Lists, CheckOf}
+use Rattle.da_cli.specs.commands.Frames.{header_in, error_of}
+use Rattle.da_cli.specs.commands.Check.{header_file, messages_file, IsProvedFrame, IsOwnFrame, finding_of, line_of, is_ok, lines_of, are_ok, status_of_lines, Lists, CheckOf}
 use Rattle.da_cli.specs.Meaning.{Meaning}
 
 -- the answer by what the two files are
 abbrev answer_by : Result Roots ℕ → List Raw → Relation
 answer_by a frames w status = MatchResult a (λ h. Lists h frames w status) (λ at. ⊥)
 
+-- the meaning of check by what HEADER is and where MESSAGES leaves its form
 abbrev meaning_by : List (List ℕ) → Result Roots ℕ → Option ℕ → Relation
-meaning_by files a b = Judged (error_of a ∷ b ∷ []) (answer_by a (frames_of (file_of files 1)))
+meaning_by files a b = Judged (error_of a ∷ b ∷ []) (answer_by a (frames_of (messages_file files)))
 
 -- the meaning of a second file that isn't a list of frames
-pub check_refuses : (files : List (List ℕ)) (h : Roots) (at : ℕ) → header_in (file_of files 0) ≡ Ok h → bad_frame (file_of files 1) ≡ Some at
+pub check_refuses : (files : List (List ℕ)) (h : Roots) (at : ℕ) → header_in (header_file files) ≡ Ok h → bad_frame (messages_file files) ≡ Some at
     → Refuses (BadInput 1 at) ≡ Meaning Check files
 check_refuses files h at read bad = sym (ap₂ (meaning_by files) read bad)
 
 -- the meaning of files that were read is their lines
-pub check_is : (files : List (List ℕ)) (h : Roots) → header_in (file_of files 0) ≡ Ok h → bad_frame (file_of files 1) ≡ None
-    → Lists h (frames_of (file_of files 1)) ≡ Meaning Check files
+pub check_is : (files : List (List ℕ)) (h : Roots) → header_in (header_file files) ≡ Ok h → bad_frame (messages_file files) ≡ None
+    → Lists h (frames_of (messages_file files)) ≡ Meaning Check files
 check_is files h read fine = sym (ap₂ (meaning_by files) read fine)
 
 -- the next frame's line comes next
@@ -53,6 +53,7 @@ pub next_line : (h : Roots) (rest after line : List ℕ) (frame : Raw) (finding 
 next_line h rest after line frame finding frames found shown =
     ap (lines_of h) frames ∙ ap (λ (l : List ℕ). l ++ lines_of h (frames_of after)) (sym (shown ∙ ap line_of found))
 
+-- three tests may be grouped from either end
 and_assoc : (a b c : Bool) → (a && (b && c)) ≡ ((a && b) && c)
 and_assoc true b c = refl
 and_assoc false b c = refl
@@ -71,29 +72,36 @@ status-kind : (all_ok : Bool) → kind_of (status_of_lines all_ok) ≡ output
 status-kind true = refl
 status-kind false = refl
 
+-- lines come with the status of a complete output
 pub lists_last : (h : Roots) (frames : List Raw) (w : List ℕ) (status : Status) → Lists h frames w status → kind_of status ≡ output
 lists_last h frames w status l = ap kind_of l.1 ∙ status-kind _
 
+-- what check answers comes with a complete output, by what HEADER is
 by_header : (a : Result Roots ℕ) (frames : List Raw) (w : List ℕ) (status : Status) → answer_by a frames w status → kind_of status ≡ output
 by_header (Ok h) frames w status l = lists_last h frames w status l
 by_header (Err at) frames w status l = absurd l
 
+-- what check answers comes with a complete output
 pub check_last : (files : List (List ℕ)) (w : List ℕ) (status : Status) → CheckOf files w status → kind_of status ≡ output
-check_last files w status l = by_header (header_in (file_of files 0)) (frames_of (file_of files 1)) w status l
+check_last files w status l = by_header (header_in (header_file files)) (frames_of (messages_file files)) w status l
 
 -- ---- `ok`
 
+-- what is found of a frame, by the message that it is
 abbrev finding_by : Roots → Option sent.Message → Finding
 finding_by h o = option_map_or (λ m. option_map_or Refused (refusal_of h m) Proved) o NoMessage
 
+-- a message that is found proved has no refusal
 none_refused : (o : Option CheckRefusal) → option_map_or Refused o Proved ≡ Proved → o ≡ None
 none_refused None e = refl
 none_refused (Some why) e = absurd cc
 
+-- a frame that is found proved is a message without a refusal
 by_message : (h : Roots) (o : Option sent.Message) → finding_by h o ≡ Proved → (m : sent.Message) × (o ≡ Some m) × (refusal_of h m ≡ None)
 by_message h None e = absurd cc
 by_message h (Some m) e = (m, refl, none_refused (refusal_of h m) e)
 
+-- a value that is there where a test holds is there
 in_grammar : (b : Bool) (o : Option sent.Message) (m : sent.Message) → cond b o None ≡ Some m → o ≡ Some m
 in_grammar true o m e = e
 in_grammar false o m e = absurd cc

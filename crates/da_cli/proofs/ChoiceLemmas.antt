@@ -1,14 +1,10 @@
--- Lemmas on outputs that are a choice.
-use Rattle.std.proofs.Common.{◌≡◌, ◌∙◌, ℕ, List, [], ◌∷◌, ◌++◌, None, Some, IsSome, refl, sym, ap, subst, append_assoc, append-nil}
-use Rattle.std.specs.declared.option.Option.{Option}
+-- Outputs that are a choice.
+use Rattle.std.proofs.Common.{◌≡◌, ◌∙◌, ℕ, List, [], ◌∷◌, ◌++◌, Some, refl, sym, ap, subst, append_assoc, append-nil}
 use Rattle.std.specs.List.{AllByRecursion}
 use Rattle.da_wire.specs.declared.frames.Frame.{Frame}
 use Rattle.da_wire.specs.Spelling.{spelling}
 use Rattle.da_cli.specs.Choices.{FramesOf, HasFrame}
-
-text_of : (o : Option (List ℕ)) → IsSome o → (text : List ℕ) × (o ≡ Some text)
-text_of None some = absurd cc
-text_of (Some text) some = (text, refl)
+use Rattle.da_cli.proofs.FileLemmas.{some_there}
 
 module _ {A : Type 0} (Allows : A → Frame → Type 0) where
   -- the frames of some requests, and then those of others
@@ -31,7 +27,7 @@ module _ {A : Type 0} (Allows : A → Frame → Type 0) where
   unfolding FramesOf
   frames_some [] all = ([], refl)
   frames_some (request ∷ later) all =
-      let text = text_of (spelling all.0.0) all.0.2 in
+      let text = some_there (spelling all.0.0) all.0.2 in
       let next = frames_some later all.1 in
       (text.0 ++ next.0, (all.0.0, text.0, next.0, all.0.1, text.1, refl, next.1))
 

@@ -1,29 +1,14 @@
--- Lemmas on how commands end.
-use Rattle.std.proofs.Common.{◌≡◌, ℕ, zero, suc, ◌<◌, ◌≤◌, List, [], ◌∷◌, length, get_or, inl, inr, Vec, Global, refl, sym, ap, ◌∙◌, subst, arith, IsSome, ◌↔◌, ◌⊎◌}
+-- How commands end.
+use Rattle.std.proofs.Common.{◌≡◌, ℕ, List, [], inl, inr, refl, sym, ap, subst, IsSome, ◌↔◌, ◌⊎◌}
 use Rattle.std.specs.declared.option.Option.{Option}
-use Rattle.std.specs.Io.KnownBytes.{Appends}
 use Rattle.std.proofs.KnownBytes.{Appends-nil}
 use Rattle.da_io.specs.Faults.{count_on}
 use Rattle.da_io.specs.Sinks.{IsProperPrefix, AppendsPart}
 use Rattle.da_cli.specs.declared.status.Status.{Status}
 use Rattle.da_cli.specs.declared.status.Status.TheVariants.{WriteFault, BadInput}
-use Rattle.da_cli.specs.Statuses.{Kind, usage, fault, excess, form, request, memory, write, output, kind_of, output_count}
-use Rattle.da_cli.specs.Gathered.{contents_of, file_of}
-use Rattle.da_cli.specs.Outcome.{Relation, Refuses, Outputs, LeavesBy, UntouchedBy, IsOwnBy, Ends}
-
--- file i of a list
-pub file_some : (files : List (Vec ℕ Global)) (i : ℕ) (file : Vec ℕ Global) → i < length files → file ≡ get_or files i file
-    → file.items ≡ file_of (contents_of files) i
-unfolding file_of
-file_some [] i file h e = absurd (omega arith)
-file_some (f ∷ files) zero file h e = ap (λ (v : Vec ℕ Global). v.items) e
-file_some (f ∷ files) (suc i) file h e = file_some files i file (omega arith) e
-
-pub file_none : (files : List (Vec ℕ Global)) (i : ℕ) → length files ≤ i → [] ≡ file_of (contents_of files) i
-unfolding file_of
-file_none [] i h = refl
-file_none (f ∷ files) zero h = absurd (omega arith)
-file_none (f ∷ files) (suc i) h = file_none files i (omega arith)
+use Rattle.da_cli.specs.Statuses.{Kind, request, output, kind_of, Taken, complete, part, front, undefined, row_of, output_count, May}
+use Rattle.da_cli.specs.Outcome.{Relation, Refuses, Outputs, Takes, LeavesBy, UntouchedBy, IsOwnBy, Ends}
+use Rattle.da_cli.specs.Laws.{IsDecided}
 
 -- a command with a meaning that is another's
 pub ends_as : (M N : Relation) (old new : Option (List ℕ)) (before now : ℕ) (Same : Type 0) (status : Status) → M ≡ N
@@ -43,17 +28,15 @@ ends_refused i at old before Same same = record {
 
 -- what a command answers over files in their forms: its output, or that it refuses what they ask for
 abbrev pub IsAnswer : Kind → Type 0
-IsAnswer usage = ⊥
-IsAnswer fault = ⊥
-IsAnswer excess = ⊥
-IsAnswer form = ⊥
-IsAnswer request = Unit {0}
-IsAnswer memory = ⊥
-IsAnswer write = ⊥
-IsAnswer output = Unit {0}
+IsAnswer kind = May (row_of kind).in_form (IsDecided kind)
 
+-- a complete output is an answer
 pub answer_output : (status : Status) → kind_of status ≡ output → IsAnswer (kind_of status)
 answer_output status e = subst IsAnswer (sym e) tt
+
+-- the status of an answer
+pub status_answers : (status wanted : Status) → status ≡ wanted → IsAnswer (kind_of wanted) → IsAnswer (kind_of status)
+status_answers status wanted e h = subst (λ (s : Status). IsAnswer (kind_of s)) (sym e) h
 
 -- what the files ask for is refused
 pub ends_request : (M : Relation) (old : Option (List ℕ)) (before : ℕ) (Same : Type 0) (status : Status) → kind_of status ≡ request → M [] status → Same
@@ -66,49 +49,35 @@ ends_request M old before Same status e meant same = record {
   own = subst IsOwnBy (sym e) tt;
 }
 
--- an answer by a meaning of which another is a part
+-- a whole output of a meaning is one of a greater meaning
 outputs_within : (M N : Relation) (old new : Option (List ℕ)) (status : Status) → ((w : List ℕ) (s : Status) → M w s → N w s)
     → Outputs M old new status → Outputs N old new status
 outputs_within M N old new status h o = (o.0, h o.0 status o.1, o.2)
 
-front_within : (M N : Relation) (part : List ℕ) → ((w : List ℕ) (s : Status) → M w s → N w s)
-    → (part ≡ []) ⊎ ((w : List ℕ) × (s : Status) × M w s × IsProperPrefix part w)
-    → (part ≡ []) ⊎ ((w : List ℕ) × (s : Status) × N w s × IsProperPrefix part w)
-front_within M N part h (inl e) = inl e
-front_within M N part h (inr o) = inr (o.0, o.1, h o.0 o.1 o.2, o.3)
+-- the front of an output of a meaning is one of a greater meaning
+front_within : (M N : Relation) (taken : List ℕ) → ((w : List ℕ) (s : Status) → M w s → N w s)
+    → (taken ≡ []) ⊎ ((w : List ℕ) × (s : Status) × M w s × IsProperPrefix taken w)
+    → (taken ≡ []) ⊎ ((w : List ℕ) × (s : Status) × N w s × IsProperPrefix taken w)
+front_within M N taken h (inl e) = inl e
+front_within M N taken h (inr o) = inr (o.0, o.1, h o.0 o.1 o.2, o.3)
 
-pub leaves_within : (k : Kind) (M N : Relation) (old new : Option (List ℕ)) (status : Status) → ((w : List ℕ) (s : Status) → M w s → N w s)
-    → LeavesBy k M old new status → LeavesBy k N old new status
-leaves_within usage M N old new status h a = outputs_within M N old new status h a
-leaves_within fault M N old new status h a = tt
-leaves_within excess M N old new status h a = outputs_within M N old new status h a
-leaves_within form M N old new status h a = outputs_within M N old new status h a
-leaves_within request M N old new status h a = outputs_within M N old new status h a
-leaves_within memory M N old new status h a = (a.0, a.1, front_within M N a.0 h a.2)
-leaves_within write M N old new status h a = (a.0, a.1, h a.0 a.1 a.2, a.3)
-leaves_within output M N old new status h a = outputs_within M N old new status h a
+-- what is taken of outputs of a meaning is taken of those of a greater meaning
+pub takes_within : (taken : Taken) (M N : Relation) (old new : Option (List ℕ)) (status : Status) → ((w : List ℕ) (s : Status) → M w s → N w s)
+    → Takes taken M old new status → Takes taken N old new status
+takes_within complete M N old new status h a = outputs_within M N old new status h a
+takes_within part M N old new status h a = (a.0, a.1, h a.0 a.1 a.2, a.3)
+takes_within front M N old new status h a = (a.0, a.1, front_within M N a.0 h a.2)
+takes_within undefined M N old new status h a = tt
 
--- a meaning of which another is a part
+-- a command ends by a greater meaning as by its own
 pub ends_within : (M N : Relation) (old new : Option (List ℕ)) (before now : ℕ) (Same : Type 0) (status : Status)
     → ((w : List ℕ) (s : Status) → M w s → N w s) → Ends M old new before now Same status → Ends N old new before now Same status
 ends_within M N old new before now Same status h ends = record {
-  leaves = leaves_within (kind_of status) M N old new status h ends.leaves;
+  leaves = takes_within (row_of (kind_of status)).taken M N old new status h ends.leaves;
   faults = ends.faults;
   told = ends.told;
   untouched = ends.untouched;
   own = ends.own;
-}
-
--- the output of a meaning was taken whole
-pub ends_whole : (M : Relation) (bytes : List ℕ) (status : Status) (old new : Option (List ℕ)) (before now : ℕ) (Same : Type 0)
-    → kind_of status ≡ output → M bytes status → Appends old new bytes → now ≡ before → (IsSome old ↔ IsSome new)
-    → Ends M old new before now Same status
-ends_whole M bytes status old new before now Same last meant taken same told = record {
-  leaves = subst (λ (k : Kind). LeavesBy k M old new status) (sym last) (bytes, meant, taken);
-  faults = same ∙ ap (λ (k : Kind). output_count k before) (sym last);
-  told = told;
-  untouched = subst (λ (k : Kind). UntouchedBy k Same) (sym last) tt;
-  own = subst IsOwnBy (sym last) tt;
 }
 
 -- a write failed after the front of the output of a meaning

@@ -1,4 +1,4 @@
--- Lemmas on reading the files of a list of names.
+-- Reading the files of a list of names.
 use Rattle.std.proofs.Common.{◌≡◌, ℕ, zero, suc, ◌+◌, ◌-◌, ◌<◌, ◌≤◌, nat_lt, Bool, true, false, cond, List, [], ◌∷◌, ◌++◌, length, drop, get_or, None, Some, Ok, Err, Vec, String, Global, refl, sym, ap, ◌∙◌, subst, arith, ⊎_elim, inl, inr, add-one, append_assoc, append-nil}
 use Rattle.std.specs.Prelude.{⊤, ◌⊎◌}
 use Rattle.std.specs.declared.option.Option.{Option}
@@ -31,7 +31,7 @@ word_here (w ∷ words) (suc i) word h e =
     word_here words i word (omega arith) e
     ∙ sym (ap (λ (k : ℕ). string_bytes word ∷ drop k (words_of (w ∷ words))) next)
 
--- the same by a copy of the word
+-- name i by a copy of its word, and then the later ones
 pub name_here : (words : List (String Global)) (i : ℕ) (word name : String Global) → i < length words → word ≡ get_or words i word
     → string_bytes name ≡ string_bytes word → drop i (words_of words) ≡ string_bytes name ∷ drop (i + 1) (words_of words)
 name_here words i word name h e same =
@@ -46,11 +46,13 @@ from_here files names i name here =
     ap (gathered_from files i) here
     ∙ ap (λ (j : ℕ). gathered_one i (files name) (gathered_from files j (drop (i + 1) names))) next
 
+-- a file within the limit is gathered
 within : (i : ℕ) (content : List ℕ) (later : Gathered) → length content ≤ file_limit → gathered_one i (Some content) later ≡ after (content ∷ []) later
 within i content later h =
     let e : nat_lt file_limit (length content) ≡ false = grind (arith, nat_tests) in
     ap (λ (b : Bool). cond b (long i) (after (content ∷ []) later)) e
 
+-- a file beyond the limit ends what is gathered
 beyond : (i : ℕ) (content : List ℕ) (later : Gathered) → file_limit < length content → gathered_one i (Some content) later ≡ long i
 beyond i content later h =
     let e : nat_lt file_limit (length content) ≡ true = grind (arith, nat_tests) in
@@ -133,15 +135,12 @@ stop_picks i before now count last given (ReadFault j) h why e = e ∙ ap (λ (k
 stop_picks i before now count last given (TooLong j) h why e = e ∙ ap (λ (k : ℕ). count_on before (k + 1)) (sym why.0)
 stop_picks i before now count last given NoMemory h why e = (i + 1, omega arith, e)
 
+-- a number below the next one is below this one or is it
 below : (j i : ℕ) → j < i + 1 → (j < i) ⊎ (j ≡ i)
 below zero zero h = inr refl
 below zero (suc i) h = inl (omega arith)
 below (suc j) zero h = absurd (omega arith)
 below (suc j) (suc i) h = ⊎_elim (λ (lt : j < i). inl (omega arith)) (λ (same : j ≡ i). inr (ap suc same)) (below j i (omega arith))
-
-pub all_read_none : (told : Option Files) (names : List (List ℕ)) → AllRead told names 0
-all_read_none None names = tt
-all_read_none (Some files) names = λ j h. absurd (omega arith)
 
 -- one more file is there and within the limit
 pub all_read_on : (told : Option Files) (names : List (List ℕ)) (i : ℕ) (name content : List ℕ)
@@ -159,3 +158,18 @@ all_read_on (Some files) names i name content before here read = λ j hj.
 pub contents_more : (contents : List (Vec ℕ Global)) (content : Vec ℕ Global) → contents_of (contents ++ content ∷ []) ≡ contents_of contents ++ content.items ∷ []
 contents_more [] content = refl
 contents_more (c ∷ contents) content = ap (λ (l : List (List ℕ)). c.items ∷ l) (contents_more contents content)
+
+-- file i of a list
+pub file_some : (files : List (Vec ℕ Global)) (i : ℕ) (file : Vec ℕ Global) → i < length files → file ≡ get_or files i file
+    → file.items ≡ file_of (contents_of files) i
+unfolding file_of
+file_some [] i file h e = absurd (omega arith)
+file_some (f ∷ files) zero file h e = ap (λ (v : Vec ℕ Global). v.items) e
+file_some (f ∷ files) (suc i) file h e = file_some files i file (omega arith) e
+
+-- there is no file i
+pub file_none : (files : List (Vec ℕ Global)) (i : ℕ) → length files ≤ i → [] ≡ file_of (contents_of files) i
+unfolding file_of
+file_none [] i h = refl
+file_none (f ∷ files) zero h = absurd (omega arith)
+file_none (f ∷ files) (suc i) h = file_none files i (omega arith)

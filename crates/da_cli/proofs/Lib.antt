@@ -2,10 +2,11 @@ pub mod DigitLemmas
 pub mod WriteLemmas
 pub mod EndLemmas
 pub mod GatheredLemmas
-pub mod SingleLemmas
+pub mod FrameLemmas
 pub mod FileLemmas
 pub mod CheckLemmas
-pub mod SquareLemmas
+pub mod BuildLemmas
+pub mod HeaderLemmas
 pub mod RunLemmas
 pub mod RanLemmas
 pub mod OwnLemmas

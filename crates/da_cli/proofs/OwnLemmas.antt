@@ -1,4 +1,4 @@
--- Lemmas on the line `ok` under the header of a square.
+-- The line `ok` under the header of a square.
 use Rattle.std.proofs.Common.{◌≡◌, ◌∙◌, ℕ, zero, suc, ◌+◌, ◌-◌, Bool, true, false, cond, List, [], ◌∷◌, length, take, drop, None, Some, Ok, Err, IfSome, refl, ap, subst, slice_index}
 use Rattle.std.specs.Prelude.{nat_lt, codes, slice_get, ◌*◌}
 use Rattle.std.specs.declared.option.Option.{Option}
@@ -21,25 +21,29 @@ use Rattle.da_wire.specs.Reading.{Raw, promised, raw_of}
 use Rattle.da_wire.specs.Frames.{ok_of, raw_in}
 use Rattle.da_wire.specs.Walks.{walk_from}
 use Rattle.da_io.specs.Files.{Files}
-use Rattle.da_cli.specs.declared.checking.Finding.{Finding}
-use Rattle.da_cli.specs.declared.checking.Finding.TheVariants.{Proved, NoMessage, Refused}
-use Rattle.da_cli.specs.Check.{finding_of, line_of, IsOwnFrame}
+use Rattle.da_cli.specs.declared.commands.check.Finding.{Finding}
+use Rattle.da_cli.specs.declared.commands.check.Finding.TheVariants.{Proved, NoMessage, Refused}
+use Rattle.da_cli.specs.commands.Check.{finding_of, line_of, IsOwnFrame}
 use Rattle.da_cli.specs.Own.{AreOwn}
 
 -- ---- the header of a square has a width and its count of roots
 
+-- so many numbers ascend from a first one
 length-ascending : (n first : ℕ) → length (ascending first n) ≡ n
 unfolding ascending
 length-ascending zero first = refl
 length-ascending (suc n) first = ap suc (length-ascending n (suc first))
 
+-- a grid of width k has 2 k roots along an axis
 length-axis_roots : (k : ℕ) (grid : List Share) (axis : Axis) → length (axis_roots k grid axis) ≡ 2 * k
 length-axis_roots k grid axis = length-map (ascending 0 (2 * k)) (axis_root k grid axis) ∙ length-ascending (2 * k) 0
 
+-- a header that is made where a test holds is the header
 made_is : (ordered : Bool) (made header : Roots) → cond ordered (Some made) None ≡ Some header → made ≡ header
 made_is true made header e = cc
 made_is false made header e = absurd cc
 
+-- the header of a square has a width and its count of roots
 own_roots : (header : Roots) (square : SquareShares) → IsHeaderOf header square → AreRoots header
 own_roots header square own =
     let made : Roots = record { k = square.k; rows = axis_roots square.k own.grid Row; cols = axis_roots square.k own.grid Col } in
@@ -52,9 +56,11 @@ own_roots header square own =
 
 -- ---- frames of a byte string have bytes
 
+-- the payload of a frame has bytes
 abbrev HasBytes : Raw → Type 0
 HasBytes raw = AreBytes raw.payload
 
+-- a frame behind its tests of length has bytes
 raw_bytes : (a b c : Bool) (raw : Raw) → HasBytes raw
     → IfSome (option_map (λ (r : Raw). (r, r.size)) (ok_of (cond a (Err (wire.Truncated 0)) (cond b (Err (wire.TooLong 0)) (cond c (Err (wire.Truncated 0)) (Ok raw))))))
     (λ (x : Raw × ℕ). HasBytes x.0)
@@ -63,6 +69,7 @@ raw_bytes false true c raw h = tt
 raw_bytes false false true raw h = tt
 raw_bytes false false false raw h = h
 
+-- the frame in front of a byte string has bytes
 front_bytes : (bytes : List ℕ) → AreBytes bytes → IfSome (raw_in bytes) (λ (x : Raw × ℕ). HasBytes x.0)
 unfolding raw_of
 front_bytes bytes fits =
@@ -70,18 +77,21 @@ front_bytes bytes fits =
     (record { kind = slice_index bytes 0; payload = take (promised bytes) (drop 5 bytes); size = 5 + promised bytes })
     (AreBytes-take (promised bytes) (drop 5 bytes) (AreBytes-drop 5 bytes fits))
 
+-- a frame with bytes, and then frames with bytes
 frames_on : (o : Option (Raw × ℕ)) (rest : List ℕ) → IfSome o (λ (x : Raw × ℕ). HasBytes x.0)
     → ((skip : ℕ) → AllByRecursion HasBytes (walk_from raw_in skip rest))
     → AllByRecursion HasBytes (option_map_or (λ (x : Raw × ℕ). x.0 ∷ walk_from raw_in (x.1 - 1) rest) o [])
 frames_on None rest h later = tt
 frames_on (Some x) rest h later = (h, later (x.1 - 1))
 
+-- the frames of a byte string have bytes
 frames_fit : (bytes : List ℕ) → AreBytes bytes → (skip : ℕ) → AllByRecursion HasBytes (walk_from raw_in skip bytes)
 unfolding walk_from
 frames_fit [] fits skip = tt
 frames_fit (byte ∷ rest) fits zero = frames_on (raw_in (byte ∷ rest)) rest (front_bytes (byte ∷ rest) fits) (frames_fit rest (λ j. fits (suc j)))
 frames_fit (byte ∷ rest) fits (suc skip) = frames_fit rest (λ j. fits (suc j)) skip
 
+-- what holds of all entries holds of each
 all_at : {X : Type 0} (P : X → Type 0) (xs : List X) (i : ℕ) (x : X) → AllByRecursion P xs → slice_get xs i ≡ Some x → P x
 all_at P [] i x all e = absurd cc
 all_at P (y ∷ xs) zero x all e = let same : y ≡ x = cc in subst P same all.0
@@ -89,6 +99,7 @@ all_at P (y ∷ xs) (suc i) x all e = all_at P xs i x all.1 e
 
 -- ---- the line `ok`
 
+-- the line `ok` stands for a frame that is found proved
 ok_is_proved : (found : Finding) → line_of found ≡ codes "ok\n" → found ≡ Proved
 ok_is_proved Proved e = refl
 ok_is_proved NoMessage e = absurd cc

@@ -13,9 +13,9 @@ use Rattle.da_cli.specs.declared.status.Status.TheVariants.{Usage, PickFault, Re
 use Rattle.da_cli.specs.declared.words.Call.{Call}
 use Rattle.da_cli.specs.Limits.{file_limit}
 use Rattle.da_cli.specs.Words.{call_of, names_of}
-use Rattle.da_cli.specs.Statuses.{Kind, usage, fault, excess, form, request, memory, write, output, kind_of, input_count, output_count}
+use Rattle.da_cli.specs.Statuses.{kind_of, Reading, unread, failed, exceeded, begun, finished, row_of, counted_reading, input_count, output_count}
 use Rattle.da_cli.specs.Gathered.{Gathers, IsWord, IsLastOf, PicksIn, StopsIn, WithinLimit, count_after}
-use Rattle.da_cli.specs.Outcome.{Untouched, FaultCause, GivenBy, ExcessCause, LastBy, PicksBy, PickCount, IsOwnBy, Ends}
+use Rattle.da_cli.specs.Outcome.{Untouched, FaultCause, GivenReading, ExcessCause, IfFinished, LastBy, PicksReading, PickCount, IsOwn, IsOwnBy, Ends}
 use Rattle.da_cli.specs.Meaning.{Meaning}
 use Rattle.da_cli.specs.Run.{status_of}
 use Rattle.da_cli.specs.Ran.{Ran}
@@ -35,6 +35,7 @@ pub record HasGathered {I : Type 0} (i : inputs.Ghosts I) (names : List (List �
 
 -- ---- a command's own status, which comes after all files were read
 
+-- a command's status names no failed pick or read
 fault_own : (told : Option Files) (names : List (List ℕ)) (picked : Option (List ℕ)) (last : Ended) (status : Status) → IsOwnBy (kind_of status)
     → FaultCause told names picked last status
 fault_own told names picked last (PickFault i) own = absurd own
@@ -46,74 +47,69 @@ few_or_idle : (n given : ℕ) (Idle : Type 0) → (0 < n → given ≤ file_limi
 few_or_idle zero given Idle few idle = inl (idle refl)
 few_or_idle (suc n) given Idle few idle = inr (few (omega arith))
 
-given_own : (k : Kind) (names : List (List ℕ)) (given : ℕ) (Idle : Type 0) → IsOwnBy k → (0 < length names → given ≤ file_limit)
-    → (length names ≡ 0 → Idle) → GivenBy k names given Idle
-given_own usage names given Idle own few idle = tt
-given_own fault names given Idle own few idle = absurd own
-given_own excess names given Idle own few idle = tt
-given_own form names given Idle own few idle = few
-given_own request names given Idle own few idle = few
-given_own memory names given Idle own few idle = few_or_idle (length names) given Idle few idle
-given_own write names given Idle own few idle = few
-given_own output names given Idle own few idle = few
+-- over files that were read the file picked last gave no more than the limit
+given_own : (r : Reading) (names : List (List ℕ)) (given : ℕ) (Idle : Type 0) → IsOwn r → (0 < length names → given ≤ file_limit)
+    → (length names ≡ 0 → Idle) → GivenReading r names given Idle
+given_own unread names given Idle own few idle = tt
+given_own failed names given Idle own few idle = absurd own
+given_own exceeded names given Idle own few idle = tt
+given_own begun names given Idle own few idle = few_or_idle (length names) given Idle few idle
+given_own finished names given Idle own few idle = few
 
+-- a command's status names no file that is too long
 excess_own : (told : Option Files) (names : List (List ℕ)) (picked : Option (List ℕ)) (given : ℕ) (Idle : Type 0) (status : Status) → IsOwnBy (kind_of status)
     → (0 < length names → given ≤ file_limit) → (length names ≡ 0 → Idle) → ExcessCause told names picked given Idle status
 excess_own told names picked given Idle (TooLong i) own few idle = absurd own
-excess_own told names picked given Idle status own few idle = given_own (kind_of status) names given Idle own few idle
+excess_own told names picked given Idle status own few idle = given_own (row_of (kind_of status)).reading names given Idle own few idle
 
 -- no failure of the inputs is counted
-input_own : (k : Kind) (before : ℕ) → IsOwnBy k → before ≡ input_count k before
-input_own usage before own = refl
-input_own fault before own = absurd own
-input_own excess before own = refl
-input_own form before own = refl
-input_own request before own = refl
-input_own memory before own = refl
-input_own write before own = refl
-input_own output before own = refl
+input_own : (r : Reading) (before : ℕ) → IsOwn r → before ≡ counted_reading r before
+input_own unread before own = refl
+input_own failed before own = absurd own
+input_own exceeded before own = refl
+input_own begun before own = refl
+input_own finished before own = refl
 
-picks_by : (k : Kind) (count before now : ℕ) → IsOwnBy k → now ≡ count_on before count → PicksBy k count before now
-picks_by usage count before now own e = absurd own
-picks_by fault count before now own e = absurd own
-picks_by excess count before now own e = absurd own
-picks_by form count before now own e = e
-picks_by request count before now own e = e
-picks_by memory count before now own e = (count, omega arith, e)
-picks_by write count before now own e = e
-picks_by output count before now own e = e
+-- each file was picked once
+picks_by : (r : Reading) (count before now : ℕ) → IsOwn r → now ≡ count_on before count → PicksReading r count before now
+picks_by unread count before now own e = absurd own
+picks_by failed count before now own e = absurd own
+picks_by exceeded count before now own e = absurd own
+picks_by begun count before now own e = (count, omega arith, e)
+picks_by finished count before now own e = e
 
+-- with a command's status each file was picked once
 picks_own : (count before now : ℕ) (status : Status) → IsOwnBy (kind_of status) → now ≡ count_on before count → PickCount count before now status
 picks_own count before now (PickFault i) own e = absurd own
 picks_own count before now (ReadFault i) own e = absurd own
 picks_own count before now (TooLong i) own e = absurd own
-picks_own count before now status own e = picks_by (kind_of status) count before now own e
+picks_own count before now status own e = picks_by (row_of (kind_of status)).reading count before now own e
 
 -- the last call was the end of the last file
-last_own : (k : Kind) (Last : Type 0) → Last → LastBy k Last
-last_own usage Last h = tt
-last_own fault Last h = tt
-last_own excess Last h = tt
-last_own form Last h = h
-last_own request Last h = h
-last_own memory Last h = tt
-last_own write Last h = h
-last_own output Last h = h
+last_own : (r : Reading) (Last : Type 0) → Last → IfFinished r Last
+last_own unread Last h = tt
+last_own failed Last h = tt
+last_own exceeded Last h = tt
+last_own begun Last h = tt
+last_own finished Last h = h
 
 -- ---- files that were not read whole
 
+-- files that were not read whole are no matter of words
 stop_usage : (stop : Stop) → status_of stop ≡ Usage → ⊥
 stop_usage (stop.PickFault i) e = cc
 stop_usage (stop.ReadFault i) e = cc
 stop_usage (stop.TooLong i) e = cc
 stop_usage stop.NoMemory e = cc
 
+-- files that were not read whole leave the output as it was
 stop_untouched : (Same : Type 0) (stop : Stop) → Same → Untouched Same (status_of stop)
 stop_untouched Same (stop.PickFault i) same = same
 stop_untouched Same (stop.ReadFault i) same = same
 stop_untouched Same (stop.TooLong i) same = same
 stop_untouched Same stop.NoMemory same = tt
 
+-- the failed pick or read that stopped the reading is the cause of the status
 stop_fault : (told : Option Files) (names : List (List ℕ)) (picked : Option (List ℕ)) (last : Ended) (given : ℕ) (stop : Stop)
     → StopsIn told names picked last given stop → FaultCause told names picked last (status_of stop)
 stop_fault told names picked last given (stop.PickFault i) why = why
@@ -126,10 +122,12 @@ some_names : (names : List (List ℕ)) (i : ℕ) (picked : Option (List ℕ)) �
 some_names names i None word = absurd word
 some_names names i (Some name) word = omega (arith, word.0)
 
+-- where memory ran out the file picked last gave no more than the limit, or there are no files
 memory_given : (n given : ℕ) (Idle : Type 0) → (0 < n → Idle ⊎ (given ≤ file_limit)) → (n ≡ 0 → Idle) → Idle ⊎ (given ≤ file_limit)
 memory_given zero given Idle few idle = inl (idle refl)
 memory_given (suc n) given Idle few idle = few (omega arith)
 
+-- the file that was too long is the cause of the status; with another one no file was
 stop_excess : (told : Option Files) (names : List (List ℕ)) (picked : Option (List ℕ)) (last : Ended) (given : ℕ) (Idle : Type 0) (stop : Stop)
     → StopsIn told names picked last given stop → (0 < length names → WithinLimit {T = List (List ℕ)} given Idle (Err stop))
     → (length names ≡ 0 → Idle) → ExcessCause told names picked given Idle (status_of stop)
@@ -138,24 +136,28 @@ stop_excess told names picked last given Idle (stop.ReadFault i) why few idle = 
 stop_excess told names picked last given Idle (stop.TooLong i) why few idle = why
 stop_excess told names picked last given Idle stop.NoMemory why few idle = memory_given (length names) given Idle few idle
 
+-- the failure that stopped the reading is counted
 stop_inputs : (stop : Stop) (before : ℕ) → count_after {T = List (List ℕ)} before (Err stop) ≡ input_count (kind_of (status_of stop)) before
 stop_inputs (stop.PickFault i) before = refl
 stop_inputs (stop.ReadFault i) before = refl
 stop_inputs (stop.TooLong i) before = refl
 stop_inputs stop.NoMemory before = refl
 
+-- reading counts no failure of the output
 stop_outputs : (stop : Stop) (before : ℕ) → before ≡ output_count (kind_of (status_of stop)) before
 stop_outputs (stop.PickFault i) before = refl
 stop_outputs (stop.ReadFault i) before = refl
 stop_outputs (stop.TooLong i) before = refl
 stop_outputs stop.NoMemory before = refl
 
+-- the files up to the one that stopped the reading were picked
 stop_counts : (count before now : ℕ) (stop : Stop) → PicksIn {T = List (List ℕ)} before now count (Err stop) → PickCount count before now (status_of stop)
 stop_counts count before now (stop.PickFault i) h = h
 stop_counts count before now (stop.ReadFault i) h = h
 stop_counts count before now (stop.TooLong i) h = h
 stop_counts count before now stop.NoMemory h = h
 
+-- files that were not read whole say nothing of their last call
 stop_last : (Last : Type 0) (stop : Stop) → LastBy (kind_of (status_of stop)) Last
 stop_last Last (stop.PickFault i) = tt
 stop_last Last (stop.ReadFault i) = tt
@@ -179,11 +181,11 @@ module _ {I O : Type 0} (i : inputs.Ghosts I) (o : sink.Ghosts O) where
     fault = fault_own (i.files before) (names_of words) (i.picked now) (i.ended now) status ends.own;
     excess = excess_own (i.files before) (names_of words) (i.picked now) (i.given now) (now ≡ before) status ends.own
         (λ some. came.within (subst (λ (n : ℕ). 0 < n) (sym count) some)) (λ none. came.idle (count ∙ none));
-    input_faults = came.faults ∙ input_own (kind_of status) (i.faults before) ends.own;
+    input_faults = came.faults ∙ input_own (row_of (kind_of status)).reading (i.faults before) ends.own;
     output_faults = ends.faults;
     picks = picks_own (length (names_of words)) (i.picks before) (i.picks now) status ends.own
         (subst (λ (n : ℕ). i.picks now ≡ count_on (i.picks before) n) count came.picks);
-    last = last_own (kind_of status) _ (subst (λ (n : ℕ). IsLastOf (names_of words) n (i.picked now) (i.ended now)) count came.last);
+    last = last_own (row_of (kind_of status)).reading _ (subst (λ (n : ℕ). IsLastOf (names_of words) n (i.picked now) (i.ended now)) count came.last);
     files = came.files;
     told = ends.told;
   }

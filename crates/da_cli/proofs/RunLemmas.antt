@@ -1,5 +1,5 @@
--- Lemmas on a whole run.
-use Rattle.std.proofs.Common.{◌≡◌, ℕ, ◌+◌, ◌-◌, ◌<◌, List, [], length, take, drop, None, Some, Err, String, Global, refl, inl, sym, ap, ◌∙◌, subst, arith, ◌↔◌}
+-- A whole run: what words, files, output and status belong together.
+use Rattle.std.proofs.Common.{◌≡◌, ℕ, Bool, true, false, ◌+◌, ◌-◌, ◌<◌, List, [], length, take, drop, None, Some, Err, String, Global, refl, inl, sym, ap, ◌∙◌, subst, arith, ◌↔◌}
 use Rattle.std.specs.Prelude.{MatchOption}
 use Rattle.std.specs.declared.option.Option.{Option}
 use Rattle.std.specs.String.{string_bytes}
@@ -7,12 +7,12 @@ use Rattle.std.proofs.lemmas.Grind.{common_steps}
 use Rattle.std.proofs.KnownBytes.{Appends-nil}
 use Rattle.std.proofs.lemmas.List.{take-map, drop-map, length-map}
 use Rattle.da_io.specs.Files.{Files}
-use Rattle.da_cli.specs.declared.words.Command.{Command}
-use Rattle.da_cli.specs.declared.words.Command.TheVariants.{Check, Build, Header}
+use Rattle.da_cli.specs.declared.commands.Command.{Command}
+use Rattle.da_cli.specs.declared.commands.Command.TheVariants.{Check, Build, Header}
 use Rattle.da_cli.specs.declared.words.Call.{Call}
 use Rattle.da_cli.specs.declared.status.Status.{Status}
 use Rattle.da_cli.specs.declared.status.Status.TheVariants.{BadInput, TooLong}
-use Rattle.da_cli.specs.Statuses.{Kind, usage, fault, excess, form, request, memory, write, output, kind_of}
+use Rattle.da_cli.specs.Statuses.{Kind, usage, fault, excess, form, request, memory, write, output, kind_of, row_of, May}
 use Rattle.da_cli.specs.Words.{words_of, call_of, file_words, names_in, names_of}
 use Rattle.da_cli.specs.Gathered.{Gathered, whole, long, absent, gathered, Gathers}
 use Rattle.da_cli.specs.declared.gathering.Stop.{Stop}
@@ -25,7 +25,8 @@ use Rattle.da_cli.specs.Laws.{FormLaw, BadInputLaw, ExcessLaw, AbsentLaw, IsDeci
 use Rattle.da_cli.proofs.GatheredLemmas.{AllGathered}
 use Rattle.da_cli.proofs.EndLemmas.{IsAnswer, answer_output}
 use Rattle.da_cli.proofs.CheckLemmas.{check_last}
-use Rattle.da_cli.proofs.SquareLemmas.{build_answers, header_answers}
+use Rattle.da_cli.proofs.BuildLemmas.{build_answers}
+use Rattle.da_cli.proofs.HeaderLemmas.{header_answers}
 
 -- the relation of words that are a command
 run_of_call : (words : List (List ℕ)) (call : Call) (files : Files) (g : Gathered) → call_of words ≡ Some call
@@ -88,25 +89,30 @@ as_one M N w status e = (
   λ h. subst (λ (R : Relation). R w status) (sym e) h,
 )
 
+-- over files in their forms the words' relation is the command's answer
 run_in_form : (files : Files) (words : List (List ℕ)) (call : Call) (contents : List (List ℕ)) → call_of words ≡ Some call
     → gathered files (file_words call.files words) ≡ whole contents → first_bad 0 (judged_of call.command contents) ≡ None
     → RunOf files words ≡ AnswerOf call.command contents
 run_in_form files words call contents e read fine =
     run_of_call words call files (whole contents) e read ∙ judged_is (judged_of call.command contents) (AnswerOf call.command contents) None fine
 
+-- over files in their forms just the command's answer belongs to the run
 pub form_law : FormLaw
 form_law files words call contents w status e read fine =
     as_one (RunOf files words) (AnswerOf call.command contents) w status (run_in_form files words call contents e read fine)
 
+-- where a file isn't in its form just `BadInput` belongs to the run
 pub bad_input_law : BadInputLaw
 bad_input_law files words call contents i at w status e read bad =
     as_one (RunOf files words) (Refuses (BadInput i at)) w status
     (run_of_call words call files (whole contents) e read ∙ judged_is (judged_of call.command contents) (AnswerOf call.command contents) (Some (i, at)) bad)
 
+-- where a file is too long just `TooLong` belongs to the run
 pub excess_law : ExcessLaw
 excess_law files words call i w status e read =
     as_one (RunOf files words) (Refuses (TooLong i)) w status (run_of_call words call files (long i) e read)
 
+-- where a file isn't there nothing belongs to the run
 pub absent_law : AbsentLaw
 absent_law files words call i w status e read run =
     subst (λ (R : Relation). R w status) (run_of_call words call files (absent i) e read) run
@@ -117,51 +123,47 @@ answer_last Check files w status h = answer_output status (check_last files w st
 answer_last Build files w status h = build_answers files w status h
 answer_last Header files w status h = header_answers files w status h
 
-decided_answer : (k : Kind) → IsAnswer k → IsDecided k
-decided_answer usage h = tt
-decided_answer fault h = h
-decided_answer excess h = tt
-decided_answer form h = tt
-decided_answer request h = tt
-decided_answer memory h = h
-decided_answer write h = h
-decided_answer output h = tt
+-- an answer is decided by the words and files
+decided_answer : (in_form : Bool) (Decided : Type 0) → May in_form Decided → Decided
+decided_answer true Decided h = h
+decided_answer false Decided h = absurd h
 
+-- the kind of a status is decided
 decided : (status : Status) (k : Kind) → kind_of status ≡ k → IsDecided k → IsDecided (kind_of status)
 decided status k e h = subst IsDecided (sym e) h
 
+-- what a command over judged files comes to is decided by words and files
 by_judged : (o : Option (ℕ × ℕ)) (command : Command) (files : List (List ℕ)) (w : List ℕ) (status : Status)
     → MatchOption o (AnswerOf command files w status) (λ bad. Refuses (BadInput bad.0 bad.1) w status) → IsDecided (kind_of status)
-by_judged None command files w status h = decided_answer (kind_of status) (answer_last command files w status h)
+by_judged None command files w status h = decided_answer (row_of (kind_of status)).in_form _ (answer_last command files w status h)
 by_judged (Some bad) command files w status h = decided status form (ap kind_of h.1) tt
 
+-- what a command over gathered files comes to is decided by words and files
 by_gathered : (g : Gathered) (command : Command) (w : List ℕ) (status : Status) → CommandOf command g w status → IsDecided (kind_of status)
 by_gathered (whole contents) command w status h = by_judged (first_bad 0 (judged_of command contents)) command contents w status h
 by_gathered (long i) command w status h = decided status excess (ap kind_of h.1) tt
 by_gathered (absent i) command w status h = absurd h
 
+-- what words come to is decided by words and files
 by_call : (o : Option Call) (files : Files) (words : List (List ℕ)) (w : List ℕ) (status : Status) → CallOf o files words w status → IsDecided (kind_of status)
 by_call None files words w status h = decided status usage (ap kind_of h.1) tt
 by_call (Some call) files words w status h = by_gathered (gathered files (file_words call.files words)) call.command w status h
 
+-- no failure and no want of memory belongs to a run
 pub failure_law : FailureLaw
 failure_law files words w status h = by_call (call_of words) files words w status h
 
--- an output that belongs to an answer has an answer's status
-answer_kind : (M : Relation) (old new : Option (List ℕ)) (status : Status) (k : Kind) → kind_of status ≡ k
-    → ((w : List ℕ) → M w status → IsAnswer (kind_of status)) → Outputs M old new status → IsAnswer k
-answer_kind M old new status k e last outputs = subst IsAnswer e (last outputs.0 outputs.1)
-
-completes_by : (M : Relation) (old new : Option (List ℕ)) (status : Status) (k : Kind) → kind_of status ≡ k
-    → ((w : List ℕ) → M w status → IsAnswer (kind_of status)) → LeavesBy k M old new status → CompletesBy k M old new status
-completes_by M old new status usage e last h = answer_kind M old new status usage e last h
-completes_by M old new status fault e last h = tt
-completes_by M old new status excess e last h = answer_kind M old new status excess e last h
-completes_by M old new status form e last h = answer_kind M old new status form e last h
-completes_by M old new status request e last h = h
-completes_by M old new status memory e last h = h
-completes_by M old new status write e last h = h
-completes_by M old new status output e last h = h
+-- what is left of a command's answer is what a run over files in their forms comes to
+completes_by : (k : Kind) (M : Relation) (old new : Option (List ℕ)) (status : Status) → ((w : List ℕ) → M w status → IsAnswer k)
+    → LeavesBy k M old new status → CompletesBy k M old new status
+completes_by usage M old new status last h = absurd (last h.0 h.1)
+completes_by fault M old new status last h = tt
+completes_by excess M old new status last h = absurd (last h.0 h.1)
+completes_by form M old new status last h = absurd (last h.0 h.1)
+completes_by request M old new status last h = h
+completes_by memory M old new status last h = h
+completes_by write M old new status last h = h
+completes_by output M old new status last h = h
 
 -- over files in their forms a run completes
 pub completes : (told : Option Files) (words : List (List ℕ)) (old new : Option (List ℕ)) (status : Status)
@@ -169,5 +171,5 @@ pub completes : (told : Option Files) (words : List (List ℕ)) (old new : Optio
 completes None words old new status h = tt
 completes (Some files) words old new status h = λ call contents e read fine.
     let M = AnswerOf call.command contents in
-    completes_by M old new status (kind_of status) refl (λ w. answer_last call.command contents w status)
+    completes_by (kind_of status) M old new status (λ w. answer_last call.command contents w status)
     (subst (λ (R : Relation). Leaves R old new status) (run_in_form files words call contents e read fine) h)

@@ -1,11 +1,10 @@
--- Lemmas on outputs that are written in pieces.
-use Rattle.std.proofs.Common.{◌≡◌, ℕ, List, [], ◌++◌, Ok, Err, Result, refl, sym, ap, ◌∙◌, subst, arith, append_assoc, append-nil}
+-- Outputs that are written in pieces.
+use Rattle.std.proofs.Common.{◌≡◌, ℕ, List, ◌++◌, sym, ap, ◌∙◌, subst, arith, append_assoc}
 use Rattle.std.specs.declared.option.Option.{Option}
 use Rattle.std.specs.Io.KnownBytes.{Appends}
-use Rattle.std.proofs.KnownBytes.{Appends-trans, Appends-nil}
+use Rattle.std.proofs.KnownBytes.{Appends-trans}
 use Rattle.std.proofs.lemmas.List.{length-append}
 use Rattle.da_io.specs.Sinks.{AppendsPart}
-use Rattle.da_io.specs.Sinks.{WritesAll}
 
 -- a proper prefix of the front is one of the whole
 pub part_of_front : (a b : Option (List ℕ)) (front back : List ℕ) → AppendsPart a b front → AppendsPart a b (front ++ back)
@@ -20,18 +19,9 @@ part_of_back a b c front back first p =
     let split : front ++ back ≡ (front ++ p.0) ++ p.1.0 = ap (λ (l : List ℕ). front ++ l) p.1.2 ∙ sym (append_assoc front p.0 p.1.0) in
     (front ++ p.0, (p.1.0, p.1.1, split), Appends-trans a b c front p.0 first p.2)
 
--- the front was taken, and then the rest was written
-pub writes_on : {T E : Type 0} (a b c : Option (List ℕ)) (front back : List ℕ) (result : Result T E)
-    → Appends a b front → WritesAll b c back result → WritesAll a c (front ++ back) result
-writes_on a b c front back (Ok _) first rest = Appends-trans a b c front back first rest
-writes_on a b c front back (Err _) first rest = part_of_back a b c front back first rest
-
 -- of all that is to be written the rest is left
 abbrev pub Written : Option (List ℕ) → Option (List ℕ) → List ℕ → List ℕ → Type 0
 Written a b all rest = (done : List ℕ) × Appends a b done × (all ≡ done ++ rest)
-
-pub written_start : (a : Option (List ℕ)) (all : List ℕ) → Written a a all all
-written_start a all = ([], Appends-nil a, refl)
 
 -- the next piece was taken
 pub written_on : (a b c : Option (List ℕ)) (all rest piece more : List ℕ) → Written a b all rest → rest ≡ piece ++ more → Appends b c piece
@@ -46,9 +36,3 @@ pub written_part : (a b c : Option (List ℕ)) (all rest piece more : List ℕ) 
 written_part a b c all rest piece more w e next =
     let split : all ≡ w.0 ++ (piece ++ more) = w.2 ∙ ap (λ (l : List ℕ). w.0 ++ l) e in
     subst (AppendsPart a c) (sym split) (part_of_back a b c w.0 (piece ++ more) w.1 (part_of_front b c piece more next))
-
--- nothing is left
-pub written_end : (a b : Option (List ℕ)) (all rest : List ℕ) → Written a b all rest → rest ≡ [] → Appends a b all
-written_end a b all rest w e =
-    let whole : w.0 ≡ all = sym (append-nil w.0) ∙ ap (λ (l : List ℕ). w.0 ++ l) (sym e) ∙ sym w.2 in
-    subst (Appends a b) whole w.1

@@ -65,7 +65,7 @@ IsWord names i (Some name) = (i < length names) × (file_of names i ≡ name)
 abbrev pub IsLastOf : List (List ℕ) → ℕ → Option (List ℕ) → Ended → Type 0
 IsLastOf names count picked last = 0 < count → IsWord names (count - 1) picked × (last ≡ ended.Fine)
 
--- the same of all names
+-- the last call was of the last of all names, and did not fail
 abbrev pub IsLast : List (List ℕ) → Option (List ℕ) → Ended → Type 0
 IsLast names picked last = IsLastOf names (length names) picked last
 

@@ -4,7 +4,7 @@ use Rattle.da_io.specs.Files.{Files}
 use Rattle.da_cli.specs.declared.words.Call.{Call}
 use Rattle.da_cli.specs.declared.status.Status.{Status}
 use Rattle.da_cli.specs.declared.status.Status.TheVariants.{BadInput, TooLong}
-use Rattle.da_cli.specs.Statuses.{Kind, usage, fault, excess, form, request, memory, write, output, kind_of}
+use Rattle.da_cli.specs.Statuses.{Kind, kind_of, Taken, complete, part, front, undefined, row_of}
 use Rattle.da_cli.specs.Words.{call_of, file_words}
 use Rattle.da_cli.specs.Gathered.{gathered, whole, long, absent}
 use Rattle.da_cli.specs.Outcome.{Refuses}
@@ -38,16 +38,17 @@ AbsentLaw = (files : Files) (words : List (List ℕ)) (call : Call) (i : ℕ) (w
     → call_of words ≡ Some call → gathered files (file_words call.files words) ≡ absent i
     → RunOf files words w status → ⊥
 
--- failures and want of memory belong to no run
-abbrev pub IsDecided : Kind → Type 0
-IsDecided usage = Unit {0}
-IsDecided fault = ⊥
-IsDecided excess = Unit {0}
-IsDecided form = Unit {0}
-IsDecided request = Unit {0}
-IsDecided memory = ⊥
-IsDecided write = ⊥
-IsDecided output = Unit {0}
+-- a whole output is taken, which the words and files define
+abbrev pub IsDefined : Taken → Type 0
+IsDefined complete = Unit {0}
+IsDefined part = ⊥
+IsDefined front = ⊥
+IsDefined undefined = ⊥
 
+-- the words and files decide on a status of this kind
+abbrev pub IsDecided : Kind → Type 0
+IsDecided kind = IsDefined (row_of kind).taken
+
+-- failures and want of memory belong to no run
 abbrev pub FailureLaw : Type 0
 FailureLaw = (files : Files) (words : List (List ℕ)) (w : List ℕ) (status : Status) → RunOf files words w status → IsDecided (kind_of status)

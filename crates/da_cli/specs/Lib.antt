@@ -4,9 +4,7 @@ pub mod Statuses
 pub mod Gathered
 pub mod Outcome
 pub mod Judging
-pub mod Single
-pub mod Check
-pub mod Squares
+pub mod commands
 pub mod Choices
 pub mod Meaning
 pub mod Run

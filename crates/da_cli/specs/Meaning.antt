@@ -1,12 +1,13 @@
 -- What each command writes and answers, over the contents of its files.
 use Rattle.std.specs.Prelude.{ℕ, List}
 use Rattle.std.specs.declared.option.Option.{Option}
-use Rattle.da_cli.specs.declared.words.Command.{Command}
-use Rattle.da_cli.specs.declared.words.Command.TheVariants.{Check, Build, Header}
+use Rattle.da_cli.specs.declared.commands.Command.{Command}
+use Rattle.da_cli.specs.declared.commands.Command.TheVariants.{Check, Build, Header}
 use Rattle.da_cli.specs.Outcome.{Relation}
 use Rattle.da_cli.specs.Judging.{Judged}
-use Rattle.da_cli.specs.Check.{check_judged, CheckOf}
-use Rattle.da_cli.specs.Squares.{build_judged, BuildOf, header_judged, HeaderOf}
+use Rattle.da_cli.specs.commands.Check.{check_judged, CheckOf}
+use Rattle.da_cli.specs.commands.Build.{build_judged, BuildOf}
+use Rattle.da_cli.specs.commands.Header.{header_judged, HeaderOf}
 
 -- of each file where it leaves its form, if it does
 abbrev pub judged_of : Command → List (List ℕ) → List (Option ℕ)
@@ -20,5 +21,6 @@ AnswerOf Check files = CheckOf files
 AnswerOf Build files = BuildOf files
 AnswerOf Header files = HeaderOf files
 
+-- what a command writes and answers over any files
 abbrev pub Meaning : Command → List (List ℕ) → Relation
 Meaning command files = Judged (judged_of command files) (AnswerOf command files)

@@ -10,7 +10,7 @@ use Rattle.da_io.specs.Sinks.{IsProperPrefix, AppendsPart}
 use Rattle.da_cli.specs.declared.status.Status.{Status}
 use Rattle.da_cli.specs.declared.status.Status.TheVariants.{PickFault, ReadFault, TooLong}
 use Rattle.da_cli.specs.Limits.{file_limit}
-use Rattle.da_cli.specs.Statuses.{Kind, usage, fault, excess, form, request, memory, write, output, kind_of, output_count}
+use Rattle.da_cli.specs.Statuses.{Kind, kind_of, Reading, unread, failed, exceeded, begun, finished, Taken, complete, part, front, undefined, row_of, output_count, Said}
 use Rattle.da_cli.specs.Gathered.{IsWord, AllRead}
 
 -- which outputs and statuses belong together
@@ -34,32 +34,27 @@ abbrev pub OutputsFront : Relation → Option (List ℕ) → Option (List ℕ) �
 OutputsFront M old new = (part : List ℕ) × Appends old new part
     × ((part ≡ []) ⊎ ((w : List ℕ) × (status : Status) × M w status × IsProperPrefix part w))
 
--- the output that a status leaves: all of one that belongs to it, a part of one where a write failed or
--- memory ran out
-abbrev pub LeavesBy : Kind → Relation → Option (List ℕ) → Option (List ℕ) → Status → Type 0
-LeavesBy usage M old new status = Outputs M old new status
-LeavesBy fault M old new status = ⊤
-LeavesBy excess M old new status = Outputs M old new status
-LeavesBy form M old new status = Outputs M old new status
-LeavesBy request M old new status = Outputs M old new status
-LeavesBy memory M old new status = OutputsFront M old new
-LeavesBy write M old new status = OutputsPart M old new
-LeavesBy output M old new status = Outputs M old new status
+-- what was taken of an output that a relation defines with this status
+abbrev pub Takes : Taken → Relation → Option (List ℕ) → Option (List ℕ) → Status → Type 0
+Takes complete M old new status = Outputs M old new status
+Takes part M old new status = OutputsPart M old new
+Takes front M old new status = OutputsFront M old new
+Takes undefined M old new status = ⊤
 
+-- the output that a kind of status leaves: all of one that belongs to the status, a part of one where a
+-- write failed or memory ran out
+abbrev pub LeavesBy : Kind → Relation → Option (List ℕ) → Option (List ℕ) → Status → Type 0
+LeavesBy kind M old new status = Takes (row_of kind).taken M old new status
+
+-- the output that a status leaves
 abbrev pub Leaves : Relation → Option (List ℕ) → Option (List ℕ) → Status → Type 0
 Leaves M old new status = LeavesBy (kind_of status) M old new status
 
--- what is decided before the output leaves it as it was
+-- what is decided before the output leaves it as it was, by the kind of the status; Same: it is as it was
 abbrev pub UntouchedBy : Kind → Type 0 → Type 0
-UntouchedBy usage Same = Same
-UntouchedBy fault Same = Same
-UntouchedBy excess Same = Same
-UntouchedBy form Same = Same
-UntouchedBy request Same = Same
-UntouchedBy memory Same = ⊤
-UntouchedBy write Same = ⊤
-UntouchedBy output Same = ⊤
+UntouchedBy kind Same = Said (row_of kind).untouched Same
 
+-- what is decided before the output leaves it as it was; Same: it is as it was
 abbrev pub Untouched : Type 0 → Status → Type 0
 Untouched Same status = UntouchedBy (kind_of status) Same
 
@@ -70,16 +65,19 @@ FaultCause told names picked last (PickFault i) = (last ≡ ended.PickFailed) ×
 FaultCause told names picked last (ReadFault i) = (last ≡ ended.ReadFailed) × IsWord names i picked × AllRead told names i
 FaultCause told names picked last status = ⊤
 
--- the file that was picked last gave no more than the limit; Idle: where memory ran out, none was picked
+-- the file that was picked last gave no more than the limit, where the files were read so far; Idle: no file
+-- was picked
+abbrev pub GivenReading : Reading → List (List ℕ) → ℕ → Type 0 → Type 0
+GivenReading unread names given Idle = ⊤
+GivenReading failed names given Idle = given ≤ file_limit
+GivenReading exceeded names given Idle = ⊤
+GivenReading begun names given Idle = Idle ⊎ (given ≤ file_limit)
+GivenReading finished names given Idle = 0 < length names → given ≤ file_limit
+
+-- the file that was picked last gave no more than the limit, by the kind of the status; Idle: no file was
+-- picked
 abbrev pub GivenBy : Kind → List (List ℕ) → ℕ → Type 0 → Type 0
-GivenBy usage names given Idle = ⊤
-GivenBy fault names given Idle = given ≤ file_limit
-GivenBy excess names given Idle = ⊤
-GivenBy form names given Idle = 0 < length names → given ≤ file_limit
-GivenBy request names given Idle = 0 < length names → given ≤ file_limit
-GivenBy memory names given Idle = Idle ⊎ (given ≤ file_limit)
-GivenBy write names given Idle = 0 < length names → given ≤ file_limit
-GivenBy output names given Idle = 0 < length names → given ≤ file_limit
+GivenBy kind names given Idle = GivenReading (row_of kind).reading names given Idle
 
 -- the file word with that number gave more than the limit, and each file before it is there and within
 -- the limit, where files are told; with another status that reading comes before, the file that was picked
@@ -88,28 +86,30 @@ abbrev pub ExcessCause : Option Files → List (List ℕ) → Option (List ℕ) 
 ExcessCause told names picked given Idle (TooLong i) = (file_limit < given) × IsWord names i picked × AllRead told names i
 ExcessCause told names picked given Idle status = GivenBy (kind_of status) names given Idle
 
--- where files were judged, a fact of the last call on the inputs
-abbrev pub LastBy : Kind → Type 0 → Type 0
-LastBy usage Last = ⊤
-LastBy fault Last = ⊤
-LastBy excess Last = ⊤
-LastBy form Last = Last
-LastBy request Last = Last
-LastBy memory Last = ⊤
-LastBy write Last = Last
-LastBy output Last = Last
+-- a fact that is said where all files were read to their ends
+abbrev pub IfFinished : Reading → Type 0 → Type 0
+IfFinished unread Fact = ⊤
+IfFinished failed Fact = ⊤
+IfFinished exceeded Fact = ⊤
+IfFinished begun Fact = ⊤
+IfFinished finished Fact = Fact
 
--- how many picks a run makes that ends with no status of reading: one for each file word, up to all where
--- memory ran out
+-- a fact of the last call on the inputs, where the kind of the status has all files read
+abbrev pub LastBy : Kind → Type 0 → Type 0
+LastBy kind Last = IfFinished (row_of kind).reading Last
+
+-- how many picks a run makes that reads so far, with no status that names a file of reading: one for each
+-- file word, or those of some where memory ran out
+abbrev pub PicksReading : Reading → ℕ → ℕ → ℕ → Type 0
+PicksReading unread count before now = now ≡ before
+PicksReading failed count before now = ⊥
+PicksReading exceeded count before now = ⊥
+PicksReading begun count before now = (n : ℕ) × (n ≤ count) × (now ≡ count_on before n)
+PicksReading finished count before now = now ≡ count_on before count
+
+-- how many picks a run makes, by the kind of a status that names no file of reading
 abbrev pub PicksBy : Kind → ℕ → ℕ → ℕ → Type 0
-PicksBy usage count before now = now ≡ before
-PicksBy fault count before now = ⊥
-PicksBy excess count before now = ⊥
-PicksBy form count before now = now ≡ count_on before count
-PicksBy request count before now = now ≡ count_on before count
-PicksBy memory count before now = (n : ℕ) × (n ≤ count) × (now ≡ count_on before n)
-PicksBy write count before now = now ≡ count_on before count
-PicksBy output count before now = now ≡ count_on before count
+PicksBy kind count before now = PicksReading (row_of kind).reading count before now
 
 -- how many picks a run makes: those up to the file that a status of reading names, or by the status's kind
 abbrev pub PickCount : ℕ → ℕ → ℕ → Status → Type 0
@@ -118,16 +118,18 @@ PickCount count before now (ReadFault i) = now ≡ count_on before (i + 1)
 PickCount count before now (TooLong i) = now ≡ count_on before (i + 1)
 PickCount count before now status = PicksBy (kind_of status) count before now
 
--- a command, which stands over files that were read, doesn't decide on words or reading
+-- a command, which stands over files that were read, decides on no words and no failed reading; memory may run
+-- out in it, too
+abbrev pub IsOwn : Reading → Type 0
+IsOwn unread = ⊥
+IsOwn failed = ⊥
+IsOwn exceeded = ⊥
+IsOwn begun = ⊤
+IsOwn finished = ⊤
+
+-- a command may end with a status of this kind
 abbrev pub IsOwnBy : Kind → Type 0
-IsOwnBy usage = ⊥
-IsOwnBy fault = ⊥
-IsOwnBy excess = ⊥
-IsOwnBy form = ⊤
-IsOwnBy request = ⊤
-IsOwnBy memory = ⊤
-IsOwnBy write = ⊤
-IsOwnBy output = ⊤
+IsOwnBy kind = IsOwn (row_of kind).reading
 
 -- how a command with this meaning ends; Same: the output is as it was
 pub record Ends (M : Relation) (old new : Option (List ℕ)) (before now : ℕ) (Same : Type 0) (status : Status) : Type 0 where

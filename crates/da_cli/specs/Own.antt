@@ -9,16 +9,15 @@ use Rattle.da_wire.specs.Reading.{Raw}
 use Rattle.da_wire.specs.Frames.{frames_of}
 use Rattle.da_io.specs.Files.{Files}
 use Rattle.da_cli.specs.Words.{is_command, names_of}
-use Rattle.da_cli.specs.Gathered.{gathered, whole, file_of}
-use Rattle.da_cli.specs.Single.{header_in}
-use Rattle.da_cli.specs.Check.{finding_of, line_of, IsOwnFrame}
+use Rattle.da_cli.specs.Gathered.{gathered, whole}
+use Rattle.da_cli.specs.commands.Frames.{header_in}
+use Rattle.da_cli.specs.commands.Check.{header_file, messages_file, finding_of, line_of, IsOwnFrame}
 
--- over the files of `check`, where the header in the first is that of a square: a frame of the second whose
--- line is `ok` is a message that shows the square's own share, or they name a collision
+-- over the files of `check`, where the header in HEADER is that of a square: a frame of MESSAGES whose line is `ok` is a message that shows the square's own share, or they name a collision
 abbrev pub AreOwn : Option Files → List (List ℕ) → Type 0
 AreOwn None words = ⊤
 AreOwn (Some files) words = (contents : List (List ℕ)) (header : Roots) (square : SquareShares) (i : ℕ) (frame : Raw)
     → is_command words (codes "check") 2 ≡ true → gathered files (names_of words) ≡ whole contents
-    → header_in (file_of contents 0) ≡ Ok header → IsHeaderOf header square
-    → AreBytes (file_of contents 1) → slice_get (frames_of (file_of contents 1)) i ≡ Some frame
+    → header_in (header_file contents) ≡ Ok header → IsHeaderOf header square
+    → AreBytes (messages_file contents) → slice_get (frames_of (messages_file contents)) i ≡ Some frame
     → line_of (finding_of header frame) ≡ codes "ok\n" → IsOwnFrame frame square

@@ -2,16 +2,16 @@
 use Rattle.std.specs.Prelude.{◌≡◌, ℕ, List, ⊤, Some, None}
 use Rattle.std.specs.declared.option.Option.{Option}
 use Rattle.da_io.specs.Files.{Files}
-use Rattle.da_cli.specs.declared.words.Command.{Command}
+use Rattle.da_cli.specs.declared.commands.Command.{Command}
 use Rattle.da_cli.specs.declared.words.Call.{Call}
 use Rattle.da_cli.specs.declared.status.Status.{Status}
 use Rattle.da_cli.specs.declared.status.Status.TheVariants.{Usage, PickFault, ReadFault, TooLong, NoMemory}
 use Rattle.da_cli.specs.declared.gathering.Stop.{Stop}
 use Rattle.da_cli.specs.declared.gathering.Stop.TheVariants as stop
-use Rattle.da_cli.specs.Statuses.{Kind, usage, fault, excess, form, request, memory, write, output, kind_of}
+use Rattle.da_cli.specs.Statuses.{Kind, kind_of, row_of, May}
 use Rattle.da_cli.specs.Words.{call_of, file_words}
 use Rattle.da_cli.specs.Gathered.{Gathered, whole, long, absent, gathered}
-use Rattle.da_cli.specs.Outcome.{Relation, Refuses, Outputs, OutputsPart, OutputsFront, Leaves}
+use Rattle.da_cli.specs.Outcome.{Relation, Refuses, LeavesBy, Leaves}
 use Rattle.da_cli.specs.Judging.{first_bad}
 use Rattle.da_cli.specs.Meaning.{judged_of, AnswerOf, Meaning}
 
@@ -21,6 +21,7 @@ CommandOf command (whole contents) = Meaning command contents
 CommandOf command (long i) = Refuses (TooLong i)
 CommandOf command (absent i) = λ w status. ⊥
 
+-- a call over the files with these names; words that are no command are refused
 abbrev pub CallOf : Option Call → Files → List (List ℕ) → Relation
 CallOf None files words = Refuses Usage
 CallOf (Some call) files words = CommandOf call.command (gathered files (file_words call.files words))
@@ -34,17 +35,10 @@ abbrev pub LeavesTold : Option Files → List (List ℕ) → Option (List ℕ) �
 LeavesTold None words old new status = ⊤
 LeavesTold (Some files) words old new status = Leaves (RunOf files words) old new status
 
--- how a command ends over files in their forms: with its answer, or because of a failure or of want of
--- memory
+-- how a command ends over files in their forms, by the kind of the status: with its answer, or because of a
+-- failure or of want of memory
 abbrev pub CompletesBy : Kind → Relation → Option (List ℕ) → Option (List ℕ) → Status → Type 0
-CompletesBy usage M old new status = ⊥
-CompletesBy fault M old new status = ⊤
-CompletesBy excess M old new status = ⊥
-CompletesBy form M old new status = ⊥
-CompletesBy request M old new status = Outputs M old new status
-CompletesBy memory M old new status = OutputsFront M old new
-CompletesBy write M old new status = OutputsPart M old new
-CompletesBy output M old new status = Outputs M old new status
+CompletesBy kind M old new status = May (row_of kind).in_form (LeavesBy kind M old new status)
 
 -- where the words are a command, and its files are there, within the limit and in their forms, a run
 -- completes

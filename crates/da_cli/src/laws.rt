@@ -11,10 +11,10 @@ ghost use Rattle.data_header.specs.Headers.{Roots, AreRoots, IsHeader};
 ghost use Rattle.da_wire.specs.declared.frames.Frame.TheVariants.{Header, Square, Block};
 ghost use Rattle.da_wire.specs.Spelling.{spelling};
 ghost use Rattle.da_wire.specs.Reading.{Raw};
-ghost use Rattle.da_cli.specs.declared.checking.Finding.TheVariants.{Proved};
+ghost use Rattle.da_cli.specs.declared.commands.check.Finding.TheVariants.{Proved};
 ghost use Rattle.da_cli.specs.Limits.{file_limit};
-ghost use Rattle.da_cli.specs.Single.{header_in, square_in, block_in};
-ghost use Rattle.da_cli.specs.Check.{finding_of, IsProvedFrame, IsOwnFrame};
+ghost use Rattle.da_cli.specs.commands.Frames.{header_in, square_in, block_in};
+ghost use Rattle.da_cli.specs.commands.Check.{finding_of, IsProvedFrame, IsOwnFrame};
 ghost use Rattle.da_cli.specs.Laws.{FormLaw, BadInputLaw, ExcessLaw, AbsentLaw, FailureLaw};
 
 use crate::gathering::FILE_LIMIT;

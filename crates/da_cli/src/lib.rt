@@ -1,19 +1,15 @@
 //! The commands of `da`: words and files in; an output, a status and a note out.
 //!
 //! `run` is the top call. Picking and reading files, the write and the note line are the same for
-//! every command; a command is one case of `Meaning` and of `execute`.
+//! every command; a command is a file of `commands`, and one case of `Meaning` and of `execute`.
 #![tactic(auto)]
 
-mod checking;
 mod choices;
-mod files;
+mod commands;
 mod gathering;
 mod laws;
-mod line;
-mod output;
+mod notes;
 mod running;
-mod single;
-mod squares;
 mod status;
 #[cfg(test)]
 mod tests;

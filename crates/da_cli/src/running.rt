@@ -4,21 +4,19 @@ ghost use Rattle.std.specs.Prelude.{◌≡◌, ◌↔◌, ℕ, ◌≤◌, length
 ghost use Rattle.da_cli.specs.declared.status.Status.TheVariants.{Usage};
 ghost use Rattle.da_cli.specs.Words.{words_of, call_of, names_of};
 ghost use Rattle.da_cli.specs.Statuses.{kind_of, input_count, output_count};
-ghost use Rattle.da_cli.specs.Gathered.{contents_of, IsLast};
-ghost use Rattle.da_cli.specs.Outcome.{FaultCause, ExcessCause, LastBy, PickCount, Untouched, Ends};
-ghost use Rattle.da_cli.specs.Meaning.{Meaning};
+ghost use Rattle.da_cli.specs.Gathered.{IsLast};
+ghost use Rattle.da_cli.specs.Outcome.{FaultCause, ExcessCause, LastBy, PickCount, Untouched};
 ghost use Rattle.da_cli.specs.Notes.{note_of, Notes};
 ghost use Rattle.da_cli.specs.Own.{AreOwn};
 ghost use Rattle.da_cli.specs.Ran.{Ran};
 ghost use Rattle.da_cli.specs.Run.{status_of, LeavesTold, Completes};
 
 use crate::Status;
-use crate::checking::check;
+use crate::commands::execute;
 use crate::gathering::{Stop, gather};
 use crate::laws::run_laws;
-use crate::output::note;
-use crate::squares::{build, header};
-use crate::words::{Command, call_of};
+use crate::notes::note;
+use crate::words::call_of;
 use da_io::{Inputs, Sink};
 use std::alloc::Global;
 
@@ -31,18 +29,6 @@ fn status_of(stop: Stop) -> Status
         Stop::ReadFault(i) => Status::ReadFault(i),
         Stop::TooLong(i) => Status::TooLong(i),
         Stop::NoMemory => Status::NoMemory,
-    }
-}
-
-/// Runs a command over the contents of its files.
-fn execute<O: Sink>(alloc: Global, command: Command, files: &[Vec<u8>], out: &mut O) -> Status
-    ensures { Ends (Meaning command (contents_of files.now)) (O.taken out.old) (O.taken out.new)
-        (O.faults out.old) (O.faults out.new) (out.new ≡ out.old) result }
-{
-    match command {
-        Command::Check => check(alloc, files, out),
-        Command::Build => build(alloc, files, out),
-        Command::Header => header(alloc, files, out),
     }
 }
 

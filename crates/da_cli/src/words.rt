@@ -3,16 +3,7 @@
 ghost use Rattle.std.specs.Prelude.{◌≡◌, ◌<◌, length, IfSome, codes};
 ghost use Rattle.da_cli.specs.Words.{words_of, is_command, call_of};
 
-/// A command with its values.
-#[derive(Clone, Copy, Debug, PartialEq, Eq)]
-pub(crate) enum Command {
-    /// `check HEADER MESSAGES`
-    Check,
-    /// `build BLOCK`
-    Build,
-    /// `header SQUARE`
-    Header,
-}
+use crate::commands::Command;
 
 /// A command, and how many of the words after its own name files. These come first.
 #[derive(Clone, Copy, Debug, PartialEq, Eq)]

@@ -7,13 +7,10 @@ ghost use Rattle.da_wire.specs.codec.Texts.{text_bytes};
 ghost use Rattle.da_wire.specs.Writing.{IsWithin};
 
 use crate::MAX_PAYLOAD;
-pub(crate) use share_split::{NAMESPACE_SIZE, SHARE_SIZE};
+pub(crate) use namespace_id::{DIGEST_SIZE, NAMESPACE_SIZE, SHARE_SIZE};
 
 /// The bytes in front of a payload: its kind, and its length.
 pub(crate) const HEAD_SIZE: usize = 5;
-
-/// The bytes of a digest.
-pub(crate) const DIGEST_SIZE: usize = 90;
 
 /// The most nodes of a path.
 pub(crate) const PATH_LIMIT: u8 = 8;

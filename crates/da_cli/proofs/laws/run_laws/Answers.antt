@@ -51,6 +51,6 @@ returns-clause-headed c = λ block is none.
     let square = c.size_laws.ensures.square block none in
     let grid = c.grid_laws.ensures.extension (square_of block) square (c.size_laws.ensures.shares block is) in
     let header = some_there (header_of_grid (square_of block).k grid.0)
-        (c.grid_laws.ensures.laid (square_of block) grid.0 square grid.1
-        (c.name_laws.ensures.rising block (c.name_laws.ensures.named block none))) in
+    (c.grid_laws.ensures.laid (square_of block) grid.0 square grid.1
+    (c.name_laws.ensures.rising block (c.name_laws.ensures.named block none))) in
     (header.0, c.grid_laws.ensures.header (square_of block) grid.0 header.0 square grid.1 header.1)

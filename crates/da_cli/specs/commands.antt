@@ -1,0 +1,5 @@
+-- What each command says of its files and its output.
+pub mod Frames
+pub mod Check
+pub mod Build
+pub mod Header

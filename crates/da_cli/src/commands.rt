@@ -1,0 +1,44 @@
+//! The commands, a file each, and the one that is run. `frames` has what several commands share: files
+//! and outputs that are one frame.
+
+ghost use Rattle.std.specs.Prelude.{◌≡◌};
+ghost use Rattle.da_cli.specs.Gathered.{contents_of};
+ghost use Rattle.da_cli.specs.Meaning.{Meaning};
+ghost use Rattle.da_cli.specs.Outcome.{Ends};
+
+mod build;
+mod check;
+mod frames;
+mod header;
+
+use crate::Status;
+use da_io::Sink;
+use std::alloc::Global;
+
+/// A command with its values.
+#[derive(Clone, Copy, Debug, PartialEq, Eq)]
+pub(crate) enum Command {
+    /// `check HEADER MESSAGES`
+    Check,
+    /// `build BLOCK`
+    Build,
+    /// `header SQUARE`
+    Header,
+}
+
+/// Runs a command over the contents of its files.
+pub(crate) fn execute<O: Sink>(
+    alloc: Global,
+    command: Command,
+    files: &[Vec<u8>],
+    out: &mut O,
+) -> Status
+    ensures { Ends (Meaning command (contents_of files.now)) (O.taken out.old) (O.taken out.new)
+        (O.faults out.old) (O.faults out.new) (out.new ≡ out.old) result }
+{
+    match command {
+        Command::Check => check::execute(alloc, files, out),
+        Command::Build => build::execute(alloc, files, out),
+        Command::Header => header::execute(alloc, files, out),
+    }
+}

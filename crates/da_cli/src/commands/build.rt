@@ -1,0 +1,57 @@
+//! build BLOCK: the square of a block.
+
+ghost use Rattle.std.specs.Prelude.{◌≡◌, IsSome};
+ghost use Rattle.da_wire.specs.Spelling.{spelling};
+ghost use Rattle.da_wire.specs.declared.frames.Frame.TheVariants as FrameOf;
+ghost use Rattle.da_cli.specs.declared.commands.Command.TheVariants as CommandOf;
+ghost use Rattle.da_cli.specs.Gathered.{contents_of};
+ghost use Rattle.da_cli.specs.commands.Build.{Builds};
+ghost use Rattle.da_cli.specs.Meaning.{Meaning};
+ghost use Rattle.da_cli.specs.Outcome.{Ends};
+
+use crate::Status;
+use crate::commands::frames::{Unread, block_in, give};
+use crate::gathering::file;
+use da_io::Sink;
+use da_wire::{Frame, wire_laws};
+use namespace_id::shares_law;
+use square_layout::{Block, LayError, Square, lay};
+use std::alloc::Global;
+
+/// The place of the file among the words that name files.
+const BLOCK: u32 = 0;
+
+/// The frame of a square.
+fn square_frame(square: Square) -> Frame
+    ensures value { result ≡ FrameOf.Square square }
+    ensures spelled { IsSome (spelling result) }
+{
+    wire_laws();
+    shares_law(&square.shares);
+    let _k = square.k;
+    Frame::Square(square)
+}
+
+/// Writes the square of a block.
+fn build_square<O: Sink>(alloc: Global, block: &Block, out: &mut O) -> Status
+    ensures { Ends (Builds block.now) (O.taken out.old) (O.taken out.new) (O.faults out.old)
+        (O.faults out.new) (out.new ≡ out.old) result }
+{
+    match lay(alloc, block) {
+        Ok(square) => give(alloc, &square_frame(square), out),
+        Err(LayError::NoMemory) => Status::NoMemory,
+        Err(why) => Status::BadBlock(why),
+    }
+}
+
+/// Lays out the block in BLOCK.
+pub(crate) fn execute<O: Sink>(alloc: Global, files: &[Vec<u8>], out: &mut O) -> Status
+    ensures { Ends (Meaning CommandOf.Build (contents_of files.now)) (O.taken out.old) (O.taken out.new)
+        (O.faults out.old) (O.faults out.new) (out.new ≡ out.old) result }
+{
+    match block_in(alloc, file(files, BLOCK)) {
+        Ok(block) => build_square(alloc, &block, out),
+        Err(Unread::BadForm(at)) => Status::BadInput(BLOCK, at),
+        Err(Unread::NoMemory) => Status::NoMemory,
+    }
+}

@@ -1,0 +1,93 @@
+//! The line that goes with a status.
+
+ghost use Rattle.std.specs.Prelude.{◌≡◌, ℕ, ◌+◌, ◌≤◌, ◌++◌, length, decimal};
+ghost use Rattle.da_cli.specs.Notes.{refusal_number, block_note, note_of, Notes};
+
+mod line;
+
+use crate::{Asked, Status};
+use da_io::{Sink, write_all};
+use line::Line;
+use namespace_id::NsError;
+use square_layout::LayError;
+
+/// Puts a number between two texts.
+#[tactic(auto, using(crate::proofs::DigitLemmas::digits_fit))]
+fn around(line: &mut Line, front: &[u8], number: u64, back: &[u8])
+    requires { length line.old + length front.now + 20 + length back.now ≤ 96 }
+    ensures { line.new ≡ line.old ++ front.now ++ decimal number ++ back.now }
+{
+    line.put(front);
+    line.put_number(number);
+    line.put(back);
+}
+
+/// The number of a refusal of a namespace.
+fn refusal_number(why: NsError) -> u64
+    ensures { result ≡ refusal_number why }
+{
+    match why {
+        NsError::Length => 1,
+        NsError::Version => 2,
+        NsError::Prefix => 3,
+        NsError::Reserved => 4,
+    }
+}
+
+/// The line of a block that can't be laid out.
+#[tactic(auto, using(crate::proofs::DigitLemmas::digits_fit))]
+fn note_block(line: &mut Line, why: LayError)
+    requires { length line.old ≤ 11 }
+    ensures value { line.new ≡ line.old ++ block_note why }
+    ensures few { length line.new ≤ 64 }
+{
+    match why {
+        LayError::BadBlob(i, why) => {
+            around(line, b"1 ", i, b" ");
+            around(line, b"", refusal_number(why), b"");
+        }
+        LayError::EmptyBlob(i) => around(line, b"2 ", i, b""),
+        LayError::TooLarge(needed) => around(line, b"3 ", needed, b""),
+        LayError::WidthTooSmall(needed) => around(line, b"4 ", needed, b""),
+        LayError::BadWidth => line.put(b"5"),
+        LayError::NoMemory => line.put(b"6"),
+    }
+}
+
+/// The line that goes with a status. It takes no memory.
+#[tactic(auto, using(crate::proofs::DigitLemmas::digits_fit))]
+fn note_of(status: Status) -> Line
+    ensures { result ≡ note_of status }
+{
+    let mut line = Line::new();
+    match status {
+        Status::Done => {}
+        Status::Usage => line.put(b"usage: da COMMAND WORDS\n"),
+        Status::PickFault(i) => around(&mut line, b"cannot open file ", u64::from(i), b"\n"),
+        Status::ReadFault(i) => around(&mut line, b"cannot read file ", u64::from(i), b"\n"),
+        Status::WriteFault => line.put(b"cannot write\n"),
+        Status::NoMemory => line.put(b"out of memory\n"),
+        Status::BadInput(i, at) => {
+            around(&mut line, b"bad input: file ", u64::from(i), b" at ");
+            around(&mut line, b"", at, b"\n");
+        }
+        Status::TooLong(i) => around(&mut line, b"too long: file ", u64::from(i), b"\n"),
+        Status::BadBlock(why) => {
+            line.put(b"bad block: ");
+            note_block(&mut line, why);
+            line.put(b"\n");
+        }
+        Status::BadRequest(Asked::NoHeader) => line.put(b"bad request: no header\n"),
+        Status::Refused => line.put(b"refused\n"),
+    }
+    line
+}
+
+/// Notes how a run ended. A write that fails here changes no status.
+pub(crate) fn note<N: Sink>(status: Status, notes: &mut N)
+    ensures { Notes (note_of status) (N.taken notes.old) (N.taken notes.new) (N.faults notes.old)
+        (N.faults notes.new) }
+{
+    let line = note_of(status);
+    let _noted = write_all(notes, line.as_bytes());
+}
