@@ -4,6 +4,7 @@ use Rattle.std.proofs.lemmas.Grind.{div_ceil_times}
 use Rattle.std.proofs.lemmas.List.{length-replicate}
 use Rattle.namespace_id.specs.declared.namespaces.Namespace.{Namespace}
 use Rattle.namespace_id.specs.declared.shares.Share.{Share}
+use Rattle.namespace_id.specs.Doublings.{least_doubling}
 use Rattle.share_split.specs.Widths.{is_wide_enough, width_from, width_of}
 use Rattle.share_split.specs.Blobs.{NamedBytes, blob_shares_of}
 use Rattle.share_split.specs.Joined.{padding_share}
@@ -14,7 +15,7 @@ use Rattle.square_layout.specs.Layout.{shares_of, start_after, end_of, placed}
 
 -- no width of subtrees is 0
 width_from-some : (more width count : ℕ) → 0 < width → 0 < width_from more width count
-unfolding width_from
+unfolding least_doubling
 width_from-some zero width count h = h
 width_from-some (suc more) width count h = elim (is_wide_enough count width) as (λ b. 0 < (if b then width else width_from more (width * 2) count)) [
   | true ↦ h

@@ -20,13 +20,15 @@ use Rattle.share_split.proofs.UnitLawLemmas.{unit_shares_are_shares}
 use Rattle.square_layout.specs.declared.laying.LayError.{LayError}
 use Rattle.square_layout.specs.declared.laying.LayError.TheVariants.{TooLarge, WidthTooSmall, BadWidth}
 use Rattle.square_layout.specs.Blocks.{BlockParts, IsBlock, IsSquare}
-use Rattle.square_layout.specs.Layout.{in_order, shares_of, start_after, placed, compact_end, laid, needed, holding_from, width_for, square_of}
+use Rattle.namespace_id.specs.Doublings.{least_doubling}
+use Rattle.namespace_id.proofs.DoublingLemmas.{least_doubling-suc, least_doubling-found}
+use Rattle.square_layout.specs.Layout.{in_order, shares_of, start_after, placed, compact_end, laid, needed, holds_shares, holding_from, width_for, square_of}
 use Rattle.square_layout.specs.Refusals.{max_shares, max_count, blob_refusal, width_refusal, size_refusal, refusal_of}
 use Rattle.square_layout.proofs.AcceptedLemmas.{no_refusal}
 use Rattle.square_layout.proofs.BlobOrderLemmas.{All-in_order}
 use Rattle.square_layout.proofs.LaidLemmas.{length-padded, laid_fits}
 use Rattle.square_layout.proofs.LeastWidthLemmas.{holding_holds}
-use Rattle.square_layout.proofs.SizeLemmas.{is_width-double, holding_from-suc, holding_from-found}
+use Rattle.square_layout.proofs.SizeLemmas.{is_width-double}
 
 -- ---- the square is one
 
@@ -43,12 +45,12 @@ below_last k more last =
     omega (arith, grows, last)
 
 holding_from-width : (more k count : ℕ) → is_width k ≡ true → k * 2 ^ more ≡ 128 → is_width (holding_from more k count) ≡ true
-unfolding holding_from
+unfolding least_doubling
 holding_from-width zero k count one last = one
 holding_from-width (suc more) k count one last = elim (cases_Bool (nat_le count (k * k))) [
-  | inl enough ↦ ap is_width (holding_from-found (suc more) k count enough) ∙ one
+  | inl enough ↦ ap is_width (least_doubling-found (holds_shares count) (suc more) k enough) ∙ one
   | inr small ↦
-      ap is_width (holding_from-suc more k count small ∙ ap (λ (w : ℕ). holding_from more w count) (mul_comm 2 k))
+      ap is_width (least_doubling-suc (holds_shares count) more k small)
       ∙ holding_from-width more (k * 2) count (is_width-double k one (below_last k more last)) (width-doubled k more last)
 ]
 
