@@ -10,7 +10,7 @@ use Rattle.namespace_id.specs.Names.{transaction, pay_for_blob, primary_reserved
 use Rattle.share_split.specs.Blobs.{NamedBytes}
 use Rattle.share_split.specs.Units.{unit_shares_of}
 use Rattle.share_split.specs.Joined.{padding_share}
-use Rattle.share_split.proofs.UnitLawLemmas.{unit_shares_are_counted}
+use Rattle.share_split.proofs.Writing.UnitLaws.{unit_shares_are_counted}
 use Rattle.square_layout.specs.Blocks.{BlockParts}
 use Rattle.square_layout.specs.Layout.{in_order, end_of, placed, compact_part, compact_end, laid, needed}
 use Rattle.square_layout.specs.Refusals.{max_shares}

@@ -8,7 +8,7 @@ use Rattle.namespace_id.specs.Doublings.{least_doubling}
 use Rattle.share_split.specs.Widths.{is_wide_enough, width_from, width_of}
 use Rattle.share_split.specs.Blobs.{NamedBytes, blob_shares_of}
 use Rattle.share_split.specs.Joined.{padding_share}
-use Rattle.share_split.proofs.BlobLawLemmas.{length-blob_shares_of}
+use Rattle.share_split.proofs.Writing.BlobLaws.{length-blob_shares_of}
 use Rattle.square_layout.specs.Layout.{shares_of, start_after, end_of, placed}
 
 -- ---- the start of a blob

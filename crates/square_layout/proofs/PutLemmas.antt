@@ -5,7 +5,7 @@ use Rattle.namespace_id.specs.declared.namespaces.Namespace.{Namespace}
 use Rattle.namespace_id.specs.declared.shares.Share.{Share}
 use Rattle.share_split.specs.Blobs.{NamedBytes, blob_shares_of}
 use Rattle.share_split.specs.Joined.{padding_share}
-use Rattle.share_split.proofs.BlobLawLemmas.{length-blob_shares_of}
+use Rattle.share_split.proofs.Writing.BlobLaws.{length-blob_shares_of}
 use Rattle.square_layout.specs.Layout.{shares_of, start_after, end_of, placed}
 use Rattle.square_layout.proofs.PlaceLemmas.{start_after-ge, end_of-ge, end_of-next}
 

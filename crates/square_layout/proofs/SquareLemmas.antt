@@ -15,8 +15,8 @@ use Rattle.namespace_id.proofs.StringLemmas.{AreBytes-append, AreBytes-replicate
 use Rattle.share_split.specs.Blobs.{NamedBytes, IsNamed, blob_shares_of}
 use Rattle.share_split.specs.Units.{unit_shares_of}
 use Rattle.share_split.specs.Joined.{padding_share}
-use Rattle.share_split.proofs.BlobLawLemmas.{blob_shares_are_shares, padding_is_share}
-use Rattle.share_split.proofs.UnitLawLemmas.{unit_shares_are_shares}
+use Rattle.share_split.proofs.Writing.BlobLaws.{blob_shares_are_shares, padding_is_share}
+use Rattle.share_split.proofs.Writing.UnitLaws.{unit_shares_are_shares}
 use Rattle.square_layout.specs.declared.laying.LayError.{LayError}
 use Rattle.square_layout.specs.declared.laying.LayError.TheVariants.{TooLarge, WidthTooSmall, BadWidth}
 use Rattle.square_layout.specs.Blocks.{BlockParts, IsBlock, IsSquare}

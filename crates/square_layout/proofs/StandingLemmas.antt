@@ -13,7 +13,7 @@ use Rattle.share_split.specs.Widths.{width_of}
 use Rattle.share_split.specs.Blobs.{NamedBytes, blob_shares_of}
 use Rattle.share_split.specs.Joined.{padding_share}
 use Rattle.square_layout.specs.Blocks.{BlockParts}
-use Rattle.share_split.proofs.BlobLawLemmas.{length-blob_shares_of}
+use Rattle.share_split.proofs.Writing.BlobLaws.{length-blob_shares_of}
 use Rattle.square_layout.specs.Layout.{shares_of, start_after, end_of, placed, last_name, padding_name, in_order, compact_part, compact_end, laid, width_for, square_of}
 use Rattle.square_layout.proofs.PlaceLemmas.{start_after-ge, length-placed}
 use Rattle.square_layout.proofs.LaidLemmas.{length-compact_part}

@@ -1,6 +1,6 @@
 use Rattle.std.proofs.Common.{◌≡◌, ◌∙◌, ◌*◌, ◌/◌, ◌^◌, ℕ, false, refl, sym, ap, arith}
 use Rattle.share_split.specs.Widths.{is_wide_enough, width_of}
-use Rattle.share_split.proofs.WidthLemmas.{narrow, power-double}
+use Rattle.share_split.proofs.Width.Powers.{narrow, power-double}
 use Rattle.namespace_id.proofs.DoublingLemmas.{way-doubled, way-ends}
 use Rattle.share_split.proofs.widths.subtree_width.Goals as goal
 

@@ -8,7 +8,7 @@ use Rattle.std.proofs.NetLemmas.Options.{cond_none}
 use Rattle.namespace_id.specs.Bytes.{AreBytes}
 use Rattle.share_split.specs.Units.{varint_within}
 use Rattle.share_split.specs.Walks.{varint_in, above_low}
-use Rattle.share_split.proofs.VarintLemmas.{varint_within-low, varint_within-high}
+use Rattle.share_split.proofs.Varint.Bytes.{varint_within-low, varint_within-high}
 
 -- ---- read
 

@@ -4,8 +4,8 @@ use Rattle.std.proofs.lemmas.List.{append_assoc}
 use Rattle.namespace_id.specs.declared.namespaces.Namespace.{Namespace}
 use Rattle.namespace_id.specs.declared.shares.Share.{Share}
 use Rattle.share_split.specs.Units.{later_compact_content, content_start, starts_on, reserved_of, later_compact_share, later_compact_shares}
-use Rattle.share_split.proofs.StartLemmas.{reserved_of-on}
-use Rattle.share_split.proofs.PlaceLemmas.{content_start-next}
+use Rattle.share_split.proofs.Writing.Starts.{reserved_of-on}
+use Rattle.share_split.proofs.Writing.Places.{content_start-next}
 
 pub later_compact_shares-none : (name : Namespace) (i : ℕ) (starts text : List ℕ) (count : ℕ) → count ≡ 0
     → later_compact_shares count name i starts text ≡ []

@@ -10,12 +10,12 @@ use Rattle.namespace_id.specs.declared.shares.Share.{Share}
 use Rattle.share_split.specs.Blobs.{later_shares, share_count}
 use Rattle.share_split.specs.Units.{compact_count, reserved_of, later_compact_share, later_compact_shares}
 use Rattle.share_split.specs.Walks.{reserved_in, bad_reserved}
-use Rattle.share_split.proofs.LaterLemmas.{later_shares-none, later_shares-next}
-use Rattle.share_split.proofs.FieldLemmas.{IsLater, later_share_is_later, is_later_share}
-use Rattle.share_split.proofs.CompactFieldLemmas.{later_compact_is, is_later_compact}
-use Rattle.share_split.proofs.ReservedLemmas.{bad_reserved-cons, bad_reserved-nil}
-use Rattle.share_split.proofs.PlaceLemmas.{reserved_of-small}
-use Rattle.share_split.proofs.LaterCompactLemmas.{later_compact_shares-none, later_compact_shares-next}
+use Rattle.share_split.proofs.Writing.Later.{later_shares-none, later_shares-next}
+use Rattle.share_split.proofs.Reading.Fields.{IsLater, later_share_is_later, is_later_share}
+use Rattle.share_split.proofs.Reading.CompactFields.{later_compact_is, is_later_compact}
+use Rattle.share_split.proofs.Reading.Reserved.{bad_reserved-cons, bad_reserved-nil}
+use Rattle.share_split.proofs.Writing.Places.{reserved_of-small}
+use Rattle.share_split.proofs.Writing.LaterCompact.{later_compact_shares-none, later_compact_shares-next}
 
 -- shares that go on with a sequence to its end, of whose content this text is left
 abbrev pub AreLater : ℕ → Namespace → List ℕ → List Share → Type 0

@@ -4,7 +4,7 @@ use Rattle.std.proofs.lemmas.List.{length-drop, take_at, drop_at, drop_all, nil_
 use Rattle.std.proofs.lemmas.Bool.{cases_lt, and_parts}
 use Rattle.namespace_id.specs.Names.{is_zeros}
 use Rattle.share_split.specs.Blobs.{filled}
-use Rattle.share_split.proofs.ShareLemmas.{filled_is}
+use Rattle.share_split.proofs.Writing.Share.{filled_is}
 
 -- zeros are zeros
 pub zeros_are : (n : ℕ) → is_zeros (replicate n 0) ≡ true

@@ -7,7 +7,7 @@ use Rattle.namespace_id.specs.declared.namespaces.Namespace.{Namespace}
 use Rattle.namespace_id.specs.declared.shares.Share.{Share}
 use Rattle.share_split.specs.Blobs.{filled, sequence_share, first_share, later_share}
 use Rattle.share_split.specs.Walks.{version_in, is_start, size_in, content_in}
-use Rattle.share_split.proofs.CutLemmas.{cut, four, parts, fours, stated, first_byte_is, later_byte_is, fields_first, fields_later}
+use Rattle.share_split.proofs.Reading.Cuts.{cut, four, parts, fours, stated, first_byte_is, later_byte_is, fields_first, fields_later}
 
 -- a share that begins a sequence under a namespace, whose content is all of a text
 pub record IsFirst (reserved : ℕ) (name : Namespace) (size : ℕ) (text : List ℕ) (share : Share) : Type 0 where

@@ -5,8 +5,8 @@ use Rattle.namespace_id.specs.declared.shares.Share.{Share}
 use Rattle.share_split.specs.declared.joining.JoinError.{JoinError}
 use Rattle.share_split.specs.Blobs.{NamedBytes}
 use Rattle.share_split.specs.Walks.{Sequence, is_complete, with_blob, blobs_from}
-use Rattle.share_split.proofs.BlobWalkLemmas.{Blobs}
-use Rattle.share_split.proofs.BlobReadLemmas.{taken_on}
+use Rattle.share_split.proofs.Reading.BlobWalk.{Blobs}
+use Rattle.share_split.proofs.Reading.BlobRead.{taken_on}
 
 -- a check that passed, and what followed
 pub checked : (o : Option JoinError) (r : Blobs) (blobs : List NamedBytes) → option_map_or Err o r ≡ Ok blobs → (o ≡ None) × (r ≡ Ok blobs)

@@ -10,13 +10,13 @@ use Rattle.namespace_id.proofs.StringLemmas.{AreBytes-append}
 use Rattle.share_split.specs.Blobs.{NamedBytes}
 use Rattle.share_split.specs.Walks.{size_in, Sequence, missing, begun_by, extended_by, first_refusal, later_refusal, blobs_from}
 use Rattle.share_split.specs.Joined.{AreBlobs}
-use Rattle.share_split.proofs.FieldLemmas.{IsFirst, IsLater}
-use Rattle.share_split.proofs.NextLemmas.{first_told, later_told, first_part, later_part, part-fits}
-use Rattle.share_split.proofs.RunLemmas.{AreLater, drop-parted}
-use Rattle.share_split.proofs.BlobWalkLemmas.{blobs_on, blobs_from-cons, blobs_from-nil, blobs_from-open}
-use Rattle.share_split.proofs.BlobReadLemmas.{taken_on}
-use Rattle.share_split.proofs.PieceLemmas.{one, with_sequence}
-use Rattle.share_split.proofs.BlobAnswerLemmas.{checked, goes_on}
+use Rattle.share_split.proofs.Reading.Fields.{IsFirst, IsLater}
+use Rattle.share_split.proofs.Reading.Next.{first_told, later_told, first_part, later_part, part-fits}
+use Rattle.share_split.proofs.Reading.Runs.{AreLater, drop-parted}
+use Rattle.share_split.proofs.Reading.BlobWalk.{blobs_on, blobs_from-cons, blobs_from-nil, blobs_from-open}
+use Rattle.share_split.proofs.Reading.BlobRead.{taken_on}
+use Rattle.share_split.proofs.Reading.Pieces.{one, with_sequence}
+use Rattle.share_split.proofs.Reading.BlobAnswer.{checked, goes_on}
 
 -- ---- the walk
 

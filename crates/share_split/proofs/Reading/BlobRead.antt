@@ -13,10 +13,10 @@ use Rattle.share_split.specs.Blobs.{NamedBytes, max_sequence_length, first_share
 use Rattle.share_split.specs.Walks.{Sequence, missing, is_complete, with_blob, blob_refusal, taken_by, blobs_from}
 use Rattle.share_split.specs.Joined.{Piece, piece_shares, piece_blobs, IsPiece, padding_share}
 use Rattle.share_split.specs.Joined.Piece.{padding, blob}
-use Rattle.share_split.proofs.FieldLemmas.{first_share_is_first}
-use Rattle.share_split.proofs.SequenceLemmas.{seq, first_passes, first_taken, later_passes, later_taken}
-use Rattle.share_split.proofs.RunLemmas.{AreLater, none_later, later_are, later_count}
-use Rattle.share_split.proofs.BlobWalkLemmas.{Blobs, blobs_on, blobs_from-cons, blobs_from-nil}
+use Rattle.share_split.proofs.Reading.Fields.{first_share_is_first}
+use Rattle.share_split.proofs.Reading.Sequence.{seq, first_passes, first_taken, later_passes, later_taken}
+use Rattle.share_split.proofs.Reading.Runs.{AreLater, none_later, later_are, later_count}
+use Rattle.share_split.proofs.Reading.BlobWalk.{Blobs, blobs_on, blobs_from-cons, blobs_from-nil}
 
 -- what is read once the share before share i was taken into this sequence
 abbrev pub taken_on : ℕ → Sequence → List Share → Blobs

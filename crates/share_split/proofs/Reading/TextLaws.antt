@@ -7,8 +7,8 @@ use Rattle.namespace_id.specs.Bytes.{AreBytes}
 use Rattle.namespace_id.proofs.StringLemmas.{AreBytes-drop}
 use Rattle.share_split.specs.Units.{varint, unit_text, units_text}
 use Rattle.share_split.specs.Walks.{unit_at, with_unit, units_from}
-use Rattle.share_split.proofs.UnitLemmas.{read_unit, unit_back, unit_again}
-use Rattle.share_split.proofs.TextLemmas.{Units, units_here, units_on, units_end}
+use Rattle.share_split.proofs.Reading.Unit.{read_unit, unit_back, unit_again}
+use Rattle.share_split.proofs.Reading.Text.{Units, units_here, units_on, units_end}
 
 -- the text of units is read as these
 pub units_again : (at : ℕ) (units : List (List ℕ)) → length (units_text units) < 2 ^ 32 → units_from 0 at (units_text units) ≡ Ok units

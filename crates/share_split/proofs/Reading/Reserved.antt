@@ -4,8 +4,8 @@ use Rattle.std.proofs.lemmas.List.{drop_more, drop_all}
 use Rattle.namespace_id.specs.declared.shares.Share.{Share}
 use Rattle.share_split.specs.Units.{content_start, starts_on, first_place, reserved_of}
 use Rattle.share_split.specs.Walks.{reserved_in, bad_reserved}
-use Rattle.share_split.proofs.StartLemmas.{reserved_of-on}
-use Rattle.share_split.proofs.PlaceLemmas.{content_start-next}
+use Rattle.share_split.proofs.Writing.Starts.{reserved_of-on}
+use Rattle.share_split.proofs.Writing.Places.{content_start-next}
 
 -- the next share is checked first
 pub bad_reserved-cons : (i : ℕ) (starts : List ℕ) (share : Share) (shares : List Share)

@@ -12,13 +12,13 @@ use Rattle.share_split.specs.declared.joining.JoinError.TheVariants.{BadReserved
 use Rattle.share_split.specs.Blobs.{max_sequence_length}
 use Rattle.share_split.specs.Units.{units_text, starts_from, reserved_of, first_compact_share, later_compact_shares, compact_count, compact_shares}
 use Rattle.share_split.specs.Walks.{Sequence, missing, is_complete, later_refusal, surplus_refusal, unit_refusal, taken_by, sequence_from, bad_reserved, reserved_units, units_in, units_of}
-use Rattle.share_split.proofs.CompactFieldLemmas.{first_compact_is}
-use Rattle.share_split.proofs.SequenceLemmas.{seq, first_passes, first_taken, later_passes, later_taken}
-use Rattle.share_split.proofs.RunLemmas.{AreLater, later_compact_are, later_compact_count, later_compact_good}
-use Rattle.share_split.proofs.ReservedLemmas.{bad_reserved-cons}
-use Rattle.share_split.proofs.PlaceLemmas.{reserved_of-small}
-use Rattle.share_split.proofs.TextLawLemmas.{units_again}
-use Rattle.share_split.proofs.UnitWalkLemmas.{sequence_from-cons, sequence_from-whole}
+use Rattle.share_split.proofs.Reading.CompactFields.{first_compact_is}
+use Rattle.share_split.proofs.Reading.Sequence.{seq, first_passes, first_taken, later_passes, later_taken}
+use Rattle.share_split.proofs.Reading.Runs.{AreLater, later_compact_are, later_compact_count, later_compact_good}
+use Rattle.share_split.proofs.Reading.Reserved.{bad_reserved-cons}
+use Rattle.share_split.proofs.Writing.Places.{reserved_of-small}
+use Rattle.share_split.proofs.Reading.TextLaws.{units_again}
+use Rattle.share_split.proofs.Reading.UnitWalk.{sequence_from-cons, sequence_from-whole}
 
 -- a share whose checks pass
 on : (i : ℕ) (so_far : Option Sequence) (share : Share) (shares : List Share) (t : Sequence) → unit_refusal i so_far share ≡ None → taken_by 4 i so_far share ≡ t

@@ -5,8 +5,8 @@ use Rattle.std.proofs.lemmas.Bool.{cases_lt, cases_Bool, true≢false}
 use Rattle.std.proofs.lemmas.Bool.Decides.{nat_tests}
 use Rattle.share_split.specs.Units.{unit_text, starts_from, content_start, content_place, place_in, first_place, reserved_of}
 use Rattle.share_split.specs.UnitLaws.{is_inside, IsFirstInside}
-use Rattle.share_split.proofs.StartLemmas.{starts_on-before, starts_on-at, starts_on-none}
-use Rattle.share_split.proofs.PlaceLemmas.{place_in-within, place_in-behind}
+use Rattle.share_split.proofs.Writing.Starts.{starts_on-before, starts_on-at, starts_on-none}
+use Rattle.share_split.proofs.Writing.Places.{place_in-within, place_in-behind}
 
 -- ---- the content of a share
 

@@ -12,10 +12,10 @@ use Rattle.share_split.specs.Blobs.{NamedBytes, max_sequence_length, first_share
 use Rattle.share_split.specs.Walks.{size_in}
 use Rattle.share_split.specs.Joined.{Piece, piece_shares, piece_blobs, IsPiece, IsBlob, AreBlobs, padding_share}
 use Rattle.share_split.specs.Joined.Piece.{padding, blob}
-use Rattle.share_split.proofs.FieldLemmas.{IsFirst, is_first_share}
-use Rattle.share_split.proofs.NextLemmas.{size_in-small}
-use Rattle.share_split.proofs.RunLemmas.{AreLater, later_only, later_count}
-use Rattle.share_split.proofs.BlobReadLemmas.{padding_is}
+use Rattle.share_split.proofs.Reading.Fields.{IsFirst, is_first_share}
+use Rattle.share_split.proofs.Reading.Next.{size_in-small}
+use Rattle.share_split.proofs.Reading.Runs.{AreLater, later_only, later_count}
+use Rattle.share_split.proofs.Reading.BlobRead.{padding_is}
 
 -- a first share and later ones are the shares of their bytes
 whole_sequence : (name : Namespace) (bytes : List ℕ) (share : Share) (shares : List Share) → IsShare share → AreShares shares

@@ -11,14 +11,14 @@ use Rattle.share_split.specs.declared.joining.JoinError.TheVariants.{BadReserved
 use Rattle.share_split.specs.Units.{starts_from, reserved_of, first_compact_share, later_compact_shares, compact_count}
 use Rattle.share_split.specs.Walks.{size_in, Sequence, begun_by, unit_refusal, sequence_from, units_from, bad_reserved, reserved_units, units_in, units_of}
 use Rattle.share_split.specs.Joined.{AreCompact, AreUnits}
-use Rattle.share_split.proofs.FieldLemmas.{IsFirst}
-use Rattle.share_split.proofs.CompactFieldLemmas.{is_first_compact}
-use Rattle.share_split.proofs.SequenceLemmas.{seq}
-use Rattle.share_split.proofs.NextLemmas.{first_told, first_part, size_in-small, part-fits}
-use Rattle.share_split.proofs.RunLemmas.{AreLater, drop-parted, good_cons, later_compact_only, later_compact_count}
-use Rattle.share_split.proofs.TextLawLemmas.{units_back}
-use Rattle.share_split.proofs.UnitWalkLemmas.{One, sequence_from-cons, sequence_from-none}
-use Rattle.share_split.proofs.SequenceToldLemmas.{checked, run_told}
+use Rattle.share_split.proofs.Reading.Fields.{IsFirst}
+use Rattle.share_split.proofs.Reading.CompactFields.{is_first_compact}
+use Rattle.share_split.proofs.Reading.Sequence.{seq}
+use Rattle.share_split.proofs.Reading.Next.{first_told, first_part, size_in-small, part-fits}
+use Rattle.share_split.proofs.Reading.Runs.{AreLater, drop-parted, good_cons, later_compact_only, later_compact_count}
+use Rattle.share_split.proofs.Reading.TextLaws.{units_back}
+use Rattle.share_split.proofs.Reading.UnitWalk.{One, sequence_from-cons, sequence_from-none}
+use Rattle.share_split.proofs.Reading.SequenceTold.{checked, run_told}
 
 -- ---- the whole sequence
 

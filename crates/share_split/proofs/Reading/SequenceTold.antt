@@ -7,10 +7,10 @@ use Rattle.namespace_id.specs.declared.shares.Share.{Share}
 use Rattle.namespace_id.proofs.StringLemmas.{AreBytes-append}
 use Rattle.share_split.specs.declared.joining.JoinError.{JoinError}
 use Rattle.share_split.specs.Walks.{Sequence, missing, is_complete, extended_by, later_refusal, surplus_refusal, unit_refusal, sequence_from}
-use Rattle.share_split.proofs.SequenceLemmas.{seq}
-use Rattle.share_split.proofs.NextLemmas.{later_told, later_part, part-fits}
-use Rattle.share_split.proofs.RunLemmas.{AreLater, drop-parted}
-use Rattle.share_split.proofs.UnitWalkLemmas.{One, sequence_from-cons, sequence_from-whole, sequence_from-open}
+use Rattle.share_split.proofs.Reading.Sequence.{seq}
+use Rattle.share_split.proofs.Reading.Next.{later_told, later_part, part-fits}
+use Rattle.share_split.proofs.Reading.Runs.{AreLater, drop-parted}
+use Rattle.share_split.proofs.Reading.UnitWalk.{One, sequence_from-cons, sequence_from-whole, sequence_from-open}
 
 -- ---- what an answer tells
 

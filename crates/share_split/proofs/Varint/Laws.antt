@@ -7,8 +7,8 @@ use Rattle.namespace_id.specs.Bytes.{AreBytes}
 use Rattle.share_split.specs.Units.{varint_within, varint}
 use Rattle.share_split.specs.Walks.{varint_in}
 use Rattle.share_split.specs.UnitLaws.{stated, is_marked}
-use Rattle.share_split.proofs.VarintReadLemmas.{varint_back, varint_again}
-use Rattle.share_split.proofs.VarintLemmas.{varint_within-low, varint_within-high, length-varint-low, length-varint-high}
+use Rattle.share_split.proofs.Varint.Read.{varint_back, varint_again}
+use Rattle.share_split.proofs.Varint.Bytes.{varint_within-low, varint_within-high, length-varint-low, length-varint-high}
 
 -- ---- a varint is read back, and what is read is a varint
 

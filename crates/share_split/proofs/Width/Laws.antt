@@ -10,7 +10,7 @@ use Rattle.std.proofs.Math.Pow.{pow_mono}
 use Rattle.share_split.specs.Widths.{is_wide_enough, width_from, width_of, IsLeastPower, IsLeastRoot}
 use Rattle.namespace_id.specs.Doublings.{least_doubling}
 use Rattle.namespace_id.proofs.DoublingLemmas.{least_doubling-suc, least_doubling-found, least_from, most_from, passes_from}
-use Rattle.share_split.proofs.WidthLemmas.{power-double}
+use Rattle.share_split.proofs.Width.Powers.{power-double}
 
 -- it is a power of two if the first is
 power_from : (more j count : ℕ) → IsPowerOfTwo (width_from more (2 ^ j) count)

@@ -9,8 +9,8 @@ use Rattle.namespace_id.specs.declared.shares.Share.{Share}
 use Rattle.share_split.specs.Blobs.{filled, sequence_share}
 use Rattle.share_split.specs.Units.{first_compact_share, later_compact_share}
 use Rattle.share_split.specs.Walks.{is_start, fields_in, reserved_in}
-use Rattle.share_split.proofs.CutLemmas.{cut, four, parts, fours, stated, first_byte_is, later_byte_is, fields_first, fields_later}
-use Rattle.share_split.proofs.FieldLemmas.{IsFirst, IsLater, named, share_of}
+use Rattle.share_split.proofs.Reading.Cuts.{cut, four, parts, fours, stated, first_byte_is, later_byte_is, fields_first, fields_later}
+use Rattle.share_split.proofs.Reading.Fields.{IsFirst, IsLater, named, share_of}
 
 -- a compact share and the number that its reserved bytes state
 abbrev pub IsCompactFirst : Namespace → ℕ → ℕ → List ℕ → Share → Type 0

@@ -8,10 +8,10 @@ use Rattle.namespace_id.specs.declared.shares.Share.{Share}
 use Rattle.namespace_id.proofs.StringLemmas.{AreBytes-take, AreBytes-drop}
 use Rattle.share_split.specs.declared.joining.JoinError.TheVariants.{NoStart, Short, BadVersion, NonZeroFill, MixedNamespace}
 use Rattle.share_split.specs.Walks.{version_in, is_start, size_in, fields_in, content_in, Sequence, missing, is_filled, first_refusal, later_refusal}
-use Rattle.share_split.proofs.FillLemmas.{filled_back}
-use Rattle.share_split.proofs.CutLemmas.{fields_first, fields_later}
-use Rattle.share_split.proofs.FieldLemmas.{IsFirst, IsLater}
-use Rattle.share_split.proofs.CheckLemmas.{three_passed, four_passed}
+use Rattle.share_split.proofs.Reading.Fill.{filled_back}
+use Rattle.share_split.proofs.Reading.Cuts.{fields_first, fields_later}
+use Rattle.share_split.proofs.Reading.Fields.{IsFirst, IsLater}
+use Rattle.share_split.proofs.Reading.Checks.{three_passed, four_passed}
 
 -- the content that a share adds to a sequence
 abbrev pub first_part : ℕ → Share → List ℕ

@@ -8,7 +8,7 @@ use Rattle.namespace_id.specs.Shares.{IsShare, AreShares}
 use Rattle.namespace_id.proofs.StringLemmas.{AreBytes-none, AreBytes-take, AreBytes-drop}
 use Rattle.share_split.specs.Blobs.{first_content, later_content, later_shares, share_count, blob_shares_of}
 use Rattle.share_split.specs.Joined.{padding_share}
-use Rattle.share_split.proofs.UnitLawLemmas.{AreBytes-number, sequence_fits}
+use Rattle.share_split.proofs.Writing.UnitLaws.{AreBytes-number, sequence_fits}
 
 -- ---- their number
 

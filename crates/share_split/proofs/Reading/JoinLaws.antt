@@ -9,11 +9,11 @@ use Rattle.share_split.specs.declared.joining.JoinError.TheVariants.{BadReserved
 use Rattle.share_split.specs.Units.{starts_from}
 use Rattle.share_split.specs.Steps.{units_placed}
 use Rattle.share_split.specs.Joined.{AreBlobs, AreUnits}
-use Rattle.share_split.proofs.UnitWalkLemmas.{sequence_from-none}
-use Rattle.share_split.proofs.BlobReadLemmas.{pieces_read}
-use Rattle.share_split.proofs.BlobToldLemmas.{blobs_told}
-use Rattle.share_split.proofs.UnitReadLemmas.{compact_read}
-use Rattle.share_split.proofs.UnitToldLemmas.{units_told}
+use Rattle.share_split.proofs.Reading.UnitWalk.{sequence_from-none}
+use Rattle.share_split.proofs.Reading.BlobRead.{pieces_read}
+use Rattle.share_split.proofs.Reading.BlobTold.{blobs_told}
+use Rattle.share_split.proofs.Reading.UnitRead.{compact_read}
+use Rattle.share_split.proofs.Reading.UnitTold.{units_told}
 
 -- shares of blobs are read as these
 blobs_read : (shares : List Share) (blobs : List NamedBytes) → AreBlobs shares blobs → blobs_of shares ≡ Ok blobs

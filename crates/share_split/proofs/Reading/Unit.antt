@@ -7,7 +7,7 @@ use Rattle.namespace_id.specs.Bytes.{AreBytes}
 use Rattle.namespace_id.proofs.StringLemmas.{AreBytes-take, AreBytes-drop}
 use Rattle.share_split.specs.Units.{varint, unit_text}
 use Rattle.share_split.specs.Walks.{varint_in, unit_of, unit_at}
-use Rattle.share_split.proofs.VarintReadLemmas.{varint_back, varint_again, varint_shorter}
+use Rattle.share_split.proofs.Varint.Read.{varint_back, varint_again, varint_shorter}
 
 -- a length that was read, and a unit that is all there
 pub record IsReadUnit (text unit : List ℕ) (size : ℕ) : Type 0 where

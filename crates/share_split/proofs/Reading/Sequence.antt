@@ -8,9 +8,9 @@ use Rattle.namespace_id.specs.declared.shares.Share.{Share}
 use Rattle.namespace_id.specs.Shares.{name_in}
 use Rattle.share_split.specs.declared.joining.JoinError.TheVariants.{NoStart, Short, BadVersion, NonZeroFill, MixedNamespace}
 use Rattle.share_split.specs.Walks.{version_in, is_start, size_in, content_in, Sequence, missing, begun_by, extended_by, is_filled, first_refusal, later_refusal}
-use Rattle.share_split.proofs.FillLemmas.{take-filled, is_zeros-filled}
-use Rattle.share_split.proofs.FieldLemmas.{IsFirst, IsLater}
-use Rattle.share_split.proofs.CheckLemmas.{three, four}
+use Rattle.share_split.proofs.Reading.Fill.{take-filled, is_zeros-filled}
+use Rattle.share_split.proofs.Reading.Fields.{IsFirst, IsLater}
+use Rattle.share_split.proofs.Reading.Checks.{three, four}
 
 -- a sequence by its parts
 abbrev pub seq : ℕ → Namespace → ℕ → List ℕ → Sequence
