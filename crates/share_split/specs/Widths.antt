@@ -1,5 +1,5 @@
 -- How wide the subtrees over a blob's shares are (Celestia specifications, "Square Layout").
-use Rattle.std.specs.Prelude.{◌≡◌, ◌≤◌, ◌^◌, ℕ, zero, suc, ◌*◌, min, nat_le, Bool, ◌||◌, if◌then◌else◌}
+use Rattle.std.specs.Prelude.{◌≡◌, ◌≤◌, ◌^◌, ℕ, ◌*◌, min, nat_le, Bool, ◌||◌}
 use Rattle.std.specs.Int.{IsPowerOfTwo, div_ceil}
 use Rattle.namespace_id.specs.Doublings.{least_doubling}
 

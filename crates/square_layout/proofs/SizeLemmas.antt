@@ -1,12 +1,11 @@
 -- Lemmas on how many shares a layout has, and on the width that holds them.
-use Rattle.std.proofs.Common.{◌≡◌, ◌∙◌, ℕ, zero, suc, ◌+◌, ◌*◌, ◌^◌, ◌<◌, ◌≤◌, ◌==◌, min, max, nat_le, Bool, true, false, if◌then◌else◌, List, refl, sym, ap, ap₂, arith, inl, inr, mul_assoc, mul_comm}
-use Rattle.std.proofs.Math.Nat.{pow-suc}
+use Rattle.std.proofs.Common.{◌≡◌, ◌∙◌, ℕ, ◌+◌, ◌*◌, ◌<◌, ◌≤◌, ◌==◌, min, max, true, if◌then◌else◌, List, sym, ap, ap₂, arith, inl, inr}
 use Rattle.std.proofs.lemmas.Bool.{cases_lt}
 use Rattle.std.proofs.lemmas.Bool.Decides.{nat_tests}
 use Rattle.std.proofs.lemmas.Nat.{mul-le}
 use Rattle.namespace_id.specs.Cells.{is_width}
 use Rattle.share_split.specs.Blobs.{NamedBytes}
-use Rattle.square_layout.specs.Layout.{end_of, holding_from}
+use Rattle.square_layout.specs.Layout.{end_of}
 use Rattle.square_layout.specs.Refusals.{max_count, max_shares}
 use Rattle.square_layout.proofs.CountLemmas.{told_end}
 
@@ -16,15 +15,18 @@ use Rattle.square_layout.proofs.CountLemmas.{told_end}
 abbrev pub at_least_one : ℕ → ℕ
 at_least_one n = if n == 0 then 1 else n
 
+-- a sum of counts that are told is told
 told_sum : (a b : ℕ) → min (min a max_count + min b max_count) max_count ≡ min (a + b) max_count
 told_sum a b = omega arith
 
+-- a count that is told, or 1
 told_one : (n : ℕ) → max (min n max_count) 1 ≡ min (at_least_one n) max_count
 told_one n = elim (cases_lt 0 n) [
   | inl some ↦ (let same : at_least_one n ≡ n = grind (arith, nat_tests) in omega (arith, same, some))
   | inr none ↦ (let zero_is : n ≡ 0 = omega (arith, none) in ap (λ (k : ℕ). max (min k max_count) 1) zero_is ∙ sym (ap (λ (k : ℕ). min (at_least_one k) max_count) zero_is))
 ]
 
+-- how many shares a layout has is told, up to the greatest count
 pub needed_told : (a b x y sum end : ℕ) (blobs others : List NamedBytes) → x ≡ min a max_count → y ≡ min b max_count
     → sum ≡ min (x + y) max_count → end ≡ min (end_of sum others) max_count → others ≡ blobs
     → max end 1 ≡ min (at_least_one (end_of (a + b) blobs)) max_count

@@ -57,6 +57,7 @@ placed-cons name end blob back =
 abbrev pub before_of : BlockParts → List NamedBytes → List Share
 before_of block front = compact_part block ++ placed primary_reserved_padding (compact_end block) front
 
+-- what stands before a blob reaches up to where the blobs before it end
 length-before_of : (block : BlockParts) (front : List NamedBytes) → length (before_of block front) ≡ end_of (compact_end block) front
 length-before_of block front =
     length-append (compact_part block) (placed primary_reserved_padding (compact_end block) front)
@@ -73,6 +74,7 @@ abbrev pub behind_of : BlockParts → List NamedBytes → NamedBytes → List Na
 behind_of block front blob back =
     placed blob.namespace (start_after (end_of (compact_end block) front) blob + shares_of blob) back
 
+-- a layout is what stands before a blob, its padding and shares, and the others
 laid-parts : (block : BlockParts) (front back : List NamedBytes) (blob : NamedBytes) → in_order block.blobs ≡ front ++ blob ∷ back
     → laid block ≡ before_of block front ++ (gap_of block front blob ++ (blob_shares_of blob.namespace blob.bytes ++ behind_of block front blob back))
 laid-parts block front back blob e =

@@ -15,7 +15,11 @@ use share_split::{Blob, SplitError, Unit, blob_shares, padding_share, unit_share
 use std::alloc::Global;
 
 /// Appends padding shares until there are `to` shares.
-pub(crate) fn put_padding(namespace: &Namespace, to: usize, out: &mut Vec<Share>) -> Result<(), NoMemory>
+pub(crate) fn put_padding(
+    namespace: &Namespace,
+    to: usize,
+    out: &mut Vec<Share>,
+) -> Result<(), NoMemory>
     requires { vec_len out.old ≤ to }
     ensures { OnOk result (out.new.items ≡
         out.old.items ++ replicate (to - length out.old.items) (padding_share namespace.now)) }

@@ -31,9 +31,11 @@ varint_within-more (suc more) n h =
           ∙ sym (varint_within-high (suc (suc more)) n le)
     ]
 
+-- the varint of a number below 128 is one byte
 pub varint-low : (n : ℕ) → n < 128 → varint n ≡ n ∷ []
 varint-low n h = varint_within-low 9 n h
 
+-- the varint of another number is its lowest seven bits, and the others
 pub varint-high : (n : ℕ) → 128 ≤ n → n < 2 ^ 64 → varint n ≡ (n % 128 + 128) ∷ varint (n / 128)
 varint-high n h lt =
     varint_within-high 9 n h
@@ -49,6 +51,7 @@ length-varint_within (suc more) n =
       | inr le ↦ omega (arith, ap length (varint_within-high more n le), length-varint_within more (n / 128))
     ]
 
+-- a varint has at most ten bytes
 pub length-varint : (n : ℕ) → length (varint n) ≤ 10
 length-varint n = length-varint_within 10 n
 
@@ -60,9 +63,11 @@ some-varint n =
       | inr le ↦ omega (arith, ap length (varint_within-high 9 n le))
     ]
 
+-- the varint of a number below 128 has one byte
 pub length-varint-low : (n : ℕ) → n < 128 → length (varint n) ≡ 1
 length-varint-low n h = ap length (varint-low n h)
 
+-- the varint of another number has one byte more than that of its higher part
 pub length-varint-high : (n : ℕ) → 128 ≤ n → n < 2 ^ 64 → length (varint n) ≡ suc (length (varint (n / 128)))
 length-varint-high n h lt = ap length (varint-high n h lt)
 

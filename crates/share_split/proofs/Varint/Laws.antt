@@ -22,14 +22,17 @@ read_is_varint bytes rest n fits e = varint_back 5 10 bytes n rest (omega arith)
 
 -- ---- none is shorter
 
+-- the lowest seven bits, and then the others
 stated-next : (byte : ℕ) (bytes : List ℕ) → stated (byte ∷ bytes) ≡ byte % 128 + 128 * stated bytes
 unfolding stated
 stated-next byte bytes = refl
 
+-- no bytes state 0
 stated-none : stated [] ≡ 0
 unfolding stated
 stated-none = refl
 
+-- no bytes that state a number are fewer than its varint
 pub varint_is_shortest : (n : ℕ) (bytes : List ℕ) → n < 2 ^ 64 → bytes ≢ [] → stated bytes ≡ n → length (varint n) ≤ length bytes
 varint_is_shortest n [] h some e = absurd (some refl)
 varint_is_shortest n (byte ∷ []) h some e =
@@ -45,6 +48,7 @@ varint_is_shortest n (byte ∷ next ∷ bytes) h some e =
 
 -- ---- it states its number, and its last byte is marked
 
+-- a varint of at most so many bytes states its number
 within_states : (more n : ℕ) → n < 128 ^ suc more → stated (varint_within (suc more) n) ≡ n
 within_states zero n h =
     let lt : n < 128 = omega (arith, pow-suc 128 0, h) in
@@ -59,18 +63,22 @@ within_states (suc more) n h =
           ∙ omega (arith, stated-next (n % 128 + 128) rest, within_states more (n / 128) below)
     ]
 
+-- a varint states its number
 pub varint_states : (n : ℕ) → n < 2 ^ 64 → stated (varint n) ≡ n
 varint_states n h = within_states 9 n (omega arith)
 
+-- a single byte below 128 is marked as the last
 marked-one : (byte : ℕ) → byte < 128 → is_marked (byte ∷ []) ≡ true
 unfolding is_marked
 marked-one byte h = grind (arith, nat_tests)
 
+-- a byte from 128 on before marked bytes is marked
 marked-more : (byte : ℕ) (bytes : List ℕ) → 128 ≤ byte → is_marked bytes ≡ true → is_marked (byte ∷ bytes) ≡ true
 unfolding is_marked
 marked-more byte [] h rest = absurd (true≢false (sym rest))
 marked-more byte (next ∷ bytes) h rest = let e : nat_le 128 byte ≡ true = grind (arith, nat_tests) in rw (e, rest) refl
 
+-- a varint of at most so many bytes is marked
 within_is_marked : (more n : ℕ) → n < 128 ^ suc more → is_marked (varint_within (suc more) n) ≡ true
 within_is_marked zero n h =
     let lt : n < 128 = omega (arith, pow-suc 128 0, h) in
@@ -84,5 +92,6 @@ within_is_marked (suc more) n h =
           ∙ marked-more (n % 128 + 128) (varint_within (suc more) (n / 128)) (omega arith) (within_is_marked more (n / 128) below)
     ]
 
+-- a varint is marked
 pub varint_is_marked : (n : ℕ) → n < 2 ^ 64 → is_marked (varint n) ≡ true
 varint_is_marked n h = within_is_marked 9 n (omega arith)

@@ -1,5 +1,5 @@
 -- The width of subtrees is the least power of two that is wide enough, and so the lesser of two.
-use Rattle.std.proofs.Common.{◌≡◌, ◌∙◌, ℕ, zero, suc, ◌*◌, ◌^◌, ◌<◌, ◌≤◌, min, true, inl, inr, refl, sym, ap, subst, arith, mul_assoc, mul_comm}
+use Rattle.std.proofs.Common.{◌≡◌, ◌∙◌, ℕ, zero, suc, ◌*◌, ◌^◌, ◌<◌, ◌≤◌, min, true, inl, inr, refl, sym, ap, subst, arith}
 use Rattle.std.specs.Int.{IsPowerOfTwo, div_ceil}
 use Rattle.std.proofs.lemmas.Bool.{cases_lt, cases_Bool}
 use Rattle.std.proofs.lemmas.Bool.Decides.{nat_tests}
@@ -25,9 +25,11 @@ power_from (suc more) j count = elim (cases_Bool (is_wide_enough count (2 ^ j)))
 
 -- ---- the width
 
+-- the width of subtrees is a power of two
 width_of-power : (count : ℕ) → IsPowerOfTwo (width_of count)
 width_of-power count = power_from 28 0 count
 
+-- the width of subtrees is wide enough
 width_of-enough : (count : ℕ) → count ≤ 2 ^ 56 → is_wide_enough count (width_of count) ≡ true
 width_of-enough count h =
     let last : is_wide_enough count (1 * 2 ^ 28) ≡ true = grind (arith, nat_tests) in
@@ -81,6 +83,7 @@ power_above j k lt = elim (cases_lt j k) [
   | inr above ↦ (let greater : 2 ^ k ≤ 2 ^ j = pow_mono above in absurd (omega (arith, greater, lt)))
 ]
 
+-- there is a least power of two that is not below a number
 pub least_power : (n : ℕ) → (least : ℕ) × IsLeastPower n least
 least_power zero =
     (1, record { is_power = (0, refl); holds = omega arith; none_below = λ other p h. omega (arith, p.1, one-le-pow p.0 2 (omega arith)) })
@@ -115,6 +118,7 @@ next_root root other n le h = elim (cases_lt root other) [
   | inr above ↦ (let square = mul-le other other root root above above in absurd (omega (arith, square, le, h)))
 ]
 
+-- there is a least number whose square is not below another
 pub least_root : (n : ℕ) → (least : ℕ) × IsLeastRoot n least
 least_root zero = (0, record { holds = omega arith; none_below = λ other h. omega arith })
 least_root (suc n) =

@@ -1,11 +1,11 @@
 -- Lemmas on the widths of subtrees.
-use Rattle.std.proofs.Common.{◌≡◌, ◌∙◌, ℕ, zero, suc, ◌*◌, ◌^◌, ◌<◌, ◌≤◌, Bool, true, false, if◌then◌else◌, inl, inr, refl, sym, ap, arith, mul_assoc, mul_comm}
+use Rattle.std.proofs.Common.{◌≡◌, ℕ, suc, ◌*◌, ◌^◌, ◌<◌, ◌≤◌, false, inl, inr, arith}
 use Rattle.std.specs.Int.{IsPowerOfTwo}
 use Rattle.std.proofs.lemmas.Bool.{cases_lt}
 use Rattle.std.proofs.lemmas.Bool.Decides.{nat_tests}
 use Rattle.std.proofs.lemmas.Nat.{mul-le}
 use Rattle.std.proofs.Math.Nat.{pow-suc}
-use Rattle.share_split.specs.Widths.{is_wide_enough, width_from, width_of}
+use Rattle.share_split.specs.Widths.{is_wide_enough}
 
 -- a width of 2 ^ 28 is always enough
 pub narrow : (count width : ℕ) → count ≤ 2 ^ 56 → is_wide_enough count width ≡ false → width < 2 ^ 28

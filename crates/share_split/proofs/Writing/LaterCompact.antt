@@ -7,6 +7,7 @@ use Rattle.share_split.specs.Units.{later_compact_content, content_start, starts
 use Rattle.share_split.proofs.Writing.Starts.{reserved_of-on}
 use Rattle.share_split.proofs.Writing.Places.{content_start-next}
 
+-- no compact shares are left
 pub later_compact_shares-none : (name : Namespace) (i : ℕ) (starts text : List ℕ) (count : ℕ) → count ≡ 0
     → later_compact_shares count name i starts text ≡ []
 unfolding later_compact_shares

@@ -10,21 +10,26 @@ use Rattle.share_split.proofs.Writing.Places.{place_in-within, place_in-behind}
 
 -- ---- the content of a share
 
+-- a place inside a share is not before its content
 inside_from : (i at : ℕ) → is_inside i at ≡ true → content_start i ≤ at
 inside_from i at h = grind (arith, nat_tests)
 
+-- a place inside a share is before the content of the next
 inside_below : (i at : ℕ) → is_inside i at ≡ true → at < content_start (suc i)
 inside_below i at h = grind (arith, nat_tests)
 
+-- a place from the content of a share up to that of the next is inside it
 is_inside_where : (i at : ℕ) → content_start i ≤ at → at < content_start (suc i) → is_inside i at ≡ true
 is_inside_where i at low high = grind (arith, nat_tests)
 
 -- ---- units start one after another
 
+-- no units have no starts
 starts_from-nil : (at : ℕ) → starts_from at [] ≡ []
 unfolding starts_from
 starts_from-nil at = refl
 
+-- the start of the first unit, and then those of the others
 starts_from-cons : (at : ℕ) (unit : List ℕ) (units : List (List ℕ)) → starts_from at (unit ∷ units) ≡ at ∷ starts_from (at + length (unit_text unit)) units
 unfolding starts_from
 starts_from-cons at unit units = refl
@@ -43,12 +48,15 @@ starts_above at start (unit ∷ units) h = elim (cases_Bool (at == start)) [
 
 -- ---- the first that starts in the content
 
+-- a unit that starts before a share is not stated in it
 reserved_before : (i at : ℕ) (starts : List ℕ) → at < content_start i → reserved_of i (at ∷ starts) ≡ reserved_of i starts
 reserved_before i at starts lt = ap (first_place i) (starts_on-before (content_start i) at starts lt)
 
+-- the first unit that starts in a share, or behind it, decides what is stated
 reserved_at : (i at : ℕ) (starts : List ℕ) → content_start i ≤ at → reserved_of i (at ∷ starts) ≡ place_in i at
 reserved_at i at starts le = ap (first_place i) (starts_on-at (content_start i) at starts le)
 
+-- no start is stated where no unit starts in the share
 pub reserved_is_none : (i at : ℕ) (units : List (List ℕ)) → AllByRecursion (λ start. is_inside i start ≡ false) (starts_from at units)
     → reserved_of i (starts_from at units) ≡ 0
 unfolding starts_from
@@ -65,6 +73,7 @@ reserved_is_none i at (unit ∷ units) none =
           ]
     ]
 
+-- the first start in a share is stated
 pub reserved_is_first : (i at start : ℕ) (units : List (List ℕ)) → IsFirstInside i (starts_from at units) start
     → reserved_of i (starts_from at units) ≡ content_place i + (start - content_start i)
 unfolding starts_from

@@ -12,6 +12,7 @@ use Rattle.share_split.specs.Blobs.{later_content, info, filled, sequence_share}
 abbrev pub laid : List ℕ → List ℕ
 laid before = before ++ replicate (512 - length before) 0
 
+-- the share of these bytes
 abbrev pub share_of : List ℕ → Share
 share_of bytes = record { 0 = bytes }
 
@@ -45,12 +46,15 @@ laid_filled head content n e h =
 abbrev pub head : List ℕ → ℕ → List ℕ
 head name start = name ++ start ∷ []
 
+-- a namespace and an info byte are 30 bytes
 pub length-head : (name : List ℕ) (start : ℕ) → length name ≡ 29 → length (head name start) ≡ 30
 length-head name start n = length-append name (start ∷ []) ∙ ap (λ (k : ℕ). k + 1) n
 
+-- a head with zeros behind it
 pub head_laid : (name : List ℕ) (start : ℕ) → length name ≡ 29 → laid (head name start) ≡ head name start ++ replicate later_content 0
 head_laid name start n = ap (λ (k : ℕ). head name start ++ replicate (512 - k) 0) (length-head name start n)
 
+-- a namespace and an info byte that are written are a head, with zeros behind
 pub begun_written : (name s t : List ℕ) (start info_byte : ℕ) → length name ≡ 29 → start ≡ info_byte
     → s ≡ take 0 (replicate 512 0) ++ name ++ drop (0 + length name) (replicate 512 0)
     → t ≡ take 29 s ++ start ∷ [] ++ drop (29 + 1) s

@@ -7,14 +7,17 @@ use Rattle.share_split.specs.Units.{unit_text, units_text, starts_from, starts_o
 
 -- ---- the starts from a place on
 
+-- a start before a place is left out
 pub starts_on-before : (from start : ℕ) (starts : List ℕ) → start < from → starts_on from (start ∷ starts) ≡ starts_on from starts
 unfolding starts_on
 starts_on-before from start starts h = let e : nat_lt start from ≡ true = grind (arith, nat_tests) in rw e refl
 
+-- the first start that is not before a place is kept, with all others
 pub starts_on-at : (from start : ℕ) (starts : List ℕ) → from ≤ start → starts_on from (start ∷ starts) ≡ start ∷ starts
 unfolding starts_on
 starts_on-at from start starts h = let e : nat_lt start from ≡ false = grind (arith, nat_tests) in rw e refl
 
+-- no starts leave none
 pub starts_on-none : (from : ℕ) → starts_on from [] ≡ []
 unfolding starts_on
 starts_on-none from = refl
@@ -57,24 +60,29 @@ pub units-next : (units : List (List ℕ)) (unit : List ℕ) (index : ℕ) → i
     → drop index units ≡ unit ∷ drop (index + 1) units
 units-next units unit index h e = drop_more units index unit h ∙ ap (λ (u : List ℕ). u ∷ drop (index + 1) units) (sym e)
 
+-- the start of the next unit, and then those of the others
 pub starts_from-next : (start : ℕ) (units : List (List ℕ)) (unit : List ℕ) (index : ℕ) → index < length units → unit ≡ get_or units index unit
     → starts_from start (drop index units) ≡ start ∷ starts_from (start + length (unit_text unit)) (drop (index + 1) units)
 unfolding starts_from
 starts_from-next start units unit index h e = ap (λ (l : List (List ℕ)). starts_from start l) (units-next units unit index h e)
 
+-- the starts of the units from one on begin with its own
 pub starts_from-front : (start : ℕ) (units : List (List ℕ)) (index : ℕ) → index < length units
     → starts_from start (drop index units) ≡ start ∷ starts_from (start + length (unit_text (get_or units index []))) (drop (index + 1) units)
 starts_from-front start units index h =
     starts_from-next start units (get_or units index []) index h (get_or_default units index [] (get_or units index []) h)
 
+-- behind the last unit no start is left
 pub starts_from-none : (start : ℕ) (units : List (List ℕ)) (index : ℕ) → length units ≤ index → starts_from start (drop index units) ≡ []
 unfolding starts_from
 starts_from-none start units index h = ap (λ (l : List (List ℕ)). starts_from start l) (drop_all index units h)
 
+-- the text of the next unit, and then that of the others
 pub units_text-next : (units : List (List ℕ)) (unit : List ℕ) (index : ℕ) → index < length units → unit ≡ get_or units index unit
     → units_text (drop index units) ≡ unit_text unit ++ units_text (drop (index + 1) units)
 units_text-next units unit index h e = ap units_text (units-next units unit index h e)
 
+-- the length of the text of the next unit, and that of the others
 pub length-units_text-next : (units : List (List ℕ)) (unit : List ℕ) (index : ℕ) → index < length units → unit ≡ get_or units index unit
     → length (units_text (drop index units)) ≡ length (unit_text unit) + length (units_text (drop (index + 1) units))
 length-units_text-next units unit index h e =

@@ -16,6 +16,7 @@ use Rattle.share_split.proofs.Varint.Bytes.{varint_within-low, varint_within-hig
 
 -- ---- their number
 
+-- there are as many later compact shares as asked for
 length-later_compact_shares : (name : Namespace) (i : ℕ) (starts text : List ℕ) (count : ℕ) → length (later_compact_shares count name i starts text) ≡ count
 unfolding later_compact_shares
 length-later_compact_shares name i starts text zero = refl
@@ -26,6 +27,7 @@ length-later_compact_shares name i starts text (suc count) =
 some-compact_count : (size : ℕ) → 0 < compact_count size
 some-compact_count size = grind (arith, nat_tests)
 
+-- the compact shares of units are as many as counted
 pub unit_shares_are_counted : (name : Namespace) (units : List (List ℕ)) → length (unit_shares_of name units) ≡ unit_share_count units
 unit_shares_are_counted name [] = refl
 unit_shares_are_counted name (unit ∷ units) =
@@ -36,6 +38,7 @@ unit_shares_are_counted name (unit ∷ units) =
       some-compact_count (length text),
     )
 
+-- a text that is too long would take more shares than a square has
 pub long_texts_take_many_shares : (units : List (List ℕ)) → max_sequence_length < length (units_text units) → 2 ^ 23 < unit_share_count units
 long_texts_take_many_shares [] h = absurd (omega arith)
 long_texts_take_many_shares (unit ∷ units) h =
@@ -45,6 +48,7 @@ long_texts_take_many_shares (unit ∷ units) h =
 
 -- ---- they are shares
 
+-- four bytes of a number are bytes
 pub AreBytes-number : (n : ℕ) → AreBytes (to_be_bytes w32 n)
 AreBytes-number n zero = omega arith
 AreBytes-number n (suc zero) = omega arith
@@ -52,6 +56,7 @@ AreBytes-number n (suc (suc zero)) = omega arith
 AreBytes-number n (suc (suc (suc zero))) = omega arith
 AreBytes-number n (suc (suc (suc (suc i)))) = omega arith
 
+-- a varint has bytes
 AreBytes-varint_within : (more n : ℕ) → AreBytes (varint_within more n)
 unfolding varint_within
 AreBytes-varint_within zero n = AreBytes-none
@@ -63,15 +68,18 @@ AreBytes-varint_within (suc more) n =
           (AreBytes-cons (n % 128 + 128) (varint_within more (n / 128)) (omega arith) (AreBytes-varint_within more (n / 128)))
     ]
 
+-- the text of units has bytes
 AreBytes-units_text : (units : List (List ℕ)) → AllByRecursion AreBytes units → AreBytes (units_text units)
 AreBytes-units_text [] all = AreBytes-none
 AreBytes-units_text (unit ∷ units) all =
     AreBytes-append (unit_text unit) (units_text units)
     (AreBytes-append (varint (length unit)) unit (AreBytes-varint_within 10 (length unit)) all.0) (AreBytes-units_text units all.1)
 
+-- content that is filled has bytes
 AreBytes-filled : (n : ℕ) (content : List ℕ) → AreBytes content → AreBytes (filled n content)
 AreBytes-filled n content fits = AreBytes-take n (content ++ replicate n 0) (AreBytes-append content (replicate n 0) fits (AreBytes-replicate n 0 (omega arith)))
 
+-- content that is filled has the length that is asked for
 length-filled : (n : ℕ) (content : List ℕ) → length (filled n content) ≡ n
 length-filled n content =
     omega (arith, length-take n (content ++ replicate n 0), length-append content (replicate n 0), length-replicate {A = ℕ} n 0)
@@ -101,6 +109,7 @@ sequence_fits name start fields content few named fits content_fits =
           (AreBytes-cons (info 0 start) rest (info-lt start) (AreBytes-append fields (filled n content) fits (AreBytes-filled n content content_fits)));
     }
 
+-- later compact shares are shares
 later_are_shares : (name : Namespace) (i : ℕ) (starts text : List ℕ) (count : ℕ) → IsNamespace name → AreBytes text
     → AreShares (later_compact_shares count name i starts text)
 unfolding later_compact_shares
@@ -111,6 +120,7 @@ later_are_shares name i starts text (suc count) named fits = (
   later_are_shares name (suc i) starts (drop later_compact_content text) count named (AreBytes-drop later_compact_content text fits),
 )
 
+-- the compact shares of units are shares
 pub unit_shares_are_shares : (name : Namespace) (units : List (List ℕ)) → IsNamespace name → AllByRecursion AreBytes units
     → AreShares (unit_shares_of name units)
 unit_shares_are_shares name [] named all = tt
