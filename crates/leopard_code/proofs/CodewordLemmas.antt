@@ -12,8 +12,10 @@ use Rattle.leopard_code.specs.Weights.{AreWeights, IsTable}
 use Rattle.namespace_id.specs.Cells.{is_width}
 use Rattle.leopard_code.proofs.LagrangeLemmas.{lagrange}
 use Rattle.namespace_id.proofs.WidthLemmas.{is_width-le}
-use Rattle.leopard_code.proofs.PointLemmas.{length-ascending, points-ascending, length-column, column-append, column_bytes, AreShares-append, takes-append, takes-ascending}
+use Rattle.namespace_id.proofs.ShareLemmas.{AreShares-append}
+use Rattle.leopard_code.proofs.PointLemmas.{length-ascending, points-ascending, length-column, column-append, column_bytes, takes-append, takes-ascending}
 
+-- rows that are weights are a table
 pub table_of : (k : ℕ) (ps table : List ℕ) → IsTrue (is_width k) → ps ≡ ascending k k → length table ≡ k * k
     → ((j : ℕ) → j < length ps → AreWeights [] ps j (take (length ps) (drop (j * length ps) table))) → IsTable k table
 table_of k ps table width is size rows =
@@ -25,6 +27,7 @@ table_of k ps table width is size rows =
           (subst (λ (l : List ℕ). AreWeights [] l j (take (length ps) (drop (j * length ps) table))) is (rows j (omega arith)));
     }
 
+-- originals and the sums with the rows of a table are a codeword
 pub codeword_of : (k : ℕ) (table : List ℕ) (originals recovery : List Share) → IsTable k table → length originals ≡ k → length recovery ≡ k
     → AreShares originals → AreShares recovery
     → ((j b : ℕ) → j < length recovery → b < 512 → IfSome (slice_get recovery j) (λ share. slice_index share.0 b ≡

@@ -11,20 +11,24 @@ use Rattle.byte_polynomial.proofs.Through.{vanishing_elsewhere}
 use Rattle.leopard_code.specs.Weights.{away}
 use Rattle.leopard_code.proofs.LagrangeLemmas.{away-is, points_middle}
 
+-- a product of differences is a byte
 pub away-lt : (rs : List ℕ) (x : ℕ) → away rs x < 256
 unfolding away
 away-lt [] x = omega arith
 away-lt (r ∷ rs) x = product-lt (bit_xor x r) (away rs x)
 
+-- the differences of two lists of points are the product of those of each
 pub away-append : (ps qs : List ℕ) (x : ℕ) → away (ps ++ qs) x ≡ product (away ps x) (away qs x)
 unfolding away
 away-append [] qs x = sym (one-product (away qs x) (away-lt qs x))
 away-append (p ∷ ps) qs x = ap (product (bit_xor x p)) (away-append ps qs x) ∙ sym (product_assoc (bit_xor x p) (away ps x) (away qs x))
 
+-- the first difference, and then the others
 pub away-drop : (ps : List ℕ) (i x : ℕ) → i < length ps → away (drop i ps) x ≡ product (bit_xor x (get_or ps i 0)) (away (drop (suc i) ps) x)
 unfolding away
 away-drop ps i x h = ap (λ (l : List ℕ). away l x) (drop-cons ps i 0 h)
 
+-- behind all points no difference is left
 pub away-past : (ps : List ℕ) (i x : ℕ) → length ps ≤ i → away (drop i ps) x ≡ 1
 unfolding away
 away-past ps i x h = ap (λ (l : List ℕ). away l x) (drop_all i ps h)

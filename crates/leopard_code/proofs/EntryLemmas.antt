@@ -24,12 +24,14 @@ abbrev pub byte_of : ℕ → Option Share → ℕ
 byte_of b None = 0
 byte_of b (Some share) = slice_index share.0 b
 
+-- the byte of a column is that of the share at its place
 pub get_or-column : (b : ℕ) (ss : List Share) (i : ℕ) → get_or (column b ss) i 0 ≡ byte_of b (slice_get ss i)
 unfolding column
 get_or-column b [] i = refl
 get_or-column b (s ∷ ss) zero = refl
 get_or-column b (s ∷ ss) (suc i) = get_or-column b ss i
 
+-- the byte of a column at a place that is there
 pub get_or-column_at : (b : ℕ) (ss : List Share) (i : ℕ) (d : Share) → i < length ss → get_or (column b ss) i 0 ≡ get_or (get_or ss i d).0 b 0
 unfolding column
 get_or-column_at b [] i d h = absurd (omega arith)
@@ -43,6 +45,7 @@ byte_of_entry b v [] i h e = absurd (omega arith)
 byte_of_entry b v (s ∷ ss) zero h e = e
 byte_of_entry b v (s ∷ ss) (suc i) h e = byte_of_entry b v ss i (omega arith) e
 
+-- there are as many points as positions
 pub length-points_at : (k : ℕ) (known : List ℕ) → length (points_at k known) ≡ length known
 length-points_at k [] = refl
 length-points_at k (p ∷ known) = ap suc (length-points_at k known)
@@ -57,6 +60,7 @@ get_or-points k pos h = elim (cases_lt pos k) [
       ∙ get_or-ascending k 0 (pos - k) (omega arith) ∙ grind (arith, nat_tests)
 ]
 
+-- a codeword has 2k points
 pub length-points : (k : ℕ) → length (points k) ≡ 2 * k
 unfolding points
 length-points k = omega (arith, length-append (ascending k k) (ascending 0 k), length-ascending k k, length-ascending k 0)
@@ -100,6 +104,7 @@ codeword_of_entries k known shares word few count positions same shares_fit long
       );
 }
 
+-- shares with the same bytes are one
 same_bytes : (s t : Share) → IsShare s → IsShare t → ((b : ℕ) → b < 512 → slice_index s.0 b ≡ slice_index t.0 b) → s ≡ t
 same_bytes s t hs ht each =
     let e : s.0 ≡ t.0 = same_number_lists s.0 t.0 (hs.size_is ∙ sym ht.size_is) (λ i h. each i (omega (arith, hs.size_is))) in

@@ -11,11 +11,13 @@ use Rattle.byte_polynomial.proofs.Roots.{one_polynomial}
 use Rattle.leopard_code.specs.Codewords.{weighted}
 use Rattle.leopard_code.specs.Weights.{away, AreWeights}
 
+-- the product of the differences is the value of the vanishing polynomial
 pub away-is : (rs : List ℕ) (x : ℕ) → value_at (vanishing rs) x ≡ away rs x
 unfolding away
 away-is [] x = value_at-vanishing_none x
 away-is (r ∷ rs) x = value_at-vanishing r rs x ∙ ap (product (bit_xor x r)) (away-is rs x)
 
+-- a point that is not among some is none of them, nor in the middle
 avoids_middle : (x p : ℕ) (before ps : List ℕ) → Avoids x (before ++ p ∷ ps) → (x ≢ p) × Avoids x (before ++ ps)
 unfolding Avoids
 avoids_middle x p [] ps h = h
@@ -31,11 +33,13 @@ points_middle (b ∷ before) p ps h =
     let apart = avoids_middle b p before ps h.1 in
     (rest.0, ((λ e. apart.0 (sym e)), rest.1), (h.0, apart.1, rest.2))
 
+-- a polynomial that vanishes at two lists of points vanishes at each
 vanishes-append : (cs xs ys : List ℕ) → VanishesAt cs (xs ++ ys) → VanishesAt cs xs × VanishesAt cs ys
 unfolding VanishesAt
 vanishes-append cs [] ys h = (tt, h)
 vanishes-append cs (x ∷ xs) ys h = let rest = vanishes-append cs xs ys h.1 in ((h.0, rest.0), rest.1)
 
+-- a sum with a multiple vanishes where both polynomials do
 vanishes_still : (cs ns : List ℕ) (c : ℕ) (xs : List ℕ) → VanishesAt cs xs → VanishesAt ns xs → VanishesAt (sum cs (scaled c ns)) xs
 unfolding VanishesAt
 vanishes_still cs ns c [] h g = tt
@@ -44,6 +48,7 @@ vanishes_still cs ns c (x ∷ xs) h g = (
   vanishes_still cs ns c xs h.1 g.1,
 )
 
+-- the zero polynomial vanishes everywhere
 zero_vanishes : (xs : List ℕ) → VanishesAt [] xs
 unfolding VanishesAt value_at
 zero_vanishes [] = tt
@@ -62,11 +67,13 @@ term w y u d n e weight =
     ∙ ap (λ (v : ℕ). product v d) (ap (product u) (product_comm w y) ∙ sym (product_assoc u y w) ∙ ap (λ (v : ℕ). product v w) (product_comm u y))
     ∙ product_assoc (product y u) w d ∙ ap (product (product y u)) weight
 
+-- where no point is left, no weight is
 none_left : (before : List ℕ) (x : ℕ) (ws : List ℕ) → AreWeights before [] x ws → weighted ws [] ≡ 0
 unfolding AreWeights weighted
 none_left before x [] h = refl
 none_left before x (w ∷ ws) h = refl
 
+-- where a point is left, its weight and those of the others are
 more_left : (before : List ℕ) (p : ℕ) (ps : List ℕ) (y : ℕ) (ys : List ℕ) (c : ℕ) (cs : List ℕ) (x : ℕ) (ws : List ℕ) → AreWeights before (p ∷ ps) x ws
     → ((x : ℕ) (ws : List ℕ) → AreWeights (before ++ p ∷ []) ps x ws → weighted ws ys ≡ value_at cs x)
     → ((w : ℕ) → product w (away (before ++ ps) p) ≡ away (before ++ ps) x → product w y ≡ product c (away (before ++ ps) x))

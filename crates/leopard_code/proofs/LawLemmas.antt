@@ -39,11 +39,13 @@ picked : List ℕ → List ℕ → List ℕ
 picked [] ys = []
 picked (p ∷ known) ys = get_or ys p 0 ∷ picked known ys
 
+-- as many values are picked as there are places
 length-picked : (known ys : List ℕ) → length (picked known ys) ≡ length known
 unfolding picked
 length-picked [] ys = refl
 length-picked (p ∷ known) ys = ap suc (length-picked known ys)
 
+-- a value that is picked is that at its place
 get_or-picked : (known ys : List ℕ) (i : ℕ) → i < length known → get_or (picked known ys) i 0 ≡ get_or ys (get_or known i 0) 0
 unfolding picked
 get_or-picked [] ys i h = absurd (omega arith)
@@ -80,28 +82,33 @@ listed : {A : Type 0} → ℕ → (ℕ → A) → List A
 listed zero f = []
 listed (suc n) f = f 0 ∷ listed n (λ i. f (suc i))
 
+-- a list of n values of a function has n
 length-listed : {A : Type 0} (n : ℕ) (f : ℕ → A) → length (listed n f) ≡ n
 unfolding listed
 length-listed zero f = refl
 length-listed (suc n) f = ap suc (length-listed n (λ i. f (suc i)))
 
+-- each is the value at its place
 get_or-listed : (n : ℕ) (f : ℕ → ℕ) (i : ℕ) → i < n → get_or (listed n f) i 0 ≡ f i
 unfolding listed
 get_or-listed zero f i h = absurd (omega arith)
 get_or-listed (suc n) f zero h = refl
 get_or-listed (suc n) f (suc i) h = get_or-listed n (λ j. f (suc j)) i (omega arith)
 
+-- bytes that are listed are bytes
 listed-lt : (n : ℕ) (f : ℕ → ℕ) → ((i : ℕ) → f i < 256) → (i : ℕ) → get_or (listed n f) i 0 < 256
 unfolding listed
 listed-lt zero f h i = omega arith
 listed-lt (suc n) f h zero = h 0
 listed-lt (suc n) f h (suc i) = listed-lt n (λ j. f (suc j)) (λ j. h (suc j)) i
 
+-- shares that are listed are shares
 AreShares-listed : (n : ℕ) (f : ℕ → Share) → ((i : ℕ) → IsShare (f i)) → AreShares (listed n f)
 unfolding listed
 AreShares-listed zero f h = tt
 AreShares-listed (suc n) f h = (h 0, AreShares-listed n (λ i. f (suc i)) (λ i. h (suc i)))
 
+-- what holds of a value holds at its place in the list
 listed-at : (P : Share → Type 0) (n : ℕ) (f : ℕ → Share) (i : ℕ) → i < n → P (f i) → IfSome (slice_get (listed n f) i) P
 unfolding listed
 listed-at P zero f i h p = absurd (omega arith)
@@ -146,6 +153,7 @@ weights_exist before (p ∷ ps) x apart =
       (undone (away (before ++ ps) x) u.0 d (away-lt (before ++ ps) x) u.2, rest.3),
     )
 
+-- values of a polynomial are bytes
 bytes_taken : (cs xs ys : List ℕ) → AreCoefficients cs → Takes cs xs ys → AreCoefficients ys
 unfolding Takes AreCoefficients
 bytes_taken cs [] [] bytes takes = tt
@@ -153,6 +161,7 @@ bytes_taken cs [] (y ∷ ys) bytes takes = elim takes [ ]
 bytes_taken cs (x ∷ xs) [] bytes takes = tt
 bytes_taken cs (x ∷ xs) (y ∷ ys) bytes takes = (subst (λ (v : ℕ). v < 256) takes.0 (value_at-lt cs x bytes), bytes_taken cs xs ys bytes takes.1)
 
+-- the byte of a column is that of the entry
 entry_of_byte : (b v : ℕ) (ss : List Share) (i : ℕ) → i < length ss → get_or (column b ss) i 0 ≡ v → IfSome (slice_get ss i) (λ share. slice_index share.0 b ≡ v)
 unfolding column
 entry_of_byte b v [] i h e = absurd (omega arith)

@@ -10,22 +10,26 @@ use Rattle.byte_polynomial.specs.Polynomial.{value_at, AreCoefficients, Avoids, 
 use Rattle.namespace_id.specs.Lists.{ascending}
 use Rattle.leopard_code.specs.Codewords.{column}
 
+-- n numbers that count up are n
 pub length-ascending : (n first : ℕ) → length (ascending first n) ≡ n
 unfolding ascending
 length-ascending zero first = refl
 length-ascending (suc n) first = ap suc (length-ascending n (suc first))
 
+-- the i-th of numbers that count up is i above the first
 pub get_or-ascending : (n first i : ℕ) → i < n → get_or (ascending first n) i 0 ≡ first + i
 unfolding ascending
 get_or-ascending zero first i h = absurd (omega arith)
 get_or-ascending (suc n) first zero h = omega arith
 get_or-ascending (suc n) first (suc i) h = omega (arith, get_or-ascending n (suc first) i (omega arith))
 
+-- a number below the first of those that count up is none of them
 avoids-ascending : (n x first : ℕ) → x < first → Avoids x (ascending first n)
 unfolding ascending Avoids
 avoids-ascending zero x first h = tt
 avoids-ascending (suc n) x first h = ((λ e. absurd (omega arith)), avoids-ascending n x (suc first) (omega arith))
 
+-- numbers that count up are different points
 pub points-ascending : (n first : ℕ) → first + n ≤ 256 → ArePoints (ascending first n)
 unfolding ascending ArePoints
 points-ascending zero first h = tt
@@ -39,25 +43,25 @@ ascending-from_places xs n first few each =
     let within : i < n = omega (arith, length-take-le n xs few) in
     get_or-take n xs i 0 within ∙ each i within ∙ sym (get_or-ascending n first i within))
 
+-- a column is as long as the list of shares
 pub length-column : (b : ℕ) (ss : List Share) → length (column b ss) ≡ length ss
 unfolding column
 length-column b [] = refl
 length-column b (s ∷ ss) = ap suc (length-column b ss)
 
+-- a column of two lists is the column of each
 pub column-append : (b : ℕ) (ss ts : List Share) → column b (ss ++ ts) ≡ column b ss ++ column b ts
 unfolding column
 column-append b [] ts = refl
 column-append b (s ∷ ss) ts = ap (λ (l : List ℕ). get_or s.0 b 0 ∷ l) (column-append b ss ts)
 
+-- a column has bytes
 pub column_bytes : (b : ℕ) (ss : List Share) → AreShares ss → AreCoefficients (column b ss)
 unfolding column AreCoefficients
 column_bytes b [] h = tt
 column_bytes b (s ∷ ss) h = (h.0.fits b, column_bytes b ss h.1)
 
-pub AreShares-append : (ss ts : List Share) → AreShares ss → AreShares ts → AreShares (ss ++ ts)
-AreShares-append [] ts h k = k
-AreShares-append (s ∷ ss) ts h k = (h.0, AreShares-append ss ts h.1 k)
-
+-- a polynomial takes two lists of values where it takes each
 pub takes-append : (cs xs ys xs' ys' : List ℕ) → Takes cs xs ys → Takes cs xs' ys' → Takes cs (xs ++ xs') (ys ++ ys')
 unfolding Takes
 takes-append cs [] [] xs' ys' h g = g

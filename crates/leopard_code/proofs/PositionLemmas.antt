@@ -8,6 +8,7 @@ use Rattle.namespace_id.specs.Lists.{holds_along}
 use Rattle.byte_polynomial.specs.Polynomial.{value_at, Avoids, ArePoints, Takes}
 use Rattle.leopard_code.specs.Codewords.{point, points_at, are_positions}
 
+-- the point of a position is a byte
 pub point-lt : (k pos : ℕ) → k ≤ 128 → pos < 2 * k → point k pos < 256
 point-lt k pos h l = grind (arith, nat_tests)
 
@@ -25,10 +26,12 @@ positions_parts k p (q ∷ rest) h =
     let inside = and_parts _ _ both.0 in
     let along = and_parts _ _ both.1 in (ltb-true p (2 * k) inside.0, and_from (list_all (λ pos. nat_lt pos (2 * k)) (q ∷ rest)) (holds_along nat_lt (q ∷ rest)) inside.1 along.1)
 
+-- of two positions the second is above the first
 next_above : (k p q : ℕ) (rest : List ℕ) → IsTrue (are_positions k (p ∷ q ∷ rest)) → p < q
 unfolding holds_along
 next_above k p q rest h = ltb-true p q (and_parts _ _ (and_parts _ _ h).1).0
 
+-- the point of a position is none of those of later ones
 avoids_later : (k m p : ℕ) (rest : List ℕ) → m < p → IsTrue (are_positions k (p ∷ rest)) → Avoids (point k m) (points_at k (p ∷ rest))
 unfolding Avoids
 avoids_later k m p [] h positions = (point_apart k m p h (positions_parts k p [] positions).0, tt)
@@ -37,6 +40,7 @@ avoids_later k m p (q ∷ rest) h positions =
     let further : p < q = next_above k p q rest positions in
     (point_apart k m p h parts.0, avoids_later k m q rest (omega arith) parts.1)
 
+-- the point of the first position is none of the others
 avoids_rest : (k p : ℕ) (rest : List ℕ) → IsTrue (are_positions k (p ∷ rest)) → Avoids (point k p) (points_at k rest)
 unfolding Avoids
 avoids_rest k p [] positions = tt
@@ -65,6 +69,7 @@ takes-at cs (x ∷ xs) [] i h takes = elim takes [ ]
 takes-at cs (x ∷ xs) (y ∷ ys) zero h takes = takes.0
 takes-at cs (x ∷ xs) (y ∷ ys) (suc i) h takes = takes-at cs xs ys i (omega arith) takes.1
 
+-- a polynomial that takes each value takes the list
 pub takes_each : (cs xs ys : List ℕ) → length xs ≡ length ys → ((i : ℕ) → i < length xs → value_at cs (get_or xs i 0) ≡ get_or ys i 0) → Takes cs xs ys
 unfolding Takes
 takes_each cs [] [] same h = tt

@@ -5,4 +5,5 @@ pub mod ElementLemmas
 pub mod TestLemmas
 pub mod AlongLemmas
 pub mod HalfLemmas
+pub mod DoublingLemmas
 pub mod WidthLemmas

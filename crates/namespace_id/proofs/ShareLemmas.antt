@@ -1,10 +1,10 @@
 -- The namespaces of shares and of the leaves over them.
-use Rattle.std.proofs.Common.{ℕ, Bool, true, false, cond, refl, arith}
+use Rattle.std.proofs.Common.{ℕ, List, [], ◌∷◌, ◌++◌, Bool, true, false, cond, refl, arith}
 use Rattle.std.proofs.lemmas.List.{length-take}
 use Rattle.namespace_id.specs.declared.cells.Cell.{Cell}
 use Rattle.namespace_id.specs.declared.shares.Share.{Share}
 use Rattle.namespace_id.specs.Names.{IsNamespace, parity}
-use Rattle.namespace_id.specs.Shares.{IsShare, name_in}
+use Rattle.namespace_id.specs.Shares.{IsShare, AreShares, name_in}
 use Rattle.namespace_id.specs.Cells.{is_original, name_of}
 use Rattle.namespace_id.proofs.StringLemmas.{AreBytes-take, AreBytes-replicate}
 
@@ -27,3 +27,8 @@ either false share whole = parity-is
 -- a leaf has a namespace
 pub name_of-is : (k : ℕ) (cell : Cell) (share : Share) → IsShare share → IsNamespace (name_of k cell share)
 name_of-is k cell share whole = either (is_original k cell) share whole
+
+-- shares behind shares are shares
+pub AreShares-append : (a b : List Share) → AreShares a → AreShares b → AreShares (a ++ b)
+AreShares-append [] b h k = k
+AreShares-append (share ∷ a) b h k = (h.0, AreShares-append a b h.1 k)

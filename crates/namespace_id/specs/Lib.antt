@@ -5,4 +5,5 @@ pub mod Shares
 pub mod Digests
 pub mod Cells
 pub mod Lists
+pub mod Doublings
 pub mod Answers

@@ -8,7 +8,7 @@ ghost use Rattle.std.specs.List.{list_all};
 use crate::{Namespace, PARITY, Share};
 use std::marker::Model;
 
-/// A cell of an extended data square of 2k by 2k shares.
+/// A cell of an extended data square (EDS) of 2k by 2k shares.
 ///
 /// The numbers may be any: `is_in_square` says whether a square has the cell.
 #[derive(Clone, Copy, Debug, PartialEq, Eq)]
@@ -25,6 +25,8 @@ pub enum Axis {
 }
 
 /// Whether a square may have this width k: a power of two from 1 to 128.
+///
+/// docs/RULES.md, "Widths".
 pub fn is_width(k: u16) -> bool
     ensures { result ≡ is_width k }
 {
@@ -102,7 +104,7 @@ fn are_inside(k: u16, cells: &[Cell]) -> bool
 
 impl Cells {
     /// The cells of a list; none where `k` is no width, a cell is outside its square, or a cell doesn't
-    /// come after the one before it in row-major order. It takes no memory.
+    /// come after the one before it in row-major order, and then the list is dropped. It takes no memory.
     pub fn of(k: u16, list: Vec<Cell>) -> Option<Cells>
         ensures some { IsSome result ↔ IsTrue (are_cells k list.items) }
         ensures k { IfSome result (λ cells. cells.k ≡ k) }

@@ -1,37 +1,8 @@
-pub mod WidthLemmas
-pub mod WidthLawLemmas
-pub mod ShareLemmas
-pub mod LaterLemmas
-pub mod CountLemmas
-pub mod VarintLemmas
-pub mod PlaceLemmas
-pub mod StartLemmas
-pub mod LaterCompactLemmas
-pub mod VarintLawLemmas
-pub mod UnitLawLemmas
-pub mod BlobLawLemmas
-pub mod ReservedLawLemmas
-pub mod FillLemmas
-pub mod CutLemmas
-pub mod FieldLemmas
-pub mod CompactFieldLemmas
-pub mod PowerLemmas
-pub mod VarintReadLemmas
-pub mod UnitLemmas
-pub mod TextLemmas
-pub mod TextLawLemmas
-pub mod ReservedLemmas
-pub mod BlobWalkLemmas
-pub mod UnitWalkLemmas
-pub mod CheckLemmas
-pub mod SequenceLemmas
-pub mod NextLemmas
-pub mod RunLemmas
-pub mod BlobReadLemmas
-pub mod PieceLemmas
-pub mod BlobAnswerLemmas
-pub mod BlobToldLemmas
-pub mod UnitReadLemmas
-pub mod SequenceToldLemmas
-pub mod UnitToldLemmas
-pub mod JoinLawLemmas
+-- lengths of units as varints
+pub mod Varint
+-- shares of blobs and of units, and where units start in them
+pub mod Writing
+-- shares that are read back
+pub mod Reading
+-- the widths of subtrees
+pub mod Width

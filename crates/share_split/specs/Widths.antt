@@ -1,6 +1,7 @@
 -- How wide the subtrees over a blob's shares are (Celestia specifications, "Square Layout").
-use Rattle.std.specs.Prelude.{◌≡◌, ◌≤◌, ◌^◌, ℕ, zero, suc, ◌*◌, min, nat_le, Bool, ◌||◌, if◌then◌else◌}
+use Rattle.std.specs.Prelude.{◌≡◌, ◌≤◌, ◌^◌, ℕ, ◌*◌, min, nat_le, Bool, ◌||◌}
 use Rattle.std.specs.Int.{IsPowerOfTwo, div_ceil}
+use Rattle.namespace_id.specs.Doublings.{least_doubling}
 
 -- so many subtrees of one width hold a blob, unless they would have to be wider than the least square
 -- that holds it
@@ -13,10 +14,8 @@ abbrev pub is_wide_enough : ℕ → ℕ → Bool
 is_wide_enough count width = nat_le count (subtree_root_threshold * width) || nat_le count (width * width)
 
 -- the first of some widths, each twice the one before, that is wide enough
-unfoldable pub width_from : ℕ → ℕ → ℕ → ℕ
-width_from zero width count = width
-width_from (suc more) width count =
-    if is_wide_enough count width then width else width_from more (width * 2) count
+abbrev pub width_from : ℕ → ℕ → ℕ → ℕ
+width_from more width count = least_doubling (is_wide_enough count) more width
 
 -- the width of the subtrees over so many shares: the least power of two that is wide enough, as 2 ^ 28
 -- is for every count up to 2 ^ 56

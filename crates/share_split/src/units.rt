@@ -24,7 +24,7 @@ pub const FIRST_COMPACT_CONTENT: usize = SHARE_SIZE - NAMESPACE_SIZE - 1 - 4 - 4
 /// Celestia specifications, "Shares", transaction shares.
 pub const LATER_COMPACT_CONTENT: usize = SHARE_SIZE - NAMESPACE_SIZE - 1 - 4;
 
-/// A unit of compact shares: the bytes of a transaction, or of a payment for blobs.
+/// A transaction, or a payment for blobs (PFB): the bytes of a unit of compact shares.
 ///
 /// Celestia specifications, "Shares", transaction shares.
 #[derive(Debug, Drop)]

@@ -29,10 +29,12 @@ none_fails true true false d h = absurd cc
 none_fails true true true true h = absurd cc
 none_fails true true true false h = (refl, refl, refl, refl)
 
+-- a namespace that is not refused passes each test
 accepted_parts : (bytes : List ℕ) → namespace_refusal bytes ≡ None
     → ((length bytes == 29) ≡ true) × ((slice_index bytes 0 == 0) ≡ true) × (is_zeros (slice_range bytes 1 19) ≡ true) × (is_reserved bytes ≡ false)
 accepted_parts bytes h = none_fails (length bytes == 29) (slice_index bytes 0 == 0) (is_zeros (slice_range bytes 1 19)) (is_reserved bytes) h
 
+-- four tests that hold together hold one by one
 all_hold : (a b c d : Bool) → (a && b && c && not d) ≡ true
     → (if not a then Some Length else (if not b then Some Version else (if not c then Some Prefix else (if d then Some Reserved else None)))) ≡ None
 all_hold false b c d h = absurd cc
@@ -41,6 +43,7 @@ all_hold true true false d h = absurd cc
 all_hold true true true true h = absurd cc
 all_hold true true true false h = refl
 
+-- four tests that hold one by one hold together
 hold_all : (a b c d : Bool) → a ≡ true → b ≡ true → c ≡ true → d ≡ false → (a && b && c && not d) ≡ true
 hold_all a b c d ea eb ec ed = rw (ea, eb, ec, ed) refl
 
@@ -48,6 +51,7 @@ hold_all a b c d ea eb ec ed = rw (ea, eb, ec, ed) refl
 pub accepted_is : (bytes : List ℕ) → is_blob_namespace bytes ≡ true → namespace_refusal bytes ≡ None
 accepted_is bytes h = all_hold (length bytes == 29) (slice_index bytes 0 == 0) (is_zeros (slice_range bytes 1 19)) (is_reserved bytes) h
 
+-- bytes that are not refused are the namespace of a blob
 pub is_accepted : (bytes : List ℕ) → namespace_refusal bytes ≡ None → is_blob_namespace bytes ≡ true
 is_accepted bytes h =
     let p = accepted_parts bytes h in hold_all (length bytes == 29) (slice_index bytes 0 == 0) (is_zeros (slice_range bytes 1 19)) (is_reserved bytes) p.0 p.1 p.2 p.3
@@ -57,6 +61,7 @@ below_tail : (bytes : List ℕ) → length bytes ≡ 29 → slice_index bytes 0 
 below_tail [] n h = absurd (omega (arith, n))
 below_tail (byte ∷ bytes) n h = subst (λ (b : ℕ). is_at_most (record { 0 = b ∷ bytes }) tail_padding ≡ true) (sym h) refl
 
+-- a blob that is not refused lies between the reserved namespaces
 pub accepted_between : (blob : NamedBytes) → namespace_refusal blob.namespace.0 ≡ None → IsBetween blob
 accepted_between blob h =
     let p = accepted_parts blob.namespace.0 h in
@@ -72,6 +77,7 @@ accepted_between blob h =
 
 -- ---- all blobs
 
+-- no blob is refused where the first is not, and none behind it
 refused_some : (o : Option NsError) (i : ℕ) (rest : Option LayError) → option_map_or (λ (e : NsError). Some (BadBlob i e)) o rest ≡ None → (o ≡ None) × (rest ≡ None)
 refused_some None i rest h = (refl, h)
 refused_some (Some e) i rest h = absurd cc
@@ -93,6 +99,7 @@ blobs_named i (blob ∷ blobs) h =
     let both = refused_some (namespace_refusal blob.namespace.0) i (bad_blob (suc i) blobs) h in
     (is_accepted blob.namespace.0 both.0, blobs_named (suc i) blobs both.1)
 
+-- no blob is empty where the first is not, and none behind it
 empty_parts : (n i : ℕ) (rest : Option LayError) → (if n == 0 then Some (EmptyBlob i) else rest) ≡ None → (1 ≤ n) × (rest ≡ None)
 empty_parts zero i rest h = absurd cc
 empty_parts (suc n) i rest h =
@@ -107,21 +114,25 @@ no_empty_blob i (blob ∷ blobs) h =
     let both = empty_parts (length blob.bytes) i (empty_blob (suc i) blobs) h in
     (both.0, no_empty_blob (suc i) blobs both.1)
 
+-- blobs under namespaces of blobs lie between the reserved ones
 pub blobs_between : (blobs : List NamedBytes) → AllByRecursion (λ blob. is_blob_namespace blob.namespace.0 ≡ true) blobs → AllByRecursion IsBetween blobs
 blobs_between [] h = tt
 blobs_between (blob ∷ blobs) h = (accepted_between blob (accepted_is blob.namespace.0 h.0), blobs_between blobs h.1)
 
 -- ---- the blobs of a block, as calls see them
 
+-- neither of two refusals is there where their first is none
 pub no_refusal : (a b : Option LayError) → None ≡ option_or a b → (a ≡ None) × (b ≡ None)
 no_refusal None b h = (refl, sym h)
 no_refusal (Some e) b h = absurd cc
 
+-- blobs that are not refused have bytes, in order too
 pub ordered_have_bytes : (here there order : List NamedBytes) → None ≡ blob_refusal here → here ≡ there → order ≡ in_order there → HaveBytes order
 ordered_have_bytes here there order none same is =
     let both = no_refusal (bad_blob 0 here) (empty_blob 0 here) none in
     subst HaveBytes (sym is) (All-in_order (λ (b : NamedBytes). 1 ≤ length b.bytes) there (subst HaveBytes same (no_empty_blob 0 here both.1)))
 
+-- blobs that are not refused lie between the reserved namespaces
 pub all_between : (here there : List NamedBytes) → None ≡ blob_refusal here → here ≡ there → AllByRecursion IsBetween there
 all_between here there none same =
     let both = no_refusal (bad_blob 0 here) (empty_blob 0 here) none in

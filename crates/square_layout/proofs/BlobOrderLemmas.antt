@@ -16,12 +16,15 @@ use Rattle.square_layout.proofs.SortingLemmas.{Ranks, Rises, put_by, order_by, s
 abbrev pub name_of : Bor NamedBytes → Namespace
 name_of blob = blob.now.namespace
 
+-- whether the namespace of a borrowed blob is not above that of another
 abbrev pub named_at_most : Bor NamedBytes → Bor NamedBytes → Bool
 named_at_most a b = is_at_most (name_of a) (name_of b)
 
+-- whether neither of two borrowed blobs has the smaller namespace
 abbrev pub named_level : Bor NamedBytes → Bor NamedBytes → Bool
 named_level = ties (λ a b. is_lt (namespace_cmp (name_of a) (name_of b)))
 
+-- a comparison the other way round is not below where it is not above
 turned : (o : Ordering) → not (is_lt (ordering_reverse o)) ≡ is_le o
 turned Less = refl
 turned Equal = refl
@@ -31,6 +34,7 @@ turned Greater = refl
 at_most_is : (a b : Namespace) → not (is_lt (namespace_cmp b a)) ≡ is_at_most a b
 at_most_is a b = ap (λ (o : Ordering). not (is_lt o)) (nat_list_cmp_total.antisymm b.0 a.0) ∙ turned (namespace_cmp a b)
 
+-- borrowed blobs are ranked by their namespaces
 names_rank : Ranks named_at_most named_level
 names_rank = record {
   total = λ x y. at_most_total (name_of x) (name_of y);
@@ -41,6 +45,7 @@ names_rank = record {
       (at_most_is (name_of y) (name_of x) ∙ k) (at_most_is (name_of x) (name_of y) ∙ h);
 }
 
+-- putting a borrowed blob among others is putting the blob
 map-put_by : (x : Bor NamedBytes) (ys : List (Bor NamedBytes)) → map (λ b. b.now) (put_by named_at_most x ys) ≡ put_in x.now (map (λ b. b.now) ys)
 unfolding put_by put_in
 map-put_by x [] = refl
@@ -49,6 +54,7 @@ map-put_by x (y ∷ ys) = elim (cases_Bool (named_at_most x y)) [
   | inr h ↦ rw h (ap (λ (l : List NamedBytes). y.now ∷ l) (map-put_by x ys))
 ]
 
+-- ordering borrowed blobs is ordering the blobs
 map-order_by : (xs : List (Bor NamedBytes)) → map (λ b. b.now) (order_by named_at_most xs) ≡ in_order (map (λ b. b.now) xs)
 unfolding order_by in_order
 map-order_by [] = refl
@@ -70,6 +76,7 @@ All-put_in P blob (other ∷ others) h k = elim (is_at_most blob.namespace other
   | false ↦ (k.0, All-put_in P blob others h k.1)
 ]
 
+-- what holds of each blob holds of each of them in order
 pub All-in_order : (P : NamedBytes → Type 0) (blobs : List NamedBytes) → AllByRecursion P blobs → AllByRecursion P (in_order blobs)
 unfolding in_order
 All-in_order P [] h = tt

@@ -25,6 +25,7 @@ drop-lent blobs i b h is =
 pub drop-lent_all : (blobs : List (Bor NamedBytes)) (i : ℕ) → length blobs ≤ i → drop i (lent blobs) ≡ []
 drop-lent_all blobs i h = drop_all i (lent blobs) (omega (arith, h, length-map blobs (λ (x : Bor NamedBytes). x.now)))
 
+-- the first of some blobs that have bytes has some, and the others have
 pub have_bytes-next : (blobs others : List NamedBytes) (b : NamedBytes) → blobs ≡ b ∷ others → HaveBytes blobs → (1 ≤ length b.bytes) × HaveBytes others
 have_bytes-next blobs others b e h = let both : HaveBytes (b ∷ others) = subst HaveBytes e h in both
 

@@ -10,7 +10,7 @@ use Rattle.namespace_id.specs.Names.{transaction, pay_for_blob, primary_reserved
 use Rattle.share_split.specs.Blobs.{NamedBytes}
 use Rattle.share_split.specs.Units.{unit_shares_of}
 use Rattle.share_split.specs.Joined.{padding_share}
-use Rattle.share_split.proofs.UnitLawLemmas.{unit_shares_are_counted}
+use Rattle.share_split.proofs.Writing.UnitLaws.{unit_shares_are_counted}
 use Rattle.square_layout.specs.Blocks.{BlockParts}
 use Rattle.square_layout.specs.Layout.{in_order, end_of, placed, compact_part, compact_end, laid, needed}
 use Rattle.square_layout.specs.Refusals.{max_shares}
@@ -19,17 +19,20 @@ use Rattle.square_layout.proofs.SizeLemmas.{at_least_one}
 
 -- ---- how many there are
 
+-- how many compact shares a block has
 pub length-compact_part : (block : BlockParts) → length (compact_part block) ≡ compact_end block
 length-compact_part block =
     length-append (unit_shares_of transaction block.units) (unit_shares_of pay_for_blob block.pay_units)
     ∙ ap₂ (λ (m n : ℕ). m + n) (unit_shares_are_counted transaction block.units) (unit_shares_are_counted pay_for_blob block.pay_units)
 
+-- how many shares a layout has
 pub length-laid : (block : BlockParts) → length (laid block) ≡ end_of (compact_end block) (in_order block.blobs)
 length-laid block =
     length-append (compact_part block) (placed primary_reserved_padding (compact_end block) (in_order block.blobs))
     ∙ ap (λ (n : ℕ). n + length (placed primary_reserved_padding (compact_end block) (in_order block.blobs))) (length-compact_part block)
     ∙ length-placed primary_reserved_padding (compact_end block) (in_order block.blobs)
 
+-- a number or 1 is the greater of both
 at_least_one-max : (n : ℕ) → at_least_one n ≡ max 1 n
 at_least_one-max n = elim (cases_lt 0 n) [
   | inl some ↦ (let same : at_least_one n ≡ n = grind (arith, nat_tests) in omega (arith, same, some))
@@ -51,9 +54,11 @@ end_fits block most h =
     let end : ℕ = end_of (compact_end block) (in_order block.blobs) in
     let is : needed block ≡ max 1 end = at_least_one-max end in omega (arith, is, h)
 
+-- the compact shares have room where the layout has
 pub compact_fits : (block : BlockParts) (most : ℕ) → needed block ≤ most → compact_end block ≤ most
 compact_fits block most h = omega (arith, end_of-ge (compact_end block) (in_order block.blobs), end_fits block most h)
 
+-- the layout has room where so many shares as it needs have
 pub laid_fits : (block : BlockParts) (most : ℕ) → needed block ≤ most → length (laid block) ≤ most
 laid_fits block most h = omega (arith, length-laid block, end_fits block most h)
 
@@ -69,6 +74,7 @@ square_fits k h =
 pub compact_there : (block : BlockParts) (none out : List Share) → none ≡ [] → out ≡ none ++ compact_part block → out ≡ compact_part block
 compact_there block none out n o = o ∙ ap (λ (l : List Share). l ++ compact_part block) n
 
+-- the blobs have room behind the compact shares where the layout has
 pub blobs_fit : (block : BlockParts) (out : List Share) (blobs : List NamedBytes) (most : ℕ) → out ≡ compact_part block → blobs ≡ in_order block.blobs
     → needed block ≤ most → end_of (length out) blobs ≤ most
 blobs_fit block out blobs most o b h =

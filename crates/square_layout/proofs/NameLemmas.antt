@@ -19,10 +19,12 @@ use Rattle.square_layout.proofs.BlobOrderLemmas.{All-in_order}
 
 -- ---- shares whose namespaces never fall, from a namespace on
 
+-- the namespaces of shares do not fall, and none is below this one
 abbrev RiseFrom : Namespace → List Share → Type 0
 RiseFrom low [] = Unit {0}
 RiseFrom low (share ∷ shares) = (is_at_most low (name_in share) ≡ true) × RiseFrom (name_in share) shares
 
+-- shares that rise from a namespace rise from a lower one
 RiseFrom-lower : (low name : Namespace) (shares : List Share) → is_at_most low name ≡ true → RiseFrom name shares → RiseFrom low shares
 RiseFrom-lower low name [] h k = tt
 RiseFrom-lower low name (share ∷ shares) h k = (at_most_trans low name (name_in share) h k.0, k.1)
@@ -35,6 +37,7 @@ RiseFrom-named low name (share ∷ shares) others h named k = (
   subst (λ (n : Namespace). RiseFrom n (shares ++ others)) (sym named.0) (RiseFrom-named name name shares others (at_most_refl name) named.1 k),
 )
 
+-- the namespaces of shares that rise do not fall
 RiseFrom-along : (low : Namespace) (shares : List Share) → RiseFrom low shares → holds_along is_at_most (map name_in shares) ≡ true
 unfolding holds_along
 RiseFrom-along low [] h = refl
@@ -56,6 +59,7 @@ abbrev BlobsRise : Namespace → List NamedBytes → Type 0
 BlobsRise low [] = Unit {0}
 BlobsRise low (blob ∷ blobs) = (is_at_most low blob.namespace ≡ true) × BlobsRise blob.namespace blobs
 
+-- a blob that is put among rising ones leaves them rising
 BlobsRise-put_in : (low : Namespace) (blob : NamedBytes) (blobs : List NamedBytes) → is_at_most low blob.namespace ≡ true → BlobsRise low blobs → BlobsRise low (put_in blob blobs)
 unfolding put_in
 BlobsRise-put_in low blob [] h k = (h, tt)
@@ -68,6 +72,7 @@ BlobsRise-put_in low blob (other ∷ others) h k = elim (cases_Bool (is_at_most 
       rw past (k.0, BlobsRise-put_in other.namespace blob others above k.1)
 ]
 
+-- blobs in order rise from the reserved padding
 BlobsRise-in_order : (blobs : List NamedBytes) → AllByRecursion IsBetween blobs → BlobsRise primary_reserved_padding (in_order blobs)
 unfolding in_order
 BlobsRise-in_order [] h = tt

@@ -5,7 +5,7 @@ use Rattle.namespace_id.specs.declared.namespaces.Namespace.{Namespace}
 use Rattle.namespace_id.specs.declared.shares.Share.{Share}
 use Rattle.share_split.specs.Blobs.{NamedBytes, blob_shares_of}
 use Rattle.share_split.specs.Joined.{padding_share}
-use Rattle.share_split.proofs.BlobLawLemmas.{length-blob_shares_of}
+use Rattle.share_split.proofs.Writing.BlobLaws.{length-blob_shares_of}
 use Rattle.square_layout.specs.Layout.{shares_of, start_after, end_of, placed}
 use Rattle.square_layout.proofs.PlaceLemmas.{start_after-ge, end_of-ge, end_of-next}
 
@@ -19,10 +19,12 @@ abbrev pub put_behind : Namespace → NamedBytes → List Share → List Share
 put_behind before blob out =
     out ++ replicate (start_after (length out) blob - length out) (padding_share before) ++ blob_shares_of blob.namespace blob.bytes
 
+-- what is put behind shares is the padding and the blob from their end on
 put_behind-is : (before : Namespace) (blob : NamedBytes) (out : List Share) → put_behind before blob out ≡ out ++ piece_of before (length out) blob
 put_behind-is before blob out =
     append_assoc out (replicate (start_after (length out) blob - length out) (padding_share before)) (blob_shares_of blob.namespace blob.bytes)
 
+-- the padding and the blob reach up to the end of the blob
 length-piece_of : (before : Namespace) (end : ℕ) (blob : NamedBytes) → end + length (piece_of before end blob) ≡ start_after end blob + shares_of blob
 length-piece_of before end blob =
     let gap : List Share = replicate (start_after end blob - end) (padding_share before) in
@@ -50,6 +52,7 @@ put_on before blob blobs others out new whole left n so_far =
     ∙ append_assoc out (gap ++ own) rest
     ∙ sym (ap (λ (l : List NamedBytes). out ++ placed before (length out) l) left) ∙ so_far
 
+-- where the blobs end after one more was put
 pub put_end_of : (before : Namespace) (blob : NamedBytes) (blobs others : List NamedBytes) (out new : List Share) (most : ℕ) → blobs ≡ blob ∷ others
     → new ≡ put_behind before blob out
     → end_of (length out) blobs ≤ most → end_of (length new) others ≤ most

@@ -14,6 +14,7 @@ bad_blob-next : (i : ℕ) (blobs : List NamedBytes) (d : NamedBytes) → i < len
 unfolding bad_blob
 bad_blob-next i blobs d h = rw (add-one, drop-cons blobs i d) refl
 
+-- the first blob is looked at for bytes, and then the others
 empty_blob-next : (i : ℕ) (blobs : List NamedBytes) (d : NamedBytes) → i < length blobs
     → empty_blob i (drop i blobs) ≡ (if length (get_or blobs i d).bytes == 0 then Some (EmptyBlob i) else empty_blob (i + 1) (drop (i + 1) blobs))
 unfolding empty_blob
@@ -40,18 +41,21 @@ pub bad_blob-none : (i : ℕ) (blobs : List NamedBytes) → length blobs ≤ i �
 unfolding bad_blob
 bad_blob-none i blobs h so_far = sym (ap (λ (l : List NamedBytes). bad_blob i l) (drop_all i blobs h)) ∙ so_far
 
+-- a blob that has no bytes is found
 pub empty_blob-found : (i : ℕ) (blobs : List NamedBytes) (blob : NamedBytes) → i < length blobs → get_or blobs i blob ≡ blob
     → length blob.bytes ≡ 0 → empty_blob i (drop i blobs) ≡ empty_blob 0 blobs → Some (EmptyBlob i) ≡ empty_blob 0 blobs
 empty_blob-found i blobs blob h is empty so_far =
     sym (ap (λ (n : ℕ). if n == 0 then Some (EmptyBlob i) else empty_blob (i + 1) (drop (i + 1) blobs)) (ap (λ (b : NamedBytes). length b.bytes) is ∙ empty))
     ∙ sym (empty_blob-next i blobs blob h) ∙ so_far
 
+-- a blob that has bytes is passed
 pub empty_blob-passed : (i : ℕ) (blobs : List NamedBytes) (blob : NamedBytes) → i < length blobs → get_or blobs i blob ≡ blob
     → (length blob.bytes == 0) ≡ false → empty_blob i (drop i blobs) ≡ empty_blob 0 blobs → empty_blob (i + 1) (drop (i + 1) blobs) ≡ empty_blob 0 blobs
 empty_blob-passed i blobs blob h is some so_far =
     sym (ap (λ (b : Bool). if b then Some (EmptyBlob i) else empty_blob (i + 1) (drop (i + 1) blobs)) (ap (λ (b : NamedBytes). length b.bytes == 0) is ∙ some))
     ∙ sym (empty_blob-next i blobs blob h) ∙ so_far
 
+-- at the end no blob is empty
 pub empty_blob-none : (i : ℕ) (blobs : List NamedBytes) → length blobs ≤ i → empty_blob i (drop i blobs) ≡ empty_blob 0 blobs → None ≡ empty_blob 0 blobs
 unfolding empty_blob
 empty_blob-none i blobs h so_far = sym (ap (λ (l : List NamedBytes). empty_blob i l) (drop_all i blobs h)) ∙ so_far

@@ -26,19 +26,23 @@ name_in-sequence_share name start fields content n =
 
 -- ---- shares of one namespace
 
+-- each share has this namespace
 abbrev pub AreNamed : Namespace → List Share → Type 0
 AreNamed name shares = AllByRecursion (λ share. name_in share ≡ name) shares
 
+-- the later shares of a blob have its namespace
 later_shares-named : (count : ℕ) (name : Namespace) (bytes : List ℕ) → length name.0 ≡ 29 → AreNamed name (later_shares count name bytes)
 unfolding later_shares
 later_shares-named zero name bytes n = tt
 later_shares-named (suc count) name bytes n =
     (name_in-sequence_share name false [] (take later_content bytes) n, later_shares-named count name (drop later_content bytes) n)
 
+-- the shares of a blob have its namespace
 pub blob_shares_of-named : (name : Namespace) (bytes : List ℕ) → length name.0 ≡ 29 → AreNamed name (blob_shares_of name bytes)
 blob_shares_of-named name bytes n =
     (name_in-sequence_share name true (to_be_bytes w32 (length bytes)) (take first_content bytes) n, later_shares-named (share_count (length bytes) - 1) name (drop first_content bytes) n)
 
+-- the later compact shares have the namespace of their sequence
 later_compact_shares-named : (count : ℕ) (name : Namespace) (i : ℕ) (starts text : List ℕ) → length name.0 ≡ 29 → AreNamed name (later_compact_shares count name i starts text)
 unfolding later_compact_shares
 later_compact_shares-named zero name i starts text n = tt
@@ -47,6 +51,7 @@ later_compact_shares-named (suc count) name i starts text n = (
   later_compact_shares-named count name (suc i) starts (drop later_compact_content text) n,
 )
 
+-- the shares of units have their namespace
 pub unit_shares_of-named : (name : Namespace) (units : List (List ℕ)) → length name.0 ≡ 29 → AreNamed name (unit_shares_of name units)
 unit_shares_of-named name [] n = tt
 unit_shares_of-named name (unit ∷ units) n =
@@ -56,6 +61,7 @@ unit_shares_of-named name (unit ∷ units) n =
       later_compact_shares-named (compact_count (length text) - 1) name 1 starts (drop first_compact_content text) n,
     )
 
+-- padding has its namespace
 pub padding-named : (count : ℕ) (name : Namespace) → length name.0 ≡ 29 → AreNamed name (replicate count (padding_share name))
 padding-named zero name n = tt
 padding-named (suc count) name n = (name_in-sequence_share name true (to_be_bytes w32 0) [] n, padding-named count name n)

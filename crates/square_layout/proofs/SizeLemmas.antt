@@ -1,12 +1,11 @@
 -- Lemmas on how many shares a layout has, and on the width that holds them.
-use Rattle.std.proofs.Common.{◌≡◌, ◌∙◌, ℕ, zero, suc, ◌+◌, ◌*◌, ◌^◌, ◌<◌, ◌≤◌, ◌==◌, min, max, nat_le, Bool, true, false, if◌then◌else◌, List, refl, sym, ap, ap₂, arith, inl, inr, mul_assoc, mul_comm}
-use Rattle.std.proofs.Math.Nat.{pow-suc}
+use Rattle.std.proofs.Common.{◌≡◌, ◌∙◌, ℕ, ◌+◌, ◌*◌, ◌<◌, ◌≤◌, ◌==◌, min, max, true, if◌then◌else◌, List, sym, ap, ap₂, arith, inl, inr}
 use Rattle.std.proofs.lemmas.Bool.{cases_lt}
 use Rattle.std.proofs.lemmas.Bool.Decides.{nat_tests}
 use Rattle.std.proofs.lemmas.Nat.{mul-le}
 use Rattle.namespace_id.specs.Cells.{is_width}
 use Rattle.share_split.specs.Blobs.{NamedBytes}
-use Rattle.square_layout.specs.Layout.{end_of, holding_from}
+use Rattle.square_layout.specs.Layout.{end_of}
 use Rattle.square_layout.specs.Refusals.{max_count, max_shares}
 use Rattle.square_layout.proofs.CountLemmas.{told_end}
 
@@ -16,15 +15,18 @@ use Rattle.square_layout.proofs.CountLemmas.{told_end}
 abbrev pub at_least_one : ℕ → ℕ
 at_least_one n = if n == 0 then 1 else n
 
+-- a sum of counts that are told is told
 told_sum : (a b : ℕ) → min (min a max_count + min b max_count) max_count ≡ min (a + b) max_count
 told_sum a b = omega arith
 
+-- a count that is told, or 1
 told_one : (n : ℕ) → max (min n max_count) 1 ≡ min (at_least_one n) max_count
 told_one n = elim (cases_lt 0 n) [
   | inl some ↦ (let same : at_least_one n ≡ n = grind (arith, nat_tests) in omega (arith, same, some))
   | inr none ↦ (let zero_is : n ≡ 0 = omega (arith, none) in ap (λ (k : ℕ). max (min k max_count) 1) zero_is ∙ sym (ap (λ (k : ℕ). min (at_least_one k) max_count) zero_is))
 ]
 
+-- how many shares a layout has is told, up to the greatest count
 pub needed_told : (a b x y sum end : ℕ) (blobs others : List NamedBytes) → x ≡ min a max_count → y ≡ min b max_count
     → sum ≡ min (x + y) max_count → end ≡ min (end_of sum others) max_count → others ≡ blobs
     → max end 1 ≡ min (at_least_one (end_of (a + b) blobs)) max_count
@@ -46,42 +48,3 @@ below_greatest count k h lt = elim (cases_lt k 128) [
 -- a width below the greatest, doubled
 pub is_width-double : (k : ℕ) → is_width k ≡ true → k < 128 → is_width (k * 2) ≡ true
 is_width-double k h lt = grind (arith, nat_tests)
-
--- so many doublings of a width give the greatest, and the first that holds the shares is looked for
--- from it on
-pub record IsOnTheWay (count k : ℕ) : Type 0 where
-  pub more : ℕ
-  pub last : k * 2 ^ more ≡ 128
-  pub value : holding_from more k count ≡ holding_from 7 1 count
-
-pub holding_from-suc : (more k count : ℕ) → nat_le count (k * k) ≡ false → holding_from (suc more) k count ≡ holding_from more (2 * k) count
-unfolding holding_from
-holding_from-suc more k count h = ap (λ (b : Bool). if b then k else holding_from more (2 * k) count) h
-
-pub holding_from-found : (more k count : ℕ) → nat_le count (k * k) ≡ true → holding_from more k count ≡ k
-unfolding holding_from
-holding_from-found zero k count h = refl
-holding_from-found (suc more) k count h = ap (λ (b : Bool). if b then k else holding_from more (2 * k) count) h
-
-way_on : (count k more : ℕ) → k < 128 → k * 2 ^ more ≡ 128 → holding_from more k count ≡ holding_from 7 1 count
-    → k * k < count → IsOnTheWay count (k * 2)
-way_on count k zero h last value small = absurd (omega (arith, h, last))
-way_on count k (suc more) h last value small = record {
-  more = more;
-  last = (let twice : 2 ^ suc more ≡ 2 ^ more * 2 = pow-suc 2 more in
-      let same : k * 2 * 2 ^ more ≡ k * (2 ^ more * 2) = mul_assoc k 2 (2 ^ more) ∙ ap (λ (n : ℕ). k * n) (mul_comm 2 (2 ^ more)) in
-      same ∙ sym (ap (λ (n : ℕ). k * n) twice) ∙ last);
-  value = (let no : nat_le count (k * k) ≡ false = grind (arith, nat_tests) in
-      ap (λ (n : ℕ). holding_from more n count) (mul_comm k 2) ∙ sym (holding_from-suc more k count no) ∙ value);
-}
-
-pub way-begins : (count : ℕ) → IsOnTheWay count 1
-way-begins count = record { more = 7; last = refl; value = refl }
-
-pub way-doubled : (count k : ℕ) → count ≤ max_shares → k * k < count → IsOnTheWay count k → IsOnTheWay count (k * 2)
-way-doubled count k h small way = way_on count k way.more (below_greatest count k h small) way.last way.value small
-
-pub way-ends : (count k : ℕ) → count ≤ k * k → IsOnTheWay count k → k ≡ holding_from 7 1 count
-way-ends count k h way =
-    let yes : nat_le count (k * k) ≡ true = grind (arith, nat_tests) in
-    sym (holding_from-found way.more k count yes) ∙ way.value

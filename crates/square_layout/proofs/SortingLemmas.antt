@@ -16,6 +16,7 @@ unfoldable pub put_by : {X : Type 0} → (X → X → Bool) → X → List X →
 put_by le x [] = x ∷ []
 put_by le x (y ∷ ys) = if le x y then x ∷ y ∷ ys else y ∷ put_by le x ys
 
+-- a list in the order of a rank, equals as they came
 unfoldable pub order_by : {X : Type 0} → (X → X → Bool) → List X → List X
 order_by le [] = []
 order_by le (x ∷ xs) = put_by le x (order_by le xs)
@@ -29,16 +30,20 @@ abbrev pub Rises : {X : Type 0} → (X → X → Bool) → List X → Type 0
 Rises le [] = Unit {0}
 Rises le (y ∷ ys) = IsAtMostAll le y ys × Rises le ys
 
+-- an element that passes is kept
 filter-kept : {X : Type 0} (p : X → Bool) (y : X) (ys : List X) → p y ≡ true → filter p (y ∷ ys) ≡ y ∷ filter p ys
 filter-kept p y ys h = cond-true _ _ _ h
 
+-- an element that does not pass is dropped
 filter-dropped : {X : Type 0} (p : X → Bool) (y : X) (ys : List X) → p y ≡ false → filter p (y ∷ ys) ≡ filter p ys
 filter-dropped p y ys h = cond-false _ _ _ h
 
+-- an element that is at most the first stands before it
 put_by-stays : {X : Type 0} (le : X → X → Bool) (x y : X) (ys : List X) → le x y ≡ true → put_by le x (y ∷ ys) ≡ x ∷ y ∷ ys
 unfolding put_by
 put_by-stays le x y ys h = cond-true _ _ _ h
 
+-- an element that is above the first stands behind it
 put_by-past : {X : Type 0} (le : X → X → Bool) (x y : X) (ys : List X) → le x y ≡ false → put_by le x (y ∷ ys) ≡ y ∷ put_by le x ys
 unfolding put_by
 put_by-past le x y ys h = cond-false _ _ _ h

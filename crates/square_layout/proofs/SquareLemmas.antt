@@ -15,21 +15,25 @@ use Rattle.namespace_id.proofs.StringLemmas.{AreBytes-append, AreBytes-replicate
 use Rattle.share_split.specs.Blobs.{NamedBytes, IsNamed, blob_shares_of}
 use Rattle.share_split.specs.Units.{unit_shares_of}
 use Rattle.share_split.specs.Joined.{padding_share}
-use Rattle.share_split.proofs.BlobLawLemmas.{blob_shares_are_shares, padding_is_share}
-use Rattle.share_split.proofs.UnitLawLemmas.{unit_shares_are_shares}
+use Rattle.share_split.proofs.Writing.BlobLaws.{blob_shares_are_shares, padding_is_share}
+use Rattle.share_split.proofs.Writing.UnitLaws.{unit_shares_are_shares}
 use Rattle.square_layout.specs.declared.laying.LayError.{LayError}
 use Rattle.square_layout.specs.declared.laying.LayError.TheVariants.{TooLarge, WidthTooSmall, BadWidth}
 use Rattle.square_layout.specs.Blocks.{BlockParts, IsBlock, IsSquare}
-use Rattle.square_layout.specs.Layout.{in_order, shares_of, start_after, placed, compact_end, laid, needed, holding_from, width_for, square_of}
+use Rattle.namespace_id.specs.Doublings.{least_doubling}
+use Rattle.namespace_id.proofs.DoublingLemmas.{least_doubling-suc, least_doubling-found}
+use Rattle.namespace_id.proofs.ShareLemmas.{AreShares-append}
+use Rattle.square_layout.specs.Layout.{in_order, shares_of, start_after, placed, compact_end, laid, needed, holds_shares, holding_from, width_for, square_of}
 use Rattle.square_layout.specs.Refusals.{max_shares, max_count, blob_refusal, width_refusal, size_refusal, refusal_of}
 use Rattle.square_layout.proofs.AcceptedLemmas.{no_refusal}
 use Rattle.square_layout.proofs.BlobOrderLemmas.{All-in_order}
 use Rattle.square_layout.proofs.LaidLemmas.{length-padded, laid_fits}
 use Rattle.square_layout.proofs.LeastWidthLemmas.{holding_holds}
-use Rattle.square_layout.proofs.SizeLemmas.{is_width-double, holding_from-suc, holding_from-found}
+use Rattle.square_layout.proofs.SizeLemmas.{is_width-double}
 
 -- ---- the square is one
 
+-- a width doubled has one doubling less before it
 width-doubled : (k more : ℕ) → k * 2 ^ suc more ≡ 128 → k * 2 * 2 ^ more ≡ 128
 width-doubled k more last =
     let twice : 2 ^ suc more ≡ 2 ^ more * 2 = pow-suc 2 more in
@@ -42,13 +46,14 @@ below_last k more last =
     let grows : k * 2 ≤ k * 2 ^ suc more = mul-le k 2 k (2 ^ suc more) (omega arith) two in
     omega (arith, grows, last)
 
+-- of some widths the one that is found is a width
 holding_from-width : (more k count : ℕ) → is_width k ≡ true → k * 2 ^ more ≡ 128 → is_width (holding_from more k count) ≡ true
-unfolding holding_from
+unfolding least_doubling
 holding_from-width zero k count one last = one
 holding_from-width (suc more) k count one last = elim (cases_Bool (nat_le count (k * k))) [
-  | inl enough ↦ ap is_width (holding_from-found (suc more) k count enough) ∙ one
+  | inl enough ↦ ap is_width (least_doubling-found (holds_shares count) (suc more) k enough) ∙ one
   | inr small ↦
-      ap is_width (holding_from-suc more k count small ∙ ap (λ (w : ℕ). holding_from more w count) (mul_comm 2 k))
+      ap is_width (least_doubling-suc (holds_shares count) more k small)
       ∙ holding_from-width more (k * 2) count (is_width-double k one (below_last k more last)) (width-doubled k more last)
 ]
 
@@ -56,10 +61,12 @@ holding_from-width (suc more) k count one last = elim (cases_Bool (nat_le count 
 pub least_is_width : (count : ℕ) → is_width (holding_from 7 1 count) ≡ true
 least_is_width count = holding_from-width 7 1 count refl refl
 
+-- a refusal that is none was not asked for
 if_none : (b : Bool) (e : LayError) (o : Option LayError) → (if b then Some e else o) ≡ None → (b ≡ false) × (o ≡ None)
 if_none true e o h = absurd cc
 if_none false e o h = (refl, h)
 
+-- a test that refuses where it fails has passed
 if_passes : (b : Bool) (e : LayError) → (if b then None else Some e) ≡ None → b ≡ true
 if_passes true e h = refl
 if_passes false e h = absurd cc
@@ -78,6 +85,7 @@ size_passes (Some k) count h =
     let holds : count ≤ k * k = grind (arith, nat_tests, asked.0) in
     (if_passes (is_width k) BadWidth asked.1, holds)
 
+-- the square of a block that is not refused is a square
 pub square_is_square : (block : BlockParts) → refusal_of block ≡ None → IsSquare (square_of block)
 square_is_square block none =
     let size = no_refusal (blob_refusal block.blobs) (size_refusal block.width (needed block)) (sym none) in
@@ -90,10 +98,7 @@ square_is_square block none =
 
 -- ---- its shares are shares
 
-AreShares-append : (a b : List Share) → AreShares a → AreShares b → AreShares (a ++ b)
-AreShares-append [] b h k = k
-AreShares-append (share ∷ a) b h k = (h.0, AreShares-append a b h.1 k)
-
+-- a share, so many times, is shares
 AreShares-replicate : (n : ℕ) (share : Share) → IsShare share → AreShares (replicate n share)
 AreShares-replicate zero share h = tt
 AreShares-replicate (suc n) share h = (h, AreShares-replicate n share h)
@@ -105,12 +110,14 @@ low_is_namespace byte h = record {
   fits = AreBytes-append (replicate 28 0) (replicate 1 byte) (AreBytes-replicate 28 0 (omega arith)) (AreBytes-replicate 1 byte h);
 }
 
+-- the namespace of tail padding is one
 tail_is_namespace : IsNamespace tail_padding
 tail_is_namespace = record {
   size_is = refl;
   fits = AreBytes-append (replicate 28 0xFF) (replicate 1 0xFE) (AreBytes-replicate 28 0xFF (omega arith)) (AreBytes-replicate 1 0xFE (omega arith));
 }
 
+-- placed blobs and their padding are shares
 placed-shares_law : (name : Namespace) (end : ℕ) (blobs : List NamedBytes) → IsNamespace name → AllByRecursion IsNamed blobs → AreShares (placed name end blobs)
 unfolding placed
 placed-shares_law name end [] named all = tt
@@ -123,6 +130,7 @@ placed-shares_law name end (blob ∷ blobs) named all =
     (blob_shares_are_shares blob.namespace blob.bytes all.0.name all.0.fits))
     (placed-shares_law blob.namespace (start_after end blob + shares_of blob) blobs all.0.name all.1)
 
+-- a square has shares
 pub square_has_shares : (block : BlockParts) → IsBlock block → AreShares (square_of block).shares
 square_has_shares block is =
     let units : List Share = unit_shares_of transaction block.units in

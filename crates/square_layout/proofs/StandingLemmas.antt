@@ -13,7 +13,7 @@ use Rattle.share_split.specs.Widths.{width_of}
 use Rattle.share_split.specs.Blobs.{NamedBytes, blob_shares_of}
 use Rattle.share_split.specs.Joined.{padding_share}
 use Rattle.square_layout.specs.Blocks.{BlockParts}
-use Rattle.share_split.proofs.BlobLawLemmas.{length-blob_shares_of}
+use Rattle.share_split.proofs.Writing.BlobLaws.{length-blob_shares_of}
 use Rattle.square_layout.specs.Layout.{shares_of, start_after, end_of, placed, last_name, padding_name, in_order, compact_part, compact_end, laid, width_for, square_of}
 use Rattle.square_layout.proofs.PlaceLemmas.{start_after-ge, length-placed}
 use Rattle.square_layout.proofs.LaidLemmas.{length-compact_part}
@@ -57,6 +57,7 @@ placed-cons name end blob back =
 abbrev pub before_of : BlockParts → List NamedBytes → List Share
 before_of block front = compact_part block ++ placed primary_reserved_padding (compact_end block) front
 
+-- what stands before a blob reaches up to where the blobs before it end
 length-before_of : (block : BlockParts) (front : List NamedBytes) → length (before_of block front) ≡ end_of (compact_end block) front
 length-before_of block front =
     length-append (compact_part block) (placed primary_reserved_padding (compact_end block) front)
@@ -73,6 +74,7 @@ abbrev pub behind_of : BlockParts → List NamedBytes → NamedBytes → List Na
 behind_of block front blob back =
     placed blob.namespace (start_after (end_of (compact_end block) front) blob + shares_of blob) back
 
+-- a layout is what stands before a blob, its padding and shares, and the others
 laid-parts : (block : BlockParts) (front back : List NamedBytes) (blob : NamedBytes) → in_order block.blobs ≡ front ++ blob ∷ back
     → laid block ≡ before_of block front ++ (gap_of block front blob ++ (blob_shares_of blob.namespace blob.bytes ++ behind_of block front blob back))
 laid-parts block front back blob e =

@@ -1,11 +1,12 @@
 -- Where the shares of a block stand in its square (Celestia specifications, "Square Layout").
-use Rattle.std.specs.Prelude.{ℕ, zero, suc, ◌+◌, ◌-◌, ◌*◌, ◌==◌, nat_le, Bool, List, [], ◌∷◌, ◌++◌, length, replicate, if◌then◌else◌}
+use Rattle.std.specs.Prelude.{ℕ, ◌+◌, ◌-◌, ◌*◌, ◌==◌, nat_le, Bool, List, [], ◌∷◌, ◌++◌, length, replicate, if◌then◌else◌}
 use Rattle.std.specs.Int.{div_ceil}
 use Rattle.std.specs.Option.{option_map_or}
 use Rattle.std.specs.Str.{bytes_eq}
 use Rattle.namespace_id.specs.declared.namespaces.Namespace.{Namespace}
 use Rattle.namespace_id.specs.declared.shares.Share.{Share}
 use Rattle.namespace_id.specs.Names.{is_at_most, transaction, pay_for_blob, primary_reserved_padding, tail_padding}
+use Rattle.namespace_id.specs.Doublings.{least_doubling}
 use Rattle.share_split.specs.Widths.{width_of}
 use Rattle.share_split.specs.Blobs.{NamedBytes, share_count, blob_shares_of}
 use Rattle.share_split.specs.Units.{unit_shares_of, unit_share_count}
@@ -85,11 +86,13 @@ needed block =
     if end_of (compact_end block) (in_order block.blobs) == 0 then 1 else
     end_of (compact_end block) (in_order block.blobs)
 
--- the least of some widths, each twice the one before, whose square holds so many shares
-unfoldable pub holding_from : ℕ → ℕ → ℕ → ℕ
-holding_from zero k count = k
-holding_from (suc more) k count =
-    if nat_le count (k * k) then k else holding_from more (2 * k) count
+-- whether a square of this width holds so many shares
+abbrev pub holds_shares : ℕ → ℕ → Bool
+holds_shares count k = nat_le count (k * k)
+
+-- the first of some widths, each twice the one before, whose square holds so many shares
+abbrev pub holding_from : ℕ → ℕ → ℕ → ℕ
+holding_from more k count = least_doubling (holds_shares count) more k
 
 -- the width of the square: the least whose square holds the layout, or the one that is asked for
 abbrev pub width_for : BlockParts → ℕ

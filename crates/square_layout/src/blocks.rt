@@ -4,7 +4,7 @@ use namespace_id::Share;
 use share_split::{Blob, Unit};
 use std::marker::Model;
 
-/// What is laid out as a square: units of transactions, units of payments for blobs, and blobs.
+/// A block, as it is laid out as a square: transactions, payments for blobs (PFB), and blobs.
 ///
 /// `width` is the width that the square is to have, where one is asked for.
 ///
@@ -30,7 +30,7 @@ impl Model for Block {
     } };
 }
 
-/// An original square: k * k shares, row-major. Its type keeps that `k` is a width and that there are
+/// An original data square (ODS): k * k shares, row-major. Its type keeps that `k` is a width and that there are
 /// so many shares.
 ///
 /// Celestia specifications, "Data Structures".

@@ -41,7 +41,7 @@ fn empty_blob(blobs: &[Blob]) -> Option<LayError>
 }
 
 /// The first check of blobs that fails: all namespaces come before all bytes.
-pub fn blob_refusal(blobs: &[Blob]) -> Option<LayError>
+pub(crate) fn blob_refusal(blobs: &[Blob]) -> Option<LayError>
     ensures { result ≡ blob_refusal blobs.now }
 {
     bad_blob(blobs).or_else(|| empty_blob(blobs))
@@ -61,7 +61,7 @@ fn width_refusal(count: u64, k: u16) -> Option<LayError>
 }
 
 /// Why no square holds so many shares, or not the one whose width is asked for.
-pub fn size_refusal(width: Option<u16>, count: u64) -> Option<LayError>
+pub(crate) fn size_refusal(width: Option<u16>, count: u64) -> Option<LayError>
     ensures { result ≡ size_refusal width count }
 {
     if count > MAX_SHARES {

@@ -9,7 +9,7 @@ use crate::Block;
 use share_split::{Blob, blob_share_count, subtree_width, unit_share_count};
 
 /// Where a blob starts if what precedes it ends at `end`; 2^64 - 1 for any greater place.
-pub fn start_after(end: u64, blob: &Blob) -> u64
+pub(crate) fn start_after(end: u64, blob: &Blob) -> u64
     requires { 1 ≤ length blob.now.bytes }
     ensures { result ≡ min (start_after end blob.now) max_count }
 {
@@ -27,7 +27,7 @@ fn end_after(end: u64, blob: &Blob) -> u64
 
 /// Where the last of some blobs ends if what precedes them ends at `end`; 2^64 - 1 for any greater
 /// place.
-pub fn end_of(end: u64, blobs: &[&Blob]) -> u64
+pub(crate) fn end_of(end: u64, blobs: &[&Blob]) -> u64
     requires { HaveBytes (map (λ blob. blob.now) blobs.now) }
     ensures { result ≡ min (end_of end (map (λ blob. blob.now) blobs.now)) max_count }
 {
@@ -40,7 +40,7 @@ pub fn end_of(end: u64, blobs: &[&Blob]) -> u64
 
 /// How many shares the layout of a block has, whose blobs stand in this order; 2^64 - 1 for any
 /// greater number.
-pub fn needed(block: &Block, order: &[&Blob]) -> u64
+pub(crate) fn needed(block: &Block, order: &[&Blob]) -> u64
     requires order { map (λ blob. blob.now) order.now ≡ in_order block.now.blobs }
     requires some { HaveBytes (map (λ blob. blob.now) order.now) }
     ensures { result ≡ min (needed block.now) max_count }

@@ -78,9 +78,10 @@ fn shares_of(alloc: Global, block: &Block, order: &[&Blob], k: u16) -> Result<Ve
     Ok(shares)
 }
 
-/// The square of a block: the compact shares of its units, those of its payments for blobs, its blobs by
-/// ascending namespace, each where its subtrees begin, and padding between them and behind. Its width
-/// is the least that holds these, or the one that the block asks for.
+/// Square layout: the original data square (ODS) of a block. It has the compact shares of its units,
+/// those of its payments for blobs, its blobs by ascending namespace, each where its subtrees begin, and
+/// padding between them and behind. Its width is the least that holds these, or the one that the block
+/// asks for.
 ///
 /// Refuses the first blob whose namespace isn't one of a blob (`BadBlob`), then the first that has no
 /// bytes (`EmptyBlob`), whatever memory there is; then more shares than the greatest square has
@@ -118,3 +119,6 @@ pub fn lay(alloc: Global, block: &Block) -> Result<Square, LayError>
     };
     Ok(Square { k, shares })
 }
+
+#[cfg(test)]
+mod tests;

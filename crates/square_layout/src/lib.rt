@@ -8,8 +8,6 @@ mod laws;
 mod laying;
 mod ordering;
 mod putting;
-#[cfg(test)]
-mod tests;
 mod widths;
 
 pub use blocks::{Block, Square};

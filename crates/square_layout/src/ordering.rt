@@ -20,7 +20,7 @@ fn borrowed(alloc: Global, blobs: &[Blob]) -> Result<Vec<&Blob>, NoMemory>
 /// Blobs by ascending namespace, and within one namespace as they came.
 ///
 /// Celestia specifications, "Square Layout".
-pub fn blobs_in_order(alloc: Global, blobs: &[Blob]) -> Result<Vec<&Blob>, NoMemory>
+pub(crate) fn blobs_in_order(alloc: Global, blobs: &[Blob]) -> Result<Vec<&Blob>, NoMemory>
     ensures { IfOk result (λ order. map (λ blob. blob.now) order.items ≡ in_order blobs.now) }
 {
     let mut order = borrowed(alloc, blobs)?;

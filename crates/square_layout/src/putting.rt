@@ -15,7 +15,11 @@ use share_split::{Blob, SplitError, Unit, blob_shares, padding_share, unit_share
 use std::alloc::Global;
 
 /// Appends padding shares until there are `to` shares.
-pub fn put_padding(namespace: &Namespace, to: usize, out: &mut Vec<Share>) -> Result<(), NoMemory>
+pub(crate) fn put_padding(
+    namespace: &Namespace,
+    to: usize,
+    out: &mut Vec<Share>,
+) -> Result<(), NoMemory>
     requires { vec_len out.old ≤ to }
     ensures { OnOk result (out.new.items ≡
         out.old.items ++ replicate (to - length out.old.items) (padding_share namespace.now)) }
@@ -27,7 +31,7 @@ pub fn put_padding(namespace: &Namespace, to: usize, out: &mut Vec<Share>) -> Re
 }
 
 /// Appends the compact shares of units.
-pub fn put_units(
+pub(crate) fn put_units(
     alloc: Global,
     namespace: &Namespace,
     units: &[Unit],
@@ -74,7 +78,7 @@ fn put_blob(before: &Namespace, blob: &Blob, out: &mut Vec<Share>) -> Result<(),
 }
 
 /// Appends the shares of blobs, each behind the padding before it.
-pub fn put_blobs(blobs: &[&Blob], out: &mut Vec<Share>) -> Result<(), NoMemory>
+pub(crate) fn put_blobs(blobs: &[&Blob], out: &mut Vec<Share>) -> Result<(), NoMemory>
     requires some { HaveBytes (map (λ blob. blob.now) blobs.now) }
     requires fits { end_of (length out.old.items) (map (λ blob. blob.now) blobs.now) ≤ max_shares }
     ensures { OnOk result (out.new.items ≡

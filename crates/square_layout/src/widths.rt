@@ -7,7 +7,7 @@ ghost use Rattle.square_layout.specs.Layout.{holding_from};
 ghost use Rattle.square_layout.specs.Refusals.{max_shares, size_refusal};
 
 /// How many shares the square of the width `k` has.
-pub fn shares_in(k: u16) -> u64
+pub(crate) fn shares_in(k: u16) -> u64
     ensures { result ≡ k * k }
 {
     u64::from(k) * u64::from(k)
@@ -28,7 +28,7 @@ fn least_width(count: u64) -> u16
 }
 
 /// The width of the square of so many shares: the one that is asked for, or the least.
-pub fn width_for(width: Option<u16>, count: u64) -> u16
+pub(crate) fn width_for(width: Option<u16>, count: u64) -> u16
     requires { size_refusal width count ≡ None }
     ensures value { result ≡ option_map_or (λ k. k) width (holding_from 7 1 count) }
     ensures width { is_width result ≡ true }

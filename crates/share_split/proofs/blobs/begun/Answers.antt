@@ -1,6 +1,6 @@
 use Rattle.std.proofs.Common.{arith}
 use Rattle.share_split.specs.Blobs.{info}
-use Rattle.share_split.proofs.ShareLemmas.{begun_written}
+use Rattle.share_split.proofs.Writing.Share.{begun_written}
 use Rattle.share_split.proofs.blobs.begun.Goals as goal
 
 pub returns-clause-value : goal.returns-clause-value

@@ -1,5 +1,5 @@
 use Rattle.std.proofs.Common.{◌-◌, arith}
-use Rattle.share_split.proofs.CountLemmas.{div_ceil-le}
+use Rattle.share_split.proofs.Writing.Count.{div_ceil-le}
 use Rattle.share_split.proofs.blobs.count_from.Goals as goal
 
 -- no more shares than bytes, of which the first share has one

@@ -1,7 +1,7 @@
 use Rattle.std.proofs.Common.{◌∙◌, ◌-◌, ◌++◌, List, sym, ap, arith}
 use Rattle.std.proofs.lemmas.List.{append-nil}
 use Rattle.namespace_id.specs.declared.shares.Share.{Share}
-use Rattle.share_split.proofs.LaterLemmas.{later_shares-none, later-step}
+use Rattle.share_split.proofs.Writing.Later.{later_shares-none, later-step}
 use Rattle.share_split.proofs.blobs.put_later.Goals as goal
 
 pub loop-preserved : goal.loop-preserved

@@ -1,4 +1,4 @@
-use Rattle.share_split.proofs.ShareLemmas.{sequence_written}
+use Rattle.share_split.proofs.Writing.Share.{sequence_written}
 use Rattle.share_split.proofs.blobs.sequence_share.Goals as goal
 
 pub returns : goal.returns

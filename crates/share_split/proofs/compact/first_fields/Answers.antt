@@ -1,4 +1,4 @@
-use Rattle.share_split.proofs.ShareLemmas.{eight_written}
+use Rattle.share_split.proofs.Writing.Share.{eight_written}
 use Rattle.share_split.proofs.compact.first_fields.Goals as goal
 
 pub returns : goal.returns

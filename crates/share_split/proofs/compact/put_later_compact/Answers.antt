@@ -2,7 +2,7 @@ use Rattle.std.proofs.Common.{◌∙◌, suc, ◌-◌, ◌++◌, List, sym, ap, 
 use Rattle.std.proofs.lemmas.List.{append-nil}
 use Rattle.namespace_id.specs.declared.shares.Share.{Share}
 use Rattle.share_split.specs.Texts.{starts_of}
-use Rattle.share_split.proofs.LaterCompactLemmas.{later_compact_shares-none, later_compact-step}
+use Rattle.share_split.proofs.Writing.LaterCompact.{later_compact_shares-none, later_compact-step}
 use Rattle.share_split.proofs.compact.put_later_compact.Goals as goal
 
 pub loop-i-preserved : goal.loop-i-preserved

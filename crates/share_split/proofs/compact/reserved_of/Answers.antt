@@ -1,5 +1,5 @@
 use Rattle.std.proofs.Common.{◌∙◌, sym, arith}
-use Rattle.share_split.proofs.StartLemmas.{reserved_of-left, place-none, place-next}
+use Rattle.share_split.proofs.Writing.Starts.{reserved_of-left, place-none, place-next}
 use Rattle.share_split.proofs.compact.reserved_of.Goals as goal
 
 -- no unit is left

@@ -2,8 +2,8 @@ use Rattle.std.proofs.lemmas.Result.{err_from_is_err_and}
 use Rattle.std.proofs.Common.{◌∙◌, sym, ap, Err, inr}
 use Rattle.share_split.specs.declared.joining.JoinError.TheVariants.{Short}
 use Rattle.share_split.specs.Walks.{Sequence}
-use Rattle.share_split.proofs.BlobWalkLemmas.{blobs_more, blobs_stop, blobs_end, blobs_cut}
-use Rattle.share_split.proofs.JoinLawLemmas.{blobs_law}
+use Rattle.share_split.proofs.Reading.BlobWalk.{blobs_more, blobs_stop, blobs_end, blobs_cut}
+use Rattle.share_split.proofs.Reading.JoinLaws.{blobs_law}
 use Rattle.share_split.proofs.joining.join_blobs.Goals as goal
 
 -- a check of the share failed, or memory ran out

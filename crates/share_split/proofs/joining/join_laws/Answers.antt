@@ -1,4 +1,4 @@
-use Rattle.share_split.proofs.JoinLawLemmas.{blobs_law, units_law}
+use Rattle.share_split.proofs.Reading.JoinLaws.{blobs_law, units_law}
 use Rattle.share_split.proofs.joining.join_laws.Goals as goal
 
 -- by the law on blobs

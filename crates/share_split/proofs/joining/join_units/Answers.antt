@@ -1,6 +1,6 @@
 use Rattle.std.proofs.Common.{◌∙◌, ap, sym, Ok}
 use Rattle.share_split.specs.Walks.{Sequence, units_in}
-use Rattle.share_split.proofs.JoinLawLemmas.{units_law, units_whole}
+use Rattle.share_split.proofs.Reading.JoinLaws.{units_law, units_whole}
 use Rattle.share_split.proofs.joining.join_units.Goals as goal
 
 -- no shares are no units

@@ -1,7 +1,7 @@
 use Rattle.std.proofs.lemmas.Result.{err_from_is_err_and}
 use Rattle.std.proofs.Common.{◌∙◌, sym, ap, inr, Err}
 use Rattle.share_split.specs.Walks.{Sequence}
-use Rattle.share_split.proofs.UnitWalkLemmas.{sequence_more, sequence_stop, sequence_end, sequence_from-none, sequence_from-whole, sequence_from-open}
+use Rattle.share_split.proofs.Reading.UnitWalk.{sequence_more, sequence_stop, sequence_end, sequence_from-none, sequence_from-whole, sequence_from-open}
 use Rattle.share_split.specs.declared.joining.JoinError.TheVariants.{Short}
 use Rattle.share_split.proofs.joining.unit_sequence.Goals as goal
 

@@ -1,4 +1,4 @@
-use Rattle.share_split.proofs.BlobLawLemmas.{length-blob_shares_of, blob_shares_are_shares, padding_is_share}
+use Rattle.share_split.proofs.Writing.BlobLaws.{length-blob_shares_of, blob_shares_are_shares, padding_is_share}
 use Rattle.share_split.proofs.laws.blob_laws.Goals as goal
 
 pub returns-clause-counted : goal.returns-clause-counted

@@ -1,6 +1,6 @@
 use Rattle.std.proofs.Common.{◌∙◌, ap, arith, ◌+◌, ℕ}
 use Rattle.share_split.specs.Units.{starts_on}
-use Rattle.share_split.proofs.ReservedLemmas.{reserved_more, reserved_stop, reserved_end}
+use Rattle.share_split.proofs.Reading.Reserved.{reserved_more, reserved_stop, reserved_end}
 use Rattle.share_split.proofs.parsing.bad_reserved.Goals as goal
 
 -- this share is the first bad one

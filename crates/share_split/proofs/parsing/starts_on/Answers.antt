@@ -1,5 +1,5 @@
 use Rattle.std.proofs.Common.{◌∙◌, arith}
-use Rattle.share_split.proofs.StartLemmas.{on_more, on_stop, on_end}
+use Rattle.share_split.proofs.Writing.Starts.{on_more, on_stop, on_end}
 use Rattle.share_split.proofs.parsing.starts_on.Goals.{then-loop-before-test+else-starts-before, else-loop-before-test}
 use Rattle.share_split.proofs.parsing.starts_on.Goals as goal
 

@@ -1,6 +1,6 @@
 use Rattle.std.proofs.Common.{arith}
-use Rattle.share_split.proofs.VarintReadLemmas.{varint_shorter}
-use Rattle.share_split.proofs.UnitLemmas.{unit_read}
+use Rattle.share_split.proofs.Varint.Read.{varint_shorter}
+use Rattle.share_split.proofs.Reading.Unit.{unit_read}
 use Rattle.share_split.proofs.parsing.unit_at.Goals as goal
 
 -- what is behind the unit is a part of the text

@@ -2,8 +2,8 @@ use Rattle.std.proofs.Common.{◌∙◌, ◌<◌, ◌≡◌, ℕ, List, [], leng
 use Rattle.share_split.specs.Walks.{unit_at}
 use Rattle.std.proofs.lemmas.List.{drop-drop}
 use Rattle.namespace_id.proofs.StringLemmas.{AreBytes-drop}
-use Rattle.share_split.proofs.TextLemmas.{text_stop, text_end, text_more, starts_more, starts_end}
-use Rattle.share_split.proofs.UnitLemmas.{unit_back}
+use Rattle.share_split.proofs.Reading.Text.{text_stop, text_end, text_more, starts_more, starts_end}
+use Rattle.share_split.proofs.Reading.Unit.{unit_back}
 use Rattle.share_split.proofs.parsing.units_of_text.Goals as goal
 
 -- no unit stands here

@@ -1,5 +1,5 @@
 use Rattle.std.proofs.Common.{◌∙◌, sym, arith}
-use Rattle.share_split.proofs.StartLemmas.{length-units_text-next, starts-pass, starts-stay}
+use Rattle.share_split.proofs.Writing.Starts.{length-units_text-next, starts-pass, starts-stay}
 use Rattle.share_split.proofs.texts.next_on.Goals as goal
 
 pub loop-next-preserved : goal.loop-next-preserved

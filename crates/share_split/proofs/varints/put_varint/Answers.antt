@@ -1,5 +1,5 @@
 use Rattle.std.proofs.Common.{◌∙◌, ℕ, ◌++◌, List, sym, ap, arith}
-use Rattle.share_split.proofs.VarintLemmas.{varint-low, length-varint-low, length-varint-high, varint-step, some-varint}
+use Rattle.share_split.proofs.Varint.Bytes.{varint-low, length-varint-low, length-varint-high, varint-step, some-varint}
 use Rattle.share_split.proofs.varints.put_varint.Goals as goal
 
 pub append-requires : goal.append-requires

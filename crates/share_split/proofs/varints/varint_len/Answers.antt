@@ -1,5 +1,5 @@
 use Rattle.std.proofs.Common.{arith}
-use Rattle.share_split.proofs.VarintLemmas.{length-varint, length-varint-low, length-varint-high}
+use Rattle.share_split.proofs.Varint.Bytes.{length-varint, length-varint-low, length-varint-high}
 use Rattle.share_split.proofs.varints.varint_len.Goals as goal
 
 pub overflow_add-len : goal.overflow_add-len

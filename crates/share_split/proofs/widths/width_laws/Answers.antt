@@ -1,4 +1,4 @@
-use Rattle.share_split.proofs.WidthLawLemmas.{width_is_lesser, least_power, least_root}
+use Rattle.share_split.proofs.Width.Laws.{width_is_lesser, least_power, least_root}
 use Rattle.share_split.proofs.widths.width_laws.Goals as goal
 
 pub returns-clause-formula : goal.returns-clause-formula

@@ -1,12 +1,13 @@
 use Rattle.std.proofs.Common.{◌≡◌, ◌-◌, true}
 use Rattle.namespace_id.specs.Cells.{is_width}
-use Rattle.square_layout.proofs.SizeLemmas.{IsOnTheWay}
+use Rattle.namespace_id.proofs.DoublingLemmas.{IsOnTheWay}
+use Rattle.square_layout.specs.Layout.{holds_shares, holding_from}
 use Rattle.square_layout.proofs.widths.least_width.Given as goal
 
 -- a width on the way to the one that is looked for
 abbrev pub invariant-loop-k : goal.invariant-loop-k
 invariant-loop-k l = record {
-  way : IsOnTheWay l.count l.k;
+  way : IsOnTheWay (holds_shares l.count) 128 (holding_from 7 1 l.count) l.k;
   width : is_width l.k ≡ true;
 }
 

@@ -1,0 +1,136 @@
+-- Shares that are blobs and padding are read as these blobs.
+use Rattle.std.proofs.Common.{◌≡◌, ◌∙◌, ℕ, suc, ◌+◌, ◌-◌, ◌<◌, ◌≤◌, inl, inr, Bool, true, false, cond, eqb, le-leb, List, [], ◌∷◌, ◌++◌, length, take, drop, Option, Some, None, Ok, Err, refl, sym, ap, ap₂, arith, length-take, length-drop, length-append, append_assoc, take-append-drop, take_all}
+use Rattle.std.specs.Int.{div_ceil}
+use Rattle.std.specs.List.{flat_map, AllByRecursion}
+use Rattle.std.specs.Option.{option_map_or}
+use Rattle.std.proofs.lemmas.Bool.{cases_lt}
+use Rattle.std.proofs.lemmas.Bool.Decides.{nat_tests}
+use Rattle.namespace_id.specs.Names.{IsNamespace}
+use Rattle.namespace_id.specs.declared.namespaces.Namespace.{Namespace}
+use Rattle.namespace_id.specs.declared.shares.Share.{Share}
+use Rattle.share_split.specs.declared.joining.JoinError.{JoinError}
+use Rattle.share_split.specs.Blobs.{NamedBytes, max_sequence_length, first_share, later_shares, share_count, blob_shares_of}
+use Rattle.share_split.specs.Walks.{Sequence, missing, is_complete, with_blob, blob_refusal, taken_by, blobs_from}
+use Rattle.share_split.specs.Joined.{Piece, piece_shares, piece_blobs, IsPiece, padding_share}
+use Rattle.share_split.specs.Joined.Piece.{padding, blob}
+use Rattle.share_split.proofs.Reading.Fields.{first_share_is_first}
+use Rattle.share_split.proofs.Reading.Sequence.{seq, first_passes, first_taken, later_passes, later_taken}
+use Rattle.share_split.proofs.Reading.Runs.{AreLater, none_later, later_are, later_count}
+use Rattle.share_split.proofs.Reading.BlobWalk.{Blobs, blobs_on, blobs_from-cons, blobs_from-nil}
+
+-- what is read once the share before share i was taken into this sequence
+abbrev pub taken_on : ℕ → Sequence → List Share → Blobs
+taken_on i s shares = cond (is_complete s) (with_blob s (blobs_from i None shares)) (blobs_from i (Some s) shares)
+
+-- a complete sequence is closed
+whole_on : (i : ℕ) (s : Sequence) (shares : List Share) → s.size ≤ length s.content → taken_on i s shares ≡ with_blob s (blobs_from i None shares)
+whole_on i s shares le = ap (λ (b : Bool). cond b (with_blob s (blobs_from i None shares)) (blobs_from i (Some s) shares)) (le-leb _ _ le)
+
+-- an open one goes on
+open_on : (i : ℕ) (s : Sequence) (shares : List Share) → length s.content < s.size → taken_on i s shares ≡ blobs_from i (Some s) shares
+open_on i s shares lt =
+    let no : is_complete s ≡ false = grind (arith, nat_tests) in
+    ap (λ (b : Bool). cond b (with_blob s (blobs_from i None shares)) (blobs_from i (Some s) shares)) no
+
+-- a share whose checks pass
+on : (i : ℕ) (so_far : Option Sequence) (share : Share) (shares : List Share) (t : Sequence) → blob_refusal i so_far share ≡ None → taken_by 0 i so_far share ≡ t
+    → blobs_from i so_far (share ∷ shares) ≡ taken_on (suc i) t shares
+on i so_far share shares t passes taken =
+    blobs_from-cons i so_far share shares
+    ∙ ap (λ (o : Option JoinError). option_map_or Err o (blobs_on i so_far share shares)) passes
+    ∙ ap (λ (s : Sequence). taken_on (suc i) s shares) taken
+
+-- the rest of a sequence
+pub run_read : (i : ℕ) (s : Sequence) (text : List ℕ) (shares more : List Share) → s.size ≡ length s.content + length text → 0 < length text
+    → AreLater 0 s.name text shares
+    → blobs_from i (Some s) (shares ++ more) ≡ with_blob (seq s.first s.name s.size (s.content ++ text)) (blobs_from (i + length shares) None more)
+run_read i s text [] more all some later = absurd (omega arith)
+run_read i s text (share ∷ shares) more all some later =
+    let left : length text ≡ missing s = omega arith in
+    let part : List ℕ = take 482 text in
+    let rest : List ℕ = drop 482 text in
+    let t : Sequence = seq s.first s.name s.size (s.content ++ part) in
+    let step : blobs_from i (Some s) (share ∷ (shares ++ more)) ≡ taken_on (suc i) t (shares ++ more) =
+    on i (Some s) share (shares ++ more) t (later_passes 0 i s text share left later.1) (later_taken 0 s text share left later.1) in
+    let behind : length rest ≡ length text - 482 = length-drop 482 text in
+    let front : length part + length rest ≡ length text = omega (arith, length-take 482 text, behind) in
+    let so_far : length (s.content ++ part) ≡ length s.content + length part = length-append s.content part in
+    let content : (s.content ++ part) ++ rest ≡ s.content ++ text = append_assoc s.content part rest ∙ ap (λ (l : List ℕ). s.content ++ l) (take-append-drop 482 text) in
+    let place : suc i + length shares ≡ i + length (share ∷ shares) = omega arith in
+    elim (cases_lt 482 (length text)) [
+      | inl more_left ↦
+          step ∙ open_on (suc i) t (shares ++ more) (omega arith)
+          ∙ run_read (suc i) t rest shares more (omega arith) (omega arith) later.2
+          ∙ ap₂ (λ (l : List ℕ) (k : ℕ). with_blob (seq s.first s.name s.size l) (blobs_from k None more)) content place
+      | inr last ↦
+          let none : shares ≡ [] = none_later 0 s.name rest shares later.2 (omega arith) in
+          let all_taken : s.content ++ part ≡ s.content ++ text = ap (λ (l : List ℕ). s.content ++ l) (take_all 482 text last) in
+          let one : suc i ≡ i + length (share ∷ shares) = omega (arith, ap length none) in
+          step ∙ whole_on (suc i) t (shares ++ more) (omega arith)
+          ∙ ap (λ (l : List Share). with_blob t (blobs_from (suc i) None (l ++ more))) none
+          ∙ ap₂ (λ (l : List ℕ) (k : ℕ). with_blob (seq s.first s.name s.size l) (blobs_from k None more)) all_taken one
+    ]
+
+-- a whole sequence, also that of no bytes
+pub sequence_read : (i : ℕ) (name : Namespace) (bytes : List ℕ) (more : List Share) → IsNamespace name → length bytes ≤ max_sequence_length
+    → blobs_from i None (blob_shares_of name bytes ++ more) ≡ with_blob (seq i name (length bytes) bytes) (blobs_from (i + length (blob_shares_of name bytes)) None more)
+sequence_read i name bytes more named few =
+    let size : ℕ = length bytes in
+    let part : List ℕ = take 478 bytes in
+    let rest : List ℕ = drop 478 bytes in
+    let share : Share = first_share name size part in
+    let count : ℕ = share_count size - 1 in
+    let shares : List Share = later_shares count name rest in
+    let t : Sequence = seq i name size part in
+    let first = first_share_is_first name size bytes named.size_is (omega arith) in
+    let behind : length rest ≡ size - 478 = length-drop 478 bytes in
+    let count_is : count ≡ div_ceil (length rest) 482 = later_count size ∙ ap (λ (n : ℕ). div_ceil n 482) (sym behind) in
+    let later : AreLater 0 name rest shares = later_are count name rest named.size_is count_is in
+    let step : blobs_from i None (share ∷ (shares ++ more)) ≡ taken_on (suc i) t (shares ++ more) =
+    on i None share (shares ++ more) t (first_passes 0 i name size bytes share refl first) (first_taken 0 i name size bytes share refl first) in
+    let front : length part + length rest ≡ size = omega (arith, length-take 478 bytes, behind) in
+    let place : suc i + length shares ≡ i + length (share ∷ shares) = omega arith in
+    elim (cases_lt 478 size) [
+      | inl more_left ↦
+          step ∙ open_on (suc i) t (shares ++ more) (omega arith)
+          ∙ run_read (suc i) t rest shares more (omega arith) (omega arith) later
+          ∙ ap₂ (λ (l : List ℕ) (k : ℕ). with_blob (seq i name size l) (blobs_from k None more)) (take-append-drop 478 bytes) place
+      | inr last ↦
+          let none : shares ≡ [] = none_later 0 name rest shares later (omega arith) in
+          let one : suc i ≡ i + length (share ∷ shares) = omega (arith, ap length none) in
+          step ∙ whole_on (suc i) t (shares ++ more) (omega (arith, ap length (take_all 478 bytes last)))
+          ∙ ap (λ (l : List Share). with_blob t (blobs_from (suc i) None (l ++ more))) none
+          ∙ ap₂ (λ (l : List ℕ) (k : ℕ). with_blob (seq i name size l) (blobs_from k None more)) (take_all 478 bytes last) one
+    ]
+
+-- padding is the sequence of no bytes
+pub padding_is : (name : Namespace) → blob_shares_of name [] ≡ padding_share name ∷ []
+unfolding later_shares
+padding_is name = refl
+
+-- a blob of some bytes, with the others behind it
+one_more : (s : Sequence) (empty : Bool) (r : Blobs) (more : List NamedBytes) → eqb s.size 0 ≡ empty → r ≡ Ok more
+    → with_blob s r ≡ Ok (cond empty more (record { namespace = s.name; bytes = s.content } ∷ more))
+one_more s empty r more is e =
+    ap (with_blob s) e ∙ ap (λ (b : Bool). Ok (cond b more (record { namespace = s.name; bytes = s.content } ∷ more))) is
+
+-- a blob has a length above 0
+some_size : (bytes : List ℕ) → (bytes ≡ [] → ⊥) → eqb (length bytes) 0 ≡ false
+some_size [] some = absurd (some refl)
+some_size (b ∷ bytes) some = grind (arith, nat_tests)
+
+-- all pieces, one after another
+pub pieces_read : (i : ℕ) (pieces : List Piece) → AllByRecursion IsPiece pieces → blobs_from i None (flat_map piece_shares pieces) ≡ Ok (flat_map piece_blobs pieces)
+pieces_read i [] are = blobs_from-nil i
+pieces_read i (padding name ∷ pieces) are =
+    let more : List Share = flat_map piece_shares pieces in
+    sym (ap (λ (l : List Share). blobs_from i None (l ++ more)) (padding_is name))
+    ∙ sequence_read i name [] more are.0 (omega arith)
+    ∙ one_more (seq i name 0 []) true (blobs_from (i + length (blob_shares_of name [])) None more) (flat_map piece_blobs pieces) refl
+    (pieces_read (i + length (blob_shares_of name [])) pieces are.1)
+pieces_read i (blob named ∷ pieces) are =
+    let more : List Share = flat_map piece_shares pieces in
+    let shares : List Share = blob_shares_of named.namespace named.bytes in
+    sequence_read i named.namespace named.bytes more are.0.name are.0.few
+    ∙ one_more (seq i named.namespace (length named.bytes) named.bytes) false (blobs_from (i + length shares) None more) (flat_map piece_blobs pieces)
+    (some_size named.bytes are.0.some) (pieces_read (i + length shares) pieces are.1)

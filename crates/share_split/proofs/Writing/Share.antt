@@ -1,0 +1,95 @@
+-- A share that is written part by part, with zeros behind.
+use Rattle.std.proofs.Common.{◌≡◌, ◌∙◌, ℕ, ◌+◌, ◌-◌, ◌≤◌, Bool, List, [], ◌∷◌, ◌++◌, length, take, drop, replicate, sym, ap, ap₂, refl, arith, length-append}
+use Rattle.std.proofs.lemmas.List.{drop-replicate, take-replicate, append_assoc}
+use Rattle.std.proofs.Math.Seq.{take-append-add}
+use Rattle.std.specs.Int.{w32, to_be_bytes}
+use Rattle.namespace_id.proofs.StringLemmas.{put_next}
+use Rattle.namespace_id.specs.declared.namespaces.Namespace.{Namespace}
+use Rattle.namespace_id.specs.declared.shares.Share.{Share}
+use Rattle.share_split.specs.Blobs.{later_content, info, filled, sequence_share}
+
+-- what is written so far, and zeros behind it up to the size of a share
+abbrev pub laid : List ℕ → List ℕ
+laid before = before ++ replicate (512 - length before) 0
+
+-- the share of these bytes
+abbrev pub share_of : List ℕ → Share
+share_of bytes = record { 0 = bytes }
+
+-- one part more
+pub laid_more : (before part old new : List ℕ) (at : ℕ) → old ≡ laid before → at ≡ length before
+    → new ≡ take at old ++ part ++ drop (at + length part) old → new ≡ laid (before ++ part)
+laid_more before part old new at o a n =
+    let left : 512 - length before - length part ≡ 512 - length (before ++ part) = omega (arith, length-append before part) in
+    n ∙ ap₂ (λ (i : ℕ) (s : List ℕ). take i s ++ part ++ drop (i + length part) s) a o
+    ∙ put_next before (replicate (512 - length before) 0) part
+    ∙ ap (λ (x : List ℕ). before ++ part ++ x) (drop-replicate (length part) (512 - length before) 0)
+    ∙ ap (λ (k : ℕ). before ++ part ++ replicate k 0) left
+
+-- content that fits is filled by the zeros that are left
+pub filled_is : (n : ℕ) (content : List ℕ) → length content ≤ n → filled n content ≡ content ++ replicate (n - length content) 0
+filled_is n content h =
+    let all : n ≡ length content + (n - length content) = omega (arith, h) in
+    ap (λ (k : ℕ). take k (content ++ replicate n 0)) all
+    ∙ take-append-add content (replicate n 0) (n - length content)
+    ∙ ap (λ (x : List ℕ). content ++ x) (take-replicate (n - length content) n 0 (omega arith))
+
+-- the content is the last part
+pub laid_filled : (head content : List ℕ) (n : ℕ) → length head + n ≡ 512 → length content ≤ n → laid (head ++ content) ≡ head ++ filled n content
+laid_filled head content n e h =
+    let left : 512 - length (head ++ content) ≡ n - length content = omega (arith, length-append head content, e) in
+    ap (λ (k : ℕ). head ++ content ++ replicate k 0) left
+    ∙ append_assoc head content (replicate (n - length content) 0)
+    ∙ sym (ap (λ (x : List ℕ). head ++ x) (filled_is n content h))
+
+-- a namespace and an info byte
+abbrev pub head : List ℕ → ℕ → List ℕ
+head name start = name ++ start ∷ []
+
+-- a namespace and an info byte are 30 bytes
+pub length-head : (name : List ℕ) (start : ℕ) → length name ≡ 29 → length (head name start) ≡ 30
+length-head name start n = length-append name (start ∷ []) ∙ ap (λ (k : ℕ). k + 1) n
+
+-- a head with zeros behind it
+pub head_laid : (name : List ℕ) (start : ℕ) → length name ≡ 29 → laid (head name start) ≡ head name start ++ replicate later_content 0
+head_laid name start n = ap (λ (k : ℕ). head name start ++ replicate (512 - k) 0) (length-head name start n)
+
+-- a namespace and an info byte that are written are a head, with zeros behind
+pub begun_written : (name s t : List ℕ) (start info_byte : ℕ) → length name ≡ 29 → start ≡ info_byte
+    → s ≡ take 0 (replicate 512 0) ++ name ++ drop (0 + length name) (replicate 512 0)
+    → t ≡ take 29 s ++ start ∷ [] ++ drop (29 + 1) s
+    → t ≡ head name info_byte ++ replicate later_content 0
+begun_written name s t start info_byte n i es et =
+    let one : s ≡ laid name = laid_more [] name (replicate 512 0) s 0 refl refl es in
+    let two : t ≡ laid (head name start) = laid_more name (start ∷ []) s t 29 one (sym n) et in
+    two ∙ head_laid name start n ∙ ap (λ (j : ℕ). head name j ++ replicate later_content 0) i
+
+-- a share of a sequence is its parts, one behind another, and zeros
+pub sequence_written : (name : Namespace) (start : Bool) (fields content t u v : List ℕ) → length name.0 ≡ 29
+    → length fields + length content ≤ later_content
+    → t ≡ head name.0 (info 0 start) ++ replicate later_content 0
+    → u ≡ take 30 t ++ fields ++ drop (30 + length fields) t
+    → v ≡ take (30 + length fields) u ++ content ++ drop (30 + length fields + length content) u
+    → share_of v ≡ sequence_share name start fields content
+unfolding sequence_share
+sequence_written name start fields content t u v n h et eu ev =
+    let first : List ℕ = head name.0 (info 0 start) in
+    let rest : List ℕ = filled (later_content - length fields) content in
+    let begins : length first ≡ 30 = length-head name.0 (info 0 start) n in
+    let two : t ≡ laid first = et ∙ sym (head_laid name.0 (info 0 start) n) in
+    let three : u ≡ laid (first ++ fields) = laid_more first fields t u 30 two (sym begins) eu in
+    let place : length (first ++ fields) ≡ 30 + length fields = length-append first fields ∙ ap (λ (k : ℕ). k + length fields) begins in
+    let whole : v ≡ laid (first ++ fields ++ content) = laid_more (first ++ fields) content u v (30 + length fields) three (sym place) ev in
+    ap share_of
+    (whole
+    ∙ laid_filled (first ++ fields) content (later_content - length fields) (omega (arith, place, h)) (omega (arith, h))
+    ∙ append_assoc first fields rest
+    ∙ append_assoc name.0 (info 0 start ∷ []) (fields ++ rest))
+
+-- the two fields of a first compact share, four bytes each
+pub eight_written : (s r t u : List ℕ) (size reserved : ℕ) → s ≡ to_be_bytes w32 size → r ≡ to_be_bytes w32 reserved
+    → t ≡ take 0 (replicate 8 0) ++ s ++ drop (0 + length s) (replicate 8 0) → u ≡ take 4 t ++ r ++ drop (4 + length r) t
+    → u ≡ to_be_bytes w32 size ++ to_be_bytes w32 reserved
+eight_written s r t u size reserved es er et eu =
+    eu ∙ ap₂ (λ (x y : List ℕ). take 4 x ++ y ++ drop (4 + length y) x)
+    (et ∙ ap (λ (x : List ℕ). take 0 (replicate 8 0) ++ x ++ drop (0 + length x) (replicate 8 0)) es) er
