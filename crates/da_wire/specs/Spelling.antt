@@ -65,8 +65,6 @@ kind_byte kinds.Block = block_kind
 abbrev pub frame : ℕ → List ℕ → List ℕ
 frame kind payload = kind ∷ to_be_bytes w32 (length payload) ++ payload
 
--- ---- payloads
-
 -- ---- spellings
 
 -- a frame with this payload, none where the payload is above its limit
