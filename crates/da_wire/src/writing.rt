@@ -6,7 +6,6 @@ ghost use Rattle.da_wire.specs.Spelling.{kind_byte, spelling};
 ghost use Rattle.da_wire.specs.Writing.{kind_of, payload_of, HasSize, AppendsSpelling, IsReadBack, IsShort, appended};
 
 use crate::bounds::frame_law;
-use crate::codec::appending::put;
 use crate::codec::sizes::HEAD_SIZE;
 use crate::kinds::Kind;
 use crate::kinds::block::{block_size, put_block};
@@ -16,6 +15,7 @@ use crate::kinds::missing::{missing_size, put_missing};
 use crate::kinds::requests::{SAMPLE_SIZE, put_sample, request_size};
 use crate::kinds::square::{put_square, square_size};
 use crate::{Frame, SpellError};
+use namespace_id::append;
 
 /// The kind of a value.
 fn kind_of(frame: &Frame) -> Kind
@@ -59,7 +59,7 @@ fn put_payload(out: &mut Vec<u8>, frame: &Frame)
         Frame::Message(message) => put_message(out, message),
         Frame::Missing(cells) => put_missing(out, cells),
         Frame::Sample(cell, axis) => put_sample(out, *cell, *axis),
-        Frame::Request(name) => put(out, &name.0),
+        Frame::Request(name) => append(out, &name.0),
         Frame::Block(block) => put_block(out, block),
     }
 }
@@ -81,8 +81,8 @@ pub fn write_frame(frame: &Frame, out: &mut Vec<u8>) -> Result<(), SpellError>
     if out.reserve(HEAD_SIZE + size as usize).is_err() {
         return Err(SpellError::NoMemory);
     }
-    put(out, &[kind_of(frame).byte()]);
-    put(out, &size.to_be_bytes());
+    append(out, &[kind_of(frame).byte()]);
+    append(out, &size.to_be_bytes());
     put_payload(out, frame);
     frame_law(frame);
     Ok(())

@@ -6,17 +6,7 @@ ghost use Rattle.namespace_id.specs.Answers.{HasRoom};
 ghost use Rattle.da_wire.specs.codec.Texts.{digest_bytes, axis_byte, cell_bytes, text_bytes};
 ghost use Rattle.da_wire.specs.Writing.{IsShort};
 
-use namespace_id::{Axis, Cell, Digest};
-
-/// Appends bytes for which there is room.
-pub(crate) fn put(out: &mut Vec<u8>, bytes: &[u8])
-    requires room { HasRoom out.old (length bytes.now) }
-    ensures appended { out.new.items ≡ out.old.items ++ bytes.now }
-    ensures len { vec_len out.new ≡ vec_len out.old + length bytes.now }
-    ensures capacity { vec_capacity out.old ≤ vec_capacity out.new }
-{
-    out.extend_from_slice(bytes).unwrap();
-}
+use namespace_id::{Axis, Cell, Digest, append};
 
 /// Appends digests, one after another.
 pub(crate) fn put_digests(out: &mut Vec<u8>, digests: &[Digest])
@@ -26,7 +16,7 @@ pub(crate) fn put_digests(out: &mut Vec<u8>, digests: &[Digest])
     ensures capacity { vec_capacity out.old ≤ vec_capacity out.new }
 {
     for digest in digests {
-        put(out, &digest.0);
+        append(out, &digest.0);
     }
 }
 
@@ -37,8 +27,8 @@ pub(crate) fn put_cell(out: &mut Vec<u8>, cell: Cell)
     ensures len { vec_len out.new ≡ vec_len out.old + length (cell_bytes cell) }
     ensures capacity { vec_capacity out.old ≤ vec_capacity out.new }
 {
-    put(out, &cell.row.to_be_bytes());
-    put(out, &cell.col.to_be_bytes());
+    append(out, &cell.row.to_be_bytes());
+    append(out, &cell.col.to_be_bytes());
 }
 
 /// The byte that an axis is.
@@ -59,6 +49,6 @@ pub(crate) fn put_text(out: &mut Vec<u8>, text: &[u8])
     ensures len { vec_len out.new ≡ vec_len out.old + length (text_bytes w32 text.now) }
     ensures capacity { vec_capacity out.old ≤ vec_capacity out.new }
 {
-    put(out, &(text.len() as u32).to_be_bytes());
-    put(out, text);
+    append(out, &(text.len() as u32).to_be_bytes());
+    append(out, text);
 }

@@ -9,10 +9,10 @@ ghost use Rattle.da_wire.specs.Spelling.{max_payload};
 ghost use Rattle.da_wire.specs.Writing.{HasSize, IsShort, IsWithin};
 ghost use Rattle.da_wire.specs.declared.frames.Frame.TheVariants as FrameOf;
 
-use crate::codec::appending::{put, put_text};
+use crate::codec::appending::put_text;
 use crate::codec::fields::{count_at, name_at, text_at, u8_at, u16_at};
 use crate::codec::sizes::{COUNT_SIZE, WIDTH_SIZE, longer, with_bytes, with_text};
-use namespace_id::Namespace;
+use namespace_id::{Namespace, append};
 use share_split::{Blob, Unit};
 use square_layout::Block;
 use std::alloc::{AllocError, Global};
@@ -248,7 +248,7 @@ fn put_units(out: &mut Vec<u8>, units: &[Unit])
     ensures len { vec_len out.new ≡ vec_len out.old + length (counted_bytes unit_bytes units.now) }
     ensures capacity { vec_capacity out.old ≤ vec_capacity out.new }
 {
-    put(out, &(units.len() as u32).to_be_bytes());
+    append(out, &(units.len() as u32).to_be_bytes());
     for unit in units {
         put_text(out, &unit.bytes);
     }
@@ -262,8 +262,8 @@ fn put_blob(out: &mut Vec<u8>, blob: &Blob)
     ensures len { vec_len out.new ≡ vec_len out.old + length (blob_bytes blob.now) }
     ensures capacity { vec_capacity out.old ≤ vec_capacity out.new }
 {
-    put(out, &blob.namespace.0);
-    put(out, &[SHARE_VERSION]);
+    append(out, &blob.namespace.0);
+    append(out, &[SHARE_VERSION]);
     put_text(out, &blob.bytes);
 }
 
@@ -273,7 +273,7 @@ fn put_blobs(out: &mut Vec<u8>, blobs: &[Blob])
     requires room { HasRoom out.old (length (counted_bytes blob_bytes blobs.now)) }
     ensures appended { out.new.items ≡ out.old.items ++ counted_bytes blob_bytes blobs.now }
 {
-    put(out, &(blobs.len() as u32).to_be_bytes());
+    append(out, &(blobs.len() as u32).to_be_bytes());
     for blob in blobs {
         put_blob(out, blob);
     }
@@ -292,7 +292,7 @@ pub(crate) fn put_block(out: &mut Vec<u8>, block: &Block)
     requires room { HasRoom out.old (length (block_payload block.now)) }
     ensures appended { out.new.items ≡ out.old.items ++ block_payload block.now }
 {
-    put(out, &width_number(block.width).to_be_bytes());
+    append(out, &width_number(block.width).to_be_bytes());
     put_units(out, &block.units);
     put_units(out, &block.pay_units);
     put_blobs(out, &block.blobs);

@@ -9,11 +9,11 @@ ghost use Rattle.da_wire.specs.Reading.{GivesUnlessFull};
 ghost use Rattle.da_wire.specs.Writing.{HasSize};
 ghost use Rattle.da_wire.specs.declared.frames.Frame.TheVariants as FrameOf;
 
-use crate::codec::appending::{put, put_digests};
+use crate::codec::appending::put_digests;
 use crate::codec::fields::{digest_of, u16_at};
 use crate::codec::sizes::{DIGEST_SIZE, WIDTH_SIZE};
 use data_header::Header;
-use namespace_id::{Digest, digests_law, is_width};
+use namespace_id::{Digest, append, digests_law, is_width};
 use std::alloc::{AllocError, Global};
 
 /// The bytes of 2k roots, for each k.
@@ -80,7 +80,7 @@ pub(crate) fn put_header(out: &mut Vec<u8>, header: &Header)
     requires room { HasRoom out.old (length (header_payload header.now)) }
     ensures appended { out.new.items ≡ out.old.items ++ header_payload header.now }
 {
-    put(out, &header.k.to_be_bytes());
+    append(out, &header.k.to_be_bytes());
     put_digests(out, &header.rows);
     put_digests(out, &header.cols);
 }

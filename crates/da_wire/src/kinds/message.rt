@@ -6,11 +6,11 @@ ghost use Rattle.da_wire.specs.kinds.Message.{message_front, message_at, message
 ghost use Rattle.da_wire.specs.Writing.{HasSize};
 ghost use Rattle.da_wire.specs.declared.frames.Frame.TheVariants as FrameOf;
 
-use crate::codec::appending::{axis_byte, put, put_cell, put_digests};
+use crate::codec::appending::{axis_byte, put_cell, put_digests};
 use crate::codec::fields::{axis_at, cell_at, path_at, share_at};
 use crate::codec::sizes::{CELL_SIZE, DIGEST_SIZE, SHARE_SIZE};
 use axis_roots::Message;
-use namespace_id::{digests_law, share_law};
+use namespace_id::{append, digests_law, share_law};
 
 /// The bytes of a message whose path has no nodes: its cell, its axis, its share, and the count 0.
 const BARE_SIZE: usize = CELL_SIZE + 1 + SHARE_SIZE + 1;
@@ -64,9 +64,9 @@ pub(crate) fn put_message(out: &mut Vec<u8>, message: &Message)
     ensures appended { out.new.items ≡ out.old.items ++ message_payload message.now }
 {
     put_cell(out, message.cell);
-    put(out, &[axis_byte(message.axis)]);
-    put(out, &message.share.0);
+    append(out, &[axis_byte(message.axis)]);
+    append(out, &message.share.0);
     let nodes = message.path.nodes();
-    put(out, &[nodes.len() as u8]);
+    append(out, &[nodes.len() as u8]);
     put_digests(out, nodes);
 }

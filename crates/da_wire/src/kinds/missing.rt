@@ -13,10 +13,10 @@ ghost use Rattle.da_wire.specs.Writing.{HasSize, IsShort};
 ghost use Rattle.da_wire.specs.declared.frames.Frame.TheVariants as FrameOf;
 
 use crate::MAX_PAYLOAD;
-use crate::codec::appending::{put, put_cell};
+use crate::codec::appending::put_cell;
 use crate::codec::fields::{u16_at, u32_at};
 use crate::codec::sizes::{CELL_SIZE, COUNT_SIZE, WIDTH_SIZE};
-use namespace_id::{Cell, Cells, is_before, is_in_square, is_width};
+use namespace_id::{Cell, Cells, append, is_before, is_in_square, is_width};
 use std::alloc::{AllocError, Global};
 
 /// The bytes in front of the cells: a width and a count.
@@ -158,7 +158,7 @@ pub(crate) fn put_missing(out: &mut Vec<u8>, cells: &Cells)
     requires room { HasRoom out.old (length (missing_payload cells.now)) }
     ensures appended { out.new.items ≡ out.old.items ++ missing_payload cells.now }
 {
-    put(out, &cells.k.to_be_bytes());
-    put(out, &(cells.list.len() as u32).to_be_bytes());
+    append(out, &cells.k.to_be_bytes());
+    append(out, &(cells.list.len() as u32).to_be_bytes());
     put_cells(out, &cells.list);
 }

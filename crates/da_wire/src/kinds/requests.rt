@@ -6,10 +6,10 @@ ghost use Rattle.da_wire.specs.kinds.Requests.{sample_at, request_at, sample_pay
 ghost use Rattle.da_wire.specs.Writing.{HasSize};
 ghost use Rattle.da_wire.specs.declared.frames.Frame.TheVariants as FrameOf;
 
-use crate::codec::appending::{axis_byte, put, put_cell};
+use crate::codec::appending::{axis_byte, put_cell};
 use crate::codec::fields::{axis_at, cell_at, name_of};
 use crate::codec::sizes::{CELL_SIZE, NAMESPACE_SIZE};
-use namespace_id::{Axis, Cell, Namespace, namespace_law};
+use namespace_id::{Axis, Cell, Namespace, append, namespace_law};
 
 /// The bytes of a request for a sample: its cell and its axis.
 pub(crate) const SAMPLE_SIZE: u32 = CELL_SIZE as u32 + 1;
@@ -52,5 +52,5 @@ pub(crate) fn put_sample(out: &mut Vec<u8>, cell: Cell, axis: Axis)
     ensures appended { out.new.items ≡ out.old.items ++ sample_payload cell axis }
 {
     put_cell(out, cell);
-    put(out, &[axis_byte(axis)]);
+    append(out, &[axis_byte(axis)]);
 }

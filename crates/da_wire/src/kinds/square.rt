@@ -10,10 +10,9 @@ ghost use Rattle.da_wire.specs.codec.Texts.{share_bytes};
 ghost use Rattle.da_wire.specs.Writing.{HasSize};
 ghost use Rattle.da_wire.specs.declared.frames.Frame.TheVariants as FrameOf;
 
-use crate::codec::appending::put;
 use crate::codec::fields::{share_of, u16_at};
 use crate::codec::sizes::{SHARE_SIZE, WIDTH_SIZE};
-use namespace_id::{Share, is_width, shares_law};
+use namespace_id::{Share, append, is_width, shares_law};
 use square_layout::Square;
 use std::alloc::{AllocError, Global};
 
@@ -74,7 +73,7 @@ fn put_shares(out: &mut Vec<u8>, shares: &[Share])
     ensures appended { out.new.items ≡ out.old.items ++ share_bytes shares.now }
 {
     for share in shares {
-        put(out, &share.0);
+        append(out, &share.0);
     }
 }
 
@@ -83,6 +82,6 @@ pub(crate) fn put_square(out: &mut Vec<u8>, square: &Square)
     requires room { HasRoom out.old (length (square_payload square.now)) }
     ensures appended { out.new.items ≡ out.old.items ++ square_payload square.now }
 {
-    put(out, &square.k.to_be_bytes());
+    append(out, &square.k.to_be_bytes());
     put_shares(out, &square.shares);
 }
