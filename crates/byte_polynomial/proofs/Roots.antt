@@ -13,12 +13,14 @@ unfoldable pub quotient : ℕ → List ℕ → List ℕ
 quotient r [] = []
 quotient r (c ∷ cs) = sum cs (scaled r (quotient r cs))
 
+-- a quotient by x - r has a coefficient less
 length-quotient : (r c : ℕ) (cs : List ℕ) → length (quotient r (c ∷ cs)) ≤ length cs
 unfolding quotient
 length-quotient r c [] = omega (arith, length-sum [] (scaled r []), length-scaled r [])
 length-quotient r c (d ∷ cs) =
     omega (arith, length-sum (d ∷ cs) (scaled r (quotient r (d ∷ cs))), length-scaled r (quotient r (d ∷ cs)), length-quotient r d cs)
 
+-- a quotient has bytes as coefficients
 AreCoefficients-quotient : (r c : ℕ) (cs : List ℕ) → AreCoefficients cs → AreCoefficients (quotient r (c ∷ cs))
 unfolding quotient
 AreCoefficients-quotient r c cs h = AreCoefficients-sum cs (scaled r (quotient r cs)) h (AreCoefficients-scaled r (quotient r cs))
@@ -32,6 +34,7 @@ factor_step x r p s q e =
     ∙ ap₂ bit_xor (xor-product x r p ∙ xor_comm (product x p) (product r p)) second
     ∙ xor_cancel (product r p) (product x p) (product r s)
 
+-- a polynomial less its value at r is x - r times the quotient
 pub factor : (cs : List ℕ) (r x : ℕ) → bit_xor (value_at cs x) (value_at cs r) ≡ product (bit_xor x r) (value_at (quotient r cs) x)
 unfolding value_at quotient
 factor [] r x = sym (product-zero (bit_xor x r))
@@ -50,6 +53,7 @@ AreRoots cs (r ∷ rs) = (value_at cs r ≡ 0) × AreRoots cs rs
 at_root : (cs : List ℕ) (r x : ℕ) → value_at cs r ≡ 0 → value_at cs x ≡ product (bit_xor x r) (value_at (quotient r cs) x)
 at_root cs r x e = sym (xor_zero_r (value_at cs x)) ∙ ap (bit_xor (value_at cs x)) (sym e) ∙ factor cs r x
 
+-- the other roots of a polynomial are roots of its quotient
 quotient_roots : (c : ℕ) (cs : List ℕ) (r : ℕ) (rs : List ℕ) → AreCoefficients (c ∷ cs) → r < 256 → value_at (c ∷ cs) r ≡ 0 → Avoids r rs → ArePoints rs → AreRoots (c ∷ cs) rs
     → AreRoots (quotient r (c ∷ cs)) rs
 unfolding AreRoots Avoids ArePoints AreCoefficients
@@ -62,6 +66,7 @@ quotient_roots c cs r (s ∷ rs) bytes hr e away points roots =
       quotient_roots c cs r rs bytes hr e away.1 points.2 roots.1,
     )
 
+-- a polynomial with as many roots as coefficients is 0 everywhere
 pub zero_everywhere : (cs rs : List ℕ) → length cs ≤ length rs → AreCoefficients cs → ArePoints rs → AreRoots cs rs → (x : ℕ) → value_at cs x ≡ 0
 unfolding value_at AreRoots ArePoints AreCoefficients
 zero_everywhere [] rs few bytes points roots x = refl
@@ -73,6 +78,7 @@ zero_everywhere (c ∷ cs) (r ∷ rs) few bytes points roots x =
     (quotient_roots c cs r rs bytes points.0 roots.0 points.1 points.2 roots.1) x)
     ∙ product-zero (bit_xor x r)
 
+-- the sum of polynomials that take the same values has roots there
 sum_roots : (ps qs xs ys : List ℕ) → Takes ps xs ys → Takes qs xs ys → AreRoots (sum ps qs) xs
 unfolding Takes AreRoots
 sum_roots ps qs [] [] hp hq = tt

@@ -12,6 +12,7 @@ use Rattle.byte_polynomial.specs.Polynomial.{value_at, AreCoefficients}
 pub xor_cancel : (a b c : ℕ) → bit_xor (bit_xor a b) (bit_xor a c) ≡ bit_xor b c
 xor_cancel a b c = xor_swap_middle a b a c ∙ ap (λ (x : ℕ). bit_xor x (bit_xor b c)) (xor_self a)
 
+-- a byte that is added twice is gone
 pub xor_back : (a b : ℕ) → bit_xor a (bit_xor b a) ≡ b
 xor_back a b = ap (bit_xor a) (xor_comm b a) ∙ sym (xor_assoc a a b) ∙ ap (λ (x : ℕ). bit_xor x b) (xor_self a)
 
@@ -19,15 +20,18 @@ xor_back a b = ap (bit_xor a) (xor_comm b a) ∙ sym (xor_assoc a a b) ∙ ap (�
 pub xor_zero-same : (a b : ℕ) → bit_xor a b ≡ 0 → a ≡ b
 xor_zero-same a b e = sym (xor_back b a) ∙ ap (bit_xor b) e ∙ xor_zero_r b
 
+-- the sum of two polynomials, coefficient by coefficient
 unfoldable pub sum : List ℕ → List ℕ → List ℕ
 sum [] qs = qs
 sum (p ∷ ps) [] = p ∷ ps
 sum (p ∷ ps) (q ∷ qs) = bit_xor p q ∷ sum ps qs
 
+-- a multiple of a polynomial, coefficient by coefficient
 unfoldable pub scaled : ℕ → List ℕ → List ℕ
 scaled c [] = []
 scaled c (p ∷ ps) = product c p ∷ scaled c ps
 
+-- the value of a sum is the sum of the values
 pub value_at-sum : (ps qs : List ℕ) (x : ℕ) → value_at (sum ps qs) x ≡ bit_xor (value_at ps x) (value_at qs x)
 unfolding sum value_at
 value_at-sum [] qs x = refl
@@ -37,9 +41,11 @@ value_at-sum (p ∷ ps) (q ∷ qs) x =
     ∙ ap (bit_xor (bit_xor p q)) (product-xor x (value_at ps x) (value_at qs x))
     ∙ xor_swap_middle p q (product x (value_at ps x)) (product x (value_at qs x))
 
+-- two factors change places
 pub product_swap : (a b c : ℕ) → product a (product b c) ≡ product b (product a c)
 product_swap a b c = sym (product_assoc a b c) ∙ ap (λ (x : ℕ). product x c) (product_comm a b) ∙ product_assoc b a c
 
+-- the value of a multiple is the multiple of the value
 pub value_at-scaled : (c : ℕ) (ps : List ℕ) (x : ℕ) → value_at (scaled c ps) x ≡ product c (value_at ps x)
 unfolding scaled value_at
 value_at-scaled c [] x = sym (product-zero c)
@@ -48,28 +54,33 @@ value_at-scaled c (p ∷ ps) x =
     ∙ ap (bit_xor (product c p)) (product_swap x c (value_at ps x))
     ∙ sym (product-xor c p (product x (value_at ps x)))
 
+-- a multiple has as many coefficients
 pub length-scaled : (c : ℕ) (ps : List ℕ) → length (scaled c ps) ≡ length ps
 unfolding scaled
 length-scaled c [] = refl
 length-scaled c (p ∷ ps) = ap suc (length-scaled c ps)
 
+-- a sum has as many coefficients as the longer one
 pub length-sum : (ps qs : List ℕ) → length (sum ps qs) ≡ max (length ps) (length qs)
 unfolding sum
 length-sum [] qs = omega arith
 length-sum (p ∷ ps) [] = omega arith
 length-sum (p ∷ ps) (q ∷ qs) = omega (arith, length-sum ps qs)
 
+-- a sum has bytes as coefficients
 pub AreCoefficients-sum : (ps qs : List ℕ) → AreCoefficients ps → AreCoefficients qs → AreCoefficients (sum ps qs)
 unfolding sum AreCoefficients
 AreCoefficients-sum [] qs hp hq = hq
 AreCoefficients-sum (p ∷ ps) [] hp hq = hp
 AreCoefficients-sum (p ∷ ps) (q ∷ qs) hp hq = (xor_lt 8 p q hp.0 hq.0, AreCoefficients-sum ps qs hp.1 hq.1)
 
+-- a multiple has bytes as coefficients
 pub AreCoefficients-scaled : (c : ℕ) (ps : List ℕ) → AreCoefficients (scaled c ps)
 unfolding scaled AreCoefficients
 AreCoefficients-scaled c [] = tt
 AreCoefficients-scaled c (p ∷ ps) = (product-lt c p, AreCoefficients-scaled c ps)
 
+-- the value of a polynomial is a byte
 pub value_at-lt : (ps : List ℕ) (x : ℕ) → AreCoefficients ps → value_at ps x < 256
 unfolding value_at AreCoefficients
 value_at-lt [] x h = omega arith

@@ -13,18 +13,21 @@ unfoldable pub vanishing : List ℕ → List ℕ
 vanishing [] = 1 ∷ []
 vanishing (r ∷ rs) = sum (0 ∷ vanishing rs) (scaled r (vanishing rs))
 
+-- a vanishing polynomial has a coefficient more than points
 pub length-vanishing : (rs : List ℕ) → length (vanishing rs) ≡ suc (length rs)
 unfolding vanishing
 length-vanishing [] = refl
 length-vanishing (r ∷ rs) =
     omega (arith, length-sum (0 ∷ vanishing rs) (scaled r (vanishing rs)), length-scaled r (vanishing rs), length-vanishing rs)
 
+-- a vanishing polynomial has bytes as coefficients
 pub AreCoefficients-vanishing : (rs : List ℕ) → AreCoefficients (vanishing rs)
 unfolding vanishing AreCoefficients
 AreCoefficients-vanishing [] = (omega arith, tt)
 AreCoefficients-vanishing (r ∷ rs) =
     AreCoefficients-sum (0 ∷ vanishing rs) (scaled r (vanishing rs)) (omega arith, AreCoefficients-vanishing rs) (AreCoefficients-scaled r (vanishing rs))
 
+-- one point more is one factor more
 pub value_at-vanishing : (r : ℕ) (rs : List ℕ) (x : ℕ) → value_at (vanishing (r ∷ rs)) x ≡ product (bit_xor x r) (value_at (vanishing rs) x)
 unfolding vanishing value_at
 value_at-vanishing r rs x =
@@ -32,6 +35,7 @@ value_at-vanishing r rs x =
     ∙ ap (bit_xor (product x (value_at (vanishing rs) x))) (value_at-scaled r (vanishing rs) x)
     ∙ sym (xor-product x r (value_at (vanishing rs) x))
 
+-- of no points it is 1
 pub value_at-vanishing_none : (x : ℕ) → value_at (vanishing []) x ≡ 1
 unfolding vanishing value_at
 value_at-vanishing_none x = ap (bit_xor 1) (product-zero x)
@@ -52,12 +56,14 @@ unfoldable pub VanishesAt : List ℕ → List ℕ → Type 0
 VanishesAt ps [] = Unit {0}
 VanishesAt ps (x ∷ xs) = (value_at ps x ≡ 0) × VanishesAt ps xs
 
+-- with one point more it still vanishes at the others
 vanishing_more : (r : ℕ) (rs xs : List ℕ) → VanishesAt (vanishing rs) xs → VanishesAt (vanishing (r ∷ rs)) xs
 unfolding VanishesAt
 vanishing_more r rs [] h = tt
 vanishing_more r rs (x ∷ xs) h =
     (value_at-vanishing r rs x ∙ ap (product (bit_xor x r)) h.0 ∙ product-zero (bit_xor x r), vanishing_more r rs xs h.1)
 
+-- a vanishing polynomial vanishes at its points
 pub vanishes : (rs : List ℕ) → VanishesAt (vanishing rs) rs
 unfolding VanishesAt
 vanishes [] = tt
@@ -66,6 +72,7 @@ vanishes (r ∷ rs) = (
   vanishing_more r rs rs (vanishes rs),
 )
 
+-- adding a multiple of a polynomial that vanishes keeps the values
 pub takes_still : (cs ns : List ℕ) (c : ℕ) (xs ys : List ℕ) → VanishesAt ns xs → Takes cs xs ys → Takes (sum cs (scaled c ns)) xs ys
 unfolding VanishesAt Takes
 takes_still cs ns c [] [] none takes = tt
@@ -86,6 +93,7 @@ mended y v d u hy hv e =
     ∙ product_comm (bit_xor y v) 1 ∙ one-product (bit_xor y v) (xor_lt 8 y v hy hv))
     ∙ xor_back v y
 
+-- through n bytes at n points goes a polynomial of n coefficients
 pub through : (xs ys : List ℕ) → length xs ≡ length ys → ArePoints xs → AreCoefficients ys → (cs : List ℕ) × (length cs ≡ length xs) × AreCoefficients cs × Takes cs xs ys
 unfolding ArePoints AreCoefficients Takes
 through [] [] same points bytes = ([], refl, tt, tt)

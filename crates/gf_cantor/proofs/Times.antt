@@ -16,14 +16,17 @@ pub element_zero : element 0 ≡ 0
 unfolding element combine basis
 element_zero = refl
 
+-- the label of 0 is 0
 pub label_zero : label 0 ≡ 0
 unfolding label combine power_labels
 label_zero = refl
 
+-- the label of 1 is 1
 pub label_one : label 1 ≡ 1
 unfolding label combine power_labels
 label_one = refl
 
+-- the element of the label 1 is 1
 pub element_one : element 1 ≡ 1
 unfolding element combine basis
 element_one = refl
