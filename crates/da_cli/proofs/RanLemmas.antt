@@ -1,5 +1,5 @@
 -- How a run ended, from how its files were read and how its command ended.
-use Rattle.std.proofs.Common.{◌≡◌, ◌∙◌, ℕ, zero, suc, ◌<◌, ◌≤◌, List, length, None, Some, Result, Ok, Err, IfOk, IfErr, refl, sym, ap, subst, arith, inl, inr, ◌⊎◌}
+use Rattle.std.proofs.Common.{◌≡◌, ◌∙◌, ℕ, zero, suc, ◌+◌, ◌-◌, ◌<◌, ◌≤◌, List, String, Global, length, take, drop, None, Some, Result, Ok, Err, IfOk, IfErr, refl, sym, ap, subst, arith, inl, inr, ◌⊎◌}
 use Rattle.std.specs.declared.option.Option.{Option}
 use Rattle.da_io.specs.Faults.{count_on}
 use Rattle.da_io.specs.Files.{Files}
@@ -12,7 +12,7 @@ use Rattle.da_cli.specs.declared.status.Status.{Status}
 use Rattle.da_cli.specs.declared.status.Status.TheVariants.{Usage, PickFault, ReadFault, TooLong}
 use Rattle.da_cli.specs.declared.words.Call.{Call}
 use Rattle.da_cli.specs.Limits.{file_limit}
-use Rattle.da_cli.specs.Words.{call_of, names_of}
+use Rattle.da_cli.specs.Words.{words_of, call_of, names_of}
 use Rattle.da_cli.specs.Statuses.{kind_of, Reading, unread, failed, exceeded, begun, finished, row_of, counted_reading, input_count, output_count}
 use Rattle.da_cli.specs.Gathered.{Gathers, IsWord, IsLastOf, PicksIn, StopsIn, WithinLimit, count_after}
 use Rattle.da_cli.specs.Outcome.{Untouched, FaultCause, GivenReading, ExcessCause, IfFinished, LastBy, PicksReading, PickCount, IsOwn, IsOwnBy, Ends}
@@ -20,7 +20,7 @@ use Rattle.da_cli.specs.Meaning.{Meaning}
 use Rattle.da_cli.specs.Run.{status_of}
 use Rattle.da_cli.specs.Ran.{Ran}
 use Rattle.da_cli.proofs.GatheredLemmas.{all_gathered}
-use Rattle.da_cli.proofs.RunLemmas.{command_told, stopped_told}
+use Rattle.da_cli.proofs.RunLemmas.{command_told, stopped_told, names_same, files_count}
 
 -- how reading the files of the first names ended
 pub record HasGathered {I : Type 0} (i : inputs.Ghosts I) (names : List (List ℕ)) (count : ℕ) (before now : I) (result : Result (List (List ℕ)) Stop) : Type 0 where
@@ -168,7 +168,7 @@ stop_last Last stop.NoMemory = tt
 
 module _ {I O : Type 0} (i : inputs.Ghosts I) (o : sink.Ghosts O) where
   -- a command ended so, over its files, which were read
-  pub ran_command : (words : List (List ℕ)) (call : Call) (contents : List (List ℕ)) (before now : I) (old new : O) (status : Status)
+  ran_command : (words : List (List ℕ)) (call : Call) (contents : List (List ℕ)) (before now : I) (old new : O) (status : Status)
       → call_of words ≡ Some call → call.files ≡ length (names_of words) → HasGathered i (names_of words) call.files before now (Ok contents)
       → Ends (Meaning call.command contents) (o.taken old) (o.taken new) (o.faults old) (o.faults new) (new ≡ old) status
       → Ran i o words before now old new status
@@ -191,7 +191,7 @@ module _ {I O : Type 0} (i : inputs.Ghosts I) (o : sink.Ghosts O) where
   }
 
   -- a command's files were not read whole
-  pub ran_stopped : (words : List (List ℕ)) (call : Call) (before now : I) (out : O) (stop : Stop)
+  ran_stopped : (words : List (List ℕ)) (call : Call) (before now : I) (out : O) (stop : Stop)
       → call_of words ≡ Some call → call.files ≡ length (names_of words) → HasGathered i (names_of words) call.files before now (Err stop)
       → Ran i o words before now out out (status_of stop)
   ran_stopped words call before now out stop e count came = record {
@@ -210,3 +210,22 @@ module _ {I O : Type 0} (i : inputs.Ghosts I) (o : sink.Ghosts O) where
     files = came.files;
     told = (λ s. s, λ s. s);
   }
+
+  -- a command ended so, over the files that were read by the words behind its own
+  pub ran_over : (words : List (String Global)) (call : Call) (contents : List (List ℕ)) (before now : I) (old new : O) (status : Status)
+      → Some call ≡ call_of (words_of words) → call.files < length words
+      → HasGathered i (words_of (take (1 + call.files - 1) (drop 1 words))) call.files before now (Ok contents)
+      → Ends (Meaning call.command contents) (o.taken old) (o.taken new) (o.faults old) (o.faults new) (new ≡ old) status
+      → Ran i o (words_of words) before now old new status
+  ran_over words call contents before now old new status e few came ends =
+      ran_command (words_of words) call contents before now old new status (sym e) (files_count words call e few)
+      (subst (λ (names : List (List ℕ)). HasGathered i names call.files before now (Ok contents)) (names_same words call e) came) ends
+
+  -- the files of the words behind a command's own were not read whole
+  pub ran_up_to : (words : List (String Global)) (call : Call) (before now : I) (out : O) (stop : Stop)
+      → Some call ≡ call_of (words_of words) → call.files < length words
+      → HasGathered i (words_of (take (1 + call.files - 1) (drop 1 words))) call.files before now (Err stop)
+      → Ran i o (words_of words) before now out out (status_of stop)
+  ran_up_to words call before now out stop e few came =
+      ran_stopped (words_of words) call before now out stop (sym e) (files_count words call e few)
+      (subst (λ (names : List (List ℕ)). HasGathered i names call.files before now (Err stop)) (names_same words call e) came)

@@ -1,34 +1,17 @@
-//! Files at the limit of their length, and folders in their place.
+//! Files at the limit of their length, folders in their place, and files of another kind.
 
-use super::{text, texts};
-use crate::{FILE_LIMIT, Status, run};
-use da_io::{FileInputs, Inputs, MemInputs, MemSink};
+use super::frames::{EMPTY, block_frame, empty_square};
+use super::{NEVER, Ran, large_sink, run_into, run_well, string};
+use crate::FILE_LIMIT;
+use crate::Status::{BadInput, PickFault, ReadFault, TooLong};
+use da_io::{FileInputs, Inputs, MemInputs};
 use std::alloc::Global;
 use std::test::Fail;
 
-/// How a run over one file ended that writes nothing, with its note.
-#[derive(Drop)]
-struct Nothing {
-    status: Status,
-    is_empty: bool,
-    notes: MemSink,
-}
-
-/// Runs `header f` over inputs.
-fn headed<I: Inputs>(alloc: Global, name: &str, inputs: &mut I) -> Result<Nothing, Fail> {
-    let Ok(mut out) = MemSink::new(alloc, 100, 100, Vec::new(alloc)) else {
-        return Err(Fail::new("no memory"));
-    };
-    let Ok(mut notes) = MemSink::new(alloc, 100, 100, Vec::new(alloc)) else {
-        return Err(Fail::new("no memory"));
-    };
-    let words = texts(alloc, &["header", name])?;
-    let status = run(alloc, &words, inputs, &mut out, &mut notes);
-    Ok(Nothing {
-        status,
-        is_empty: out.bytes.is_empty(),
-        notes,
-    })
+/// Runs `header` over the file with this name.
+fn run_header<I: Inputs>(alloc: Global, name: &str, inputs: &mut I) -> Result<Ran, Fail> {
+    let out = large_sink(alloc, 100, NEVER)?;
+    run_into(alloc, &["header", name], inputs, out, NEVER)
 }
 
 /// A file of so many zeros, named "f".
@@ -36,7 +19,7 @@ fn zeros(alloc: Global, count: usize) -> Result<MemInputs, Fail> {
     let mut content = Vec::new(alloc);
     content.resize(count, 0)?;
     let contents = vec![in alloc; content]?;
-    let names = vec![in alloc; text(alloc, "f")?]?;
+    let names = vec![in alloc; string(alloc, "f")?]?;
     Ok(MemInputs::new(names, contents, 1 << 20, Vec::new(alloc)))
 }
 
@@ -46,19 +29,15 @@ fn zeros(alloc: Global, count: usize) -> Result<MemInputs, Fail> {
 fn longest_files(rt: HostRuntime) -> Result<(), Fail> {
     let alloc = rt.alloc();
     let mut inputs = zeros(alloc, FILE_LIMIT as usize)?;
-    let ended = headed(alloc, "f", &mut inputs)?;
-    assert_eq!(rt; ended.status, Status::BadInput(0, 0));
-    assert!(rt; ended.is_empty);
+    let ran = run_header(alloc, "f", &mut inputs)?;
+    assert_eq!(rt; ran.status, BadInput(0, 0));
+    assert!(rt; ran.out.bytes.is_empty());
     for content in &mut inputs.contents {
         content.push(0)?;
     }
-    let ended = headed(alloc, "f", &mut inputs)?;
-    assert_eq!(rt; ended.status, Status::TooLong(0));
-    assert!(rt; ended.is_empty);
-    assert_eq!(rt;
-        ended.notes.bytes.as_slice(),
-        b"too long: file 0\n".as_slice()
-    );
+    let ran = run_header(alloc, "f", &mut inputs)?;
+    assert_eq!(rt; ran.status, TooLong(0));
+    assert!(rt; ran.out.bytes.is_empty());
     Ok(())
 }
 
@@ -66,15 +45,31 @@ fn longest_files(rt: HostRuntime) -> Result<(), Fail> {
 #[test]
 fn real_names(rt: HostRuntime) -> Result<(), Fail> {
     let alloc = rt.alloc();
+    let cases = [(".", ReadFault(0)), ("da_cli_none", PickFault(0))];
+    for (name, want) in cases {
+        let ran = run_header(alloc, name, &mut FileInputs::new(&rt))?;
+        assert_eq!(rt; ran.status, want, "{name}");
+        assert!(rt; ran.out.bytes.is_empty(), "{name}");
+    }
+    Ok(())
+}
+
+/// A square in place of a block, a block with a byte more, a block in place of a square, no bytes.
+#[test]
+fn files_out_of_form(rt: HostRuntime) -> Result<(), Fail> {
+    let alloc = rt.alloc();
+    let mut longer = block_frame(alloc, EMPTY)?;
+    longer.push(0)?;
     let cases = [
-        (".", Status::ReadFault(0), "cannot read file 0\n"),
-        ("da_cli_none", Status::PickFault(0), "cannot open file 0\n"),
+        ("build", empty_square(alloc)?, 0),
+        ("build", longer, 19),
+        ("header", block_frame(alloc, EMPTY)?, 0),
+        ("header", Vec::new(alloc), 0),
     ];
-    for (name, want, note) in cases {
-        let ended = headed(alloc, name, &mut FileInputs::new(&rt))?;
-        assert_eq!(rt; ended.status, want, "{name}");
-        assert!(rt; ended.is_empty, "{name}");
-        assert_eq!(rt; ended.notes.bytes.as_slice(), note.as_bytes(), "{name}");
+    for (command, file, at) in cases {
+        let ran = run_well(alloc, command, file)?;
+        assert_eq!(rt; ran.status, BadInput(0, at), "{command} {at}");
+        assert!(rt; ran.out.bytes.is_empty(), "{command} {at}");
     }
     Ok(())
 }

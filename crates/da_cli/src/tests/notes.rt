@@ -1,0 +1,41 @@
+//! The line of each status (docs/FORMATS.md).
+
+use super::{NEVER, small_sink};
+use crate::Asked;
+use crate::Status::{
+    BadBlock, BadInput, BadRequest, Done, NoMemory, PickFault, ReadFault, Refused, TooLong, Usage,
+    WriteFault,
+};
+use crate::notes::note;
+use namespace_id::NsError;
+use square_layout::LayError;
+use std::test::Fail;
+
+#[test]
+fn printed_lines(rt: HostRuntime) -> Result<(), Fail> {
+    let alloc = rt.alloc();
+    let reserved = LayError::BadBlob(0, NsError::Reserved);
+    let cases = [
+        (Done, ""),
+        (Usage, "usage: da COMMAND WORDS\n"),
+        (PickFault(0), "cannot open file 0\n"),
+        (ReadFault(1), "cannot read file 1\n"),
+        (WriteFault, "cannot write\n"),
+        (NoMemory, "out of memory\n"),
+        (BadInput(1, 1226), "bad input: file 1 at 1226\n"),
+        (TooLong(0), "too long: file 0\n"),
+        (BadBlock(reserved), "bad block: 1 0 4\n"),
+        (BadBlock(LayError::EmptyBlob(0)), "bad block: 2 0\n"),
+        (BadBlock(LayError::TooLarge(16_385)), "bad block: 3 16385\n"),
+        (BadBlock(LayError::WidthTooSmall(4)), "bad block: 4 4\n"),
+        (BadBlock(LayError::BadWidth), "bad block: 5\n"),
+        (BadRequest(Asked::NoHeader), "bad request: no header\n"),
+        (Refused, "refused\n"),
+    ];
+    for (status, want) in cases {
+        let mut notes = small_sink(alloc, 100, NEVER)?;
+        note(status, &mut notes);
+        assert_eq!(rt; notes.bytes.as_slice(), want.as_bytes(), "{status:?}");
+    }
+    Ok(())
+}
