@@ -8,7 +8,7 @@ use Rattle.namespace_id.specs.declared.cells.Axis.TheVariants.{Row, Col}
 use Rattle.namespace_id.specs.declared.namespaces.Namespace.{Namespace}
 use Rattle.namespace_id.specs.declared.shares.Share.{Share}
 use Rattle.namespace_id.specs.declared.digests.Digest.{Digest}
-use Rattle.namespace_id.specs.Cells.{is_width, is_in_square, name_of}
+use Rattle.namespace_id.specs.Cells.{is_width, is_in_square, leaf_namespace}
 use Rattle.nmt_tree.specs.Digests.{leaf_digest}
 use Rattle.nmt_proofs.specs.Parts.{Part}
 use Rattle.data_header.specs.Headers.{Roots}
@@ -71,7 +71,7 @@ pub record Extends (k : ℕ) (square grid : List Share) : Type 0 where
 -- the digest of the leaf over a cell, one for the trees over its row and over its column
 abbrev pub leaf_over : ℕ → List Share → Cell → Digest
 leaf_over k shares cell =
-    leaf_digest (name_of k cell (share_at (2 * k) shares cell)) (share_at (2 * k) shares cell)
+    leaf_digest (leaf_namespace k cell (share_at (2 * k) shares cell)) (share_at (2 * k) shares cell)
 
 -- the digests of the leaves over all cells, row-major
 pub record AreLeafDigests (k : ℕ) (shares : List Share) (leaves : List Digest) : Type 0 where

@@ -7,7 +7,7 @@ use Rattle.namespace_id.specs.declared.cells.Axis.TheVariants.{Row, Col}
 use Rattle.namespace_id.specs.declared.namespaces.Namespace.{Namespace}
 use Rattle.namespace_id.specs.declared.shares.Share.{Share}
 use Rattle.namespace_id.specs.declared.digests.Digest.{Digest}
-use Rattle.namespace_id.specs.Cells.{name_of}
+use Rattle.namespace_id.specs.Cells.{leaf_namespace}
 use Rattle.namespace_id.specs.Lists.{ascending}
 use Rattle.nmt_tree.specs.Roots.{halvings, root, is_ordered, strict_root}
 use Rattle.nmt_proofs.specs.Parts.{Part}
@@ -26,7 +26,7 @@ cell_on Col index pos = record { row = pos; col = index }
 -- width k; where the line is shorter, of those over blank shares
 unfoldable pub line_names : ℕ → Axis → ℕ → List Share → List Namespace
 line_names k axis index line =
-    map (λ pos. name_of k (cell_on axis index pos) (get_or line pos blank)) (ascending 0 (2 * k))
+    map (λ pos. leaf_namespace k (cell_on axis index pos) (get_or line pos blank)) (ascending 0 (2 * k))
 
 -- whether the leaf namespaces of a line never fall
 abbrev pub is_ordered_line : ℕ → Axis → ℕ → List Share → Bool

@@ -7,7 +7,7 @@ use Rattle.namespace_id.specs.declared.cells.Axis.TheVariants.{Row, Col}
 use Rattle.namespace_id.specs.declared.digests.Digest.{Digest}
 use Rattle.namespace_id.specs.Shares.{IsShare}
 use Rattle.namespace_id.specs.Digests.{AreDigests}
-use Rattle.namespace_id.specs.Cells.{is_in_square, name_of}
+use Rattle.namespace_id.specs.Cells.{is_in_square, leaf_namespace}
 use Rattle.nmt_tree.specs.Roots.{halvings}
 use Rattle.nmt_proofs.specs.Openings.{Shown, one_leaf, has_count, has_order, has_root}
 use Rattle.data_header.specs.Headers.{Roots, root_of}
@@ -36,7 +36,7 @@ index Col cell = cell.col
 -- what a message shows of an axis of a square of width k: its share at its place, under the leaf
 -- namespace of its cell
 abbrev pub shown_by : ℕ → Message → List Shown
-shown_by k m = one_leaf (position m.axis m.cell) (name_of k m.cell m.share) m.share
+shown_by k m = one_leaf (position m.axis m.cell) (leaf_namespace k m.cell m.share) m.share
 
 -- the header's root of the message's axis through its cell
 abbrev pub root_for : Roots → Message → Digest
@@ -61,8 +61,8 @@ abbrev pub is_under_root : Roots → Message → Bool
 is_under_root header m = has_root (halvings (2 * header.k)) (shown_by header.k m) m.path (root_for header m)
 
 -- the refusal of a message: for the first of the four checks that fails, none where all hold
-abbrev pub refusal_of : Roots → Message → Option CheckRefusal
-refusal_of header m =
+abbrev pub message_refusal : Roots → Message → Option CheckRefusal
+message_refusal header m =
     if is_inside header m
     then (if has_node_count header m
     then (if has_ordered_joins header m

@@ -5,7 +5,7 @@ use Rattle.std.specs.Int.Bits.{xor_self, xor_zero_r}
 use Rattle.std.proofs.lemmas.Nat.{xor_comm, xor_lt}
 use Rattle.gf_cantor.specs.Field.{product}
 use Rattle.gf_cantor.proofs.Laws.{product-xor, xor-product, product-zero, zero_factor}
-use Rattle.byte_polynomial.specs.Polynomial.{value_at, AreCoefficients, Avoids, ArePoints, Takes}
+use Rattle.byte_polynomial.specs.Polynomial.{value_at, AreCoefficients, Avoids, ArePoints, PassesThrough}
 use Rattle.byte_polynomial.proofs.Sums.{sum, scaled, value_at-sum, value_at-scaled, length-sum, length-scaled, AreCoefficients-sum, AreCoefficients-scaled, value_at-lt, xor_cancel, xor_zero-same, product_swap}
 
 -- the quotient by x - r
@@ -79,8 +79,8 @@ zero_everywhere (c ∷ cs) (r ∷ rs) few bytes points roots x =
     ∙ product-zero (bit_xor x r)
 
 -- the sum of polynomials that take the same values has roots there
-sum_roots : (ps qs xs ys : List ℕ) → Takes ps xs ys → Takes qs xs ys → AreRoots (sum ps qs) xs
-unfolding Takes AreRoots
+sum_roots : (ps qs xs ys : List ℕ) → PassesThrough ps xs ys → PassesThrough qs xs ys → AreRoots (sum ps qs) xs
+unfolding PassesThrough AreRoots
 sum_roots ps qs [] [] hp hq = tt
 sum_roots ps qs [] (y ∷ ys) hp hq = tt
 sum_roots ps qs (x ∷ xs) [] hp hq = elim hp [ ]
@@ -89,7 +89,7 @@ sum_roots ps qs (x ∷ xs) (y ∷ ys) hp hq =
 
 -- two polynomials of at most n coefficients that take the same values at n points are alike everywhere
 pub one_polynomial : (ps qs xs ys : List ℕ) → length ps ≤ length xs → length qs ≤ length xs → AreCoefficients ps → AreCoefficients qs → ArePoints xs
-    → Takes ps xs ys → Takes qs xs ys → (x : ℕ) → value_at ps x ≡ value_at qs x
+    → PassesThrough ps xs ys → PassesThrough qs xs ys → (x : ℕ) → value_at ps x ≡ value_at qs x
 one_polynomial ps qs xs ys hp hq bp bq points tp tq x =
     xor_zero-same (value_at ps x) (value_at qs x)
     (sym (value_at-sum ps qs x)

@@ -5,7 +5,7 @@ use Rattle.std.specs.Int.Bits.{xor_self, xor_zero_r}
 use Rattle.std.proofs.lemmas.Nat.{xor_lt}
 use Rattle.gf_cantor.specs.Field.{product}
 use Rattle.gf_cantor.proofs.Laws.{product_comm, product_assoc, xor-product, product-zero, zero-product, one-product, has_inverse, zero_factor}
-use Rattle.byte_polynomial.specs.Polynomial.{value_at, AreCoefficients, Avoids, ArePoints, Takes}
+use Rattle.byte_polynomial.specs.Polynomial.{value_at, AreCoefficients, Avoids, ArePoints, PassesThrough}
 use Rattle.byte_polynomial.proofs.Sums.{sum, scaled, value_at-sum, value_at-scaled, length-sum, length-scaled, AreCoefficients-sum, AreCoefficients-scaled, value_at-lt, xor_back, xor_zero-same}
 
 -- the product of x - r over the points
@@ -73,8 +73,8 @@ vanishes (r ∷ rs) = (
 )
 
 -- adding a multiple of a polynomial that vanishes keeps the values
-pub takes_still : (cs ns : List ℕ) (c : ℕ) (xs ys : List ℕ) → VanishesAt ns xs → Takes cs xs ys → Takes (sum cs (scaled c ns)) xs ys
-unfolding VanishesAt Takes
+pub takes_still : (cs ns : List ℕ) (c : ℕ) (xs ys : List ℕ) → VanishesAt ns xs → PassesThrough cs xs ys → PassesThrough (sum cs (scaled c ns)) xs ys
+unfolding VanishesAt PassesThrough
 takes_still cs ns c [] [] none takes = tt
 takes_still cs ns c [] (y ∷ ys) none takes = takes
 takes_still cs ns c (x ∷ xs) [] none takes = takes
@@ -94,8 +94,8 @@ mended y v d u hy hv e =
     ∙ xor_back v y
 
 -- through n bytes at n points goes a polynomial of n coefficients
-pub through : (xs ys : List ℕ) → length xs ≡ length ys → ArePoints xs → AreCoefficients ys → (cs : List ℕ) × (length cs ≡ length xs) × AreCoefficients cs × Takes cs xs ys
-unfolding ArePoints AreCoefficients Takes
+pub through : (xs ys : List ℕ) → length xs ≡ length ys → ArePoints xs → AreCoefficients ys → (cs : List ℕ) × (length cs ≡ length xs) × AreCoefficients cs × PassesThrough cs xs ys
+unfolding ArePoints AreCoefficients PassesThrough
 through [] [] same points bytes = ([], refl, tt, tt)
 through [] (y ∷ ys) same points bytes = absurd (omega arith)
 through (x ∷ xs) [] same points bytes = absurd (omega arith)

@@ -5,7 +5,7 @@ use Rattle.std.specs.declared.option.Option.{Option}
 use Rattle.square_layout.specs.declared.laying.LayError.{LayError}
 use Rattle.square_layout.specs.Blocks.{BlockParts, SquareShares}
 use Rattle.square_layout.specs.Layout.{square_of}
-use Rattle.square_layout.specs.Refusals.{refusal_of}
+use Rattle.square_layout.specs.Refusals.{layout_refusal}
 use Rattle.da_wire.specs.declared.frames.Frame.{Frame}
 use Rattle.da_wire.specs.declared.frames.Frame.TheVariants.{Square}
 use Rattle.da_wire.specs.Spelling.{spelling}
@@ -28,7 +28,7 @@ by_refusal (Some why) frame w status h = status_answers status _ h.1 tt
 
 -- what build answers to a file that was read is an answer
 by_block : (read : Result BlockParts ℕ) (w : List ℕ) (status : Status) → MatchResult read (λ block. Builds block w status) (λ at. ⊥) → IsAnswer (kind_of status)
-by_block (Ok block) w status h = by_refusal (refusal_of block) (Square (square_of block)) w status h
+by_block (Ok block) w status h = by_refusal (layout_refusal block) (Square (square_of block)) w status h
 by_block (Err at) w status h = absurd h
 
 -- what build answers to its files is an answer
@@ -36,7 +36,7 @@ pub build_answers : (files : List (List ℕ)) (w : List ℕ) (status : Status) �
 build_answers files w status h = by_block (block_in (block_file files)) w status h
 
 -- the frame of the square of a block without a refusal
-pub builds_square : (block : BlockParts) (square : SquareShares) (frame : Frame) → refusal_of block ≡ None → square ≡ square_of block
+pub builds_square : (block : BlockParts) (square : SquareShares) (frame : Frame) → layout_refusal block ≡ None → square ≡ square_of block
     → frame ≡ Square square → (w : List ℕ) (status : Status) → Writes frame w status → Builds block w status
 builds_square block square frame fine laid is w status gives =
     let same : frame ≡ Square (square_of block) = is ∙ ap Square laid in

@@ -5,7 +5,7 @@ use Rattle.std.specs.Option.{option_map_or}
 use Rattle.namespace_id.specs.Bytes.{AreBytes}
 use Rattle.axis_roots.specs.declared.message.messages.Message as sent
 use Rattle.axis_roots.specs.declared.message.messages.CheckRefusal.{CheckRefusal}
-use Rattle.axis_roots.specs.Messages.{refusal_of, IsMessage}
+use Rattle.axis_roots.specs.Messages.{message_refusal, IsMessage}
 use Rattle.square_layout.specs.Blocks.{SquareShares}
 use Rattle.axis_roots.specs.Grids.{IsHeaderOf}
 use Rattle.axis_roots.specs.Own.{IsOwn}
@@ -89,7 +89,7 @@ check_last files w status l = by_header (header_in (header_file files)) (frames_
 
 -- what is found of a frame, by the message that it is
 abbrev finding_by : Roots → Option sent.Message → Finding
-finding_by h o = option_map_or (λ m. option_map_or Refused (refusal_of h m) Proved) o NoMessage
+finding_by h o = option_map_or (λ m. option_map_or Refused (message_refusal h m) Proved) o NoMessage
 
 -- a message that is found proved has no refusal
 none_refused : (o : Option CheckRefusal) → option_map_or Refused o Proved ≡ Proved → o ≡ None
@@ -97,9 +97,9 @@ none_refused None e = refl
 none_refused (Some why) e = absurd cc
 
 -- a frame that is found proved is a message without a refusal
-by_message : (h : Roots) (o : Option sent.Message) → finding_by h o ≡ Proved → (m : sent.Message) × (o ≡ Some m) × (refusal_of h m ≡ None)
+by_message : (h : Roots) (o : Option sent.Message) → finding_by h o ≡ Proved → (m : sent.Message) × (o ≡ Some m) × (message_refusal h m ≡ None)
 by_message h None e = absurd cc
-by_message h (Some m) e = (m, refl, none_refused (refusal_of h m) e)
+by_message h (Some m) e = (m, refl, none_refused (message_refusal h m) e)
 
 -- a value that is there where a test holds is there
 in_grammar : (b : Bool) (o : Option sent.Message) (m : sent.Message) → cond b o None ≡ Some m → o ≡ Some m
@@ -109,7 +109,7 @@ in_grammar false o m e = absurd cc
 -- a frame is found proved exactly where it is a message that is proved; by what is known of messages that
 -- were read, and of their refusals
 pub finding_proved : (header : Roots) (frame : Raw) → MessageIsSpelled
-    → ((h : Roots) (m : sent.Message) → AreRoots h → IsMessage m → (refusal_of h m ≡ None) ↔ IsProved h m)
+    → ((h : Roots) (m : sent.Message) → AreRoots h → IsMessage m → (message_refusal h m ≡ None) ↔ IsProved h m)
     → AreRoots header → AreBytes frame.payload → (finding_of header frame ≡ Proved) ↔ IsProvedFrame header frame
 finding_proved header frame spelled refusal roots bytes =
     let sized : (m : sent.Message) → message_in frame ≡ Some m → IsMessage m

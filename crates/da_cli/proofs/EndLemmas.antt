@@ -7,7 +7,7 @@ use Rattle.da_io.specs.Sinks.{IsProperPrefix, AppendsPart}
 use Rattle.da_cli.specs.declared.status.Status.{Status}
 use Rattle.da_cli.specs.declared.status.Status.TheVariants.{WriteFault, BadInput}
 use Rattle.da_cli.specs.Statuses.{Kind, request, output, kind_of, Taken, complete, part, front, undefined, row_of, output_count, May}
-use Rattle.da_cli.specs.Outcome.{Relation, Refuses, Outputs, Takes, LeavesBy, UntouchedBy, IsOwnBy, Ends}
+use Rattle.da_cli.specs.Outcome.{Relation, Refuses, Outputs, IsTaken, LeavesBy, UntouchedBy, IsOwnBy, Ends}
 use Rattle.da_cli.specs.Laws.{IsDecided}
 
 -- a command with a meaning that is another's
@@ -63,7 +63,7 @@ front_within M N taken h (inr o) = inr (o.0, o.1, h o.0 o.1 o.2, o.3)
 
 -- what is taken of outputs of a meaning is taken of those of a greater meaning
 pub takes_within : (taken : Taken) (M N : Relation) (old new : Option (List ℕ)) (status : Status) → ((w : List ℕ) (s : Status) → M w s → N w s)
-    → Takes taken M old new status → Takes taken N old new status
+    → IsTaken taken M old new status → IsTaken taken N old new status
 takes_within complete M N old new status h a = outputs_within M N old new status h a
 takes_within part M N old new status h a = (a.0, a.1, h a.0 a.1 a.2, a.3)
 takes_within front M N old new status h a = (a.0, a.1, front_within M N a.0 h a.2)

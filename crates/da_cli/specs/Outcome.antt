@@ -35,16 +35,16 @@ OutputsFront M old new = (part : List ℕ) × Appends old new part
     × ((part ≡ []) ⊎ ((w : List ℕ) × (status : Status) × M w status × IsProperPrefix part w))
 
 -- what was taken of an output that a relation defines with this status
-abbrev pub Takes : Taken → Relation → Option (List ℕ) → Option (List ℕ) → Status → Type 0
-Takes complete M old new status = Outputs M old new status
-Takes part M old new status = OutputsPart M old new
-Takes front M old new status = OutputsFront M old new
-Takes undefined M old new status = ⊤
+abbrev pub IsTaken : Taken → Relation → Option (List ℕ) → Option (List ℕ) → Status → Type 0
+IsTaken complete M old new status = Outputs M old new status
+IsTaken part M old new status = OutputsPart M old new
+IsTaken front M old new status = OutputsFront M old new
+IsTaken undefined M old new status = ⊤
 
 -- the output that a kind of status leaves: all of one that belongs to the status, a part of one where a
 -- write failed or memory ran out
 abbrev pub LeavesBy : Kind → Relation → Option (List ℕ) → Option (List ℕ) → Status → Type 0
-LeavesBy kind M old new status = Takes (row_of kind).taken M old new status
+LeavesBy kind M old new status = IsTaken (row_of kind).taken M old new status
 
 -- the output that a status leaves
 abbrev pub Leaves : Relation → Option (List ℕ) → Option (List ℕ) → Status → Type 0

@@ -5,7 +5,7 @@ ghost use Rattle.namespace_id.specs.Bytes.{AreBytes};
 ghost use Rattle.namespace_id.specs.Shares.{AreShares};
 ghost use Rattle.square_layout.specs.Blocks.{BlockParts, SquareShares, IsSquare, IsBlock};
 ghost use Rattle.square_layout.specs.Layout.{square_of};
-ghost use Rattle.square_layout.specs.Refusals.{refusal_of};
+ghost use Rattle.square_layout.specs.Refusals.{layout_refusal};
 ghost use Rattle.axis_roots.specs.Grids.{IsHeaderOf};
 ghost use Rattle.data_header.specs.Headers.{Roots, AreRoots, IsHeader};
 ghost use Rattle.da_wire.specs.declared.frames.Frame.TheVariants.{Header, Square, Block};
@@ -54,10 +54,10 @@ pub fn run_laws()
         (block_in bytes ≡ Ok block) ↔ (IsBlock block × (spelling (Block block) ≡ Some bytes)) }
 
     // The square of a block that isn't refused is read back from its spelling, and has a header.
-    ensures built { (block : BlockParts) → IsBlock block → refusal_of block ≡ None →
+    ensures built { (block : BlockParts) → IsBlock block → layout_refusal block ≡ None →
         (text : List ℕ) × (spelling (Square (square_of block)) ≡ Some text)
         × (square_in text ≡ Ok (square_of block)) }
-    ensures headed { (block : BlockParts) → IsBlock block → refusal_of block ≡ None →
+    ensures headed { (block : BlockParts) → IsBlock block → layout_refusal block ≡ None →
         (header : Roots) × IsHeaderOf header (square_of block) }
     ensures limit { FILE_LIMIT ≡ file_limit }
 {

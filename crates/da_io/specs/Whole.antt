@@ -43,7 +43,7 @@ AnswersTaken bytes limit (Err ReadFailed) = length bytes ≤ limit
 AnswersTaken bytes limit (Err NoMemory) = length bytes ≤ limit
 
 -- with every answer the bytes that the reads gave are gone from the front of what was left, and they are counted
-pub record Takes (old new : Option (List ℕ)) (before now limit : ℕ) (result : Result (Vec ℕ Global) InputFault) : Type 0 where
+pub record TakesFromFront (old new : Option (List ℕ)) (before now limit : ℕ) (result : Result (Vec ℕ Global) InputFault) : Type 0 where
   pub bytes : List ℕ
   pub moved : Consumes old new bytes
   pub counted : now ≡ count_on before (length bytes)

@@ -4,7 +4,7 @@ ghost use Rattle.std.specs.Prelude.{◌≡◌, IsSome, ◌↔◌, IfOk};
 ghost use Rattle.std.specs.Io.KnownBytes.{IsAtEnd};
 ghost use Rattle.da_io.specs.Faults.{count_on, CountsFault};
 ghost use Rattle.da_io.specs.Sinks.{WritesAll};
-ghost use Rattle.da_io.specs.Whole.{ReadsAll, Takes, last_end, read_faults};
+ghost use Rattle.da_io.specs.Whole.{ReadsAll, TakesFromFront, last_end, read_faults};
 
 use crate::{Inputs, Sink, WriteFailed};
 use std::alloc::Global;
@@ -39,7 +39,7 @@ pub fn read_all<I: Inputs>(alloc: Global, inputs: &mut I, limit: u64) -> Result<
     ensures content { ReadsAll (I.rest inputs.old) limit result }
 
     // Told or not: what came, how much it was, and the answer to that.
-    ensures taken { Takes (I.rest inputs.old) (I.rest inputs.new) (I.given inputs.old)
+    ensures taken { TakesFromFront (I.rest inputs.old) (I.rest inputs.new) (I.given inputs.old)
         (I.given inputs.new) limit result }
     ensures end { IfOk result (λ _. IsAtEnd (I.rest inputs.new)) }
 

@@ -4,7 +4,7 @@ ghost use Rattle.std.specs.Prelude.{◌≡◌, ◌<◌, ◌≤◌, ◌+◌, ◌�
 ghost use Rattle.nmt_proofs.specs.Clashes.{leaf_text, join_text};
 ghost use Rattle.hash_clash.specs.Preimages.{longest};
 
-use namespace_id::{Digest, Namespace, Share, put};
+use namespace_id::{Digest, Namespace, Share, write_at};
 use std::marker::Model;
 
 /// The length in bytes of the longest string that a tree hashes: a prefix, a namespace and a share.
@@ -57,7 +57,7 @@ impl Preimage {
             return None;
         }
         let mut all = blank();
-        put(&mut all, 0, bytes);
+        write_at(&mut all, 0, bytes);
         Some(Preimage {
             len: bytes.len() as u16,
             bytes: all,
@@ -70,9 +70,9 @@ impl Preimage {
         ensures { result ≡ prefix ∷ left.now ++ right.now }
     {
         let mut bytes = blank();
-        put(&mut bytes, 0, &[prefix]);
-        put(&mut bytes, 1, left);
-        put(&mut bytes, 1 + left.len(), right);
+        write_at(&mut bytes, 0, &[prefix]);
+        write_at(&mut bytes, 1, left);
+        write_at(&mut bytes, 1 + left.len(), right);
         Preimage {
             len: (1 + left.len() + right.len()) as u16,
             bytes,

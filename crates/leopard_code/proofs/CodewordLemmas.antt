@@ -4,7 +4,7 @@ use Rattle.std.specs.Prelude.{IfSome, slice_get, slice_index}
 use Rattle.std.proofs.lemmas.Option.{IfSome_then}
 use Rattle.namespace_id.specs.declared.shares.Share.{Share}
 use Rattle.namespace_id.specs.Shares.{AreShares}
-use Rattle.byte_polynomial.specs.Polynomial.{value_at, AreCoefficients, ArePoints, Takes}
+use Rattle.byte_polynomial.specs.Polynomial.{value_at, AreCoefficients, ArePoints, PassesThrough}
 use Rattle.byte_polynomial.proofs.Through.{through}
 use Rattle.namespace_id.specs.Lists.{ascending}
 use Rattle.leopard_code.specs.Codewords.{points, column, IsCodeword, weighted}
@@ -54,7 +54,7 @@ codeword_of k table originals recovery fits long_o long_r shares_o shares_r sums
         found.0,
         found.1 ∙ length-ascending k k,
         found.2,
-        subst (λ (l : List ℕ). Takes found.0 (ascending k k ++ ascending 0 k) l) (sym (column-append b originals recovery))
+        subst (λ (l : List ℕ). PassesThrough found.0 (ascending k k ++ ascending 0 k) l) (sym (column-append b originals recovery))
             (takes-append found.0 (ascending k k) ys (ascending 0 k) (column b recovery) found.3
             (takes-ascending found.0 b k 0 recovery long_r behind)),
       );

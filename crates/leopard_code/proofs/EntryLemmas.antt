@@ -9,7 +9,7 @@ use Rattle.std.proofs.lemmas.List.{get_or-map, get_or_append_left, get_or-append
 use Rattle.namespace_id.specs.declared.shares.Share.{Share}
 use Rattle.namespace_id.specs.Shares.{IsShare, AreShares}
 use Rattle.namespace_id.specs.Cells.{is_width}
-use Rattle.byte_polynomial.specs.Polynomial.{value_at, ArePoints, Takes}
+use Rattle.byte_polynomial.specs.Polynomial.{value_at, ArePoints, PassesThrough}
 use Rattle.byte_polynomial.proofs.Through.{through}
 use Rattle.namespace_id.specs.Lists.{ascending}
 use Rattle.leopard_code.specs.Codewords.{column, points, point, points_at, are_positions, IsCodeword, HasEntries, weighted}
@@ -78,7 +78,7 @@ entry_summed xs shares x ws share same apart shares_fit weights sums b hb cs lon
     ∙ lagrange cs xs (column b shares) ws x (omega (arith, length-column b shares)) (omega (arith, long)) apart bytes (column_bytes b shares shares_fit) takes weights
 
 -- a column whose bytes are a polynomial's values at the points of all positions
-takes_all : (k : ℕ) (cs ys : List ℕ) → length ys ≡ 2 * k → ((pos : ℕ) → pos < 2 * k → get_or ys pos 0 ≡ value_at cs (point k pos)) → Takes cs (points k) ys
+takes_all : (k : ℕ) (cs ys : List ℕ) → length ys ≡ 2 * k → ((pos : ℕ) → pos < 2 * k → get_or ys pos 0 ≡ value_at cs (point k pos)) → PassesThrough cs (points k) ys
 takes_all k cs ys long each =
     takes_each cs (points k) ys (length-points k ∙ sym long) (λ i h.
     let within : i < 2 * k = omega (arith, length-points k) in

@@ -4,7 +4,7 @@ use Rattle.std.specs.Prelude.{bit_xor}
 use Rattle.std.proofs.lemmas.Nat.{xor_comm}
 use Rattle.gf_cantor.specs.Field.{product}
 use Rattle.gf_cantor.proofs.Laws.{product-lt, product_comm, product_assoc, product-zero, one-product, has_inverse}
-use Rattle.byte_polynomial.specs.Polynomial.{value_at, AreCoefficients, Avoids, ArePoints, Takes}
+use Rattle.byte_polynomial.specs.Polynomial.{value_at, AreCoefficients, Avoids, ArePoints, PassesThrough}
 use Rattle.byte_polynomial.proofs.Sums.{sum, scaled, value_at-sum, value_at-scaled, length-sum, length-scaled, AreCoefficients-sum, AreCoefficients-scaled, value_at-lt}
 use Rattle.byte_polynomial.proofs.Through.{vanishing, length-vanishing, AreCoefficients-vanishing, value_at-vanishing, value_at-vanishing_none, vanishing_elsewhere, VanishesAt, vanishes, takes_still}
 use Rattle.byte_polynomial.proofs.Roots.{one_polynomial}
@@ -88,9 +88,9 @@ more_left before p ps y ys c cs x (w ∷ ws) h rest first =
 
 -- a polynomial through the points that is 0 at those before, whose values the weights give
 lagrange_from : (before xs ys : List ℕ) → length xs ≡ length ys → ArePoints (before ++ xs) → AreCoefficients ys
-    → (cs : List ℕ) × (length cs ≤ length before + length xs) × AreCoefficients cs × VanishesAt cs before × Takes cs xs ys
+    → (cs : List ℕ) × (length cs ≤ length before + length xs) × AreCoefficients cs × VanishesAt cs before × PassesThrough cs xs ys
     × ((x : ℕ) (ws : List ℕ) → AreWeights before xs x ws → weighted ws ys ≡ value_at cs x)
-unfolding AreCoefficients Takes AreWeights weighted value_at VanishesAt
+unfolding AreCoefficients PassesThrough AreWeights weighted value_at VanishesAt
 lagrange_from before [] [] same points bytes = ([], omega arith, tt, zero_vanishes before, tt, λ x ws h. none_left before x ws h)
 lagrange_from before [] (y ∷ ys) same points bytes = absurd (omega arith)
 lagrange_from before (p ∷ ps) [] same points bytes = absurd (omega arith)
@@ -118,7 +118,7 @@ lagrange_from before (p ∷ ps) (y ∷ ys) same points bytes =
 
 -- the value of any polynomial of at most n coefficients, from its values at n points
 pub lagrange : (cs xs ys ws : List ℕ) (x : ℕ) → length xs ≡ length ys → length cs ≤ length xs → ArePoints xs → AreCoefficients cs → AreCoefficients ys
-    → Takes cs xs ys → AreWeights [] xs x ws → weighted ws ys ≡ value_at cs x
+    → PassesThrough cs xs ys → AreWeights [] xs x ws → weighted ws ys ≡ value_at cs x
 lagrange cs xs ys ws x same few points bytes values takes weights =
     let found = lagrange_from [] xs ys same points values in
     found.5 x ws weights

@@ -7,7 +7,7 @@ use Rattle.gf_cantor.proofs.Laws.{product-lt, has_inverse}
 use Rattle.namespace_id.specs.declared.shares.Share.{Share}
 use Rattle.namespace_id.specs.Shares.{IsShare, AreShares}
 use Rattle.namespace_id.specs.Cells.{is_width}
-use Rattle.byte_polynomial.specs.Polynomial.{value_at, AreCoefficients, ArePoints, Takes}
+use Rattle.byte_polynomial.specs.Polynomial.{value_at, AreCoefficients, ArePoints, PassesThrough}
 use Rattle.byte_polynomial.proofs.Sums.{value_at-lt}
 use Rattle.byte_polynomial.proofs.Through.{through, vanishing_elsewhere}
 use Rattle.byte_polynomial.proofs.Roots.{one_polynomial}
@@ -21,13 +21,13 @@ use Rattle.leopard_code.proofs.PositionLemmas.{points_differ, position-lt, takes
 use Rattle.leopard_code.proofs.EntryLemmas.{byte_of, get_or-column, get_or-points, length-points, length-points_at, same_shares, rebuilt}
 
 -- the value at a position's point is the byte there
-pub value_at_position : (k pos : ℕ) (cs ys : List ℕ) → pos < 2 * k → Takes cs (points k) ys → value_at cs (point k pos) ≡ get_or ys pos 0
+pub value_at_position : (k pos : ℕ) (cs ys : List ℕ) → pos < 2 * k → PassesThrough cs (points k) ys → value_at cs (point k pos) ≡ get_or ys pos 0
 value_at_position k pos cs ys h takes =
     ap (value_at cs) (sym (get_or-points k pos h)) ∙ takes-at cs (points k) ys pos (omega (arith, length-points k)) takes
 
 -- a polynomial that takes a column takes the bytes of the known entries at their points
-pub takes_known : (k : ℕ) (known : List ℕ) (cs ys zs : List ℕ) → IsTrue (are_positions k known) → length zs ≡ length known → Takes cs (points k) ys
-    → ((i : ℕ) → i < length known → get_or ys (get_or known i 0) 0 ≡ get_or zs i 0) → Takes cs (points_at k known) zs
+pub takes_known : (k : ℕ) (known : List ℕ) (cs ys zs : List ℕ) → IsTrue (are_positions k known) → length zs ≡ length known → PassesThrough cs (points k) ys
+    → ((i : ℕ) → i < length known → get_or ys (get_or known i 0) 0 ≡ get_or zs i 0) → PassesThrough cs (points_at k known) zs
 takes_known k known cs ys zs positions long takes same =
     takes_each cs (points_at k known) zs (length-points_at k known ∙ sym long) (λ i h.
     let within : i < length known = omega (arith, length-points_at k known) in
@@ -54,14 +54,14 @@ get_or-picked (p ∷ known) ys (suc i) h = get_or-picked known ys i (omega arith
 
 -- one byte of two codewords with the same entries
 same_byte : (k : ℕ) (known ys zs : List ℕ) (pos : ℕ) (cs ds : List ℕ) → k ≤ 128 → length known ≡ k → IsTrue (are_positions k known) → pos < 2 * k
-    → length cs ≡ k → AreCoefficients cs → Takes cs (points k) ys → length ds ≡ k → AreCoefficients ds → Takes ds (points k) zs
+    → length cs ≡ k → AreCoefficients cs → PassesThrough cs (points k) ys → length ds ≡ k → AreCoefficients ds → PassesThrough ds (points k) zs
     → ((i : ℕ) → i < length known → get_or ys (get_or known i 0) 0 ≡ get_or zs (get_or known i 0) 0) → get_or ys pos 0 ≡ get_or zs pos 0
 same_byte k known ys zs pos cs ds few count positions within long_c bytes_c takes_c long_d bytes_d takes_d same =
     let xs : List ℕ = points_at k known in
     let there : List ℕ = picked known zs in
     let long : length xs ≡ k = length-points_at k known ∙ count in
-    let first : Takes cs xs there = takes_known k known cs ys there positions (length-picked known zs) takes_c (λ i h. same i h ∙ sym (get_or-picked known zs i h)) in
-    let second : Takes ds xs there = takes_known k known ds zs there positions (length-picked known zs) takes_d (λ i h. sym (get_or-picked known zs i h)) in
+    let first : PassesThrough cs xs there = takes_known k known cs ys there positions (length-picked known zs) takes_c (λ i h. same i h ∙ sym (get_or-picked known zs i h)) in
+    let second : PassesThrough ds xs there = takes_known k known ds zs there positions (length-picked known zs) takes_d (λ i h. sym (get_or-picked known zs i h)) in
     sym (value_at_position k pos cs ys within takes_c)
     ∙ one_polynomial cs ds xs there (omega arith) (omega arith) bytes_c bytes_d (points_differ k known few positions) first second (point k pos)
     ∙ value_at_position k pos ds zs within takes_d
@@ -121,7 +121,7 @@ pub through_shares : (k : ℕ) (known : List ℕ) (shares : List Share) → IsTr
 through_shares k known shares width count positions same fits =
     let xs : List ℕ = points_at k known in
     let apart : ArePoints xs = points_differ k known (is_width-le k width) positions in
-    let found : (b : ℕ) → (cs : List ℕ) × (length cs ≡ length xs) × AreCoefficients cs × Takes cs xs (column b shares) =
+    let found : (b : ℕ) → (cs : List ℕ) × (length cs ≡ length xs) × AreCoefficients cs × PassesThrough cs xs (column b shares) =
     λ b. through xs (column b shares) (omega (arith, length-points_at k known, length-column b shares)) apart (column_bytes b shares fits) in
     let byte : ℕ → ℕ → ℕ = λ pos b. value_at (found b).0 (point k pos) in
     let entry : ℕ → Share = λ pos. record { 0 = listed 512 (byte pos) } in
@@ -154,8 +154,8 @@ weights_exist before (p ∷ ps) x apart =
     )
 
 -- values of a polynomial are bytes
-bytes_taken : (cs xs ys : List ℕ) → AreCoefficients cs → Takes cs xs ys → AreCoefficients ys
-unfolding Takes AreCoefficients
+bytes_taken : (cs xs ys : List ℕ) → AreCoefficients cs → PassesThrough cs xs ys → AreCoefficients ys
+unfolding PassesThrough AreCoefficients
 bytes_taken cs [] [] bytes takes = tt
 bytes_taken cs [] (y ∷ ys) bytes takes = elim takes [ ]
 bytes_taken cs (x ∷ xs) [] bytes takes = tt
@@ -183,7 +183,7 @@ generated k known pos width count positions within =
       λ word shares code same entries b hb.
           let c = code.columns b hb in
           let ys : List ℕ = column b shares in
-          let takes : Takes c.0 xs ys = takes_known k known c.0 (column b word) ys positions (omega (arith, length-column b shares)) c.3
+          let takes : PassesThrough c.0 xs ys = takes_known k known c.0 (column b word) ys positions (omega (arith, length-column b shares)) c.3
           (λ i h. get_or-column b word (get_or known i 0) ∙ ap (byte_of b) (entries i h) ∙ sym (get_or-column b shares i)) in
           entry_of_byte b (weighted weights.0 ys) word pos (omega (arith, code.count))
           (sym (value_at_position k pos c.0 (column b word) within c.3)

@@ -7,7 +7,7 @@ use Rattle.gf_cantor.specs.Field.{product}
 use Rattle.gf_cantor.proofs.Laws.{product-lt}
 use Rattle.namespace_id.specs.declared.shares.Share.{Share}
 use Rattle.namespace_id.specs.Shares.{IsShare, AreShares}
-use Rattle.byte_polynomial.specs.Polynomial.{Takes}
+use Rattle.byte_polynomial.specs.Polynomial.{PassesThrough}
 use Rattle.byte_polynomial.proofs.Sums.{sum, scaled, value_at-sum, value_at-scaled, length-sum, length-scaled, AreCoefficients-sum, AreCoefficients-scaled}
 use Rattle.leopard_code.specs.Codewords.{column, points, IsCodeword, bytes_sum, share_sum, shares_sum, shares_multiple}
 
@@ -66,8 +66,8 @@ column-sum b (s ∷ ss) (t ∷ ts) h hs ht =
     (column-sum b ss ts h hs.1 ht.1)
 
 -- a sum of polynomials takes the sums of their values
-takes-sum : (ps qs xs ys zs : List ℕ) → Takes ps xs ys → Takes qs xs zs → Takes (sum ps qs) xs (bytes_sum ys zs)
-unfolding Takes bytes_sum
+takes-sum : (ps qs xs ys zs : List ℕ) → PassesThrough ps xs ys → PassesThrough qs xs zs → PassesThrough (sum ps qs) xs (bytes_sum ys zs)
+unfolding PassesThrough bytes_sum
 takes-sum ps qs [] [] zs h g = tt
 takes-sum ps qs [] (y ∷ ys) zs h g = elim h [ ]
 takes-sum ps qs (x ∷ xs) [] zs h g = elim h [ ]
@@ -86,7 +86,7 @@ codeword-sum k word other cw co = record {
         sum c.0 d.0,
         omega (arith, length-sum c.0 d.0, c.1, d.1),
         AreCoefficients-sum c.0 d.0 c.2 d.2,
-        subst (Takes (sum c.0 d.0) (points k)) (sym (column-sum b word other h cw.shares co.shares))
+        subst (PassesThrough (sum c.0 d.0) (points k)) (sym (column-sum b word other h cw.shares co.shares))
             (takes-sum c.0 d.0 (points k) (column b word) (column b other) c.3 d.3),
       );
 }
@@ -121,8 +121,8 @@ column-multiple b c (s ∷ ss) h hs =
     ap₂ (λ (y : ℕ) (ys : List ℕ). y ∷ ys) (get_or-map (product c) s.0 b 0 0 (omega (arith, hs.0.size_is))) (column-multiple b c ss h hs.1)
 
 -- a multiple of a polynomial takes the multiples of its values
-takes-multiple : (c : ℕ) (ps xs ys : List ℕ) → Takes ps xs ys → Takes (scaled c ps) xs (map (product c) ys)
-unfolding Takes
+takes-multiple : (c : ℕ) (ps xs ys : List ℕ) → PassesThrough ps xs ys → PassesThrough (scaled c ps) xs (map (product c) ys)
+unfolding PassesThrough
 takes-multiple c ps [] [] h = tt
 takes-multiple c ps [] (y ∷ ys) h = elim h [ ]
 takes-multiple c ps (x ∷ xs) [] h = elim h [ ]
@@ -138,6 +138,6 @@ codeword-multiple k c word cw = record {
         scaled c d.0,
         length-scaled c d.0 ∙ d.1,
         AreCoefficients-scaled c d.0,
-        subst (Takes (scaled c d.0) (points k)) (sym (column-multiple b c word h cw.shares)) (takes-multiple c d.0 (points k) (column b word) d.3),
+        subst (PassesThrough (scaled c d.0) (points k)) (sym (column-multiple b c word h cw.shares)) (takes-multiple c d.0 (points k) (column b word) d.3),
       );
 }

@@ -6,7 +6,7 @@ use Rattle.std.proofs.lemmas.List.{length-take-le, get_or-take}
 use Rattle.std.proofs.lemmas.Option.{IfSome_then}
 use Rattle.namespace_id.specs.declared.shares.Share.{Share}
 use Rattle.namespace_id.specs.Shares.{AreShares}
-use Rattle.byte_polynomial.specs.Polynomial.{value_at, AreCoefficients, Avoids, ArePoints, Takes}
+use Rattle.byte_polynomial.specs.Polynomial.{value_at, AreCoefficients, Avoids, ArePoints, PassesThrough}
 use Rattle.namespace_id.specs.Lists.{ascending}
 use Rattle.leopard_code.specs.Codewords.{column}
 
@@ -62,8 +62,8 @@ column_bytes b [] h = tt
 column_bytes b (s ∷ ss) h = (h.0.fits b, column_bytes b ss h.1)
 
 -- a polynomial takes two lists of values where it takes each
-pub takes-append : (cs xs ys xs' ys' : List ℕ) → Takes cs xs ys → Takes cs xs' ys' → Takes cs (xs ++ xs') (ys ++ ys')
-unfolding Takes
+pub takes-append : (cs xs ys xs' ys' : List ℕ) → PassesThrough cs xs ys → PassesThrough cs xs' ys' → PassesThrough cs (xs ++ xs') (ys ++ ys')
+unfolding PassesThrough
 takes-append cs [] [] xs' ys' h g = g
 takes-append cs [] (y ∷ ys) xs' ys' h g = elim h [ ]
 takes-append cs (x ∷ xs) [] xs' ys' h g = elim h [ ]
@@ -71,8 +71,8 @@ takes-append cs (x ∷ xs) (y ∷ ys) xs' ys' h g = (h.0, takes-append cs xs ys 
 
 -- shares whose bytes are the values at the points from `first` on
 pub takes-ascending : (cs : List ℕ) (b n first : ℕ) (ss : List Share) → length ss ≡ n
-    → ((j : ℕ) → j < n → IfSome (slice_get ss j) (λ share. slice_index share.0 b ≡ value_at cs (first + j))) → Takes cs (ascending first n) (column b ss)
-unfolding ascending column Takes
+    → ((j : ℕ) → j < n → IfSome (slice_get ss j) (λ share. slice_index share.0 b ≡ value_at cs (first + j))) → PassesThrough cs (ascending first n) (column b ss)
+unfolding ascending column PassesThrough
 takes-ascending cs b zero first [] same h = tt
 takes-ascending cs b zero first (s ∷ ss) same h = absurd (omega arith)
 takes-ascending cs b (suc n) first [] same h = absurd (omega arith)

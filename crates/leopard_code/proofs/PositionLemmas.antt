@@ -5,7 +5,7 @@ use Rattle.std.specs.List.{list_all}
 use Rattle.std.proofs.lemmas.Bool.{and_from, and_parts, ltb-true}
 use Rattle.std.proofs.lemmas.Bool.Decides.{nat_tests}
 use Rattle.namespace_id.specs.Lists.{holds_along}
-use Rattle.byte_polynomial.specs.Polynomial.{value_at, Avoids, ArePoints, Takes}
+use Rattle.byte_polynomial.specs.Polynomial.{value_at, Avoids, ArePoints, PassesThrough}
 use Rattle.leopard_code.specs.Codewords.{point, points_at, are_positions}
 
 -- the point of a position is a byte
@@ -62,16 +62,16 @@ position-lt k (p ∷ rest) zero h positions = (positions_parts k p rest position
 position-lt k (p ∷ rest) (suc i) h positions = position-lt k rest i (omega arith) (positions_parts k p rest positions).1
 
 -- the values that a polynomial takes, place by place
-pub takes-at : (cs xs ys : List ℕ) (i : ℕ) → i < length xs → Takes cs xs ys → value_at cs (get_or xs i 0) ≡ get_or ys i 0
-unfolding Takes
+pub takes-at : (cs xs ys : List ℕ) (i : ℕ) → i < length xs → PassesThrough cs xs ys → value_at cs (get_or xs i 0) ≡ get_or ys i 0
+unfolding PassesThrough
 takes-at cs [] ys i h takes = absurd (omega arith)
 takes-at cs (x ∷ xs) [] i h takes = elim takes [ ]
 takes-at cs (x ∷ xs) (y ∷ ys) zero h takes = takes.0
 takes-at cs (x ∷ xs) (y ∷ ys) (suc i) h takes = takes-at cs xs ys i (omega arith) takes.1
 
 -- a polynomial that takes each value takes the list
-pub takes_each : (cs xs ys : List ℕ) → length xs ≡ length ys → ((i : ℕ) → i < length xs → value_at cs (get_or xs i 0) ≡ get_or ys i 0) → Takes cs xs ys
-unfolding Takes
+pub takes_each : (cs xs ys : List ℕ) → length xs ≡ length ys → ((i : ℕ) → i < length xs → value_at cs (get_or xs i 0) ≡ get_or ys i 0) → PassesThrough cs xs ys
+unfolding PassesThrough
 takes_each cs [] [] same h = tt
 takes_each cs [] (y ∷ ys) same h = absurd (omega arith)
 takes_each cs (x ∷ xs) [] same h = absurd (omega arith)

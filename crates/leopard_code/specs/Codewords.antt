@@ -6,7 +6,7 @@ use Rattle.namespace_id.specs.declared.shares.Share.{Share}
 use Rattle.namespace_id.specs.Shares.{AreShares}
 use Rattle.namespace_id.specs.Sizes.{share_size}
 use Rattle.namespace_id.specs.Lists.{holds_along, ascending}
-use Rattle.byte_polynomial.specs.Polynomial.{AreCoefficients, Takes}
+use Rattle.byte_polynomial.specs.Polynomial.{AreCoefficients, PassesThrough}
 
 -- the bytes at place b of each share
 unfoldable pub column : ℕ → List Share → List ℕ
@@ -27,7 +27,7 @@ points_at k known = map (point k) known
 
 -- a polynomial of k coefficients takes the bytes at the points
 abbrev pub IsColumn : ℕ → List ℕ → Type 0
-IsColumn k bytes = (cs : List ℕ) × (length cs ≡ k) × AreCoefficients cs × Takes cs (points k) bytes
+IsColumn k bytes = (cs : List ℕ) × (length cs ≡ k) × AreCoefficients cs × PassesThrough cs (points k) bytes
 
 -- 2k shares, k originals and then k recovery shares, each byte column a polynomial
 pub record IsCodeword (k : ℕ) (word : List Share) : Type 0 where

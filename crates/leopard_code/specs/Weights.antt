@@ -4,7 +4,7 @@ use Rattle.gf_cantor.specs.Field.{product}
 use Rattle.namespace_id.specs.declared.shares.Share.{Share}
 use Rattle.namespace_id.specs.Cells.{is_width}
 use Rattle.namespace_id.specs.Sizes.{share_size}
-use Rattle.byte_polynomial.specs.Polynomial.{value_at, AreCoefficients, Takes}
+use Rattle.byte_polynomial.specs.Polynomial.{value_at, AreCoefficients, PassesThrough}
 use Rattle.namespace_id.specs.Lists.{ascending}
 use Rattle.leopard_code.specs.Codewords.{column}
 
@@ -42,4 +42,4 @@ pub record IsRoom (k : ℕ) (table row : List ℕ) : Type 0 where
 -- the share has the values at x of the polynomials through the shares at the points
 abbrev pub IsEntry : List ℕ → List Share → ℕ → Share → Type 0
 IsEntry xs shares x share = (b : ℕ) → b < share_size → (cs : List ℕ) → length cs ≡ length xs → AreCoefficients cs
-    → Takes cs xs (column b shares) → slice_index share.0 b ≡ value_at cs x
+    → PassesThrough cs xs (column b shares) → slice_index share.0 b ≡ value_at cs x

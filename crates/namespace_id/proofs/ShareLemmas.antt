@@ -5,7 +5,7 @@ use Rattle.namespace_id.specs.declared.cells.Cell.{Cell}
 use Rattle.namespace_id.specs.declared.shares.Share.{Share}
 use Rattle.namespace_id.specs.Names.{IsNamespace, parity}
 use Rattle.namespace_id.specs.Shares.{IsShare, AreShares, name_in}
-use Rattle.namespace_id.specs.Cells.{is_original, name_of}
+use Rattle.namespace_id.specs.Cells.{is_original, leaf_namespace}
 use Rattle.namespace_id.proofs.StringLemmas.{AreBytes-take, AreBytes-replicate}
 
 -- what a share begins with is a namespace
@@ -25,7 +25,7 @@ either true share whole = name_in-is share whole
 either false share whole = parity-is
 
 -- a leaf has a namespace
-pub name_of-is : (k : ℕ) (cell : Cell) (share : Share) → IsShare share → IsNamespace (name_of k cell share)
+pub name_of-is : (k : ℕ) (cell : Cell) (share : Share) → IsShare share → IsNamespace (leaf_namespace k cell share)
 name_of-is k cell share whole = either (is_original k cell) share whole
 
 -- shares behind shares are shares

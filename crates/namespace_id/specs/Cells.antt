@@ -21,8 +21,8 @@ abbrev pub is_original : ℕ → Cell → Bool
 is_original k cell = nat_lt cell.row k && nat_lt cell.col k
 
 -- the namespace of the leaf over a cell: that of its share in the original square, and PARITY outside
-abbrev pub name_of : ℕ → Cell → Share → Namespace
-name_of k cell share = if is_original k cell then name_in share else parity
+abbrev pub leaf_namespace : ℕ → Cell → Share → Namespace
+leaf_namespace k cell share = if is_original k cell then name_in share else parity
 
 -- whether the first cell comes before the second in row-major order
 abbrev pub is_before : Cell → Cell → Bool

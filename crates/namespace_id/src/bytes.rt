@@ -11,7 +11,7 @@ pub fn bytes_law(bytes: &[u8])
 {}
 
 /// Overwrites the bytes from place `at` on by those of `part`.
-pub fn put(bytes: &mut [u8], at: usize, part: &[u8])
+pub fn write_at(bytes: &mut [u8], at: usize, part: &[u8])
     requires { at + length part.now ≤ length bytes.old }
     ensures { bytes.new ≡ take at bytes.old ++ part.now ++ drop (at + length part.now) bytes.old }
 {

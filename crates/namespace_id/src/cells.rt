@@ -1,7 +1,7 @@
 //! Cells of an extended data square, and the namespace of the leaf over one.
 
 ghost use Rattle.std.specs.Prelude.{◌≡◌, ◌↔◌, IsTrue, IsSome, IfSome};
-ghost use Rattle.namespace_id.specs.Cells.{is_width, is_in_square, name_of, is_before, are_cells};
+ghost use Rattle.namespace_id.specs.Cells.{is_width, is_in_square, leaf_namespace, is_before, are_cells};
 ghost use Rattle.namespace_id.specs.Lists.{holds_along};
 ghost use Rattle.std.specs.List.{list_all};
 
@@ -48,7 +48,7 @@ pub fn is_in_square(k: u16, cell: Cell) -> bool
 pub fn leaf_namespace(k: u16, cell: Cell, share: &Share) -> Namespace
     requires width { IsTrue (is_width k) }
     requires cell { IsTrue (is_in_square k cell) }
-    ensures { result ≡ name_of k cell share.now }
+    ensures { result ≡ leaf_namespace k cell share.now }
 {
     if cell.row >= k || cell.col >= k {
         return PARITY;

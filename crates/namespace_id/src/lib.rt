@@ -13,7 +13,7 @@ mod namespaces;
 mod shares;
 mod sizes;
 
-pub use bytes::{append, bytes_law, put};
+pub use bytes::{append, bytes_law, write_at};
 pub use cells::{Axis, Cell, Cells, is_before, is_in_square, is_width, leaf_namespace};
 pub use digests::{Digest, digest_law, digests_law};
 pub use memory::NoMemory;

@@ -4,7 +4,7 @@
 ghost use Rattle.std.specs.Prelude.{◌≡◌, ◌++◌, IsTrue, IsOk, IsErr, IfOk, ◌↔◌, false};
 ghost use Rattle.nmt_tree.specs.Digests.{leaf_digest, joined_greatest, node_digest, is_ordered_join};
 
-use namespace_id::{Digest, Namespace, PARITY, Share, put};
+use namespace_id::{Digest, Namespace, PARITY, Share, write_at};
 use sha2::{Digest as _, Sha256};
 use thiserror::Error;
 
@@ -18,9 +18,9 @@ fn digest_of(least: &Namespace, greatest: &Namespace, hash: &[u8; 32]) -> Digest
     ensures { result.0 ≡ least.now.0 ++ greatest.now.0 ++ hash.now }
 {
     let mut bytes = [0; 90];
-    put(&mut bytes, 0, &least.0);
-    put(&mut bytes, 29, &greatest.0);
-    put(&mut bytes, 58, hash);
+    write_at(&mut bytes, 0, &least.0);
+    write_at(&mut bytes, 29, &greatest.0);
+    write_at(&mut bytes, 58, hash);
     Digest(bytes)
 }
 

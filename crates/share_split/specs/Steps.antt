@@ -6,9 +6,9 @@ use Rattle.share_split.specs.Blobs.{NamedBytes}
 use Rattle.share_split.specs.Walks.{Sequence, is_complete, share_with}
 
 -- a share that was taken into a sequence, unless a check refuses it or memory ran out
-abbrev pub Takes : Result Sequence JoinError → Option JoinError → Sequence → Type 0
-Takes (Ok s) refusal taken = (refusal ≡ None) × (s ≡ taken)
-Takes (Err e) refusal taken = (e ≡ NoMemory) ⊎ (refusal ≡ Some e)
+abbrev pub TakesShare : Result Sequence JoinError → Option JoinError → Sequence → Type 0
+TakesShare (Ok s) refusal taken = (refusal ≡ None) × (s ≡ taken)
+TakesShare (Err e) refusal taken = (e ≡ NoMemory) ⊎ (refusal ≡ Some e)
 
 -- ---- blobs
 

@@ -19,8 +19,8 @@ width_from more width count = least_doubling (is_wide_enough count) more width
 
 -- the width of the subtrees over so many shares: the least power of two that is wide enough, as 2 ^ 28
 -- is for every count up to 2 ^ 56
-abbrev pub width_of : ℕ → ℕ
-width_of count = width_from 28 1 count
+abbrev pub subtree_width_of : ℕ → ℕ
+subtree_width_of count = width_from 28 1 count
 
 -- ---- the standard's formula
 
@@ -41,4 +41,4 @@ abbrev pub WidthIsLesser : Type 0
 WidthIsLesser = (count root by_threshold by_square : ℕ) → count ≤ 2 ^ 56
     → IsLeastPower (div_ceil count subtree_root_threshold) by_threshold
     → IsLeastRoot count root → IsLeastPower root by_square
-    → width_of count ≡ min by_threshold by_square
+    → subtree_width_of count ≡ min by_threshold by_square

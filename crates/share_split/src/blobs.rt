@@ -5,7 +5,7 @@ ghost use Rattle.namespace_id.specs.Answers.{HasRoom};
 ghost use Rattle.share_split.specs.Blobs.{first_content, later_content, max_sequence_length, info, sequence_share, first_share, later_share, later_shares, count_from, share_count, blob_shares_of};
 ghost use Rattle.share_split.specs.Joined.{padding_share};
 
-use namespace_id::{NAMESPACE_SIZE, Namespace, SHARE_SIZE, Share, put};
+use namespace_id::{NAMESPACE_SIZE, Namespace, SHARE_SIZE, Share, write_at};
 use std::marker::Model;
 use thiserror::Error;
 
@@ -106,8 +106,8 @@ fn begun(namespace: &Namespace, start: bool) -> Share
     ensures name { length namespace.now.0 ≡ 29 }
 {
     let mut share = Share([0; SHARE_SIZE]);
-    put(&mut share.0, 0, &namespace.0);
-    put(&mut share.0, NAMESPACE_SIZE, &[info(SHARE_VERSION, start)]);
+    write_at(&mut share.0, 0, &namespace.0);
+    write_at(&mut share.0, NAMESPACE_SIZE, &[info(SHARE_VERSION, start)]);
     share
 }
 
@@ -123,8 +123,8 @@ pub(crate) fn sequence_share(
     ensures { result ≡ sequence_share namespace.now start fields.now content.now }
 {
     let mut share = begun(namespace, start);
-    put(&mut share.0, FIELDS_PLACE, fields);
-    put(&mut share.0, FIELDS_PLACE + fields.len(), content);
+    write_at(&mut share.0, FIELDS_PLACE, fields);
+    write_at(&mut share.0, FIELDS_PLACE + fields.len(), content);
     share
 }
 

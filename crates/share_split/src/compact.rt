@@ -11,7 +11,7 @@ use crate::blobs::{count_from, put_share, sequence_share, split_within};
 use crate::places::{content_start, place_in};
 use crate::texts::{NextUnit, next_on};
 use crate::{FIRST_COMPACT_CONTENT, LATER_COMPACT_CONTENT, Unit};
-use namespace_id::{Namespace, Share, put};
+use namespace_id::{Namespace, Share, write_at};
 
 /// The number that the reserved bytes of a share state: where in it the next unit starts, if it does.
 fn reserved_of(units: &[Unit], next: NextUnit, share: usize) -> u32
@@ -30,8 +30,8 @@ fn first_fields(size: u32, reserved: u32) -> [u8; 8]
     ensures { result ≡ to_be_bytes w32 size ++ to_be_bytes w32 reserved }
 {
     let mut fields = [0; 8];
-    put(&mut fields, 0, &size.to_be_bytes());
-    put(&mut fields, 4, &reserved.to_be_bytes());
+    write_at(&mut fields, 0, &size.to_be_bytes());
+    write_at(&mut fields, 4, &reserved.to_be_bytes());
     fields
 }
 

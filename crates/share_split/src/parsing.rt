@@ -69,7 +69,7 @@ pub(crate) struct Placed {
 
 impl Placed {
     /// Appends a unit that starts here.
-    fn put(&mut self, alloc: Global, unit: &[u8], at: usize) -> Result<(), AllocError>
+    fn keep(&mut self, alloc: Global, unit: &[u8], at: usize) -> Result<(), AllocError>
         ensures units { OnOk result (self.new.units.items ≡ self.old.units.items ++ unit.now ∷ []) }
         ensures starts { OnOk result (self.new.starts.items ≡ self.old.starts.items ++ at ∷ []) }
     {
@@ -98,7 +98,7 @@ pub(crate) fn units_of_text(alloc: Global, text: &[u8]) -> Result<Placed, JoinEr
         let Some((unit, size)) = unit_at(text.split_at(at).1) else {
             return Err(JoinError::BadVarint(share_with(at)));
         };
-        placed.put(alloc, unit, at)?;
+        placed.keep(alloc, unit, at)?;
         at += size;
     }
     Ok(placed)

@@ -2,7 +2,7 @@
 
 ghost use Rattle.std.specs.Prelude.{◌≡◌, ◌≤◌, ◌++◌, take, OnOk};
 ghost use Rattle.share_split.specs.Walks.{content_in, first_refusal, surplus_refusal, blob_refusal, taken_by, unit_refusal};
-ghost use Rattle.share_split.specs.Steps.{Takes};
+ghost use Rattle.share_split.specs.Steps.{TakesShare};
 
 use crate::JoinError;
 use crate::blobs::split_within;
@@ -103,7 +103,7 @@ impl Open {
     /// all that the share promises.
     fn begun(alloc: Global, share: &Share, reserved: usize, i: u64) -> Result<Open, JoinError>
         requires { reserved ≤ 4 }
-        ensures { Takes result
+        ensures { TakesShare result
             (first_refusal reserved i share.now) (begun_by reserved i share.now) }
     {
         if let Some(refusal) = first_refusal(share, reserved, i) {
@@ -142,7 +142,7 @@ impl Open {
     /// The sequence with the content of share i.
     fn extended(self, share: &Share, reserved: usize, i: u64) -> Result<Open, JoinError>
         requires { reserved ≤ 4 }
-        ensures { Takes result
+        ensures { TakesShare result
             (later_refusal reserved i self share.now) (extended_by reserved self share.now) }
     {
         if let Some(refusal) = self.refusal(share, reserved, i) {
@@ -162,7 +162,7 @@ pub(crate) fn with_blob_share(
     share: &Share,
     i: u64,
 ) -> Result<Open, JoinError>
-    ensures { Takes result (blob_refusal i so_far share.now) (taken_by 0 i so_far share.now) }
+    ensures { TakesShare result (blob_refusal i so_far share.now) (taken_by 0 i so_far share.now) }
 {
     match so_far {
         None => Open::begun(alloc, share, 0, i),
@@ -177,7 +177,7 @@ pub(crate) fn with_unit_share(
     share: &Share,
     i: u64,
 ) -> Result<Open, JoinError>
-    ensures { Takes result (unit_refusal i so_far share.now) (taken_by 4 i so_far share.now) }
+    ensures { TakesShare result (unit_refusal i so_far share.now) (taken_by 4 i so_far share.now) }
 {
     match so_far {
         None => Open::begun(alloc, share, RESERVED_SIZE, i),

@@ -2,7 +2,7 @@
 
 ghost use Rattle.std.specs.Prelude.{ℕ, ◌≡◌, ◌≤◌, ◌<◌, ◌^◌, ◌/◌, IsTrue, false};
 ghost use Rattle.std.specs.Int.{IsPowerOfTwo};
-ghost use Rattle.share_split.specs.Widths.{is_wide_enough, width_of, IsLeastPower, IsLeastRoot, WidthIsLesser};
+ghost use Rattle.share_split.specs.Widths.{is_wide_enough, subtree_width_of, IsLeastPower, IsLeastRoot, WidthIsLesser};
 
 /// So many subtrees of one width hold a blob, unless they would have to be wider than the least
 /// square that holds it.
@@ -25,7 +25,7 @@ fn is_wide_enough(count: u64, width: u64) -> bool
 pub fn subtree_width(count: u64) -> u64
     requires some { 1 ≤ count }
     requires bound { count ≤ 2 ^ 56 }
-    ensures value { result ≡ width_of count }
+    ensures value { result ≡ subtree_width_of count }
     ensures power { IsPowerOfTwo result }
     ensures enough { IsTrue (is_wide_enough count result) }
     ensures least { 1 < result → is_wide_enough count (result / 2) ≡ false }

@@ -13,7 +13,7 @@ use Rattle.square_layout.specs.declared.laying.LayError.{LayError}
 use Rattle.square_layout.specs.declared.laying.LayError.TheVariants.{BadBlob, EmptyBlob}
 use Rattle.square_layout.specs.Blocks.{BlockParts, HaveBytes}
 use Rattle.square_layout.specs.Layout.{in_order, needed}
-use Rattle.square_layout.specs.Refusals.{bad_blob, empty_blob, blob_refusal, size_refusal, refusal_of}
+use Rattle.square_layout.specs.Refusals.{bad_blob, empty_blob, blob_refusal, size_refusal, layout_refusal}
 use Rattle.square_layout.proofs.NameLemmas.{IsBetween}
 use Rattle.square_layout.proofs.BlobOrderLemmas.{All-in_order}
 
@@ -139,7 +139,7 @@ all_between here there none same =
     subst (AllByRecursion IsBetween) same (no_bad_blob 0 here both.0)
 
 -- the blobs of a block that isn't refused have namespaces of blobs
-pub block_named : (block : BlockParts) → refusal_of block ≡ None
+pub block_named : (block : BlockParts) → layout_refusal block ≡ None
     → AllByRecursion (λ blob. is_blob_namespace blob.namespace.0 ≡ true) block.blobs
 block_named block none =
     let of_blobs = no_refusal (blob_refusal block.blobs) (size_refusal block.width (needed block)) (sym none) in

@@ -4,7 +4,7 @@ use Rattle.std.proofs.lemmas.Bool.{cases_lt}
 use Rattle.std.proofs.lemmas.List.{drop-map, drop_all, length-map}
 use Rattle.share_split.specs.Blobs.{NamedBytes}
 use Rattle.square_layout.specs.Blocks.{HaveBytes}
-use Rattle.square_layout.specs.Layout.{shares_of, start_after, end_of}
+use Rattle.square_layout.specs.Layout.{share_count_of, start_after, end_of}
 use Rattle.square_layout.specs.Refusals.{max_count}
 use Rattle.square_layout.proofs.PlaceLemmas.{end_of-ge, end_of-next}
 
@@ -43,11 +43,11 @@ told_end end blobs = elim (cases_lt max_count end) [
 
 -- one blob more is counted
 pub counted_on : (end new whole : ℕ) (blob : NamedBytes) (blobs others : List NamedBytes) → blobs ≡ blob ∷ others
-    → new ≡ min (start_after end blob + shares_of blob) max_count
+    → new ≡ min (start_after end blob + share_count_of blob) max_count
     → min (end_of end blobs) max_count ≡ whole → min (end_of new others) max_count ≡ whole
 counted_on end new whole blob blobs others left is so_far =
     ap (λ (n : ℕ). min (end_of n others) max_count) is
-    ∙ told_end (start_after end blob + shares_of blob) others
+    ∙ told_end (start_after end blob + share_count_of blob) others
     ∙ sym (ap (λ (n : ℕ). min n max_count) (ap (end_of end) left ∙ end_of-next end blob others))
     ∙ so_far
 

@@ -13,7 +13,7 @@ use Rattle.share_split.specs.Blobs.{NamedBytes, blob_shares_of}
 use Rattle.share_split.specs.Units.{unit_shares_of}
 use Rattle.share_split.specs.Joined.{padding_share}
 use Rattle.square_layout.specs.Blocks.{BlockParts}
-use Rattle.square_layout.specs.Layout.{put_in, in_order, start_after, shares_of, placed, compact_end, laid}
+use Rattle.square_layout.specs.Layout.{put_in, in_order, start_after, share_count_of, placed, compact_end, laid}
 use Rattle.square_layout.proofs.ShareNameLemmas.{AreNamed, blob_shares_of-named, unit_shares_of-named, padding-named}
 use Rattle.square_layout.proofs.BlobOrderLemmas.{All-in_order}
 
@@ -88,10 +88,10 @@ RiseFrom-placed name end [] count n high between up =
 RiseFrom-placed name end (blob ∷ blobs) count n high between up =
     let gap : List Share = replicate (start_after end blob - end) (padding_share name) in
     let own : List Share = blob_shares_of blob.namespace blob.bytes in
-    let others : List Share = placed blob.namespace (start_after end blob + shares_of blob) blobs in
+    let others : List Share = placed blob.namespace (start_after end blob + share_count_of blob) blobs in
     let tail : List Share = replicate count (padding_share tail_padding) in
     let rest : RiseFrom blob.namespace (others ++ tail) =
-    RiseFrom-placed blob.namespace (start_after end blob + shares_of blob) blobs count between.0.size between.0.high between.1 up.1 in
+    RiseFrom-placed blob.namespace (start_after end blob + share_count_of blob) blobs count between.0.size between.0.high between.1 up.1 in
     let grouped : gap ++ own ++ others ++ tail ≡ gap ++ (own ++ (others ++ tail)) = simp append_assoc in
     subst (RiseFrom name) (sym grouped)
     (RiseFrom-named name name gap (own ++ (others ++ tail)) (at_most_refl name) (padding-named (start_after end blob - end) name n)

@@ -6,7 +6,7 @@ use Rattle.namespace_id.specs.declared.shares.Share.{Share}
 use Rattle.share_split.specs.Blobs.{NamedBytes, blob_shares_of}
 use Rattle.share_split.specs.Joined.{padding_share}
 use Rattle.share_split.proofs.Writing.BlobLaws.{length-blob_shares_of}
-use Rattle.square_layout.specs.Layout.{shares_of, start_after, end_of, placed}
+use Rattle.square_layout.specs.Layout.{share_count_of, start_after, end_of, placed}
 use Rattle.square_layout.proofs.PlaceLemmas.{start_after-ge, end_of-ge, end_of-next}
 
 -- the padding before a blob, and its shares
@@ -25,17 +25,17 @@ put_behind-is before blob out =
     append_assoc out (replicate (start_after (length out) blob - length out) (padding_share before)) (blob_shares_of blob.namespace blob.bytes)
 
 -- the padding and the blob reach up to the end of the blob
-length-piece_of : (before : Namespace) (end : ℕ) (blob : NamedBytes) → end + length (piece_of before end blob) ≡ start_after end blob + shares_of blob
+length-piece_of : (before : Namespace) (end : ℕ) (blob : NamedBytes) → end + length (piece_of before end blob) ≡ start_after end blob + share_count_of blob
 length-piece_of before end blob =
     let gap : List Share = replicate (start_after end blob - end) (padding_share before) in
     let own : List Share = blob_shares_of blob.namespace blob.bytes in
     let long_gap : length gap ≡ start_after end blob - end = length-replicate (start_after end blob - end) (padding_share before) in
-    let long_own : length own ≡ shares_of blob = length-blob_shares_of blob.namespace blob.bytes in
+    let long_own : length own ≡ share_count_of blob = length-blob_shares_of blob.namespace blob.bytes in
     omega (arith, long_gap, long_own, length-append gap own, start_after-ge end blob)
 
 -- with one blob more the end is where it ends
 put_end : (before : Namespace) (blob : NamedBytes) (out new : List Share)
-    → new ≡ put_behind before blob out → length new ≡ start_after (length out) blob + shares_of blob
+    → new ≡ put_behind before blob out → length new ≡ start_after (length out) blob + share_count_of blob
 put_end before blob out new n =
     ap length (n ∙ put_behind-is before blob out) ∙ length-append out (piece_of before (length out) blob) ∙ length-piece_of before (length out) blob
 
@@ -45,7 +45,7 @@ pub put_on : (before : Namespace) (blob : NamedBytes) (blobs others : List Named
     → out ++ placed before (length out) blobs ≡ whole → new ++ placed blob.namespace (length new) others ≡ whole
 unfolding placed
 put_on before blob blobs others out new whole left n so_far =
-    let rest : List Share = placed blob.namespace (start_after (length out) blob + shares_of blob) others in
+    let rest : List Share = placed blob.namespace (start_after (length out) blob + share_count_of blob) others in
     let gap : List Share = replicate (start_after (length out) blob - length out) (padding_share before) in
     let own : List Share = blob_shares_of blob.namespace blob.bytes in
     ap₂ (λ (x : List Share) (e : ℕ). x ++ placed blob.namespace e others) (n ∙ put_behind-is before blob out) (put_end before blob out new n)
@@ -62,9 +62,9 @@ put_end_of before blob blobs others out new most left n h =
 
 -- the next blob fits
 pub next_fits : (blob : NamedBytes) (blobs others : List NamedBytes) (end most : ℕ) → blobs ≡ blob ∷ others
-    → end_of end blobs ≤ most → start_after end blob + shares_of blob ≤ most
+    → end_of end blobs ≤ most → start_after end blob + share_count_of blob ≤ most
 next_fits blob blobs others end most left h =
-    omega (arith, end_of-ge (start_after end blob + shares_of blob) others, end_of-next end blob others, ap (end_of end) left, h)
+    omega (arith, end_of-ge (start_after end blob + share_count_of blob) others, end_of-next end blob others, ap (end_of end) left, h)
 
 -- nothing is left
 pub put_all : (before : Namespace) (blobs : List NamedBytes) (out whole : List Share) → blobs ≡ []

@@ -23,8 +23,8 @@ use Rattle.square_layout.specs.Blocks.{BlockParts, IsBlock, IsSquare}
 use Rattle.namespace_id.specs.Doublings.{least_doubling}
 use Rattle.namespace_id.proofs.DoublingLemmas.{least_doubling-suc, least_doubling-found}
 use Rattle.namespace_id.proofs.ShareLemmas.{AreShares-append}
-use Rattle.square_layout.specs.Layout.{in_order, shares_of, start_after, placed, compact_end, laid, needed, holds_shares, holding_from, width_for, square_of}
-use Rattle.square_layout.specs.Refusals.{max_shares, max_count, blob_refusal, width_refusal, size_refusal, refusal_of}
+use Rattle.square_layout.specs.Layout.{in_order, share_count_of, start_after, placed, compact_end, laid, needed, holds_shares, holding_from, width_for, square_of}
+use Rattle.square_layout.specs.Refusals.{max_shares, max_count, blob_refusal, width_refusal, size_refusal, layout_refusal}
 use Rattle.square_layout.proofs.AcceptedLemmas.{no_refusal}
 use Rattle.square_layout.proofs.BlobOrderLemmas.{All-in_order}
 use Rattle.square_layout.proofs.LaidLemmas.{length-padded, laid_fits}
@@ -86,7 +86,7 @@ size_passes (Some k) count h =
     (if_passes (is_width k) BadWidth asked.1, holds)
 
 -- the square of a block that is not refused is a square
-pub square_is_square : (block : BlockParts) → refusal_of block ≡ None → IsSquare (square_of block)
+pub square_is_square : (block : BlockParts) → layout_refusal block ≡ None → IsSquare (square_of block)
 square_is_square block none =
     let size = no_refusal (blob_refusal block.blobs) (size_refusal block.width (needed block)) (sym none) in
     let k : ℕ = width_for block in
@@ -124,11 +124,11 @@ placed-shares_law name end [] named all = tt
 placed-shares_law name end (blob ∷ blobs) named all =
     let gap : List Share = replicate (start_after end blob - end) (padding_share name) in
     let own : List Share = blob_shares_of blob.namespace blob.bytes in
-    let others : List Share = placed blob.namespace (start_after end blob + shares_of blob) blobs in
+    let others : List Share = placed blob.namespace (start_after end blob + share_count_of blob) blobs in
     AreShares-append (gap ++ own) others
     (AreShares-append gap own (AreShares-replicate (start_after end blob - end) (padding_share name) (padding_is_share name named))
     (blob_shares_are_shares blob.namespace blob.bytes all.0.name all.0.fits))
-    (placed-shares_law blob.namespace (start_after end blob + shares_of blob) blobs all.0.name all.1)
+    (placed-shares_law blob.namespace (start_after end blob + share_count_of blob) blobs all.0.name all.1)
 
 -- a square has shares
 pub square_has_shares : (block : BlockParts) → IsBlock block → AreShares (square_of block).shares

@@ -9,18 +9,18 @@ use Rattle.std.specs.List.{slice_get}
 use Rattle.namespace_id.specs.declared.namespaces.Namespace.{Namespace}
 use Rattle.namespace_id.specs.declared.shares.Share.{Share}
 use Rattle.namespace_id.specs.Names.{primary_reserved_padding, tail_padding}
-use Rattle.share_split.specs.Widths.{width_of}
+use Rattle.share_split.specs.Widths.{subtree_width_of}
 use Rattle.share_split.specs.Blobs.{NamedBytes, blob_shares_of}
 use Rattle.share_split.specs.Joined.{padding_share}
 use Rattle.square_layout.specs.Blocks.{BlockParts}
 use Rattle.share_split.proofs.Writing.BlobLaws.{length-blob_shares_of}
-use Rattle.square_layout.specs.Layout.{shares_of, start_after, end_of, placed, last_name, padding_name, in_order, compact_part, compact_end, laid, width_for, square_of}
+use Rattle.square_layout.specs.Layout.{share_count_of, start_after, end_of, placed, last_name, padding_name, in_order, compact_part, compact_end, laid, width_for, square_of}
 use Rattle.square_layout.proofs.PlaceLemmas.{start_after-ge, length-placed}
 use Rattle.square_layout.proofs.LaidLemmas.{length-compact_part}
 
 -- a blob starts at a multiple of its width
-pub start_after-aligned : (end : ℕ) (blob : NamedBytes) → start_after end blob % width_of (shares_of blob) ≡ 0
-start_after-aligned end blob = mul-mod_left (div_ceil end (width_of (shares_of blob))) (width_of (shares_of blob))
+pub start_after-aligned : (end : ℕ) (blob : NamedBytes) → start_after end blob % subtree_width_of (share_count_of blob) ≡ 0
+start_after-aligned end blob = mul-mod_left (div_ceil end (subtree_width_of (share_count_of blob))) (subtree_width_of (share_count_of blob))
 
 -- the part in the middle
 middle : (a b c : List Share) (at size : ℕ) → at ≡ length a → size ≡ length b → take size (drop at (a ++ b ++ c)) ≡ b
@@ -38,7 +38,7 @@ placed-append : (name : Namespace) (end : ℕ) (front back : List NamedBytes)
 unfolding placed end_of last_name
 placed-append name end [] back = refl
 placed-append name end (first ∷ front) back =
-    let next : ℕ = start_after end first + shares_of first in
+    let next : ℕ = start_after end first + share_count_of first in
     let own : List Share = replicate (start_after end first - end) (padding_share name) ++ blob_shares_of first.namespace first.bytes in
     ap (λ (l : List Share). own ++ l) (placed-append first.namespace next front back)
     ∙ sym (append_assoc own (placed first.namespace next front) (placed (last_name first.namespace front) (end_of next front) back))
@@ -47,11 +47,11 @@ placed-append name end (first ∷ front) back =
 placed-cons : (name : Namespace) (end : ℕ) (blob : NamedBytes) (back : List NamedBytes)
     → placed name end (blob ∷ back)
     ≡ replicate (start_after end blob - end) (padding_share name)
-    ++ (blob_shares_of blob.namespace blob.bytes ++ placed blob.namespace (start_after end blob + shares_of blob) back)
+    ++ (blob_shares_of blob.namespace blob.bytes ++ placed blob.namespace (start_after end blob + share_count_of blob) back)
 unfolding placed
 placed-cons name end blob back =
     append_assoc (replicate (start_after end blob - end) (padding_share name)) (blob_shares_of blob.namespace blob.bytes)
-    (placed blob.namespace (start_after end blob + shares_of blob) back)
+    (placed blob.namespace (start_after end blob + share_count_of blob) back)
 
 -- what precedes a blob in a layout, without the padding
 abbrev pub before_of : BlockParts → List NamedBytes → List Share
@@ -72,7 +72,7 @@ gap_of block front blob =
 -- what is behind a blob
 abbrev pub behind_of : BlockParts → List NamedBytes → NamedBytes → List NamedBytes → List Share
 behind_of block front blob back =
-    placed blob.namespace (start_after (end_of (compact_end block) front) blob + shares_of blob) back
+    placed blob.namespace (start_after (end_of (compact_end block) front) blob + share_count_of blob) back
 
 -- a layout is what stands before a blob, its padding and shares, and the others
 laid-parts : (block : BlockParts) (front back : List NamedBytes) (blob : NamedBytes) → in_order block.blobs ≡ front ++ blob ∷ back
@@ -97,7 +97,7 @@ compact_stands block =
 
 -- the shares of each blob stand where it starts
 pub blob_stands : (block : BlockParts) (front back : List NamedBytes) (blob : NamedBytes) → in_order block.blobs ≡ front ++ blob ∷ back
-    → take (shares_of blob) (drop (start_after (end_of (compact_end block) front) blob) (laid block)) ≡ blob_shares_of blob.namespace blob.bytes
+    → take (share_count_of blob) (drop (start_after (end_of (compact_end block) front) blob) (laid block)) ≡ blob_shares_of blob.namespace blob.bytes
 blob_stands block front back blob e =
     let end : ℕ = end_of (compact_end block) front in
     let start : ℕ = start_after end blob in
@@ -109,8 +109,8 @@ blob_stands block front back blob e =
     laid-parts block front back blob e ∙ sym (append_assoc before gap (mine ++ behind)) ∙ sym (append_assoc (before ++ gap) mine behind) in
     let place : start ≡ length (before ++ gap) =
     omega (arith, length-append before gap, length-before_of block front, length-replicate (start - end) (padding_share (padding_name front)), start_after-ge end blob) in
-    ap (λ (l : List Share). take (shares_of blob) (drop start l)) whole
-    ∙ middle (before ++ gap) mine behind start (shares_of blob) place (sym (length-blob_shares_of blob.namespace blob.bytes))
+    ap (λ (l : List Share). take (share_count_of blob) (drop start l)) whole
+    ∙ middle (before ++ gap) mine behind start (share_count_of blob) place (sym (length-blob_shares_of blob.namespace blob.bytes))
 
 -- one of many alike, behind others
 alike_stands : (before : List Share) (n : ℕ) (share : Share) (behind : List Share) (i : ℕ) → length before ≤ i → i < length before + n

@@ -7,7 +7,7 @@ use Rattle.namespace_id.specs.declared.namespaces.Namespace.{Namespace}
 use Rattle.namespace_id.specs.declared.shares.Share.{Share}
 use Rattle.namespace_id.specs.Names.{is_at_most, transaction, pay_for_blob, primary_reserved_padding, tail_padding}
 use Rattle.namespace_id.specs.Doublings.{least_doubling}
-use Rattle.share_split.specs.Widths.{width_of}
+use Rattle.share_split.specs.Widths.{subtree_width_of}
 use Rattle.share_split.specs.Blobs.{NamedBytes, share_count, blob_shares_of}
 use Rattle.share_split.specs.Units.{unit_shares_of, unit_share_count}
 use Rattle.share_split.specs.Joined.{padding_share}
@@ -34,13 +34,13 @@ has_name name blob = bytes_eq name.0 blob.namespace.0
 -- ---- their places
 
 -- how many shares a blob takes
-abbrev pub shares_of : NamedBytes → ℕ
-shares_of blob = share_count (length blob.bytes)
+abbrev pub share_count_of : NamedBytes → ℕ
+share_count_of blob = share_count (length blob.bytes)
 
 -- where a blob starts if what precedes it ends at `end`: at the least multiple of the width of its
 -- subtrees that isn't below
 abbrev pub start_after : ℕ → NamedBytes → ℕ
-start_after end blob = div_ceil end (width_of (shares_of blob)) * width_of (shares_of blob)
+start_after end blob = div_ceil end (subtree_width_of (share_count_of blob)) * subtree_width_of (share_count_of blob)
 
 -- the shares of blobs, each behind the padding before it, from place `end` on; the padding has the
 -- namespace of the blob before it
@@ -49,7 +49,7 @@ placed name end [] = []
 placed name end (blob ∷ blobs) =
     replicate (start_after end blob - end) (padding_share name)
     ++ blob_shares_of blob.namespace blob.bytes
-    ++ placed blob.namespace (start_after end blob + shares_of blob) blobs
+    ++ placed blob.namespace (start_after end blob + share_count_of blob) blobs
 
 -- the namespace of the last of some blobs, or this one where there is none
 unfoldable pub last_name : Namespace → List NamedBytes → Namespace
@@ -64,7 +64,7 @@ padding_name blobs = last_name primary_reserved_padding blobs
 -- where the last blob ends
 unfoldable pub end_of : ℕ → List NamedBytes → ℕ
 end_of end [] = end
-end_of end (blob ∷ blobs) = end_of (start_after end blob + shares_of blob) blobs
+end_of end (blob ∷ blobs) = end_of (start_after end blob + share_count_of blob) blobs
 
 -- ---- the square
 

@@ -53,8 +53,8 @@ size_refusal width count =
 -- ---- the block
 
 -- the first check that fails
-abbrev pub refusal_of : BlockParts → Option LayError
-refusal_of block = option_or (blob_refusal block.blobs) (size_refusal block.width (needed block))
+abbrev pub layout_refusal : BlockParts → Option LayError
+layout_refusal block = option_or (blob_refusal block.blobs) (size_refusal block.width (needed block))
 
 -- a call answered the first check that fails, or, where none does, a value; but for want of memory
 abbrev pub Answers : {X : Type 0} → Result X LayError → Option LayError → Type 0

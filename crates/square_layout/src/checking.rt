@@ -4,7 +4,7 @@ ghost use Rattle.std.specs.Prelude.{◌≡◌, ◌<◌, ◌≤◌, Some, None};
 ghost use Rattle.namespace_id.specs.Names.{namespace_refusal};
 ghost use Rattle.square_layout.specs.Refusals.{bad_blob, empty_blob, blob_refusal, width_refusal, size_refusal};
 
-use crate::widths::shares_in;
+use crate::widths::square_size;
 use crate::{LayError, MAX_SHARES};
 use namespace_id::{Namespace, NsError, is_width};
 use share_split::Blob;
@@ -51,7 +51,7 @@ pub(crate) fn blob_refusal(blobs: &[Blob]) -> Option<LayError>
 fn width_refusal(count: u64, k: u16) -> Option<LayError>
     ensures { result ≡ width_refusal count k }
 {
-    if shares_in(k) < count {
+    if square_size(k) < count {
         return Some(LayError::WidthTooSmall(count));
     }
     if !is_width(k) {

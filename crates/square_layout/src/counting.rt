@@ -2,7 +2,7 @@
 
 ghost use Rattle.std.specs.Prelude.{◌≡◌, ◌+◌, ◌≤◌, ◌^◌, min, map, length};
 ghost use Rattle.square_layout.specs.Blocks.{HaveBytes};
-ghost use Rattle.square_layout.specs.Layout.{shares_of, start_after, end_of, in_order, needed};
+ghost use Rattle.square_layout.specs.Layout.{share_count_of, start_after, end_of, in_order, needed};
 ghost use Rattle.square_layout.specs.Refusals.{max_count};
 
 use crate::Block;
@@ -20,7 +20,7 @@ pub(crate) fn start_after(end: u64, blob: &Blob) -> u64
 /// Where a blob ends if what precedes it ends at `end`; 2^64 - 1 for any greater place.
 fn end_after(end: u64, blob: &Blob) -> u64
     requires { 1 ≤ length blob.now.bytes }
-    ensures { result ≡ min (start_after end blob.now + shares_of blob.now) max_count }
+    ensures { result ≡ min (start_after end blob.now + share_count_of blob.now) max_count }
 {
     start_after(end, blob).saturating_add(blob_share_count(blob.bytes.len() as u64))
 }

@@ -7,12 +7,12 @@ ghost use Rattle.namespace_id.specs.Cells.{is_width};
 ghost use Rattle.namespace_id.specs.Lists.{holds_along};
 ghost use Rattle.namespace_id.specs.Names.{is_at_most, is_blob_namespace, namespace_refusal, tail_padding};
 ghost use Rattle.namespace_id.specs.Shares.{AreShares, name_in};
-ghost use Rattle.share_split.specs.Widths.{width_of};
+ghost use Rattle.share_split.specs.Widths.{subtree_width_of};
 ghost use Rattle.share_split.specs.Blobs.{NamedBytes, blob_shares_of};
 ghost use Rattle.share_split.specs.Joined.{padding_share};
 ghost use Rattle.square_layout.specs.Blocks.{BlockParts, IsBlock, IsSquare};
-ghost use Rattle.square_layout.specs.Layout.{has_name, in_order, shares_of, start_after, end_of, padding_name, compact_part, compact_end, laid, needed, holding_from, width_for, square_of};
-ghost use Rattle.square_layout.specs.Refusals.{max_shares, refusal_of};
+ghost use Rattle.square_layout.specs.Layout.{has_name, in_order, share_count_of, start_after, end_of, padding_name, compact_part, compact_end, laid, needed, holding_from, width_for, square_of};
+ghost use Rattle.square_layout.specs.Refusals.{max_shares, layout_refusal};
 
 use crate::MAX_SHARES;
 
@@ -30,12 +30,12 @@ pub fn order_laws()
 pub fn start_laws()
     ensures behind { (end : ℕ) (blob : NamedBytes) → end ≤ start_after end blob }
     ensures near { (end : ℕ) (blob : NamedBytes) →
-        start_after end blob < end + width_of (shares_of blob) }
+        start_after end blob < end + subtree_width_of (share_count_of blob) }
     ensures aligned { (end : ℕ) (blob : NamedBytes) →
-        start_after end blob % width_of (shares_of blob) ≡ 0 }
+        start_after end blob % subtree_width_of (share_count_of blob) ≡ 0 }
     ensures stands { (block : BlockParts) (before after : List NamedBytes) (blob : NamedBytes) →
         in_order block.blobs ≡ before ++ blob ∷ after →
-        take (shares_of blob)
+        take (share_count_of blob)
         (drop (start_after (end_of (compact_end block) before) blob) (laid block))
         ≡ blob_shares_of blob.namespace blob.bytes }
 
@@ -67,7 +67,7 @@ pub fn size_laws()
     ensures limit { MAX_SHARES ≡ max_shares }
 
     // Squares and shares.
-    ensures square { (block : BlockParts) → refusal_of block ≡ None → IsSquare (square_of block) }
+    ensures square { (block : BlockParts) → layout_refusal block ≡ None → IsSquare (square_of block) }
     ensures shares { (block : BlockParts) → IsBlock block → AreShares (square_of block).shares }
 {}
 
@@ -76,7 +76,7 @@ pub fn size_laws()
 pub fn name_laws()
     ensures accepted { (bytes : List ℕ) →
         (namespace_refusal bytes ≡ None) ↔ (is_blob_namespace bytes ≡ true) }
-    ensures named { (block : BlockParts) → refusal_of block ≡ None →
+    ensures named { (block : BlockParts) → layout_refusal block ≡ None →
         AllByRecursion (λ blob. is_blob_namespace blob.namespace.0 ≡ true) block.blobs }
     ensures rising { (block : BlockParts) →
         AllByRecursion (λ blob. is_blob_namespace blob.namespace.0 ≡ true) block.blobs →

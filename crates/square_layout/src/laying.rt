@@ -9,13 +9,13 @@ ghost use Rattle.namespace_id.specs.Shares.{name_in};
 ghost use Rattle.share_split.specs.Joined.{padding_share};
 ghost use Rattle.square_layout.specs.Blocks.{HaveBytes};
 ghost use Rattle.square_layout.specs.Layout.{in_order, compact_part, laid, needed, square_of};
-ghost use Rattle.square_layout.specs.Refusals.{max_shares, refusal_of, Answers};
+ghost use Rattle.square_layout.specs.Refusals.{max_shares, layout_refusal, Answers};
 
 use crate::checking::{blob_refusal, size_refusal};
 use crate::counting::needed;
 use crate::ordering::blobs_in_order;
 use crate::putting::{put_blobs, put_padding, put_units};
-use crate::widths::{shares_in, width_for};
+use crate::widths::{square_size, width_for};
 use crate::{Block, Square};
 use namespace_id::{NoMemory, NsError, PAY_FOR_BLOB, Share, TAIL_PADDING, TRANSACTION};
 use share_split::Blob;
@@ -69,12 +69,12 @@ fn shares_of(alloc: Global, block: &Block, order: &[&Blob], k: u16) -> Result<Ve
         laid block.now
         ++ replicate (k * k - length (laid block.now)) (padding_share tail_padding)) }
 {
-    let Ok(mut shares) = Vec::with_capacity(alloc, shares_in(k) as usize) else {
+    let Ok(mut shares) = Vec::with_capacity(alloc, square_size(k) as usize) else {
         return Err(NoMemory);
     };
     put_compact(alloc, block, &mut shares)?;
     put_blobs(order, &mut shares)?;
-    put_padding(&TAIL_PADDING, shares_in(k) as usize, &mut shares)?;
+    put_padding(&TAIL_PADDING, square_size(k) as usize, &mut shares)?;
     Ok(shares)
 }
 
@@ -93,10 +93,10 @@ fn shares_of(alloc: Global, block: &Block, order: &[&Blob], k: u16) -> Result<Ve
 pub fn lay(alloc: Global, block: &Block) -> Result<Square, LayError>
     // The first check that fails: those of blobs whatever memory there is.
     ensures bad_blob { (i : ℕ) (e : NamespaceRefusal) → IsErrOf result (LayError.BadBlob i e)
-        ↔ (refusal_of block.now ≡ Some (LayError.BadBlob i e)) }
+        ↔ (layout_refusal block.now ≡ Some (LayError.BadBlob i e)) }
     ensures empty_blob { (i : ℕ) → IsErrOf result (LayError.EmptyBlob i)
-        ↔ (refusal_of block.now ≡ Some (LayError.EmptyBlob i)) }
-    ensures first { Answers result (refusal_of block.now) }
+        ↔ (layout_refusal block.now ≡ Some (LayError.EmptyBlob i)) }
+    ensures first { Answers result (layout_refusal block.now) }
 
     // The square.
     ensures square { IfOk result (λ square. square ≡ square_of block.now) }

@@ -6,7 +6,7 @@ ghost use Rattle.share_split.specs.Blobs.{blob_shares_of};
 ghost use Rattle.share_split.specs.Units.{unit_shares_of, unit_share_count};
 ghost use Rattle.share_split.specs.Joined.{padding_share};
 ghost use Rattle.square_layout.specs.Blocks.{HaveBytes};
-ghost use Rattle.square_layout.specs.Layout.{shares_of, start_after, end_of, placed};
+ghost use Rattle.square_layout.specs.Layout.{share_count_of, start_after, end_of, placed};
 ghost use Rattle.square_layout.specs.Refusals.{max_shares};
 
 use crate::counting::start_after;
@@ -50,7 +50,7 @@ pub(crate) fn put_units(
 /// Appends the shares of a blob.
 fn put_content(blob: &Blob, out: &mut Vec<Share>) -> Result<(), NoMemory>
     requires some { 1 ≤ length blob.now.bytes }
-    requires fits { shares_of blob.now ≤ max_shares }
+    requires fits { share_count_of blob.now ≤ max_shares }
     ensures { OnOk result (out.new.items ≡
         out.old.items ++ blob_shares_of blob.now.namespace blob.now.bytes) }
 {
@@ -65,7 +65,7 @@ fn put_content(blob: &Blob, out: &mut Vec<Share>) -> Result<(), NoMemory>
 /// it.
 fn put_blob(before: &Namespace, blob: &Blob, out: &mut Vec<Share>) -> Result<(), NoMemory>
     requires some { 1 ≤ length blob.now.bytes }
-    requires fits { start_after (length out.old.items) blob.now + shares_of blob.now ≤ max_shares }
+    requires fits { start_after (length out.old.items) blob.now + share_count_of blob.now ≤ max_shares }
     ensures { OnOk result (out.new.items ≡
         out.old.items
         ++ replicate (start_after (length out.old.items) blob.now - length out.old.items)

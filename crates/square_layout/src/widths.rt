@@ -7,7 +7,7 @@ ghost use Rattle.square_layout.specs.Layout.{holding_from};
 ghost use Rattle.square_layout.specs.Refusals.{max_shares, size_refusal};
 
 /// How many shares the square of the width `k` has.
-pub(crate) fn shares_in(k: u16) -> u64
+pub(crate) fn square_size(k: u16) -> u64
     ensures { result ≡ k * k }
 {
     u64::from(k) * u64::from(k)
@@ -21,7 +21,7 @@ fn least_width(count: u64) -> u16
     ensures holds { count ≤ result * result }
 {
     let mut k: u16 = 1;
-    while shares_in(k) < count {
+    while square_size(k) < count {
         k *= 2;
     }
     k

@@ -12,7 +12,7 @@ use Rattle.namespace_id.specs.declared.namespaces.Namespace.{Namespace}
 use Rattle.namespace_id.specs.declared.shares.Share.{Share}
 use Rattle.namespace_id.specs.Shares.{IsShare, name_in}
 use Rattle.namespace_id.specs.Names.{is_at_most, parity}
-use Rattle.namespace_id.specs.Cells.{is_original, name_of}
+use Rattle.namespace_id.specs.Cells.{is_original, leaf_namespace}
 use Rattle.namespace_id.specs.Lists.{holds_along}
 use Rattle.namespace_id.proofs.ShareLemmas.{name_in-is}
 use Rattle.namespace_id.proofs.OrderLemmas.{at_most_refl, at_most_trans, at_most_parity}
@@ -85,15 +85,15 @@ number-before k Col i pos =
 -- ---- the names along an axis
 
 -- in the original square a leaf has its share's namespace
-original_name : (k : ℕ) (cell : Cell) (share : Share) → is_original k cell ≡ true → name_of k cell share ≡ name_in share
+original_name : (k : ℕ) (cell : Cell) (share : Share) → is_original k cell ≡ true → leaf_namespace k cell share ≡ name_in share
 original_name k cell share t = ap (λ (b : Bool). cond b (name_in share) parity) t
 
 -- outside of it the namespace of parity shares
-parity_name : (k : ℕ) (cell : Cell) (share : Share) → is_original k cell ≡ false → name_of k cell share ≡ parity
+parity_name : (k : ℕ) (cell : Cell) (share : Share) → is_original k cell ≡ false → leaf_namespace k cell share ≡ parity
 parity_name k cell share f = ap (λ (b : Bool). cond b (name_in share) parity) f
 
 -- a name isn't above that of a parity share
-before_parity : (k : ℕ) (cell : Cell) (share : Share) → IsShare share → is_at_most (name_of k cell share) parity ≡ true
+before_parity : (k : ℕ) (cell : Cell) (share : Share) → IsShare share → is_at_most (leaf_namespace k cell share) parity ≡ true
 before_parity k cell share is = elim (cases_Bool (is_original k cell)) [
   | inl t ↦ ap (λ (name : Namespace). is_at_most name parity) (original_name k cell share t) ∙ at_most_parity (name_in share) (name_in-is share is)
   | inr f ↦ ap (λ (name : Namespace). is_at_most name parity) (parity_name k cell share f) ∙ at_most_refl parity
@@ -110,7 +110,7 @@ module _ (square : SquareShares) (grid : List Share) (whole : IsSquare square) (
 
   -- the name of a cell of the original square
   square_name : (cell : Cell) → is_original square.k cell ≡ true
-      → name_of square.k cell (share_at (2 * square.k) grid cell) ≡ get_or (map name_in square.shares) (number square.k cell) parity
+      → leaf_namespace square.k cell (share_at (2 * square.k) grid cell) ≡ get_or (map name_in square.shares) (number square.k cell) parity
   square_name cell t =
       let low = original-inside square.k cell t in
       let within : number square.k cell < square.k * square.k = number-lt square.k cell low.0 low.1 in
@@ -120,8 +120,8 @@ module _ (square : SquareShares) (grid : List Share) (whole : IsSquare square) (
 
   -- no namespace along an axis is followed by a smaller one
   step : (axis : Axis) (i pos : ℕ) → i < 2 * square.k → suc pos < 2 * square.k
-      → is_at_most (name_of square.k (cell_on axis i pos) (share_at (2 * square.k) grid (cell_on axis i pos)))
-      (name_of square.k (cell_on axis i (suc pos)) (share_at (2 * square.k) grid (cell_on axis i (suc pos)))) ≡ true
+      → is_at_most (leaf_namespace square.k (cell_on axis i pos) (share_at (2 * square.k) grid (cell_on axis i pos)))
+      (leaf_namespace square.k (cell_on axis i (suc pos)) (share_at (2 * square.k) grid (cell_on axis i (suc pos)))) ≡ true
   step axis i pos hi hp = elim (cases_Bool (is_original square.k (cell_on axis i (suc pos)))) [
     | inl t ↦
         let low = original-inside square.k (cell_on axis i (suc pos)) t in
@@ -130,7 +130,7 @@ module _ (square : SquareShares) (grid : List Share) (whole : IsSquare square) (
         ∙ ordered-le (map name_in square.shares) parity (number square.k (cell_on axis i pos)) (number square.k (cell_on axis i (suc pos))) ordered
         (number-before square.k axis i pos) (omega (arith, length-map square.shares name_in, whole.count))
     | inr f ↦
-        ap (is_at_most (name_of square.k (cell_on axis i pos) (share_at (2 * square.k) grid (cell_on axis i pos))))
+        ap (is_at_most (leaf_namespace square.k (cell_on axis i pos) (share_at (2 * square.k) grid (cell_on axis i pos))))
         (parity_name square.k (cell_on axis i (suc pos)) (share_at (2 * square.k) grid (cell_on axis i (suc pos))) f)
         ∙ before_parity square.k (cell_on axis i pos) (share_at (2 * square.k) grid (cell_on axis i pos)) (axis_share axis i pos hi (omega arith))
   ]

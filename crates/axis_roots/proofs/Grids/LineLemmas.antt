@@ -9,7 +9,7 @@ use Rattle.namespace_id.specs.declared.shares.Share.{Share}
 use Rattle.namespace_id.specs.declared.digests.Digest.{Digest}
 use Rattle.namespace_id.specs.Names.{AreNamespaces, parity}
 use Rattle.namespace_id.specs.Shares.{AreShares}
-use Rattle.namespace_id.specs.Cells.{is_width, name_of}
+use Rattle.namespace_id.specs.Cells.{is_width, leaf_namespace}
 use Rattle.namespace_id.specs.Lists.{ascending}
 use Rattle.namespace_id.proofs.ShareLemmas.{name_of-is}
 use Rattle.nmt_tree.specs.Digests.{leaf_digest}
@@ -26,21 +26,21 @@ use Rattle.axis_roots.proofs.Grids.WordLemmas.{share_anywhere}
 pub length-line_names : (k : ℕ) (axis : Axis) (i : ℕ) (line : List Share) → length (line_names k axis i line) ≡ 2 * k
 unfolding line_names
 length-line_names k axis i line =
-    length-map (ascending 0 (2 * k)) (λ pos. name_of k (cell_on axis i pos) (get_or line pos blank)) ∙ length-ascending (2 * k) 0
+    length-map (ascending 0 (2 * k)) (λ pos. leaf_namespace k (cell_on axis i pos) (get_or line pos blank)) ∙ length-ascending (2 * k) 0
 
 -- the one at a place
 pub get_or-line_names : (k : ℕ) (axis : Axis) (i : ℕ) (line : List Share) (pos : ℕ) (d : Namespace) → pos < 2 * k
-    → get_or (line_names k axis i line) pos d ≡ name_of k (cell_on axis i pos) (get_or line pos blank)
+    → get_or (line_names k axis i line) pos d ≡ leaf_namespace k (cell_on axis i pos) (get_or line pos blank)
 unfolding line_names
 get_or-line_names k axis i line pos d h =
     let start : 0 + pos ≡ pos = omega arith in
-    let name : ℕ → Namespace = λ p. name_of k (cell_on axis i p) (get_or line p blank) in
+    let name : ℕ → Namespace = λ p. leaf_namespace k (cell_on axis i p) (get_or line p blank) in
     get_or-map name (ascending 0 (2 * k)) pos 0 d (omega (arith, length-ascending (2 * k) 0))
     ∙ ap name (get_or-ascending (2 * k) 0 pos h ∙ start)
 
 -- those of some places are namespaces
 names_from : (k : ℕ) (axis : Axis) (i : ℕ) (line : List Share) → AreShares line → (n first : ℕ)
-    → AreNamespaces (map (λ pos. name_of k (cell_on axis i pos) (get_or line pos blank)) (ascending first n))
+    → AreNamespaces (map (λ pos. leaf_namespace k (cell_on axis i pos) (get_or line pos blank)) (ascending first n))
 unfolding ascending
 names_from k axis i line are zero first = tt
 names_from k axis i line are (suc n) first =
@@ -69,16 +69,16 @@ line_leaves k axis i line width long are = record {
 
 -- the name at a place of an axis
 pub get_or-axis_names : (k : ℕ) (shares : List Share) (axis : Axis) (i pos : ℕ) (d : Namespace) → pos < 2 * k
-    → get_or (axis_names k shares axis i) pos d ≡ name_of k (cell_on axis i pos) (share_at (2 * k) shares (cell_on axis i pos))
+    → get_or (axis_names k shares axis i) pos d ≡ leaf_namespace k (cell_on axis i pos) (share_at (2 * k) shares (cell_on axis i pos))
 get_or-axis_names k shares axis i pos d h =
     get_or-line_names k axis i (axis_shares k shares axis i) pos d h
-    ∙ ap (name_of k (cell_on axis i pos)) (get_or-along k (share_at (2 * k) shares) axis i pos blank h)
+    ∙ ap (leaf_namespace k (cell_on axis i pos)) (get_or-along k (share_at (2 * k) shares) axis i pos blank h)
 
 -- the names along an axis, by its cells
 pub axis_names-cells : (k : ℕ) (shares : List Share) (axis : Axis) (i : ℕ)
-    → axis_names k shares axis i ≡ map (λ cell. name_of k cell (share_at (2 * k) shares cell)) (axis_cells k axis i)
+    → axis_names k shares axis i ≡ map (λ cell. leaf_namespace k cell (share_at (2 * k) shares cell)) (axis_cells k axis i)
 axis_names-cells k shares axis i =
-    is_along k (λ cell. name_of k cell (share_at (2 * k) shares cell)) axis i parity (axis_names k shares axis i)
+    is_along k (λ cell. leaf_namespace k cell (share_at (2 * k) shares cell)) axis i parity (axis_names k shares axis i)
     (length-line_names k axis i (axis_shares k shares axis i)) (λ pos h. get_or-axis_names k shares axis i pos parity h)
 
 -- the digests of leaves are those of their names and shares
@@ -93,4 +93,4 @@ pub axis_leaves-cells : (k : ℕ) (shares : List Share) (axis : Axis) (i : ℕ)
     → leaf_digests (axis_names k shares axis i) (axis_shares k shares axis i) ≡ map (leaf_over k shares) (axis_cells k axis i)
 axis_leaves-cells k shares axis i =
     ap (λ (names : List Namespace). leaf_digests names (axis_shares k shares axis i)) (axis_names-cells k shares axis i)
-    ∙ sym (mapped_leaves (λ cell. name_of k cell (share_at (2 * k) shares cell)) (share_at (2 * k) shares) (axis_cells k axis i))
+    ∙ sym (mapped_leaves (λ cell. leaf_namespace k cell (share_at (2 * k) shares cell)) (share_at (2 * k) shares) (axis_cells k axis i))

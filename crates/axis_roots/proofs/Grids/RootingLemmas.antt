@@ -13,7 +13,7 @@ use Rattle.namespace_id.specs.declared.digests.Digest.{Digest}
 use Rattle.namespace_id.specs.Shares.{AreShares}
 use Rattle.namespace_id.specs.Names.{is_at_most, parity}
 use Rattle.namespace_id.specs.Digests.{least_of, no_digest}
-use Rattle.namespace_id.specs.Cells.{is_width, name_of}
+use Rattle.namespace_id.specs.Cells.{is_width, leaf_namespace}
 use Rattle.namespace_id.proofs.ShareLemmas.{name_of-is}
 use Rattle.nmt_tree.specs.Roots.{is_leaf_count, halvings, is_ordered, strict_root}
 use Rattle.nmt_tree.specs.Levels.{leaf_digests, span}
@@ -53,14 +53,14 @@ names_along : (k : ℕ) (shares : List Share) (axis : Axis) (i : ℕ) → AreSha
 names_along k shares axis i are =
     let digests : List Digest = map (leaf_over k shares) (axis_cells k axis i) in
     ap (map least_of) (axis_leaves-cells k shares axis i)
-    ∙ is_along k (λ cell. name_of k cell (share_at (2 * k) shares cell)) axis i parity (map least_of digests)
+    ∙ is_along k (λ cell. leaf_namespace k cell (share_at (2 * k) shares cell)) axis i parity (map least_of digests)
     (length-map digests least_of ∙ length-along k (leaf_over k shares) axis i)
     (λ pos h.
     let cell : Cell = cell_on axis i pos in
     let share : Share = share_at (2 * k) shares cell in
     get_or-map least_of digests pos no_digest parity (omega (arith, length-along k (leaf_over k shares) axis i))
     ∙ ap least_of (get_or-along k (leaf_over k shares) axis i pos no_digest h)
-    ∙ least-leaf (name_of k cell share) share (name_of-is k cell share (share_anywhere shares (cell.row * (2 * k) + cell.col) are)).size_is)
+    ∙ least-leaf (leaf_namespace k cell share) share (name_of-is k cell share (share_anywhere shares (cell.row * (2 * k) + cell.col) are)).size_is)
     ∙ sym (axis_names-cells k shares axis i)
 
 -- ---- the order of digests

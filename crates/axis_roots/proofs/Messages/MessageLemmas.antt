@@ -5,7 +5,7 @@ use Rattle.namespace_id.specs.declared.cells.Cell.{Cell}
 use Rattle.namespace_id.specs.declared.cells.Axis.{Axis}
 use Rattle.namespace_id.specs.declared.shares.Share.{Share}
 use Rattle.namespace_id.specs.declared.digests.Digest.{Digest}
-use Rattle.namespace_id.specs.Cells.{is_width, is_in_square, name_of}
+use Rattle.namespace_id.specs.Cells.{is_width, is_in_square, leaf_namespace}
 use Rattle.nmt_tree.specs.Digests.{leaf_digest}
 use Rattle.nmt_tree.specs.Roots.{halvings}
 use Rattle.namespace_id.specs.Digests.{no_digest}
@@ -22,9 +22,9 @@ use Rattle.axis_roots.proofs.Grids.LineLemmas.{axis_leaves-cells}
 
 -- the leaf at the place of a cell on its axis
 own_leaf : (k : ℕ) (shares : List Share) (axis : Axis) (cell : Cell) (share : Share) → IsTrue (is_in_square k cell) → share ≡ share_at (2 * k) shares cell
-    → leaf_digest (name_of k cell share) share ≡ get_or (leaves_along k shares axis (index axis cell)) (position axis cell) no_digest
+    → leaf_digest (leaf_namespace k cell share) share ≡ get_or (leaves_along k shares axis (index axis cell)) (position axis cell) no_digest
 own_leaf k shares axis cell share within at =
-    ap (λ (s : Share). leaf_digest (name_of k cell s) s) at
+    ap (λ (s : Share). leaf_digest (leaf_namespace k cell s) s) at
     ∙ ap (leaf_over k shares) (sym (cell_on-own axis cell))
     ∙ sym (ap (λ (leaves : List Digest). get_or leaves (position axis cell) no_digest) (axis_leaves-cells k shares axis (index axis cell))
     ∙ get_or-along k (leaf_over k shares) axis (index axis cell) (position axis cell) no_digest (position-lt k axis cell within))
@@ -45,5 +45,5 @@ opens_made k n i pos shares m leaves width within sized at count of_axis on_axis
       let made : OpensLeaf (2 * k) line (position m.axis m.cell) m.path =
       subst (λ (x : ℕ). OpensLeaf x line (position m.axis m.cell) m.path) count (subst (λ (x : ℕ). OpensLeaf n line x m.path) on_axis (opens line there)) in
       subst (Opens (halvings (2 * k)) (shown_by k m) m.path) (root-leaves k shares m.axis (index m.axis m.cell) width)
-      (made (name_of k m.cell m.share) m.share (own_leaf k shares m.axis m.cell m.share within at));
+      (made (leaf_namespace k m.cell m.share) m.share (own_leaf k shares m.axis m.cell m.share within at));
 }

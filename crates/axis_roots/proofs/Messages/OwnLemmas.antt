@@ -10,7 +10,7 @@ use Rattle.namespace_id.specs.declared.cells.Axis.{Axis}
 use Rattle.namespace_id.specs.declared.namespaces.Namespace.{Namespace}
 use Rattle.namespace_id.specs.declared.shares.Share.{Share}
 use Rattle.namespace_id.specs.declared.digests.Digest.{Digest}
-use Rattle.namespace_id.specs.Cells.{is_width, name_of}
+use Rattle.namespace_id.specs.Cells.{is_width, leaf_namespace}
 use Rattle.namespace_id.proofs.ShareLemmas.{name_of-is}
 use Rattle.nmt_tree.specs.Roots.{halvings}
 use Rattle.nmt_proofs.specs.Parts.{Part, digest_of}
@@ -105,7 +105,7 @@ shows_own k m square grid root opens extends same =
     let pos : ℕ = position m.axis m.cell in
     let below : pos < 2 * k = position-lt k m.axis m.cell opens.inside in
     let leaves = leaves_are k square grid m.axis i opens.width extends (index-lt k m.axis m.cell opens.inside) in
-    let listed = leaf_agreed (halvings (2 * k)) pos (name_of k m.cell m.share) m.share m.path (axis_names k grid m.axis i) (axis_shares k grid m.axis i)
+    let listed = leaf_agreed (halvings (2 * k)) pos (leaf_namespace k m.cell m.share) m.share m.path (axis_names k grid m.axis i) (axis_shares k grid m.axis i)
     (opening_of k m root opens) (subst (λ (n : ℕ). pos < n) (leaf_count k opens.width) below) leaves same in
     share_on k grid m.axis m.cell m.share below listed.1
 

@@ -1,7 +1,7 @@
 //! Certificates: only a message that is proved under a header gets one.
 
 ghost use Rattle.std.specs.Prelude.{◌≡◌, ◌↔◌, IsOk, IfOk, IfErr, Some};
-ghost use Rattle.axis_roots.specs.Messages.{refusal_of};
+ghost use Rattle.axis_roots.specs.Messages.{message_refusal};
 ghost use Rattle.axis_roots.specs.Openings.{IsProved};
 ghost use Rattle.axis_roots.specs.Own.{IsOwn};
 ghost use Rattle.axis_roots.specs.Proved.{IsUnder, kept_message};
@@ -31,7 +31,7 @@ pub fn check(header: &Header, message: Message) -> Result<Proved, RefusedMessage
     ensures own { IsOk result → IsOwn header.now message }
 
     // A refusal names the first check that fails, and hands the message back.
-    ensures why { IfErr result (λ refused. Some refused.why ≡ refusal_of header.now message) }
+    ensures why { IfErr result (λ refused. Some refused.why ≡ message_refusal header.now message) }
     ensures returned { IfErr result (λ refused. refused.message ≡ message) }
 {
     if let Err(why) = opens(header, &message) {

@@ -9,7 +9,7 @@ ghost use Rattle.data_header.specs.Headers.{Roots, AreRoots, root_of};
 ghost use Rattle.square_layout.specs.Blocks.{SquareShares, IsSquare};
 ghost use Rattle.axis_roots.specs.declared.message.messages.Message.{Message as Sent};
 ghost use Rattle.axis_roots.specs.declared.message.proved.Proved.{Proved as Certificate};
-ghost use Rattle.axis_roots.specs.Messages.{refusal_of, IsMessage};
+ghost use Rattle.axis_roots.specs.Messages.{message_refusal, IsMessage};
 ghost use Rattle.axis_roots.specs.Openings.{IsProved};
 ghost use Rattle.axis_roots.specs.Own.{AgreesAt, NamesAt, ShowsOwn, NamesClash, IsOwn};
 ghost use Rattle.axis_roots.specs.Proved.{IsUnder, kept_message};
@@ -23,7 +23,7 @@ pub fn message_laws()
 
     // A message is proved exactly where no check fails.
     ensures refusal { (header : Roots) (message : Sent) → AreRoots header → IsMessage message →
-        (refusal_of header message ≡ None) ↔ IsProved header message }
+        (message_refusal header message ≡ None) ↔ IsProved header message }
 
     // Under the header of a square a proved message shows the square's own share, or they name a
     // collision.

@@ -1,7 +1,7 @@
 //! Samples, which are called share messages, and whether one is proved under a header.
 
 ghost use Rattle.std.specs.Prelude.{◌≡◌, ◌↔◌, IsOk, IsErrOf, IsErrAnd, true, false};
-ghost use Rattle.axis_roots.specs.Messages.{position, index, is_inside, has_node_count, has_ordered_joins, is_under_root, refusal_of, refusal_in, IsMessage};
+ghost use Rattle.axis_roots.specs.Messages.{position, index, is_inside, has_node_count, has_ordered_joins, is_under_root, message_refusal, refusal_in, IsMessage};
 ghost use Rattle.axis_roots.specs.Openings.{IsProved};
 ghost use Rattle.axis_roots.specs.Own.{IsOwn};
 
@@ -98,7 +98,7 @@ pub fn opens(header: &Header, message: &Message) -> Result<(), CheckRefusal>
         × (is_under_root header.now message.now ≡ false) }
 
     // All of these at once.
-    ensures first { refusal_in result ≡ refusal_of header.now message.now }
+    ensures first { refusal_in result ≡ message_refusal header.now message.now }
 
     // Under the header of a square, what is accepted is the square's own share, or the message and the
     // square name a collision.

@@ -3,7 +3,7 @@ use Rattle.std.specs.Prelude.{ℕ, List, [], ◌∷◌, MatchResult, MatchOption
 use Rattle.std.specs.declared.option.Option.{Option}
 use Rattle.square_layout.specs.Blocks.{BlockParts}
 use Rattle.square_layout.specs.Layout.{square_of}
-use Rattle.square_layout.specs.Refusals.{refusal_of}
+use Rattle.square_layout.specs.Refusals.{layout_refusal}
 use Rattle.da_wire.specs.declared.frames.Frame.TheVariants.{Square}
 use Rattle.da_cli.specs.declared.status.Status.TheVariants.{BadBlock}
 use Rattle.da_cli.specs.Gathered.{file_of}
@@ -17,7 +17,7 @@ block_file files = file_of files 0
 -- what build answers to a block: the first refusal of it, or the frame of its square
 abbrev pub Builds : BlockParts → Relation
 Builds block w status =
-    MatchOption (refusal_of block) (Writes (Square (square_of block)) w status) (λ why. Refuses (BadBlock why) w status)
+    MatchOption (layout_refusal block) (Writes (Square (square_of block)) w status) (λ why. Refuses (BadBlock why) w status)
 
 -- BLOCK is a block and nothing else
 abbrev pub build_judged : List (List ℕ) → List (Option ℕ)

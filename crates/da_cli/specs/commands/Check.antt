@@ -5,7 +5,7 @@ use Rattle.std.specs.Option.{option_map_or}
 use Rattle.data_header.specs.Headers.{Roots}
 use Rattle.axis_roots.specs.declared.message.messages.Message as sent
 use Rattle.axis_roots.specs.declared.message.messages.CheckRefusal.TheVariants.{OutOfSquare, NodeCount, Unordered, OtherRoot}
-use Rattle.axis_roots.specs.Messages.{refusal_of}
+use Rattle.axis_roots.specs.Messages.{message_refusal}
 use Rattle.square_layout.specs.Blocks.{SquareShares}
 use Rattle.axis_roots.specs.Openings.{IsProved}
 use Rattle.axis_roots.specs.Own.{ShowsOwn, NamesClash}
@@ -24,7 +24,7 @@ use Rattle.da_cli.specs.Outcome.{Relation}
 -- what is found of a frame
 abbrev pub finding_of : Roots → Raw → Finding
 finding_of header frame =
-    option_map_or (λ m. option_map_or found.Refused (refusal_of header m) found.Proved) (message_in frame) found.NoMessage
+    option_map_or (λ m. option_map_or found.Refused (message_refusal header m) found.Proved) (message_in frame) found.NoMessage
 
 -- the line for what was found of a frame: the number of the first check that fails; that of the grammar is 0
 abbrev pub line_of : Finding → List ℕ

@@ -7,7 +7,7 @@ use Rattle.std.proofs.lemmas.Grind.{div_ceil_times}
 use Rattle.std.proofs.lemmas.Nat.{mul-le}
 use Rattle.std.proofs.Math.Nat.{pow-suc, one-le-pow, mul-suc}
 use Rattle.std.proofs.Math.Pow.{pow_mono}
-use Rattle.share_split.specs.Widths.{is_wide_enough, width_from, width_of, IsLeastPower, IsLeastRoot}
+use Rattle.share_split.specs.Widths.{is_wide_enough, width_from, subtree_width_of, IsLeastPower, IsLeastRoot}
 use Rattle.namespace_id.specs.Doublings.{least_doubling}
 use Rattle.namespace_id.proofs.DoublingLemmas.{least_doubling-suc, least_doubling-found, least_from, most_from, passes_from}
 use Rattle.share_split.proofs.Width.Powers.{power-double}
@@ -26,17 +26,17 @@ power_from (suc more) j count = elim (cases_Bool (is_wide_enough count (2 ^ j)))
 -- ---- the width
 
 -- the width of subtrees is a power of two
-width_of-power : (count : ℕ) → IsPowerOfTwo (width_of count)
+width_of-power : (count : ℕ) → IsPowerOfTwo (subtree_width_of count)
 width_of-power count = power_from 28 0 count
 
 -- the width of subtrees is wide enough
-width_of-enough : (count : ℕ) → count ≤ 2 ^ 56 → is_wide_enough count (width_of count) ≡ true
+width_of-enough : (count : ℕ) → count ≤ 2 ^ 56 → is_wide_enough count (subtree_width_of count) ≡ true
 width_of-enough count h =
     let last : is_wide_enough count (1 * 2 ^ 28) ≡ true = grind (arith, nat_tests) in
     passes_from (is_wide_enough count) 28 1 last
 
 -- no lesser power of two is wide enough
-width_of-least : (count power : ℕ) → IsPowerOfTwo power → is_wide_enough count power ≡ true → width_of count ≤ power
+width_of-least : (count power : ℕ) → IsPowerOfTwo power → is_wide_enough count power ≡ true → subtree_width_of count ≤ power
 width_of-least count power p enough = elim (cases_lt 28 p.0) [
   | inr few ↦
       let one : power ≡ 1 * 2 ^ p.0 = omega (arith, p.1) in
@@ -53,9 +53,9 @@ enough_square count width more h = grind (arith, nat_tests)
 -- it is the lesser of two powers of two
 pub width_is_lesser : (count root by_threshold by_square : ℕ) → count ≤ 2 ^ 56
     → IsLeastPower (div_ceil count 64) by_threshold → IsLeastRoot count root → IsLeastPower root by_square
-    → width_of count ≡ min by_threshold by_square
+    → subtree_width_of count ≡ min by_threshold by_square
 width_is_lesser count root by_threshold by_square h threshold least square =
-    let w : ℕ = width_of count in
+    let w : ℕ = subtree_width_of count in
     let rounded = div_ceil_times count 64 (omega arith) in
     let threshold_enough : is_wide_enough count by_threshold ≡ true = grind (arith, nat_tests, rounded.0, threshold.holds) in
     let squares : root * root ≤ by_square * by_square = mul-le root root by_square by_square square.holds square.holds in

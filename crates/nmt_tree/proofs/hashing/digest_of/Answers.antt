@@ -4,5 +4,5 @@ use Rattle.nmt_tree.proofs.hashing.digest_of.Goals as goal
 
 pub returns : goal.returns
 returns c =
-    three_parts (replicate 90 0) c.args.least.now.0 c.args.greatest.now.0 c.args.hash.now c.put.new.bytes c.put-2.new.bytes c.put-3.new.bytes
-    29 58 (omega arith) (omega arith) (omega arith) c.put.ensures c.put-2.ensures c.put-3.ensures
+    three_parts (replicate 90 0) c.args.least.now.0 c.args.greatest.now.0 c.args.hash.now c.write_at.new.bytes c.write_at-2.new.bytes c.write_at-3.new.bytes
+    29 58 (omega arith) (omega arith) (omega arith) c.write_at.ensures c.write_at-2.ensures c.write_at-3.ensures

@@ -3,5 +3,5 @@ use Rattle.share_split.proofs.blobs.sequence_share.Goals as goal
 
 pub returns : goal.returns
 returns c =
-    sequence_written c.args.namespace.now c.args.start c.args.fields.now c.args.content.now c.begun-share.result.0 c.put.new.bytes c.put-2.new.bytes
-    c.begun-share.ensures.name c.requires c.begun-share.ensures.value c.put.ensures c.put-2.ensures
+    sequence_written c.args.namespace.now c.args.start c.args.fields.now c.args.content.now c.begun-share.result.0 c.write_at.new.bytes c.write_at-2.new.bytes
+    c.begun-share.ensures.name c.requires c.begun-share.ensures.value c.write_at.ensures c.write_at-2.ensures

@@ -25,10 +25,10 @@ loop-at-preserved c =
     let u = unit_back (drop at text) c.in-Some.unit.now size (AreBytes-drop at text (λ i. omega (arith, c.type_inv.text i))) read in
     record {
       within = omega (arith, u.within, length-drop at text, c.loop-at-test.true);
-      units = text_more at (drop at text) c.in-Some.unit.now (drop (at + size) text) size c.loop-at.placed.units.items c.put.new.self.units.items _
+      units = text_more at (drop at text) c.in-Some.unit.now (drop (at + size) text) size c.loop-at.placed.units.items c.keep.new.self.units.items _
           read u.some left (sym (drop-drop size at text)) c.in_ok-put.ensures.units c.loop-at.invariant.units;
-      starts = λ more. starts_more at size c.in-Some.unit.now c.loop-at.placed.units.items c.put.new.self.units.items more
-          c.loop-at.placed.starts.items c.put.new.self.starts.items u.size_is c.in_ok-put.ensures.units c.in_ok-put.ensures.starts (c.loop-at.invariant.starts _);
+      starts = λ more. starts_more at size c.in-Some.unit.now c.loop-at.placed.units.items c.keep.new.self.units.items more
+          c.loop-at.placed.starts.items c.keep.new.self.starts.items u.size_is c.in_ok-put.ensures.units c.in_ok-put.ensures.starts (c.loop-at.invariant.starts _);
     }
 
 -- no byte is left

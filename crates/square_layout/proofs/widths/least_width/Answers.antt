@@ -10,7 +10,7 @@ loop-k-init c = record { way = record { more = 7; ends = refl; value = refl }; w
 
 pub loop-k-preserved : goal.loop-k-preserved
 loop-k-preserved c =
-    let small : c.loop-k.k * c.loop-k.k < c.args.count = omega (arith, c.loop-k-test.true, c.shares_in.ensures) in
+    let small : c.loop-k.k * c.loop-k.k < c.args.count = omega (arith, c.loop-k-test.true, c.square_size.ensures) in
     record {
       way = way-doubled (holds_shares c.args.count) 128 (holding_from 7 1 c.args.count) c.loop-k.k
           (below_greatest c.args.count c.loop-k.k c.requires small) (lt-leb _ _ small) c.loop-k.invariant.way;
@@ -19,5 +19,5 @@ loop-k-preserved c =
 
 pub returns-clause-value : goal.returns-clause-value
 returns-clause-value c =
-    let enough : c.args.count ≤ c.loop-k.k * c.loop-k.k = omega (arith, c.loop-k-test.false, c.shares_in.ensures) in
+    let enough : c.args.count ≤ c.loop-k.k * c.loop-k.k = omega (arith, c.loop-k-test.false, c.square_size.ensures) in
     way-ends (holds_shares c.args.count) 128 (holding_from 7 1 c.args.count) c.loop-k.k (le-leb _ _ enough) c.loop-k.invariant.way
