@@ -34,6 +34,7 @@ unfoldable pub gathered_from : Files → ℕ → List (List ℕ) → Gathered
 gathered_from files i [] = whole []
 gathered_from files i (name ∷ names) = gathered_one i (files name) (gathered_from files (suc i) names)
 
+-- what the files of these names hold, counted from 0
 abbrev pub gathered : Files → List (List ℕ) → Gathered
 gathered files names = gathered_from files 0 names
 
@@ -46,6 +47,7 @@ abbrev pub bytes_read : Result (Vec ℕ Global) Stop → Result (List ℕ) Stop
 bytes_read (Ok content) = Ok content.items
 bytes_read (Err stop) = Err stop
 
+-- the bytes of files that were read, or why reading them stopped
 abbrev pub files_read : Result (Vec (Vec ℕ Global) Global) Stop → Result (List (List ℕ)) Stop
 files_read (Ok contents) = Ok (contents_of contents.items)
 files_read (Err stop) = Err stop

@@ -29,6 +29,7 @@ block_note (lay.WidthTooSmall needed) = codes "4 " ++ decimal needed
 block_note lay.BadWidth = codes "5"
 block_note lay.NoMemory = codes "6"
 
+-- why what the files ask for can't be answered, in words
 abbrev pub request_note : Asked → List ℕ
 request_note NoHeader = codes "no header"
 

@@ -33,5 +33,6 @@ abbrev pub names_in : Option Call → List (List ℕ) → List (List ℕ)
 names_in None words = []
 names_in (Some call) words = file_words call.files words
 
+-- the names of the files of these words, none where they are no command
 abbrev pub names_of : List (List ℕ) → List (List ℕ)
 names_of words = names_in (call_of words) words

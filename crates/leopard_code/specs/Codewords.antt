@@ -50,9 +50,11 @@ bytes_sum [] ys = []
 bytes_sum (x ∷ xs) [] = []
 bytes_sum (x ∷ xs) (y ∷ ys) = bit_xor x y ∷ bytes_sum xs ys
 
+-- the bytewise xor of two shares
 abbrev pub share_sum : Share → Share → Share
 share_sum a b = record { 0 = bytes_sum a.0 b.0 }
 
+-- the bytewise xor of two lists of shares, share by share
 unfoldable pub shares_sum : List Share → List Share → List Share
 shares_sum [] others = []
 shares_sum (share ∷ shares) [] = []
@@ -62,6 +64,7 @@ shares_sum (share ∷ shares) (other ∷ others) = share_sum share other ∷ sha
 abbrev pub share_multiple : ℕ → Share → Share
 share_multiple c share = record { 0 = map (product c) share.0 }
 
+-- the bytewise multiples of shares
 abbrev pub shares_multiple : ℕ → List Share → List Share
 shares_multiple c shares = map (share_multiple c) shares
 

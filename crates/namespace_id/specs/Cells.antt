@@ -37,5 +37,6 @@ pub record CellList : Type 0 where
   pub k : ℕ
   pub list : List Cell
 
+-- these are cells of the square of their width, strictly ascending in row-major order
 abbrev pub AreCells : CellList → Type 0
 AreCells cells = are_cells cells.k cells.list ≡ true

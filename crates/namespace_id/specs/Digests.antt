@@ -10,6 +10,7 @@ use Rattle.namespace_id.specs.Sizes.{namespace_size, digest_size}
 abbrev pub IsDigest : Digest → Type 0
 IsDigest digest = IsString digest_size digest.0
 
+-- each of these is a digest
 abbrev pub AreDigests : List Digest → Type 0
 AreDigests digests = AllByRecursion IsDigest digests
 

@@ -15,6 +15,7 @@ use Rattle.namespace_id.specs.declared.namespaces.NsError.TheVariants.{Length, V
 abbrev pub IsNamespace : Namespace → Type 0
 IsNamespace name = IsString namespace_size name.0
 
+-- each of these is a namespace
 abbrev pub AreNamespaces : List Namespace → Type 0
 AreNamespaces names = AllByRecursion IsNamespace names
 
@@ -46,6 +47,7 @@ primary_reserved_padding = record { 0 = replicate 28 0 ++ 0xFF ∷ [] }
 abbrev pub transaction : Namespace
 transaction = record { 0 = replicate 28 0 ++ 1 ∷ [] }
 
+-- the namespace of payments for blobs: version 0, the id 4
 abbrev pub pay_for_blob : Namespace
 pay_for_blob = record { 0 = replicate 28 0 ++ 4 ∷ [] }
 

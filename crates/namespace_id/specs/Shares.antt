@@ -10,6 +10,7 @@ use Rattle.namespace_id.specs.Sizes.{namespace_size, share_size}
 abbrev pub IsShare : Share → Type 0
 IsShare share = IsString share_size share.0
 
+-- each of these is a share
 abbrev pub AreShares : List Share → Type 0
 AreShares shares = AllByRecursion IsShare shares
 

@@ -19,10 +19,12 @@ pub data Piece : Type 0 where
   padding : (name : Namespace) → Piece
   blob : (named : NamedBytes) → Piece
 
+-- the shares of such a piece
 abbrev pub piece_shares : Piece → List Share
 piece_shares (padding name) = padding_share name ∷ []
 piece_shares (blob named) = blob_shares_of named.namespace named.bytes
 
+-- the blob that it is, none for padding
 abbrev pub piece_blobs : Piece → List NamedBytes
 piece_blobs (padding name) = []
 piece_blobs (blob named) = named ∷ []
@@ -34,6 +36,7 @@ pub record IsBlob (named : NamedBytes) : Type 0 where
   pub few : length named.bytes ≤ max_sequence_length
   pub fits : AreBytes named.bytes
 
+-- a padding share has a namespace, and a blob is one
 abbrev pub IsPiece : Piece → Type 0
 IsPiece (padding name) = IsNamespace name
 IsPiece (blob named) = IsBlob named

@@ -16,6 +16,7 @@ TakesShare (Err e) refusal taken = (e ≡ NoMemory) ⊎ (refusal ≡ Some e)
 abbrev pub open_after : Sequence → Option Sequence
 open_after s = if is_complete s then None else Some s
 
+-- the blob that a sequence is when it is complete, none for padding
 abbrev pub blobs_after : Sequence → List NamedBytes
 blobs_after s =
     if is_complete s && not (s.size == 0)

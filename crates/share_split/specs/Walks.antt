@@ -16,6 +16,7 @@ use Rattle.share_split.specs.Units.{first_compact_content, later_compact_content
 
 -- ---- the fields of a share, behind its namespace
 
+-- the share version: the upper seven bits of the info byte
 abbrev pub version_in : Share → ℕ
 version_in share = slice_index share.0 namespace_size / 2
 
@@ -54,6 +55,7 @@ pub record Sequence : Type 0 where
 abbrev pub missing : Sequence → ℕ
 missing s = s.size - length s.content
 
+-- whether no content of a sequence is still to come
 abbrev pub is_complete : Sequence → Bool
 is_complete s = nat_le s.size (length s.content)
 
@@ -66,6 +68,7 @@ begun_by reserved i share = record {
   content = take (size_in share) (content_in reserved share);
 }
 
+-- a sequence with the content of one more share
 abbrev pub extended_by : ℕ → Sequence → Share → Sequence
 extended_by reserved s share = record {
   first = s.first;
@@ -112,6 +115,7 @@ abbrev pub blob_refusal : ℕ → Option Sequence → Share → Option JoinError
 blob_refusal i None share = first_refusal 0 i share
 blob_refusal i (Some s) share = later_refusal 0 i s share
 
+-- the sequence after share i, where one may be open
 abbrev pub taken_by : ℕ → ℕ → Option Sequence → Share → Sequence
 taken_by reserved i None share = begun_by reserved i share
 taken_by reserved i (Some s) share = extended_by reserved s share
@@ -126,11 +130,13 @@ blobs_from i so_far (share ∷ shares) =
     then with_blob (taken_by 0 i so_far share) (blobs_from (suc i) None shares)
     else blobs_from (suc i) (Some (taken_by 0 i so_far share)) shares)
 
+-- the blobs that shares are, or the first check that fails
 abbrev pub blobs_of : List Share → Result (List NamedBytes) JoinError
 blobs_of shares = blobs_from 0 None shares
 
 -- ---- the one sequence of units
 
+-- what is checked of share i of a compact sequence, where it may have begun
 abbrev pub unit_refusal : ℕ → Option Sequence → Share → Option JoinError
 unit_refusal i None share = first_refusal 4 i share
 unit_refusal i (Some s) share =
@@ -167,9 +173,11 @@ unit_of all (Some length_read) =
     then Some (take length_read.0 length_read.1, all - length length_read.1 + length_read.0)
     else None
 
+-- the unit at the front of a text, and how many bytes it takes with its length
 abbrev pub unit_at : List ℕ → Option (List ℕ × ℕ)
 unit_at bytes = unit_of (length bytes) (varint_in 5 bytes)
 
+-- a unit in front of those that follow it
 abbrev pub with_unit : List ℕ → Result (List (List ℕ)) ℕ → Result (List (List ℕ)) ℕ
 with_unit unit (Err at) = Err at
 with_unit unit (Ok units) = Ok (unit ∷ units)
@@ -201,6 +209,7 @@ reserved_units shares (Err at) = Err (BadVarint (share_with at))
 reserved_units shares (Ok units) =
     option_map_or (λ i. Err (BadReserved i)) (bad_reserved 0 (starts_from 0 units) shares) (Ok units)
 
+-- the units of the one compact sequence of shares, none for no shares
 abbrev pub units_in : List Share → Result (Option Sequence) JoinError → Result (List (List ℕ)) JoinError
 units_in shares (Err e) = Err e
 units_in shares (Ok None) = Ok []
@@ -212,6 +221,7 @@ units_of shares = units_in shares (sequence_from 0 None shares)
 
 -- ---- what a call answered is what reading gives, but for want of memory
 
+-- the value or the first check that fails, or want of memory
 abbrev pub Joins : {X Y : Type 0} → (X → Y) → Result X JoinError → Result Y JoinError → Type 0
 Joins view (Ok x) read = read ≡ Ok (view x)
 Joins view (Err e) read = (e ≡ NoMemory) ⊎ (read ≡ Err e)

@@ -29,6 +29,7 @@ pub record SquareShares : Type 0 where
   pub k : ℕ
   pub shares : List Share
 
+-- k is a width, and there are k * k shares
 pub record IsSquare (square : SquareShares) : Type 0 where
   pub width : is_width square.k ≡ true
   pub count : length square.shares ≡ square.k * square.k

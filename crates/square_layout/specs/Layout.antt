@@ -72,6 +72,7 @@ end_of end (blob ∷ blobs) = end_of (start_after end blob + share_count_of blob
 abbrev pub compact_part : BlockParts → List Share
 compact_part block = unit_shares_of transaction block.units ++ unit_shares_of pay_for_blob block.pay_units
 
+-- how many compact shares a block has: where they end
 abbrev pub compact_end : BlockParts → ℕ
 compact_end block = unit_share_count block.units + unit_share_count block.pay_units
 

@@ -26,9 +26,9 @@ loop-at-preserved c =
     record {
       within = omega (arith, u.within, length-drop at text, c.loop-at-test.true);
       units = text_more at (drop at text) c.in-Some.unit.now (drop (at + size) text) size c.loop-at.placed.units.items c.keep.new.self.units.items _
-          read u.some left (sym (drop-drop size at text)) c.in_ok-put.ensures.units c.loop-at.invariant.units;
+          read u.some left (sym (drop-drop size at text)) c.in_ok-keep.ensures.units c.loop-at.invariant.units;
       starts = λ more. starts_more at size c.in-Some.unit.now c.loop-at.placed.units.items c.keep.new.self.units.items more
-          c.loop-at.placed.starts.items c.keep.new.self.starts.items u.size_is c.in_ok-put.ensures.units c.in_ok-put.ensures.starts (c.loop-at.invariant.starts _);
+          c.loop-at.placed.starts.items c.keep.new.self.starts.items u.size_is c.in_ok-keep.ensures.units c.in_ok-keep.ensures.starts (c.loop-at.invariant.starts _);
     }
 
 -- no byte is left
