@@ -5,3 +5,4 @@ pub mod WalkLemmas
 pub mod ListedLemmas
 pub mod FrameListLemmas
 pub mod ValueListLemmas
+pub mod Examples

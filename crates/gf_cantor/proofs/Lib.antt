@@ -4,3 +4,4 @@ pub mod Powers
 pub mod Times
 pub mod Laws
 pub mod Rows
+pub mod Examples

@@ -43,7 +43,7 @@ is_parity name = bytes_eq name.0 parity.0
 abbrev pub primary_reserved_padding : Namespace
 primary_reserved_padding = record { 0 = replicate 28 0 ++ 0xFF ∷ [] }
 
--- the namespaces of units: transactions (the id 1), and payments for blobs (the id 4)
+-- the namespace of transactions: version 0, the id 1
 abbrev pub transaction : Namespace
 transaction = record { 0 = replicate 28 0 ++ 1 ∷ [] }
 

@@ -6,3 +6,4 @@ pub mod Writing
 pub mod Reading
 -- the widths of subtrees
 pub mod Width
+pub mod Examples
