@@ -15,7 +15,7 @@ use Rattle.namespace_id.specs.Names.{is_at_most, is_parity, parity, greater_of, 
 use Rattle.namespace_id.specs.Shares.{IsShare}
 use Rattle.namespace_id.specs.Digests.{least_of, greatest_of, IsDigest}
 use Rattle.namespace_id.proofs.ShareLemmas.{parity-is}
-use Rattle.namespace_id.proofs.StringLemmas.{AreBytes-take, AreBytes-drop, AreBytes-append}
+use Rattle.namespace_id.proofs.StringLemmas.{AreBytes-take, AreBytes-drop, AreBytes-cons, AreBytes-append}
 use Rattle.nmt_tree.specs.Digests.{leaf_digest, joined_greatest, node_digest}
 use Rattle.nmt_proofs.specs.Clashes.{leaf_text, join_text}
 
@@ -95,18 +95,13 @@ digest-node l r h g =
     (string-append 29 29 58 (least_of l).0 (joined_greatest l r).0 refl (name-least l h) (name-joined l r h g))
     (string-sha256 (join_text l r))
 
--- a byte before bytes
-cons_bytes : (a : ℕ) (bytes : List ℕ) → a < 256 → AreBytes bytes → AreBytes (a ∷ bytes)
-cons_bytes a bytes h g zero = h
-cons_bytes a bytes h g (suc i) = g i
-
 -- the string that is hashed for a leaf is a byte string
 pub bytes-leaf : (n : Namespace) (s : Share) → IsNamespace n → IsShare s → AreBytes (leaf_text n s)
-bytes-leaf n s h g = cons_bytes 0 (n.0 ++ s.0) (omega arith) (AreBytes-append n.0 s.0 h.fits g.fits)
+bytes-leaf n s h g = AreBytes-cons 0 (n.0 ++ s.0) (omega arith) (AreBytes-append n.0 s.0 h.fits g.fits)
 
 -- so is that for a node
 pub bytes-join : (l r : Digest) → IsDigest l → IsDigest r → AreBytes (join_text l r)
-bytes-join l r h g = cons_bytes 1 (l.0 ++ r.0) (omega arith) (AreBytes-append l.0 r.0 h.fits g.fits)
+bytes-join l r h g = AreBytes-cons 1 (l.0 ++ r.0) (omega arith) (AreBytes-append l.0 r.0 h.fits g.fits)
 
 -- equal leaves were hashed from strings with one digest
 pub leaf_hash : (n m : Namespace) (s t : Share) → IsNamespace n → IsNamespace m → leaf_digest n s ≡ leaf_digest m t → sha256 (leaf_text n s) ≡ sha256 (leaf_text m t)
