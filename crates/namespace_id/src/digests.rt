@@ -14,6 +14,8 @@ pub struct Digest(pub [u8; DIGEST_SIZE]);
 
 impl Digest {
     /// The least namespace below the node, bytes 0 to 28.
+    ///
+    /// Celestia specifications, "Data Structures", namespaced Merkle trees.
     pub fn least(&self) -> Namespace
         ensures { result ≡ least_of self.now }
     {
@@ -23,6 +25,8 @@ impl Digest {
     }
 
     /// The greatest namespace below the node, bytes 29 to 57.
+    ///
+    /// Celestia specifications, "Data Structures", namespaced Merkle trees.
     pub fn greatest(&self) -> Namespace
         ensures { result ≡ greatest_of self.now }
     {
