@@ -5,6 +5,7 @@ use Rattle.std.proofs.lemmas.Bool.Decides.{nat_tests}
 use Rattle.std.proofs.lemmas.Bool.{eqb-true, ltb-true, and_parts}
 use Rattle.namespace_id.specs.Cells.{is_width}
 use Rattle.namespace_id.proofs.TestLemmas.{passes_below, passes_below-at, where_holds, where_holds-true}
+use Rattle.namespace_id.proofs.WidthLemmas.{is_width-le}
 use Rattle.data_header.specs.DataRoots.{is_root_count, root_halvings}
 
 -- a list of roots has at most 256
@@ -27,10 +28,6 @@ root_count-power n h =
     counts_test n (omega (arith, root_count-le n h)) in
     let both = and_parts _ _ (where_holds-true (is_root_count n) _ test h) in
     (eqb-true _ _ both.0, ltb-true _ _ both.1)
-
--- a width is at most 128
-is_width-le : (k : ℕ) → is_width k ≡ true → k ≤ 128
-is_width-le k h = grind (arith, nat_tests)
 
 -- a test of all widths
 powers_test : passes_below 129 (λ k. where_holds (is_width k) ((root_halvings k == suc (root_halvings k - 1)) && (2 * k == 2 ^ (root_halvings k - 1)))) ≡ true

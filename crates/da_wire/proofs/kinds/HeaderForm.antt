@@ -2,13 +2,13 @@
 use Rattle.std.proofs.Common.{refl, ◌≡◌, ◌∙◌, ℕ, ◌+◌, ◌*◌, ◌^◌, ◌≤◌, true, not, eqb, cond, List, ◌++◌, length, take, drop, Option, None, Some, sym, ap, ap₂, subst, arith, length-take-le, eqb-true, eq-eqb}
 use Rattle.std.specs.Int.{w16, to_be_bytes}
 use Rattle.std.proofs.lemmas.Bool.{not-false, not_from_true}
-use Rattle.std.proofs.lemmas.Bool.Decides.{nat_tests}
 use Rattle.std.proofs.lemmas.List.{take_at, drop_at, take-append-drop, length-append, length-drop}
 use Rattle.std.proofs.lemmas.Option.{cond_some}
 use Rattle.namespace_id.specs.declared.digests.Digest.{Digest}
 use Rattle.namespace_id.specs.Bytes.{AreBytes}
 use Rattle.namespace_id.specs.Cells.{is_width}
 use Rattle.namespace_id.proofs.StringLemmas.{AreBytes-take, AreBytes-drop}
+use Rattle.namespace_id.proofs.WidthLemmas.{is_width-le}
 use Rattle.data_header.specs.Headers.{Roots, IsHeader}
 use Rattle.da_wire.specs.codec.Fields.{number_at, digests_of}
 use Rattle.da_wire.specs.codec.Texts.{digest_bytes}
@@ -19,10 +19,6 @@ use Rattle.da_wire.proofs.codec.Digests.{length-digests_of, are_digests_of, dige
 use Rattle.da_wire.specs.declared.kinds.Kind.TheVariants as kinds
 use Rattle.da_wire.specs.declared.frames.Frame.TheVariants as frames
 use Rattle.da_wire.proofs.kinds.Form.{IsForm, never}
-
--- a width is at most 128
-pub width_le : (k : ℕ) → is_width k ≡ true → k ≤ 128
-width_le k h = grind (arith, nat_tests)
 
 -- the header of this width and these roots
 abbrev roots : ℕ → List Digest → List Digest → Roots
@@ -85,7 +81,7 @@ pub header_again : (h : Roots) → IsHeader h → header_at (header_payload h) �
 unfolding header_at
 header_again h is =
     let len = body_length h is in
-    let few : h.k ≤ 128 = width_le h.k is.roots.width in
+    let few : h.k ≤ 128 = is_width-le h.k is.roots.width in
     let front : take (180 * h.k) (body h) ≡ digest_bytes h.rows = take_at (digest_bytes h.rows) (digest_bytes h.cols) (180 * h.k) len.0 in
     let behind : drop (180 * h.k) (body h) ≡ digest_bytes h.cols = drop_at (digest_bytes h.rows) (digest_bytes h.cols) (180 * h.k) len.0 in
     let rows : digests_of (2 * h.k) (take (180 * h.k) (body h)) ≡ h.rows = digests_of-spelled (2 * h.k) (take (180 * h.k) (body h)) h.rows is.rows is.roots.rows front in

@@ -15,7 +15,7 @@ use Rattle.da_wire.specs.kinds.Missing.{missing_payload, missing_at}
 use Rattle.da_wire.proofs.codec.Readers.{bind_some, bind_again, if_false, if_false_again, if_true_again, Takes, Takes-then}
 use Rattle.da_wire.proofs.codec.Numbers.{wide16, wide32, number_takes, number_again}
 use Rattle.da_wire.proofs.codec.Cells.{length-cells_of, length-cells_bytes, cells_bytes-of, cells_of-bytes}
-use Rattle.da_wire.proofs.kinds.HeaderForm.{width_le}
+use Rattle.namespace_id.proofs.WidthLemmas.{is_width-le}
 use Rattle.da_wire.specs.declared.kinds.Kind.TheVariants as kinds
 use Rattle.da_wire.specs.declared.frames.Frame.TheVariants as frames
 use Rattle.da_wire.proofs.kinds.Form.{IsForm}
@@ -85,7 +85,7 @@ missing_again cells are some few =
     let bytes : List ℕ = flat_map cell_bytes cells.list in
     let parts = and_parts (is_width cells.k && list_all (is_in_square cells.k) cells.list) (holds_along is_before cells.list) are in
     let inside = and_parts (is_width cells.k) (list_all (is_in_square cells.k) cells.list) parts.0 in
-    let narrow : cells.k ≤ 128 = width_le cells.k inside.0 in
+    let narrow : cells.k ≤ 128 = is_width-le cells.k inside.0 in
     let same : cells_of count bytes ≡ cells.list = cells_of-bytes cells.list (in_square cells.k cells.list narrow inside.1) in
     let len : eqb (length bytes) (4 * count) ≡ true = eq-eqb _ _ (length-cells_bytes cells.list) in
     let read : Option CellList = cond (are_cells cells.k (cells_of count bytes)) (Some (cell_list cells.k (cells_of count bytes))) None in

@@ -20,7 +20,7 @@ use Rattle.da_wire.specs.kinds.Missing.{missing_payload}
 use Rattle.da_wire.specs.kinds.Requests.{request_payload}
 use Rattle.da_wire.specs.Writing.{HasSize}
 use Rattle.da_wire.proofs.codec.Digests.{length-digest_bytes}
-use Rattle.da_wire.proofs.kinds.HeaderForm.{width_le}
+use Rattle.namespace_id.proofs.WidthLemmas.{is_width-le}
 use Rattle.da_wire.proofs.kinds.MissingForm.{length-missing}
 use Rattle.da_wire.proofs.kinds.SquareForm.{length-share_bytes}
 use Rattle.da_wire.proofs.codec.Lengths.{spelled_within, spelled_beyond}
@@ -34,7 +34,7 @@ length-header h roots rows cols =
 pub header_sized : (h : Roots) (n : ℕ) → AreRoots h → AreDigests h.rows → AreDigests h.cols → n ≡ 2 + 360 * h.k → HasSize (Header h) (Some n)
 header_sized h n roots rows cols e =
     let size : n ≡ length (header_payload h) = e ∙ length-header h roots rows cols in
-    let small : h.k ≤ 128 = width_le h.k roots.width in
+    let small : h.k ≤ 128 = is_width-le h.k roots.width in
     (size, spelled_within header_kind n (header_payload h) size (omega arith))
 
 -- the payload of a square has two bytes, and 512 for each share
@@ -49,7 +49,7 @@ square_few k h = let by_k : k * k ≤ k * 128 = mul-le-mul_left k h in omega ari
 pub square_sized : (s : SquareShares) (n : ℕ) → IsSquare s → AreShares s.shares → n ≡ 2 + 512 * (s.k * s.k) → HasSize (Square s) (Some n)
 square_sized s n is shares e =
     let size : n ≡ length (square_payload s) = e ∙ length-square s is shares in
-    let few : s.k * s.k ≤ 128 * 128 = square_few s.k (width_le s.k is.width) in
+    let few : s.k * s.k ≤ 128 * 128 = square_few s.k (is_width-le s.k is.width) in
     (size, spelled_within square_kind n (square_payload s) size (omega arith))
 
 -- the payload of a message has 518 bytes, and 90 for each node

@@ -16,7 +16,7 @@ use Rattle.da_wire.specs.declared.frames.Frame.TheVariants.{Header, Square, Mess
 use Rattle.da_wire.specs.Spelling.{spelling, sample_kind}
 use Rattle.da_wire.specs.kinds.Requests.{sample_payload}
 use Rattle.da_wire.proofs.codec.Lengths.{spelled_within}
-use Rattle.da_wire.proofs.kinds.HeaderForm.{width_le}
+use Rattle.namespace_id.proofs.WidthLemmas.{is_width-le}
 use Rattle.da_wire.proofs.kinds.PayloadSizes.{square_few, header_sized, square_sized, message_sized, missing_sized, request_sized}
 use Rattle.da_wire.proofs.kinds.CellCounts.{cells_counted, width_of_cells}
 
@@ -40,7 +40,7 @@ message_spelled m is = has_spelling (spelling (Message m)) _ (message_sized m (5
 pub missing_spelled : (cells : CellList) → AreCells cells → (cells.list ≡ [] → ⊥) → IsSome (spelling (Missing cells))
 missing_spelled cells are some =
     let k : ℕ = cells.k in
-    let few : k * k ≤ 128 * 128 = square_few k (width_le k (width_of_cells cells are)) in
+    let few : k * k ≤ 128 * 128 = square_few k (is_width-le k (width_of_cells cells are)) in
     let counted : length cells.list ≤ 4 * (k * k) = cells_counted cells are in
     has_spelling (spelling (Missing cells)) _
     (missing_sized cells (6 + 4 * length cells.list) (λ none. some (nil_from_length cells.list none)) (omega (arith, few, counted)) refl).1

@@ -14,7 +14,7 @@ use Rattle.da_wire.specs.kinds.Square.{square_payload, square_at}
 use Rattle.da_wire.proofs.codec.Readers.{bind_some, bind_again, if_false, if_false_again, if_true_again}
 use Rattle.da_wire.proofs.codec.Numbers.{wide16, number_takes, number_again}
 use Rattle.da_wire.proofs.codec.Split.{AreTexts, length-split_into, are_values_of, value_bytes-of, length-value_bytes, split_into-spelled}
-use Rattle.da_wire.proofs.kinds.HeaderForm.{width_le}
+use Rattle.namespace_id.proofs.WidthLemmas.{is_width-le}
 use Rattle.da_wire.specs.declared.kinds.Kind.TheVariants as kinds
 use Rattle.da_wire.specs.declared.frames.Frame.TheVariants as frames
 use Rattle.da_wire.proofs.kinds.Form.{IsForm, never}
@@ -75,7 +75,7 @@ pub square_again : (s : SquareShares) → IsSquare s → AreShares s.shares → 
 unfolding square_at
 square_again s is shares =
     let bytes : List ℕ = share_bytes s.shares in
-    let few : s.k ≤ 128 = width_le s.k is.width in
+    let few : s.k ≤ 128 = is_width-le s.k is.width in
     let same : square_in s.k bytes ≡ s = ap (λ (l : List Share). square s.k l) (split_into-spelled share text texts 512 (s.k * s.k) bytes s.shares shares is.count refl) in
     bind_again (number_at w16 (square_payload s)) after_width (s.k, bytes) s
     (number_again w16 (2 ^ 16) wide16 s.k bytes (omega (arith, few)))
