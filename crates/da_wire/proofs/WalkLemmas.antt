@@ -1,7 +1,6 @@
 -- Walking over bytes: a value at the front, none at the front, and no bytes left.
-use Rattle.std.proofs.Common.{◌≡◌, ◌∙◌, ℕ, zero, suc, ◌+◌, ◌-◌, ◌<◌, ◌≤◌, List, [], ◌∷◌, length, length-drop, take, drop, Option, Some, None, refl, ap, ap₂, arith}
+use Rattle.std.proofs.Common.{◌≡◌, ◌∙◌, ℕ, zero, suc, ◌+◌, ◌-◌, ◌<◌, ◌≤◌, List, [], ◌∷◌, length, drop, Option, Some, None, refl, ap, ap₂, arith}
 use Rattle.std.specs.Option.{option_map_or}
-use Rattle.std.proofs.lemmas.List.{take_all}
 use Rattle.da_wire.specs.Walks.{walk_from, stop_from}
 
 -- the bytes of a value before are passed over
@@ -71,7 +70,3 @@ pub stop_end : {A : Type 0} (one : List ℕ → Option (A × ℕ)) (at : ℕ) (b
 unfolding stop_from
 stop_end one at [] h = refl
 stop_end one at (b ∷ bytes) h = absurd (omega arith)
-
--- the bytes from a place on, as a slice gives them
-pub slice_from : (bytes : List ℕ) (at : ℕ) → take (length bytes - at) (drop at bytes) ≡ drop at bytes
-slice_from bytes at = take_all (length bytes - at) (drop at bytes) (omega (arith, length-drop at bytes))

@@ -1,8 +1,9 @@
 use Rattle.std.proofs.Common.{◌∙◌, ◌∷◌, ℕ, List, ap, sym, arith}
+use Rattle.std.proofs.lemmas.List.{take_rest}
 use Rattle.da_wire.specs.declared.frames.Frame.{Frame}
 use Rattle.da_wire.specs.Reading.{Raw, raw_seen}
 use Rattle.da_wire.specs.Values.{value_in, values_of}
-use Rattle.da_wire.proofs.WalkLemmas.{walk_on, walk_stop, slice_from}
+use Rattle.da_wire.proofs.WalkLemmas.{walk_on, walk_stop}
 use Rattle.da_wire.proofs.ValueListLemmas.{value_found, value_missed, frame_missed}
 use Rattle.da_wire.proofs.reading.next_value.Goals as goal
 
@@ -18,7 +19,7 @@ returns-in-Some-clause-values c =
     let value : Frame = c.in-Some.value in
     let found = value_found kinds bytes frame value c.in-Ok.ensures.value (c.in_ok-value.ensures ∙ c.in-Some.is) in
     walk_on (value_in kinds) bytes value frame.size found (omega (arith, c.in-Ok.ensures.some)) (omega (arith, c.in-Ok.ensures.some, c.in-Ok.ensures.within))
-    ∙ ap (λ (l : List ℕ). value ∷ values_of kinds l) (sym (slice_from bytes frame.size))
+    ∙ ap (λ (l : List ℕ). value ∷ values_of kinds l) (sym (take_rest bytes frame.size))
 
 pub returns-in-None-clause-values : goal.returns-in-None-clause-values
 returns-in-None-clause-values c =
