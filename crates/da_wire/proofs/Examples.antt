@@ -1,5 +1,5 @@
 -- Worked frames, by the definitions (docs/FORMATS.md, "Payloads").
-use Rattle.std.proofs.Common.{◌≡◌, ◌∷◌, [], Some, Ok, refl}
+use Rattle.std.proofs.Common.{◌≡◌, ◌∷◌, [], Some, refl}
 use Rattle.namespace_id.specs.declared.cells.Axis.TheVariants.{Row, Col}
 use Rattle.da_wire.specs.declared.frames.Frame.TheVariants.{Sample}
 use Rattle.da_wire.specs.Spelling.{spelling}

@@ -4,11 +4,11 @@ ghost use Rattle.std.specs.Prelude.{◌≡◌, ◌<◌, ◌≤◌, ◌+◌, ◌�
 ghost use Rattle.nmt_proofs.specs.Clashes.{leaf_text, join_text};
 ghost use Rattle.hash_clash.specs.Preimages.{longest};
 
-use namespace_id::{Digest, Namespace, Share, write_at};
+use namespace_id::{Digest, NAMESPACE_SIZE, Namespace, SHARE_SIZE, Share, write_at};
 use std::marker::Model;
 
 /// The length in bytes of the longest string that a tree hashes: a prefix, a namespace and a share.
-const LONGEST_STRING: usize = 1 + 29 + 512;
+const LONGEST_STRING: usize = 1 + NAMESPACE_SIZE + SHARE_SIZE;
 
 /// A string of up to 542 bytes that SHA-256 hashes. So long is what a tree hashes for a leaf: a
 /// prefix of one byte, a namespace of 29 and a share of 512. For a node it is a prefix and two

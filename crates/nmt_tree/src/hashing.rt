@@ -4,7 +4,7 @@
 ghost use Rattle.std.specs.Prelude.{◌≡◌, ◌++◌, IsTrue, IsOk, IsErr, IfOk, ◌↔◌, false};
 ghost use Rattle.nmt_tree.specs.Digests.{leaf_digest, joined_greatest, node_digest, is_ordered_join};
 
-use namespace_id::{Digest, Namespace, PARITY, Share, write_at};
+use namespace_id::{DIGEST_SIZE, Digest, NAMESPACE_SIZE, Namespace, PARITY, Share, write_at};
 use sha2::{Digest as _, Sha256};
 use thiserror::Error;
 
@@ -17,10 +17,10 @@ pub struct Unordered;
 fn digest_of(least: &Namespace, greatest: &Namespace, hash: &[u8; 32]) -> Digest
     ensures { result.0 ≡ least.now.0 ++ greatest.now.0 ++ hash.now }
 {
-    let mut bytes = [0; 90];
+    let mut bytes = [0; DIGEST_SIZE];
     write_at(&mut bytes, 0, &least.0);
-    write_at(&mut bytes, 29, &greatest.0);
-    write_at(&mut bytes, 58, hash);
+    write_at(&mut bytes, NAMESPACE_SIZE, &greatest.0);
+    write_at(&mut bytes, 2 * NAMESPACE_SIZE, hash);
     Digest(bytes)
 }
 
@@ -98,7 +98,7 @@ mod tests {
 
     /// A digest of two namespaces of version 0 that end in these bytes.
     fn digest(least: u8, greatest: u8) -> Digest {
-        let mut bytes = [0; 90];
+        let mut bytes = [0; DIGEST_SIZE];
         bytes[28] = least;
         bytes[57] = greatest;
         Digest(bytes)

@@ -16,7 +16,7 @@ ghost use Rattle.nmt_tree.specs.Trees.{AreTreeLeaves, digest_over};
 
 use crate::are_ordered;
 use crate::levels::{put_tree, read};
-use namespace_id::{Digest, Namespace, NoMemory, Share, namespaces_law};
+use namespace_id::{DIGEST_SIZE, Digest, Namespace, NoMemory, Share, namespaces_law};
 use std::alloc::Global;
 use std::marker::Model;
 
@@ -50,7 +50,7 @@ impl Tree {
         ensures count { IfOk result (λ tree. tree.count ≡ n) }
         ensures empty { IfOk result (λ tree. tree.leaves ≡ None) }
     {
-        let Ok(digests) = vec![in alloc; Digest([0; 90]); 2 * n as usize - 1] else {
+        let Ok(digests) = vec![in alloc; Digest([0; DIGEST_SIZE]); 2 * n as usize - 1] else {
             return Err(NoMemory);
         };
         Ok(Tree {

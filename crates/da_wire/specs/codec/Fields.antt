@@ -8,6 +8,7 @@ use Rattle.namespace_id.specs.declared.digests.Digest.{Digest}
 use Rattle.namespace_id.specs.declared.shares.Share.{Share}
 use Rattle.namespace_id.specs.declared.cells.Axis.{Axis}
 use Rattle.namespace_id.specs.declared.cells.Axis.TheVariants.{Row, Col}
+use Rattle.namespace_id.specs.Sizes.{share_size, digest_size}
 
 -- a reader, and what is read after it; none where the first reads none
 infixl 10 ◌>>=◌
@@ -41,7 +42,7 @@ digest bytes = record { 0 = bytes }
 
 -- so many digests, one after another
 abbrev pub digests_of : ℕ → List ℕ → List Digest
-digests_of count bytes = split_into digest 90 count bytes
+digests_of count bytes = split_into digest digest_size count bytes
 
 -- the share that bytes are
 abbrev pub share : List ℕ → Share
@@ -49,13 +50,13 @@ share bytes = record { 0 = bytes }
 
 -- so many shares, one after another
 abbrev pub shares_of : ℕ → List ℕ → List Share
-shares_of count bytes = split_into share 512 count bytes
+shares_of count bytes = split_into share share_size count bytes
 
 -- so many digests at the front, and the bytes after them
 abbrev pub digests_at : ℕ → List ℕ → Option (List Digest × List ℕ)
 digests_at count bytes =
-    if nat_lt (length bytes) (90 * count) then None else
-    Some (digests_of count (take (90 * count) bytes), drop (90 * count) bytes)
+    if nat_lt (length bytes) (digest_size * count) then None else
+    Some (digests_of count (take (digest_size * count) bytes), drop (digest_size * count) bytes)
 
 -- so many cells, one after another
 unfoldable pub cells_of : ℕ → List ℕ → List Cell

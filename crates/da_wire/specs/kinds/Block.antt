@@ -2,6 +2,7 @@
 use Rattle.std.specs.Prelude.{ℕ, List, ◌∷◌, length, Option, Some, None, if◌then◌else◌, ◌==◌, Bool, ◌++◌, false}
 use Rattle.std.specs.Option.{option_map_or}
 use Rattle.std.specs.Int.{w16, w32, to_be_bytes}
+use Rattle.namespace_id.specs.Sizes.{namespace_size}
 use Rattle.square_layout.specs.Blocks.{BlockParts}
 use Rattle.share_split.specs.Blobs.{NamedBytes}
 use Rattle.da_wire.specs.codec.Fields.{◌>>=◌, number_at, byte_at, string_at, text_at, list_at}
@@ -50,7 +51,7 @@ asks_for_zero width = option_map_or (λ k. k == 0) width false
 -- a namespace, the share version 0, and the bytes of a blob
 unfoldable pub blob_at : List ℕ → Option (NamedBytes × List ℕ)
 blob_at bytes = do
-  name ← string_at 29 bytes
+  name ← string_at namespace_size bytes
   version ← byte_at name.1
   text ← if version.0 == 0 then unit_at version.1 else None
   Some (record { namespace = record { 0 = name.0 }; bytes = text.0 }, text.1)

@@ -2,6 +2,7 @@
 use Rattle.axis_roots.specs.declared.message.messages.Message as sent
 use Rattle.std.specs.Prelude.{ℕ, List, [], ◌∷◌, length, Option, Some, None, if◌then◌else◌, ◌==◌, ◌++◌}
 use Rattle.std.specs.Int.{w16, to_be_bytes}
+use Rattle.namespace_id.specs.Sizes.{share_size}
 use Rattle.da_wire.specs.codec.Fields.{◌>>=◌, string_at, share, axis_at, cell_at, path_at}
 use Rattle.da_wire.specs.codec.Texts.{digest_bytes, axis_byte}
 
@@ -16,7 +17,7 @@ unfoldable pub message_front : List ℕ → Option (sent.Message × List ℕ)
 message_front bytes = do
   cell ← cell_at bytes
   axis ← axis_at cell.1
-  share ← string_at 512 axis.1
+  share ← string_at share_size axis.1
   path ← path_at 8 share.1
   Some (
     record {

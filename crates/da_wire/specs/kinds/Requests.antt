@@ -4,6 +4,7 @@ use Rattle.std.specs.Prelude.{ℕ, List, [], ◌∷◌, length, Option, Some, No
 use Rattle.namespace_id.specs.declared.cells.Cell.{Cell}
 use Rattle.namespace_id.specs.declared.cells.Axis.{Axis}
 use Rattle.namespace_id.specs.declared.namespaces.Namespace.{Namespace}
+use Rattle.namespace_id.specs.Sizes.{namespace_size}
 use Rattle.da_wire.specs.codec.Fields.{◌>>=◌, axis_at, cell_at}
 use Rattle.da_wire.specs.codec.Texts.{axis_byte, cell_bytes}
 
@@ -24,4 +25,4 @@ sample_at bytes = do
 
 -- a namespace that is all of the bytes
 unfoldable pub request_at : List ℕ → Option Namespace
-request_at bytes = if length bytes == 29 then Some (record { 0 = bytes }) else None
+request_at bytes = if length bytes == namespace_size then Some (record { 0 = bytes }) else None

@@ -2,6 +2,7 @@
 use Rattle.std.specs.Prelude.{ℕ, ◌*◌, List, length, Option, Some, None, if◌then◌else◌, not, ◌==◌, ◌++◌}
 use Rattle.std.specs.Int.{w16, to_be_bytes}
 use Rattle.namespace_id.specs.Cells.{is_width}
+use Rattle.namespace_id.specs.Sizes.{share_size}
 use Rattle.square_layout.specs.Blocks.{SquareShares}
 use Rattle.da_wire.specs.codec.Fields.{◌>>=◌, number_at, shares_of}
 use Rattle.da_wire.specs.codec.Texts.{share_bytes}
@@ -15,6 +16,6 @@ unfoldable pub square_at : List ℕ → Option SquareShares
 square_at bytes = do
   k ← number_at w16 bytes
   if not (is_width k.0) then None else
-      if length k.1 == 512 * (k.0 * k.0)
+      if length k.1 == share_size * (k.0 * k.0)
       then Some (record { k = k.0; shares = shares_of (k.0 * k.0) k.1 })
       else None
