@@ -13,7 +13,8 @@ use Rattle.namespace_id.specs.Cells.{is_width}
 use Rattle.leopard_code.proofs.LagrangeLemmas.{lagrange}
 use Rattle.namespace_id.proofs.WidthLemmas.{is_width-le}
 use Rattle.namespace_id.proofs.ShareLemmas.{AreShares-append}
-use Rattle.leopard_code.proofs.PointLemmas.{length-ascending, points-ascending, length-column, column-append, column_bytes, takes-append, takes-ascending}
+use Rattle.namespace_id.proofs.AscendingLemmas.{length-ascending}
+use Rattle.leopard_code.proofs.PointLemmas.{points-ascending, length-column, column-append, column_bytes, takes-append, takes-ascending}
 
 -- rows that are weights are a table
 pub table_of : (k : ℕ) (ps table : List ℕ) → IsTrue (is_width k) → ps ≡ ascending k k → length table ≡ k * k

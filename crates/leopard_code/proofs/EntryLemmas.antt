@@ -16,7 +16,8 @@ use Rattle.leopard_code.specs.Codewords.{column, points, point, points_at, are_p
 use Rattle.leopard_code.specs.Weights.{AreWeights, IsEntry}
 use Rattle.leopard_code.proofs.LagrangeLemmas.{lagrange}
 use Rattle.namespace_id.proofs.WidthLemmas.{is_width-le}
-use Rattle.leopard_code.proofs.PointLemmas.{length-ascending, get_or-ascending, length-column, column_bytes}
+use Rattle.namespace_id.proofs.AscendingLemmas.{length-ascending, get_or-ascending}
+use Rattle.leopard_code.proofs.PointLemmas.{length-column, column_bytes}
 use Rattle.leopard_code.proofs.PositionLemmas.{points_differ, position-lt, takes-at, takes_each}
 
 -- the byte of a share that a list may have

@@ -6,22 +6,10 @@ use Rattle.std.proofs.lemmas.List.{length-take-le, get_or-take}
 use Rattle.std.proofs.lemmas.Option.{IfSome_then}
 use Rattle.namespace_id.specs.declared.shares.Share.{Share}
 use Rattle.namespace_id.specs.Shares.{AreShares}
+use Rattle.namespace_id.proofs.AscendingLemmas.{length-ascending, get_or-ascending}
 use Rattle.byte_polynomial.specs.Polynomial.{value_at, AreCoefficients, Avoids, ArePoints, PassesThrough}
 use Rattle.namespace_id.specs.Lists.{ascending}
 use Rattle.leopard_code.specs.Codewords.{column}
-
--- n numbers that count up are n
-pub length-ascending : (n first : ℕ) → length (ascending first n) ≡ n
-unfolding ascending
-length-ascending zero first = refl
-length-ascending (suc n) first = ap suc (length-ascending n (suc first))
-
--- the i-th of numbers that count up is i above the first
-pub get_or-ascending : (n first i : ℕ) → i < n → get_or (ascending first n) i 0 ≡ first + i
-unfolding ascending
-get_or-ascending zero first i h = absurd (omega arith)
-get_or-ascending (suc n) first zero h = omega arith
-get_or-ascending (suc n) first (suc i) h = omega (arith, get_or-ascending n (suc first) i (omega arith))
 
 -- a number below the first of those that count up is none of them
 avoids-ascending : (n x first : ℕ) → x < first → Avoids x (ascending first n)

@@ -7,3 +7,4 @@ pub mod AlongLemmas
 pub mod HalfLemmas
 pub mod DoublingLemmas
 pub mod WidthLemmas
+pub mod AscendingLemmas

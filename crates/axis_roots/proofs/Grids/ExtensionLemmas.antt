@@ -9,8 +9,9 @@ use Rattle.namespace_id.specs.declared.shares.Share.{Share}
 use Rattle.namespace_id.specs.Shares.{IsShare, AreShares}
 use Rattle.namespace_id.specs.Cells.{is_width}
 use Rattle.namespace_id.specs.Lists.{ascending}
+use Rattle.namespace_id.proofs.AscendingLemmas.{length-ascending}
 use Rattle.leopard_code.specs.Codewords.{column, IsCodeword, HasEntries, weighted}
-use Rattle.leopard_code.proofs.PointLemmas.{length-ascending, length-column}
+use Rattle.leopard_code.proofs.PointLemmas.{length-column}
 use Rattle.leopard_code.proofs.EntryLemmas.{get_or-column_at, byte_of_entry, same_shares}
 use Rattle.leopard_code.proofs.LawLemmas.{generated}
 use Rattle.square_layout.specs.Blocks.{SquareShares, IsSquare}

@@ -11,7 +11,7 @@ use Rattle.namespace_id.specs.Digests.{no_digest}
 use Rattle.nmt_tree.specs.Roots.{halvings, root, strict_root}
 use Rattle.data_header.specs.Headers.{Roots, AreRoots, root_of}
 use Rattle.namespace_id.specs.Lists.{ascending}
-use Rattle.leopard_code.proofs.PointLemmas.{length-ascending, get_or-ascending}
+use Rattle.namespace_id.proofs.AscendingLemmas.{length-ascending, get_or-ascending}
 use Rattle.square_layout.specs.Blocks.{SquareShares, IsSquare}
 use Rattle.axis_roots.specs.Lines.{line_root, line_strict_root}
 use Rattle.axis_roots.specs.Grids.{axis_names, axis_shares, axis_root, axis_roots, is_ordered_axis, are_ordered_axes, header_of_grid, Extends, IsHeaderOf}

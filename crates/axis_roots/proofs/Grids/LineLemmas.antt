@@ -12,11 +12,11 @@ use Rattle.namespace_id.specs.Shares.{AreShares}
 use Rattle.namespace_id.specs.Cells.{is_width, leaf_namespace}
 use Rattle.namespace_id.specs.Lists.{ascending}
 use Rattle.namespace_id.proofs.ShareLemmas.{name_of-is}
+use Rattle.namespace_id.proofs.AscendingLemmas.{length-ascending, get_or-ascending}
 use Rattle.nmt_tree.specs.Digests.{leaf_digest}
 use Rattle.nmt_tree.specs.Roots.{halvings}
 use Rattle.nmt_tree.specs.Levels.{leaf_digests}
 use Rattle.nmt_proofs.specs.Clashes.{AreLeaves}
-use Rattle.leopard_code.proofs.PointLemmas.{length-ascending, get_or-ascending}
 use Rattle.axis_roots.specs.Lines.{blank, cell_on, line_names}
 use Rattle.axis_roots.specs.Grids.{share_at, axis_cells, axis_shares, axis_names, leaf_over}
 use Rattle.axis_roots.proofs.Grids.AxisLemmas.{get_or-along, is_along}

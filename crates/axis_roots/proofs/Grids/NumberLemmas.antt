@@ -9,8 +9,8 @@ use Rattle.namespace_id.specs.declared.cells.Axis.{Axis}
 use Rattle.namespace_id.specs.declared.cells.Axis.TheVariants.{Row, Col}
 use Rattle.namespace_id.specs.Cells.{is_width, is_in_square}
 use Rattle.namespace_id.specs.Lists.{ascending}
+use Rattle.namespace_id.proofs.AscendingLemmas.{length-ascending, get_or-ascending}
 use Rattle.axis_roots.specs.Messages.{position, index}
-use Rattle.leopard_code.proofs.PointLemmas.{length-ascending, get_or-ascending}
 use Rattle.leopard_code.proofs.TableLemmas.{row_before}
 
 -- what the test of a cell says

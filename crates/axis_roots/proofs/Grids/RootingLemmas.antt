@@ -21,7 +21,7 @@ use Rattle.nmt_tree.proofs.CountLemmas.{power_halvings}
 use Rattle.nmt_tree.proofs.NameLemmas.{least-leaf}
 use Rattle.nmt_tree.proofs.SpanLemmas.{root_is_span}
 use Rattle.namespace_id.specs.Lists.{ascending}
-use Rattle.leopard_code.proofs.PointLemmas.{length-ascending, get_or-ascending}
+use Rattle.namespace_id.proofs.AscendingLemmas.{length-ascending, get_or-ascending}
 use Rattle.axis_roots.specs.Lines.{cell_on, line_root, line_strict_root}
 use Rattle.axis_roots.specs.Grids.{share_at, axis_cells, axis_names, axis_shares, axis_root, axis_roots, leaf_over, AreLeafDigests, is_ordered_axis}
 use Rattle.axis_roots.proofs.Grids.AxisLemmas.{length-along, get_or-along, is_along}

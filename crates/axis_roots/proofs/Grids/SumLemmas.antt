@@ -5,8 +5,8 @@ use Rattle.std.specs.Int.Bits.{xor_zero_r}
 use Rattle.std.proofs.lemmas.List.{get_or-map}
 use Rattle.namespace_id.specs.declared.shares.Share.{Share}
 use Rattle.namespace_id.specs.Shares.{IsShare}
-use Rattle.leopard_code.specs.Codewords.{IsCodeword, bytes_sum, share_sum, shares_sum, share_multiple, shares_multiple, weighted}
-use Rattle.leopard_code.proofs.LinearLemmas.{codeword-sum, codeword-multiple}
+use Rattle.leopard_code.specs.Codewords.{IsCodeword, share_sum, shares_sum, share_multiple, shares_multiple, weighted}
+use Rattle.leopard_code.proofs.LinearLemmas.{get_or-bytes_sum, codeword-sum, codeword-multiple}
 use Rattle.axis_roots.specs.Lines.{blank}
 use Rattle.axis_roots.proofs.Grids.WordLemmas.{share_in}
 
@@ -32,14 +32,6 @@ get_or-shares_sum [] ts i d hs ht = absurd (omega arith)
 get_or-shares_sum (s ∷ ss) [] i d hs ht = absurd (omega arith)
 get_or-shares_sum (s ∷ ss) (t ∷ ts) zero d hs ht = refl
 get_or-shares_sum (s ∷ ss) (t ∷ ts) (suc i) d hs ht = get_or-shares_sum ss ts i d (omega arith) (omega arith)
-
--- one byte of the sum of two strings
-get_or-bytes_sum : (xs ys : List ℕ) (i : ℕ) → i < length xs → i < length ys → get_or (bytes_sum xs ys) i 0 ≡ bit_xor (get_or xs i 0) (get_or ys i 0)
-unfolding bytes_sum
-get_or-bytes_sum [] ys i hx hy = absurd (omega arith)
-get_or-bytes_sum (x ∷ xs) [] i hx hy = absurd (omega arith)
-get_or-bytes_sum (x ∷ xs) (y ∷ ys) zero hx hy = refl
-get_or-bytes_sum (x ∷ xs) (y ∷ ys) (suc i) hx hy = get_or-bytes_sum xs ys i (omega arith) (omega arith)
 
 -- the product of a weight and a byte
 abbrev times : ℕ → ℕ → ℕ

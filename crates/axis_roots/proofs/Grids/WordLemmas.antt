@@ -11,8 +11,8 @@ use Rattle.namespace_id.specs.Shares.{IsShare, AreShares}
 use Rattle.namespace_id.specs.Cells.{is_width}
 use Rattle.namespace_id.proofs.StringLemmas.{AreBytes-replicate}
 use Rattle.namespace_id.specs.Lists.{holds_along, ascending}
+use Rattle.namespace_id.proofs.AscendingLemmas.{length-ascending, get_or-ascending}
 use Rattle.leopard_code.specs.Codewords.{are_positions, IsCodeword, HasEntries}
-use Rattle.leopard_code.proofs.PointLemmas.{length-ascending, get_or-ascending}
 use Rattle.leopard_code.proofs.LawLemmas.{one_codeword, through_shares}
 use Rattle.axis_roots.specs.Lines.{blank}
 

@@ -12,7 +12,7 @@ use Rattle.namespace_id.specs.declared.digests.Digest.{Digest}
 use Rattle.namespace_id.specs.Cells.{is_width}
 use Rattle.data_header.specs.Headers.{AreRoots}
 use Rattle.namespace_id.specs.Lists.{ascending}
-use Rattle.leopard_code.proofs.PointLemmas.{length-ascending}
+use Rattle.namespace_id.proofs.AscendingLemmas.{length-ascending}
 use Rattle.axis_roots.specs.Grids.{axis_root, axis_roots, is_ordered_axis, are_ordered_axes, header_of_grid}
 
 -- whether all axes of one kind are ordered
