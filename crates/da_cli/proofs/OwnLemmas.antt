@@ -1,19 +1,14 @@
 -- The line `ok` under the header of a square.
-use Rattle.std.proofs.Common.{◌≡◌, ◌∙◌, ℕ, zero, suc, ◌+◌, ◌-◌, Bool, true, false, cond, List, [], ◌∷◌, length, take, drop, None, Some, Ok, Err, IfSome, refl, ap, subst, slice_index}
-use Rattle.std.specs.Prelude.{nat_lt, codes, slice_get, ◌*◌}
+use Rattle.std.proofs.Common.{◌≡◌, ℕ, zero, suc, ◌+◌, ◌-◌, Bool, true, false, cond, List, [], ◌∷◌, length, take, drop, None, Some, Ok, Err, IfSome, refl, subst, slice_index}
+use Rattle.std.specs.Prelude.{nat_lt, codes, slice_get}
 use Rattle.std.specs.declared.option.Option.{Option}
 use Rattle.std.specs.Option.{option_map, option_map_or}
 use Rattle.std.specs.List.{AllByRecursion}
-use Rattle.std.proofs.lemmas.List.{length-map}
 use Rattle.namespace_id.specs.Bytes.{AreBytes}
-use Rattle.namespace_id.specs.Lists.{ascending}
-use Rattle.namespace_id.specs.declared.cells.Axis.{Axis}
-use Rattle.namespace_id.specs.declared.cells.Axis.TheVariants.{Row, Col}
-use Rattle.namespace_id.specs.declared.shares.Share.{Share}
 use Rattle.namespace_id.proofs.StringLemmas.{AreBytes-take, AreBytes-drop}
-use Rattle.data_header.specs.Headers.{Roots, AreRoots}
+use Rattle.data_header.specs.Headers.{Roots}
 use Rattle.square_layout.specs.Blocks.{SquareShares}
-use Rattle.axis_roots.specs.Grids.{IsHeaderOf, are_ordered_axes, axis_root, axis_roots}
+use Rattle.axis_roots.specs.Grids.{IsHeaderOf}
 use Rattle.axis_roots.specs.declared.message.messages.CheckRefusal.TheVariants.{OutOfSquare, NodeCount, Unordered, OtherRoot}
 use Rattle.da_wire.specs.declared.frames.FrameError.TheVariants as wire
 use Rattle.da_wire.specs.Spelling.{max_payload}
@@ -25,34 +20,6 @@ use Rattle.da_cli.specs.declared.commands.check.Finding.{Finding}
 use Rattle.da_cli.specs.declared.commands.check.Finding.TheVariants.{Proved, NoMessage, Refused}
 use Rattle.da_cli.specs.commands.Check.{finding_of, line_of, IsOwnFrame}
 use Rattle.da_cli.specs.Own.{AreOwn}
-
--- ---- the header of a square has a width and its count of roots
-
--- so many numbers ascend from a first one
-length-ascending : (n first : ℕ) → length (ascending first n) ≡ n
-unfolding ascending
-length-ascending zero first = refl
-length-ascending (suc n) first = ap suc (length-ascending n (suc first))
-
--- a grid of width k has 2 k roots along an axis
-length-axis_roots : (k : ℕ) (grid : List Share) (axis : Axis) → length (axis_roots k grid axis) ≡ 2 * k
-length-axis_roots k grid axis = length-map (ascending 0 (2 * k)) (axis_root k grid axis) ∙ length-ascending (2 * k) 0
-
--- a header that is made where a test holds is the header
-made_is : (ordered : Bool) (made header : Roots) → cond ordered (Some made) None ≡ Some header → made ≡ header
-made_is true made header e = cc
-made_is false made header e = absurd cc
-
--- the header of a square has a width and its count of roots
-own_roots : (header : Roots) (square : SquareShares) → IsHeaderOf header square → AreRoots header
-own_roots header square own =
-    let made : Roots = record { k = square.k; rows = axis_roots square.k own.grid Row; cols = axis_roots square.k own.grid Col } in
-    let roots : AreRoots made = record {
-      width = own.whole.width;
-      rows = length-axis_roots square.k own.grid Row;
-      cols = length-axis_roots square.k own.grid Col;
-    } in
-    subst AreRoots (made_is (are_ordered_axes square.k own.grid) made header own.roots) roots
 
 -- ---- frames of a byte string have bytes
 
@@ -110,9 +77,9 @@ ok_is_proved (Refused OtherRoot) e = absurd cc
 
 -- by what is known of frames that are found proved under the header of a square
 pub are_own : (told : Option Files) (words : List (List ℕ))
-    → ((header : Roots) (frame : Raw) (square : SquareShares) → AreRoots header → AreBytes frame.payload → IsHeaderOf header square
+    → ((header : Roots) (frame : Raw) (square : SquareShares) → AreBytes frame.payload → IsHeaderOf header square
     → finding_of header frame ≡ Proved → IsOwnFrame frame square)
     → AreOwn told words
 are_own None words law = tt
 are_own (Some files) words law = λ contents header square i frame command read first own fits here ok.
-    law header frame square (own_roots header square own) (all_at HasBytes _ i frame (frames_fit _ fits 0) here) own (ok_is_proved (finding_of header frame) ok)
+    law header frame square (all_at HasBytes _ i frame (frames_fit _ fits 0) here) own (ok_is_proved (finding_of header frame) ok)

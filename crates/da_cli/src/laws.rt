@@ -39,9 +39,8 @@ pub fn run_laws()
 
     // Under the header of a square `ok` is answered only where the message shows the square's own
     // share, or they name a collision.
-    ensures own { (header : Roots) (frame : Raw) (square : SquareShares) → AreRoots header →
-        AreBytes frame.payload → IsHeaderOf header square → finding_of header frame ≡ Proved →
-        IsOwnFrame frame square }
+    ensures own { (header : Roots) (frame : Raw) (square : SquareShares) → AreBytes frame.payload →
+        IsHeaderOf header square → finding_of header frame ≡ Proved → IsOwnFrame frame square }
 
     // A file is read as a header, a square, a block exactly where it is that value's one spelling.
     ensures header_file { (bytes : List ℕ) (header : Roots) → AreBytes bytes →

@@ -1,5 +1,5 @@
 -- The header of a grid and of a square.
-use Rattle.std.proofs.Common.{◌≡◌, ◌∙◌, ℕ, zero, suc, ◌+◌, ◌*◌, ◌<◌, ◌≤◌, List, length, Bool, true, false, cond, ◌&&◌, refl, sym, ap, inl, inr, arith}
+use Rattle.std.proofs.Common.{◌≡◌, ◌∙◌, ℕ, zero, suc, ◌+◌, ◌*◌, ◌<◌, ◌≤◌, List, length, Bool, true, false, cond, ◌&&◌, refl, sym, ap, subst, inl, inr, arith}
 use Rattle.std.specs.Prelude.{Some, None}
 use Rattle.std.specs.List.{list_all}
 use Rattle.std.proofs.lemmas.Bool.{cases_lt, cases_Bool, and_parts, and_from}
@@ -101,6 +101,10 @@ none_if false made e = refl
 abbrev all_roots : ℕ → List Share → Roots
 all_roots k shares = record { k = k; rows = axis_roots k shares Row; cols = axis_roots k shares Col }
 
+-- a grid of width k has 2k roots along an axis
+length-axis_roots : (k : ℕ) (shares : List Share) (axis : Axis) → length (axis_roots k shares axis) ≡ 2 * k
+length-axis_roots k shares axis = length-map (ascending 0 (2 * k)) (axis_root k shares axis) ∙ length-ascending (2 * k) 0
+
 -- the root of one axis among all of them
 get_or-roots : (k : ℕ) (shares : List Share) (axis : Axis) (index : ℕ) → index < 2 * k → root_of (all_roots k shares) axis index ≡ axis_root k shares axis index
 get_or-roots k shares Row index h =
@@ -142,6 +146,17 @@ header_once square header other h o =
     let same : h.grid ≡ o.grid = extension_once square.k square.shares h.grid o.grid h.whole.width h.extends o.extends in
     let both : Some header ≡ Some other = sym h.roots ∙ ap (header_of_grid square.k) same ∙ o.roots in cc
 
+-- it has a width and its count of roots
+pub header_roots : (square : SquareShares) (header : Roots) → IsHeaderOf header square → AreRoots header
+header_roots square header h =
+    let roots : AreRoots (all_roots square.k h.grid) = record {
+      width = h.whole.width;
+      rows = length-axis_roots square.k h.grid Row;
+      cols = length-axis_roots square.k h.grid Col;
+    } in
+    let made : header ≡ all_roots square.k h.grid = (some_if (are_ordered_axes square.k h.grid) (all_roots square.k h.grid) header h.roots).1 in
+    subst AreRoots (sym made) roots
+
 -- it is the header of any extension of the square
 pub header_made : (square : SquareShares) (grid : List Share) (header : Roots) → IsSquare square → Extends square.k square.shares grid
     → header_of_grid square.k grid ≡ Some header → IsHeaderOf header square
@@ -163,14 +178,12 @@ header_by_strict k shares header are width strict =
     let each : (axis : Axis) (index : ℕ) → index < 2 * k → (is_ordered_axis k shares axis index ≡ true) × (root_of header axis index ≡ axis_root k shares axis index)
     = λ axis index h. some_if (is_ordered_axis k shares axis index) (axis_root k shares axis index) (root_of header axis index) (strict axis index h) in
     let ordered : are_ordered_axes k shares ≡ true = ordered_axes k shares (λ axis index h. (each axis index h).0) in
-    let long : (axis : Axis) → length (axis_roots k shares axis) ≡ 2 * k
-    = λ axis. length-map (ascending 0 (2 * k)) (axis_root k shares axis) ∙ length-ascending (2 * k) 0 in
     let wide : 2 * header.k ≡ 2 * k = ap (λ (n : ℕ). 2 * n) width in
     let rows : header.rows ≡ axis_roots k shares Row =
-    ext_get_or no_digest header.rows (axis_roots k shares Row) (are.rows ∙ wide ∙ sym (long Row))
-    (λ i h. let below : i < 2 * k = omega (arith, are.rows, wide, long Row) in (each Row i below).1 ∙ sym (get_or-roots k shares Row i below)) in
+    ext_get_or no_digest header.rows (axis_roots k shares Row) (are.rows ∙ wide ∙ sym (length-axis_roots k shares Row))
+    (λ i h. let below : i < 2 * k = omega (arith, are.rows, wide, length-axis_roots k shares Row) in (each Row i below).1 ∙ sym (get_or-roots k shares Row i below)) in
     let cols : header.cols ≡ axis_roots k shares Col =
-    ext_get_or no_digest header.cols (axis_roots k shares Col) (are.cols ∙ wide ∙ sym (long Col))
-    (λ i h. let below : i < 2 * k = omega (arith, are.cols, wide, long Col) in (each Col i below).1 ∙ sym (get_or-roots k shares Col i below)) in
+    ext_get_or no_digest header.cols (axis_roots k shares Col) (are.cols ∙ wide ∙ sym (length-axis_roots k shares Col))
+    (λ i h. let below : i < 2 * k = omega (arith, are.cols, wide, length-axis_roots k shares Col) in (each Col i below).1 ∙ sym (get_or-roots k shares Col i below)) in
     let same : header ≡ all_roots k shares = λ i. record { k = width i; rows = rows i; cols = cols i } in
     ap (λ (b : Bool). cond b (Some (all_roots k shares)) None) ordered ∙ ap Some (sym same)

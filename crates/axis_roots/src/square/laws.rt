@@ -31,6 +31,10 @@ pub fn grid_laws()
         Extends square.k square.shares grid → header_of_grid square.k grid ≡ None →
         IsHeaderOf header square → ⊥ }
 
+    // It has the roots of a header.
+    ensures are_roots { (square : SquareShares) (header : Roots) →
+        IsHeaderOf header square → AreRoots header }
+
     // The header of a grid has the strict root of each axis, and a header of its width that has
     // these is the grid's. A grid has none only where the namespaces of an axis fall.
     ensures strict { (k : ℕ) (shares : List Share) (header : Roots) →

@@ -24,9 +24,10 @@ pub returns-clause-proved : goal.returns-clause-proved
 returns-clause-proved c = λ header frame. finding_proved header frame c.wire_laws.ensures.message_spelled c.message_laws.ensures.refusal
 
 pub returns-clause-own : goal.returns-clause-own
-returns-clause-own c = λ header frame square roots bytes own found.
+returns-clause-own c = λ header frame square bytes own found.
     finding_own header frame square
-    ((finding_proved header frame c.wire_laws.ensures.message_spelled c.message_laws.ensures.refusal roots bytes).0 found)
+    ((finding_proved header frame c.wire_laws.ensures.message_spelled c.message_laws.ensures.refusal
+    (c.grid_laws.ensures.are_roots square header own) bytes).0 found)
     c.message_laws.ensures.own own
 
 pub returns-clause-header_file : goal.returns-clause-header_file

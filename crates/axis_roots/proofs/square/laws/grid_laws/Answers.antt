@@ -1,5 +1,5 @@
 use Rattle.axis_roots.proofs.Grids.ExtensionLemmas.{extension_there, extension_once}
-use Rattle.axis_roots.proofs.Grids.HeaderLemmas.{header_once, header_made, header_not_made, header_strict, header_falls, header_by_strict}
+use Rattle.axis_roots.proofs.Grids.HeaderLemmas.{header_once, header_roots, header_made, header_not_made, header_strict, header_falls, header_by_strict}
 use Rattle.axis_roots.proofs.Grids.LineLemmas.{line_leaves}
 use Rattle.axis_roots.proofs.Grids.LaidLemmas.{header_laid}
 use Rattle.axis_roots.proofs.square.laws.grid_laws.Goals as goal
@@ -12,6 +12,9 @@ returns-clause-one_extension c = λ square grid other is first second. extension
 
 pub returns-clause-one_header : goal.returns-clause-one_header
 returns-clause-one_header c = header_once
+
+pub returns-clause-are_roots : goal.returns-clause-are_roots
+returns-clause-are_roots c = header_roots
 
 pub returns-clause-header : goal.returns-clause-header
 returns-clause-header c = header_made
