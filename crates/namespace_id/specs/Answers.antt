@@ -1,5 +1,5 @@
 -- What calls answer, and where they write.
-use Rattle.std.specs.Prelude.{◌≡◌, ℕ, ◌+◌, ◌≤◌, Option, Some, None, Vec, vec_len, vec_capacity}
+use Rattle.std.specs.Prelude.{◌≡◌, ℕ, ◌+◌, ◌≤◌, Option, Some, None, Result, Ok, Err, Vec, vec_len, vec_capacity}
 use Rattle.std.specs.declared.alloc.Global.{Global}
 
 -- what a reader answered, seen by `view`, is what reading gives
@@ -10,3 +10,8 @@ Gives view (Some x) read = read ≡ Some (view x)
 -- there is room for so many values more
 abbrev pub HasRoom : {A : Type 0} → Vec A Global → ℕ → Type 0
 HasRoom out count = vec_len out + count ≤ vec_capacity out
+
+-- the refusal that an answer gives, none of an `Ok`
+abbrev pub refusal_in : {T E : Type 0} → Result T E → Option E
+refusal_in (Ok _) = None
+refusal_in (Err why) = Some why

@@ -27,6 +27,10 @@ namespace_cmp a b = slice_cmp nat_cmp a.0 b.0
 abbrev pub is_at_most : Namespace → Namespace → Bool
 is_at_most a b = is_le (namespace_cmp a b)
 
+-- whether the first is below the second
+abbrev pub is_below : Namespace → Namespace → Bool
+is_below a b = not (is_at_most b a)
+
 -- the greater of two namespaces
 abbrev pub greater_of : Namespace → Namespace → Namespace
 greater_of a b = if is_at_most a b then b else a

@@ -6,5 +6,7 @@ pub mod FoldLemmas
 pub mod SpanLemmas
 pub mod LevelLemmas
 pub mod NameLemmas
+pub mod OverLemmas
 pub mod JoinLemmas
+pub mod AboveLemmas
 pub mod TreeLemmas

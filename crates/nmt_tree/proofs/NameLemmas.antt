@@ -1,5 +1,5 @@
 -- Names in order, and those of the digests over them.
-use Rattle.std.proofs.Common.{◌≡◌, ◌∙◌, ℕ, zero, suc, ◌<◌, ◌≤◌, List, [], ◌∷◌, ◌++◌, length, take, drop, get_or, true, cond, refl, ap, arith, length-append, length-drop}
+use Rattle.std.proofs.Common.{◌≡◌, ◌∙◌, ℕ, zero, suc, ◌<◌, ◌≤◌, List, [], ◌∷◌, ◌++◌, length, take, drop, true, cond, refl, ap, arith, length-append, length-drop}
 use Rattle.std.proofs.lemmas.Bool.{and_parts, cond_both}
 use Rattle.std.proofs.lemmas.List.{append_assoc, length-take-le}
 use Rattle.sha2.specs.Sha256.{sha256}
@@ -14,10 +14,7 @@ use Rattle.namespace_id.proofs.OrderLemmas.{at_most_refl, at_most_trans}
 use Rattle.namespace_id.proofs.StringLemmas.{front, behind}
 use Rattle.nmt_tree.specs.Digests.{leaf_digest, joined_greatest, node_digest}
 use Rattle.nmt_tree.specs.Roots.{is_ordered}
-
--- the name at a place
-abbrev pub name_at : List Namespace → ℕ → Namespace
-name_at names i = get_or names i (record { 0 = [] })
+use Rattle.nmt_tree.specs.Spans.{name_at}
 
 -- the first name is at most every later one
 first_at_most : (a : Namespace) (names : List Namespace) (j : ℕ) → is_ordered (a ∷ names) ≡ true → j < length names → is_at_most a (name_at names j) ≡ true

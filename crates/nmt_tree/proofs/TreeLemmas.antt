@@ -12,30 +12,35 @@ use Rattle.nmt_tree.proofs.SpanLemmas.{length-leaf_digests, root_is_span}
 use Rattle.nmt_tree.proofs.LevelLemmas.{levels_leaves}
 use Rattle.nmt_tree.proofs.JoinLemmas.{joins_ordered}
 
--- a tree whose digests are all levels over leaves with ordered names
-pub record IsFilled (n : ℕ) (digests : List Digest) (ns : List Namespace) (ss : List Share) : Type 0 where
+-- a tree whose digests are all levels over these leaves
+pub record IsFilled (n : ℕ) (digests leaves : List Digest) : Type 0 where
   pub is_tree : IsTree n true digests
-  pub leaves : take n digests ≡ leaf_digests ns ss
+  pub leaves_are : take n digests ≡ leaves
 
--- writing all levels over such leaves makes such a tree
-pub filled_tree : (n : ℕ) (digests : List Digest) (ns : List Namespace) (ss : List Share) → IsTrue (is_leaf_count n) → length ns ≡ n → length ss ≡ n
-    → AreNamespaces ns → is_ordered ns ≡ true → length digests + 1 ≡ 2 * n → digests ≡ levels (halvings (length ns)) (leaf_digests ns ss)
-    → IsFilled n digests ns ss
-filled_tree n digests ns ss is len same named ordered room e =
-    let power : 2 ^ halvings n ≡ n = power_halvings n is in
-    let all : digests ≡ levels (halvings n) (leaf_digests ns ss) = e ∙ ap (λ (k : ℕ). levels (halvings k) (leaf_digests ns ss)) len in
-    let front : take n digests ≡ leaf_digests ns ss =
-    ap (λ (l : List Digest). take n l) all ∙ levels_leaves n (leaf_digests ns ss) is (length-leaf_digests ns ss (len ∙ sym same) ∙ len) in
-    let joins : HasOrderedJoins (leaf_digests ns ss) 0 (halvings n) = joins_ordered (halvings n) 0 ns ss named (same ∙ sym len) ordered (omega (arith, power, len)) in
+-- writing all levels over leaves with ordered joins makes such a tree
+pub filled_tree : (n : ℕ) (digests leaves : List Digest) → IsTrue (is_leaf_count n) → length leaves ≡ n → HasOrderedJoins leaves 0 (halvings n)
+    → length digests + 1 ≡ 2 * n → digests ≡ levels (halvings n) leaves → IsFilled n digests leaves
+filled_tree n digests leaves is len joins room e =
+    let front : take n digests ≡ leaves = ap (λ (l : List Digest). take n l) e ∙ levels_leaves n leaves is len in
     record {
       is_tree = record {
         is_count = is;
         room = room;
-        filled = (λ t. all ∙ ap (levels (halvings n)) (sym front));
+        filled = (λ t. e ∙ ap (levels (halvings n)) (sym front));
         ordered = (λ t. subst (λ (l : List Digest). HasOrderedJoins l 0 (halvings n)) (sym front) joins);
       };
-      leaves = front;
+      leaves_are = front;
     }
+
+-- so does writing all levels over leaves with ordered names
+pub filled_with_names : (n : ℕ) (digests : List Digest) (ns : List Namespace) (ss : List Share) → IsTrue (is_leaf_count n) → length ns ≡ n → length ss ≡ n
+    → AreNamespaces ns → is_ordered ns ≡ true → length digests + 1 ≡ 2 * n → digests ≡ levels (halvings (length ns)) (leaf_digests ns ss)
+    → IsFilled n digests (leaf_digests ns ss)
+filled_with_names n digests ns ss is len same named ordered room e =
+    let power : 2 ^ halvings n ≡ n = power_halvings n is in
+    filled_tree n digests (leaf_digests ns ss) is (length-leaf_digests ns ss (len ∙ sym same) ∙ len)
+    (joins_ordered (halvings n) 0 ns ss named (same ∙ sym len) ordered (omega (arith, power, len))) room
+    (e ∙ ap (λ (k : ℕ). levels (halvings k) (leaf_digests ns ss)) len)
 
 -- the digest over all leaves is their strict root
 pub strict_root_some : (n : ℕ) (leaves : List Digest) (ns : List Namespace) (ss : List Share) → IsTrue (is_leaf_count n) → length ns ≡ n → length ss ≡ n

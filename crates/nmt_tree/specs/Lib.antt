@@ -1,4 +1,5 @@
 pub mod Digests
 pub mod Roots
 pub mod Levels
+pub mod Spans
 pub mod Trees

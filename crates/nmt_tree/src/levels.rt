@@ -59,6 +59,16 @@ pub(crate) fn put_tree(names: &[Namespace], shares: &[Share], digests: &mut [Dig
     put_levels(names.len(), digests);
 }
 
+/// Writes leaves that are digests already, and the levels above them.
+pub(crate) fn put_above(leaves: &[Digest], digests: &mut [Digest])
+    requires count { IsTrue (is_leaf_count (length leaves.now)) }
+    requires room { length digests.old + 1 ≡ 2 * length leaves.now }
+    ensures { digests.new ≡ levels (halvings (length leaves.now)) leaves.now }
+{
+    digests[..leaves.len()].copy_from_slice(leaves);
+    put_levels(leaves.len(), digests);
+}
+
 /// The digest over `size` leaves from place `from` on, read from the levels over `count` leaves.
 pub(crate) fn read(count: usize, digests: &[Digest], from: usize, size: usize) -> Digest
     requires count { IsTrue (is_leaf_count count) }

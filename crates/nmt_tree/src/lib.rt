@@ -15,4 +15,4 @@ mod trees;
 pub use folding::fold_root;
 pub use hashing::{Unordered, join, leaf, node};
 pub use roots::{are_ordered, halvings, is_leaf_count, leaf_count, plain_root, strict_root};
-pub use trees::{Tree, tree_laws};
+pub use trees::{Tree, span_laws, tree_laws};

@@ -12,10 +12,11 @@ ghost use Rattle.namespace_id.specs.declared.shares.Share.{Share};
 ghost use Rattle.nmt_tree.specs.Digests.{leaf_digest};
 ghost use Rattle.nmt_tree.specs.Roots.{is_leaf_count, halvings, is_ordered, root, strict_root};
 ghost use Rattle.nmt_tree.specs.Levels.{HasOrderedJoins, leaf_digests, span};
+ghost use Rattle.nmt_tree.specs.Spans.{IsOver, IsAbove};
 ghost use Rattle.nmt_tree.specs.Trees.{AreTreeLeaves, digest_over};
 
 use crate::are_ordered;
-use crate::levels::{put_tree, read};
+use crate::levels::{put_above, put_tree, read};
 use namespace_id::{DIGEST_SIZE, Digest, Namespace, NoMemory, Share, namespaces_law};
 use std::alloc::Global;
 use std::marker::Model;
@@ -100,6 +101,22 @@ impl Tree {
         true
     }
 
+    /// Puts digests of leaves in place of all that the tree held: as many as the tree is for, and
+    /// every join over them is ordered. No leaf is hashed anew.
+    ///
+    /// It takes no memory.
+    ///
+    /// Celestia specifications, "Data Structures", namespaced Merkle trees.
+    pub fn put(&mut self, leaves: &[Digest])
+        requires number { length leaves.now ≡ self.old.count }
+        requires ordered { HasOrderedJoins leaves.now 0 (halvings self.old.count) }
+        ensures count { self.new.count ≡ self.old.count }
+        ensures leaves { self.new.leaves ≡ Some leaves.now }
+    {
+        put_above(leaves, &mut self.digests);
+        self.is_full = true;
+    }
+
     /// The digest over the `size` leaves from place `from` on, counted from 0; none exactly where
     /// the tree is empty. `size` is a power of two, and `from` a multiple of it. Nothing is hashed.
     pub fn digest(&self, from: u16, size: u16) -> Option<Digest>
@@ -146,6 +163,19 @@ pub fn tree_laws()
     ensures ordered { (depth : ℕ) (names : List Namespace) (shares : List Share) →
         length names ≡ 2 ^ depth → length shares ≡ 2 ^ depth → AreNamespaces names →
         is_ordered names ≡ true → HasOrderedJoins (leaf_digests names shares) 0 depth }
+{}
+
+/// The namespaces of the digest over some neighbors among leaves.
+pub fn span_laws()
+    ensures over { (depth start : ℕ) (names : List Namespace) (shares : List Share) →
+        AreNamespaces names → length names ≡ length shares → start + 2 ^ depth ≤ length names →
+        IsOver names start depth (span (leaf_digests names shares) start depth) }
+
+    // Where the namespaces never fall, none of these leaves but PARITY is above the greatest.
+    ensures above { (depth start : ℕ) (names : List Namespace) (shares : List Share) →
+        AreNamespaces names → length names ≡ length shares → start + 2 ^ depth ≤ length names →
+        is_ordered names ≡ true →
+        IsAbove names start depth (span (leaf_digests names shares) start depth) }
 {}
 
 #[cfg(test)]
