@@ -10,9 +10,17 @@ pub mod DigestLemmas
 pub mod AgreeLemmas
 pub mod WholeLemmas
 pub mod ShownLemmas
+pub mod RunLemmas
+pub mod BesideLemmas
+pub mod BreakLemmas
+pub mod CompleteLemmas
+pub mod OtherLeafLemmas
+pub mod RangeLemmas
+pub mod AbsenceLemmas
 pub mod PutLemmas
 pub mod ListedLemmas
 pub mod TwinLemmas
 pub mod MadeLemmas
+pub mod NeighborLemmas
 pub mod HashedLemmas
 pub mod OrderLemmas

@@ -20,6 +20,11 @@ pub each-append : {A : Type 0} (P : A → Type 0) (xs ys : List A) → AllByRecu
 each-append P [] ys h k = k
 each-append P (x ∷ xs) ys h k = (h.0, each-append P xs ys h.1 k)
 
+-- and of each of two lists where it holds of each of both together
+pub each-split : {A : Type 0} (P : A → Type 0) (xs ys : List A) → AllByRecursion P (xs ++ ys) → AllByRecursion P xs × AllByRecursion P ys
+each-split P [] ys h = (tt, h)
+each-split P (x ∷ xs) ys h = let rest = each-split P xs ys h.1 in ((h.0, rest.0), rest.1)
+
 -- lists with one front and one rest are one list
 pub same_halves : {A : Type 0} (i : ℕ) (xs ys : List A) → take i xs ≡ take i ys → drop i xs ≡ drop i ys → xs ≡ ys
 same_halves i xs ys e f = sym (take-append-drop i xs) ∙ ap₂ (λ (x y : List _). x ++ y) e f ∙ take-append-drop i ys

@@ -1,5 +1,6 @@
 pub mod Parts
 pub mod Openings
+pub mod Complete
 pub mod Pieces
 pub mod Causes
 pub mod Paths

@@ -1,14 +1,16 @@
 -- Openings made from the digests of leaves.
-use Rattle.std.specs.Prelude.{◌≡◌, ◌<◌, ◌≤◌, ℕ, ◌+◌, List, [], ◌∷◌, map, get_or, true}
+use Rattle.std.specs.Prelude.{◌≡◌, ◌<◌, ◌≤◌, ℕ, ◌+◌, List, length, take, drop, replicate, None, [], ◌∷◌, map, get_or, true}
 use Rattle.namespace_id.specs.declared.namespaces.Namespace.{Namespace}
 use Rattle.namespace_id.specs.declared.shares.Share.{Share}
 use Rattle.namespace_id.specs.declared.digests.Digest.{Digest}
 use Rattle.nmt_tree.specs.Digests.{leaf_digest}
 use Rattle.nmt_tree.specs.Roots.{halvings}
-use Rattle.nmt_tree.specs.Levels.{span}
+use Rattle.nmt_tree.specs.Levels.{span, leaf_digests}
+use Rattle.nmt_proofs.specs.Complete.{range_break, absence_break, IsBetween}
+use Rattle.nmt_proofs.specs.Clashes.{AreLeaves}
 use Rattle.nmt_proofs.specs.Parts.{digest_of, is_in_order}
 use Rattle.namespace_id.specs.Digests.{no_digest}
-use Rattle.nmt_proofs.specs.Openings.{Shown, outside, Opens, one_leaf, one_digest}
+use Rattle.nmt_proofs.specs.Openings.{Shown, outside, Opens, one_leaf, one_digest, leaves_from, digests_from}
 
 -- the digests over intervals of leaves, each told by where it begins and its depth
 abbrev pub spans : List Digest → List (ℕ × ℕ) → List Digest
@@ -39,3 +41,30 @@ abbrev pub OpensLeaf : ℕ → List Digest → ℕ → List Digest → Type 0
 OpensLeaf count leaves pos nodes =
     (name : Namespace) (share : Share) → leaf_digest name share ≡ get_or leaves pos no_digest →
     Opens (halvings count) (one_leaf pos name share) nodes (span leaves 0 (halvings count))
+
+-- the nodes that open so many leaves from a place on
+abbrev pub range_nodes : ℕ → List Digest → ℕ → ℕ → List Digest
+range_nodes count leaves from number =
+    spans leaves (outside (halvings count) 0 (digests_from from (take number (drop from leaves))))
+
+-- nodes open each range of leaves that has these digests
+abbrev pub OpensLeaves : ℕ → List Digest → ℕ → ℕ → List Digest → Type 0
+OpensLeaves count leaves from number nodes =
+    (name : Namespace) (shares : List Share) → length shares ≡ number →
+    leaf_digests (replicate number name) shares ≡ take number (drop from leaves) →
+    Opens (halvings count) (leaves_from from name shares) nodes (span leaves 0 (halvings count))
+
+-- nodes leave no other place for a namespace of which all leaves stand in the range
+abbrev pub CompletesRange : ℕ → List Digest → ℕ → ℕ → List Digest → Type 0
+CompletesRange count leaves from number nodes =
+    (name : Namespace) (names : List Namespace) (shares shown : List Share) →
+    AreLeaves (halvings count) names shares → leaves ≡ leaf_digests names shares →
+    IsBetween name names from (from + number) → length shown ≡ number →
+    range_break (halvings count) from name shown nodes ≡ None
+
+-- nodes leave no place for a namespace below that of the leaf at a place and above those before it
+abbrev pub CompletesAbsence : ℕ → List Digest → ℕ → Digest → List Digest → Type 0
+CompletesAbsence count leaves pos leaf nodes =
+    (name : Namespace) (names : List Namespace) (shares : List Share) →
+    AreLeaves (halvings count) names shares → leaves ≡ leaf_digests names shares →
+    IsBetween name names pos pos → absence_break (halvings count) pos name leaf nodes ≡ None

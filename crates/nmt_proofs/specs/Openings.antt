@@ -77,6 +77,18 @@ one_leaf pos name share = record { from = pos; size = 1; part = leaf name share 
 abbrev pub one_digest : ℕ → Digest → List Shown
 one_digest pos digest = record { from = pos; size = 1; part = given digest } ∷ []
 
+-- what a range proof shows: neighboring leaves of one namespace, from a place on
+unfoldable pub leaves_from : ℕ → Namespace → List Share → List Shown
+leaves_from from name [] = []
+leaves_from from name (share ∷ shares) =
+    record { from = from; size = 1; part = leaf name share } ∷ leaves_from (suc from) name shares
+
+-- neighboring places, of which only the digests of the leaves are shown
+unfoldable pub digests_from : ℕ → List Digest → List Shown
+digests_from from [] = []
+digests_from from (digest ∷ digests) =
+    record { from = from; size = 1; part = given digest } ∷ digests_from (suc from) digests
+
 -- a shown part of which only the digest is kept
 abbrev pub shadow_of : Shown → Shown
 shadow_of s = record { from = s.from; size = s.size; part = given (digest_of s.part) }

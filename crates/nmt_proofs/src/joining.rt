@@ -23,6 +23,15 @@ pub(crate) struct Piece {
     pub(crate) digest: Digest,
 }
 
+/// Pieces that are not written yet, as many as a range may have.
+pub(crate) fn blank_pieces() -> [Piece; 256] {
+    [Piece {
+        from: 0,
+        size: 0,
+        digest: Digest([0; 90]),
+    }; 256]
+}
+
 /// How many pieces begin before a place.
 pub(crate) fn count_begun(pieces: &[Piece], middle: u16) -> usize
     ensures count { result ≡ begun middle (shown pieces.now) }

@@ -3,17 +3,20 @@
 //!
 //! Every kind of opening is one notion, a partial tree: parts that are shown at their places, and
 //! nodes for the intervals that hold nothing shown. `joining` has the plain recursion over it,
-//! `opening` the public calls, `making` what makes openings from a stored tree, and `agreeing` the
-//! law between two parts with one digest: a SHA-256 collision is found where they first differ.
+//! `opening` the public calls, `completing` which nodes leave room for a namespace, `making` what
+//! makes openings from a stored tree, and `agreeing` the law between two parts with one digest: a
+//! SHA-256 collision is found where they first differ.
 #![tactic(auto)]
 
 mod agreeing;
+mod completing;
 mod joining;
 mod making;
 mod opening;
 mod paths;
 
 pub use agreeing::clash_laws;
-pub use making::{make_leaf, making_laws};
-pub use opening::{OpenRefusal, open_leaf};
-pub use paths::Path;
+pub use completing::complete_laws;
+pub use making::{make_absent, make_leaf, make_range, making_laws};
+pub use opening::{OpenRefusal, open_absent, open_leaf, open_range};
+pub use paths::{Absent, Nodes, Path};

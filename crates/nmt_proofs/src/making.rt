@@ -1,20 +1,21 @@
 //! Openings made from a stored tree, by the recursion on intervals that reads them.
 
-ghost use Rattle.std.specs.Prelude.{◌≡◌, ◌↔◌, ◌+◌, ◌%◌, ◌^◌, ◌≤◌, ◌<◌, ℕ, List, length, true, IsTrue, IsSome};
+ghost use Rattle.std.specs.Prelude.{◌≡◌, ◌↔◌, ◌+◌, ◌%◌, ◌^◌, ◌≤◌, ◌<◌, ℕ, List, length, replicate, get_or, true, IsTrue, IsSome};
 ghost use Rattle.std.specs.Option.{ForSome};
 ghost use Rattle.namespace_id.specs.declared.namespaces.Namespace.{Namespace};
 ghost use Rattle.namespace_id.specs.declared.shares.Share.{Share};
 ghost use Rattle.namespace_id.specs.declared.digests.Digest.{Digest};
+ghost use Rattle.namespace_id.specs.Digests.{no_digest};
 ghost use Rattle.nmt_tree.specs.Roots.{is_leaf_count, halvings};
 ghost use Rattle.nmt_tree.specs.Levels.{leaf_digests, span, HasOrderedJoins};
 ghost use Rattle.nmt_proofs.specs.Parts.{is_in_order};
-ghost use Rattle.nmt_proofs.specs.Openings.{Shown, outside, Opens};
+ghost use Rattle.nmt_proofs.specs.Openings.{Shown, outside, Opens, digests_from};
 ghost use Rattle.nmt_proofs.specs.Clashes.{whole, AreLeaves};
-ghost use Rattle.nmt_proofs.specs.Making.{spans, AreAtLeaves, leaf_nodes, OpensDigest, OpensLeaf};
+ghost use Rattle.nmt_proofs.specs.Making.{spans, AreAtLeaves, leaf_nodes, range_nodes, OpensDigest, OpensLeaf, OpensLeaves, CompletesRange, CompletesAbsence};
 ghost use Rattle.nmt_proofs.specs.Pieces.{shown};
 
-use crate::Path;
-use crate::joining::{Piece, count_outside, halves, is_piece};
+use crate::joining::{Piece, blank_pieces, count_outside, halves, is_piece};
+use crate::{Absent, Nodes, Path};
 use namespace_id::Digest;
 use nmt_tree::{Tree, halvings, leaf_count};
 
@@ -66,9 +67,9 @@ fn path_of(nodes: &[Digest]) -> Path
     path
 }
 
-/// Eight nodes that are not written yet.
-fn blank_nodes() -> [Digest; 8] {
-    [Digest([0; 90]); 8]
+/// Nodes that are not written yet, as many as an opening may have.
+fn blank_nodes() -> [Digest; 16] {
+    [Digest([0; 90]); 16]
 }
 
 /// Makes the NMT inclusion proof of one leaf: the nodes that open the leaf at place `pos`, below
@@ -100,6 +101,111 @@ pub fn make_leaf(tree: &Tree, pos: u16) -> Path
     path_of(&nodes[..depth as usize])
 }
 
+/// A list of these nodes.
+fn list_of(nodes: &[Digest]) -> Nodes
+    requires { length nodes.now ≤ 16 }
+    ensures { result ≡ nodes.now }
+{
+    let mut list = Nodes::new();
+    for node in nodes {
+        list.push(*node);
+    }
+    list
+}
+
+/// The digests of the intervals that hold no piece, left to right, at most 16, in a tree of this
+/// depth.
+fn nodes_beside(tree: &Tree, depth: u8, pieces: &[Piece]) -> Nodes
+    requires filled { IsSome tree.now.leaves }
+    requires depth { depth ≤ 8 }
+    requires count { tree.now.count ≡ 2 ^ depth }
+    requires few { length (outside depth 0 (shown pieces.now)) ≤ 16 }
+    ensures { ForSome tree.now.leaves (λ leaves.
+        result ≡ spans leaves (outside depth 0 (shown pieces.now))) }
+{
+    let count = count_outside(depth, 0, pieces);
+    let mut nodes = blank_nodes();
+    put_nodes(tree, depth, 0, pieces, &mut nodes[..count]);
+    list_of(&nodes[..count])
+}
+
+/// Writes neighboring places as pieces, from one place on. Which digest they show is left open: the
+/// intervals beside them don't depend on it.
+fn put_places(from: u16, digest: Digest, pieces: &mut [Piece])
+    requires { from + length pieces.old ≤ 256 }
+    ensures { shown pieces.new ≡ digests_from from (replicate (length pieces.old) digest) }
+{
+    for i in 0..pieces.len() {
+        pieces[i] = Piece {
+            from: from + i as u16,
+            size: 1,
+            digest,
+        };
+    }
+}
+
+/// Makes the NMT range proof of `count` neighboring leaves, at least one, from place `from` on of a
+/// tree that isn't empty: the nodes that open them. They are the digests of the greatest subtrees
+/// that hold no place of the range, left to right, at most two a level.
+///
+/// It takes no memory, and hashes nothing.
+///
+/// Celestia specifications, "Data Structures", namespace proofs.
+pub fn make_range(tree: &Tree, from: u16, count: u16) -> Nodes
+    requires filled { IsSome tree.now.leaves }
+    requires some { 0 < count }
+    requires places { from + count ≤ tree.now.count }
+    ensures nodes { ForSome tree.now.leaves (λ leaves.
+        result ≡ range_nodes tree.now.count leaves from count) }
+
+    // They open under the tree's root, and leave no other place for a namespace of which all leaves
+    // stand in the range.
+    ensures opens { ForSome tree.now.leaves (λ leaves.
+        OpensLeaves tree.now.count leaves from count result) }
+    ensures complete { ForSome tree.now.leaves (λ leaves.
+        CompletesRange tree.now.count leaves from count result) }
+{
+    let depth = halvings(tree.len() as usize);
+    let mut pieces = blank_pieces();
+    let pieces = &mut pieces[..count as usize];
+    put_places(from, Digest([0; 90]), pieces);
+    nodes_beside(tree, depth, pieces)
+}
+
+/// Makes the NMT absence proof at place `pos`, below the number of leaves, of a tree that isn't empty:
+/// the digest of the leaf there, and the nodes that open it. It shows that a namespace is absent
+/// where the leaf is the first above that namespace.
+///
+/// It takes no memory, and hashes nothing.
+///
+/// Celestia specifications, "Data Structures", namespace proofs.
+pub fn make_absent(tree: &Tree, pos: u16) -> Absent
+    requires filled { IsSome tree.now.leaves }
+    requires place { pos < tree.now.count }
+    ensures leaf { ForSome tree.now.leaves (λ leaves. result.leaf ≡ get_or leaves pos no_digest) }
+    ensures nodes { ForSome tree.now.leaves (λ leaves.
+        result.nodes ≡ leaf_nodes tree.now.count leaves pos) }
+
+    // They open under the tree's root, and leave no place for a namespace that is above those before
+    // the leaf and below the leaf's.
+    ensures opens { ForSome tree.now.leaves (λ leaves.
+        OpensDigest tree.now.count leaves pos result.nodes) }
+    ensures complete { ForSome tree.now.leaves (λ leaves.
+        CompletesAbsence tree.now.count leaves pos result.leaf result.nodes) }
+{
+    let depth = halvings(tree.len() as usize);
+    let leaf = digest_in(tree, pos, 1);
+    let pieces = [Piece {
+        from: pos,
+        size: 1,
+        digest: leaf,
+    }];
+    Absent {
+        leaf,
+        nodes: nodes_beside(tree, depth, &pieces),
+    }
+}
+
 /// Where every join over leaves is ordered, the digests of the intervals that hold nothing shown
 /// open what is shown of them at single places; and a list's joins are ordered where those of its
 /// part are.
@@ -115,7 +221,7 @@ pub fn making_laws()
 #[cfg(test)]
 mod tests {
     use super::*;
-    use crate::open_leaf;
+    use crate::{open_absent, open_leaf, open_range};
     use namespace_id::{Namespace, Share};
 
     #[test]
@@ -134,5 +240,23 @@ mod tests {
         let path = make_leaf(&tree, 2);
         let got = open_leaf(4, 2, &names[2], &shares[2], path.nodes(), &root);
         assert_eq!(rt; got, Ok(()));
+    }
+
+    #[test]
+    fn made_range_and_absence_of_four_leaves(rt: HostRuntime) {
+        let mut names = [Namespace([3; 29]); 4];
+        names[0] = Namespace([1; 29]);
+        names[3] = Namespace([9; 29]);
+        let shares = [Share([7; 512]); 4];
+        let mut tree = Tree::new(rt.alloc(), 4).expect(&rt, "there is memory");
+        assert!(rt; tree.fill(&names, &shares));
+        let root = tree.root().expect(&rt, "the tree is filled");
+        let range = make_range(&tree, 1, 2);
+        let got = open_range(4, 1, &names[1], &shares[..2], range.nodes(), &root);
+        assert_eq!(rt; got, Ok(()), "range");
+        let absent = make_absent(&tree, 3);
+        let name = Namespace([5; 29]);
+        let got = open_absent(4, 3, &name, &absent.leaf, absent.nodes.nodes(), &root);
+        assert_eq!(rt; got, Ok(()), "absence");
     }
 }

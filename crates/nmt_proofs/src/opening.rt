@@ -1,12 +1,16 @@
-//! Openings of leaves, which are inclusion proofs, and why they are refused.
+//! Openings of a leaf, of a range of leaves and of an absence, which are inclusion proofs, range proofs
+//! and absence proofs, and why they are refused.
 
-ghost use Rattle.std.specs.Prelude.{◌≡◌, ◌<◌, ℕ, IsTrue, IsOk, IsErrOf, ◌↔◌, None, true, false};
+ghost use Rattle.std.specs.Prelude.{◌≡◌, ◌<◌, ◌≤◌, ◌+◌, ℕ, length, take, IsTrue, IsOk, IsErrOf, ◌↔◌, None, Some, true, false};
+ghost use Rattle.namespace_id.specs.Answers.{refusal_in};
 ghost use Rattle.nmt_tree.specs.Roots.{is_leaf_count, halvings};
-ghost use Rattle.nmt_proofs.specs.Openings.{has_count, has_order, has_root, Opens, one_leaf};
-ghost use Rattle.nmt_proofs.specs.Causes.{HasCause};
+ghost use Rattle.nmt_proofs.specs.Openings.{outside, has_count, has_order, has_root, Opens, one_leaf, one_digest, leaves_from, shadow};
+ghost use Rattle.nmt_proofs.specs.Complete.{first_break, range_break, absence_break};
+ghost use Rattle.nmt_proofs.specs.Causes.{HasCause, OpensRange, OpensAbsence, range_refusal, absence_refusal};
 ghost use Rattle.nmt_proofs.specs.Pieces.{shown};
 
-use crate::joining::{Piece, count_outside, joined};
+use crate::completing::{excludes, first_break};
+use crate::joining::{Piece, blank_pieces, count_outside, joined};
 use namespace_id::{Digest, Namespace, Share};
 use nmt_tree::{halvings, leaf};
 use thiserror::Error;
@@ -23,7 +27,8 @@ pub enum OpenRefusal {
     /// The joined value isn't the root.
     #[error("the nodes lead to another root")]
     OtherRoot,
-    /// Of an opening that has to be complete, the number of the first node that isn't.
+    /// Of an opening that has to be complete, the number of the first node that leaves room; the number
+    /// of nodes stands for the digest of an absence.
     #[error("node {0} leaves room for the namespace")]
     Incomplete(u64),
 }
@@ -46,6 +51,46 @@ fn open(n: u16, pieces: &[Piece], nodes: &[Digest], root: &Digest) -> Result<(),
         Ok(())
     } else {
         Err(OpenRefusal::OtherRoot)
+    }
+}
+
+/// Whether the nodes open the pieces under the root, and none leaves room for the namespace; the
+/// pieces begin at `from`.
+fn open_complete(
+    n: u16,
+    pieces: &[Piece],
+    nodes: &[Digest],
+    root: &Digest,
+    name: &Namespace,
+    from: u16,
+) -> Result<(), OpenRefusal>
+    requires { IsTrue (is_leaf_count n) }
+    ensures { HasCause result (has_count (halvings n) (shown pieces.now) nodes.now)
+        (has_order (halvings n) (shown pieces.now) nodes.now)
+        (has_root (halvings n) (shown pieces.now) nodes.now root.now)
+        (first_break name.now from 0 (outside (halvings n) 0 (shown pieces.now)) nodes.now) }
+{
+    open(n, pieces, nodes, root)?;
+    let depth = halvings(n as usize);
+    match first_break(depth, 0, pieces, nodes, name, from, 0) {
+        Some(i) => Err(OpenRefusal::Incomplete(i)),
+        None => Ok(()),
+    }
+}
+
+/// Writes the leaves of one namespace as pieces, from one place on.
+fn put_leaves(from: u16, name: &Namespace, shares: &[Share], pieces: &mut [Piece])
+    requires places { from + length shares.now ≤ 256 }
+    requires room { length shares.now ≤ length pieces.old }
+    ensures { shown (take (length shares.now) pieces.new) ≡
+        shadow (leaves_from from name.now shares.now) }
+{
+    for i in 0..shares.len() {
+        pieces[i] = Piece {
+            from: from + i as u16,
+            size: 1,
+            digest: leaf(name, &shares[i]),
+        };
     }
 }
 
@@ -93,6 +138,109 @@ pub fn open_leaf(
     open(n, &pieces, nodes, root)
 }
 
+/// Verifies an NMT range proof: whether the nodes open the neighboring leaves over `shares`, all with
+/// namespace `name`, from place `from` on of `n` leaves under the root, and leave no other place for
+/// that namespace. `n` is a power of two, at most 256; there is a share, and their places are below
+/// `n`. The nodes are the digests of the greatest subtrees that hold no place of the range, left to
+/// right.
+///
+/// Refuses another number of nodes, then a join that is not ordered, then another root, then the
+/// first node that leaves room: left of the range its greatest namespace is not below `name`, or
+/// right of it its least is not above. It takes no memory.
+///
+/// Celestia specifications, "Data Structures", namespace proofs; docs/RULES.md, "Namespace proofs".
+pub fn open_range(
+    n: u16,
+    from: u16,
+    name: &Namespace,
+    shares: &[Share],
+    nodes: &[Digest],
+    root: &Digest,
+) -> Result<(), OpenRefusal>
+    requires leaves { IsTrue (is_leaf_count n) }
+    requires some { 0 < length shares.now }
+    requires places { from + length shares.now ≤ n }
+    ensures accepts { IsOk result ↔
+        OpensRange (halvings n) from name.now shares.now nodes.now root.now }
+
+    // Each refusal comes exactly where its test is the first that fails.
+    ensures node_count { IsErrOf result OpenRefusal.NodeCount ↔
+        (has_count (halvings n) (leaves_from from name.now shares.now) nodes.now ≡ false) }
+    ensures unordered { IsErrOf result OpenRefusal.Unordered ↔
+        (has_count (halvings n) (leaves_from from name.now shares.now) nodes.now ≡ true)
+        × (has_order (halvings n) (leaves_from from name.now shares.now) nodes.now ≡ false) }
+    ensures other_root { IsErrOf result OpenRefusal.OtherRoot ↔
+        (has_count (halvings n) (leaves_from from name.now shares.now) nodes.now ≡ true)
+        × (has_order (halvings n) (leaves_from from name.now shares.now) nodes.now ≡ true)
+        × (has_root (halvings n) (leaves_from from name.now shares.now) nodes.now root.now ≡ false) }
+    ensures incomplete { (i : ℕ) → IsErrOf result (OpenRefusal.Incomplete i) ↔
+        Opens (halvings n) (leaves_from from name.now shares.now) nodes.now root.now
+        × (range_break (halvings n) from name.now shares.now nodes.now ≡ Some i) }
+
+    // All of these at once.
+    ensures first { refusal_in result ≡
+        range_refusal (halvings n) from name.now shares.now nodes.now root.now }
+{
+    let mut pieces = blank_pieces();
+    put_leaves(from, name, shares, &mut pieces);
+    open_complete(n, &pieces[..shares.len()], nodes, root, name, from)
+}
+
+/// Verifies an NMT absence proof: whether the nodes open a digest at place `pos` of `n`
+/// leaves under the root, and leave no place for the namespace `name`. `n` is a power of two, at most
+/// 256, and `pos` is below it; the nodes are as for `open_leaf`.
+///
+/// Refuses another number of nodes, then a join that is not ordered, then another root, then the
+/// first node that leaves room: left of the place its greatest namespace is not below `name`, or
+/// right of it its least is not above. The digest of the leaf is looked at like a node on the right,
+/// and its number is the number of nodes. It takes no memory.
+///
+/// Celestia specifications, "Data Structures", namespace proofs; docs/RULES.md, "Namespace proofs".
+pub fn open_absent(
+    n: u16,
+    pos: u16,
+    name: &Namespace,
+    leaf: &Digest,
+    nodes: &[Digest],
+    root: &Digest,
+) -> Result<(), OpenRefusal>
+    requires leaves { IsTrue (is_leaf_count n) }
+    requires place { pos < n }
+    ensures accepts { IsOk result ↔
+        OpensAbsence (halvings n) pos name.now leaf.now nodes.now root.now }
+
+    // Each refusal comes exactly where its test is the first that fails.
+    ensures node_count { IsErrOf result OpenRefusal.NodeCount ↔
+        (has_count (halvings n) (one_digest pos leaf.now) nodes.now ≡ false) }
+    ensures unordered { IsErrOf result OpenRefusal.Unordered ↔
+        (has_count (halvings n) (one_digest pos leaf.now) nodes.now ≡ true)
+        × (has_order (halvings n) (one_digest pos leaf.now) nodes.now ≡ false) }
+    ensures other_root { IsErrOf result OpenRefusal.OtherRoot ↔
+        (has_count (halvings n) (one_digest pos leaf.now) nodes.now ≡ true)
+        × (has_order (halvings n) (one_digest pos leaf.now) nodes.now ≡ true)
+        × (has_root (halvings n) (one_digest pos leaf.now) nodes.now root.now ≡ false) }
+    ensures incomplete { (i : ℕ) → IsErrOf result (OpenRefusal.Incomplete i) ↔
+        Opens (halvings n) (one_digest pos leaf.now) nodes.now root.now
+        × (absence_break (halvings n) pos name.now leaf.now nodes.now ≡ Some i) }
+
+    // All of these at once.
+    ensures first { refusal_in result ≡
+        absence_refusal (halvings n) pos name.now leaf.now nodes.now root.now }
+{
+    let from = pos;
+    let pieces = [Piece {
+        from,
+        size: 1,
+        digest: *leaf,
+    }];
+    open_complete(n, &pieces, nodes, root, name, from)?;
+    if excludes(name, false, leaf) {
+        Ok(())
+    } else {
+        Err(OpenRefusal::Incomplete(nodes.len() as u64))
+    }
+}
+
 #[cfg(test)]
 mod tests {
     use super::*;
@@ -138,5 +286,49 @@ mod tests {
         }
         let got = open_leaf(4, 1, &names[1], &shares[2], &[first, right], &root);
         assert_eq!(rt; got, Err(OpenRefusal::OtherRoot), "another share");
+    }
+
+    #[test]
+    fn range_of_four_leaves(rt: HostRuntime) {
+        let name = name_of(3);
+        let shares = [Share([8; 512]), Share([9; 512])];
+        let first = leaf(&name_of(1), &Share([7; 512]));
+        let last = leaf(&name_of(7), &Share([10; 512]));
+        let left = node(&first, &leaf(&name, &shares[0]));
+        let right = node(&leaf(&name, &shares[1]), &last);
+        let root = node(&left, &right);
+        let cases: [(&str, &[Digest], Result<(), OpenRefusal>); 3] = [
+            ("opened", &[first, last], Ok(())),
+            ("a node too few", &[first], Err(OpenRefusal::NodeCount)),
+            (
+                "nodes exchanged",
+                &[last, first],
+                Err(OpenRefusal::Unordered),
+            ),
+        ];
+        for (case, nodes, want) in cases {
+            let got = open_range(4, 1, &name, &shares, nodes, &root);
+            assert_eq!(rt; got, want, "{case}");
+        }
+        let got = open_range(4, 2, &name, &shares[1..], &[left, last], &root);
+        assert_eq!(rt; got, Err(OpenRefusal::Incomplete(0)), "one on its left");
+        let got = open_range(4, 1, &name, &shares[..1], &[first, right], &root);
+        assert_eq!(rt; got, Err(OpenRefusal::Incomplete(1)), "one on its right");
+    }
+
+    #[test]
+    fn absence_from_four_leaves(rt: HostRuntime) {
+        let name = name_of(5);
+        let third = leaf(&name_of(3), &Share([9; 512]));
+        let last = leaf(&name_of(7), &Share([10; 512]));
+        let left = node(
+            &leaf(&name_of(1), &Share([7; 512])),
+            &leaf(&name_of(3), &Share([8; 512])),
+        );
+        let root = node(&left, &node(&third, &last));
+        let got = open_absent(4, 3, &name, &last, &[left, third], &root);
+        assert_eq!(rt; got, Ok(()));
+        let got = open_absent(4, 2, &name, &third, &[left, last], &root);
+        assert_eq!(rt; got, Err(OpenRefusal::Incomplete(2)), "a leaf below");
     }
 }
