@@ -11,3 +11,5 @@ pub mod WrittenLemmas
 pub mod KeptLemmas
 pub mod FilledLemmas
 pub mod RootingLemmas
+pub mod MadeLemmas
+pub mod StoredLemmas

@@ -1,4 +1,6 @@
--- Messages and certificates.
-pub mod MadeLemmas
+-- Messages, certificates and fraud claims.
+pub mod SizeLemmas
 pub mod MessageLemmas
 pub mod OwnLemmas
+pub mod ClaimLemmas
+pub mod FalseClaimLemmas

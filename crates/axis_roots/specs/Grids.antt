@@ -104,3 +104,7 @@ pub record IsHeaderOf (header : Roots) (square : SquareShares) : Type 0 where
   pub grid : List Share
   pub extends : Extends square.k square.shares grid
   pub roots : header_of_grid square.k grid ≡ Some header
+
+-- no header is that of the square
+abbrev pub HasNoHeader : SquareShares → Type 0
+HasNoHeader square = (header : Roots) → IsHeaderOf header square → ⊥

@@ -4,3 +4,6 @@ pub mod Proved
 pub mod Lines
 pub mod Grids
 pub mod Own
+pub mod Answers
+pub mod Trees
+pub mod Claims

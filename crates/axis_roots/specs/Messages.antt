@@ -1,6 +1,6 @@
 -- Samples, which are called share messages, and when one is proved under a header (docs/RULES.md,
 -- "Proved messages").
-use Rattle.std.specs.Prelude.{◌<◌, ◌≤◌, ◌^◌, ◌*◌, ℕ, List, length, Bool, Option, Some, None, Result, Ok, Err, if◌then◌else◌}
+use Rattle.std.specs.Prelude.{◌<◌, ◌≤◌, ◌^◌, ◌*◌, ℕ, List, length, Bool, Option, Some, None, if◌then◌else◌}
 use Rattle.namespace_id.specs.declared.cells.Cell.{Cell}
 use Rattle.namespace_id.specs.declared.cells.Axis.{Axis}
 use Rattle.namespace_id.specs.declared.cells.Axis.TheVariants.{Row, Col}
@@ -70,8 +70,3 @@ message_refusal header m =
     else Some Unordered)
     else Some NodeCount)
     else Some OutOfSquare
-
--- the refusal that an answer gives, none of an `Ok`
-abbrev pub refusal_in : {T E : Type 0} → Result T E → Option E
-refusal_in (Ok _) = None
-refusal_in (Err why) = Some why

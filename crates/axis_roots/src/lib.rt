@@ -9,11 +9,15 @@
 //! inclusion proofs and headers.
 #![tactic(auto)]
 
+mod answers;
+mod claims;
 mod message;
 mod square;
 
+pub use answers::{Found, NsAnswer, NsEntry, ShareList, answer_law};
+pub use claims::{FraudClaim, claim_law, claim_laws};
 pub use message::{
-    CheckRefusal, Message, Proved, RefusedMessage, check, message_law, message_laws, message_of,
-    opens, own_laws,
+    CheckRefusal, Message, Proved, RefusedMessage, check, index, made_laws, message_from,
+    message_law, message_laws, message_of, opens, own_laws, position,
 };
-pub use square::{Grid, grid_laws, header_of};
+pub use square::{Grid, Trees, grid_laws, header_of, line_strict_root};

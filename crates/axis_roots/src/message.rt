@@ -10,6 +10,6 @@ mod proved;
 
 pub use certificates::{RefusedMessage, check};
 pub use laws::{message_laws, own_laws};
-pub use making::message_of;
-pub use messages::{CheckRefusal, Message, message_law, opens};
+pub use making::{made_laws, message_from, message_of};
+pub use messages::{CheckRefusal, Message, index, message_law, opens, position};
 pub use proved::Proved;

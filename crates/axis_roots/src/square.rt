@@ -4,10 +4,14 @@ mod extending;
 mod filling;
 mod grids;
 mod laws;
+mod leaves;
 mod lines;
 mod rooting;
+mod trees;
 
 pub(crate) use filling::fill_axis;
 pub use grids::Grid;
 pub use laws::grid_laws;
+pub use lines::line_strict_root;
 pub use rooting::header_of;
+pub use trees::Trees;

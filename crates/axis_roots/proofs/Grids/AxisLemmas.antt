@@ -39,6 +39,12 @@ get_or-axis_cells k axis i pos d h =
     ∙ ap (cell_on axis i) (get_or-ascending (2 * k) 0 pos h ∙ start)
 
 module _ {A : Type 0} where
+  -- the value of one of the first numbers
+  pub get_or-mapped : (f : ℕ → A) (n i : ℕ) (d : A) → i < n → get_or (map f (ascending 0 n)) i d ≡ f i
+  get_or-mapped f n i d h =
+      let start : 0 + i ≡ i = omega arith in
+      get_or-map f (ascending 0 n) i 0 d (omega (arith, length-ascending n 0)) ∙ ap f (get_or-ascending n 0 i h ∙ start)
+
   -- the values at the cells of an axis: how many, and that at one place
   pub length-along : (k : ℕ) (f : Cell → A) (axis : Axis) (i : ℕ) → length (map f (axis_cells k axis i)) ≡ 2 * k
   length-along k f axis i = length-map (axis_cells k axis i) f ∙ length-axis_cells k axis i

@@ -3,7 +3,7 @@ use Rattle.std.proofs.Common.{◌≡◌, ◌∙◌, ℕ, zero, suc, ◌+◌, ◌
 use Rattle.std.specs.Prelude.{Some, None}
 use Rattle.std.specs.List.{list_all}
 use Rattle.std.proofs.lemmas.Bool.{cases_lt, cases_Bool, and_parts, and_from}
-use Rattle.std.proofs.lemmas.List.{get_or-map, length-map, ext_get_or}
+use Rattle.std.proofs.lemmas.List.{length-map, ext_get_or}
 use Rattle.namespace_id.specs.declared.cells.Axis.{Axis}
 use Rattle.namespace_id.specs.declared.cells.Axis.TheVariants.{Row, Col}
 use Rattle.namespace_id.specs.declared.shares.Share.{Share}
@@ -11,10 +11,11 @@ use Rattle.namespace_id.specs.Digests.{no_digest}
 use Rattle.nmt_tree.specs.Roots.{halvings, root, strict_root}
 use Rattle.data_header.specs.Headers.{Roots, AreRoots, root_of}
 use Rattle.namespace_id.specs.Lists.{ascending}
-use Rattle.namespace_id.proofs.AscendingLemmas.{length-ascending, get_or-ascending}
+use Rattle.namespace_id.proofs.AscendingLemmas.{length-ascending}
 use Rattle.square_layout.specs.Blocks.{SquareShares, IsSquare}
 use Rattle.axis_roots.specs.Lines.{line_root, line_strict_root}
 use Rattle.axis_roots.specs.Grids.{axis_names, axis_shares, axis_root, axis_roots, is_ordered_axis, are_ordered_axes, header_of_grid, Extends, IsHeaderOf}
+use Rattle.axis_roots.proofs.Grids.AxisLemmas.{get_or-mapped}
 use Rattle.axis_roots.proofs.Grids.ExtensionLemmas.{extension_once}
 
 -- ---- a test of each of some numbers
@@ -107,14 +108,8 @@ length-axis_roots k shares axis = length-map (ascending 0 (2 * k)) (axis_root k 
 
 -- the root of one axis among all of them
 get_or-roots : (k : ℕ) (shares : List Share) (axis : Axis) (index : ℕ) → index < 2 * k → root_of (all_roots k shares) axis index ≡ axis_root k shares axis index
-get_or-roots k shares Row index h =
-    let start : 0 + index ≡ index = omega arith in
-    get_or-map (axis_root k shares Row) (ascending 0 (2 * k)) index 0 no_digest (omega (arith, length-ascending (2 * k) 0))
-    ∙ ap (axis_root k shares Row) (get_or-ascending (2 * k) 0 index h ∙ start)
-get_or-roots k shares Col index h =
-    let start : 0 + index ≡ index = omega arith in
-    get_or-map (axis_root k shares Col) (ascending 0 (2 * k)) index 0 no_digest (omega (arith, length-ascending (2 * k) 0))
-    ∙ ap (axis_root k shares Col) (get_or-ascending (2 * k) 0 index h ∙ start)
+get_or-roots k shares Row index h = get_or-mapped (axis_root k shares Row) (2 * k) index no_digest h
+get_or-roots k shares Col index h = get_or-mapped (axis_root k shares Col) (2 * k) index no_digest h
 
 -- the header has the grid's width
 pub header_width : (k : ℕ) (shares : List Share) (header : Roots) → header_of_grid k shares ≡ Some header → header.k ≡ k

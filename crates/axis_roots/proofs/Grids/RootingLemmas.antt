@@ -16,15 +16,16 @@ use Rattle.namespace_id.specs.Digests.{least_of, no_digest}
 use Rattle.namespace_id.specs.Cells.{is_width, leaf_namespace}
 use Rattle.namespace_id.proofs.ShareLemmas.{name_of-is}
 use Rattle.nmt_tree.specs.Roots.{is_leaf_count, halvings, is_ordered, strict_root}
-use Rattle.nmt_tree.specs.Levels.{leaf_digests, span}
+use Rattle.nmt_tree.specs.Levels.{span}
 use Rattle.nmt_tree.proofs.CountLemmas.{power_halvings}
 use Rattle.nmt_tree.proofs.NameLemmas.{least-leaf}
 use Rattle.nmt_tree.proofs.SpanLemmas.{root_is_span}
 use Rattle.namespace_id.specs.Lists.{ascending}
-use Rattle.namespace_id.proofs.AscendingLemmas.{length-ascending, get_or-ascending}
+use Rattle.namespace_id.proofs.AscendingLemmas.{length-ascending}
 use Rattle.axis_roots.specs.Lines.{cell_on, line_root, line_strict_root}
 use Rattle.axis_roots.specs.Grids.{share_at, axis_cells, axis_names, axis_shares, axis_root, axis_roots, leaf_over, AreLeafDigests, is_ordered_axis}
-use Rattle.axis_roots.proofs.Grids.AxisLemmas.{length-along, get_or-along, is_along}
+use Rattle.axis_roots.specs.Trees.{axis_leaves}
+use Rattle.axis_roots.proofs.Grids.AxisLemmas.{get_or-mapped, length-along, get_or-along, is_along}
 use Rattle.axis_roots.proofs.Grids.WordLemmas.{share_anywhere}
 use Rattle.axis_roots.proofs.Grids.LineLemmas.{length-line_names, axis_names-cells, axis_leaves-cells}
 use Rattle.axis_roots.proofs.Grids.WrittenLemmas.{on_axis_in_square}
@@ -44,12 +45,8 @@ read_next k shares leaves line axis i pos place cell are hi hp long on at before
     ∙ ap (λ (n : ℕ). get_or leaves n no_digest) (at ∙ ap (λ (c : Cell). c.row * (2 * k) + c.col) on)
     ∙ are.digests (cell_on axis i pos) (on_axis_in_square k axis i pos hi hp))
 
--- the leaves along an axis
-abbrev pub leaves_along : ℕ → List Share → Axis → ℕ → List Digest
-leaves_along k shares axis i = leaf_digests (axis_names k shares axis i) (axis_shares k shares axis i)
-
 -- the least namespaces of the leaves along an axis are their names
-names_along : (k : ℕ) (shares : List Share) (axis : Axis) (i : ℕ) → AreShares shares → map least_of (leaves_along k shares axis i) ≡ axis_names k shares axis i
+names_along : (k : ℕ) (shares : List Share) (axis : Axis) (i : ℕ) → AreShares shares → map least_of (axis_leaves k shares axis i) ≡ axis_names k shares axis i
 names_along k shares axis i are =
     let digests : List Digest = map (leaf_over k shares) (axis_cells k axis i) in
     ap (map least_of) (axis_leaves-cells k shares axis i)
@@ -73,6 +70,11 @@ pair_test digests i a b answer low high first second is =
     ap₂ is_at_most (get_or-map least_of digests (i - 1) no_digest parity (omega arith) ∙ sym first) (get_or-map least_of digests i no_digest parity high ∙ sym second)
     ∙ sym is
 
+-- the order of an axis is that of the digests of its leaves
+pub ordered-leaves : (k : ℕ) (shares : List Share) (axis : Axis) (i : ℕ) (line : List Digest) (b : Bool) → AreShares shares → line ≡ axis_leaves k shares axis i
+    → is_ordered (map least_of line) ≡ b → is_ordered_axis k shares axis i ≡ b
+ordered-leaves k shares axis i line b are is known = ap is_ordered (sym (ap (map least_of) is ∙ names_along k shares axis i are)) ∙ known
+
 -- ---- strict roots
 
 -- a tree may have 2k leaves
@@ -81,7 +83,7 @@ leaf_count-double k h = grind (arith, nat_tests)
 
 -- the root of an axis is the digest over the leaves along it
 pub root-leaves : (k : ℕ) (shares : List Share) (axis : Axis) (i : ℕ) → IsTrue (is_width k)
-    → span (leaves_along k shares axis i) 0 (halvings (2 * k)) ≡ axis_root k shares axis i
+    → span (axis_leaves k shares axis i) 0 (halvings (2 * k)) ≡ axis_root k shares axis i
 unfolding line_root
 root-leaves k shares axis i width =
     let power : 2 ^ halvings (2 * k) ≡ 2 * k = power_halvings (2 * k) (leaf_count-double k width) in
@@ -96,21 +98,19 @@ strict-cond k shares axis i = refl
 
 -- the strict root of an axis whose digests are ordered
 pub strict_there : (k : ℕ) (shares : List Share) (axis : Axis) (i n : ℕ) (line : List Digest) (made : Digest) → IsTrue (is_width k) → AreShares shares
-    → line ≡ leaves_along k shares axis i → n ≡ 2 * k → made ≡ span line 0 (halvings n) → is_ordered (map least_of line) ≡ true
+    → line ≡ axis_leaves k shares axis i → n ≡ 2 * k → made ≡ span line 0 (halvings n) → is_ordered (map least_of line) ≡ true
     → Some made ≡ line_strict_root k axis i (axis_shares k shares axis i)
 strict_there k shares axis i n line made width are is count eq ordered =
-    let names : is_ordered_axis k shares axis i ≡ true =
-    ap is_ordered (sym (ap (map least_of) is ∙ names_along k shares axis i are)) ∙ ordered in
+    let names : is_ordered_axis k shares axis i ≡ true = ordered-leaves k shares axis i line true are is ordered in
     ap Some (eq ∙ ap (λ (m : ℕ). span line 0 (halvings m)) count ∙ ap (λ (l : List Digest). span l 0 (halvings (2 * k))) is ∙ root-leaves k shares axis i width)
     ∙ sym (strict-cond k shares axis i ∙ ap (λ (b : Bool). cond b (Some (axis_root k shares axis i)) None) names)
 
 -- of one whose digests aren't
 pub strict_missing : (k : ℕ) (shares : List Share) (axis : Axis) (i : ℕ) (line : List Digest) → AreShares shares
-    → line ≡ leaves_along k shares axis i → is_ordered (map least_of line) ≡ false
+    → line ≡ axis_leaves k shares axis i → is_ordered (map least_of line) ≡ false
     → None ≡ line_strict_root k axis i (axis_shares k shares axis i)
 strict_missing k shares axis i line are is fails =
-    let names : is_ordered_axis k shares axis i ≡ false =
-    ap is_ordered (sym (ap (map least_of) is ∙ names_along k shares axis i are)) ∙ fails in
+    let names : is_ordered_axis k shares axis i ≡ false = ordered-leaves k shares axis i line false are is fails in
     sym (strict-cond k shares axis i ∙ ap (λ (b : Bool). cond b (Some (axis_root k shares axis i)) None) names)
 
 -- what a strict root says of its axis
@@ -119,16 +119,21 @@ pub strict_some : (k : ℕ) (shares : List Share) (axis : Axis) (i : ℕ) (made 
     → (is_ordered_axis k shares axis i ≡ true) × (made ≡ axis_root k shares axis i)
 strict_some k shares axis i made e = some_if (is_ordered_axis k shares axis i) (axis_root k shares axis i) made (sym (e ∙ strict-cond k shares axis i))
 
--- an axis without one falls, so not all are ordered
-pub strict_none : (k n : ℕ) (shares : List Share) (axis : Axis) (i : ℕ) → i < n
-    → None ≡ line_strict_root k axis i (axis_shares k shares axis i)
+-- where one axis falls, not all are ordered
+pub one_falls : (k n : ℕ) (shares : List Share) (axis : Axis) (i : ℕ) → i < n → is_ordered_axis k shares axis i ≡ false
     → false ≡ list_all (is_ordered_axis k shares axis) (ascending 0 n)
-strict_none k n shares axis i h e =
-    let falls : is_ordered_axis k shares axis i ≡ false = none_if (is_ordered_axis k shares axis i) (axis_root k shares axis i) (sym (e ∙ strict-cond k shares axis i)) in
+one_falls k n shares axis i h falls =
     sym (false_from_ne_true (list_all (is_ordered_axis k shares axis) (ascending 0 n))
     (λ (all : list_all (is_ordered_axis k shares axis) (ascending 0 n) ≡ true).
     let holds : is_ordered_axis k shares axis i ≡ true = all-at (is_ordered_axis k shares axis) n 0 all i (omega arith) (omega arith) in
     let both : true ≡ false = sym holds ∙ falls in absurd cc))
+
+-- an axis without a strict root falls
+pub strict_none : (k n : ℕ) (shares : List Share) (axis : Axis) (i : ℕ) → i < n
+    → None ≡ line_strict_root k axis i (axis_shares k shares axis i)
+    → false ≡ list_all (is_ordered_axis k shares axis) (ascending 0 n)
+strict_none k n shares axis i h e =
+    one_falls k n shares axis i h (none_if (is_ordered_axis k shares axis i) (axis_root k shares axis i) (sym (e ∙ strict-cond k shares axis i)))
 
 -- ---- the roots of all axes of one kind
 
@@ -147,10 +152,7 @@ all_roots k shares axis roots long each =
     ext_get_or no_digest roots (axis_roots k shares axis)
     (long ∙ sym (length-map (ascending 0 (2 * k)) (axis_root k shares axis) ∙ length-ascending (2 * k) 0)) (λ i h.
     let within : i < 2 * k = omega arith in
-    let start : 0 + i ≡ i = omega arith in
-    each i within
-    ∙ sym (get_or-map (axis_root k shares axis) (ascending 0 (2 * k)) i 0 no_digest (omega (arith, length-ascending (2 * k) 0))
-    ∙ ap (axis_root k shares axis) (get_or-ascending (2 * k) 0 i within ∙ start)))
+    each i within ∙ sym (get_or-mapped (axis_root k shares axis) (2 * k) i no_digest within))
 
 -- all axes are ordered where each one is
 pub all_ordered : (k n : ℕ) (shares : List Share) (axis : Axis) → ((i : ℕ) → i < n → is_ordered_axis k shares axis i ≡ true)

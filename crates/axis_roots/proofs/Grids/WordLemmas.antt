@@ -1,7 +1,7 @@
 -- Codewords by their first k shares.
 use Rattle.std.proofs.Common.{◌≡◌, ◌∙◌, ℕ, zero, suc, ◌+◌, ◌*◌, ◌<◌, ◌≤◌, List, [], ◌∷◌, length, get_or, map, refl, sym, ap, subst, inl, inr, arith, true, IsTrue}
 use Rattle.std.specs.Prelude.{Some, slice_get, slice_index, nat_lt}
-use Rattle.std.specs.List.{list_all}
+use Rattle.std.specs.List.{list_all, AllByRecursion}
 use Rattle.std.proofs.lemmas.Bool.{cases_lt, and_from}
 use Rattle.std.proofs.lemmas.Bool.Decides.{nat_tests}
 use Rattle.std.proofs.lemmas.List.{get_or_past, length-replicate, get_or-map, length-map}
@@ -17,6 +17,11 @@ use Rattle.leopard_code.proofs.LawLemmas.{one_codeword, through_shares}
 use Rattle.axis_roots.specs.Lines.{blank}
 
 -- ---- shares of lists
+
+-- a fact of each of some values
+pub each-map : {A B : Type 0} (P : B → Type 0) (f : A → B) (xs : List A) → ((x : A) → P (f x)) → AllByRecursion P (map f xs)
+each-map P f [] each = tt
+each-map P f (x ∷ xs) each = (each x, each-map P f xs each)
 
 -- a share of a list of shares
 pub share_in : (shares : List Share) (i : ℕ) (d : Share) → i < length shares → AreShares shares → IsShare (get_or shares i d)
@@ -89,19 +94,13 @@ one_word k word other width first second same =
 length-mapped : (k : ℕ) (f : ℕ → Share) → length (map f (ascending 0 k)) ≡ k
 length-mapped k f = length-map (ascending 0 k) f ∙ length-ascending k 0
 
--- they are shares where each one is
-are_mapped : (n first : ℕ) (f : ℕ → Share) → ((i : ℕ) → IsShare (f i)) → AreShares (map f (ascending first n))
-unfolding ascending
-are_mapped zero first f each = tt
-are_mapped (suc n) first f each = (each first, are_mapped n (suc first) f each)
-
 -- a codeword begins with any k shares
 pub word_through : (k : ℕ) (f : ℕ → Share) → IsTrue (is_width k) → ((i : ℕ) → IsShare (f i))
     → (word : List Share) × IsCodeword k word × ((i : ℕ) → i < k → get_or word i blank ≡ f i)
 word_through k f width each =
     let shares : List Share = map f (ascending 0 k) in
     let long : length shares ≡ k = length-mapped k f in
-    let found = through_shares k (ascending 0 k) shares width (length-ascending k 0) (first_positions k) long (are_mapped k 0 f each) in (
+    let found = through_shares k (ascending 0 k) shares width (length-ascending k 0) (first_positions k) long (each-map IsShare f (ascending 0 k) each) in (
       found.0,
       found.1,
       λ i h.

@@ -1,18 +1,46 @@
-//! Messages that are made from a grid. What answers many samples of one axis may fill one tree and
-//! read it for each; here one message fills it anew.
+//! Messages that are made from a grid: from the stored tree of an axis, or by a tree that is filled
+//! for the one message.
 
-ghost use Rattle.std.specs.Prelude.{◌≡◌, ◌*◌, ◌<◌, ◌↔◌, IsTrue, IfSome, IsNone, length, Some, true, false};
+ghost use Rattle.std.specs.Prelude.{◌≡◌, ◌*◌, ◌<◌, ◌↔◌, ℕ, List, IsTrue, IfSome, IsNone, IfOk, length, Some, true, false};
 ghost use Rattle.namespace_id.specs.Cells.{is_in_square};
 ghost use Rattle.nmt_tree.specs.Levels.{leaf_digests};
 ghost use Rattle.axis_roots.specs.Messages.{index as index_of};
 ghost use Rattle.axis_roots.specs.Openings.{OpensAt};
-ghost use Rattle.axis_roots.specs.Grids.{share_at, axis_names, axis_shares, axis_root, is_ordered_axis};
+ghost use Rattle.namespace_id.specs.declared.cells.Axis.{Axis as Along};
+ghost use Rattle.namespace_id.specs.declared.cells.Cell.{Cell as Place};
+ghost use Rattle.namespace_id.specs.declared.shares.Share.{Share};
+ghost use Rattle.namespace_id.specs.Shares.{AreShares};
+ghost use Rattle.axis_roots.specs.Trees.{axis_stored, trees_of_grid, message_at};
+ghost use Rattle.axis_roots.specs.Grids.{IsGrid, share_at, axis_names, axis_shares, axis_root, is_ordered_axis};
 
 use super::messages::{Message, index, message_law, position};
 use crate::square::{Grid, fill_axis};
 use namespace_id::{Axis, Cell};
 use nmt_proofs::make_leaf;
 use nmt_tree::Tree;
+
+/// Makes the sample of a cell from the stored tree over its axis, as `message_of` does. Row and
+/// column of the cell are below 2k. It hashes nothing, and takes no memory.
+///
+/// Celestia specifications, "Data Structures", namespaced Merkle tree inclusion proofs;
+/// docs/RULES.md, "Proved messages".
+pub fn message_from(grid: &Grid, cell: Cell, axis: Axis, tree: &Tree) -> Message
+    requires cell { IsTrue (is_in_square grid.now.k cell) }
+    requires tree { tree.now ≡ axis_stored grid.now.k grid.now.shares axis (index_of axis cell) }
+    ensures value { result ≡ message_at grid.now.k grid.now.shares cell axis }
+    ensures opens { OpensAt grid.now.k result
+        (axis_root grid.now.k grid.now.shares axis (index_of axis cell)) }
+{
+    grid.law();
+    let message = Message {
+        cell,
+        axis,
+        share: *grid.cell(cell),
+        path: make_leaf(tree, position(axis, cell)),
+    };
+    message_law(&message);
+    message
+}
 
 /// Makes the sample of a cell: its share with the inclusion proof along an axis. There is none
 /// exactly where the namespaces of that axis fall. Row and column of the cell are below 2k.
@@ -33,6 +61,8 @@ pub fn message_of(grid: &Grid, cell: Cell, axis: Axis, tree: &mut Tree) -> Optio
     ensures axis { IfSome result (λ message. message.axis ≡ axis) }
     ensures share { IfSome result (λ message.
         message.share ≡ share_at (2 * grid.now.k) grid.now.shares cell) }
+    ensures value { IfSome result (λ message.
+        message ≡ message_at grid.now.k grid.now.shares cell axis) }
     ensures opens { IfSome result (λ message. OpensAt grid.now.k message
         (axis_root grid.now.k grid.now.shares axis (index_of axis cell))) }
 
@@ -43,32 +73,55 @@ pub fn message_of(grid: &Grid, cell: Cell, axis: Axis, tree: &mut Tree) -> Optio
         (axis_shares grid.now.k grid.now.shares axis (index_of axis cell)))) }
     ensures kept { IsNone result → tree.new ≡ tree.old }
 {
-    if !fill_axis(grid, axis, index(axis, cell), tree) {
-        return None;
+    if fill_axis(grid, axis, index(axis, cell), tree) {
+        Some(message_from(grid, cell, axis, tree))
+    } else {
+        None
     }
-    grid.law();
-    let message = Message {
-        cell,
-        axis,
-        share: *grid.cell(cell),
-        path: make_leaf(tree, position(axis, cell)),
-    };
-    message_law(&message);
-    Some(message)
 }
+
+/// Along an axis of a grid whose namespaces never fall, the message of each cell opens under the root.
+pub fn made_laws()
+    ensures opens { (k : ℕ) (shares : List Share) (cell : Place) (axis : Along) →
+        IsGrid (record { k = k; shares = shares }) → AreShares shares →
+        is_in_square k cell ≡ true → is_ordered_axis k shares axis (index_of axis cell) ≡ true →
+        OpensAt k (message_at k shares cell axis) (axis_root k shares axis (index_of axis cell)) }
+{}
 
 #[cfg(test)]
 mod tests {
     use super::*;
-    use crate::{check, header_of};
+    use crate::{Trees, check, grid_laws, header_of};
     use namespace_id::Share;
     use square_layout::Square;
+    use std::alloc::Global;
     use std::test::Fail;
+
+    /// The grid of a square of one share.
+    fn grid_of_one(alloc: Global) -> Result<Grid, Fail>
+        ensures { IfOk result (λ grid. grid.k ≡ 1) }
+    {
+        let shares = vec![in alloc; Share([7; 512]); 1]?;
+        Ok(Grid::extend(alloc, &Square { k: 1, shares })?)
+    }
+
+    /// Whether the nodes of the message by stored trees are those by a tree that is filled.
+    fn same_nodes(grid: &Grid, trees: &Trees, cell: Cell, axis: Axis, tree: &mut Tree) -> bool
+        requires cell { IsTrue (is_in_square grid.now.k cell) }
+        requires trees { trees_of_grid grid.now.k grid.now.shares ≡ Some trees.now }
+        requires tree { tree.old.count ≡ 2 * grid.now.k }
+    {
+        grid_laws();
+        let read = message_from(grid, cell, axis, trees.tree(axis, index(axis, cell)));
+        match message_of(grid, cell, axis, tree) {
+            Some(filled) => filled.path.nodes() == read.path.nodes(),
+            None => false,
+        }
+    }
 
     #[test]
     fn messages_of_one_share(rt: HostRuntime) -> Result<(), Fail> {
-        let shares = vec![in rt.alloc(); Share([7; 512]); 1]?;
-        let grid = Grid::extend(rt.alloc(), &Square { k: 1, shares })?;
+        let grid = grid_of_one(rt.alloc())?;
         let header = header_of(rt.alloc(), &grid)?.expect(&rt, "the namespaces do not fall");
         let mut tree = Tree::new(rt.alloc(), 2)?;
         let lower = message_of(&grid, Cell { row: 1, col: 0 }, Axis::Row, &mut tree);
@@ -77,6 +130,19 @@ mod tests {
         let right = message_of(&grid, Cell { row: 0, col: 1 }, Axis::Col, &mut tree);
         let right = right.expect(&rt, "the namespaces do not fall");
         assert!(rt; check(&header, right).is_ok(), "along its column");
+        Ok(())
+    }
+
+    #[test]
+    fn messages_by_stored_trees(rt: HostRuntime) -> Result<(), Fail> {
+        let grid = grid_of_one(rt.alloc())?;
+        let trees = Trees::of(rt.alloc(), &grid)?.expect(&rt, "the namespaces do not fall");
+        let mut tree = Tree::new(rt.alloc(), 2)?;
+        let cell = Cell { row: 1, col: 0 };
+        assert!(rt;
+            same_nodes(&grid, &trees, cell, Axis::Col, &mut tree),
+            "along its column"
+        );
         Ok(())
     }
 }

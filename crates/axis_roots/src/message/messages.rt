@@ -1,7 +1,8 @@
 //! Samples, which are called share messages, and whether one is proved under a header.
 
 ghost use Rattle.std.specs.Prelude.{◌≡◌, ◌↔◌, IsOk, IsErrOf, IsErrAnd, true, false};
-ghost use Rattle.axis_roots.specs.Messages.{position, index, is_inside, has_node_count, has_ordered_joins, is_under_root, message_refusal, refusal_in, IsMessage};
+ghost use Rattle.namespace_id.specs.Answers.{refusal_in};
+ghost use Rattle.axis_roots.specs.Messages.{position, index, is_inside, has_node_count, has_ordered_joins, is_under_root, message_refusal, IsMessage};
 ghost use Rattle.axis_roots.specs.Openings.{IsProved};
 ghost use Rattle.axis_roots.specs.Own.{IsOwn};
 
@@ -39,7 +40,7 @@ pub enum CheckRefusal {
 }
 
 /// The place of a cell on its row or its column.
-pub(crate) fn position(axis: Axis, cell: Cell) -> u16
+pub fn position(axis: Axis, cell: Cell) -> u16
     ensures { result ≡ position axis cell }
 {
     match axis {
@@ -48,8 +49,10 @@ pub(crate) fn position(axis: Axis, cell: Cell) -> u16
     }
 }
 
-/// Which row or column runs through a cell.
-pub(crate) fn index(axis: Axis, cell: Cell) -> u16
+/// Which row or column runs through a cell: the row's number, or the column's.
+///
+/// docs/RULES.md, "Proved messages".
+pub fn index(axis: Axis, cell: Cell) -> u16
     ensures { result ≡ index axis cell }
 {
     match axis {

@@ -10,6 +10,7 @@ ghost use Rattle.nmt_proofs.specs.Clashes.{AreLeaves};
 ghost use Rattle.data_header.specs.Headers.{Roots, AreRoots, root_of};
 ghost use Rattle.square_layout.specs.Blocks.{SquareShares, IsSquare};
 ghost use Rattle.axis_roots.specs.Lines.{line_names, line_strict_root};
+ghost use Rattle.axis_roots.specs.Trees.{AxisTrees, axis_stored, trees_of_grid, tree_at};
 ghost use Rattle.axis_roots.specs.Grids.{Extends, IsHeaderOf, axis_shares, is_ordered_axis, header_of_grid};
 
 /// What is proved of the extension of a square and of its header.
@@ -48,6 +49,13 @@ pub fn grid_laws()
     ensures falling { (k : ℕ) (shares : List Share) → header_of_grid k shares ≡ None →
         (axis : Axis) × (index : ℕ) × (index < 2 * k) ×
         (is_ordered_axis k shares axis index ≡ false) }
+
+    // The trees of a grid are those over the leaves of each row and each column, of which none
+    // falls.
+    ensures trees { (k : ℕ) (shares : List Share) (trees : AxisTrees) →
+        trees_of_grid k shares ≡ Some trees → (axis : Axis) (index : ℕ) → index < 2 * k →
+        (tree_at trees axis index ≡ axis_stored k shares axis index)
+        × (is_ordered_axis k shares axis index ≡ true) }
 
     // A line of 2k shares, whether it stands in a grid or not, has 2k leaves.
     ensures line { (k : ℕ) (axis : Axis) (index : ℕ) (line : List Share) → is_width k ≡ true →

@@ -3,13 +3,14 @@
 
 ghost use Rattle.std.specs.Prelude.{◌≡◌, ◌≢◌, ◌*◌, ◌<◌, IsTrue, length};
 ghost use Rattle.namespace_id.specs.declared.cells.Cell.{Cell as Place};
-ghost use Rattle.namespace_id.specs.Cells.{is_in_square};
+ghost use Rattle.namespace_id.specs.Cells.{is_width, is_in_square};
 ghost use Rattle.axis_roots.specs.Messages.{index as index_of};
-ghost use Rattle.axis_roots.specs.Lines.{cell_on};
+ghost use Rattle.axis_roots.specs.Lines.{cell_on, line_names, line_strict_root};
 ghost use Rattle.axis_roots.specs.Grids.{share_at, axis_names, axis_shares};
 
 use crate::Grid;
-use namespace_id::{Axis, Cell, Namespace, Share, leaf_namespace};
+use namespace_id::{Axis, Cell, Digest, Namespace, Share, leaf_namespace};
+use nmt_tree::strict_root;
 
 /// The cell at a place of a row or a column.
 pub(crate) fn cell_on(axis: Axis, index: u16, pos: u16) -> Cell
@@ -66,5 +67,83 @@ pub(crate) fn read_names(grid: &Grid, axis: Axis, index: u16, line: &mut [Namesp
     for pos in 0..2 * k {
         let cell = cell_on(axis, index, pos);
         line[pos as usize] = leaf_namespace(k, cell, grid.cell(cell));
+    }
+}
+
+/// Writes the leaf namespaces of a line of 2k shares, taken as a row or a column of a square of width
+/// `k`.
+fn name_leaves(k: u16, axis: Axis, index: u16, line: &[Share], names: &mut [Namespace])
+    requires width { IsTrue (is_width k) }
+    requires index { index < 2 * k }
+    requires line { length line.now ≡ 2 * k }
+    requires names { length names.old ≡ 2 * k }
+    ensures { names.new ≡ line_names k axis index line.now }
+{
+    for pos in 0..2 * k {
+        let cell = cell_on(axis, index, pos);
+        names[pos as usize] = leaf_namespace(k, cell, &line[pos as usize]);
+    }
+}
+
+/// The strict root of a line of 2k shares, taken as a row or a column of a square of width `k`: the root
+/// over them under the leaf namespaces of their cells, none exactly where these fall. `names` has 2k
+/// entries, which are written. It takes no memory.
+///
+/// Celestia specifications, "Data Structures", available data header.
+pub fn line_strict_root(
+    k: u16,
+    axis: Axis,
+    index: u16,
+    line: &[Share],
+    names: &mut [Namespace],
+) -> Option<Digest>
+    requires width { IsTrue (is_width k) }
+    requires index { index < 2 * k }
+    requires line { length line.now ≡ 2 * k }
+    requires names { length names.old ≡ 2 * k }
+    ensures { result ≡ line_strict_root k axis index line.now }
+{
+    name_leaves(k, axis, index, line, names);
+    strict_root(names, line)
+}
+
+#[cfg(test)]
+mod tests {
+    use super::*;
+    use crate::header_of;
+    use namespace_id::PARITY;
+    use square_layout::Square;
+    use std::test::Fail;
+
+    /// Each axis of a grid has the root of its header.
+    #[test]
+    fn strict_roots_of_a_grid(rt: HostRuntime) -> Result<(), Fail> {
+        let shares = vec![in rt.alloc(); Share([7; 512]); 1]?;
+        let grid = Grid::extend(rt.alloc(), &Square { k: 1, shares })?;
+        let header = header_of(rt.alloc(), &grid)?.expect(&rt, "the namespaces do not fall");
+        let mut line = [Share([0; 512]); 2];
+        let mut names = [PARITY; 2];
+        for axis in [Axis::Row, Axis::Col] {
+            for index in 0..2 {
+                read_axis(&grid, axis, index, &mut line);
+                let root = line_strict_root(1, axis, index, &line, &mut names);
+                assert_eq!(rt; root, Some(header.root_of(axis, index)), "{index}");
+            }
+        }
+        Ok(())
+    }
+
+    /// Namespaces fall only in the original square.
+    #[test]
+    fn falling_lines(rt: HostRuntime) {
+        let line = [
+            Share([8; 512]),
+            Share([7; 512]),
+            Share([6; 512]),
+            Share([5; 512]),
+        ];
+        let mut names = [PARITY; 4];
+        assert!(rt; line_strict_root(2, Axis::Col, 1, &line, &mut names).is_none());
+        assert!(rt; line_strict_root(2, Axis::Col, 2, &line, &mut names).is_some());
     }
 }

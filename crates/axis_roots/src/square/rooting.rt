@@ -1,78 +1,22 @@
 //! The header of a grid.
 //!
-//! Each cell is a leaf of its row's tree and of its column's, under one namespace, so all leaves
-//! are hashed once, into a table of 4k^2 digests. An axis then copies its line of 2k digests and
-//! folds it in place: a stored tree for each would keep levels that nobody reads.
+//! An axis copies its line of the table of leaves and folds it in place: stored trees take more
+//! memory, and are for who reads their levels.
 
-ghost use Rattle.std.specs.Prelude.{◌≡◌, ◌*◌, ◌+◌, ◌<◌, ℕ, List, IsTrue, IfOk, length, map, true, Some, None, if◌then◌else◌};
+ghost use Rattle.std.specs.Prelude.{◌≡◌, ◌*◌, ◌<◌, IfOk, length, true, Some, None, if◌then◌else◌};
 ghost use Rattle.std.specs.List.{list_all};
 ghost use Rattle.std.specs.Option.{option_map};
-ghost use Rattle.namespace_id.specs.Cells.{is_in_square};
-ghost use Rattle.namespace_id.specs.Digests.{least_of};
 ghost use Rattle.namespace_id.specs.Shares.{AreShares};
-ghost use Rattle.nmt_tree.specs.Roots.{is_ordered};
-ghost use Rattle.nmt_tree.specs.Levels.{leaf_digests};
 ghost use Rattle.namespace_id.specs.Lists.{ascending};
 ghost use Rattle.axis_roots.specs.Lines.{line_strict_root};
-ghost use Rattle.axis_roots.specs.Grids.{leaf_over, AreLeafDigests, axis_names, axis_shares, axis_roots, is_ordered_axis, header_of_grid};
+ghost use Rattle.axis_roots.specs.Grids.{AreLeafDigests, axis_shares, axis_roots, is_ordered_axis, header_of_grid};
 
-use super::grids::place;
-use super::lines::cell_on;
+use super::leaves::{are_ordered, leaves_of, read_leaves};
 use crate::Grid;
 use data_header::Header;
-use namespace_id::{Axis, Cell, Digest, NoMemory, leaf_namespace, shares_law};
-use nmt_tree::{fold_root, leaf};
+use namespace_id::{Axis, Digest, NoMemory, shares_law};
+use nmt_tree::fold_root;
 use std::alloc::Global;
-
-/// The digest of the leaf over a cell.
-fn leaf_over(grid: &Grid, cell: Cell) -> Digest
-    requires { IsTrue (is_in_square grid.now.k cell) }
-    ensures { result ≡ leaf_over grid.now.k grid.now.shares cell }
-{
-    let name = leaf_namespace(grid.width(), cell, grid.cell(cell));
-    leaf(&name, grid.cell(cell))
-}
-
-/// Makes the digests of the leaves over all cells, each of them once.
-fn fill_leaves(grid: &Grid, leaves: &mut [Digest])
-    requires { length leaves.old ≡ 2 * grid.now.k * (2 * grid.now.k) }
-    ensures { AreLeafDigests grid.now.k grid.now.shares leaves.new }
-{
-    let side = 2 * grid.width() as usize;
-    for number in 0..leaves.len() {
-        let cell = Cell {
-            row: (number / side) as u16,
-            col: (number % side) as u16,
-        };
-        leaves[number] = leaf_over(grid, cell);
-    }
-}
-
-/// Copies the digests of the leaves over an axis.
-fn read_leaves(grid: &Grid, leaves: &[Digest], axis: Axis, index: u16, line: &mut [Digest])
-    requires leaves { AreLeafDigests grid.now.k grid.now.shares leaves.now }
-    requires index { index < 2 * grid.now.k }
-    requires line { length line.old ≡ 2 * grid.now.k }
-    ensures { line.new ≡ leaf_digests (axis_names grid.now.k grid.now.shares axis index)
-        (axis_shares grid.now.k grid.now.shares axis index) }
-{
-    let k = grid.width();
-    for pos in 0..2 * k {
-        line[pos as usize] = leaves[place(k, cell_on(axis, index, pos))];
-    }
-}
-
-/// Whether the least namespaces of digests never fall.
-fn are_ordered(digests: &[Digest]) -> bool
-    ensures { result ≡ is_ordered (map least_of digests.now) }
-{
-    for i in 1..digests.len() {
-        if !digests[i - 1].least().is_at_most(&digests[i].least()) {
-            return false;
-        }
-    }
-    true
-}
 
 /// The strict root of an axis.
 fn root_along(
@@ -150,18 +94,6 @@ fn roots_of(
     }
 }
 
-/// The digests of the leaves over all cells.
-fn leaves_of(alloc: Global, grid: &Grid) -> Result<Vec<Digest>, NoMemory>
-    ensures { IfOk result (λ leaves. AreLeafDigests grid.now.k grid.now.shares leaves.items) }
-{
-    let side = 2 * grid.width() as usize;
-    let Ok(mut leaves) = vec![in alloc; Digest([0; 90]); side * side] else {
-        return Err(NoMemory);
-    };
-    fill_leaves(grid, &mut leaves);
-    Ok(leaves)
-}
-
 /// The data availability header (DAH) of a grid: the strict roots of all 2k rows and 2k columns,
 /// over their shares under the leaf namespaces of their cells. There is none exactly where the
 /// namespaces of a row or a column fall. Each leaf is hashed once, for its row and its column.
@@ -195,7 +127,7 @@ pub fn header_of(alloc: Global, grid: &Grid) -> Result<Option<Header>, NoMemory>
 mod tests {
     use super::*;
     use namespace_id::{Namespace, PARITY, Share};
-    use nmt_tree::node;
+    use nmt_tree::{leaf, node};
     use square_layout::Square;
     use std::test::Fail;
 

@@ -2,6 +2,7 @@ use Rattle.axis_roots.proofs.Grids.ExtensionLemmas.{extension_there, extension_o
 use Rattle.axis_roots.proofs.Grids.HeaderLemmas.{header_once, header_roots, header_made, header_not_made, header_strict, header_falls, header_by_strict}
 use Rattle.axis_roots.proofs.Grids.LineLemmas.{line_leaves}
 use Rattle.axis_roots.proofs.Grids.LaidLemmas.{header_laid}
+use Rattle.axis_roots.proofs.Grids.StoredLemmas.{tree_along}
 use Rattle.axis_roots.proofs.square.laws.grid_laws.Goals as goal
 
 pub returns-clause-extension : goal.returns-clause-extension
@@ -36,3 +37,6 @@ returns-clause-by_strict c = header_by_strict
 
 pub returns-clause-line : goal.returns-clause-line
 returns-clause-line c = line_leaves
+
+pub returns-clause-trees : goal.returns-clause-trees
+returns-clause-trees c = tree_along

@@ -2,7 +2,7 @@ use Rattle.std.proofs.Common.{◌≡◌, ℕ, ◌<◌, get_or}
 use Rattle.namespace_id.specs.Digests.{no_digest}
 use Rattle.axis_roots.specs.Lines.{cell_on}
 use Rattle.axis_roots.specs.Grids.{leaf_over}
-use Rattle.axis_roots.proofs.square.rooting.read_leaves.Given as goal
+use Rattle.axis_roots.proofs.square.leaves.read_leaves.Given as goal
 
 -- the digests so far
 abbrev pub invariant-loop-pos : goal.invariant-loop-pos

@@ -3,7 +3,7 @@ use Rattle.namespace_id.specs.declared.cells.Cell.{Cell}
 use Rattle.namespace_id.specs.Cells.{is_in_square}
 use Rattle.namespace_id.specs.Digests.{no_digest}
 use Rattle.axis_roots.specs.Grids.{leaf_over}
-use Rattle.axis_roots.proofs.square.rooting.fill_leaves.Given as goal
+use Rattle.axis_roots.proofs.square.leaves.fill_leaves.Given as goal
 
 -- the leaves so far, by the numbers of their cells
 abbrev pub invariant-loop-number : goal.invariant-loop-number

@@ -4,7 +4,7 @@ use Rattle.axis_roots.specs.Grids.{leaf_over}
 use Rattle.axis_roots.proofs.Grids.AxisLemmas.{is_along}
 use Rattle.axis_roots.proofs.Grids.LineLemmas.{axis_leaves-cells}
 use Rattle.axis_roots.proofs.Grids.RootingLemmas.{read_next}
-use Rattle.axis_roots.proofs.square.rooting.read_leaves.Goals as goal
+use Rattle.axis_roots.proofs.square.leaves.read_leaves.Goals as goal
 
 pub loop-pos-preserved : goal.loop-pos-preserved
 loop-pos-preserved c =

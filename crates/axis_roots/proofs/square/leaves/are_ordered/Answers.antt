@@ -4,7 +4,7 @@ use Rattle.namespace_id.specs.Names.{is_at_most, parity}
 use Rattle.namespace_id.specs.Digests.{least_of}
 use Rattle.namespace_id.proofs.AlongLemmas.{along_fails, along_on, along_end}
 use Rattle.axis_roots.proofs.Grids.RootingLemmas.{pair_test}
-use Rattle.axis_roots.proofs.square.rooting.are_ordered.Goals as goal
+use Rattle.axis_roots.proofs.square.leaves.are_ordered.Goals as goal
 
 pub returns-then-not-is_at_most : goal.returns-then-not-is_at_most
 returns-then-not-is_at_most c =

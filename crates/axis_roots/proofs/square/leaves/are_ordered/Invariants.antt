@@ -1,7 +1,7 @@
 use Rattle.std.proofs.Common.{◌≡◌, ◌-◌, drop, map}
 use Rattle.namespace_id.specs.Digests.{least_of}
 use Rattle.nmt_tree.specs.Roots.{is_ordered}
-use Rattle.axis_roots.proofs.square.rooting.are_ordered.Given as goal
+use Rattle.axis_roots.proofs.square.leaves.are_ordered.Given as goal
 
 -- the namespaces from the one before on decide
 abbrev pub invariant-loop-i : goal.invariant-loop-i

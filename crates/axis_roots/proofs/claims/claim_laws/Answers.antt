@@ -1,0 +1,12 @@
+use Rattle.axis_roots.proofs.Messages.ClaimLemmas.{bad_or_fits, bad_apart}
+use Rattle.axis_roots.proofs.Messages.FalseClaimLemmas.{accepted_false}
+use Rattle.axis_roots.proofs.claims.claim_laws.Goals as goal
+
+pub returns-clause-decided : goal.returns-clause-decided
+returns-clause-decided c = bad_or_fits
+
+pub returns-clause-apart : goal.returns-clause-apart
+returns-clause-apart c = bad_apart
+
+pub returns-clause-own : goal.returns-clause-own
+returns-clause-own c = accepted_false

@@ -1,0 +1,83 @@
+-- Fraud claims, and when one is accepted (Al-Bassam, Sonnino, Buterin and Khoffi, "Fraud and Data Availability Proofs";
+-- docs/RULES.md, "Fraud claims").
+use Rattle.std.specs.Prelude.{◌≡◌, ◌≢◌, ℕ, ◌*◌, ◌^◌, ◌<◌, ◌==◌, ◌&&◌, nat_lt, List, map, length, Bool, true, Some}
+use Rattle.std.specs.List.{AllByRecursion, Contains, list_all}
+use Rattle.namespace_id.specs.declared.cells.Axis.{Axis}
+use Rattle.namespace_id.specs.declared.shares.Share.{Share}
+use Rattle.namespace_id.specs.declared.digests.Digest.{Digest}
+use Rattle.namespace_id.specs.Lists.{holds_along}
+use Rattle.leopard_code.specs.Codewords.{IsCodeword, HasEntries}
+use Rattle.data_header.specs.Headers.{Roots, root_of}
+use Rattle.square_layout.specs.Blocks.{SquareShares}
+use Rattle.axis_roots.specs.declared.message.messages.Message.{Message}
+use Rattle.axis_roots.specs.Messages.{IsMessage, position, index}
+use Rattle.axis_roots.specs.Openings.{IsProved}
+use Rattle.axis_roots.specs.Lines.{line_strict_root}
+use Rattle.axis_roots.specs.Grids.{IsHeaderOf}
+use Rattle.axis_roots.specs.Own.{NamesClash}
+
+-- a fraud claim as contracts see it: the axis that it accuses, by its kind and its index, and messages of its cells
+pub record ClaimParts : Type 0 where
+  pub axis : Axis
+  pub index : ℕ
+  pub cells : List Message
+
+-- every claim has an index of two bytes, and messages
+pub record IsClaim (claim : ClaimParts) : Type 0 where
+  pub index_bytes : claim.index < 2 ^ 16
+  pub messages : AllByRecursion IsMessage claim.cells
+
+-- the positions of its cells on the accused axis
+abbrev pub positions_of : ClaimParts → List ℕ
+positions_of claim = map (λ m. position claim.axis m.cell) claim.cells
+
+-- the shares of its cells
+abbrev pub shares_of : ClaimParts → List Share
+shares_of claim = map (λ m. m.share) claim.cells
+
+-- whether a message is of a cell on the accused axis, whichever axis it is proved along
+abbrev pub is_on : ClaimParts → Message → Bool
+is_on claim m = index claim.axis m.cell == claim.index
+
+-- whether a claim accuses an axis of a square of width k by just k cells of it, at ascending positions
+abbrev pub has_shape : ℕ → ClaimParts → Bool
+has_shape k claim =
+    nat_lt claim.index (2 * k) && (length claim.cells == k) && list_all (is_on claim) claim.cells
+    && holds_along nat_lt (positions_of claim)
+
+-- a codeword that has the shares of the claim's cells at their positions; there is just one
+pub record IsThrough (k : ℕ) (claim : ClaimParts) (word : List Share) : Type 0 where
+  pub codeword : IsCodeword k word
+  pub entries : HasEntries (positions_of claim) (shares_of claim) word
+
+-- a claim has its shape, and the codeword through its cells, taken as the accused axis, has another strict root than
+-- this one, or none
+pub record ShowsBad (k : ℕ) (claim : ClaimParts) (root : Digest) : Type 0 where
+  pub shape : has_shape k claim ≡ true
+  pub word : List Share
+  pub through : IsThrough k claim word
+  pub other : line_strict_root k claim.axis claim.index word ≢ Some root
+
+-- the codeword through a claim's cells, taken as the accused axis, has this strict root
+pub record FitsRoot (k : ℕ) (claim : ClaimParts) (root : Digest) : Type 0 where
+  pub word : List Share
+  pub through : IsThrough k claim word
+  pub same : line_strict_root k claim.axis claim.index word ≡ Some root
+
+-- the header's root of the accused axis
+abbrev pub claimed_root : Roots → ClaimParts → Digest
+claimed_root header claim = root_of header claim.axis claim.index
+
+-- a claim is accepted under a header: each of its cells is proved, and the codeword through them has another strict root
+-- than the header's root of the accused axis, or none
+pub record Accepts (header : Roots) (claim : ClaimParts) : Type 0 where
+  pub proved : AllByRecursion (IsProved header) claim.cells
+  pub bad : ShowsBad header.k claim (claimed_root header claim)
+
+-- a message of a claim and the square name a collision
+abbrev pub ClaimNames : ClaimParts → SquareShares → Type 0
+ClaimNames claim square = (m : Message) × Contains claim.cells m × NamesClash m square
+
+-- under the header of a square a message of the claim and the square name a collision
+abbrev pub IsFalseClaim : Roots → ClaimParts → Type 0
+IsFalseClaim header claim = (square : SquareShares) → IsHeaderOf header square → ClaimNames claim square

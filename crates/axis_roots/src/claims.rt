@@ -1,0 +1,62 @@
+//! Fraud claims: what one node sends to another to say that an axis of a block is encoded badly.
+
+ghost use Rattle.std.specs.Prelude.{◌≡◌, ◌⊎◌, ◌<◌, ◌*◌, ℕ, List, length, true};
+ghost use Rattle.std.specs.List.{list_all};
+ghost use Rattle.namespace_id.specs.declared.digests.Digest.{Digest};
+ghost use Rattle.namespace_id.specs.Cells.{is_width, is_in_square};
+ghost use Rattle.data_header.specs.Headers.{Roots};
+ghost use Rattle.axis_roots.specs.Claims.{ClaimParts, IsClaim, has_shape, ShowsBad, FitsRoot, Accepts, IsFalseClaim};
+
+use crate::{Message, message_law};
+use namespace_id::Axis;
+use std::marker::Model;
+
+/// A bad-encoding fraud proof (BEFP) as it is sent, before it is checked: the axis that it accuses and
+/// samples of its cells, each with its inclusion proof along its row or its column. Any numbers and
+/// messages may stand in it: whether the claim is accepted is for a verifier.
+///
+/// Al-Bassam, Sonnino, Buterin and Khoffi, fraud proofs of incorrectly generated extended data;
+/// docs/RULES.md, "Fraud claims".
+#[derive(Debug, Drop)]
+pub struct FraudClaim {
+    pub axis: Axis,
+    pub index: u16,
+    pub cells: Vec<Message>,
+}
+
+impl Model for FraudClaim {
+    ghost use Rattle.axis_roots.specs.Claims.{ClaimParts};
+
+    ghost Value = { ClaimParts };
+
+    ghost view = { λ c. record { axis = c.axis; index = c.index; cells = c.cells.items } };
+}
+
+/// A claim has an index of two bytes, and messages. It changes nothing.
+pub fn claim_law(claim: &FraudClaim)
+    ensures { IsClaim claim.now }
+{
+    // Reading the index tells that it has two bytes.
+    let _index = claim.index;
+    for message in &claim.cells {
+        message_law(message);
+    }
+}
+
+/// What is proved of fraud claims.
+pub fn claim_laws()
+    // Of a claim of k cells in the square the codeword through them has the root as its strict root, or
+    // another or none, and never both.
+    ensures decided { (k : ℕ) (claim : ClaimParts) (root : Digest) → is_width k ≡ true →
+        IsClaim claim → has_shape k claim ≡ true →
+        list_all (λ m. is_in_square k m.cell) claim.cells ≡ true →
+        ShowsBad k claim root ⊎ FitsRoot k claim root }
+    ensures apart { (k : ℕ) (claim : ClaimParts) (root : Digest) → is_width k ≡ true →
+        list_all (λ m. is_in_square k m.cell) claim.cells ≡ true →
+        ShowsBad k claim root → FitsRoot k claim root → ⊥ }
+
+    // A claim that is accepted under a square's own header has a message that names a collision with the
+    // square.
+    ensures own { (header : Roots) (claim : ClaimParts) → Accepts header claim →
+        IsFalseClaim header claim }
+{}

@@ -1,0 +1,85 @@
+//! The leaves of a grid.
+//!
+//! Each cell is a leaf of its row's tree and of its column's, under one namespace, so all leaves
+//! are hashed once, into a table of 4k^2 digests, from which each axis copies its line of 2k.
+
+ghost use Rattle.std.specs.Prelude.{◌≡◌, ◌*◌, ◌<◌, IsTrue, IfOk, length, map};
+ghost use Rattle.namespace_id.specs.Cells.{is_in_square};
+ghost use Rattle.namespace_id.specs.Digests.{least_of};
+ghost use Rattle.nmt_tree.specs.Roots.{is_ordered};
+ghost use Rattle.axis_roots.specs.Trees.{axis_leaves};
+ghost use Rattle.axis_roots.specs.Grids.{leaf_over, AreLeafDigests};
+
+use super::grids::place;
+use super::lines::cell_on;
+use crate::Grid;
+use namespace_id::{Axis, Cell, Digest, NoMemory, leaf_namespace};
+use nmt_tree::leaf;
+use std::alloc::Global;
+
+/// The digest of the leaf over a cell.
+fn leaf_over(grid: &Grid, cell: Cell) -> Digest
+    requires { IsTrue (is_in_square grid.now.k cell) }
+    ensures { result ≡ leaf_over grid.now.k grid.now.shares cell }
+{
+    let name = leaf_namespace(grid.width(), cell, grid.cell(cell));
+    leaf(&name, grid.cell(cell))
+}
+
+/// Makes the digests of the leaves over all cells, each of them once.
+fn fill_leaves(grid: &Grid, leaves: &mut [Digest])
+    requires { length leaves.old ≡ 2 * grid.now.k * (2 * grid.now.k) }
+    ensures { AreLeafDigests grid.now.k grid.now.shares leaves.new }
+{
+    let side = 2 * grid.width() as usize;
+    for number in 0..leaves.len() {
+        let cell = Cell {
+            row: (number / side) as u16,
+            col: (number % side) as u16,
+        };
+        leaves[number] = leaf_over(grid, cell);
+    }
+}
+
+/// The digests of the leaves over all cells.
+pub(super) fn leaves_of(alloc: Global, grid: &Grid) -> Result<Vec<Digest>, NoMemory>
+    ensures { IfOk result (λ leaves. AreLeafDigests grid.now.k grid.now.shares leaves.items) }
+{
+    let side = 2 * grid.width() as usize;
+    let Ok(mut leaves) = vec![in alloc; Digest([0; 90]); side * side] else {
+        return Err(NoMemory);
+    };
+    fill_leaves(grid, &mut leaves);
+    Ok(leaves)
+}
+
+/// Copies the digests of the leaves over an axis.
+pub(super) fn read_leaves(
+    grid: &Grid,
+    leaves: &[Digest],
+    axis: Axis,
+    index: u16,
+    line: &mut [Digest],
+)
+    requires leaves { AreLeafDigests grid.now.k grid.now.shares leaves.now }
+    requires index { index < 2 * grid.now.k }
+    requires line { length line.old ≡ 2 * grid.now.k }
+    ensures { line.new ≡ axis_leaves grid.now.k grid.now.shares axis index }
+{
+    let k = grid.width();
+    for pos in 0..2 * k {
+        line[pos as usize] = leaves[place(k, cell_on(axis, index, pos))];
+    }
+}
+
+/// Whether the least namespaces of digests never fall.
+pub(super) fn are_ordered(digests: &[Digest]) -> bool
+    ensures { result ≡ is_ordered (map least_of digests.now) }
+{
+    for i in 1..digests.len() {
+        if !digests[i - 1].least().is_at_most(&digests[i].least()) {
+            return false;
+        }
+    }
+    true
+}
