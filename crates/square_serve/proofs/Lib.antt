@@ -1,0 +1,5 @@
+mod PassingLemmas
+mod RowLemmas
+mod RowTreeLemmas
+mod Judging
+mod Serving

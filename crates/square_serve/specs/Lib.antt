@@ -1,0 +1,5 @@
+pub mod Shares
+pub mod Answers
+pub mod Placed
+pub mod Own
+pub mod Serving
