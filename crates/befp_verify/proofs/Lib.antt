@@ -1,0 +1,3 @@
+mod UnprovedLemmas
+mod ShapeLemmas
+mod CauseLemmas
