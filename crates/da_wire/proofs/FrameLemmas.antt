@@ -7,14 +7,16 @@ use Rattle.std.proofs.lemmas.List.{length-append, nil_from_length, drop_at}
 use Rattle.std.proofs.lemmas.Option.{same_Some, some_pair_parts}
 use Rattle.namespace_id.specs.Bytes.{AreBytes}
 use Rattle.da_wire.specs.declared.frames.Frame.{Frame}
-use Rattle.da_wire.specs.declared.frames.Frame.TheVariants.{Header, Square, Message, Missing, Sample, Request, Block}
+use Rattle.da_wire.specs.declared.frames.Frame.TheVariants.{Header, Square, Message, Names, Fraud, Missing, Sample, Request, Block}
 use Rattle.da_wire.specs.declared.frames.FrameError.{FrameError}
 use Rattle.da_wire.specs.declared.frames.FrameError.TheVariants.{Truncated, BadKind}
-use Rattle.da_wire.specs.Spelling.{max_payload, frame, spelled, spelling, IsFrame, header_kind, square_kind, message_kind, missing_kind, sample_kind, request_kind, block_kind}
+use Rattle.da_wire.specs.Spelling.{max_payload, frame, spelled, spelling, IsFrame, header_kind, square_kind, message_kind, names_kind, fraud_kind, missing_kind, sample_kind, request_kind, block_kind}
 use Rattle.da_wire.specs.kinds.Block.{asks_for_zero, block_payload}
 use Rattle.da_wire.specs.kinds.Header.{header_payload}
 use Rattle.da_wire.specs.kinds.Square.{square_payload}
 use Rattle.da_wire.specs.kinds.Message.{message_payload}
+use Rattle.da_wire.specs.kinds.Names.{names_payload, is_long_answer}
+use Rattle.da_wire.specs.kinds.Fraud.{fraud_payload, is_long_claim}
 use Rattle.da_wire.specs.kinds.Missing.{missing_payload}
 use Rattle.da_wire.specs.kinds.Requests.{sample_payload, request_payload}
 use Rattle.da_wire.specs.Reading.{Raw, raw_of, is_kind, value_at, valued, value_of, tested_raw, tested_frame, frame_of}
@@ -43,6 +45,10 @@ head_is : (value : Frame) (text : List ℕ) → spelling value ≡ Some text →
 head_is (Header h) text e = head_of header_kind (header_payload h) text e
 head_is (Square s) text e = head_of square_kind (square_payload s) text e
 head_is (Message m) text e = head_of message_kind (message_payload m) text e
+head_is (Names name answer) text e =
+    head_of names_kind (names_payload name answer) text (if_false (is_long_answer answer) (spelled names_kind (names_payload name answer)) text e).1
+head_is (Fraud claim) text e =
+    head_of fraud_kind (fraud_payload claim) text (if_false (is_long_claim claim) (spelled fraud_kind (fraud_payload claim)) text e).1
 head_is (Missing cells) text e =
     head_of missing_kind (missing_payload cells) text (if_false (eqb (length cells.list) 0) (spelled missing_kind (missing_payload cells)) text e).1
 head_is (Sample cell axis) text e = head_of sample_kind (sample_payload cell axis) text e

@@ -4,9 +4,11 @@ pub mod Numbers
 pub mod Strings
 pub mod Split
 pub mod Digests
+pub mod Shares
 pub mod Cells
 pub mod Paths
 pub mod Many
+pub mod Headed
 pub mod Texts
 pub mod Lists
 pub mod Lengths

@@ -7,8 +7,15 @@ pub mod MissingForm
 pub mod RequestForms
 pub mod Blobs
 pub mod BlockForm
+pub mod Ranges
+pub mod Founds
+pub mod Entries
+pub mod NamesForm
+pub mod NamesSizes
+pub mod FraudForm
 pub mod BlockParts
 pub mod PayloadSizes
+pub mod FraudSizes
 pub mod CellCounts
 pub mod Spelled
 pub mod Forms

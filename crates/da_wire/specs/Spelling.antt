@@ -7,14 +7,18 @@ use Rattle.square_layout.specs.Blocks.{IsSquare, IsBlock}
 use Rattle.da_wire.specs.declared.frames.Frame.{Frame}
 use Rattle.da_wire.specs.declared.kinds.Kind.{Kind}
 use Rattle.da_wire.specs.declared.kinds.Kind.TheVariants as kinds
-use Rattle.da_wire.specs.declared.frames.Frame.TheVariants.{Header, Square, Message, Missing, Sample, Request, Block}
+use Rattle.da_wire.specs.declared.frames.Frame.TheVariants.{Header, Square, Message, Names, Fraud, Missing, Sample, Request, Block}
 use Rattle.namespace_id.specs.Names.{IsNamespace}
 use Rattle.namespace_id.specs.Shares.{AreShares}
 use Rattle.axis_roots.specs.Messages.{IsMessage}
+use Rattle.axis_roots.specs.Answers.{AreEntries}
+use Rattle.axis_roots.specs.Claims.{IsClaim}
 use Rattle.da_wire.specs.codec.Texts.{IsCell}
 use Rattle.da_wire.specs.kinds.Header.{header_payload}
 use Rattle.da_wire.specs.kinds.Square.{square_payload}
 use Rattle.da_wire.specs.kinds.Message.{message_payload}
+use Rattle.da_wire.specs.kinds.Names.{names_payload, is_long_answer}
+use Rattle.da_wire.specs.kinds.Fraud.{fraud_payload, is_long_claim}
 use Rattle.da_wire.specs.kinds.Missing.{missing_payload}
 use Rattle.da_wire.specs.kinds.Requests.{sample_payload, request_payload}
 use Rattle.da_wire.specs.kinds.Block.{block_payload, asks_for_zero}
@@ -34,6 +38,14 @@ square_kind = 0x53
 -- the kind of a share message: `M`
 abbrev pub message_kind : ℕ
 message_kind = 0x4d
+
+-- the kind of a namespace answer: `N`
+abbrev pub names_kind : ℕ
+names_kind = 0x4e
+
+-- the kind of a fraud claim: `B`
+abbrev pub fraud_kind : ℕ
+fraud_kind = 0x42
 
 -- the kind of missing cells: `K`
 abbrev pub missing_kind : ℕ
@@ -56,6 +68,8 @@ abbrev pub kind_byte : Kind → ℕ
 kind_byte kinds.Header = header_kind
 kind_byte kinds.Square = square_kind
 kind_byte kinds.Message = message_kind
+kind_byte kinds.Names = names_kind
+kind_byte kinds.Fraud = fraud_kind
 kind_byte kinds.Missing = missing_kind
 kind_byte kinds.Sample = sample_kind
 kind_byte kinds.Request = request_kind
@@ -71,11 +85,16 @@ frame kind payload = kind ∷ to_be_bytes w32 (length payload) ++ payload
 abbrev pub spelled : ℕ → List ℕ → Option (List ℕ)
 spelled kind payload = if nat_lt max_payload (length payload) then None else Some (frame kind payload)
 
--- the spelling of a value, where it has one: no cells are no missing cells, and 0 is no width to ask for
+-- the spelling of a value, where it has one: no cells are no missing cells, 0 is no width to ask for, an
+-- answer has up to 128 entries, each of up to 128 shares, and a claim has up to 128 cells
 abbrev pub spelling : Frame → Option (List ℕ)
 spelling (Header h) = spelled header_kind (header_payload h)
 spelling (Square s) = spelled square_kind (square_payload s)
 spelling (Message m) = spelled message_kind (message_payload m)
+spelling (Names name answer) =
+    if is_long_answer answer then None else spelled names_kind (names_payload name answer)
+spelling (Fraud claim) =
+    if is_long_claim claim then None else spelled fraud_kind (fraud_payload claim)
 spelling (Missing cells) =
     if length cells.list == 0 then None else spelled missing_kind (missing_payload cells)
 spelling (Sample cell axis) = spelled sample_kind (sample_payload cell axis)
@@ -89,6 +108,8 @@ abbrev pub IsFrame : Frame → Type 0
 IsFrame (Header h) = IsHeader h
 IsFrame (Square s) = IsSquare s × AreShares s.shares
 IsFrame (Message m) = IsMessage m
+IsFrame (Names name answer) = IsNamespace name × AreEntries answer
+IsFrame (Fraud claim) = IsClaim claim
 IsFrame (Missing cells) = AreCells cells
 IsFrame (Sample cell axis) = IsCell cell
 IsFrame (Request name) = IsNamespace name

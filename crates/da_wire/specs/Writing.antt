@@ -1,12 +1,14 @@
 -- The two parts of a spelling: a value's kind and its payload.
 use Rattle.std.specs.Prelude.{◌≡◌, ◌≤◌, ◌<◌, ◌^◌, ℕ, List, ◌++◌, length, drop, Ok, Option, Some, None, MatchOption}
 use Rattle.da_wire.specs.declared.frames.Frame.{Frame}
-use Rattle.da_wire.specs.declared.frames.Frame.TheVariants.{Header, Square, Message, Missing, Sample, Request, Block}
+use Rattle.da_wire.specs.declared.frames.Frame.TheVariants.{Header, Square, Message, Names, Fraud, Missing, Sample, Request, Block}
 use Rattle.da_wire.specs.Reading.{frame_of}
-use Rattle.da_wire.specs.Spelling.{max_payload, frame, spelling, header_kind, square_kind, message_kind, missing_kind, sample_kind, request_kind, block_kind}
+use Rattle.da_wire.specs.Spelling.{max_payload, frame, spelling, header_kind, square_kind, message_kind, names_kind, fraud_kind, missing_kind, sample_kind, request_kind, block_kind}
 use Rattle.da_wire.specs.kinds.Header.{header_payload}
 use Rattle.da_wire.specs.kinds.Square.{square_payload}
 use Rattle.da_wire.specs.kinds.Message.{message_payload}
+use Rattle.da_wire.specs.kinds.Names.{names_payload}
+use Rattle.da_wire.specs.kinds.Fraud.{fraud_payload}
 use Rattle.da_wire.specs.kinds.Missing.{missing_payload}
 use Rattle.da_wire.specs.kinds.Requests.{sample_payload, request_payload}
 use Rattle.da_wire.specs.kinds.Block.{block_payload}
@@ -16,6 +18,8 @@ abbrev pub kind_of : Frame → ℕ
 kind_of (Header h) = header_kind
 kind_of (Square s) = square_kind
 kind_of (Message m) = message_kind
+kind_of (Names name answer) = names_kind
+kind_of (Fraud claim) = fraud_kind
 kind_of (Missing cells) = missing_kind
 kind_of (Sample cell axis) = sample_kind
 kind_of (Request name) = request_kind
@@ -26,6 +30,8 @@ abbrev pub payload_of : Frame → List ℕ
 payload_of (Header h) = header_payload h
 payload_of (Square s) = square_payload s
 payload_of (Message m) = message_payload m
+payload_of (Names name answer) = names_payload name answer
+payload_of (Fraud claim) = fraud_payload claim
 payload_of (Missing cells) = missing_payload cells
 payload_of (Sample cell axis) = sample_payload cell axis
 payload_of (Request name) = request_payload name

@@ -4,6 +4,8 @@ ghost use Rattle.std.specs.Prelude.{◌<◌, ◌^◌, IfSome};
 ghost use Rattle.std.specs.List.{AllByRecursion};
 ghost use Rattle.namespace_id.specs.Bytes.{AreBytes};
 ghost use Rattle.namespace_id.specs.Cells.{AreCells};
+ghost use Rattle.namespace_id.specs.Names.{IsNamespace};
+ghost use Rattle.axis_roots.specs.Answers.{AreEntries};
 ghost use Rattle.data_header.specs.Headers.{IsHeader};
 ghost use Rattle.share_split.specs.Blobs.{IsNamed};
 ghost use Rattle.square_layout.specs.Blocks.{IsBlock};
@@ -11,9 +13,11 @@ ghost use Rattle.da_wire.specs.codec.Texts.{IsCell};
 ghost use Rattle.da_wire.specs.Spelling.{IsFrame};
 
 use crate::Frame;
-use axis_roots::message_law;
+use axis_roots::{NsAnswer, answer_law, claim_law, message_law};
 use data_header::Header;
-use namespace_id::{Cell, Cells, bytes_law, digests_law, namespace_law, share_law, shares_law};
+use namespace_id::{
+    Cell, Cells, Namespace, bytes_law, digests_law, namespace_law, share_law, shares_law,
+};
 use share_split::{Blob, Unit};
 use square_layout::Block;
 
@@ -85,6 +89,16 @@ fn block_law(block: &Block)
     width_law(block.width);
 }
 
+/// Says that a namespace has 29 bytes, and that an answer has numbers of two bytes, shares, digests,
+/// and up to 16 nodes an entry. It changes nothing.
+fn names_law(name: &Namespace, answer: &NsAnswer)
+    ensures name { IsNamespace name.now }
+    ensures entries { AreEntries answer.now }
+{
+    namespace_law(name);
+    answer_law(answer);
+}
+
 /// Says that a value has the lengths and bounds of its type, so that what is written of it is read
 /// back. It changes nothing.
 pub fn frame_law(frame: &Frame)
@@ -94,6 +108,8 @@ pub fn frame_law(frame: &Frame)
         Frame::Header(header) => header_law(header),
         Frame::Square(square) => shares_law(&square.shares),
         Frame::Message(message) => message_law(message),
+        Frame::Names(name, answer) => names_law(name, answer),
+        Frame::Fraud(claim) => claim_law(claim),
         Frame::Missing(cells) => cells_law(cells),
         Frame::Sample(cell, _) => cell_law(cell),
         Frame::Request(name) => namespace_law(name),

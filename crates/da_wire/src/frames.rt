@@ -1,6 +1,6 @@
 //! Frames, and why bytes or values are none.
 
-use axis_roots::Message;
+use axis_roots::{FraudClaim, Message, NsAnswer};
 use data_header::Header;
 use namespace_id::{Axis, Cell, Cells, Namespace};
 use square_layout::{Block, Square};
@@ -24,6 +24,10 @@ pub enum Frame {
     Square(Square),
     /// M: a share message.
     Message(Message),
+    /// N: a namespace and what is found of it.
+    Names(Namespace, NsAnswer),
+    /// B: a fraud claim.
+    Fraud(FraudClaim),
     /// K: missing cells.
     Missing(Cells),
     /// Q: a request for the sample of a cell on an axis.
@@ -62,7 +66,8 @@ pub enum FrameError {
 #[derive(Clone, Copy, Debug, PartialEq, Eq, Error)]
 pub enum SpellError {
     /// The value has no spelling: an empty list of missing cells, a block that asks for the width 0,
-    /// or a payload above its limit.
+    /// a namespace answer of more than 128 entries or of a range of more than 128 shares, a fraud claim
+    /// of more than 128 cells, or a payload above its limit.
     #[error("the value has no spelling")]
     Unspellable,
     /// There was no memory.

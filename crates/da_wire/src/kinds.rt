@@ -5,9 +5,11 @@ ghost use Rattle.da_wire.specs.Spelling.{kind_byte};
 ghost use Rattle.da_wire.specs.Reading.{kind_at};
 
 pub(crate) mod block;
+pub(crate) mod fraud;
 pub(crate) mod header;
 pub(crate) mod message;
 pub(crate) mod missing;
+pub(crate) mod names;
 pub(crate) mod requests;
 pub(crate) mod square;
 
@@ -17,6 +19,8 @@ pub(crate) enum Kind {
     Header,
     Square,
     Message,
+    Names,
+    Fraud,
     Missing,
     Sample,
     Request,
@@ -32,6 +36,8 @@ impl Kind {
             b'H' => Some(Kind::Header),
             b'S' => Some(Kind::Square),
             b'M' => Some(Kind::Message),
+            b'N' => Some(Kind::Names),
+            b'B' => Some(Kind::Fraud),
             b'K' => Some(Kind::Missing),
             b'Q' => Some(Kind::Sample),
             b'P' => Some(Kind::Request),
@@ -48,6 +54,8 @@ impl Kind {
             Kind::Header => b'H',
             Kind::Square => b'S',
             Kind::Message => b'M',
+            Kind::Names => b'N',
+            Kind::Fraud => b'B',
             Kind::Missing => b'K',
             Kind::Sample => b'Q',
             Kind::Request => b'P',

@@ -1,6 +1,6 @@
 //! What is spelled is read, and what is read is spelled.
 
-ghost use Rattle.std.specs.Prelude.{◌≡◌, ◌≢◌, ◌≤◌, ◌*◌, [], length, IsSome};
+ghost use Rattle.std.specs.Prelude.{◌≡◌, ◌≢◌, ◌≤◌, ◌*◌, List, [], false, length, IsSome};
 ghost use Rattle.namespace_id.specs.declared.cells.Axis.{Axis};
 ghost use Rattle.namespace_id.specs.declared.cells.Cell.{Cell};
 ghost use Rattle.namespace_id.specs.declared.namespaces.Namespace as names;
@@ -10,9 +10,14 @@ ghost use Rattle.data_header.specs.Headers.{Roots, IsHeader};
 ghost use Rattle.namespace_id.specs.Shares.{AreShares};
 ghost use Rattle.axis_roots.specs.declared.message.messages.Message as sent;
 ghost use Rattle.axis_roots.specs.Messages.{IsMessage};
+ghost use Rattle.axis_roots.specs.declared.answers.NsEntry.{NsEntry};
+ghost use Rattle.axis_roots.specs.Answers.{AreEntries};
+ghost use Rattle.axis_roots.specs.Claims.{ClaimParts, IsClaim};
 ghost use Rattle.square_layout.specs.Blocks.{SquareShares, IsSquare};
-ghost use Rattle.da_wire.specs.declared.frames.Frame.TheVariants.{Header, Square, Message, Missing, Sample, Request};
+ghost use Rattle.da_wire.specs.declared.frames.Frame.TheVariants.{Header, Square, Message, Names, Fraud, Missing, Sample, Request};
 ghost use Rattle.da_wire.specs.Spelling.{max_payload, spelling};
+ghost use Rattle.da_wire.specs.kinds.Names.{is_long_answer};
+ghost use Rattle.da_wire.specs.kinds.Fraud.{is_long_claim};
 ghost use Rattle.da_wire.specs.Laws.{SpelledIsRead, ReadIsSpelled, OneSpelling, OnlyIsSpelled, SpelledIsOnly, MessageIsRead, MessageIsSpelled, RawIsFrame, FramesAreTheFile, FilesAreFrames, BadFrameIsFirst, ValuesAreTheFile, FilesAreValues, BadValueIsFirst};
 
 use crate::reading::MAX_PAYLOAD;
@@ -31,6 +36,10 @@ pub fn wire_laws()
     ensures squares { (square : SquareShares) → IsSquare square → AreShares square.shares →
         IsSome (spelling (Square square)) }
     ensures messages { (m : sent.Message) → IsMessage m → IsSome (spelling (Message m)) }
+    ensures names { (name : names.Namespace) (answer : List NsEntry) → IsNamespace name →
+        AreEntries answer → is_long_answer answer ≡ false → IsSome (spelling (Names name answer)) }
+    ensures claims { (claim : ClaimParts) → IsClaim claim → is_long_claim claim ≡ false →
+        IsSome (spelling (Fraud claim)) }
     ensures missing { (cells : CellList) → AreCells cells → cells.list ≢ [] →
         IsSome (spelling (Missing cells)) }
     ensures cells { (cells : CellList) → AreCells cells →

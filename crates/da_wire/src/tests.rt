@@ -1,15 +1,20 @@
 //! Values and bytes that the tests speak of.
 
 mod frames;
+mod fraud;
+mod names;
 mod spellings;
 
-use crate::{Frame, message, read_frame, write_frame};
+use crate::{Frame, FrameError, SpellError, message, read_frame, write_frame};
 use data_header::Header;
 use namespace_id::{Axis, Cell, Cells, Digest, Namespace, Share, is_width};
 use share_split::{Blob, Unit};
 use square_layout::{Block, Square};
 use std::alloc::Global;
 use std::test::Fail;
+
+/// Some bytes, and then so many of one value.
+type Run = (&'static [u8], usize, u8);
 
 /// A frame of a kind that has no values.
 const OTHER: [u8; 5] = *b"Z\x00\x00\x00\x00";
@@ -193,4 +198,44 @@ fn is_filled(
 ) -> Result<bool, Fail> {
     let bytes = filled(alloc, bytes, count, byte)?;
     is_spelled(alloc, value, &bytes)
+}
+
+/// The bytes that runs are.
+fn joined(alloc: Global, runs: &[Run]) -> Result<Vec<u8>, Fail> {
+    let mut all = Vec::new(alloc);
+    for (bytes, count, byte) in runs {
+        all.extend_from_slice(bytes)?;
+        for _ in 0..*count {
+            all.push(*byte)?;
+        }
+    }
+    Ok(all)
+}
+
+/// The refusal of the bytes that runs are.
+fn refused_runs(alloc: Global, runs: &[Run]) -> Result<Option<FrameError>, Fail> {
+    let bytes = joined(alloc, runs)?;
+    Ok(read_frame(alloc, &bytes, 7).err())
+}
+
+/// The refusal of a payload of a kind of which only the front is there.
+fn refused_cut(
+    alloc: Global,
+    kind: u8,
+    payload: &[u8],
+    size: u32,
+) -> Result<Option<FrameError>, Fail> {
+    let Some(front) = payload.get(..size as usize) else {
+        return Err(Fail::new("the payload is shorter"));
+    };
+    let mut bytes = Vec::from_slice(alloc, &[kind])?;
+    bytes.extend_from_slice(&size.to_be_bytes())?;
+    bytes.extend_from_slice(front)?;
+    Ok(read_frame(alloc, &bytes, 7).err())
+}
+
+/// Whether a value has no spelling.
+fn is_unspellable(alloc: Global, value: Frame) -> bool {
+    let mut out = Vec::new(alloc);
+    write_frame(&value, &mut out).err() == Some(SpellError::Unspellable)
 }

@@ -1,6 +1,6 @@
 //! Writing frames: room for all of a spelling is made first, and then no write can fail.
 
-ghost use Rattle.std.specs.Prelude.{◌≡◌, length, None, ◌+◌, ◌++◌, ◌↔◌, OnOk, OnErr, IsErrOf};
+ghost use Rattle.std.specs.Prelude.{◌≡◌, length, None, ◌+◌, ◌++◌, ◌↔◌, OnOk, OnErr, IsErrOf, IsSome};
 ghost use Rattle.namespace_id.specs.Answers.{HasRoom};
 ghost use Rattle.da_wire.specs.Spelling.{kind_byte, spelling};
 ghost use Rattle.da_wire.specs.Writing.{kind_of, payload_of, HasSize, AppendsSpelling, IsReadBack, IsShort, appended};
@@ -9,9 +9,11 @@ use crate::bounds::frame_law;
 use crate::codec::sizes::HEAD_SIZE;
 use crate::kinds::Kind;
 use crate::kinds::block::{block_size, put_block};
+use crate::kinds::fraud::{fraud_size, put_fraud};
 use crate::kinds::header::{header_size, put_header};
 use crate::kinds::message::{message_size, put_message};
 use crate::kinds::missing::{missing_size, put_missing};
+use crate::kinds::names::{names_size, put_names};
 use crate::kinds::requests::{SAMPLE_SIZE, put_sample, request_size};
 use crate::kinds::square::{put_square, square_size};
 use crate::{Frame, SpellError};
@@ -25,6 +27,8 @@ fn kind_of(frame: &Frame) -> Kind
         Frame::Header(_) => Kind::Header,
         Frame::Square(_) => Kind::Square,
         Frame::Message(_) => Kind::Message,
+        Frame::Names(..) => Kind::Names,
+        Frame::Fraud(_) => Kind::Fraud,
         Frame::Missing(_) => Kind::Missing,
         Frame::Sample(..) => Kind::Sample,
         Frame::Request(_) => Kind::Request,
@@ -40,6 +44,8 @@ fn payload_size(frame: &Frame) -> Option<u32>
         Frame::Header(header) => Some(header_size(header)),
         Frame::Square(square) => Some(square_size(square)),
         Frame::Message(message) => Some(message_size(message)),
+        Frame::Names(name, answer) => names_size(name, answer),
+        Frame::Fraud(claim) => fraud_size(claim),
         Frame::Missing(cells) => missing_size(cells),
         Frame::Sample(..) => Some(SAMPLE_SIZE),
         Frame::Request(name) => Some(request_size(name)),
@@ -51,12 +57,15 @@ fn payload_size(frame: &Frame) -> Option<u32>
 fn put_payload(out: &mut Vec<u8>, frame: &Frame)
     requires room { HasRoom out.old (length (payload_of frame.now)) }
     requires few { IsShort (payload_of frame.now) }
+    requires spelled { IsSome (spelling frame.now) }
     ensures appended { out.new.items ≡ out.old.items ++ payload_of frame.now }
 {
     match frame {
         Frame::Header(header) => put_header(out, header),
         Frame::Square(square) => put_square(out, square),
         Frame::Message(message) => put_message(out, message),
+        Frame::Names(name, answer) => put_names(out, name, answer),
+        Frame::Fraud(claim) => put_fraud(out, claim),
         Frame::Missing(cells) => put_missing(out, cells),
         Frame::Sample(cell, axis) => put_sample(out, *cell, *axis),
         Frame::Request(name) => append(out, &name.0),

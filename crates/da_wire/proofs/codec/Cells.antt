@@ -1,16 +1,15 @@
 -- A cell that is read is the cell that was written, and a cell that was written is read; the same of cells
 -- one after another.
-use Rattle.std.proofs.Common.{◌≡◌, ◌∙◌, ℕ, zero, suc, ◌+◌, ◌*◌, ◌^◌, ◌≤◌, List, [], ◌∷◌, ◌++◌, length, take, drop, Option, Some, refl, sym, ap, ap₂, subst, arith, length-take-le}
+use Rattle.std.proofs.Common.{◌≡◌, ◌∙◌, ℕ, zero, suc, ◌+◌, ◌*◌, ◌^◌, ◌≤◌, List, [], ◌∷◌, ◌++◌, length, take, drop, Option, Some, refl, sym, ap, ap₂, arith, length-take-le}
 use Rattle.std.specs.Int.{w16, to_be_bytes, from_be_bytes}
 use Rattle.std.specs.List.{flat_map, AllByRecursion}
 use Rattle.std.proofs.lemmas.List.{take-append-drop, length-append, length-drop, drop-drop, nil_from_length}
-use Rattle.std.proofs.lemmas.Option.{some_pair_parts}
 use Rattle.namespace_id.specs.declared.cells.Cell.{Cell}
 use Rattle.namespace_id.specs.Bytes.{AreBytes}
 use Rattle.namespace_id.proofs.StringLemmas.{AreBytes-take, AreBytes-drop}
 use Rattle.da_wire.specs.codec.Fields.{◌>>=◌, number_at, cells_of, cell_at}
 use Rattle.da_wire.specs.codec.Texts.{cell_bytes, IsCell}
-use Rattle.da_wire.proofs.codec.Readers.{bind_some, bind_again, Takes, Takes-is, Takes-then}
+use Rattle.da_wire.proofs.codec.Readers.{bind_some, bind_again, Takes, Takes-then, Takes-read}
 use Rattle.da_wire.proofs.codec.Numbers.{wide16, number_takes, number_again}
 
 -- the cell of this row and column
@@ -27,13 +26,6 @@ after_col row col = Some (cell row col.0, col.1)
 abbrev after_row : ℕ × List ℕ → Option (Cell × List ℕ)
 after_row row = number_at w16 row.1 >>= after_col row.0
 
--- two numbers that were read are a cell
-cell_is : (bytes : List ℕ) (row col : ℕ) (after : List ℕ) (c : Cell) (rest : List ℕ) → cell row col ≡ c → after ≡ rest → IsCell (cell row col) → Takes bytes (cell_bytes (cell row col)) after
-    → Takes bytes (cell_bytes c) rest × IsCell c
-cell_is bytes row col after c rest same_cell same_rest is t =
-    subst (λ (x : Cell). Takes bytes (cell_bytes x) rest × IsCell x) same_cell
-    (Takes-is bytes (cell_bytes (cell row col)) (cell_bytes (cell row col)) after rest refl same_rest t, is)
-
 -- a cell that is read is the one that was written
 pub cell_takes : (bytes : List ℕ) (c : Cell) (rest : List ℕ) → AreBytes bytes → cell_at bytes ≡ Some (c, rest) → Takes bytes (cell_bytes c) rest × IsCell c
 unfolding cell_at
@@ -41,10 +33,9 @@ cell_takes bytes c rest fits e =
     let read : Cell × List ℕ = (c, rest) in
     let a = bind_some (number_at w16 bytes) after_row read e in
     let b = bind_some (number_at w16 a.0.1) (after_col a.0.0) read a.2 in
-    let same = some_pair_parts (cell a.0.0 b.0.0) c b.0.1 rest b.2 in
     let t = number_takes w16 (2 ^ 16) wide16 bytes a.0.0 a.0.1 fits a.1 in
     let u = number_takes w16 (2 ^ 16) wide16 a.0.1 b.0.0 b.0.1 t.0.rest_fits b.1 in
-    cell_is bytes a.0.0 b.0.0 b.0.1 c rest same.0 same.1 (record { row = t.1; col = u.1 })
+    Takes-read cell_bytes IsCell bytes (cell a.0.0 b.0.0) c b.0.1 rest b.2 (record { row = t.1; col = u.1 })
     (Takes-then bytes (to_be_bytes w16 a.0.0) a.0.1 (to_be_bytes w16 b.0.0) b.0.1 t.0 u.0)
 
 -- a cell that was written is read, whatever follows it

@@ -1,12 +1,12 @@
 -- Digests that are read are those that were written, and digests that were written are read.
-use Rattle.std.proofs.Common.{◌≡◌, ◌∙◌, ℕ, ◌*◌, ◌≤◌, List, ◌++◌, length, take, Some, refl, sym, ap, subst, arith}
+use Rattle.std.proofs.Common.{◌≡◌, ℕ, ◌*◌, ◌≤◌, List, ◌++◌, length, Some, refl}
 use Rattle.namespace_id.specs.declared.digests.Digest.{Digest}
 use Rattle.namespace_id.specs.Bytes.{AreBytes}
 use Rattle.namespace_id.specs.Digests.{AreDigests}
 use Rattle.da_wire.specs.codec.Fields.{digest, digests_of, digests_at}
 use Rattle.da_wire.specs.codec.Texts.{digest_bytes}
-use Rattle.da_wire.proofs.codec.Readers.{Takes, Takes-is, front_takes, front_again}
-use Rattle.da_wire.proofs.codec.Split.{AreTexts, length-split_into, are_values_of, value_bytes-of, length-value_bytes, of_value_bytes, split_into-spelled}
+use Rattle.da_wire.proofs.codec.Readers.{Takes}
+use Rattle.da_wire.proofs.codec.Split.{AreTexts, length-split_into, are_values_of, value_bytes-of, length-value_bytes, split_into-spelled, values_take, values_again}
 
 -- the bytes of a digest
 abbrev text : Digest → List ℕ
@@ -41,18 +41,8 @@ digests_of-spelled count bytes digests all len e = split_into-spelled digest tex
 -- digests that are read are those that were written
 pub digests_take : (count : ℕ) (bytes : List ℕ) (digests : List Digest) (rest : List ℕ) → AreBytes bytes → digests_at count bytes ≡ Some (digests, rest)
     → Takes bytes (digest_bytes digests) rest × (length digests ≡ count) × AreDigests digests
-digests_take count bytes digests rest fits e =
-    let t = front_takes (λ (l : List ℕ). digests_of count l) (90 * count) bytes digests rest fits e in
-    let len : length (take (90 * count) bytes) ≡ 90 * count = t.0.size_is in
-    let long : 90 * count ≤ length (take (90 * count) bytes) = omega arith in
-    let spelled : digest_bytes digests ≡ take (90 * count) bytes = ap (λ (ds : List Digest). digest_bytes ds) (sym t.1) ∙ digest_bytes-of count (take (90 * count) bytes) len in (
-      Takes-is bytes (take (90 * count) bytes) (digest_bytes digests) rest rest (sym spelled) refl t.2,
-      ap (λ (ds : List Digest). length ds) (sym t.1) ∙ length-digests_of count (take (90 * count) bytes),
-      subst (λ (ds : List Digest). AreDigests ds) t.1 (are_digests_of count (take (90 * count) bytes) t.0.fits long),
-    )
+digests_take count bytes digests rest fits e = values_take digest text texts 90 count bytes digests rest fits e
 
 -- digests that were written are read, whatever follows them
 pub digests_again : (digests : List Digest) (rest : List ℕ) → AreDigests digests → digests_at (length digests) (digest_bytes digests ++ rest) ≡ Some (digests, rest)
-digests_again digests rest all =
-    subst (λ (ds : List Digest). digests_at (length digests) (digest_bytes digests ++ rest) ≡ Some (ds, rest)) (of_value_bytes digest text texts 90 digests all)
-    (front_again (λ (l : List ℕ). digests_of (length digests) l) (90 * length digests) (digest_bytes digests) rest (length-digest_bytes digests all))
+digests_again digests rest all = values_again digest text texts 90 digests rest all

@@ -1,8 +1,10 @@
 -- How long a payload is, and what its parts add to it.
-use Rattle.std.proofs.Common.{◌≡◌, ◌∙◌, ℕ, zero, suc, ◌+◌, ◌<◌, ◌≤◌, nat_lt, Bool, true, false, cond, List, [], ◌∷◌, ◌++◌, length, length-append, drop, get_or, Some, None, refl, sym, ap, arith}
-use Rattle.std.specs.List.{flat_map}
+use Rattle.std.proofs.Common.{◌≡◌, ◌∙◌, ℕ, zero, suc, ◌+◌, ◌*◌, ◌<◌, ◌≤◌, nat_lt, Bool, true, false, cond, List, [], ◌∷◌, ◌++◌, length, length-append, drop, get_or, Option, Some, None, refl, sym, ap, subst, arith}
+use Rattle.std.specs.List.{flat_map, AllByRecursion}
+use Rattle.std.proofs.Math.Nat.{mul-suc}
 use Rattle.std.proofs.lemmas.Bool.Decides.{nat_tests}
 use Rattle.da_wire.specs.Spelling.{max_payload, frame, spelled}
+use Rattle.da_wire.specs.Writing.{IsWithin}
 
 -- a payload within the limit
 pub spelled_within : (kind n : ℕ) (payload : List ℕ) → n ≡ length payload → n ≤ max_payload → spelled kind payload ≡ Some (frame kind payload)
@@ -15,6 +17,10 @@ pub spelled_beyond : (kind n : ℕ) (payload : List ℕ) → n ≡ length payloa
 spelled_beyond kind n payload e h =
     let beyond : nat_lt max_payload (length payload) ≡ true = grind (arith, nat_tests) in
     ap (λ (b : Bool). cond b None (Some (frame kind payload))) beyond
+
+-- a length within the limit is that of an equal one
+pub within_is : (within : Option ℕ) (m n : ℕ) → IsWithin m within → m ≡ n → IsWithin n within
+within_is within m n is e = subst (λ (k : ℕ). IsWithin k within) e is
 
 -- what an element adds, and then what the later ones do
 pub flat_here : {A : Type 0} (f : A → List ℕ) (xs : List A) (i : ℕ) (d : A) → i < length xs
@@ -31,6 +37,15 @@ count_few text some [] = omega arith
 count_few text some (x ∷ xs) =
     let sum : length (text x ++ flat_map text xs) ≡ length (text x) + length (flat_map text xs) = length-append (text x) (flat_map text xs) in
     omega (arith, sum, some x, count_few text some xs)
+
+-- texts of so many bytes each have no more together
+pub texts_few : {A : Type 0} (text : A → List ℕ) (Is : A → Type 0) (most : ℕ) → ((x : A) → Is x → length (text x) ≤ most) → (xs : List A) → AllByRecursion Is xs
+    → length (flat_map text xs) ≤ most * length xs
+texts_few text Is most few [] all = omega arith
+texts_few text Is most few (x ∷ xs) all =
+    let first : length (text x) ≤ most = few x all.0 in
+    let others : length (flat_map text xs) ≤ most * length xs = texts_few text Is most few xs all.1 in
+    omega (arith, first, others, mul-suc most (length xs), length-append (text x) (flat_map text xs))
 
 -- none of them longer than all
 pub part_few : {A : Type 0} (text : A → List ℕ) (xs : List A) (i : ℕ) (x : A) → i < length xs → x ≡ get_or xs i x → length (text x) ≤ length (flat_map text xs)

@@ -1,6 +1,7 @@
 -- Values that are read each where the one before ended: a loop that passes over them, and one that keeps
 -- them.
-use Rattle.std.proofs.Common.{◌≡◌, ◌∙◌, ℕ, suc, ◌+◌, ◌-◌, ◌<◌, ◌≤◌, List, [], ◌∷◌, ◌++◌, Option, Some, None, IsSome, refl, sym, ap, subst, arith, append_assoc, append-nil}
+use Rattle.std.proofs.Common.{◌≡◌, ◌∙◌, ℕ, suc, ◌+◌, ◌-◌, ◌<◌, ◌≤◌, Bool, eqb, cond, List, [], ◌∷◌, ◌++◌, length, Option, Some, None, IsSome, refl, sym, ap, subst, arith, append_assoc, append-nil}
+use Rattle.std.proofs.lemmas.Option.{same_Some}
 use Rattle.namespace_id.specs.Answers.{Gives}
 use Rattle.da_wire.specs.codec.Fields.{◌>>=◌, many_at, read_items, read_rest}
 
@@ -57,6 +58,21 @@ gives_some view (Some x) read e some = refl
 -- the value that a call answers is the one that is read
 pub gives_value : {X Y : Type 0} (view : X → Y) (answer : Option X) (read : Option Y) (x : X) → Gives view answer read → answer ≡ Some x → read ≡ Some (view x)
 gives_value {X} view answer read x e is = subst (λ (a : Option X). Gives view a read) is e
+
+-- a step behind a list that was read
+pub made : {A B : Type 0} (read : Option (List A × List ℕ)) (f : List A × List ℕ → Option B) (rest : List ℕ) → read_rest read ≡ Some rest → (read >>= f) ≡ f (read_items read, rest)
+made None f rest e = absurd cc
+made {A} (Some x) f rest e = ap (λ (l : List ℕ). f (x.0, l)) (same_Some x.1 rest e)
+
+-- where a list can't be read, no step behind it is made
+pub not_made : {A B : Type 0} (read : Option (List A × List ℕ)) (f : List A × List ℕ → Option B) → read_rest read ≡ None → (read >>= f) ≡ None
+not_made None f e = refl
+not_made (Some x) f e = absurd cc
+
+-- all of it was read, or bytes are left
+pub by_rest : {A : Type 0} (none : Bool) (rest : List ℕ) (x : A) (read : Option A) → eqb (length rest) 0 ≡ none → read ≡ cond (eqb (length rest) 0) (Some x) None
+    → read ≡ cond none (Some x) None
+by_rest none rest x read is e = e ∙ ap (λ (t : Bool). cond t (Some x) None) is
 
 -- ---- a loop that passes over them
 

@@ -71,6 +71,13 @@ Takes-is bytes a b r s p q t = record {
   rest_fits = subst (λ (l : List ℕ). AreBytes l) q t.rest_fits;
 }
 
+-- what was taken of an answer was taken of an equal one
+pub Takes-read : {A : Type 0} (text : A → List ℕ) (Is : A → Type 0) (bytes : List ℕ) (read x : A) (after rest : List ℕ) → ◌≡◌ {A = Option (A × List ℕ)} (Some (read, after)) (Some (x, rest))
+    → Is read → Takes bytes (text read) after → Takes bytes (text x) rest × Is x
+Takes-read {A} text Is bytes read x after rest e is t =
+    let same = some_pair_parts read x after rest e in
+    subst (λ (y : A). Takes bytes (text y) rest × Is y) same.0 (Takes-is bytes (text read) (text read) after rest refl same.1 t, is)
+
 -- nothing is left
 pub Takes-all : (bytes text rest : List ℕ) → Takes bytes text rest → length rest ≡ 0 → bytes ≡ text
 Takes-all bytes text rest t none = t.parts ∙ ap (λ (l : List ℕ). text ++ l) (nil_from_length rest none) ∙ append-nil text

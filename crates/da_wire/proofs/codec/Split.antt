@@ -1,10 +1,11 @@
 -- Values of one length that are read are those that were written, and values that were written are read.
-use Rattle.std.proofs.Common.{◌≡◌, ◌∙◌, ℕ, zero, suc, ◌+◌, ◌*◌, ◌≤◌, List, [], ◌∷◌, ◌++◌, length, take, drop, refl, sym, ap, ap₂, arith, length-take-le}
+use Rattle.std.proofs.Common.{◌≡◌, ◌∙◌, ℕ, zero, suc, ◌+◌, ◌*◌, ◌≤◌, List, [], ◌∷◌, ◌++◌, length, take, drop, Some, refl, sym, ap, ap₂, subst, arith, length-take-le}
 use Rattle.std.specs.List.{flat_map, AllByRecursion}
 use Rattle.std.proofs.lemmas.List.{take_at, drop_at, take-append-drop, length-append, length-drop, nil_from_length}
 use Rattle.namespace_id.specs.Bytes.{AreBytes, IsString}
 use Rattle.namespace_id.proofs.StringLemmas.{AreBytes-take, AreBytes-drop}
-use Rattle.da_wire.specs.codec.Fields.{split_into}
+use Rattle.da_wire.specs.codec.Fields.{split_into, values_at}
+use Rattle.da_wire.proofs.codec.Readers.{Takes, Takes-is, front_takes, front_again}
 
 -- values that are strings, and the strings that they are
 pub record AreTexts {A : Type 0} (value : List ℕ → A) (text : A → List ℕ) : Type 0 where
@@ -74,3 +75,26 @@ pub split_into-spelled : {A : Type 0} (value : List ℕ → A) (text : A → Lis
     → AllByRecursion (λ x. IsString size (text x)) values → length values ≡ count → bytes ≡ flat_map text values → split_into value size count bytes ≡ values
 split_into-spelled value text texts size count bytes values all len e =
     ap₂ (λ (n : ℕ) (l : List ℕ). split_into value size n l) (sym len) e ∙ of_value_bytes value text texts size values all
+
+-- ---- the field
+
+-- values that are read are those that were written
+pub values_take : {A : Type 0} (value : List ℕ → A) (text : A → List ℕ) (texts : AreTexts value text) (size count : ℕ) (bytes : List ℕ) (values : List A) (rest : List ℕ) → AreBytes bytes
+    → values_at value size count bytes ≡ Some (values, rest) → Takes bytes (flat_map text values) rest × (length values ≡ count) × AllByRecursion (λ x. IsString size (text x)) values
+values_take {A} value text texts size count bytes values rest fits e =
+    let front : List ℕ = take (size * count) bytes in
+    let t = front_takes (λ (l : List ℕ). split_into value size count l) (size * count) bytes values rest fits e in
+    let len : length front ≡ size * count = t.0.size_is in
+    let long : size * count ≤ length front = omega arith in
+    let spelled : flat_map text values ≡ front = ap (λ (xs : List A). flat_map text xs) (sym t.1) ∙ value_bytes-of value text texts size count front len in (
+      Takes-is bytes front (flat_map text values) rest rest (sym spelled) refl t.2,
+      ap (λ (xs : List A). length xs) (sym t.1) ∙ length-split_into value size count front,
+      subst (λ (xs : List A). AllByRecursion (λ x. IsString size (text x)) xs) t.1 (are_values_of value text texts size count front t.0.fits long),
+    )
+
+-- values that were written are read, whatever follows them
+pub values_again : {A : Type 0} (value : List ℕ → A) (text : A → List ℕ) (texts : AreTexts value text) (size : ℕ) (values : List A) (rest : List ℕ) → AllByRecursion (λ x. IsString size (text x)) values
+    → values_at value size (length values) (flat_map text values ++ rest) ≡ Some (values, rest)
+values_again {A} value text texts size values rest all =
+    subst (λ (xs : List A). values_at value size (length values) (flat_map text values ++ rest) ≡ Some (xs, rest)) (of_value_bytes value text texts size values all)
+    (front_again (λ (l : List ℕ). split_into value size (length values) l) (size * length values) (flat_map text values) rest (length-value_bytes text size values all))

@@ -2,12 +2,11 @@
 use Rattle.std.proofs.Common.{◌≡◌, ℕ, ◌+◌, ◌^◌, ◌<◌, eqb, cond, List, [], ◌∷◌, ◌++◌, length, Option, None, Some, refl, sym, subst, arith, append_assoc, eqb-true}
 use Rattle.std.specs.Int.{w32}
 use Rattle.std.proofs.lemmas.List.{length-append}
-use Rattle.std.proofs.lemmas.Option.{some_pair_parts}
 use Rattle.namespace_id.specs.Bytes.{AreBytes}
 use Rattle.share_split.specs.Blobs.{NamedBytes, IsNamed}
 use Rattle.da_wire.specs.codec.Fields.{◌>>=◌, byte_at, string_at}
 use Rattle.da_wire.specs.kinds.Block.{most, unit_at, unit_bytes, blob_at, blob_bytes}
-use Rattle.da_wire.proofs.codec.Readers.{bind_some, bind_again, if_true, Takes, Takes-is, Takes-then}
+use Rattle.da_wire.proofs.codec.Readers.{bind_some, bind_again, if_true, Takes, Takes-then, Takes-read}
 use Rattle.da_wire.proofs.codec.Numbers.{wide32}
 use Rattle.da_wire.proofs.codec.Strings.{byte_takes, string_takes, string_again}
 use Rattle.da_wire.proofs.codec.Texts.{IsField, text_takes, text_again}
@@ -38,13 +37,6 @@ after_version name version = cond (eqb version.0 0) (unit_at version.1) None >>=
 abbrev after_name : List ℕ × List ℕ → Option (NamedBytes × List ℕ)
 after_name name = byte_at name.1 >>= after_version name.0
 
--- a blob that is answered is the one that its fields make up
-blob_is : (bytes : List ℕ) (name text : List ℕ) (after : List ℕ) (b : NamedBytes) (rest : List ℕ) → blob name text ≡ b → after ≡ rest → IsNamed (blob name text) → Takes bytes (blob_bytes (blob name text)) after
-    → Takes bytes (blob_bytes b) rest × IsNamed b
-blob_is bytes name text after b rest same_blob same_rest is t =
-    subst (λ (x : NamedBytes). Takes bytes (blob_bytes x) rest × IsNamed x) same_blob
-    (Takes-is bytes (blob_bytes (blob name text)) (blob_bytes (blob name text)) after rest refl same_rest t, is)
-
 -- a blob that is read is the one that was written
 blob_takes : (bytes : List ℕ) (b : NamedBytes) (rest : List ℕ) → AreBytes bytes → blob_at bytes ≡ Some (b, rest) → Takes bytes (blob_bytes b) rest × IsNamed b
 unfolding blob_at
@@ -54,14 +46,13 @@ blob_takes bytes b rest fits e =
     let v = bind_some (byte_at a.0.1) (after_version a.0.0) read a.2 in
     let x = bind_some (cond (eqb v.0.0 0) (unit_at v.0.1) None) (after_text a.0.0) read v.2 in
     let w = if_true (eqb v.0.0 0) (unit_at v.0.1) x.0 x.1 in
-    let same = some_pair_parts (blob a.0.0 x.0.0) b x.0.1 rest x.2 in
     let zero_is : v.0.0 ≡ 0 = eqb-true v.0.0 0 w.0 in
     let t0 = string_takes 29 bytes a.0.0 a.0.1 fits a.1 in
     let t1 = byte_takes a.0.1 v.0.0 v.0.1 t0.0.rest_fits v.1 in
     let t2 = unit_field.takes v.0.1 x.0.0 x.0.1 t1.0.rest_fits w.1 in
     let version : Takes a.0.1 (0 ∷ []) v.0.1 = subst (λ (n : ℕ). Takes a.0.1 (n ∷ []) v.0.1) zero_is t1.0 in
     let tail = Takes-then a.0.1 (0 ∷ []) v.0.1 (unit_bytes x.0.0) x.0.1 version t2.0 in
-    blob_is bytes a.0.0 x.0.0 x.0.1 b rest same.0 same.1 (record { name = t0.1; fits = t2.1 })
+    Takes-read blob_bytes IsNamed bytes (blob a.0.0 x.0.0) b x.0.1 rest x.2 (record { name = t0.1; fits = t2.1 })
     (Takes-then bytes a.0.0 a.0.1 (0 ∷ unit_bytes x.0.0) x.0.1 t0.0 tail)
 
 -- a blob that was written is read, whatever follows it

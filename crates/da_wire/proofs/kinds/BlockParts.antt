@@ -1,21 +1,10 @@
 -- The payload of a block, part by part: where a part can't be read there is no block.
-use Rattle.std.proofs.Common.{◌≡◌, ◌∙◌, ℕ, Bool, eqb, cond, List, length, Option, None, Some, refl, ap}
+use Rattle.std.proofs.Common.{◌≡◌, ◌∙◌, ℕ, Bool, eqb, cond, List, length, Option, None, Some, ap}
 use Rattle.std.specs.Int.{w16}
-use Rattle.std.proofs.lemmas.Option.{same_Some}
-use Rattle.square_layout.specs.Blocks.{BlockParts}
 use Rattle.da_wire.specs.codec.Fields.{◌>>=◌, number_at, read_items, read_rest}
 use Rattle.da_wire.specs.kinds.Block.{blob_at, block_at, unit_at, counted_at}
+use Rattle.da_wire.proofs.codec.Many.{made, by_rest}
 use Rattle.da_wire.proofs.kinds.BlockForm.{block, after_width, after_units, after_pay_units, after_blobs}
-
--- a step that was made, and one that could not be
-made : {A B : Type 0} (read : Option (List A × List ℕ)) (f : List A × List ℕ → Option B) (rest : List ℕ) → read_rest read ≡ Some rest → (read >>= f) ≡ f (read_items read, rest)
-made None f rest e = absurd cc
-made {A} (Some x) f rest e = ap (λ (l : List ℕ). f (x.0, l)) (same_Some x.1 rest e)
-
--- where a list can't be read, no step behind it is made
-pub not_made : {A B : Type 0} (read : Option (List A × List ℕ)) (f : List A × List ℕ → Option B) → read_rest read ≡ None → (read >>= f) ≡ None
-not_made None f e = refl
-not_made (Some x) f e = absurd cc
 
 -- without a width there is no block
 pub no_width : (payload : List ℕ) → number_at w16 payload ≡ None → block_at payload ≡ None
@@ -41,11 +30,6 @@ pub from_blobs : (payload : List ℕ) (width : ℕ) (units pay_units blobs : Lis
 from_blobs payload width units pay_units blobs e u p =
     from_pay_units payload width units pay_units e u
     ∙ made (counted_at unit_at pay_units) (after_pay_units width (read_items (counted_at unit_at units))) blobs p
-
--- all of it was read, or bytes are left
-by_rest : (none : Bool) (rest : List ℕ) (b : BlockParts) (read : Option BlockParts) → eqb (length rest) 0 ≡ none → read ≡ cond (eqb (length rest) 0) (Some b) None
-    → read ≡ cond none (Some b) None
-by_rest none rest b read is e = e ∙ ap (λ (t : Bool). cond t (Some b) None) is
 
 -- behind the blobs there is a block where no byte is left
 pub from_rest : (payload : List ℕ) (width : ℕ) (units pay_units blobs rest : List ℕ) (none : Bool) → number_at w16 payload ≡ Some (width, units)

@@ -3,7 +3,7 @@ use Rattle.std.proofs.Common.{◌≡◌, ◌∙◌, ℕ, Bool, true, false, eqb,
 use Rattle.std.proofs.lemmas.Option.{same_Some}
 use Rattle.namespace_id.specs.Bytes.{AreBytes}
 use Rattle.da_wire.specs.declared.frames.Frame.{Frame}
-use Rattle.da_wire.specs.declared.frames.Frame.TheVariants.{Header, Square, Message, Missing, Sample, Request, Block}
+use Rattle.da_wire.specs.declared.frames.Frame.TheVariants.{Header, Square, Message, Names, Fraud, Missing, Sample, Request, Block}
 use Rattle.da_wire.specs.declared.kinds.Kind.{Kind}
 use Rattle.da_wire.specs.declared.kinds.Kind.TheVariants as kinds
 use Rattle.da_wire.specs.Spelling.{kind_byte, spelled, spelling, IsFrame}
@@ -13,6 +13,8 @@ use Rattle.da_wire.proofs.kinds.Form.{Spells, IsWritten, form_takes, form_writte
 use Rattle.da_wire.proofs.kinds.HeaderForm.{header_form}
 use Rattle.da_wire.proofs.kinds.SquareForm.{square_form}
 use Rattle.da_wire.proofs.kinds.MessageForm.{message_form}
+use Rattle.da_wire.proofs.kinds.NamesForm.{names_form}
+use Rattle.da_wire.proofs.kinds.FraudForm.{fraud_form}
 use Rattle.da_wire.proofs.kinds.MissingForm.{missing_form}
 use Rattle.da_wire.proofs.kinds.RequestForms.{sample_form, request_form}
 use Rattle.da_wire.proofs.kinds.BlockForm.{block_form}
@@ -24,6 +26,8 @@ kind_again : (kind : Kind) → kind_at (kind_byte kind) ≡ Some kind
 kind_again kinds.Header = refl
 kind_again kinds.Square = refl
 kind_again kinds.Message = refl
+kind_again kinds.Names = refl
+kind_again kinds.Fraud = refl
 kind_again kinds.Missing = refl
 kind_again kinds.Sample = refl
 kind_again kinds.Request = refl
@@ -41,10 +45,12 @@ kind_takes byte found e =
     by_byte (eqb byte (kind_byte kinds.Header)) byte kinds.Header found _ refl e (λ e1.
     by_byte (eqb byte (kind_byte kinds.Square)) byte kinds.Square found _ refl e1 (λ e2.
     by_byte (eqb byte (kind_byte kinds.Message)) byte kinds.Message found _ refl e2 (λ e3.
-    by_byte (eqb byte (kind_byte kinds.Missing)) byte kinds.Missing found _ refl e3 (λ e4.
-    by_byte (eqb byte (kind_byte kinds.Sample)) byte kinds.Sample found _ refl e4 (λ e5.
-    by_byte (eqb byte (kind_byte kinds.Request)) byte kinds.Request found _ refl e5 (λ e6.
-    by_byte (eqb byte (kind_byte kinds.Block)) byte kinds.Block found None refl e6 (λ e7. absurd cc)))))))
+    by_byte (eqb byte (kind_byte kinds.Names)) byte kinds.Names found _ refl e3 (λ e4.
+    by_byte (eqb byte (kind_byte kinds.Fraud)) byte kinds.Fraud found _ refl e4 (λ e5.
+    by_byte (eqb byte (kind_byte kinds.Missing)) byte kinds.Missing found _ refl e5 (λ e6.
+    by_byte (eqb byte (kind_byte kinds.Sample)) byte kinds.Sample found _ refl e6 (λ e7.
+    by_byte (eqb byte (kind_byte kinds.Request)) byte kinds.Request found _ refl e7 (λ e8.
+    by_byte (eqb byte (kind_byte kinds.Block)) byte kinds.Block found None refl e8 (λ e9. absurd cc)))))))))
 
 -- ---- values
 
@@ -53,6 +59,8 @@ spelled_by : (kind : Kind) (payload : List ℕ) (value : Frame) → AreBytes pay
 spelled_by kinds.Header = form_takes _ _ _ _ _ header_form
 spelled_by kinds.Square = form_takes _ _ _ _ _ square_form
 spelled_by kinds.Message = form_takes _ _ _ _ _ message_form
+spelled_by kinds.Names = form_takes _ _ _ _ _ names_form
+spelled_by kinds.Fraud = form_takes _ _ _ _ _ fraud_form
 spelled_by kinds.Missing = form_takes _ _ _ _ _ missing_form
 spelled_by kinds.Sample = form_takes _ _ _ _ _ sample_form
 spelled_by kinds.Request = form_takes _ _ _ _ _ request_form
@@ -71,6 +79,8 @@ pub value_again : (value : Frame) (text : List ℕ) → IsFrame value → spelli
 value_again (Header h) = form_written _ _ _ _ _ header_form (kind_again kinds.Header) h
 value_again (Square s) = form_written _ _ _ _ _ square_form (kind_again kinds.Square) s
 value_again (Message m) = form_written _ _ _ _ _ message_form (kind_again kinds.Message) m
+value_again (Names name answer) = form_written _ _ _ _ _ names_form (kind_again kinds.Names) (name, answer)
+value_again (Fraud claim) = form_written _ _ _ _ _ fraud_form (kind_again kinds.Fraud) claim
 value_again (Missing cells) = form_written _ _ _ _ _ missing_form (kind_again kinds.Missing) cells
 value_again (Sample cell axis) = form_written _ _ _ _ _ sample_form (kind_again kinds.Sample) (cell, axis)
 value_again (Request name) = form_written _ _ _ _ _ request_form (kind_again kinds.Request) name

@@ -1,6 +1,6 @@
 -- A message that is read of a payload is what the payload spells, and the payload that a message has is read.
 use Rattle.std.proofs.Common.{sym, append_assoc, arith, ◌≡◌, ℕ, eqb, cond, List, [], ◌∷◌, ◌++◌, length, Option, None, Some, refl, subst, append-nil, eqb-true}
-use Rattle.std.proofs.lemmas.Option.{cond_some, some_pair_parts}
+use Rattle.std.proofs.lemmas.Option.{cond_some}
 use Rattle.namespace_id.specs.declared.cells.Cell.{Cell}
 use Rattle.namespace_id.specs.declared.cells.Axis.{Axis}
 use Rattle.namespace_id.specs.declared.digests.Digest.{Digest}
@@ -10,7 +10,7 @@ use Rattle.axis_roots.specs.Messages.{IsMessage}
 use Rattle.da_wire.specs.codec.Fields.{◌>>=◌, string_at, cell_at, axis_at, path_at}
 use Rattle.da_wire.specs.codec.Texts.{digest_bytes, axis_byte, cell_bytes, IsCell}
 use Rattle.da_wire.specs.kinds.Message.{message_payload, message_front, message_at}
-use Rattle.da_wire.proofs.codec.Readers.{bind_some, bind_again, Takes, Takes-is, Takes-then, Takes-all}
+use Rattle.da_wire.proofs.codec.Readers.{bind_some, bind_again, Takes, Takes-then, Takes-read, Takes-all}
 use Rattle.da_wire.proofs.codec.Strings.{string_takes, string_again}
 use Rattle.da_wire.proofs.codec.Cells.{cell_takes, cell_again}
 use Rattle.da_wire.proofs.codec.Paths.{axis_takes, axis_again, path_takes, path_again}
@@ -39,13 +39,6 @@ after_axis cell axis = string_at 512 axis.1 >>= after_share cell axis.0
 abbrev after_cell : Cell × List ℕ → Option (Message × List ℕ)
 after_cell cell = axis_at cell.1 >>= after_axis cell.0
 
--- the message that its fields make up
-message_is : (bytes : List ℕ) (read m : Message) (after rest : List ℕ) → read ≡ m → after ≡ rest → IsMessage read → Takes bytes (message_payload read) after
-    → Takes bytes (message_payload m) rest × IsMessage m
-message_is bytes read m after rest same_message same_rest is t =
-    subst (λ (x : Message). Takes bytes (message_payload x) rest × IsMessage x) same_message
-    (Takes-is bytes (message_payload read) (message_payload read) after rest refl same_rest t, is)
-
 -- a message that is read at the front is what the front spells
 front_takes : (bytes : List ℕ) (m : Message) (rest : List ℕ) → AreBytes bytes → message_front bytes ≡ Some (m, rest) → Takes bytes (message_payload m) rest × IsMessage m
 unfolding message_front
@@ -55,7 +48,6 @@ front_takes bytes m rest fits e =
     let c = bind_some (axis_at a.0.1) (after_axis a.0.0) read a.2 in
     let d = bind_some (string_at 512 c.0.1) (after_share a.0.0 c.0.0) read c.2 in
     let p = bind_some (path_at 8 d.0.1) (after_path a.0.0 c.0.0 d.0.0) read d.2 in
-    let same = some_pair_parts (message a.0.0 c.0.0 d.0.0 p.0.0) m p.0.1 rest p.2 in
     let t0 = cell_takes bytes a.0.0 a.0.1 fits a.1 in
     let t2 = axis_takes a.0.1 c.0.0 c.0.1 t0.0.rest_fits c.1 in
     let t3 = string_takes 512 c.0.1 d.0.0 d.0.1 t2.rest_fits d.1 in
@@ -65,7 +57,7 @@ front_takes bytes m rest fits e =
     let e24 = Takes-then a.0.1 (axis_byte c.0.0 ∷ []) c.0.1 (d.0.0 ++ nodes) p.0.1 t2 e34 in
     let e04 = Takes-then bytes (cell_bytes a.0.0) a.0.1 (axis_byte c.0.0 ∷ d.0.0 ++ nodes) p.0.1 t0.0 e24 in
     let made : IsMessage (message a.0.0 c.0.0 d.0.0 p.0.0) = record { row = t0.1.row; col = t0.1.col; share = t3.1; few = t4.1; nodes = t4.2 } in
-    message_is bytes (message a.0.0 c.0.0 d.0.0 p.0.0) m p.0.1 rest same.0 same.1 made e04
+    Takes-read message_payload IsMessage bytes (message a.0.0 c.0.0 d.0.0 p.0.0) m p.0.1 rest p.2 made e04
 
 -- a message that is spelled at the front is read, whatever follows
 front_again : (m : Message) (rest : List ℕ) → IsMessage m → message_front (message_payload m ++ rest) ≡ Some (m, rest)

@@ -53,7 +53,7 @@ square_sized s n is shares e =
     (size, spelled_within square_kind n (square_payload s) size (omega arith))
 
 -- the payload of a message has 518 bytes, and 90 for each node
-length-message : (m : sent.Message) → IsShare m.share → AreDigests m.path → 518 + 90 * length m.path ≡ length (message_payload m)
+pub length-message : (m : sent.Message) → IsShare m.share → AreDigests m.path → 518 + 90 * length m.path ≡ length (message_payload m)
 length-message m share nodes =
     omega (arith, length-append m.share.0 (length m.path ∷ digest_bytes m.path), share.size_is, length-digest_bytes m.path nodes)
 

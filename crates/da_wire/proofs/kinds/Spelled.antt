@@ -1,5 +1,5 @@
 -- The values that have a spelling.
-use Rattle.std.proofs.Common.{◌≡◌, ℕ, ◌+◌, ◌*◌, ◌≤◌, [], length, Option, Some, refl, sym, subst, arith}
+use Rattle.std.proofs.Common.{◌≡◌, ℕ, ◌+◌, ◌*◌, ◌≤◌, false, List, [], length, Option, Some, refl, sym, subst, arith}
 use Rattle.std.specs.Prelude.{IsSome}
 use Rattle.std.proofs.lemmas.List.{nil_from_length}
 use Rattle.namespace_id.specs.declared.cells.Cell.{Cell}
@@ -10,13 +10,21 @@ use Rattle.namespace_id.specs.Shares.{AreShares}
 use Rattle.namespace_id.specs.Cells.{CellList, AreCells}
 use Rattle.data_header.specs.Headers.{Roots, IsHeader}
 use Rattle.axis_roots.specs.declared.message.messages.Message as sent
+use Rattle.axis_roots.specs.declared.answers.NsEntry.{NsEntry}
+use Rattle.axis_roots.specs.Answers.{AreEntries}
+use Rattle.axis_roots.specs.Claims.{ClaimParts, IsClaim}
 use Rattle.axis_roots.specs.Messages.{IsMessage}
 use Rattle.square_layout.specs.Blocks.{SquareShares, IsSquare}
-use Rattle.da_wire.specs.declared.frames.Frame.TheVariants.{Header, Square, Message, Missing, Sample, Request}
-use Rattle.da_wire.specs.Spelling.{spelling, sample_kind}
+use Rattle.da_wire.specs.declared.frames.Frame.TheVariants.{Header, Square, Message, Names, Fraud, Missing, Sample, Request}
+use Rattle.da_wire.specs.Spelling.{frame, spelled, spelling, names_kind, fraud_kind, sample_kind}
+use Rattle.da_wire.specs.kinds.Names.{is_long_answer, names_payload}
+use Rattle.da_wire.specs.kinds.Fraud.{is_long_claim, fraud_payload}
 use Rattle.da_wire.specs.kinds.Requests.{sample_payload}
+use Rattle.da_wire.proofs.codec.Readers.{if_false_again}
 use Rattle.da_wire.proofs.codec.Lengths.{spelled_within}
 use Rattle.namespace_id.proofs.WidthLemmas.{is_width-le}
+use Rattle.da_wire.proofs.kinds.NamesSizes.{names_few}
+use Rattle.da_wire.proofs.kinds.FraudSizes.{fraud_few}
 use Rattle.da_wire.proofs.kinds.PayloadSizes.{square_few, header_sized, square_sized, message_sized, missing_sized, request_sized}
 use Rattle.da_wire.proofs.kinds.CellCounts.{cells_counted, width_of_cells}
 
@@ -35,6 +43,20 @@ square_spelled s is shares = has_spelling (spelling (Square s)) _ (square_sized 
 -- each message has a spelling
 pub message_spelled : (m : sent.Message) → IsMessage m → IsSome (spelling (Message m))
 message_spelled m is = has_spelling (spelling (Message m)) _ (message_sized m (518 + 90 * length m.path) is.share is.nodes is.few refl).1
+
+-- each namespace answer has a spelling that has up to 128 entries, each of up to 128 shares
+pub names_spelled : (name : Namespace) (answer : List NsEntry) → IsNamespace name → AreEntries answer → is_long_answer answer ≡ false → IsSome (spelling (Names name answer))
+names_spelled name answer is are short =
+    let payload : List ℕ = names_payload name answer in
+    has_spelling (spelling (Names name answer)) _
+    (if_false_again (is_long_answer answer) (spelled names_kind payload) (frame names_kind payload) short (spelled_within names_kind (length payload) payload refl (names_few name answer is are short)))
+
+-- each fraud claim has a spelling that has up to 128 cells
+pub fraud_spelled : (claim : ClaimParts) → IsClaim claim → is_long_claim claim ≡ false → IsSome (spelling (Fraud claim))
+fraud_spelled claim is short =
+    let payload : List ℕ = fraud_payload claim in
+    has_spelling (spelling (Fraud claim)) _
+    (if_false_again (is_long_claim claim) (spelled fraud_kind payload) (frame fraud_kind payload) short (spelled_within fraud_kind (length payload) payload refl (fraud_few claim is short)))
 
 -- missing cells have a spelling where there are any
 pub missing_spelled : (cells : CellList) → AreCells cells → (cells.list ≡ [] → ⊥) → IsSome (spelling (Missing cells))

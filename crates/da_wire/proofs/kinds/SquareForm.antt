@@ -13,19 +13,12 @@ use Rattle.da_wire.specs.codec.Texts.{share_bytes}
 use Rattle.da_wire.specs.kinds.Square.{square_payload, square_at}
 use Rattle.da_wire.proofs.codec.Readers.{bind_some, bind_again, if_false, if_false_again, if_true_again}
 use Rattle.da_wire.proofs.codec.Numbers.{wide16, number_takes, number_again}
-use Rattle.da_wire.proofs.codec.Split.{AreTexts, length-split_into, are_values_of, value_bytes-of, length-value_bytes, split_into-spelled}
 use Rattle.namespace_id.proofs.WidthLemmas.{is_width-le}
+use Rattle.da_wire.proofs.codec.Shares.{text, texts}
+use Rattle.da_wire.proofs.codec.Split.{length-split_into, are_values_of, value_bytes-of, length-value_bytes, split_into-spelled}
 use Rattle.da_wire.specs.declared.kinds.Kind.TheVariants as kinds
 use Rattle.da_wire.specs.declared.frames.Frame.TheVariants as frames
 use Rattle.da_wire.proofs.kinds.Form.{IsForm, never}
-
--- the bytes of a share
-abbrev text : Share → List ℕ
-text s = s.0
-
--- a share is its bytes
-texts : AreTexts share text
-texts = record { there = λ bytes. refl; back = λ s. refl }
 
 -- the square of this width and these shares
 abbrev square : ℕ → List Share → SquareShares

@@ -52,11 +52,19 @@ share bytes = record { 0 = bytes }
 abbrev pub shares_of : ℕ → List ℕ → List Share
 shares_of count bytes = split_into share share_size count bytes
 
+-- so many values of one length at the front, and the bytes after them
+abbrev pub values_at : {A : Type 0} → (List ℕ → A) → ℕ → ℕ → List ℕ → Option (List A × List ℕ)
+values_at value size count bytes =
+    if nat_lt (length bytes) (size * count) then None else
+    Some (split_into value size count (take (size * count) bytes), drop (size * count) bytes)
+
 -- so many digests at the front, and the bytes after them
 abbrev pub digests_at : ℕ → List ℕ → Option (List Digest × List ℕ)
-digests_at count bytes =
-    if nat_lt (length bytes) (digest_size * count) then None else
-    Some (digests_of count (take (digest_size * count) bytes), drop (digest_size * count) bytes)
+digests_at count bytes = values_at digest digest_size count bytes
+
+-- so many shares at the front, and the bytes after them
+abbrev pub shares_at : ℕ → List ℕ → Option (List Share × List ℕ)
+shares_at count bytes = values_at share share_size count bytes
 
 -- so many cells, one after another
 unfoldable pub cells_of : ℕ → List ℕ → List Cell

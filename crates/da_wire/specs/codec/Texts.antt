@@ -1,5 +1,5 @@
 -- The bytes that each field of a payload is written as.
-use Rattle.std.specs.Prelude.{ℕ, List, length, ◌<◌, ◌^◌, ◌++◌}
+use Rattle.std.specs.Prelude.{ℕ, List, ◌∷◌, length, ◌<◌, ◌^◌, ◌++◌}
 use Rattle.std.specs.Int.{Width, w16, to_be_bytes}
 use Rattle.namespace_id.specs.declared.cells.Cell.{Cell}
 use Rattle.namespace_id.specs.declared.digests.Digest.{Digest}
@@ -11,6 +11,10 @@ use Rattle.namespace_id.specs.declared.cells.Axis.TheVariants.{Row, Col}
 -- the bytes of digests, one after another
 abbrev pub digest_bytes : List Digest → List ℕ
 digest_bytes digests = flat_map (λ d. d.0) digests
+
+-- nodes behind their count in a byte
+abbrev pub path_bytes : List Digest → List ℕ
+path_bytes nodes = length nodes ∷ digest_bytes nodes
 
 -- the bytes of shares, one after another
 abbrev pub share_bytes : List Share → List ℕ

@@ -1,12 +1,12 @@
 //! Fields of a payload, appended where there is room for them.
 
-ghost use Rattle.std.specs.Prelude.{◌≡◌, ◌≤◌, length, vec_len, ◌+◌, ◌++◌, vec_capacity};
+ghost use Rattle.std.specs.Prelude.{◌≡◌, ◌≤◌, ◌<◌, length, vec_len, ◌+◌, ◌++◌, vec_capacity};
 ghost use Rattle.std.specs.Int.{w32};
 ghost use Rattle.namespace_id.specs.Answers.{HasRoom};
-ghost use Rattle.da_wire.specs.codec.Texts.{digest_bytes, axis_byte, cell_bytes, text_bytes};
+ghost use Rattle.da_wire.specs.codec.Texts.{digest_bytes, path_bytes, share_bytes, axis_byte, cell_bytes, text_bytes};
 ghost use Rattle.da_wire.specs.Writing.{IsShort};
 
-use namespace_id::{Axis, Cell, Digest, append};
+use namespace_id::{Axis, Cell, Digest, Share, append};
 
 /// Appends digests, one after another.
 pub(crate) fn put_digests(out: &mut Vec<u8>, digests: &[Digest])
@@ -17,6 +17,30 @@ pub(crate) fn put_digests(out: &mut Vec<u8>, digests: &[Digest])
 {
     for digest in digests {
         append(out, &digest.0);
+    }
+}
+
+/// Appends digests behind their count in a byte.
+pub(crate) fn put_path(out: &mut Vec<u8>, digests: &[Digest])
+    requires few { length digests.now < 256 }
+    requires room { HasRoom out.old (length (path_bytes digests.now)) }
+    ensures appended { out.new.items ≡ out.old.items ++ path_bytes digests.now }
+    ensures len { vec_len out.new ≡ vec_len out.old + length (path_bytes digests.now) }
+    ensures capacity { vec_capacity out.old ≤ vec_capacity out.new }
+{
+    append(out, &[digests.len() as u8]);
+    put_digests(out, digests);
+}
+
+/// Appends shares, one after another.
+pub(crate) fn put_shares(out: &mut Vec<u8>, shares: &[Share])
+    requires room { HasRoom out.old (length (share_bytes shares.now)) }
+    ensures appended { out.new.items ≡ out.old.items ++ share_bytes shares.now }
+    ensures len { vec_len out.new ≡ vec_len out.old + length (share_bytes shares.now) }
+    ensures capacity { vec_capacity out.old ≤ vec_capacity out.new }
+{
+    for share in shares {
+        append(out, &share.0);
     }
 }
 

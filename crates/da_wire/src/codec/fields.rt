@@ -1,13 +1,14 @@
 //! Fields of a payload, read from the front of its bytes.
 
-ghost use Rattle.std.specs.Prelude.{◌≡◌, ◌≤◌, ◌*◌, length};
+ghost use Rattle.std.specs.Prelude.{◌≡◌, ◌≤◌, ◌*◌, length, vec_len, IfOk, IfSome};
 ghost use Rattle.std.specs.Int.{w16, w32};
 ghost use Rattle.namespace_id.specs.Answers.{Gives};
-ghost use Rattle.da_wire.specs.codec.Fields.{digests_of, text_at, count_at, number_at, byte_at, string_at, axis_at, path_at, cell_at};
+ghost use Rattle.da_wire.specs.codec.Fields.{digests_of, shares_of, shares_at, text_at, count_at, number_at, byte_at, string_at, axis_at, path_at, cell_at};
 
-use crate::codec::sizes::{DIGEST_SIZE, NAMESPACE_SIZE, PATH_LIMIT, SHARE_SIZE};
+use crate::codec::sizes::{DIGEST_SIZE, NAMESPACE_SIZE, NODES_LIMIT, PATH_LIMIT, SHARE_SIZE};
 use namespace_id::{Axis, Cell, Digest, Namespace, Share};
-use nmt_proofs::Path;
+use nmt_proofs::{Nodes, Path};
+use std::alloc::{AllocError, Global};
 
 /// A number of two bytes, the higher first, and the bytes after it.
 pub(crate) fn u16_at(bytes: &[u8]) -> Option<(u16, &[u8])>
@@ -94,6 +95,29 @@ pub(crate) fn name_at(bytes: &[u8]) -> Option<(Namespace, &[u8])>
     Some((name_of(front), rest))
 }
 
+/// A digest, and the bytes after it.
+pub(crate) fn digest_at(bytes: &[u8]) -> Option<(Digest, &[u8])>
+    ensures { Gives (λ x. (x.0.0, x.1.now)) result (string_at 90 bytes.now) }
+{
+    if bytes.len() < DIGEST_SIZE {
+        return None;
+    }
+    let (front, rest) = bytes.split_at(DIGEST_SIZE);
+    Some((digest_of(front), rest))
+}
+
+/// A count of two bytes, at most the limit, and the bytes after it.
+#[tactic(auto, unfolding(crate::specs::codec::Fields::count_at))]
+pub(crate) fn count16_at(bytes: &[u8], limit: u16) -> Option<(u16, &[u8])>
+    ensures { Gives (λ x. (x.0, x.1.now)) result (count_at w16 limit bytes.now) }
+{
+    let (count, rest) = u16_at(bytes)?;
+    if count > limit {
+        return None;
+    }
+    Some((count, rest))
+}
+
 /// A count or a length of four bytes, at most the limit, and the bytes after it.
 #[tactic(auto, unfolding(crate::specs::codec::Fields::count_at))]
 pub(crate) fn count_at(bytes: &[u8], limit: u32) -> Option<(u32, &[u8])>
@@ -141,8 +165,36 @@ pub(crate) fn cell_at(bytes: &[u8]) -> Option<(Cell, &[u8])>
     Some((Cell { row, col }, rest))
 }
 
+/// The bytes of so many shares, and the bytes after them.
+pub(crate) fn shares_at(count: u16, bytes: &[u8]) -> Option<(&[u8], &[u8])>
+    ensures value { Gives (λ x. (shares_of count x.0.now, x.1.now))
+        result (shares_at count bytes.now) }
+    ensures all { IfSome result (λ x. length x.0.now ≡ 512 * count) }
+{
+    if bytes.len() < SHARE_SIZE * count as usize {
+        return None;
+    }
+    Some(bytes.split_at(SHARE_SIZE * count as usize))
+}
+
+/// So many shares, one after another, which are all of the bytes.
+pub(crate) fn shares_of(alloc: Global, count: usize, bytes: &[u8]) -> Result<Vec<Share>, AllocError>
+    requires { length bytes.now ≡ 512 * count }
+    ensures value { IfOk result (λ shares. shares.items ≡ shares_of count bytes.now) }
+    ensures len { IfOk result (λ shares. vec_len shares ≡ count) }
+{
+    let mut shares = Vec::with_capacity(alloc, count)?;
+    let mut rest = bytes;
+    for _ in 0..count {
+        let (front, after) = rest.split_at(SHARE_SIZE);
+        shares.push(share_of(front))?;
+        rest = after;
+    }
+    Ok(shares)
+}
+
 /// So many digests, one after another, which are all of the bytes.
-pub(crate) fn path_of(count: u8, bytes: &[u8]) -> Path
+fn path_of(count: u8, bytes: &[u8]) -> Path
     requires few { count ≤ 8 }
     requires all { length bytes.now ≡ 90 * count }
     ensures { result ≡ digests_of count bytes.now }
@@ -157,18 +209,53 @@ pub(crate) fn path_of(count: u8, bytes: &[u8]) -> Path
     path
 }
 
-/// A count of at most 8, so many digests, and the bytes after them.
+/// So many digests, one after another, which are all of the bytes.
+fn nodes_of(count: u8, bytes: &[u8]) -> Nodes
+    requires few { count ≤ 16 }
+    requires all { length bytes.now ≡ 90 * count }
+    ensures { result ≡ digests_of count bytes.now }
+{
+    let mut nodes = Nodes::new();
+    let mut rest = bytes;
+    for _ in 0..count {
+        let (front, after) = rest.split_at(DIGEST_SIZE);
+        nodes.push(digest_of(front));
+        rest = after;
+    }
+    nodes
+}
+
+/// A count of at most the limit, the bytes of so many digests, and the bytes after them.
 #[tactic(auto, unfolding(crate::specs::codec::Fields::path_at))]
-pub(crate) fn path_at(bytes: &[u8]) -> Option<(Path, &[u8])>
-    ensures { Gives (λ x. (x.0, x.1.now)) result (path_at 8 bytes.now) }
+fn digests_at(bytes: &[u8], limit: u8) -> Option<(u8, &[u8], &[u8])>
+    ensures value { Gives (λ x. (digests_of x.0 x.1.now, x.2.now))
+        result (path_at limit bytes.now) }
+    ensures few { IfSome result (λ x. x.0 ≤ limit) }
+    ensures all { IfSome result (λ x. length x.1.now ≡ 90 * x.0) }
 {
     let (count, rest) = u8_at(bytes)?;
-    if count > PATH_LIMIT {
+    if count > limit {
         return None;
     }
     if rest.len() < DIGEST_SIZE * count as usize {
         return None;
     }
-    let (nodes, rest) = rest.split_at(DIGEST_SIZE * count as usize);
-    Some((path_of(count, nodes), rest))
+    let (digests, rest) = rest.split_at(DIGEST_SIZE * count as usize);
+    Some((count, digests, rest))
+}
+
+/// A count of at most 8, so many digests, and the bytes after them.
+pub(crate) fn path_at(bytes: &[u8]) -> Option<(Path, &[u8])>
+    ensures { Gives (λ x. (x.0, x.1.now)) result (path_at 8 bytes.now) }
+{
+    let (count, digests, rest) = digests_at(bytes, PATH_LIMIT)?;
+    Some((path_of(count, digests), rest))
+}
+
+/// A count of at most 16, so many digests, and the bytes after them.
+pub(crate) fn nodes_at(bytes: &[u8]) -> Option<(Nodes, &[u8])>
+    ensures { Gives (λ x. (x.0, x.1.now)) result (path_at 16 bytes.now) }
+{
+    let (count, digests, rest) = digests_at(bytes, NODES_LIMIT)?;
+    Some((nodes_of(count, digests), rest))
 }

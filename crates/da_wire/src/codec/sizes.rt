@@ -15,6 +15,9 @@ pub(crate) const HEAD_SIZE: usize = 5;
 /// The most nodes of a path.
 pub(crate) const PATH_LIMIT: u8 = 8;
 
+/// The most nodes of a range proof or an absence proof.
+pub(crate) const NODES_LIMIT: u8 = 16;
+
 /// The bytes of a cell.
 pub(crate) const CELL_SIZE: usize = 4;
 

@@ -1,12 +1,12 @@
 //! The payload of a share message.
 
-ghost use Rattle.std.specs.Prelude.{◌≡◌, length, Some, ◌+◌, ◌++◌};
+ghost use Rattle.std.specs.Prelude.{◌≡◌, ◌≤◌, length, vec_len, Some, ◌+◌, ◌++◌, vec_capacity};
 ghost use Rattle.namespace_id.specs.Answers.{Gives, HasRoom};
 ghost use Rattle.da_wire.specs.kinds.Message.{message_front, message_at, message_payload};
 ghost use Rattle.da_wire.specs.Writing.{HasSize};
 ghost use Rattle.da_wire.specs.declared.frames.Frame.TheVariants as FrameOf;
 
-use crate::codec::appending::{axis_byte, put_cell, put_digests};
+use crate::codec::appending::{axis_byte, put_cell, put_path};
 use crate::codec::fields::{axis_at, cell_at, path_at, share_at};
 use crate::codec::sizes::{CELL_SIZE, DIGEST_SIZE, SHARE_SIZE};
 use axis_roots::Message;
@@ -17,7 +17,7 @@ const BARE_SIZE: usize = CELL_SIZE + 1 + SHARE_SIZE + 1;
 
 /// The message at the front of bytes, and the bytes after it.
 #[tactic(auto, unfolding(crate::specs::kinds::Message::message_front))]
-fn message_front(bytes: &[u8]) -> Option<(Message, &[u8])>
+pub(crate) fn message_front(bytes: &[u8]) -> Option<(Message, &[u8])>
     ensures { Gives (λ x. (x.0, x.1.now)) result (message_front bytes.now) }
 {
     let (cell, rest) = cell_at(bytes)?;
@@ -62,11 +62,11 @@ pub(crate) fn message_size(message: &Message) -> u32
 pub(crate) fn put_message(out: &mut Vec<u8>, message: &Message)
     requires room { HasRoom out.old (length (message_payload message.now)) }
     ensures appended { out.new.items ≡ out.old.items ++ message_payload message.now }
+    ensures len { vec_len out.new ≡ vec_len out.old + length (message_payload message.now) }
+    ensures capacity { vec_capacity out.old ≤ vec_capacity out.new }
 {
     put_cell(out, message.cell);
     append(out, &[axis_byte(message.axis)]);
     append(out, &message.share.0);
-    let nodes = message.path.nodes();
-    append(out, &[nodes.len() as u8]);
-    put_digests(out, nodes);
+    put_path(out, message.path.nodes());
 }

@@ -10,27 +10,12 @@ ghost use Rattle.da_wire.specs.codec.Texts.{share_bytes};
 ghost use Rattle.da_wire.specs.Writing.{HasSize};
 ghost use Rattle.da_wire.specs.declared.frames.Frame.TheVariants as FrameOf;
 
-use crate::codec::fields::{share_of, u16_at};
+use crate::codec::appending::put_shares;
+use crate::codec::fields::{shares_of, u16_at};
 use crate::codec::sizes::{SHARE_SIZE, WIDTH_SIZE};
-use namespace_id::{Share, append, is_width, shares_law};
+use namespace_id::{append, is_width, shares_law};
 use square_layout::Square;
 use std::alloc::{AllocError, Global};
-
-/// So many shares, one after another, which are all of the bytes.
-fn shares_of(alloc: Global, count: usize, bytes: &[u8]) -> Result<Vec<Share>, AllocError>
-    requires { length bytes.now ≡ 512 * count }
-    ensures value { IfOk result (λ shares. shares.items ≡ shares_of count bytes.now) }
-    ensures len { IfOk result (λ shares. vec_len shares ≡ count) }
-{
-    let mut shares = Vec::with_capacity(alloc, count)?;
-    let mut rest = bytes;
-    for _ in 0..count {
-        let (front, after) = rest.split_at(SHARE_SIZE);
-        shares.push(share_of(front))?;
-        rest = after;
-    }
-    Ok(shares)
-}
 
 /// The width of a square, and the bytes of its shares, of which all are there.
 #[tactic(auto, unfolding(crate::specs::kinds::Square::square_at))]
@@ -65,16 +50,6 @@ pub(crate) fn square_size(square: &Square) -> u32
 {
     shares_law(&square.shares);
     WIDTH_SIZE + SHARE_SIZE as u32 * (u32::from(square.k) * u32::from(square.k))
-}
-
-/// Appends shares, one after another.
-fn put_shares(out: &mut Vec<u8>, shares: &[Share])
-    requires room { HasRoom out.old (length (share_bytes shares.now)) }
-    ensures appended { out.new.items ≡ out.old.items ++ share_bytes shares.now }
-{
-    for share in shares {
-        append(out, &share.0);
-    }
 }
 
 /// Appends the payload of a square.

@@ -2,7 +2,7 @@ use Rattle.da_wire.proofs.kinds.MessageForm.{message_again, message_takes}
 use Rattle.da_wire.proofs.FrameLemmas.{spelled_is_read, read_is_spelled, one_spelling}
 use Rattle.da_wire.proofs.OnlyLemmas.{only_is_spelled, spelled_only}
 use Rattle.da_wire.proofs.FrameListLemmas.{raw_is_frame, frames_are_the_file, files_are_frames, bad_frame_is_first}
-use Rattle.da_wire.proofs.kinds.Spelled.{header_spelled, square_spelled, message_spelled, missing_spelled, sample_spelled, request_spelled}
+use Rattle.da_wire.proofs.kinds.Spelled.{header_spelled, square_spelled, message_spelled, names_spelled, fraud_spelled, missing_spelled, sample_spelled, request_spelled}
 use Rattle.da_wire.proofs.kinds.CellCounts.{cells_counted}
 use Rattle.da_wire.proofs.laws.wire_laws.Goals as goal
 
@@ -29,6 +29,12 @@ returns-clause-squares c = square_spelled
 
 pub returns-clause-messages : goal.returns-clause-messages
 returns-clause-messages c = message_spelled
+
+pub returns-clause-names : goal.returns-clause-names
+returns-clause-names c = names_spelled
+
+pub returns-clause-claims : goal.returns-clause-claims
+returns-clause-claims c = fraud_spelled
 
 pub returns-clause-missing : goal.returns-clause-missing
 returns-clause-missing c = missing_spelled

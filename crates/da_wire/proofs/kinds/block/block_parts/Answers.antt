@@ -1,6 +1,7 @@
 use Rattle.std.proofs.Common.{◌∙◌, sym, true, false}
 use Rattle.da_wire.specs.kinds.Block.{blob_at, unit_at, counted_at}
-use Rattle.da_wire.proofs.kinds.BlockParts.{not_made, no_width, from_units, from_pay_units, from_blobs, from_rest}
+use Rattle.da_wire.proofs.codec.Many.{not_made}
+use Rattle.da_wire.proofs.kinds.BlockParts.{no_width, from_units, from_pay_units, from_blobs, from_rest}
 use Rattle.da_wire.proofs.kinds.block.block_parts.Goals as goal
 
 pub returns-in_err-width-clause-parts : goal.returns-in_err-width-clause-parts

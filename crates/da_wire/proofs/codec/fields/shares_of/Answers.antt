@@ -1,7 +1,7 @@
 use Rattle.std.proofs.Common.{ap, arith}
 use Rattle.da_wire.specs.codec.Fields.{share}
 use Rattle.da_wire.proofs.codec.SplitLoops.{values_more, values_end}
-use Rattle.da_wire.proofs.kinds.square.shares_of.Goals as goal
+use Rattle.da_wire.proofs.codec.fields.shares_of.Goals as goal
 
 pub loop-preserved : goal.loop-preserved
 loop-preserved c = record {

@@ -1,6 +1,6 @@
 use Rattle.std.proofs.Common.{◌≡◌, ◌+◌, ◌≤◌, ◌++◌, drop, length, vec_len, vec_capacity}
 use Rattle.da_wire.specs.codec.Texts.{share_bytes}
-use Rattle.da_wire.proofs.kinds.square.put_shares.Given as goal
+use Rattle.da_wire.proofs.codec.appending.put_shares.Given as goal
 
 -- what is there and what is left are all, and there is room for what is left
 abbrev pub invariant-loop-share : goal.invariant-loop-share

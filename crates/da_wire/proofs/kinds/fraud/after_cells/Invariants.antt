@@ -1,0 +1,8 @@
+use Rattle.std.proofs.Common.{◌≡◌, ◌-◌}
+use Rattle.da_wire.specs.codec.Fields.{many_at, read_rest}
+use Rattle.da_wire.specs.kinds.Message.{message_front}
+use Rattle.da_wire.proofs.kinds.fraud.after_cells.Given as goal
+
+-- what is left ends where all end
+abbrev pub invariant-loop : goal.invariant-loop
+invariant-loop l = read_rest (many_at message_front (l.count - l.counter) l.rest) ≡ read_rest (many_at message_front l.count l.bytes)

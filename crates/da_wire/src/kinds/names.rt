@@ -1,0 +1,392 @@
+//! The payload of a namespace answer: judged where it lies, then read; and written.
+
+ghost use Rattle.std.specs.Prelude.{◌≡◌, ◌≤◌, length, vec_len, None, Some, IfOk, IfSome, MatchOption, ◌+◌, ◌++◌, vec_capacity, IsSome, ◌*◌, false};
+ghost use Rattle.std.specs.List.{flat_map, list_any};
+ghost use Rattle.namespace_id.specs.Answers.{Gives, HasRoom};
+ghost use Rattle.da_wire.specs.codec.Fields.{many_at, read_items, read_rest, shares_of};
+ghost use Rattle.da_wire.specs.codec.Texts.{path_bytes};
+ghost use Rattle.da_wire.specs.Reading.{GivesUnlessFull};
+ghost use Rattle.da_wire.specs.kinds.Names.{is_long_found, is_long_entry, is_long_answer, share_list_bytes, found_bytes, entry_bytes, names_payload, share_list_at, range_at, absence_at, found_at, entry_at, entries_at, names_at, found_seen, HasShares};
+ghost use Rattle.da_wire.specs.Spelling.{max_payload};
+ghost use Rattle.da_wire.specs.Writing.{HasSize, IsWithin};
+ghost use Rattle.da_wire.specs.declared.frames.Frame.TheVariants as FrameOf;
+
+use crate::codec::appending::{put_path, put_shares};
+use crate::codec::fields::{
+    count16_at, digest_at, name_at, nodes_at, shares_at, shares_of, u8_at, u16_at,
+};
+use crate::codec::sizes::{DIGEST_SIZE, NAMESPACE_SIZE, SHARE_SIZE, longer};
+use axis_roots::{Found, NsAnswer, NsEntry, ShareList};
+use namespace_id::{
+    Digest, Namespace, Share, append, digest_law, digests_law, namespace_law, shares_law,
+};
+use nmt_proofs::Nodes;
+use std::alloc::{AllocError, Global};
+
+/// The most entries of an answer, a row each.
+const MOST_ENTRIES: u16 = 128;
+
+/// The most shares of a range, all of the original half of a row.
+const MOST_SHARES: u16 = 128;
+
+/// The byte in front of a range.
+const RANGE: u8 = 0;
+
+/// The byte in front of an absence.
+const ABSENCE: u8 = 1;
+
+/// The bytes that state a row, a place or a count.
+const NUMBER_SIZE: usize = 2;
+
+/// What is found in a row. The shares of a range are still bytes, behind their count.
+#[derive(Drop)]
+pub(crate) enum FoundFields<'a> {
+    Range {
+        start: u16,
+        count: u16,
+        shares: &'a [u8],
+        nodes: Nodes,
+    },
+    Absence {
+        pos: u16,
+        leaf: Digest,
+        nodes: Nodes,
+    },
+}
+
+/// The count of shares, their bytes, and the bytes after them.
+#[tactic(auto, unfolding(crate::specs::kinds::Names::share_list_at))]
+fn share_list_at(bytes: &[u8]) -> Option<(u16, &[u8], &[u8])>
+    ensures value { Gives (λ x. (shares_of x.0 x.1.now, x.2.now))
+        result (share_list_at bytes.now) }
+    ensures all { IfSome result (λ x. length x.1.now ≡ 512 * x.0) }
+{
+    let (count, rest) = count16_at(bytes, MOST_SHARES)?;
+    let (shares, rest) = shares_at(count, rest)?;
+    Some((count, shares, rest))
+}
+
+/// A range behind its tag, and the bytes after it.
+#[tactic(auto, unfolding(crate::specs::kinds::Names::range_at))]
+fn range_at(bytes: &[u8]) -> Option<(FoundFields<'_>, &[u8])>
+    ensures value { Gives (λ x. (found_seen x.0, x.1.now)) result (range_at bytes.now) }
+    ensures shares { IfSome result (λ x. HasShares x.0) }
+{
+    let (start, rest) = u16_at(bytes)?;
+    let (count, shares, rest) = share_list_at(rest)?;
+    let (nodes, rest) = nodes_at(rest)?;
+    let found = FoundFields::Range {
+        start,
+        count,
+        shares,
+        nodes,
+    };
+    Some((found, rest))
+}
+
+/// An absence behind its tag, and the bytes after it.
+#[tactic(auto, unfolding(crate::specs::kinds::Names::absence_at))]
+fn absence_at(bytes: &[u8]) -> Option<(FoundFields<'_>, &[u8])>
+    ensures value { Gives (λ x. (found_seen x.0, x.1.now)) result (absence_at bytes.now) }
+    ensures shares { IfSome result (λ x. HasShares x.0) }
+{
+    let (pos, rest) = u16_at(bytes)?;
+    let (leaf, rest) = digest_at(rest)?;
+    let (nodes, rest) = nodes_at(rest)?;
+    Some((FoundFields::Absence { pos, leaf, nodes }, rest))
+}
+
+/// What is found in a row, and the bytes after it.
+#[tactic(auto, unfolding(crate::specs::kinds::Names::found_at))]
+fn found_at(bytes: &[u8]) -> Option<(FoundFields<'_>, &[u8])>
+    ensures value { Gives (λ x. (found_seen x.0, x.1.now)) result (found_at bytes.now) }
+    ensures shares { IfSome result (λ x. HasShares x.0) }
+{
+    let (tag, rest) = u8_at(bytes)?;
+    match tag {
+        RANGE => range_at(rest),
+        ABSENCE => absence_at(rest),
+        _ => None,
+    }
+}
+
+/// A row, what is found in it, and the bytes after it.
+#[tactic(auto, unfolding(crate::specs::kinds::Names::entry_at))]
+fn entry_at(bytes: &[u8]) -> Option<(u16, FoundFields<'_>, &[u8])>
+    ensures value { Gives (λ x. (record { row = x.0; found = found_seen x.1 }, x.2.now))
+        result (entry_at bytes.now) }
+    ensures shares { IfSome result (λ x. HasShares x.1) }
+{
+    let (row, rest) = u16_at(bytes)?;
+    let (found, rest) = found_at(rest)?;
+    Some((row, found, rest))
+}
+
+/// The bytes after so many entries.
+fn after_entries(count: u16, bytes: &[u8]) -> Option<&[u8]>
+    ensures { Gives (λ x. x.now) result (read_rest (many_at entry_at count bytes.now)) }
+{
+    let mut rest = bytes;
+    for _ in 0..count {
+        let (_row, _found, after) = entry_at(rest)?;
+        rest = after;
+    }
+    Some(rest)
+}
+
+/// The bytes after a list of entries.
+#[tactic(auto, unfolding(crate::specs::codec::Fields::list_at))]
+fn after_entry_list(bytes: &[u8]) -> Option<&[u8]>
+    ensures { Gives (λ x. x.now) result (read_rest (entries_at bytes.now)) }
+{
+    let (count, rest) = count16_at(bytes, MOST_ENTRIES)?;
+    after_entries(count, rest)
+}
+
+/// The namespace of an answer, and the bytes of its entries from their count on, of which all are
+/// there. It takes no memory.
+pub(crate) fn names_parts(payload: &[u8]) -> Option<(Namespace, &[u8])>
+    ensures parts { MatchOption result (names_at payload.now ≡ None)
+        (λ x. names_at payload.now ≡ Some (x.0, read_items (entries_at x.1.now))) }
+    ensures entries { IfSome result (λ x. IsSome (entries_at x.1.now)) }
+{
+    let (name, entries) = name_at(payload)?;
+    let rest = after_entry_list(entries)?;
+    if !rest.is_empty() {
+        return None;
+    }
+    Some((name, entries))
+}
+
+/// What is found in a row, with memory for the shares of a range.
+fn found_of(alloc: Global, found: FoundFields<'_>) -> Result<Found, AllocError>
+    requires { HasShares found }
+    ensures { IfOk result (λ made. made ≡ found_seen found.entry) }
+{
+    match found {
+        FoundFields::Range {
+            start,
+            count,
+            shares,
+            nodes,
+        } => {
+            let list = shares_of(alloc, count as usize, shares)?;
+            let shares = ShareList { list };
+            Ok(Found::Range {
+                start,
+                shares,
+                nodes,
+            })
+        }
+        FoundFields::Absence { pos, leaf, nodes } => Ok(Found::Absence { pos, leaf, nodes }),
+    }
+}
+
+/// So many entries, one after another.
+fn entries_of(alloc: Global, count: u16, bytes: &[u8]) -> Result<Vec<NsEntry>, AllocError>
+    requires { IsSome (many_at entry_at count bytes.now) }
+    ensures { IfOk result (λ entries.
+        entries.items ≡ read_items (many_at entry_at count bytes.now)) }
+{
+    let mut entries = Vec::with_capacity(alloc, count as usize)?;
+    let mut rest = bytes;
+    for _ in 0..count {
+        let (row, fields, after) = entry_at(rest).unwrap();
+        let found = found_of(alloc, fields)?;
+        entries.push(NsEntry { row, found })?;
+        rest = after;
+    }
+    Ok(entries)
+}
+
+/// A list of entries.
+#[tactic(auto, unfolding(crate::specs::codec::Fields::list_at))]
+fn entry_list(alloc: Global, bytes: &[u8]) -> Result<Vec<NsEntry>, AllocError>
+    requires { IsSome (entries_at bytes.now) }
+    ensures { IfOk result (λ entries. entries.items ≡ read_items (entries_at bytes.now)) }
+{
+    let (count, rest) = count16_at(bytes, MOST_ENTRIES).unwrap();
+    entries_of(alloc, count, rest)
+}
+
+/// The namespace answer whose payload the bytes are. No memory is taken before they are known to be
+/// one.
+pub(crate) fn names(
+    alloc: Global,
+    payload: &[u8],
+) -> Result<Option<(Namespace, NsAnswer)>, AllocError>
+    ensures { GivesUnlessFull result (names_at payload.now) }
+{
+    let Some((name, bytes)) = names_parts(payload) else {
+        return Ok(None);
+    };
+    let entries = entry_list(alloc, bytes)?;
+    Ok(Some((name, NsAnswer { entries })))
+}
+
+/// Whether what is found has more shares than can be written.
+fn is_long_found(found: &Found) -> bool
+    ensures { result ≡ is_long_found found.now }
+{
+    match found {
+        Found::Range { shares, .. } => shares.list.len() > MOST_SHARES as usize,
+        Found::Absence { .. } => false,
+    }
+}
+
+/// Whether an entry has more shares than can be written.
+fn has_long_entry(entries: &[NsEntry]) -> bool
+    ensures { result ≡ list_any is_long_entry entries.now }
+{
+    for entry in entries {
+        if is_long_found(&entry.found) {
+            return true;
+        }
+    }
+    false
+}
+
+/// Whether an answer has more entries than can be written, or more shares in one of them.
+fn is_long_answer(answer: &NsAnswer) -> bool
+    ensures { result ≡ is_long_answer answer.now }
+{
+    answer.entries.len() > MOST_ENTRIES as usize || has_long_entry(&answer.entries)
+}
+
+/// A length with that of nodes behind their count more.
+fn with_nodes(size: u32, nodes: &[Digest]) -> Option<u32>
+    requires size { size ≤ max_payload }
+    requires few { length nodes.now ≤ 16 }
+    ensures { IsWithin (size + length (path_bytes nodes.now)) result }
+{
+    digests_law(nodes);
+    longer(size, 1 + DIGEST_SIZE * nodes.len())
+}
+
+/// A length with that of shares behind their count more.
+fn with_shares(size: u32, shares: &[Share]) -> Option<u32>
+    requires size { size ≤ max_payload }
+    requires few { length shares.now ≤ 128 }
+    ensures { IsWithin (size + length (share_list_bytes shares.now)) result }
+{
+    shares_law(shares);
+    longer(size, NUMBER_SIZE + SHARE_SIZE * shares.len())
+}
+
+/// A length with that of what is found in a row more.
+fn with_found(size: u32, found: &Found) -> Option<u32>
+    requires size { size ≤ max_payload }
+    requires short { is_long_found found.now ≡ false }
+    ensures { IsWithin (size + length (found_bytes found.now)) result }
+{
+    match found {
+        Found::Range { shares, nodes, .. } => {
+            let size = longer(size, 1 + NUMBER_SIZE)?;
+            with_nodes(with_shares(size, &shares.list)?, nodes.nodes())
+        }
+        Found::Absence { leaf, nodes, .. } => {
+            digest_law(leaf);
+            let size = longer(size, 1 + NUMBER_SIZE + DIGEST_SIZE)?;
+            with_nodes(size, nodes.nodes())
+        }
+    }
+}
+
+/// A length with that of a list of entries more.
+fn with_entries(size: u32, entries: &[NsEntry]) -> Option<u32>
+    requires size { size ≤ max_payload }
+    requires short { list_any is_long_entry entries.now ≡ false }
+    ensures { IsWithin (size + 2 + length (flat_map entry_bytes entries.now)) result }
+{
+    let mut size = longer(size, NUMBER_SIZE)?;
+    for entry in entries {
+        size = with_found(longer(size, NUMBER_SIZE)?, &entry.found)?;
+    }
+    Some(size)
+}
+
+/// The length of the payload of a namespace answer, none where it has too many entries or too many
+/// shares in one of them.
+pub(crate) fn names_size(name: &Namespace, answer: &NsAnswer) -> Option<u32>
+    ensures { HasSize (FrameOf.Names name.now answer.now) result }
+{
+    if is_long_answer(answer) {
+        return None;
+    }
+    namespace_law(name);
+    with_entries(NAMESPACE_SIZE as u32, &answer.entries)
+}
+
+/// Appends shares behind their count.
+fn put_share_list(out: &mut Vec<u8>, shares: &[Share])
+    requires few { length shares.now ≤ 128 }
+    requires room { HasRoom out.old (length (share_list_bytes shares.now)) }
+    ensures appended { out.new.items ≡ out.old.items ++ share_list_bytes shares.now }
+    ensures len { vec_len out.new ≡ vec_len out.old + length (share_list_bytes shares.now) }
+    ensures capacity { vec_capacity out.old ≤ vec_capacity out.new }
+{
+    append(out, &(shares.len() as u16).to_be_bytes());
+    put_shares(out, shares);
+}
+
+/// Appends what is found in a row: its tag, its place, its shares or the digest of its leaf, its nodes.
+fn put_found(out: &mut Vec<u8>, found: &Found)
+    requires short { is_long_found found.now ≡ false }
+    requires room { HasRoom out.old (length (found_bytes found.now)) }
+    ensures appended { out.new.items ≡ out.old.items ++ found_bytes found.now }
+    ensures len { vec_len out.new ≡ vec_len out.old + length (found_bytes found.now) }
+    ensures capacity { vec_capacity out.old ≤ vec_capacity out.new }
+{
+    match found {
+        Found::Range {
+            start,
+            shares,
+            nodes,
+        } => {
+            append(out, &[RANGE]);
+            append(out, &start.to_be_bytes());
+            put_share_list(out, &shares.list);
+            put_path(out, nodes.nodes());
+        }
+        Found::Absence { pos, leaf, nodes } => {
+            append(out, &[ABSENCE]);
+            append(out, &pos.to_be_bytes());
+            append(out, &leaf.0);
+            put_path(out, nodes.nodes());
+        }
+    }
+}
+
+/// Appends a row, and what is found in it.
+fn put_entry(out: &mut Vec<u8>, entry: &NsEntry)
+    requires short { is_long_entry entry.now ≡ false }
+    requires room { HasRoom out.old (length (entry_bytes entry.now)) }
+    ensures appended { out.new.items ≡ out.old.items ++ entry_bytes entry.now }
+    ensures len { vec_len out.new ≡ vec_len out.old + length (entry_bytes entry.now) }
+    ensures capacity { vec_capacity out.old ≤ vec_capacity out.new }
+{
+    append(out, &entry.row.to_be_bytes());
+    put_found(out, &entry.found);
+}
+
+/// Appends entries, one after another.
+fn put_entries(out: &mut Vec<u8>, entries: &[NsEntry])
+    requires short { list_any is_long_entry entries.now ≡ false }
+    requires room { HasRoom out.old (length (flat_map entry_bytes entries.now)) }
+    ensures appended { out.new.items ≡ out.old.items ++ flat_map entry_bytes entries.now }
+{
+    for entry in entries {
+        put_entry(out, entry);
+    }
+}
+
+/// Appends the payload of a namespace answer.
+pub(crate) fn put_names(out: &mut Vec<u8>, name: &Namespace, answer: &NsAnswer)
+    requires short { is_long_answer answer.now ≡ false }
+    requires room { HasRoom out.old (length (names_payload name.now answer.now)) }
+    ensures appended { out.new.items ≡ out.old.items ++ names_payload name.now answer.now }
+{
+    append(out, &name.0);
+    append(out, &(answer.entries.len() as u16).to_be_bytes());
+    put_entries(out, &answer.entries);
+}
