@@ -10,16 +10,24 @@ use Rattle.da_wire.specs.declared.frames.Frame.TheVariants.{Header, Square, Bloc
 use Rattle.da_wire.specs.declared.frames.FrameError.{FrameError}
 use Rattle.da_wire.specs.declared.frames.FrameError.TheVariants.{Truncated, BadKind, TooLong, BadPayload, Trailing, NoMemory}
 use Rattle.da_wire.specs.Spelling.{max_payload, header_kind, square_kind, block_kind}
-use Rattle.da_wire.specs.Reading.{Raw, raw_of, promised, is_kind, value_at, valued, value_of, tested_raw, ended, only_of, Reads}
+use Rattle.da_wire.specs.Reading.{Raw, raw_of, promised, is_kind, value_at, valued, value_of, is_among, tested_raw, tested_frame, ended, only_of, Reads}
+use Rattle.da_wire.specs.Frames.{ok_of}
+use Rattle.da_wire.specs.Values.{value_in}
 use Rattle.da_wire.specs.kinds.Header.{header_at}
 use Rattle.da_wire.specs.kinds.Square.{square_at}
 use Rattle.da_wire.specs.kinds.Block.{block_at}
+use Rattle.da_cli.specs.commands.Verify.{answer_kinds, answer_in}
 use Rattle.da_cli.specs.commands.Frames.{header_of, square_of, block_of, single, header_in, square_in, block_in, unread_of, ReadsSingle}
 
 -- a value that an answer has is of a kind, and an answer without a value isn't want of memory
 abbrev pub IsOfKind : {X A : Type 0} → (X → Option A) → Result X FrameError → Type 0
 IsOfKind value (Ok x) = IsSome (value x)
 IsOfKind value (Err e) = e ≡ NoMemory → ⊥
+
+-- a test or nothing is the test
+or_false : (b : Bool) → (b || false) ≡ true → b ≡ true
+or_false true e = refl
+or_false false e = e
 
 module _ {A : Type 0} (value : Frame → Option A) where
   -- a payload that was read is of the kind, or a refusal
@@ -37,7 +45,7 @@ module _ {A : Type 0} (value : Frame → Option A) where
 
   -- a frame behind the test of its kind is of the kind, or a refusal
   tested_kind : (none known is : Bool) (read : Result Raw FrameError) → (is ≡ true → IsOfKind (λ (x : Frame × ℕ). value x.0) (value_of 0 read))
-      → IsOfKind (λ (x : Frame × ℕ). value x.0) (value_of 0 (cond none (Err (Truncated 0)) (cond (known && (is || false)) read (Err (BadKind 0)))))
+      → IsOfKind (λ (x : Frame × ℕ). value x.0) (value_of 0 (cond none (Err (Truncated 0)) (cond (known && is) read (Err (BadKind 0)))))
   tested_kind true known is read h = λ e. cc
   tested_kind false false is read h = λ e. cc
   tested_kind false true false read h = λ e. cc
@@ -53,18 +61,40 @@ module _ {A : Type 0} (value : Frame → Option A) where
   ended_kind size (Err e) h = h
   ended_kind size (Ok x) h = trailing (nat_lt x.1 size) x h
 
+  -- the frame at the front is of a kind that was asked for
+  front_among : (kinds bytes : List ℕ)
+      → ((payload : List ℕ) → is_among kinds (slice_index bytes 0) ≡ true → IfSome (value_at (slice_index bytes 0) payload) (λ (v : Frame). IsSome (value v)))
+      → IsOfKind (λ (x : Frame × ℕ). value x.0) (tested_frame (is_among kinds) 0 bytes)
+  unfolding raw_of tested_raw
+  front_among kinds bytes h =
+      let first : ℕ = slice_index bytes 0 in
+      let payload : List ℕ = take (promised bytes) (drop 5 bytes) in
+      tested_kind (length bytes == 0) (is_kind first) (is_among kinds first) (raw_of 0 bytes)
+      (λ e. raw_kind (nat_lt (length bytes) 5) (nat_lt max_payload (promised bytes)) (nat_lt (length bytes) (5 + promised bytes))
+      (record { kind = first; payload = payload; size = 5 + promised bytes }) (h payload e))
+
+  -- the frame at the front is of the one kind that was asked for
+  front_kind : (kind : ℕ) (bytes : List ℕ) → ((payload : List ℕ) → IfSome (value_at kind payload) (λ (v : Frame). IsSome (value v)))
+      → IsOfKind (λ (x : Frame × ℕ). value x.0) (tested_frame (is_among (kind ∷ [])) 0 bytes)
+  front_kind kind bytes h =
+      front_among (kind ∷ []) bytes
+      (λ payload e. subst (λ (k : ℕ). IfSome (value_at k payload) (λ (v : Frame). IsSome (value v)))
+      (eqb-true kind (slice_index bytes 0) (or_false (kind == slice_index bytes 0) e)) (h payload))
+
   -- the frame that is read is of the kind that was asked for
   only_kind : (kind : ℕ) (bytes : List ℕ) → ((payload : List ℕ) → IfSome (value_at kind payload) (λ (v : Frame). IsSome (value v)))
       → IsOfKind value (only_of bytes (kind ∷ []))
-  unfolding raw_of tested_raw
-  only_kind kind bytes h =
-      let first : ℕ = slice_index bytes 0 in
-      let payload : List ℕ = take (promised bytes) (drop 5 bytes) in
-      ended_kind (length bytes) _
-      (tested_kind (length bytes == 0) (is_kind first) (kind == first) (raw_of 0 bytes)
-      (λ e. raw_kind (nat_lt (length bytes) 5) (nat_lt max_payload (promised bytes)) (nat_lt (length bytes) (5 + promised bytes))
-      (record { kind = first; payload = payload; size = 5 + promised bytes })
-      (subst (λ (k : ℕ). IfSome (value_at k payload) (λ (v : Frame). IsSome (value v))) (eqb-true kind first e) (h payload))))
+  only_kind kind bytes h = ended_kind (length bytes) _ (front_kind kind bytes h)
+
+  -- a value that an answer has is of the kind
+  ok_kind : (read : Result (Frame × ℕ) FrameError) → IsOfKind (λ (x : Frame × ℕ). value x.0) read → IfSome (ok_of read) (λ (x : Frame × ℕ). IsSome (value x.0))
+  ok_kind (Ok x) h = h
+  ok_kind (Err e) h = tt
+
+  -- a value that is found at the front of bytes is of the kind that was asked for
+  pub found_kind : (kind : ℕ) (bytes : List ℕ) → ((payload : List ℕ) → IfSome (value_at kind payload) (λ (v : Frame). IsSome (value v)))
+      → IfSome (value_in (kind ∷ []) bytes) (λ (x : Frame × ℕ). IsSome (value x.0))
+  found_kind kind bytes h = ok_kind (tested_frame (is_among (kind ∷ [])) 0 bytes) (front_kind kind bytes h)
 
   -- a value that is there is given
   some_given : (o : Option A) → IsSome o → IsOk {E = ℕ} (option_map_or Ok o (Err 0))
@@ -136,3 +166,16 @@ square_unread bytes error h = unread_single square_of error _ (only_kind square_
 pub block_unread : (bytes : List ℕ) (error : FrameError) → Reads NoMemory (λ (v : Frame). v) (Err error) (only_of bytes (block_kind ∷ []))
     → ReadsSingle (Err (unread_of error)) (block_in bytes)
 block_unread bytes error h = unread_single block_of error _ (only_kind block_of block_kind bytes block_kinds) h
+
+-- what was read is there
+all_some : (o : Option Frame) → IfSome o (λ (v : Frame). IsSome (Some v))
+all_some None = tt
+all_some (Some v) = refl
+
+-- why a file was not read as an answer
+pub answer_unread : (bytes : List ℕ) (error : FrameError) → Reads NoMemory (λ (v : Frame). v) (Err error) (only_of bytes answer_kinds)
+    → ReadsSingle (Err (unread_of error)) (answer_in bytes)
+answer_unread bytes error h =
+    unread_single Some error (only_of bytes answer_kinds)
+    (ended_kind Some (length bytes) (tested_frame (is_among answer_kinds) 0 bytes)
+    (front_among Some answer_kinds bytes (λ payload e. all_some (value_at (slice_index bytes 0) payload)))) h

@@ -11,3 +11,9 @@ pub mod RunLemmas
 pub mod RanLemmas
 pub mod OwnLemmas
 pub mod ChoiceLemmas
+pub mod RequestLemmas
+pub mod ServingLemmas
+pub mod SampleLemmas
+pub mod AnswerLemmas
+pub mod NamespaceLemmas
+pub mod VerifyLemmas

@@ -1,5 +1,5 @@
 -- The line `ok` under the header of a square.
-use Rattle.std.proofs.Common.{◌≡◌, ℕ, zero, suc, ◌+◌, ◌-◌, Bool, true, false, cond, List, [], ◌∷◌, length, take, drop, None, Some, Ok, Err, IfSome, refl, subst, slice_index}
+use Rattle.std.proofs.Common.{◌≡◌, ◌↔◌, ℕ, zero, suc, ◌+◌, ◌-◌, Bool, true, false, cond, List, [], ◌∷◌, length, take, drop, None, Some, Ok, Err, IfSome, refl, subst, slice_index}
 use Rattle.std.specs.Prelude.{nat_lt, codes, slice_get}
 use Rattle.std.specs.declared.option.Option.{Option}
 use Rattle.std.specs.Option.{option_map, option_map_or}
@@ -11,14 +11,17 @@ use Rattle.square_layout.specs.Blocks.{SquareShares}
 use Rattle.axis_roots.specs.Grids.{IsHeaderOf}
 use Rattle.axis_roots.specs.declared.message.messages.CheckRefusal.TheVariants.{OutOfSquare, NodeCount, Unordered, OtherRoot}
 use Rattle.da_wire.specs.declared.frames.FrameError.TheVariants as wire
-use Rattle.da_wire.specs.Spelling.{max_payload}
-use Rattle.da_wire.specs.Reading.{Raw, promised, raw_of}
+use Rattle.da_wire.specs.declared.frames.Frame.{Frame}
+use Rattle.da_wire.specs.Spelling.{max_payload, spelling, IsFrame}
+use Rattle.da_wire.specs.Writing.{kind_of}
+use Rattle.da_wire.specs.Reading.{Raw, promised, raw_of, is_among}
 use Rattle.da_wire.specs.Frames.{ok_of, raw_in}
 use Rattle.da_wire.specs.Walks.{walk_from}
 use Rattle.da_io.specs.Files.{Files}
 use Rattle.da_cli.specs.declared.commands.check.Finding.{Finding}
 use Rattle.da_cli.specs.declared.commands.check.Finding.TheVariants.{Proved, NoMessage, Refused}
 use Rattle.da_cli.specs.commands.Check.{finding_of, line_of, IsOwnFrame}
+use Rattle.da_cli.specs.commands.Verify.{answer_file, answer_kinds, answer_in, IsRefusal, verdict_line, IsOwnReply}
 use Rattle.da_cli.specs.Own.{AreOwn}
 
 -- ---- frames of a byte string have bytes
@@ -75,11 +78,25 @@ ok_is_proved (Refused NodeCount) e = absurd cc
 ok_is_proved (Refused Unordered) e = absurd cc
 ok_is_proved (Refused OtherRoot) e = absurd cc
 
--- by what is known of frames that are found proved under the header of a square
+-- the line `ok` stands for an answer that isn't refused
+ok_has_none : (refusal : Option ℕ) → verdict_line refusal ≡ codes "ok\n" → refusal ≡ None
+ok_has_none None e = refl
+ok_has_none (Some number) e = absurd cc
+
+-- by what is known of frames that are found proved, and of answers that aren't refused, under the header of a square
 pub are_own : (told : Option Files) (words : List (List ℕ))
     → ((header : Roots) (frame : Raw) (square : SquareShares) → AreBytes frame.payload → IsHeaderOf header square
     → finding_of header frame ≡ Proved → IsOwnFrame frame square)
+    → ((header : Roots) (answer : Frame) (square : SquareShares) → IsFrame answer → IsHeaderOf header square → IsRefusal header answer None
+    → IsOwnReply answer square)
+    → ((bytes : List ℕ) (answer : Frame) → AreBytes bytes
+    → (answer_in bytes ≡ Ok answer) ↔ (IsFrame answer × (spelling answer ≡ Some bytes) × (is_among answer_kinds (kind_of answer) ≡ true)))
     → AreOwn told words
-are_own None words law = tt
-are_own (Some files) words law = λ contents header square i frame command read first own fits here ok.
-    law header frame square (all_at HasBytes _ i frame (frames_fit _ fits 0) here) own (ok_is_proved (finding_of header frame) ok)
+are_own None words found verified file = tt
+are_own (Some files) words found verified file = record {
+  check = λ contents header square i frame command read first own fits here ok.
+      found header frame square (all_at HasBytes _ i frame (frames_fit _ fits 0) here) own (ok_is_proved (finding_of header frame) ok);
+  verify = λ contents header square answer refusal command read first own fits second refused ok.
+      verified header answer square ((file (answer_file contents) answer fits).0 second).0 own
+      (subst (IsRefusal header answer) (ok_has_none refusal ok) refused);
+}

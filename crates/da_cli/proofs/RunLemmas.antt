@@ -8,7 +8,7 @@ use Rattle.std.proofs.KnownBytes.{Appends-nil}
 use Rattle.std.proofs.lemmas.List.{take-map, drop-map, length-map}
 use Rattle.da_io.specs.Files.{Files}
 use Rattle.da_cli.specs.declared.commands.Command.{Command}
-use Rattle.da_cli.specs.declared.commands.Command.TheVariants.{Check, Build, Header}
+use Rattle.da_cli.specs.declared.commands.Command.TheVariants.{Check, Build, Header, Sample, Namespace, Verify}
 use Rattle.da_cli.specs.declared.words.Call.{Call}
 use Rattle.da_cli.specs.declared.status.Status.{Status}
 use Rattle.da_cli.specs.declared.status.Status.TheVariants.{BadInput, TooLong}
@@ -27,6 +27,9 @@ use Rattle.da_cli.proofs.EndLemmas.{IsAnswer, answer_output}
 use Rattle.da_cli.proofs.CheckLemmas.{check_last}
 use Rattle.da_cli.proofs.BuildLemmas.{build_answers}
 use Rattle.da_cli.proofs.HeaderLemmas.{header_answers}
+use Rattle.da_cli.proofs.SampleLemmas.{sample_answers}
+use Rattle.da_cli.proofs.NamespaceLemmas.{namespace_answers}
+use Rattle.da_cli.proofs.VerifyLemmas.{verify_last}
 
 -- the relation of words that are a command
 run_of_call : (words : List (List ℕ)) (call : Call) (files : Files) (g : Gathered) → call_of words ≡ Some call
@@ -122,6 +125,9 @@ pub answer_last : (command : Command) (files : List (List ℕ)) (w : List ℕ) (
 answer_last Check files w status h = answer_output status (check_last files w status h)
 answer_last Build files w status h = build_answers files w status h
 answer_last Header files w status h = header_answers files w status h
+answer_last Sample files w status h = sample_answers files w status h
+answer_last Namespace files w status h = namespace_answers files w status h
+answer_last Verify files w status h = answer_output status (verify_last files w status h)
 
 -- an answer is decided by the words and files
 decided_answer : (in_form : Bool) (Decided : Type 0) → May in_form Decided → Decided

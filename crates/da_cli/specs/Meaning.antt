@@ -2,24 +2,33 @@
 use Rattle.std.specs.Prelude.{ℕ, List}
 use Rattle.std.specs.declared.option.Option.{Option}
 use Rattle.da_cli.specs.declared.commands.Command.{Command}
-use Rattle.da_cli.specs.declared.commands.Command.TheVariants.{Check, Build, Header}
+use Rattle.da_cli.specs.declared.commands.Command.TheVariants.{Check, Build, Header, Sample, Namespace, Verify}
 use Rattle.da_cli.specs.Outcome.{Relation}
 use Rattle.da_cli.specs.Judging.{Judged}
 use Rattle.da_cli.specs.commands.Check.{check_judged, CheckOf}
 use Rattle.da_cli.specs.commands.Build.{build_judged, BuildOf}
 use Rattle.da_cli.specs.commands.Header.{header_judged, HeaderOf}
+use Rattle.da_cli.specs.commands.Sample.{sample_judged, SampleOf}
+use Rattle.da_cli.specs.commands.Namespace.{namespace_judged, NamespaceOf}
+use Rattle.da_cli.specs.commands.Verify.{verify_judged, VerifyOf}
 
 -- of each file where it leaves its form, if it does
 abbrev pub judged_of : Command → List (List ℕ) → List (Option ℕ)
 judged_of Check files = check_judged files
 judged_of Build files = build_judged files
 judged_of Header files = header_judged files
+judged_of Sample files = sample_judged files
+judged_of Namespace files = namespace_judged files
+judged_of Verify files = verify_judged files
 
 -- the answer over files in their forms
 abbrev pub AnswerOf : Command → List (List ℕ) → Relation
 AnswerOf Check files = CheckOf files
 AnswerOf Build files = BuildOf files
 AnswerOf Header files = HeaderOf files
+AnswerOf Sample files = SampleOf files
+AnswerOf Namespace files = NamespaceOf files
+AnswerOf Verify files = VerifyOf files
 
 -- what a command writes and answers over any files
 abbrev pub Meaning : Command → List (List ℕ) → Relation

@@ -9,7 +9,7 @@ use Rattle.namespace_id.specs.declared.namespaces.NsError.TheVariants.{Length, V
 use Rattle.square_layout.specs.declared.laying.LayError.{LayError}
 use Rattle.square_layout.specs.declared.laying.LayError.TheVariants as lay
 use Rattle.da_cli.specs.declared.status.Asked.{Asked}
-use Rattle.da_cli.specs.declared.status.Asked.TheVariants.{NoHeader}
+use Rattle.da_cli.specs.declared.status.Asked.TheVariants.{NoHeader, At}
 use Rattle.da_cli.specs.declared.status.Status.{Status}
 use Rattle.da_cli.specs.declared.status.Status.TheVariants.{Done, Usage, PickFault, ReadFault, WriteFault, NoMemory, BadInput, TooLong, BadBlock, BadRequest, Refused}
 
@@ -32,6 +32,7 @@ block_note lay.NoMemory = codes "6"
 -- why what the files ask for can't be answered, in words
 abbrev pub request_note : Asked → List ℕ
 request_note NoHeader = codes "no header"
+request_note (At i) = decimal i
 
 -- the line of a status
 abbrev pub note_of : Status → List ℕ

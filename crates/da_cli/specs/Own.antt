@@ -6,18 +6,37 @@ use Rattle.data_header.specs.Headers.{Roots}
 use Rattle.square_layout.specs.Blocks.{SquareShares}
 use Rattle.axis_roots.specs.Grids.{IsHeaderOf}
 use Rattle.da_wire.specs.Reading.{Raw}
+use Rattle.da_wire.specs.declared.frames.Frame.{Frame}
 use Rattle.da_wire.specs.Frames.{frames_of}
 use Rattle.da_io.specs.Files.{Files}
 use Rattle.da_cli.specs.Words.{is_command, names_of}
 use Rattle.da_cli.specs.Gathered.{gathered, whole}
 use Rattle.da_cli.specs.commands.Frames.{header_in}
 use Rattle.da_cli.specs.commands.Check.{header_file, messages_file, finding_of, line_of, IsOwnFrame}
+use Rattle.da_cli.specs.commands.Verify.{answer_file, answer_in, IsRefusal, verdict_line, IsOwnReply}
 
 -- over the files of `check`, where the header in HEADER is that of a square: a frame of MESSAGES whose line is `ok` is a message that shows the square's own share, or they name a collision
-abbrev pub AreOwn : Option Files → List (List ℕ) → Type 0
-AreOwn None words = ⊤
-AreOwn (Some files) words = (contents : List (List ℕ)) (header : Roots) (square : SquareShares) (i : ℕ) (frame : Raw)
+abbrev pub AreOwnLines : Files → List (List ℕ) → Type 0
+AreOwnLines files words = (contents : List (List ℕ)) (header : Roots) (square : SquareShares) (i : ℕ) (frame : Raw)
     → is_command words (codes "check") 2 ≡ true → gathered files (names_of words) ≡ whole contents
     → header_in (header_file contents) ≡ Ok header → IsHeaderOf header square
     → AreBytes (messages_file contents) → slice_get (frames_of (messages_file contents)) i ≡ Some frame
     → line_of (finding_of header frame) ≡ codes "ok\n" → IsOwnFrame frame square
+
+-- over the files of `verify`, where the header in HEADER is that of a square and the line is `ok`: ANSWER shows the square's own shares, or they name a collision, as a fraud claim always does
+abbrev pub IsOwnLine : Files → List (List ℕ) → Type 0
+IsOwnLine files words = (contents : List (List ℕ)) (header : Roots) (square : SquareShares) (answer : Frame) (refusal : Option ℕ)
+    → is_command words (codes "verify") 2 ≡ true → gathered files (names_of words) ≡ whole contents
+    → header_in (header_file contents) ≡ Ok header → IsHeaderOf header square
+    → AreBytes (answer_file contents) → answer_in (answer_file contents) ≡ Ok answer
+    → IsRefusal header answer refusal → verdict_line refusal ≡ codes "ok\n" → IsOwnReply answer square
+
+-- under the header of a square the line `ok` stands only for the square's own shares, or a collision is named
+pub record HasOwn (files : Files) (words : List (List ℕ)) : Type 0 where
+  pub check : AreOwnLines files words
+  pub verify : IsOwnLine files words
+
+-- that, where the files are told
+abbrev pub AreOwn : Option Files → List (List ℕ) → Type 0
+AreOwn None words = ⊤
+AreOwn (Some files) words = HasOwn files words

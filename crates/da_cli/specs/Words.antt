@@ -4,7 +4,7 @@ use Rattle.std.specs.declared.option.Option.{Option}
 use Rattle.std.specs.declared.alloc.Global.{Global}
 use Rattle.std.specs.String.{string_bytes}
 use Rattle.std.specs.Str.{bytes_eq}
-use Rattle.da_cli.specs.declared.commands.Command.TheVariants.{Check, Build, Header}
+use Rattle.da_cli.specs.declared.commands.Command.TheVariants.{Check, Build, Header, Sample, Namespace, Verify}
 use Rattle.da_cli.specs.declared.words.Call.{Call}
 
 -- the bytes of each word
@@ -22,7 +22,10 @@ call_of words =
     if is_command words (codes "check") 2 then Some (record { command = Check; files = 2 }) else
     (if is_command words (codes "build") 1 then Some (record { command = Build; files = 1 }) else
     (if is_command words (codes "header") 1 then Some (record { command = Header; files = 1 }) else
-    None))
+    (if is_command words (codes "sample") 2 then Some (record { command = Sample; files = 2 }) else
+    (if is_command words (codes "namespace") 2 then Some (record { command = Namespace; files = 2 }) else
+    (if is_command words (codes "verify") 2 then Some (record { command = Verify; files = 2 }) else
+    None)))))
 
 -- the words that name files: they follow the command's word
 abbrev pub file_words : ℕ → List (List ℕ) → List (List ℕ)

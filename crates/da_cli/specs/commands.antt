@@ -3,3 +3,7 @@ pub mod Frames
 pub mod Check
 pub mod Build
 pub mod Header
+pub mod Serving
+pub mod Sample
+pub mod Namespace
+pub mod Verify

@@ -10,6 +10,10 @@ mod build;
 mod check;
 mod frames;
 mod header;
+mod namespace;
+mod sample;
+mod serving;
+mod verify;
 
 use crate::Status;
 use da_io::Sink;
@@ -24,6 +28,12 @@ pub(crate) enum Command {
     Build,
     /// `header SQUARE`
     Header,
+    /// `sample SQUARE REQUESTS`
+    Sample,
+    /// `namespace SQUARE REQUESTS`
+    Namespace,
+    /// `verify HEADER ANSWER`
+    Verify,
 }
 
 /// Runs a command over the contents of its files.
@@ -40,5 +50,8 @@ pub(crate) fn execute<O: Sink>(
         Command::Check => check::execute(alloc, files, out),
         Command::Build => build::execute(alloc, files, out),
         Command::Header => header::execute(alloc, files, out),
+        Command::Sample => sample::execute(alloc, files, out),
+        Command::Namespace => namespace::execute(alloc, files, out),
+        Command::Verify => verify::execute(alloc, files, out),
     }
 }

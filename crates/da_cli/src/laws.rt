@@ -1,26 +1,40 @@
 //! What the relation of a run says of each kind of words and files.
 
-ghost use Rattle.std.specs.Prelude.{◌≡◌, ◌↔◌, ℕ, List, Ok, Some, None};
+ghost use Rattle.std.specs.Prelude.{◌≡◌, ◌↔◌, ℕ, true, List, [], ◌∷◌, map, Ok, Some, None};
 ghost use Rattle.namespace_id.specs.Bytes.{AreBytes};
 ghost use Rattle.namespace_id.specs.Shares.{AreShares};
 ghost use Rattle.square_layout.specs.Blocks.{BlockParts, SquareShares, IsSquare, IsBlock};
 ghost use Rattle.square_layout.specs.Layout.{square_of};
 ghost use Rattle.square_layout.specs.Refusals.{layout_refusal};
+ghost use Rattle.axis_roots.specs.declared.message.messages.Message as sent;
+ghost use Rattle.axis_roots.specs.Messages.{IsMessage};
+ghost use Rattle.axis_roots.specs.Openings.{IsProved};
 ghost use Rattle.axis_roots.specs.Grids.{IsHeaderOf};
+ghost use Rattle.axis_roots.specs.Claims.{ClaimParts, Accepts};
+ghost use Rattle.axis_roots.specs.declared.answers.NsEntry.{NsEntry};
+ghost use Rattle.namespace_id.specs.declared.namespaces.Namespace as names;
+ghost use Rattle.square_serve.specs.Answers.{IsComplete};
 ghost use Rattle.data_header.specs.Headers.{Roots, AreRoots, IsHeader};
-ghost use Rattle.da_wire.specs.declared.frames.Frame.TheVariants.{Header, Square, Block};
-ghost use Rattle.da_wire.specs.Spelling.{spelling};
-ghost use Rattle.da_wire.specs.Reading.{Raw};
+ghost use Rattle.da_wire.specs.declared.frames.Frame.{Frame};
+ghost use Rattle.da_wire.specs.declared.frames.Frame.TheVariants.{Header, Square, Message, Names, Fraud, Request, Block};
+ghost use Rattle.da_wire.specs.Spelling.{spelling, IsFrame, sample_kind, request_kind};
+ghost use Rattle.da_wire.specs.Values.{values_bytes, bad_value};
+ghost use Rattle.da_wire.specs.Writing.{kind_of};
+ghost use Rattle.da_wire.specs.Reading.{Raw, is_among};
 ghost use Rattle.da_cli.specs.declared.commands.check.Finding.TheVariants.{Proved};
 ghost use Rattle.da_cli.specs.Limits.{file_limit};
 ghost use Rattle.da_cli.specs.commands.Frames.{header_in, square_in, block_in};
 ghost use Rattle.da_cli.specs.commands.Check.{finding_of, IsProvedFrame, IsOwnFrame};
+ghost use Rattle.da_cli.specs.commands.Sample.{sample_frame, samples_in};
+ghost use Rattle.da_cli.specs.commands.Namespace.{namespaces_in};
+ghost use Rattle.da_cli.specs.commands.Verify.{IsRefusal, answer_kinds, answer_in, IsOwnReply};
 ghost use Rattle.da_cli.specs.Laws.{FormLaw, BadInputLaw, ExcessLaw, AbsentLaw, FailureLaw};
 
 use crate::gathering::FILE_LIMIT;
-use axis_roots::{grid_laws, message_laws};
-use da_wire::wire_laws;
+use axis_roots::{claim_laws, grid_laws, message_laws};
+use da_wire::{value_laws, wire_laws};
 use square_layout::{name_laws, size_laws};
+use square_serve::answer_laws;
 
 /// What belongs to a run, by what its files hold, so that each refusal of `run` is exact.
 pub fn run_laws()
@@ -42,7 +56,23 @@ pub fn run_laws()
     ensures own { (header : Roots) (frame : Raw) (square : SquareShares) → AreBytes frame.payload →
         IsHeaderOf header square → finding_of header frame ≡ Proved → IsOwnFrame frame square }
 
-    // A file is read as a header, a square, a block exactly where it is that value's one spelling.
+    // An answer is not refused exactly where it is a message that is proved, a namespace answer that is
+    // complete, or a fraud claim that is accepted.
+    ensures verified { (header : Roots) (message : sent.Message) → AreRoots header →
+        IsMessage message → IsRefusal header (Message message) None ↔ IsProved header message }
+    ensures complete { (header : Roots) (name : names.Namespace) (answer : List NsEntry) →
+        IsRefusal header (Names name answer) None ↔ IsComplete header name answer }
+    ensures upheld { (header : Roots) (claim : ClaimParts) →
+        IsRefusal header (Fraud claim) None ↔ Accepts header claim }
+
+    // Under the header of a square an answer is not refused only where it shows the square's own
+    // share, just the square's shares of the namespace, or they name a collision; a fraud claim only
+    // where they name one.
+    ensures own_answer { (header : Roots) (answer : Frame) (square : SquareShares) → IsFrame answer →
+        IsHeaderOf header square → IsRefusal header answer None → IsOwnReply answer square }
+
+    // A file is read as a header, a square, a block, an answer exactly where it is that value's one
+    // spelling.
     ensures header_file { (bytes : List ℕ) (header : Roots) → AreBytes bytes →
         (header_in bytes ≡ Ok header)
         ↔ (IsHeader header × (spelling (Header header) ≡ Some bytes)) }
@@ -51,6 +81,18 @@ pub fn run_laws()
         ↔ (IsSquare square × AreShares square.shares × (spelling (Square square) ≡ Some bytes)) }
     ensures block_file { (bytes : List ℕ) (block : BlockParts) → AreBytes bytes →
         (block_in bytes ≡ Ok block) ↔ (IsBlock block × (spelling (Block block) ≡ Some bytes)) }
+    ensures answer_file { (bytes : List ℕ) (answer : Frame) → AreBytes bytes →
+        (answer_in bytes ≡ Ok answer)
+        ↔ (IsFrame answer × (spelling answer ≡ Some bytes)
+        × (is_among answer_kinds (kind_of answer) ≡ true)) }
+
+    // A file of requests is just the spellings of the requests that are read of it, in their order.
+    ensures sample_requests { (bytes : List ℕ) → AreBytes bytes →
+        bad_value (sample_kind ∷ []) bytes ≡ None →
+        values_bytes (map sample_frame (samples_in bytes)) ≡ bytes }
+    ensures namespace_requests { (bytes : List ℕ) → AreBytes bytes →
+        bad_value (request_kind ∷ []) bytes ≡ None →
+        values_bytes (map Request (namespaces_in bytes)) ≡ bytes }
 
     // The square of a block that isn't refused is read back from its spelling, and has a header.
     ensures built { (block : BlockParts) → IsBlock block → layout_refusal block ≡ None →
@@ -61,8 +103,11 @@ pub fn run_laws()
     ensures limit { FILE_LIMIT ≡ file_limit }
 {
     message_laws();
+    claim_laws();
     wire_laws();
+    value_laws();
     grid_laws();
     size_laws();
     name_laws();
+    answer_laws();
 }

@@ -4,7 +4,6 @@
 //! every command; a command is a file of `commands`, and one case of `Meaning` and of `execute`.
 #![tactic(auto)]
 
-mod choices;
 mod commands;
 mod gathering;
 mod laws;
@@ -15,7 +14,6 @@ mod status;
 mod tests;
 mod words;
 
-pub use choices::{Choice, choice_laws};
 pub use gathering::FILE_LIMIT;
 pub use laws::run_laws;
 pub use running::run;

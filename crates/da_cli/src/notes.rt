@@ -3,7 +3,7 @@
 ghost use Rattle.std.specs.Prelude.{◌≡◌, ℕ, ◌+◌, ◌≤◌, ◌++◌, length, decimal};
 ghost use Rattle.da_cli.specs.Notes.{refusal_number, block_note, note_of, Notes};
 
-mod line;
+pub(crate) mod line;
 
 use crate::{Asked, Status};
 use da_io::{Sink, write_all};
@@ -13,7 +13,7 @@ use square_layout::LayError;
 
 /// Puts a number between two texts.
 #[tactic(auto, using(crate::proofs::DigitLemmas::digits_fit))]
-fn around(line: &mut Line, front: &[u8], number: u64, back: &[u8])
+pub(crate) fn around(line: &mut Line, front: &[u8], number: u64, back: &[u8])
     requires { length line.old + length front.now + 20 + length back.now ≤ 96 }
     ensures { line.new ≡ line.old ++ front.now ++ decimal number ++ back.now }
 {
@@ -78,6 +78,7 @@ fn note_of(status: Status) -> Line
             line.put(b"\n");
         }
         Status::BadRequest(Asked::NoHeader) => line.put(b"bad request: no header\n"),
+        Status::BadRequest(Asked::At(i)) => around(&mut line, b"bad request: ", i, b"\n"),
         Status::Refused => line.put(b"refused\n"),
     }
     line

@@ -55,9 +55,9 @@ fn answer<I: Inputs, O: Sink>(
 /// to `out` and the line of its status to `notes`.
 ///
 /// The words are those after the program's name. `Usage` is decided first; then each file is picked
-/// and read to its end; then the files are judged in their order; then comes the output. What is
-/// decided before the output leaves `out` as it was. Want of memory may be answered at any step
-/// after the words.
+/// and read to its end; then the files are judged in their order, and then what they ask for; then
+/// comes the output. What is decided before the output leaves `out` as it was. Want of memory may be
+/// answered at any step after the words.
 pub fn run<I: Inputs, O: Sink, N: Sink>(
     alloc: Global,
     words: &[String],
@@ -71,8 +71,9 @@ pub fn run<I: Inputs, O: Sink, N: Sink>(
     ensures complete { Completes (I.files inputs.old) (words_of words.now) (O.taken out.old)
         (O.taken out.new) result }
 
-    // Under the header of a square `ok` stands only for messages that show the square's own share
-    // or name a collision, where the files are told.
+    // Under the header of a square `ok` stands only for messages that show the square's own share and for
+    // namespace answers that show just its shares, or a collision is named, as a fraud claim always does;
+    // where the files are told.
     ensures own { AreOwn (I.files inputs.old) (words_of words.now) }
 
     // `Usage` comes exactly where the words are no command. Where no word names a file, nothing is

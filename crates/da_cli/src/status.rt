@@ -10,6 +10,8 @@ use square_layout::LayError;
 pub enum Asked {
     /// The square has no header: the namespaces of a row or a column of its extension fall somewhere.
     NoHeader,
+    /// The request with this number, counted from 0, has no answer.
+    At(u64),
 }
 
 /// How a run ended. Files are numbered from 0 among the words that name files; `at` is an offset in

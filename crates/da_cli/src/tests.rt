@@ -7,15 +7,18 @@ use da_io::{Inputs, MemInputs, MemSink};
 use std::alloc::Global;
 use std::test::Fail;
 
+mod answers;
 mod build;
 mod celestia;
 mod check;
+mod claims;
 mod failures;
 mod files;
 mod frames;
 mod header;
 mod memory;
 mod notes;
+mod serving;
 mod shares;
 
 /// The number of a call that no run makes.

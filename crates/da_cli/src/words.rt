@@ -46,5 +46,23 @@ pub(crate) fn call_of(words: &[String]) -> Option<Call>
             files: 1,
         });
     }
+    if is_command(words, "sample", 2) {
+        return Some(Call {
+            command: Command::Sample,
+            files: 2,
+        });
+    }
+    if is_command(words, "namespace", 2) {
+        return Some(Call {
+            command: Command::Namespace,
+            files: 2,
+        });
+    }
+    if is_command(words, "verify", 2) {
+        return Some(Call {
+            command: Command::Verify,
+            files: 2,
+        });
+    }
     None
 }

@@ -3,7 +3,7 @@ use Rattle.std.specs.Prelude.{◌⊎◌, ℕ, List, [], ◌∷◌, MatchResult}
 use Rattle.std.specs.declared.option.Option.{Option}
 use Rattle.data_header.specs.Headers.{Roots}
 use Rattle.square_layout.specs.Blocks.{SquareShares}
-use Rattle.axis_roots.specs.Grids.{IsHeaderOf}
+use Rattle.axis_roots.specs.Grids.{IsHeaderOf, HasNoHeader}
 use Rattle.da_wire.specs.declared.frames.Frame.TheVariants.{Header}
 use Rattle.da_cli.specs.declared.status.Asked.TheVariants.{NoHeader}
 use Rattle.da_cli.specs.declared.status.Status.TheVariants.{BadRequest}
@@ -14,10 +14,6 @@ use Rattle.da_cli.specs.commands.Frames.{square_in, error_of, Writes}
 -- SQUARE, the one file of header
 abbrev pub square_file : List (List ℕ) → List ℕ
 square_file files = file_of files 0
-
--- no header is that of the square
-abbrev pub HasNoHeader : SquareShares → Type 0
-HasNoHeader square = (header : Roots) → IsHeaderOf header square → ⊥
 
 -- what header answers to a square: the frame of its header, or the refusal of a square that has none
 abbrev pub Heads : SquareShares → Relation

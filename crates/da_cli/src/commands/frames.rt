@@ -20,7 +20,7 @@ pub(crate) enum Unread {
 }
 
 /// Why bytes are not one frame.
-fn reason(error: FrameError) -> Unread
+pub(crate) fn reason(error: FrameError) -> Unread
     ensures { result ≡ unread_of error }
 {
     match error {
@@ -69,20 +69,20 @@ pub(crate) fn block_in(alloc: Global, bytes: &[u8]) -> Result<Block, Unread>
     }
 }
 
-/// Writes one frame, as one piece.
-pub(crate) fn give<O: Sink>(alloc: Global, frame: &Frame, out: &mut O) -> Status
+/// Writes one frame, as one piece. The text of the frame takes the place of what `text` holds.
+pub(crate) fn give<O: Sink>(frame: &Frame, text: &mut Vec<u8>, out: &mut O) -> Status
     requires { IsSome (spelling frame.now) }
     ensures { Ends (Writes frame.now) (O.taken out.old) (O.taken out.new) (O.faults out.old)
         (O.faults out.new) (out.new ≡ out.old) result }
 {
-    let mut text = Vec::new(alloc);
-    match write_frame(frame, &mut text) {
+    text.clear();
+    match write_frame(frame, text) {
         Ok(()) => {}
         // Never taken: the frame has a spelling. The type of the error has this variant too.
         Err(SpellError::Unspellable) => unreachable!(),
         Err(SpellError::NoMemory) => return Status::NoMemory,
     }
-    match write_all(out, &text) {
+    match write_all(out, text) {
         Ok(()) => Status::Done,
         Err(_) => Status::WriteFault,
     }

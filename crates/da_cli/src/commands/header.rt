@@ -46,7 +46,7 @@ fn give_header<O: Sink>(alloc: Global, square: &Square, out: &mut O) -> Status
         return Status::NoMemory;
     };
     match header_of(alloc, &grid) {
-        Ok(Some(header)) => give(alloc, &header_frame(header), out),
+        Ok(Some(header)) => give(&header_frame(header), &mut Vec::new(alloc), out),
         Ok(None) => Status::BadRequest(Asked::NoHeader),
         Err(_) => Status::NoMemory,
     }

@@ -159,7 +159,7 @@ fn first_message(alloc: Global, square: &[u8]) -> Result<Vec<u8>, Fail> {
 }
 
 /// Appends the first bytes of a message, of which some are another value: from a place up to another.
-fn put_changed(
+pub(super) fn put_changed(
     all: &mut Vec<u8>,
     good: &[u8],
     size: usize,

@@ -216,6 +216,21 @@ pub(super) fn empty_header(alloc: Global) -> Result<Vec<u8>, Fail> {
     Ok(bytes)
 }
 
+/// A square of width 2 whose shares have namespaces that end so, row by row, and zeros.
+pub(super) fn square_of_names(alloc: Global, ends: [u16; 4]) -> Result<Vec<u8>, Fail> {
+    let mut bytes = Vec::from_slice(alloc, &[b'S', 0, 0, 8, 2, 0, 2])?;
+    for end in ends {
+        put_name(&mut bytes, end)?;
+        bytes.extend_from_slice(&[0; 483])?;
+    }
+    Ok(bytes)
+}
+
+/// A square whose first row falls, from 0102 to 0101.
+pub(super) fn falling_square(alloc: Global) -> Result<Vec<u8>, Fail> {
+    square_of_names(alloc, [0x0102, 0x0101, 0x0103, 0x0104])
+}
+
 /// The square that a frame is.
 pub(super) fn square_of(alloc: Global, frame: &[u8]) -> Result<Square, Fail> {
     match read_only(alloc, frame, b"S")? {

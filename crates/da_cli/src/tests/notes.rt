@@ -30,6 +30,7 @@ fn printed_lines(rt: HostRuntime) -> Result<(), Fail> {
         (BadBlock(LayError::WidthTooSmall(4)), "bad block: 4 4\n"),
         (BadBlock(LayError::BadWidth), "bad block: 5\n"),
         (BadRequest(Asked::NoHeader), "bad request: no header\n"),
+        (BadRequest(Asked::At(12)), "bad request: 12\n"),
         (Refused, "refused\n"),
     ];
     for (status, want) in cases {

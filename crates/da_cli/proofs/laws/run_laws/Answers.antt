@@ -1,8 +1,17 @@
+use Rattle.std.proofs.Common.{[], ◌∷◌}
+use Rattle.da_wire.specs.declared.frames.Frame.TheVariants.{Request}
+use Rattle.da_wire.specs.Spelling.{sample_kind, request_kind}
+use Rattle.da_cli.specs.commands.Sample.{sample_of, sample_frame}
+use Rattle.da_cli.specs.commands.Namespace.{namespace_of}
+use Rattle.da_cli.proofs.RequestLemmas.{asked_again}
+use Rattle.da_cli.proofs.SampleLemmas.{is_sample_frame}
+use Rattle.da_cli.proofs.NamespaceLemmas.{is_name_frame}
 use Rattle.square_layout.specs.Layout.{square_of}
 use Rattle.axis_roots.specs.Grids.{header_of_grid}
-use Rattle.da_cli.proofs.FileLemmas.{header_file, square_file, block_file, square_again, some_there}
+use Rattle.da_cli.proofs.FileLemmas.{header_file, square_file, block_file, answer_file, square_again, some_there}
 use Rattle.da_cli.proofs.RunLemmas.{form_law, bad_input_law, excess_law, absent_law, failure_law}
 use Rattle.da_cli.proofs.CheckLemmas.{finding_proved, finding_own}
+use Rattle.da_cli.proofs.VerifyLemmas.{verified_proved, verified_complete, verified_accepted, verified_own}
 use Rattle.da_cli.proofs.laws.run_laws.Goals as goal
 
 pub returns-clause-form : goal.returns-clause-form
@@ -29,6 +38,29 @@ returns-clause-own c = λ header frame square bytes own found.
     ((finding_proved header frame c.wire_laws.ensures.message_spelled c.message_laws.ensures.refusal
     (c.grid_laws.ensures.are_roots square header own) bytes).0 found)
     c.message_laws.ensures.own own
+
+pub returns-clause-verified : goal.returns-clause-verified
+returns-clause-verified c = λ header message roots is. verified_proved header message (c.message_laws.ensures.refusal header message roots is)
+
+pub returns-clause-own_answer : goal.returns-clause-own_answer
+returns-clause-own_answer c =
+    verified_own c.message_laws.ensures.refusal c.message_laws.ensures.own c.answer_laws.ensures.refusal c.answer_laws.ensures.own
+    c.claim_laws.ensures.own
+
+pub returns-clause-complete : goal.returns-clause-complete
+returns-clause-complete c = λ header name answer. verified_complete header name answer (c.answer_laws.ensures.refusal header name answer)
+
+pub returns-clause-upheld : goal.returns-clause-upheld
+returns-clause-upheld c = verified_accepted
+
+pub returns-clause-answer_file : goal.returns-clause-answer_file
+returns-clause-answer_file c = answer_file c.wire_laws.ensures.only
+
+pub returns-clause-sample_requests : goal.returns-clause-sample_requests
+returns-clause-sample_requests c = λ bytes fits fine. asked_again sample_of sample_frame (sample_kind ∷ []) is_sample_frame bytes (c.value_laws.ensures.values (sample_kind ∷ []) bytes fits fine)
+
+pub returns-clause-namespace_requests : goal.returns-clause-namespace_requests
+returns-clause-namespace_requests c = λ bytes fits fine. asked_again namespace_of Request (request_kind ∷ []) is_name_frame bytes (c.value_laws.ensures.values (request_kind ∷ []) bytes fits fine)
 
 pub returns-clause-header_file : goal.returns-clause-header_file
 returns-clause-header_file c = header_file c.wire_laws.ensures.only
