@@ -1,0 +1,17 @@
+use Rattle.repair_queue.proofs.SettledLemmas.{settled_fits, fits_settles, fits_once, fact_on_line, cells_fit}
+use Rattle.repair_queue.proofs.laws.settled_laws.Goals as goal
+
+pub returns-clause-fits : goal.returns-clause-fits
+returns-clause-fits c = λ header ms. (
+  (λ settled. ((λ axis i d. (settled axis i d).shares), settled_fits header ms settled)),
+  λ found. fits_settles header ms found.0 found.1,
+)
+
+pub returns-clause-one : goal.returns-clause-one
+returns-clause-one c = fits_once
+
+pub returns-clause-facts : goal.returns-clause-facts
+returns-clause-facts c = fact_on_line
+
+pub returns-clause-cells : goal.returns-clause-cells
+returns-clause-cells c = cells_fit

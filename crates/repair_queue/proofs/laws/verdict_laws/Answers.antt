@@ -1,0 +1,42 @@
+use Rattle.repair_queue.proofs.FraudLemmas.{fraud_unsettled}
+use Rattle.repair_queue.proofs.VerdictLemmas.{whole_missing, one_square, one_missing, alike}
+use Rattle.repair_queue.proofs.GrowthLemmas.{fraud_grows, clash_grows, same_verdict}
+use Rattle.repair_queue.proofs.WholeLemmas.{whole_there, whole_square}
+use Rattle.repair_queue.proofs.OwnLemmas.{own_verdict}
+use Rattle.repair_queue.proofs.laws.verdict_laws.Goals as goal
+
+pub returns-clause-whole_missing : goal.returns-clause-whole_missing
+returns-clause-whole_missing c = whole_missing
+
+pub returns-clause-whole_fraud : goal.returns-clause-whole_fraud
+returns-clause-whole_fraud c = λ header ms square claim w f. fraud_unsettled header ms claim f w.settled
+
+pub returns-clause-missing_fraud : goal.returns-clause-missing_fraud
+returns-clause-missing_fraud c = λ header ms cells claim m f. fraud_unsettled header ms claim f m.settled
+
+pub returns-clause-one_square : goal.returns-clause-one_square
+returns-clause-one_square c = one_square
+
+pub returns-clause-one_missing : goal.returns-clause-one_missing
+returns-clause-one_missing c = one_missing
+
+pub returns-clause-some_square : goal.returns-clause-some_square
+returns-clause-some_square c = whole_there
+
+pub returns-clause-header : goal.returns-clause-header
+returns-clause-header c = whole_square
+
+pub returns-clause-fraud_stays : goal.returns-clause-fraud_stays
+returns-clause-fraud_stays c = fraud_grows
+
+pub returns-clause-clash_stays : goal.returns-clause-clash_stays
+returns-clause-clash_stays c = clash_grows
+
+pub returns-clause-same_proved : goal.returns-clause-same_proved
+returns-clause-same_proved c = same_verdict
+
+pub returns-clause-order : goal.returns-clause-order
+returns-clause-order c = λ header ms others to from v w vh wh. alike header ms v w vh (same_verdict header others ms from to w wh)
+
+pub returns-clause-own : goal.returns-clause-own
+returns-clause-own c = own_verdict

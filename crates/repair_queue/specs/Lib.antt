@@ -1,0 +1,4 @@
+pub mod Closures
+pub mod Derivations
+pub mod Settled
+pub mod Verdicts
