@@ -36,6 +36,10 @@ product_assoc a b c =
     ∙ ap label (times_assoc (element a) (element b) (element c) (element-lt a) (element-lt b) (element-lt c))
     ∙ ap (λ (x : ℕ). label (times (element a) x)) (sym (element-product b c))
 
+-- two factors change places
+pub product_swap : (a b c : ℕ) → product a (product b c) ≡ product b (product a c)
+product_swap a b c = sym (product_assoc a b c) ∙ ap (λ (x : ℕ). product x c) (product_comm a b) ∙ product_assoc b a c
+
 -- a sum times a label is the sum of both products
 pub xor-product : (a b c : ℕ) → product (bit_xor a b) c ≡ bit_xor (product a c) (product b c)
 unfolding product times

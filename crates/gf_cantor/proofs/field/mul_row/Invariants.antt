@@ -1,16 +1,7 @@
-use Rattle.std.proofs.Common.{◌≡◌, ℕ, ◌*◌, ◌<◌, ◌≤◌, length, get_or}
+use Rattle.std.proofs.Common.{◌≡◌, ℕ, ◌<◌, ◌≤◌, get_or}
 use Rattle.std.specs.Prelude.{bit_xor}
 use Rattle.gf_cantor.specs.Field.{product}
 use Rattle.gf_cantor.proofs.field.mul_row.Given as goal
-
--- both tables have the products with the digits so far, low and high
-abbrev pub invariant-loop-digit : goal.invariant-loop-digit
-invariant-loop-digit l = record {
-  low_len : length l.low ≡ 16;
-  high_len : length l.high ≡ 16;
-  low_products : (k : ℕ) → k < l.digit → get_or l.low k 0 ≡ product l.by k;
-  high_products : (k : ℕ) → k < l.digit → get_or l.high k 0 ≡ product l.by (16 * k);
-}
 
 -- the bytes so far have gained their products, and the others are as they were
 abbrev pub invariant-loop-i : goal.invariant-loop-i
