@@ -5,7 +5,7 @@ use Rattle.std.specs.Int.Bits.{xor_assoc, xor_self, xor_zero_r}
 use Rattle.std.proofs.lemmas.Nat.{xor_comm, xor_lt}
 use Rattle.gf_cantor.specs.Field.{product}
 use Rattle.gf_cantor.proofs.Additive.{xor_swap_middle}
-use Rattle.gf_cantor.proofs.Laws.{product-lt, product_comm, product_assoc, product-xor, product-zero}
+use Rattle.gf_cantor.proofs.Laws.{product-lt, product_swap, product-xor, product-zero}
 use Rattle.byte_polynomial.specs.Polynomial.{value_at, AreCoefficients}
 
 -- a pair that is there twice falls out
@@ -40,10 +40,6 @@ value_at-sum (p ∷ ps) (q ∷ qs) x =
     ap (λ (v : ℕ). bit_xor (bit_xor p q) (product x v)) (value_at-sum ps qs x)
     ∙ ap (bit_xor (bit_xor p q)) (product-xor x (value_at ps x) (value_at qs x))
     ∙ xor_swap_middle p q (product x (value_at ps x)) (product x (value_at qs x))
-
--- two factors change places
-pub product_swap : (a b c : ℕ) → product a (product b c) ≡ product b (product a c)
-product_swap a b c = sym (product_assoc a b c) ∙ ap (λ (x : ℕ). product x c) (product_comm a b) ∙ product_assoc b a c
 
 -- the value of a multiple is the multiple of the value
 pub value_at-scaled : (c : ℕ) (ps : List ℕ) (x : ℕ) → value_at (scaled c ps) x ≡ product c (value_at ps x)

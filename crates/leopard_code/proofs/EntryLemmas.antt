@@ -1,24 +1,24 @@
 -- Entries of a codeword, by the shares at other points.
-use Rattle.std.proofs.Common.{◌≡◌, ◌∙◌, ℕ, zero, suc, ◌+◌, ◌-◌, ◌*◌, ◌<◌, ◌≤◌, List, [], ◌∷◌, length, set, get_or, refl, sym, ap, ap₂, subst, arith, length-append, IsTrue, inl, inr}
+use Rattle.std.proofs.Common.{◌≡◌, ◌∙◌, ℕ, zero, suc, ◌*◌, ◌<◌, ◌≤◌, List, [], ◌∷◌, length, get_or, refl, sym, ap, ap₂, subst, arith, IsTrue}
 use Rattle.std.specs.Prelude.{IfSome, Some, None, Option, slice_get, slice_index}
-use Rattle.std.proofs.lemmas.Bool.{cases_lt}
-use Rattle.std.proofs.lemmas.Bool.Decides.{nat_tests}
 use Rattle.std.proofs.lemmas.Option.{IfSome_then}
 use Rattle.std.proofs.lemmas.Grind.{same_number_lists}
-use Rattle.std.proofs.lemmas.List.{get_or-map, get_or_append_left, get_or-append_right}
+use Rattle.std.proofs.lemmas.List.{get_or-map}
 use Rattle.namespace_id.specs.declared.shares.Share.{Share}
 use Rattle.namespace_id.specs.Shares.{IsShare, AreShares}
 use Rattle.namespace_id.specs.Cells.{is_width}
-use Rattle.byte_polynomial.specs.Polynomial.{value_at, ArePoints, PassesThrough}
+use Rattle.namespace_id.specs.Sizes.{share_size}
+use Rattle.byte_polynomial.specs.Polynomial.{value_at, AreCoefficients, PassesThrough}
 use Rattle.byte_polynomial.proofs.Through.{through}
-use Rattle.namespace_id.specs.Lists.{ascending}
-use Rattle.leopard_code.specs.Codewords.{column, points, point, points_at, are_positions, IsCodeword, HasEntries, weighted}
-use Rattle.leopard_code.specs.Weights.{AreWeights, IsEntry}
-use Rattle.leopard_code.proofs.LagrangeLemmas.{lagrange}
+use Rattle.leopard_code.specs.Codewords.{column, points, point, points_at, are_positions, IsCodeword, HasEntries}
 use Rattle.namespace_id.proofs.WidthLemmas.{is_width-le}
-use Rattle.namespace_id.proofs.AscendingLemmas.{length-ascending, get_or-ascending}
 use Rattle.leopard_code.proofs.PointLemmas.{length-column, column_bytes}
-use Rattle.leopard_code.proofs.PositionLemmas.{points_differ, position-lt, takes-at, takes_each}
+use Rattle.leopard_code.proofs.PositionLemmas.{points_differ, position-lt, takes-at, takes_each, length-points_at, get_or-points, length-points}
+
+-- the share has the values at x of the polynomials through the shares at the points
+abbrev pub IsEntry : List ℕ → List Share → ℕ → Share → Type 0
+IsEntry xs shares x share = (b : ℕ) → b < share_size → (cs : List ℕ) → length cs ≡ length xs → AreCoefficients cs
+    → PassesThrough cs xs (column b shares) → slice_index share.0 b ≡ value_at cs x
 
 -- the byte of a share that a list may have
 abbrev pub byte_of : ℕ → Option Share → ℕ
@@ -46,40 +46,8 @@ byte_of_entry b v [] i h e = absurd (omega arith)
 byte_of_entry b v (s ∷ ss) zero h e = e
 byte_of_entry b v (s ∷ ss) (suc i) h e = byte_of_entry b v ss i (omega arith) e
 
--- there are as many points as positions
-pub length-points_at : (k : ℕ) (known : List ℕ) → length (points_at k known) ≡ length known
-length-points_at k [] = refl
-length-points_at k (p ∷ known) = ap suc (length-points_at k known)
-
--- the points of all positions, one after another
-pub get_or-points : (k pos : ℕ) → pos < 2 * k → get_or (points k) pos 0 ≡ point k pos
-unfolding points
-get_or-points k pos h = elim (cases_lt pos k) [
-  | inl lt ↦ get_or_append_left (ascending k k) (ascending 0 k) 0 pos (omega (arith, length-ascending k k)) ∙ get_or-ascending k k pos lt ∙ grind (arith, nat_tests)
-  | inr le ↦
-      get_or-append_right (ascending k k) (ascending 0 k) k pos 0 (length-ascending k k) le
-      ∙ get_or-ascending k 0 (pos - k) (omega arith) ∙ grind (arith, nat_tests)
-]
-
--- a codeword has 2k points
-pub length-points : (k : ℕ) → length (points k) ≡ 2 * k
-unfolding points
-length-points k = omega (arith, length-append (ascending k k) (ascending 0 k), length-ascending k k, length-ascending k 0)
-
--- a share itself is the entry at its own point
-pub entry_copied : (xs : List ℕ) (shares : List Share) (i x : ℕ) (d : Share) → i < length xs → length shares ≡ length xs → get_or xs i 0 ≡ x → IsEntry xs shares x (get_or shares i d)
-entry_copied xs shares i x d h same own b hb cs long bytes takes =
-    sym (get_or-column_at b shares i d (omega arith)) ∙ sym (takes-at cs xs (column b shares) i h takes) ∙ ap (value_at cs) own
-
--- a sum with the weights at a point is the entry there
-pub entry_summed : (xs : List ℕ) (shares : List Share) (x : ℕ) (ws : List ℕ) (share : Share) → length shares ≡ length xs → ArePoints xs → AreShares shares
-    → AreWeights [] xs x ws → ((b : ℕ) → b < 512 → slice_index share.0 b ≡ weighted ws (column b shares)) → IsEntry xs shares x share
-entry_summed xs shares x ws share same apart shares_fit weights sums b hb cs long bytes takes =
-    sums b hb
-    ∙ lagrange cs xs (column b shares) ws x (omega (arith, length-column b shares)) (omega (arith, long)) apart bytes (column_bytes b shares shares_fit) takes weights
-
 -- a column whose bytes are a polynomial's values at the points of all positions
-takes_all : (k : ℕ) (cs ys : List ℕ) → length ys ≡ 2 * k → ((pos : ℕ) → pos < 2 * k → get_or ys pos 0 ≡ value_at cs (point k pos)) → PassesThrough cs (points k) ys
+pub takes_all : (k : ℕ) (cs ys : List ℕ) → length ys ≡ 2 * k → ((pos : ℕ) → pos < 2 * k → get_or ys pos 0 ≡ value_at cs (point k pos)) → PassesThrough cs (points k) ys
 takes_all k cs ys long each =
     takes_each cs (points k) ys (length-points k ∙ sym long) (λ i h.
     let within : i < 2 * k = omega (arith, length-points k) in
@@ -148,16 +116,6 @@ entries_are_known k known shares word few count positions same shares_fit long w
     ∙ sym (ap (value_at found.0) (get_or-map (point k) known i 0 0 h))
     ∙ takes-at found.0 xs (column b shares) i (omega (arith, length-points_at k known)) found.3)
 
--- one more share that is written
-pub set_more : (P : ℕ → Share → Type 0) (all : List Share) (pos : ℕ) (share : Share) → pos < length all
-    → ((p : ℕ) → p < pos → IfSome (slice_get all p) (P p)) → P pos share → (p : ℕ) → p < pos + 1 → IfSome (slice_get (set all pos share) p) (P p)
-set_more P [] pos share within before here p h = absurd (omega arith)
-set_more P (s ∷ all) zero share within before here zero h = here
-set_more P (s ∷ all) zero share within before here (suc p) h = absurd (omega arith)
-set_more P (s ∷ all) (suc pos) share within before here zero h = before 0 (omega arith)
-set_more P (s ∷ all) (suc pos) share within before here (suc p) h =
-    set_more (λ (q : ℕ). P (suc q)) all pos share (omega arith) (λ q l. before (suc q) (omega arith)) here p (omega arith)
-
 -- both, of the points as they were kept
 pub rebuilt : (k n : ℕ) (xs known : List ℕ) (shares word : List Share) → k ≡ n → IsTrue (is_width k) → length known ≡ n → IsTrue (are_positions n known)
     → length shares ≡ n → AreShares shares → length word ≡ 2 * n → AreShares word → xs ≡ points_at k known
@@ -169,19 +127,3 @@ rebuilt k n xs known shares word e width count positions same shares_fit long wo
     let by_width : (pos : ℕ) → pos < 2 * n → IfSome (slice_get word pos) (λ share. IsEntry (points_at n known) shares (point n pos) share) =
     subst (λ (m : ℕ). (pos : ℕ) → pos < 2 * m → IfSome (slice_get word pos) (λ share. IsEntry (points_at m known) shares (point m pos) share)) e by_points in
     (codeword_of_entries n known shares word few count positions same shares_fit long word_fits by_width, entries_are_known n known shares word few count positions same shares_fit long word_fits by_width)
-
--- the entries of a list so far, after one more is written
-pub entries_more : (k : ℕ) (xs : List ℕ) (shares all new : List Share) (pos : ℕ) (share : Share) → new ≡ set all pos share → pos < length all
-    → ((p : ℕ) → p < pos → IfSome (slice_get all p) (λ s. IsEntry xs shares (point k p) s)) → IsEntry xs shares (point k pos) share
-    → (p : ℕ) → p < pos + 1 → IfSome (slice_get new p) (λ s. IsEntry xs shares (point k p) s)
-entries_more k xs shares all new pos share is within before here =
-    subst (λ (l : List Share). (p : ℕ) → p < pos + 1 → IfSome (slice_get l p) (λ s. IsEntry xs shares (point k p) s)) (sym is)
-    (set_more (λ p s. IsEntry xs shares (point k p) s) all pos share within before here)
-
--- a known share is the entry at its position
-pub known_entry : (k : ℕ) (xs known : List ℕ) (shares : List Share) (i pos : ℕ) (d : Share) → xs ≡ points_at k known → length known ≡ k → length shares ≡ k
-    → i < k → get_or known i 0 ≡ pos → IsEntry xs shares (point k pos) (get_or shares i d)
-known_entry k xs known shares i pos d are count same h own =
-    let long : length xs ≡ k = ap length are ∙ length-points_at k known ∙ count in
-    entry_copied xs shares i (point k pos) d (omega arith) (omega arith)
-    (ap (λ (l : List ℕ). get_or l i 0) are ∙ get_or-map (point k) known i 0 0 (omega arith) ∙ ap (point k) own)

@@ -9,7 +9,17 @@ use Rattle.byte_polynomial.proofs.Sums.{sum, scaled, value_at-sum, value_at-scal
 use Rattle.byte_polynomial.proofs.Through.{vanishing, length-vanishing, AreCoefficients-vanishing, value_at-vanishing, value_at-vanishing_none, vanishing_elsewhere, VanishesAt, vanishes, takes_still}
 use Rattle.byte_polynomial.proofs.Roots.{one_polynomial}
 use Rattle.leopard_code.specs.Codewords.{weighted}
-use Rattle.leopard_code.specs.Weights.{away, AreWeights}
+use Rattle.leopard_code.proofs.DifferenceLemmas.{away}
+
+-- Lagrange's weights of points at x, where the points of `before` stand before them: a weight times
+-- the differences of its own point and all others gives the differences of x and all others
+unfoldable pub AreWeights : List ℕ → List ℕ → ℕ → List ℕ → Type 0
+AreWeights before [] x [] = Unit {0}
+AreWeights before [] x (w ∷ ws) = ⊥
+AreWeights before (p ∷ ps) x [] = ⊥
+AreWeights before (p ∷ ps) x (w ∷ ws) =
+    (product w (away (before ++ ps) p) ≡ away (before ++ ps) x)
+    × AreWeights (before ++ p ∷ []) ps x ws
 
 -- the product of the differences is the value of the vanishing polynomial
 pub away-is : (rs : List ℕ) (x : ℕ) → value_at (vanishing rs) x ≡ away rs x

@@ -12,18 +12,13 @@ use Rattle.byte_polynomial.proofs.Sums.{value_at-lt}
 use Rattle.byte_polynomial.proofs.Through.{through, vanishing_elsewhere}
 use Rattle.byte_polynomial.proofs.Roots.{one_polynomial}
 use Rattle.leopard_code.specs.Codewords.{column, points, point, points_at, are_positions, IsCodeword, HasEntries, weighted}
-use Rattle.leopard_code.specs.Weights.{away, AreWeights, IsEntry}
-use Rattle.leopard_code.proofs.LagrangeLemmas.{lagrange, away-is, points_middle, undone}
-use Rattle.leopard_code.proofs.DifferenceLemmas.{away-lt}
+use Rattle.leopard_code.proofs.ListedLemmas.{listed, length-listed, get_or-listed, listed-lt, AreShares-listed, listed-at}
+use Rattle.leopard_code.proofs.LagrangeLemmas.{AreWeights, lagrange, away-is, points_middle, undone}
+use Rattle.leopard_code.proofs.DifferenceLemmas.{away, away-lt}
 use Rattle.namespace_id.proofs.WidthLemmas.{is_width-le}
 use Rattle.leopard_code.proofs.PointLemmas.{length-column, column_bytes}
-use Rattle.leopard_code.proofs.PositionLemmas.{points_differ, position-lt, takes-at, takes_each}
-use Rattle.leopard_code.proofs.EntryLemmas.{byte_of, get_or-column, get_or-points, length-points, length-points_at, same_shares, rebuilt}
-
--- the value at a position's point is the byte there
-pub value_at_position : (k pos : ℕ) (cs ys : List ℕ) → pos < 2 * k → PassesThrough cs (points k) ys → value_at cs (point k pos) ≡ get_or ys pos 0
-value_at_position k pos cs ys h takes =
-    ap (value_at cs) (sym (get_or-points k pos h)) ∙ takes-at cs (points k) ys pos (omega (arith, length-points k)) takes
+use Rattle.leopard_code.proofs.PositionLemmas.{points_differ, position-lt, takes_each, length-points_at, value_at_position}
+use Rattle.leopard_code.proofs.EntryLemmas.{IsEntry, byte_of, get_or-column, same_shares, rebuilt}
 
 -- a polynomial that takes a column takes the bytes of the known entries at their points
 pub takes_known : (k : ℕ) (known : List ℕ) (cs ys zs : List ℕ) → IsTrue (are_positions k known) → length zs ≡ length known → PassesThrough cs (points k) ys
@@ -76,44 +71,6 @@ one_codeword k known word other width count positions cw co same =
     let d = co.columns b hb in
     same_byte k known (column b word) (column b other) pos c.0 d.0 (is_width-le k width) count positions (omega (arith, cw.count)) c.1 c.2 c.3 d.1 d.2 d.3
     (λ i h. get_or-column b word (get_or known i 0) ∙ ap (byte_of b) (same i (omega arith)) ∙ sym (get_or-column b other (get_or known i 0))))
-
--- a list by its elements
-listed : {A : Type 0} → ℕ → (ℕ → A) → List A
-listed zero f = []
-listed (suc n) f = f 0 ∷ listed n (λ i. f (suc i))
-
--- a list of n values of a function has n
-length-listed : {A : Type 0} (n : ℕ) (f : ℕ → A) → length (listed n f) ≡ n
-unfolding listed
-length-listed zero f = refl
-length-listed (suc n) f = ap suc (length-listed n (λ i. f (suc i)))
-
--- each is the value at its place
-get_or-listed : (n : ℕ) (f : ℕ → ℕ) (i : ℕ) → i < n → get_or (listed n f) i 0 ≡ f i
-unfolding listed
-get_or-listed zero f i h = absurd (omega arith)
-get_or-listed (suc n) f zero h = refl
-get_or-listed (suc n) f (suc i) h = get_or-listed n (λ j. f (suc j)) i (omega arith)
-
--- bytes that are listed are bytes
-listed-lt : (n : ℕ) (f : ℕ → ℕ) → ((i : ℕ) → f i < 256) → (i : ℕ) → get_or (listed n f) i 0 < 256
-unfolding listed
-listed-lt zero f h i = omega arith
-listed-lt (suc n) f h zero = h 0
-listed-lt (suc n) f h (suc i) = listed-lt n (λ j. f (suc j)) (λ j. h (suc j)) i
-
--- shares that are listed are shares
-AreShares-listed : (n : ℕ) (f : ℕ → Share) → ((i : ℕ) → IsShare (f i)) → AreShares (listed n f)
-unfolding listed
-AreShares-listed zero f h = tt
-AreShares-listed (suc n) f h = (h 0, AreShares-listed n (λ i. f (suc i)) (λ i. h (suc i)))
-
--- what holds of a value holds at its place in the list
-listed-at : (P : Share → Type 0) (n : ℕ) (f : ℕ → Share) (i : ℕ) → i < n → P (f i) → IfSome (slice_get (listed n f) i) P
-unfolding listed
-listed-at P zero f i h p = absurd (omega arith)
-listed-at P (suc n) f zero h p = p
-listed-at P (suc n) f (suc i) h p = listed-at P n (λ j. f (suc j)) i (omega arith) p
 
 -- through k shares at k positions goes a codeword
 pub through_shares : (k : ℕ) (known : List ℕ) (shares : List Share) → IsTrue (is_width k) → length known ≡ k → IsTrue (are_positions k known)

@@ -1,44 +1,21 @@
 -- Sums and multiples of codewords.
-use Rattle.std.proofs.Common.{◌≡◌, ◌∙◌, ℕ, zero, suc, ◌<◌, List, [], ◌∷◌, length, map, get_or, refl, sym, ap, ap₂, subst, arith}
-use Rattle.std.specs.Prelude.{bit_xor, slice_index}
+use Rattle.std.proofs.Common.{◌≡◌, ◌∙◌, ℕ, suc, ◌<◌, List, [], ◌∷◌, length, map, refl, sym, ap, ap₂, subst, arith}
+use Rattle.std.specs.Prelude.{bit_xor}
 use Rattle.std.proofs.lemmas.List.{get_or-map}
-use Rattle.std.proofs.lemmas.Nat.{xor_lt}
 use Rattle.gf_cantor.specs.Field.{product}
-use Rattle.gf_cantor.proofs.Laws.{product-lt}
 use Rattle.namespace_id.specs.declared.shares.Share.{Share}
 use Rattle.namespace_id.specs.Shares.{IsShare, AreShares}
 use Rattle.byte_polynomial.specs.Polynomial.{PassesThrough}
 use Rattle.byte_polynomial.proofs.Sums.{sum, scaled, value_at-sum, value_at-scaled, length-sum, length-scaled, AreCoefficients-sum, AreCoefficients-scaled}
+use Rattle.lch_fft.proofs.ByteLemmas.{length-bytes_sum, length-multiple, AreBytes-bytes_sum, AreBytes-multiple}
+pub use Rattle.lch_fft.proofs.ByteLemmas.{get_or-bytes_sum}
 use Rattle.leopard_code.specs.Codewords.{column, points, IsCodeword, bytes_sum, share_sum, shares_sum, shares_multiple}
-
--- a sum of byte strings is as long as they are
-length-bytes_sum : (xs ys : List ℕ) → length xs ≡ length ys → length (bytes_sum xs ys) ≡ length xs
-unfolding bytes_sum
-length-bytes_sum [] ys e = refl
-length-bytes_sum (x ∷ xs) [] e = absurd (omega arith)
-length-bytes_sum (x ∷ xs) (y ∷ ys) e = ap suc (length-bytes_sum xs ys (omega arith))
-
--- the byte at a place of a sum
-pub get_or-bytes_sum : (xs ys : List ℕ) (i : ℕ) → i < length xs → i < length ys → get_or (bytes_sum xs ys) i 0 ≡ bit_xor (get_or xs i 0) (get_or ys i 0)
-unfolding bytes_sum
-get_or-bytes_sum [] ys i hx hy = absurd (omega arith)
-get_or-bytes_sum (x ∷ xs) [] i hx hy = absurd (omega arith)
-get_or-bytes_sum (x ∷ xs) (y ∷ ys) zero hx hy = refl
-get_or-bytes_sum (x ∷ xs) (y ∷ ys) (suc i) hx hy = get_or-bytes_sum xs ys i (omega arith) (omega arith)
-
--- a sum of byte strings has bytes
-bytes_sum-lt : (xs ys : List ℕ) → ((i : ℕ) → slice_index xs i < 256) → ((i : ℕ) → slice_index ys i < 256) → (i : ℕ) → slice_index (bytes_sum xs ys) i < 256
-unfolding bytes_sum
-bytes_sum-lt [] ys hx hy i = omega arith
-bytes_sum-lt (x ∷ xs) [] hx hy i = omega arith
-bytes_sum-lt (x ∷ xs) (y ∷ ys) hx hy zero = xor_lt 8 x y (hx 0) (hy 0)
-bytes_sum-lt (x ∷ xs) (y ∷ ys) hx hy (suc i) = bytes_sum-lt xs ys (λ j. hx (suc j)) (λ j. hy (suc j)) i
 
 -- a sum of shares is a share
 IsShare-sum : (s t : Share) → IsShare s → IsShare t → IsShare (share_sum s t)
 IsShare-sum s t hs ht = record {
-  size_is = length-bytes_sum s.0 t.0 (hs.size_is ∙ sym ht.size_is) ∙ hs.size_is;
-  fits = bytes_sum-lt s.0 t.0 hs.fits ht.fits;
+  size_is = length-bytes_sum s.0 t.0 512 hs.size_is ht.size_is;
+  fits = AreBytes-bytes_sum s.0 t.0 hs.fits ht.fits;
 }
 
 -- a sum of lists of shares is a list of shares
@@ -91,22 +68,11 @@ codeword-sum k word other cw co = record {
       );
 }
 
--- a multiple of a byte string is as long as it
-length-multiple : (c : ℕ) (bytes : List ℕ) → length (map (product c) bytes) ≡ length bytes
-length-multiple c [] = refl
-length-multiple c (x ∷ bytes) = ap suc (length-multiple c bytes)
-
--- a multiple of a byte string has bytes
-multiple-lt : (c : ℕ) (bytes : List ℕ) (i : ℕ) → slice_index (map (product c) bytes) i < 256
-multiple-lt c [] i = omega arith
-multiple-lt c (x ∷ bytes) zero = product-lt c x
-multiple-lt c (x ∷ bytes) (suc i) = multiple-lt c bytes i
-
 -- a multiple of shares is shares
 AreShares-multiple : (c : ℕ) (ss : List Share) → AreShares ss → AreShares (shares_multiple c ss)
 AreShares-multiple c [] h = tt
 AreShares-multiple c (s ∷ ss) h =
-    (record { size_is = length-multiple c s.0 ∙ h.0.size_is; fits = multiple-lt c s.0 }, AreShares-multiple c ss h.1)
+    (record { size_is = length-multiple c s.0 ∙ h.0.size_is; fits = AreBytes-multiple c s.0 }, AreShares-multiple c ss h.1)
 
 -- a multiple of a list of shares is as long as it
 length-shares_multiple : (c : ℕ) (ss : List Share) → length (shares_multiple c ss) ≡ length ss

@@ -1,12 +1,17 @@
 -- Positions of a codeword and their points.
-use Rattle.std.proofs.Common.{◌≡◌, ◌≢◌, ℕ, zero, suc, ◌*◌, ◌<◌, ◌≤◌, List, [], ◌∷◌, length, get_or, refl, arith, IsTrue}
-use Rattle.std.specs.Prelude.{nat_lt}
+use Rattle.std.proofs.Common.{◌≡◌, ◌≢◌, ℕ, zero, suc, ◌*◌, ◌<◌, ◌≤◌, List, [], ◌∷◌, length, get_or, true, refl, arith, IsTrue, ◌-◌, ◌∙◌, sym, ap, inl, inr, length-append}
+use Rattle.std.specs.Prelude.{nat_lt, bit_xor, ◌==◌}
 use Rattle.std.specs.List.{list_all}
-use Rattle.std.proofs.lemmas.Bool.{and_from, and_parts, ltb-true}
+use Rattle.std.proofs.lemmas.Bool.{and_from, and_parts, ltb-true, eqb-true, cases_lt}
 use Rattle.std.proofs.lemmas.Bool.Decides.{nat_tests}
-use Rattle.namespace_id.specs.Lists.{holds_along}
+use Rattle.namespace_id.specs.Cells.{is_width}
+use Rattle.namespace_id.specs.Lists.{holds_along, ascending}
+use Rattle.namespace_id.proofs.TestLemmas.{passes_below, passes_below-at, where_holds, where_holds-true}
+use Rattle.namespace_id.proofs.WidthLemmas.{is_width-le}
 use Rattle.byte_polynomial.specs.Polynomial.{value_at, Avoids, ArePoints, PassesThrough}
-use Rattle.leopard_code.specs.Codewords.{point, points_at, are_positions}
+use Rattle.leopard_code.specs.Codewords.{point, points_at, are_positions, points}
+use Rattle.std.proofs.lemmas.List.{get_or_append_left, get_or-append_right}
+use Rattle.namespace_id.proofs.AscendingLemmas.{length-ascending, get_or-ascending}
 
 -- the point of a position is a byte
 pub point-lt : (k pos : ℕ) → k ≤ 128 → pos < 2 * k → point k pos < 256
@@ -17,7 +22,7 @@ point_apart : (k p q : ℕ) → p < q → q < 2 * k → point k p ≢ point k q
 point_apart k p q h l e = grind (arith, nat_tests)
 
 -- what positions say of the first one and of the rest
-positions_parts : (k p : ℕ) (rest : List ℕ) → IsTrue (are_positions k (p ∷ rest)) → (p < 2 * k) × IsTrue (are_positions k rest)
+pub positions_parts : (k p : ℕ) (rest : List ℕ) → IsTrue (are_positions k (p ∷ rest)) → (p < 2 * k) × IsTrue (are_positions k rest)
 unfolding holds_along
 positions_parts k p [] h =
     let inside = and_parts _ _ (and_parts _ _ h).0 in (ltb-true p (2 * k) inside.0, refl)
@@ -27,7 +32,7 @@ positions_parts k p (q ∷ rest) h =
     let along = and_parts _ _ both.1 in (ltb-true p (2 * k) inside.0, and_from (list_all (λ pos. nat_lt pos (2 * k)) (q ∷ rest)) (holds_along nat_lt (q ∷ rest)) inside.1 along.1)
 
 -- of two positions the second is above the first
-next_above : (k p q : ℕ) (rest : List ℕ) → IsTrue (are_positions k (p ∷ q ∷ rest)) → p < q
+pub next_above : (k p q : ℕ) (rest : List ℕ) → IsTrue (are_positions k (p ∷ q ∷ rest)) → p < q
 unfolding holds_along
 next_above k p q rest h = ltb-true p q (and_parts _ _ (and_parts _ _ h).1).0
 
@@ -76,3 +81,41 @@ takes_each cs [] [] same h = tt
 takes_each cs [] (y ∷ ys) same h = absurd (omega arith)
 takes_each cs (x ∷ xs) [] same h = absurd (omega arith)
 takes_each cs (x ∷ xs) (y ∷ ys) same h = (h 0 (omega arith), takes_each cs xs ys (omega arith) (λ i l. h (suc i) (omega arith)))
+
+-- a test of all positions of all widths
+moved_test : passes_below 129 (λ k. where_holds (is_width k) (passes_below (2 * k) (λ pos. point k pos == bit_xor pos k))) ≡ true
+unfolding passes_below
+moved_test = refl
+
+-- the point of a position is its sum with k
+pub point_moved : (k pos : ℕ) → IsTrue (is_width k) → pos < 2 * k → point k pos ≡ bit_xor pos k
+point_moved k pos width h =
+    let narrow : k ≤ 128 = is_width-le k width in
+    let test = passes_below-at 129 (λ k. where_holds (is_width k) (passes_below (2 * k) (λ pos. point k pos == bit_xor pos k))) moved_test k (omega arith) in
+    eqb-true _ _ (passes_below-at (2 * k) (λ pos. point k pos == bit_xor pos k)
+    (where_holds-true (is_width k) (passes_below (2 * k) (λ pos. point k pos == bit_xor pos k)) test width) pos h)
+
+-- there are as many points as positions
+pub length-points_at : (k : ℕ) (known : List ℕ) → length (points_at k known) ≡ length known
+length-points_at k [] = refl
+length-points_at k (p ∷ known) = ap suc (length-points_at k known)
+
+-- the points of all positions, one after another
+pub get_or-points : (k pos : ℕ) → pos < 2 * k → get_or (points k) pos 0 ≡ point k pos
+unfolding points
+get_or-points k pos h = elim (cases_lt pos k) [
+  | inl lt ↦ get_or_append_left (ascending k k) (ascending 0 k) 0 pos (omega (arith, length-ascending k k)) ∙ get_or-ascending k k pos lt ∙ grind (arith, nat_tests)
+  | inr le ↦
+      get_or-append_right (ascending k k) (ascending 0 k) k pos 0 (length-ascending k k) le
+      ∙ get_or-ascending k 0 (pos - k) (omega arith) ∙ grind (arith, nat_tests)
+]
+
+-- a codeword has 2k points
+pub length-points : (k : ℕ) → length (points k) ≡ 2 * k
+unfolding points
+length-points k = omega (arith, length-append (ascending k k) (ascending 0 k), length-ascending k k, length-ascending k 0)
+
+-- the value at a position's point is the byte there
+pub value_at_position : (k pos : ℕ) (cs ys : List ℕ) → pos < 2 * k → PassesThrough cs (points k) ys → value_at cs (point k pos) ≡ get_or ys pos 0
+value_at_position k pos cs ys h takes =
+    ap (value_at cs) (sym (get_or-points k pos h)) ∙ takes-at cs (points k) ys pos (omega (arith, length-points k)) takes

@@ -7,11 +7,8 @@ use Rattle.namespace_id.specs.Shares.{AreShares}
 use Rattle.namespace_id.specs.Sizes.{share_size}
 use Rattle.namespace_id.specs.Lists.{holds_along, ascending}
 use Rattle.byte_polynomial.specs.Polynomial.{AreCoefficients, PassesThrough}
-
--- the bytes at place b of each share
-unfoldable pub column : ℕ → List Share → List ℕ
-column b [] = []
-column b (share ∷ shares) = slice_index share.0 b ∷ column b shares
+unfoldable pub use Rattle.lch_fft.specs.Transforms.{column}
+unfoldable pub use Rattle.lch_fft.specs.Butterflies.{bytes_sum}
 
 -- the points of the positions: the originals stand at k up to 2k, the recovery shares at 0 up to k
 unfoldable pub points : ℕ → List ℕ
@@ -43,12 +40,6 @@ are_positions k known = list_all (λ pos. nat_lt pos (2 * k)) known && holds_alo
 abbrev pub HasEntries : List ℕ → List Share → List Share → Type 0
 HasEntries known shares word =
     (i : ℕ) → i < length known → slice_get word (slice_index known i) ≡ slice_get shares i
-
--- the bytewise xor of two byte strings, of two shares, and of two lists of shares
-unfoldable pub bytes_sum : List ℕ → List ℕ → List ℕ
-bytes_sum [] ys = []
-bytes_sum (x ∷ xs) [] = []
-bytes_sum (x ∷ xs) (y ∷ ys) = bit_xor x y ∷ bytes_sum xs ys
 
 -- the bytewise xor of two shares
 abbrev pub share_sum : Share → Share → Share

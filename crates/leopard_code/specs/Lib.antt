@@ -1,2 +1,2 @@
 pub mod Codewords
-pub mod Weights
+pub mod Locators

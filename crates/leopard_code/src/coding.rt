@@ -1,15 +1,15 @@
 //! The code of one axis.
 
-ghost use Rattle.std.specs.Prelude.{◌≡◌, ◌++◌, ◌*◌, ◌<◌, ◌≤◌, ℕ, IsTrue, length, slice_get, IfSome};
-ghost use Rattle.namespace_id.specs.Shares.{AreShares};
-ghost use Rattle.byte_polynomial.specs.Polynomial.{ArePoints};
-ghost use Rattle.leopard_code.specs.Codewords.{point, points_at, are_positions, IsCodeword, HasEntries};
-ghost use Rattle.leopard_code.specs.Weights.{AreDenominators, IsEntry};
+ghost use Rattle.std.specs.Prelude.{◌≡◌, ◌++◌, ◌*◌, IsTrue, length};
+ghost use Rattle.lch_fft.specs.Transforms.{is_count};
+ghost use Rattle.leopard_code.specs.Codewords.{are_positions, IsCodeword, HasEntries};
+ghost use Rattle.leopard_code.specs.Locators.{AreDerivatives};
 
 use crate::Room;
-use crate::points::{point, points_at};
-use crate::sums::{weighted_sum, weighted_sums};
-use crate::weights::{denominators, weight_row};
+use crate::locators::locate;
+use crate::places::{clear_all, place};
+use crate::scaling::{divide_each, multiply_each};
+use lch_fft::{derive, forward, inverse};
 use namespace_id::{Share, shares_law};
 
 /// Reed-Solomon encoding of one axis: makes the k recovery (parity) shares of k original ones. The
@@ -24,53 +24,22 @@ pub fn extend(room: &mut Room, originals: &[Share], recovery: &mut [Share])
     ensures kept { room.new ≡ room.old }
 {
     shares_law(originals);
-    weighted_sums(&room.weights, originals, recovery);
+    recovery.copy_from_slice(originals);
+    inverse(recovery, room.k);
+    shares_law(recovery);
+    forward(recovery, 0);
     shares_law(recovery);
 }
 
-/// The entry at `x` of the codeword that has the shares at the points.
-fn entry(points: &[u8], below: &[u8; 128], shares: &[Share], x: u8, row: &mut [u8]) -> Share
-    requires few { length points.now ≤ 128 }
-    requires below { AreDenominators points.now below.now }
-    requires shares { length shares.now ≡ length points.now }
-    requires row { length row.old ≡ length points.now }
-    requires points { ArePoints points.now }
-    requires bytes { AreShares shares.now }
-    ensures entry { IsEntry points.now shares.now x result }
+/// From the values of polynomials at 0, 1, .. to those of their formal derivatives.
+fn differentiate(shares: &mut [Share])
+    requires { IsTrue (is_count (length shares.old)) }
+    ensures { AreDerivatives shares.old shares.new }
 {
-    weight_row(points, below, x, row);
-    weighted_sum(row, shares)
-}
-
-/// Writes the entries at all positions: a known one is copied, any other is made.
-fn fill_entries(
-    k: usize,
-    points: &[u8],
-    known: &[u16],
-    shares: &[Share],
-    all: &mut [Share],
-    row: &mut [u8],
-)
-    requires few { k ≤ 128 }
-    requires known { (length known.now ≡ k) × IsTrue (are_positions k known.now) }
-    requires points { points.now ≡ points_at k known.now }
-    requires shares { length shares.now ≡ k }
-    requires all { length all.old ≡ 2 * k }
-    requires row { length row.old ≡ k }
-    requires bytes { AreShares shares.now }
-    ensures { (pos : ℕ) → pos < 2 * k → IfSome (slice_get all.new pos)
-        (λ share. IsEntry points.now shares.now (point k pos) share) }
-{
-    let below = denominators(points);
-    let mut next = 0;
-    for pos in 0..all.len() {
-        if next < k && known[next] as usize == pos {
-            all[pos] = shares[next];
-            next += 1;
-        } else {
-            all[pos] = entry(points, &below, shares, point(k, pos), row);
-        }
-    }
+    inverse(shares, 0);
+    shares_law(shares);
+    derive(shares);
+    forward(shares, 0);
 }
 
 /// Reed-Solomon recovery of one axis: makes all 2k shares of the codeword that has the k shares at the
@@ -89,9 +58,14 @@ pub fn rebuild(room: &mut Room, known: &[u16], shares: &[Share], all: &mut [Shar
     ensures kept { room.new ≡ room.old }
 {
     shares_law(shares);
-    let k = room.k as usize;
-    let points = points_at(k, known);
-    fill_entries(k, &points[..k], known, shares, all, &mut room.row);
+    // A position is its point plus k: over positions a column is a polynomial of the same degree.
+    locate(known, &mut room.locator);
+    clear_all(all);
+    place(known, shares, all);
+    multiply_each(all, &room.locator);
+    differentiate(all);
+    divide_each(all, &room.locator);
+    place(known, shares, all);
     shares_law(all);
 }
 
@@ -159,6 +133,18 @@ mod tests {
         let shares = [share(2), share(3)];
         assert!(rt; rebuilt(rt.alloc(), 2, &[2, 3], &shares, &mut all)?);
         assert_eq!(rt; all, [share(0), share(1), share(2), share(3)]);
+        Ok(())
+    }
+
+    #[test]
+    fn originals_and_recovery_shares(rt: HostRuntime) -> Result<(), Fail> {
+        let mut all = [share(255); 8];
+        let shares = [share(0), share(1), share(9), share(13)];
+        assert!(rt; rebuilt(rt.alloc(), 4, &[1, 3, 4, 7], &shares, &mut all)?);
+        let bytes = [0, 0, 0, 1, 9, 11, 14, 13];
+        for pos in 0..8 {
+            assert_eq!(rt; all[pos], share(bytes[pos]), "{pos}");
+        }
         Ok(())
     }
 

@@ -2,18 +2,20 @@
 //! of its 2k entries determine the rest.
 //!
 //! Each byte column of a codeword is a polynomial of k coefficients over the byte field. Both calls
-//! interpolate with Lagrange's weights, about k * k products of a share and a byte for one axis.
-//! docs/RULES.md, "The code", has the definition.
+//! go by additive transforms, about k * log k products of a share and a byte for one axis; `rebuild`
+//! multiplies by the locator of the missing positions and divides its formal derivative by the
+//! locator's. docs/RULES.md, "The code", has the definition.
 #![tactic(auto)]
 
 mod coding;
 mod laws;
-mod points;
+mod locators;
+mod places;
+mod positions;
 mod room;
-mod sums;
-mod weights;
+mod scaling;
 
 pub use coding::{extend, rebuild};
 pub use laws::code_laws;
-pub use points::are_positions;
+pub use positions::are_positions;
 pub use room::Room;

@@ -1,0 +1,137 @@
+//! The transforms.
+
+ghost use Rattle.std.specs.Prelude.{◌≡◌, ◌+◌, ◌/◌, ◌%◌, ◌^◌, ◌<◌, ◌≤◌, ℕ, List, IsTrue, length};
+ghost use Rattle.namespace_id.specs.Shares.{AreShares};
+ghost use Rattle.namespace_id.specs.Sizes.{share_size};
+ghost use Rattle.namespace_id.specs.declared.shares.Share.{Share as ShareValue};
+ghost use Rattle.lch_fft.specs.Transforms.{column, subspace, is_count, Evaluates};
+ghost use Rattle.lch_fft.specs.Butterflies.{spread, gather, halvings};
+
+use crate::butterflies::{gather_stage, spread_stage};
+use namespace_id::{SHARE_SIZE, Share, shares_law};
+
+/// From coefficients to values, by halves: a stage of butterflies, and then each half apart.
+fn spread_halves(shares: &mut [Share], shift: usize)
+    requires count { IsTrue (is_count (length shares.old)) }
+    requires fits { shift + length shares.old ≤ 256 }
+    ensures { (b : ℕ) → b < share_size → column b shares.new ≡
+        spread (halvings (length shares.old)) (column b shares.old) shift }
+{
+    let half = shares.len() / 2;
+    if half > 0 {
+        let (low, high) = shares.split_at_mut(half);
+        spread_stage(low, high, (shift / half) as u8);
+        spread_halves(low, shift);
+        spread_halves(high, shift + half);
+    }
+}
+
+/// From values to coefficients, by halves: each half apart, and then the stage undone.
+fn gather_halves(shares: &mut [Share], shift: usize)
+    requires count { IsTrue (is_count (length shares.old)) }
+    requires fits { shift + length shares.old ≤ 256 }
+    ensures { (b : ℕ) → b < share_size → column b shares.new ≡
+        gather (halvings (length shares.old)) (column b shares.old) shift }
+{
+    let half = shares.len() / 2;
+    if half > 0 {
+        let (low, high) = shares.split_at_mut(half);
+        gather_halves(low, shift);
+        gather_halves(high, shift + half);
+        gather_stage(low, high, (shift / half) as u8);
+    }
+}
+
+/// Evaluates: entry j held the coefficient of X_j, and afterwards entry i holds the sum of all
+/// multiples of the X_j at the point `shift + i`. It takes no memory.
+///
+/// Lin, Chung, Han (2014), "Novel polynomial basis and its application to Reed-Solomon erasure
+/// codes".
+pub fn forward(shares: &mut [Share], shift: u16)
+    requires count { IsTrue (is_count (length shares.old)) }
+    requires block { shift % length shares.old ≡ 0 }
+    requires fits { shift + length shares.old ≤ 256 }
+    ensures { Evaluates shift shares.old shares.new }
+{
+    shares_law(shares);
+    spread_halves(shares, shift as usize);
+}
+
+/// Undoes `forward`: entry i held the value at the point `shift + i`, and afterwards entry j holds
+/// the coefficient of X_j. No other coefficients have these values. It takes no memory.
+///
+/// Lin, Chung, Han (2014), "Novel polynomial basis and its application to Reed-Solomon erasure
+/// codes".
+pub fn inverse(shares: &mut [Share], shift: u16)
+    requires count { IsTrue (is_count (length shares.old)) }
+    requires block { shift % length shares.old ≡ 0 }
+    requires fits { shift + length shares.old ≤ 256 }
+    ensures evaluates { Evaluates shift shares.new shares.old }
+    ensures undoes { (coefficients : List ShareValue) → AreShares coefficients →
+        Evaluates shift coefficients shares.old → shares.new ≡ coefficients }
+{
+    shares_law(shares);
+    gather_halves(shares, shift as usize);
+    shares_law(shares);
+}
+
+/// What the polynomials of the transforms are: s_i shifts a label right by i places. Coefficients
+/// have one list of values at a block of points, and values one list of coefficients. It does
+/// nothing, and takes no memory.
+pub fn transform_laws()
+    ensures shifts { (i x : ℕ) → x < 256 → subspace i x ≡ x / 2 ^ i }
+    ensures only_values { (shift : ℕ) (coefficients values others : List ShareValue) →
+        AreShares values → AreShares others → Evaluates shift coefficients values →
+        Evaluates shift coefficients others → values ≡ others }
+    ensures only_coefficients { (shift : ℕ) (coefficients others values : List ShareValue) →
+        IsTrue (is_count (length values)) → shift % length values ≡ 0 →
+        shift + length values ≤ 256 → AreShares coefficients → AreShares others →
+        Evaluates shift coefficients values → Evaluates shift others values →
+        coefficients ≡ others }
+{}
+
+#[cfg(test)]
+mod tests {
+    use super::*;
+    use std::test::Fail;
+
+    // Expected bytes: by a Python program with products of polynomials modulo 0x11D.
+
+    /// Four shares of one byte throughout.
+    fn shares(bytes: [u8; 4]) -> [Share; 4] {
+        [
+            Share([bytes[0]; SHARE_SIZE]),
+            Share([bytes[1]; SHARE_SIZE]),
+            Share([bytes[2]; SHARE_SIZE]),
+            Share([bytes[3]; SHARE_SIZE]),
+        ]
+    }
+
+    #[test]
+    fn values_at_blocks_of_four(rt: HostRuntime) {
+        let mut first = shares([0, 0, 0, 1]);
+        forward(&mut first, 0);
+        assert_eq!(rt; first, shares([0, 0, 2, 3]));
+        let mut second = shares([0, 0, 0, 1]);
+        forward(&mut second, 4);
+        assert_eq!(rt; second, shares([10, 8, 15, 12]));
+    }
+
+    #[test]
+    fn coefficients_of_four(rt: HostRuntime) {
+        let mut four = shares([0, 0, 0, 1]);
+        inverse(&mut four, 4);
+        assert_eq!(rt; four, shares([9, 2, 6, 1]));
+        forward(&mut four, 0);
+        assert_eq!(rt; four, shares([9, 11, 14, 13]));
+    }
+
+    #[test]
+    fn one_place(rt: HostRuntime) {
+        let mut one = [Share([7; SHARE_SIZE])];
+        forward(&mut one, 3);
+        assert_eq!(rt; one, [Share([7; SHARE_SIZE])]);
+        inverse(&mut one, 3);
+        assert_eq!(rt; one, [Share([7; SHARE_SIZE])]);
+    }
+}

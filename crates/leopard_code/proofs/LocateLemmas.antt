@@ -1,0 +1,106 @@
+-- The locator's values as they are made, one missing position after another, and shares as they are placed.
+use Rattle.std.proofs.Common.{◌≡◌, ◌≢◌, ◌∙◌, ℕ, zero, suc, ◌+◌, ◌<◌, List, [], ◌∷◌, length, drop, get_or, set, refl, sym, ap, ap₂, arith, inl, inr, below_more}
+use Rattle.std.specs.Prelude.{Some, slice_get}
+use Rattle.std.proofs.lemmas.Bool.{cases_lt}
+use Rattle.std.proofs.lemmas.List.{drop_all}
+use Rattle.std.proofs.Math.Seq.{drop-cons}
+use Rattle.gf_cantor.specs.Field.{product}
+use Rattle.gf_cantor.proofs.Laws.{product_comm, product_assoc, one-product}
+use Rattle.namespace_id.specs.declared.shares.Share.{Share}
+use Rattle.leopard_code.specs.Locators.{missing_from, difference, apart_from}
+use Rattle.leopard_code.proofs.LocatorLemmas.{apart_from-lt}
+use Rattle.leopard_code.proofs.MissingLemmas.{missing-known, missing-other}
+
+-- where no known position is left, the next one is missing
+missing-none : (first n : ℕ) → missing_from first (suc n) [] ≡ first ∷ missing_from (suc first) n []
+unfolding missing_from
+missing-none first n = refl
+
+-- the product over none is 1
+apart_none : (first x : ℕ) (known : List ℕ) → apart_from (missing_from first 0 known) x ≡ 1
+unfolding missing_from apart_from
+apart_none first x known = refl
+
+-- the product over one more
+apart_more : (r x : ℕ) (rs : List ℕ) → apart_from (r ∷ rs) x ≡ product (difference x r) (apart_from rs x)
+unfolding apart_from
+apart_more r x rs = refl
+
+-- the next position is the next known one
+missing_on : (known : List ℕ) (pos next left : ℕ) → next < length known → get_or known next 0 ≡ pos
+    → missing_from pos (suc left) (drop next known) ≡ missing_from (suc pos) left (drop (suc next) known)
+missing_on known pos next left h here =
+    ap (missing_from pos (suc left)) (drop-cons known next 0 h) ∙ missing-known (get_or known next 0) pos left (drop (suc next) known) here
+
+-- it is missing
+missing_past : (known : List ℕ) (pos next left : ℕ) → (next < length known → get_or known next 0 ≢ pos)
+    → missing_from pos (suc left) (drop next known) ≡ pos ∷ missing_from (suc pos) left (drop next known)
+missing_past known pos next left h = elim (cases_lt next (length known)) [
+  | inl lt ↦
+      ap (missing_from pos (suc left)) (drop-cons known next 0 lt)
+      ∙ missing-other (get_or known next 0) pos left (drop (suc next) known) (h lt)
+      ∙ ap (λ (l : List ℕ). pos ∷ missing_from (suc pos) left l) (sym (drop-cons known next 0 lt))
+  | inr le ↦
+      ap (missing_from pos (suc left)) (drop_all next known le) ∙ missing-none pos left
+      ∙ ap (λ (l : List ℕ). pos ∷ missing_from (suc pos) left l) (sym (drop_all next known le))
+]
+
+-- at the beginning all is left
+pub located_none : (known : List ℕ) (n left x v : ℕ) → 0 + left ≡ n → v ≡ 1
+    → product v (apart_from (missing_from 0 left known) x) ≡ apart_from (missing_from 0 n known) x
+located_none known n left x v e one =
+    let whole : left ≡ n = omega arith in
+    ap₂ (λ (y m : ℕ). product y (apart_from (missing_from 0 m known) x)) one whole
+    ∙ one-product (apart_from (missing_from 0 n known) x) (apart_from-lt (missing_from 0 n known) x)
+
+-- a known position changes no value
+pub located_on : (known : List ℕ) (pos next after left x v new whole : ℕ) → next < length known → get_or known next 0 ≡ pos → after ≡ next + 1 → new ≡ v
+    → product v (apart_from (missing_from pos (suc left) (drop next known)) x) ≡ whole
+    → product new (apart_from (missing_from (pos + 1) left (drop after known)) x) ≡ whole
+located_on known pos next after left x v new whole h here on same before =
+    let p : pos + 1 ≡ suc pos = omega arith in
+    let q : after ≡ suc next = omega arith in
+    ap₂ (λ (a b : ℕ). product new (apart_from (missing_from a left (drop b known)) x)) p q
+    ∙ ap₂ (λ (y : ℕ) (l : List ℕ). product y (apart_from l x)) same (sym (missing_on known pos next left h here)) ∙ before
+
+-- a missing one multiplies each by the difference to it
+pub located_past : (known : List ℕ) (pos next after left x v new whole : ℕ) → (next < length known → get_or known next 0 ≢ pos) → after ≡ next
+    → new ≡ product v (difference x pos)
+    → product v (apart_from (missing_from pos (suc left) (drop next known)) x) ≡ whole
+    → product new (apart_from (missing_from (pos + 1) left (drop after known)) x) ≡ whole
+located_past known pos next after left x v new whole h same made before =
+    let p : pos + 1 ≡ suc pos = omega arith in
+    let rest : List ℕ = missing_from (suc pos) left (drop next known) in
+    ap₂ (λ (a b : ℕ). product new (apart_from (missing_from a left (drop b known)) x)) p same
+    ∙ ap (λ (y : ℕ). product y (apart_from rest x)) made
+    ∙ product_assoc v (difference x pos) (apart_from rest x)
+    ∙ ap (product v) (sym (apart_more pos x rest))
+    ∙ ap (λ (l : List ℕ). product v (apart_from l x)) (sym (missing_past known pos next left h))
+    ∙ before
+
+-- at the end nothing is left
+pub located_all : (known : List ℕ) (pos next x v whole : ℕ) → v < 256 → product v (apart_from (missing_from pos 0 (drop next known)) x) ≡ whole → v ≡ whole
+located_all known pos next x v whole byte made =
+    sym (one-product v byte) ∙ product_comm 1 v ∙ ap (product v) (sym (apart_none pos x (drop next known))) ∙ made
+
+-- the values so far are multiplied by the differences to a position
+pub differences_more : (values new old : List ℕ) (x pos : ℕ) → ((y : ℕ) → y ≢ x → get_or new y 0 ≡ get_or values y 0)
+    → get_or new x 0 ≡ product (get_or old x 0) (difference x pos)
+    → ((y : ℕ) → y < x → get_or values y 0 ≡ product (get_or old y 0) (difference y pos))
+    → (y : ℕ) → y < x + 1 → get_or new y 0 ≡ product (get_or old y 0) (difference y pos)
+differences_more values new old x pos kept here before =
+    below_more _ _ (λ y h. kept y (omega arith) ∙ before y h) here
+
+-- a share that is written stands at its place
+pub slice_get-set_same : (all : List Share) (pos : ℕ) (share : Share) → pos < length all → slice_get (set all pos share) pos ≡ Some share
+slice_get-set_same [] pos share h = absurd (omega arith)
+slice_get-set_same (s ∷ all) zero share h = refl
+slice_get-set_same (s ∷ all) (suc pos) share h = slice_get-set_same all pos share (omega arith)
+
+-- and no other is changed
+pub slice_get-set_other : (all : List Share) (pos q : ℕ) (share : Share) → q ≢ pos → slice_get (set all pos share) q ≡ slice_get all q
+slice_get-set_other [] pos q share h = refl
+slice_get-set_other (s ∷ all) zero zero share h = absurd (h refl)
+slice_get-set_other (s ∷ all) zero (suc q) share h = refl
+slice_get-set_other (s ∷ all) (suc pos) zero share h = refl
+slice_get-set_other (s ∷ all) (suc pos) (suc q) share h = slice_get-set_other all pos q share (λ e. h (ap suc e))

@@ -1,0 +1,9 @@
+use Rattle.std.proofs.Common.{◌≡◌, ℕ, ◌+◌, ◌<◌, drop, length, get_or}
+use Rattle.gf_cantor.specs.Field.{product}
+use Rattle.leopard_code.specs.Locators.{missing_from, apart_from}
+use Rattle.leopard_code.proofs.locators.locate.Given as goal
+
+-- what is done and what is left make the whole product
+abbrev pub invariant-loop-pos : goal.invariant-loop-pos
+invariant-loop-pos l = (left x : ℕ) → l.pos + left ≡ length l.fn.values → x < length l.fn.values
+    → product (get_or l.values x 0) (apart_from (missing_from l.pos left (drop l.next l.known)) x) ≡ apart_from (missing_from 0 (length l.fn.values) l.known) x
