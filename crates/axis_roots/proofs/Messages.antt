@@ -4,3 +4,4 @@ pub mod MessageLemmas
 pub mod OwnLemmas
 pub mod ClaimLemmas
 pub mod FalseClaimLemmas
+pub mod ProofLemmas

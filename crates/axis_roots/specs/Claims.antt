@@ -6,6 +6,7 @@ use Rattle.namespace_id.specs.declared.cells.Axis.{Axis}
 use Rattle.namespace_id.specs.declared.shares.Share.{Share}
 use Rattle.namespace_id.specs.declared.digests.Digest.{Digest}
 use Rattle.namespace_id.specs.Lists.{holds_along}
+use Rattle.namespace_id.specs.Cells.{is_width}
 use Rattle.leopard_code.specs.Codewords.{IsCodeword, HasEntries}
 use Rattle.data_header.specs.Headers.{Roots, root_of}
 use Rattle.square_layout.specs.Blocks.{SquareShares}
@@ -15,6 +16,8 @@ use Rattle.axis_roots.specs.Openings.{IsProved}
 use Rattle.axis_roots.specs.Lines.{line_strict_root}
 use Rattle.axis_roots.specs.Grids.{IsHeaderOf}
 use Rattle.axis_roots.specs.Own.{NamesClash}
+use Rattle.axis_roots.specs.declared.message.proved.Proved.{Proved}
+use Rattle.axis_roots.specs.Proved.{kept_message}
 
 -- a fraud claim as contracts see it: the axis that it accuses, by its kind and its index, and messages of its cells
 pub record ClaimParts : Type 0 where
@@ -81,3 +84,20 @@ ClaimNames claim square = (m : Message) × Contains claim.cells m × NamesClash 
 -- under the header of a square a message of the claim and the square name a collision
 abbrev pub IsFalseClaim : Roots → ClaimParts → Type 0
 IsFalseClaim header claim = (square : SquareShares) → IsHeaderOf header square → ClaimNames claim square
+
+-- ---- fraud proofs
+
+-- the claim that an axis is bad, with certificates in place of messages
+abbrev pub claim_with : Axis → ℕ → List Proved → ClaimParts
+claim_with axis index cells = record { axis = axis; index = index; cells = map kept_message cells }
+
+-- a fraud proof as contracts see it: the width, the root that is bad, and its claim
+pub record ProofParts : Type 0 where
+  pub k : ℕ
+  pub root : Digest
+  pub claim : ClaimParts
+
+-- the claim of a fraud proof shows that its root is bad
+pub record IsFraudProof (proof : ProofParts) : Type 0 where
+  pub width : is_width proof.k ≡ true
+  pub bad : ShowsBad proof.k proof.claim proof.root

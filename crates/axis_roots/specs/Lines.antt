@@ -17,6 +17,10 @@ use Rattle.nmt_proofs.specs.Clashes.{whole}
 unfoldable pub blank : Share
 blank = record { 0 = replicate 512 0 }
 
+-- the share at a position of a line
+abbrev pub entry : List Share → ℕ → Share
+entry line pos = get_or line pos blank
+
 -- the cell at a place of a row or a column
 abbrev pub cell_on : Axis → ℕ → ℕ → Cell
 cell_on Row index pos = record { row = index; col = pos }

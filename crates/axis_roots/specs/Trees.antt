@@ -1,4 +1,4 @@
--- The stored trees over the leaves of all rows and columns of a grid, and messages made from them.
+-- The stored trees over the leaves of lines, and of all rows and columns of a grid, and messages made from them.
 use Rattle.std.specs.Prelude.{◌≡◌, ℕ, ◌*◌, List, map, length, get_or, true, Option, Some, None, IsSome, if◌then◌else◌}
 use Rattle.std.specs.List.{AllByRecursion}
 use Rattle.std.specs.Option.{option_map_or}
@@ -16,11 +16,33 @@ use Rattle.nmt_tree.specs.Trees.{StoredTree}
 use Rattle.nmt_proofs.specs.Making.{leaf_nodes}
 use Rattle.axis_roots.specs.declared.message.messages.Message.{Message}
 use Rattle.axis_roots.specs.Messages.{position, index}
-use Rattle.axis_roots.specs.Grids.{share_at, axis_names, axis_shares, are_ordered_axes}
+use Rattle.axis_roots.specs.Lines.{entry, cell_on, line_names}
+use Rattle.axis_roots.specs.Grids.{share_at, axis_shares, are_ordered_axes}
+
+-- ---- lines
+
+-- the digests of the leaves over a line of 2k shares, taken as a row or a column
+abbrev pub line_leaves : ℕ → Axis → ℕ → List Share → List Digest
+line_leaves k axis index line = leaf_digests (line_names k axis index line) line
+
+-- the stored tree over them
+abbrev pub line_stored : ℕ → Axis → ℕ → List Share → StoredTree
+line_stored k axis index line = record { count = 2 * k; leaves = Some (line_leaves k axis index line) }
+
+-- the message of the cell at a position of a line, along it
+abbrev pub line_message : ℕ → Axis → ℕ → List Share → ℕ → Message
+line_message k axis index line pos = record {
+  cell = cell_on axis index pos;
+  axis = axis;
+  share = entry line pos;
+  path = leaf_nodes (2 * k) (line_leaves k axis index line) pos;
+}
+
+-- ---- rows and columns of a grid
 
 -- the digests of the leaves along a row or a column
 abbrev pub axis_leaves : ℕ → List Share → Axis → ℕ → List Digest
-axis_leaves k shares axis index = leaf_digests (axis_names k shares axis index) (axis_shares k shares axis index)
+axis_leaves k shares axis index = line_leaves k axis index (axis_shares k shares axis index)
 
 -- the stored tree over the leaves along a row or a column
 abbrev pub axis_stored : ℕ → List Share → Axis → ℕ → StoredTree

@@ -1,14 +1,15 @@
 //! Fraud claims: what one node sends to another to say that an axis of a block is encoded badly.
 
 ghost use Rattle.std.specs.Prelude.{◌≡◌, ◌⊎◌, ◌<◌, ◌*◌, ℕ, List, length, true};
-ghost use Rattle.std.specs.List.{list_all};
+ghost use Rattle.std.specs.List.{AllByRecursion, list_all};
 ghost use Rattle.namespace_id.specs.declared.digests.Digest.{Digest};
 ghost use Rattle.namespace_id.specs.Cells.{is_width, is_in_square};
 ghost use Rattle.data_header.specs.Headers.{Roots};
-ghost use Rattle.axis_roots.specs.Claims.{ClaimParts, IsClaim, has_shape, ShowsBad, FitsRoot, Accepts, IsFalseClaim};
+ghost use Rattle.axis_roots.specs.Openings.{IsProved};
+ghost use Rattle.axis_roots.specs.Claims.{ClaimParts, IsClaim, has_shape, ShowsBad, FitsRoot, Accepts, IsFalseClaim, claimed_root, ProofParts, IsFraudProof};
 
-use crate::{Message, message_law};
-use namespace_id::Axis;
+use crate::{Message, Proved, message_law};
+use namespace_id::{Axis, Digest};
 use std::marker::Model;
 
 /// A bad-encoding fraud proof (BEFP) as it is sent, before it is checked: the axis that it accuses and
@@ -25,11 +26,49 @@ pub struct FraudClaim {
 }
 
 impl Model for FraudClaim {
+    ghost use Rattle.axis_roots.specs.Openings.{IsProved};
     ghost use Rattle.axis_roots.specs.Claims.{ClaimParts};
 
     ghost Value = { ClaimParts };
 
     ghost view = { λ c. record { axis = c.axis; index = c.index; cells = c.cells.items } };
+}
+
+/// A bad-encoding fraud proof (BEFP): proved samples of k cells of an axis, and the root of this axis that the codeword
+/// through them hasn't. Its type keeps that, so its claim is accepted under each header of width k that has this
+/// root of the axis, and under which the samples are proved.
+///
+/// Al-Bassam, Sonnino, Buterin and Khoffi, fraud proofs of incorrectly generated extended data;
+/// docs/RULES.md, "Fraud claims".
+#[derive(Drop)]
+pub struct FraudProof {
+    pub k: u16,
+    pub axis: Axis,
+    pub index: u16,
+    pub root: Digest,
+    pub cells: Vec<Proved>,
+}
+
+impl Model for FraudProof {
+    ghost use Rattle.axis_roots.specs.Claims.{claim_with, ProofParts, IsFraudProof};
+
+    ghost Value = { ProofParts };
+
+    ghost view = { λ p. record { k = p.k; root = p.root; claim = claim_with p.axis p.index p.cells.items } };
+
+    ghost invariant = { λ p. IsFraudProof (record { k = p.k; root = p.root; claim = claim_with p.axis p.index p.cells.items }) };
+}
+
+impl FraudProof {
+    ghost use Rattle.axis_roots.specs.Claims.{IsFraudProof};
+
+    /// What is true of every fraud proof is said with its width.
+    pub fn width(&self) -> u16
+        ensures value { result ≡ self.now.k }
+        ensures proof { IsFraudProof self.now }
+    {
+        self.k
+    }
 }
 
 /// A claim has an index of two bytes, and messages. It changes nothing.
@@ -59,4 +98,10 @@ pub fn claim_laws()
     // square.
     ensures own { (header : Roots) (claim : ClaimParts) → Accepts header claim →
         IsFalseClaim header claim }
+
+    // The claim of a fraud proof is accepted under each header of its width that has its root of the
+    // axis, and under which its messages are proved.
+    ensures proof { (header : Roots) (proof : ProofParts) → IsFraudProof proof →
+        header.k ≡ proof.k → claimed_root header proof.claim ≡ proof.root →
+        AllByRecursion (IsProved header) proof.claim.cells → Accepts header proof.claim }
 {}

@@ -15,9 +15,9 @@ mod message;
 mod square;
 
 pub use answers::{Found, NsAnswer, NsEntry, ShareList, answer_law};
-pub use claims::{FraudClaim, claim_law, claim_laws};
+pub use claims::{FraudClaim, FraudProof, claim_law, claim_laws};
 pub use message::{
     CheckRefusal, Message, Proved, RefusedMessage, check, index, made_laws, message_from,
     message_law, message_laws, message_of, opens, own_laws, position,
 };
-pub use square::{Grid, Trees, grid_laws, header_of, line_strict_root};
+pub use square::{Grid, Trees, cell_on, grid_laws, header_of, line_strict_root, name_leaves};

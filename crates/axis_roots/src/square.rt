@@ -12,6 +12,6 @@ mod trees;
 pub(crate) use filling::fill_axis;
 pub use grids::Grid;
 pub use laws::grid_laws;
-pub use lines::line_strict_root;
+pub use lines::{cell_on, line_strict_root, name_leaves};
 pub use rooting::header_of;
 pub use trees::Trees;

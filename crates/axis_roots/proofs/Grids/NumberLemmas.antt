@@ -1,6 +1,6 @@
 -- Row-major lists, and the numbers of their cells.
-use Rattle.std.proofs.Common.{◌≡◌, ◌∙◌, ℕ, ◌+◌, ◌*◌, ◌/◌, ◌%◌, ◌<◌, List, length, get_or, map, sym, ap, ap₂, arith, IsTrue}
-use Rattle.std.proofs.Math.Nat.{div-lt_iff_lt-mul}
+use Rattle.std.proofs.Common.{◌≡◌, ◌∙◌, ℕ, ◌+◌, ◌*◌, ◌/◌, ◌%◌, ◌<◌, ◌≤◌, List, length, get_or, map, sym, ap, ap₂, arith, IsTrue}
+use Rattle.std.proofs.Math.Nat.{div-lt_iff_lt-mul, mul-le-mul_right}
 use Rattle.std.proofs.lemmas.Nat.{div-mul-add, mod-mul-add, div-add-mod'}
 use Rattle.std.proofs.lemmas.List.{get_or-map, length-map, ext_get_or}
 use Rattle.std.proofs.lemmas.Bool.Decides.{nat_tests}
@@ -11,7 +11,11 @@ use Rattle.namespace_id.specs.Cells.{is_width, is_in_square}
 use Rattle.namespace_id.specs.Lists.{ascending}
 use Rattle.namespace_id.proofs.AscendingLemmas.{length-ascending, get_or-ascending}
 use Rattle.axis_roots.specs.Messages.{position, index}
-use Rattle.leopard_code.proofs.TableLemmas.{row_before}
+
+-- a row ends before a later one begins
+row_before : (m j n : ℕ) → m < j → m * n + n ≤ j * n
+row_before m j n h =
+    let more : (m + 1) * n ≤ j * n = mul-le-mul_right n (omega arith) in omega arith
 
 -- what the test of a cell says
 pub inside : (k : ℕ) (cell : Cell) → IsTrue (is_in_square k cell) → (cell.row < 2 * k) × (cell.col < 2 * k)

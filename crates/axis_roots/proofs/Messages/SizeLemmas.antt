@@ -1,19 +1,19 @@
--- The sizes of messages that are made of a grid.
+-- The sizes of messages that are made of a line.
 use Rattle.std.proofs.Common.{◌≡◌, ◌∙◌, ℕ, zero, suc, ◌+◌, ◌*◌, ◌^◌, ◌<◌, ◌≤◌, List, [], ◌∷◌, length, map, get_or, ltb, sym, ap, subst, inl, inr, arith, IsTrue}
 use Rattle.std.proofs.lemmas.Bool.{cases_Bool}
 use Rattle.std.proofs.lemmas.Bool.Decides.{nat_tests}
 use Rattle.std.proofs.lemmas.List.{length-map, map-append}
 use Rattle.std.proofs.lemmas.List.Elements.{All-get_or, All-from_recursion}
 use Rattle.std.proofs.Math.Nat.{pow-suc}
-use Rattle.namespace_id.specs.declared.cells.Cell.{Cell}
 use Rattle.namespace_id.specs.declared.cells.Axis.{Axis}
+use Rattle.namespace_id.specs.declared.cells.Axis.TheVariants.{Row, Col}
 use Rattle.namespace_id.specs.declared.namespaces.Namespace.{Namespace}
 use Rattle.namespace_id.specs.declared.shares.Share.{Share}
 use Rattle.namespace_id.specs.declared.digests.Digest.{Digest}
 use Rattle.namespace_id.specs.Names.{AreNamespaces}
 use Rattle.namespace_id.specs.Shares.{AreShares}
 use Rattle.namespace_id.specs.Digests.{IsDigest, AreDigests, no_digest}
-use Rattle.namespace_id.specs.Cells.{is_width, is_in_square}
+use Rattle.namespace_id.specs.Cells.{is_width}
 use Rattle.nmt_tree.specs.Roots.{halvings}
 use Rattle.nmt_tree.specs.Levels.{leaf_digests, span}
 use Rattle.nmt_proofs.specs.Parts.{Part, given}
@@ -22,13 +22,12 @@ use Rattle.nmt_proofs.specs.Making.{spans}
 use Rattle.nmt_proofs.proofs.ListLemmas.{each-append}
 use Rattle.nmt_proofs.proofs.SingleLemmas.{one_place, outside_left, outside_right, length-outside-one}
 use Rattle.nmt_proofs.proofs.DigestLemmas.{digest-leaf, digest-node}
-use Rattle.axis_roots.specs.Messages.{IsMessage, position, index}
-use Rattle.axis_roots.specs.Grids.{axis_names, axis_shares}
-use Rattle.axis_roots.specs.Trees.{axis_leaves, message_at}
-use Rattle.axis_roots.proofs.Grids.NumberLemmas.{inside}
+use Rattle.nmt_tree.proofs.SpanLemmas.{length-leaf_digests}
+use Rattle.axis_roots.specs.Messages.{IsMessage}
+use Rattle.axis_roots.specs.Lines.{cell_on, line_names}
+use Rattle.axis_roots.specs.Trees.{line_leaves, line_message}
 use Rattle.axis_roots.proofs.Grids.WordLemmas.{share_anywhere}
-use Rattle.axis_roots.proofs.Grids.LineLemmas.{leaf_count, line_names-are}
-use Rattle.axis_roots.proofs.Grids.StoredLemmas.{axis_shares-are, length-leaves}
+use Rattle.axis_roots.proofs.Grids.LineLemmas.{leaf_count, line_names-are, length-line_names}
 
 -- the digests of leaves are digests
 pub digests-leaves : (names : List Namespace) (shares : List Share) → AreNamespaces names → AreDigests (leaf_digests names shares)
@@ -77,25 +76,35 @@ number-lt-two_bytes k x width h = grind (arith, nat_tests)
 pub halvings-le : (k : ℕ) → IsTrue (is_width k) → halvings (2 * k) ≤ 8
 halvings-le k width = grind (arith, nat_tests)
 
--- the message of a cell has the sizes of a message
-pub sizes-message : (k : ℕ) (shares : List Share) (cell : Cell) (axis : Axis) → IsTrue (is_width k) → AreShares shares → IsTrue (is_in_square k cell)
-    → IsMessage (message_at k shares cell axis)
-sizes-message k shares cell axis width are within =
-    let leaves : List Digest = axis_leaves k shares axis (index axis cell) in
-    let part : Part = given (get_or leaves (position axis cell) no_digest) in
-    let named : AreNamespaces (axis_names k shares axis (index axis cell))
-    = line_names-are k axis (index axis cell) (axis_shares k shares axis (index axis cell)) (axis_shares-are k shares axis (index axis cell) are) in
-    let digests : AreDigests leaves = digests-leaves (axis_names k shares axis (index axis cell)) (axis_shares k shares axis (index axis cell)) named in
+-- a cell on an axis has numbers of two bytes
+cell_bytes : (k : ℕ) (axis : Axis) (i pos : ℕ) → IsTrue (is_width k) → i < 2 * k → pos < 2 * k
+    → ((cell_on axis i pos).row < 2 ^ 16) × ((cell_on axis i pos).col < 2 ^ 16)
+cell_bytes k Row i pos width hi hp = (number-lt-two_bytes k i width hi, number-lt-two_bytes k pos width hp)
+cell_bytes k Col i pos width hi hp = (number-lt-two_bytes k pos width hp, number-lt-two_bytes k i width hi)
+
+-- a line has 2k leaves
+pub length-line_leaves : (k : ℕ) (axis : Axis) (i : ℕ) (line : List Share) → length line ≡ 2 * k → length (line_leaves k axis i line) ≡ 2 * k
+length-line_leaves k axis i line long =
+    let named : length (line_names k axis i line) ≡ 2 * k = length-line_names k axis i line in
+    length-leaf_digests (line_names k axis i line) line (named ∙ sym long) ∙ named
+
+-- the message of a position of a line has the sizes of a message
+pub sizes-line_message : (k : ℕ) (axis : Axis) (i pos : ℕ) (line : List Share) → IsTrue (is_width k) → i < 2 * k → pos < 2 * k → length line ≡ 2 * k
+    → AreShares line → IsMessage (line_message k axis i line pos)
+sizes-line_message k axis i pos line width hi hp long are =
+    let leaves : List Digest = line_leaves k axis i line in
+    let part : Part = given (get_or leaves pos no_digest) in
+    let digests : AreDigests leaves = digests-leaves (line_names k axis i line) line (line_names-are k axis i line are) in
+    let numbers = cell_bytes k axis i pos width hi hp in
     record {
-      row = number-lt-two_bytes k cell.row width (inside k cell within).0;
-      col = number-lt-two_bytes k cell.col width (inside k cell within).1;
-      share = share_anywhere shares (cell.row * (2 * k) + cell.col) are;
+      row = numbers.0;
+      col = numbers.1;
+      share = share_anywhere line pos are;
       few = omega (
         arith,
-        length-map (outside (halvings (2 * k)) 0 (one_place (position axis cell) part)) (λ (i : ℕ × ℕ). span leaves i.0 i.1),
-        length-outside-one (halvings (2 * k)) 0 (position axis cell) part,
+        length-map (outside (halvings (2 * k)) 0 (one_place pos part)) (λ (x : ℕ × ℕ). span leaves x.0 x.1),
+        length-outside-one (halvings (2 * k)) 0 pos part,
         halvings-le k width,
       );
-      nodes = digests-outside (halvings (2 * k)) 0 (position axis cell) part leaves digests
-          (omega (arith, leaf_count k width, length-leaves k shares axis (index axis cell)));
+      nodes = digests-outside (halvings (2 * k)) 0 pos part leaves digests (omega (arith, leaf_count k width, length-line_leaves k axis i line long));
     }

@@ -12,8 +12,10 @@ use crate::Grid;
 use namespace_id::{Axis, Cell, Digest, Namespace, Share, leaf_namespace};
 use nmt_tree::strict_root;
 
-/// The cell at a place of a row or a column.
-pub(crate) fn cell_on(axis: Axis, index: u16, pos: u16) -> Cell
+/// The cell at a position of a row or a column of this index.
+///
+/// docs/RULES.md, "Proved messages".
+pub fn cell_on(axis: Axis, index: u16, pos: u16) -> Cell
     ensures { result ≡ cell_on axis index pos }
 {
     match axis {
@@ -72,7 +74,9 @@ pub(crate) fn read_names(grid: &Grid, axis: Axis, index: u16, line: &mut [Namesp
 
 /// Writes the leaf namespaces of a line of 2k shares, taken as a row or a column of a square of width
 /// `k`.
-fn name_leaves(k: u16, axis: Axis, index: u16, line: &[Share], names: &mut [Namespace])
+///
+/// Celestia specifications, "Data Structures", erasure coding.
+pub fn name_leaves(k: u16, axis: Axis, index: u16, line: &[Share], names: &mut [Namespace])
     requires width { IsTrue (is_width k) }
     requires index { index < 2 * k }
     requires line { length line.now ≡ 2 * k }

@@ -1,5 +1,6 @@
 use Rattle.axis_roots.proofs.Messages.ClaimLemmas.{bad_or_fits, bad_apart}
 use Rattle.axis_roots.proofs.Messages.FalseClaimLemmas.{accepted_false}
+use Rattle.axis_roots.proofs.Messages.ProofLemmas.{proof_accepted}
 use Rattle.axis_roots.proofs.claims.claim_laws.Goals as goal
 
 pub returns-clause-decided : goal.returns-clause-decided
@@ -10,3 +11,6 @@ returns-clause-apart c = bad_apart
 
 pub returns-clause-own : goal.returns-clause-own
 returns-clause-own c = accepted_false
+
+pub returns-clause-proof : goal.returns-clause-proof
+returns-clause-proof c = proof_accepted
