@@ -69,9 +69,10 @@ impl Clash {
         Clash { left, right }
     }
 
-    /// The first string.
+    /// The first string. That both are a collision is said with it.
     pub fn left(&self) -> &Preimage
-        ensures { result.now ≡ self.now.left }
+        ensures value { result.now ≡ self.now.left }
+        ensures clash { IsClash self.now.left self.now.right }
     {
         &self.left
     }
