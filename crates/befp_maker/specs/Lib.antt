@@ -1,0 +1,4 @@
+pub mod Rooms
+pub mod Halves
+pub mod Conflicts
+pub mod Gathered
