@@ -1,20 +1,23 @@
 -- k positions of a row or a column, and the codeword through their shares.
-use Rattle.std.proofs.Common.{◌≡◌, ◌∙◌, ℕ, zero, suc, ◌*◌, ◌<◌, List, [], ◌∷◌, length, get_or, refl, sym, ap, subst, arith, IsTrue}
-use Rattle.std.specs.Prelude.{Some}
-use Rattle.std.specs.List.{Contains}
+use Rattle.std.proofs.Common.{◌≡◌, ◌∙◌, ℕ, zero, suc, ◌+◌, ◌-◌, ◌*◌, ◌<◌, ◌≤◌, List, [], ◌∷◌, ◌++◌, length, get_or, Bool, true, refl, sym, ap, subst, arith, IsTrue, length-append, inl, inr}
+use Rattle.std.specs.Prelude.{Some, nat_lt, if◌then◌else◌}
+use Rattle.std.specs.List.{Contains, list_all}
+use Rattle.std.proofs.lemmas.Bool.{cases_Bool, and_from}
+use Rattle.std.proofs.lemmas.Bool.Decides.{nat_tests}
 use Rattle.std.proofs.lemmas.List.{get_or_default}
 use Rattle.std.proofs.lemmas.Option.{slice_get-get_or, get_or_from_slice_get}
 use Rattle.namespace_id.specs.declared.shares.Share.{Share}
 use Rattle.namespace_id.specs.Shares.{IsShare, AreShares}
 use Rattle.namespace_id.specs.Cells.{is_width}
-use Rattle.namespace_id.specs.Lists.{ascending}
+use Rattle.namespace_id.specs.Lists.{holds_along, ascending}
 use Rattle.namespace_id.proofs.AscendingLemmas.{length-ascending}
 use Rattle.leopard_code.specs.Codewords.{IsCodeword}
 use Rattle.leopard_code.proofs.LawLemmas.{one_codeword, through_shares}
 use Rattle.leopard_code.proofs.PositionLemmas.{position-lt}
-use Rattle.axis_roots.specs.Lines.{blank}
+use Rattle.axis_roots.specs.Lines.{blank, entry}
 use Rattle.axis_roots.proofs.Grids.WordLemmas.{first_positions}
-use Rattle.repair_queue.specs.Closures.{AreChosen, entry}
+use Rattle.befp_maker.specs.Conflicts.{positions_with}
+use Rattle.repair_queue.specs.Closures.{AreChosen}
 use Rattle.repair_queue.proofs.MemberLemmas.{contains_head, contains_tail}
 
 -- a number of a list that stands at a place of it
@@ -29,6 +32,42 @@ chosen-lt k chosen are p (i, h, e) =
 -- the first k positions may be chosen
 pub first_chosen : (k : ℕ) → AreChosen k (ascending 0 k)
 first_chosen k = record { count = length-ascending k 0; positions = first_positions k }
+
+-- a position behind some ascending ones: all are below a bound above it
+below_then : (n first pos high : ℕ) → first + n ≤ pos → pos < high → list_all (λ p. nat_lt p high) (ascending first n ++ pos ∷ []) ≡ true
+unfolding ascending
+below_then zero first pos high before below =
+    let here : nat_lt pos high ≡ true = grind (arith, nat_tests) in and_from (nat_lt pos high) true here refl
+below_then (suc n) first pos high before below =
+    let here : nat_lt first high ≡ true = grind (arith, nat_tests) in
+    and_from (nat_lt first high) (list_all (λ p. nat_lt p high) (ascending (suc first) n ++ pos ∷ [])) here
+    (below_then n (suc first) pos high (omega arith) below)
+
+-- and they ascend
+along_then : (n first pos : ℕ) → first + n ≤ pos → holds_along nat_lt (ascending first n ++ pos ∷ []) ≡ true
+unfolding holds_along ascending
+along_then zero first pos before = refl
+along_then (suc zero) first pos before =
+    let here : nat_lt first pos ≡ true = grind (arith, nat_tests) in and_from (nat_lt first pos) true here refl
+along_then (suc (suc n)) first pos before =
+    let next : nat_lt first (suc first) ≡ true = grind (arith, nat_tests) in
+    and_from (nat_lt first (suc first)) (holds_along nat_lt (ascending (suc first) (suc n) ++ pos ∷ [])) next
+    (along_then (suc n) (suc first) pos (omega arith))
+
+-- a position and the first k - 1 others may be chosen
+pub with_chosen : (k pos : ℕ) → 0 < k → pos < 2 * k → AreChosen k (positions_with k pos)
+unfolding positions_with
+with_chosen k pos some below = elim (cases_Bool (nat_lt pos k)) [
+  | inl among ↦ subst (λ (b : Bool). AreChosen k (if b then ascending 0 k else ascending 0 (k - 1) ++ pos ∷ [])) (sym among) (first_chosen k)
+  | inr behind ↦
+      let past : k ≤ pos = grind (arith, nat_tests) in
+      let chosen : AreChosen k (ascending 0 (k - 1) ++ pos ∷ []) = record {
+        count = omega (arith, length-append (ascending 0 (k - 1)) (pos ∷ []), length-ascending (k - 1) 0);
+        positions = and_from (list_all (λ p. nat_lt p (2 * k)) (ascending 0 (k - 1) ++ pos ∷ [])) (holds_along nat_lt (ascending 0 (k - 1) ++ pos ∷ []))
+            (below_then (k - 1) 0 pos (2 * k) (omega arith) below) (along_then (k - 1) 0 pos (omega arith));
+      } in
+      subst (λ (b : Bool). AreChosen k (if b then ascending 0 k else ascending 0 (k - 1) ++ pos ∷ [])) (sym behind) chosen
+]
 
 -- where k isn't 0 some position is chosen
 pub some_chosen : (k : ℕ) (chosen : List ℕ) → 0 < k → AreChosen k chosen → (p : ℕ) × Contains chosen p

@@ -10,9 +10,9 @@ use Rattle.leopard_code.specs.Codewords.{IsCodeword}
 use Rattle.data_header.specs.Headers.{Roots}
 use Rattle.axis_roots.specs.declared.message.messages.Message.{Message}
 use Rattle.axis_roots.specs.Openings.{IsProved}
-use Rattle.axis_roots.specs.Lines.{cell_on}
+use Rattle.axis_roots.specs.Lines.{cell_on, entry}
 use Rattle.axis_roots.proofs.Grids.WordLemmas.{share_anywhere}
-use Rattle.repair_queue.specs.Closures.{AreChosen, entry, Half, seen, filled, Fact, shown, rebuilt, IsDecided, Covers}
+use Rattle.repair_queue.specs.Closures.{AreChosen, Half, seen, filled, Fact, shown, rebuilt, IsDecided, Covers}
 use Rattle.repair_queue.proofs.ChosenLemmas.{some_chosen, codeword_through}
 
 module _ (header : Roots) (ms : List Message) where

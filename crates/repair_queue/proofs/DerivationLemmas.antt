@@ -6,8 +6,8 @@ use Rattle.namespace_id.specs.declared.cells.Cell.{Cell}
 use Rattle.namespace_id.specs.declared.shares.Share.{Share}
 use Rattle.data_header.specs.Headers.{Roots}
 use Rattle.axis_roots.specs.declared.message.messages.Message.{Message}
-use Rattle.axis_roots.specs.Lines.{cell_on}
-use Rattle.repair_queue.specs.Closures.{entry, Half, seen, filled, Fact, shown, rebuilt}
+use Rattle.axis_roots.specs.Lines.{cell_on, entry}
+use Rattle.repair_queue.specs.Closures.{Half, seen, filled, Fact, shown, rebuilt}
 use Rattle.repair_queue.specs.Derivations.{AreDerived, IsListed, IsSeen, IsFilled, IsShownPair, IsRebuiltPair}
 use Rattle.repair_queue.proofs.MemberLemmas.{contains_head, contains_tail, contains_none, contains_cons}
 

@@ -14,12 +14,12 @@ use Rattle.data_header.specs.Headers.{Roots}
 use Rattle.axis_roots.specs.declared.message.messages.Message.{Message}
 use Rattle.axis_roots.specs.Messages.{position, index}
 use Rattle.axis_roots.specs.Openings.{IsProved}
-use Rattle.axis_roots.specs.Lines.{blank, cell_on, line_strict_root}
-use Rattle.axis_roots.specs.Claims.{ClaimParts, positions_of, ShowsBad, claimed_root, Accepts}
+use Rattle.axis_roots.specs.Lines.{blank, cell_on, line_strict_root, entry}
+use Rattle.axis_roots.specs.Claims.{ClaimParts, positions_of, ShowsBad, claimed_root}
 use Rattle.axis_roots.proofs.Grids.AxisLemmas.{cell_on-own}
 use Rattle.axis_roots.proofs.Grids.NumberLemmas.{position-lt}
 use Rattle.axis_roots.proofs.Messages.ClaimLemmas.{Shape, shape_of}
-use Rattle.repair_queue.specs.Closures.{AreChosen, entry, Fact, IsDecided}
+use Rattle.repair_queue.specs.Closures.{AreChosen, Fact, IsDecided}
 use Rattle.repair_queue.specs.Settled.{IsLineSettled, IsSettled}
 use Rattle.repair_queue.specs.Verdicts.{IsFraud}
 use Rattle.repair_queue.proofs.MemberLemmas.{contains_none, contains_cons}
@@ -36,16 +36,16 @@ positions_below header axis (m ∷ cells) proved =
     and_from (nat_lt (position axis m.cell) (2 * header.k)) (list_all (λ pos. nat_lt pos (2 * header.k)) (map (λ n. position axis n.cell) cells)) here
     (positions_below header axis cells proved.1)
 
--- the positions of an accepted claim's cells are k positions
-claim_chosen : (header : Roots) (claim : ClaimParts) → Accepts header claim → Shape header.k claim → AreChosen header.k (positions_of claim)
-claim_chosen header claim accepts shape = record {
+-- the positions of a claim's cells, which are proved, are k positions
+pub claim_chosen : (header : Roots) (claim : ClaimParts) → AllByRecursion (IsProved header) claim.cells → Shape header.k claim → AreChosen header.k (positions_of claim)
+claim_chosen header claim proved shape = record {
   count = length-map claim.cells (λ m. position claim.axis m.cell) ∙ shape.count;
   positions = and_from (list_all (λ pos. nat_lt pos (2 * header.k)) (positions_of claim)) (holds_along nat_lt (positions_of claim))
-      (positions_below header claim.axis claim.cells accepts.proved) shape.rising;
+      (positions_below header claim.axis claim.cells proved) shape.rising;
 }
 
 -- at the positions of messages that are facts stand facts
-facts_there : (header : Roots) (ms : List Message) (axis : Axis) (i : ℕ) (cells : List Message) (word : List Share)
+pub facts_there : (header : Roots) (ms : List Message) (axis : Axis) (i : ℕ) (cells : List Message) (word : List Share)
     → list_all (λ m. index axis m.cell == i) cells ≡ true → AllByRecursion (λ m. Fact header ms m.cell m.share) cells
     → HasEntries (map (λ m. position axis m.cell) cells) (map (λ m. m.share) cells) word
     → (p : ℕ) → Contains (map (λ m. position axis m.cell) cells) p → Fact header ms (cell_on axis i p) (entry word p)
@@ -70,7 +70,7 @@ pub fraud_unsettled : (header : Roots) (ms : List Message) (claim : ClaimParts) 
 fraud_unsettled header ms claim fraud settled =
     let bad : ShowsBad header.k claim (claimed_root header claim) = fraud.accepts.bad in
     let shape : Shape header.k claim = shape_of header.k claim bad.shape in
-    let are : AreChosen header.k (positions_of claim) = claim_chosen header claim fraud.accepts shape in
+    let are : AreChosen header.k (positions_of claim) = claim_chosen header claim fraud.accepts.proved shape in
     let known : (p : ℕ) → Contains (positions_of claim) p → Fact header ms (cell_on claim.axis claim.index p) (entry bad.word p) =
     facts_there header ms claim.axis claim.index claim.cells bad.word shape.on fraud.facts bad.through.entries in
     let d : IsDecided header ms claim.axis claim.index = record {

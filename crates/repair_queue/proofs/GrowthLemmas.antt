@@ -5,10 +5,10 @@ use Rattle.namespace_id.specs.declared.cells.Axis.{Axis}
 use Rattle.nmt_proofs.specs.Parts.{Part}
 use Rattle.data_header.specs.Headers.{Roots}
 use Rattle.axis_roots.specs.declared.message.messages.Message.{Message}
-use Rattle.axis_roots.specs.Lines.{cell_on}
+use Rattle.axis_roots.specs.Lines.{cell_on, entry}
 use Rattle.axis_roots.specs.Grids.{share_at}
 use Rattle.axis_roots.specs.Claims.{ClaimParts}
-use Rattle.repair_queue.specs.Closures.{entry, Fact, IsDecided, Covers}
+use Rattle.repair_queue.specs.Closures.{Fact, IsDecided, Covers}
 use Rattle.repair_queue.specs.Settled.{IsLineSettled, IsSettled}
 use Rattle.repair_queue.specs.Verdicts.{VerdictParts, whole, missing, fraud, clash, IsFraud, IsKnownTree, of_message, of_line, IsFoundClash, IsVerdict}
 use Rattle.repair_queue.proofs.ClosureLemmas.{half_grows, fact_grows}

@@ -22,13 +22,13 @@ use Rattle.square_layout.specs.Blocks.{SquareShares}
 use Rattle.axis_roots.specs.declared.message.messages.Message.{Message}
 use Rattle.axis_roots.specs.Messages.{IsMessage, index, shown_by}
 use Rattle.axis_roots.specs.Openings.{IsProved}
-use Rattle.axis_roots.specs.Lines.{blank, cell_on, line_names, line_strict_root, line_tree}
+use Rattle.axis_roots.specs.Lines.{blank, cell_on, line_names, line_strict_root, line_tree, entry}
 use Rattle.axis_roots.specs.Grids.{share_at, axis_shares, axis_tree, IsHeaderOf}
 use Rattle.axis_roots.specs.Own.{opened_by, NamesClash}
 use Rattle.axis_roots.proofs.Grids.AxisLemmas.{length-along, get_or-along, is_along}
 use Rattle.axis_roots.proofs.Grids.LineLemmas.{line_leaves}
 use Rattle.axis_roots.proofs.Grids.HeaderLemmas.{header_strict}
-use Rattle.repair_queue.specs.Closures.{entry, Half, Fact}
+use Rattle.repair_queue.specs.Closures.{Half, Fact}
 use Rattle.repair_queue.specs.Settled.{IsSettled, CellsFit}
 use Rattle.repair_queue.specs.Verdicts.{VerdictParts, whole, missing, fraud, clash, IsWhole, IsKnownTree, of_message, of_line, IsFoundClash, IsVerdict, IsOwnVerdict}
 use Rattle.repair_queue.proofs.ChosenLemmas.{chosen-lt, codeword_once}

@@ -10,9 +10,9 @@ use Rattle.leopard_code.specs.Codewords.{IsCodeword}
 use Rattle.data_header.specs.Headers.{Roots}
 use Rattle.axis_roots.specs.declared.message.messages.Message.{Message}
 use Rattle.axis_roots.specs.Messages.{index}
-use Rattle.axis_roots.specs.Lines.{blank, cell_on}
+use Rattle.axis_roots.specs.Lines.{blank, cell_on, entry}
 use Rattle.axis_roots.proofs.Grids.AxisLemmas.{index-cell_on, get_or-along}
-use Rattle.repair_queue.specs.Closures.{AreChosen, entry, Half, seen, filled, Fact, shown, rebuilt, IsDecided}
+use Rattle.repair_queue.specs.Closures.{AreChosen, Half, seen, filled, Fact, shown, rebuilt, IsDecided}
 use Rattle.repair_queue.specs.Settled.{IsLineSettled, IsSettled, Lines, Fits, along, CellsFit}
 use Rattle.repair_queue.proofs.ChosenLemmas.{chosen-lt, codeword_once}
 use Rattle.repair_queue.proofs.ClosureLemmas.{fact_least, half_fact, decided_half, decided_width, decided_word}

@@ -1,6 +1,6 @@
 -- What follows from proved messages by the code: cells that are known, and their shares (docs/RULES.md, "Closures and
 -- verdicts").
-use Rattle.std.specs.Prelude.{◌≡◌, ℕ, ◌*◌, ◌<◌, List, length, get_or, true}
+use Rattle.std.specs.Prelude.{◌≡◌, ℕ, ◌*◌, ◌<◌, List, length, true}
 use Rattle.std.specs.List.{Contains}
 use Rattle.namespace_id.specs.declared.cells.Cell.{Cell}
 use Rattle.namespace_id.specs.declared.cells.Axis.{Axis}
@@ -9,16 +9,12 @@ use Rattle.leopard_code.specs.Codewords.{are_positions, IsCodeword}
 use Rattle.data_header.specs.Headers.{Roots}
 use Rattle.axis_roots.specs.declared.message.messages.Message.{Message}
 use Rattle.axis_roots.specs.Openings.{IsProved}
-use Rattle.axis_roots.specs.Lines.{blank, cell_on}
+use Rattle.axis_roots.specs.Lines.{cell_on, entry}
 
 -- k different positions on a row or a column of 2k cells, ascending
 pub record AreChosen (k : ℕ) (chosen : List ℕ) : Type 0 where
   pub count : length chosen ≡ k
   pub positions : are_positions k chosen ≡ true
-
--- the share at a position of a row or a column
-abbrev pub entry : List Share → ℕ → Share
-entry line pos = get_or line pos blank
 
 -- the recoverable cells, a closure by halves: the least set that holds the cells of proved messages and, with k cells
 -- of a row or a column, all 2k of it

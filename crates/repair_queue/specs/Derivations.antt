@@ -8,8 +8,8 @@ use Rattle.leopard_code.specs.Codewords.{IsCodeword}
 use Rattle.data_header.specs.Headers.{Roots}
 use Rattle.axis_roots.specs.declared.message.messages.Message.{Message}
 use Rattle.axis_roots.specs.Openings.{IsProved}
-use Rattle.axis_roots.specs.Lines.{cell_on}
-use Rattle.repair_queue.specs.Closures.{AreChosen, entry}
+use Rattle.axis_roots.specs.Lines.{cell_on, entry}
+use Rattle.repair_queue.specs.Closures.{AreChosen}
 
 -- each item of a list is given, or follows from items behind it
 abbrev pub AreDerived : {A : Type 0} → (A → Type 0) → (List A → A → Type 0) → List A → Type 0

@@ -2,3 +2,8 @@ pub mod Closures
 pub mod Derivations
 pub mod Settled
 pub mod Verdicts
+pub mod Slots
+pub mod Repairs
+pub mod Lines
+pub mod Steps
+pub mod Answers

@@ -9,9 +9,9 @@ use Rattle.data_header.specs.Headers.{Roots, root_of}
 use Rattle.axis_roots.specs.declared.message.messages.Message.{Message}
 use Rattle.axis_roots.specs.Messages.{index}
 use Rattle.axis_roots.specs.Openings.{IsProved}
-use Rattle.axis_roots.specs.Lines.{cell_on, line_strict_root}
+use Rattle.axis_roots.specs.Lines.{cell_on, line_strict_root, entry}
 use Rattle.axis_roots.specs.Grids.{axis_cells}
-use Rattle.repair_queue.specs.Closures.{entry, Fact, IsDecided}
+use Rattle.repair_queue.specs.Closures.{Fact, IsDecided}
 
 -- the facts hold exactly one share at each cell of a row or a column, and the strict root of these is the header's
 pub record IsLineSettled (header : Roots) (ms : List Message) (axis : Axis) (i : ℕ) : Type 0 where

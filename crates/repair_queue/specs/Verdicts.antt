@@ -12,11 +12,11 @@ use Rattle.square_layout.specs.Blocks.{SquareShares}
 use Rattle.axis_roots.specs.declared.message.messages.Message.{Message}
 use Rattle.axis_roots.specs.Messages.{index}
 use Rattle.axis_roots.specs.Openings.{IsProved}
-use Rattle.axis_roots.specs.Lines.{cell_on, line_root, line_tree}
+use Rattle.axis_roots.specs.Lines.{cell_on, line_root, line_tree, entry}
 use Rattle.axis_roots.specs.Grids.{share_at, IsHeaderOf}
 use Rattle.axis_roots.specs.Own.{opened_by}
 use Rattle.axis_roots.specs.Claims.{ClaimParts, Accepts}
-use Rattle.repair_queue.specs.Closures.{entry, Half, Fact}
+use Rattle.repair_queue.specs.Closures.{Half, Fact}
 use Rattle.repair_queue.specs.Settled.{IsSettled}
 
 -- an answer: the square, the cells that are missing, a fraud claim, or two strings with one SHA-256 digest

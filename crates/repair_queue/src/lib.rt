@@ -1,11 +1,22 @@
 //! What k proved samples of a row or a column say of the rest of it, and so on for the whole extended data
-//! square: what repair may answer for a header and a list of samples.
+//! square: its repair.
 //!
-//! There are definitions and laws today, and no call that repairs yet. `closure_laws` is on the cells and
-//! shares that follow from proved samples, `settled_laws` on when these fit the header, `verdict_laws` on the
-//! answers.
+//! `repair_list` answers a square with the header, missing cells, a fraud proof or a SHA-256 collision.
+//! `closure_laws` is on the cells and shares that follow from proved samples, `settled_laws` on when these fit
+//! the header, `verdict_laws` on the answers.
 #![tactic(auto)]
 
+mod answering;
+mod conflicts;
+mod deciding;
+mod ending;
 mod laws;
+mod repairing;
+mod scanning;
+mod slots;
+mod taking;
+mod verdict;
 
 pub use laws::{closure_laws, settled_laws, verdict_laws};
+pub use repairing::repair_list;
+pub use verdict::Verdict;
