@@ -7,10 +7,10 @@ use Rattle.std.proofs.lemmas.List.{length-append, nil_from_length, drop_at}
 use Rattle.std.proofs.lemmas.Option.{same_Some, some_pair_parts}
 use Rattle.namespace_id.specs.Bytes.{AreBytes}
 use Rattle.da_wire.specs.declared.frames.Frame.{Frame}
-use Rattle.da_wire.specs.declared.frames.Frame.TheVariants.{Header, Square, Message, Names, Fraud, Missing, Sample, Request, Block}
+use Rattle.da_wire.specs.declared.frames.Frame.TheVariants.{Header, Square, Message, Names, Fraud, Missing, Clash, Sample, Request, Block}
 use Rattle.da_wire.specs.declared.frames.FrameError.{FrameError}
 use Rattle.da_wire.specs.declared.frames.FrameError.TheVariants.{Truncated, BadKind}
-use Rattle.da_wire.specs.Spelling.{max_payload, frame, spelled, spelling, IsFrame, header_kind, square_kind, message_kind, names_kind, fraud_kind, missing_kind, sample_kind, request_kind, block_kind}
+use Rattle.da_wire.specs.Spelling.{max_payload, frame, spelled, spelling, IsFrame, header_kind, square_kind, message_kind, names_kind, fraud_kind, missing_kind, clash_kind, sample_kind, request_kind, block_kind}
 use Rattle.da_wire.specs.kinds.Block.{asks_for_zero, block_payload}
 use Rattle.da_wire.specs.kinds.Header.{header_payload}
 use Rattle.da_wire.specs.kinds.Square.{square_payload}
@@ -18,6 +18,7 @@ use Rattle.da_wire.specs.kinds.Message.{message_payload}
 use Rattle.da_wire.specs.kinds.Names.{names_payload, is_long_answer}
 use Rattle.da_wire.specs.kinds.Fraud.{fraud_payload, is_long_claim}
 use Rattle.da_wire.specs.kinds.Missing.{missing_payload}
+use Rattle.da_wire.specs.kinds.Clash.{has_empty, clash_payload}
 use Rattle.da_wire.specs.kinds.Requests.{sample_payload, request_payload}
 use Rattle.da_wire.specs.Reading.{Raw, raw_of, is_kind, value_at, valued, value_of, tested_raw, tested_frame, frame_of}
 use Rattle.da_wire.specs.Frames.{ok_of}
@@ -51,6 +52,8 @@ head_is (Fraud claim) text e =
     head_of fraud_kind (fraud_payload claim) text (if_false (is_long_claim claim) (spelled fraud_kind (fraud_payload claim)) text e).1
 head_is (Missing cells) text e =
     head_of missing_kind (missing_payload cells) text (if_false (eqb (length cells.list) 0) (spelled missing_kind (missing_payload cells)) text e).1
+head_is (Clash clash) text e =
+    head_of clash_kind (clash_payload clash) text (if_false (has_empty clash) (spelled clash_kind (clash_payload clash)) text e).1
 head_is (Sample cell axis) text e = head_of sample_kind (sample_payload cell axis) text e
 head_is (Request name) text e = head_of request_kind (request_payload name) text e
 head_is (Block b) text e =

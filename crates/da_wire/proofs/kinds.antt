@@ -13,6 +13,7 @@ pub mod Entries
 pub mod NamesForm
 pub mod NamesSizes
 pub mod FraudForm
+pub mod ClashForm
 pub mod BlockParts
 pub mod PayloadSizes
 pub mod FraudSizes

@@ -8,17 +8,18 @@ use Rattle.da_wire.specs.declared.frames.Frame.{Frame}
 use Rattle.da_wire.specs.declared.kinds.Kind.{Kind}
 use Rattle.da_wire.specs.declared.kinds.Kind.TheVariants as kinds
 use Rattle.da_wire.specs.codec.Fields.{◌>>=◌}
-use Rattle.da_wire.specs.declared.frames.Frame.TheVariants.{Header, Square, Message, Names, Fraud, Missing, Sample, Request, Block}
+use Rattle.da_wire.specs.declared.frames.Frame.TheVariants.{Header, Square, Message, Names, Fraud, Missing, Clash, Sample, Request, Block}
 use Rattle.da_wire.specs.declared.frames.RawFrame.{RawFrame}
 use Rattle.da_wire.specs.declared.frames.FrameError.{FrameError}
 use Rattle.da_wire.specs.declared.frames.FrameError.TheVariants.{Truncated, BadKind, TooLong, BadPayload, Trailing}
-use Rattle.da_wire.specs.Spelling.{max_payload, header_kind, square_kind, message_kind, names_kind, fraud_kind, missing_kind, sample_kind, request_kind, block_kind}
+use Rattle.da_wire.specs.Spelling.{max_payload, header_kind, square_kind, message_kind, names_kind, fraud_kind, missing_kind, clash_kind, sample_kind, request_kind, block_kind}
 use Rattle.da_wire.specs.kinds.Header.{header_at}
 use Rattle.da_wire.specs.kinds.Square.{square_at}
 use Rattle.da_wire.specs.kinds.Message.{message_at}
 use Rattle.da_wire.specs.kinds.Names.{names_at}
 use Rattle.da_wire.specs.kinds.Fraud.{fraud_at}
 use Rattle.da_wire.specs.kinds.Missing.{missing_at}
+use Rattle.da_wire.specs.kinds.Clash.{clash_at}
 use Rattle.da_wire.specs.kinds.Requests.{sample_at, request_at}
 use Rattle.da_wire.specs.kinds.Block.{block_at}
 
@@ -33,9 +34,10 @@ kind_at byte =
     (if byte == names_kind then Some kinds.Names else
     (if byte == fraud_kind then Some kinds.Fraud else
     (if byte == missing_kind then Some kinds.Missing else
+    (if byte == clash_kind then Some kinds.Clash else
     (if byte == sample_kind then Some kinds.Sample else
     (if byte == request_kind then Some kinds.Request else
-    (if byte == block_kind then Some kinds.Block else None))))))))
+    (if byte == block_kind then Some kinds.Block else None)))))))))
 
 -- whether there are values of this kind
 abbrev pub is_kind : ℕ → Bool
@@ -49,6 +51,7 @@ value_of_kind kinds.Message payload = option_map Message (message_at payload)
 value_of_kind kinds.Names payload = option_map (λ n. Names n.0 n.1) (names_at payload)
 value_of_kind kinds.Fraud payload = option_map Fraud (fraud_at payload)
 value_of_kind kinds.Missing payload = option_map Missing (missing_at payload)
+value_of_kind kinds.Clash payload = option_map Clash (clash_at payload)
 value_of_kind kinds.Sample payload = option_map (λ s. Sample s.0 s.1) (sample_at payload)
 value_of_kind kinds.Request payload = option_map Request (request_at payload)
 value_of_kind kinds.Block payload = option_map Block (block_at payload)

@@ -7,7 +7,7 @@ use Rattle.square_layout.specs.Blocks.{IsSquare, IsBlock}
 use Rattle.da_wire.specs.declared.frames.Frame.{Frame}
 use Rattle.da_wire.specs.declared.kinds.Kind.{Kind}
 use Rattle.da_wire.specs.declared.kinds.Kind.TheVariants as kinds
-use Rattle.da_wire.specs.declared.frames.Frame.TheVariants.{Header, Square, Message, Names, Fraud, Missing, Sample, Request, Block}
+use Rattle.da_wire.specs.declared.frames.Frame.TheVariants.{Header, Square, Message, Names, Fraud, Missing, Clash, Sample, Request, Block}
 use Rattle.namespace_id.specs.Names.{IsNamespace}
 use Rattle.namespace_id.specs.Shares.{AreShares}
 use Rattle.axis_roots.specs.Messages.{IsMessage}
@@ -20,6 +20,7 @@ use Rattle.da_wire.specs.kinds.Message.{message_payload}
 use Rattle.da_wire.specs.kinds.Names.{names_payload, is_long_answer}
 use Rattle.da_wire.specs.kinds.Fraud.{fraud_payload, is_long_claim}
 use Rattle.da_wire.specs.kinds.Missing.{missing_payload}
+use Rattle.da_wire.specs.kinds.Clash.{AreStrings, has_empty, clash_payload}
 use Rattle.da_wire.specs.kinds.Requests.{sample_payload, request_payload}
 use Rattle.da_wire.specs.kinds.Block.{block_payload, asks_for_zero}
 
@@ -51,6 +52,10 @@ fraud_kind = 0x42
 abbrev pub missing_kind : ℕ
 missing_kind = 0x4b
 
+-- the kind of a collision: `X`
+abbrev pub clash_kind : ℕ
+clash_kind = 0x58
+
 -- the kind of a request for the sample of a cell: `Q`
 abbrev pub sample_kind : ℕ
 sample_kind = 0x51
@@ -71,6 +76,7 @@ kind_byte kinds.Message = message_kind
 kind_byte kinds.Names = names_kind
 kind_byte kinds.Fraud = fraud_kind
 kind_byte kinds.Missing = missing_kind
+kind_byte kinds.Clash = clash_kind
 kind_byte kinds.Sample = sample_kind
 kind_byte kinds.Request = request_kind
 kind_byte kinds.Block = block_kind
@@ -86,7 +92,8 @@ abbrev pub spelled : ℕ → List ℕ → Option (List ℕ)
 spelled kind payload = if nat_lt max_payload (length payload) then None else Some (frame kind payload)
 
 -- the spelling of a value, where it has one: no cells are no missing cells, 0 is no width to ask for, an
--- answer has up to 128 entries, each of up to 128 shares, and a claim has up to 128 cells
+-- answer has up to 128 entries, each of up to 128 shares, a claim has up to 128 cells, and no string of a
+-- collision is empty
 abbrev pub spelling : Frame → Option (List ℕ)
 spelling (Header h) = spelled header_kind (header_payload h)
 spelling (Square s) = spelled square_kind (square_payload s)
@@ -97,6 +104,7 @@ spelling (Fraud claim) =
     if is_long_claim claim then None else spelled fraud_kind (fraud_payload claim)
 spelling (Missing cells) =
     if length cells.list == 0 then None else spelled missing_kind (missing_payload cells)
+spelling (Clash clash) = if has_empty clash then None else spelled clash_kind (clash_payload clash)
 spelling (Sample cell axis) = spelled sample_kind (sample_payload cell axis)
 spelling (Request name) = spelled request_kind (request_payload name)
 spelling (Block b) = if asks_for_zero b.width then None else spelled block_kind (block_payload b)
@@ -111,6 +119,7 @@ IsFrame (Message m) = IsMessage m
 IsFrame (Names name answer) = IsNamespace name × AreEntries answer
 IsFrame (Fraud claim) = IsClaim claim
 IsFrame (Missing cells) = AreCells cells
+IsFrame (Clash clash) = AreStrings clash
 IsFrame (Sample cell axis) = IsCell cell
 IsFrame (Request name) = IsNamespace name
 IsFrame (Block b) = IsBlock b

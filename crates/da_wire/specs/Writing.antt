@@ -1,15 +1,16 @@
 -- The two parts of a spelling: a value's kind and its payload.
 use Rattle.std.specs.Prelude.{◌≡◌, ◌≤◌, ◌<◌, ◌^◌, ℕ, List, ◌++◌, length, drop, Ok, Option, Some, None, MatchOption}
 use Rattle.da_wire.specs.declared.frames.Frame.{Frame}
-use Rattle.da_wire.specs.declared.frames.Frame.TheVariants.{Header, Square, Message, Names, Fraud, Missing, Sample, Request, Block}
+use Rattle.da_wire.specs.declared.frames.Frame.TheVariants.{Header, Square, Message, Names, Fraud, Missing, Clash, Sample, Request, Block}
 use Rattle.da_wire.specs.Reading.{frame_of}
-use Rattle.da_wire.specs.Spelling.{max_payload, frame, spelling, header_kind, square_kind, message_kind, names_kind, fraud_kind, missing_kind, sample_kind, request_kind, block_kind}
+use Rattle.da_wire.specs.Spelling.{max_payload, frame, spelling, header_kind, square_kind, message_kind, names_kind, fraud_kind, missing_kind, clash_kind, sample_kind, request_kind, block_kind}
 use Rattle.da_wire.specs.kinds.Header.{header_payload}
 use Rattle.da_wire.specs.kinds.Square.{square_payload}
 use Rattle.da_wire.specs.kinds.Message.{message_payload}
 use Rattle.da_wire.specs.kinds.Names.{names_payload}
 use Rattle.da_wire.specs.kinds.Fraud.{fraud_payload}
 use Rattle.da_wire.specs.kinds.Missing.{missing_payload}
+use Rattle.da_wire.specs.kinds.Clash.{clash_payload}
 use Rattle.da_wire.specs.kinds.Requests.{sample_payload, request_payload}
 use Rattle.da_wire.specs.kinds.Block.{block_payload}
 
@@ -21,6 +22,7 @@ kind_of (Message m) = message_kind
 kind_of (Names name answer) = names_kind
 kind_of (Fraud claim) = fraud_kind
 kind_of (Missing cells) = missing_kind
+kind_of (Clash clash) = clash_kind
 kind_of (Sample cell axis) = sample_kind
 kind_of (Request name) = request_kind
 kind_of (Block b) = block_kind
@@ -33,6 +35,7 @@ payload_of (Message m) = message_payload m
 payload_of (Names name answer) = names_payload name answer
 payload_of (Fraud claim) = fraud_payload claim
 payload_of (Missing cells) = missing_payload cells
+payload_of (Clash clash) = clash_payload clash
 payload_of (Sample cell axis) = sample_payload cell axis
 payload_of (Request name) = request_payload name
 payload_of (Block b) = block_payload b

@@ -4,5 +4,6 @@ pub mod Message
 pub mod Names
 pub mod Fraud
 pub mod Missing
+pub mod Clash
 pub mod Requests
 pub mod Block

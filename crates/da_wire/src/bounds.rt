@@ -1,20 +1,26 @@
 //! The lengths and bounds of values at hand.
 
-ghost use Rattle.std.specs.Prelude.{◌<◌, ◌^◌, IfSome};
+ghost use Rattle.std.specs.Prelude.{◌≡◌, ◌<◌, ◌^◌, map, false, IfSome};
 ghost use Rattle.std.specs.List.{AllByRecursion};
 ghost use Rattle.namespace_id.specs.Bytes.{AreBytes};
 ghost use Rattle.namespace_id.specs.Cells.{AreCells};
 ghost use Rattle.namespace_id.specs.Names.{IsNamespace};
 ghost use Rattle.axis_roots.specs.Answers.{AreEntries};
+ghost use Rattle.axis_roots.specs.Claims.{IsClaim};
+ghost use Rattle.axis_roots.specs.Messages.{IsMessage};
+ghost use Rattle.axis_roots.specs.Proved.{kept_message};
 ghost use Rattle.data_header.specs.Headers.{IsHeader};
 ghost use Rattle.share_split.specs.Blobs.{IsNamed};
 ghost use Rattle.square_layout.specs.Blocks.{IsBlock};
 ghost use Rattle.da_wire.specs.codec.Texts.{IsCell};
+ghost use Rattle.da_wire.specs.kinds.Clash.{AreStrings};
+ghost use Rattle.da_wire.specs.kinds.Fraud.{is_long_claim};
 ghost use Rattle.da_wire.specs.Spelling.{IsFrame};
 
 use crate::Frame;
-use axis_roots::{NsAnswer, answer_law, claim_law, message_law};
+use axis_roots::{FraudProof, NsAnswer, Proved, answer_law, claim_law, message_law};
 use data_header::Header;
+use hash_clash::Clash;
 use namespace_id::{
     Cell, Cells, Namespace, bytes_law, digests_law, namespace_law, share_law, shares_law,
 };
@@ -99,6 +105,33 @@ fn names_law(name: &Namespace, answer: &NsAnswer)
     answer_law(answer);
 }
 
+/// Says that the strings of a collision are one, of up to 542 bytes each. It changes nothing.
+fn clash_law(clash: &Clash)
+    ensures { AreStrings clash.now }
+{
+    let _left = clash.left().bytes();
+    let _right = clash.right().bytes();
+}
+
+/// Says that each certificate of a slice keeps a message. It changes nothing.
+fn proved_law(cells: &[Proved])
+    ensures { AllByRecursion IsMessage (map kept_message cells.now) }
+{
+    for cell in cells {
+        message_law(cell.message());
+    }
+}
+
+/// Says that the claim of a fraud proof has an index of two bytes, and up to 128 messages. It changes
+/// nothing.
+pub(crate) fn proof_law(proof: &FraudProof)
+    ensures claim { IsClaim proof.now.claim }
+    ensures short { is_long_claim proof.now.claim ≡ false }
+{
+    let _k = proof.width();
+    proved_law(&proof.cells);
+}
+
 /// Says that a value has the lengths and bounds of its type, so that what is written of it is read
 /// back. It changes nothing.
 pub fn frame_law(frame: &Frame)
@@ -111,6 +144,7 @@ pub fn frame_law(frame: &Frame)
         Frame::Names(name, answer) => names_law(name, answer),
         Frame::Fraud(claim) => claim_law(claim),
         Frame::Missing(cells) => cells_law(cells),
+        Frame::Clash(clash) => clash_law(clash),
         Frame::Sample(cell, _) => cell_law(cell),
         Frame::Request(name) => namespace_law(name),
         Frame::Block(block) => block_law(block),

@@ -2,6 +2,7 @@
 
 use axis_roots::{FraudClaim, Message, NsAnswer};
 use data_header::Header;
+use hash_clash::Clash;
 use namespace_id::{Axis, Cell, Cells, Namespace};
 use square_layout::{Block, Square};
 use thiserror::Error;
@@ -30,6 +31,8 @@ pub enum Frame {
     Fraud(FraudClaim),
     /// K: missing cells.
     Missing(Cells),
+    /// X: a SHA-256 collision.
+    Clash(Clash),
     /// Q: a request for the sample of a cell on an axis.
     Sample(Cell, Axis),
     /// P: a request for the shares of a namespace.
@@ -67,7 +70,7 @@ pub enum FrameError {
 pub enum SpellError {
     /// The value has no spelling: an empty list of missing cells, a block that asks for the width 0,
     /// a namespace answer of more than 128 entries or of a range of more than 128 shares, a fraud claim
-    /// of more than 128 cells, or a payload above its limit.
+    /// of more than 128 cells, a collision of which one string is empty, or a payload above its limit.
     #[error("the value has no spelling")]
     Unspellable,
     /// There was no memory.

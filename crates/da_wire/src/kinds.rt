@@ -5,6 +5,7 @@ ghost use Rattle.da_wire.specs.Spelling.{kind_byte};
 ghost use Rattle.da_wire.specs.Reading.{kind_at};
 
 pub(crate) mod block;
+pub(crate) mod clash;
 pub(crate) mod fraud;
 pub(crate) mod header;
 pub(crate) mod message;
@@ -22,6 +23,7 @@ pub(crate) enum Kind {
     Names,
     Fraud,
     Missing,
+    Clash,
     Sample,
     Request,
     Block,
@@ -39,6 +41,7 @@ impl Kind {
             b'N' => Some(Kind::Names),
             b'B' => Some(Kind::Fraud),
             b'K' => Some(Kind::Missing),
+            b'X' => Some(Kind::Clash),
             b'Q' => Some(Kind::Sample),
             b'P' => Some(Kind::Request),
             b'V' => Some(Kind::Block),
@@ -57,6 +60,7 @@ impl Kind {
             Kind::Names => b'N',
             Kind::Fraud => b'B',
             Kind::Missing => b'K',
+            Kind::Clash => b'X',
             Kind::Sample => b'Q',
             Kind::Request => b'P',
             Kind::Block => b'V',

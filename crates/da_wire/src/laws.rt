@@ -1,6 +1,6 @@
 //! What is spelled is read, and what is read is spelled.
 
-ghost use Rattle.std.specs.Prelude.{◌≡◌, ◌≢◌, ◌≤◌, ◌*◌, List, [], false, length, IsSome};
+ghost use Rattle.std.specs.Prelude.{◌≡◌, ◌≢◌, ◌<◌, ◌≤◌, ◌*◌, ◌^◌, List, [], false, length, IsSome};
 ghost use Rattle.namespace_id.specs.declared.cells.Axis.{Axis};
 ghost use Rattle.namespace_id.specs.declared.cells.Cell.{Cell};
 ghost use Rattle.namespace_id.specs.declared.namespaces.Namespace as names;
@@ -14,10 +14,12 @@ ghost use Rattle.axis_roots.specs.declared.answers.NsEntry.{NsEntry};
 ghost use Rattle.axis_roots.specs.Answers.{AreEntries};
 ghost use Rattle.axis_roots.specs.Claims.{ClaimParts, IsClaim};
 ghost use Rattle.square_layout.specs.Blocks.{SquareShares, IsSquare};
-ghost use Rattle.da_wire.specs.declared.frames.Frame.TheVariants.{Header, Square, Message, Names, Fraud, Missing, Sample, Request};
+ghost use Rattle.hash_clash.specs.Collisions.{Strings};
+ghost use Rattle.da_wire.specs.declared.frames.Frame.TheVariants.{Header, Square, Message, Names, Fraud, Missing, Clash, Sample, Request};
 ghost use Rattle.da_wire.specs.Spelling.{max_payload, spelling};
 ghost use Rattle.da_wire.specs.kinds.Names.{is_long_answer};
 ghost use Rattle.da_wire.specs.kinds.Fraud.{is_long_claim};
+ghost use Rattle.da_wire.specs.kinds.Clash.{AreStrings, has_empty};
 ghost use Rattle.da_wire.specs.Laws.{SpelledIsRead, ReadIsSpelled, OneSpelling, OnlyIsSpelled, SpelledIsOnly, MessageIsRead, MessageIsSpelled, RawIsFrame, FramesAreTheFile, FilesAreFrames, BadFrameIsFirst, ValuesAreTheFile, FilesAreValues, BadValueIsFirst};
 
 use crate::reading::MAX_PAYLOAD;
@@ -66,4 +68,10 @@ pub fn value_laws()
     ensures values { ValuesAreTheFile }
     ensures files { FilesAreValues }
     ensures bad { BadValueIsFirst }
+
+    // A collision of two strings that aren't empty has a spelling, and cells of a square have a count
+    // of four bytes.
+    ensures clash { (clash : Strings) → AreStrings clash → has_empty clash ≡ false →
+        IsSome (spelling (Clash clash)) }
+    ensures few_cells { (cells : CellList) → AreCells cells → length cells.list < 2 ^ 32 }
 {}

@@ -21,4 +21,4 @@ pub use laws::{value_laws, wire_laws};
 pub use reading::{
     MAX_PAYLOAD, bad_frame, bad_value, next_frame, next_value, raw, read_frame, read_only,
 };
-pub use writing::write_frame;
+pub use writing::{write_frame, write_proof};

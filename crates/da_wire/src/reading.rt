@@ -11,6 +11,7 @@ ghost use Rattle.da_wire.specs.Values.{value_in, value_and_rest, values_of, bad_
 use crate::codec::sizes::HEAD_SIZE;
 use crate::kinds::Kind;
 use crate::kinds::block::{block, block_parts};
+use crate::kinds::clash::clash;
 use crate::kinds::fraud::{fraud, fraud_parts};
 use crate::kinds::header::{header, header_parts};
 use crate::kinds::message::message;
@@ -79,6 +80,7 @@ fn value_of_kind(alloc: Global, kind: Kind, payload: &[u8]) -> Result<Option<Fra
         Kind::Names => Ok(names(alloc, payload)?.map(|(name, answer)| Frame::Names(name, answer))),
         Kind::Fraud => Ok(fraud(alloc, payload)?.map(Frame::Fraud)),
         Kind::Missing => Ok(missing(alloc, payload)?.map(Frame::Missing)),
+        Kind::Clash => Ok(clash(payload).map(Frame::Clash)),
         Kind::Sample => Ok(sample(payload).map(|(cell, axis)| Frame::Sample(cell, axis))),
         Kind::Request => Ok(request(payload).map(Frame::Request)),
         Kind::Block => Ok(block(alloc, payload)?.map(Frame::Block)),
@@ -107,6 +109,7 @@ fn is_in_form(kind: Kind, payload: &[u8]) -> bool
         Kind::Names => names_parts(payload).is_some(),
         Kind::Fraud => fraud_parts(payload).is_some(),
         Kind::Missing => missing_parts(payload).is_some(),
+        Kind::Clash => clash(payload).is_some(),
         Kind::Sample => sample(payload).is_some(),
         Kind::Request => request(payload).is_some(),
         Kind::Block => block_parts(payload).is_some(),
@@ -149,10 +152,10 @@ fn refusal_before_more(frame: RawFrame<'_>) -> FrameError
 /// The value of the frame at the front of bytes, and the offset after it. `at` is the offset of the
 /// bytes in their file, and `at` plus their number fits a `u64`.
 ///
-/// Refuses no byte (`Truncated`), a kind that isn't one of H, S, M, N, B, K, Q, P and V (`BadKind`), then what `raw`
-/// refuses, then a payload that isn't in the grammar of its kind (`BadPayload`), each with `at`. Want of
-/// memory comes in place of a value alone: none is taken before the payload is known to be in its
-/// grammar.
+/// Refuses no byte (`Truncated`), a kind that isn't one of H, S, M, N, B, K, X, Q, P and V (`BadKind`),
+/// then what `raw` refuses, then a payload that isn't in the grammar of its kind (`BadPayload`), each
+/// with `at`. Want of memory comes in place of a value alone: none is taken before the payload is known
+/// to be in its grammar.
 ///
 /// docs/FORMATS.md, "Frames" and "Payloads".
 #[tactic(auto, unfolding(crate::specs::Reading::tested_raw))]

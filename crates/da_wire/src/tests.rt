@@ -1,5 +1,6 @@
 //! Values and bytes that the tests speak of.
 
+mod clashes;
 mod frames;
 mod fraud;
 mod names;

@@ -3,13 +3,15 @@
 ghost use Rattle.std.specs.Prelude.{◌≡◌, length, None, ◌+◌, ◌++◌, ◌↔◌, OnOk, OnErr, IsErrOf, IsSome};
 ghost use Rattle.namespace_id.specs.Answers.{HasRoom};
 ghost use Rattle.da_wire.specs.Spelling.{kind_byte, spelling};
+ghost use Rattle.da_wire.specs.declared.frames.Frame.TheVariants as FrameOf;
 ghost use Rattle.da_wire.specs.Writing.{kind_of, payload_of, HasSize, AppendsSpelling, IsReadBack, IsShort, appended};
 
-use crate::bounds::frame_law;
+use crate::bounds::{frame_law, proof_law};
 use crate::codec::sizes::HEAD_SIZE;
 use crate::kinds::Kind;
 use crate::kinds::block::{block_size, put_block};
-use crate::kinds::fraud::{fraud_size, put_fraud};
+use crate::kinds::clash::{clash_size, put_clash};
+use crate::kinds::fraud::{fraud_size, proof_size, put_fraud, put_proof};
 use crate::kinds::header::{header_size, put_header};
 use crate::kinds::message::{message_size, put_message};
 use crate::kinds::missing::{missing_size, put_missing};
@@ -17,7 +19,8 @@ use crate::kinds::names::{names_size, put_names};
 use crate::kinds::requests::{SAMPLE_SIZE, put_sample, request_size};
 use crate::kinds::square::{put_square, square_size};
 use crate::{Frame, SpellError};
-use namespace_id::append;
+use axis_roots::FraudProof;
+use namespace_id::{NoMemory, append};
 
 /// The kind of a value.
 fn kind_of(frame: &Frame) -> Kind
@@ -30,6 +33,7 @@ fn kind_of(frame: &Frame) -> Kind
         Frame::Names(..) => Kind::Names,
         Frame::Fraud(_) => Kind::Fraud,
         Frame::Missing(_) => Kind::Missing,
+        Frame::Clash(_) => Kind::Clash,
         Frame::Sample(..) => Kind::Sample,
         Frame::Request(_) => Kind::Request,
         Frame::Block(_) => Kind::Block,
@@ -47,6 +51,7 @@ fn payload_size(frame: &Frame) -> Option<u32>
         Frame::Names(name, answer) => names_size(name, answer),
         Frame::Fraud(claim) => fraud_size(claim),
         Frame::Missing(cells) => missing_size(cells),
+        Frame::Clash(clash) => clash_size(clash),
         Frame::Sample(..) => Some(SAMPLE_SIZE),
         Frame::Request(name) => Some(request_size(name)),
         Frame::Block(block) => block_size(block),
@@ -67,6 +72,7 @@ fn put_payload(out: &mut Vec<u8>, frame: &Frame)
         Frame::Names(name, answer) => put_names(out, name, answer),
         Frame::Fraud(claim) => put_fraud(out, claim),
         Frame::Missing(cells) => put_missing(out, cells),
+        Frame::Clash(clash) => put_clash(out, clash),
         Frame::Sample(cell, axis) => put_sample(out, *cell, *axis),
         Frame::Request(name) => append(out, &name.0),
         Frame::Block(block) => put_block(out, block),
@@ -94,5 +100,27 @@ pub fn write_frame(frame: &Frame, out: &mut Vec<u8>) -> Result<(), SpellError>
     append(out, &size.to_be_bytes());
     put_payload(out, frame);
     frame_law(frame);
+    Ok(())
+}
+
+/// Appends the one spelling of a fraud proof's claim, which is read back as the claim. Refuses only
+/// where it is out of memory, and then leaves `out` as it was.
+///
+/// docs/FORMATS.md, "Payloads".
+pub fn write_proof(proof: &FraudProof, out: &mut Vec<u8>) -> Result<(), NoMemory>
+    ensures written { OnOk result
+        (AppendsSpelling (FrameOf.Fraud proof.now.claim) out.old.items out.new.items) }
+    ensures read_back { OnOk result
+        (IsReadBack (FrameOf.Fraud proof.now.claim) (appended out.old.items out.new.items)) }
+    ensures unchanged { OnErr result (out.new.items ≡ out.old.items) }
+{
+    let size = proof_size(proof);
+    if out.reserve(HEAD_SIZE + size as usize).is_err() {
+        return Err(NoMemory);
+    }
+    append(out, &[Kind::Fraud.byte()]);
+    append(out, &size.to_be_bytes());
+    put_proof(out, proof);
+    proof_law(proof);
     Ok(())
 }

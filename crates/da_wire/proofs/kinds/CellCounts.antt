@@ -7,6 +7,8 @@ use Rattle.std.proofs.lemmas.Bool.Decides.{nat_tests}
 use Rattle.namespace_id.specs.declared.cells.Cell.{Cell}
 use Rattle.namespace_id.specs.Lists.{holds_along}
 use Rattle.namespace_id.specs.Cells.{CellList, AreCells, is_width, is_in_square, is_before}
+use Rattle.namespace_id.proofs.WidthLemmas.{is_width-le}
+use Rattle.da_wire.proofs.kinds.PayloadSizes.{square_few}
 
 -- the place of a cell in row-major order, in a square of this side
 abbrev place : ℕ → Cell → ℕ
@@ -73,3 +75,8 @@ pub width_of_cells : (cells : CellList) → AreCells cells → is_width cells.k 
 width_of_cells cells are =
     let both = and_parts (is_width cells.k && list_all (is_in_square cells.k) cells.list) (holds_along is_before cells.list) are in
     (and_parts (is_width cells.k) (list_all (is_in_square cells.k) cells.list) both.0).0
+
+-- no more than the greatest square has
+pub cells_few : (cells : CellList) → AreCells cells → length cells.list ≤ 65536
+cells_few cells are =
+    omega (arith, cells_counted cells are, square_few cells.k (is_width-le cells.k (width_of_cells cells are)))

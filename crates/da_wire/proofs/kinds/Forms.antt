@@ -3,7 +3,7 @@ use Rattle.std.proofs.Common.{◌≡◌, ◌∙◌, ℕ, Bool, true, false, eqb,
 use Rattle.std.proofs.lemmas.Option.{same_Some}
 use Rattle.namespace_id.specs.Bytes.{AreBytes}
 use Rattle.da_wire.specs.declared.frames.Frame.{Frame}
-use Rattle.da_wire.specs.declared.frames.Frame.TheVariants.{Header, Square, Message, Names, Fraud, Missing, Sample, Request, Block}
+use Rattle.da_wire.specs.declared.frames.Frame.TheVariants.{Header, Square, Message, Names, Fraud, Missing, Clash, Sample, Request, Block}
 use Rattle.da_wire.specs.declared.kinds.Kind.{Kind}
 use Rattle.da_wire.specs.declared.kinds.Kind.TheVariants as kinds
 use Rattle.da_wire.specs.Spelling.{kind_byte, spelled, spelling, IsFrame}
@@ -16,6 +16,7 @@ use Rattle.da_wire.proofs.kinds.MessageForm.{message_form}
 use Rattle.da_wire.proofs.kinds.NamesForm.{names_form}
 use Rattle.da_wire.proofs.kinds.FraudForm.{fraud_form}
 use Rattle.da_wire.proofs.kinds.MissingForm.{missing_form}
+use Rattle.da_wire.proofs.kinds.ClashForm.{clash_form}
 use Rattle.da_wire.proofs.kinds.RequestForms.{sample_form, request_form}
 use Rattle.da_wire.proofs.kinds.BlockForm.{block_form}
 
@@ -29,6 +30,7 @@ kind_again kinds.Message = refl
 kind_again kinds.Names = refl
 kind_again kinds.Fraud = refl
 kind_again kinds.Missing = refl
+kind_again kinds.Clash = refl
 kind_again kinds.Sample = refl
 kind_again kinds.Request = refl
 kind_again kinds.Block = refl
@@ -48,9 +50,10 @@ kind_takes byte found e =
     by_byte (eqb byte (kind_byte kinds.Names)) byte kinds.Names found _ refl e3 (λ e4.
     by_byte (eqb byte (kind_byte kinds.Fraud)) byte kinds.Fraud found _ refl e4 (λ e5.
     by_byte (eqb byte (kind_byte kinds.Missing)) byte kinds.Missing found _ refl e5 (λ e6.
-    by_byte (eqb byte (kind_byte kinds.Sample)) byte kinds.Sample found _ refl e6 (λ e7.
-    by_byte (eqb byte (kind_byte kinds.Request)) byte kinds.Request found _ refl e7 (λ e8.
-    by_byte (eqb byte (kind_byte kinds.Block)) byte kinds.Block found None refl e8 (λ e9. absurd cc)))))))))
+    by_byte (eqb byte (kind_byte kinds.Clash)) byte kinds.Clash found _ refl e6 (λ e7.
+    by_byte (eqb byte (kind_byte kinds.Sample)) byte kinds.Sample found _ refl e7 (λ e8.
+    by_byte (eqb byte (kind_byte kinds.Request)) byte kinds.Request found _ refl e8 (λ e9.
+    by_byte (eqb byte (kind_byte kinds.Block)) byte kinds.Block found None refl e9 (λ e10. absurd cc))))))))))
 
 -- ---- values
 
@@ -62,6 +65,7 @@ spelled_by kinds.Message = form_takes _ _ _ _ _ message_form
 spelled_by kinds.Names = form_takes _ _ _ _ _ names_form
 spelled_by kinds.Fraud = form_takes _ _ _ _ _ fraud_form
 spelled_by kinds.Missing = form_takes _ _ _ _ _ missing_form
+spelled_by kinds.Clash = form_takes _ _ _ _ _ clash_form
 spelled_by kinds.Sample = form_takes _ _ _ _ _ sample_form
 spelled_by kinds.Request = form_takes _ _ _ _ _ request_form
 spelled_by kinds.Block = form_takes _ _ _ _ _ block_form
@@ -82,6 +86,7 @@ value_again (Message m) = form_written _ _ _ _ _ message_form (kind_again kinds.
 value_again (Names name answer) = form_written _ _ _ _ _ names_form (kind_again kinds.Names) (name, answer)
 value_again (Fraud claim) = form_written _ _ _ _ _ fraud_form (kind_again kinds.Fraud) claim
 value_again (Missing cells) = form_written _ _ _ _ _ missing_form (kind_again kinds.Missing) cells
+value_again (Clash clash) = form_written _ _ _ _ _ clash_form (kind_again kinds.Clash) clash
 value_again (Sample cell axis) = form_written _ _ _ _ _ sample_form (kind_again kinds.Sample) (cell, axis)
 value_again (Request name) = form_written _ _ _ _ _ request_form (kind_again kinds.Request) name
 value_again (Block b) = form_written _ _ _ _ _ block_form (kind_again kinds.Block) b

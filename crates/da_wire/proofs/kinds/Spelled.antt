@@ -1,7 +1,8 @@
 -- The values that have a spelling.
 use Rattle.std.proofs.Common.{◌≡◌, ℕ, ◌+◌, ◌*◌, ◌≤◌, false, List, [], length, Option, Some, refl, sym, subst, arith}
 use Rattle.std.specs.Prelude.{IsSome}
-use Rattle.std.proofs.lemmas.List.{nil_from_length}
+use Rattle.std.specs.Int.{w16}
+use Rattle.std.proofs.lemmas.List.{nil_from_length, length-append}
 use Rattle.namespace_id.specs.declared.cells.Cell.{Cell}
 use Rattle.namespace_id.specs.declared.cells.Axis.{Axis}
 use Rattle.namespace_id.specs.declared.namespaces.Namespace.{Namespace}
@@ -15,18 +16,20 @@ use Rattle.axis_roots.specs.Answers.{AreEntries}
 use Rattle.axis_roots.specs.Claims.{ClaimParts, IsClaim}
 use Rattle.axis_roots.specs.Messages.{IsMessage}
 use Rattle.square_layout.specs.Blocks.{SquareShares, IsSquare}
-use Rattle.da_wire.specs.declared.frames.Frame.TheVariants.{Header, Square, Message, Names, Fraud, Missing, Sample, Request}
-use Rattle.da_wire.specs.Spelling.{frame, spelled, spelling, names_kind, fraud_kind, sample_kind}
+use Rattle.hash_clash.specs.Collisions.{Strings}
+use Rattle.da_wire.specs.declared.frames.Frame.TheVariants.{Header, Square, Message, Names, Fraud, Missing, Clash, Sample, Request}
+use Rattle.da_wire.specs.codec.Texts.{text_bytes}
+use Rattle.da_wire.specs.Spelling.{max_payload, frame, spelled, spelling, names_kind, fraud_kind, clash_kind, sample_kind}
 use Rattle.da_wire.specs.kinds.Names.{is_long_answer, names_payload}
 use Rattle.da_wire.specs.kinds.Fraud.{is_long_claim, fraud_payload}
+use Rattle.da_wire.specs.kinds.Clash.{AreStrings, has_empty, clash_payload}
 use Rattle.da_wire.specs.kinds.Requests.{sample_payload}
 use Rattle.da_wire.proofs.codec.Readers.{if_false_again}
 use Rattle.da_wire.proofs.codec.Lengths.{spelled_within}
-use Rattle.namespace_id.proofs.WidthLemmas.{is_width-le}
 use Rattle.da_wire.proofs.kinds.NamesSizes.{names_few}
 use Rattle.da_wire.proofs.kinds.FraudSizes.{fraud_few}
-use Rattle.da_wire.proofs.kinds.PayloadSizes.{square_few, header_sized, square_sized, message_sized, missing_sized, request_sized}
-use Rattle.da_wire.proofs.kinds.CellCounts.{cells_counted, width_of_cells}
+use Rattle.da_wire.proofs.kinds.PayloadSizes.{header_sized, square_sized, message_sized, missing_sized, request_sized}
+use Rattle.da_wire.proofs.kinds.CellCounts.{cells_few}
 
 -- what is equal to some spelling is some
 has_spelling : {A : Type 0} (o : Option A) (x : A) → o ≡ Some x → IsSome o
@@ -61,11 +64,16 @@ fraud_spelled claim is short =
 -- missing cells have a spelling where there are any
 pub missing_spelled : (cells : CellList) → AreCells cells → (cells.list ≡ [] → ⊥) → IsSome (spelling (Missing cells))
 missing_spelled cells are some =
-    let k : ℕ = cells.k in
-    let few : k * k ≤ 128 * 128 = square_few k (is_width-le k (width_of_cells cells are)) in
-    let counted : length cells.list ≤ 4 * (k * k) = cells_counted cells are in
     has_spelling (spelling (Missing cells)) _
-    (missing_sized cells (6 + 4 * length cells.list) (λ none. some (nil_from_length cells.list none)) (omega (arith, few, counted)) refl).1
+    (missing_sized cells (6 + 4 * length cells.list) (λ none. some (nil_from_length cells.list none)) (omega (arith, cells_few cells are)) refl).1
+
+-- a collision of two strings that aren't empty has a spelling
+pub clash_spelled : (clash : Strings) → AreStrings clash → has_empty clash ≡ false → IsSome (spelling (Clash clash))
+clash_spelled clash are some =
+    let payload : List ℕ = clash_payload clash in
+    let within : length payload ≤ max_payload = omega (arith, are.left_few, are.right_few, length-append (text_bytes w16 clash.left) (text_bytes w16 clash.right)) in
+    has_spelling (spelling (Clash clash)) _
+    (if_false_again (has_empty clash) (spelled clash_kind payload) (frame clash_kind payload) some (spelled_within clash_kind (length payload) payload refl within))
 
 -- each request for a sample has a spelling
 pub sample_spelled : (cell : Cell) (axis : Axis) → IsSome (spelling (Sample cell axis))

@@ -1,7 +1,7 @@
 //! Fields of a payload, appended where there is room for them.
 
-ghost use Rattle.std.specs.Prelude.{◌≡◌, ◌≤◌, ◌<◌, length, vec_len, ◌+◌, ◌++◌, vec_capacity};
-ghost use Rattle.std.specs.Int.{w32};
+ghost use Rattle.std.specs.Prelude.{◌≡◌, ◌≤◌, ◌<◌, ◌^◌, length, vec_len, ◌+◌, ◌++◌, vec_capacity};
+ghost use Rattle.std.specs.Int.{w16, w32};
 ghost use Rattle.namespace_id.specs.Answers.{HasRoom};
 ghost use Rattle.da_wire.specs.codec.Texts.{digest_bytes, path_bytes, share_bytes, axis_byte, cell_bytes, text_bytes};
 ghost use Rattle.da_wire.specs.Writing.{IsShort};
@@ -74,5 +74,17 @@ pub(crate) fn put_text(out: &mut Vec<u8>, text: &[u8])
     ensures capacity { vec_capacity out.old ≤ vec_capacity out.new }
 {
     append(out, &(text.len() as u32).to_be_bytes());
+    append(out, text);
+}
+
+/// Appends a byte string behind its length in two bytes.
+pub(crate) fn put_text16(out: &mut Vec<u8>, text: &[u8])
+    requires few { length text.now < 2 ^ 16 }
+    requires room { HasRoom out.old (length (text_bytes w16 text.now)) }
+    ensures appended { out.new.items ≡ out.old.items ++ text_bytes w16 text.now }
+    ensures len { vec_len out.new ≡ vec_len out.old + length (text_bytes w16 text.now) }
+    ensures capacity { vec_capacity out.old ≤ vec_capacity out.new }
+{
+    append(out, &(text.len() as u16).to_be_bytes());
     append(out, text);
 }

@@ -109,7 +109,8 @@ pub(crate) fn digest_at(bytes: &[u8]) -> Option<(Digest, &[u8])>
 /// A count of two bytes, at most the limit, and the bytes after it.
 #[tactic(auto, unfolding(crate::specs::codec::Fields::count_at))]
 pub(crate) fn count16_at(bytes: &[u8], limit: u16) -> Option<(u16, &[u8])>
-    ensures { Gives (λ x. (x.0, x.1.now)) result (count_at w16 limit bytes.now) }
+    ensures value { Gives (λ x. (x.0, x.1.now)) result (count_at w16 limit bytes.now) }
+    ensures few { IfSome result (λ x. x.0 ≤ limit) }
 {
     let (count, rest) = u16_at(bytes)?;
     if count > limit {
@@ -136,6 +137,19 @@ pub(crate) fn text_at(bytes: &[u8], limit: u32) -> Option<(&[u8], &[u8])>
     ensures { Gives (λ x. (x.0.now, x.1.now)) result (text_at w32 limit bytes.now) }
 {
     let (size, rest) = count_at(bytes, limit)?;
+    if rest.len() < size as usize {
+        return None;
+    }
+    Some(rest.split_at(size as usize))
+}
+
+/// A byte string behind its length of two bytes, at most the limit, and the bytes after it.
+#[tactic(auto, unfolding(crate::specs::codec::Fields::text_at))]
+pub(crate) fn text16_at(bytes: &[u8], limit: u16) -> Option<(&[u8], &[u8])>
+    ensures value { Gives (λ x. (x.0.now, x.1.now)) result (text_at w16 limit bytes.now) }
+    ensures few { IfSome result (λ x. length x.0.now ≤ limit) }
+{
+    let (size, rest) = count16_at(bytes, limit)?;
     if rest.len() < size as usize {
         return None;
     }

@@ -1,21 +1,24 @@
 //! The payload of a fraud claim: judged where it lies, then read; and written.
 
-ghost use Rattle.std.specs.Prelude.{◌≡◌, ◌≤◌, length, vec_len, None, Some, IfOk, IfSome, MatchOption, ◌+◌, ◌++◌, vec_capacity, IsSome, false};
+ghost use Rattle.std.specs.Prelude.{◌≡◌, ◌≤◌, length, map, vec_len, None, Some, IfOk, IfSome, MatchOption, ◌+◌, ◌++◌, vec_capacity, IsSome, false};
+ghost use Rattle.std.specs.Int.{w16, to_be_bytes};
 ghost use Rattle.std.specs.List.{flat_map};
 ghost use Rattle.namespace_id.specs.Answers.{Gives, HasRoom};
+ghost use Rattle.axis_roots.specs.Proved.{kept_message};
 ghost use Rattle.da_wire.specs.codec.Fields.{many_at, read_items, read_rest};
 ghost use Rattle.da_wire.specs.Reading.{GivesUnlessFull};
 ghost use Rattle.da_wire.specs.kinds.Message.{message_front, message_payload};
-ghost use Rattle.da_wire.specs.kinds.Fraud.{is_long_claim, fraud_payload, accused_at, claim_cells_at, fraud_at};
+ghost use Rattle.da_wire.specs.kinds.Fraud.{most_cells, is_long_claim, accused_bytes, fraud_payload, accused_at, claim_cells_at, fraud_at};
 ghost use Rattle.da_wire.specs.Spelling.{max_payload};
 ghost use Rattle.da_wire.specs.Writing.{HasSize, IsWithin};
 ghost use Rattle.da_wire.specs.declared.frames.Frame.TheVariants as FrameOf;
 
+use crate::bounds::proof_law;
 use crate::codec::appending::axis_byte;
 use crate::codec::fields::{axis_at, count16_at, u8_at, u16_at};
 use crate::codec::sizes::longer;
 use crate::kinds::message::{message_front, message_size, put_message};
-use axis_roots::{FraudClaim, Message};
+use axis_roots::{FraudClaim, FraudProof, Message, Proved};
 use namespace_id::{Axis, append};
 use std::alloc::{AllocError, Global};
 
@@ -159,6 +162,41 @@ pub(crate) fn fraud_size(claim: &FraudClaim) -> Option<u32>
     with_cells(ACCUSED_SIZE, &claim.cells)
 }
 
+/// A length with that of a list of certificates' messages more.
+fn with_proved(size: u32, cells: &[Proved]) -> Option<u32>
+    requires size { size ≤ max_payload }
+    ensures { IsWithin (size + 2 + length (flat_map message_payload (map kept_message cells.now)))
+        result }
+{
+    let mut size = longer(size, CELL_COUNT_SIZE)?;
+    for cell in cells {
+        size = with_message(size, cell.message())?;
+    }
+    Some(size)
+}
+
+/// The length of the payload of a fraud proof's claim.
+pub(crate) fn proof_size(proof: &FraudProof) -> u32
+    ensures { HasSize (FrameOf.Fraud proof.now.claim) (Some result) }
+{
+    proof_law(proof);
+    with_proved(ACCUSED_SIZE, &proof.cells).unwrap()
+}
+
+/// Appends the form of a claim, the axis that it accuses, and the count of its cells.
+fn put_accused(out: &mut Vec<u8>, axis: Axis, index: u16, count: usize)
+    requires few { count ≤ most_cells }
+    requires room { HasRoom out.old 6 }
+    ensures appended { out.new.items
+        ≡ out.old.items ++ accused_bytes axis index ++ to_be_bytes w16 count }
+    ensures len { vec_len out.new ≡ vec_len out.old + 6 }
+    ensures capacity { vec_capacity out.old ≤ vec_capacity out.new }
+{
+    append(out, &[FORM, axis_byte(axis)]);
+    append(out, &index.to_be_bytes());
+    append(out, &(count as u16).to_be_bytes());
+}
+
 /// Appends messages, one after another.
 fn put_cells(out: &mut Vec<u8>, cells: &[Message])
     requires room { HasRoom out.old (length (flat_map message_payload cells.now)) }
@@ -175,8 +213,28 @@ pub(crate) fn put_fraud(out: &mut Vec<u8>, claim: &FraudClaim)
     requires room { HasRoom out.old (length (fraud_payload claim.now)) }
     ensures appended { out.new.items ≡ out.old.items ++ fraud_payload claim.now }
 {
-    append(out, &[FORM, axis_byte(claim.axis)]);
-    append(out, &claim.index.to_be_bytes());
-    append(out, &(claim.cells.len() as u16).to_be_bytes());
+    put_accused(out, claim.axis, claim.index, claim.cells.len());
     put_cells(out, &claim.cells);
+}
+
+/// Appends the messages of certificates, one after another.
+fn put_proved(out: &mut Vec<u8>, cells: &[Proved])
+    requires room { HasRoom out.old
+        (length (flat_map message_payload (map kept_message cells.now))) }
+    ensures appended { out.new.items
+        ≡ out.old.items ++ flat_map message_payload (map kept_message cells.now) }
+{
+    for cell in cells {
+        put_message(out, cell.message());
+    }
+}
+
+/// Appends the payload of a fraud proof's claim.
+pub(crate) fn put_proof(out: &mut Vec<u8>, proof: &FraudProof)
+    requires room { HasRoom out.old (length (fraud_payload proof.now.claim)) }
+    ensures appended { out.new.items ≡ out.old.items ++ fraud_payload proof.now.claim }
+{
+    proof_law(proof);
+    put_accused(out, proof.axis, proof.index, proof.cells.len());
+    put_proved(out, &proof.cells);
 }

@@ -1,0 +1,16 @@
+use Rattle.std.proofs.Common.{◌≡◌, ◌∙◌, ◌++◌, ◌∷◌, [], List, ℕ, ap}
+use Rattle.da_wire.specs.declared.frames.Frame.TheVariants as FrameOf
+use Rattle.da_wire.specs.Spelling.{fraud_kind, frame}
+use Rattle.da_wire.specs.kinds.Fraud.{fraud_payload}
+use Rattle.da_wire.proofs.FrameLemmas.{frame_appended, written_back}
+use Rattle.da_wire.proofs.writing.write_proof.Goals as goal
+
+pub returns-clause-read_back : goal.returns-clause-read_back
+returns-clause-read_back c =
+    let old : List ℕ = c.args.out.now.items in
+    let payload : List ℕ = fraud_payload c.args.proof.now.claim in
+    let first : c.append.new.out.items ≡ old ++ fraud_kind ∷ [] =
+    c.append.ensures.appended ∙ ap (λ (l : List ℕ). l ++ c.byte.result ∷ []) c.reserve.ensures.items ∙ ap (λ (n : ℕ). old ++ n ∷ []) c.byte.ensures in
+    let all = frame_appended old c.append.new.out.items c.append-2.new.out.items c.put_proof.new.out.items fraud_kind c.proof_size-size.result payload first
+    (c.append-2.ensures.appended ∙ ap (λ (l : List ℕ). c.append.new.out.items ++ l) c.to_be_bytes.ensures) c.put_proof.ensures.appended c.proof_size-size.ensures.0 in
+    written_back (FrameOf.Fraud c.args.proof.now.claim) old c.put_proof.new.out.items c.proof_law.ensures.claim (frame fraud_kind payload, c.proof_size-size.ensures.1, all)
