@@ -102,7 +102,7 @@ by_message h None e = absurd cc
 by_message h (Some m) e = (m, refl, none_refused (message_refusal h m) e)
 
 -- a value that is there where a test holds is there
-in_grammar : (b : Bool) (o : Option sent.Message) (m : sent.Message) → cond b o None ≡ Some m → o ≡ Some m
+pub in_grammar : (b : Bool) (o : Option sent.Message) (m : sent.Message) → cond b o None ≡ Some m → o ≡ Some m
 in_grammar true o m e = e
 in_grammar false o m e = absurd cc
 

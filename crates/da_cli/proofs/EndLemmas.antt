@@ -1,6 +1,7 @@
 -- How commands end.
-use Rattle.std.proofs.Common.{◌≡◌, ℕ, List, [], inl, inr, refl, sym, ap, subst, IsSome, ◌↔◌, ◌⊎◌}
+use Rattle.std.proofs.Common.{◌≡◌, ◌∙◌, ℕ, List, [], inl, inr, refl, sym, ap, subst, IsSome, ◌↔◌, ◌⊎◌}
 use Rattle.std.specs.declared.option.Option.{Option}
+use Rattle.std.specs.Io.KnownBytes.{Appends}
 use Rattle.std.proofs.KnownBytes.{Appends-nil}
 use Rattle.da_io.specs.Faults.{count_on}
 use Rattle.da_io.specs.Sinks.{IsProperPrefix, AppendsPart}
@@ -46,6 +47,17 @@ ends_request M old before Same status e meant same = record {
   faults = ap (λ (k : Kind). output_count k before) (sym e);
   told = (λ s. s, λ s. s);
   untouched = subst (λ (k : Kind). UntouchedBy k Same) (sym e) same;
+  own = subst IsOwnBy (sym e) tt;
+}
+
+-- a complete output was taken
+pub ends_output : (M : Relation) (w : List ℕ) (status : Status) (old new : Option (List ℕ)) (before now : ℕ) (Same : Type 0) → kind_of status ≡ output
+    → M w status → Appends old new w → now ≡ before → (IsSome old ↔ IsSome new) → Ends M old new before now Same status
+ends_output M w status old new before now Same e meant taken counted told = record {
+  leaves = subst (λ (k : Kind). LeavesBy k M old new status) (sym e) (w, meant, taken);
+  faults = counted ∙ ap (λ (k : Kind). output_count k before) (sym e);
+  told = told;
+  untouched = subst (λ (k : Kind). UntouchedBy k Same) (sym e) tt;
   own = subst IsOwnBy (sym e) tt;
 }
 

@@ -5,6 +5,10 @@ pub mod GatheredLemmas
 pub mod FrameLemmas
 pub mod FileLemmas
 pub mod CheckLemmas
+pub mod LieLemmas
+pub mod MessageLemmas
+pub mod ClashLemmas
+pub mod RepairLemmas
 pub mod BuildLemmas
 pub mod HeaderLemmas
 pub mod RunLemmas
@@ -12,6 +16,7 @@ pub mod RanLemmas
 pub mod OwnLemmas
 pub mod ChoiceLemmas
 pub mod RequestLemmas
+pub mod SpelledLemmas
 pub mod ServingLemmas
 pub mod SampleLemmas
 pub mod AnswerLemmas

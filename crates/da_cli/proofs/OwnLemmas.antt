@@ -1,6 +1,6 @@
--- The line `ok` under the header of a square.
-use Rattle.std.proofs.Common.{◌≡◌, ◌↔◌, ℕ, zero, suc, ◌+◌, ◌-◌, Bool, true, false, cond, List, [], ◌∷◌, length, take, drop, None, Some, Ok, Err, IfSome, refl, subst, slice_index}
-use Rattle.std.specs.Prelude.{nat_lt, codes, slice_get}
+-- The line `ok`, and the answer of a repair, under the header of a square.
+use Rattle.std.proofs.Common.{◌≡◌, ◌↔◌, ℕ, zero, suc, ◌+◌, ◌-◌, Bool, true, false, cond, List, [], ◌∷◌, length, take, drop, None, Some, Result, Ok, Err, IfSome, refl, subst, slice_index}
+use Rattle.std.specs.Prelude.{nat_lt, codes, slice_get, MatchResult}
 use Rattle.std.specs.declared.option.Option.{Option}
 use Rattle.std.specs.Option.{option_map, option_map_or}
 use Rattle.std.specs.List.{AllByRecursion}
@@ -15,12 +15,14 @@ use Rattle.da_wire.specs.declared.frames.Frame.{Frame}
 use Rattle.da_wire.specs.Spelling.{max_payload, spelling, IsFrame}
 use Rattle.da_wire.specs.Writing.{kind_of}
 use Rattle.da_wire.specs.Reading.{Raw, promised, raw_of, is_among}
-use Rattle.da_wire.specs.Frames.{ok_of, raw_in}
+use Rattle.da_wire.specs.Frames.{ok_of, raw_in, frames_of}
 use Rattle.da_wire.specs.Walks.{walk_from}
 use Rattle.da_io.specs.Files.{Files}
 use Rattle.da_cli.specs.declared.commands.check.Finding.{Finding}
 use Rattle.da_cli.specs.declared.commands.check.Finding.TheVariants.{Proved, NoMessage, Refused}
-use Rattle.da_cli.specs.commands.Check.{finding_of, line_of, IsOwnFrame}
+use Rattle.da_cli.specs.declared.status.Status.{Status}
+use Rattle.da_cli.specs.commands.Check.{messages_file, finding_of, line_of, IsOwnFrame}
+use Rattle.da_cli.specs.commands.Repair.{Repairs, RepairsOwn}
 use Rattle.da_cli.specs.commands.Verify.{answer_file, answer_kinds, answer_in, IsRefusal, verdict_line, IsOwnReply}
 use Rattle.da_cli.specs.Own.{AreOwn}
 
@@ -83,7 +85,8 @@ ok_has_none : (refusal : Option ℕ) → verdict_line refusal ≡ codes "ok\n" �
 ok_has_none None e = refl
 ok_has_none (Some number) e = absurd cc
 
--- by what is known of frames that are found proved, and of answers that aren't refused, under the header of a square
+-- by what is known of frames that are found proved, of answers that aren't refused and of what repair answers, under the
+-- header of a square
 pub are_own : (told : Option Files) (words : List (List ℕ))
     → ((header : Roots) (frame : Raw) (square : SquareShares) → AreBytes frame.payload → IsHeaderOf header square
     → finding_of header frame ≡ Proved → IsOwnFrame frame square)
@@ -91,12 +94,17 @@ pub are_own : (told : Option Files) (words : List (List ℕ))
     → IsOwnReply answer square)
     → ((bytes : List ℕ) (answer : Frame) → AreBytes bytes
     → (answer_in bytes ≡ Ok answer) ↔ (IsFrame answer × (spelling answer ≡ Some bytes) × (is_among answer_kinds (kind_of answer) ≡ true)))
+    → ((header : Roots) (frames : List Raw) (square : SquareShares) (w : List ℕ) (status : Status) → AllByRecursion (λ (raw : Raw). AreBytes raw.payload) frames
+    → IsHeaderOf header square → Repairs header frames w status → RepairsOwn header frames square w status)
     → AreOwn told words
-are_own None words found verified file = tt
-are_own (Some files) words found verified file = record {
+are_own None words found verified file repaired = tt
+are_own (Some files) words found verified file repaired = record {
   check = λ contents header square i frame command read first own fits here ok.
       found header frame square (all_at HasBytes _ i frame (frames_fit _ fits 0) here) own (ok_is_proved (finding_of header frame) ok);
   verify = λ contents header square answer refusal command read first own fits second refused ok.
       verified header answer square ((file (answer_file contents) answer fits).0 second).0 own
       (subst (IsRefusal header answer) (ok_has_none refusal ok) refused);
+  repair = λ contents header square w status command read first own fits answers.
+      repaired header (frames_of (messages_file contents)) square w status (frames_fit _ fits 0) own
+      (subst (λ (a : Result Roots ℕ). MatchResult a (λ h. Repairs h (frames_of (messages_file contents)) w status) (λ at. ⊥)) first answers);
 }

@@ -12,18 +12,9 @@ use Rattle.data_header.specs.Headers.{Roots}
 use Rattle.square_layout.specs.Blocks.{SquareShares}
 use Rattle.axis_roots.specs.Grids.{IsHeaderOf, HasNoHeader}
 use Rattle.da_wire.specs.declared.frames.Frame.{Frame}
-use Rattle.da_wire.specs.declared.frames.Frame.TheVariants.{Header, Square, Message, Names, Fraud, Missing, Sample, Request, Block}
-use Rattle.da_wire.specs.Spelling.{spelling, spelled, max_payload, frame as framed, header_kind, square_kind, message_kind, names_kind, fraud_kind, missing_kind, sample_kind, request_kind, block_kind}
-use Rattle.da_wire.specs.kinds.Header.{header_payload}
-use Rattle.da_wire.specs.kinds.Square.{square_payload}
-use Rattle.da_wire.specs.kinds.Message.{message_payload}
-use Rattle.da_wire.specs.kinds.Names.{names_payload, is_long_answer}
-use Rattle.da_wire.specs.kinds.Fraud.{fraud_payload, is_long_claim}
-use Rattle.da_wire.specs.kinds.Missing.{missing_payload}
-use Rattle.da_wire.specs.kinds.Requests.{sample_payload, request_payload}
-use Rattle.da_wire.specs.kinds.Block.{block_payload, asks_for_zero}
+use Rattle.da_wire.specs.Spelling.{spelling}
 use Rattle.da_cli.specs.declared.status.Status.{Status}
-use Rattle.da_cli.specs.declared.status.Status.TheVariants.{Done, Usage, PickFault, ReadFault, WriteFault, NoMemory, BadInput, TooLong, BadBlock, BadRequest, Refused}
+use Rattle.da_cli.specs.declared.status.Status.TheVariants.{Done, Usage, PickFault, ReadFault, WriteFault, NoMemory, BadInput, TooLong, BadBlock, BadRequest, Fraud, Missing, Clash, Refused}
 use Rattle.da_cli.specs.declared.status.Asked.TheVariants.{NoHeader, At}
 use Rattle.da_cli.specs.Statuses.{kind_of}
 use Rattle.da_cli.specs.Choices.{FramesOf, HasFrame}
@@ -33,34 +24,9 @@ use Rattle.da_cli.specs.commands.Frames.{error_of, Writes}
 use Rattle.da_cli.specs.commands.Serving.{failing_from, HasRequest, Gives, Serves}
 use Rattle.da_cli.proofs.EndLemmas.{IsAnswer, status_answers, ends_in_fault}
 use Rattle.da_cli.proofs.FileLemmas.{some_there}
+use Rattle.da_cli.proofs.SpelledLemmas.{spelling_some}
 use Rattle.da_cli.proofs.WriteLemmas.{part_of_front, part_of_back}
 use Rattle.da_cli.proofs.ChoiceLemmas.{frames_more, frames_front}
-
--- ---- a frame that has a spelling has some bytes
-
--- a payload with its kind and its length has some bytes, where it is within the limit
-within_some : (long : Bool) (kind : ℕ) (payload text : List ℕ) → ◌≡◌ {A = Option (List ℕ)} (cond long None (Some (framed kind payload))) (Some text)
-    → 0 < length text
-within_some true kind payload text e = absurd cc
-within_some false kind payload text e = let same : framed kind payload ≡ text = cc in subst (λ (t : List ℕ). 0 < length t) same (omega arith)
-
--- so has a payload behind a test
-tested_some : (none : Bool) (kind : ℕ) (payload text : List ℕ) → ◌≡◌ {A = Option (List ℕ)} (cond none None (spelled kind payload)) (Some text)
-    → 0 < length text
-tested_some true kind payload text e = absurd cc
-tested_some false kind payload text e = within_some (nat_lt max_payload (length payload)) kind payload text e
-
--- a spelling has some bytes
-spelling_some : (frame : Frame) (text : List ℕ) → spelling frame ≡ Some text → 0 < length text
-spelling_some (Header h) text e = tested_some false header_kind (header_payload h) text e
-spelling_some (Square s) text e = tested_some false square_kind (square_payload s) text e
-spelling_some (Message m) text e = tested_some false message_kind (message_payload m) text e
-spelling_some (Names name answer) text e = tested_some (is_long_answer answer) names_kind (names_payload name answer) text e
-spelling_some (Fraud claim) text e = tested_some (is_long_claim claim) fraud_kind (fraud_payload claim) text e
-spelling_some (Missing cells) text e = tested_some (length cells.list == 0) missing_kind (missing_payload cells) text e
-spelling_some (Sample cell axis) text e = tested_some false sample_kind (sample_payload cell axis) text e
-spelling_some (Request name) text e = tested_some false request_kind (request_payload name) text e
-spelling_some (Block b) text e = tested_some (asks_for_zero b.width) block_kind (block_payload b) text e
 
 -- ---- proper prefixes
 
@@ -164,6 +130,9 @@ module _ {A : Type 0} (Allows : A → Frame → Type 0) where
     served_stopped counted same spelled SameText (BadInput i at) failed ends = absurd (failed ends.leaves.1.1)
     served_stopped counted same spelled SameText (BadBlock why) failed ends = absurd (failed ends.leaves.1.1)
     served_stopped counted same spelled SameText (BadRequest why) failed ends = absurd (failed ends.leaves.1.1)
+    served_stopped counted same spelled SameText (Fraud axis i) failed ends = absurd (failed ends.leaves.1.1)
+    served_stopped counted same spelled SameText (Missing cells lies) failed ends = absurd (failed ends.leaves.1.1)
+    served_stopped counted same spelled SameText Clash failed ends = absurd (failed ends.leaves.1.1)
     served_stopped counted same spelled SameText Refused failed ends = absurd (failed ends.leaves.1.1)
     served_stopped counted same spelled SameText WriteFault failed ends = stopped_write ends.leaves (ends.faults ∙ ap (λ (n : ℕ). count_on n 1) same)
     served_stopped counted same spelled SameText NoMemory failed ends =

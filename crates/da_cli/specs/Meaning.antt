@@ -2,7 +2,7 @@
 use Rattle.std.specs.Prelude.{ℕ, List}
 use Rattle.std.specs.declared.option.Option.{Option}
 use Rattle.da_cli.specs.declared.commands.Command.{Command}
-use Rattle.da_cli.specs.declared.commands.Command.TheVariants.{Check, Build, Header, Sample, Namespace, Verify}
+use Rattle.da_cli.specs.declared.commands.Command.TheVariants.{Check, Build, Header, Sample, Namespace, Verify, Repair}
 use Rattle.da_cli.specs.Outcome.{Relation}
 use Rattle.da_cli.specs.Judging.{Judged}
 use Rattle.da_cli.specs.commands.Check.{check_judged, CheckOf}
@@ -11,6 +11,7 @@ use Rattle.da_cli.specs.commands.Header.{header_judged, HeaderOf}
 use Rattle.da_cli.specs.commands.Sample.{sample_judged, SampleOf}
 use Rattle.da_cli.specs.commands.Namespace.{namespace_judged, NamespaceOf}
 use Rattle.da_cli.specs.commands.Verify.{verify_judged, VerifyOf}
+use Rattle.da_cli.specs.commands.Repair.{repair_judged, RepairOf}
 
 -- of each file where it leaves its form, if it does
 abbrev pub judged_of : Command → List (List ℕ) → List (Option ℕ)
@@ -20,6 +21,7 @@ judged_of Header files = header_judged files
 judged_of Sample files = sample_judged files
 judged_of Namespace files = namespace_judged files
 judged_of Verify files = verify_judged files
+judged_of Repair files = repair_judged files
 
 -- the answer over files in their forms
 abbrev pub AnswerOf : Command → List (List ℕ) → Relation
@@ -29,6 +31,7 @@ AnswerOf Header files = HeaderOf files
 AnswerOf Sample files = SampleOf files
 AnswerOf Namespace files = NamespaceOf files
 AnswerOf Verify files = VerifyOf files
+AnswerOf Repair files = RepairOf files
 
 -- what a command writes and answers over any files
 abbrev pub Meaning : Command → List (List ℕ) → Relation

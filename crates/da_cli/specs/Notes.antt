@@ -6,12 +6,14 @@ use Rattle.da_io.specs.Faults.{count_on}
 use Rattle.da_io.specs.Sinks.{AppendsPart}
 use Rattle.namespace_id.specs.declared.namespaces.NsError.{NsError}
 use Rattle.namespace_id.specs.declared.namespaces.NsError.TheVariants.{Length, Version, Prefix, Reserved}
+use Rattle.namespace_id.specs.declared.cells.Axis.{Axis}
+use Rattle.namespace_id.specs.declared.cells.Axis.TheVariants.{Row, Col}
 use Rattle.square_layout.specs.declared.laying.LayError.{LayError}
 use Rattle.square_layout.specs.declared.laying.LayError.TheVariants as lay
 use Rattle.da_cli.specs.declared.status.Asked.{Asked}
 use Rattle.da_cli.specs.declared.status.Asked.TheVariants.{NoHeader, At}
 use Rattle.da_cli.specs.declared.status.Status.{Status}
-use Rattle.da_cli.specs.declared.status.Status.TheVariants.{Done, Usage, PickFault, ReadFault, WriteFault, NoMemory, BadInput, TooLong, BadBlock, BadRequest, Refused}
+use Rattle.da_cli.specs.declared.status.Status.TheVariants.{Done, Usage, PickFault, ReadFault, WriteFault, NoMemory, BadInput, TooLong, BadBlock, BadRequest, Fraud, Missing, Clash, Refused}
 
 -- the numbers of the refusals of a namespace
 abbrev pub refusal_number : NsError → ℕ
@@ -34,6 +36,11 @@ abbrev pub request_note : Asked → List ℕ
 request_note NoHeader = codes "no header"
 request_note (At i) = decimal i
 
+-- the kind of an axis, in a word
+abbrev pub axis_note : Axis → List ℕ
+axis_note Row = codes "row "
+axis_note Col = codes "col "
+
 -- the line of a status
 abbrev pub note_of : Status → List ℕ
 note_of Done = []
@@ -46,6 +53,9 @@ note_of (BadInput i at) = codes "bad input: file " ++ decimal i ++ codes " at " 
 note_of (TooLong i) = codes "too long: file " ++ decimal i ++ codes "\n"
 note_of (BadBlock why) = codes "bad block: " ++ block_note why ++ codes "\n"
 note_of (BadRequest why) = codes "bad request: " ++ request_note why ++ codes "\n"
+note_of (Fraud axis i) = codes "fraud: " ++ axis_note axis ++ decimal i ++ codes "\n"
+note_of (Missing cells lies) = codes "missing: " ++ decimal cells ++ codes " cells, " ++ decimal lies ++ codes " lies\n"
+note_of Clash = codes "clash\n"
 note_of Refused = codes "refused\n"
 
 -- the line was taken, or a proper prefix of it where a write failed

@@ -1,4 +1,4 @@
--- What the line `ok` says under the header of a square.
+-- What the line `ok`, and the answer of a repair, say under the header of a square.
 use Rattle.std.specs.Prelude.{◌≡◌, ℕ, List, codes, true, slice_get, ⊤, Some, None, Ok}
 use Rattle.std.specs.declared.option.Option.{Option}
 use Rattle.namespace_id.specs.Bytes.{AreBytes}
@@ -13,6 +13,8 @@ use Rattle.da_cli.specs.Words.{is_command, names_of}
 use Rattle.da_cli.specs.Gathered.{gathered, whole}
 use Rattle.da_cli.specs.commands.Frames.{header_in}
 use Rattle.da_cli.specs.commands.Check.{header_file, messages_file, finding_of, line_of, IsOwnFrame}
+use Rattle.da_cli.specs.declared.status.Status.{Status}
+use Rattle.da_cli.specs.commands.Repair.{RepairOf, RepairsOwn}
 use Rattle.da_cli.specs.commands.Verify.{answer_file, answer_in, IsRefusal, verdict_line, IsOwnReply}
 
 -- over the files of `check`, where the header in HEADER is that of a square: a frame of MESSAGES whose line is `ok` is a message that shows the square's own share, or they name a collision
@@ -31,10 +33,20 @@ IsOwnLine files words = (contents : List (List ℕ)) (header : Roots) (square : 
     → AreBytes (answer_file contents) → answer_in (answer_file contents) ≡ Ok answer
     → IsRefusal header answer refusal → verdict_line refusal ≡ codes "ok\n" → IsOwnReply answer square
 
--- under the header of a square the line `ok` stands only for the square's own shares, or a collision is named
+-- over the files of `repair`, where the header in HEADER is that of a square: what is written and answered is that square or the missing cells, or a proved message of MESSAGES and the square name a collision
+abbrev pub IsOwnRepair : Files → List (List ℕ) → Type 0
+IsOwnRepair files words = (contents : List (List ℕ)) (header : Roots) (square : SquareShares) (w : List ℕ) (status : Status)
+    → is_command words (codes "repair") 2 ≡ true → gathered files (names_of words) ≡ whole contents
+    → header_in (header_file contents) ≡ Ok header → IsHeaderOf header square
+    → AreBytes (messages_file contents) → RepairOf contents w status
+    → RepairsOwn header (frames_of (messages_file contents)) square w status
+
+-- under the header of a square the line `ok` stands only for the square's own shares, and a repair answers this square or
+-- the missing cells, or a collision is named
 pub record HasOwn (files : Files) (words : List (List ℕ)) : Type 0 where
   pub check : AreOwnLines files words
   pub verify : IsOwnLine files words
+  pub repair : IsOwnRepair files words
 
 -- that, where the files are told
 abbrev pub AreOwn : Option Files → List (List ℕ) → Type 0

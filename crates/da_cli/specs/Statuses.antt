@@ -2,7 +2,7 @@
 use Rattle.std.specs.Prelude.{ℕ, Bool, true, false, ⊤}
 use Rattle.da_io.specs.Faults.{count_on}
 use Rattle.da_cli.specs.declared.status.Status.{Status}
-use Rattle.da_cli.specs.declared.status.Status.TheVariants.{Done, Usage, PickFault, ReadFault, WriteFault, NoMemory, BadInput, TooLong, BadBlock, BadRequest, Refused}
+use Rattle.da_cli.specs.declared.status.Status.TheVariants.{Done, Usage, PickFault, ReadFault, WriteFault, NoMemory, BadInput, TooLong, BadBlock, BadRequest, Fraud, Missing, Clash, Refused}
 
 -- the number that the program ends with
 abbrev pub number_of : Status → ℕ
@@ -16,6 +16,9 @@ number_of (BadInput i at) = 6
 number_of (TooLong i) = 7
 number_of (BadBlock why) = 8
 number_of (BadRequest why) = 9
+number_of (Fraud axis i) = 10
+number_of (Missing cells lies) = 11
+number_of Clash = 12
 number_of Refused = 13
 
 -- the kinds of statuses, by the step of a run that decides: the words, a failed pick or read, an excess of
@@ -42,6 +45,9 @@ kind_of (BadInput i at) = form
 kind_of (TooLong i) = excess
 kind_of (BadBlock why) = request
 kind_of (BadRequest why) = request
+kind_of (Fraud axis i) = output
+kind_of (Missing cells lies) = output
+kind_of Clash = output
 kind_of Refused = output
 
 -- ---- the table of kinds

@@ -4,7 +4,7 @@ use Rattle.std.specs.declared.option.Option.{Option}
 use Rattle.std.specs.declared.alloc.Global.{Global}
 use Rattle.std.specs.String.{string_bytes}
 use Rattle.std.specs.Str.{bytes_eq}
-use Rattle.da_cli.specs.declared.commands.Command.TheVariants.{Check, Build, Header, Sample, Namespace, Verify}
+use Rattle.da_cli.specs.declared.commands.Command.TheVariants.{Check, Build, Header, Sample, Namespace, Verify, Repair}
 use Rattle.da_cli.specs.declared.words.Call.{Call}
 
 -- the bytes of each word
@@ -25,7 +25,8 @@ call_of words =
     (if is_command words (codes "sample") 2 then Some (record { command = Sample; files = 2 }) else
     (if is_command words (codes "namespace") 2 then Some (record { command = Namespace; files = 2 }) else
     (if is_command words (codes "verify") 2 then Some (record { command = Verify; files = 2 }) else
-    None)))))
+    (if is_command words (codes "repair") 2 then Some (record { command = Repair; files = 2 }) else
+    None))))))
 
 -- the words that name files: they follow the command's word
 abbrev pub file_words : ℕ → List (List ℕ) → List (List ℕ)

@@ -7,3 +7,4 @@ pub mod Serving
 pub mod Sample
 pub mod Namespace
 pub mod Verify
+pub mod Repair

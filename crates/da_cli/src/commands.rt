@@ -11,6 +11,7 @@ mod check;
 mod frames;
 mod header;
 mod namespace;
+mod repair;
 mod sample;
 mod serving;
 mod verify;
@@ -34,6 +35,8 @@ pub(crate) enum Command {
     Namespace,
     /// `verify HEADER ANSWER`
     Verify,
+    /// `repair HEADER MESSAGES`
+    Repair,
 }
 
 /// Runs a command over the contents of its files.
@@ -53,5 +56,6 @@ pub(crate) fn execute<O: Sink>(
         Command::Sample => sample::execute(alloc, files, out),
         Command::Namespace => namespace::execute(alloc, files, out),
         Command::Verify => verify::execute(alloc, files, out),
+        Command::Repair => repair::execute(alloc, files, out),
     }
 }

@@ -1,6 +1,7 @@
 //! What the relation of a run says of each kind of words and files.
 
 ghost use Rattle.std.specs.Prelude.{◌≡◌, ◌↔◌, ℕ, true, List, [], ◌∷◌, map, Ok, Some, None};
+ghost use Rattle.std.specs.List.{AllByRecursion};
 ghost use Rattle.namespace_id.specs.Bytes.{AreBytes};
 ghost use Rattle.namespace_id.specs.Shares.{AreShares};
 ghost use Rattle.square_layout.specs.Blocks.{BlockParts, SquareShares, IsSquare, IsBlock};
@@ -22,9 +23,11 @@ ghost use Rattle.da_wire.specs.Values.{values_bytes, bad_value};
 ghost use Rattle.da_wire.specs.Writing.{kind_of};
 ghost use Rattle.da_wire.specs.Reading.{Raw, is_among};
 ghost use Rattle.da_cli.specs.declared.commands.check.Finding.TheVariants.{Proved};
+ghost use Rattle.da_cli.specs.declared.status.Status.{Status};
 ghost use Rattle.da_cli.specs.Limits.{file_limit};
 ghost use Rattle.da_cli.specs.commands.Frames.{header_in, square_in, block_in};
 ghost use Rattle.da_cli.specs.commands.Check.{finding_of, IsProvedFrame, IsOwnFrame};
+ghost use Rattle.da_cli.specs.commands.Repair.{Repairs, RepairsOwn};
 ghost use Rattle.da_cli.specs.commands.Sample.{sample_frame, samples_in};
 ghost use Rattle.da_cli.specs.commands.Namespace.{namespaces_in};
 ghost use Rattle.da_cli.specs.commands.Verify.{IsRefusal, answer_kinds, answer_in, IsOwnReply};
@@ -33,6 +36,7 @@ ghost use Rattle.da_cli.specs.Laws.{FormLaw, BadInputLaw, ExcessLaw, AbsentLaw, 
 use crate::gathering::FILE_LIMIT;
 use axis_roots::{claim_laws, grid_laws, message_laws};
 use da_wire::{value_laws, wire_laws};
+use repair_queue::verdict_laws;
 use square_layout::{name_laws, size_laws};
 use square_serve::answer_laws;
 
@@ -70,6 +74,13 @@ pub fn run_laws()
     // where they name one.
     ensures own_answer { (header : Roots) (answer : Frame) (square : SquareShares) → IsFrame answer →
         IsHeaderOf header square → IsRefusal header answer None → IsOwnReply answer square }
+
+    // Under the header of a square what a repair writes is this square or the missing cells, or a
+    // proved message of the file and the square name a collision.
+    ensures own_repair { (header : Roots) (frames : List Raw) (square : SquareShares) (w : List ℕ)
+        (status : Status) → AllByRecursion (λ raw. AreBytes raw.payload) frames →
+        IsHeaderOf header square → Repairs header frames w status →
+        RepairsOwn header frames square w status }
 
     // A file is read as a header, a square, a block, an answer exactly where it is that value's one
     // spelling.
@@ -110,4 +121,5 @@ pub fn run_laws()
     size_laws();
     name_laws();
     answer_laws();
+    verdict_laws();
 }

@@ -1,14 +1,14 @@
 //! The line that goes with a status.
 
 ghost use Rattle.std.specs.Prelude.{◌≡◌, ℕ, ◌+◌, ◌≤◌, ◌++◌, length, decimal};
-ghost use Rattle.da_cli.specs.Notes.{refusal_number, block_note, note_of, Notes};
+ghost use Rattle.da_cli.specs.Notes.{refusal_number, block_note, axis_note, note_of, Notes};
 
 pub(crate) mod line;
 
 use crate::{Asked, Status};
 use da_io::{Sink, write_all};
 use line::Line;
-use namespace_id::NsError;
+use namespace_id::{Axis, NsError};
 use square_layout::LayError;
 
 /// Puts a number between two texts.
@@ -54,6 +54,16 @@ fn note_block(line: &mut Line, why: LayError)
     }
 }
 
+/// The kind of an axis, in a word.
+fn axis_note(axis: Axis) -> &'static [u8]
+    ensures { result.now ≡ axis_note axis }
+{
+    match axis {
+        Axis::Row => b"row ",
+        Axis::Col => b"col ",
+    }
+}
+
 /// The line that goes with a status. It takes no memory.
 #[tactic(auto, using(crate::proofs::DigitLemmas::digits_fit))]
 fn note_of(status: Status) -> Line
@@ -79,6 +89,16 @@ fn note_of(status: Status) -> Line
         }
         Status::BadRequest(Asked::NoHeader) => line.put(b"bad request: no header\n"),
         Status::BadRequest(Asked::At(i)) => around(&mut line, b"bad request: ", i, b"\n"),
+        Status::Fraud(axis, i) => {
+            line.put(b"fraud: ");
+            line.put(axis_note(axis));
+            around(&mut line, b"", u64::from(i), b"\n");
+        }
+        Status::Missing(cells, lies) => {
+            around(&mut line, b"missing: ", u64::from(cells), b" cells, ");
+            around(&mut line, b"", lies, b" lies\n");
+        }
+        Status::Clash => line.put(b"clash\n"),
         Status::Refused => line.put(b"refused\n"),
     }
     line

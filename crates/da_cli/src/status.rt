@@ -3,6 +3,7 @@
 ghost use Rattle.std.specs.Prelude.{◌≡◌};
 ghost use Rattle.da_cli.specs.Statuses.{number_of};
 
+use namespace_id::Axis;
 use square_layout::LayError;
 
 /// Why what the files ask for can't be answered.
@@ -39,6 +40,12 @@ pub enum Status {
     BadBlock(LayError),
     /// What the files ask for can't be answered.
     BadRequest(Asked),
+    /// The output is a fraud proof against this axis, the row or column of this index.
+    Fraud(Axis, u16),
+    /// The output is so many missing cells, and so many frames were no proved message.
+    Missing(u32, u64),
+    /// The output is a SHA-256 collision.
+    Clash,
     /// The output is complete, and a line of it is a refusal.
     Refused,
 }
@@ -59,6 +66,9 @@ impl Status {
             Status::TooLong(_) => 7,
             Status::BadBlock(_) => 8,
             Status::BadRequest(_) => 9,
+            Status::Fraud(..) => 10,
+            Status::Missing(..) => 11,
+            Status::Clash => 12,
             Status::Refused => 13,
         }
     }

@@ -18,6 +18,7 @@ mod frames;
 mod header;
 mod memory;
 mod notes;
+mod repairs;
 mod serving;
 mod shares;
 

@@ -64,5 +64,11 @@ pub(crate) fn call_of(words: &[String]) -> Option<Call>
             files: 2,
         });
     }
+    if is_command(words, "repair", 2) {
+        return Some(Call {
+            command: Command::Repair,
+            files: 2,
+        });
+    }
     None
 }

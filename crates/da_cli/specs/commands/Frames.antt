@@ -12,6 +12,7 @@ use Rattle.da_wire.specs.Spelling.{spelling, header_kind, square_kind, block_kin
 use Rattle.da_wire.specs.Reading.{only_of}
 use Rattle.da_cli.specs.declared.commands.frames.Unread.{Unread}
 use Rattle.da_cli.specs.declared.commands.frames.Unread.TheVariants as unread
+use Rattle.da_cli.specs.declared.status.Status.{Status}
 use Rattle.da_cli.specs.declared.status.Status.TheVariants.{Done}
 use Rattle.da_cli.specs.Outcome.{Relation}
 
@@ -79,3 +80,11 @@ error_of (Err at) = Some at
 -- the output is the spelling of one frame
 abbrev pub Writes : Frame → Relation
 Writes frame w status = (spelling frame ≡ Some w) × (status ≡ Done)
+
+-- the output is the spelling of one frame, with this status
+abbrev pub WritesWith : Status → Frame → Relation
+WritesWith final frame w status = (spelling frame ≡ Some w) × (status ≡ final)
+
+-- the output is this text, with this status
+abbrev pub WritesText : Status → List ℕ → Relation
+WritesText final text w status = (w ≡ text) × (status ≡ final)

@@ -1,8 +1,6 @@
 //! build BLOCK: the square of a block.
 
-ghost use Rattle.std.specs.Prelude.{◌≡◌, IsSome};
-ghost use Rattle.da_wire.specs.Spelling.{spelling};
-ghost use Rattle.da_wire.specs.declared.frames.Frame.TheVariants as FrameOf;
+ghost use Rattle.std.specs.Prelude.{◌≡◌};
 ghost use Rattle.da_cli.specs.declared.commands.Command.TheVariants as CommandOf;
 ghost use Rattle.da_cli.specs.Gathered.{contents_of};
 ghost use Rattle.da_cli.specs.commands.Build.{Builds};
@@ -10,27 +8,14 @@ ghost use Rattle.da_cli.specs.Meaning.{Meaning};
 ghost use Rattle.da_cli.specs.Outcome.{Ends};
 
 use crate::Status;
-use crate::commands::frames::{Unread, block_in, give};
+use crate::commands::frames::{Unread, block_in, give, square_frame};
 use crate::gathering::file;
 use da_io::Sink;
-use da_wire::{Frame, wire_laws};
-use namespace_id::shares_law;
-use square_layout::{Block, LayError, Square, lay};
+use square_layout::{Block, LayError, lay};
 use std::alloc::Global;
 
 /// The place of the file among the words that name files.
 const BLOCK: u32 = 0;
-
-/// The frame of a square.
-fn square_frame(square: Square) -> Frame
-    ensures value { result ≡ FrameOf.Square square }
-    ensures spelled { IsSome (spelling result) }
-{
-    wire_laws();
-    shares_law(&square.shares);
-    let _k = square.k;
-    Frame::Square(square)
-}
 
 /// Writes the square of a block.
 fn build_square<O: Sink>(alloc: Global, block: &Block, out: &mut O) -> Status

@@ -2,13 +2,16 @@
 
 ghost use Rattle.std.specs.Prelude.{◌≡◌, IsSome};
 ghost use Rattle.da_wire.specs.Spelling.{spelling};
-ghost use Rattle.da_cli.specs.commands.Frames.{header_in, square_in, block_in, unread_of, ReadsSingle, Writes};
+ghost use Rattle.da_wire.specs.declared.frames.Frame.TheVariants as FrameOf;
+ghost use Rattle.da_cli.specs.Statuses.{kind_of, output};
+ghost use Rattle.da_cli.specs.commands.Frames.{header_in, square_in, block_in, unread_of, ReadsSingle, Writes, WritesText, WritesWith};
 ghost use Rattle.da_cli.specs.Outcome.{Ends};
 
 use crate::Status;
 use da_io::{Sink, write_all};
-use da_wire::{Frame, FrameError, SpellError, read_only, write_frame};
+use da_wire::{Frame, FrameError, SpellError, read_only, wire_laws, write_frame};
 use data_header::Header;
+use namespace_id::shares_law;
 use square_layout::{Block, Square};
 use std::alloc::Global;
 
@@ -69,21 +72,56 @@ pub(crate) fn block_in(alloc: Global, bytes: &[u8]) -> Result<Block, Unread>
     }
 }
 
+/// The frame of a square.
+pub(crate) fn square_frame(square: Square) -> Frame
+    ensures value { result ≡ FrameOf.Square square }
+    ensures spelled { IsSome (spelling result) }
+{
+    wire_laws();
+    shares_law(&square.shares);
+    let _k = square.k;
+    Frame::Square(square)
+}
+
+/// Writes a text as one piece, and answers a status of a complete output.
+pub(crate) fn put<O: Sink>(text: &[u8], status: Status, out: &mut O) -> Status
+    requires { kind_of status ≡ output }
+    ensures { Ends (WritesText status text.now) (O.taken out.old) (O.taken out.new)
+        (O.faults out.old) (O.faults out.new) (out.new ≡ out.old) result }
+{
+    match write_all(out, text) {
+        Ok(()) => status,
+        Err(_) => Status::WriteFault,
+    }
+}
+
+/// Writes one frame, as one piece, and answers a status of a complete output. The text of the frame
+/// takes the place of what `text` holds.
+pub(crate) fn give_with<O: Sink>(
+    frame: &Frame,
+    status: Status,
+    text: &mut Vec<u8>,
+    out: &mut O,
+) -> Status
+    requires spelled { IsSome (spelling frame.now) }
+    requires status { kind_of status ≡ output }
+    ensures { Ends (WritesWith status frame.now) (O.taken out.old) (O.taken out.new)
+        (O.faults out.old) (O.faults out.new) (out.new ≡ out.old) result }
+{
+    text.clear();
+    match write_frame(frame, text) {
+        Ok(()) => put(text, status, out),
+        // Never taken: the frame has a spelling. The type of the error has this variant too.
+        Err(SpellError::Unspellable) => unreachable!(),
+        Err(SpellError::NoMemory) => Status::NoMemory,
+    }
+}
+
 /// Writes one frame, as one piece. The text of the frame takes the place of what `text` holds.
 pub(crate) fn give<O: Sink>(frame: &Frame, text: &mut Vec<u8>, out: &mut O) -> Status
     requires { IsSome (spelling frame.now) }
     ensures { Ends (Writes frame.now) (O.taken out.old) (O.taken out.new) (O.faults out.old)
         (O.faults out.new) (out.new ≡ out.old) result }
 {
-    text.clear();
-    match write_frame(frame, text) {
-        Ok(()) => {}
-        // Never taken: the frame has a spelling. The type of the error has this variant too.
-        Err(SpellError::Unspellable) => unreachable!(),
-        Err(SpellError::NoMemory) => return Status::NoMemory,
-    }
-    match write_all(out, text) {
-        Ok(()) => Status::Done,
-        Err(_) => Status::WriteFault,
-    }
+    give_with(frame, Status::Done, text, out)
 }

@@ -128,7 +128,7 @@ fn words_and_files(rt: HostRuntime) -> Result<(), Fail> {
         (&[], Usage, ""),
         (&["check", "h"], Usage, ""),
         (&["check", "h", "m", "m"], Usage, ""),
-        (&["repair", "h", "m"], Usage, ""),
+        (&["mend", "h", "m"], Usage, ""),
         (&["check", "gone", "m"], PickFault(0), ""),
         (&["check", "m", "gone"], PickFault(1), ""),
         (&["check", "m", "h"], BadInput(0, 0), ""),

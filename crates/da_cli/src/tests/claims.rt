@@ -43,7 +43,7 @@ fn changed(alloc: Global, good: &[u8], changes: &[(usize, usize, u8)]) -> Result
 }
 
 /// The header of the square, of which some bytes are another value.
-fn header(alloc: Global, changes: &[(usize, usize, u8)]) -> Result<Vec<u8>, Fail> {
+pub(super) fn header(alloc: Global, changes: &[(usize, usize, u8)]) -> Result<Vec<u8>, Fail> {
     let own = run_well(alloc, "header", square(alloc)?)?.out.bytes;
     changed(alloc, &own, changes)
 }

@@ -1,8 +1,11 @@
 //! Runs that end with their row or with want of memory, whichever allocation fails.
 
 use super::check::{run_messages, run_two_files};
-use super::frames::{Change, EMPTY, SAMPLE, block_frame, empty_header, empty_square};
-use super::{Ran, run_well};
+use super::frames::{
+    Change, EMPTY, SAMPLE, block_frame, empty_header, empty_square, message_frame,
+};
+use super::serving::run_both;
+use super::{NEVER, Ran, run_well};
 use crate::Status;
 use crate::Status::{BadInput, Done, NoMemory, PickFault, Refused, Usage};
 use std::test::Fail;
@@ -56,7 +59,7 @@ fn words(rt: HostRuntime) -> Result<(), Fail> {
     let cases: [(&[&str], Status); 3] = [
         (&["check", "m", "h"], BadInput(0, 0)),
         (&["check", "h", "gone"], PickFault(1)),
-        (&["repair", "h", "m"], Usage),
+        (&["mend", "h", "m"], Usage),
     ];
     for (words, want) in cases {
         let ran = run_two_files(rt.alloc(), words)?;
@@ -65,7 +68,7 @@ fn words(rt: HostRuntime) -> Result<(), Fail> {
     Ok(())
 }
 
-/// Whether a run over one file ended with these bytes and done, or with want of memory and nothing
+/// Whether a run ended with these bytes and done, or with want of memory and nothing
 /// written.
 fn gives(ran: &Ran, want: &[u8]) -> bool {
     let taken = ran.out.bytes.as_slice();
@@ -89,6 +92,21 @@ fn headed(rt: HostRuntime) -> Result<(), Fail> {
     let want = empty_header(rt.alloc())?;
     let square = empty_square(rt.alloc())?;
     let ran = run_well(rt.alloc(), "header", square)?;
+    assert!(rt; gives(&ran, &want));
+    Ok(())
+}
+
+#[test]
+fn repaired(rt: HostRuntime) -> Result<(), Fail> {
+    let want = empty_square(rt.alloc())?;
+    let message = message_frame(rt.alloc(), Change::None)?;
+    let ran = run_both(
+        rt.alloc(),
+        "repair",
+        empty_header(rt.alloc())?,
+        &message,
+        NEVER,
+    )?;
     assert!(rt; gives(&ran, &want));
     Ok(())
 }

@@ -3,11 +3,11 @@
 use super::{NEVER, small_sink};
 use crate::Asked;
 use crate::Status::{
-    BadBlock, BadInput, BadRequest, Done, NoMemory, PickFault, ReadFault, Refused, TooLong, Usage,
-    WriteFault,
+    BadBlock, BadInput, BadRequest, Clash, Done, Fraud, Missing, NoMemory, PickFault, ReadFault,
+    Refused, TooLong, Usage, WriteFault,
 };
 use crate::notes::note;
-use namespace_id::NsError;
+use namespace_id::{Axis, NsError};
 use square_layout::LayError;
 use std::test::Fail;
 
@@ -31,6 +31,10 @@ fn printed_lines(rt: HostRuntime) -> Result<(), Fail> {
         (BadBlock(LayError::BadWidth), "bad block: 5\n"),
         (BadRequest(Asked::NoHeader), "bad request: no header\n"),
         (BadRequest(Asked::At(12)), "bad request: 12\n"),
+        (Fraud(Axis::Row, 3), "fraud: row 3\n"),
+        (Fraud(Axis::Col, 0), "fraud: col 0\n"),
+        (Missing(13, 0), "missing: 13 cells, 0 lies\n"),
+        (Clash, "clash\n"),
         (Refused, "refused\n"),
     ];
     for (status, want) in cases {

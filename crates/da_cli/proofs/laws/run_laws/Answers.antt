@@ -11,6 +11,7 @@ use Rattle.axis_roots.specs.Grids.{header_of_grid}
 use Rattle.da_cli.proofs.FileLemmas.{header_file, square_file, block_file, answer_file, square_again, some_there}
 use Rattle.da_cli.proofs.RunLemmas.{form_law, bad_input_law, excess_law, absent_law, failure_law}
 use Rattle.da_cli.proofs.CheckLemmas.{finding_proved, finding_own}
+use Rattle.da_cli.proofs.RepairLemmas.{repairs_own}
 use Rattle.da_cli.proofs.VerifyLemmas.{verified_proved, verified_complete, verified_accepted, verified_own}
 use Rattle.da_cli.proofs.laws.run_laws.Goals as goal
 
@@ -46,6 +47,9 @@ pub returns-clause-own_answer : goal.returns-clause-own_answer
 returns-clause-own_answer c =
     verified_own c.message_laws.ensures.refusal c.message_laws.ensures.own c.answer_laws.ensures.refusal c.answer_laws.ensures.own
     c.claim_laws.ensures.own
+
+pub returns-clause-own_repair : goal.returns-clause-own_repair
+returns-clause-own_repair c = repairs_own c.wire_laws.ensures.message_spelled c.verdict_laws.ensures.own
 
 pub returns-clause-complete : goal.returns-clause-complete
 returns-clause-complete c = λ header name answer. verified_complete header name answer (c.answer_laws.ensures.refusal header name answer)

@@ -1,0 +1,183 @@
+//! repair HEADER MESSAGES: the square of a header from a list of messages, or what is wrong or missing.
+
+ghost use Rattle.std.specs.Prelude.{◌≡◌, ◌≢◌, IfOk, IfSome, IsNone, IsSome, Some, true, false, [], map};
+ghost use Rattle.std.specs.List.{AllByRecursion};
+ghost use Rattle.axis_roots.specs.declared.message.messages.Message as sent;
+ghost use Rattle.axis_roots.specs.Openings.{IsProved};
+ghost use Rattle.axis_roots.specs.Proved.{IsUnder, kept_message};
+ghost use Rattle.repair_queue.specs.Closures.{Covers};
+ghost use Rattle.repair_queue.specs.Verdicts.{missing, fraud};
+ghost use Rattle.da_wire.specs.declared.frames.Frame.TheVariants as FrameOf;
+ghost use Rattle.da_wire.specs.kinds.Clash.{has_empty};
+ghost use Rattle.da_wire.specs.Reading.{raw_seen};
+ghost use Rattle.da_wire.specs.Spelling.{spelling};
+ghost use Rattle.da_wire.specs.Frames.{frames_of, message_in};
+ghost use Rattle.da_cli.specs.declared.commands.Command.TheVariants as CommandOf;
+ghost use Rattle.da_cli.specs.Gathered.{contents_of};
+ghost use Rattle.da_cli.specs.commands.Check.{finding_of, is_ok};
+ghost use Rattle.da_cli.specs.commands.Repair.{messages_in, lies_in, Answers, Repairs};
+ghost use Rattle.da_cli.specs.Meaning.{Meaning};
+ghost use Rattle.da_cli.specs.Outcome.{Ends};
+
+use crate::Status;
+use crate::commands::frames::{Unread, give, give_with, header_in, put, square_frame};
+use crate::gathering::file;
+use axis_roots::{FraudProof, Proved, check, message_laws};
+use da_io::Sink;
+use da_wire::{
+    Frame, RawFrame, bad_frame, message, next_frame, value_laws, wire_laws, write_proof,
+};
+use data_header::Header;
+use hash_clash::Clash;
+use namespace_id::{Cells, NoMemory};
+use repair_queue::{Verdict, repair_list, verdict_laws};
+use std::alloc::Global;
+
+/// The places of the files among the words that name files.
+const HEADER: u32 = 0;
+
+const MESSAGES: u32 = 1;
+
+/// The certificate of the message that a frame is; none where the frame is a lie.
+fn proved_in(header: &Header, frame: RawFrame<'_>) -> Option<Proved>
+    ensures ok { IfSome result (λ _.
+        is_ok (finding_of header.now (raw_seen frame.entry)) ≡ true) }
+    ensures message { IfSome result (λ proved.
+        message_in (raw_seen frame.entry) ≡ Some (kept_message proved)) }
+    ensures under { IfSome result (IsUnder header.now) }
+    ensures lie { IsNone result →
+        is_ok (finding_of header.now (raw_seen frame.entry)) ≡ false }
+    ensures unproved { IsNone result → (message : sent.Message) →
+        message_in (raw_seen frame.entry) ≡ Some message → IsProved header.now message → ⊥ }
+{
+    if frame.kind != b'M' {
+        return None;
+    }
+    let message = message(frame.payload)?;
+    message_laws();
+    let _k = header.k;
+    match check(header, message) {
+        Ok(proved) => Some(proved),
+        Err(_) => None,
+    }
+}
+
+/// The certificates of the frames that are proved messages, in their order, and how many others there
+/// are.
+fn collect(alloc: Global, header: &Header, messages: &[u8]) -> Result<(Vec<Proved>, u64), NoMemory>
+    ensures under { IfOk result (λ found. AllByRecursion (IsUnder header.now) found.0.items) }
+    ensures lies { IfOk result (λ found. found.1 ≡ lies_in header.now (frames_of messages.now)) }
+
+    // These are just the proved messages among the frames.
+    ensures all { IfOk result (λ found. Covers header.now
+        (messages_in (frames_of messages.now)) (map kept_message found.0.items)) }
+    ensures only { IfOk result (λ found. Covers header.now
+        (map kept_message found.0.items) (messages_in (frames_of messages.now))) }
+{
+    let mut all = Vec::new(alloc);
+    let mut lies = 0;
+    let mut rest = messages;
+    while let Some((frame, after)) = next_frame(rest) {
+        match proved_in(header, frame) {
+            Some(proved) => {
+                let Ok(()) = all.push(proved) else {
+                    return Err(NoMemory);
+                };
+            }
+            None => lies += 1,
+        }
+        rest = after;
+    }
+    Ok((all, lies))
+}
+
+/// The frame of missing cells.
+fn missing_frame(cells: Cells) -> Frame
+    requires { cells.list ≢ [] }
+    ensures value { result ≡ FrameOf.Missing cells }
+    ensures spelled { IsSome (spelling result) }
+{
+    wire_laws();
+    let _k = cells.k;
+    Frame::Missing(cells)
+}
+
+/// The frame of a collision.
+fn clash_frame(clash: Clash) -> Frame
+    requires { has_empty clash ≡ false }
+    ensures value { result ≡ FrameOf.Clash clash }
+    ensures spelled { IsSome (spelling result) }
+{
+    value_laws();
+    let _left = clash.left().bytes();
+    let _right = clash.right().bytes();
+    Frame::Clash(clash)
+}
+
+/// Writes missing cells, where so many frames were lies.
+fn give_missing<O: Sink>(alloc: Global, cells: Cells, lies: u64, out: &mut O) -> Status
+    requires { cells.list ≢ [] }
+    ensures { Ends (Answers lies (missing cells)) (O.taken out.old) (O.taken out.new)
+        (O.faults out.old) (O.faults out.new) (out.new ≡ out.old) result }
+{
+    value_laws();
+    let status = Status::Missing(cells.list.len() as u32, lies);
+    give_with(&missing_frame(cells), status, &mut Vec::new(alloc), out)
+}
+
+/// Writes the claim of a fraud proof. How many frames were lies plays no part.
+fn give_proof<O: Sink>(alloc: Global, proof: &FraudProof, out: &mut O) -> Status
+    ensures { Ends (Answers 0 (fraud proof.now.claim)) (O.taken out.old) (O.taken out.new)
+        (O.faults out.old) (O.faults out.new) (out.new ≡ out.old) result }
+{
+    let status = Status::Fraud(proof.axis, proof.index);
+    let mut text = Vec::new(alloc);
+    match write_proof(proof, &mut text) {
+        Ok(()) => put(&text, status, out),
+        Err(_) => Status::NoMemory,
+    }
+}
+
+/// Answers what repair comes to by messages under a header. All memory is taken before the write.
+fn repair<O: Sink>(alloc: Global, header: &Header, messages: &[u8], out: &mut O) -> Status
+    ensures { Ends (Repairs header.now (frames_of messages.now)) (O.taken out.old)
+        (O.taken out.new) (O.faults out.old) (O.faults out.new) (out.new ≡ out.old) result }
+{
+    verdict_laws();
+    let Ok((proved, lies)) = collect(alloc, header, messages) else {
+        return Status::NoMemory;
+    };
+    let Ok(verdict) = repair_list(alloc, header, proved) else {
+        return Status::NoMemory;
+    };
+    match verdict {
+        Verdict::Whole(square) => give(&square_frame(square), &mut Vec::new(alloc), out),
+        Verdict::Missing(cells) => give_missing(alloc, cells, lies, out),
+        Verdict::Fraud(proof) => give_proof(alloc, &proof, out),
+        Verdict::Clash(clash) => {
+            give_with(
+                &clash_frame(clash),
+                Status::Clash,
+                &mut Vec::new(alloc),
+                out,
+            )
+        }
+    }
+}
+
+/// Answers what repair of the square of the header in HEADER by the messages in MESSAGES comes to.
+pub(crate) fn execute<O: Sink>(alloc: Global, files: &[Vec<u8>], out: &mut O) -> Status
+    ensures { Ends (Meaning CommandOf.Repair (contents_of files.now)) (O.taken out.old)
+        (O.taken out.new) (O.faults out.old) (O.faults out.new) (out.new ≡ out.old) result }
+{
+    let header = match header_in(alloc, file(files, HEADER)) {
+        Ok(header) => header,
+        Err(Unread::BadForm(at)) => return Status::BadInput(HEADER, at),
+        Err(Unread::NoMemory) => return Status::NoMemory,
+    };
+    let messages = file(files, MESSAGES);
+    if let Some(at) = bad_frame(messages) {
+        return Status::BadInput(MESSAGES, at);
+    }
+    repair(alloc, &header, messages, out)
+}
