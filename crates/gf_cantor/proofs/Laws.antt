@@ -1,12 +1,12 @@
 -- The laws of the product of labels, at all numbers: a number counts as the label of its lowest 8 bits.
-use Rattle.std.proofs.Common.{◌≡◌, ℕ, true, ◌+◌, ◌-◌, ◌/◌, ◌==◌, ◌<◌, refl, sym, ap, ap₂, ◌∙◌, get_or, arith}
+use Rattle.std.proofs.Common.{◌≡◌, ℕ, zero, suc, true, ◌+◌, ◌-◌, ◌*◌, ◌/◌, ◌%◌, ◌==◌, ◌<◌, zero-add, refl, sym, ap, ap₂, ◌∙◌, get_or, arith}
 use Rattle.std.specs.Prelude.{bit_xor}
 use Rattle.std.proofs.lemmas.Bool.{eqb-true}
 use Rattle.gf_cantor.specs.declared.tables.TheConstants.{LOG}
 use Rattle.gf_cantor.specs.Field.{combine, basis, element, power_labels, label, times_x, shift, power, times_low, times, product}
 use Rattle.gf_cantor.proofs.Computed.{passes_below, passes_below-at, one-times, zero-times, element-label, label-element, log_lt}
 use Rattle.gf_cantor.proofs.Additive.{times_low-xor, element-xor, label-xor, element-lt, label-lt}
-use Rattle.gf_cantor.proofs.Powers.{power-lt, power-times-power, element_log}
+use Rattle.gf_cantor.proofs.Powers.{power-lt, shift-add, power-times-power, element_log}
 use Rattle.gf_cantor.proofs.Times.{times-lt, element_zero, label_zero, element_one, label_one, times_comm, times_assoc}
 
 -- a product is a label
@@ -71,10 +71,29 @@ pub product-powers : (a b i j : ℕ) → element a ≡ power i → element b ≡
 unfolding product
 product-powers a b i j ea eb = ap label (ap₂ times ea eb ∙ power-times-power i j)
 
+-- the same of the labels themselves
+pub label-powers : (i j : ℕ) → product (label (power i)) (label (power j)) ≡ label (power (i + j))
+label-powers i j =
+    product-powers (label (power i)) (label (power j)) i j
+    (element-label (power i) (power-lt i)) (element-label (power j) (power-lt j))
+
 -- x^255 is 1
 power_255 : power 255 ≡ 1
 unfolding shift times_x
 power_255 = refl
+
+-- so exponents may be left out by 255
+power_turns : (n i : ℕ) → power (n * 255 + i) ≡ power i
+power_turns zero i = ap (λ (k : ℕ). power k) (zero-add i)
+power_turns (suc n) i =
+    let turn : suc n * 255 + i ≡ (n * 255 + i) + 255 = omega arith in
+    ap (λ (k : ℕ). power k) turn ∙ shift-add (n * 255 + i) 255 1 ∙ ap (shift (n * 255 + i)) power_255 ∙ power_turns n i
+
+-- exponents count modulo 255
+pub power-period : (i : ℕ) → power (i % 255) ≡ power i
+power-period i =
+    let parts : i ≡ i / 255 * 255 + i % 255 = omega arith in
+    sym (ap (λ (k : ℕ). power k) parts ∙ power_turns (i / 255) (i % 255))
 
 -- the product with the label of the power that is left to 255
 pub product-inverse : (a i b : ℕ) → i < 255 → element a ≡ power i → b ≡ label (power (255 - i)) → product a b ≡ 1

@@ -1,7 +1,7 @@
 //! Powers of x and their exponents, by table.
 
-ghost use Rattle.std.specs.Prelude.{◌≡◌, ◌<◌};
-ghost use Rattle.gf_cantor.specs.Field.{element, label, power};
+ghost use Rattle.std.specs.Prelude.{◌≡◌, ◌<◌, ◌+◌, ◌%◌, ℕ};
+ghost use Rattle.gf_cantor.specs.Field.{element, label, power, product};
 
 /// The labels of 1, x, x^2, .., twice over, as x^255 is 1: so the sum of two logarithms is a place in
 /// them.
@@ -50,21 +50,53 @@ const LOG: [u8; 256] = [
     61, 211, 171, 195, 72, 142, 218, 168, 80,
 ];
 
-/// The label of x^i.
+/// The label of a power of x. The exponent `i` is below 510, as the sum of two logarithms is. It
+/// takes no memory.
+///
+/// docs/RULES.md, "The byte field" (profile, in the manner of Leopard's 8-bit field).
 #[tactic(auto, using(crate::proofs::Powers::exp_is))]
-pub(crate) fn exp(i: usize) -> u8
+pub fn exp(i: usize) -> u8
     requires { i < 510 }
     ensures { result ≡ label (power i) }
 {
     EXP[i]
 }
 
-/// The logarithm of a label: its element is x to that power.
+/// The logarithm of a label that isn't 0: the label's element is x to that power. It takes no
+/// memory.
+///
+/// docs/RULES.md, "The byte field" (profile, in the manner of Leopard's 8-bit field).
 #[tactic(auto, using(crate::proofs::Computed::log_lt, crate::proofs::Powers::element_log))]
-pub(crate) fn log(a: u8) -> usize
+pub fn log(a: u8) -> usize
     requires { 0 < a }
     ensures bound { result < 255 }
     ensures power { element a ≡ power result }
 {
     LOG[a as usize] as usize
+}
+
+/// The laws of the powers of x: a product of powers is the power of the sum of their exponents,
+/// which count modulo 255. It does nothing, and takes no memory.
+///
+/// docs/RULES.md, "The byte field" (profile, in the manner of Leopard's 8-bit field).
+pub fn power_laws()
+    ensures label { (a : ℕ) → a < 256 → label (element a) ≡ a }
+    ensures product { (i j : ℕ) →
+        product (label (power i)) (label (power j)) ≡ label (power (i + j)) }
+    ensures period { (i : ℕ) → power (i % 255) ≡ power i }
+{}
+
+#[cfg(test)]
+mod tests {
+    use super::*;
+
+    #[test]
+    fn powers_and_logarithms(rt: HostRuntime) {
+        // By a program in Python that multiplies binary polynomials.
+        for (i, a) in [(0, 1), (1, 104), (254, 66)] {
+            assert_eq!(rt; exp(i), a, "the power {i}");
+            assert_eq!(rt; log(a), i, "the logarithm of {a}");
+        }
+        assert_eq!(rt; exp(509), 66);
+    }
 }

@@ -19,6 +19,17 @@ pub(crate) fn add_row(acc: &mut [u8; SHARE_SIZE], row: &[u8; SHARE_SIZE])
     }
 }
 
+/// Adds `by` times each byte of `row` to the byte of `acc` at its place: nothing where `by` is 0,
+/// as in the first block of each stage of a transform at 0.
+fn add_multiple(acc: &mut [u8; SHARE_SIZE], row: &[u8; SHARE_SIZE], by: u8)
+    ensures { (b : ℕ) → b < share_size → slice_index acc.new b ≡
+        bit_xor (slice_index acc.old b) (product by (slice_index row.now b)) }
+{
+    if by != 0 {
+        mul_row(acc, row, by);
+    }
+}
+
 /// Adds `by` times the high share to the low one, and then the low share to the high one.
 fn spread_pair(low: &mut Share, high: &mut Share, by: u8)
     ensures low { (b : ℕ) → b < share_size → slice_index low.new.0 b ≡
@@ -26,7 +37,7 @@ fn spread_pair(low: &mut Share, high: &mut Share, by: u8)
     ensures high { (b : ℕ) → b < share_size → slice_index high.new.0 b ≡
         bit_xor (slice_index low.new.0 b) (slice_index high.old.0 b) }
 {
-    mul_row(&mut low.0, &high.0, by);
+    add_multiple(&mut low.0, &high.0, by);
     add_row(&mut high.0, &low.0);
 }
 
@@ -38,7 +49,7 @@ fn gather_pair(low: &mut Share, high: &mut Share, by: u8)
         bit_xor (slice_index low.old.0 b) (product by (slice_index high.new.0 b)) }
 {
     add_row(&mut high.0, &low.0);
-    mul_row(&mut low.0, &high.0, by);
+    add_multiple(&mut low.0, &high.0, by);
 }
 
 /// A stage of `forward`: both halves of the coefficients become those of the two halves of the

@@ -16,3 +16,4 @@ pub mod ZeroLemmas
 pub mod ErasureLemmas
 pub mod RebuildLemmas
 pub mod LocateLemmas
+pub mod SumLemmas

@@ -1,5 +1,5 @@
 -- The locator's values as they are made, one missing position after another, and shares as they are placed.
-use Rattle.std.proofs.Common.{◌≡◌, ◌≢◌, ◌∙◌, ℕ, zero, suc, ◌+◌, ◌<◌, List, [], ◌∷◌, length, drop, get_or, set, refl, sym, ap, ap₂, arith, inl, inr, below_more}
+use Rattle.std.proofs.Common.{◌≡◌, ◌≢◌, ◌∙◌, ℕ, zero, suc, ◌+◌, ◌<◌, List, [], ◌∷◌, length, drop, get_or, get_or-set_same, get_or-set_other, set, refl, sym, ap, ap₂, arith, inl, inr}
 use Rattle.std.specs.Prelude.{Some, slice_get}
 use Rattle.std.proofs.lemmas.Bool.{cases_lt}
 use Rattle.std.proofs.lemmas.List.{drop_all}
@@ -7,6 +7,7 @@ use Rattle.std.proofs.Math.Seq.{drop-cons}
 use Rattle.gf_cantor.specs.Field.{product}
 use Rattle.gf_cantor.proofs.Laws.{product_comm, product_assoc, one-product}
 use Rattle.namespace_id.specs.declared.shares.Share.{Share}
+use Rattle.lch_fft.proofs.ColumnLemmas.{byte}
 use Rattle.leopard_code.specs.Locators.{missing_from, difference, apart_from}
 use Rattle.leopard_code.proofs.LocatorLemmas.{apart_from-lt}
 use Rattle.leopard_code.proofs.MissingLemmas.{missing-known, missing-other}
@@ -83,14 +84,6 @@ pub located_all : (known : List ℕ) (pos next x v whole : ℕ) → v < 256 → 
 located_all known pos next x v whole byte made =
     sym (one-product v byte) ∙ product_comm 1 v ∙ ap (product v) (sym (apart_none pos x (drop next known))) ∙ made
 
--- the values so far are multiplied by the differences to a position
-pub differences_more : (values new old : List ℕ) (x pos : ℕ) → ((y : ℕ) → y ≢ x → get_or new y 0 ≡ get_or values y 0)
-    → get_or new x 0 ≡ product (get_or old x 0) (difference x pos)
-    → ((y : ℕ) → y < x → get_or values y 0 ≡ product (get_or old y 0) (difference y pos))
-    → (y : ℕ) → y < x + 1 → get_or new y 0 ≡ product (get_or old y 0) (difference y pos)
-differences_more values new old x pos kept here before =
-    below_more _ _ (λ y h. kept y (omega arith) ∙ before y h) here
-
 -- a share that is written stands at its place
 pub slice_get-set_same : (all : List Share) (pos : ℕ) (share : Share) → pos < length all → slice_get (set all pos share) pos ≡ Some share
 slice_get-set_same [] pos share h = absurd (omega arith)
@@ -104,3 +97,15 @@ slice_get-set_other (s ∷ all) zero zero share h = absurd (h refl)
 slice_get-set_other (s ∷ all) zero (suc q) share h = refl
 slice_get-set_other (s ∷ all) (suc pos) zero share h = refl
 slice_get-set_other (s ∷ all) (suc pos) (suc q) share h = slice_get-set_other all pos q share (λ e. h (ap suc e))
+
+-- the bytes of a share that is written
+pub byte-set_same : (all : List Share) (pos b : ℕ) (share : Share) → pos < length all
+    → byte (set all pos share) pos b ≡ get_or share.0 b 0
+byte-set_same all pos b share h =
+    ap (λ (s : Share). get_or s.0 b 0) (get_or-set_same all pos share (record { 0 = [] }) h)
+
+-- and those of any other
+pub byte-set_other : (all : List Share) (pos q b : ℕ) (share : Share) → q ≢ pos
+    → byte (set all pos share) q b ≡ byte all q b
+byte-set_other all pos q b share h =
+    ap (λ (s : Share). get_or s.0 b 0) (get_or-set_other all pos q share (record { 0 = [] }) h)

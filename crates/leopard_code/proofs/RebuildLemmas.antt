@@ -1,7 +1,7 @@
 -- Lost shares by the derivative of the product with the locator of the missing positions. Position
 -- pos is taken as a point: the sum of a codeword's points and k are its positions.
 use Rattle.std.proofs.Common.{◌≡◌, ◌≢◌, ◌∙◌, ℕ, ◌+◌, ◌*◌, ◌<◌, ◌≤◌, List, ◌∷◌, ◌++◌, length, get_or, sym, ap, ap₂, subst, arith, IsTrue, inl, inr}
-use Rattle.std.specs.Prelude.{slice_get}
+use Rattle.std.specs.Prelude.{bit_xor, slice_get}
 use Rattle.std.proofs.lemmas.Bool.Decides.{nat_tests}
 use Rattle.std.proofs.lemmas.List.{get_or-map}
 use Rattle.gf_cantor.specs.Field.{product}
@@ -30,7 +30,7 @@ width-pos : (k : ℕ) → IsTrue (is_width k) → 0 < k
 width-pos k h = grind (arith, nat_tests)
 
 -- what the calls of `rebuild` make, one after another, of shares at known positions
-pub record IsRebuilding (k : ℕ) (known : List ℕ) (shares : List Share) (values : List ℕ) (blank placed multiplied derived divided word : List Share) : Type 0 where
+pub record IsRebuilding (k : ℕ) (known : List ℕ) (shares : List Share) (values : List ℕ) (blank multiplied derived divided word : List Share) : Type 0 where
   pub width : IsTrue (is_width k)
   pub count : length known ≡ k
   pub positions : IsTrue (are_positions k known)
@@ -38,12 +38,16 @@ pub record IsRebuilding (k : ℕ) (known : List ℕ) (shares : List Share) (valu
   pub bytes : AreShares shares
   pub located : (x : ℕ) → x < 2 * k → get_or values x 0 ≡ apart_from (missing_from 0 (2 * k) known) x
   pub blank_bytes : (b i : ℕ) → b < 512 → i < 2 * k → get_or (column b blank) i 0 ≡ 0
-  pub placed_known : HasEntries known shares placed
-  pub placed_others : (pos : ℕ) → ((i : ℕ) → i < length known → get_or known i 0 ≢ pos) → slice_get placed pos ≡ slice_get blank pos
-  pub products : (b i : ℕ) → b < 512 → i < 2 * k → get_or (column b multiplied) i 0 ≡ product (get_or values i 0) (get_or (column b placed) i 0)
+  pub products_known : (b i : ℕ) → b < 512 → i < length known → get_or (column b multiplied) (get_or known i 0) 0
+      ≡ bit_xor (get_or (column b blank) (get_or known i 0) 0)
+      (product (get_or values (get_or known i 0) 0) (get_or (column b shares) i 0))
+  pub products_others : (b pos : ℕ) → b < 512 → pos < 2 * k → ((i : ℕ) → i < length known → get_or known i 0 ≢ pos)
+      → get_or (column b multiplied) pos 0 ≡ get_or (column b blank) pos 0
   pub long : length multiplied ≡ 2 * k
   pub derivatives : AreDerivatives multiplied derived
-  pub quotients : (b i y : ℕ) → b < 512 → i < 2 * k → y < 256 → get_or (column b derived) i 0 ≡ product y (get_or values i 0) → get_or (column b divided) i 0 ≡ y
+  pub quotients : (b pos y : ℕ) → b < 512 → pos < 2 * k → y < 256
+      → ((i : ℕ) → i < length known → get_or known i 0 ≢ pos)
+      → get_or (column b derived) pos 0 ≡ product y (get_or values pos 0) → get_or (column b divided) pos 0 ≡ y
   pub known_again : HasEntries known shares word
   pub others_again : (pos : ℕ) → ((i : ℕ) → i < length known → get_or known i 0 ≢ pos) → slice_get word pos ≡ slice_get divided pos
   pub all_bytes : AreShares word
@@ -51,8 +55,8 @@ pub record IsRebuilding (k : ℕ) (known : List ℕ) (shares : List Share) (valu
 
 -- ---- one byte column, of a polynomial that takes the bytes of the known shares
 
-module _ (k : ℕ) (known : List ℕ) (shares : List Share) (values : List ℕ) (blank placed multiplied derived divided word : List Share)
-    (r : IsRebuilding k known shares values blank placed multiplied derived divided word)
+module _ (k : ℕ) (known : List ℕ) (shares : List Share) (values : List ℕ) (blank multiplied derived divided word : List Share)
+    (r : IsRebuilding k known shares values blank multiplied derived divided word)
     (b : ℕ) (hb : b < 512) (cs : List ℕ) (degree : length cs ≡ k) (coefficients : AreCoefficients cs) (takes : PassesThrough cs (points_at k known) (column b shares)) where
   -- the missing positions
   abbrev ms : List ℕ
@@ -89,16 +93,26 @@ module _ (k : ℕ) (known : List ℕ) (shares : List Share) (values : List ℕ) 
   byte_missing : (new old : List Share) (pos : ℕ) → slice_get new pos ≡ slice_get old pos → get_or (column b new) pos 0 ≡ get_or (column b old) pos 0
   byte_missing new old pos same = get_or-column b new pos ∙ ap (byte_of b) same ∙ sym (get_or-column b old pos)
 
+  -- the product at a known position
+  product_known : (pos : ℕ) → pos < 2 * k → (s : IsKnown pos known ms)
+      → get_or (column b multiplied) pos 0 ≡ product (get_or values pos 0) (get_or (column b shares) s.index 0)
+  product_known pos h s =
+      ap (λ (p : ℕ). get_or (column b multiplied) p 0) (sym s.here)
+      ∙ r.products_known b s.index hb s.within
+      ∙ ap (λ (p : ℕ). bit_xor (get_or (column b blank) p 0) (product (get_or values p 0) (get_or (column b shares) s.index 0)))
+      s.here
+      ∙ ap (λ (y : ℕ). bit_xor y (product (get_or values pos 0) (get_or (column b shares) s.index 0)))
+      (r.blank_bytes b pos hb h)
+
   -- the products are values of the product of the polynomial and the locator
   product_value : (pos : ℕ) → pos < 2 * k → Stands pos known ms → get_or (column b multiplied) pos 0 ≡ product (value_at moved pos) (away ms pos)
   product_value pos h (inl s) =
-      r.products b pos hb h
-      ∙ ap₂ product (r.located pos h ∙ apart_from-avoids ms pos s.avoids) (byte_known placed pos r.placed_known s ∙ sym (value_known pos h s))
+      product_known pos h s
+      ∙ ap₂ product (r.located pos h ∙ apart_from-avoids ms pos s.avoids) (sym (value_known pos h s))
       ∙ product_comm (away ms pos) (value_at moved pos)
   product_value pos h (inr s) =
-      r.products b pos hb h
-      ∙ ap (product (get_or values pos 0)) (byte_missing placed blank pos (r.placed_others pos s.unknown) ∙ r.blank_bytes b pos hb h)
-      ∙ product-zero (get_or values pos 0)
+      r.products_others b pos hb h s.unknown
+      ∙ r.blank_bytes b pos hb h
       ∙ sym (ap (product (value_at moved pos)) (ap (λ (l : List ℕ). away l pos) s.parts ∙ away-root s.before s.after pos) ∙ product-zero (value_at moved pos))
 
   -- the derivative at a missing position is a multiple of the value there
@@ -124,7 +138,8 @@ module _ (k : ℕ) (known : List ℕ) (shares : List Share) (values : List ℕ) 
   word_value pos h (inr s) =
       byte_missing word divided pos (r.others_again pos s.unknown)
       ∙ r.quotients b pos (value_at moved pos) hb h
-      (subst (λ (v : ℕ). v < 256) (sym (value_moved pos h)) (value_at-lt cs (point k pos) coefficients)) (derivative_value pos h s)
+      (subst (λ (v : ℕ). v < 256) (sym (value_moved pos h)) (value_at-lt cs (point k pos) coefficients))
+      s.unknown (derivative_value pos h s)
       ∙ value_moved pos h
 
   -- and it takes the polynomial's values at all points
@@ -132,9 +147,9 @@ module _ (k : ℕ) (known : List ℕ) (shares : List Share) (values : List ℕ) 
   takes_word = takes_all k cs (column b word) (length-column b word ∙ r.whole) (λ pos h. word_value pos h (standing pos h))
 
 -- what the calls make is a codeword
-pub rebuilt_codeword : (k : ℕ) (known : List ℕ) (shares : List Share) (values : List ℕ) (blank placed multiplied derived divided word : List Share)
-    → IsRebuilding k known shares values blank placed multiplied derived divided word → IsCodeword k word
-rebuilt_codeword k known shares values blank placed multiplied derived divided word r = record {
+pub rebuilt_codeword : (k : ℕ) (known : List ℕ) (shares : List Share) (values : List ℕ) (blank multiplied derived divided word : List Share)
+    → IsRebuilding k known shares values blank multiplied derived divided word → IsCodeword k word
+rebuilt_codeword k known shares values blank multiplied derived divided word r = record {
   count = r.whole;
   shares = r.all_bytes;
   columns = λ b h.
@@ -142,5 +157,5 @@ rebuilt_codeword k known shares values blank placed multiplied derived divided w
       let found = through xs (column b shares) (omega (arith, r.count, r.as_many, length-points_at k known, length-column b shares))
       (points_differ k known (is_width-le k r.width) r.positions) (column_bytes b shares r.bytes) in
       let degree : length found.0 ≡ k = omega (arith, found.1, r.count, length-points_at k known) in
-      (found.0, degree, found.2, takes_word k known shares values blank placed multiplied derived divided word r b h found.0 degree found.2 found.3);
+      (found.0, degree, found.2, takes_word k known shares values blank multiplied derived divided word r b h found.0 degree found.2 found.3);
 }

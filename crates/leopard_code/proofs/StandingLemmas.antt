@@ -87,10 +87,16 @@ positions_rise k [] positions = tt
 positions_rise k (p ∷ rest) positions = rises_from k 0 p rest (omega arith) positions
 
 -- a later position of those that rise is another
-pub rises_apart : (first last : ℕ) (known : List ℕ) (i j : ℕ) → Rises first last known → i < j → j < length known → get_or known i 0 ≢ get_or known j 0
+rises_apart : (first last : ℕ) (known : List ℕ) (i j : ℕ) → Rises first last known → i < j → j < length known → get_or known i 0 ≢ get_or known j 0
 unfolding Rises
 rises_apart first last [] i j h l within e = absurd (omega arith)
 rises_apart first last (p ∷ rest) zero zero h l within e = absurd (omega arith)
 rises_apart first last (p ∷ rest) zero (suc j) h l within e = absurd (omega (arith, e, rises-le (suc p) last rest j h.2 (omega arith)))
 rises_apart first last (p ∷ rest) (suc i) zero h l within e = absurd (omega arith)
 rises_apart first last (p ∷ rest) (suc i) (suc j) h l within e = rises_apart (suc p) last rest i j h.2 (omega arith) (omega arith) e
+
+-- and so are positions of a codeword
+pub positions_apart : (k : ℕ) (known : List ℕ) (i j : ℕ) → IsTrue (are_positions k known) → i < j → j < length known
+    → get_or known i 0 ≢ get_or known j 0
+positions_apart k known i j positions h within =
+    rises_apart 0 (2 * k) known i j (positions_rise k known positions) h within

@@ -8,7 +8,7 @@ ghost use Rattle.leopard_code.specs.Locators.{AreDerivatives};
 use crate::Room;
 use crate::locators::locate;
 use crate::places::{clear_all, place};
-use crate::scaling::{divide_each, multiply_each};
+use crate::scaling::{add_multiples, divide_missing};
 use lch_fft::{derive, forward, inverse};
 use namespace_id::{Share, shares_law};
 
@@ -61,10 +61,9 @@ pub fn rebuild(room: &mut Room, known: &[u16], shares: &[Share], all: &mut [Shar
     // A position is its point plus k: over positions a column is a polynomial of the same degree.
     locate(known, &mut room.locator);
     clear_all(all);
-    place(known, shares, all);
-    multiply_each(all, &room.locator);
+    add_multiples(known, shares, &room.locator, all);
     differentiate(all);
-    divide_each(all, &room.locator);
+    divide_missing(known, all, &room.locator);
     place(known, shares, all);
     shares_law(all);
 }

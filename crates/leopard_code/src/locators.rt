@@ -1,24 +1,36 @@
 //! The locator of the missing positions: the polynomial that is 0 just there.
 
-ghost use Rattle.std.specs.Prelude.{◌≡◌, ◌<◌, ◌≤◌, ℕ, length, slice_index};
-ghost use Rattle.gf_cantor.specs.Field.{product};
+ghost use Rattle.std.specs.Prelude.{◌≡◌, ◌<◌, ◌≤◌, ◌+◌, ◌*◌, ℕ, length, slice_index};
+ghost use Rattle.gf_cantor.specs.Field.{label, power, product};
 ghost use Rattle.leopard_code.specs.Locators.{missing_from, difference, apart_from};
 
-use gf_cantor::mul;
-use namespace_id::bytes_law;
+use gf_cantor::{exp, log};
 
-/// Multiplies each value by the difference of its place and `pos`, but the value at `pos` itself.
-fn multiply_by_differences(values: &mut [u8], pos: usize)
-    requires few { length values.old ≤ 256 }
-    requires pos { pos < length values.old }
-    ensures { (x : ℕ) → x < length values.old →
-        slice_index values.new x ≡ product (slice_index values.old x) (difference x pos) }
+/// Adds the logarithm of the difference of each place and `pos` to the sum at the place, but none
+/// to the sum at `pos` itself. One is at most 254, so there is room for those of 256 positions.
+fn add_logarithms(sums: &mut [u16; 256], count: usize, pos: usize)
+    requires count { count ≤ 256 }
+    requires pos { pos < 256 }
+    requires room { (x : ℕ) → x < count → slice_index sums.old x ≤ 254 * pos }
+    ensures products { (x : ℕ) → x < count → label (power (slice_index sums.new x)) ≡
+        product (label (power (slice_index sums.old x))) (difference x pos) }
+    ensures bound { (x : ℕ) → x < count → slice_index sums.new x ≤ 254 * (pos + 1) }
 {
-    bytes_law(values);
-    for x in 0..values.len() {
+    for x in 0..count {
         if x != pos {
-            values[x] = mul(values[x], x as u8 ^ pos as u8);
+            sums[x] += log(x as u8 ^ pos as u8) as u16;
         }
+    }
+}
+
+/// Writes the products: for each place the label of the power of x whose exponent is its sum.
+fn write_powers(sums: &[u16; 256], values: &mut [u8])
+    requires { length values.old ≤ 256 }
+    ensures { (x : ℕ) → x < length values.old →
+        slice_index values.new x ≡ label (power (slice_index sums.now x)) }
+{
+    for x in 0..values.len() {
+        values[x] = exp(sums[x] as usize % 255);
     }
 }
 
@@ -29,14 +41,15 @@ pub(crate) fn locate(known: &[u16], values: &mut [u8])
     ensures { (x : ℕ) → x < length values.old → slice_index values.new x ≡
         apart_from (missing_from 0 (length values.old) known.now) x }
 {
-    values.fill(1);
+    // a product of labels is a sum of logarithms
+    let mut sums = [0; 256];
     let mut next = 0;
     for pos in 0..values.len() {
         if next < known.len() && known[next] as usize == pos {
             next += 1;
         } else {
-            multiply_by_differences(values, pos);
+            add_logarithms(&mut sums, values.len(), pos);
         }
     }
-    bytes_law(values);
+    write_powers(&sums, values);
 }

@@ -1,9 +1,9 @@
 //! Multiples and quotients of shares.
 
-ghost use Rattle.std.specs.Prelude.{◌≡◌, ◌<◌, ℕ, length, slice_index};
+ghost use Rattle.std.specs.Prelude.{◌≡◌, ◌≢◌, ◌<◌, ◌*◌, ℕ, IsTrue, length, bit_xor, slice_index};
 ghost use Rattle.gf_cantor.specs.Field.{product};
 ghost use Rattle.namespace_id.specs.Sizes.{share_size};
-ghost use Rattle.leopard_code.specs.Codewords.{column};
+ghost use Rattle.leopard_code.specs.Codewords.{column, are_positions};
 
 use gf_cantor::{inv, mul_row};
 use namespace_id::{SHARE_SIZE, Share};
@@ -27,27 +27,44 @@ fn divide(share: &mut Share, by: u8)
     multiply(share, inv(by));
 }
 
-/// Multiplies each share by the number at its place.
-pub(crate) fn multiply_each(shares: &mut [Share], by: &[u8])
-    requires { length by.now ≡ length shares.old }
-    ensures { (b i : ℕ) → b < share_size → i < length shares.old →
-        slice_index (column b shares.new) i ≡
-        product (slice_index by.now i) (slice_index (column b shares.old) i) }
+/// Adds to the share at each known position the multiple of the known share by the number there,
+/// and leaves the other positions as they are.
+pub(crate) fn add_multiples(known: &[u16], shares: &[Share], by: &[u8], all: &mut [Share])
+    requires shares { length shares.now ≡ length known.now }
+    requires all { length all.old ≡ 2 * length known.now }
+    requires by { length by.now ≡ length all.old }
+    requires positions { IsTrue (are_positions (length known.now) known.now) }
+    ensures known { (b i : ℕ) → b < share_size → i < length known.now →
+        slice_index (column b all.new) (slice_index known.now i) ≡
+        bit_xor (slice_index (column b all.old) (slice_index known.now i))
+        (product (slice_index by.now (slice_index known.now i))
+        (slice_index (column b shares.now) i)) }
+    ensures others { (b pos : ℕ) → b < share_size → pos < length all.old →
+        ((i : ℕ) → i < length known.now → slice_index known.now i ≢ pos) →
+        slice_index (column b all.new) pos ≡ slice_index (column b all.old) pos }
 {
-    for i in 0..shares.len() {
-        multiply(&mut shares[i], by[i]);
+    for i in 0..known.len() {
+        let pos = known[i] as usize;
+        mul_row(&mut all[pos].0, &shares[i].0, by[pos]);
     }
 }
 
-/// Divides each share by the number at its place: where a byte is a multiple, its factor is left.
-pub(crate) fn divide_each(shares: &mut [Share], by: &[u8])
-    requires same { length by.now ≡ length shares.old }
+/// Divides the share at each position that isn't known by the number there: where a byte is a
+/// multiple, its factor is left.
+pub(crate) fn divide_missing(known: &[u16], all: &mut [Share], by: &[u8])
+    requires same { length by.now ≡ length all.old }
     requires nonzero { (i : ℕ) → i < length by.now → 0 < slice_index by.now i }
-    ensures { (b i y : ℕ) → b < share_size → i < length shares.old → y < 256 →
-        slice_index (column b shares.old) i ≡ product y (slice_index by.now i) →
-        slice_index (column b shares.new) i ≡ y }
+    ensures { (b pos y : ℕ) → b < share_size → pos < length all.old → y < 256 →
+        ((i : ℕ) → i < length known.now → slice_index known.now i ≢ pos) →
+        slice_index (column b all.old) pos ≡ product y (slice_index by.now pos) →
+        slice_index (column b all.new) pos ≡ y }
 {
-    for i in 0..shares.len() {
-        divide(&mut shares[i], by[i]);
+    let mut next = 0;
+    for pos in 0..all.len() {
+        if next < known.len() && known[next] as usize == pos {
+            next += 1;
+        } else {
+            divide(&mut all[pos], by[pos]);
+        }
     }
 }

@@ -1,4 +1,5 @@
 use Rattle.std.proofs.Common.{◌≡◌, ◌∙◌, ◌*◌, ◌<◌, ◌≤◌, ℕ, List, drop, length, get_or, sym, ap, subst, arith, IsTrue}
+use Rattle.std.specs.Prelude.{bit_xor}
 use Rattle.gf_cantor.specs.Field.{product}
 use Rattle.namespace_id.specs.Cells.{is_width}
 use Rattle.namespace_id.proofs.StringLemmas.{front}
@@ -10,8 +11,8 @@ use Rattle.leopard_code.proofs.RebuildLemmas.{rebuilt_codeword}
 use Rattle.leopard_code.proofs.coding.rebuild.Goals as goal
 
 -- the locator's values are products of differences of different positions
-pub divide_each-requires-clause-nonzero : goal.divide_each-requires-clause-nonzero
-divide_each-requires-clause-nonzero c =
+pub divide_missing-requires-clause-nonzero : goal.divide_missing-requires-clause-nonzero
+divide_missing-requires-clause-nonzero c =
     let narrow : c.room.inside.k ≤ 128 = is_width-le c.room.inside.k c.room.invariant.width in
     let size : length c.deref_mut.result.now ≡ 2 * c.room.inside.k = ap length c.deref_mut.ensures.value ∙ c.room.invariant.size in
     let lent : c.deref-2.result.now ≡ c.locate.new.values =
@@ -30,8 +31,8 @@ returns-clause-codeword c =
     c.deref.ensures.value
     ∙ front c.locate.new.values (drop (length c.locate.new.values) c.room.inside.locator.items) c.room.inside.locator.len (omega arith) in
     let lent_again : c.deref-2.result.now ≡ c.locate.new.values = c.deref-2.ensures.value ∙ sym c.deref.ensures.value ∙ lent in
-    rebuilt_codeword k c.args.known.now c.args.shares.now c.locate.new.values c.clear_all.new.shares c.place.new.all c.multiply_each.new.shares
-    c.differentiate.new.shares c.divide_each.new.shares c.place-2.new.all
+    rebuilt_codeword k c.args.known.now c.args.shares.now c.locate.new.values c.clear_all.new.shares
+    c.add_multiples.new.all c.differentiate.new.shares c.divide_missing.new.all c.place.new.all
     (record {
       width = subst (λ (m : ℕ). IsTrue (is_width m)) c.room.view_is c.room.invariant.width;
       count = c.requires.known;
@@ -40,17 +41,18 @@ returns-clause-codeword c =
       bytes = c.shares_law.ensures;
       located = subst (λ (n : ℕ). (x : ℕ) → x < n → get_or c.locate.new.values x 0 ≡ apart_from (missing_from 0 n c.args.known.now) x) size c.locate.ensures;
       blank_bytes = λ b i hb hi. c.clear_all.ensures b i hb (omega arith);
-      placed_known = c.place.ensures.known;
-      placed_others = c.place.ensures.others;
-      products = λ b i hb hi.
-          c.multiply_each.ensures b i hb (omega arith)
-          ∙ ap (λ (l : List ℕ). product (get_or l i 0) (get_or (column b c.place.new.all) i 0)) lent;
+      products_known = λ b i hb h.
+          c.add_multiples.ensures.known b i hb h
+          ∙ ap (λ (l : List ℕ). bit_xor (get_or (column b c.clear_all.new.shares) (get_or c.args.known.now i 0) 0)
+          (product (get_or l (get_or c.args.known.now i 0) 0) (get_or (column b c.args.shares.now) i 0))) lent;
+      products_others = λ b pos hb h u. c.add_multiples.ensures.others b pos hb (omega arith) u;
       long = omega arith;
       derivatives = c.differentiate.ensures;
-      quotients = λ b i y hb hi hy e.
-          c.divide_each.ensures b i y hb (omega arith) hy (e ∙ ap (λ (l : List ℕ). product y (get_or l i 0)) (sym lent_again));
-      known_again = c.place-2.ensures.known;
-      others_again = c.place-2.ensures.others;
+      quotients = λ b pos y hb h hy u e.
+          c.divide_missing.ensures b pos y hb (omega arith) hy u
+          (e ∙ ap (λ (l : List ℕ). product y (get_or l pos 0)) (sym lent_again));
+      known_again = c.place.ensures.known;
+      others_again = c.place.ensures.others;
       all_bytes = c.shares_law-2.ensures;
       whole = omega arith;
     })

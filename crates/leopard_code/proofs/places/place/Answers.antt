@@ -2,7 +2,7 @@ use Rattle.std.proofs.Common.{◌∙◌, ◌*◌, ◌<◌, ℕ, [], sym, arith, 
 use Rattle.std.proofs.lemmas.Option.{slice_get-get_or}
 use Rattle.leopard_code.proofs.LocateLemmas.{slice_get-set_same, slice_get-set_other}
 use Rattle.leopard_code.proofs.PositionLemmas.{position-lt}
-use Rattle.leopard_code.proofs.StandingLemmas.{rises_apart, positions_rise}
+use Rattle.leopard_code.proofs.StandingLemmas.{positions_apart}
 use Rattle.leopard_code.proofs.places.place.Goals as goal
 
 -- the share at i comes to its position, which is none of the earlier ones
@@ -15,7 +15,7 @@ loop-i-preserved c =
     record {
       known = below_more _ _
           (λ j h. slice_get-set_other c.loop-i.all pos (get_or c.args.known.now j 0) (get_or c.args.shares.now c.loop-i.i (record { 0 = [] }))
-          (rises_apart 0 (2 * length c.args.known.now) c.args.known.now j c.loop-i.i (positions_rise (length c.args.known.now) c.args.known.now c.requires.positions) h (omega arith))
+          (positions_apart (length c.args.known.now) c.args.known.now j c.loop-i.i c.requires.positions h (omega arith))
           ∙ c.loop-i.invariant.known j h)
           (slice_get-set_same c.loop-i.all pos (get_or c.args.shares.now c.loop-i.i (record { 0 = [] })) (omega arith)
           ∙ sym (slice_get-get_or c.args.shares.now c.loop-i.i (record { 0 = [] }) (omega arith)));
