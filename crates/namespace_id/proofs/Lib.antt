@@ -8,3 +8,9 @@ pub mod HalfLemmas
 pub mod DoublingLemmas
 pub mod WidthLemmas
 pub mod AscendingLemmas
+pub mod MemberLemmas
+pub mod NumberLemmas
+pub mod RowMajorLemmas
+pub mod RoomLemmas
+pub mod AllCellsLemmas
+pub mod KeyLemmas

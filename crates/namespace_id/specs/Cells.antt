@@ -1,12 +1,13 @@
 -- Widths, cells and leaf namespaces (Celestia specifications, "Data Structures").
-use Rattle.std.specs.Prelude.{◌≡◌, ℕ, ◌*◌, ◌==◌, ◌&&◌, ◌||◌, nat_lt, Bool, true, List, if◌then◌else◌}
+use Rattle.std.specs.Prelude.{◌≡◌, ℕ, ◌*◌, ◌/◌, ◌%◌, ◌≤◌, ◌==◌, ◌&&◌, ◌||◌, nat_lt, Bool, true, List, [], ◌∷◌, ◌++◌, map, if◌then◌else◌, Vec, vec_capacity}
+use Rattle.std.specs.declared.alloc.Global.{Global}
 use Rattle.namespace_id.specs.declared.namespaces.Namespace.{Namespace}
 use Rattle.namespace_id.specs.declared.shares.Share.{Share}
 use Rattle.namespace_id.specs.declared.cells.Cell.{Cell}
 use Rattle.std.specs.List.{list_all}
 use Rattle.namespace_id.specs.Names.{parity}
 use Rattle.namespace_id.specs.Shares.{name_in}
-use Rattle.namespace_id.specs.Lists.{holds_along}
+use Rattle.namespace_id.specs.Lists.{holds_along, ascending}
 
 -- whether a square may have this width: a power of two from 1 to 128 (docs/RULES.md, "Widths")
 abbrev pub is_width : ℕ → Bool
@@ -40,3 +41,20 @@ pub record CellList : Type 0 where
 -- these are cells of the square of their width, strictly ascending in row-major order
 abbrev pub AreCells : CellList → Type 0
 AreCells cells = are_cells cells.k cells.list ≡ true
+
+-- the cell with a number in row-major order, where so many cells are in a row
+abbrev pub cell_numbered : ℕ → ℕ → Cell
+cell_numbered in_row number = record { row = number / in_row; col = number % in_row }
+
+-- all cells of the extended square of this width, row-major
+abbrev pub all_cells : ℕ → List Cell
+all_cells k = map (cell_numbered (2 * k)) (ascending 0 (2 * k * (2 * k)))
+
+-- the list with one cell more, at its end
+abbrev pub with_cell : CellList → Cell → CellList
+with_cell cells cell = record { k = cells.k; list = cells.list ++ cell ∷ [] }
+
+-- these are cells of the square of this width, row-major, and there is room for each cell of the square
+pub record IsCellRoom (k : ℕ) (list : Vec Cell Global) : Type 0 where
+  pub cells : are_cells k list.items ≡ true
+  pub room : 2 * k * (2 * k) ≤ vec_capacity list

@@ -1,9 +1,10 @@
 //! Cells of an extended data square, and the namespace of the leaf over one.
 
-ghost use Rattle.std.specs.Prelude.{◌≡◌, ◌↔◌, IsTrue, IsSome, IfSome};
-ghost use Rattle.namespace_id.specs.Cells.{is_width, is_in_square, leaf_namespace, is_before, are_cells};
+ghost use Rattle.std.specs.Prelude.{◌≡◌, ◌↔◌, ◌+◌, ◌*◌, ◌<◌, ◌≤◌, ℕ, List, length, true, IsTrue, IsSome, IfSome};
+ghost use Rattle.std.specs.List.{Contains, list_all};
+ghost use Rattle.namespace_id.specs.declared.cells.Cell.{Cell as Place};
+ghost use Rattle.namespace_id.specs.Cells.{is_width, is_in_square, leaf_namespace, is_before, are_cells, cell_numbered, all_cells};
 ghost use Rattle.namespace_id.specs.Lists.{holds_along};
-ghost use Rattle.std.specs.List.{list_all};
 
 use crate::{Namespace, PARITY, Share};
 use std::marker::Model;
@@ -11,7 +12,7 @@ use std::marker::Model;
 /// A cell of an extended data square (EDS) of 2k by 2k shares.
 ///
 /// The numbers may be any: `is_in_square` says whether a square has the cell.
-#[derive(Clone, Copy, Debug, PartialEq, Eq)]
+#[derive(Clone, Copy, Debug, PartialEq, Eq, Hash)]
 pub struct Cell {
     pub row: u16,
     pub col: u16,
@@ -39,6 +40,21 @@ pub fn is_in_square(k: u16, cell: Cell) -> bool
     ensures { result ≡ is_in_square k cell }
 {
     cell.row < 2 * k && cell.col < 2 * k
+}
+
+/// The cell with a number, counted from 0 in row-major order, where so many cells are in a row and
+/// in a column.
+pub fn cell_numbered(in_row: u16, number: usize) -> Cell
+    requires { number < in_row * in_row }
+    ensures value { result ≡ cell_numbered in_row number }
+    ensures number { result.row * in_row + result.col ≡ number }
+    ensures row { result.row < in_row }
+    ensures col { result.col < in_row }
+{
+    Cell {
+        row: (number / in_row as usize) as u16,
+        col: (number % in_row as usize) as u16,
+    }
 }
 
 /// The namespace of the leaf over a cell: in the original square the first 29 bytes of its share,
@@ -122,3 +138,26 @@ impl Cells {
         Some(Cells { k, list })
     }
 }
+
+/// What is known of lists of the cells of a square, strictly ascending in row-major order, and of
+/// the numbers of cells. It does nothing.
+pub fn cells_laws()
+    // All cells of a square are such a list.
+    ensures all { (k : ℕ) → is_width k ≡ true → are_cells k (all_cells k) ≡ true }
+    ensures member { (k : ℕ) (cell : Place) → is_width k ≡ true →
+        Contains (all_cells k) cell ↔ (is_in_square k cell ≡ true) }
+
+    // Such a list is at most as long, and its cells alone say which it is.
+    ensures count { (k : ℕ) (list : List Place) → are_cells k list ≡ true →
+        length list ≤ 2 * k * (2 * k) }
+    ensures once { (k : ℕ) (list other : List Place) → are_cells k list ≡ true →
+        are_cells k other ≡ true →
+        ((cell : Place) → Contains list cell ↔ Contains other cell) → list ≡ other }
+
+    // Each cell has one number, and cells come in the order of their numbers.
+    ensures number { (k : ℕ) (cell : Place) → is_in_square k cell ≡ true →
+        (cell.row * (2 * k) + cell.col < 2 * k * (2 * k))
+        × (cell_numbered (2 * k) (cell.row * (2 * k) + cell.col) ≡ cell) }
+    ensures order { (in_row less more : ℕ) → less < more →
+        is_before (cell_numbered in_row less) (cell_numbered in_row more) ≡ true }
+{}
