@@ -1,6 +1,6 @@
 //! What slots answer in which each half-known row and column is decided.
 
-ghost use Rattle.std.specs.Prelude.{◌≡◌, ◌↔◌, ◌+◌, ◌*◌, ◌<◌, IsTrue, IfOk, length, true};
+ghost use Rattle.std.specs.Prelude.{◌≡◌, ◌↔◌, ◌*◌, IfOk, length, true};
 ghost use Rattle.std.specs.List.{Contains};
 ghost use Rattle.namespace_id.specs.declared.cells.Cell.{Cell as Place};
 ghost use Rattle.namespace_id.specs.declared.cells.Axis.{Axis as Along};
@@ -12,22 +12,9 @@ ghost use Rattle.repair_queue.specs.Answers.{IsAnswer};
 
 use crate::Verdict;
 use crate::slots::{Slots, known};
-use namespace_id::{Cell, Cells, NoMemory, Share};
+use namespace_id::{Cell, Cells, NoMemory, Share, cell_numbered};
 use square_layout::Square;
 use std::alloc::Global;
-
-/// The cell with a number, row by row, where so many cells are in a row.
-fn cell_of(in_row: u16, number: usize) -> Cell
-    requires { number < in_row * in_row }
-    ensures number { result.row * in_row + result.col ≡ number }
-    ensures row { result.row < in_row }
-    ensures col { result.col < in_row }
-{
-    Cell {
-        row: (number / in_row as usize) as u16,
-        col: (number % in_row as usize) as u16,
-    }
-}
 
 /// The cells that aren't known, row-major.
 fn unknown_cells(alloc: Global, slots: &Slots) -> Result<Vec<Cell>, NoMemory>
@@ -39,7 +26,7 @@ fn unknown_cells(alloc: Global, slots: &Slots) -> Result<Vec<Cell>, NoMemory>
     let side = 2 * slots.k as usize;
     let mut list = Vec::new(alloc);
     for number in 0..side * side {
-        let cell = cell_of(2 * slots.k, number);
+        let cell = cell_numbered(2 * slots.k, number);
         if known(slots, cell).is_none() {
             let Ok(()) = list.push(cell) else {
                 return Err(NoMemory);
@@ -64,7 +51,7 @@ fn shown_shares(alloc: Global, slots: &Slots) -> Result<Vec<Share>, NoMemory>
         return Err(NoMemory);
     };
     for number in 0..count {
-        let kept = known(slots, cell_of(slots.k, number)).unwrap();
+        let kept = known(slots, cell_numbered(slots.k, number)).unwrap();
         let Ok(()) = shares.push(kept.message().share) else {
             return Err(NoMemory);
         };

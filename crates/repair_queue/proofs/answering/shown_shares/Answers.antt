@@ -7,16 +7,20 @@ use Rattle.repair_queue.proofs.answering.shown_shares.Goals as goal
 -- each cell is known
 pub unwrap-kept-requires : goal.unwrap-kept-requires
 unwrap-kept-requires c =
-    known_found c.known.result (slot_of c.args.slots.now) c.cell_of.result c.known.ensures
-    (c.requires.known c.cell_of.result (in_square c.args.slots.now.k c.cell_of.result (omega (arith, c.cell_of.ensures.row)) (omega (arith, c.cell_of.ensures.col))))
+    known_found c.known.result (slot_of c.args.slots.now) c.cell_numbered.result c.known.ensures
+    (c.requires.known c.cell_numbered.result
+    (in_square c.args.slots.now.k c.cell_numbered.result (omega (arith, c.cell_numbered.ensures.row))
+    (omega (arith, c.cell_numbered.ensures.col))))
 
 -- and shows its share
 pub loop-number-preserved : goal.loop-number-preserved
 loop-number-preserved c =
-    subst (AreShownBelow c.args.slots.now.k (c.loop-number.number + 1) (slot_of c.args.slots.now)) (sym c.in-Ok-push.ensures.items)
-    (shown_more c.args.slots.now.k c.loop-number.number (slot_of c.args.slots.now) c.loop-number.shares.items c.cell_of.result c.message.result.now.share
-    c.cell_of.ensures.col c.cell_of.ensures.number
-    (found_shows c.known.result c.unwrap-kept.result (slot_of c.args.slots.now) c.cell_of.result c.message.result.now c.unwrap-kept.ensures c.known.ensures c.message.ensures)
+    subst (AreShownBelow c.args.slots.now.k (c.loop-number.number + 1) (slot_of c.args.slots.now))
+    (sym c.in-Ok-push.ensures.items)
+    (shown_more c.args.slots.now.k c.loop-number.number (slot_of c.args.slots.now) c.loop-number.shares.items
+    c.cell_numbered.result c.message.result.now.share c.cell_numbered.ensures.col c.cell_numbered.ensures.number
+    (found_shows c.known.result c.unwrap-kept.result (slot_of c.args.slots.now) c.cell_numbered.result
+    c.message.result.now c.unwrap-kept.ensures c.known.ensures c.message.ensures)
     c.loop-number.invariant)
 
 -- these are all

@@ -16,19 +16,22 @@ loop-number-init c =
 -- this one where it isn't known
 pub loop-number-preserved : goal.loop-number-preserved
 loop-number-preserved c =
-    let within : is_in_square c.args.slots.now.k c.cell_of-cell.result ≡ true =
-    in_square c.args.slots.now.k c.cell_of-cell.result c.cell_of-cell.ensures.row c.cell_of-cell.ensures.col in
+    let within : is_in_square c.args.slots.now.k c.cell_numbered-cell.result ≡ true =
+    in_square c.args.slots.now.k c.cell_numbered-cell.result c.cell_numbered-cell.ensures.row
+    c.cell_numbered-cell.ensures.col in
     elim c.if-is_none.branch [
       | then-is_none+in-Ok w ↦ subst (AreUnknownBelow c.args.slots.now.k (c.loop-number.number + 1) (slot_of c.args.slots.now))
           (sym (ap (λ (v : Vec Cell Global). v.items) w.list-is ∙ w.in-Ok.ensures.items))
-          (unknown_more c.args.slots.now.k c.loop-number.number (slot_of c.args.slots.now) c.loop-number.list.items c.cell_of-cell.result within
-          c.cell_of-cell.ensures.number c.loop-number.invariant
-          (unfound_unknown c.known.result (slot_of c.args.slots.now) c.cell_of-cell.result w.if-is_none.ensures c.known.ensures))
+          (unknown_more c.args.slots.now.k c.loop-number.number (slot_of c.args.slots.now) c.loop-number.list.items
+          c.cell_numbered-cell.result within c.cell_numbered-cell.ensures.number c.loop-number.invariant
+          (unfound_unknown c.known.result (slot_of c.args.slots.now) c.cell_numbered-cell.result w.if-is_none.ensures
+          c.known.ensures))
       | else-is_none w ↦ subst (AreUnknownBelow c.args.slots.now.k (c.loop-number.number + 1) (slot_of c.args.slots.now))
           (sym (ap (λ (v : Vec Cell Global). v.items) w.list-is))
-          (known_more c.args.slots.now.k c.loop-number.number (slot_of c.args.slots.now) c.loop-number.list.items c.cell_of-cell.result within
-          c.cell_of-cell.ensures.number c.loop-number.invariant
-          (found_known c.known.result (slot_of c.args.slots.now) c.cell_of-cell.result w.if-is_none.ensures c.known.ensures))
+          (known_more c.args.slots.now.k c.loop-number.number (slot_of c.args.slots.now) c.loop-number.list.items
+          c.cell_numbered-cell.result within c.cell_numbered-cell.ensures.number c.loop-number.invariant
+          (found_known c.known.result (slot_of c.args.slots.now) c.cell_numbered-cell.result w.if-is_none.ensures
+          c.known.ensures))
     ]
 
 -- these are all
