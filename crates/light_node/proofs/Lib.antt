@@ -1,0 +1,9 @@
+mod EventLemmas
+mod LawLemmas
+mod ListLemmas
+mod DistinctLemmas
+mod FailingLemmas
+mod MarkLemmas
+mod StateLemmas
+mod StepLemmas
+mod PickLemmas

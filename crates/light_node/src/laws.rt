@@ -1,0 +1,35 @@
+//! The laws of light verdicts.
+
+ghost use Rattle.std.specs.Prelude.{◌≡◌, ◌↔◌, ◌++◌, List};
+ghost use Rattle.std.specs.List.{Contains};
+ghost use Rattle.namespace_id.specs.declared.cells.Cell.{Cell};
+ghost use Rattle.data_header.specs.Headers.{Roots};
+ghost use Rattle.light_node.specs.declared.events.Event.{Event};
+ghost use Rattle.light_node.specs.declared.events.LightState.{LightState};
+ghost use Rattle.light_node.specs.declared.events.LightState.TheVariants as state;
+ghost use Rattle.light_node.specs.declared.events.Light.{Light};
+ghost use Rattle.light_node.specs.Events.{IsState, IsLight, state_of};
+
+/// The laws of light verdicts. It does nothing.
+pub fn light_laws()
+    // There is one verdict and one state, and they go together.
+    ensures once { (header : Roots) (plan : List Cell) (events : List Event) (one other : Light) →
+        IsLight header plan events one → IsLight header plan events other → one ≡ other }
+    ensures state_once { (header : Roots) (plan : List Cell) (events : List Event)
+        (one other : LightState) →
+        IsState header plan events one → IsState header plan events other → one ≡ other }
+    ensures state { (header : Roots) (plan : List Cell) (events : List Event) (light : Light) →
+        IsLight header plan events light → IsState header plan events (state_of light) }
+
+    // The order of events and their repeats change no state.
+    ensures order { (header : Roots) (plan : List Cell) (events others : List Event)
+        (one other : LightState) →
+        ((event : Event) → Contains events event ↔ Contains others event) →
+        IsState header plan events one → IsState header plan others other → one ≡ other }
+
+    // Once rejected, it stays rejected.
+    ensures rejected { (header : Roots) (plan more : List Cell) (events later : List Event)
+        (one : LightState) →
+        IsState header plan events state.Rejected →
+        IsState header more (events ++ later) one → one ≡ state.Rejected }
+{}
