@@ -2,11 +2,13 @@
 use Rattle.std.specs.Prelude.{◌≡◌, ◌<◌, ◌≤◌, ℕ, ◌+◌, ◌==◌, List, length, Option, Some, None, Result, Ok, Err, if◌then◌else◌}
 use Rattle.std.specs.List.{flat_map}
 use Rattle.std.specs.Option.{option_map}
-use Rattle.da_wire.specs.Spelling.{max_payload, frame, message_kind}
+use Rattle.da_wire.specs.Spelling.{max_payload, frame, message_kind, fraud_kind}
 use Rattle.da_wire.specs.Reading.{Raw, raw_of}
 use Rattle.da_wire.specs.kinds.Message.{message_at}
+use Rattle.da_wire.specs.kinds.Fraud.{fraud_at}
 use Rattle.da_wire.specs.Walks.{walk_from, stop_from}
 use Rattle.axis_roots.specs.declared.message.messages.Message.{Message}
+use Rattle.axis_roots.specs.Claims.{ClaimParts}
 
 -- what a reader gave that did not refuse
 abbrev pub ok_of : {A E : Type 0} → Result A E → Option A
@@ -39,3 +41,7 @@ pub record IsRaw (raw : Raw) : Type 0 where
 -- the message of the grammar that a frame is, if it is one
 abbrev pub message_in : Raw → Option Message
 message_in frame = if frame.kind == message_kind then message_at frame.payload else None
+
+-- the fraud claim of the grammar that a frame is, if it is one
+abbrev pub claim_in : Raw → Option ClaimParts
+claim_in frame = if frame.kind == fraud_kind then fraud_at frame.payload else None

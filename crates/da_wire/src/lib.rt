@@ -16,6 +16,7 @@ mod writing;
 
 pub use bounds::frame_law;
 pub use frames::{Frame, FrameError, RawFrame, SpellError};
+pub use kinds::fraud::claim;
 pub use kinds::message::message;
 pub use laws::{value_laws, wire_laws};
 pub use reading::{

@@ -19,7 +19,7 @@ use crate::codec::fields::{axis_at, count16_at, u8_at, u16_at};
 use crate::codec::sizes::longer;
 use crate::kinds::message::{message_front, message_size, put_message};
 use axis_roots::{FraudClaim, FraudProof, Message, Proved};
-use namespace_id::{Axis, append};
+use namespace_id::{Axis, NoMemory, append};
 use std::alloc::{AllocError, Global};
 
 /// The form of a claim, the byte in front of it.
@@ -123,6 +123,19 @@ pub(crate) fn fraud(alloc: Global, payload: &[u8]) -> Result<Option<FraudClaim>,
     };
     let cells = cell_list(alloc, bytes)?;
     Ok(Some(FraudClaim { axis, index, cells }))
+}
+
+/// The fraud claim whose payload the bytes are; none where they aren't one. Want of memory comes in place of a
+/// claim alone.
+///
+/// docs/FORMATS.md, "Payloads".
+pub fn claim(alloc: Global, payload: &[u8]) -> Result<Option<FraudClaim>, NoMemory>
+    ensures { GivesUnlessFull result (fraud_at payload.now) }
+{
+    match fraud(alloc, payload) {
+        Ok(claim) => Ok(claim),
+        Err(_) => Err(NoMemory),
+    }
 }
 
 /// Whether a claim has more cells than can be written.
