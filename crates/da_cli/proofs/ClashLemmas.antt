@@ -6,7 +6,7 @@ use Rattle.std.specs.declared.option.Option.{Option}
 use Rattle.std.specs.Option.{option_or}
 use Rattle.std.specs.Str.{bytes_eq}
 use Rattle.nmt_proofs.specs.Parts.{Part, given, leaf, join, digest_of}
-use Rattle.nmt_proofs.specs.Clashes.{apart_or, clash_at}
+use Rattle.nmt_proofs.specs.Clashes.{clash_at}
 use Rattle.da_wire.specs.kinds.Clash.{has_empty}
 
 -- none of two strings is empty

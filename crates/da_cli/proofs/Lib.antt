@@ -9,6 +9,9 @@ pub mod LieLemmas
 pub mod MessageLemmas
 pub mod ClashLemmas
 pub mod RepairLemmas
+pub mod LightLemmas
+pub mod NodeLemmas
+pub mod WordLemmas
 pub mod BuildLemmas
 pub mod HeaderLemmas
 pub mod RunLemmas

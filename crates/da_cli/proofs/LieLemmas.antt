@@ -1,29 +1,21 @@
 -- The proved messages among frames, and the frames that are lies.
 use Rattle.std.proofs.Common.{◌≡◌, ◌∙◌, ℕ, suc, ◌+◌, Bool, true, false, cond, List, [], ◌∷◌, ◌++◌, map, Some, None, refl, sym, ap, subst, arith, ⊎_elim, append-nil}
-use Rattle.std.specs.Prelude.{◌==◌}
 use Rattle.std.specs.declared.option.Option.{Option}
 use Rattle.std.specs.Option.{option_map_or}
-use Rattle.std.specs.List.{AllByRecursion, Contains}
 use Rattle.std.proofs.Math.Seq.{append_snoc}
 use Rattle.std.proofs.lemmas.List.{map-append}
 use Rattle.std.proofs.lemmas.List.Elements.{Contains-append_left, Contains-append_right, Contains-append_cases}
-use Rattle.namespace_id.specs.Bytes.{AreBytes}
 use Rattle.data_header.specs.Headers.{Roots}
 use Rattle.axis_roots.specs.declared.message.messages.Message as sent
-use Rattle.axis_roots.specs.Messages.{IsMessage}
 use Rattle.axis_roots.specs.declared.message.proved.Proved.{Proved}
 use Rattle.axis_roots.specs.Openings.{IsProved}
-use Rattle.axis_roots.specs.Proved.{IsUnder, kept_message}
+use Rattle.axis_roots.specs.Proved.{kept_message}
 use Rattle.repair_queue.specs.Closures.{Covers}
-use Rattle.repair_queue.proofs.MemberLemmas.{contains_cons, contains_tail, contains_head}
+use Rattle.repair_queue.proofs.MemberLemmas.{contains_cons, contains_tail}
 use Rattle.da_wire.specs.Reading.{Raw}
-use Rattle.da_wire.specs.Spelling.{message_kind}
 use Rattle.da_wire.specs.Frames.{message_in}
-use Rattle.da_wire.specs.kinds.Message.{message_at}
-use Rattle.da_wire.specs.Laws.{MessageIsSpelled}
 use Rattle.da_cli.specs.commands.Check.{finding_of, is_ok}
 use Rattle.da_cli.specs.commands.Repair.{messages_in, lies_in}
-use Rattle.da_cli.proofs.CheckLemmas.{in_grammar}
 
 -- ---- lies
 

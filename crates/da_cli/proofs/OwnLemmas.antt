@@ -1,4 +1,4 @@
--- The line `ok`, and the answer of a repair, under the header of a square.
+-- The line `ok`, the answer of a repair, and the claim of a light node, under the header of a square.
 use Rattle.std.proofs.Common.{◌≡◌, ◌↔◌, ℕ, zero, suc, ◌+◌, ◌-◌, Bool, true, false, cond, List, [], ◌∷◌, length, take, drop, None, Some, Result, Ok, Err, IfSome, refl, subst, slice_index}
 use Rattle.std.specs.Prelude.{nat_lt, codes, slice_get, MatchResult}
 use Rattle.std.specs.declared.option.Option.{Option}
@@ -23,6 +23,7 @@ use Rattle.da_cli.specs.declared.commands.check.Finding.TheVariants.{Proved, NoM
 use Rattle.da_cli.specs.declared.status.Status.{Status}
 use Rattle.da_cli.specs.commands.Check.{messages_file, finding_of, line_of, IsOwnFrame}
 use Rattle.da_cli.specs.commands.Repair.{Repairs, RepairsOwn}
+use Rattle.da_cli.specs.commands.Light.{Lights, JudgesOwn}
 use Rattle.da_cli.specs.commands.Verify.{answer_file, answer_kinds, answer_in, IsRefusal, verdict_line, IsOwnReply}
 use Rattle.da_cli.specs.Own.{AreOwn}
 
@@ -85,8 +86,8 @@ ok_has_none : (refusal : Option ℕ) → verdict_line refusal ≡ codes "ok\n" �
 ok_has_none None e = refl
 ok_has_none (Some number) e = absurd cc
 
--- by what is known of frames that are found proved, of answers that aren't refused and of what repair answers, under the
--- header of a square
+-- by what is known of frames that are found proved, of answers that aren't refused, and of what repair and light answer,
+-- under the header of a square
 pub are_own : (told : Option Files) (words : List (List ℕ))
     → ((header : Roots) (frame : Raw) (square : SquareShares) → AreBytes frame.payload → IsHeaderOf header square
     → finding_of header frame ≡ Proved → IsOwnFrame frame square)
@@ -96,9 +97,11 @@ pub are_own : (told : Option Files) (words : List (List ℕ))
     → (answer_in bytes ≡ Ok answer) ↔ (IsFrame answer × (spelling answer ≡ Some bytes) × (is_among answer_kinds (kind_of answer) ≡ true)))
     → ((header : Roots) (frames : List Raw) (square : SquareShares) (w : List ℕ) (status : Status) → AllByRecursion (λ (raw : Raw). AreBytes raw.payload) frames
     → IsHeaderOf header square → Repairs header frames w status → RepairsOwn header frames square w status)
+    → ((header : Roots) (frames : List Raw) (square : SquareShares) (key : List ℕ) (count : ℕ) (w : List ℕ) (status : Status)
+    → IsHeaderOf header square → Lights key count header frames w status → JudgesOwn square w status)
     → AreOwn told words
-are_own None words found verified file repaired = tt
-are_own (Some files) words found verified file repaired = record {
+are_own None words found verified file repaired lit = tt
+are_own (Some files) words found verified file repaired lit = record {
   check = λ contents header square i frame command read first own fits here ok.
       found header frame square (all_at HasBytes _ i frame (frames_fit _ fits 0) here) own (ok_is_proved (finding_of header frame) ok);
   verify = λ contents header square answer refusal command read first own fits second refused ok.
@@ -107,4 +110,7 @@ are_own (Some files) words found verified file repaired = record {
   repair = λ contents header square w status command read first own fits answers.
       repaired header (frames_of (messages_file contents)) square w status (frames_fit _ fits 0) own
       (subst (λ (a : Result Roots ℕ). MatchResult a (λ h. Repairs h (frames_of (messages_file contents)) w status) (λ at. ⊥)) first answers);
+  light = λ contents header square key count w status command read first own fits answers.
+      lit header (frames_of (messages_file contents)) square key count w status own
+      (subst (λ (a : Result Roots ℕ). MatchResult a (λ h. Lights key count h (frames_of (messages_file contents)) w status) (λ at. ⊥)) first answers);
 }

@@ -8,7 +8,7 @@ use Rattle.std.proofs.KnownBytes.{Appends-nil}
 use Rattle.std.proofs.lemmas.List.{take-map, drop-map, length-map}
 use Rattle.da_io.specs.Files.{Files}
 use Rattle.da_cli.specs.declared.commands.Command.{Command}
-use Rattle.da_cli.specs.declared.commands.Command.TheVariants.{Check, Build, Header, Sample, Namespace, Verify, Repair}
+use Rattle.da_cli.specs.declared.commands.Command.TheVariants.{Check, Build, Header, Sample, Namespace, Verify, Repair, Light}
 use Rattle.da_cli.specs.declared.words.Call.{Call}
 use Rattle.da_cli.specs.declared.status.Status.{Status}
 use Rattle.da_cli.specs.declared.status.Status.TheVariants.{BadInput, TooLong}
@@ -31,6 +31,7 @@ use Rattle.da_cli.proofs.SampleLemmas.{sample_answers}
 use Rattle.da_cli.proofs.NamespaceLemmas.{namespace_answers}
 use Rattle.da_cli.proofs.VerifyLemmas.{verify_last}
 use Rattle.da_cli.proofs.RepairLemmas.{repair_last}
+use Rattle.da_cli.proofs.LightLemmas.{light_answers}
 
 -- the relation of words that are a command
 run_of_call : (words : List (List ℕ)) (call : Call) (files : Files) (g : Gathered) → call_of words ≡ Some call
@@ -130,6 +131,7 @@ answer_last Sample files w status h = sample_answers files w status h
 answer_last Namespace files w status h = namespace_answers files w status h
 answer_last Verify files w status h = answer_output status (verify_last files w status h)
 answer_last Repair files w status h = answer_output status (repair_last files w status h)
+answer_last (Light key count) files w status h = light_answers key count files w status h
 
 -- an answer is decided by the words and files
 decided_answer : (in_form : Bool) (Decided : Type 0) → May in_form Decided → Decided

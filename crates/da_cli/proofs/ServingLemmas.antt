@@ -1,7 +1,7 @@
 -- What commands that answer requests over a square write, and how they end.
-use Rattle.std.proofs.Common.{◌≡◌, ◌∙◌, ℕ, ◌<◌, Bool, true, false, cond, List, [], ◌∷◌, ◌++◌, length, None, Some, IsSome, Result, Ok, Err, inl, inr, refl, sym, ap, ap₂, subst, arith, append_assoc, append-nil, ◌↔◌, ◌⊎◌}
+use Rattle.std.proofs.Common.{◌≡◌, ◌∙◌, ℕ, Bool, List, [], ◌∷◌, ◌++◌, None, Some, IsSome, Result, Ok, Err, inl, inr, refl, sym, ap, ap₂, subst, arith, append_assoc, append-nil, ◌↔◌, ◌⊎◌}
 use Rattle.std.specs.declared.option.Option.{Option}
-use Rattle.std.specs.Prelude.{MatchResult, MatchOption, nat_lt, ◌==◌}
+use Rattle.std.specs.Prelude.{MatchResult, MatchOption}
 use Rattle.std.specs.List.{AllByRecursion}
 use Rattle.std.specs.Io.KnownBytes.{Appends}
 use Rattle.std.proofs.KnownBytes.{Appends-nil, Appends-trans}
@@ -14,7 +14,7 @@ use Rattle.axis_roots.specs.Grids.{IsHeaderOf, HasNoHeader}
 use Rattle.da_wire.specs.declared.frames.Frame.{Frame}
 use Rattle.da_wire.specs.Spelling.{spelling}
 use Rattle.da_cli.specs.declared.status.Status.{Status}
-use Rattle.da_cli.specs.declared.status.Status.TheVariants.{Done, Usage, PickFault, ReadFault, WriteFault, NoMemory, BadInput, TooLong, BadBlock, BadRequest, Fraud, Missing, Clash, Refused}
+use Rattle.da_cli.specs.declared.status.Status.TheVariants.{Done, Usage, PickFault, ReadFault, WriteFault, NoMemory, BadInput, TooLong, BadBlock, BadRequest, Fraud, Missing, Clash, Refused, Waiting}
 use Rattle.da_cli.specs.declared.status.Asked.TheVariants.{NoHeader, At}
 use Rattle.da_cli.specs.Statuses.{kind_of}
 use Rattle.da_cli.specs.Choices.{FramesOf, HasFrame}
@@ -134,6 +134,7 @@ module _ {A : Type 0} (Allows : A → Frame → Type 0) where
     served_stopped counted same spelled SameText (Missing cells lies) failed ends = absurd (failed ends.leaves.1.1)
     served_stopped counted same spelled SameText Clash failed ends = absurd (failed ends.leaves.1.1)
     served_stopped counted same spelled SameText Refused failed ends = absurd (failed ends.leaves.1.1)
+    served_stopped counted same spelled SameText (Waiting cells) failed ends = absurd (failed ends.leaves.1.1)
     served_stopped counted same spelled SameText WriteFault failed ends = stopped_write ends.leaves (ends.faults ∙ ap (λ (n : ℕ). count_on n 1) same)
     served_stopped counted same spelled SameText NoMemory failed ends =
         let text = some_there (spelling frame) spelled in stopped_memory text.0 text.1 ends.leaves (ends.faults ∙ same)

@@ -2,7 +2,7 @@
 use Rattle.std.specs.Prelude.{ℕ, List}
 use Rattle.std.specs.declared.option.Option.{Option}
 use Rattle.da_cli.specs.declared.commands.Command.{Command}
-use Rattle.da_cli.specs.declared.commands.Command.TheVariants.{Check, Build, Header, Sample, Namespace, Verify, Repair}
+use Rattle.da_cli.specs.declared.commands.Command.TheVariants.{Check, Build, Header, Sample, Namespace, Verify, Repair, Light}
 use Rattle.da_cli.specs.Outcome.{Relation}
 use Rattle.da_cli.specs.Judging.{Judged}
 use Rattle.da_cli.specs.commands.Check.{check_judged, CheckOf}
@@ -12,6 +12,7 @@ use Rattle.da_cli.specs.commands.Sample.{sample_judged, SampleOf}
 use Rattle.da_cli.specs.commands.Namespace.{namespace_judged, NamespaceOf}
 use Rattle.da_cli.specs.commands.Verify.{verify_judged, VerifyOf}
 use Rattle.da_cli.specs.commands.Repair.{repair_judged, RepairOf}
+use Rattle.da_cli.specs.commands.Light.{light_judged, LightOf}
 
 -- of each file where it leaves its form, if it does
 abbrev pub judged_of : Command → List (List ℕ) → List (Option ℕ)
@@ -22,6 +23,7 @@ judged_of Sample files = sample_judged files
 judged_of Namespace files = namespace_judged files
 judged_of Verify files = verify_judged files
 judged_of Repair files = repair_judged files
+judged_of (Light key count) files = light_judged files
 
 -- the answer over files in their forms
 abbrev pub AnswerOf : Command → List (List ℕ) → Relation
@@ -32,6 +34,7 @@ AnswerOf Sample files = SampleOf files
 AnswerOf Namespace files = NamespaceOf files
 AnswerOf Verify files = VerifyOf files
 AnswerOf Repair files = RepairOf files
+AnswerOf (Light key count) files = LightOf key count files
 
 -- what a command writes and answers over any files
 abbrev pub Meaning : Command → List (List ℕ) → Relation

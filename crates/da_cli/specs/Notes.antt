@@ -11,9 +11,9 @@ use Rattle.namespace_id.specs.declared.cells.Axis.TheVariants.{Row, Col}
 use Rattle.square_layout.specs.declared.laying.LayError.{LayError}
 use Rattle.square_layout.specs.declared.laying.LayError.TheVariants as lay
 use Rattle.da_cli.specs.declared.status.Asked.{Asked}
-use Rattle.da_cli.specs.declared.status.Asked.TheVariants.{NoHeader, At}
+use Rattle.da_cli.specs.declared.status.Asked.TheVariants.{NoHeader, At, Count}
 use Rattle.da_cli.specs.declared.status.Status.{Status}
-use Rattle.da_cli.specs.declared.status.Status.TheVariants.{Done, Usage, PickFault, ReadFault, WriteFault, NoMemory, BadInput, TooLong, BadBlock, BadRequest, Fraud, Missing, Clash, Refused}
+use Rattle.da_cli.specs.declared.status.Status.TheVariants.{Done, Usage, PickFault, ReadFault, WriteFault, NoMemory, BadInput, TooLong, BadBlock, BadRequest, Fraud, Missing, Clash, Refused, Waiting}
 
 -- the numbers of the refusals of a namespace
 abbrev pub refusal_number : NsError → ℕ
@@ -35,6 +35,7 @@ block_note lay.NoMemory = codes "6"
 abbrev pub request_note : Asked → List ℕ
 request_note NoHeader = codes "no header"
 request_note (At i) = decimal i
+request_note Count = codes "count"
 
 -- the kind of an axis, in a word
 abbrev pub axis_note : Axis → List ℕ
@@ -57,6 +58,7 @@ note_of (Fraud axis i) = codes "fraud: " ++ axis_note axis ++ decimal i ++ codes
 note_of (Missing cells lies) = codes "missing: " ++ decimal cells ++ codes " cells, " ++ decimal lies ++ codes " lies\n"
 note_of Clash = codes "clash\n"
 note_of Refused = codes "refused\n"
+note_of (Waiting cells) = codes "waiting: " ++ decimal cells ++ codes "\n"
 
 -- the line was taken, or a proper prefix of it where a write failed
 pub record Notes (text : List ℕ) (old new : Option (List ℕ)) (before now : ℕ) : Type 0 where

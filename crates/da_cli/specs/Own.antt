@@ -15,6 +15,7 @@ use Rattle.da_cli.specs.commands.Frames.{header_in}
 use Rattle.da_cli.specs.commands.Check.{header_file, messages_file, finding_of, line_of, IsOwnFrame}
 use Rattle.da_cli.specs.declared.status.Status.{Status}
 use Rattle.da_cli.specs.commands.Repair.{RepairOf, RepairsOwn}
+use Rattle.da_cli.specs.commands.Light.{LightOf, JudgesOwn}
 use Rattle.da_cli.specs.commands.Verify.{answer_file, answer_in, IsRefusal, verdict_line, IsOwnReply}
 
 -- over the files of `check`, where the header in HEADER is that of a square: a frame of MESSAGES whose line is `ok` is a message that shows the square's own share, or they name a collision
@@ -41,12 +42,20 @@ IsOwnRepair files words = (contents : List (List ℕ)) (header : Roots) (square 
     → AreBytes (messages_file contents) → RepairOf contents w status
     → RepairsOwn header (frames_of (messages_file contents)) square w status
 
--- under the header of a square the line `ok` stands only for the square's own shares, and a repair answers this square or
--- the missing cells, or a collision is named
+-- over the files of `light`, where the header in HEADER is that of a square: no claim is written, or one that with the square names a collision
+abbrev pub IsOwnLight : Files → List (List ℕ) → Type 0
+IsOwnLight files words = (contents : List (List ℕ)) (header : Roots) (square : SquareShares) (key : List ℕ) (count : ℕ) (w : List ℕ) (status : Status)
+    → is_command words (codes "light") 4 ≡ true → gathered files (names_of words) ≡ whole contents
+    → header_in (header_file contents) ≡ Ok header → IsHeaderOf header square
+    → AreBytes (messages_file contents) → LightOf key count contents w status → JudgesOwn square w status
+
+-- under the header of a square the line `ok` stands only for the square's own shares, a repair answers this square or
+-- the missing cells, and `light` writes no claim, or a collision is named
 pub record HasOwn (files : Files) (words : List (List ℕ)) : Type 0 where
   pub check : AreOwnLines files words
   pub verify : IsOwnLine files words
   pub repair : IsOwnRepair files words
+  pub light : IsOwnLight files words
 
 -- that, where the files are told
 abbrev pub AreOwn : Option Files → List (List ℕ) → Type 0

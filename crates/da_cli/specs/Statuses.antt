@@ -2,7 +2,7 @@
 use Rattle.std.specs.Prelude.{ℕ, Bool, true, false, ⊤}
 use Rattle.da_io.specs.Faults.{count_on}
 use Rattle.da_cli.specs.declared.status.Status.{Status}
-use Rattle.da_cli.specs.declared.status.Status.TheVariants.{Done, Usage, PickFault, ReadFault, WriteFault, NoMemory, BadInput, TooLong, BadBlock, BadRequest, Fraud, Missing, Clash, Refused}
+use Rattle.da_cli.specs.declared.status.Status.TheVariants.{Done, Usage, PickFault, ReadFault, WriteFault, NoMemory, BadInput, TooLong, BadBlock, BadRequest, Fraud, Missing, Clash, Refused, Waiting}
 
 -- the number that the program ends with
 abbrev pub number_of : Status → ℕ
@@ -20,6 +20,7 @@ number_of (Fraud axis i) = 10
 number_of (Missing cells lies) = 11
 number_of Clash = 12
 number_of Refused = 13
+number_of (Waiting cells) = 14
 
 -- the kinds of statuses, by the step of a run that decides: the words, a failed pick or read, an excess of
 -- length, a file's form, what the files ask for, want of memory, a failed write, the complete output
@@ -49,6 +50,7 @@ kind_of (Fraud axis i) = output
 kind_of (Missing cells lies) = output
 kind_of Clash = output
 kind_of Refused = output
+kind_of (Waiting cells) = output
 
 -- ---- the table of kinds
 

@@ -1,10 +1,14 @@
 -- Which words are a command.
-use Rattle.std.specs.Prelude.{ℕ, ◌==◌, ◌&&◌, Bool, false, List, [], ◌∷◌, length, map, take, drop, codes, if◌then◌else◌, Some, None, String}
+use Rattle.std.specs.Prelude.{ℕ, ◌+◌, ◌-◌, ◌*◌, ◌^◌, ◌==◌, ◌&&◌, ◌||◌, nat_le, not, Bool, false, List, [], ◌∷◌, length, get_or, map, take, drop, codes, if◌then◌else◌, Some, None, String}
 use Rattle.std.specs.declared.option.Option.{Option}
 use Rattle.std.specs.declared.alloc.Global.{Global}
+use Rattle.std.specs.List.{fold, list_all}
+use Rattle.std.specs.Option.{option_map, option_map_or}
 use Rattle.std.specs.String.{string_bytes}
 use Rattle.std.specs.Str.{bytes_eq}
-use Rattle.da_cli.specs.declared.commands.Command.TheVariants.{Check, Build, Header, Sample, Namespace, Verify, Repair}
+use Rattle.hex.specs.Hex.{decode_sized}
+use Rattle.da_wire.specs.Frames.{ok_of}
+use Rattle.da_cli.specs.declared.commands.Command.TheVariants.{Check, Build, Header, Sample, Namespace, Verify, Repair, Light}
 use Rattle.da_cli.specs.declared.words.Call.{Call}
 
 -- the bytes of each word
@@ -16,6 +20,42 @@ abbrev pub is_command : List (List ℕ) → List ℕ → ℕ → Bool
 is_command [] name count = false
 is_command (word ∷ rest) name count = bytes_eq word name && (length rest == count)
 
+-- ---- words that are values
+
+-- whether a byte is a decimal digit
+abbrev pub is_digit : ℕ → Bool
+is_digit byte = nat_le 48 byte && nat_le byte 57
+
+-- the number that decimal digits make
+abbrev pub digits_value : List ℕ → ℕ
+digits_value digits = fold (λ value digit. 10 * value + (digit - 48)) 0 digits
+
+-- whether a word is a number in decimal digits without a leading zero, or 0
+abbrev pub is_number : List ℕ → Bool
+is_number [] = false
+is_number (digit ∷ digits) = list_all is_digit (digit ∷ digits) && (not (digit == 48) || (length digits == 0))
+
+-- the number that bytes make, none where one is no digit or the number is above a greatest one
+abbrev pub digits_in : ℕ → List ℕ → Option ℕ
+digits_in most digits =
+    if list_all is_digit digits && nat_le (digits_value digits) most then Some (digits_value digits) else None
+
+-- the number that a word is, none where it is none or is above a greatest one
+abbrev pub number_in : ℕ → List ℕ → Option ℕ
+number_in most word = if is_number word && nat_le (digits_value word) most then Some (digits_value word) else None
+
+-- the key that a word is: 32 bytes in 64 hexadecimal digits of either case
+abbrev pub key_in : List ℕ → Option (List ℕ)
+key_in word = ok_of (decode_sized word 32)
+
+-- ---- commands
+
+-- light HEADER MESSAGES KEY COUNT, where KEY and COUNT are these words
+abbrev pub light_call : List ℕ → List ℕ → Option Call
+light_call key count = option_map_or
+    (λ bytes. option_map (λ n. record { command = Light bytes n; files = 2 }) (number_in (2 ^ 32 - 1) count))
+    (key_in key) None
+
 -- the command of these words, and how many of them name files
 abbrev pub call_of : List (List ℕ) → Option Call
 call_of words =
@@ -26,7 +66,8 @@ call_of words =
     (if is_command words (codes "namespace") 2 then Some (record { command = Namespace; files = 2 }) else
     (if is_command words (codes "verify") 2 then Some (record { command = Verify; files = 2 }) else
     (if is_command words (codes "repair") 2 then Some (record { command = Repair; files = 2 }) else
-    None))))))
+    (if is_command words (codes "light") 4 then light_call (get_or words 3 []) (get_or words 4 []) else
+    None)))))))
 
 -- the words that name files: they follow the command's word
 abbrev pub file_words : ℕ → List (List ℕ) → List (List ℕ)

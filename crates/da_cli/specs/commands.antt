@@ -8,3 +8,4 @@ pub mod Sample
 pub mod Namespace
 pub mod Verify
 pub mod Repair
+pub mod Light

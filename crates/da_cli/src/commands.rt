@@ -10,6 +10,7 @@ mod build;
 mod check;
 mod frames;
 mod header;
+mod light;
 mod namespace;
 mod repair;
 mod sample;
@@ -37,6 +38,8 @@ pub(crate) enum Command {
     Verify,
     /// `repair HEADER MESSAGES`
     Repair,
+    /// `light HEADER MESSAGES KEY COUNT`, with the key of the draws and how many there are
+    Light([u8; 32], u32),
 }
 
 /// Runs a command over the contents of its files.
@@ -57,5 +60,6 @@ pub(crate) fn execute<O: Sink>(
         Command::Namespace => namespace::execute(alloc, files, out),
         Command::Verify => verify::execute(alloc, files, out),
         Command::Repair => repair::execute(alloc, files, out),
+        Command::Light(key, count) => light::execute(alloc, files, &key, count, out),
     }
 }

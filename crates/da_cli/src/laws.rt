@@ -28,6 +28,7 @@ ghost use Rattle.da_cli.specs.Limits.{file_limit};
 ghost use Rattle.da_cli.specs.commands.Frames.{header_in, square_in, block_in};
 ghost use Rattle.da_cli.specs.commands.Check.{finding_of, IsProvedFrame, IsOwnFrame};
 ghost use Rattle.da_cli.specs.commands.Repair.{Repairs, RepairsOwn};
+ghost use Rattle.da_cli.specs.commands.Light.{Lights, JudgesOwn};
 ghost use Rattle.da_cli.specs.commands.Sample.{sample_frame, samples_in};
 ghost use Rattle.da_cli.specs.commands.Namespace.{namespaces_in};
 ghost use Rattle.da_cli.specs.commands.Verify.{IsRefusal, answer_kinds, answer_in, IsOwnReply};
@@ -81,6 +82,12 @@ pub fn run_laws()
         (status : Status) → AllByRecursion (λ raw. AreBytes raw.payload) frames →
         IsHeaderOf header square → Repairs header frames w status →
         RepairsOwn header frames square w status }
+
+    // Under the header of a square `light` writes no claim, or one of which a message and the square
+    // name a collision.
+    ensures own_light { (header : Roots) (frames : List Raw) (square : SquareShares) (key : List ℕ)
+        (count : ℕ) (w : List ℕ) (status : Status) → IsHeaderOf header square →
+        Lights key count header frames w status → JudgesOwn square w status }
 
     // A file is read as a header, a square, a block, an answer exactly where it is that value's one
     // spelling.

@@ -89,6 +89,7 @@ fn note_of(status: Status) -> Line
         }
         Status::BadRequest(Asked::NoHeader) => line.put(b"bad request: no header\n"),
         Status::BadRequest(Asked::At(i)) => around(&mut line, b"bad request: ", i, b"\n"),
+        Status::BadRequest(Asked::Count) => line.put(b"bad request: count\n"),
         Status::Fraud(axis, i) => {
             line.put(b"fraud: ");
             line.put(axis_note(axis));
@@ -100,6 +101,7 @@ fn note_of(status: Status) -> Line
         }
         Status::Clash => line.put(b"clash\n"),
         Status::Refused => line.put(b"refused\n"),
+        Status::Waiting(cells) => around(&mut line, b"waiting: ", cells, b"\n"),
     }
     line
 }

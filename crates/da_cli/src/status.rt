@@ -13,6 +13,8 @@ pub enum Asked {
     NoHeader,
     /// The request with this number, counted from 0, has no answer.
     At(u64),
+    /// More cells are to be drawn than may be.
+    Count,
 }
 
 /// How a run ended. Files are numbered from 0 among the words that name files; `at` is an offset in
@@ -48,6 +50,8 @@ pub enum Status {
     Clash,
     /// The output is complete, and a line of it is a refusal.
     Refused,
+    /// The output is so many planned cells that no proved sample showed.
+    Waiting(u64),
 }
 
 impl Status {
@@ -70,6 +74,7 @@ impl Status {
             Status::Missing(..) => 11,
             Status::Clash => 12,
             Status::Refused => 13,
+            Status::Waiting(_) => 14,
         }
     }
 }

@@ -1,9 +1,10 @@
 //! Words, and the command that they are.
 
 ghost use Rattle.std.specs.Prelude.{◌≡◌, ◌<◌, length, IfSome, codes};
-ghost use Rattle.da_cli.specs.Words.{words_of, is_command, call_of};
+ghost use Rattle.da_cli.specs.Words.{words_of, is_command, is_digit, digits_in, number_in, key_in, light_call, call_of};
 
 use crate::commands::Command;
+use hex::FromHex;
 
 /// A command, and how many of the words after its own name files. These come first.
 #[derive(Clone, Copy, Debug, PartialEq, Eq)]
@@ -20,6 +21,65 @@ fn is_command(words: &[String], name: &str, count: usize) -> bool
         Some((word, rest)) => word.as_str() == name && rest.len() == count,
         None => false,
     }
+}
+
+/// Whether a byte is a decimal digit.
+fn is_digit(byte: u8) -> bool
+    ensures { result ≡ is_digit byte }
+{
+    byte >= b'0' && byte <= b'9'
+}
+
+/// The number that decimal digits make; none where a byte is none, or the number is above `most`.
+fn digits_value(digits: &[u8], most: u64) -> Option<u64>
+    ensures { result ≡ digits_in most digits.now }
+{
+    let mut value = 0u64;
+    let mut rest = digits;
+    while let Some((digit, after)) = rest.split_first() {
+        if !is_digit(*digit) {
+            return None;
+        }
+        let next = 10 * u128::from(value) + u128::from(*digit - b'0');
+        if next > u128::from(most) {
+            return None;
+        }
+        value = next as u64;
+        rest = after;
+    }
+    Some(value)
+}
+
+/// The number that a word is: decimal digits without a leading zero, or 0. None where it is none, or
+/// is above `most`.
+fn number_in(word: &str, most: u64) -> Option<u64>
+    ensures { result ≡ number_in most word.now }
+{
+    let digits = word.as_bytes();
+    if digits.is_empty() || (digits[0] == b'0' && digits.len() > 1) {
+        return None;
+    }
+    digits_value(digits, most)
+}
+
+/// The key that a word is: 64 hexadecimal digits of either case.
+fn key_in(word: &str) -> Option<[u8; 32]>
+    ensures { result ≡ key_in word.now }
+{
+    <[u8; 32]>::from_hex(word).ok()
+}
+
+/// The call of `light` whose KEY and COUNT are these words.
+fn light_call(key: &str, count: &str) -> Option<Call>
+    ensures value { result ≡ light_call key.now count.now }
+    ensures files { IfSome result (λ call. call.files ≡ 2) }
+{
+    let key = key_in(key)?;
+    let count = number_in(count, u64::from(u32::MAX))?;
+    Some(Call {
+        command: Command::Light(key, count as u32),
+        files: 2,
+    })
 }
 
 /// The command of these words.
@@ -69,6 +129,9 @@ pub(crate) fn call_of(words: &[String]) -> Option<Call>
             command: Command::Repair,
             files: 2,
         });
+    }
+    if is_command(words, "light", 4) {
+        return light_call(words[3].as_str(), words[4].as_str());
     }
     None
 }

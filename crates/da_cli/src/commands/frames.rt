@@ -1,6 +1,6 @@
 //! Files that are one frame of a kind and nothing else, and outputs of one frame.
 
-ghost use Rattle.std.specs.Prelude.{◌≡◌, IsSome};
+ghost use Rattle.std.specs.Prelude.{◌≡◌, ◌≢◌, [], IsSome};
 ghost use Rattle.da_wire.specs.Spelling.{spelling};
 ghost use Rattle.da_wire.specs.declared.frames.Frame.TheVariants as FrameOf;
 ghost use Rattle.da_cli.specs.Statuses.{kind_of, output};
@@ -11,7 +11,7 @@ use crate::Status;
 use da_io::{Sink, write_all};
 use da_wire::{Frame, FrameError, SpellError, read_only, wire_laws, write_frame};
 use data_header::Header;
-use namespace_id::shares_law;
+use namespace_id::{Cells, shares_law};
 use square_layout::{Block, Square};
 use std::alloc::Global;
 
@@ -81,6 +81,17 @@ pub(crate) fn square_frame(square: Square) -> Frame
     shares_law(&square.shares);
     let _k = square.k;
     Frame::Square(square)
+}
+
+/// The frame of missing cells.
+pub(crate) fn missing_frame(cells: Cells) -> Frame
+    requires { cells.list ≢ [] }
+    ensures value { result ≡ FrameOf.Missing cells }
+    ensures spelled { IsSome (spelling result) }
+{
+    wire_laws();
+    let _k = cells.k;
+    Frame::Missing(cells)
 }
 
 /// Writes a text as one piece, and answers a status of a complete output.

@@ -20,13 +20,13 @@ ghost use Rattle.da_cli.specs.Meaning.{Meaning};
 ghost use Rattle.da_cli.specs.Outcome.{Ends};
 
 use crate::Status;
-use crate::commands::frames::{Unread, give, give_with, header_in, put, square_frame};
+use crate::commands::frames::{
+    Unread, give, give_with, header_in, missing_frame, put, square_frame,
+};
 use crate::gathering::file;
 use axis_roots::{FraudProof, Proved, check, message_laws};
 use da_io::Sink;
-use da_wire::{
-    Frame, RawFrame, bad_frame, message, next_frame, value_laws, wire_laws, write_proof,
-};
+use da_wire::{Frame, RawFrame, bad_frame, message, next_frame, value_laws, write_proof};
 use data_header::Header;
 use hash_clash::Clash;
 use namespace_id::{Cells, NoMemory};
@@ -89,17 +89,6 @@ fn collect(alloc: Global, header: &Header, messages: &[u8]) -> Result<(Vec<Prove
         rest = after;
     }
     Ok((all, lies))
-}
-
-/// The frame of missing cells.
-fn missing_frame(cells: Cells) -> Frame
-    requires { cells.list ≢ [] }
-    ensures value { result ≡ FrameOf.Missing cells }
-    ensures spelled { IsSome (spelling result) }
-{
-    wire_laws();
-    let _k = cells.k;
-    Frame::Missing(cells)
 }
 
 /// The frame of a collision.

@@ -36,7 +36,7 @@ fn names_along(alloc: Global, frame: &[u8]) -> Result<Vec<(usize, u16)>, Fail> {
 }
 
 /// Whether the square of a block has these namespaces, and a header.
-fn lays(alloc: Global, plan: Plan<'_>, want: &[(usize, u16)]) -> Result<bool, Fail> {
+pub(super) fn lays(alloc: Global, plan: Plan<'_>, want: &[(usize, u16)]) -> Result<bool, Fail> {
     let square = run_build(alloc, plan)?.out.bytes;
     let found = names_along(alloc, &square)?;
     let headed = run_well(alloc, "header", square)?;

@@ -60,7 +60,6 @@ fn one_message(rt: HostRuntime) -> Result<(), Fail> {
         (Change::Row, Refused, "refused 1\n"),
         (Change::Col, Refused, "refused 1\n"),
         (Change::Axis, Refused, "refused 0\n"),
-        (Change::Count, Refused, "refused 0\n"),
         (Change::Kind, Refused, "refused 0\n"),
         (Change::Trailing, BadInput(1, 613), ""),
         (Change::Cut, BadInput(1, 0), ""),

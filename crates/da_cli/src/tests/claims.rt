@@ -23,7 +23,7 @@ fn put_cell(alloc: Global, bytes: &mut Vec<u8>, col: u8) -> Result<(), Fail> {
 }
 
 /// The claim on row 3 with its cells of these columns.
-fn claim(alloc: Global, cols: &[u8]) -> Result<Vec<u8>, Fail> {
+pub(super) fn claim(alloc: Global, cols: &[u8]) -> Result<Vec<u8>, Fail> {
     let mut payload = Vec::from_slice(alloc, &[1, 0, 0, 3, 0, (cols.len() % 256) as u8])?;
     for col in cols {
         put_cell(alloc, &mut payload, *col)?;

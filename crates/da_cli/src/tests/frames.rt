@@ -71,7 +71,6 @@ pub(super) enum Change {
     Row,
     Col,
     Axis,
-    Count,
     Kind,
     Trailing,
     Cut,
@@ -91,9 +90,6 @@ fn put_nodes(bytes: &mut Vec<u8>, change: Change) -> Result<(), Fail> {
             bytes.extend_from_slice(&PARITY_LEAF)?;
         }
     }
-    if change == Change::Count {
-        fill(bytes, 90, 0)?;
-    }
     Ok(())
 }
 
@@ -101,7 +97,6 @@ fn put_nodes(bytes: &mut Vec<u8>, change: Change) -> Result<(), Fail> {
 pub(super) fn message_frame(alloc: Global, change: Change) -> Result<Vec<u8>, Fail> {
     let length: &[u8] = match change {
         Change::NoNodes => &[2, 6],
-        Change::Count => &[2, 0xba],
         _ => &[2, 0x60],
     };
     let mut bytes = Vec::with_capacity(alloc, 1024)?;
@@ -194,13 +189,18 @@ pub(super) fn block_frame(alloc: Global, plan: Plan<'_>) -> Result<Vec<u8>, Fail
     Ok(bytes)
 }
 
-/// The square of an empty block: one tail padding share.
-pub(super) fn empty_square(alloc: Global) -> Result<Vec<u8>, Fail> {
+/// The square of width 1 of a share in the namespace of tail padding: then this byte, and zeros.
+pub(super) fn tail_square(alloc: Global, byte: u8) -> Result<Vec<u8>, Fail> {
     let mut bytes = Vec::from_slice(alloc, &[b'S', 0, 0, 2, 2, 0, 1])?;
     put_tail_padding(&mut bytes)?;
-    bytes.push(1)?;
+    bytes.push(byte)?;
     bytes.extend_from_slice(&[0; 482])?;
     Ok(bytes)
+}
+
+/// The square of an empty block: one tail padding share.
+pub(super) fn empty_square(alloc: Global) -> Result<Vec<u8>, Fail> {
+    tail_square(alloc, 1)
 }
 
 /// The header of this square: its row and its column are alike, and so are those of parity.

@@ -4,6 +4,7 @@ use super::check::{run_messages, run_two_files};
 use super::frames::{
     Change, EMPTY, SAMPLE, block_frame, empty_header, empty_square, message_frame,
 };
+use super::light::run_light;
 use super::serving::run_both;
 use super::{NEVER, Ran, run_well};
 use crate::Status;
@@ -108,5 +109,13 @@ fn repaired(rt: HostRuntime) -> Result<(), Fail> {
         NEVER,
     )?;
     assert!(rt; gives(&ran, &want));
+    Ok(())
+}
+
+#[test]
+fn available(rt: HostRuntime) -> Result<(), Fail> {
+    let message = message_frame(rt.alloc(), Change::None)?;
+    let ran = run_light(rt.alloc(), empty_header(rt.alloc())?, &message, "0")?;
+    assert!(rt; is_row(&ran, Done, "available\n"));
     Ok(())
 }

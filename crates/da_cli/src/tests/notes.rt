@@ -4,7 +4,7 @@ use super::{NEVER, small_sink};
 use crate::Asked;
 use crate::Status::{
     BadBlock, BadInput, BadRequest, Clash, Done, Fraud, Missing, NoMemory, PickFault, ReadFault,
-    Refused, TooLong, Usage, WriteFault,
+    Refused, TooLong, Usage, Waiting, WriteFault,
 };
 use crate::notes::note;
 use namespace_id::{Axis, NsError};
@@ -31,11 +31,13 @@ fn printed_lines(rt: HostRuntime) -> Result<(), Fail> {
         (BadBlock(LayError::BadWidth), "bad block: 5\n"),
         (BadRequest(Asked::NoHeader), "bad request: no header\n"),
         (BadRequest(Asked::At(12)), "bad request: 12\n"),
+        (BadRequest(Asked::Count), "bad request: count\n"),
         (Fraud(Axis::Row, 3), "fraud: row 3\n"),
         (Fraud(Axis::Col, 0), "fraud: col 0\n"),
         (Missing(13, 0), "missing: 13 cells, 0 lies\n"),
         (Clash, "clash\n"),
         (Refused, "refused\n"),
+        (Waiting(16), "waiting: 16\n"),
     ];
     for (status, want) in cases {
         let mut notes = small_sink(alloc, 100, NEVER)?;

@@ -4,26 +4,24 @@
 //! begins at 7 + 90 i, and that of column i 180 k bytes later; the last byte of a message's share is at
 //! 521. The square is that of `serving`, of width 2, where it isn't said.
 
-use super::check::{run_two_files, two_files};
+use super::check::run_two_files;
 use super::frames::{
-    Change, EMPTY, Plan, SAMPLE, block_frame, empty_header, empty_square, message_frame,
-    square_of_names,
+    Change, SAMPLE, empty_header, empty_square, message_frame, square_of_names, tail_square,
 };
 use super::serving::{run_both, square};
-use super::{NEVER, Ran, claims, run_into, run_well};
+use super::{NEVER, Ran, claims, run_well};
 use crate::Status;
-use crate::Status::{BadInput, Done, Fraud, Missing, PickFault, Refused, Usage, WriteFault};
-use da_io::MemSink;
+use crate::Status::{BadInput, Done, Fraud, Missing, PickFault, Refused, Usage};
 use namespace_id::Axis;
 use std::alloc::Global;
 use std::test::Fail;
 
 /// A cell by its row and its column, and 0 where its message is one on its row, 1 where it is one on its
 /// column.
-type Place = (u8, u8, u8);
+pub(super) type Place = (u8, u8, u8);
 
 /// The messages that `sample` writes of cells of a square.
-fn messages(alloc: Global, square: Vec<u8>, places: &[Place]) -> Result<Vec<u8>, Fail> {
+pub(super) fn messages(alloc: Global, square: Vec<u8>, places: &[Place]) -> Result<Vec<u8>, Fail> {
     let mut requests = Vec::new(alloc);
     for (row, col, axis) in places {
         requests.extend_from_slice(&[b'Q', 0, 0, 0, 5, 0, *row, 0, *col, *axis])?;
@@ -36,7 +34,7 @@ fn messages(alloc: Global, square: Vec<u8>, places: &[Place]) -> Result<Vec<u8>,
 }
 
 /// The header that `header` writes of a square.
-fn header(alloc: Global, square: Vec<u8>) -> Result<Vec<u8>, Fail> {
+pub(super) fn header(alloc: Global, square: Vec<u8>) -> Result<Vec<u8>, Fail> {
     Ok(run_well(alloc, "header", square)?.out.bytes)
 }
 
@@ -52,7 +50,7 @@ fn repair(alloc: Global, messages: &[u8]) -> Result<Ran, Fail> {
 }
 
 /// Puts a message with another last byte of its share.
-fn put_lie(bytes: &mut Vec<u8>, message: &[u8]) -> Result<(), Fail> {
+pub(super) fn put_lie(bytes: &mut Vec<u8>, message: &[u8]) -> Result<(), Fail> {
     for (place, byte) in message.iter().enumerate() {
         let more = if place == 521 { 1 } else { 0 };
         bytes.push(byte.wrapping_add(more))?;
@@ -82,7 +80,7 @@ fn whole_squares(rt: HostRuntime) -> Result<(), Fail> {
 }
 
 /// The frame of the cells of the square that aren't known, given by the front of its bytes.
-fn unknown(alloc: Global, front: [u8; 11], known: &[u8]) -> Result<Vec<u8>, Fail> {
+pub(super) fn unknown(alloc: Global, front: [u8; 11], known: &[u8]) -> Result<Vec<u8>, Fail> {
     let mut bytes = Vec::from_slice(alloc, &front)?;
     for number in 0..16 {
         if !known.contains(&number) {
@@ -150,7 +148,7 @@ fn empty_blocks(rt: HostRuntime) -> Result<(), Fail> {
 }
 
 /// How a repair ended whose output is a fraud claim that `verify` accepts under its header.
-fn accused(alloc: Global, header: &[u8], messages: &[u8]) -> Result<Status, Fail> {
+pub(super) fn accused(alloc: Global, header: &[u8], messages: &[u8]) -> Result<Status, Fail> {
     let first = Vec::from_slice(alloc, header)?;
     let ran = run_both(alloc, "repair", first, messages, NEVER)?;
     let again = Vec::from_slice(alloc, header)?;
@@ -201,41 +199,34 @@ fn mixed(
     Ok(all)
 }
 
-/// The square of width 1 of a blob of one byte.
-fn blob_square(alloc: Global) -> Result<Vec<u8>, Fail> {
-    let blobs = [(0x0101, 1)];
-    let plan = Plan {
-        blobs: &blobs,
-        ..EMPTY
-    };
-    Ok(
-        run_well(alloc, "build", block_frame(alloc, plan)?)?
-            .out
-            .bytes,
-    )
+/// How a repair ended by these messages, and with a claim that is accepted, under the rows of the empty
+/// block's square and the columns of another, whose share is in the namespace of tail padding, too.
+fn accused_of_padding(alloc: Global, messages: &[u8]) -> Result<Status, Fail> {
+    let columns = header(alloc, tail_square(alloc, 2)?)?;
+    let both = mixed(alloc, &empty_header(alloc)?, &columns, 187, 367)?;
+    accused(alloc, &both, messages)
 }
 
-/// The message of cell (0, 0) of the empty block's square on its row, and that of the other square on its
-/// column, in this order or turned.
-fn contradiction(alloc: Global, turned: bool) -> Result<Vec<u8>, Fail> {
-    let row = message_frame(alloc, Change::None)?;
-    let column = messages(alloc, blob_square(alloc)?, &[(0, 0, 1)])?;
-    let (first, second) = if turned { (column, row) } else { (row, column) };
-    let mut all = first;
-    all.extend_from_slice(&second)?;
-    Ok(all)
+/// Two messages, one after the other.
+fn joined(alloc: Global, first: &[u8], second: &[u8]) -> Result<Vec<u8>, Fail> {
+    let mut bytes = Vec::from_slice(alloc, first)?;
+    bytes.extend_from_slice(second)?;
+    Ok(bytes)
 }
 
-/// The rows of one square of width 1, and the columns of another.
+/// The rows of one square of width 1, and the columns of another: the message of cell (0, 0) on its row
+/// alone, and before and behind that of the other square on its column.
 #[test]
 fn rows_against_columns(rt: HostRuntime) -> Result<(), Fail> {
     let alloc = rt.alloc();
-    let columns = header(alloc, blob_square(alloc)?)?;
-    let both = mixed(alloc, &empty_header(alloc)?, &columns, 187, 367)?;
-    for turned in [false, true] {
-        let status = accused(alloc, &both, &contradiction(alloc, turned)?)?;
-        assert!(rt; matches!(status, Fraud(..)), "{turned}");
-    }
+    let row = message_frame(alloc, Change::None)?;
+    let column = messages(alloc, tail_square(alloc, 2)?, &[(0, 0, 1)])?;
+    let alone = accused_of_padding(alloc, &row)?;
+    assert!(rt; matches!(alone, Fraud(..)), "the row alone");
+    let first = accused_of_padding(alloc, &joined(alloc, &row, &column)?)?;
+    assert!(rt; matches!(first, Fraud(..)), "the row first");
+    let last = accused_of_padding(alloc, &joined(alloc, &column, &row)?)?;
+    assert!(rt; matches!(last, Fraud(..)), "the column first");
     Ok(())
 }
 
@@ -293,57 +284,11 @@ fn orders_of_a_contradiction(rt: HostRuntime) -> Result<(), Fail> {
     Ok(())
 }
 
-/// Row 0 falls, from 0102 to 0101: its first cell is of a square with the column of 0102 and 0103 twice,
-/// its second of one with that of 0101 and 0104.
-#[test]
-fn falling_row(rt: HostRuntime) -> Result<(), Fail> {
-    let alloc = rt.alloc();
-    let left = [0x0102, 0x0102, 0x0103, 0x0103];
-    let right = [0x0101, 0x0101, 0x0104, 0x0104];
-    let mut columns = messages(alloc, square_of_names(alloc, left)?, &[(0, 0, 1)])?;
-    let second = messages(alloc, square_of_names(alloc, right)?, &[(0, 1, 1)])?;
-    columns.extend_from_slice(&second)?;
-    let one = header(alloc, square_of_names(alloc, left)?)?;
-    let other = header(alloc, square_of_names(alloc, right)?)?;
-    let both = mixed(alloc, &one, &other, 457, 547)?;
-    assert_eq!(rt; accused(alloc, &both, &columns)?, Fraud(Axis::Row, 0));
-    Ok(())
-}
-
-/// The output takes 1,000 bytes at a time, and its second call fails.
-#[test]
-fn cut_off(rt: HostRuntime) -> Result<(), Fail> {
-    let alloc = rt.alloc();
-    let all = messages(alloc, square(alloc)?, &REACH_ALL)?;
-    let mut inputs = two_files(alloc, header(alloc, square(alloc)?)?, all, NEVER)?;
-    let Ok(out) = MemSink::new(alloc, 10_000, 1_000, vec![in alloc; 1]?) else {
-        return Err(Fail::new("no memory"));
-    };
-    let ran = run_into(alloc, &["repair", "h", "m"], &mut inputs, out, NEVER)?;
-    assert_eq!(rt; ran.status, WriteFault);
-    assert_eq!(rt; ran.out.bytes.len(), 1_000);
-    assert!(rt; square(alloc)?.starts_with(ran.out.bytes.as_slice()));
-    Ok(())
-}
-
-/// The last of four messages of 703 bytes lacks a byte.
-#[test]
-fn cut_file(rt: HostRuntime) -> Result<(), Fail> {
-    let alloc = rt.alloc();
-    let mut all = messages(alloc, square(alloc)?, &REACH_ALL)?;
-    let _last = all.pop();
-    let ran = repair(alloc, &all)?;
-    assert_eq!(rt; ran.status, BadInput(1, 2109));
-    assert!(rt; ran.out.bytes.is_empty());
-    Ok(())
-}
-
 #[test]
 fn words_and_files(rt: HostRuntime) -> Result<(), Fail> {
     let alloc = rt.alloc();
-    let cases: [(&[&str], Status); 4] = [
+    let cases: [(&[&str], Status); 3] = [
         (&["repair", "h"], Usage),
-        (&["repair", "h", "gone"], PickFault(1)),
         (&["repair", "m", "gone"], PickFault(1)),
         (&["repair", "m", "h"], BadInput(0, 0)),
     ];
@@ -352,49 +297,5 @@ fn words_and_files(rt: HostRuntime) -> Result<(), Fail> {
         assert_eq!(rt; ran.status, want, "{words:?}");
         assert!(rt; ran.out.bytes.is_empty(), "{words:?}");
     }
-    Ok(())
-}
-
-/// A square of width 8.
-fn wide_square(alloc: Global) -> Result<Vec<u8>, Fail> {
-    let blobs = [(0x0101, 5_000), (0x0102, 9_000)];
-    let plan = Plan {
-        width: 8,
-        blobs: &blobs,
-        ..EMPTY
-    };
-    Ok(
-        run_well(alloc, "build", block_frame(alloc, plan)?)?
-            .out
-            .bytes,
-    )
-}
-
-/// The messages of its upper left quarter on their rows, of 883 bytes each.
-fn quarter(alloc: Global) -> Result<Vec<u8>, Fail> {
-    let mut requests = Vec::new(alloc);
-    for number in 0..64 {
-        requests.extend_from_slice(&[b'Q', 0, 0, 0, 5, 0, number / 8, 0, number % 8, 0])?;
-    }
-    Ok(
-        run_both(alloc, "sample", wide_square(alloc)?, &requests, NEVER)?
-            .out
-            .bytes,
-    )
-}
-
-/// Before the messages stands the first with another share.
-#[test]
-fn upper_left_quarter(rt: HostRuntime) -> Result<(), Fail> {
-    let alloc = rt.alloc();
-    let good = quarter(alloc)?;
-    assert_eq!(rt; good.len(), 64 * 883);
-    let mut all = Vec::new(alloc);
-    put_lie(&mut all, good.get(..883).unwrap_or(&[]))?;
-    all.extend_from_slice(&good)?;
-    let own = header(alloc, wide_square(alloc)?)?;
-    let ran = run_both(alloc, "repair", own, &all, NEVER)?;
-    assert_eq!(rt; ran.status, Done);
-    assert_eq!(rt; ran.out.bytes.as_slice(), wide_square(alloc)?.as_slice());
     Ok(())
 }

@@ -2,9 +2,9 @@
 //!
 //! Shares and values of SHA-256 are from another program (docs/TESTING.md, "An independent program").
 
-use super::check::two_files;
+use super::check::{put_changed, two_files};
 use super::frames::{Change, SAMPLE, falling_square, header_frame, message_frame, put_name};
-use super::{NEVER, Ran, large_sink, run_into};
+use super::{NEVER, Ran, large_sink, run_into, run_well};
 use crate::Asked::{At, NoHeader};
 use crate::Status;
 use crate::Status::{BadInput, BadRequest, Done, Refused, WriteFault};
@@ -154,7 +154,6 @@ fn verdicts(rt: HostRuntime) -> Result<(), Fail> {
         (Change::ZeroNode, Refused, "refused 3\n"),
         (Change::Share, Refused, "refused 4\n"),
         (Change::Axis, BadInput(1, 0), ""),
-        (Change::Count, BadInput(1, 0), ""),
         (Change::Kind, BadInput(1, 0), ""),
         (Change::Trailing, BadInput(1, 613), ""),
     ];
@@ -164,5 +163,24 @@ fn verdicts(rt: HostRuntime) -> Result<(), Fail> {
         assert_eq!(rt; ran.status, want, "{change:?}");
         assert_eq!(rt; ran.out.bytes.as_slice(), output.as_bytes(), "{change:?}");
     }
+    Ok(())
+}
+
+/// The message of cell (1, 2) with 90 bytes more in its frame, though it counts two nodes.
+#[test]
+fn bytes_behind_the_nodes(rt: HostRuntime) -> Result<(), Fail> {
+    let alloc = rt.alloc();
+    let good = column_message(alloc)?;
+    let mut answer = Vec::new(alloc);
+    put_changed(&mut answer, &good, 703, &[(3, 4, 0x03), (4, 5, 0x14)])?;
+    answer.resize(793, 0)?;
+    let header = run_well(alloc, "header", square(alloc)?)?.out.bytes;
+    let again = Vec::from_slice(alloc, &header)?;
+    let verified = run_both(alloc, "verify", header, &answer, NEVER)?;
+    assert_eq!(rt; verified.status, BadInput(1, 0));
+    assert!(rt; verified.out.bytes.is_empty());
+    let checked = run_both(alloc, "check", again, &answer, NEVER)?;
+    assert_eq!(rt; checked.status, Refused);
+    assert_eq!(rt; checked.out.bytes.as_slice(), b"refused 0\n".as_slice());
     Ok(())
 }
