@@ -1,0 +1,55 @@
+//! The JSON of frames.
+
+ghost use Rattle.std.specs.Prelude.{◌≡◌, IfOk};
+ghost use Rattle.std.specs.String.{string_bytes};
+ghost use Rattle.serde_json.specs.View.{view};
+ghost use Rattle.da_show.specs.Json.{json_of, json_text};
+
+mod kinds;
+mod lists;
+
+use da_wire::Frame;
+use namespace_id::NoMemory;
+use serde_json::Value;
+use std::alloc::{AllocError, Global};
+
+/// The object that a frame is.
+fn json_of(alloc: Global, frame: &Frame) -> Result<Value, AllocError>
+    ensures { IfOk result (λ value. view value ≡ json_of frame.now) }
+{
+    match frame {
+        Frame::Header(header) => kinds::header(alloc, header),
+        Frame::Square(square) => kinds::square(alloc, square),
+        Frame::Message(message) => kinds::message(alloc, message),
+        Frame::Names(name, answer) => kinds::names(alloc, name, answer),
+        Frame::Fraud(claim) => kinds::claim(alloc, claim),
+        Frame::Missing(cells) => kinds::missing(alloc, cells),
+        Frame::Clash(clash) => kinds::clash(alloc, clash),
+        Frame::Sample(cell, axis) => kinds::sample(alloc, *cell, *axis),
+        Frame::Request(name) => kinds::request(alloc, name),
+        Frame::Block(block) => kinds::block(alloc, block),
+    }
+}
+
+/// The text of a frame's object.
+fn json_text(alloc: Global, frame: &Frame) -> Result<String, AllocError>
+    ensures { IfOk result (λ text. string_bytes text ≡ json_text frame.now) }
+{
+    let value = json_of(alloc, frame)?;
+    value.to_string(alloc)
+}
+
+/// A frame as one JSON object on one line, without spaces and with its keys in ascending order of
+/// bytes.
+///
+/// It refuses only where there is no memory.
+///
+/// docs/FORMATS.md, "JSON of frames".
+pub fn show_json(alloc: Global, frame: &Frame) -> Result<String, NoMemory>
+    ensures text { IfOk result (λ text. string_bytes text ≡ json_text frame.now) }
+{
+    match json_text(alloc, frame) {
+        Ok(text) => Ok(text),
+        Err(AllocError) => Err(NoMemory),
+    }
+}

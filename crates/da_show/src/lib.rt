@@ -1,0 +1,13 @@
+//! Frames for people and for programs: as lines of text, and as JSON.
+//!
+//! Both are definitions on the value of a frame (docs/FORMATS.md); nothing is judged.
+#![tactic(auto)]
+
+mod json;
+#[cfg(test)]
+mod tests;
+mod text;
+mod words;
+
+pub use json::show_json;
+pub use text::show;

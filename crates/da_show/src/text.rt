@@ -1,0 +1,49 @@
+//! The text of frames.
+
+ghost use Rattle.std.specs.Prelude.{◌≡◌, ◌++◌, IfOk, OnOk};
+ghost use Rattle.std.specs.String.{string_bytes};
+ghost use Rattle.da_show.specs.Text.{joined, lines_of, text_of};
+
+mod kinds;
+mod lines;
+mod lists;
+
+use da_wire::Frame;
+use namespace_id::NoMemory;
+use std::alloc::{AllocError, Global};
+
+/// Appends the text of a frame.
+fn put_frame(alloc: Global, out: &mut String, frame: &Frame) -> Result<(), AllocError>
+    ensures { OnOk result (string_bytes out.new
+        ≡ string_bytes out.old ++ joined (lines_of frame.now)) }
+{
+    match frame {
+        Frame::Header(header) => kinds::header(alloc, out, header),
+        Frame::Square(square) => kinds::square(alloc, out, square),
+        Frame::Message(message) => lines::put_message(alloc, out, message),
+        Frame::Names(name, answer) => kinds::names(alloc, out, name, answer),
+        Frame::Fraud(claim) => kinds::claim(alloc, out, claim),
+        Frame::Missing(cells) => kinds::missing(out, cells),
+        Frame::Clash(clash) => kinds::clash(alloc, out, clash),
+        Frame::Sample(cell, axis) => lines::put_sample(out, *cell, *axis),
+        Frame::Request(name) => lines::put_request(alloc, out, name),
+        Frame::Block(block) => kinds::block(alloc, out, block),
+    }
+}
+
+/// The lines of a frame, with a line feed between each two and none at the end: what it is and what
+/// is in it, numbers in decimal and bytes in lower-case hexadecimal digits. Of the share in a
+/// message it shows the SHA-256 value.
+///
+/// It refuses only where there is no memory.
+///
+/// docs/FORMATS.md, "Text of frames".
+pub fn show(alloc: Global, frame: &Frame) -> Result<String, NoMemory>
+    ensures text { IfOk result (λ text. string_bytes text ≡ text_of frame.now) }
+{
+    let mut out = String::new(alloc);
+    match put_frame(alloc, &mut out, frame) {
+        Ok(()) => Ok(out),
+        Err(AllocError) => Err(NoMemory),
+    }
+}

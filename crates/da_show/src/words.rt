@@ -1,0 +1,74 @@
+//! The words and numbers that stand for parts of values, in texts and in JSON.
+
+ghost use Rattle.std.specs.Prelude.{◌≡◌, IfOk};
+ghost use Rattle.std.specs.String.{string_bytes};
+ghost use Rattle.sha2.specs.Sha256.{sha256};
+ghost use Rattle.hex.specs.Hex.{encode_lower};
+ghost use Rattle.da_wire.specs.kinds.Block.{width_number};
+ghost use Rattle.da_show.specs.Parts.{axis_word, name_word, digest_word, share_name_word, share_hash_word};
+
+use namespace_id::{Axis, Digest, HASH_SIZE, Namespace, Share};
+use sha2::{Digest as _, Sha256};
+use square_layout::Block;
+use std::alloc::{AllocError, Global};
+
+/// An axis in a word.
+pub(crate) fn axis_word(axis: Axis) -> &'static str
+    ensures { result.now ≡ axis_word axis }
+{
+    match axis {
+        Axis::Row => "row",
+        Axis::Col => "col",
+    }
+}
+
+/// The 29 bytes of a namespace in hexadecimal digits.
+pub(crate) fn name_word(alloc: Global, name: &Namespace) -> Result<String, AllocError>
+    ensures { IfOk result (λ word. string_bytes word ≡ name_word name.now) }
+{
+    hex::encode(alloc, name.0.as_slice())
+}
+
+/// The 90 bytes of a digest.
+pub(crate) fn digest_word(alloc: Global, digest: &Digest) -> Result<String, AllocError>
+    ensures { IfOk result (λ word. string_bytes word ≡ digest_word digest.now) }
+{
+    hex::encode(alloc, digest.0.as_slice())
+}
+
+/// The first 29 bytes of a share.
+pub(crate) fn share_name_word(alloc: Global, share: &Share) -> Result<String, AllocError>
+    ensures { IfOk result (λ word. string_bytes word ≡ share_name_word share.now) }
+{
+    name_word(alloc, &share.namespace())
+}
+
+/// The 32 bytes of a SHA-256 value.
+pub(crate) fn hash_word(alloc: Global, hash: &[u8; HASH_SIZE]) -> Result<String, AllocError>
+    ensures { IfOk result (λ word. string_bytes word ≡ encode_lower hash.now) }
+{
+    hex::encode(alloc, hash.as_slice())
+}
+
+/// The SHA-256 value of bytes.
+fn digest_of(bytes: &[u8]) -> [u8; HASH_SIZE]
+    ensures { result ≡ sha256 bytes.now }
+{
+    let mut hasher = Sha256::new();
+    hasher.update(bytes);
+    hasher.finalize()
+}
+
+/// The SHA-256 value of the 512 bytes of a share.
+pub(crate) fn share_hash_word(alloc: Global, share: &Share) -> Result<String, AllocError>
+    ensures { IfOk result (λ word. string_bytes word ≡ share_hash_word share.now) }
+{
+    hash_word(alloc, &digest_of(&share.0))
+}
+
+/// The number that stands for the width that a block asks for, 0 where it asks for none.
+pub(crate) fn width_number(block: &Block) -> u16
+    ensures { result ≡ width_number block.now.width }
+{
+    block.width.unwrap_or(0)
+}
