@@ -13,36 +13,64 @@ fn cell(row: u16, col: u16) -> Cell {
     Cell { row, col }
 }
 
-/// The cells by a program of thirty lines in another language, whose block function gives the
-/// vector of RFC 8439, 2.3.2.
+// The cells by a program in another language, whose block function gives the vector of RFC 8439, 2.3.2.
+
+/// All cells of width 1, the first four of width 4, and the first three and the last of the most that are
+/// drawn of width 128, as the key draws them.
+#[derive(Clone, Copy, Drop)]
+struct Drawn {
+    least: [Cell; 4],
+    some: [Cell; 4],
+    most: [Cell; 3],
+    last: Cell,
+}
+
+/// Whether the key draws these cells.
+fn draws(alloc: Global, key: &[u8; 32], want: &Drawn) -> Result<bool, Fail> {
+    let least = cells(alloc, key, 1, 4)?;
+    let some = cells(alloc, key, 4, 4)?;
+    let most = cells(alloc, key, 128, 4096)?;
+    Ok(
+        least.as_slice() == want.least.as_slice()
+            && some.as_slice() == want.some.as_slice()
+            && &most[..3] == want.most.as_slice()
+            && most[4095] == want.last,
+    )
+}
+
 #[test]
-fn drawn(rt: HostRuntime) -> Result<(), Fail> {
-    let key = counting_key();
-    let least = cells(rt.alloc(), &key, 1, 4)?;
-    let want = [cell(0, 1), cell(1, 0), cell(0, 0), cell(1, 1)];
-    assert!(rt; least.as_slice() == want.as_slice(), "all cells of width 1");
-    let some = cells(rt.alloc(), &key, 4, 8)?;
-    let want = [
-        cell(7, 1),
-        cell(2, 0),
-        cell(5, 1),
-        cell(2, 6),
-        cell(6, 2),
-        cell(3, 7),
-        cell(0, 1),
-        cell(7, 7),
-    ];
-    assert!(rt; some.as_slice() == want.as_slice(), "cells of width 4");
-    let most = cells(rt.alloc(), &key, 128, 4096)?;
-    let want = [cell(253, 57), cell(90, 148), cell(243, 143), cell(93, 217)];
-    assert!(rt;
-        &most[..4] == want.as_slice(),
-        "the first cells of width 128"
-    );
-    assert!(rt;
-        most[4095] == cell(132, 139),
-        "the last of the most that are drawn"
-    );
+fn counting(rt: HostRuntime) -> Result<(), Fail> {
+    let want = Drawn {
+        least: [cell(0, 1), cell(1, 0), cell(0, 0), cell(1, 1)],
+        some: [cell(7, 1), cell(2, 0), cell(5, 1), cell(2, 6)],
+        most: [cell(253, 57), cell(90, 148), cell(243, 143)],
+        last: cell(132, 139),
+    };
+    assert!(rt; draws(rt.alloc(), &counting_key(), &want)?);
+    Ok(())
+}
+
+#[test]
+fn zeros(rt: HostRuntime) -> Result<(), Fail> {
+    let want = Drawn {
+        least: [cell(1, 0), cell(1, 1), cell(0, 1), cell(0, 0)],
+        some: [cell(6, 6), cell(2, 4), cell(7, 5), cell(7, 6)],
+        most: [cell(184, 118), cell(241, 188), cell(80, 225)],
+        last: cell(120, 165),
+    };
+    assert!(rt; draws(rt.alloc(), &[0; 32], &want)?);
+    Ok(())
+}
+
+#[test]
+fn greatest_bytes(rt: HostRuntime) -> Result<(), Fail> {
+    let want = Drawn {
+        least: [cell(1, 0), cell(1, 1), cell(0, 0), cell(0, 1)],
+        some: [cell(6, 6), cell(0, 2), cell(4, 5), cell(3, 1)],
+        most: [cell(184, 246), cell(212, 217), cell(250, 146)],
+        last: cell(89, 204),
+    };
+    assert!(rt; draws(rt.alloc(), &[255; 32], &want)?);
     Ok(())
 }
 
