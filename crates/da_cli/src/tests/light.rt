@@ -83,13 +83,21 @@ fn some_shown(rt: HostRuntime) -> Result<(), Fail> {
     Ok(())
 }
 
-/// Each drawn cell is shown, or none is drawn.
+/// Each drawn cell is shown, or none is drawn; then a lie and a refused claim change nothing.
 #[test]
 fn available(rt: HostRuntime) -> Result<(), Fail> {
     let alloc = rt.alloc();
     let all = first_messages(alloc, 16)?;
     let claim = claims::claim(alloc, &[0, 1])?;
-    let cases: [(&[u8], &str); 4] = [(&all, "16"), (&all, "3"), (&[], "0"), (&claim, "0")];
+    let mut lie = Vec::new(alloc);
+    put_lie(&mut lie, &first_messages(alloc, 1)?)?;
+    let cases: [(&[u8], &str); 5] = [
+        (&all, "16"),
+        (&all, "3"),
+        (&[], "0"),
+        (&claim, "0"),
+        (&lie, "0"),
+    ];
     for (list, count) in cases {
         let ran = run_own(alloc, list, count)?;
         assert_eq!(rt; ran.status, Done, "{count}");
