@@ -1,0 +1,5 @@
+pub mod GatheredLemmas
+pub mod HalfLemmas
+pub mod CheatLemmas
+pub mod TrialLemmas
+pub mod TellLemmas

@@ -1,0 +1,4 @@
+pub mod Sessions
+pub mod Gathered
+pub mod Trials
+pub mod Steps

@@ -1,0 +1,200 @@
+//! The messages of the two sessions of a trial, as they are made from a grid and checked under its
+//! header.
+
+ghost use Rattle.std.specs.Prelude.{◌≡◌, ◌+◌, ◌*◌, ◌<◌, ◌≤◌, ◌^◌, ◌++◌, List, [], ◌∷◌, IsTrue, IfSome, IsNone, IfOk, OnOk, Some, None};
+ghost use Rattle.namespace_id.specs.Cells.{is_width, is_in_square};
+ghost use Rattle.data_header.specs.Headers.{Roots};
+ghost use Rattle.axis_roots.specs.declared.message.messages.Message.{Message as Sent};
+ghost use Rattle.axis_roots.specs.Messages.{message_refusal};
+ghost use Rattle.axis_roots.specs.Proved.{IsUnder, kept_message};
+ghost use Rattle.axis_roots.specs.Trees.{trees_of_grid, message_at};
+ghost use Rattle.da_demo.specs.Sessions.{spoiled, lies_of, is_even, axis_of, half_among, first_messages, second_messages};
+ghost use Rattle.da_demo.specs.Gathered.{IsGathered};
+
+use axis_roots::{
+    Grid, Message, Proved, Trees, check, grid_laws, index, message_from, message_laws,
+};
+use data_header::Header;
+use namespace_id::{Axis, Cell, NoMemory, SHARE_SIZE, Share, cell_numbered};
+use std::alloc::Global;
+
+/// Certificates of the messages of a session that are proved, in their order, and how many aren't.
+#[derive(Drop)]
+pub(crate) struct Gathered {
+    pub(crate) proved: Vec<Proved>,
+    pub(crate) lies: u64,
+}
+
+/// Xors the last byte of a share with 1.
+pub(crate) fn spoil(share: &mut Share)
+    ensures { share.new ≡ spoiled share.old }
+{
+    share.0[SHARE_SIZE - 1] ^= 1;
+}
+
+/// The certificate of a message; none where it isn't proved.
+fn proved(header: &Header, message: Message) -> Option<Proved>
+    ensures under { IfSome result (IsUnder header.now) }
+    ensures message { IfSome result (λ proved. kept_message proved ≡ message) }
+    ensures holds { IfSome result (λ _. message_refusal header.now message ≡ None) }
+    ensures fails { IsNone result → message_refusal header.now message ≡ None → ⊥ }
+{
+    message_laws();
+    let _k = header.k;
+    check(header, message).ok()
+}
+
+impl Gathered {
+    /// Of no messages.
+    pub(crate) fn new(alloc: Global) -> Gathered
+        ensures gathered { (header : Roots) → IsGathered header [] result }
+        ensures lies { result.lies ≡ 0 }
+    {
+        Gathered {
+            proved: Vec::new(alloc),
+            lies: 0,
+        }
+    }
+
+    /// Keeps a message where it is proved, and else counts it.
+    fn take_in(&mut self, header: &Header, message: Message) -> Result<(), NoMemory>
+        requires few { self.old.lies < 2 ^ 32 }
+        ensures gathered { (ms : List Sent) → IsGathered header.now ms self.old →
+            OnOk result (IsGathered header.now (ms ++ message ∷ []) self.new) }
+        ensures near { self.new.lies ≤ self.old.lies + 1 }
+    {
+        match proved(header, message) {
+            Some(proved) => {
+                let Ok(()) = self.proved.push(proved) else {
+                    return Err(NoMemory);
+                };
+            }
+            None => self.lies += 1,
+        }
+        Ok(())
+    }
+}
+
+/// The message of a cell along an axis.
+fn message_at(grid: &Grid, trees: &Trees, cell: Cell, axis: Axis) -> Message
+    requires cell { IsTrue (is_in_square grid.now.k cell) }
+    requires trees { trees_of_grid grid.now.k grid.now.shares ≡ Some trees.now }
+    ensures { result ≡ message_at grid.now.k grid.now.shares cell axis }
+{
+    grid_laws();
+    message_from(grid, cell, axis, trees.tree(axis, index(axis, cell)))
+}
+
+/// Takes in the message of the first cell of each odd row, along its row, with its share spoiled.
+pub(crate) fn gather_lies(
+    grid: &Grid,
+    trees: &Trees,
+    header: &Header,
+    gathered: &mut Gathered,
+) -> Result<(), NoMemory>
+    requires trees { trees_of_grid grid.now.k grid.now.shares ≡ Some trees.now }
+    requires none { gathered.old.lies ≡ 0 }
+    ensures gathered { IsGathered header.now [] gathered.old →
+        OnOk result (IsGathered header.now (lies_of grid.now.k grid.now.shares) gathered.new) }
+    ensures few { gathered.new.lies ≤ grid.now.k }
+{
+    for i in 0..grid.width() {
+        let cell = Cell {
+            row: 2 * i + 1,
+            col: 0,
+        };
+        let mut message = message_at(grid, trees, cell, Axis::Row);
+        spoil(&mut message.share);
+        gathered.take_in(header, message)?;
+    }
+    Ok(())
+}
+
+/// Whether row and column of a cell add up to an even number.
+fn is_even(cell: Cell) -> bool
+    requires row { cell.row < 256 }
+    requires col { cell.col < 256 }
+    ensures { result ≡ is_even cell }
+{
+    (cell.row + cell.col) % 2 == 0
+}
+
+/// The row of a cell where that is even, else its column.
+fn axis_of(cell: Cell) -> Axis
+    ensures { result ≡ axis_of cell }
+{
+    if cell.row % 2 == 0 {
+        Axis::Row
+    } else {
+        Axis::Col
+    }
+}
+
+/// Takes in the message of a cell where its row and its column add up to an even number.
+fn gather_even(
+    grid: &Grid,
+    trees: &Trees,
+    header: &Header,
+    cell: Cell,
+    gathered: &mut Gathered,
+) -> Result<(), NoMemory>
+    requires width { IsTrue (is_width grid.now.k) }
+    requires trees { trees_of_grid grid.now.k grid.now.shares ≡ Some trees.now }
+    requires cell { IsTrue (is_in_square grid.now.k cell) }
+    requires few { gathered.old.lies < 2 ^ 32 }
+    ensures gathered { (ms : List Sent) → IsGathered header.now ms gathered.old →
+        OnOk result (IsGathered header.now
+        (ms ++ half_among grid.now.k grid.now.shares (cell ∷ [])) gathered.new) }
+    ensures near { gathered.new.lies ≤ gathered.old.lies + 1 }
+{
+    if is_even(cell) {
+        gathered.take_in(header, message_at(grid, trees, cell, axis_of(cell)))?;
+    }
+    Ok(())
+}
+
+/// Takes in the messages of half of the cells, from the last one back: of those whose row and
+/// column add up to an even number.
+pub(crate) fn gather_half(
+    grid: &Grid,
+    trees: &Trees,
+    header: &Header,
+    gathered: &mut Gathered,
+) -> Result<(), NoMemory>
+    requires trees { trees_of_grid grid.now.k grid.now.shares ≡ Some trees.now }
+    requires few { gathered.old.lies ≤ grid.now.k }
+    ensures { IsGathered header.now (lies_of grid.now.k grid.now.shares) gathered.old →
+        OnOk result
+        (IsGathered header.now (first_messages grid.now.k grid.now.shares) gathered.new) }
+{
+    let side = 2 * grid.width();
+    let mut left = side as usize * side as usize;
+    while left > 0 {
+        left -= 1;
+        gather_even(grid, trees, header, cell_numbered(side, left), gathered)?;
+    }
+    Ok(())
+}
+
+/// Takes in the messages of the first k cells of the last row, along their columns.
+pub(crate) fn gather_low(
+    grid: &Grid,
+    trees: &Trees,
+    header: &Header,
+    gathered: &mut Gathered,
+) -> Result<(), NoMemory>
+    requires trees { trees_of_grid grid.now.k grid.now.shares ≡ Some trees.now }
+    requires none { gathered.old.lies ≡ 0 }
+    ensures { IsGathered header.now [] gathered.old → OnOk result
+        (IsGathered header.now (second_messages grid.now.k grid.now.shares) gathered.new) }
+{
+    let k = grid.width();
+    for col in 0..k {
+        let cell = Cell {
+            row: 2 * k - 1,
+            col,
+        };
+        gathered.take_in(header, message_at(grid, trees, cell, Axis::Col))?;
+    }
+    Ok(())
+}
