@@ -25,3 +25,5 @@ pub mod SampleLemmas
 pub mod AnswerLemmas
 pub mod NamespaceLemmas
 pub mod VerifyLemmas
+pub mod ShowLemmas
+pub mod DemoLemmas

@@ -7,8 +7,11 @@ use Rattle.std.proofs.lemmas.Grind.{common_steps}
 use Rattle.std.proofs.KnownBytes.{Appends-nil}
 use Rattle.std.proofs.lemmas.List.{take-map, drop-map, length-map}
 use Rattle.da_io.specs.Files.{Files}
+use Rattle.da_wire.specs.Values.{values_of}
+use Rattle.da_show.specs.Text.{text_of}
+use Rattle.da_show.specs.Json.{json_text}
 use Rattle.da_cli.specs.declared.commands.Command.{Command}
-use Rattle.da_cli.specs.declared.commands.Command.TheVariants.{Check, Build, Header, Sample, Namespace, Verify, Repair, Light}
+use Rattle.da_cli.specs.declared.commands.Command.TheVariants.{Check, Build, Header, Sample, Namespace, Verify, Repair, Light, Show, Json, Demo}
 use Rattle.da_cli.specs.declared.words.Call.{Call}
 use Rattle.da_cli.specs.declared.status.Status.{Status}
 use Rattle.da_cli.specs.declared.status.Status.TheVariants.{BadInput, TooLong}
@@ -18,6 +21,7 @@ use Rattle.da_cli.specs.Gathered.{Gathered, whole, long, absent, gathered, Gathe
 use Rattle.da_cli.specs.declared.gathering.Stop.{Stop}
 use Rattle.da_cli.specs.declared.gathering.Stop.TheVariants as stop
 use Rattle.da_cli.specs.Outcome.{Relation, Refuses, Outputs, LeavesBy, Leaves}
+use Rattle.da_cli.specs.commands.Show.{all_kinds, shown_file}
 use Rattle.da_cli.specs.Judging.{first_bad, Judged}
 use Rattle.da_cli.specs.Meaning.{judged_of, AnswerOf, Meaning}
 use Rattle.da_cli.specs.Run.{status_of, CommandOf, CallOf, RunOf, LeavesTold, CompletesBy, Completes}
@@ -32,6 +36,8 @@ use Rattle.da_cli.proofs.NamespaceLemmas.{namespace_answers}
 use Rattle.da_cli.proofs.VerifyLemmas.{verify_last}
 use Rattle.da_cli.proofs.RepairLemmas.{repair_last}
 use Rattle.da_cli.proofs.LightLemmas.{light_answers}
+use Rattle.da_cli.proofs.ShowLemmas.{shows_answers}
+use Rattle.da_cli.proofs.DemoLemmas.{demo_answers}
 
 -- the relation of words that are a command
 run_of_call : (words : List (List ℕ)) (call : Call) (files : Files) (g : Gathered) → call_of words ≡ Some call
@@ -132,6 +138,9 @@ answer_last Namespace files w status h = namespace_answers files w status h
 answer_last Verify files w status h = answer_output status (verify_last files w status h)
 answer_last Repair files w status h = answer_output status (repair_last files w status h)
 answer_last (Light key count) files w status h = light_answers key count files w status h
+answer_last Show files w status h = shows_answers text_of (values_of all_kinds (shown_file files)) w status h
+answer_last Json files w status h = shows_answers json_text (values_of all_kinds (shown_file files)) w status h
+answer_last (Demo number k) files w status h = demo_answers number k w status h
 
 -- an answer is decided by the words and files
 decided_answer : (in_form : Bool) (Decided : Type 0) → May in_form Decided → Decided

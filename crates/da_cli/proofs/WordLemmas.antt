@@ -7,8 +7,7 @@ use Rattle.std.proofs.lemmas.List.{length-map, get_or-map}
 use Rattle.std.specs.declared.option.Option.{Option}
 use Rattle.std.specs.List.{fold, list_all}
 use Rattle.std.proofs.lemmas.Bool.Decides.{nat_tests}
-use Rattle.da_cli.specs.declared.words.Call.{Call}
-use Rattle.da_cli.specs.Words.{words_of, is_command, is_digit, light_call, call_of}
+use Rattle.da_cli.specs.Words.{words_of, is_command, is_digit, light_call, demo_call, call_of}
 
 -- the number with one digit more
 abbrev with_digit : ℕ → ℕ → ℕ
@@ -80,7 +79,7 @@ all_digits most value rest none within =
     let fits : nat_le value most ≡ true = is_within value most within in
     ap (digits_from most value) none ∙ ap (λ (b : Bool). is_tested b value) fits
 
--- ---- the words of light
+-- ---- the words of commands
 
 -- a word by its place
 pub word_at : (words : List (String Global)) (i : ℕ) (word : String Global) → i < length words
@@ -101,6 +100,10 @@ command_count (word ∷ words) name count is =
 past : {A : Type 0} (b : Bool) (x y z : A) → b ≡ false → y ≡ z → cond b x y ≡ z
 past b x y z fails same = ap (λ (t : Bool). cond t x y) fails ∙ same
 
+-- this test is made
+here : {A : Type 0} (b : Bool) (x y : A) → b ≡ true → cond b x y ≡ x
+here b x y holds = ap (λ (t : Bool). cond t x y) holds
+
 -- the call of the words of light, which are no other command's
 pub light_words : (words : List (List ℕ)) → is_command words (codes "check") 2 ≡ false
     → is_command words (codes "build") 1 ≡ false → is_command words (codes "header") 1 ≡ false
@@ -116,7 +119,28 @@ light_words words check build header sample namespace verify repair light =
     (past _ _ _ _ namespace
     (past _ _ _ _ verify
     (past _ _ _ _ repair
-    (ap (λ (b : Bool). cond {A = Option Call} b (light_call (get_or words 3 []) (get_or words 4 [])) None) light)))))))
+    (here (is_command words (codes "light") 4) (light_call (get_or words 3 []) (get_or words 4 [])) _ light)))))))
+
+-- the call of the words of demo, which are no other command's
+pub demo_words : (words : List (List ℕ)) → is_command words (codes "check") 2 ≡ false
+    → is_command words (codes "build") 1 ≡ false → is_command words (codes "header") 1 ≡ false
+    → is_command words (codes "sample") 2 ≡ false → is_command words (codes "namespace") 2 ≡ false
+    → is_command words (codes "verify") 2 ≡ false → is_command words (codes "repair") 2 ≡ false
+    → is_command words (codes "light") 4 ≡ false → is_command words (codes "show") 1 ≡ false
+    → is_command words (codes "json") 1 ≡ false → is_command words (codes "demo") 2 ≡ true
+    → call_of words ≡ demo_call (get_or words 1 []) (get_or words 2 [])
+demo_words words check build header sample namespace verify repair light show json demo =
+    past _ _ _ _ check
+    (past _ _ _ _ build
+    (past _ _ _ _ header
+    (past _ _ _ _ sample
+    (past _ _ _ _ namespace
+    (past _ _ _ _ verify
+    (past _ _ _ _ repair
+    (past _ _ _ _ light
+    (past _ _ _ _ show
+    (past _ _ _ _ json
+    (here (is_command words (codes "demo") 2) (demo_call (get_or words 1 []) (get_or words 2 [])) _ demo))))))))))
 
 -- a fact of what is there is a weaker one
 pub some_within : {A : Type 0} (P Q : A → Type 0) (o : Option A) → ((x : A) → P x → Q x) → IfSome o P → IfSome o Q

@@ -2,7 +2,7 @@
 use Rattle.std.specs.Prelude.{ℕ, List}
 use Rattle.std.specs.declared.option.Option.{Option}
 use Rattle.da_cli.specs.declared.commands.Command.{Command}
-use Rattle.da_cli.specs.declared.commands.Command.TheVariants.{Check, Build, Header, Sample, Namespace, Verify, Repair, Light}
+use Rattle.da_cli.specs.declared.commands.Command.TheVariants.{Check, Build, Header, Sample, Namespace, Verify, Repair, Light, Show, Json, Demo}
 use Rattle.da_cli.specs.Outcome.{Relation}
 use Rattle.da_cli.specs.Judging.{Judged}
 use Rattle.da_cli.specs.commands.Check.{check_judged, CheckOf}
@@ -13,6 +13,8 @@ use Rattle.da_cli.specs.commands.Namespace.{namespace_judged, NamespaceOf}
 use Rattle.da_cli.specs.commands.Verify.{verify_judged, VerifyOf}
 use Rattle.da_cli.specs.commands.Repair.{repair_judged, RepairOf}
 use Rattle.da_cli.specs.commands.Light.{light_judged, LightOf}
+use Rattle.da_cli.specs.commands.Show.{show_judged, ShowOf, JsonOf}
+use Rattle.da_cli.specs.commands.Demo.{demo_judged, DemoOf}
 
 -- of each file where it leaves its form, if it does
 abbrev pub judged_of : Command → List (List ℕ) → List (Option ℕ)
@@ -24,6 +26,9 @@ judged_of Namespace files = namespace_judged files
 judged_of Verify files = verify_judged files
 judged_of Repair files = repair_judged files
 judged_of (Light key count) files = light_judged files
+judged_of Show files = show_judged files
+judged_of Json files = show_judged files
+judged_of (Demo number k) files = demo_judged
 
 -- the answer over files in their forms
 abbrev pub AnswerOf : Command → List (List ℕ) → Relation
@@ -35,6 +40,9 @@ AnswerOf Namespace files = NamespaceOf files
 AnswerOf Verify files = VerifyOf files
 AnswerOf Repair files = RepairOf files
 AnswerOf (Light key count) files = LightOf key count files
+AnswerOf Show files = ShowOf files
+AnswerOf Json files = JsonOf files
+AnswerOf (Demo number k) files = DemoOf number k
 
 -- what a command writes and answers over any files
 abbrev pub Meaning : Command → List (List ℕ) → Relation

@@ -1,14 +1,16 @@
 -- Which words are a command.
-use Rattle.std.specs.Prelude.{ℕ, ◌+◌, ◌-◌, ◌*◌, ◌^◌, ◌==◌, ◌&&◌, ◌||◌, nat_le, not, Bool, false, List, [], ◌∷◌, length, get_or, map, take, drop, codes, if◌then◌else◌, Some, None, String}
+use Rattle.std.specs.Prelude.{◌≡◌, ⊤, ℕ, ◌+◌, ◌-◌, ◌*◌, ◌^◌, ◌==◌, ◌&&◌, ◌||◌, nat_le, not, Bool, true, false, List, [], ◌∷◌, length, get_or, map, take, drop, codes, if◌then◌else◌, Some, None, String}
 use Rattle.std.specs.declared.option.Option.{Option}
 use Rattle.std.specs.declared.alloc.Global.{Global}
 use Rattle.std.specs.List.{fold, list_all}
 use Rattle.std.specs.Option.{option_map, option_map_or}
+use Rattle.namespace_id.specs.Cells.{is_width}
 use Rattle.std.specs.String.{string_bytes}
 use Rattle.std.specs.Str.{bytes_eq}
 use Rattle.hex.specs.Hex.{decode_sized}
 use Rattle.da_wire.specs.Frames.{ok_of}
-use Rattle.da_cli.specs.declared.commands.Command.TheVariants.{Check, Build, Header, Sample, Namespace, Verify, Repair, Light}
+use Rattle.da_cli.specs.declared.commands.Command.{Command}
+use Rattle.da_cli.specs.declared.commands.Command.TheVariants.{Check, Build, Header, Sample, Namespace, Verify, Repair, Light, Show, Json, Demo}
 use Rattle.da_cli.specs.declared.words.Call.{Call}
 
 -- the bytes of each word
@@ -48,6 +50,14 @@ number_in most word = if is_number word && nat_le (digits_value word) most then 
 abbrev pub key_in : List ℕ → Option (List ℕ)
 key_in word = ok_of (decode_sized word 32)
 
+-- whether a trial may have this width
+abbrev pub is_trial_width : ℕ → Bool
+is_trial_width k = is_width k && nat_le 2 k
+
+-- the width of a trial that a word is
+abbrev pub width_in : List ℕ → Option ℕ
+width_in word = option_map_or (λ k. if is_trial_width k then Some k else None) (number_in 128 word) None
+
 -- ---- commands
 
 -- light HEADER MESSAGES KEY COUNT, where KEY and COUNT are these words
@@ -55,6 +65,12 @@ abbrev pub light_call : List ℕ → List ℕ → Option Call
 light_call key count = option_map_or
     (λ bytes. option_map (λ n. record { command = Light bytes n; files = 2 }) (number_in (2 ^ 32 - 1) count))
     (key_in key) None
+
+-- demo NUMBER WIDTH, where NUMBER and WIDTH are these words
+abbrev pub demo_call : List ℕ → List ℕ → Option Call
+demo_call number width = option_map_or
+    (λ n. option_map (λ k. record { command = Demo n k; files = 0 }) (width_in width))
+    (number_in (2 ^ 64 - 1) number) None
 
 -- the command of these words, and how many of them name files
 abbrev pub call_of : List (List ℕ) → Option Call
@@ -67,7 +83,15 @@ call_of words =
     (if is_command words (codes "verify") 2 then Some (record { command = Verify; files = 2 }) else
     (if is_command words (codes "repair") 2 then Some (record { command = Repair; files = 2 }) else
     (if is_command words (codes "light") 4 then light_call (get_or words 3 []) (get_or words 4 []) else
-    None)))))))
+    (if is_command words (codes "show") 1 then Some (record { command = Show; files = 1 }) else
+    (if is_command words (codes "json") 1 then Some (record { command = Json; files = 1 }) else
+    (if is_command words (codes "demo") 2 then demo_call (get_or words 1 []) (get_or words 2 []) else
+    None))))))))))
+
+-- a command can be run: the width of a demo is a trial's
+abbrev pub IsRunnable : Command → Type 0
+IsRunnable (Demo number k) = is_trial_width k ≡ true
+IsRunnable command = ⊤
 
 -- the words that name files: they follow the command's word
 abbrev pub file_words : ℕ → List (List ℕ) → List (List ℕ)

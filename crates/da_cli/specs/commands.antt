@@ -9,3 +9,5 @@ pub mod Namespace
 pub mod Verify
 pub mod Repair
 pub mod Light
+pub mod Show
+pub mod Demo

@@ -5,9 +5,11 @@ ghost use Rattle.std.specs.Prelude.{◌≡◌};
 ghost use Rattle.da_cli.specs.Gathered.{contents_of};
 ghost use Rattle.da_cli.specs.Meaning.{Meaning};
 ghost use Rattle.da_cli.specs.Outcome.{Ends};
+ghost use Rattle.da_cli.specs.Words.{IsRunnable};
 
 mod build;
 mod check;
+mod demo;
 mod frames;
 mod header;
 mod light;
@@ -15,6 +17,7 @@ mod namespace;
 mod repair;
 mod sample;
 mod serving;
+mod show;
 mod verify;
 
 use crate::Status;
@@ -40,6 +43,12 @@ pub(crate) enum Command {
     Repair,
     /// `light HEADER MESSAGES KEY COUNT`, with the key of the draws and how many there are
     Light([u8; 32], u32),
+    /// `show FILE`
+    Show,
+    /// `json FILE`
+    Json,
+    /// `demo NUMBER WIDTH`, with both numbers
+    Demo(u64, u16),
 }
 
 /// Runs a command over the contents of its files.
@@ -49,6 +58,7 @@ pub(crate) fn execute<O: Sink>(
     files: &[Vec<u8>],
     out: &mut O,
 ) -> Status
+    requires runnable { IsRunnable command }
     ensures { Ends (Meaning command (contents_of files.now)) (O.taken out.old) (O.taken out.new)
         (O.faults out.old) (O.faults out.new) (out.new ≡ out.old) result }
 {
@@ -61,5 +71,8 @@ pub(crate) fn execute<O: Sink>(
         Command::Verify => verify::execute(alloc, files, out),
         Command::Repair => repair::execute(alloc, files, out),
         Command::Light(key, count) => light::execute(alloc, files, &key, count, out),
+        Command::Show => show::show(alloc, files, out),
+        Command::Json => show::json(alloc, files, out),
+        Command::Demo(number, k) => demo::execute(alloc, number, k, out),
     }
 }

@@ -55,7 +55,7 @@ fn note_block(line: &mut Line, why: LayError)
 }
 
 /// The kind of an axis, in a word.
-fn axis_note(axis: Axis) -> &'static [u8]
+pub(crate) fn axis_note(axis: Axis) -> &'static [u8]
     ensures { result.now ≡ axis_note axis }
 {
     match axis {

@@ -12,6 +12,7 @@ mod build;
 mod celestia;
 mod check;
 mod claims;
+mod demo;
 mod failures;
 mod falling;
 mod files;
@@ -24,6 +25,7 @@ mod realistic;
 mod repairs;
 mod serving;
 mod shares;
+mod shown;
 
 /// The number of a call that no run makes.
 const NEVER: u64 = u64::MAX;

@@ -1,10 +1,11 @@
 //! Words, and the command that they are.
 
-ghost use Rattle.std.specs.Prelude.{◌≡◌, ◌<◌, length, IfSome, codes};
-ghost use Rattle.da_cli.specs.Words.{words_of, is_command, is_digit, digits_in, number_in, key_in, light_call, call_of};
+ghost use Rattle.std.specs.Prelude.{◌≡◌, ◌<◌, length, IfSome, codes, true};
+ghost use Rattle.da_cli.specs.Words.{words_of, is_command, is_digit, digits_in, number_in, key_in, light_call, is_trial_width, width_in, demo_call, call_of, IsRunnable};
 
 use crate::commands::Command;
 use hex::FromHex;
+use namespace_id::is_width;
 
 /// A command, and how many of the words after its own name files. These come first.
 #[derive(Clone, Copy, Debug, PartialEq, Eq)]
@@ -73,6 +74,7 @@ fn key_in(word: &str) -> Option<[u8; 32]>
 fn light_call(key: &str, count: &str) -> Option<Call>
     ensures value { result ≡ light_call key.now count.now }
     ensures files { IfSome result (λ call. call.files ≡ 2) }
+    ensures runnable { IfSome result (λ call. IsRunnable call.command) }
 {
     let key = key_in(key)?;
     let count = number_in(count, u64::from(u32::MAX))?;
@@ -82,11 +84,35 @@ fn light_call(key: &str, count: &str) -> Option<Call>
     })
 }
 
+/// The width of a trial that a word is: a width from 2 on.
+fn width_in(word: &str) -> Option<u16>
+    ensures value { result ≡ width_in word.now }
+    ensures width { IfSome result (λ k. is_trial_width k ≡ true) }
+{
+    let k = number_in(word, 128)? as u16;
+    if is_width(k) && k >= 2 { Some(k) } else { None }
+}
+
+/// The call of `demo` whose NUMBER and WIDTH are these words.
+fn demo_call(number: &str, width: &str) -> Option<Call>
+    ensures value { result ≡ demo_call number.now width.now }
+    ensures files { IfSome result (λ call. call.files ≡ 0) }
+    ensures runnable { IfSome result (λ call. IsRunnable call.command) }
+{
+    let number = number_in(number, u64::MAX)?;
+    let k = width_in(width)?;
+    Some(Call {
+        command: Command::Demo(number, k),
+        files: 0,
+    })
+}
+
 /// The command of these words.
 pub(crate) fn call_of(words: &[String]) -> Option<Call>
     ensures value { result ≡ call_of (words_of words.now) }
     ensures files { IfSome result (λ call. call.files < length words.now) }
     ensures few { IfSome result (λ call. call.files < 16) }
+    ensures runnable { IfSome result (λ call. IsRunnable call.command) }
 {
     if is_command(words, "check", 2) {
         return Some(Call {
@@ -132,6 +158,21 @@ pub(crate) fn call_of(words: &[String]) -> Option<Call>
     }
     if is_command(words, "light", 4) {
         return light_call(words[3].as_str(), words[4].as_str());
+    }
+    if is_command(words, "show", 1) {
+        return Some(Call {
+            command: Command::Show,
+            files: 1,
+        });
+    }
+    if is_command(words, "json", 1) {
+        return Some(Call {
+            command: Command::Json,
+            files: 1,
+        });
+    }
+    if is_command(words, "demo", 2) {
+        return demo_call(words[1].as_str(), words[2].as_str());
     }
     None
 }
