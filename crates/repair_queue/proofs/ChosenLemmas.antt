@@ -18,7 +18,7 @@ use Rattle.axis_roots.specs.Lines.{blank, entry}
 use Rattle.axis_roots.proofs.Grids.WordLemmas.{first_positions}
 use Rattle.befp_maker.specs.Conflicts.{positions_with}
 use Rattle.repair_queue.specs.Closures.{AreChosen}
-use Rattle.repair_queue.proofs.MemberLemmas.{contains_head, contains_tail}
+use Rattle.namespace_id.proofs.MemberLemmas.{contains_head, contains_tail}
 
 -- a number of a list that stands at a place of it
 at_place : (chosen : List ℕ) (i : ℕ) → i < length chosen → Contains chosen (get_or chosen i 0)

@@ -9,7 +9,7 @@ use Rattle.axis_roots.specs.declared.message.messages.Message.{Message}
 use Rattle.axis_roots.specs.Lines.{cell_on, entry}
 use Rattle.repair_queue.specs.Closures.{Half, seen, filled, Fact, shown, rebuilt}
 use Rattle.repair_queue.specs.Derivations.{AreDerived, IsListed, IsSeen, IsFilled, IsShownPair, IsRebuiltPair}
-use Rattle.repair_queue.proofs.MemberLemmas.{contains_head, contains_tail, contains_none, contains_cons}
+use Rattle.namespace_id.proofs.MemberLemmas.{contains_head, contains_tail, contains_none, contains_cons}
 
 module _ {A : Type 0} (given : A → Type 0) (follows : List A → A → Type 0) (grows : (xs ys : List A) (x : A) → ((z : A) → Contains xs z → Contains ys z) → follows xs x → follows ys x) where
   -- two lists of derivations are one

@@ -22,7 +22,7 @@ use Rattle.axis_roots.proofs.Messages.ClaimLemmas.{Shape, shape_of}
 use Rattle.repair_queue.specs.Closures.{AreChosen, Fact, IsDecided}
 use Rattle.repair_queue.specs.Settled.{IsLineSettled, IsSettled}
 use Rattle.repair_queue.specs.Verdicts.{IsFraud}
-use Rattle.repair_queue.proofs.MemberLemmas.{contains_none, contains_cons}
+use Rattle.namespace_id.proofs.MemberLemmas.{contains_none, contains_cons}
 use Rattle.repair_queue.proofs.ClosureLemmas.{fact_half}
 use Rattle.repair_queue.proofs.SettledLemmas.{settled_word}
 

@@ -19,7 +19,7 @@ use Rattle.befp_maker.specs.Halves.{AreHalf}
 use Rattle.repair_queue.specs.declared.slots.Slots.{Slots}
 use Rattle.repair_queue.specs.Slots.{Kept, Flags, slot_of, flag_of, AreSlots, IsKnown, IsEmptied, IsReady}
 use Rattle.repair_queue.specs.Repairs.{IsSlotted, AreSound}
-use Rattle.repair_queue.proofs.MemberLemmas.{contains_head, contains_tail}
+use Rattle.namespace_id.proofs.MemberLemmas.{contains_head, contains_tail}
 use Rattle.repair_queue.proofs.AscentLemmas.{ascend_positions}
 use Rattle.repair_queue.proofs.KnownLemmas.{known_count, ready_half, counted_half}
 use Rattle.repair_queue.proofs.LentLemmas.{IsLentTo, lent_none, lent_enough, lent_unknown, stood_before, lent_known}

@@ -15,7 +15,7 @@ use Rattle.axis_roots.specs.Claims.{positions_of, claim_with}
 use Rattle.axis_roots.proofs.Grids.AxisLemmas.{index-cell_on, position-cell_on}
 use Rattle.repair_queue.specs.Slots.{Kept, IsKnown, IsEmptied}
 use Rattle.repair_queue.specs.Lines.{AreLent}
-use Rattle.repair_queue.proofs.MemberLemmas.{contains_none}
+use Rattle.namespace_id.proofs.MemberLemmas.{contains_none}
 use Rattle.repair_queue.proofs.AscentLemmas.{Ascends, ascends_within}
 use Rattle.repair_queue.proofs.PassingLemmas.{one_if, count_from-suc}
 use Rattle.repair_queue.proofs.KnownLemmas.{is_known, known-is_known, is_known-known, known_count, none_counted}

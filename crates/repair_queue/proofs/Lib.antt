@@ -1,10 +1,8 @@
-pub mod MemberLemmas
 pub mod ChosenLemmas
 pub mod ClosureLemmas
 pub mod DerivationLemmas
 pub mod SettledLemmas
 pub mod FraudLemmas
-pub mod RowMajorLemmas
 pub mod VerdictLemmas
 pub mod GrowthLemmas
 pub mod NamedLemmas

@@ -15,7 +15,7 @@ use Rattle.axis_roots.specs.Grids.{share_at, axis_tree, IsHeaderOf}
 use Rattle.axis_roots.specs.Own.{opened_by, ShowsOwn, NamesClash}
 use Rattle.axis_roots.proofs.Grids.ExtensionLemmas.{extension_once}
 use Rattle.axis_roots.proofs.Messages.OwnLemmas.{accepted_own}
-use Rattle.repair_queue.proofs.MemberLemmas.{contains_head, contains_tail, contains_none, contains_cons}
+use Rattle.namespace_id.proofs.MemberLemmas.{contains_head, contains_tail, contains_none, contains_cons}
 use Rattle.repair_queue.proofs.VerdictLemmas.{own_width}
 
 -- a message is proved, or it isn't

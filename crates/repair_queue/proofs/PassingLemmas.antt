@@ -3,7 +3,7 @@ use Rattle.std.proofs.Common.{◌≡◌, ◌∙◌, ℕ, zero, suc, ◌+◌, ◌
 use Rattle.std.specs.List.{Contains}
 use Rattle.std.proofs.lemmas.Bool.{cases_eq}
 use Rattle.repair_queue.specs.Closures.{AreChosen}
-use Rattle.repair_queue.proofs.MemberLemmas.{contains_head, contains_tail, contains_none, contains_cons}
+use Rattle.namespace_id.proofs.MemberLemmas.{contains_head, contains_tail, contains_none, contains_cons}
 use Rattle.repair_queue.proofs.AscentLemmas.{Ascends, ascends_within, positions_ascend, ascend_positions}
 
 -- ---- counts

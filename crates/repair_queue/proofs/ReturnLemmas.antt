@@ -7,7 +7,7 @@ use Rattle.axis_roots.specs.Proved.{kept_message}
 use Rattle.repair_queue.specs.Slots.{Kept, IsPut}
 use Rattle.repair_queue.specs.Lines.{AreLent}
 use Rattle.repair_queue.proofs.PlaceLemmas.{same_slot}
-use Rattle.repair_queue.proofs.MemberLemmas.{contains_none}
+use Rattle.namespace_id.proofs.MemberLemmas.{contains_none}
 
 -- the last message is put back: the others are lent out still
 pub lent_less : (before old new : Kept) (cells : List Proved) (kept : Proved) → IsPut old new (kept_message kept).axis (kept_message kept).cell kept

@@ -20,7 +20,7 @@ use Rattle.axis_roots.proofs.Grids.NumberLemmas.{index-lt, position-lt}
 use Rattle.repair_queue.specs.Closures.{Fact, shown}
 use Rattle.repair_queue.specs.Slots.{Kept, Flags, crossing, IsPut}
 use Rattle.repair_queue.specs.Repairs.{Shows, IsLineKept, AreSound, StandFor}
-use Rattle.repair_queue.proofs.MemberLemmas.{contains_none}
+use Rattle.namespace_id.proofs.MemberLemmas.{contains_none}
 use Rattle.repair_queue.proofs.ClosureLemmas.{fact_grows}
 use Rattle.repair_queue.proofs.PlaceLemmas.{own_or_crossing}
 use Rattle.repair_queue.proofs.PutLemmas.{AreAgreed, put_cases, put_still, put_sound}

@@ -11,7 +11,7 @@ use Rattle.namespace_id.specs.Cells.{is_width, is_in_square, is_before, are_cell
 use Rattle.namespace_id.specs.Lists.{holds_along}
 use Rattle.axis_roots.proofs.Grids.NumberLemmas.{inside, number-lt, cell_of, cell_of-number}
 use Rattle.repair_queue.specs.Slots.{Kept, IsKnown}
-use Rattle.repair_queue.proofs.MemberLemmas.{contains_head, contains_tail, contains_none, contains_cons}
+use Rattle.namespace_id.proofs.MemberLemmas.{contains_head, contains_tail, contains_none, contains_cons}
 
 -- ---- numbers of cells
 

@@ -19,10 +19,10 @@ use Rattle.axis_roots.proofs.Grids.HeaderLemmas.{header_width}
 use Rattle.repair_queue.specs.Closures.{Half, Fact, IsDecided}
 use Rattle.repair_queue.specs.Settled.{IsLineSettled, IsSettled}
 use Rattle.repair_queue.specs.Verdicts.{VerdictParts, whole, missing, fraud, clash, IsWhole, IsMissing, IsVerdict, AreAlike}
-use Rattle.repair_queue.proofs.MemberLemmas.{contains_head}
+use Rattle.namespace_id.proofs.MemberLemmas.{contains_head}
 use Rattle.repair_queue.proofs.ChosenLemmas.{first_chosen, chosen-lt}
 use Rattle.repair_queue.proofs.FraudLemmas.{fraud_unsettled}
-use Rattle.repair_queue.proofs.RowMajorLemmas.{row_major_once}
+use Rattle.namespace_id.proofs.RowMajorLemmas.{row_major_once}
 
 -- ---- one of the three
 
