@@ -2,6 +2,9 @@
 //! standard error, and ends with its status.
 #![tactic(auto)]
 
+#[cfg(test)]
+mod tests;
+
 use da_cli::{Status, run};
 use da_io::{FileInputs, OutSink};
 use std::env;

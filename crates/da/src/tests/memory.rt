@@ -7,8 +7,8 @@ use super::frames::{
 use super::light::run_light;
 use super::serving::run_both;
 use super::{NEVER, Ran, run_well};
-use crate::Status;
-use crate::Status::{BadInput, Done, NoMemory, PickFault, Refused, Usage};
+use da_cli::Status;
+use da_cli::Status::{BadInput, Done, NoMemory, PickFault, Refused, Usage};
 use std::test::Fail;
 
 /// Whether a run ended with its row, or with want of memory and a front of its output.

@@ -10,7 +10,7 @@ use super::light::run_light;
 use super::repairs::{Place, header, messages, put_lie};
 use super::serving::run_both;
 use super::{NEVER, large_sink, run_into, run_well};
-use crate::Status::{BadInput, Done, PickFault, WriteFault};
+use da_cli::Status::{BadInput, Done, PickFault, WriteFault};
 use da_io::MemSink;
 use std::alloc::Global;
 use std::test::Fail;

@@ -8,7 +8,7 @@ use super::check::put_changed;
 use super::frames::{EMPTY, Plan, SAMPLE, block_frame, header_frame, put_name, square_of_names};
 use super::serving::{run_both, square};
 use super::{NEVER, Ran, run_well};
-use crate::Status::{BadInput, Done, Refused};
+use da_cli::Status::{BadInput, Done, Refused};
 use std::alloc::Global;
 use std::test::Fail;
 

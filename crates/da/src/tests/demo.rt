@@ -1,8 +1,8 @@
 //! demo NUMBER WIDTH: what is told of a trial is that of docs/FORMATS.md ("The trial of a number").
 
 use super::{NEVER, Ran, large_sink, run_into};
-use crate::Status;
-use crate::Status::{Done, Usage, WriteFault};
+use da_cli::Status;
+use da_cli::Status::{Done, Usage, WriteFault};
 use da_io::MemInputs;
 use std::alloc::Global;
 use std::test::Fail;

@@ -7,7 +7,7 @@ use super::frames::{
     Change, EMPTY, Plan, SAMPLE, block_frame, empty_header, empty_square, message_frame, put_name,
 };
 use super::{NEVER, Ran, run_over, run_well};
-use crate::Status::{BadInput, Done, WriteFault};
+use da_cli::Status::{BadInput, Done, WriteFault};
 use std::alloc::Global;
 use std::test::Fail;
 

@@ -5,7 +5,7 @@ use super::frames::{
     Change, EMPTY, block_frame, empty_header, empty_square, header_frame, message_frames,
 };
 use super::{NEVER, run_into, run_over, small_sink};
-use crate::Status::{Done, PickFault, ReadFault, Refused, WriteFault};
+use da_cli::Status::{Done, PickFault, ReadFault, Refused, WriteFault};
 use std::test::Fail;
 
 /// A call that fails: a pick or a read, numbered together; a write of the output; one of the note.

@@ -2,8 +2,8 @@
 
 use super::frames::{EMPTY, Plan, block_frame, empty_header, empty_square, falling_square};
 use super::run_well;
-use crate::Asked;
-use crate::Status::{BadRequest, Done};
+use da_cli::Asked;
+use da_cli::Status::{BadRequest, Done};
 use std::test::Fail;
 
 #[test]

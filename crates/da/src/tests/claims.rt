@@ -7,7 +7,7 @@
 use super::check::put_changed;
 use super::serving::{run_both, square};
 use super::{NEVER, Ran, run_well};
-use crate::Status::{Done, Refused};
+use da_cli::Status::{Done, Refused};
 use std::alloc::Global;
 use std::test::Fail;
 

@@ -5,9 +5,9 @@
 use super::check::{put_changed, two_files};
 use super::frames::{Change, SAMPLE, falling_square, header_frame, message_frame, put_name};
 use super::{NEVER, Ran, large_sink, run_into, run_well};
-use crate::Asked::{At, NoHeader};
-use crate::Status;
-use crate::Status::{BadInput, BadRequest, Done, Refused, WriteFault};
+use da_cli::Asked::{At, NoHeader};
+use da_cli::Status;
+use da_cli::Status::{BadInput, BadRequest, Done, Refused, WriteFault};
 use std::alloc::Global;
 use std::test::Fail;
 

@@ -10,8 +10,8 @@ use super::frames::{
 };
 use super::serving::{run_both, square};
 use super::{NEVER, Ran, claims, run_well};
-use crate::Status;
-use crate::Status::{BadInput, Done, Fraud, Missing, PickFault, Refused, Usage};
+use da_cli::Status;
+use da_cli::Status::{BadInput, Done, Fraud, Missing, PickFault, Refused, Usage};
 use namespace_id::Axis;
 use std::alloc::Global;
 use std::test::Fail;

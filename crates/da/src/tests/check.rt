@@ -5,9 +5,9 @@ use super::frames::{
     square_of,
 };
 use super::{NEVER, Ran, run_into, run_well, small_sink, string};
-use crate::Status;
-use crate::Status::{BadInput, Done, PickFault, Refused, Usage};
 use axis_roots::{Grid, message_of};
+use da_cli::Status;
+use da_cli::Status::{BadInput, Done, PickFault, Refused, Usage};
 use da_io::MemInputs;
 use da_wire::{Frame, write_frame};
 use namespace_id::{Axis, Cell};

@@ -2,8 +2,8 @@
 
 use super::frames::{EMPTY, block_frame, empty_square};
 use super::{NEVER, Ran, large_sink, run_into, run_well, string};
-use crate::FILE_LIMIT;
-use crate::Status::{BadInput, PickFault, ReadFault, TooLong};
+use da_cli::FILE_LIMIT;
+use da_cli::Status::{BadInput, PickFault, ReadFault, TooLong};
 use da_io::{FileInputs, Inputs, MemInputs};
 use std::alloc::Global;
 use std::test::Fail;

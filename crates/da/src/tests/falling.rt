@@ -7,7 +7,7 @@ use super::NEVER;
 use super::frames::{put_name, square_of_names};
 use super::repairs::{accused, messages};
 use super::serving::run_both;
-use crate::Status::{Fraud, Refused};
+use da_cli::Status::{Fraud, Refused};
 use namespace_id::Axis;
 use std::alloc::Global;
 use std::test::Fail;

@@ -2,7 +2,7 @@
 
 use super::frames::{EMPTY, Plan, block_frame, empty_square, square_of};
 use super::{Ran, run_well};
-use crate::Status::{BadBlock, Done};
+use da_cli::Status::{BadBlock, Done};
 use namespace_id::NsError;
 use square_layout::LayError;
 use std::alloc::Global;
