@@ -1,0 +1,54 @@
+# Completion of `da` in bash, of version 4 or later. In ~/.bashrc: . completions/da.bash
+
+# The words of a command.
+_da_words() {
+    case $1 in
+        build) echo BLOCK ;;
+        header) echo SQUARE ;;
+        sample) echo SQUARE REQUESTS ;;
+        namespace) echo SQUARE REQUESTS ;;
+        verify) echo HEADER ANSWER ;;
+        check) echo HEADER MESSAGES ;;
+        repair) echo HEADER MESSAGES ;;
+        light) echo HEADER MESSAGES KEY COUNT ;;
+        show) echo FILE ;;
+        json) echo FILE ;;
+        demo) echo NUMBER WIDTH ;;
+    esac
+}
+
+# The names of files and folders that begin with a text. Where none does, as with an open quote,
+# bash looks in its own way.
+_da_files() {
+    compopt -o filenames -o default 2>/dev/null
+    local name
+    while IFS= read -r name; do
+        COMPREPLY+=("$name")
+    done < <(compgen -f -- "$1")
+}
+
+_da() {
+    local word=${COMP_WORDS[COMP_CWORD]}
+    local before=${COMP_WORDS[COMP_CWORD - 1]}
+    local commands="build header sample namespace verify check repair light show json demo"
+    local words
+    COMPREPLY=()
+    # Behind a sign like > stands a file.
+    if [[ $before == *[\<\>] ]]; then
+        _da_files "$word"
+        return
+    fi
+    # A completion alone: no text of these words is split or matched with file names.
+    if [ "$COMP_CWORD" -eq 1 ]; then
+        mapfile -t COMPREPLY < <(compgen -W "$commands" -- "$word")
+        return
+    fi
+    read -r -a words < <(_da_words "${COMP_WORDS[1]}")
+    case ${words[COMP_CWORD - 2]} in
+        '' | KEY | COUNT | NUMBER) ;;
+        WIDTH) mapfile -t COMPREPLY < <(compgen -W "2 4 8 16 32 64 128" -- "$word") ;;
+        *) _da_files "$word" ;;
+    esac
+}
+
+complete -F _da da
