@@ -277,7 +277,7 @@ class Missing(namedtuple("Missing", "k cells")):
             row = fields.number(f"row of cell {i}", 2, range(2 * k))
             cell = (row, fields.number(f"column of cell {i}", 2, range(2 * k)))
             if cells and cell <= cells[-1]:
-                raise BadField(at, f"cell {i} is {cell}, and comes behind {cells[-1]} in row-major order")
+                raise BadField(at, f"cell {i} is {cell}, and isn't behind {cells[-1]} in row-major order")
             cells.append(cell)
         return Missing(k, cells)
 
@@ -425,10 +425,11 @@ def read_raw(data, at):
 def read_frame(data, at, kinds):
     """The kind, the value and the end of the frame at `at`, of one of `kinds`: checks 1 to 6."""
     if at == len(data):
-        raise Refusal(at, "Truncated", f"no byte is there, and a frame of {' or '.join(kinds)} is asked for")
+        raise Refusal(at, "Truncated", f"no byte is there, and asked for is kind {' or '.join(kinds)}")
     kind = chr(data[at])
     if kind not in kinds:
-        raise Refusal(at, "BadKind", f"{kind_text(data[at])}, and {' or '.join(kinds)} is asked for")
+        asked = "a kind of the table" if kinds == ALL_KINDS else f"kind {' or '.join(kinds)}"
+        raise Refusal(at, "BadKind", f"{kind_text(data[at])}, and asked for is {asked}")
     _, payload = read_raw(data, at)
     fields = Fields(payload)
     try:
@@ -532,7 +533,10 @@ def json_bytes(value, what):
     if len(parts) != 1 or not isinstance(list(parts.values())[0], str):
         raise Note(1, f'{what}: {value!r} has not just one text of "hex", "text" and "file"')
     key, source = parts.popitem()
-    data = hex_bytes(source, what) if key == "hex" else source.encode() if key == "text" else read_file(source)
+    if key == "text":
+        data = source.encode(errors="surrogatepass")
+    else:
+        data = hex_bytes(source, what) if key == "hex" else read_file(source)
     if len(data) * times > PAYLOAD_LIMIT:
         raise Note(1, f"{what}: a payload has at most {PAYLOAD_LIMIT} bytes, and not {len(data) * times}")
     return data * times
@@ -569,7 +573,7 @@ def list_words(words):
 
 
 def spell_block(value):
-    """The payload of the block of a JSON value: `width` (null or 0 where none is asked for), `units`, `pay`, `blobs`."""
+    """The payload of the block of a JSON value; its `width` is null or 0 where none is asked for."""
     parts = members(value, "the block", ("width", "units", "pay", "blobs"))
     payload = whole(parts.get("width") or 0, "width", U16).to_bytes(2, "big")
     for key in ("units", "pay"):
@@ -592,7 +596,7 @@ def spell_sample(value, what):
     """The payload of a request for a sample, from ROW,COL,AXIS or from a JSON list of the three."""
     parts = value
     if isinstance(value, str):
-        parts = [int(part) if re.fullmatch("[0-9]+", part) else part for part in value.split(",")]
+        parts = [int(part) if re.fullmatch("[0-9]{1,9}", part) else part for part in value.split(",")]
     if not isinstance(parts, list) or len(parts) != 3 or parts[2] not in AXES:
         raise Note(1, f"{what}: {value!r} isn't a row, a column, and `row` or `col`")
     row, col = (whole(part, what, U16) for part in parts[:2])
@@ -704,8 +708,8 @@ def parser():
 
     add("show", show, "file")
     add("json", show_json, "file")
-    add("why", why, "file").add_argument("--as", dest="form", nargs=2, metavar=("COMMAND", "WORD"), help="such as "
-        "`check MESSAGES`")
+    form = {"dest": "form", "nargs": 2, "metavar": ("COMMAND", "WORD"), "help": "such as `check MESSAGES`"}
+    add("why", why, "file").add_argument("--as", **form)
     add("root", root, "file")
     add("block", block, "json", makes=True)
     for name, run in (("samples", samples), ("namespaces", namespaces)):
