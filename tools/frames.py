@@ -33,7 +33,7 @@ MESSAGE_BYTES = 518  # a message without its nodes
 FRONT_BYTES = 5  # the kind and the length of a frame
 PAYLOAD_LIMIT = 16_777_216
 FILE_LIMIT = 536_870_912
-U16, U32 = 2**16 - 1, 2**32 - 1
+U16 = 2**16 - 1
 
 
 class BadField(Exception):
@@ -134,7 +134,7 @@ class Fields:
 
 
 class Header(namedtuple("Header", "k rows cols")):
-    name = "header"
+    letter, name = "H", "header"
 
     @staticmethod
     def read(fields):
@@ -160,7 +160,7 @@ class Header(namedtuple("Header", "k rows cols")):
 
 
 class Square(namedtuple("Square", "k shares")):
-    name = "square"
+    letter, name = "S", "square"
 
     @staticmethod
     def read(fields):
@@ -176,7 +176,7 @@ class Square(namedtuple("Square", "k shares")):
 
 
 class Message(namedtuple("Message", "row col axis share nodes")):
-    name = "message"
+    letter, name = "M", "message"
 
     @staticmethod
     def read(fields, of=""):
@@ -224,7 +224,7 @@ class Absence(namedtuple("Absence", "row pos digest nodes")):
 
 
 class Answer(namedtuple("Answer", "namespace entries")):
-    name = "namespace"
+    letter, name = "N", "namespace"
 
     @staticmethod
     def read(fields):
@@ -247,7 +247,7 @@ class Answer(namedtuple("Answer", "namespace entries")):
 
 
 class Claim(namedtuple("Claim", "axis index cells")):
-    name = "fraud"
+    letter, name = "B", "fraud"
 
     @staticmethod
     def read(fields):
@@ -266,7 +266,7 @@ class Claim(namedtuple("Claim", "axis index cells")):
 
 
 class Missing(namedtuple("Missing", "k cells")):
-    name = "missing"
+    letter, name = "K", "missing"
 
     @staticmethod
     def read(fields):
@@ -290,7 +290,7 @@ class Missing(namedtuple("Missing", "k cells")):
 
 
 class Clash(namedtuple("Clash", "left right")):
-    name = "clash"
+    letter, name = "X", "clash"
 
     @staticmethod
     def read(fields):
@@ -309,7 +309,7 @@ class Clash(namedtuple("Clash", "left right")):
 
 
 class Sample(namedtuple("Sample", "row col axis")):
-    name = "sample"
+    letter, name = "Q", "sample"
 
     @staticmethod
     def read(fields):
@@ -323,7 +323,7 @@ class Sample(namedtuple("Sample", "row col axis")):
 
 
 class Request(namedtuple("Request", "namespace")):
-    name = "request"
+    letter, name = "P", "request"
 
     @staticmethod
     def read(fields):
@@ -348,7 +348,7 @@ class Blob(namedtuple("Blob", "namespace data")):
 
 
 class Block(namedtuple("Block", "width units pay blobs")):
-    name = "block"
+    letter, name = "V", "block"
 
     @staticmethod
     def read(fields):
@@ -368,18 +368,8 @@ class Block(namedtuple("Block", "width units pay blobs")):
         return dict(lengths, width=self.width, blobs=[blob.members() for blob in self.blobs])
 
 
-KINDS = {
-    "H": Header,
-    "S": Square,
-    "M": Message,
-    "N": Answer,
-    "B": Claim,
-    "K": Missing,
-    "X": Clash,
-    "Q": Sample,
-    "P": Request,
-    "V": Block,
-}
+KINDS = (Header, Square, Message, Answer, Claim, Missing, Clash, Sample, Request, Block)
+KINDS = {kind.letter: kind for kind in KINDS}
 ALL_KINDS = "".join(KINDS)
 
 # The form of a file: its number among the files of its command, whether it is a list, and the kinds of its frames, None
@@ -722,17 +712,10 @@ def parser():
 
 
 def write(pieces, out):
-    """Writes all pieces."""
+    """Writes all pieces, of bytes or of text, and flushes."""
     for piece in pieces:
-        piece = piece.encode(errors="surrogateescape") if isinstance(piece, str) else piece
-        try:
-            out.write(piece)
-        except OSError:
-            raise Note(4, "cannot write") from None
-    try:
-        out.flush()
-    except OSError:
-        raise Note(4, "cannot write") from None
+        out.write(piece.encode(errors="surrogateescape") if isinstance(piece, str) else piece)
+    out.flush()
 
 
 def main(words, out, err):
@@ -743,16 +726,15 @@ def main(words, out, err):
         if getattr(args, "output", None) is None:
             write(pieces, out)
         else:
-            try:
-                file = open(args.output, "wb")
-            except (OSError, ValueError):
-                raise Note(4, "cannot write") from None
-            with file:
+            with open(args.output, "wb") as file:
                 write(pieces, file)
         return status
     except Note as note:
         err.write(note.text + "\n")
         return note.status
+    except OSError:  # of the output: those of the input are notes
+        err.write("cannot write\n")
+        return 4
     except MemoryError:
         err.write("out of memory\n")
         return 5
