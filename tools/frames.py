@@ -1,0 +1,747 @@
+#!/usr/bin/env python3
+"""A second reader and maker of frames, written from docs/ alone. It is not proved.
+
+    frames.py show FILE                     the lines that `da show FILE` writes
+    frames.py json FILE                     the lines that `da json FILE` writes
+    frames.py why FILE [--as COMMAND WORD]  why a file is `bad input`: the place and the field
+    frames.py root FILE                     the data root of a file of one header
+    frames.py block JSON                    a block (kind V)
+    frames.py samples LIST                  requests for samples (kind Q)
+    frames.py namespaces LIST               requests for namespaces (kind P)
+    frames.py messages FILE..               files of messages and fraud claims as one list, each frame checked
+    frames.py raw KIND HEX                  a frame of any kind byte and payload
+
+Statuses and notes are those of docs/COMMANDS.md: 1 for words that are no command or no such value, 2 and 3 for a file
+that can't be opened or read, 4 where the output can't be written, 5 for want of memory, 6 for a file that isn't in its
+form, 7 for a file that is too long. Python 3 and its standard library alone. tools/README.md says more.
+"""
+
+import argparse
+import hashlib
+import json
+import os
+import re
+import sys
+from collections import namedtuple
+
+WIDTHS = (1, 2, 4, 8, 16, 32, 64, 128)
+AXES = ("row", "col")
+NAMESPACE_BYTES = 29
+SHARE_BYTES = 512
+DIGEST_BYTES = 90
+MESSAGE_BYTES = 518  # a message without its nodes
+FRONT_BYTES = 5  # the kind and the length of a frame
+PAYLOAD_LIMIT = 16_777_216
+FILE_LIMIT = 536_870_912
+U16 = 2**16 - 1
+
+
+class BadField(Exception):
+    """A payload that isn't in its grammar: the place in it where the first wrong field begins, and what is wrong."""
+
+    def __init__(self, at, text):
+        super().__init__(text)
+        self.at, self.text = at, text
+
+
+class Refusal(Exception):
+    """Bytes that aren't in their form: the offset AT of docs/COMMANDS.md, the reason's name, and what is wrong."""
+
+    def __init__(self, at, reason, text):
+        super().__init__(text)
+        self.at, self.reason, self.text = at, reason, text
+
+
+class Note(Exception):
+    """A status that isn't 0, and the line on standard error that goes with it."""
+
+    def __init__(self, status, text):
+        super().__init__(text)
+        self.status, self.text = status, text
+
+
+def sha256(data):
+    """The SHA-256 value of bytes."""
+    return hashlib.sha256(data).digest()
+
+
+def hexes(strings):
+    """Byte strings as lower-case hexadecimal digits."""
+    return [data.hex() for data in strings]
+
+
+class Fields:
+    """The fields of a payload, taken off its front one after another."""
+
+    def __init__(self, payload):
+        self.payload = payload
+        self.at = 0
+
+    def left(self):
+        """How many bytes aren't taken yet."""
+        return len(self.payload) - self.at
+
+    def bytes(self, name, size):
+        """So many bytes."""
+        if self.left() < size:
+            raise BadField(self.at, f"the {name} takes {size} bytes, left are {self.left()}")
+        self.at += size
+        return self.payload[self.at - size : self.at]
+
+    def number(self, name, size, allowed=None, text=None):
+        """A big-endian number of so many bytes, one of those that are allowed."""
+        at = self.at
+        value = int.from_bytes(self.bytes(name, size), "big")
+        if allowed is not None and value not in allowed:
+            text = text or f"{allowed[0]} to {allowed[-1]}"
+            raise BadField(at, f"the {name} is {value}, and is {text}")
+        return value
+
+    def count(self, name, size, each, allowed=None):
+        """How many things follow, of at least `each` bytes: so many have to be left."""
+        at = self.at
+        value = self.number(name, size, allowed)
+        if value * each > self.left():
+            raise BadField(at, f"the {name} is {value}, of {each} bytes or more each, left are {self.left()}")
+        return value
+
+    def width(self):
+        """The width k of a square."""
+        return self.number("width k", 2, WIDTHS, "a power of two from 1 to 128")
+
+    def axis(self, of=""):
+        """An axis: 0 for row, 1 for column."""
+        return AXES[self.number(f"axis{of}", 1, (0, 1), "0 or 1")]
+
+    def nodes(self, most, of=""):
+        """A count of digests (u8), and the digests."""
+        count = self.count(f"node count{of}", 1, DIGEST_BYTES, range(most + 1))
+        return [self.bytes(f"node {i}{of}", DIGEST_BYTES) for i in range(count)]
+
+    def strings(self, name):
+        """A count of byte strings (u32), and each with its length (u32) before it."""
+        count = self.count(f"{name} count", 4, 4)
+        return [self.bytes(f"{name} {i}", self.number(f"length of {name} {i}", 4)) for i in range(count)]
+
+    def end(self):
+        """Nothing is left over."""
+        if self.left():
+            raise BadField(self.at, f"bytes left over behind the last field: {self.left()}")
+
+
+# The ten kinds (docs/FORMATS.md, "Payloads", "Text of frames", "JSON of frames"). `read` takes the fields of a payload,
+# `lines` are the lines of `show`, and `members` those of the JSON object but its "kind", which is `name`.
+
+
+class Header(namedtuple("Header", "k rows cols")):
+    letter, name = "H", "header"
+
+    @staticmethod
+    def read(fields):
+        k = fields.width()
+        rows = [fields.bytes(f"root of row {i}", DIGEST_BYTES) for i in range(2 * k)]
+        cols = [fields.bytes(f"root of column {i}", DIGEST_BYTES) for i in range(2 * k)]
+        return Header(k, rows, cols)
+
+    def data_root(self):
+        """The root of the plain Merkle tree over the row roots and then the column roots."""
+        level = [sha256(b"\x00" + root) for root in self.rows + self.cols]
+        while len(level) > 1:
+            level = [sha256(b"\x01" + left + right) for left, right in zip(level[::2], level[1::2])]
+        return level[0]
+
+    def lines(self):
+        rows = [f"row {i} {root}" for i, root in enumerate(hexes(self.rows))]
+        cols = [f"col {i} {root}" for i, root in enumerate(hexes(self.cols))]
+        return [f"header k={self.k} root={self.data_root().hex()}"] + rows + cols
+
+    def members(self):
+        return {"k": self.k, "root": self.data_root().hex(), "rows": hexes(self.rows), "cols": hexes(self.cols)}
+
+
+class Square(namedtuple("Square", "k shares")):
+    letter, name = "S", "square"
+
+    @staticmethod
+    def read(fields):
+        k = fields.width()
+        return Square(k, [fields.bytes(f"share {i}", SHARE_BYTES) for i in range(k * k)])
+
+    def lines(self):
+        shares = [f"share {i} {share[:29].hex()} {share[29:30].hex()}" for i, share in enumerate(self.shares)]
+        return [f"square k={self.k}"] + shares
+
+    def members(self):
+        return {"k": self.k, "namespaces": [share[:29].hex() for share in self.shares]}
+
+
+class Message(namedtuple("Message", "row col axis share nodes")):
+    letter, name = "M", "message"
+
+    @staticmethod
+    def read(fields, of=""):
+        row = fields.number(f"row{of}", 2)
+        col = fields.number(f"column{of}", 2)
+        axis = fields.axis(of)
+        share = fields.bytes(f"share{of}", SHARE_BYTES)
+        return Message(row, col, axis, share, fields.nodes(8, of))
+
+    def members(self):
+        cell = {"row": self.row, "col": self.col, "axis": self.axis}
+        return dict(cell, nodes=len(self.nodes), share=sha256(self.share).hex())
+
+    def lines(self):
+        return ["message " + " ".join(f"{key}={value}" for key, value in self.members().items())]
+
+
+class Range(namedtuple("Range", "row start shares nodes")):
+    @staticmethod
+    def read(fields, row, of):
+        start = fields.number(f"start{of}", 2)
+        count = fields.count(f"share count{of}", 2, SHARE_BYTES, range(129))
+        shares = [fields.bytes(f"share {i}{of}", SHARE_BYTES) for i in range(count)]
+        return Range(row, start, shares, fields.nodes(16, of))
+
+    def line(self):
+        return f"row {self.row} range {self.start} {len(self.shares)}"
+
+    def members(self):
+        return {"row": self.row, "start": self.start, "count": len(self.shares)}
+
+
+class Absence(namedtuple("Absence", "row pos digest nodes")):
+    @staticmethod
+    def read(fields, row, of):
+        pos = fields.number(f"position{of}", 2)
+        digest = fields.bytes(f"leaf digest{of}", DIGEST_BYTES)
+        return Absence(row, pos, digest, fields.nodes(16, of))
+
+    def line(self):
+        return f"row {self.row} absent {self.pos}"
+
+    def members(self):
+        return {"row": self.row, "pos": self.pos}
+
+
+class Answer(namedtuple("Answer", "namespace entries")):
+    letter, name = "N", "namespace"
+
+    @staticmethod
+    def read(fields):
+        namespace = fields.bytes("namespace", NAMESPACE_BYTES)
+        count = fields.count("entry count", 2, 8, range(129))
+        return Answer(namespace, [Answer.read_entry(fields, f" of entry {i}") for i in range(count)])
+
+    @staticmethod
+    def read_entry(fields, of):
+        row = fields.number(f"row{of}", 2)
+        tag = fields.number(f"tag{of}", 1, (0, 1), "0 or 1")
+        return (Range, Absence)[tag].read(fields, row, of)
+
+    def lines(self):
+        front = f"namespace {self.namespace.hex()} entries={len(self.entries)}"
+        return [front] + [entry.line() for entry in self.entries]
+
+    def members(self):
+        return {"namespace": self.namespace.hex(), "entries": [entry.members() for entry in self.entries]}
+
+
+class Claim(namedtuple("Claim", "axis index cells")):
+    letter, name = "B", "fraud"
+
+    @staticmethod
+    def read(fields):
+        fields.number("form", 1, (1,), "always 1")
+        axis = fields.axis()
+        index = fields.number("index", 2)
+        count = fields.count("cell count", 2, MESSAGE_BYTES, range(129))
+        return Claim(axis, index, [Message.read(fields, f" of cell {i}") for i in range(count)])
+
+    def lines(self):
+        front = f"fraud {self.axis} {self.index} cells={len(self.cells)}"
+        return [front] + [line for cell in self.cells for line in cell.lines()]
+
+    def members(self):
+        return {"axis": self.axis, "index": self.index, "cells": [[cell.row, cell.col] for cell in self.cells]}
+
+
+class Missing(namedtuple("Missing", "k cells")):
+    letter, name = "K", "missing"
+
+    @staticmethod
+    def read(fields):
+        k = fields.width()
+        cells = []
+        for i in range(fields.count("cell count", 4, 4, range(1, 4 * k * k + 1))):
+            at = fields.at
+            row = fields.number(f"row of cell {i}", 2, range(2 * k))
+            cell = (row, fields.number(f"column of cell {i}", 2, range(2 * k)))
+            if cells and cell <= cells[-1]:
+                raise BadField(at, f"cell {i} is {cell}, and isn't behind {cells[-1]} in row-major order")
+            cells.append(cell)
+        return Missing(k, cells)
+
+    def lines(self):
+        front = f"missing k={self.k} count={len(self.cells)}"
+        return [front] + [f"cell {row} {col}" for row, col in self.cells]
+
+    def members(self):
+        return {"k": self.k, "cells": self.cells}
+
+
+class Clash(namedtuple("Clash", "left right")):
+    letter, name = "X", "clash"
+
+    @staticmethod
+    def read(fields):
+        left = fields.bytes("left string", fields.number("left length", 2, range(1, 543)))
+        right = fields.bytes("right string", fields.number("right length", 2, range(1, 543)))
+        if left == right or sha256(left) != sha256(right):
+            what = "are equal" if left == right else "have two SHA-256 digests"
+            raise BadField(fields.at - len(right), f"the strings {what}, and they differ and have one digest")
+        return Clash(left, right)
+
+    def lines(self):
+        return ["clash", f"left {self.left.hex()}", f"right {self.right.hex()}"]
+
+    def members(self):
+        return {"left": self.left.hex(), "right": self.right.hex()}
+
+
+class Sample(namedtuple("Sample", "row col axis")):
+    letter, name = "Q", "sample"
+
+    @staticmethod
+    def read(fields):
+        return Sample(fields.number("row", 2), fields.number("column", 2), fields.axis())
+
+    def lines(self):
+        return [f"sample row={self.row} col={self.col} axis={self.axis}"]
+
+    def members(self):
+        return {"row": self.row, "col": self.col, "axis": self.axis}
+
+
+class Request(namedtuple("Request", "namespace")):
+    letter, name = "P", "request"
+
+    @staticmethod
+    def read(fields):
+        return Request(fields.bytes("namespace", NAMESPACE_BYTES))
+
+    def lines(self):
+        return [f"request {self.namespace.hex()}"]
+
+    def members(self):
+        return {"namespace": self.namespace.hex()}
+
+
+class Blob(namedtuple("Blob", "namespace data")):
+    @staticmethod
+    def read(fields, i):
+        namespace = fields.bytes(f"namespace of blob {i}", NAMESPACE_BYTES)
+        fields.number(f"share version of blob {i}", 1, (0,), "always 0")
+        return Blob(namespace, fields.bytes(f"blob {i}", fields.number(f"length of blob {i}", 4)))
+
+    def members(self):
+        return {"namespace": self.namespace.hex(), "length": len(self.data)}
+
+
+class Block(namedtuple("Block", "width units pay blobs")):
+    letter, name = "V", "block"
+
+    @staticmethod
+    def read(fields):
+        width = fields.number("width", 2)
+        units, pay = fields.strings("unit"), fields.strings("pay unit")
+        blobs = [Blob.read(fields, i) for i in range(fields.count("blob count", 4, 34))]
+        return Block(width, units, pay, blobs)
+
+    def lines(self):
+        counts = f"units={len(self.units)} pay={len(self.pay)} blobs={len(self.blobs)}"
+        units = [f"unit {len(unit)}" for unit in self.units] + [f"pay {len(unit)}" for unit in self.pay]
+        blobs = [f"blob {blob.namespace.hex()} {len(blob.data)}" for blob in self.blobs]
+        return [f"block width={self.width} {counts}"] + units + blobs
+
+    def members(self):
+        lengths = {"units": [len(unit) for unit in self.units], "pay": [len(unit) for unit in self.pay]}
+        return dict(lengths, width=self.width, blobs=[blob.members() for blob in self.blobs])
+
+
+KINDS = (Header, Square, Message, Answer, Claim, Missing, Clash, Sample, Request, Block)
+KINDS = {kind.letter: kind for kind in KINDS}
+ALL_KINDS = "".join(KINDS)
+
+# The form of a file: its number among the files of its command, whether it is a list, and the kinds of its frames, None
+# where only the framing is judged (docs/FORMATS.md, "Files of commands").
+Form = namedtuple("Form", "number is_list kinds")
+HEADER = Form(0, False, "H")
+SQUARE = Form(0, False, "S")
+MESSAGES = Form(1, True, None)
+FILE = Form(0, True, ALL_KINDS)
+FORMS = {
+    "build": {"BLOCK": Form(0, False, "V")},
+    "header": {"SQUARE": SQUARE},
+    "sample": {"SQUARE": SQUARE, "REQUESTS": Form(1, True, "Q")},
+    "namespace": {"SQUARE": SQUARE, "REQUESTS": Form(1, True, "P")},
+    "verify": {"HEADER": HEADER, "ANSWER": Form(1, False, "MNB")},
+    "check": {"HEADER": HEADER, "MESSAGES": MESSAGES},
+    "repair": {"HEADER": HEADER, "MESSAGES": MESSAGES},
+    "light": {"HEADER": HEADER, "MESSAGES": MESSAGES},
+    "show": {"FILE": FILE},
+    "json": {"FILE": FILE},
+}
+
+
+def kind_text(byte):
+    """How a kind byte is called in a text."""
+    return f"kind {chr(byte)}" if chr(byte) in KINDS else f"kind byte {byte:02x}"
+
+
+def read_raw(data, at):
+    """The kind byte and the payload of the frame at `at`, of any kind: checks 3 to 5."""
+    left = len(data) - at
+    if left < FRONT_BYTES:
+        raise Refusal(at, "Truncated", f"kind and length take 5 bytes, left are {left}")
+    kind = kind_text(data[at])
+    length = int.from_bytes(data[at + 1 : at + FRONT_BYTES], "big")
+    if length > PAYLOAD_LIMIT:
+        raise Refusal(at, "TooLong", f"{kind}: the length is {length}, and at most {PAYLOAD_LIMIT}")
+    if left - FRONT_BYTES < length:
+        raise Refusal(at, "Truncated", f"{kind}: the payload takes {length} bytes, left are {left - FRONT_BYTES}")
+    return data[at], data[at + FRONT_BYTES : at + FRONT_BYTES + length]
+
+
+def read_frame(data, at, kinds):
+    """The kind, the value and the end of the frame at `at`, of one of `kinds`: checks 1 to 6."""
+    if at == len(data):
+        raise Refusal(at, "Truncated", f"no byte is there, and asked for is kind {' or '.join(kinds)}")
+    kind = chr(data[at])
+    if kind not in kinds:
+        asked = "a kind of the table" if kinds == ALL_KINDS else f"kind {' or '.join(kinds)}"
+        raise Refusal(at, "BadKind", f"{kind_text(data[at])}, and asked for is {asked}")
+    _, payload = read_raw(data, at)
+    fields = Fields(payload)
+    try:
+        value = KINDS[kind].read(fields)
+        fields.end()
+    except BadField as bad:
+        raise Refusal(at, "BadPayload", f"kind {kind}, payload byte {bad.at}: {bad.text}") from None
+    return kind, value, at + FRONT_BYTES + len(payload)
+
+
+def walk(data, form):
+    """The frames of a file in their order: the place of each, its kind, and its value. Where only the framing is
+    judged these are the kind byte and the payload. Raises a Refusal at the first place that isn't in the form."""
+    at = 0
+    while at < len(data) or at == 0 and not form.is_list:
+        if form.kinds is None:
+            kind, value = read_raw(data, at)
+            end = at + FRONT_BYTES + len(value)
+        else:
+            kind, value, end = read_frame(data, at, form.kinds)
+        if not form.is_list and end < len(data):
+            raise Refusal(end, "Trailing", f"a byte {data[end]:02x} behind the one frame")
+        yield at, kind, value
+        at = end
+
+
+def read_file(name, number=None):
+    """All bytes of a file, which a note calls by its number where it has one."""
+    called = f"file {number}" if number is not None else repr(name)
+    try:
+        stream = open(name, "rb")
+    except IsADirectoryError:
+        raise Note(3, f"cannot read {called}") from None
+    except (OSError, ValueError):
+        raise Note(2, f"cannot open {called}") from None
+    with stream:
+        try:
+            data = stream.read(FILE_LIMIT + 1)
+        except OSError:
+            raise Note(3, f"cannot read {called}") from None
+    if len(data) > FILE_LIMIT:
+        raise Note(7, f"too long: {called}")
+    return data
+
+
+def judged(data, form, number=0):
+    """The frames of a file, once all of it is seen to be in its form; else the note of `bad input`."""
+    try:
+        for _ in walk(data, form):
+            pass
+    except Refusal as refusal:
+        raise Note(6, f"bad input: file {number} at {refusal.at}") from None
+    return walk(data, form)
+
+
+def frame(kind, payload):
+    """The frame of a kind byte and a payload."""
+    if len(payload) > PAYLOAD_LIMIT:
+        raise Note(1, f"a payload has at most {PAYLOAD_LIMIT} bytes, and not {len(payload)}")
+    return bytes([kind]) + len(payload).to_bytes(4, "big") + payload
+
+
+# Values from words and JSON, for the makers. `what` is how a note calls the value.
+
+
+def hex_bytes(text, what):
+    """The bytes of a text of hexadecimal digits, two for each."""
+    if not isinstance(text, str) or not re.fullmatch("([0-9a-fA-F]{2})*", text):
+        raise Note(1, f"{what}: {text!r} isn't bytes as hexadecimal digits")
+    return bytes.fromhex(text)
+
+
+def whole(value, what, most):
+    """A JSON number from 0 to `most`, without a fraction."""
+    if type(value) is not int or not 0 <= value <= most:
+        raise Note(1, f"{what}: {value!r} isn't a number from 0 to {most}")
+    return value
+
+
+def members(value, what, keys):
+    """A JSON object that has no other keys than these."""
+    if not isinstance(value, dict) or not set(value) <= set(keys):
+        raise Note(1, f"{what}: {value!r} isn't an object with the keys {', '.join(keys)} alone")
+    return value
+
+
+def items(value, what):
+    """The numbered values of a JSON list, each with what it is called."""
+    if not isinstance(value, list):
+        raise Note(1, f"{what}: {value!r} isn't a list")
+    return [(item, f"{what} {i}") for i, item in enumerate(value)]
+
+
+def json_bytes(value, what):
+    """Bytes in JSON: a text of hexadecimal digits, or an object with one of "hex", "text" (its UTF-8) and "file" (what
+    the file holds), and with "times" where they are repeated."""
+    if isinstance(value, str):
+        return hex_bytes(value, what)
+    parts = dict(members(value, what, ("hex", "text", "file", "times")))
+    times = whole(parts.pop("times", 1), f"{what}, times", PAYLOAD_LIMIT)
+    if len(parts) != 1 or not isinstance(list(parts.values())[0], str):
+        raise Note(1, f'{what}: {value!r} has not just one text of "hex", "text" and "file"')
+    key, source = parts.popitem()
+    if key == "text":
+        data = source.encode(errors="surrogatepass")
+    else:
+        data = hex_bytes(source, what) if key == "hex" else read_file(source)
+    if len(data) * times > PAYLOAD_LIMIT:
+        raise Note(1, f"{what}: a payload has at most {PAYLOAD_LIMIT} bytes, and not {len(data) * times}")
+    return data * times
+
+
+def namespace_bytes(text, what):
+    """A namespace from 58 hexadecimal digits, or one of version 0 from the last 20."""
+    data = hex_bytes(text, what)
+    if len(data) not in (10, NAMESPACE_BYTES):
+        raise Note(1, f"{what}: a namespace has 58 hexadecimal digits, or the last 20 where all others are 0")
+    return data.rjust(NAMESPACE_BYTES, b"\x00")
+
+
+def no_doubles(pairs):
+    """A JSON object of these pairs, no key twice."""
+    if len(dict(pairs)) < len(pairs):
+        raise ValueError("a key stands twice in one object")
+    return dict(pairs)
+
+
+def json_word(word):
+    """The value of a word that is JSON text itself, `-` for that on standard input, or the name of a file of it."""
+    is_text = word.lstrip()[:1] in ("{", "[")
+    text = word if is_text else sys.stdin.buffer.read() if word == "-" else read_file(word)
+    try:
+        return json.loads(text, object_pairs_hook=no_doubles)
+    except (ValueError, RecursionError) as error:
+        raise Note(1, f"no JSON: {error}") from None
+
+
+def list_words(words):
+    """The items of a list: words, or one word that is a JSON list or `-` for that on standard input."""
+    return json_word(words[0]) if len(words) == 1 and words[0].lstrip()[:1] in ("[", "-") else words
+
+
+def spell_block(value):
+    """The payload of the block of a JSON value; its `width` is null or 0 where none is asked for."""
+    parts = members(value, "the block", ("width", "units", "pay", "blobs"))
+    payload = whole(parts.get("width") or 0, "width", U16).to_bytes(2, "big")
+    for key in ("units", "pay"):
+        units = [json_bytes(*item) for item in items(parts.get(key, []), key)]
+        payload += len(units).to_bytes(4, "big") + b"".join(len(unit).to_bytes(4, "big") + unit for unit in units)
+    blobs = [spell_blob(*item) for item in items(parts.get("blobs", []), "blob")]
+    return payload + len(blobs).to_bytes(4, "big") + b"".join(blobs)
+
+
+def spell_blob(value, what):
+    """A blob of a block: its namespace, share version, length and bytes."""
+    parts = members(value, what, ("namespace", "version", "data"))
+    namespace = namespace_bytes(parts.get("namespace"), f"{what}, namespace")
+    whole(parts.get("version", 0), f"{what}, version", 0)
+    data = json_bytes(parts.get("data"), f"{what}, data")
+    return namespace + b"\x00" + len(data).to_bytes(4, "big") + data
+
+
+def spell_sample(value, what):
+    """The payload of a request for a sample, from ROW,COL,AXIS or from a JSON list of the three."""
+    parts = value
+    if isinstance(value, str):
+        parts = [int(part) if re.fullmatch("[0-9]{1,9}", part) else part for part in value.split(",")]
+    if not isinstance(parts, list) or len(parts) != 3 or parts[2] not in AXES:
+        raise Note(1, f"{what}: {value!r} isn't a row, a column, and `row` or `col`")
+    row, col = (whole(part, what, U16) for part in parts[:2])
+    return row.to_bytes(2, "big") + col.to_bytes(2, "big") + bytes([AXES.index(parts[2])])
+
+
+# The commands: each answers the pieces of its output and its status.
+
+
+def show(args):
+    """the lines of each frame"""
+    frames = judged(read_file(args.file, 0), FILE)
+    return ("\n".join(value.lines()) + "\n" for _, _, value in frames), 0
+
+
+def show_json(args):
+    """the JSON object of each frame, on a line"""
+    frames = judged(read_file(args.file, 0), FILE)
+    objects = (dict(value.members(), kind=value.name) for _, _, value in frames)
+    return (json.dumps(value, separators=(",", ":"), sort_keys=True) + "\n" for value in objects), 0
+
+
+def why(args):
+    """says why a file is `bad input`, as a file of any frames or of the form of a command's word"""
+    command, word = args.form or ("show", "FILE")
+    form = FORMS.get(command, {}).get(word)
+    if form is None:
+        known = ", ".join(f"{command} {word}" for command in FORMS for word in FORMS[command])
+        raise Note(1, f"--as: there is no file {word} of {command}, but there are: {known}")
+    data = read_file(args.file, form.number)
+    try:
+        count = sum(1 for _ in walk(data, form))
+    except Refusal as refusal:
+        where = f"{args.file}: file {form.number} at {refusal.at}"
+        return [f"{where}: {refusal.text} ({refusal.reason})\n"], 6
+    return [f"ok: {count} frames\n"] + (idle(data, command) if form is MESSAGES else []), 0
+
+
+def idle(data, command):
+    """A line for each frame of MESSAGES that is no message in the grammar, nor, for `light`, such a fraud claim."""
+    kinds, what = ("MB", "message and no claim") if command == "light" else ("M", "message")
+    lines = []
+    for i, (at, _, _) in enumerate(walk(data, MESSAGES)):
+        try:
+            read_frame(data, at, kinds)
+        except Refusal as refusal:
+            lines.append(f"frame {i} at {at} is no {what}: {refusal.text} ({refusal.reason})\n")
+    return lines
+
+
+def root(args):
+    """the data root of a file of one header"""
+    return [f"{header.data_root().hex()}\n" for _, _, header in judged(read_file(args.file, 0), HEADER)], 0
+
+
+def block(args):
+    """makes a block"""
+    return [frame(ord("V"), spell_block(json_word(args.json)))], 0
+
+
+def samples(args):
+    """makes requests for samples"""
+    return [frame(ord("Q"), spell_sample(*item)) for item in items(list_words(args.words), "request")], 0
+
+
+def namespaces(args):
+    """makes requests for namespaces"""
+    return [frame(ord("P"), namespace_bytes(*item)) for item in items(list_words(args.words), "request")], 0
+
+
+def messages(args):
+    """joins files of messages and fraud claims, each frame checked"""
+    form = MESSAGES if args.any else Form(0, True, "MB")
+    files = [read_file(name, i) for i, name in enumerate(args.files)]
+    for i, data in enumerate(files):
+        judged(data, form, i)
+    return files, 0
+
+
+def raw(args):
+    """makes a frame of any kind byte, as an ASCII character or two hexadecimal digits, and payload"""
+    is_char = len(args.kind) == 1 and args.kind.isascii()
+    kind = args.kind.encode() if is_char else hex_bytes(args.kind, "KIND")
+    if len(kind) != 1:
+        raise Note(1, f"KIND: {args.kind!r} isn't one character nor two hexadecimal digits")
+    return [frame(kind[0], hex_bytes(args.hex, "HEX"))], 0
+
+
+class Parser(argparse.ArgumentParser):
+    """A parser of words that answers status 1 where they are no command."""
+
+    def error(self, message):
+        raise Note(1, f"{self.format_usage().strip()}\n{message}")
+
+
+def parser():
+    """The words of each command."""
+    top = Parser(prog="frames.py", description=__doc__, formatter_class=argparse.RawDescriptionHelpFormatter)
+    commands = top.add_subparsers(metavar="COMMAND", required=True, dest="command")
+    out = argparse.ArgumentParser(add_help=False)
+    out.add_argument("-o", dest="output", metavar="FILE", help="where to write, else standard output")
+
+    def add(name, run, *words, makes=False):
+        command = commands.add_parser(name, description=run.__doc__, help=run.__doc__, parents=[out] if makes else [])
+        command.set_defaults(run=run)
+        for word in words:
+            command.add_argument(word, metavar=word.upper())
+        return command
+
+    add("show", show, "file")
+    add("json", show_json, "file")
+    form = {"dest": "form", "nargs": 2, "metavar": ("COMMAND", "WORD"), "help": "such as `check MESSAGES`"}
+    add("why", why, "file").add_argument("--as", **form)
+    add("root", root, "file")
+    add("block", block, "json", makes=True)
+    for name, run in (("samples", samples), ("namespaces", namespaces)):
+        add(name, run, makes=True).add_argument("words", nargs="+", metavar="LIST", help="words, or one JSON list")
+    joined = add("messages", messages, makes=True)
+    joined.add_argument("files", nargs="+", metavar="FILE")
+    joined.add_argument("--any", action="store_true", help="take frames of any kind and payload")
+    add("raw", raw, "kind", "hex", makes=True)
+    return top
+
+
+def write(pieces, out):
+    """Writes all pieces, of bytes or of text, and flushes."""
+    for piece in pieces:
+        out.write(piece.encode(errors="surrogateescape") if isinstance(piece, str) else piece)
+    out.flush()
+
+
+def main(words, out, err):
+    """Runs the command of the words on two streams, of bytes and of text; answers its status."""
+    try:
+        args = parser().parse_args(words)
+        pieces, status = args.run(args)
+        if getattr(args, "output", None) is None:
+            write(pieces, out)
+        else:
+            with open(args.output, "wb") as file:
+                write(pieces, file)
+        return status
+    except Note as note:
+        err.write(note.text + "\n")
+        return note.status
+    except OSError:  # of the output: those of the input are notes
+        err.write("cannot write\n")
+        return 4
+    except MemoryError:
+        err.write("out of memory\n")
+        return 5
+
+
+if __name__ == "__main__":
+    result = main(sys.argv[1:], sys.stdout.buffer, sys.stderr)
+    if result == 4:
+        os.dup2(os.open(os.devnull, os.O_WRONLY), sys.stdout.fileno())
+    sys.exit(result)
