@@ -226,6 +226,12 @@ def changed(data, at, bits=1):
 
 
 def files():
+    # The empty block's square, and a header that has the root of its first row alone.
+    empty = Grid(1, extend(1, square_of(1, [])))
+    first = frame("H", u16(1) + root(empty.leaves(ROW, 0)) + b"".join(bytes([b]) * 90 for b in (0, 7, 255)))
+    proved = empty.message(0, 0)
+    refused = [changed(proved, 521), frame("M", proved[5:522] + b"\0"), proved[:523] + bytes(90),
+               frame("M", u16(2) + proved[7:]), request(0, 0)]
     # The block of the file `block`, its square and the grid of its extension.
     two = square_of(2, [(name("0101"), b"\7"), (name("0102"), b"\7" * 479), (name("0104"), b"\7")])
     grid = Grid(2, extend(2, two))
@@ -234,6 +240,7 @@ def files():
     rows = [list(row) for row in grid.rows]
     rows[3][3] = changed(rows[3][3], 511)
     spoiled = Grid(2, rows)
+    accused = claim(ROW, 3, [spoiled.cell(3, c, COL) for c in range(2)])
     units = [b"the first transaction", b"a longer transaction " * 30]
     pays = [b"a payment for the first blob", b"a payment for the other two"]
     blobs = [(name("0202"), b"The first blob that came. " * 52), (name("0201"), b"The second blob."),
@@ -242,6 +249,9 @@ def files():
     sample = grid.message(1, 2, COL)
     low = grid.message(0, 0)
     made = {
+        "header": first,
+        "message": proved,
+        "messages": b"".join([proved] + refused),
         "block": block([(name("0101"), b"\7"), (name("0102"), b"\7" * 479), (name("0104"), b"\7")]),
         "samples": request(1, 2, COL),
         "quarter": b"".join(request(r, c) for r in range(2) for c in range(2)),
@@ -253,7 +263,7 @@ def files():
         "kinds/sample": sample,
         "kinds/answer": grid.answer(name("0102")),
         "kinds/absence": grid.answer(name("0103")),
-        "kinds/claim": claim(ROW, 3, [spoiled.cell(3, c, COL) for c in range(2)]),
+        "kinds/claim": accused,
         "kinds/missing": frame("K", u16(2) + u32(15) + b"".join(u16(r) + u16(c) for r, c in every if (r, c) != (1, 2))),
         "spoiled/header": spoiled.header(),
         "spoiled/messages": b"".join(spoiled.message(3, c, COL) for c in range(2)),
@@ -280,8 +290,7 @@ def files():
         "refused/answer-no-entries": answer_of(name("0102"), []),
         "refused/answer-other-share": changed(grid.answer(name("0102")), 100),
         "refused/claim-cell-missing": claim(ROW, 3, [spoiled.cell(3, 0, COL)]),
-        "refused/claim-other-share": changed(claim(ROW, 3, [spoiled.cell(3, c, COL) for c in range(2)]), 100),
-        "refused/claim-well-coded": claim(ROW, 3, [grid.cell(3, c, COL) for c in range(2)]),
+        "refused/claim-other-share": changed(accused, 100),
     }
     kinds = ["block", "kinds/square", "kinds/header", "kinds/sample", "kinds/answer", "kinds/absence", "kinds/claim",
              "kinds/missing", "samples", "namespaces"]
