@@ -107,7 +107,15 @@ fn claim(alloc: Global, grid: &Grid, first: u16, second: u16) -> Result<FraudCla
 {
     let mut cells = Vec::new(alloc);
     cells.push(message(alloc, grid, Cell { row: 3, col: first }, Axis::Col)?)?;
-    cells.push(message(alloc, grid, Cell { row: 3, col: second }, Axis::Col)?)?;
+    cells.push(message(
+        alloc,
+        grid,
+        Cell {
+            row: 3,
+            col: second,
+        },
+        Axis::Col,
+    )?)?;
     Ok(FraudClaim {
         axis: Axis::Row,
         index: 3,
