@@ -11,7 +11,7 @@ use Rattle.axis_roots.specs.declared.message.proved.Proved.{Proved}
 use Rattle.axis_roots.specs.Openings.{IsProved}
 use Rattle.axis_roots.specs.Proved.{kept_message}
 use Rattle.repair_queue.specs.Closures.{Covers}
-use Rattle.repair_queue.proofs.MemberLemmas.{contains_cons, contains_tail}
+use Rattle.namespace_id.proofs.MemberLemmas.{contains_cons, contains_tail}
 use Rattle.da_wire.specs.Reading.{Raw}
 use Rattle.da_wire.specs.Frames.{message_in}
 use Rattle.da_cli.specs.commands.Check.{finding_of, is_ok}
