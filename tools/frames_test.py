@@ -125,10 +125,15 @@ EACH = {
 EACH_FRAME = {kind: frame(kind, payload) for kind, payload in EACH.items()}
 
 
+PARSER = frames.parser()
+
+
 def run(*words):
     """The status, the output and the note of frames.py on words."""
     out, err = io.BytesIO(), io.StringIO()
-    status = frames.main([str(word) for word in words], out, err)
+    # One parser for all runs: it takes longer to make than most files to read.
+    with mock.patch.object(frames, "parser", lambda: PARSER):
+        status = frames.main([str(word) for word in words], out, err)
     return status, out.getvalue(), err.getvalue()
 
 
