@@ -368,8 +368,8 @@ class Block(namedtuple("Block", "width units pay blobs")):
         return dict(lengths, width=self.width, blobs=[blob.members() for blob in self.blobs])
 
 
-KINDS = (Header, Square, Message, Answer, Claim, Missing, Clash, Sample, Request, Block)
-KINDS = {kind.letter: kind for kind in KINDS}
+ALL = (Header, Square, Message, Answer, Claim, Missing, Clash, Sample, Request, Block)
+KINDS = {kind.letter: kind for kind in ALL}
 ALL_KINDS = "".join(KINDS)
 
 # The form of a file: its number among the files of its command, whether it is a list, and the kinds of its frames, None

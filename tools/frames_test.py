@@ -9,6 +9,7 @@ import hashlib
 import io
 import json
 import os
+import random
 import re
 import subprocess
 import sys
@@ -125,10 +126,15 @@ EACH = {
 EACH_FRAME = {kind: frame(kind, payload) for kind, payload in EACH.items()}
 
 
+PARSER = frames.parser()
+
+
 def run(*words):
     """The status, the output and the note of frames.py on words."""
     out, err = io.BytesIO(), io.StringIO()
-    status = frames.main([str(word) for word in words], out, err)
+    # One parser for all runs: it takes longer to make than most files to read.
+    with mock.patch.object(frames, "parser", lambda: PARSER):
+        status = frames.main([str(word) for word in words], out, err)
     return status, out.getvalue(), err.getvalue()
 
 
@@ -682,6 +688,15 @@ class Program(Case):
         self.same_text(frame("K", missing(128, *[(row, col) for row in range(256) for col in range(256)])))
         self.same_text(frame("V", block(0xFFFF, [b""] * 1000, [b"a"] * 1000, [(PARITY, b"")] * 1000)))
 
+    def test_limit(self):
+        # The longest payload, and one of a byte more, in a file that has all of its bytes.
+        words = [os.path.join(EXAMPLES, "header"), None]
+        for size in (frames.PAYLOAD_LIMIT, frames.PAYLOAD_LIMIT + 1):
+            self.same_place(EACH_FRAME["M"] + frame("M", bytes(size)), "check", words, "MESSAGES")
+        most = self.made("block", json.dumps({"units": [{"hex": "ab", "times": frames.PAYLOAD_LIMIT - 18}]}))
+        for data in (most, frame("V", most[5:] + b"\x00"), most + most[:9]):
+            self.same_text(data)
+
     def test_every_form(self):
         # Each kind, and some bytes that are no frame, in the place of each word.
         empty = [kind + bytes(4) for kind in (b"Z", b"M", b"H")]
@@ -709,6 +724,19 @@ class Program(Case):
         for at in places(data):
             for other in damaged(data, at):
                 self.same_text(other)
+
+    def test_other_payloads(self):
+        # Payloads from which bytes are taken or into which bytes are put, in frames of the right length.
+        draw = random.Random(7)
+        for _ in range(150):
+            kind = draw.choice(list(EACH))
+            payload = EACH[kind]
+            for _ in range(draw.randrange(1, 3)):
+                at = draw.choice(places(frame(kind, EACH[kind]))[3:]) - 5
+                again = payload[at : at + draw.choice([1, 2, 90, 512, 608])]
+                more = draw.choice([b"", b"\x00", b"\x01", bytes(4), again])
+                payload = payload[:at] + more + payload[at + draw.choice([0, 0, 1, 2, 4, 90, 512]) :]
+            self.same_text(EACH_FRAME["P"] + frame(kind, payload) + EACH_FRAME["Q"])
 
     def test_damaged_words(self):
         for command, word, path, words in self.files():
