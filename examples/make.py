@@ -311,6 +311,7 @@ def main(word):
                 file.write(data)
 
 
-if len(sys.argv) != 2:
-    sys.exit("usage: make.py DIR, make.py many or make.py gap")
-main(sys.argv[1])
+if __name__ == "__main__":
+    if len(sys.argv) != 2:
+        sys.exit("usage: make.py DIR, make.py many or make.py gap")
+    main(sys.argv[1])

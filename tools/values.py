@@ -1,0 +1,268 @@
+#!/usr/bin/env python3
+"""Makes the values that tests of the crates and the docs take from another program, and compares them.
+
+    values.py [DIR]    DIR is the repository, where nothing is said the one that this file stands in
+
+The values are computed here and by examples/make.py, which were written from docs/RULES.md and docs/FORMATS.md; nothing
+of it is proved. Each is looked up in the source that has it. The last line is 'N passed, M failed'.
+"""
+
+import importlib.util
+import os
+import re
+import struct
+import sys
+from hashlib import sha256
+
+TOP = os.path.dirname(os.path.dirname(os.path.abspath(__file__)))
+
+
+def load(name, path):
+    spec = importlib.util.spec_from_file_location(name, path)
+    module = importlib.util.module_from_spec(spec)
+    sys.dont_write_bytecode = True
+    spec.loader.exec_module(module)
+    return module
+
+
+make = load("make", os.path.join(TOP, "examples", "make.py"))
+
+
+# ---- ChaCha20 (RFC 8439, 2.3), cells and blocks (docs/FORMATS.md, "Drawn cells", "Generated blocks")
+
+
+def quarter(x, a, b, c, d):
+    for to, by, other, turn in ((a, b, d, 16), (c, d, b, 12), (a, b, d, 8), (c, d, b, 7)):
+        x[to] = (x[to] + x[by]) % 2**32
+        turned = x[other] ^ x[to]
+        x[other] = (turned << turn | turned >> 32 - turn) % 2**32
+
+
+def chacha_block(key, tail):
+    start = [0x61707865, 0x3320646E, 0x79622D32, 0x6B206574, *struct.unpack("<8I", key), *tail]
+    x = list(start)
+    for _ in range(10):
+        for i in range(4):
+            quarter(x, i, i + 4, i + 8, i + 12)
+        for i in range(4):
+            quarter(x, i, (i + 1) % 4 + 4, (i + 2) % 4 + 8, (i + 3) % 4 + 12)
+    return [(a + b) % 2**32 for a, b in zip(x, start)]
+
+
+def words(key):
+    counter = 0
+    while True:
+        yield from chacha_block(key, [counter % 2**32, counter >> 32, 0, 0])
+        counter += 1
+
+
+def drawn(key, k, count):
+    left, made = list(range(4 * k * k)), words(key)
+    for _ in range(count):
+        number = next(made) + (next(made) << 32)
+        yield divmod(left.pop(number % len(left)), 2 * k)
+
+
+def generated(number, k):
+    """The units, the pay units and the blobs of a number."""
+    made = words(struct.pack("<Q", number) + bytes(24))
+
+    def some(size):
+        return b"".join(struct.pack("<I", next(made)) for _ in range((size + 3) // 4))[:size]
+
+    units = [[some(next(made) % 400 + 1)] if k >= 2 else [] for _ in range(2)]
+    blobs = []
+    for _ in range(max(k // 2, 1)):
+        name = bytes(19) + b"\1" + bytes(8) + bytes([next(made) % 16])
+        shares = next(made) % k + 1
+        blobs.append((name, some(478 + 482 * (shares - 1) - next(made) % 256)))
+    return units[0], units[1], blobs
+
+
+# ---- the code (docs/RULES.md, "The code")
+
+
+def s(i, x):
+    for _ in range(i):
+        x = make.times(x, x) ^ x
+    return x
+
+
+def at(coefficients, point):
+    """The value of coefficients of the polynomials X_j at a point."""
+    total = 0
+    for j, coefficient in enumerate(coefficients):
+        for i in range(8):
+            if j >> i & 1:
+                coefficient = make.times(coefficient, s(i, point))
+        total ^= coefficient
+    return total
+
+
+def derived(coefficients):
+    """The coefficients of the derivative: each s_i has the derivative 1."""
+    total = [0] * len(coefficients)
+    for j, coefficient in enumerate(coefficients):
+        for i in range(8):
+            if j >> i & 1:
+                total[j ^ 1 << i] ^= coefficient
+    return total
+
+
+def line(k, known):
+    """The codeword of one byte column through k bytes at k positions."""
+    return [share[0] for share in make.codeword(k, {i: bytes([byte]) * 512 for i, byte in known.items()})]
+
+
+# ---- where the values stand
+
+
+class Values:
+    def __init__(self, top):
+        self.top, self.passed, self.failed = top, 0, 0
+
+    def read(self, path):
+        with open(os.path.join(self.top, path), encoding="utf-8") as file:
+            return file.read()
+
+    def same(self, what, found, want):
+        if found == want:
+            self.passed += 1
+        else:
+            self.failed += 1
+            print(f"FAILED {what}: {found!r} stands there, {want!r} was made")
+
+    def constant(self, path, name, want):
+        """A constant array of bytes, or a text of their hexadecimal digits."""
+        found = re.search(rf"const {name}: [^=]*= (\[[^\]]*\]|\"[^\"]*\")\s*;", self.read(path))
+        text = found.group(1) if found else ""
+        hexes = "".join(re.findall(r"0x([0-9a-f]{2})", text)) or text.strip('"')
+        self.same(f"{path}, {name}", hexes, want.hex())
+
+    def stands(self, path, what, text):
+        """A text that stands in a file, whatever the blanks in it."""
+        blank = re.compile(r"\s+")
+        self.same(f"{path}, {what}", blank.sub("", text) in blank.sub("", self.read(path)), True)
+
+
+def digests_of_tests(values):
+    tests = "crates/da/src/tests/"
+    empty = make.Grid(1, make.extend(1, make.square_of(1, [])))
+    roots = [make.root(empty.leaves(axis, i)) for axis in (make.ROW, make.COL) for i in range(2)]
+    values.constant(tests + "frames.rt", "ROOT", roots[0][58:])
+    values.constant(tests + "frames.rt", "PARITY_ROOT", roots[1][58:])
+    values.constant(tests + "frames.rt", "PARITY_LEAF", empty.leaves(make.ROW, 0)[1][58:])
+    values.constant(tests + "shown.rt", "FIRST", roots[0][58:])
+    values.constant(tests + "shown.rt", "SECOND", roots[1][58:])
+    values.constant(tests + "shown.rt", "HASH", sha256(empty.rows[0][0]).digest())
+    values.constant(tests + "shown.rt", "DATA_ROOT", data_root(roots))
+    values.constant("crates/data_header/src/proving.rt", "ROOT", data_root([bytes([i]) * 90 for i in range(1, 5)]))
+
+    three = three_blobs()
+    values.constant(tests + "serving.rt", "LEAF", three.leaves(make.COL, 2)[0][58:])
+    values.constant(tests + "serving.rt", "NODE", make.root(three.leaves(make.COL, 2)[2:])[58:])
+    values.constant("crates/light_node/src/tests.rt", "DATA_ROOT", data_root(roots_of(three)))
+
+    falling = make.Grid(2, make.extend(2, [make.name(end) + bytes(483) for end in ("0102", "0101", "0103", "0104")]))
+    row = falling.leaves(make.ROW, 0)
+    wanted = roots_of(falling) + [row[1], make.root(row[2:])]
+    digest = r"\(\s*(PARITY|0x\w{4}),\s*(PARITY|0x\w{4}),\s*\[([^\]]*)\],\s*\)"
+    found = re.findall(digest, values.read(tests + "falling.rt"))
+    ends = lambda name: "PARITY" if name == make.PARITY else "0x" + name[27:].hex()
+    for i, (digest, have) in enumerate(zip(wanted, found)):
+        hexes = "".join(re.findall(r"0x(\w{2})", have[2]))
+        want = (ends(digest[:29]), ends(digest[29:58]), digest[58:].hex())
+        values.same(f"{tests}falling.rt, digest {i}", (have[0], have[1], hexes), want)
+    values.same(f"{tests}falling.rt, how many", len(found), len(wanted))
+
+
+def three_blobs():
+    """The extension of the square of the tests: blobs of 1, 479 and 1 bytes."""
+    long, byte = b"", 63
+    for number in range(478):
+        long += bytes([byte])
+        byte = (byte + (8 if byte > 248 or number == 250 else 7)) % 256
+    blobs = [(make.name("0101"), b"\x20"), (make.name("0102"), long + b"\x5f"), (make.name("0104"), b"\x5e")]
+    return make.Grid(2, make.extend(2, make.square_of(2, blobs)))
+
+
+def roots_of(grid):
+    return [make.root(grid.leaves(axis, i)) for axis in (make.ROW, make.COL) for i in range(2 * grid.k)]
+
+
+def data_root(roots):
+    level = [sha256(b"\0" + root).digest() for root in roots]
+    while len(level) > 1:
+        level = [sha256(b"\1" + level[i] + level[i + 1]).digest() for i in range(0, len(level), 2)]
+    return level[0]
+
+
+def draws_and_blocks(values):
+    vector = chacha_block(bytes(range(32)), [1, 0x09000000, 0x4A000000, 0])
+    values.same("RFC 8439, 2.3.2", (hex(vector[0]), hex(vector[15])), ("0xe4e7f110", "0x4e3c50a2"))
+    path = "crates/sampling/src/draws/tests.rt"
+    cells = lambda some: ", ".join(f"cell({row}, {col})" for row, col in some)
+    for name, key in (("counting", bytes(range(32))), ("zeros", bytes(32)), ("greatest_bytes", b"\xff" * 32)):
+        least, some, most = (list(drawn(key, k, count)) for k, count in ((1, 4), (4, 4), (128, 4096)))
+        text = f"least: [{cells(least)}], some: [{cells(some)}], most: [{cells(most[:3])}], last: {cells(most[-1:])},"
+        values.stands(path, name, f"let want = Drawn {{ {text} }};")
+    path = "crates/sampling/src/generating/tests.rt"
+
+    def shape(data):
+        some = lambda part: ", ".join(f"0x{byte:02x}" for byte in part)
+        return f"Shape({len(data)}, [{some(data[:4])}], [{some(data[-2:])}])"
+
+    units, pays, blobs = generated(7, 4)
+    for what, data in (("unit", units[0]), ("pay_unit", pays[0]), ("one", blobs[0][1]), ("other", blobs[1][1])):
+        values.stands(path, what, f"let {what} = {shape(data)};")
+    values.stands(path, "a namespace", f"&second.namespace.0[26..], {list(blobs[1][0][26:])}")
+    (name, data), = generated(7, 1)[2]
+    values.stands(path, "the least block", f"let shape = {shape(data)};")
+    values.stands(path, "its namespace", f"&blob.namespace.0[18..], {list(name[18:])}")
+
+    units, pays, blobs = generated(7, 2)
+    grid = make.Grid(2, make.extend(2, make.square_of(2, blobs, units, pays)))
+    for path in ("README.md", "docs/TUTORIAL.md"):
+        values.stands(path, "demo 7 2", f"root {data_root(roots_of(grid)).hex()}")
+
+
+def code_of_tests(values):
+    path = "crates/gf_cantor/src/field.rt"
+    some = [(a, b, make.times(a, b)) for a, b in ((2, 2), (2, 3), (4, 4), (2, 4), (0, 9))]
+    values.stands(path, "products", "[" + ", ".join(map(str, some)) + "]")
+    values.stands(path, "an inverse", f"inv(2), {make.over(1, 2)}")
+    values.stands(path, "a row", f"acc[510], {1 ^ make.times(2, 4)}")
+    values.stands(path, "its end", f"acc[511], {9 ^ make.times(2, 255)}")
+    powers = [(i, make.POWER[i]) for i in (0, 1, 254)]
+    values.stands("crates/gf_cantor/src/tables.rt", "powers", "[" + ", ".join(map(str, powers)) + "]")
+
+    path = "crates/leopard_code/src/coding.rt"
+    pair = line(2, {0: 0, 1: 1})
+    values.stands(path, "two recovery shares", f"two, [share({pair[2]}), share({pair[3]})]")
+    wide = line(4, {0: 0, 1: 0, 2: 0, 3: 1})
+    values.stands(path, "four recovery shares", "four, [" + ", ".join(f"share({it})" for it in wide[4:]) + "]")
+    values.stands(path, "a codeword", f"let bytes = {wide};")
+    values.same("through any four of eight", line(4, {i: wide[i] for i in (1, 3, 4, 7)}), wide)
+
+    path = "crates/lch_fft/src/transforms.rt"
+    for shift, name in ((0, "first"), (4, "second")):
+        seen = [at([0, 0, 0, 1], shift + i) for i in range(4)]
+        values.stands(path, f"values at {shift}", f"{name}, shares({seen})")
+    back = [9, 2, 6, 1]
+    values.same("coefficients", [at(back, 4 + i) for i in range(4)], [0, 0, 0, 1])
+    values.stands(path, "coefficients", f"four, shares({back})")
+    values.stands(path, "values from coefficients", f"four, shares({[at(back, i) for i in range(4)]})")
+    values.stands("crates/lch_fft/src/derivatives.rt", "a derivative", f"four, shares({derived([1, 2, 3, 4])})")
+
+
+def main(words_given):
+    values = Values(words_given[0] if words_given else TOP)
+    digests_of_tests(values)
+    draws_and_blocks(values)
+    code_of_tests(values)
+    print(f"{values.passed} passed, {values.failed} failed")
+    return values.failed > 0
+
+
+if __name__ == "__main__":
+    sys.exit(main(sys.argv[1:]))
