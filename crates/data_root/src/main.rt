@@ -2,18 +2,16 @@
 //! program of one's own stands on these crates.
 #![tactic(auto)]
 
-ghost use Rattle.std.specs.Prelude.{◌≡◌, [], ◌∷◌, IfOk, Ok};
+ghost use Rattle.std.specs.Prelude.{◌≡◌, IfOk, IfSome, IsNone};
 ghost use Rattle.data_header.specs.Headers.{Roots};
 ghost use Rattle.data_header.specs.DataRoots.{data_root_of};
 ghost use Rattle.square_layout.specs.Layout.{square_of};
-ghost use Rattle.axis_roots.specs.Grids.{IsHeaderOf};
-ghost use Rattle.da_wire.specs.Reading.{only_of};
-ghost use Rattle.da_wire.specs.declared.frames.Frame.TheVariants as FrameOf;
+ghost use Rattle.square_layout.specs.Refusals.{layout_refusal, Answers};
+ghost use Rattle.axis_roots.specs.Grids.{IsHeaderOf, HasNoHeader};
 
 use axis_roots::{Grid, grid_laws, header_of};
 use da_wire::{Frame, FrameError, read_only};
 use data_header::data_root;
-use namespace_id::NoMemory;
 use square_layout::{Block, LayError, lay};
 use std::alloc::{AllocError, Global};
 use std::process::ExitCode;
@@ -34,33 +32,26 @@ enum Failure {
     #[error("the square has no header")]
     NoHeader,
     #[error(transparent)]
-    Memory(#[from] NoMemory),
-    #[error(transparent)]
     Text(#[from(alloc)] AllocError),
 }
 
-/// The data root of a block: that of the header of its square.
-fn root_of(alloc: Global, block: &Block) -> Result<[u8; 32], Failure>
-    ensures { IfOk result (λ root. (header : Roots) × IsHeaderOf header (square_of block.now) ×
-        (root ≡ data_root_of header)) }
+/// The data root of a block: that of the header of its square; none where the square has no header.
+/// Refuses what `lay` refuses.
+fn root_of(alloc: Global, block: &Block) -> Result<Option<[u8; 32]>, LayError>
+    ensures first { Answers result (layout_refusal block.now) }
+    ensures root { IfOk result (λ found. IfSome found (λ root. (header : Roots) ×
+        IsHeaderOf header (square_of block.now) × (root ≡ data_root_of header))) }
+    ensures none { IfOk result (λ found. IsNone found → HasNoHeader (square_of block.now)) }
 {
     grid_laws();
     let square = lay(alloc, block)?;
-    let grid = Grid::extend(alloc, &square)?;
-    let Some(header) = header_of(alloc, &grid)? else {
-        return Err(Failure::NoHeader);
+    let Ok(grid) = Grid::extend(alloc, &square) else {
+        return Err(LayError::NoMemory);
     };
-    Ok(data_root(&header))
-}
-
-/// The block that bytes are.
-fn block_in(alloc: Global, bytes: &[u8]) -> Result<Block, Failure>
-    ensures { IfOk result (λ block. only_of bytes.now (86 ∷ []) ≡ Ok (FrameOf.Block block)) }
-{
-    match read_only(alloc, bytes, b"V")? {
-        Frame::Block(block) => Ok(block),
-        // Never taken: the kind was asked for.
-        _ => Err(Failure::Usage),
+    match header_of(alloc, &grid) {
+        Ok(Some(header)) => Ok(Some(data_root(&header))),
+        Ok(None) => Ok(None),
+        Err(_) => Err(LayError::NoMemory),
     }
 }
 
@@ -69,8 +60,14 @@ fn print_root(rt: &HostRuntime) -> Result<(), Failure> {
     let Some(name) = env::args(rt)?.nth(1) else {
         return Err(Failure::Usage);
     };
-    let block = block_in(rt.alloc(), &fs::read(rt, name.as_str())?)?;
-    let root = root_of(rt.alloc(), &block)?;
+    let bytes = fs::read(rt, name.as_str())?;
+    // Another kind never comes: this one is asked for.
+    let Frame::Block(block) = read_only(rt.alloc(), &bytes, b"V")? else {
+        return Err(Failure::Usage);
+    };
+    let Some(root) = root_of(rt.alloc(), &block)? else {
+        return Err(Failure::NoHeader);
+    };
     println!(rt; "{}", hex::encode(rt.alloc(), root.as_slice())?)?;
     Ok(())
 }
