@@ -220,10 +220,11 @@ def draws_and_blocks(values):
     values.stands(path, "the least block", f"let shape = {shape(data)};")
     values.stands(path, "its namespace", f"&blob.namespace.0[18..], {list(name[18:])}")
 
-    units, pays, blobs = generated(7, 2)
-    grid = make.Grid(2, make.extend(2, make.square_of(2, blobs, units, pays)))
-    for path in ("README.md", "docs/TUTORIAL.md"):
-        values.stands(path, "demo 7 2", f"root {data_root(roots_of(grid)).hex()}")
+    for number, k, places in ((7, 2, ("README.md", "docs/TUTORIAL.md", "docs/da.1")), (3, 16, ("docs/TUTORIAL.md",))):
+        units, pays, blobs = generated(number, k)
+        grid = make.Grid(k, make.extend(k, make.square_of(k, blobs, units, pays)))
+        for path in places:
+            values.stands(path, f"demo {number} {k}", f"root {data_root(roots_of(grid)).hex()}")
 
 
 def code_of_tests(values):
