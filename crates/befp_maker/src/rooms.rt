@@ -162,8 +162,8 @@ impl AxisRoom {
         &self.shares
     }
 
-    /// Takes the shares of a line of 2k shares, of which the tree is not.
-    pub(crate) fn hold(&mut self, line: &[Share])
+    /// Takes the shares of a line of 2k shares in place of its own. It takes no memory.
+    pub fn hold(&mut self, line: &[Share])
         requires { length line.now ≡ 2 * self.old.k }
         ensures { self.new ≡ record { k = self.old.k; shares = line.now } }
     {

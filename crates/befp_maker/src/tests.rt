@@ -163,6 +163,9 @@ fn cell_against_a_row(rt: HostRuntime) -> Result<(), Fail> {
             let other = cell_of(alloc, &header, 8, Cell { row: 0, col: 0 }, Axis::Col)?;
             let proof = against(alloc, &header, &room, other)?;
             assert_eq!(rt; proof.cells.len(), 2);
+            // The first other position of the row.
+            let beside = proof.cells[1].message().cell;
+            assert_eq!(rt; beside, Cell { row: 0, col: 1 });
             Ok(())
         }
     }

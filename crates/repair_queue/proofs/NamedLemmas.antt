@@ -76,3 +76,12 @@ first_named header square own (m ∷ ms) sized =
         ]
       ]
     ]
+
+-- where none of them names a collision with the square, all proved messages show the extension
+pub all_unnamed : (header : Roots) (square : SquareShares) (own : IsHeaderOf header square) (ms : List Message)
+    → ((m : Message) → Contains ms m → IsProved header m → NamesClash m square → ⊥)
+    → (m : Message) → Contains ms m → IsProved header m → ShowsGrid header own.grid m
+all_unnamed header square own ms none m at proved = elim (accepted_own header m proved square own) [
+  | inl shows ↦ shows_grid header square own m shows
+  | inr names ↦ absurd (none m at proved names)
+]

@@ -36,7 +36,7 @@ use Rattle.repair_queue.proofs.ClosureLemmas.{fact_least, half_fact}
 use Rattle.repair_queue.proofs.SettledLemmas.{fits_settles, cells_fit}
 use Rattle.repair_queue.proofs.FraudLemmas.{fraud_unsettled}
 use Rattle.repair_queue.proofs.VerdictLemmas.{original_parts, original_inside, own_width, one_square}
-use Rattle.repair_queue.proofs.NamedLemmas.{ShowsGrid, first_named}
+use Rattle.repair_queue.proofs.NamedLemmas.{ShowsGrid, first_named, all_unnamed}
 
 -- ---- a part and itself
 
@@ -155,3 +155,12 @@ own_verdict header square ms own sized v verdict = elim (first_named header squa
   | inl shows ↦ inl (own_answer header ms square own shows v verdict)
   | inr named ↦ inr named
 ]
+
+-- where no proved message and the square name one, it is the square with all cells recoverable, and else the missing cells
+pub own_unnamed : (header : Roots) (square : SquareShares) (ms : List Message) → IsHeaderOf header square
+    → ((m : Message) → Contains ms m → IsProved header m → NamesClash m square → ⊥)
+    → IsSettled header ms × (((cell : Cell) → is_in_square header.k cell ≡ true → Half header ms cell) → IsVerdict header ms (whole square))
+    × ((v : VerdictParts) → IsVerdict header ms v → IsOwnVerdict square v)
+own_unnamed header square ms own none =
+    let shows : (m : Message) → Contains ms m → IsProved header m → ShowsGrid header own.grid m = all_unnamed header square own ms none in
+    (own_settled header ms own.grid (own_roots header square own) shows, own_whole header ms square own shows, own_answer header ms square own shows)

@@ -3,20 +3,11 @@ use Rattle.std.proofs.Common.{◌≡◌, ◌∙◌, ℕ, zero, suc, ◌+◌, ◌
 use Rattle.std.specs.List.{Contains}
 use Rattle.std.proofs.lemmas.Bool.{cases_eq}
 use Rattle.repair_queue.specs.Closures.{AreChosen}
+pub use Rattle.repair_queue.specs.Counting.{one_if, count_from}
 use Rattle.namespace_id.proofs.MemberLemmas.{contains_head, contains_tail, contains_none, contains_cons}
 use Rattle.repair_queue.proofs.AscentLemmas.{Ascends, ascends_within, positions_ascend, ascend_positions}
 
 -- ---- counts
-
--- 1 where it passes
-abbrev pub one_if : Bool → ℕ
-one_if true = 1
-one_if false = 0
-
--- how many of the n numbers from the first on pass
-unfoldable pub count_from : (ℕ → Bool) → ℕ → ℕ → ℕ
-count_from f first zero = 0
-count_from f first (suc n) = one_if (f first) + count_from f (suc first) n
 
 -- the first k of them that pass
 unfoldable pub first_passing : (ℕ → Bool) → ℕ → ℕ → ℕ → List ℕ

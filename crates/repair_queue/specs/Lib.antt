@@ -7,3 +7,13 @@ pub mod Repairs
 pub mod Lines
 pub mod Steps
 pub mod Answers
+pub mod Counting
+pub mod Pools
+pub mod Counts
+pub mod Boards
+pub mod Tools
+pub mod Judging
+pub mod Keeping
+pub mod Moves
+pub mod Sessions
+pub mod OpenBoards

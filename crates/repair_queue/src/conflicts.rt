@@ -10,41 +10,16 @@ ghost use Rattle.axis_roots.specs.Own.{opened_by};
 ghost use Rattle.axis_roots.specs.Lines.{cell_on, entry};
 ghost use Rattle.befp_maker.specs.Conflicts.{IsLineOf, IsAgainst};
 ghost use Rattle.repair_queue.specs.Closures.{Fact};
-ghost use Rattle.repair_queue.specs.Slots.{slot_of, flag_of, AreSlots};
 ghost use Rattle.repair_queue.specs.Lines.{AreFacts};
-ghost use Rattle.repair_queue.specs.Repairs.{Shows, IsEnd};
-ghost use Rattle.repair_queue.specs.Steps.{AreBuffers, IsSpare, AreGood};
+ghost use Rattle.repair_queue.specs.Repairs.{IsEnd};
+ghost use Rattle.repair_queue.specs.Steps.{AreBuffers, IsSpare};
 
 use crate::ending::{Buffers, Ended};
-use crate::slots::{Slots, held};
-use axis_roots::{Message, Proved, cell_on, position};
+use axis_roots::{Message, Proved, position};
 use befp_maker::from_conflict;
 use data_header::Header;
 use hash_clash::{Clash, Opening, clash_paths};
-use namespace_id::{Axis, Share, leaf_namespace};
-
-/// Copies the shares that slots show along a decided row or column into the buffers.
-pub(crate) fn read_line(
-    buffers: &mut Buffers,
-    slots: &Slots,
-    header: &Header,
-    axis: Axis,
-    index: u16,
-)
-    requires buffers { AreBuffers header.now.k buffers.old }
-    requires good { AreGood header.now slots.now }
-    requires index { index < 2 * header.now.k }
-    requires decided { flag_of slots.now axis index ≡ true }
-    ensures buffers { AreBuffers header.now.k buffers.new }
-    ensures line { IsLineOf header.now axis index buffers.new.line.items }
-    ensures shown { (pos : ℕ) → pos < 2 * header.now.k →
-        Shows (slot_of slots.now axis (cell_on axis index pos)) (entry buffers.new.line.items pos) }
-{
-    for pos in 0..2 * header.k {
-        let kept = held(slots, axis, cell_on(axis, index, pos)).unwrap();
-        buffers.line[pos as usize] = kept.message().share;
-    }
-}
+use namespace_id::{Axis, leaf_namespace};
 
 /// Names what is wrong where a sample shows another share than the line of its row or its column that the buffers
 /// hold, which has the header's root.

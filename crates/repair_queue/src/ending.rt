@@ -11,16 +11,10 @@ use namespace_id::{NoMemory, SHARE_SIZE, Share};
 use std::alloc::Global;
 
 /// What ends a repair before all is decided.
+#[derive(Drop)]
 pub(crate) enum Ended {
     Fraud(FraudProof),
     Clash(Clash),
-}
-
-/// What comes of a step.
-pub(crate) enum Step {
-    /// The repair goes on; the list for messages, with nothing in it, comes back.
-    Open(Vec<Proved>),
-    End(Ended),
 }
 
 /// Buffers for the steps of a repair of a square of width k.

@@ -6,7 +6,7 @@ ghost use Rattle.std.specs.List.{AllByRecursion, Contains};
 ghost use Rattle.namespace_id.specs.declared.cells.Cell.{Cell};
 ghost use Rattle.namespace_id.specs.declared.cells.Axis.{Axis};
 ghost use Rattle.namespace_id.specs.declared.shares.Share.{Share};
-ghost use Rattle.namespace_id.specs.Cells.{is_in_square, is_original, CellList};
+ghost use Rattle.namespace_id.specs.Cells.{is_width, is_in_square, is_original, all_cells, CellList};
 ghost use Rattle.leopard_code.specs.Codewords.{IsCodeword};
 ghost use Rattle.data_header.specs.Headers.{Roots, AreRoots};
 ghost use Rattle.square_layout.specs.Blocks.{SquareShares, IsSquare};
@@ -126,6 +126,11 @@ pub fn verdict_laws()
         IsVerdict header ms (missing cells) → IsVerdict header ms (missing others) →
         cells ≡ others }
 
+    // Where no message is proved, all cells are missing, whatever the header.
+    ensures nothing { (header : Roots) (ms : List Message) → is_width header.k ≡ true →
+        ((m : Message) → Contains ms m → IsProved header m → ⊥) →
+        IsVerdict header ms (missing (record { k = header.k; list = all_cells header.k })) }
+
     // Where all cells are recoverable and the list is settled, there is a whole square; and the square
     // that the facts hold is one: the header is its own.
     ensures some_square { (header : Roots) (ms : List Message) → AreRoots header →
@@ -161,4 +166,15 @@ pub fn verdict_laws()
         IsHeaderOf header square → AllByRecursion IsMessage ms → (verdict : VerdictParts) →
         IsVerdict header ms verdict → IsOwnVerdict square verdict
         ⊎ ((m : Message) × Contains ms m × IsProved header m × NamesClash m square) }
+
+    // Where no proved message and the square name one, the list is settled; with all cells recoverable
+    // the square is an answer; and each answer is the square or missing cells. Nothing is asked of
+    // messages that aren't proved.
+    ensures own_unnamed { (header : Roots) (square : SquareShares) (ms : List Message) →
+        IsHeaderOf header square →
+        ((m : Message) → Contains ms m → IsProved header m → NamesClash m square → ⊥) →
+        IsSettled header ms
+        × (((cell : Cell) → is_in_square header.k cell ≡ true → Half header ms cell) →
+        IsVerdict header ms (whole square))
+        × ((verdict : VerdictParts) → IsVerdict header ms verdict → IsOwnVerdict square verdict) }
 {}

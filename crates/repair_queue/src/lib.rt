@@ -6,17 +6,28 @@
 //! the header, `verdict_laws` on the answers.
 #![tactic(auto)]
 
-mod answering;
+mod boards;
 mod conflicts;
-mod deciding;
+mod counts;
 mod ending;
+mod entering;
+mod fed;
+mod gathering;
+mod judging;
+mod keeping;
 mod laws;
+mod making;
+mod marks;
+mod pools;
 mod repairing;
-mod scanning;
+mod rooting;
+mod sessions;
 mod slots;
 mod taking;
+mod tools;
 mod verdict;
 
 pub use laws::{closure_laws, settled_laws, verdict_laws};
 pub use repairing::repair_list;
+pub use fed::{Session, SessionState};
 pub use verdict::Verdict;

@@ -1,6 +1,6 @@
 //! Repair of a whole square.
 
-ghost use Rattle.std.specs.Prelude.{◌≡◌, ◌⊎◌, List, IfOk, map};
+ghost use Rattle.std.specs.Prelude.{◌≡◌, ◌⊎◌, ◌++◌, List, IfOk, map};
 ghost use Rattle.std.specs.List.{AllByRecursion};
 ghost use Rattle.square_layout.specs.Blocks.{SquareShares};
 ghost use Rattle.axis_roots.specs.declared.message.messages.Message.{Message as Sent};
@@ -8,47 +8,27 @@ ghost use Rattle.axis_roots.specs.Proved.{IsUnder, kept_message};
 ghost use Rattle.axis_roots.specs.Grids.{IsHeaderOf};
 ghost use Rattle.repair_queue.specs.Closures.{Covers};
 ghost use Rattle.repair_queue.specs.Verdicts.{VerdictParts, IsVerdict, IsOwnVerdict, AreAlike};
-ghost use Rattle.repair_queue.specs.Steps.{AreBuffers, IsSpare, AreGood, RepairsAll};
-ghost use Rattle.repair_queue.specs.Answers.{parts_of, EndsAs, SomeNames};
+ghost use Rattle.repair_queue.specs.Answers.{parts_of, SomeNames};
+ghost use Rattle.repair_queue.specs.Sessions.{SessionStands, IsHeldSession};
 
 use crate::Verdict;
-use crate::answering::answer;
-use crate::ending::{Buffers, Ended, Step};
-use crate::scanning::decide_all;
-use crate::slots::Slots;
-use crate::taking::take_all;
+use crate::fed::Session;
 use axis_roots::Proved;
 use data_header::Header;
 use namespace_id::NoMemory;
 use std::alloc::Global;
 
-/// The answer that ends a repair early.
-fn verdict_of(ended: Ended) -> Verdict
-    ensures { EndsAs ended result }
+/// Feeds a session with the samples of a list, in their order.
+fn feed_list(session: &mut Session, messages: Vec<Proved>)
+    requires session { IsHeldSession session.old }
+    requires under { AllByRecursion (IsUnder session.old.header) messages.items }
+    ensures session { IsHeldSession session.new }
+    ensures header { session.new.header ≡ session.old.header }
+    ensures stands { (ms : List Sent) → SessionStands session.old ms →
+        SessionStands session.new (ms ++ map kept_message messages.items) }
 {
-    match ended {
-        Ended::Fraud(proof) => Verdict::Fraud(proof),
-        Ended::Clash(clash) => Verdict::Clash(clash),
-    }
-}
-
-/// Takes in all messages, and decides what they let decide.
-fn repair(
-    slots: &mut Slots,
-    buffers: &mut Buffers,
-    header: &Header,
-    messages: Vec<Proved>,
-    cells: Vec<Proved>,
-) -> Step
-    requires good { AreGood header.now slots.old }
-    requires buffers { AreBuffers header.now.k buffers.old }
-    requires under { AllByRecursion (IsUnder header.now) messages.items }
-    requires spare { IsSpare header.now.k cells }
-    ensures step { RepairsAll header.now slots.old slots.new messages.items result }
-{
-    match take_all(slots, buffers, header, messages, cells) {
-        Step::Open(cells) => decide_all(slots, buffers, header, cells),
-        Step::End(ended) => Step::End(ended),
+    for message in messages {
+        session.feed(message);
     }
 }
 
@@ -58,15 +38,9 @@ fn repaired(alloc: Global, header: &Header, messages: Vec<Proved>) -> Result<Ver
     ensures { IfOk result (λ verdict.
         IsVerdict header.now (map kept_message messages.items) (parts_of verdict)) }
 {
-    let mut slots = Slots::new(alloc, header.k)?;
-    let mut buffers = Buffers::new(alloc, header.k)?;
-    let Ok(cells) = Vec::with_capacity(alloc, header.k as usize) else {
-        return Err(NoMemory);
-    };
-    match repair(&mut slots, &mut buffers, header, messages, cells) {
-        Step::Open(_cells) => answer(alloc, &slots),
-        Step::End(ended) => Ok(verdict_of(ended)),
-    }
+    let mut session = Session::new(alloc, header)?;
+    feed_list(&mut session, messages);
+    Ok(session.finish())
 }
 
 /// Repairs the square of a data availability header from proved samples: answers a square with that header; or a fraud
@@ -75,8 +49,7 @@ fn repaired(alloc: Global, header: &Header, messages: Vec<Proved>) -> Result<Ver
 /// no part. Under the header of a square the answer is this square or the missing cells, or a sample and the square name
 /// a collision.
 ///
-/// It takes memory for two slots a cell, for the buffers of one axis, and for the answer; the one refusal is that
-/// there is none.
+/// It takes the memory of a session, all at first; the one refusal is that there is none.
 ///
 /// Al-Bassam, Sonnino, Buterin and Khoffi, 2-dimensional Reed-Solomon encoded Merkle tree;
 /// docs/RULES.md, "Closures and verdicts".

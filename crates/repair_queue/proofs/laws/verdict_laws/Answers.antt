@@ -2,7 +2,8 @@ use Rattle.repair_queue.proofs.FraudLemmas.{fraud_unsettled}
 use Rattle.repair_queue.proofs.VerdictLemmas.{whole_missing, one_square, one_missing, alike}
 use Rattle.repair_queue.proofs.GrowthLemmas.{fraud_grows, clash_grows, same_verdict}
 use Rattle.repair_queue.proofs.WholeLemmas.{whole_there, whole_square}
-use Rattle.repair_queue.proofs.OwnLemmas.{own_verdict}
+use Rattle.repair_queue.proofs.OwnLemmas.{own_verdict, own_unnamed}
+use Rattle.repair_queue.proofs.NothingLemmas.{all_missing}
 use Rattle.repair_queue.proofs.laws.verdict_laws.Goals as goal
 
 pub returns-clause-whole_missing : goal.returns-clause-whole_missing
@@ -40,3 +41,9 @@ returns-clause-order c = λ header ms others to from v w vh wh. alike header ms 
 
 pub returns-clause-own : goal.returns-clause-own
 returns-clause-own c = own_verdict
+
+pub returns-clause-nothing : goal.returns-clause-nothing
+returns-clause-nothing c = all_missing
+
+pub returns-clause-own_unnamed : goal.returns-clause-own_unnamed
+returns-clause-own_unnamed c = own_unnamed

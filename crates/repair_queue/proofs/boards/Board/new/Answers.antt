@@ -1,0 +1,25 @@
+use Rattle.std.proofs.Common.{rules, ◌≡◌, ◌∙◌, ℕ, ◌*◌, ◌<◌, length, sym, subst}
+use Rattle.std.proofs.lemmas.Bool.{true≢false}
+use Rattle.axis_roots.proofs.Grids.NumberLemmas.{width-ge}
+use Rattle.repair_queue.proofs.StandLemmas.{nothing_sound}
+use Rattle.repair_queue.proofs.CountedLemmas.{nothing_lined, nothing_counted, nothing_waiting}
+use Rattle.repair_queue.proofs.boards.Board.new.Goals as goal
+
+-- nothing is kept and nothing is decided
+pub returns-clause-good : goal.returns-clause-good
+returns-clause-good c header width = record {
+  width = width ∙ sym c.in_ok-grid.ensures.width;
+  parts = record {
+    pool_width = c.in_ok-pool.ensures.width ∙ sym c.in_ok-grid.ensures.width;
+    marks_width = c.in_ok-marks.ensures.width ∙ sym c.in_ok-grid.ensures.width;
+    counts_width = c.in_ok-counts.ensures.width ∙ sym c.in_ok-grid.ensures.width;
+    pool = c.in_ok-pool.ensures.pool;
+    marks = c.in_ok-marks.ensures.marks;
+    counts = c.in_ok-counts.ensures.counts;
+    digests = subst (λ (k : ℕ). length c.in-Ok.leaves.items ≡ 2 * k * (2 * k)) (sym c.in_ok-grid.ensures.width) (search rules);
+  };
+  sound = nothing_sound header _ _ _ c.in_ok-pool.ensures.empty c.in_ok-marks.ensures.undecided;
+  leaves = λ cell within on. absurd (true≢false (sym on ∙ nothing_lined _ c.in_ok-marks.ensures.undecided cell));
+  counted = nothing_counted header.k _ _ _ c.in_ok-pool.ensures.empty c.in_ok-marks.ensures.undecided c.in_ok-counts.ensures.none;
+  queued = nothing_waiting header.k _ _ _ (subst (λ (k : ℕ). 0 < k) (sym width) (width-ge c.args.k c.requires.width)) c.in_ok-counts.ensures.none;
+}

@@ -1,0 +1,25 @@
+use Rattle.std.proofs.Common.{◌∙◌, List, sym, ap, subst, Vec, Global}
+use Rattle.namespace_id.specs.declared.shares.Share.{Share}
+use Rattle.repair_queue.specs.Boards.{given_of, decided_of, share_of}
+use Rattle.repair_queue.specs.Lines.{AreFacts}
+use Rattle.repair_queue.specs.Judging.{IsApartOrAlike}
+use Rattle.repair_queue.proofs.DecideLemmas.{apart_or_alike, gathered_facts, settles_decides}
+use Rattle.repair_queue.proofs.judging.decide.Goals as goal
+
+-- another share is known at a position, or none is
+pub settle-requires-clause-apart : goal.settle-requires-clause-apart
+settle-requires-clause-apart c =
+    subst (λ (l : List Share). IsApartOrAlike c.args.header.now.k c.args.board.now c.args.axis c.args.index l c.first_apart-apart.result)
+    (c.deref.ensures.value ∙ ap (λ (v : Vec Share Global). v.items) (sym c.has_root.ensures.line))
+    (apart_or_alike c.args.header.now.k c.args.board.now.grid.k c.args.board.now c.args.axis c.args.index c.deref.result.now c.first_apart-apart.result
+    (sym c.requires.good.width) c.first_apart-apart.ensures.none c.first_apart-apart.ensures.some)
+
+-- the line is made of facts
+pub returns-then-has_root-clause-decides : goal.returns-then-has_root-clause-decides
+returns-then-has_root-clause-decides c =
+    settles_decides c.args.header.now c.args.board.now c.settle.new.board c.settle.new.tools c.args.axis c.args.index c.has_root.new.tools.buffers.line.items c.settle.result
+    (λ ms stand.
+    subst (λ (v : Vec Share Global). AreFacts c.args.header.now ms c.args.axis c.args.index v.items) (sym c.has_root.ensures.line)
+    (gathered_facts c.args.header.now ms (given_of c.args.board.now) (decided_of c.args.board.now) (share_of c.args.board.now) c.requires.good.sound stand c.args.axis c.args.index
+    c.rebuild_line.new.tools.known.items c.rebuild_line.new.tools.given.items c.rebuild_line.new.tools.buffers.line.items c.requires.index c.rebuild_line.ensures.chosen
+    c.rebuild_line.ensures.gathered c.rebuild_line.ensures.line c.rebuild_line.ensures.entries)) c.settle.ensures.settles

@@ -1,9 +1,0 @@
-use Rattle.repair_queue.specs.Slots.{slot_of}
-use Rattle.repair_queue.proofs.ApartLemmas.{found_apart}
-use Rattle.repair_queue.proofs.slots.shows_other.Goals as goal
-
--- the slot shows another share
-pub returns-in-Some-clause-other : goal.returns-in-Some-clause-other
-returns-in-Some-clause-other c = λ other.
-    found_apart (slot_of c.args.slots.now c.args.axis c.args.cell) c.in-Some.kept.now c.message.result.now c.args.share.now c.ne.result c.in-Some.ensures
-    c.message.ensures c.ne.ensures other

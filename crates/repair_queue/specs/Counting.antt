@@ -1,0 +1,12 @@
+-- Counting numbers that pass a test.
+use Rattle.std.specs.Prelude.{ℕ, zero, suc, ◌+◌, Bool, true, false}
+
+-- 1 where it passes
+abbrev pub one_if : Bool → ℕ
+one_if true = 1
+one_if false = 0
+
+-- how many of the n numbers from the first on pass
+unfoldable pub count_from : (ℕ → Bool) → ℕ → ℕ → ℕ
+count_from f first zero = 0
+count_from f first (suc n) = one_if (f first) + count_from f (suc first) n

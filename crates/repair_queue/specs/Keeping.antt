@@ -1,0 +1,33 @@
+-- Keeping the line of a row or a column: what is counted, and what is written.
+use Rattle.std.specs.Prelude.{◌≡◌, ◌≢◌, ℕ, ◌+◌, ◌*◌, ◌<◌, List, get_or, true, not}
+use Rattle.namespace_id.specs.declared.cells.Cell.{Cell}
+use Rattle.namespace_id.specs.declared.cells.Axis.{Axis}
+use Rattle.namespace_id.specs.declared.shares.Share.{Share}
+use Rattle.namespace_id.specs.declared.digests.Digest.{Digest}
+use Rattle.namespace_id.specs.Cells.{is_in_square}
+use Rattle.namespace_id.specs.Digests.{no_digest}
+use Rattle.axis_roots.specs.Messages.{index}
+use Rattle.axis_roots.specs.Lines.{cell_on, entry}
+use Rattle.repair_queue.specs.Slots.{Kept, Flags, crossing}
+use Rattle.repair_queue.specs.Counting.{one_if}
+use Rattle.repair_queue.specs.Counts.{Numbers, AreQueued}
+use Rattle.repair_queue.specs.Boards.{Shared, is_found}
+use Rattle.repair_queue.specs.Judging.{IsAlikeAt}
+
+-- no share that is known of a cell of a row or a column is another one than the line's
+abbrev pub IsAlikeAll : ℕ → Kept → Flags → Shared → Axis → ℕ → List Share → Type 0
+IsAlikeAll k slot flag shares axis i line = (pos : ℕ) → pos < 2 * k → IsAlikeAt slot flag shares (cell_on axis i pos) (entry line pos)
+
+-- the unknown cells of a row or a column are counted for those that cross it, and those that came to have k wait
+pub record IsCountedIn (k : ℕ) (slot : Kept) (flag : Flags) (axis : Axis) (i : ℕ) (old new : Numbers) (before after : List (Axis × ℕ)) : Type 0 where
+  pub across : (pos : ℕ) → pos < 2 * k
+      → new (crossing axis) pos ≡ old (crossing axis) pos + one_if (not (is_found slot flag (cell_on axis i pos)))
+  pub own : (j : ℕ) → new axis j ≡ old axis j
+  pub queued : AreQueued k old new before after
+
+-- the digests of the leaves of a line stand along its row or column, and all others are as they were
+pub record AreWrittenLeaves (k : ℕ) (old new : List Digest) (axis : Axis) (i : ℕ) (digests : List Digest) : Type 0 where
+  pub here : (pos : ℕ) → pos < 2 * k
+      → get_or new ((cell_on axis i pos).row * (2 * k) + (cell_on axis i pos).col) no_digest ≡ get_or digests pos no_digest
+  pub elsewhere : (cell : Cell) → is_in_square k cell ≡ true → index axis cell ≢ i
+      → get_or new (cell.row * (2 * k) + cell.col) no_digest ≡ get_or old (cell.row * (2 * k) + cell.col) no_digest

@@ -1,0 +1,135 @@
+//! Taking in a message.
+
+ghost use Rattle.std.specs.Prelude.{◌≡◌, None, true, false};
+ghost use Rattle.namespace_id.specs.Cells.{is_in_square};
+ghost use Rattle.axis_roots.specs.Proved.{IsUnder, kept_message};
+ghost use Rattle.repair_queue.specs.Slots.{IsAlike};
+ghost use Rattle.repair_queue.specs.Pools.{slot_in, HasPlaces};
+ghost use Rattle.repair_queue.specs.Repairs.{Shows};
+ghost use Rattle.repair_queue.specs.Boards.{given_of, decided_of, is_lined, IsGood};
+ghost use Rattle.repair_queue.specs.Tools.{AreTools};
+ghost use Rattle.repair_queue.specs.Moves.{IsKeptOn, IsEntered, TakesMessage, Steps};
+
+use crate::boards::{Board, decided_through};
+use crate::conflicts::{beside, conflict};
+use crate::counts::raise;
+use crate::ending::Ended;
+use crate::judging::drain;
+use crate::making::read_along;
+use crate::pools::{Pool, held_in, is_other, put_in, take_from};
+use crate::slots::crossing;
+use crate::taking::Taken;
+use crate::tools::Tools;
+use axis_roots::{Proved, index};
+use data_header::Header;
+use namespace_id::{Axis, Cell, Share};
+
+/// Whether a message that is kept of a cell along an axis shows this share.
+fn shows(pool: &Pool, axis: Axis, cell: Cell, share: &Share) -> bool
+    requires places { HasPlaces pool.now }
+    requires cell { is_in_square pool.now.k cell ≡ true }
+    ensures shows { result ≡ true → Shows (slot_in pool.now axis cell) share.now }
+{
+    match held_in(pool, axis, cell) {
+        Some(kept) => kept.message().share == *share,
+        None => false,
+    }
+}
+
+/// Keeps a message of a cell of which none is kept along its axis, and counts the cell where it wasn't known.
+fn keep_new(board: &mut Board, header: &Header, message: Proved)
+    requires good { IsGood header.now board.old }
+    requires under { IsUnder header.now message }
+    requires off { is_lined (decided_of board.old) (kept_message message).cell ≡ false }
+    requires empty { given_of board.old (kept_message message).axis (kept_message message).cell ≡ None }
+    ensures { IsKeptOn header.now board.old board.new (kept_message message) }
+{
+    let shown = message.message();
+    let (own, cell) = (shown.axis, shown.cell);
+    let is_new = held_in(&board.pool, crossing(own), cell).is_none();
+    put_in(&mut board.pool, message);
+    if is_new {
+        raise(&mut board.counts, Axis::Row, cell.row);
+        raise(&mut board.counts, Axis::Col, cell.col);
+    }
+}
+
+/// Keeps a message of a cell on no decided row or column, where none that is kept along its axis shows another share.
+/// Where its share is shown already it is dropped.
+fn keep(board: &mut Board, header: &Header, message: Proved)
+    requires good { IsGood header.now board.old }
+    requires under { IsUnder header.now message }
+    requires off { is_lined (decided_of board.old) (kept_message message).cell ≡ false }
+    requires alike { IsAlike (given_of board.old (kept_message message).axis (kept_message message).cell)
+        (kept_message message).share }
+    ensures { IsKeptOn header.now board.old board.new (kept_message message) }
+{
+    let shown = message.message();
+    let (own, cell) = (shown.axis, shown.cell);
+    if held_in(&board.pool, own, cell).is_some()
+        || shows(&board.pool, crossing(own), cell, &shown.share)
+    {
+        return;
+    }
+    keep_new(board, header, message);
+}
+
+/// Takes a message in, where nothing that is known shows another share.
+fn enter(board: &mut Board, header: &Header, message: Proved) -> Taken
+    requires good { IsGood header.now board.old }
+    requires under { IsUnder header.now message }
+    ensures { IsEntered header.now board.old board.new message result }
+{
+    let shown = message.message();
+    let (own, cell, share) = (shown.axis, shown.cell, &shown.share);
+    if let Some(axis) = decided_through(&board.marks, cell) {
+        if board.grid.cell(cell) != share {
+            return Taken::Against(axis, message);
+        }
+        return Taken::Kept;
+    }
+    if is_other(&board.pool, own, cell, share) {
+        let kept = take_from(&mut board.pool, own, cell).unwrap();
+        return Taken::Beside(message, kept);
+    }
+    keep(board, header, message);
+    Taken::Kept
+}
+
+/// Takes a message in, or names what is wrong where it shows another share than one that is known.
+fn take(board: &mut Board, tools: &mut Tools, header: &Header, message: Proved) -> Option<Ended>
+    requires good { IsGood header.now board.old }
+    requires tools { AreTools header.now.k tools.old }
+    requires under { IsUnder header.now message }
+    ensures { TakesMessage header.now board.old board.new tools.new (kept_message message) result }
+{
+    match enter(board, header, message) {
+        Taken::Kept => None,
+        Taken::Against(axis, message) => {
+            let i = index(axis, message.message().cell);
+            read_along(&board.grid, axis, i, &mut tools.buffers.line);
+            let cells = tools.spare.take().unwrap();
+            Some(conflict(&mut tools.buffers, header, axis, i, message, cells))
+        }
+        Taken::Beside(message, kept) => Some(Ended::Clash(beside(header, message, kept))),
+    }
+}
+
+/// Takes a message in, and decides what it lets decide.
+pub(crate) fn step(
+    board: &mut Board,
+    tools: &mut Tools,
+    header: &Header,
+    message: Proved,
+) -> Option<Ended>
+    requires good { IsGood header.now board.old }
+    requires tools { AreTools header.now.k tools.old }
+    requires under { IsUnder header.now message }
+    ensures { Steps header.now board.old board.new tools.new (kept_message message) result }
+{
+    let ended = take(board, tools, header, message);
+    if ended.is_some() {
+        return ended;
+    }
+    drain(board, tools, header)
+}

@@ -1,0 +1,34 @@
+//! A session, and where it stands.
+
+use crate::boards::Board;
+use crate::ending::Ended;
+use crate::tools::Tools;
+use data_header::Header;
+use namespace_id::{CellRoom, Share};
+
+/// Where a session stands.
+#[derive(Clone, Copy, Debug, PartialEq, Eq)]
+pub enum SessionState {
+    /// Each row and column with k known cells fits the header.
+    Open,
+    /// A fraud proof was found.
+    Fraud,
+    /// A SHA-256 collision was found.
+    Clash,
+}
+
+/// A repair that is fed one proved sample at a time. All its memory is taken when it is made. Contracts see for which
+/// list of samples it stands. It may be dropped at any time.
+///
+/// Al-Bassam, Sonnino, Buterin and Khoffi, 2-dimensional Reed-Solomon encoded Merkle tree;
+/// docs/RULES.md, "Closures and verdicts".
+#[derive(Drop)]
+pub struct Session {
+    pub(crate) header: Header,
+    pub(crate) board: Board,
+    pub(crate) tools: Tools,
+    pub(crate) ended: Option<Ended>,
+    // for what `finish` hands out
+    pub(crate) shares: Vec<Share>,
+    pub(crate) room: CellRoom,
+}

@@ -1,0 +1,389 @@
+//! Deciding a row or a column of which k cells are known.
+
+ghost use Rattle.std.specs.Prelude.{◌≡◌, ◌≢◌, ℕ, ◌*◌, ◌<◌, ◌≤◌, List, length, true, false, IsTrue, IsNone, IfSome, Some, Option, ◌↔◌};
+ghost use Rattle.namespace_id.specs.Cells.{is_in_square};
+ghost use Rattle.namespace_id.specs.declared.cells.Axis.{Axis as Along};
+ghost use Rattle.namespace_id.specs.declared.shares.Share.{Share as Block};
+ghost use Rattle.data_header.specs.Headers.{root_of};
+ghost use Rattle.axis_roots.specs.declared.message.messages.Message.{Message};
+ghost use Rattle.axis_roots.specs.Lines.{cell_on, entry, line_strict_root};
+ghost use Rattle.axis_roots.specs.Trees.{line_leaves};
+ghost use Rattle.leopard_code.specs.Codewords.{IsCodeword, HasEntries};
+ghost use Rattle.befp_maker.specs.Conflicts.{IsLineOf};
+ghost use Rattle.befp_maker.specs.Gathered.{AreOfLine};
+ghost use Rattle.repair_queue.specs.Closures.{AreChosen};
+ghost use Rattle.repair_queue.specs.Slots.{IsAlike, IsFlagged};
+ghost use Rattle.repair_queue.specs.Lines.{AreFacts};
+ghost use Rattle.repair_queue.specs.Repairs.{IsEnd};
+ghost use Rattle.repair_queue.specs.Steps.{IsSpare};
+ghost use Rattle.repair_queue.specs.Counts.{count_of};
+ghost use Rattle.repair_queue.specs.Boards.{given_of, decided_of, share_of, found_count, found_share, is_found, AreAlikeLined, AreParts, IsGood, StandsFor};
+ghost use Rattle.repair_queue.specs.Tools.{AreTools, AreGathered, HasSpare};
+ghost use Rattle.repair_queue.specs.Judging.{IsAlikeAt, IsApartAt, IsReadable, IsTakenAt, AreFoundAt, AreShownBy, IsOtherMessage, IsApartOrAlike};
+ghost use Rattle.repair_queue.specs.Moves.{DecidesLine, SettlesLine, Drains, IsMessageAt};
+
+use crate::boards::{Board, decided_through, is_on_decided};
+use crate::conflicts::conflict;
+use crate::counts::{count, first_queued, pass_queued};
+use crate::ending::Ended;
+use crate::gathering::{complete, gather};
+use crate::keeping::keep_line;
+use crate::making::{make, take_first, take_other};
+use crate::marks::is_marked;
+use crate::pools::is_other;
+use crate::rooting::root_of_line;
+use crate::tools::Tools;
+use axis_roots::{Proved, cell_on};
+use befp_maker::{AxisRoom, Decided, from_half};
+use data_header::Header;
+use namespace_id::{Axis, Cell, Digest, Share};
+
+/// Whether another share than this one is known of a cell.
+fn is_apart(board: &Board, cell: Cell, share: &Share) -> bool
+    requires parts { AreParts board.now }
+    requires cell { is_in_square board.now.grid.k cell ≡ true }
+    ensures apart { result ≡ true →
+        IsApartAt (given_of board.now) (decided_of board.now) (share_of board.now) cell share.now }
+    ensures alike { result ≡ false →
+        IsAlikeAt (given_of board.now) (decided_of board.now) (share_of board.now) cell share.now }
+{
+    if is_on_decided(&board.marks, cell) {
+        return board.grid.cell(cell) != share;
+    }
+    is_other(&board.pool, Axis::Row, cell, share) || is_other(&board.pool, Axis::Col, cell, share)
+}
+
+/// The first position of a row or a column at which another share is known than the line's.
+fn first_apart(board: &Board, axis: Axis, index: u16, line: &[Share]) -> Option<u16>
+    requires parts { AreParts board.now }
+    requires index { index < 2 * board.now.grid.k }
+    requires line { length line.now ≡ 2 * board.now.grid.k }
+    ensures none { IsNone result → (pos : ℕ) → pos < 2 * board.now.grid.k →
+        IsAlikeAt (given_of board.now) (decided_of board.now) (share_of board.now) (cell_on axis index pos)
+        (entry line.now pos) }
+    ensures some { IfSome result (λ pos. (pos < 2 * board.now.grid.k)
+        × IsApartAt (given_of board.now) (decided_of board.now) (share_of board.now) (cell_on axis index pos)
+        (entry line.now pos)) }
+{
+    for pos in 0..2 * board.grid.width() {
+        if is_apart(board, cell_on(axis, index, pos), &line[pos as usize]) {
+            return Some(pos);
+        }
+    }
+    None
+}
+
+/// A message of a known cell, with the share that is known first of it.
+fn message_known(
+    board: &mut Board,
+    room: &mut AxisRoom,
+    across: &mut [Share],
+    header: &Header,
+    cell: Cell,
+) -> Proved
+    requires readable { IsReadable header.now board.old }
+    requires room { room.old.k ≡ header.now.k }
+    requires across { length across.old ≡ 2 * header.now.k }
+    requires cell { is_in_square header.now.k cell ≡ true }
+    requires known { is_found (given_of board.old) (decided_of board.old) cell ≡ true }
+    ensures message { IsMessageAt header.now cell
+        (found_share (given_of board.old) (decided_of board.old) (share_of board.old) cell) result }
+    ensures readable { IsReadable header.now board.new }
+    ensures others { IsTakenAt board.old board.new cell }
+    ensures room { room.new.k ≡ header.now.k }
+    ensures across { length across.new ≡ 2 * header.now.k }
+{
+    match decided_through(&board.marks, cell) {
+        Some(axis) => make(&board.grid, room, across, header, axis, cell),
+        None => take_first(&mut board.pool, cell),
+    }
+}
+
+/// A message of a cell that shows another share than this one.
+fn message_other(
+    board: &mut Board,
+    room: &mut AxisRoom,
+    across: &mut [Share],
+    header: &Header,
+    cell: Cell,
+    share: &Share,
+) -> Proved
+    requires readable { IsReadable header.now board.old }
+    requires room { room.old.k ≡ header.now.k }
+    requires across { length across.old ≡ 2 * header.now.k }
+    requires cell { is_in_square header.now.k cell ≡ true }
+    requires apart { IsApartAt (given_of board.old) (decided_of board.old) (share_of board.old) cell share.now }
+    ensures message { IsOtherMessage header.now board.old cell share.now result }
+    ensures room { room.new.k ≡ header.now.k }
+{
+    match decided_through(&board.marks, cell) {
+        Some(axis) => make(&board.grid, room, across, header, axis, cell),
+        None => take_other(&mut board.pool, cell, share),
+    }
+}
+
+/// Messages of known cells of a row or a column at these positions, each with the share that is known first.
+fn messages_known(
+    board: &mut Board,
+    room: &mut AxisRoom,
+    across: &mut [Share],
+    header: &Header,
+    axis: Axis,
+    index: u16,
+    known: &[u16],
+    cells: Vec<Proved>,
+) -> Vec<Proved>
+    requires readable { IsReadable header.now board.old }
+    requires room { room.old.k ≡ header.now.k }
+    requires across { length across.old ≡ 2 * header.now.k }
+    requires index { index < 2 * header.now.k }
+    requires chosen { AreChosen header.now.k known.now }
+    requires found { AreFoundAt (given_of board.old) (decided_of board.old) axis index known.now }
+    requires spare { IsSpare header.now.k cells }
+    ensures cells { (line : List Block) →
+        AreShownBy (given_of board.old) (decided_of board.old) (share_of board.old) axis index known.now line →
+        AreOfLine header.now axis index line known.now result.items }
+    ensures room { room.new.k ≡ header.now.k }
+{
+    let mut cells = cells;
+    for i in 0..known.len() {
+        let cell = cell_on(axis, index, known[i]);
+        cells
+            .push(message_known(board, room, across, header, cell))
+            .unwrap();
+    }
+    cells
+}
+
+/// The fraud proof of a row or a column by the k known cells that were gathered.
+fn accuse(board: &mut Board, tools: &mut Tools, header: &Header, axis: Axis, index: u16) -> Ended
+    requires readable { IsReadable header.now board.old }
+    requires tools { AreTools header.now.k tools.old }
+    requires index { index < 2 * header.now.k }
+    requires chosen { AreChosen header.now.k tools.old.known.items }
+    requires gathered { AreGathered (given_of board.old) (decided_of board.old) (share_of board.old) axis index
+        tools.old.known.items tools.old.given.items }
+    requires line { IsCodeword header.now.k tools.old.buffers.line.items }
+    requires entries { HasEntries tools.old.known.items tools.old.given.items tools.old.buffers.line.items }
+    requires root { line_strict_root header.now.k axis index tools.old.buffers.line.items
+        ≡ Some (root_of header.now axis index) → ⊥ }
+    ensures { (ms : List Message) → StandsFor header.now ms board.old → IsEnd header.now ms result }
+{
+    let cells = tools.spare.take().unwrap();
+    let cells = messages_known(
+        board,
+        &mut tools.buffers.room,
+        &mut tools.across,
+        header,
+        axis,
+        index,
+        &tools.known,
+        cells,
+    );
+    match from_half(&mut tools.buffers.room, header, axis, index, cells) {
+        Decided::Bad(proof) => Ended::Fraud(proof),
+        Decided::Matches(_cells) => unreachable!(),
+    }
+}
+
+/// What is wrong where another share is known at a position than that of the line, which has the header's root.
+fn contradict(
+    board: &mut Board,
+    tools: &mut Tools,
+    header: &Header,
+    axis: Axis,
+    index: u16,
+    pos: u16,
+) -> Ended
+    requires readable { IsReadable header.now board.old }
+    requires tools { AreTools header.now.k tools.old }
+    requires index { index < 2 * header.now.k }
+    requires pos { pos < 2 * header.now.k }
+    requires line { IsLineOf header.now axis index tools.old.buffers.line.items }
+    requires apart { IsApartAt (given_of board.old) (decided_of board.old) (share_of board.old)
+        (cell_on axis index pos) (entry tools.old.buffers.line.items pos) }
+    ensures { (ms : List Message) → AreFacts header.now ms axis index tools.old.buffers.line.items →
+        StandsFor header.now ms board.old → IsEnd header.now ms result }
+{
+    let cell = cell_on(axis, index, pos);
+    let share = tools.buffers.line[pos as usize];
+    let other = message_other(
+        board,
+        &mut tools.buffers.room,
+        &mut tools.across,
+        header,
+        cell,
+        &share,
+    );
+    let cells = tools.spare.take().unwrap();
+    conflict(&mut tools.buffers, header, axis, index, other, cells)
+}
+
+/// Keeps the line of a row or a column, which has the header's root, or names what is wrong where another share is known
+/// at a position.
+fn settle(
+    board: &mut Board,
+    tools: &mut Tools,
+    header: &Header,
+    axis: Axis,
+    index: u16,
+    apart: Option<u16>,
+) -> Option<Ended>
+    requires good { IsGood header.now board.old }
+    requires tools { AreTools header.now.k tools.old }
+    requires index { index < 2 * header.now.k }
+    requires off { decided_of board.old axis index ≡ false }
+    requires line { IsLineOf header.now axis index tools.old.buffers.line.items }
+    requires digests { tools.old.digests.items ≡ line_leaves header.now.k axis index tools.old.buffers.line.items }
+    requires apart { IsApartOrAlike header.now.k board.old axis index tools.old.buffers.line.items apart }
+    ensures settles { SettlesLine header.now board.old board.new tools.new axis index tools.old.buffers.line.items result }
+    ensures next { IsNone result → board.new.counts.next ≡ board.old.counts.next }
+    ensures flagged { IsNone result → IsFlagged (decided_of board.old) (decided_of board.new) axis index }
+{
+    match apart {
+        Some(pos) => Some(contradict(board, tools, header, axis, index, pos)),
+        None => {
+            keep_line(
+                board,
+                header,
+                axis,
+                index,
+                &tools.buffers.line,
+                &tools.digests,
+            );
+            None
+        }
+    }
+}
+
+/// Whether there is a root, and it is this one.
+fn is_root(found: Option<Digest>, root: &Digest) -> bool
+    ensures { IsTrue result ↔ (found ≡ Some root.now) }
+{
+    found == Some(*root)
+}
+
+/// Fills the tools with the line of a row or a column through k of its known cells.
+fn rebuild_line(board: &Board, tools: &mut Tools, header: &Header, axis: Axis, index: u16)
+    requires good { IsGood header.now board.now }
+    requires tools { AreTools header.now.k tools.old }
+    requires index { index < 2 * header.now.k }
+    requires half { header.now.k ≤ found_count (given_of board.now) (decided_of board.now) axis index (2 * header.now.k) }
+    ensures tools { AreTools header.now.k tools.new }
+    ensures chosen { AreChosen header.now.k tools.new.known.items }
+    ensures gathered { AreGathered (given_of board.now) (decided_of board.now) (share_of board.now) axis index
+        tools.new.known.items tools.new.given.items }
+    ensures line { IsCodeword header.now.k tools.new.buffers.line.items }
+    ensures entries { HasEntries tools.new.known.items tools.new.given.items tools.new.buffers.line.items }
+{
+    gather(
+        board,
+        header,
+        axis,
+        index,
+        &mut tools.known,
+        &mut tools.given,
+    );
+    complete(
+        &mut tools.code,
+        header.k,
+        &tools.known,
+        &tools.given,
+        &mut tools.buffers.line,
+    );
+}
+
+/// Whether the line has the header's root of the row or column.
+fn has_root(
+    board: &Board,
+    tools: &mut Tools,
+    header: &Header,
+    axis: Axis,
+    index: u16,
+    are_kept: bool,
+) -> bool
+    requires good { IsGood header.now board.now }
+    requires tools { AreTools header.now.k tools.old }
+    requires index { index < 2 * header.now.k }
+    requires kept { are_kept ≡ true → AreAlikeLined header.now.k (decided_of board.now) (share_of board.now) axis index
+        tools.old.buffers.line.items }
+    ensures root { IsTrue result ↔ (line_strict_root header.now.k axis index tools.old.buffers.line.items
+        ≡ Some (root_of header.now axis index)) }
+    ensures digests { tools.new.digests.items ≡ line_leaves header.now.k axis index tools.old.buffers.line.items }
+    ensures tools { AreTools header.now.k tools.new }
+    ensures line { tools.new.buffers.line ≡ tools.old.buffers.line }
+    ensures known { tools.new.known ≡ tools.old.known }
+    ensures given { tools.new.given ≡ tools.old.given }
+{
+    let found = root_of_line(
+        board,
+        header,
+        axis,
+        index,
+        &tools.buffers.line,
+        are_kept,
+        &mut tools.names,
+        &mut tools.digests,
+        &mut tools.folded,
+    );
+    let root = header.root_of(axis, index);
+    is_root(found, &root)
+}
+
+/// Decides a row or a column of which k cells are known.
+fn decide(
+    board: &mut Board,
+    tools: &mut Tools,
+    header: &Header,
+    axis: Axis,
+    index: u16,
+) -> Option<Ended>
+    requires good { IsGood header.now board.old }
+    requires tools { AreTools header.now.k tools.old }
+    requires index { index < 2 * header.now.k }
+    requires off { decided_of board.old axis index ≡ false }
+    requires half { header.now.k ≤ found_count (given_of board.old) (decided_of board.old) axis index (2 * header.now.k) }
+    ensures decides { DecidesLine header.now board.old board.new tools.new result }
+    ensures next { IsNone result → board.new.counts.next ≡ board.old.counts.next }
+    ensures flagged { IsNone result → IsFlagged (decided_of board.old) (decided_of board.new) axis index }
+{
+    rebuild_line(board, tools, header, axis, index);
+    let apart = first_apart(board, axis, index, &tools.buffers.line);
+    if has_root(board, tools, header, axis, index, apart.is_none()) {
+        settle(board, tools, header, axis, index, apart)
+    } else {
+        Some(accuse(board, tools, header, axis, index))
+    }
+}
+
+/// Whether a row or a column isn't decided and k of its cells are known.
+fn is_due(board: &Board, header: &Header, axis: Axis, index: u16) -> bool
+    requires good { IsGood header.now board.now }
+    ensures due { result ≡ true → (index < 2 * header.now.k) × (decided_of board.now axis index ≡ false)
+        × (header.now.k ≤ found_count (given_of board.now) (decided_of board.now) axis index (2 * header.now.k)) }
+    ensures past { result ≡ false → index < 2 * header.now.k → decided_of board.now axis index ≡ false →
+        header.now.k ≤ count_of board.now.counts axis index → ⊥ }
+{
+    index < 2 * header.k
+        && !is_marked(&board.marks, axis, index)
+        && count(&board.counts, axis, index) >= header.k
+}
+
+/// Decides rows and columns until none is left that can be decided, or one ends the session.
+pub(crate) fn drain(board: &mut Board, tools: &mut Tools, header: &Header) -> Option<Ended>
+    requires good { IsGood header.now board.old }
+    requires tools { AreTools header.now.k tools.old }
+    ensures drains { Drains header.now board.old board.new tools.new result }
+{
+    while let Some((axis, index)) = first_queued(&board.counts) {
+        if is_due(board, header, axis, index) {
+            let ended = decide(board, tools, header, axis, index);
+            if ended.is_some() {
+                return ended;
+            }
+        } else {
+            pass_queued(&mut board.counts);
+        }
+    }
+    None
+}

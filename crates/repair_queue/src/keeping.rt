@@ -1,0 +1,105 @@
+//! Keeping the line of a row or a column that was decided.
+
+ghost use Rattle.std.specs.Prelude.{◌≡◌, ◌≢◌, ◌*◌, ◌<◌, List, IsTrue, length, false};
+ghost use Rattle.namespace_id.specs.declared.cells.Cell.{Cell as Place};
+ghost use Rattle.namespace_id.specs.Cells.{is_width, is_in_square};
+ghost use Rattle.axis_roots.specs.Messages.{index as index_of};
+ghost use Rattle.axis_roots.specs.Grids.{share_at, axis_shares};
+ghost use Rattle.axis_roots.specs.declared.message.messages.Message.{Message};
+ghost use Rattle.axis_roots.specs.Trees.{line_leaves};
+ghost use Rattle.befp_maker.specs.Conflicts.{IsLineOf};
+ghost use Rattle.repair_queue.specs.Lines.{AreFacts};
+ghost use Rattle.repair_queue.specs.Slots.{IsFlagged};
+ghost use Rattle.repair_queue.specs.Counts.{count_of, pending, AreCounts};
+ghost use Rattle.repair_queue.specs.Pools.{slot_in, HasPlaces};
+ghost use Rattle.repair_queue.specs.Boards.{given_of, decided_of, share_of, mark_of, AreMarks, AreCounted, IsGood, StandsFor};
+ghost use Rattle.repair_queue.specs.Keeping.{IsAlikeAll, IsCountedIn, AreWrittenLeaves};
+
+use crate::boards::{Board, is_found};
+use crate::counts::{Counts, raise};
+use crate::marks::{Marks, set_mark};
+use crate::pools::Pool;
+use crate::slots::{crossing, number};
+use axis_roots::{Grid, cell_on};
+use data_header::Header;
+use namespace_id::{Axis, Digest, Share};
+
+/// Counts the unknown cells of a row or a column for those that cross it.
+fn count_line(pool: &Pool, marks: &Marks, counts: &mut Counts, axis: Axis, index: u16)
+    requires pool { HasPlaces pool.now }
+    requires marks { AreMarks marks.now }
+    requires counts { AreCounts counts.old }
+    requires pool_width { pool.now.k ≡ counts.old.k }
+    requires marks_width { marks.now.k ≡ counts.old.k }
+    requires index { index < 2 * counts.old.k }
+    requires counted { AreCounted counts.old.k (slot_in pool.now) (mark_of marks.now) (count_of counts.old) }
+    ensures counts { AreCounts counts.new }
+    ensures width { counts.new.k ≡ counts.old.k }
+    ensures next { counts.new.next ≡ counts.old.next }
+    ensures counted { IsCountedIn counts.old.k (slot_in pool.now) (mark_of marks.now) axis index
+        (count_of counts.old) (count_of counts.new) (pending counts.old) (pending counts.new) }
+{
+    let cross = crossing(axis);
+    for pos in 0..2 * counts.k {
+        if !is_found(pool, marks, cell_on(axis, index, pos)) {
+            raise(counts, cross, pos);
+        }
+    }
+}
+
+/// Writes the shares of a line.
+fn write_shares(grid: &mut Grid, axis: Axis, index: u16, line: &[Share])
+    requires index { index < 2 * grid.old.k }
+    requires line { length line.now ≡ 2 * grid.old.k }
+    ensures k { grid.new.k ≡ grid.old.k }
+    ensures line { axis_shares grid.old.k grid.new.shares axis index ≡ line.now }
+    ensures others { (cell : Place) → IsTrue (is_in_square grid.old.k cell) →
+        index_of axis cell ≢ index →
+        share_at (2 * grid.old.k) grid.new.shares cell
+        ≡ share_at (2 * grid.old.k) grid.old.shares cell }
+{
+    for pos in 0..2 * grid.width() {
+        grid.set(cell_on(axis, index, pos), &line[pos as usize]);
+    }
+}
+
+/// Writes the digests of the leaves over a line.
+fn write_leaves(k: u16, leaves: &mut [Digest], axis: Axis, index: u16, digests: &[Digest])
+    requires width { IsTrue (is_width k) }
+    requires index { index < 2 * k }
+    requires leaves { length leaves.old ≡ 2 * k * (2 * k) }
+    requires digests { length digests.now ≡ 2 * k }
+    ensures written { AreWrittenLeaves k leaves.old leaves.new axis index digests.now }
+    ensures count { length leaves.new ≡ length leaves.old }
+{
+    for pos in 0..2 * k {
+        leaves[number(k, cell_on(axis, index, pos))] = digests[pos as usize];
+    }
+}
+
+/// Keeps the line of a row or a column as decided.
+pub(crate) fn keep_line(
+    board: &mut Board,
+    header: &Header,
+    axis: Axis,
+    index: u16,
+    line: &[Share],
+    digests: &[Digest],
+)
+    requires good { IsGood header.now board.old }
+    requires index { index < 2 * header.now.k }
+    requires off { decided_of board.old axis index ≡ false }
+    requires line { IsLineOf header.now axis index line.now }
+    requires alike { IsAlikeAll header.now.k (given_of board.old) (decided_of board.old) (share_of board.old) axis index line.now }
+    requires digests { digests.now ≡ line_leaves header.now.k axis index line.now }
+    ensures good { IsGood header.now board.new }
+    ensures next { board.new.counts.next ≡ board.old.counts.next }
+    ensures flagged { IsFlagged (decided_of board.old) (decided_of board.new) axis index }
+    ensures stands { (ms : List Message) → AreFacts header.now ms axis index line.now →
+        StandsFor header.now ms board.old → StandsFor header.now ms board.new }
+{
+    count_line(&board.pool, &board.marks, &mut board.counts, axis, index);
+    write_shares(&mut board.grid, axis, index, line);
+    write_leaves(header.k, &mut board.leaves, axis, index, digests);
+    set_mark(&mut board.marks, axis, index);
+}

@@ -1,0 +1,211 @@
+//! A repair that is fed one message at a time.
+
+ghost use Rattle.std.specs.Prelude.{◌≡◌, ◌≢◌, ◌*◌, ◌≤◌, ◌++◌, ◌∷◌, [], List, Some, IfOk, true, vec_capacity};
+ghost use Rattle.namespace_id.specs.Cells.{is_width};
+ghost use Rattle.axis_roots.specs.declared.message.messages.Message.{Message};
+ghost use Rattle.axis_roots.specs.Proved.{IsUnder, kept_message};
+ghost use Rattle.repair_queue.specs.Boards.{given_of, decided_of, IsGood, AreParts, AreAtRest, StandsFor};
+ghost use Rattle.repair_queue.specs.Settled.{IsSettled};
+ghost use Rattle.repair_queue.specs.Verdicts.{IsVerdict};
+ghost use Rattle.repair_queue.specs.Answers.{parts_of, EndsAs};
+ghost use Rattle.repair_queue.specs.Sessions.{SessionStands, IsHeldSession, state_of, IsOfState, AreLeft, AreNotFound, AreOriginals};
+ghost use Rattle.repair_queue.specs.declared.fed.SessionState.TheVariants as state;
+
+use crate::Verdict;
+use crate::boards::{Board, is_known};
+use crate::ending::Ended;
+use crate::entering::step;
+use crate::fed::{Session, SessionState};
+use crate::tools::Tools;
+use axis_roots::Proved;
+use data_header::Header;
+use namespace_id::{CellRoom, NoMemory, Share, cell_numbered};
+use square_layout::Square;
+use std::alloc::Global;
+
+/// A copy of a header.
+fn copy_of(alloc: Global, header: &Header) -> Result<Header, NoMemory>
+    ensures { IfOk result (λ copy. copy ≡ header.now) }
+{
+    let Ok(rows) = Vec::from_slice(alloc, &header.rows) else {
+        return Err(NoMemory);
+    };
+    let Ok(cols) = Vec::from_slice(alloc, &header.cols) else {
+        return Err(NoMemory);
+    };
+    Ok(Header {
+        k: header.k,
+        rows,
+        cols,
+    })
+}
+
+/// The width of a header's square.
+fn width(header: &Header) -> u16
+    ensures value { result ≡ header.now.k }
+    ensures width { is_width result ≡ true }
+{
+    header.k
+}
+
+/// Fills a room with the cells that aren't known, row-major.
+fn fill_unknown(board: &Board, room: &mut CellRoom)
+    requires parts { AreParts board.now }
+    requires room { room.old.k ≡ board.now.grid.k }
+    ensures { AreNotFound board.now room.new }
+{
+    room.clear();
+    let k = board.grid.width();
+    let side = 2 * k as usize;
+    for number in 0..side * side {
+        let cell = cell_numbered(2 * k, number);
+        if !is_known(board, cell) {
+            room.add(cell);
+        }
+    }
+    // A room tells that its cells are row-major.
+    let _cells = room.cells();
+}
+
+/// The shares of the original cells, row-major.
+fn original_shares(board: &Board, shares: Vec<Share>) -> Vec<Share>
+    requires parts { AreParts board.now }
+    requires empty { shares.items ≡ [] }
+    requires room { board.now.grid.k * board.now.grid.k ≤ vec_capacity shares }
+    ensures { AreOriginals board.now result.items }
+{
+    let mut shares = shares;
+    let k = board.grid.width();
+    let count = k as usize * k as usize;
+    for number in 0..count {
+        shares.push(*board.grid.cell(cell_numbered(k, number))).unwrap();
+    }
+    shares
+}
+
+/// The square where all cells are known, else the cells that aren't.
+fn answer_open(board: &Board, header: &Header, shares: Vec<Share>, room: CellRoom) -> Verdict
+    requires good { IsGood header.now board.now }
+    requires rest { AreAtRest header.now.k (given_of board.now) (decided_of board.now) }
+    requires empty { shares.items ≡ [] }
+    requires room { header.now.k * header.now.k ≤ vec_capacity shares }
+    requires cells { room.k ≡ header.now.k }
+    ensures verdict { (ms : List Message) → StandsFor header.now ms board.now →
+        IsVerdict header.now ms (parts_of result) }
+    ensures state { IsOfState state.Open result }
+{
+    let mut room = room;
+    fill_unknown(board, &mut room);
+    if !room.cells().is_empty() {
+        return Verdict::Missing(room.into_cells());
+    }
+    let shares = original_shares(board, shares);
+    Verdict::Whole(Square {
+        k: header.k,
+        shares,
+    })
+}
+
+/// The answer with which a session ended.
+fn answer_ended(ended: Ended) -> Verdict
+    ensures value { EndsAs ended result }
+    ensures state { IsOfState (state_of (Some ended)) result }
+{
+    match ended {
+        Ended::Fraud(proof) => Verdict::Fraud(proof),
+        Ended::Clash(clash) => Verdict::Clash(clash),
+    }
+}
+
+impl Session {
+    /// A session over the square of a header that was fed nothing. It keeps a copy of the header, and takes all memory
+    /// that it will need, also for what it hands out. It refuses only where there is none.
+    pub fn new(alloc: Global, header: &Header) -> Result<Session, NoMemory>
+        ensures session { IfOk result IsHeldSession }
+        ensures header { IfOk result (λ s. s.header ≡ header.now) }
+        ensures stands { IfOk result (λ s. SessionStands s []) }
+        ensures open { IfOk result (λ s. state_of s.ended ≡ state.Open) }
+        ensures settled { IfOk result (λ s. (ms : List Message) → SessionStands s ms →
+            IsSettled s.header ms) }
+    {
+        let header = copy_of(alloc, header)?;
+        let k = width(&header);
+        let board = Board::new(alloc, k)?;
+        let tools = Tools::new(alloc, k)?;
+        let Ok(shares) = Vec::with_capacity(alloc, k as usize * k as usize) else {
+            return Err(NoMemory);
+        };
+        let room = CellRoom::new(alloc, k)?;
+        Ok(Session {
+            header,
+            board,
+            tools,
+            ended: None,
+            shares,
+            room,
+        })
+    }
+
+    /// Takes a proved sample under the header, and answers the state after it. A fraud proof or a collision that was
+    /// found stays. It takes no memory.
+    pub fn feed(&mut self, message: Proved) -> SessionState
+        requires session { IsHeldSession self.old }
+        requires under { IsUnder self.old.header message }
+        ensures session { IsHeldSession self.new }
+        ensures header { self.new.header ≡ self.old.header }
+        ensures state { result ≡ state_of self.new.ended }
+        ensures stays { state_of self.old.ended ≢ state.Open → self.new ≡ self.old }
+        ensures stands { (ms : List Message) → SessionStands self.old ms →
+            SessionStands self.new (ms ++ kept_message message ∷ []) }
+        ensures settled { state_of self.new.ended ≡ state.Open → (ms : List Message) →
+            SessionStands self.new ms → IsSettled self.new.header ms }
+    {
+        if self.ended.is_none() {
+            self.ended = step(&mut self.board, &mut self.tools, &self.header, message);
+        }
+        self.state()
+    }
+
+    /// The state over everything that was fed. It takes no memory.
+    pub fn state(&self) -> SessionState
+        ensures { result ≡ state_of self.now.ended }
+    {
+        match &self.ended {
+            None => SessionState::Open,
+            Some(Ended::Fraud(_proof)) => SessionState::Fraud,
+            Some(Ended::Clash(_clash)) => SessionState::Clash,
+        }
+    }
+
+    /// Fills the room with the cells that don't follow from what was fed, row-major, in place of what it held. Nothing
+    /// has ended the session, and the room is for the header's width. It takes no memory.
+    pub fn missing(&self, room: &mut CellRoom)
+        requires session { IsHeldSession self.now }
+        requires open { state_of self.now.ended ≡ state.Open }
+        requires room { room.old.k ≡ self.now.header.k }
+        ensures { (ms : List Message) → SessionStands self.now ms → AreLeft self.now.header ms room.new }
+    {
+        fill_unknown(&self.board, room);
+    }
+
+    /// Ends the session with the answer over everything that was fed. It takes no memory.
+    pub fn finish(self) -> Verdict
+        requires session { IsHeldSession self }
+        ensures verdict { (ms : List Message) → SessionStands self ms →
+            IsVerdict self.header ms (parts_of result) }
+        ensures state { IsOfState (state_of self.ended) result }
+    {
+        let Session {
+            header,
+            board,
+            tools: _,
+            ended,
+            shares,
+            room,
+        } = self;
+        match ended {
+            Some(ended) => answer_ended(ended),
+            None => answer_open(&board, &header, shares, room),
+        }
+    }
+}

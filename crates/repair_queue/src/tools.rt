@@ -1,0 +1,74 @@
+//! What the steps of a session are lent.
+
+ghost use Rattle.std.specs.Prelude.{◌≡◌, IsTrue, IfOk};
+ghost use Rattle.namespace_id.specs.Cells.{is_width};
+ghost use Rattle.repair_queue.specs.Tools.{AreTools};
+
+use crate::ending::Buffers;
+use axis_roots::Proved;
+use leopard_code::Room;
+use namespace_id::{DIGEST_SIZE, Digest, Namespace, NoMemory, PARITY, SHARE_SIZE, Share};
+use std::alloc::Global;
+
+/// Buffers for the steps of a session over a square of width k.
+#[derive(Drop)]
+pub(crate) struct Tools {
+    /// A room for one axis, and the line of the row or column that is decided.
+    pub(crate) buffers: Buffers,
+    pub(crate) code: Room,
+    /// k positions of it that are known, and their shares.
+    pub(crate) known: Vec<u16>,
+    pub(crate) given: Vec<Share>,
+    /// The namespaces and digests of its leaves, and a copy that is folded.
+    pub(crate) names: Vec<Namespace>,
+    pub(crate) digests: Vec<Digest>,
+    pub(crate) folded: Vec<Digest>,
+    /// The line of a decided row or column that crosses it.
+    pub(crate) across: Vec<Share>,
+    /// A list for k messages, until it is handed out.
+    pub(crate) spare: Option<Vec<Proved>>,
+}
+
+impl Tools {
+    /// Tools for squares of width `k`.
+    pub(crate) fn new(alloc: Global, k: u16) -> Result<Tools, NoMemory>
+        requires width { IsTrue (is_width k) }
+        ensures { IfOk result (AreTools k) }
+    {
+        let buffers = Buffers::new(alloc, k)?;
+        let code = Room::new(alloc, k)?;
+        let side = 2 * k as usize;
+        let Ok(known) = Vec::with_capacity(alloc, k as usize) else {
+            return Err(NoMemory);
+        };
+        let Ok(given) = Vec::with_capacity(alloc, k as usize) else {
+            return Err(NoMemory);
+        };
+        let Ok(names) = vec![in alloc; PARITY; side] else {
+            return Err(NoMemory);
+        };
+        let Ok(digests) = vec![in alloc; Digest([0; DIGEST_SIZE]); side] else {
+            return Err(NoMemory);
+        };
+        let Ok(folded) = vec![in alloc; Digest([0; DIGEST_SIZE]); side] else {
+            return Err(NoMemory);
+        };
+        let Ok(across) = vec![in alloc; Share([0; SHARE_SIZE]); side] else {
+            return Err(NoMemory);
+        };
+        let Ok(spare) = Vec::with_capacity(alloc, k as usize) else {
+            return Err(NoMemory);
+        };
+        Ok(Tools {
+            buffers,
+            code,
+            known,
+            given,
+            names,
+            digests,
+            folded,
+            across,
+            spare: Some(spare),
+        })
+    }
+}
