@@ -1,12 +1,14 @@
 //! Fraud claims: what one node sends to another to say that an axis of a block is encoded badly.
 
-ghost use Rattle.std.specs.Prelude.{◌≡◌, ◌⊎◌, ◌<◌, ◌*◌, ℕ, List, length, true};
+ghost use Rattle.std.specs.Prelude.{◌≡◌, ◌⊎◌, ◌<◌, ◌*◌, ℕ, List, length, true, false};
 ghost use Rattle.std.specs.List.{AllByRecursion, list_all};
 ghost use Rattle.namespace_id.specs.declared.digests.Digest.{Digest};
+ghost use Rattle.namespace_id.specs.declared.shares.Share.{Share};
 ghost use Rattle.namespace_id.specs.Cells.{is_width, is_in_square};
 ghost use Rattle.data_header.specs.Headers.{Roots};
 ghost use Rattle.axis_roots.specs.Openings.{IsProved};
-ghost use Rattle.axis_roots.specs.Claims.{ClaimParts, IsClaim, has_shape, ShowsBad, FitsRoot, Accepts, IsFalseClaim, claimed_root, ProofParts, IsFraudProof};
+ghost use Rattle.axis_roots.specs.Lines.{is_ordered_line};
+ghost use Rattle.axis_roots.specs.Claims.{ClaimParts, IsClaim, has_shape, IsThrough, ShowsBad, FitsRoot, Accepts, IsFalseClaim, claimed_root, ProofParts, IsFraudProof};
 
 use crate::{Message, Proved, message_law};
 use namespace_id::{Axis, Digest};
@@ -93,6 +95,11 @@ pub fn claim_laws()
     ensures apart { (k : ℕ) (claim : ClaimParts) (root : Digest) → is_width k ≡ true →
         list_all (λ m. is_in_square k m.cell) claim.cells ≡ true →
         ShowsBad k claim root → FitsRoot k claim root → ⊥ }
+
+    // Where the leaf namespaces along the codeword fall, every root is bad: there is no strict one.
+    ensures falls { (k : ℕ) (claim : ClaimParts) (root : Digest) (word : List Share) →
+        has_shape k claim ≡ true → IsThrough k claim word →
+        is_ordered_line k claim.axis claim.index word ≡ false → ShowsBad k claim root }
 
     // A claim that is accepted under a square's own header has a message that names a collision with the
     // square.

@@ -21,7 +21,7 @@ use Rattle.lch_fft.proofs.SumLemmas.{sum_from-lt, sum_from-sum, value_one, value
 use Rattle.lch_fft.proofs.PlaceLemmas.{half_front, half_back}
 use Rattle.lch_fft.proofs.SlopeLemmas.{length-slopes}
 use Rattle.leopard_code.specs.Codewords.{column}
-use Rattle.leopard_code.specs.Locators.{AreDerivatives}
+use Rattle.leopard_code.specs.Locators.{AreDerivatives, IsFormalDerivative}
 use Rattle.leopard_code.proofs.PointLemmas.{length-column, column_bytes}
 use Rattle.leopard_code.proofs.NovelLemmas.{subspace_polynomial, value_at-subspace, coefficients, length-coefficients, AreCoefficients-coefficients, value_at-coefficients, AreCoefficients-front, AreCoefficients-back}
 
@@ -78,6 +78,24 @@ derivative_at-coefficients (suc b) ds x hb hx h k =
     ∙ sym (xor_assoc (value low x) v rest)
     ∙ ap (λ (z : ℕ). bit_xor z rest) (sym (sum_from-sum 0 low back x (ll ∙ sym lb)))
     ∙ sym (value_halves b (bytes_sum low back) high x (omega arith) hx (length-bytes_sum low back (2 ^ b) ll lb) lh)
+
+-- derived coefficients are those of the formal derivative
+pub formal_derivative : (old new : List Share) (b : ℕ) → IsTrue (is_count (length old)) → AreShares old → IsDerived old new
+    → b < 512 → IsFormalDerivative old new b
+formal_derivative old new b count shares steps hb =
+    let d : ℕ = halvings (length old) in
+    let ds : List ℕ = column b old in
+    let few : halvings (length old) ≤ 8 = halvings-le (length old) count in
+    let power : 2 ^ halvings (length old) ≡ length old = power_halvings (length old) count in
+    let as_many : length (column b old) ≡ 2 ^ halvings (length old) = length-column b old ∙ sym power in
+    let bytes : AreCoefficients (column b old) = column_bytes b old shares in record {
+      polynomial = coefficients d ds;
+      count = length-coefficients d ds as_many ∙ power;
+      bytes = AreCoefficients-coefficients d ds bytes;
+      values = λ x hx. value_at-coefficients d ds x few hx as_many bytes;
+      slopes = λ x hx. derivative_at-coefficients d ds x few hx as_many bytes
+          ∙ ap (λ (l : List ℕ). value l x) (sym (is_slopes old new b count steps hb));
+    }
 
 -- from values through the coefficients, and those of the derivative, to its values
 pub derivatives : (old middle derived new : List Share) → IsTrue (is_count (length old)) → AreShares middle

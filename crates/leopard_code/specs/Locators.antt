@@ -6,6 +6,7 @@ use Rattle.namespace_id.specs.Cells.{is_width}
 use Rattle.namespace_id.specs.Sizes.{share_size}
 use Rattle.byte_polynomial.specs.Polynomial.{value_at, AreCoefficients}
 use Rattle.byte_polynomial.specs.Derivatives.{derivative_at}
+use Rattle.lch_fft.specs.Transforms.{value}
 use Rattle.leopard_code.specs.Codewords.{column}
 
 -- those of n positions from the first on that are not among ascending known ones
@@ -29,6 +30,15 @@ abbrev pub AreDerivatives : List Share → List Share → Type 0
 AreDerivatives old new = (b : ℕ) → b < share_size → (cs : List ℕ) × (length cs ≡ length old) × AreCoefficients cs
     × ((x : ℕ) → x < length old → value_at cs x ≡ slice_index (column b old) x)
     × ((x : ℕ) → x < length old → derivative_at cs x ≡ slice_index (column b new) x)
+
+-- in a byte column, the sum of d_j * X_j with the new coefficients is the formal derivative of that with the old ones: of
+-- the polynomial that takes its values
+pub record IsFormalDerivative (old new : List Share) (b : ℕ) : Type 0 where
+  pub polynomial : List ℕ
+  pub count : length polynomial ≡ length old
+  pub bytes : AreCoefficients polynomial
+  pub values : (x : ℕ) → x < 256 → value_at polynomial x ≡ value (column b old) x
+  pub slopes : (x : ℕ) → x < 256 → derivative_at polynomial x ≡ value (column b new) x
 
 -- a place for a value of the locator at each position of a codeword
 pub record IsRoom (k : ℕ) (locator : List ℕ) : Type 0 where

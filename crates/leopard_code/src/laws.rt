@@ -6,6 +6,9 @@ ghost use Rattle.namespace_id.specs.Shares.{AreShares};
 ghost use Rattle.namespace_id.specs.Sizes.{share_size};
 ghost use Rattle.namespace_id.specs.Cells.{is_width};
 ghost use Rattle.byte_polynomial.specs.Polynomial.{AreCoefficients};
+ghost use Rattle.lch_fft.specs.Transforms.{is_count};
+ghost use Rattle.lch_fft.specs.Derivatives.{IsDerived};
+ghost use Rattle.leopard_code.specs.Locators.{IsFormalDerivative};
 ghost use Rattle.leopard_code.specs.Codewords.{column, are_positions, IsCodeword, HasEntries, shares_sum, shares_multiple, weighted};
 
 /// The laws of codewords. It changes nothing.
@@ -38,4 +41,9 @@ pub fn code_laws()
         (b : ℕ) → b < share_size →
         IfSome (slice_get word pos)
         (λ share. slice_index share.0 b ≡ weighted ws (column b shares))) }
+
+    // What `derive` of the transforms makes of coefficients of the X_j are those of the formal
+    // derivative.
+    ensures derivative { (old new : List Share) (b : ℕ) → IsTrue (is_count (length old)) →
+        AreShares old → IsDerived old new → b < share_size → IsFormalDerivative old new b }
 {}

@@ -26,7 +26,7 @@ fn are_ascending(known: &[u16]) -> bool
 
 /// Whether these are positions of a codeword, all below 2k and strictly ascending.
 ///
-/// docs/RULES.md, "Points".
+/// docs/RULES.md, "The code".
 pub fn are_positions(k: u16, known: &[u16]) -> bool
     ensures { result ≡ are_positions k known.now }
 {

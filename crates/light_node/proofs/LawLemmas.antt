@@ -1,5 +1,5 @@
 -- Light verdicts and states: there is one, whatever the order of events.
-use Rattle.std.proofs.Common.{◌≡◌, ◌∙◌, ℕ, List, [], ◌∷◌, ◌++◌, Some, true, refl, sym, subst, ap, ap₂}
+use Rattle.std.proofs.Common.{◌≡◌, ◌∙◌, ℕ, List, [], ◌∷◌, ◌++◌, append_assoc, Some, true, refl, sym, subst, ap, ap₂}
 use Rattle.std.specs.Prelude.{◌↔◌}
 use Rattle.std.specs.List.{Contains}
 use Rattle.std.proofs.lemmas.List.Elements.{Contains-append_left, Contains-append_right}
@@ -112,6 +112,17 @@ first_of_split header a b (x ∷ before) (y ∷ front) after back e none other h
     first_of_split header a b before front after back f (λ claim at. none claim (contains_tail x (Claim claim) before
     at))
     (λ claim at. other claim (contains_tail y (Claim claim) front at)) ha hb
+
+-- the first accepted claim stays the first
+pub first_stays : (header : Roots) (events later : List Event) (claim : ClaimParts) → IsFirstAccepted header events (Some claim)
+    → IsFirstAccepted header (events ++ later) (Some claim)
+first_stays header events later claim (accepts, before, after, is, none) = (
+  accepts,
+  before,
+  after ++ later,
+  ap (λ (l : List Event). l ++ later) is ∙ append_assoc before (Claim claim ∷ after) later,
+  none,
+)
 
 -- there is one first accepted claim
 first_once : (header : Roots) (events : List Event) (a b : ClaimParts) → IsFirstAccepted header events (Some a)

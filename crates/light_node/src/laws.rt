@@ -1,14 +1,15 @@
 //! The laws of light verdicts.
 
-ghost use Rattle.std.specs.Prelude.{◌≡◌, ◌↔◌, ◌++◌, List};
+ghost use Rattle.std.specs.Prelude.{◌≡◌, ◌↔◌, ◌++◌, List, Some};
 ghost use Rattle.std.specs.List.{Contains};
 ghost use Rattle.namespace_id.specs.declared.cells.Cell.{Cell};
 ghost use Rattle.data_header.specs.Headers.{Roots};
+ghost use Rattle.axis_roots.specs.Claims.{ClaimParts};
 ghost use Rattle.light_node.specs.declared.events.Event.{Event};
 ghost use Rattle.light_node.specs.declared.events.LightState.{LightState};
 ghost use Rattle.light_node.specs.declared.events.LightState.TheVariants as state;
 ghost use Rattle.light_node.specs.declared.events.Light.{Light};
-ghost use Rattle.light_node.specs.Events.{IsState, IsLight, state_of};
+ghost use Rattle.light_node.specs.Events.{IsFirstAccepted, IsState, IsLight, state_of};
 
 /// The laws of light verdicts. It does nothing.
 pub fn light_laws()
@@ -32,4 +33,9 @@ pub fn light_laws()
         (one : LightState) →
         IsState header plan events state.Rejected →
         IsState header more (events ++ later) one → one ≡ state.Rejected }
+
+    // The first accepted claim stays the first, whatever comes later.
+    ensures kept { (header : Roots) (events later : List Event) (claim : ClaimParts) →
+        IsFirstAccepted header events (Some claim) →
+        IsFirstAccepted header (events ++ later) (Some claim) }
 {}

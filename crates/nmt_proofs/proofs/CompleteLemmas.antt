@@ -1,6 +1,6 @@
 -- What the digests over leaves beside some places say of a namespace.
-use Rattle.std.proofs.Common.{◌≡◌, ◌≢◌, ◌∙◌, ℕ, suc, ◌+◌, ◌^◌, ◌≤◌, List, [], ◌∷◌, length, Bool, true, false, cond, Option, Some, None, refl, sym, ap, ap₂, inl, inr, arith}
-use Rattle.std.specs.Prelude.{nat_lt}
+use Rattle.std.proofs.Common.{◌≡◌, ◌∙◌, ℕ, suc, ◌+◌, ◌^◌, ◌<◌, ◌≤◌, List, [], ◌∷◌, length, Bool, true, false, cond, Option, Some, None, refl, sym, ap, inl, inr, arith}
+use Rattle.std.specs.Prelude.{nat_lt, not}
 use Rattle.std.specs.List.{AllByRecursion}
 use Rattle.std.proofs.lemmas.Bool.{cases_Bool, true≢false, not-true, lt-ltb, le-ltb}
 use Rattle.std.proofs.lemmas.Nat.{pow_pos}
@@ -9,6 +9,7 @@ use Rattle.namespace_id.specs.declared.shares.Share.{Share}
 use Rattle.namespace_id.specs.declared.digests.Digest.{Digest}
 use Rattle.namespace_id.specs.Names.{is_at_most, is_below, is_parity}
 use Rattle.namespace_id.specs.Digests.{least_of, greatest_of}
+use Rattle.namespace_id.proofs.OrderLemmas.{at_most_refl, at_most_trans}
 use Rattle.nmt_tree.specs.Roots.{is_ordered}
 use Rattle.nmt_tree.specs.Levels.{span, leaf_digests}
 use Rattle.nmt_tree.specs.Spans.{name_at, IsOver, IsAbove}
@@ -16,7 +17,7 @@ use Rattle.nmt_tree.proofs.NameLemmas.{ordered_at}
 use Rattle.nmt_tree.proofs.OverLemmas.{over_span}
 use Rattle.nmt_tree.proofs.AboveLemmas.{above_span}
 use Rattle.nmt_proofs.specs.Clashes.{AreLeaves}
-use Rattle.nmt_proofs.specs.Complete.{excludes, first_break, IsBetween}
+use Rattle.nmt_proofs.specs.Complete.{excludes, first_break, IsBetween, StandsBetween, IsNowhereElse}
 use Rattle.nmt_proofs.specs.Making.{spans}
 use Rattle.nmt_proofs.proofs.BesideLemmas.{IsBeside, IsFound}
 
@@ -80,28 +81,54 @@ pub each_clear : (name : Namespace) (low high last : ℕ) (leaves : List Digest)
 each_clear name low high last leaves [] beside excluded = tt
 each_clear name low high last leaves (x ∷ xs) beside excluded = ((beside.0, excluded.0), each_clear name low high last leaves xs beside.1 excluded.1)
 
--- over ordered names, no leaf in such an interval has the namespace
-pub no_leaf : (name : Namespace) (low high depth i : ℕ) (names : List Namespace) (shares : List Share) → is_parity name ≡ false → AreLeaves depth names shares
-    → is_ordered names ≡ true → low ≤ high → IsFound (IsClear name low high (2 ^ depth) (leaf_digests names shares)) i → name_at names i ≢ name
-no_leaf name low high depth i names shares other of ordered apart found same =
+-- what isn't at most a namespace is above it
+below_of : (a b : Namespace) → (is_at_most b a ≡ true → ⊥) → is_below a b ≡ true
+below_of a b h = elim (cases_Bool (is_at_most b a)) [ inl t ↦ absurd (h t) | inr f ↦ ap not f ]
+
+-- over ordered names, a leaf in such an interval on the left has PARITY or a namespace below it
+pub leaf_on_left : (name : Namespace) (low high depth i : ℕ) (names : List Namespace) (shares : List Share) → AreLeaves depth names shares
+    → is_ordered names ≡ true → low ≤ high → IsFound (IsClear name low high (2 ^ depth) (leaf_digests names shares)) i → i < low
+    → is_parity (name_at names i) ≡ false → is_below (name_at names i) name ≡ true
+leaf_on_left name low high depth i names shares of ordered apart found before other =
+    let x : ℕ × ℕ = found.interval in
+    let beside : IsBeside low high (2 ^ depth) x = found.fact.0 in
+    let d : Digest = span (leaf_digests names shares) x.0 x.1 in
+    let count : length shares ≡ length names = of.share_count ∙ sym of.name_count in
+    let fits : x.0 + 2 ^ x.1 ≤ length names = omega (arith, beside.within, of.name_count) in
+    let above : IsAbove names x.0 x.1 d = above_span x.1 x.0 names shares of.name_bytes count ordered fits in
+    let on_left : nat_lt x.0 low ≡ true = lt-ltb x.0 low (omega (arith, found.low, before)) in
+    let below : is_below (greatest_of d) name ≡ true = sym (ap (λ (b : Bool). excludes name b d) on_left) ∙ found.fact.1 in
+    below_of (name_at names i) name (λ over.
+    let under : is_at_most name (greatest_of d) ≡ true =
+    at_most_trans name (name_at names i) (greatest_of d) over (above i found.low found.high other) in
+    true≢false (sym under ∙ not-true _ below))
+
+-- and a leaf in one on the right has a namespace above it
+pub leaf_on_right : (name : Namespace) (low high depth i : ℕ) (names : List Namespace) (shares : List Share) → AreLeaves depth names shares
+    → is_ordered names ≡ true → low ≤ high → IsFound (IsClear name low high (2 ^ depth) (leaf_digests names shares)) i → high ≤ i
+    → is_below name (name_at names i) ≡ true
+leaf_on_right name low high depth i names shares of ordered apart found behind =
     let x : ℕ × ℕ = found.interval in
     let beside : IsBeside low high (2 ^ depth) x = found.fact.0 in
     let d : Digest = span (leaf_digests names shares) x.0 x.1 in
     let count : length shares ≡ length names = of.share_count ∙ sym of.name_count in
     let fits : x.0 + 2 ^ x.1 ≤ length names = omega (arith, beside.within, of.name_count) in
     let over : IsOver names x.0 x.1 d = over_span x.1 x.0 names shares of.name_bytes count fits in
-    let above : IsAbove names x.0 x.1 d = above_span x.1 x.0 names shares of.name_bytes count ordered fits in
-    elim beside.side [
-      | inl left ↦
-          let on_left : nat_lt x.0 low ≡ true = lt-ltb x.0 low (omega (arith, left, pow_pos x.1)) in
-          let below : is_below (greatest_of d) name ≡ true = sym (ap (λ (b : Bool). excludes name b d) on_left) ∙ found.fact.1 in
-          let under : is_at_most name (greatest_of d) ≡ true =
-          sym (ap (λ (n : Namespace). is_at_most n (greatest_of d)) same) ∙ above i found.low found.high (ap is_parity same ∙ other) in
-          absurd (true≢false (sym under ∙ not-true _ below))
-      | inr right ↦
-          let on_right : nat_lt x.0 low ≡ false = le-ltb x.0 low (omega (arith, right)) in
-          let below : is_below name (least_of d) ≡ true = sym (ap (λ (b : Bool). excludes name b d) on_right) ∙ found.fact.1 in
-          let under : is_at_most (least_of d) name ≡ true =
-          ap₂ is_at_most over.least (sym same) ∙ ordered_at names x.0 i ordered found.low (omega (arith, found.high, fits)) in
-          absurd (true≢false (sym under ∙ not-true _ below))
+    let on_right : nat_lt x.0 low ≡ false =
+    le-ltb x.0 low (elim beside.side [ inl left ↦ omega (arith, left, found.high, behind, apart) | inr right ↦ omega (arith, right, apart) ]) in
+    let below : is_below name (least_of d) ≡ true = sym (ap (λ (b : Bool). excludes name b d) on_right) ∙ found.fact.1 in
+    below_of name (name_at names i) (λ under.
+    let least : is_at_most (least_of d) (name_at names i) ≡ true =
+    ap (λ (n : Namespace). is_at_most n (name_at names i)) over.least ∙ ordered_at names x.0 i ordered found.low (omega (arith, found.high, fits)) in
+    true≢false (sym (at_most_trans (least_of d) (name_at names i) name least under) ∙ not-true _ below))
+
+-- where other leaves stand so, none of them has the namespace
+pub stands_alone : (name : Namespace) (names : List Namespace) (from to : ℕ) → is_parity name ≡ false → StandsBetween name names from to
+    → IsNowhereElse name names from to
+stands_alone name names from to other stands i within beside same =
+    let never : is_below name name ≡ true → ⊥ = λ below. true≢false (sym (at_most_refl name) ∙ not-true _ below) in
+    elim beside [
+      | inl before ↦
+          never (ap (λ (n : Namespace). is_below n name) (sym same) ∙ stands.below i within before (ap is_parity same ∙ other))
+      | inr behind ↦ never (ap (is_below name) (sym same) ∙ stands.above i behind within)
     ]

@@ -11,13 +11,13 @@ use Rattle.namespace_id.specs.Digests.{no_digest}
 use Rattle.nmt_tree.specs.Roots.{is_ordered}
 use Rattle.nmt_tree.specs.Levels.{span, leaf_digests}
 use Rattle.nmt_proofs.specs.Clashes.{AreLeaves}
-use Rattle.nmt_proofs.specs.Complete.{first_break, range_break, absence_break, IsBetween, IsNowhereElse}
+use Rattle.nmt_proofs.specs.Complete.{first_break, range_break, absence_break, IsBetween, StandsBetween, IsNowhereElse}
 use Rattle.nmt_proofs.specs.Making.{spans}
 use Rattle.nmt_proofs.specs.Openings.{Shown, outside, leaves_from, one_digest}
 use Rattle.nmt_proofs.proofs.ListLemmas.{each-append, each-split}
 use Rattle.nmt_proofs.proofs.RunLemmas.{IsRun, run_leaves, length-leaves_from}
 use Rattle.nmt_proofs.proofs.BesideLemmas.{IsBeside, outside_beside, outside_holds, IsFound}
-use Rattle.nmt_proofs.proofs.CompleteLemmas.{IsClear, break_none, none_breaks, each_excluded, each_clear, no_leaf}
+use Rattle.nmt_proofs.proofs.CompleteLemmas.{IsClear, break_none, none_breaks, each_excluded, each_clear, leaf_on_left, leaf_on_right, stands_alone}
 
 -- the intervals outside of a run in a tree are beside it
 beside_run : (depth from : ℕ) (ss : List Shown) → IsRun from ss → 0 < length ss → from + length ss ≤ 2 ^ depth
@@ -42,24 +42,37 @@ made_range depth from name names shares shown of some fits between =
     (subst (λ (k : ℕ). IsBetween name names from (from + k)) (sym count) between) (omega arith)
     (beside_run depth from ss (run_leaves from name shown) (omega (arith, count, some)) (omega (arith, count, fits))))
 
--- where the nodes of a range leave no room, no other leaf has the namespace
-pub range_alone : (depth from : ℕ) (name : Namespace) (names : List Namespace) (shares shown : List Share) → is_parity name ≡ false
+-- where the nodes of a range leave no room, the namespaces beside it stand as they should
+pub range_stands : (depth from : ℕ) (name : Namespace) (names : List Namespace) (shares shown : List Share)
     → AreLeaves depth names shares → is_ordered names ≡ true → 0 < length shown → from + length shown ≤ 2 ^ depth
     → range_break depth from name shown (spans (leaf_digests names shares) (outside depth 0 (leaves_from from name shown))) ≡ None
-    → IsNowhereElse name names from (from + length shown)
-range_alone depth from name names shares shown other of ordered some fits none i lt beside =
+    → StandsBetween name names from (from + length shown)
+range_stands depth from name names shares shown of ordered some fits none =
     let ss : List Shown = leaves_from from name shown in
     let run : IsRun from ss = run_leaves from name shown in
     let leaves : List Digest = leaf_digests names shares in
     let high : ℕ = from + length ss in
     let count : length ss ≡ length shown = length-leaves_from from name shown in
-    let clear : AllByRecursion (IsClear name from high (2 ^ depth) leaves) (outside depth 0 ss) =
+    let Clear : ℕ × ℕ → Type 0 = IsClear name from high (2 ^ depth) leaves in
+    let clear : AllByRecursion Clear (outside depth 0 ss) =
     each_clear name from high (2 ^ depth) leaves (outside depth 0 ss)
     (beside_run depth from ss run (omega (arith, count, some)) (omega (arith, count, fits)))
     (none_breaks name from 0 leaves (outside depth 0 ss) none) in
-    no_leaf name from high depth i names shares other of ordered (omega arith)
-    (other_place (IsClear name from high (2 ^ depth) leaves) depth from i ss run (omega (arith, count, fits)) clear (omega (arith, lt, of.name_count))
-    (elim beside [ inl before ↦ inl before | inr behind ↦ inr (omega (arith, behind, count)) ]))
+    let found : (i : ℕ) → i < length names → (i < from) ⊎ (high ≤ i) → IsFound Clear i =
+    λ i lt side. other_place Clear depth from i ss run (omega (arith, count, fits)) clear (omega (arith, lt, of.name_count)) side in record {
+      below = λ i lt before other. leaf_on_left name from high depth i names shares of ordered (omega arith) (found i lt (inl before)) before other;
+      above = λ i behind lt.
+          leaf_on_right name from high depth i names shares of ordered (omega arith) (found i lt (inr (omega (arith, behind, count))))
+          (omega (arith, behind, count));
+    }
+
+-- so no other leaf has the namespace
+pub range_alone : (depth from : ℕ) (name : Namespace) (names : List Namespace) (shares shown : List Share) → is_parity name ≡ false
+    → AreLeaves depth names shares → is_ordered names ≡ true → 0 < length shown → from + length shown ≤ 2 ^ depth
+    → range_break depth from name shown (spans (leaf_digests names shares) (outside depth 0 (leaves_from from name shown))) ≡ None
+    → IsNowhereElse name names from (from + length shown)
+range_alone depth from name names shares shown other of ordered some fits none =
+    stands_alone name names from (from + length shown) other (range_stands depth from name names shares shown of ordered some fits none)
 
 -- the intervals of an absence, and that of its leaf, are beside its place
 beside_place : (depth pos : ℕ) (leaf : Digest) → pos < 2 ^ depth → AllByRecursion (IsBeside pos pos (2 ^ depth)) (outside depth 0 (one_digest pos leaf) ++ (pos, 0) ∷ [])
@@ -92,12 +105,12 @@ made_absence depth pos name names shares leaf of lt between e =
     ap (first_break name pos 0 xs) (leaf_is_node pos leaf leaves (outside depth 0 (one_digest pos leaf)) e)
     ∙ break_none name pos 0 leaves xs (each_excluded name pos pos depth names shares xs of between (omega arith) (beside_place depth pos leaf lt))
 
--- where the nodes of an absence leave no room, no leaf has the namespace
-pub absence_alone : (depth pos : ℕ) (name : Namespace) (names : List Namespace) (shares : List Share) (leaf : Digest) → is_parity name ≡ false
+-- where the nodes of an absence leave no room, the namespaces beside its place stand as they should
+pub absence_stands : (depth pos : ℕ) (name : Namespace) (names : List Namespace) (shares : List Share) (leaf : Digest)
     → AreLeaves depth names shares → is_ordered names ≡ true → pos < 2 ^ depth → leaf ≡ get_or (leaf_digests names shares) pos no_digest
     → absence_break depth pos name leaf (spans (leaf_digests names shares) (outside depth 0 (one_digest pos leaf))) ≡ None
-    → IsNowhereElse name names pos pos
-absence_alone depth pos name names shares leaf other of ordered lt e none i within beside =
+    → StandsBetween name names pos pos
+absence_stands depth pos name names shares leaf of ordered lt e none =
     let ss : List Shown = one_digest pos leaf in
     let leaves : List Digest = leaf_digests names shares in
     let xs : List (ℕ × ℕ) = outside depth 0 ss ++ (pos, 0) ∷ [] in
@@ -106,12 +119,20 @@ absence_alone depth pos name names shares leaf other of ordered lt e none i with
     each_clear name pos pos (2 ^ depth) leaves xs (beside_place depth pos leaf lt)
     (none_breaks name pos 0 leaves xs (sym (ap (first_break name pos 0 xs) (leaf_is_node pos leaf leaves (outside depth 0 ss) e)) ∙ none)) in
     let both = each-split Clear (outside depth 0 ss) ((pos, 0) ∷ []) clear in
-    let at : (i < pos) ⊎ (pos + 1 ≤ i) → IsFound Clear i =
-    λ side. other_place Clear depth pos i ss (refl, refl, tt) (omega (arith, lt)) both.0 (omega (arith, within, of.name_count)) side in
-    no_leaf name pos pos depth i names shares other of ordered (omega arith) (elim (cases_lt i pos) [
-      | inl before ↦ at (inl before)
-      | inr from_pos ↦ elim (cases_lt pos i) [
-        | inl behind ↦ at (inr (omega (arith, behind)))
-        | inr same ↦ record { interval = (pos, 0); fact = both.1.0; low = from_pos; high = omega (arith, same) }
-      ]
-    ])
+    let at : (i : ℕ) → i < length names → (i < pos) ⊎ (pos + 1 ≤ i) → IsFound Clear i =
+    λ i within side. other_place Clear depth pos i ss (refl, refl, tt) (omega (arith, lt)) both.0 (omega (arith, within, of.name_count)) side in record {
+      below = λ i within before other. leaf_on_left name pos pos depth i names shares of ordered (omega arith) (at i within (inl before)) before other;
+      above = λ i from_pos within.
+          leaf_on_right name pos pos depth i names shares of ordered (omega arith) (elim (cases_lt pos i) [
+            | inl behind ↦ at i within (inr (omega (arith, behind)))
+            | inr same ↦ record { interval = (pos, 0); fact = both.1.0; low = from_pos; high = omega (arith, same) }
+          ]) from_pos;
+    }
+
+-- so no leaf has the namespace
+pub absence_alone : (depth pos : ℕ) (name : Namespace) (names : List Namespace) (shares : List Share) (leaf : Digest) → is_parity name ≡ false
+    → AreLeaves depth names shares → is_ordered names ≡ true → pos < 2 ^ depth → leaf ≡ get_or (leaf_digests names shares) pos no_digest
+    → absence_break depth pos name leaf (spans (leaf_digests names shares) (outside depth 0 (one_digest pos leaf))) ≡ None
+    → IsNowhereElse name names pos pos
+absence_alone depth pos name names shares leaf other of ordered lt e none =
+    stands_alone name names pos pos other (absence_stands depth pos name names shares leaf of ordered lt e none)

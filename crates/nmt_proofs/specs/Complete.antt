@@ -1,10 +1,10 @@
 -- When an opening leaves no other place for a namespace (Celestia specifications, "Data Structures", namespace proofs;
 -- docs/RULES.md, "Namespace proofs").
-use Rattle.std.specs.Prelude.{◌≡◌, ◌≢◌, ◌⊎◌, ◌<◌, ◌≤◌, ℕ, suc, List, [], ◌∷◌, ◌++◌, length, Bool, true, nat_lt, Option, Some, None, if◌then◌else◌}
+use Rattle.std.specs.Prelude.{◌≡◌, ◌≢◌, ◌⊎◌, ◌<◌, ◌≤◌, ℕ, suc, List, [], ◌∷◌, ◌++◌, length, Bool, true, false, nat_lt, Option, Some, None, if◌then◌else◌}
 use Rattle.namespace_id.specs.declared.namespaces.Namespace.{Namespace}
 use Rattle.namespace_id.specs.declared.shares.Share.{Share}
 use Rattle.namespace_id.specs.declared.digests.Digest.{Digest}
-use Rattle.namespace_id.specs.Names.{is_below}
+use Rattle.namespace_id.specs.Names.{is_below, is_parity}
 use Rattle.namespace_id.specs.Digests.{least_of, greatest_of}
 use Rattle.nmt_tree.specs.Spans.{name_at}
 use Rattle.nmt_proofs.specs.Openings.{outside, leaves_from, one_digest}
@@ -35,6 +35,11 @@ absence_break depth pos name leaf nodes =
 -- the namespaces before one place are below a namespace, and those from another place on are above it
 pub record IsBetween (name : Namespace) (names : List Namespace) (from to : ℕ) : Type 0 where
   pub below : (i : ℕ) → i < from → is_below (name_at names i) name ≡ true
+  pub above : (i : ℕ) → to ≤ i → i < length names → is_below name (name_at names i) ≡ true
+
+-- the namespaces before one place are below a namespace or PARITY, and those from another place on are above it
+pub record StandsBetween (name : Namespace) (names : List Namespace) (from to : ℕ) : Type 0 where
+  pub below : (i : ℕ) → i < length names → i < from → is_parity (name_at names i) ≡ false → is_below (name_at names i) name ≡ true
   pub above : (i : ℕ) → to ≤ i → i < length names → is_below name (name_at names i) ≡ true
 
 -- no leaf before one place, and none from another place on, has the namespace

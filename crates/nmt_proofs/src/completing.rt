@@ -11,7 +11,7 @@ ghost use Rattle.nmt_tree.specs.Levels.{leaf_digests};
 ghost use Rattle.nmt_proofs.specs.Openings.{outside, leaves_from, one_digest};
 ghost use Rattle.nmt_proofs.specs.Clashes.{AreLeaves};
 ghost use Rattle.nmt_proofs.specs.Making.{spans};
-ghost use Rattle.nmt_proofs.specs.Complete.{excludes, first_break, range_break, absence_break, IsBetween, IsNowhereElse};
+ghost use Rattle.nmt_proofs.specs.Complete.{excludes, first_break, range_break, absence_break, IsBetween, StandsBetween, IsNowhereElse};
 ghost use Rattle.nmt_proofs.specs.Pieces.{shown};
 
 use crate::joining::{Piece, count_outside, halves, is_piece};
@@ -83,7 +83,23 @@ pub fn complete_laws()
         absence_break depth pos name leaf
         (spans (leaf_digests names shares) (outside depth 0 (one_digest pos leaf))) ≡ None }
 
-    // Where namespaces never fall and they leave no room, no other leaf has the namespace.
+    // Where namespaces never fall and they leave no room, it is just so, but that PARITY may stand
+    // before what is opened.
+    ensures range_between { (depth from : ℕ) (name : Namespace) (names : List Namespace)
+        (shares shown : List Share) → IsNamespace name → AreLeaves depth names shares →
+        is_ordered names ≡ true → 0 < length shown → from + length shown ≤ 2 ^ depth →
+        range_break depth from name shown
+        (spans (leaf_digests names shares) (outside depth 0 (leaves_from from name shown))) ≡ None →
+        StandsBetween name names from (from + length shown) }
+    ensures absence_between { (depth pos : ℕ) (name : Namespace) (names : List Namespace)
+        (shares : List Share) (leaf : Digest) → IsNamespace name → AreLeaves depth names shares →
+        is_ordered names ≡ true → pos < 2 ^ depth →
+        leaf ≡ get_or (leaf_digests names shares) pos no_digest →
+        absence_break depth pos name leaf
+        (spans (leaf_digests names shares) (outside depth 0 (one_digest pos leaf))) ≡ None →
+        StandsBetween name names pos pos }
+
+    // So no other leaf has the namespace, which isn't PARITY.
     ensures range { (depth from : ℕ) (name : Namespace) (names : List Namespace)
         (shares shown : List Share) → IsNamespace name → is_parity name ≡ false →
         AreLeaves depth names shares → is_ordered names ≡ true → 0 < length shown →

@@ -331,4 +331,18 @@ mod tests {
         let got = open_absent(4, 2, &name, &third, &[left, last], &root);
         assert_eq!(rt; got, Err(OpenRefusal::Incomplete(2)), "a leaf below");
     }
+
+    #[test]
+    fn absence_behind_the_first_leaf_above(rt: HostRuntime) {
+        let name = name_of(2);
+        let shares = Share([7; 512]);
+        let low = node(&leaf(&name_of(1), &shares), &leaf(&name_of(1), &shares));
+        let third = leaf(&name_of(3), &shares);
+        let last = leaf(&name_of(7), &shares);
+        let root = node(&low, &node(&third, &last));
+        let got = open_absent(4, 2, &name, &third, &[low, last], &root);
+        assert_eq!(rt; got, Ok(()), "the first leaf above");
+        let got = open_absent(4, 3, &name, &last, &[low, third], &root);
+        assert_eq!(rt; got, Err(OpenRefusal::Incomplete(1)), "the second");
+    }
 }

@@ -8,3 +8,4 @@ pub mod OpeningLemmas
 pub mod SizeLemmas
 pub mod ShownLemmas
 pub mod AnswerLemmas
+pub mod OnlyLemmas

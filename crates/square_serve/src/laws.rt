@@ -1,6 +1,6 @@
 //! What is proved of answers to namespace requests.
 
-ghost use Rattle.std.specs.Prelude.{◌≡◌, ◌↔◌, ℕ, List, None, true, false};
+ghost use Rattle.std.specs.Prelude.{◌≡◌, ◌⊎◌, ◌↔◌, ℕ, List, None, true, false};
 ghost use Rattle.namespace_id.specs.declared.cells.Cell.{Cell};
 ghost use Rattle.namespace_id.specs.declared.cells.Axis.{Axis};
 ghost use Rattle.namespace_id.specs.declared.namespaces.Namespace.{Namespace};
@@ -54,4 +54,11 @@ pub fn serve_laws()
     ensures shares { (held : HeldParts) (square : SquareShares) (name : Namespace) → IsHeld held →
         Holds held square → IsNamespace name → is_parity name ≡ false →
         shown (answer_for held name) ≡ shares_of square name }
+
+    // No other answer is complete under the header of the square that is held, unless an entry and the
+    // square name a collision.
+    ensures only { (held : HeldParts) (square : SquareShares) (name : Namespace)
+        (answer : List NsEntry) → Holds held square → IsNamespace name → AreEntries answer →
+        IsComplete held.header name answer →
+        (answer ≡ answer_for held name) ⊎ AnswerNames name square answer }
 {}

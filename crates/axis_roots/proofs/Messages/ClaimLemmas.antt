@@ -1,5 +1,5 @@
 -- Fraud claims: the codeword through a claim's cells.
-use Rattle.std.proofs.Common.{◌≡◌, ◌≢◌, ◌∙◌, ℕ, ◌*◌, ◌<◌, List, [], ◌∷◌, length, map, Bool, true, ◌==◌, ◌&&◌, IsTrue, refl, sym, ap, inl, inr, arith}
+use Rattle.std.proofs.Common.{◌≡◌, ◌≢◌, ◌∙◌, ℕ, ◌*◌, ◌<◌, List, [], ◌∷◌, length, map, Bool, true, false, cond, ◌==◌, ◌&&◌, IsTrue, refl, sym, ap, inl, inr, arith}
 use Rattle.std.specs.Prelude.{◌⊎◌, Option, Some, None, nat_lt}
 use Rattle.std.specs.List.{AllByRecursion, list_all}
 use Rattle.std.specs.Str.{bytes_eq}
@@ -18,7 +18,8 @@ use Rattle.leopard_code.specs.Codewords.{are_positions}
 use Rattle.leopard_code.proofs.LawLemmas.{one_codeword, through_shares}
 use Rattle.axis_roots.specs.declared.message.messages.Message.{Message}
 use Rattle.axis_roots.specs.Messages.{IsMessage, position}
-use Rattle.axis_roots.specs.Lines.{line_strict_root}
+use Rattle.nmt_tree.specs.Roots.{halvings, strict_root, root as tree_root}
+use Rattle.axis_roots.specs.Lines.{line_names, is_ordered_line, line_strict_root}
 use Rattle.axis_roots.specs.Claims.{ClaimParts, IsClaim, positions_of, shares_of, is_on, has_shape, IsThrough, ShowsBad, FitsRoot}
 use Rattle.axis_roots.proofs.Grids.NumberLemmas.{position-lt}
 
@@ -117,3 +118,14 @@ pub bad_apart : (k : ℕ) (claim : ClaimParts) (root : Digest) → is_width k �
 bad_apart k claim root width inside bad fits =
     let one : bad.word ≡ fits.word = word_once k claim bad.word fits.word width (shape_of k claim bad.shape) inside bad.through fits.through in
     bad.other (ap (line_strict_root k claim.axis claim.index) one ∙ fits.same)
+
+-- where the leaf namespaces along it fall, every root is bad
+pub falls_bad : (k : ℕ) (claim : ClaimParts) (root : Digest) (word : List Share) → has_shape k claim ≡ true → IsThrough k claim word
+    → is_ordered_line k claim.axis claim.index word ≡ false → ShowsBad k claim root
+unfolding strict_root
+falls_bad k claim root word shape through falls = record {
+  shape = shape;
+  word = word;
+  through = through;
+  other = λ e. none-some root (sym (ap (λ (b : Bool). cond b (Some (tree_root (halvings (2 * k)) (line_names k claim.axis claim.index word) word)) None) falls) ∙ e);
+}

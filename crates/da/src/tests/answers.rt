@@ -197,10 +197,12 @@ fn changed_absences(rt: HostRuntime) -> Result<(), Fail> {
 fn changed_ranges(rt: HostRuntime) -> Result<(), Fail> {
     let alloc = rt.alloc();
     let first_alone: &[(usize, usize, u8)] = &[(3, 4, 2), (4, 5, 0xdb), (35, 36, 1)];
-    let cases: [(&str, Cut, &str); 6] = [
+    let twice: &[(usize, usize, u8)] = &[(554, 555, 1), (737, 738, 0)];
+    let cases: [(&str, Cut, &str); 7] = [
         ("as it is", (1436, &[]), "ok\n"),
         ("first row alone", (736, first_alone), "refused 2\n"),
         ("first row twice", (1436, &[(737, 738, 0)]), "refused 2\n"),
+        ("another share, and first row twice", (1436, twice), "refused 2\n"),
         ("behind the row", (1436, &[(40, 41, 2)]), "refused 2\n"),
         ("start 0", (1436, &[(40, 41, 0)]), "refused 3\n"),
         ("another share", (1436, &[(554, 555, 1)]), "refused 3\n"),

@@ -29,11 +29,11 @@ use Rattle.square_serve.proofs.RowLemmas.{row_shares-range, row_shares-none}
 use Rattle.square_serve.proofs.RowTreeLemmas.{IsRow, own_row}
 
 -- where a range stands
-placed_range : (k start count : ℕ) → (nat_lt 0 count && not (nat_lt k (start + count))) ≡ true → (0 < count) × (start + count ≤ k)
+pub placed_range : (k start count : ℕ) → (nat_lt 0 count && not (nat_lt k (start + count))) ≡ true → (0 < count) × (start + count ≤ k)
 placed_range k start count h = grind (arith, nat_tests)
 
 -- where an absence stands
-placed_absence : (k pos : ℕ) → nat_lt pos k ≡ true → pos < k
+pub placed_absence : (k pos : ℕ) → nat_lt pos k ≡ true → pos < k
 placed_absence k pos h = grind (arith, nat_tests)
 
 -- what a range shows are the row's shares of the namespace

@@ -27,20 +27,20 @@ use Rattle.square_serve.proofs.Judging.FoundLemmas.{found_shows}
 use Rattle.square_serve.proofs.RowTreeLemmas.{shown_rows}
 
 -- the tree of an entry agrees with the row of the header's grid
-row_agrees : (header : Roots) (name : Namespace) (square : SquareShares) (own : IsHeaderOf header square) (entry : NsEntry) → EntryAgrees name square entry
+pub row_agrees : (header : Roots) (name : Namespace) (square : SquareShares) (own : IsHeaderOf header square) (entry : NsEntry) → EntryAgrees name square entry
     → Agree (opened_by square.k name entry.found) (axis_tree square.k own.grid Row entry.row)
 row_agrees header name square own entry agrees =
     let one : agrees.grid ≡ own.grid = extension_once square.k square.shares agrees.grid own.grid own.whole.width agrees.extends own.extends in
     subst (λ (g : List Share). Agree (opened_by square.k name entry.found) (axis_tree square.k g Row entry.row)) one agrees.same
 
 -- an entry of a complete answer: of the answer's sizes, in a row of the original square, and holding
-record IsSoundEntry (header : Roots) (name : Namespace) (entry : NsEntry) : Type 0 where
-  sized : IsEntry entry
-  row : entry.row < header.k
-  holds : HoldsEntry header name entry
+pub record IsSoundEntry (header : Roots) (name : Namespace) (entry : NsEntry) : Type 0 where
+  pub sized : IsEntry entry
+  pub row : entry.row < header.k
+  pub holds : HoldsEntry header name entry
 
 -- each entry of a complete answer is one
-each_sound : (header : Roots) (name : Namespace) (answer : List NsEntry) → AreEntries answer → IsComplete header name answer
+pub each_sound : (header : Roots) (name : Namespace) (answer : List NsEntry) → AreEntries answer → IsComplete header name answer
     → AllByRecursion (IsSoundEntry header name) answer
 each_sound header name answer sized complete =
     let placed = each_then (HoldsEntry header name) (λ entry. is_placed header.k entry.found ≡ true) (λ entry holds. holds.placed) answer complete.entries in

@@ -1,4 +1,4 @@
-use Rattle.axis_roots.proofs.Messages.ClaimLemmas.{bad_or_fits, bad_apart}
+use Rattle.axis_roots.proofs.Messages.ClaimLemmas.{bad_or_fits, bad_apart, falls_bad}
 use Rattle.axis_roots.proofs.Messages.FalseClaimLemmas.{accepted_false}
 use Rattle.axis_roots.proofs.Messages.ProofLemmas.{proof_accepted}
 use Rattle.axis_roots.proofs.claims.claim_laws.Goals as goal
@@ -14,3 +14,6 @@ returns-clause-own c = accepted_false
 
 pub returns-clause-proof : goal.returns-clause-proof
 returns-clause-proof c = proof_accepted
+
+pub returns-clause-falls : goal.returns-clause-falls
+returns-clause-falls c = falls_bad

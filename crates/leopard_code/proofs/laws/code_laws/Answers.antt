@@ -1,5 +1,6 @@
 use Rattle.leopard_code.proofs.LawLemmas.{through_shares, one_codeword, generated}
 use Rattle.leopard_code.proofs.LinearLemmas.{codeword-sum, codeword-multiple}
+use Rattle.leopard_code.proofs.DerivativeLemmas.{formal_derivative}
 use Rattle.leopard_code.proofs.laws.code_laws.Goals as goal
 
 pub returns-clause-through : goal.returns-clause-through
@@ -16,3 +17,6 @@ returns-clause-multiple c = codeword-multiple
 
 pub returns-clause-generator : goal.returns-clause-generator
 returns-clause-generator c = generated
+
+pub returns-clause-derivative : goal.returns-clause-derivative
+returns-clause-derivative c = formal_derivative

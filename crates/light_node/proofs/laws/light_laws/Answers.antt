@@ -1,4 +1,4 @@
-use Rattle.light_node.proofs.LawLemmas.{light_once, state_once, light_state, same_state, stays_rejected}
+use Rattle.light_node.proofs.LawLemmas.{light_once, state_once, light_state, same_state, stays_rejected, first_stays}
 use Rattle.light_node.proofs.laws.light_laws.Goals as goal
 
 pub returns-clause-once : goal.returns-clause-once
@@ -15,3 +15,6 @@ returns-clause-order c = same_state
 
 pub returns-clause-rejected : goal.returns-clause-rejected
 returns-clause-rejected c = stays_rejected
+
+pub returns-clause-kept : goal.returns-clause-kept
+returns-clause-kept c = first_stays
