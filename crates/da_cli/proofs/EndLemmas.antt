@@ -6,9 +6,9 @@ use Rattle.std.proofs.KnownBytes.{Appends-nil}
 use Rattle.da_io.specs.Faults.{count_on}
 use Rattle.da_io.specs.Sinks.{IsProperPrefix, AppendsPart}
 use Rattle.da_cli.specs.declared.status.Status.{Status}
-use Rattle.da_cli.specs.declared.status.Status.TheVariants.{WriteFault, BadInput}
-use Rattle.da_cli.specs.Statuses.{Kind, request, output, kind_of, Taken, complete, part, front, undefined, row_of, output_count, May}
-use Rattle.da_cli.specs.Outcome.{Relation, Refuses, Outputs, IsTaken, LeavesBy, UntouchedBy, IsOwnBy, Ends}
+use Rattle.da_cli.specs.declared.status.Status.TheVariants.{WriteFault, BadInput, NoMemory}
+use Rattle.da_cli.specs.Statuses.{Kind, request, output, memory, kind_of, Taken, complete, part, front, undefined, row_of, output_count, May}
+use Rattle.da_cli.specs.Outcome.{Relation, Refuses, Outputs, IsTaken, LeavesBy, UntouchedBy, IsOwnBy, Ends, EndsAtOnce}
 use Rattle.da_cli.specs.Laws.{IsDecided}
 
 -- a command with a meaning that is another's
@@ -102,4 +102,48 @@ ends_in_fault M bytes status old new before now Same meant taken counted told = 
   told = told;
   untouched = tt;
   own = tt;
+}
+
+-- ---- commands that take all of their memory before they write
+
+-- such a command ends by a greater meaning as by its own
+pub once_within : (M N : Relation) (old new : Option (List ℕ)) (before now : ℕ) (Same : Type 0) (status : Status)
+    → ((w : List ℕ) (s : Status) → M w s → N w s) → EndsAtOnce M old new before now Same status → EndsAtOnce N old new before now Same status
+once_within M N old new before now Same status h once = record {
+  ends = ends_within M N old new before now Same status h once.ends;
+  late = once.late;
+}
+
+-- a command with a meaning that is another's
+pub once_as : (M N : Relation) (old new : Option (List ℕ)) (before now : ℕ) (Same : Type 0) (status : Status) → M ≡ N
+    → EndsAtOnce M old new before now Same status → EndsAtOnce N old new before now Same status
+once_as M N old new before now Same status e once = record {
+  ends = ends_as M N old new before now Same status e once.ends;
+  late = once.late;
+}
+
+-- a file isn't in its form
+pub once_refused : (i at : ℕ) (old : Option (List ℕ)) (before : ℕ) (Same : Type 0) → Same
+    → EndsAtOnce (Refuses (BadInput i at)) old old before before Same (BadInput i at)
+once_refused i at old before Same same = record { ends = ends_refused i at old before Same same; late = λ e. same }
+
+-- a failed write is no want of memory
+fault_memory : WriteFault ≡ NoMemory → ⊥
+fault_memory e = cc
+
+-- a write failed after the front of the output of a meaning
+pub once_fault : (M : Relation) (old new : Option (List ℕ)) (before now : ℕ) (Same : Type 0) → Ends M old new before now Same WriteFault
+    → EndsAtOnce M old new before now Same WriteFault
+once_fault M old new before now Same ends = record { ends = ends; late = λ e. absurd (fault_memory e) }
+
+-- want of memory is no complete output
+memory_output : memory ≡ output → ⊥
+memory_output e = cc
+
+-- a complete output was taken
+pub once_output : (M : Relation) (old new : Option (List ℕ)) (before now : ℕ) (Same : Type 0) (status : Status) → kind_of status ≡ output
+    → Ends M old new before now Same status → EndsAtOnce M old new before now Same status
+once_output M old new before now Same status is ends = record {
+  ends = ends;
+  late = λ e. absurd (memory_output (sym (ap kind_of e) ∙ is));
 }

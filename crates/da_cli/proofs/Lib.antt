@@ -6,9 +6,14 @@ pub mod FrameLemmas
 pub mod FileLemmas
 pub mod CheckLemmas
 pub mod LieLemmas
+pub mod FeedingLemmas
+pub mod StreamedLemmas
+pub mod ComeLemmas
+pub mod FedLemmas
 pub mod MessageLemmas
 pub mod ClashLemmas
 pub mod RepairLemmas
+pub mod SecondLemmas
 pub mod LightLemmas
 pub mod NodeLemmas
 pub mod WordLemmas
@@ -16,6 +21,7 @@ pub mod BuildLemmas
 pub mod HeaderLemmas
 pub mod RunLemmas
 pub mod RanLemmas
+pub mod StreamedRanLemmas
 pub mod OwnLemmas
 pub mod ChoiceLemmas
 pub mod RequestLemmas

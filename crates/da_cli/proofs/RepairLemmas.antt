@@ -49,6 +49,10 @@ pub repair_is : (files : List (List ℕ)) (h : Roots) → header_in (header_file
     → Repairs h (frames_of (messages_file files)) ≡ Meaning command.Repair files
 repair_is files h read fine = sym (ap₂ (repair_by files) read fine)
 
+-- the meaning of a first file that isn't a header
+pub repair_header : (files : List (List ℕ)) (at : ℕ) → header_in (header_file files) ≡ Err at → Refuses (BadInput 0 at) ≡ Meaning command.Repair files
+repair_header files at read = sym (ap (λ (a : Result Roots ℕ). repair_by files a (bad_frame (messages_file files))) read)
+
 -- each answer comes with a complete output
 answer_kind : (lies : ℕ) (verdict : VerdictParts) → kind_of (answer_status lies verdict) ≡ output
 answer_kind lies (whole square) = refl

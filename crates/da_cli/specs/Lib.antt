@@ -2,6 +2,8 @@ pub mod Limits
 pub mod Words
 pub mod Statuses
 pub mod Gathered
+pub mod Feeding
+pub mod Streamed
 pub mod Outcome
 pub mod Judging
 pub mod commands

@@ -1,5 +1,5 @@
 -- What each command writes and answers, over the contents of its files.
-use Rattle.std.specs.Prelude.{ℕ, List}
+use Rattle.std.specs.Prelude.{ℕ, List, ⊤}
 use Rattle.std.specs.declared.option.Option.{Option}
 use Rattle.da_cli.specs.declared.commands.Command.{Command}
 use Rattle.da_cli.specs.declared.commands.Command.TheVariants.{Check, Build, Header, Sample, Namespace, Verify, Repair, Light, Show, Json, Demo}
@@ -47,3 +47,10 @@ AnswerOf (Demo number k) files = DemoOf number k
 -- what a command writes and answers over any files
 abbrev pub Meaning : Command → List (List ℕ) → Relation
 Meaning command files = Judged (judged_of command files) (AnswerOf command files)
+
+-- commands that take all of their memory before they write
+abbrev pub TakesFirst : Command → Type 0
+TakesFirst Repair = ⊤
+TakesFirst (Light key count) = ⊤
+TakesFirst (Demo number k) = ⊤
+TakesFirst command = ⊥

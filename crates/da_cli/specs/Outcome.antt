@@ -8,7 +8,7 @@ use Rattle.da_io.specs.Faults.{count_on}
 use Rattle.da_io.specs.Files.{Files}
 use Rattle.da_io.specs.Sinks.{IsProperPrefix, AppendsPart}
 use Rattle.da_cli.specs.declared.status.Status.{Status}
-use Rattle.da_cli.specs.declared.status.Status.TheVariants.{PickFault, ReadFault, TooLong}
+use Rattle.da_cli.specs.declared.status.Status.TheVariants.{PickFault, ReadFault, TooLong, NoMemory}
 use Rattle.da_cli.specs.Limits.{file_limit}
 use Rattle.da_cli.specs.Statuses.{Kind, kind_of, Reading, unread, failed, exceeded, begun, finished, Taken, complete, part, front, undefined, row_of, output_count, Said}
 use Rattle.da_cli.specs.Gathered.{IsWord, AllRead}
@@ -138,3 +138,8 @@ pub record Ends (M : Relation) (old new : Option (List ℕ)) (before now : ℕ) 
   pub told : IsSome old ↔ IsSome new
   pub untouched : Untouched Same status
   pub own : IsOwnBy (kind_of status)
+
+-- how a command ends that takes all of its memory before it writes: where memory runs out, the output is as it was
+pub record EndsAtOnce (M : Relation) (old new : Option (List ℕ)) (before now : ℕ) (Same : Type 0) (status : Status) : Type 0 where
+  pub ends : Ends M old new before now Same status
+  pub late : status ≡ NoMemory → Same

@@ -13,7 +13,7 @@ use Rattle.da_cli.specs.Words.{call_of, file_words}
 use Rattle.da_cli.specs.Gathered.{Gathered, whole, long, absent, gathered}
 use Rattle.da_cli.specs.Outcome.{Relation, Refuses, LeavesBy, Leaves}
 use Rattle.da_cli.specs.Judging.{first_bad}
-use Rattle.da_cli.specs.Meaning.{judged_of, AnswerOf, Meaning}
+use Rattle.da_cli.specs.Meaning.{judged_of, AnswerOf, Meaning, TakesFirst}
 
 -- a command over what was gathered; where a file isn't there, nothing is defined
 abbrev pub CommandOf : Command → Gathered → Relation
@@ -55,3 +55,9 @@ status_of (stop.PickFault i) = PickFault i
 status_of (stop.ReadFault i) = ReadFault i
 status_of (stop.TooLong i) = TooLong i
 status_of stop.NoMemory = NoMemory
+
+-- a command that takes all of its memory before it writes leaves the output as it was where memory runs out; Same: it
+-- is as it was
+abbrev pub IsEarly : Option Call → Type 0 → Status → Type 0
+IsEarly None Same status = ⊤
+IsEarly (Some call) Same status = TakesFirst call.command → status ≡ NoMemory → Same

@@ -11,3 +11,4 @@ pub mod Repair
 pub mod Light
 pub mod Show
 pub mod Demo
+pub mod Streamed

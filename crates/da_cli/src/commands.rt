@@ -3,7 +3,8 @@
 
 ghost use Rattle.std.specs.Prelude.{◌≡◌};
 ghost use Rattle.da_cli.specs.Gathered.{contents_of};
-ghost use Rattle.da_cli.specs.Meaning.{Meaning};
+ghost use Rattle.da_cli.specs.declared.status.Status.TheVariants.{NoMemory};
+ghost use Rattle.da_cli.specs.Meaning.{Meaning, TakesFirst};
 ghost use Rattle.da_cli.specs.Outcome.{Ends};
 ghost use Rattle.da_cli.specs.Words.{IsRunnable};
 
@@ -18,6 +19,7 @@ mod repair;
 mod sample;
 mod serving;
 mod show;
+pub(crate) mod streamed;
 mod verify;
 
 use crate::Status;
@@ -59,8 +61,9 @@ pub(crate) fn execute<O: Sink>(
     out: &mut O,
 ) -> Status
     requires runnable { IsRunnable command }
-    ensures { Ends (Meaning command (contents_of files.now)) (O.taken out.old) (O.taken out.new)
+    ensures ends { Ends (Meaning command (contents_of files.now)) (O.taken out.old) (O.taken out.new)
         (O.faults out.old) (O.faults out.new) (out.new ≡ out.old) result }
+    ensures late { TakesFirst command → result ≡ NoMemory → out.new ≡ out.old }
 {
     match command {
         Command::Check => check::execute(alloc, files, out),

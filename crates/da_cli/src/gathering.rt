@@ -23,7 +23,7 @@ pub(crate) enum Stop {
 }
 
 /// Picks the file that a word names and reads it to its end. It is file `i`.
-fn read_file<I: Inputs>(
+pub(crate) fn read_file<I: Inputs>(
     alloc: Global,
     name: String,
     i: u32,

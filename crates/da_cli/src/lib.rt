@@ -5,15 +5,18 @@
 #![tactic(auto)]
 
 mod commands;
+mod feeding;
 mod gathering;
 mod laws;
 mod notes;
 mod running;
 mod status;
+mod streaming;
 #[cfg(test)]
 mod tests;
 mod words;
 
+pub use feeding::{Fed, FeedFault, feed_all};
 pub use gathering::FILE_LIMIT;
 pub use laws::run_laws;
 pub use running::run;

@@ -1,7 +1,8 @@
 //! The top call.
 
-ghost use Rattle.std.specs.Prelude.{◌≡◌, ◌↔◌, ℕ, ◌≤◌, length, [], None, IsSome};
+ghost use Rattle.std.specs.Prelude.{◌≡◌, ◌↔◌, ℕ, ◌≤◌, length, ◌<◌, [], Some, None, IsSome};
 ghost use Rattle.da_cli.specs.declared.status.Status.TheVariants.{Usage};
+ghost use Rattle.da_cli.specs.declared.commands.Command.TheVariants as CommandOf;
 ghost use Rattle.da_cli.specs.Words.{words_of, call_of, names_of};
 ghost use Rattle.da_cli.specs.Statuses.{kind_of, input_count, output_count};
 ghost use Rattle.da_cli.specs.Gathered.{IsLast};
@@ -9,14 +10,15 @@ ghost use Rattle.da_cli.specs.Outcome.{FaultCause, ExcessCause, LastBy, PickCoun
 ghost use Rattle.da_cli.specs.Notes.{note_of, Notes};
 ghost use Rattle.da_cli.specs.Own.{AreOwn};
 ghost use Rattle.da_cli.specs.Ran.{Ran};
-ghost use Rattle.da_cli.specs.Run.{status_of, LeavesTold, Completes};
+ghost use Rattle.da_cli.specs.Run.{IsEarly, status_of, LeavesTold, Completes};
 
 use crate::Status;
 use crate::commands::execute;
+use crate::commands::streamed::{Repairing, stream};
 use crate::gathering::{Stop, gather};
 use crate::laws::run_laws;
 use crate::notes::note;
-use crate::words::call_of;
+use crate::words::{Call, call_of};
 use da_io::{Inputs, Sink};
 use std::alloc::Global;
 
@@ -39,14 +41,36 @@ fn answer<I: Inputs, O: Sink>(
     inputs: &mut I,
     out: &mut O,
 ) -> Status
-    ensures { Ran I.Inputs O.Sink (words_of words.now) inputs.old inputs.new out.old out.new
+    ensures ran { Ran I.Inputs O.Sink (words_of words.now) inputs.old inputs.new out.old out.new
         result }
+    ensures late { IsEarly (call_of (words_of words.now)) (out.new ≡ out.old) result }
 {
     let Some(call) = call_of(words) else {
         return Status::Usage;
     };
     match gather(alloc, &words[1..1 + call.files], call.files, inputs) {
         Ok(contents) => execute(alloc, call.command, &contents, out),
+        Err(stop) => status_of(stop),
+    }
+}
+
+/// Runs `repair` over a session that is fed as MESSAGES is read, without a note.
+fn answer_streamed<I: Inputs, O: Sink, S: Repairing>(
+    alloc: Global,
+    words: &[String],
+    call: Call,
+    inputs: &mut I,
+    out: &mut O,
+) -> Status
+    requires call { Some call ≡ call_of (words_of words.now) }
+    requires few { call.files < length words.now }
+    requires two { call.files ≡ 2 }
+    requires repair { call.command ≡ CommandOf.Repair }
+    ensures { Ran I.Inputs O.Sink (words_of words.now) inputs.old inputs.new out.old out.new
+        result }
+{
+    match stream::<I, O, S>(alloc, &words[1..3], inputs, out) {
+        Ok(status) => status,
         Err(stop) => status_of(stop),
     }
 }
@@ -84,6 +108,9 @@ pub fn run<I: Inputs, O: Sink, N: Sink>(
 
     // What is decided before the output leaves it as it was.
     ensures untouched { Untouched (out.new ≡ out.old) result }
+
+    // `repair`, `light` and `demo` take all of their memory before they write.
+    ensures late { IsEarly (call_of (words_of words.now)) (out.new ≡ out.old) result }
 
     // A failed pick or read, an excess of length: of which file, and after which others.
     ensures fault { FaultCause (I.files inputs.old) (names_of (words_of words.now))

@@ -1,5 +1,7 @@
 //! The line of each status (docs/FORMATS.md).
 
+mod feeding;
+
 use crate::Asked;
 use crate::Status::{
     BadBlock, BadInput, BadRequest, Clash, Done, Fraud, Missing, NoMemory, PickFault, ReadFault,

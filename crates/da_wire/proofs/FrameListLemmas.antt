@@ -34,7 +34,7 @@ raw_is_frame at bytes f fits = (
 -- ---- frames one after another
 
 -- a frame that was read, and its length
-abbrev sized_raw : Raw → Raw × ℕ
+abbrev pub sized_raw : Raw → Raw × ℕ
 sized_raw raw = (raw, raw.size)
 
 -- whether a frame stands at the front doesn't depend on its offset

@@ -5,4 +5,10 @@ pub mod WalkLemmas
 pub mod ListedLemmas
 pub mod FrameListLemmas
 pub mod ValueListLemmas
+pub mod MessageLengths
+pub mod StreamWalks
+pub mod TakingLemmas
+pub mod StreamLemmas
+pub mod PushLemmas
+pub mod CuttingLemmas
 pub mod Examples

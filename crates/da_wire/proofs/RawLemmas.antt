@@ -1,7 +1,8 @@
 -- A frame that is read is what the bytes at the front spell, and a frame that was written is read.
-use Rattle.std.proofs.Common.{◌≡◌, ◌∙◌, ℕ, ◌+◌, ◌≤◌, Bool, true, false, ltb, cond, List, [], ◌∷◌, ◌++◌, length, take, drop, Result, Ok, Err, refl, sym, ap, ap₂, subst, arith, length-take-le, ltb-false, le-ltb}
+use Rattle.std.proofs.Common.{◌≡◌, ◌∙◌, ℕ, zero, suc, ◌+◌, ◌<◌, ◌≤◌, Bool, true, false, ltb, cond, List, [], ◌∷◌, ◌++◌, length, take, drop, Result, Ok, Err, refl, sym, ap, ap₂, subst, arith, length-take-le, ltb-false, le-ltb, lt-ltb, get_or}
 use Rattle.std.specs.Int.{w32, to_be_bytes, from_be_bytes}
-use Rattle.std.proofs.lemmas.List.{take_at, take-append-drop, length-append, length-drop}
+use Rattle.std.proofs.lemmas.List.{take_at, take-append-drop, length-append, length-drop, take-take, take-append-le, drop-append-le}
+use Rattle.std.proofs.Math.Seq.{take-nil}
 use Rattle.namespace_id.specs.Bytes.{AreBytes}
 use Rattle.namespace_id.proofs.StringLemmas.{AreBytes-take, AreBytes-drop}
 use Rattle.da_wire.specs.declared.frames.FrameError.TheVariants.{Truncated, TooLong}
@@ -110,3 +111,82 @@ raw_takes at (kind ∷ after) f fits e =
     let n : ℕ = promised bytes in
     let t = tests_failed (ltb (length bytes) 5) (ltb max_payload n) (ltb (length bytes) (5 + n)) (Truncated at) (TooLong at) (Truncated at) (raw kind n (drop 4 after)) f e in
     subst (λ (g : Raw). IsRawFront bytes g) t.3 (raw_front kind after n fits (ltb-false _ _ t.1) (ltb-false _ _ t.2) refl)
+
+-- ---- bytes after a frame, and bytes that are none
+
+-- the first refusal that holds is answered
+first_test : {A E : Type 0} (a b c : Bool) (x y z : E) (w : A) → a ≡ true → ◌≡◌ {A = Result A E} (cond a (Err x) (cond b (Err y) (cond c (Err z) (Ok w)))) (Err x)
+first_test true b c x y z w p = refl
+first_test false b c x y z w p = absurd cc
+
+second_test : {A E : Type 0} (a b c : Bool) (x y z : E) (w : A) → a ≡ false → b ≡ true → ◌≡◌ {A = Result A E} (cond a (Err x) (cond b (Err y) (cond c (Err z) (Ok w)))) (Err y)
+second_test false true c x y z w p q = refl
+second_test true b c x y z w p q = absurd cc
+second_test false false c x y z w p q = absurd cc
+
+third_test : {A E : Type 0} (a b c : Bool) (x y z : E) (w : A) → a ≡ false → b ≡ false → c ≡ true → ◌≡◌ {A = Result A E} (cond a (Err x) (cond b (Err y) (cond c (Err z) (Ok w)))) (Err z)
+third_test false false true x y z w p q r = refl
+third_test true b c x y z w p q r = absurd cc
+third_test false true c x y z w p q r = absurd cc
+third_test false false false x y z w p q r = absurd cc
+
+-- the length that a head states is that of any front of five bytes
+pub promised-take : (n : ℕ) (bytes : List ℕ) → 5 ≤ n → promised (take n bytes) ≡ promised bytes
+promised-take n [] h = ap promised (take-nil n)
+promised-take zero (b ∷ bytes) h = absurd (omega arith)
+promised-take (suc n) (b ∷ bytes) h = ap (from_be_bytes w32) (take-take 4 n bytes (omega arith))
+
+-- bytes that follow change nothing of the length that a head states
+pub promised-append : (bytes more : List ℕ) → 5 ≤ length bytes → promised (bytes ++ more) ≡ promised bytes
+promised-append [] more h = absurd (omega arith)
+promised-append (b ∷ bytes) more h = ap (from_be_bytes w32) (take-append-le 4 bytes more (omega arith))
+
+-- fewer than five bytes are no frame
+pub raw_short : (at : ℕ) (bytes : List ℕ) → length bytes < 5 → raw_of at bytes ≡ Err (Truncated at)
+unfolding raw_of
+raw_short at bytes h = first_test (ltb (length bytes) 5) _ _ (Truncated at) (TooLong at) (Truncated at) _ (lt-ltb _ _ h)
+
+-- a length above the limit is none
+pub raw_long : (at : ℕ) (bytes : List ℕ) → 5 ≤ length bytes → max_payload < promised bytes → raw_of at bytes ≡ Err (TooLong at)
+unfolding raw_of
+raw_long at bytes h k = second_test (ltb (length bytes) 5) (ltb max_payload (promised bytes)) _ (Truncated at) (TooLong at) (Truncated at) _ (le-ltb _ _ h) (lt-ltb _ _ k)
+
+-- a payload that isn't all there is none
+pub raw_cut : (at : ℕ) (bytes : List ℕ) → 5 ≤ length bytes → promised bytes ≤ max_payload → length bytes < 5 + promised bytes → raw_of at bytes ≡ Err (Truncated at)
+unfolding raw_of
+raw_cut at bytes h k l = third_test (ltb (length bytes) 5) (ltb max_payload (promised bytes)) (ltb (length bytes) (5 + promised bytes)) (Truncated at) (TooLong at) (Truncated at) _ (le-ltb _ _ h) (le-ltb _ _ k) (lt-ltb _ _ l)
+
+-- the frame that the bytes at the front are
+abbrev pub frame_at : List ℕ → Raw
+frame_at bytes = record { kind = get_or bytes 0 0; payload = take (promised bytes) (drop 5 bytes); size = 5 + promised bytes }
+
+-- bytes that hold the payload that their head states are a frame, whatever follows
+pub raw_whole : (at : ℕ) (bytes : List ℕ) → promised bytes ≤ max_payload → 5 + promised bytes ≤ length bytes → raw_of at bytes ≡ Ok (frame_at bytes)
+unfolding raw_of
+raw_whole at bytes k l = tests_fail (ltb (length bytes) 5) (ltb max_payload (promised bytes)) (ltb (length bytes) (5 + promised bytes)) (Truncated at) (TooLong at) (Truncated at) _
+    (le-ltb _ _ (omega (arith, l))) (le-ltb _ _ k) (le-ltb _ _ l)
+
+-- the first bytes of all are the frame at the front
+frame_at-append : (bytes more : List ℕ) → 5 + promised bytes ≤ length bytes → frame_at (bytes ++ more) ≡ frame_at bytes
+frame_at-append [] more h = absurd (omega arith)
+frame_at-append (b ∷ bytes) more h =
+    let same : promised (b ∷ bytes ++ more) ≡ promised (b ∷ bytes) = promised-append (b ∷ bytes) more (omega (arith, h)) in
+    let payload : take (promised (b ∷ bytes)) (drop 4 (bytes ++ more)) ≡ take (promised (b ∷ bytes)) (drop 4 bytes) =
+    ap (λ (l : List ℕ). take (promised (b ∷ bytes)) l) (drop-append-le 4 bytes more (omega (arith, h)))
+    ∙ take-append-le (promised (b ∷ bytes)) (drop 4 bytes) more (omega (arith, h, length-drop 4 bytes)) in
+    ap (λ (n : ℕ). record { kind = b; payload = take n (drop 4 (bytes ++ more)); size = 5 + n }) same
+    ∙ ap (λ (l : List ℕ). record { kind = b; payload = l; size = 5 + promised (b ∷ bytes) }) payload
+
+-- a frame is found whatever bytes follow, and within the bytes
+pub raw_of-append : (at : ℕ) (bytes more : List ℕ) (f : Raw) → raw_of at bytes ≡ Ok f → (raw_of at (bytes ++ more) ≡ Ok f) × (f.size ≤ length bytes)
+unfolding raw_of
+raw_of-append at bytes more f e =
+    let t = tests_failed (ltb (length bytes) 5) (ltb max_payload (promised bytes)) (ltb (length bytes) (5 + promised bytes)) (Truncated at) (TooLong at) (Truncated at) (frame_at bytes) f e in
+    let within : promised bytes ≤ max_payload = ltb-false _ _ t.1 in
+    let there : 5 + promised bytes ≤ length bytes = ltb-false _ _ t.2 in
+    let same : promised (bytes ++ more) ≡ promised bytes = promised-append bytes more (omega (arith, there)) in
+    let size : f.size ≡ 5 + promised bytes = ap (λ (g : Raw). g.size) (sym t.3) in (
+      raw_whole at (bytes ++ more) (omega (arith, same, within)) (omega (arith, same, there, length-append bytes more))
+          ∙ ap (λ (g : Raw). Ok g) (frame_at-append bytes more there ∙ t.3),
+      omega (arith, there, size),
+    )

@@ -7,3 +7,5 @@ pub mod Frames
 pub mod Laws
 pub mod Writing
 pub mod Values
+pub mod StreamParts
+pub mod Streams

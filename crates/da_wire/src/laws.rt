@@ -21,6 +21,7 @@ ghost use Rattle.da_wire.specs.kinds.Names.{is_long_answer};
 ghost use Rattle.da_wire.specs.kinds.Fraud.{is_long_claim};
 ghost use Rattle.da_wire.specs.kinds.Clash.{AreStrings, has_empty};
 ghost use Rattle.da_wire.specs.Laws.{SpelledIsRead, ReadIsSpelled, OneSpelling, OnlyIsSpelled, SpelledIsOnly, MessageIsRead, MessageIsSpelled, RawIsFrame, FramesAreTheFile, FilesAreFrames, BadFrameIsFirst, ValuesAreTheFile, FilesAreValues, BadValueIsFirst};
+ghost use Rattle.da_wire.specs.Streams.{EveryCutting, FramesStay};
 
 use crate::reading::MAX_PAYLOAD;
 
@@ -74,4 +75,11 @@ pub fn value_laws()
     ensures clash { (clash : Strings) → AreStrings clash → has_empty clash ≡ false →
         IsSome (spelling (Clash clash)) }
     ensures few_cells { (cells : CellList) → AreCells cells → length cells.list < 2 ^ 32 }
+{}
+
+/// Over every cutting of a byte string a stream answers its frames, and the frames of bytes stay whatever
+/// bytes follow.
+pub fn stream_laws()
+    ensures cutting { EveryCutting }
+    ensures stay { FramesStay }
 {}

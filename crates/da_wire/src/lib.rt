@@ -10,6 +10,7 @@ mod frames;
 mod kinds;
 mod laws;
 mod reading;
+mod streams;
 #[cfg(test)]
 mod tests;
 mod writing;
@@ -18,8 +19,9 @@ pub use bounds::frame_law;
 pub use frames::{Frame, FrameError, RawFrame, SpellError};
 pub use kinds::fraud::claim;
 pub use kinds::message::message;
-pub use laws::{value_laws, wire_laws};
+pub use laws::{stream_laws, value_laws, wire_laws};
 pub use reading::{
     MAX_PAYLOAD, bad_frame, bad_value, next_frame, next_value, raw, read_frame, read_only,
 };
+pub use streams::{FrameStream, Pushed};
 pub use writing::{write_frame, write_proof};

@@ -5,6 +5,7 @@ mod frames;
 mod fraud;
 mod names;
 mod spellings;
+mod streams;
 
 use crate::{Frame, FrameError, SpellError, message, read_frame, write_frame};
 use data_header::Header;

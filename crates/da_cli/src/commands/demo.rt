@@ -4,7 +4,7 @@ ghost use Rattle.std.specs.Prelude.{◌≡◌, ◌≤◌, ◌<◌, [], length, g
 ghost use Rattle.da_demo.specs.Trials.{IsTrial};
 ghost use Rattle.da_cli.specs.Words.{is_trial_width};
 ghost use Rattle.da_cli.specs.commands.Demo.{number_line, root_line, verdict_line, upheld_line, trial_lines, Tells, DemoOf};
-ghost use Rattle.da_cli.specs.Outcome.{Ends};
+ghost use Rattle.da_cli.specs.Outcome.{EndsAtOnce};
 
 use crate::Status;
 use crate::notes::line::Line;
@@ -94,7 +94,7 @@ fn line_at(trial: &Trial, i: usize) -> Line
 
 /// Writes the lines of a trial, one at a time. It takes no memory.
 fn tell<O: Sink>(trial: &Trial, out: &mut O) -> Status
-    ensures { Ends (Tells trial.now) (O.taken out.old) (O.taken out.new) (O.faults out.old)
+    ensures { EndsAtOnce (Tells trial.now) (O.taken out.old) (O.taken out.new) (O.faults out.old)
         (O.faults out.new) (out.new ≡ out.old) result }
 {
     for i in 0..LINES {
@@ -110,7 +110,7 @@ fn tell<O: Sink>(trial: &Trial, out: &mut O) -> Status
 /// before the first line.
 pub(crate) fn execute<O: Sink>(alloc: Global, number: u64, k: u16, out: &mut O) -> Status
     requires width { is_trial_width k ≡ true }
-    ensures { Ends (DemoOf number k) (O.taken out.old) (O.taken out.new) (O.faults out.old)
+    ensures { EndsAtOnce (DemoOf number k) (O.taken out.old) (O.taken out.new) (O.faults out.old)
         (O.faults out.new) (out.new ≡ out.old) result }
 {
     match trial(alloc, number, k) {

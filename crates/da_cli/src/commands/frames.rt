@@ -5,7 +5,7 @@ ghost use Rattle.da_wire.specs.Spelling.{spelling};
 ghost use Rattle.da_wire.specs.declared.frames.Frame.TheVariants as FrameOf;
 ghost use Rattle.da_cli.specs.Statuses.{kind_of, output};
 ghost use Rattle.da_cli.specs.commands.Frames.{header_in, square_in, block_in, unread_of, ReadsSingle, Writes, WritesText, WritesWith};
-ghost use Rattle.da_cli.specs.Outcome.{Ends};
+ghost use Rattle.da_cli.specs.Outcome.{EndsAtOnce};
 
 use crate::Status;
 use da_io::{Sink, write_all};
@@ -97,7 +97,7 @@ pub(crate) fn missing_frame(cells: Cells) -> Frame
 /// Writes a text as one piece, and answers a status of a complete output.
 pub(crate) fn put<O: Sink>(text: &[u8], status: Status, out: &mut O) -> Status
     requires { kind_of status ≡ output }
-    ensures { Ends (WritesText status text.now) (O.taken out.old) (O.taken out.new)
+    ensures { EndsAtOnce (WritesText status text.now) (O.taken out.old) (O.taken out.new)
         (O.faults out.old) (O.faults out.new) (out.new ≡ out.old) result }
 {
     match write_all(out, text) {
@@ -116,7 +116,7 @@ pub(crate) fn give_with<O: Sink>(
 ) -> Status
     requires spelled { IsSome (spelling frame.now) }
     requires status { kind_of status ≡ output }
-    ensures { Ends (WritesWith status frame.now) (O.taken out.old) (O.taken out.new)
+    ensures { EndsAtOnce (WritesWith status frame.now) (O.taken out.old) (O.taken out.new)
         (O.faults out.old) (O.faults out.new) (out.new ≡ out.old) result }
 {
     text.clear();
@@ -131,7 +131,7 @@ pub(crate) fn give_with<O: Sink>(
 /// Writes one frame, as one piece. The text of the frame takes the place of what `text` holds.
 pub(crate) fn give<O: Sink>(frame: &Frame, text: &mut Vec<u8>, out: &mut O) -> Status
     requires { IsSome (spelling frame.now) }
-    ensures { Ends (Writes frame.now) (O.taken out.old) (O.taken out.new) (O.faults out.old)
+    ensures { EndsAtOnce (Writes frame.now) (O.taken out.old) (O.taken out.new) (O.faults out.old)
         (O.faults out.new) (out.new ≡ out.old) result }
 {
     give_with(frame, Status::Done, text, out)

@@ -17,7 +17,7 @@ ghost use Rattle.da_cli.specs.declared.commands.Command.TheVariants as CommandOf
 ghost use Rattle.da_cli.specs.Gathered.{contents_of};
 ghost use Rattle.da_cli.specs.commands.Light.{event_in, events_in, Answers, HasOutput, Lights};
 ghost use Rattle.da_cli.specs.Meaning.{Meaning};
-ghost use Rattle.da_cli.specs.Outcome.{Ends};
+ghost use Rattle.da_cli.specs.Outcome.{EndsAtOnce};
 
 use crate::commands::frames::{Unread, give_with, header_in, missing_frame, put};
 use crate::gathering::file;
@@ -129,7 +129,7 @@ fn claim_frame(upheld: Upheld) -> Frame
 /// Writes a claim that was accepted.
 fn give_claim<O: Sink>(alloc: Global, upheld: Upheld, out: &mut O) -> Status
     requires { is_long_claim upheld ≡ false }
-    ensures { Ends (Answers (verdict.Rejected upheld)) (O.taken out.old) (O.taken out.new)
+    ensures { EndsAtOnce (Answers (verdict.Rejected upheld)) (O.taken out.old) (O.taken out.new)
         (O.faults out.old) (O.faults out.new) (out.new ≡ out.old) result }
 {
     let claim = upheld.claim();
@@ -140,7 +140,7 @@ fn give_claim<O: Sink>(alloc: Global, upheld: Upheld, out: &mut O) -> Status
 /// Writes the cells that are waited for.
 fn give_waiting<O: Sink>(alloc: Global, cells: Cells, out: &mut O) -> Status
     requires { cells.list ≢ [] }
-    ensures { Ends (Answers (verdict.Waiting cells)) (O.taken out.old) (O.taken out.new)
+    ensures { EndsAtOnce (Answers (verdict.Waiting cells)) (O.taken out.old) (O.taken out.new)
         (O.faults out.old) (O.faults out.new) (out.new ≡ out.old) result }
 {
     let status = Status::Waiting(cells.list.len() as u64);
@@ -150,7 +150,7 @@ fn give_waiting<O: Sink>(alloc: Global, cells: Cells, out: &mut O) -> Status
 /// Writes a verdict. All memory is taken before the write.
 fn give_verdict<O: Sink>(alloc: Global, light: Light, out: &mut O) -> Status
     requires { HasOutput light }
-    ensures { Ends (Answers light) (O.taken out.old) (O.taken out.new) (O.faults out.old)
+    ensures { EndsAtOnce (Answers light) (O.taken out.old) (O.taken out.new) (O.faults out.old)
         (O.faults out.new) (out.new ≡ out.old) result }
 {
     match light {
@@ -169,7 +169,7 @@ fn light<O: Sink>(
     count: u32,
     out: &mut O,
 ) -> Status
-    ensures { Ends (Lights key.now count header.now (frames_of messages.now)) (O.taken out.old)
+    ensures { EndsAtOnce (Lights key.now count header.now (frames_of messages.now)) (O.taken out.old)
         (O.taken out.new) (O.faults out.old) (O.faults out.new) (out.new ≡ out.old) result }
 {
     let planned = match cells(alloc, key, header.k, count) {
@@ -192,7 +192,7 @@ pub(crate) fn execute<O: Sink>(
     count: u32,
     out: &mut O,
 ) -> Status
-    ensures { Ends (Meaning (CommandOf.Light key.now count) (contents_of files.now))
+    ensures { EndsAtOnce (Meaning (CommandOf.Light key.now count) (contents_of files.now))
         (O.taken out.old) (O.taken out.new) (O.faults out.old) (O.faults out.new)
         (out.new ≡ out.old) result }
 {

@@ -1,12 +1,13 @@
 //! repair HEADER MESSAGES: the square of a header from a list of messages, or what is wrong or missing.
 
-ghost use Rattle.std.specs.Prelude.{◌≡◌, ◌≢◌, IfOk, IfSome, IsNone, IsSome, Some, true, false, [], map};
+ghost use Rattle.std.specs.Prelude.{◌≡◌, ◌≢◌, IfOk, IfSome, IsNone, IsSome, Some, true, false, List, [], map};
 ghost use Rattle.std.specs.List.{AllByRecursion};
 ghost use Rattle.axis_roots.specs.declared.message.messages.Message as sent;
 ghost use Rattle.axis_roots.specs.Openings.{IsProved};
 ghost use Rattle.axis_roots.specs.Proved.{IsUnder, kept_message};
 ghost use Rattle.repair_queue.specs.Closures.{Covers};
-ghost use Rattle.repair_queue.specs.Verdicts.{missing, fraud};
+ghost use Rattle.repair_queue.specs.Verdicts.{missing, fraud, IsVerdict};
+ghost use Rattle.repair_queue.specs.Answers.{parts_of};
 ghost use Rattle.da_wire.specs.declared.frames.Frame.TheVariants as FrameOf;
 ghost use Rattle.da_wire.specs.kinds.Clash.{has_empty};
 ghost use Rattle.da_wire.specs.Reading.{raw_seen};
@@ -17,7 +18,7 @@ ghost use Rattle.da_cli.specs.Gathered.{contents_of};
 ghost use Rattle.da_cli.specs.commands.Check.{finding_of, is_ok};
 ghost use Rattle.da_cli.specs.commands.Repair.{messages_in, lies_in, Answers, Repairs};
 ghost use Rattle.da_cli.specs.Meaning.{Meaning};
-ghost use Rattle.da_cli.specs.Outcome.{Ends};
+ghost use Rattle.da_cli.specs.Outcome.{EndsAtOnce};
 
 use crate::Status;
 use crate::commands::frames::{
@@ -34,9 +35,9 @@ use repair_queue::{Verdict, repair_list, verdict_laws};
 use std::alloc::Global;
 
 /// The places of the files among the words that name files.
-const HEADER: u32 = 0;
+pub(crate) const HEADER: u32 = 0;
 
-const MESSAGES: u32 = 1;
+pub(crate) const MESSAGES: u32 = 1;
 
 /// The certificate of the message that a frame is; none where the frame is a lie.
 fn proved_in(header: &Header, frame: RawFrame<'_>) -> Option<Proved>
@@ -106,7 +107,7 @@ fn clash_frame(clash: Clash) -> Frame
 /// Writes missing cells, where so many frames were lies.
 fn give_missing<O: Sink>(alloc: Global, cells: Cells, lies: u64, out: &mut O) -> Status
     requires { cells.list ≢ [] }
-    ensures { Ends (Answers lies (missing cells)) (O.taken out.old) (O.taken out.new)
+    ensures { EndsAtOnce (Answers lies (missing cells)) (O.taken out.old) (O.taken out.new)
         (O.faults out.old) (O.faults out.new) (out.new ≡ out.old) result }
 {
     value_laws();
@@ -116,7 +117,7 @@ fn give_missing<O: Sink>(alloc: Global, cells: Cells, lies: u64, out: &mut O) ->
 
 /// Writes the claim of a fraud proof. How many frames were lies plays no part.
 fn give_proof<O: Sink>(alloc: Global, proof: &FraudProof, out: &mut O) -> Status
-    ensures { Ends (Answers 0 (fraud proof.now.claim)) (O.taken out.old) (O.taken out.new)
+    ensures { EndsAtOnce (Answers 0 (fraud proof.now.claim)) (O.taken out.old) (O.taken out.new)
         (O.faults out.old) (O.faults out.new) (out.new ≡ out.old) result }
 {
     let status = Status::Fraud(proof.axis, proof.index);
@@ -127,18 +128,19 @@ fn give_proof<O: Sink>(alloc: Global, proof: &FraudProof, out: &mut O) -> Status
     }
 }
 
-/// Answers what repair comes to by messages under a header. All memory is taken before the write.
-fn repair<O: Sink>(alloc: Global, header: &Header, messages: &[u8], out: &mut O) -> Status
-    ensures { Ends (Repairs header.now (frames_of messages.now)) (O.taken out.old)
-        (O.taken out.new) (O.faults out.old) (O.faults out.new) (out.new ≡ out.old) result }
+/// Writes a verdict, where so many frames were lies. All memory is taken before the write.
+pub(crate) fn give_verdict<O: Sink>(
+    alloc: Global,
+    header: &Header,
+    verdict: Verdict,
+    lies: u64,
+    out: &mut O,
+) -> Status
+    requires { (ms : List sent.Message) × IsVerdict header.now ms (parts_of verdict) }
+    ensures { EndsAtOnce (Answers lies (parts_of verdict)) (O.taken out.old) (O.taken out.new)
+        (O.faults out.old) (O.faults out.new) (out.new ≡ out.old) result }
 {
-    verdict_laws();
-    let Ok((proved, lies)) = collect(alloc, header, messages) else {
-        return Status::NoMemory;
-    };
-    let Ok(verdict) = repair_list(alloc, header, proved) else {
-        return Status::NoMemory;
-    };
+    let _k = header.k;
     match verdict {
         Verdict::Whole(square) => give(&square_frame(square), &mut Vec::new(alloc), out),
         Verdict::Missing(cells) => give_missing(alloc, cells, lies, out),
@@ -154,9 +156,24 @@ fn repair<O: Sink>(alloc: Global, header: &Header, messages: &[u8], out: &mut O)
     }
 }
 
+/// Answers what repair comes to by messages under a header. All memory is taken before the write.
+fn repair<O: Sink>(alloc: Global, header: &Header, messages: &[u8], out: &mut O) -> Status
+    ensures { EndsAtOnce (Repairs header.now (frames_of messages.now)) (O.taken out.old)
+        (O.taken out.new) (O.faults out.old) (O.faults out.new) (out.new ≡ out.old) result }
+{
+    verdict_laws();
+    let Ok((proved, lies)) = collect(alloc, header, messages) else {
+        return Status::NoMemory;
+    };
+    let Ok(verdict) = repair_list(alloc, header, proved) else {
+        return Status::NoMemory;
+    };
+    give_verdict(alloc, header, verdict, lies, out)
+}
+
 /// Answers what repair of the square of the header in HEADER by the messages in MESSAGES comes to.
 pub(crate) fn execute<O: Sink>(alloc: Global, files: &[Vec<u8>], out: &mut O) -> Status
-    ensures { Ends (Meaning CommandOf.Repair (contents_of files.now)) (O.taken out.old)
+    ensures { EndsAtOnce (Meaning CommandOf.Repair (contents_of files.now)) (O.taken out.old)
         (O.taken out.new) (O.faults out.old) (O.faults out.new) (out.new ≡ out.old) result }
 {
     let header = match header_in(alloc, file(files, HEADER)) {

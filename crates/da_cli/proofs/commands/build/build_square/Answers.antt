@@ -9,4 +9,4 @@ pub returns-in-Ok : goal.returns-in-Ok
 returns-in-Ok g c =
     ends_within (Writes c.square_frame.result) (Builds c.args.block.now) _ _ _ _ _ _
     (builds_square c.args.block.now c.in-Ok.square c.square_frame.result c.in-Ok.ensures.first c.in-Ok.ensures.square c.square_frame.ensures.value)
-    c.give.ensures
+    c.give.ensures.ends

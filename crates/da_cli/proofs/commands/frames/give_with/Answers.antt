@@ -1,10 +1,10 @@
 use Rattle.da_cli.specs.commands.Frames.{WritesText, WritesWith}
-use Rattle.da_cli.proofs.EndLemmas.{ends_within}
+use Rattle.da_cli.proofs.EndLemmas.{once_within}
 use Rattle.da_cli.proofs.SpelledLemmas.{writes_frame}
 use Rattle.da_cli.proofs.commands.frames.give_with.Goals as goal
 
 -- what is written is the frame's spelling
 pub returns-in-Ok : goal.returns-in-Ok
 returns-in-Ok g c =
-    ends_within (WritesText c.args.status c.deref.result.now) (WritesWith c.args.status c.args.frame.now) _ _ _ _ _ _
+    once_within (WritesText c.args.status c.deref.result.now) (WritesWith c.args.status c.args.frame.now) _ _ _ _ _ _
     (writes_frame c.args.frame.now c.args.status _ _ c.deref.result.now c.clear.ensures.items c.in-Ok.ensures.written c.deref.ensures.value) c.put.ensures

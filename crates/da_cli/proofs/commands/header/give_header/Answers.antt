@@ -13,7 +13,7 @@ returns-in-Ok-Some g c =
     let own = own_header c.args.square.now c.in-Ok.grid.k c.in-Ok.grid.shares c.in-Ok-Some.header whole c.in-Ok.ensures.k c.in-Ok.ensures.extends
     (sym c.in-Ok-Some.field-0-is ∙ c.in-Ok-Some.ensures) in
     ends_within (Writes c.header_frame.result) (Heads c.args.square.now) _ _ _ _ _ _
-    (heads_header c.args.square.now c.in-Ok-Some.header c.header_frame.result own c.header_frame.ensures.value) c.give.ensures
+    (heads_header c.args.square.now c.in-Ok-Some.header c.header_frame.result own c.header_frame.ensures.value) c.give.ensures.ends
 
 -- the square has none
 pub returns-in-Ok-None : goal.returns-in-Ok-None

@@ -5,7 +5,7 @@ use Rattle.da_cli.specs.commands.Frames.{header_in}
 use Rattle.da_cli.specs.commands.Light.{Lights}
 use Rattle.da_cli.specs.declared.commands.Command.TheVariants.{Light}
 use Rattle.da_cli.specs.Meaning.{Meaning}
-use Rattle.da_cli.proofs.EndLemmas.{ends_as, ends_refused}
+use Rattle.da_cli.proofs.EndLemmas.{once_as, once_refused}
 use Rattle.da_cli.proofs.LightLemmas.{light_is, light_refuses}
 use Rattle.da_cli.proofs.commands.light.execute.Goals as goal
 
@@ -15,8 +15,8 @@ returns-in-Some g c =
     let same = light_refuses key c.args.count (contents_of c.args.files.now) c.in-Ok.header c.in-Some.at
     (ap header_in (sym c.file.ensures) ∙ c.in-Ok.ensures)
     (ap bad_frame (sym c.file-messages.ensures) ∙ sym c.in-Some.ensures) in
-    ends_as _ (Meaning (Light key c.args.count) (contents_of c.args.files.now)) _ _ _ _ _ _ same
-    (ends_refused 1 c.in-Some.at _ _ _ refl)
+    once_as _ (Meaning (Light key c.args.count) (contents_of c.args.files.now)) _ _ _ _ _ _ same
+    (once_refused 1 c.in-Some.at _ _ _ refl)
 
 pub returns : goal.returns
 returns g c =
@@ -25,4 +25,4 @@ returns g c =
     ∙ light_is key c.args.count (contents_of c.args.files.now) c.in-Ok.header
     (ap header_in (sym c.file.ensures) ∙ c.in-Ok.ensures)
     (ap bad_frame (sym c.file-messages.ensures) ∙ sym c.in_default.ensures) in
-    ends_as _ (Meaning (Light key c.args.count) (contents_of c.args.files.now)) _ _ _ _ _ _ same c.light.ensures
+    once_as _ (Meaning (Light key c.args.count) (contents_of c.args.files.now)) _ _ _ _ _ _ same c.light.ensures

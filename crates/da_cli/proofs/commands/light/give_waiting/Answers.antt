@@ -4,13 +4,13 @@ use Rattle.light_node.specs.declared.events.Light.TheVariants as verdict
 use Rattle.da_wire.specs.Spelling.{spelling}
 use Rattle.da_cli.specs.declared.status.Status.TheVariants.{Waiting}
 use Rattle.da_cli.specs.commands.Light.{Answers}
-use Rattle.da_cli.proofs.EndLemmas.{ends_within}
+use Rattle.da_cli.proofs.EndLemmas.{once_within}
 use Rattle.da_cli.proofs.commands.light.give_waiting.Goals as goal
 
 -- what is written is the spelling of the cells, with their count
 pub returns : goal.returns
 returns g c =
-    ends_within _ (Answers (verdict.Waiting c.args.cells)) _ _ _ _ _ _
+    once_within _ (Answers (verdict.Waiting c.args.cells)) _ _ _ _ _ _
     (λ w s writes. (
       ap spelling (sym c.missing_frame.ensures.value) ∙ writes.0,
       writes.1 ∙ ap Waiting (c.len.ensures ∙ c.cells.inside.list.ok.0

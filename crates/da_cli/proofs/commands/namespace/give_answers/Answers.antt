@@ -53,11 +53,11 @@ loop-name-preserved g c =
       served = λ square holds.
           served_on (AllowsNames square held.header) _ _ _ _ _ _ name c.answer_frame.result (c.loop-name.invariant.served square holds) c.in-Request.ensures.0
           (c.in-Ok.found, record { complete = c.in-Ok.ensures.complete; shares = c.in-Ok.ensures.shares square holds }, c.answer_frame.ensures.value)
-          c.in-Done.ensures.leaves;
+          c.in-Done.ensures.ends.leaves;
       named = named.1;
       others = others.1;
-      told = (λ s. c.give-status.ensures.told.0 (c.loop-name.invariant.told.0 s), λ s. c.loop-name.invariant.told.1 (c.give-status.ensures.told.1 s));
-      faults = c.in-Done.ensures.faults ∙ c.loop-name.invariant.faults;
+      told = (λ s. c.give-status.ensures.ends.told.0 (c.loop-name.invariant.told.0 s), λ s. c.loop-name.invariant.told.1 (c.give-status.ensures.ends.told.1 s));
+      faults = c.in-Done.ensures.ends.faults ∙ c.loop-name.invariant.faults;
     }
 
 pub returns-in_default : goal.returns-in_default
@@ -73,8 +73,8 @@ returns-in_default g c = λ square holds.
     (have_names held square holds (λ n. c.serve_laws.ensures.complete held n is) (λ n. c.serve_laws.ensures.shares held square n is holds)
     (λ n is_named other. c.wire_laws.ensures.names n (answer_for held n) is_named (c.serve_laws.ensures.entries held n is is_named)
     (complete_short held n (answer_for held n) is (c.serve_laws.ensures.complete held n is is_named other))) _ named.1 others.1)
-    (λ s. c.give-status.ensures.told.0 (c.loop-name.invariant.told.0 s), λ s. c.loop-name.invariant.told.1 (c.give-status.ensures.told.1 s))
-    _ c.loop-name.invariant.faults c.answer_frame.ensures.spelled _ c.give-status.result c.in_default.not-Done c.give-status.ensures
+    (λ s. c.give-status.ensures.ends.told.0 (c.loop-name.invariant.told.0 s), λ s. c.loop-name.invariant.told.1 (c.give-status.ensures.ends.told.1 s))
+    _ c.loop-name.invariant.faults c.answer_frame.ensures.spelled _ c.give-status.result c.in_default.not-Done c.give-status.ensures.ends
 
 -- a complete answer is short enough to be written
 pub answer_frame-requires : goal.answer_frame-requires

@@ -4,7 +4,7 @@ use Rattle.repair_queue.specs.Verdicts.{fraud}
 use Rattle.da_wire.specs.declared.frames.Frame.TheVariants.{Fraud}
 use Rattle.da_cli.specs.declared.status.Status.TheVariants as status
 use Rattle.da_cli.specs.commands.Repair.{Answers}
-use Rattle.da_cli.proofs.EndLemmas.{ends_within}
+use Rattle.da_cli.proofs.EndLemmas.{once_within}
 use Rattle.da_cli.proofs.SpelledLemmas.{writes_frame}
 use Rattle.da_cli.proofs.commands.repair.give_proof.Goals as goal
 
@@ -12,7 +12,7 @@ use Rattle.da_cli.proofs.commands.repair.give_proof.Goals as goal
 pub returns-in-Ok : goal.returns-in-Ok
 returns-in-Ok g c =
     let claim = c.args.proof.now.claim in
-    ends_within _ (Answers 0 (fraud claim)) _ _ _ _ _ _
+    once_within _ (Answers 0 (fraud claim)) _ _ _ _ _ _
     (λ w s writes.
     writes_frame (Fraud claim) (status.Fraud claim.axis claim.index) _ _ c.deref.result.now c.new-text.ensures.items c.in-Ok.ensures.written c.deref.ensures.value w s
     (writes.0, writes.1 ∙ ap (λ (p : ProofParts). status.Fraud p.claim.axis p.claim.index) c.proof.view_is)) c.put.ensures

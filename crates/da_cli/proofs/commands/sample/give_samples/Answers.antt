@@ -35,10 +35,10 @@ loop-asked-preserved g c =
       served = λ square holds.
           served_on (AllowsSample square held.header) _ _ _ _ _ _ asked c.message_frame.result (c.loop-asked.invariant.served square holds) c.in-Request.ensures.0
           (m, is_sample held square asked m holds c.in-Ok.ensures.cell c.in-Ok.ensures.axis c.in-Ok.ensures.share c.in-Ok.ensures.proved, c.message_frame.ensures.value)
-          c.in-Done.ensures.leaves;
+          c.in-Done.ensures.ends.leaves;
       inside = inside.1;
-      told = (λ s. c.give-status.ensures.told.0 (c.loop-asked.invariant.told.0 s), λ s. c.loop-asked.invariant.told.1 (c.give-status.ensures.told.1 s));
-      faults = c.in-Done.ensures.faults ∙ c.loop-asked.invariant.faults;
+      told = (λ s. c.give-status.ensures.ends.told.0 (c.loop-asked.invariant.told.0 s), λ s. c.loop-asked.invariant.told.1 (c.give-status.ensures.ends.told.1 s));
+      faults = c.in-Done.ensures.ends.faults ∙ c.loop-asked.invariant.faults;
     }
 
 pub returns-in_default-status : goal.returns-in_default-status
@@ -51,5 +51,5 @@ returns-in_default-status g c = λ square holds.
     served_stopped (AllowsSample square held.header) _ _ _ _ _ _ asked c.message_frame.result _ _ _ (c.loop-asked.invariant.served square holds) c.in-Request.ensures.0
     (m, is_sample held square asked m holds c.in-Ok.ensures.cell c.in-Ok.ensures.axis c.in-Ok.ensures.share c.in-Ok.ensures.proved, c.message_frame.ensures.value)
     (have_samples held square holds (λ cell axis. c.serve_laws.ensures.sample held cell axis c.header-header.ensures.held) c.wire_laws.ensures.messages _ inside.1)
-    (λ s. c.give-status.ensures.told.0 (c.loop-asked.invariant.told.0 s), λ s. c.loop-asked.invariant.told.1 (c.give-status.ensures.told.1 s))
-    _ c.loop-asked.invariant.faults c.message_frame.ensures.spelled _ c.give-status.result c.in_default-status.not-Done c.give-status.ensures
+    (λ s. c.give-status.ensures.ends.told.0 (c.loop-asked.invariant.told.0 s), λ s. c.loop-asked.invariant.told.1 (c.give-status.ensures.ends.told.1 s))
+    _ c.loop-asked.invariant.faults c.message_frame.ensures.spelled _ c.give-status.result c.in_default-status.not-Done c.give-status.ensures.ends

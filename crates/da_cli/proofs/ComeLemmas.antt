@@ -1,0 +1,112 @@
+-- The files of a list of names, of which one more was read, whether its bytes are kept or not.
+use Rattle.std.proofs.Common.{◌≡◌, ◌∙◌, ℕ, ◌+◌, ◌<◌, ◌≤◌, List, [], ◌∷◌, ◌++◌, length, drop, Some, None, Ok, Err, Result, IfOk, IfErr, refl, sym, ap, subst, arith, inl, inr, ⊎_elim}
+use Rattle.std.specs.Prelude.{◌⊎◌}
+use Rattle.std.specs.declared.option.Option.{Option}
+use Rattle.da_io.specs.declared.inputs.Inputs as inputs
+use Rattle.std.proofs.lemmas.Bool.{cases_lt}
+use Rattle.da_io.specs.Faults.{max_count, count_on}
+use Rattle.da_io.specs.Files.{Files}
+use Rattle.da_cli.specs.declared.gathering.Stop.{Stop}
+use Rattle.da_cli.specs.declared.gathering.Stop.TheVariants as stop
+use Rattle.da_cli.specs.Limits.{file_limit}
+use Rattle.da_cli.specs.Gathered.{Gathered, whole, long, absent, after, gathered_from, AllRead, Gathers, ReadsFile, IsLastOf, PicksIn, StopsIn, WithinLimit, count_after}
+use Rattle.da_cli.specs.Streamed.{IsRead, HasCome}
+use Rattle.da_cli.proofs.GatheredLemmas.{come_on, stop_here, stop_in, all_read_on, last_on, stop_picks}
+
+-- a limit that was kept, or memory that ran out
+within_or : (given : ℕ) (Idle : Type 0) (why : Stop) → WithinLimit {T = List ℕ} given ⊥ (Err why) → WithinLimit {T = List (List ℕ)} given Idle (Err why)
+within_or given Idle (stop.PickFault i) h = h
+within_or given Idle (stop.ReadFault i) h = h
+within_or given Idle (stop.TooLong i) h = h
+within_or given Idle stop.NoMemory (inl h) = absurd h
+within_or given Idle stop.NoMemory (inr h) = inr h
+
+-- failures are counted alike
+counts_alike : (before mid : ℕ) (why : Stop) → mid ≡ before → count_after {T = List ℕ} mid (Err why) ≡ count_after {T = List (List ℕ)} before (Err why)
+counts_alike before mid (stop.PickFault i) e = ap (λ (n : ℕ). count_on n 1) e
+counts_alike before mid (stop.ReadFault i) e = ap (λ (n : ℕ). count_on n 1) e
+counts_alike before mid (stop.TooLong i) e = e
+counts_alike before mid stop.NoMemory e = e
+
+-- nothing gathered stands in front of what is gathered
+after_none : (g : Gathered) → g ≡ after [] g
+after_none (whole contents) = refl
+after_none (long n) = refl
+after_none (absent n) = refl
+
+-- no name was read yet
+gathers_none : (told : Option Files) (names : List (List ℕ)) → Gathers told names 0 (Ok [])
+gathers_none None names = tt
+gathers_none (Some files) names = after_none (gathered_from files 0 names)
+
+all_none : (told : Option Files) (names : List (List ℕ)) → AllRead told names 0
+all_none None names = tt
+all_none (Some files) names = λ j h. absurd (omega arith)
+
+-- where memory ran out nothing is said of contents
+gathers_memory : (told : Option Files) (names : List (List ℕ)) (count : ℕ) → Gathers told names count (Err stop.NoMemory)
+gathers_memory None names count = tt
+gathers_memory (Some files) names count = tt
+
+module _ {I : Type 0} (i : inputs.Ghosts I) (names : List (List ℕ)) where
+  -- one more file was read to its end
+  pub come_file : (n : ℕ) (before mid now : I) (contents : List (List ℕ)) (name bytes : List ℕ) → HasCome i names n before mid (Ok contents)
+      → drop n names ≡ name ∷ drop (n + 1) names → IsRead i n name mid now (Ok bytes) → HasCome i names (n + 1) before now (Ok (contents ++ bytes ∷ []))
+  come_file n before mid now contents name bytes come here read =
+      let content : ReadsFile (i.files before) name (Ok bytes) = subst (λ (told : Option Files). ReadsFile told name (Ok bytes)) come.files read.content in
+      record {
+        contents = come_on (i.files before) names n contents name bytes come.contents here content;
+        stop = tt;
+        faults = read.faults ∙ come.faults;
+        within = λ some. read.within;
+        last = last_on names n name (i.picked now) (i.ended now) here read.picked read.fine;
+        picks = omega (arith, read.picks, come.picks);
+        idle = λ none. absurd (omega arith);
+        files = read.files ∙ come.files;
+        all = all_read_on (i.files before) names n name bytes come.all here content;
+      }
+
+  -- one more file was not
+  pub stop_file : (n count : ℕ) (before mid now : I) (contents : List (List ℕ)) (name : List ℕ) (why : Stop) → n < count → HasCome i names n before mid (Ok contents)
+      → drop n names ≡ name ∷ drop (n + 1) names → IsRead i n name mid now (Err why) → HasCome i names count before now (Err why)
+  stop_file n count before mid now contents name why few come here read =
+      let content : ReadsFile (i.files before) name (Err why) = subst (λ (told : Option Files). ReadsFile told name (Err why)) come.files read.content in
+      record {
+        contents = stop_here (i.files before) names n count contents name (i.ended now) (i.given now) why come.contents here content read.stop;
+        stop = stop_in (i.files before) names n name (i.picked now) (i.ended now) (i.given now) why here come.all read.picked read.stop;
+        faults = read.faults ∙ counts_alike (i.faults before) (i.faults mid) why come.faults;
+        within = λ some. within_or (i.given now) (now ≡ before) why read.within;
+        last = tt;
+        picks = stop_picks n (i.picks before) (i.picks now) count (i.ended now) (i.given now) why few read.stop (omega (arith, read.picks, come.picks));
+        idle = λ none. absurd (omega arith);
+        files = read.files ∙ come.files;
+        all = tt;
+      }
+
+  -- at first no file was read
+  pub come_none : (before : I) → i.picks before ≤ max_count → HasCome i names 0 before before (Ok [])
+  come_none before few = record {
+    contents = gathers_none (i.files before) names;
+    stop = tt;
+    faults = refl;
+    within = λ some. absurd (omega arith);
+    last = λ some. absurd (omega arith);
+    picks = omega (arith, few);
+    idle = λ none. refl;
+    files = refl;
+    all = all_none (i.files before) names;
+  }
+
+  -- memory ran out after some files were read
+  pub come_memory : (n count : ℕ) (before now : I) (contents : List (List ℕ)) → n ≤ count → 0 < count → HasCome i names n before now (Ok contents) → HasCome i names count before now (Err stop.NoMemory)
+  come_memory n count before now contents few some come = record {
+    contents = gathers_memory (i.files before) names count;
+    stop = tt;
+    faults = come.faults;
+    within = λ h. ⊎_elim (λ (k : 0 < n). inr (come.within k)) (λ (k : n ≤ 0). inl (come.idle (omega (arith, k)))) (cases_lt 0 n);
+    last = tt;
+    picks = (n, few, come.picks);
+    idle = λ none. absurd (omega (arith, none, some));
+    files = come.files;
+    all = tt;
+  }

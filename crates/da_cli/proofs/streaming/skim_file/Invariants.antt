@@ -1,0 +1,13 @@
+use Rattle.std.proofs.Common.{◌≡◌, ◌-◌, ◌≤◌, ◌<◌, ℕ, List, length}
+use Rattle.std.specs.String.{string_bytes}
+use Rattle.da_io.specs.declared.inputs.Ended.TheVariants as ended
+use Rattle.da_cli.specs.Limits.{file_limit}
+use Rattle.da_cli.proofs.StreamedLemmas.{IsPassing}
+use Rattle.da_cli.proofs.streaming.skim_file.Given as goal
+
+-- so many bytes were passed over
+abbrev pub invariant-loop-count : goal.invariant-loop-count
+invariant-loop-count g l = IsPassing g.I.Inputs (string_bytes l.fn.name) l.fn.inputs l.inputs l.taken × (l.taken ≤ file_limit)
+
+abbrev pub decreases-loop-count : goal.decreases-loop-count
+decreases-loop-count g l = file_limit - l.taken

@@ -1,0 +1,221 @@
+//! Feeding a session with the proved samples of the picked file, as they come.
+
+ghost use Rattle.std.specs.Prelude.{◌≡◌, ◌+◌, ◌≤◌, ◌<◌, ◌^◌, ◌++◌, ℕ, List, [], ◌∷◌, length, take, None, IfOk};
+ghost use Rattle.std.specs.Io.KnownBytes.{IsAtEnd};
+ghost use Rattle.data_header.specs.Headers.{Roots};
+ghost use Rattle.axis_roots.specs.declared.message.messages.Message.{Message as Sent};
+ghost use Rattle.axis_roots.specs.Proved.{IsUnder, kept_message};
+ghost use Rattle.axis_roots.specs.Openings.{IsProved};
+ghost use Rattle.axis_roots.specs.Messages.{message_refusal};
+ghost use Rattle.repair_queue.specs.Closures.{Covers};
+ghost use Rattle.da_wire.specs.Reading.{Raw};
+ghost use Rattle.da_cli.specs.commands.Repair.{messages_in, lies_in};
+ghost use Rattle.da_io.specs.Faults.{count_on};
+ghost use Rattle.da_cli.specs.Limits.{file_limit};
+ghost use Rattle.da_cli.specs.Feeding.{proved_by, lies_by, proved_among, lies_among, HasGone, Feeds, FeedsTold, EndsFed, fed_faults, fed_end, Judges};
+ghost use Rattle.da_wire.specs.Streams.{StandsFor, offset_of};
+
+use axis_roots::{Message, Proved, check, message_law, message_laws};
+use da_io::Inputs;
+use da_wire::{FrameError, FrameStream, Pushed, stream_laws};
+use data_header::Header;
+use thiserror::Error;
+
+/// Why a file was not fed whole.
+#[derive(Clone, Copy, Debug, PartialEq, Eq, Error)]
+pub enum FeedFault {
+    /// A read failed.
+    #[error("the file cannot be read")]
+    ReadFailed,
+    /// More bytes came than this limit.
+    #[error("the file has more than {0} bytes")]
+    TooLong(u64),
+    /// No frame stands at this offset though bytes are left.
+    #[error("no frame stands at {0}")]
+    Bad(u64),
+}
+
+/// What is fed with proved samples, one at a time.
+pub trait Fed {
+    /// The header that it is for.
+    ghost header: { Self → Roots };
+
+    /// Whether it stands for everything that it was fed.
+    ghost stands: { Self → List Sent → Type 0 };
+
+    /// Takes a proved sample.
+    fn feed(&mut self, message: Proved)
+        requires { IsUnder (header self.old) message }
+        ensures header { header self.new ≡ header self.old }
+        ensures stands { (ms : List Sent) → stands self.old ms →
+            stands self.new (ms ++ kept_message message ∷ []) };
+}
+
+/// Feeds a session with the message of a frame, where it is one that is proved. Answers how many lies the
+/// frame is, none or one.
+fn feed_message<S: Fed>(header: &Header, session: &mut S, message: Option<Message>) -> u64
+    requires { S.header session.old ≡ header.now }
+    ensures header { S.header session.new ≡ header.now }
+    ensures fed { (ms : List Sent) → S.stands session.old ms →
+        S.stands session.new (ms ++ proved_by header.now message) }
+    ensures lies { result ≡ lies_by header.now message }
+    ensures few { result ≤ 1 }
+{
+    let Some(message) = message else {
+        return 1;
+    };
+    message_laws();
+    message_law(&message);
+    let _k = header.k;
+    match check(header, message) {
+        Ok(proved) => {
+            session.feed(proved);
+            0
+        }
+        Err(_) => 1,
+    }
+}
+
+/// Pushes bytes up to the end of a frame, and feeds a session with its message. Answers how many bytes
+/// were taken and how many lies ended with them.
+fn feed_frame<S: Fed>(
+    header: &Header,
+    session: &mut S,
+    stream: &mut FrameStream,
+    piece: &[u8],
+) -> (usize, u64)
+    requires under { S.header session.old ≡ header.now }
+    requires count { stream.old.taken + length piece.now < 2 ^ 64 }
+    ensures header { S.header session.new ≡ header.now }
+    ensures gone { HasGone stream.old stream.new (S.stands session.old) (S.stands session.new)
+        header.now (take result.0 piece.now) result.1 }
+    ensures within { result.0 ≤ length piece.now }
+    ensures some { 0 < length piece.now → 0 < result.0 }
+    ensures few { result.1 ≤ 1 }
+    ensures taken { stream.new.taken ≡ stream.old.taken + result.0 }
+{
+    let (count, answer) = stream.push(piece);
+    match answer {
+        Pushed::Frame(message) => {
+            let lies = feed_message(header, session, message);
+            (count, lies)
+        }
+        Pushed::More | Pushed::Bad(_) => (count, 0),
+    }
+}
+
+/// Feeds a session with the proved samples of the frames that end in a piece. Answers how many of the
+/// frames are lies.
+fn feed_piece<S: Fed>(
+    header: &Header,
+    session: &mut S,
+    stream: &mut FrameStream,
+    piece: &[u8],
+) -> u64
+    requires under { S.header session.old ≡ header.now }
+    requires count { stream.old.taken + length piece.now < 2 ^ 64 }
+    ensures header { S.header session.new ≡ header.now }
+    ensures gone { HasGone stream.old stream.new (S.stands session.old) (S.stands session.new)
+        header.now piece.now result }
+    ensures few { result ≤ length piece.now }
+    ensures taken { stream.new.taken ≡ stream.old.taken + length piece.now }
+{
+    let mut lies = 0;
+    let mut rest = piece;
+    while !rest.is_empty() {
+        let (count, more) = feed_frame(header, session, stream, rest);
+        lies += more;
+        rest = &rest[count..];
+    }
+    lies
+}
+
+/// The offset that a refusal names.
+fn offset(error: FrameError) -> u64
+    ensures { result ≡ offset_of error }
+{
+    match error {
+        FrameError::Truncated(at)
+        | FrameError::BadKind(at)
+        | FrameError::TooLong(at)
+        | FrameError::BadPayload(at)
+        | FrameError::Trailing(at) => at,
+        FrameError::NoMemory => 0,
+    }
+}
+
+/// What is answered at the end of a file, where so many of its frames are lies.
+fn judged(stream: &FrameStream, lies: u64) -> Result<u64, FeedFault>
+    ensures { (bytes : List ℕ) → StandsFor stream.now bytes → Judges bytes lies result }
+{
+    match stream.end() {
+        None => Ok(lies),
+        Some(error) => Err(FeedFault::Bad(offset(error))),
+    }
+}
+
+/// Feeds a session with the proved samples of what is left of the picked file, as its bytes come, at most
+/// `limit` of them. Answers how many of its frames are no proved sample.
+///
+/// Fails at the first read that fails; then where more than `limit` bytes came; then, at the end, where the
+/// bytes are no list of frames, with the offset of the first that is none. It takes no memory.
+pub fn feed_all<I: Inputs, S: Fed>(
+    header: &Header,
+    session: &mut S,
+    inputs: &mut I,
+    limit: u64,
+) -> Result<u64, FeedFault>
+    requires under { S.header session.old ≡ header.now }
+    requires limit { limit ≤ file_limit }
+
+    // Where the bytes are told: what all of them come to or, past the limit, `TooLong`.
+    ensures told { FeedsTold (I.rest inputs.old) header.now limit result }
+
+    // Told or not: what came, how much it was, the answer to that, and what the session was fed with.
+    ensures fed { Feeds (I.rest inputs.old) (I.rest inputs.new) (I.given inputs.old)
+        (I.given inputs.new) limit header.now
+        (λ more. (ms : List Sent) → S.stands session.old ms → S.stands session.new (ms ++ more))
+        result }
+    ensures header { S.header session.new ≡ header.now }
+    ensures end { EndsFed (I.rest inputs.new) result }
+
+    // A failed read is answered exactly where one happened, and it was the last call.
+    ensures faults { I.faults inputs.new ≡ count_on (I.faults inputs.old) (fed_faults result) }
+    ensures ended { I.ended inputs.new ≡ fed_end result }
+
+    // What stays.
+    ensures picked { I.picked inputs.new ≡ I.picked inputs.old }
+    ensures picks { I.picks inputs.new ≡ I.picks inputs.old }
+    ensures files { I.files inputs.new ≡ I.files inputs.old }
+{
+    stream_laws();
+    let mut stream = FrameStream::new();
+    let mut taken = 0;
+    let mut lies = 0;
+    let mut buf = [0; 4096];
+    loop {
+        let Ok(count) = inputs.read(&mut buf) else {
+            return Err(FeedFault::ReadFailed);
+        };
+        if count == 0 {
+            return judged(&stream, lies);
+        }
+        if count as u64 > limit - taken {
+            return Err(FeedFault::TooLong(limit));
+        }
+        lies += feed_piece(header, session, &mut stream, &buf[..count]);
+        taken += count as u64;
+    }
+}
+
+/// What a session is fed with of a file are the file's proved samples, whatever their order and repeats, and
+/// the frames that it isn't fed with are the file's lies.
+pub(crate) fn fed_laws()
+    ensures lies { (header : Roots) (frames : List Raw) →
+        lies_among header frames ≡ lies_in header frames }
+    ensures all { (header : Roots) →
+        ((m : Sent) → IsProved header m → message_refusal header m ≡ None) →
+        (frames : List Raw) → Covers header (messages_in frames) (proved_among header frames) }
+    ensures only { (header : Roots) (frames : List Raw) →
+        Covers header (proved_among header frames) (messages_in frames) }
+{}

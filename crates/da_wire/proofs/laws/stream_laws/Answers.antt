@@ -1,0 +1,8 @@
+use Rattle.da_wire.proofs.CuttingLemmas.{every_cutting, frames_stay}
+use Rattle.da_wire.proofs.laws.stream_laws.Goals as goal
+
+pub returns-clause-cutting : goal.returns-clause-cutting
+returns-clause-cutting c = every_cutting
+
+pub returns-clause-stay : goal.returns-clause-stay
+returns-clause-stay c = frames_stay

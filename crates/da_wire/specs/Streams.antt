@@ -1,0 +1,103 @@
+-- Streams of frames: bytes that come in pieces, cut anywhere (docs/FORMATS.md, "Streams of frames").
+use Rattle.std.specs.Prelude.{◌≡◌, ◌↔◌, ℕ, ◌+◌, ◌<◌, List, [], ◌∷◌, ◌++◌, length, take, drop, map, ⊤, Option, Some, None, Result, Ok, Err}
+use Rattle.std.specs.List.{flat_map}
+use Rattle.namespace_id.specs.Bytes.{AreBytes}
+use Rattle.da_wire.specs.declared.frames.FrameError.{FrameError}
+use Rattle.da_wire.specs.declared.frames.FrameError.TheVariants.{Truncated, BadKind, TooLong, BadPayload, Trailing, NoMemory}
+use Rattle.axis_roots.specs.declared.message.messages.Message.{Message}
+use Rattle.da_wire.specs.declared.streams.Pushed.{Pushed}
+use Rattle.da_wire.specs.declared.streams.Pushed.TheVariants as pushed
+use Rattle.da_wire.specs.Reading.{Raw, raw_of}
+use Rattle.da_wire.specs.Frames.{frames_of, bad_frame, message_in}
+use Rattle.da_wire.specs.StreamParts.{StreamParts, front_size, under_way}
+
+-- a stream stands for the bytes that its pushes took: those before the frame under way are whole frames,
+-- and of those after them it keeps as many as its room holds
+pub record StandsFor (stream : StreamParts) (bytes : List ℕ) : Type 0 where
+  pub fits : AreBytes bytes
+  pub count : stream.taken ≡ length bytes
+  pub whole : bad_frame (take stream.at bytes) ≡ None
+  pub front : take front_size (drop stream.at bytes) ≡ take (under_way stream) stream.front
+
+-- why a reader refused
+abbrev pub err_of : {A E : Type 0} → Result A E → Option E
+err_of (Ok x) = None
+err_of (Err e) = Some e
+
+-- why no frame stands at a place of a file
+abbrev pub refusal_at : List ℕ → Option ℕ → Option FrameError
+refusal_at bytes None = None
+refusal_at bytes (Some at) = err_of (raw_of at (drop at bytes))
+
+-- why no frame stands at the first place at which none does though bytes are left, none where the file is
+-- a list of frames
+abbrev pub first_refusal : List ℕ → Option FrameError
+first_refusal bytes = refusal_at bytes (bad_frame bytes)
+
+-- the offset that a refusal names
+abbrev pub offset_of : FrameError → ℕ
+offset_of (Truncated at) = at
+offset_of (BadKind at) = at
+offset_of (TooLong at) = at
+offset_of (BadPayload at) = at
+offset_of (Trailing at) = at
+offset_of NoMemory = 0
+
+-- whether a push answers a frame
+abbrev pub AnswersFrame : Pushed → Type 0
+AnswersFrame pushed.More = ⊥
+AnswersFrame (pushed.Frame message) = ⊤
+AnswersFrame (pushed.Bad at) = ⊥
+
+-- a frame that is answered is the one after those before, and its message is answered, if it is one; with
+-- another answer the frames are those before
+abbrev pub EndsFrame : List Raw → List Raw → Pushed → Type 0
+EndsFrame before after pushed.More = after ≡ before
+EndsFrame before after (pushed.Frame message) = (frame : Raw) × (after ≡ before ++ frame ∷ []) × (message ≡ message_in frame)
+EndsFrame before after (pushed.Bad at) = after ≡ before
+
+-- what a push answers that took so many bytes of a piece, after these bytes: a frame exactly where they end one,
+-- the frame that is too long exactly where one is under way, of which it takes the head first and all bytes
+-- later; else it takes the whole piece
+pub record IsPush (before piece : List ℕ) (count : ℕ) (answer : Pushed) : Type 0 where
+  pub frame : AnswersFrame answer ↔ ((0 < count) × (bad_frame (before ++ take count piece) ≡ None))
+  pub bad : (at : ℕ) → (answer ≡ pushed.Bad at) ↔ (first_refusal (before ++ take count piece) ≡ Some (TooLong at))
+  pub whole : answer ≡ pushed.More → count ≡ length piece
+  pub frames : EndsFrame (frames_of before) (frames_of (before ++ take count piece)) answer
+  pub fifth : (at : ℕ) → answer ≡ pushed.Bad at → (first_refusal before ≡ Some (TooLong at) → ⊥) → length before + count ≡ at + 5
+  pub later : (at : ℕ) → first_refusal before ≡ Some (TooLong at) → count ≡ length piece
+
+-- the message that a push answers, in a list
+abbrev pub messages_in : Pushed → List (Option Message)
+messages_in pushed.More = []
+messages_in (pushed.Frame message) = message ∷ []
+messages_in (pushed.Bad at) = []
+
+-- a push: the piece, how many of its bytes were taken, and the answer
+pub record Push : Type 0 where
+  pub piece : List ℕ
+  pub count : ℕ
+  pub answer : Pushed
+
+-- pushes, one after another, of a stream that stands for these bytes
+abbrev pub ArePushes : List ℕ → List Push → Type 0
+ArePushes before [] = ⊤
+ArePushes before (push ∷ later) =
+    IsPush before push.piece push.count push.answer × ArePushes (before ++ take push.count push.piece) later
+
+-- the bytes that pushes took
+abbrev pub taken_by : List Push → List ℕ
+taken_by pushes = flat_map (λ push. take push.count push.piece) pushes
+
+-- the messages that pushes answered, in order, none for each frame that isn't a message
+abbrev pub answered : List Push → List (Option Message)
+answered pushes = flat_map (λ push. messages_in push.answer) pushes
+
+-- over every cutting of a byte string the frames that are answered are those of the string, up to the
+-- first place at which none stands
+abbrev pub EveryCutting : Type 0
+EveryCutting = (pushes : List Push) → ArePushes [] pushes → answered pushes ≡ map message_in (frames_of (taken_by pushes))
+
+-- the frames of bytes stay whatever bytes follow
+abbrev pub FramesStay : Type 0
+FramesStay = (bytes more : List ℕ) → (later : List Raw) × (frames_of (bytes ++ more) ≡ frames_of bytes ++ later)
