@@ -1,5 +1,5 @@
 #!/usr/bin/env python3
-"""Makes the values that tests of the crates and the docs take from another program, and compares them.
+"""Makes the values that tests, rows and docs take from another program, and compares them.
 
     values.py [DIR]    DIR is the repository, where nothing is said the one that this file stands in
 
@@ -132,6 +132,11 @@ class Values:
             self.failed += 1
             print(f"FAILED {what}: {found!r} stands there, {want!r} was made")
 
+    def file(self, path, want):
+        """A file of bytes."""
+        with open(os.path.join(self.top, path), "rb") as file:
+            self.same(path, file.read().hex(), want.hex())
+
     def constant(self, path, name, want):
         """A constant array of bytes, or a text of their hexadecimal digits."""
         found = re.search(rf"const {name}: [^=]*= (\[[^\]]*\]|\"[^\"]*\")\s*;", self.read(path))
@@ -148,32 +153,28 @@ class Values:
 def digests_of_tests(values):
     tests = "crates/da/src/tests/"
     empty = make.Grid(1, make.extend(1, make.square_of(1, [])))
-    roots = [make.root(empty.leaves(axis, i)) for axis in (make.ROW, make.COL) for i in range(2)]
+    roots = roots_of(empty)
     values.constant(tests + "frames.rt", "ROOT", roots[0][58:])
     values.constant(tests + "frames.rt", "PARITY_ROOT", roots[1][58:])
     values.constant(tests + "frames.rt", "PARITY_LEAF", empty.leaves(make.ROW, 0)[1][58:])
-    values.constant(tests + "shown.rt", "FIRST", roots[0][58:])
-    values.constant(tests + "shown.rt", "SECOND", roots[1][58:])
-    values.constant(tests + "shown.rt", "HASH", sha256(empty.rows[0][0]).digest())
-    values.constant(tests + "shown.rt", "DATA_ROOT", data_root(roots))
     values.constant("crates/data_header/src/proving.rt", "ROOT", data_root([bytes([i]) * 90 for i in range(1, 5)]))
+    values.constant("crates/light_node/src/tests.rt", "DATA_ROOT", data_root(roots_of(three_blobs())))
 
-    three = three_blobs()
-    values.constant(tests + "serving.rt", "LEAF", three.leaves(make.COL, 2)[0][58:])
-    values.constant(tests + "serving.rt", "NODE", make.root(three.leaves(make.COL, 2)[2:])[58:])
-    values.constant("crates/light_node/src/tests.rt", "DATA_ROOT", data_root(roots_of(three)))
 
+def digests_of_rows(values):
+    empty, three = make.Grid(1, make.extend(1, make.square_of(1, []))), three_blobs()
     falling = make.Grid(2, make.extend(2, [make.name(end) + bytes(483) for end in ("0102", "0101", "0103", "0104")]))
-    row = falling.leaves(make.ROW, 0)
-    wanted = roots_of(falling) + [row[1], make.root(row[2:])]
-    digest = r"\(\s*(PARITY|0x\w{4}),\s*(PARITY|0x\w{4}),\s*\[([^\]]*)\],\s*\)"
-    found = re.findall(digest, values.read(tests + "falling.rt"))
-    ends = lambda name: "PARITY" if name == make.PARITY else "0x" + name[27:].hex()
-    for i, (digest, have) in enumerate(zip(wanted, found)):
-        hexes = "".join(re.findall(r"0x(\w{2})", have[2]))
-        want = (ends(digest[:29]), ends(digest[29:58]), digest[58:].hex())
-        values.same(f"{tests}falling.rt, digest {i}", (have[0], have[1], hexes), want)
-    values.same(f"{tests}falling.rt, how many", len(found), len(wanted))
+    for name, grid in (("empty", empty), ("2", three), ("falling-zeros", falling)):
+        values.file(f"rows/files/header-{name}", grid.header())
+    values.file("rows/files/message-1", empty.message(0, 0))
+    values.file("rows/sample-on-a-column/stdout", three.message(1, 2, make.COL))
+    values.file("rows/check-a-falling-row-of-zeros/messages", falling.message(0, 0))
+    for row, text in (
+        ("show-a-message", f"share={sha256(empty.rows[0][0]).hexdigest()}"),
+        ("show-the-empty-blocks-header", f"root={data_root(roots_of(empty)).hex()}"),
+        ("show-every-kind", f"root={data_root(roots_of(three)).hex()}"),
+    ):
+        values.stands(f"rows/{row}/stdout", text.split("=")[0], text)
 
 
 def three_blobs():
@@ -259,6 +260,7 @@ def code_of_tests(values):
 def main(words_given):
     values = Values(words_given[0] if words_given else TOP)
     digests_of_tests(values)
+    digests_of_rows(values)
     draws_and_blocks(values)
     code_of_tests(values)
     print(f"{values.passed} passed, {values.failed} failed")

@@ -1,30 +1,17 @@
-//! Runs of each command, of words and files; failures, want of memory, and values of Celestia's own.
+//! What `da` does over inputs and outputs in memory: one call fails, there is little room, memory is wanted. What
+//! words, files, output, status and note alone tell are the rows of rows/ at the repository's top.
 //!
-//! Here are what these share: frames of requests, blocks and messages, and a run over files in memory.
+//! Here are what these share: runs of words over files in memory.
 
 use da_cli::{Status, run};
 use da_io::{Inputs, MemInputs, MemSink};
 use std::alloc::Global;
 use std::test::Fail;
 
-mod answers;
-mod build;
-mod celestia;
-mod check;
-mod claims;
-mod demo;
 mod failures;
-mod falling;
-mod files;
 mod frames;
-mod header;
-mod light;
 mod memory;
-mod realistic;
-mod repairs;
-mod serving;
 mod shares;
-mod shown;
 
 /// The number of a call that no run makes.
 const NEVER: u64 = u64::MAX;
@@ -94,7 +81,27 @@ fn run_over(
     run_into(alloc, &[command, "f"], &mut inputs, out, NEVER)
 }
 
-/// Runs a command over one file, where nothing fails.
-fn run_well(alloc: Global, command: &str, file: Vec<u8>) -> Result<Ran, Fail> {
-    run_over(alloc, command, file, 1 << 24, NEVER)
+/// The files "h" and "m" with these contents, of which a read gives up to 100 bytes, and one call fails.
+fn two_files(
+    alloc: Global,
+    header: Vec<u8>,
+    messages: Vec<u8>,
+    fail: u64,
+) -> Result<MemInputs, Fail> {
+    let names = vec![in alloc; string(alloc, "h")?, string(alloc, "m")?]?;
+    let contents = vec![in alloc; header, messages]?;
+    Ok(MemInputs::new(names, contents, 100, vec![in alloc; fail]?))
+}
+
+/// Runs words over these two files into an output of so much room, of which one write fails.
+fn run_two(
+    alloc: Global,
+    words: &[&str],
+    first: Vec<u8>,
+    second: Vec<u8>,
+    fail: u64,
+) -> Result<Ran, Fail> {
+    let mut inputs = two_files(alloc, first, second, NEVER)?;
+    let out = large_sink(alloc, 1 << 16, fail)?;
+    run_into(alloc, words, &mut inputs, out, NEVER)
 }

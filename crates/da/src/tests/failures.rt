@@ -1,11 +1,9 @@
 //! One call that fails, at each step of a run.
 
-use super::check::two_files;
-use super::frames::{
-    Change, EMPTY, block_frame, empty_header, empty_square, header_frame, message_frames,
-};
-use super::{NEVER, run_into, run_over, small_sink};
+use super::frames::{SAMPLE, empty_block, empty_header, empty_square, message, messages};
+use super::{NEVER, run_into, run_over, run_two, small_sink, two_files};
 use da_cli::Status::{Done, PickFault, ReadFault, Refused, WriteFault};
+use da_io::{MemInputs, MemSink};
 use std::test::Fail;
 
 /// A call that fails: a pick or a read, numbered together; a write of the output; one of the note.
@@ -37,8 +35,7 @@ fn failed_calls(rt: HostRuntime) -> Result<(), Fail> {
             Call::Write(number) => (NEVER, number, NEVER),
             Call::Note(number) => (NEVER, NEVER, number),
         };
-        let messages = message_frames(alloc, &[Change::None, Change::Share], &[])?;
-        let mut inputs = two_files(alloc, header_frame(alloc)?, messages, input)?;
+        let mut inputs = two_files(alloc, empty_header(alloc)?, messages(alloc, &[])?, input)?;
         let out = small_sink(alloc, 100, write)?;
         let ran = run_into(alloc, &["check", "h", "m"], &mut inputs, out, noted)?;
         assert_eq!(rt; ran.status, want, "{call:?}");
@@ -58,7 +55,7 @@ fn frames_in_one_piece(rt: HostRuntime) -> Result<(), Fail> {
         ("no write", 1000, 0, WriteFault, 0),
     ];
     for (name, room, fail, want, size) in cases {
-        let built = run_over(alloc, "build", block_frame(alloc, EMPTY)?, room, fail)?;
+        let built = run_over(alloc, "build", empty_block(alloc)?, room, fail)?;
         assert_eq!(rt; built.status, want, "{name}");
         let square = empty_square(alloc)?;
         let front = square.get(..size).unwrap_or(&square);
@@ -69,5 +66,68 @@ fn frames_in_one_piece(rt: HostRuntime) -> Result<(), Fail> {
         let front = header.get(..size).unwrap_or(&header);
         assert_eq!(rt; headed.out.bytes.as_slice(), front, "{name}");
     }
+    Ok(())
+}
+
+/// The output takes 300 bytes at a time, and its second call fails.
+#[test]
+fn repaired_in_part(rt: HostRuntime) -> Result<(), Fail> {
+    let alloc = rt.alloc();
+    let mut inputs = two_files(alloc, empty_header(alloc)?, message(alloc, 0)?, NEVER)?;
+    let Ok(out) = MemSink::new(alloc, 1_000, 300, vec![in alloc; 1]?) else {
+        return Err(Fail::new("no memory"));
+    };
+    let ran = run_into(alloc, &["repair", "h", "m"], &mut inputs, out, NEVER)?;
+    assert_eq!(rt; ran.status, WriteFault);
+    assert_eq!(rt; ran.out.bytes.len(), 300);
+    assert!(rt; empty_square(alloc)?.starts_with(ran.out.bytes.as_slice()));
+    Ok(())
+}
+
+/// Of two samples the second one's write fails.
+#[test]
+fn sampled_in_part(rt: HostRuntime) -> Result<(), Fail> {
+    let alloc = rt.alloc();
+    let mut requests = Vec::from_slice(alloc, &SAMPLE)?;
+    requests.extend_from_slice(&SAMPLE)?;
+    let words = ["sample", "h", "m"];
+    let ran = run_two(alloc, &words, empty_square(alloc)?, requests, 1)?;
+    assert_eq!(rt; ran.status, WriteFault);
+    assert_eq!(rt; ran.out.bytes.as_slice(), message(alloc, 0)?.as_slice());
+    Ok(())
+}
+
+/// Two requests: room for 3 bytes, no write, one write, two writes.
+#[test]
+fn shown_in_part(rt: HostRuntime) -> Result<(), Fail> {
+    let alloc = rt.alloc();
+    let line = "sample row=0 col=0 axis=row\n";
+    let cases = [
+        (3, NEVER, WriteFault, 3),
+        (100, 0, WriteFault, 0),
+        (100, 1, WriteFault, line.len()),
+        (100, 2, Done, 2 * line.len()),
+    ];
+    for (room, fail, want, size) in cases {
+        let mut file = Vec::from_slice(alloc, &SAMPLE)?;
+        file.extend_from_slice(&SAMPLE)?;
+        let ran = run_over(alloc, "show", file, room, fail)?;
+        assert_eq!(rt; ran.status, want, "{room} {fail}");
+        assert_eq!(rt; ran.out.bytes.len(), size, "{room} {fail}");
+        let taken = ran.out.bytes.as_slice();
+        let front = taken.get(..line.len()).unwrap_or(taken);
+        assert!(rt; line.as_bytes().starts_with(front), "{room} {fail}");
+    }
+    Ok(())
+}
+
+/// Each line of a trial is one write.
+#[test]
+fn told_in_part(rt: HostRuntime) -> Result<(), Fail> {
+    let alloc = rt.alloc();
+    let words = ["demo", "7", "2"];
+    let ran = run_two(alloc, &words, Vec::new(alloc), Vec::new(alloc), 2)?;
+    assert_eq!(rt; ran.status, WriteFault);
+    assert_eq!(rt; ran.out.bytes.as_slice(), b"width 2\nshares 4\n".as_slice());
     Ok(())
 }

@@ -1,9 +1,7 @@
-//! The frames of these tests: blocks, the square of an empty block, its header, and messages of it.
+//! The frames of these tests: the empty block, its square, the square's header, and messages of it.
 //!
-//! Values of SHA-256 are from another program (docs/TESTING.md, "An independent program").
+//! Values of SHA-256 are those that tools/values.py makes.
 
-use da_wire::{Frame, read_only};
-use square_layout::Square;
 use std::alloc::Global;
 use std::test::Fail;
 
@@ -43,164 +41,20 @@ fn put_tail_padding(bytes: &mut Vec<u8>) -> Result<(), Fail> {
     Ok(())
 }
 
-/// Puts the namespace of version 0 whose id ends so.
-pub(super) fn put_name(bytes: &mut Vec<u8>, end: u16) -> Result<(), Fail> {
-    fill(bytes, 27, 0)?;
-    bytes.extend_from_slice(&end.to_be_bytes())?;
-    Ok(())
-}
-
-/// The header of width 1 with that root of row 0; its other roots are any bytes.
-pub(super) fn header_frame(alloc: Global) -> Result<Vec<u8>, Fail> {
-    let mut bytes = Vec::with_capacity(alloc, 512)?;
-    bytes.extend_from_slice(&[b'H', 0, 0, 1, 0x6a, 0, 1])?;
-    put_tail_padding(&mut bytes)?;
-    put_tail_padding(&mut bytes)?;
-    bytes.extend_from_slice(&ROOT)?;
-    fill(&mut bytes, 270, 7)?;
+/// The frame of the block without units and blobs.
+pub(super) fn empty_block(alloc: Global) -> Result<Vec<u8>, Fail> {
+    let mut bytes = Vec::from_slice(alloc, &[b'V', 0, 0, 0, 14])?;
+    fill(&mut bytes, 14, 0)?;
     Ok(bytes)
 }
 
-/// What is changed in the good message, which is of cell (0, 0) on its row.
-#[derive(Clone, Copy, Debug, PartialEq, Eq)]
-pub(super) enum Change {
-    None,
-    Share,
-    NoNodes,
-    ZeroNode,
-    Row,
-    Col,
-    Axis,
-    Kind,
-    Trailing,
-    Cut,
-}
-
-/// Puts the count of the nodes of a message so changed, and the nodes.
-fn put_nodes(bytes: &mut Vec<u8>, change: Change) -> Result<(), Fail> {
-    match change {
-        Change::NoNodes => bytes.push(0)?,
-        Change::ZeroNode => {
-            bytes.push(1)?;
-            fill(bytes, 90, 0)?;
-        }
-        _ => {
-            bytes.push(1)?;
-            fill(bytes, 58, 0xff)?;
-            bytes.extend_from_slice(&PARITY_LEAF)?;
-        }
-    }
-    Ok(())
-}
-
-/// The frame of a message so changed.
-pub(super) fn message_frame(alloc: Global, change: Change) -> Result<Vec<u8>, Fail> {
-    let length: &[u8] = match change {
-        Change::NoNodes => &[2, 6],
-        _ => &[2, 0x60],
-    };
-    let mut bytes = Vec::with_capacity(alloc, 1024)?;
-    bytes.extend_from_slice(&[b'M', 0, 0])?;
-    bytes.extend_from_slice(length)?;
-    let row = if change == Change::Row { 2 } else { 0 };
-    let col = if change == Change::Col { 2 } else { 0 };
-    let axis = if change == Change::Axis { 2 } else { 0 };
-    bytes.extend_from_slice(&[0, row, 0, col, axis])?;
-    put_tail_padding(&mut bytes)?;
-    bytes.push(1)?;
-    fill(&mut bytes, 481, 0)?;
-    bytes.push(if change == Change::Share { 1 } else { 0 })?;
-    put_nodes(&mut bytes, change)?;
-    if change == Change::Trailing {
-        bytes.push(0)?;
-    }
-    if change == Change::Cut {
-        let _last = bytes.pop();
-    }
-    if change == Change::Kind && !bytes.is_empty() {
-        bytes[0] = b'Q';
-    }
-    Ok(bytes)
-}
-
-/// Messages so changed, one after another, and then some bytes.
-pub(super) fn message_frames(
-    alloc: Global,
-    changes: &[Change],
-    end: &[u8],
-) -> Result<Vec<u8>, Fail> {
-    let mut bytes = Vec::new(alloc);
-    for change in changes {
-        bytes.extend_from_slice(&message_frame(alloc, *change)?)?;
-    }
-    bytes.extend_from_slice(end)?;
-    Ok(bytes)
-}
-
-/// A block: its width, the lengths of its units and of its payments, and the last bytes of the
-/// namespace and the length of each blob.
-#[derive(Clone, Copy)]
-pub(super) struct Plan<'a> {
-    pub(super) width: u16,
-    pub(super) units: &'a [u32],
-    pub(super) pay_units: &'a [u32],
-    pub(super) blobs: &'a [(u16, u32)],
-}
-
-/// The block without units and blobs.
-pub(super) const EMPTY: Plan<'static> = Plan {
-    width: 0,
-    units: &[],
-    pay_units: &[],
-    blobs: &[],
-};
-
-/// Puts a length and so many bytes of one value.
-fn put_bytes(bytes: &mut Vec<u8>, len: u32) -> Result<(), Fail> {
-    bytes.extend_from_slice(&len.to_be_bytes())?;
-    bytes.resize(bytes.len() + len as usize, 7)?;
-    Ok(())
-}
-
-/// Puts the count of units, and units of these lengths.
-fn put_units(bytes: &mut Vec<u8>, units: &[u32]) -> Result<(), Fail> {
-    bytes.extend_from_slice(&[0, 0, 0, (units.len() % 256) as u8])?;
-    for len in units {
-        put_bytes(bytes, *len)?;
-    }
-    Ok(())
-}
-
-/// The frame of a block.
-pub(super) fn block_frame(alloc: Global, plan: Plan<'_>) -> Result<Vec<u8>, Fail> {
-    let mut payload = Vec::from_slice(alloc, &plan.width.to_be_bytes())?;
-    put_units(&mut payload, plan.units)?;
-    put_units(&mut payload, plan.pay_units)?;
-    payload.extend_from_slice(&[0, 0, 0, (plan.blobs.len() % 256) as u8])?;
-    for (name, len) in plan.blobs {
-        put_name(&mut payload, *name)?;
-        payload.push(0)?;
-        put_bytes(&mut payload, *len)?;
-    }
-    let mut bytes = Vec::from_slice(alloc, b"V")?;
-    let size = (payload.len() % (1 << 32)) as u32;
-    bytes.extend_from_slice(&size.to_be_bytes())?;
-    bytes.extend_from_slice(&payload)?;
-    Ok(bytes)
-}
-
-/// The square of width 1 of a share in the namespace of tail padding: then this byte, and zeros.
-pub(super) fn tail_square(alloc: Global, byte: u8) -> Result<Vec<u8>, Fail> {
+/// Its square: one tail padding share.
+pub(super) fn empty_square(alloc: Global) -> Result<Vec<u8>, Fail> {
     let mut bytes = Vec::from_slice(alloc, &[b'S', 0, 0, 2, 2, 0, 1])?;
     put_tail_padding(&mut bytes)?;
-    bytes.push(byte)?;
-    bytes.extend_from_slice(&[0; 482])?;
+    bytes.push(1)?;
+    fill(&mut bytes, 482, 0)?;
     Ok(bytes)
-}
-
-/// The square of an empty block: one tail padding share.
-pub(super) fn empty_square(alloc: Global) -> Result<Vec<u8>, Fail> {
-    tail_square(alloc, 1)
 }
 
 /// The header of this square: its row and its column are alike, and so are those of parity.
@@ -210,31 +64,28 @@ pub(super) fn empty_header(alloc: Global) -> Result<Vec<u8>, Fail> {
         put_tail_padding(&mut bytes)?;
         put_tail_padding(&mut bytes)?;
         bytes.extend_from_slice(&ROOT)?;
-        bytes.extend_from_slice(&[0xff; 58])?;
+        fill(&mut bytes, 58, 0xff)?;
         bytes.extend_from_slice(&PARITY_ROOT)?;
     }
     Ok(bytes)
 }
 
-/// A square of width 2 whose shares have namespaces that end so, row by row, and zeros.
-pub(super) fn square_of_names(alloc: Global, ends: [u16; 4]) -> Result<Vec<u8>, Fail> {
-    let mut bytes = Vec::from_slice(alloc, &[b'S', 0, 0, 8, 2, 0, 2])?;
-    for end in ends {
-        put_name(&mut bytes, end)?;
-        bytes.extend_from_slice(&[0; 483])?;
-    }
+/// The message of its cell (0, 0) on its row, with this last byte of the share, which is 0.
+pub(super) fn message(alloc: Global, last: u8) -> Result<Vec<u8>, Fail> {
+    let mut bytes = Vec::from_slice(alloc, &[b'M', 0, 0, 2, 0x60, 0, 0, 0, 0, 0])?;
+    put_tail_padding(&mut bytes)?;
+    bytes.push(1)?;
+    fill(&mut bytes, 481, 0)?;
+    bytes.extend_from_slice(&[last, 1])?;
+    fill(&mut bytes, 58, 0xff)?;
+    bytes.extend_from_slice(&PARITY_LEAF)?;
     Ok(bytes)
 }
 
-/// A square whose first row falls, from 0102 to 0101.
-pub(super) fn falling_square(alloc: Global) -> Result<Vec<u8>, Fail> {
-    square_of_names(alloc, [0x0102, 0x0101, 0x0103, 0x0104])
-}
-
-/// The square that a frame is.
-pub(super) fn square_of(alloc: Global, frame: &[u8]) -> Result<Square, Fail> {
-    match read_only(alloc, frame, b"S")? {
-        Frame::Square(square) => Ok(square),
-        _ => Err(Fail::new("no square")),
-    }
+/// This message, one with another share, and then some bytes.
+pub(super) fn messages(alloc: Global, end: &[u8]) -> Result<Vec<u8>, Fail> {
+    let mut bytes = message(alloc, 0)?;
+    bytes.extend_from_slice(&message(alloc, 1)?)?;
+    bytes.extend_from_slice(end)?;
+    Ok(bytes)
 }

@@ -1,15 +1,14 @@
 //! Runs that end with their row or with want of memory, whichever allocation fails.
 
-use super::check::{run_messages, run_two_files};
-use super::frames::{
-    Change, EMPTY, SAMPLE, block_frame, empty_header, empty_square, message_frame,
-};
-use super::light::run_light;
-use super::serving::run_both;
-use super::{NEVER, Ran, run_well};
+use super::frames::{SAMPLE, empty_block, empty_header, empty_square, message, messages};
+use super::{NEVER, Ran, run_over, run_two};
 use da_cli::Status;
 use da_cli::Status::{BadInput, Done, NoMemory, PickFault, Refused, Usage};
+use std::alloc::Global;
 use std::test::Fail;
+
+/// 64 digits 0, of a key.
+const KEY: &str = "0000000000000000000000000000000000000000000000000000000000000000";
 
 /// Whether a run ended with its row, or with want of memory and a front of its output.
 fn is_row(ran: &Ran, want: Status, output: &str) -> bool {
@@ -20,50 +19,34 @@ fn is_row(ran: &Ran, want: Status, output: &str) -> bool {
     ran.status == want && taken == output.as_bytes()
 }
 
-#[test]
-fn proved(rt: HostRuntime) -> Result<(), Fail> {
-    let ran = run_messages(rt.alloc(), &[Change::None], &[])?;
-    assert!(rt; is_row(&ran, Done, "ok\n"));
-    Ok(())
+/// Runs words over the header and these messages.
+fn run_messages(alloc: Global, words: &[&str], messages: Vec<u8>) -> Result<Ran, Fail> {
+    run_two(alloc, words, empty_header(alloc)?, messages, NEVER)
 }
 
 #[test]
-fn refused(rt: HostRuntime) -> Result<(), Fail> {
-    let changes = [
-        Change::Share,
-        Change::NoNodes,
-        Change::ZeroNode,
-        Change::Row,
-    ];
-    let ran = run_messages(rt.alloc(), &changes, &SAMPLE)?;
-    let lines = "refused 4\nrefused 2\nrefused 3\nrefused 1\nrefused 0\n";
-    assert!(rt; is_row(&ran, Refused, lines));
-    Ok(())
-}
-
-#[test]
-fn no_messages(rt: HostRuntime) -> Result<(), Fail> {
-    let ran = run_messages(rt.alloc(), &[], &[])?;
-    assert!(rt; is_row(&ran, Done, ""));
-    Ok(())
-}
-
-#[test]
-fn bad_messages(rt: HostRuntime) -> Result<(), Fail> {
-    let ran = run_messages(rt.alloc(), &[Change::None], &[b'M', 1, 0, 0, 1])?;
-    assert!(rt; is_row(&ran, BadInput(1, 613), ""));
+fn checked(rt: HostRuntime) -> Result<(), Fail> {
+    let alloc = rt.alloc();
+    let words = ["check", "h", "m"];
+    let none = run_messages(alloc, &words, Vec::new(alloc))?;
+    assert!(rt; is_row(&none, Done, ""));
+    let all = run_messages(alloc, &words, messages(alloc, &SAMPLE)?)?;
+    assert!(rt; is_row(&all, Refused, "ok\nrefused 4\nrefused 0\n"));
+    let cut = run_messages(alloc, &words, messages(alloc, &[b'M', 1, 0, 0, 1])?)?;
+    assert!(rt; is_row(&cut, BadInput(1, 1226), ""));
     Ok(())
 }
 
 #[test]
 fn words(rt: HostRuntime) -> Result<(), Fail> {
+    let alloc = rt.alloc();
     let cases: [(&[&str], Status); 3] = [
         (&["check", "m", "h"], BadInput(0, 0)),
         (&["check", "h", "gone"], PickFault(1)),
         (&["mend", "h", "m"], Usage),
     ];
     for (words, want) in cases {
-        let ran = run_two_files(rt.alloc(), words)?;
+        let ran = run_messages(alloc, words, message(alloc, 0)?)?;
         assert!(rt; is_row(&ran, want, ""), "{words:?}");
     }
     Ok(())
@@ -81,41 +64,32 @@ fn gives(ran: &Ran, want: &[u8]) -> bool {
 
 #[test]
 fn built(rt: HostRuntime) -> Result<(), Fail> {
-    let want = empty_square(rt.alloc())?;
-    let block = block_frame(rt.alloc(), EMPTY)?;
-    let ran = run_well(rt.alloc(), "build", block)?;
-    assert!(rt; gives(&ran, &want));
+    let alloc = rt.alloc();
+    let ran = run_over(alloc, "build", empty_block(alloc)?, 1000, NEVER)?;
+    assert!(rt; gives(&ran, &empty_square(alloc)?));
     Ok(())
 }
 
 #[test]
 fn headed(rt: HostRuntime) -> Result<(), Fail> {
-    let want = empty_header(rt.alloc())?;
-    let square = empty_square(rt.alloc())?;
-    let ran = run_well(rt.alloc(), "header", square)?;
-    assert!(rt; gives(&ran, &want));
+    let alloc = rt.alloc();
+    let ran = run_over(alloc, "header", empty_square(alloc)?, 1000, NEVER)?;
+    assert!(rt; gives(&ran, &empty_header(alloc)?));
     Ok(())
 }
 
 #[test]
 fn repaired(rt: HostRuntime) -> Result<(), Fail> {
-    let want = empty_square(rt.alloc())?;
-    let message = message_frame(rt.alloc(), Change::None)?;
-    let ran = run_both(
-        rt.alloc(),
-        "repair",
-        empty_header(rt.alloc())?,
-        &message,
-        NEVER,
-    )?;
-    assert!(rt; gives(&ran, &want));
+    let alloc = rt.alloc();
+    let ran = run_messages(alloc, &["repair", "h", "m"], message(alloc, 0)?)?;
+    assert!(rt; gives(&ran, &empty_square(alloc)?));
     Ok(())
 }
 
 #[test]
 fn available(rt: HostRuntime) -> Result<(), Fail> {
-    let message = message_frame(rt.alloc(), Change::None)?;
-    let ran = run_light(rt.alloc(), empty_header(rt.alloc())?, &message, "0")?;
-    assert!(rt; is_row(&ran, Done, "available\n"));
+    let alloc = rt.alloc();
+    let ran = run_messages(alloc, &["light", "h", "m", KEY, "0"], message(alloc, 0)?)?;
+    assert!(rt; gives(&ran, b"available\n"));
     Ok(())
 }
