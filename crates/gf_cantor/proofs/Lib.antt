@@ -4,4 +4,5 @@ pub mod Powers
 pub mod Times
 pub mod Laws
 pub mod Rows
+pub mod LaneLemmas
 pub mod Examples

@@ -1,59 +1,86 @@
--- The product with a byte by its bits.
-use Rattle.std.proofs.Common.{◌≡◌, ℕ, zero, suc, ◌*◌, ◌/◌, ◌%◌, ◌<◌, true, refl, sym, ap, ap₂, ◌∙◌, arith}
+-- The products with the bytes of a row, from two tables of sixteen.
+use Rattle.std.proofs.Common.{◌≡◌, ℕ, ◌*◌, ◌/◌, ◌%◌, ◌<◌, Bool, true, false, cond, eqb, List, [], ◌∷◌, map, get_or, refl, sym, ap, ap₂, ◌∙◌, arith}
+use Rattle.std.specs.Int.Bits.{xor_assoc, xor_zero_r}
 use Rattle.std.specs.Prelude.{bit_xor, ◌==◌}
 use Rattle.std.proofs.lemmas.Bool.{eqb-true}
-use Rattle.gf_cantor.specs.Field.{product}
+use Rattle.gf_cantor.specs.Field.{combine, product}
 use Rattle.gf_cantor.proofs.Computed.{passes_below, passes_below-at}
 use Rattle.gf_cantor.proofs.Laws.{product-xor, product-zero}
 
--- the worth of the bit at a place: the place where it is set, and else 0
-abbrev pub bit : ℕ → ℕ → ℕ
-bit y place = y / place % 2 * place
+-- what a bit picks of a product is the product with what it picks
+product-pick : (by : ℕ) (t : Bool) (b : ℕ) → product by (cond t b 0) ≡ cond t (product by b) 0
+product-pick by true b = refl
+product-pick by false b = product-zero by
 
--- the sum of the worths of the eight lowest bits
-abbrev pub bits : ℕ → ℕ
-bits y = bit_xor
-    (bit_xor (bit_xor (bit_xor (bit y 1) (bit y 2)) (bit y 4)) (bit y 8))
-    (bit_xor (bit_xor (bit_xor (bit y 16) (bit y 32)) (bit y 64)) (bit y 128))
+-- the product with a sum of parts is the sum of the products with them
+product-combine : (by : ℕ) (bs : List ℕ) (n : ℕ) → product by (combine bs n) ≡ combine (map (product by) bs) n
+unfolding combine
+product-combine by [] n = product-zero by
+product-combine by (b ∷ bs) n =
+    product-xor by (cond (eqb (n % 2) 1) b 0) (combine bs (n / 2))
+    ∙ ap₂ bit_xor (product-pick by (eqb (n % 2) 1) b) (product-combine by bs (n / 2))
 
--- each byte is the sum of the worths of its bits
-bits_test : passes_below 256 (λ y. bits y == y) ≡ true
+-- each number below 16 is the sum of 1, 2, 4 and 8 at its set bits
+low_test : passes_below 16 (λ n. combine (1 ∷ 2 ∷ 4 ∷ 8 ∷ []) n == n) ≡ true
+unfolding passes_below combine
+low_test = refl
+
+-- 16 times each number below 16 is the sum of 16, 32, 64 and 128 at its set bits
+high_test : passes_below 16 (λ n. combine (16 ∷ 32 ∷ 64 ∷ 128 ∷ []) n == 16 * n) ≡ true
+unfolding passes_below combine
+high_test = refl
+
+-- each byte is the sum of its low four bits and its high four bits
+byte_test : passes_below 256 (λ y. bit_xor (y % 16) (16 * (y / 16)) == y) ≡ true
 unfolding passes_below
-bits_test = refl
+byte_test = refl
 
--- a byte is the sum of the worths of its bits
-byte_bits : (y : ℕ) → y < 256 → bits y ≡ y
-byte_bits y h = eqb-true _ _ (passes_below-at 256 (λ y. bits y == y) bits_test y h)
+-- the sums of the products with 1, 2, 4 and 8 are the products with the numbers below 16
+pub low_sum-product : (by a b c d n : ℕ) → n < 16 → a ≡ product by 1 → b ≡ product by 2 → c ≡ product by 4 → d ≡ product by 8
+    → combine (a ∷ b ∷ c ∷ d ∷ []) n ≡ product by n
+low_sum-product by a b c d n h ea eb ec ed =
+    (λ i. combine (ea i ∷ eb i ∷ ec i ∷ ed i ∷ []) n)
+    ∙ sym (product-combine by (1 ∷ 2 ∷ 4 ∷ 8 ∷ []) n)
+    ∙ ap (product by) (eqb-true _ _ (passes_below-at 16 (λ n. combine (1 ∷ 2 ∷ 4 ∷ 8 ∷ []) n == n) low_test n h))
 
--- a bit times a product is the product with the bit's worth
-bit-product : (by b place : ℕ) → b < 2 → b * product by place ≡ product by (b * place)
-bit-product by zero place h =
-    let none : 0 * product by place ≡ 0 = omega arith in
-    let nothing : 0 ≡ 0 * place = omega arith in
-    none ∙ sym (product-zero by) ∙ ap (product by) nothing
-bit-product by (suc zero) place h =
-    let once : 1 * product by place ≡ product by place = omega arith in
-    let whole : place ≡ 1 * place = omega arith in
-    once ∙ ap (product by) whole
-bit-product by (suc (suc b)) place h = absurd (omega arith)
+-- the sums of the products with 16, 32, 64 and 128 are the products with 16 times those numbers
+pub high_sum-product : (by a b c d n : ℕ) → n < 16 → a ≡ product by 16 → b ≡ product by 32 → c ≡ product by 64 → d ≡ product by 128
+    → combine (a ∷ b ∷ c ∷ d ∷ []) n ≡ product by (16 * n)
+high_sum-product by a b c d n h ea eb ec ed =
+    (λ i. combine (ea i ∷ eb i ∷ ec i ∷ ed i ∷ []) n)
+    ∙ sym (product-combine by (16 ∷ 32 ∷ 64 ∷ 128 ∷ []) n)
+    ∙ ap (product by) (eqb-true _ _ (passes_below-at 16 (λ n. combine (16 ∷ 32 ∷ 64 ∷ 128 ∷ []) n == 16 * n) high_test n h))
 
--- what the bit at a place picks of the product with that place is the product with its worth
-pub picked-product : (by y place part r : ℕ) → r ≡ y / place % 2 * part → part ≡ product by place → r ≡ product by (bit y place)
-picked-product by y place part r picked product_is =
-    picked ∙ ap (λ (x : ℕ). y / place % 2 * x) product_is ∙ bit-product by (y / place % 2) place (omega arith)
+-- the sum of the products with both halves of a byte is the product with the byte
+halves-product : (by y : ℕ) → y < 256 → bit_xor (product by (y % 16)) (product by (16 * (y / 16))) ≡ product by y
+halves-product by y h =
+    sym (product-xor by (y % 16) (16 * (y / 16)))
+    ∙ ap (product by) (eqb-true _ _ (passes_below-at 256 (λ y. bit_xor (y % 16) (16 * (y / 16)) == y) byte_test y h))
 
--- the sum of two products is the product with the sum
-sum-product : (by a b r s : ℕ) → r ≡ product by a → s ≡ product by b → bit_xor r s ≡ product by (bit_xor a b)
-sum-product by a b r s ea eb = ap₂ bit_xor ea eb ∙ sym (product-xor by a b)
+-- the sum of the entries at both halves of a byte is the product with the byte
+pub entries-product : (by y : ℕ) (low high : List ℕ) → y < 256
+    → ((n : ℕ) → n < 16 → get_or low n 0 ≡ product by n) → ((n : ℕ) → n < 16 → get_or high n 0 ≡ product by (16 * n))
+    → bit_xor (get_or low (y % 16) 0) (get_or high (y / 16) 0) ≡ product by y
+entries-product by y low high h lows highs =
+    ap₂ bit_xor (lows (y % 16) (omega arith)) (highs (y / 16) (omega arith)) ∙ halves-product by y h
 
--- the sum of the products with the worths of a byte's bits is the product with the byte
-pub bits-product : (by y r1 r2 r4 r8 r16 r32 r64 r128 : ℕ) → y < 256
-    → r1 ≡ product by (bit y 1) → r2 ≡ product by (bit y 2) → r4 ≡ product by (bit y 4) → r8 ≡ product by (bit y 8)
-    → r16 ≡ product by (bit y 16) → r32 ≡ product by (bit y 32) → r64 ≡ product by (bit y 64) → r128 ≡ product by (bit y 128)
-    → bit_xor (bit_xor (bit_xor (bit_xor r1 r2) r4) r8) (bit_xor (bit_xor (bit_xor r16 r32) r64) r128) ≡ product by y
-bits-product by y r1 r2 r4 r8 r16 r32 r64 r128 h e1 e2 e4 e8 e16 e32 e64 e128 =
-    let low : bit_xor (bit_xor (bit_xor r1 r2) r4) r8 ≡ product by (bit_xor (bit_xor (bit_xor (bit y 1) (bit y 2)) (bit y 4)) (bit y 8)) =
-    sum-product _ _ _ _ _ (sum-product _ _ _ _ _ (sum-product _ _ _ _ _ e1 e2) e4) e8 in
-    let high : bit_xor (bit_xor (bit_xor r16 r32) r64) r128 ≡ product by (bit_xor (bit_xor (bit_xor (bit y 16) (bit y 32)) (bit y 64)) (bit y 128)) =
-    sum-product _ _ _ _ _ (sum-product _ _ _ _ _ (sum-product _ _ _ _ _ e16 e32) e64) e128 in
-    sum-product _ _ _ _ _ low high ∙ ap (product by) (byte_bits y h)
+-- a sum of two parts, with nothing behind the second
+two_parts : (a b : ℕ) → bit_xor a b ≡ bit_xor a (bit_xor b 0)
+two_parts a b = ap (bit_xor a) (sym (xor_zero_r b))
+
+-- a sum of three parts, with nothing behind the third
+three_parts : (a b c : ℕ) → bit_xor (bit_xor a b) c ≡ bit_xor a (bit_xor b (bit_xor c 0))
+three_parts a b c = xor_assoc a b c ∙ ap (bit_xor a) (two_parts b c)
+
+-- the sums of four parts, one for each number below 16
+pub sums_listed : (a b c d : ℕ)
+    → (0 ∷ a ∷ b ∷ bit_xor a b ∷ c ∷ bit_xor a c ∷ bit_xor b c ∷ bit_xor (bit_xor a b) c
+    ∷ d ∷ bit_xor a d ∷ bit_xor b d ∷ bit_xor (bit_xor a b) d ∷ bit_xor c d ∷ bit_xor a (bit_xor c d) ∷ bit_xor b (bit_xor c d) ∷ bit_xor (bit_xor a b) (bit_xor c d) ∷ [])
+    ≡ map (combine (a ∷ b ∷ c ∷ d ∷ [])) (0 ∷ 1 ∷ 2 ∷ 3 ∷ 4 ∷ 5 ∷ 6 ∷ 7 ∷ 8 ∷ 9 ∷ 10 ∷ 11 ∷ 12 ∷ 13 ∷ 14 ∷ 15 ∷ [])
+unfolding combine
+sums_listed a b c d = λ i.
+    0 ∷ sym (xor_zero_r a) i ∷ sym (xor_zero_r b) i ∷ two_parts a b i
+    ∷ sym (xor_zero_r c) i ∷ two_parts a c i ∷ two_parts b c i ∷ three_parts a b c i
+    ∷ sym (xor_zero_r d) i ∷ two_parts a d i ∷ two_parts b d i ∷ three_parts a b d i
+    ∷ two_parts c d i ∷ bit_xor a (two_parts c d i) ∷ bit_xor b (two_parts c d i)
+    ∷ (xor_assoc a b (bit_xor c d) ∙ ap (bit_xor a) (ap (bit_xor b) (two_parts c d))) i ∷ []

@@ -1,8 +1,9 @@
 //! Products of labels, inverses, multiples of the bytes of a share, and the laws of the field.
 
-ghost use Rattle.std.specs.Prelude.{◌≡◌, ◌<◌, ◌*◌, ◌/◌, ◌%◌, ℕ, bit_xor, slice_index};
-ghost use Rattle.gf_cantor.specs.Field.{element, times, product};
+ghost use Rattle.std.specs.Prelude.{◌≡◌, ◌<◌, ◌*◌, ◌/◌, ℕ, [], ◌∷◌, bit_xor, slice_index};
+ghost use Rattle.gf_cantor.specs.Field.{combine, element, times, product};
 
+use crate::lanes::{add, by_halves, load};
 use crate::tables::{exp, log};
 
 /// The product of two labels: the label whose element is the product of their elements. It takes no
@@ -30,18 +31,53 @@ pub fn inv(a: u8) -> u8
     exp(255 - log(a))
 }
 
-/// What a bit of a byte picks: `part` where the bit worth `place` is set, and else 0. It takes no
-/// memory.
-fn picked(byte: u8, place: u8, part: u8) -> u8
-    requires { 0 < place }
-    ensures { result ≡ byte / place % 2 * part }
+/// The sums of four parts: entry `n` is the sum of those that the set bits of `n` pick, the lowest
+/// bit for the first. It takes no memory.
+fn sums(one: u8, two: u8, four: u8, eight: u8) -> [u8; 16]
+    ensures { (n : ℕ) → n < 16 →
+        slice_index result n ≡ combine (one ∷ two ∷ four ∷ eight ∷ []) n }
 {
-    byte / place % 2 * part
+    let three = one ^ two;
+    let twelve = four ^ eight;
+    [
+        0,
+        one,
+        two,
+        three,
+        four,
+        one ^ four,
+        two ^ four,
+        three ^ four,
+        eight,
+        one ^ eight,
+        two ^ eight,
+        three ^ eight,
+        twelve,
+        one ^ twelve,
+        two ^ twelve,
+        three ^ twelve,
+    ]
+}
+
+/// The products of `by` with 0, 1, 2, .., 15: the factors are the sums of 1, 2, 4 and 8, and so their
+/// products are the sums of those four products. It takes no memory.
+fn low_products(by: u8) -> [u8; 16]
+    ensures { (n : ℕ) → n < 16 → slice_index result n ≡ product by n }
+{
+    sums(mul(by, 1), mul(by, 2), mul(by, 4), mul(by, 8))
+}
+
+/// The products of `by` with 0, 16, 32, .., 240, in the same manner. It takes no memory.
+fn high_products(by: u8) -> [u8; 16]
+    ensures { (n : ℕ) → n < 16 → slice_index result n ≡ product by (16 * n) }
+{
+    sums(mul(by, 16), mul(by, 32), mul(by, 64), mul(by, 128))
 }
 
 /// Adds `by` times each byte of `row` to the byte of `acc` at its place: one term of a weighted sum
-/// of shares. The product with a byte is the sum of the products with its set bits: with no table and
-/// no branch in the loop, the compiler makes it one over vectors of bytes. It takes no memory.
+/// of shares. A byte is the sum of its low four bits and its high four bits, so its product is the sum
+/// of an entry of each of two tables of 16: they are made once for the row, and then looked up for 32
+/// bytes at a time. It takes no memory.
 ///
 /// docs/RULES.md, "The byte field" (profile, in the manner of Leopard's 8-bit field).
 pub fn mul_row(acc: &mut [u8; 512], row: &[u8; 512], by: u8)
@@ -49,25 +85,10 @@ pub fn mul_row(acc: &mut [u8; 512], row: &[u8; 512], by: u8)
         slice_index acc.new i ≡
         bit_xor (slice_index acc.old i) (product by (slice_index row.now i)) }
 {
-    let by_1 = mul(by, 1);
-    let by_2 = mul(by, 2);
-    let by_4 = mul(by, 4);
-    let by_8 = mul(by, 8);
-    let by_16 = mul(by, 16);
-    let by_32 = mul(by, 32);
-    let by_64 = mul(by, 64);
-    let by_128 = mul(by, 128);
-    for i in 0..512 {
-        let byte = row[i];
-        let low = picked(byte, 1, by_1)
-            ^ picked(byte, 2, by_2)
-            ^ picked(byte, 4, by_4)
-            ^ picked(byte, 8, by_8);
-        let high = picked(byte, 16, by_16)
-            ^ picked(byte, 32, by_32)
-            ^ picked(byte, 64, by_64)
-            ^ picked(byte, 128, by_128);
-        acc[i] ^= low ^ high;
+    let low = low_products(by);
+    let high = high_products(by);
+    for i in 0..16 {
+        add(acc, 32 * i, by_halves(&low, &high, load(row, 32 * i)));
     }
 }
 

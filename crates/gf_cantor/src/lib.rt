@@ -9,6 +9,7 @@
 #![tactic(auto)]
 
 mod field;
+mod lanes;
 mod tables;
 
 pub use field::{field_laws, inv, mul, mul_row};

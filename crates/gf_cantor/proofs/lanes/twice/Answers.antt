@@ -1,0 +1,6 @@
+use Rattle.std.proofs.Common.{arith}
+use Rattle.gf_cantor.proofs.LaneLemmas.{doubled}
+use Rattle.gf_cantor.proofs.lanes.twice.Goals as goal
+
+pub returns : goal.returns
+returns c = doubled c.args.table.now (omega arith)
