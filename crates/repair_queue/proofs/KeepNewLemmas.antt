@@ -22,7 +22,7 @@ use Rattle.repair_queue.specs.Slots.{Kept, Flags, IsPut, crossing, IsAlike}
 use Rattle.repair_queue.specs.Repairs.{Shows}
 use Rattle.repair_queue.specs.Pools.{slot_in, IsPool}
 use Rattle.repair_queue.specs.Counts.{Numbers, count_of, pending, AreCounts, IsRaised, AreQueued}
-use Rattle.repair_queue.specs.Boards.{given_of, decided_of, share_of, is_lined, is_found, found_count, AreCounted, AreWaiting, IsGood, StandsFor}
+use Rattle.repair_queue.specs.Boards.{given_of, decided_of, share_of, is_lined, is_found, found_count, AreCounted, AreWaiting, IsGood, HoldsFor}
 use Rattle.repair_queue.specs.Moves.{IsKeptOn}
 use Rattle.repair_queue.proofs.PlaceLemmas.{own_or_crossing, same_cell}
 use Rattle.repair_queue.proofs.TakenLemmas.{under_proved}
@@ -135,7 +135,7 @@ module _ (header : Roots) (b : Board) (good : IsGood header b) (kept : Proved) (
       queued = queued;
     }
 
-    stands_with : (counts : Counts) (ms : List Message) → StandsFor header ms b → StandsFor header (ms ++ kept_message kept ∷ []) (board_with counts)
+    stands_with : (counts : Counts) (ms : List Message) → HoldsFor header ms b → HoldsFor header (ms ++ kept_message kept ∷ []) (board_with counts)
     stands_with counts ms stand = put_stands header (given_of b) (slot_in pool) (decided_of b) (share_of b) kept under empty put off ms stand
 
     -- where the cell was known

@@ -17,7 +17,7 @@ ghost use Rattle.repair_queue.specs.Lines.{AreFacts};
 ghost use Rattle.repair_queue.specs.Repairs.{IsEnd};
 ghost use Rattle.repair_queue.specs.Steps.{IsSpare};
 ghost use Rattle.repair_queue.specs.Counts.{count_of};
-ghost use Rattle.repair_queue.specs.Boards.{given_of, decided_of, share_of, found_count, found_share, is_found, AreAlikeLined, AreParts, IsGood, StandsFor};
+ghost use Rattle.repair_queue.specs.Boards.{given_of, decided_of, share_of, found_count, found_share, is_found, AreAlikeLined, AreParts, IsGood, HoldsFor};
 ghost use Rattle.repair_queue.specs.Tools.{AreTools, AreGathered, HasSpare};
 ghost use Rattle.repair_queue.specs.Judging.{IsAlikeAt, IsApartAt, IsReadable, IsTakenAt, AreFoundAt, AreShownBy, IsOtherMessage, IsApartOrAlike};
 ghost use Rattle.repair_queue.specs.Moves.{DecidesLine, SettlesLine, Drains, IsMessageAt};
@@ -167,7 +167,7 @@ fn accuse(board: &mut Board, tools: &mut Tools, header: &Header, axis: Axis, ind
     requires entries { HasEntries tools.old.known.items tools.old.given.items tools.old.buffers.line.items }
     requires root { line_strict_root header.now.k axis index tools.old.buffers.line.items
         ≡ Some (root_of header.now axis index) → ⊥ }
-    ensures { (ms : List Message) → StandsFor header.now ms board.old → IsEnd header.now ms result }
+    ensures { (ms : List Message) → HoldsFor header.now ms board.old → IsEnd header.now ms result }
 {
     let cells = tools.spare.take().unwrap();
     let cells = messages_known(
@@ -203,7 +203,7 @@ fn contradict(
     requires apart { IsApartAt (given_of board.old) (decided_of board.old) (share_of board.old)
         (cell_on axis index pos) (entry tools.old.buffers.line.items pos) }
     ensures { (ms : List Message) → AreFacts header.now ms axis index tools.old.buffers.line.items →
-        StandsFor header.now ms board.old → IsEnd header.now ms result }
+        HoldsFor header.now ms board.old → IsEnd header.now ms result }
 {
     let cell = cell_on(axis, index, pos);
     let share = tools.buffers.line[pos as usize];

@@ -12,7 +12,7 @@ ghost use Rattle.repair_queue.specs.Lines.{AreFacts};
 ghost use Rattle.repair_queue.specs.Slots.{IsFlagged};
 ghost use Rattle.repair_queue.specs.Counts.{count_of, pending, AreCounts};
 ghost use Rattle.repair_queue.specs.Pools.{slot_in, HasPlaces};
-ghost use Rattle.repair_queue.specs.Boards.{given_of, decided_of, share_of, mark_of, AreMarks, AreCounted, IsGood, StandsFor};
+ghost use Rattle.repair_queue.specs.Boards.{given_of, decided_of, share_of, mark_of, AreMarks, AreCounted, IsGood, HoldsFor};
 ghost use Rattle.repair_queue.specs.Keeping.{IsAlikeAll, IsCountedIn, AreWrittenLeaves};
 
 use crate::boards::{Board, is_found};
@@ -96,7 +96,7 @@ pub(crate) fn keep_line(
     ensures next { board.new.counts.next ≡ board.old.counts.next }
     ensures flagged { IsFlagged (decided_of board.old) (decided_of board.new) axis index }
     ensures stands { (ms : List Message) → AreFacts header.now ms axis index line.now →
-        StandsFor header.now ms board.old → StandsFor header.now ms board.new }
+        HoldsFor header.now ms board.old → HoldsFor header.now ms board.new }
 {
     count_line(&board.pool, &board.marks, &mut board.counts, axis, index);
     write_shares(&mut board.grid, axis, index, line);

@@ -21,6 +21,9 @@ ghost use Rattle.repair_queue.specs.Closures.{AreChosen, Half, Fact, IsDecided, 
 ghost use Rattle.repair_queue.specs.Derivations.{IsListed, IsSeen, IsFilled, IsShownPair, IsRebuiltPair};
 ghost use Rattle.repair_queue.specs.Settled.{IsSettled, Lines, Fits, along, CellsFit};
 ghost use Rattle.repair_queue.specs.Verdicts.{VerdictParts, whole, missing, fraud, clash, IsVerdict, IsOwnVerdict, AreAlike};
+ghost use Rattle.repair_queue.specs.SessionParts.{SessionParts, accused, collided, is_known, StandsFor};
+ghost use Rattle.repair_queue.specs.Sessions.{state_of};
+ghost use Rattle.repair_queue.specs.declared.fed.SessionState.TheVariants as state;
 
 /// What is proved of the cells that are recoverable and of the facts, for any header and any list of
 /// messages.
@@ -102,6 +105,11 @@ pub fn settled_laws()
     ensures cells { (header : Roots) (ms : List Message) (shares : Cell → Share) →
         CellsFit header ms shares →
         Fits header ms (λ axis index d. along header.k shares axis index) }
+
+    // Only the proved messages count, not their order or repeats.
+    ensures same_proved { (header : Roots) (ms others : List Message) →
+        Covers header ms others → Covers header others ms →
+        IsSettled header ms ↔ IsSettled header others }
 {}
 
 /// What is proved of the answers that repair may give.
@@ -177,4 +185,29 @@ pub fn verdict_laws()
         × (((cell : Cell) → is_in_square header.k cell ≡ true → Half header ms cell) →
         IsVerdict header ms (whole square))
         × ((verdict : VerdictParts) → IsVerdict header ms verdict → IsOwnVerdict square verdict) }
+{}
+
+/// What is proved of the lists of messages for which a session stands.
+///
+/// docs/RULES.md, "Closures and verdicts".
+pub fn session_laws()
+    // A session that stands for a list stands for each one with the same proved messages, whatever
+    // their order and repeats.
+    ensures same_proved { (s : SessionParts) (ms others : List Message) →
+        Covers s.header ms others → Covers s.header others ms → StandsFor s ms →
+        StandsFor s others }
+
+    // An open one knows just the recoverable cells of the square, and the list is settled.
+    ensures known { (s : SessionParts) (ms : List Message) → state_of s ≡ state.Open →
+        StandsFor s ms → (cell : Cell) → is_in_square s.header.k cell ≡ true →
+        (is_known s cell ≡ true) ↔ Half s.header ms cell }
+    ensures settled { (s : SessionParts) (ms : List Message) → state_of s ≡ state.Open →
+        StandsFor s ms → IsSettled s.header ms }
+
+    // What ended another one is an answer.
+    ensures accused { (s : SessionParts) (ms : List Message) (claim : ClaimParts) →
+        s.ended ≡ accused claim → StandsFor s ms → IsVerdict s.header ms (fraud claim) }
+    ensures collided { (s : SessionParts) (ms : List Message) (left right : List ℕ) →
+        s.ended ≡ collided left right → StandsFor s ms →
+        IsVerdict s.header ms (clash left right) }
 {}

@@ -9,7 +9,7 @@ ghost use Rattle.axis_roots.specs.Grids.{IsHeaderOf};
 ghost use Rattle.repair_queue.specs.Closures.{Covers};
 ghost use Rattle.repair_queue.specs.Verdicts.{VerdictParts, IsVerdict, IsOwnVerdict, AreAlike};
 ghost use Rattle.repair_queue.specs.Answers.{parts_of, SomeNames};
-ghost use Rattle.repair_queue.specs.Sessions.{SessionStands, IsHeldSession};
+ghost use Rattle.repair_queue.specs.SessionParts.{StandsFor};
 
 use crate::Verdict;
 use crate::fed::Session;
@@ -20,12 +20,10 @@ use std::alloc::Global;
 
 /// Feeds a session with the samples of a list, in their order.
 fn feed_list(session: &mut Session, messages: Vec<Proved>)
-    requires session { IsHeldSession session.old }
     requires under { AllByRecursion (IsUnder session.old.header) messages.items }
-    ensures session { IsHeldSession session.new }
     ensures header { session.new.header ≡ session.old.header }
-    ensures stands { (ms : List Sent) → SessionStands session.old ms →
-        SessionStands session.new (ms ++ map kept_message messages.items) }
+    ensures stands { (ms : List Sent) → StandsFor session.old ms →
+        StandsFor session.new (ms ++ map kept_message messages.items) }
 {
     for message in messages {
         session.feed(message);
