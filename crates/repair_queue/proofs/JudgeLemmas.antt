@@ -94,7 +94,7 @@ pub other_fact : (header : Roots) (ms : List Message) (b : Board) (cell : Cell) 
     → HoldsFor header ms b → IsOtherMessage header b cell share kept → Fact header ms (kept_message kept).cell (kept_message kept).share
 other_fact header ms b cell share kept inside readable stand o =
     subst (λ (c : Cell). Fact header ms c (kept_message kept).share) (sym o.cell_is) (elim o.known [
-      | inl (off, axis, held) ↦
+      | inl (off, (axis, held)) ↦
           shown_fact header ms (given_of b) (decided_of b) (share_of b) readable.sound stand axis cell (kept_message kept).share off
           (record { kept = kept; held = held; share_is = refl })
       | inr (on, same) ↦

@@ -143,12 +143,12 @@ module _ (header : Roots) (b : Board) (good : IsGood header b) (kept : Proved) (
         → IsKeptOn header b (board_with b.counts) (kept_message kept)
     keeps_known other held = (
       good_with b.counts good.parts.counts refl
-      (λ axis i within low.
-      good.counted axis i within low
-      ∙ sym (count_from-same (λ pos. is_found (given_of b) (decided_of b) _) (λ pos. is_found (slot_in pool) (decided_of b) _) (2 * header.k) 0
-      (λ q l h. found_same (given_of b) (slot_in pool) (decided_of b) kept put
-      (found_held (given_of b) (decided_of b) (crossing (kept_message kept).axis) (kept_message kept).cell other held) _)))
-      good.queued,
+          (λ axis i within low.
+          good.counted axis i within low
+          ∙ sym (count_from-same (λ pos. is_found (given_of b) (decided_of b) _) (λ pos. is_found (slot_in pool) (decided_of b) _) (2 * header.k) 0
+          (λ q l h. found_same (given_of b) (slot_in pool) (decided_of b) kept put
+          (found_held (given_of b) (decided_of b) (crossing (kept_message kept).axis) (kept_message kept).cell other held) _)))
+          good.queued,
       stands_with b.counts,
     )
 

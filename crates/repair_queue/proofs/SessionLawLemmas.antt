@@ -1,5 +1,5 @@
 -- What is proved of the lists for which a session stands.
-use Rattle.std.proofs.Common.{◌≡◌, ℕ, ◌*◌, ◌<◌, List, true, false}
+use Rattle.std.proofs.Common.{◌≡◌, ℕ, ◌*◌, ◌<◌, List, true, false, subst}
 use Rattle.std.specs.Prelude.{◌↔◌, Some}
 use Rattle.std.specs.List.{Contains}
 use Rattle.namespace_id.specs.declared.cells.Cell.{Cell}
@@ -38,7 +38,7 @@ session_known s ms is stand = (open_stands_open s ms is stand).known
 -- what ended another one is an answer
 by_fraud : (s : SessionParts) (ms : List Message) (end : SessionEnd) (claim : ClaimParts) → end ≡ accused claim → StandsBy s ms end
     → IsVerdict s.header ms (fraud claim)
-by_fraud s ms end claim is stand = rw (← is) stand
+by_fraud s ms end claim is stand = subst (λ (e : SessionEnd). StandsBy s ms e) is stand
 
 pub session_accused : (s : SessionParts) (ms : List Message) (claim : ClaimParts) → s.ended ≡ accused claim → StandsFor s ms
     → IsVerdict s.header ms (fraud claim)
@@ -46,7 +46,7 @@ session_accused s ms claim is stand = by_fraud s ms s.ended claim is stand
 
 by_clash : (s : SessionParts) (ms : List Message) (end : SessionEnd) (left right : List ℕ) → end ≡ collided left right → StandsBy s ms end
     → IsVerdict s.header ms (clash left right)
-by_clash s ms end left right is stand = rw (← is) stand
+by_clash s ms end left right is stand = subst (λ (e : SessionEnd). StandsBy s ms e) is stand
 
 pub session_collided : (s : SessionParts) (ms : List Message) (left right : List ℕ) → s.ended ≡ collided left right → StandsFor s ms
     → IsVerdict s.header ms (clash left right)

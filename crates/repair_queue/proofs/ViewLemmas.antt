@@ -1,5 +1,5 @@
 -- A session as contracts see it keeps what its board keeps, and stands for the same messages.
-use Rattle.std.proofs.Common.{◌≡◌, ◌∙◌, ℕ, zero, suc, ◌*◌, ◌<◌, List, [], ◌∷◌, map, get_or, Bool, ◌||◌, true, false, refl, sym, ap, subst}
+use Rattle.std.proofs.Common.{◌≡◌, ◌∙◌, ℕ, zero, suc, ◌*◌, ◌<◌, List, [], ◌∷◌, ◌++◌, map, get_or, Bool, ◌||◌, true, false, not, refl, sym, ap, subst}
 use Rattle.std.specs.Prelude.{Option, Some, None, is_some}
 use Rattle.std.specs.List.{Contains}
 use Rattle.namespace_id.specs.declared.cells.Cell.{Cell}
@@ -27,6 +27,7 @@ use Rattle.repair_queue.specs.Settled.{IsLineSettled}
 use Rattle.repair_queue.specs.Repairs.{Shows, IsSlotted}
 use Rattle.repair_queue.specs.Pools.{places_in}
 use Rattle.repair_queue.specs.Boards.{is_lined, is_found, given_of, decided_of, share_of, IsGood, AreAtRest, HoldsFor}
+use Rattle.repair_queue.specs.Moves.{Steps}
 use Rattle.repair_queue.specs.OpenBoards.{IsOpenBoard, KeepsFor}
 use Rattle.repair_queue.specs.SessionParts.{SessionParts, message_at, is_known, line_share, IsShownBy, KeepsShare, StandsOpen, StandsFor}
 use Rattle.repair_queue.specs.Views.{message_of, parts_by}
@@ -36,6 +37,7 @@ use Rattle.repair_queue.proofs.TakenLemmas.{under_proved}
 use Rattle.repair_queue.proofs.LinedLemmas.{lined_one, lined_on}
 use Rattle.repair_queue.proofs.HeldLineLemmas.{on_inside}
 use Rattle.repair_queue.proofs.AtRestLemmas.{lined_fact, found_half, half_found, decided_set, rest_settled}
+use Rattle.repair_queue.proofs.SessionLemmas.{open_stands, step_open, step_keeps, ended_keeps}
 
 -- an entry of a list whose elements were mapped
 map_at : {A B : Type 0} (f : A → B) (d : A) (xs : List A) (i : ℕ) → get_or (map f xs) i (f d) ≡ f (get_or xs i d)
@@ -167,3 +169,19 @@ pub keeps_stands : (header : Roots) (b : Board) (tools : Tools) (end : Option En
 keeps_stands header b tools None held ms keeps = holds_stands header b held.0 ms held.2 keeps None
 keeps_stands header b tools (Some (ended.Fraud proof)) held ms keeps = keeps
 keeps_stands header b tools (Some (ended.Clash pair)) held ms keeps = keeps
+
+-- ---- one message more
+
+-- after a step
+pub step_stands : (header : Roots) (old new : Board) (before after : Tools) (end result : Option Ended) (none : Bool) (m : Message) → is_some end ≡ not none
+    → none ≡ true → IsOpenBoard header old before end → Steps header old new after m result → (ms : List Message) → StandsFor (parts_by header old end) ms
+    → StandsFor (parts_by header new result) (ms ++ m ∷ [])
+step_stands header old new before after end result none m test is held steps ms stand =
+    keeps_stands header new after result (step_open header old new after m result steps) (ms ++ m ∷ [])
+    (step_keeps header old new after m result steps ms (open_stands header ms old end none test is (stands_keeps header old before end held ms stand)))
+
+-- where something ended the session before
+pub ended_stands : (header : Roots) (b : Board) (tools : Tools) (end : Option Ended) (none : Bool) (m : Message) → is_some end ≡ not none → none ≡ false
+    → IsOpenBoard header b tools end → (ms : List Message) → StandsFor (parts_by header b end) ms → StandsFor (parts_by header b end) (ms ++ m ∷ [])
+ended_stands header b tools end none m test is held ms stand =
+    keeps_stands header b tools end held (ms ++ m ∷ []) (ended_keeps header ms m b end none test is (stands_keeps header b tools end held ms stand))

@@ -45,13 +45,7 @@ pub(crate) fn gather(
 }
 
 /// The codeword with these shares at k positions. Where these are the originals the recovery shares are made of them.
-pub(crate) fn complete(
-    code: &mut Room,
-    k: u16,
-    known: &[u16],
-    given: &[Share],
-    line: &mut [Share],
-)
+pub(crate) fn complete(code: &mut Room, k: u16, known: &[u16], given: &[Share], line: &mut [Share])
     requires width { code.old ≡ k }
     requires positive { 0 < k }
     requires known { AreChosen k known.now }

@@ -27,7 +27,7 @@ mod taking;
 mod tools;
 mod verdict;
 
+pub use fed::{Session, SessionState};
 pub use laws::{closure_laws, session_laws, settled_laws, verdict_laws};
 pub use repairing::repair_list;
-pub use fed::{Session, SessionState};
 pub use verdict::Verdict;

@@ -79,7 +79,9 @@ fn original_shares(board: &Board, shares: Vec<Share>) -> Vec<Share>
     let k = board.grid.width();
     let count = k as usize * k as usize;
     for number in 0..count {
-        shares.push(*board.grid.cell(cell_numbered(k, number))).unwrap();
+        shares
+            .push(*board.grid.cell(cell_numbered(k, number)))
+            .unwrap();
     }
     shares
 }

@@ -18,10 +18,11 @@ loop-message-init c = record {
 }
 
 -- the next one is under the header
-pub feed-requires-clause-under : goal.feed-requires-clause-under
-feed-requires-clause-under c =
-    subst (λ (h : Roots). IsUnder h c.in-Some.message) (sym c.loop-message.invariant.header)
-    (subst (AllByRecursion (IsUnder c.args.session.now.header)) c.in-Some.ensures.steps.0 c.loop-message.invariant.under).0
+pub feed-requires : goal.feed-requires
+feed-requires c = record {
+  under = subst (λ (h : Roots). IsUnder h c.in-Some.message) (sym c.loop-message.invariant.header)
+      (subst (AllByRecursion (IsUnder c.args.session.now.header)) c.in-Some.ensures.steps.0 c.loop-message.invariant.under).0;
+}
 
 -- and is fed
 pub loop-message-preserved : goal.loop-message-preserved
