@@ -1,7 +1,6 @@
 -- What is proved of the lists for which a session stands.
-use Rattle.std.proofs.Common.{◌≡◌, ℕ, ◌*◌, ◌<◌, List, true, false, subst}
-use Rattle.std.specs.Prelude.{◌↔◌, Some}
-use Rattle.std.specs.List.{Contains}
+use Rattle.std.proofs.Common.{◌≡◌, ℕ, List, true, subst}
+use Rattle.std.specs.Prelude.{◌↔◌}
 use Rattle.namespace_id.specs.declared.cells.Cell.{Cell}
 use Rattle.namespace_id.specs.declared.cells.Axis.{Axis}
 use Rattle.namespace_id.specs.Cells.{is_in_square}

@@ -5,9 +5,7 @@ use Rattle.std.specs.List.{Contains}
 use Rattle.namespace_id.specs.declared.cells.Cell.{Cell}
 use Rattle.namespace_id.specs.declared.cells.Axis.{Axis}
 use Rattle.namespace_id.specs.declared.cells.Axis.TheVariants.{Row, Col}
-use Rattle.namespace_id.specs.declared.shares.Share.{Share}
 use Rattle.namespace_id.specs.Lists.{ascending}
-use Rattle.namespace_id.specs.Cells.{is_in_square}
 use Rattle.data_header.specs.Headers.{Roots}
 use Rattle.axis_roots.specs.declared.message.messages.Message.{Message}
 use Rattle.axis_roots.specs.declared.message.proved.Proved.{Proved}
@@ -22,14 +20,14 @@ use Rattle.repair_queue.specs.declared.boards.Board.{Board}
 use Rattle.repair_queue.specs.declared.tools.Tools.{Tools}
 use Rattle.repair_queue.specs.declared.ending.Ended.{Ended}
 use Rattle.repair_queue.specs.declared.ending.Ended.TheVariants as ended
-use Rattle.repair_queue.specs.Closures.{Half, Fact, shown, IsDecided}
+use Rattle.repair_queue.specs.Closures.{Fact, shown, IsDecided}
 use Rattle.repair_queue.specs.Settled.{IsLineSettled}
 use Rattle.repair_queue.specs.Repairs.{Shows, IsSlotted}
 use Rattle.repair_queue.specs.Pools.{places_in}
 use Rattle.repair_queue.specs.Boards.{is_lined, is_found, given_of, decided_of, share_of, IsGood, AreAtRest, HoldsFor}
 use Rattle.repair_queue.specs.Moves.{Steps}
 use Rattle.repair_queue.specs.OpenBoards.{IsOpenBoard, KeepsFor}
-use Rattle.repair_queue.specs.SessionParts.{SessionParts, message_at, is_known, line_share, IsShownBy, KeepsShare, StandsOpen, StandsFor}
+use Rattle.repair_queue.specs.SessionParts.{message_at, is_known, line_share, IsShownBy, KeepsShare, StandsOpen, StandsFor}
 use Rattle.repair_queue.specs.Views.{message_of, parts_by}
 use Rattle.repair_queue.proofs.ChosenLemmas.{first_chosen, chosen-lt}
 use Rattle.repair_queue.proofs.ClosureLemmas.{fact_half}

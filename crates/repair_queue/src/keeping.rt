@@ -32,7 +32,8 @@ fn count_line(pool: &Pool, marks: &Marks, counts: &mut Counts, axis: Axis, index
     requires pool_width { pool.now.k ≡ counts.old.k }
     requires marks_width { marks.now.k ≡ counts.old.k }
     requires index { index < 2 * counts.old.k }
-    requires counted { AreCounted counts.old.k (slot_in pool.now) (mark_of marks.now) (count_of counts.old) }
+    requires counted { AreCounted counts.old.k (slot_in pool.now) (mark_of marks.now)
+        (count_of counts.old) }
     ensures counts { AreCounts counts.new }
     ensures width { counts.new.k ≡ counts.old.k }
     ensures next { counts.new.next ≡ counts.old.next }
@@ -90,7 +91,8 @@ pub(crate) fn keep_line(
     requires index { index < 2 * header.now.k }
     requires off { decided_of board.old axis index ≡ false }
     requires line { IsLineOf header.now axis index line.now }
-    requires alike { IsAlikeAll header.now.k (given_of board.old) (decided_of board.old) (share_of board.old) axis index line.now }
+    requires alike { IsAlikeAll header.now.k (given_of board.old) (decided_of board.old)
+        (share_of board.old) axis index line.now }
     requires digests { digests.now ≡ line_leaves header.now.k axis index line.now }
     ensures good { IsGood header.now board.new }
     ensures next { board.new.counts.next ≡ board.old.counts.next }

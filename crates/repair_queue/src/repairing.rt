@@ -41,11 +41,12 @@ fn repaired(alloc: Global, header: &Header, messages: Vec<Proved>) -> Result<Ver
     Ok(session.finish())
 }
 
-/// Repairs the square of a data availability header from proved samples: answers a square with that header; or a fraud
-/// proof; or exactly the cells that the samples leave unknown, where each row and column with k known cells fits the
-/// header; or a SHA-256 collision. The header may be anybody's. All samples are under it; their order and repeats play
-/// no part. Under the header of a square the answer is this square or the missing cells, or a sample and the square name
-/// a collision.
+/// Repairs the square of a data availability header from proved samples: answers a square with that
+/// header; or a fraud proof; or exactly the cells that the samples leave unknown, where each row
+/// and column with k known cells fits the header; or a SHA-256 collision. The header may be
+/// anybody's. All samples are under it; their order and repeats play no part. Under the header of a
+/// square the answer is this square or the missing cells, or a sample and the square name a
+/// collision.
 ///
 /// It takes the memory of a session, all at first; the one refusal is that there is none.
 ///
@@ -60,13 +61,14 @@ pub fn repair_list(
     ensures verdict { IfOk result (λ verdict.
         IsVerdict header.now (map kept_message messages.items) (parts_of verdict)) }
 
-    // Under the header of a square the answer is this square or the missing cells, or a sample and the square name
-    // a collision.
+    // Under the header of a square the answer is this square or the missing cells, or a sample and
+    // the square name a collision.
     ensures own { IfOk result (λ verdict. (square : SquareShares) → IsHeaderOf header.now square →
         IsOwnVerdict square (parts_of verdict)
         ⊎ SomeNames header.now (map kept_message messages.items) square) }
 
-    // What another list with the same proved samples is answered, whatever their order and repeats, is alike.
+    // What another list with the same proved samples is answered, whatever their order and repeats,
+    // is alike.
     ensures order { IfOk result (λ verdict. (others : List Sent) (other : VerdictParts) →
         Covers header.now (map kept_message messages.items) others →
         Covers header.now others (map kept_message messages.items) →

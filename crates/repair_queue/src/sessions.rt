@@ -1,4 +1,13 @@
 //! A repair that is fed one message at a time.
+//!
+//! The known cells of each row and column are counted. One that comes to have k enters a queue,
+//! once, and after each message the queue is emptied: so each row and column is decided once, and
+//! nothing is looked through again. To decide one, the codeword through k of its known shares is
+//! made and hashed. Where the header has another root these k cells are a fraud proof; where another
+//! share is known of a cell, that one and the line are a fraud proof or a collision. Else its shares
+//! are kept, and its cells that were unknown are counted for what crosses it. What is kept: of each
+//! cell on no decided row or column at most two messages, and of each other its share with the
+//! digest of its leaf. `Session::new` takes all memory, also that of the answer.
 
 ghost use Rattle.std.specs.Prelude.{◌≡◌, ◌≢◌, ◌*◌, ◌≤◌, ◌++◌, ◌∷◌, [], List, Some, IfOk, true, vec_capacity};
 ghost use Rattle.namespace_id.specs.Cells.{is_width};
@@ -175,8 +184,8 @@ impl Session {
     }
 
     /// Fills the room with the cells that don't follow from what was fed, row-major, in place of
-    /// what it held. Nothing has ended the session, and the room is for the header's width. It takes
-    /// no memory.
+    /// what it held. Nothing has ended the session, and the room is for the header's width. It
+    /// takes no memory.
     pub fn missing(&self, room: &mut CellRoom)
         requires open { state_of self.now ≡ state.Open }
         requires room { room.old.k ≡ self.now.header.k }
