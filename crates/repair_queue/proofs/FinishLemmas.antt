@@ -129,7 +129,14 @@ module _ (header : Roots) (b : Board) (good : IsGood header b) (rest : AreAtRest
         (originals.are cell (subst (λ (k : ℕ). is_original k cell ≡ true) good.width within))))
         (original_fact cell within))
 
--- the unknown cells of a session that nothing ended are those that aren't recoverable
+-- a list of the unknown cells of a session that nothing ended is for the header's width
+pub left_width : (header : Roots) (b : Board) (tools : Tools) (end : Option Ended) → IsOpenBoard header b tools end → state_by (end_of end) ≡ state.Open
+    → (cells : CellList) → AreNotFound b cells → cells.k ≡ header.k
+left_width header b tools None held is cells are = are.width ∙ sym held.0.width
+left_width header b tools (Some (ended.Fraud proof)) held is cells are = absurd cc
+left_width header b tools (Some (ended.Clash clash)) held is cells are = absurd cc
+
+-- and these cells are those that aren't recoverable
 pub held_left : (header : Roots) (b : Board) (tools : Tools) (end : Option Ended) → IsOpenBoard header b tools end → state_by (end_of end) ≡ state.Open
     → (cells : CellList) → AreNotFound b cells → (ms : List Message) → KeepsFor header ms b end → AreLeft header ms cells
 held_left header b tools None held is cells are ms stand = left_over header b held.0 held.2 ms stand cells are

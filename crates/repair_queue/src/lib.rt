@@ -2,8 +2,8 @@
 //! extended data square: its repair.
 //!
 //! `repair_list` answers a square with the header, missing cells, a fraud proof or a SHA-256
-//! collision, and a `Session` the same, fed one sample at a time. `closure_laws` is on the cells and
-//! shares that follow from proved samples, `settled_laws` on when these fit the header,
+//! collision. So does a `Session`, which is fed one sample at a time. `closure_laws` is on the cells
+//! and shares that follow from proved samples, `settled_laws` on when these fit the header,
 //! `verdict_laws` on the answers, `session_laws` on the lists for which a session stands.
 #![tactic(auto)]
 
@@ -25,6 +25,8 @@ mod rooting;
 mod sessions;
 mod slots;
 mod taking;
+#[cfg(test)]
+mod tests;
 mod tools;
 mod verdict;
 

@@ -3,11 +3,11 @@
 //! The known cells of each row and column are counted. One that comes to have k enters a queue,
 //! once, and after each message the queue is emptied: so each row and column is decided once, and
 //! nothing is looked through again. To decide one, the codeword through k of its known shares is
-//! made and hashed. Where the header has another root these k cells are a fraud proof; where another
-//! share is known of a cell, that one and the line are a fraud proof or a collision. Else its shares
-//! are kept, and its cells that were unknown are counted for what crosses it. What is kept: of each
-//! cell on no decided row or column at most two messages, and of each other its share with the
-//! digest of its leaf. `Session::new` takes all memory, also that of the answer.
+//! made and hashed. Where the header has another root, these k cells are a fraud proof. Where
+//! another share is known of a cell, that one and the line are a fraud proof or a collision. Else
+//! its shares are kept, and its cells that were unknown are counted for what crosses it. What is
+//! kept: of each cell on no decided row or column at most two messages, and of each other its share
+//! with the digest of its leaf. `Session::new` takes all memory, also that of the answer.
 
 ghost use Rattle.std.specs.Prelude.{◌≡◌, ◌≢◌, ◌*◌, ◌≤◌, ◌++◌, ◌∷◌, [], List, Some, IfOk, true, vec_capacity};
 ghost use Rattle.namespace_id.specs.Cells.{is_width};
@@ -189,7 +189,8 @@ impl Session {
     pub fn missing(&self, room: &mut CellRoom)
         requires open { state_of self.now ≡ state.Open }
         requires room { room.old.k ≡ self.now.header.k }
-        ensures { (ms : List Message) → StandsFor self.now ms →
+        ensures width { room.new.k ≡ room.old.k }
+        ensures left { (ms : List Message) → StandsFor self.now ms →
             AreLeft self.now.header ms room.new }
     {
         fill_unknown(&self.board, room);
