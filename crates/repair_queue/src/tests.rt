@@ -11,6 +11,7 @@ use namespace_id::{Axis, Cell, CellRoom, Share};
 use nmt_tree::Tree;
 use square_layout::Square;
 use std::alloc::Global;
+use std::process::Abort;
 use std::test::Fail;
 
 /// A share of the namespace that ends in 01 and this byte: these bytes behind its name, and zeros.
@@ -69,13 +70,13 @@ fn message(alloc: Global, grid: &Grid, cell: Cell, axis: Axis) -> Result<Message
     Ok(message)
 }
 
-/// The state after a message, and how many cells are missing where it is open.
+/// How many cells are missing after a message, where the session is open.
 fn feed(
     session: &mut Session,
     room: &mut CellRoom,
     header: &Header,
     message: Message,
-) -> Result<(SessionState, Option<usize>), Fail>
+) -> Result<Option<usize>, Fail>
     requires header { session.old.header ≡ header.now }
     requires room { room.old.k ≡ header.now.k }
     ensures header { session.new.header ≡ header.now }
@@ -84,12 +85,36 @@ fn feed(
     let Ok(proved) = check(header, message) else {
         return Err(Fail::new("not proved"));
     };
-    let state = session.feed(proved);
-    if state != SessionState::Open {
-        return Ok((state, None));
+    if session.feed(proved) != SessionState::Open {
+        return Ok(None);
     }
     session.missing(room);
-    Ok((state, Some(room.cells().len())))
+    Ok(Some(room.cells().len()))
+}
+
+/// Feeds four samples of the square, with which all its cells are known.
+fn feed_four(
+    rt: &impl Abort,
+    alloc: Global,
+    session: &mut Session,
+    room: &mut CellRoom,
+    header: &Header,
+    grid: &Grid,
+) -> Result<(), Fail>
+    requires grid { grid.now.k ≡ 2 }
+    requires header { session.old.header ≡ header.now }
+    requires room { room.old.k ≡ header.now.k }
+{
+    let one = message(alloc, grid, Cell { row: 0, col: 0 }, Axis::Row)?;
+    assert_eq!(rt; feed(session, room, header, one)?, Some(15));
+    // with k cells a row is known
+    let two = message(alloc, grid, Cell { row: 0, col: 1 }, Axis::Row)?;
+    assert_eq!(rt; feed(session, room, header, two)?, Some(12));
+    let three = message(alloc, grid, Cell { row: 1, col: 0 }, Axis::Row)?;
+    assert_eq!(rt; feed(session, room, header, three)?, Some(9));
+    let four = message(alloc, grid, Cell { row: 2, col: 3 }, Axis::Row)?;
+    assert_eq!(rt; feed(session, room, header, four)?, Some(0));
+    Ok(())
 }
 
 #[test]
@@ -97,30 +122,29 @@ fn four_samples_of_a_square(rt: HostRuntime) -> Result<(), Fail> {
     let alloc = rt.alloc();
     let grid = grid(alloc)?;
     let header = header(alloc, &grid)?;
-    let mut session = Session::new(alloc, &header)?;
     let mut room = CellRoom::new(alloc, 2)?;
-    let one = message(alloc, &grid, Cell { row: 0, col: 0 }, Axis::Row)?;
-    let open = SessionState::Open;
-    assert_eq!(rt;
-        feed(&mut session, &mut room, &header, one)?,
-        (open, Some(15))
-    );
-    // with k cells row 0 is known
-    let two = message(alloc, &grid, Cell { row: 0, col: 1 }, Axis::Row)?;
-    assert_eq!(rt;
-        feed(&mut session, &mut room, &header, two)?,
-        (open, Some(12))
-    );
-    let three = message(alloc, &grid, Cell { row: 1, col: 0 }, Axis::Row)?;
-    assert_eq!(rt;
-        feed(&mut session, &mut room, &header, three)?,
-        (open, Some(9))
-    );
-    let four = message(alloc, &grid, Cell { row: 2, col: 3 }, Axis::Row)?;
-    assert_eq!(rt;
-        feed(&mut session, &mut room, &header, four)?,
-        (open, Some(0))
-    );
+    let mut session = Session::new(alloc, &header)?;
+    feed_four(&rt, alloc, &mut session, &mut room, &header, &grid)
+}
+
+/// Feeds two samples of a row that is no codeword.
+fn feed_two(
+    rt: &impl Abort,
+    alloc: Global,
+    session: &mut Session,
+    room: &mut CellRoom,
+    header: &Header,
+    grid: &Grid,
+) -> Result<(), Fail>
+    requires grid { grid.now.k ≡ 2 }
+    requires header { session.old.header ≡ header.now }
+    requires room { room.old.k ≡ header.now.k }
+{
+    let one = message(alloc, grid, Cell { row: 3, col: 0 }, Axis::Col)?;
+    assert_eq!(rt; feed(session, room, header, one)?, Some(15));
+    let two = message(alloc, grid, Cell { row: 3, col: 1 }, Axis::Col)?;
+    assert_eq!(rt; feed(session, room, header, two)?, None);
+    assert_eq!(rt; session.state(), SessionState::Fraud);
     Ok(())
 }
 
@@ -129,18 +153,7 @@ fn two_samples_of_a_bad_row(rt: HostRuntime) -> Result<(), Fail> {
     let alloc = rt.alloc();
     let grid = bad_grid(alloc)?;
     let header = header(alloc, &grid)?;
-    let mut session = Session::new(alloc, &header)?;
     let mut room = CellRoom::new(alloc, 2)?;
-    let one = message(alloc, &grid, Cell { row: 3, col: 0 }, Axis::Col)?;
-    let open = SessionState::Open;
-    assert_eq!(rt;
-        feed(&mut session, &mut room, &header, one)?,
-        (open, Some(15))
-    );
-    let two = message(alloc, &grid, Cell { row: 3, col: 1 }, Axis::Col)?;
-    assert_eq!(rt;
-        feed(&mut session, &mut room, &header, two)?,
-        (SessionState::Fraud, None)
-    );
-    Ok(())
+    let mut session = Session::new(alloc, &header)?;
+    feed_two(&rt, alloc, &mut session, &mut room, &header, &grid)
 }
