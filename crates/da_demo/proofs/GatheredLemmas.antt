@@ -37,8 +37,8 @@ pub take_kept : (header : Roots) (ms : List Message) (m : Message) (old new : Ga
     → IsGathered header (ms ++ m ∷ []) new
 take_kept header ms m old new before holds under fed count lies =
     let all : proved_of header ms ++ m ∷ [] ≡ proved_of header (ms ++ m ∷ []) =
-      ap (λ (r : Option CheckRefusal). proved_of header ms ++ cond (is_none r) (m ∷ []) []) (sym holds)
-      ∙ sym (proved_more header ms m) in
+    ap (λ (r : Option CheckRefusal). proved_of header ms ++ cond (is_none r) (m ∷ []) []) (sym holds)
+    ∙ sym (proved_more header ms m) in
     record {
       under = under;
       fed = subst (StandsFor new.session) all fed;
@@ -57,9 +57,9 @@ pub take_lie : (header : Roots) (ms : List Message) (m : Message) (old new : Gat
     → IsGathered header (ms ++ m ∷ []) new
 take_lie header ms m old new before fails session proved lies =
     let same : proved_of header ms ≡ proved_of header (ms ++ m ∷ []) =
-      sym (proved_more header ms m ∙ ap (λ (b : Bool). proved_of header ms ++ cond b (m ∷ []) [])
-      (refused (message_refusal header m) fails)
-      ∙ append-nil (proved_of header ms)) in
+    sym (proved_more header ms m ∙ ap (λ (b : Bool). proved_of header ms ++ cond b (m ∷ []) [])
+    (refused (message_refusal header m) fails)
+    ∙ append-nil (proved_of header ms)) in
     record {
       under = ap (λ (s : SessionParts). s.header) session ∙ before.under;
       fed = subst (λ (s : SessionParts). StandsFor s (proved_of header (ms ++ m ∷ []))) (sym session)

@@ -89,12 +89,7 @@ fn message_at(grid: &Grid, trees: &Trees, cell: Cell, axis: Axis) -> Message
 }
 
 /// Takes in the message of the first cell of each odd row, along its row, with its share spoiled.
-pub(crate) fn gather_lies(
-    grid: &Grid,
-    trees: &Trees,
-    header: &Header,
-    gathered: &mut Gathered,
-)
+pub(crate) fn gather_lies(grid: &Grid, trees: &Trees, header: &Header, gathered: &mut Gathered)
     requires trees { trees_of_grid grid.now.k grid.now.shares ≡ Some trees.now }
     requires header { gathered.old.session.header ≡ header.now }
     requires none { gathered.old.proved + gathered.old.lies ≡ 0 }
@@ -135,13 +130,7 @@ fn axis_of(cell: Cell) -> Axis
 }
 
 /// Takes in the message of a cell where its row and its column add up to an even number.
-fn gather_even(
-    grid: &Grid,
-    trees: &Trees,
-    header: &Header,
-    cell: Cell,
-    gathered: &mut Gathered,
-)
+fn gather_even(grid: &Grid, trees: &Trees, header: &Header, cell: Cell, gathered: &mut Gathered)
     requires width { IsTrue (is_width grid.now.k) }
     requires trees { trees_of_grid grid.now.k grid.now.shares ≡ Some trees.now }
     requires cell { IsTrue (is_in_square grid.now.k cell) }
@@ -161,12 +150,7 @@ fn gather_even(
 
 /// Takes in the messages of half of the cells, from the last one back: of those whose row and
 /// column add up to an even number.
-pub(crate) fn gather_half(
-    grid: &Grid,
-    trees: &Trees,
-    header: &Header,
-    gathered: &mut Gathered,
-)
+pub(crate) fn gather_half(grid: &Grid, trees: &Trees, header: &Header, gathered: &mut Gathered)
     requires trees { trees_of_grid grid.now.k grid.now.shares ≡ Some trees.now }
     requires header { gathered.old.session.header ≡ header.now }
     requires few { gathered.old.proved + gathered.old.lies ≤ grid.now.k }
@@ -182,12 +166,7 @@ pub(crate) fn gather_half(
 }
 
 /// Takes in the messages of the first k cells of the last row, along their columns.
-pub(crate) fn gather_low(
-    grid: &Grid,
-    trees: &Trees,
-    header: &Header,
-    gathered: &mut Gathered,
-)
+pub(crate) fn gather_low(grid: &Grid, trees: &Trees, header: &Header, gathered: &mut Gathered)
     requires trees { trees_of_grid grid.now.k grid.now.shares ≡ Some trees.now }
     requires header { gathered.old.session.header ≡ header.now }
     requires none { gathered.old.proved + gathered.old.lies ≡ 0 }

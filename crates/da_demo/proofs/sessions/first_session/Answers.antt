@@ -1,4 +1,4 @@
-use Rattle.std.proofs.Common.{◌≡◌, sym, subst, rules}
+use Rattle.std.proofs.Common.{subst, rules}
 use Rattle.data_header.specs.Headers.{Roots}
 use Rattle.repair_queue.specs.Verdicts.{IsVerdict}
 use Rattle.repair_queue.specs.Answers.{parts_of}
