@@ -1,15 +1,11 @@
--- What is kept of the messages of a session.
-use Rattle.std.proofs.Common.{◌≡◌, ◌∙◌, ℕ, ◌+◌, List, [], ◌∷◌, ◌++◌, map, length, Bool, false, cond, not, is_none, None, Some, Option, length-append, append-nil, add-zero, refl, sym, ap, ap₂, subst}
-use Rattle.std.proofs.lemmas.List.{map-append}
+-- What a session of a trial is fed with.
+use Rattle.std.proofs.Common.{◌≡◌, ◌∙◌, ℕ, ◌+◌, List, [], ◌∷◌, ◌++◌, map, length, Bool, false, cond, not, is_none, None, Some, Option, length-append, append-nil, add-zero, refl, sym, ap, subst}
 use Rattle.std.proofs.lemmas.List.Elements.{filter-append}
-use Rattle.std.specs.List.{AllByRecursion}
-use Rattle.nmt_proofs.proofs.ListLemmas.{each-append}
 use Rattle.data_header.specs.Headers.{Roots}
 use Rattle.axis_roots.specs.declared.message.messages.Message.{Message}
 use Rattle.axis_roots.specs.declared.message.messages.CheckRefusal.{CheckRefusal}
-use Rattle.axis_roots.specs.declared.message.proved.Proved.{Proved}
 use Rattle.axis_roots.specs.Messages.{message_refusal}
-use Rattle.axis_roots.specs.Proved.{IsUnder, kept_message}
+use Rattle.repair_queue.specs.SessionParts.{SessionParts, StandsFor}
 use Rattle.da_demo.specs.declared.gathering.Gathered.{Gathered}
 use Rattle.namespace_id.specs.declared.shares.Share.{Share}
 use Rattle.namespace_id.specs.Lists.{ascending}
@@ -34,39 +30,46 @@ lies_more header ms m =
     ap length (filter-append (λ x. not (is_none (message_refusal header x))) ms (m ∷ []))
     ∙ length-append (refused_of header ms) (refused_of header (m ∷ []))
 
--- a message that is proved is kept
-pub take_kept : (header : Roots) (ms : List Message) (m : Message) (old new : Gathered) (proved : Proved)
-    → IsGathered header ms old → IsUnder header proved → kept_message proved ≡ m → message_refusal header m ≡ None
-    → new.proved.items ≡ old.proved.items ++ proved ∷ [] → new.lies ≡ old.lies → IsGathered header (ms ++ m ∷ []) new
-take_kept header ms m old new proved before under is holds items lies = record {
-  under = subst (AllByRecursion (IsUnder header)) (sym items)
-      (each-append (IsUnder header) old.proved.items (proved ∷ []) before.under (under, tt));
-  proved = ap (map kept_message) items ∙ map-append kept_message old.proved.items (proved ∷ [])
-      ∙ ap₂ (λ (l : List Message) (x : Message). l ++ x ∷ []) before.proved is
-      ∙ ap (λ (r : Option CheckRefusal). proved_of header ms ++ cond (is_none r) (m ∷ []) []) (sym holds)
-      ∙ sym (proved_more header ms m);
-  lies = lies ∙ before.lies
-      ∙ sym (lies_more header ms m ∙ ap (λ (r : Option CheckRefusal).
-      length (refused_of header ms) + length (cond (not (is_none r)) (m ∷ []) [])) holds
-      ∙ add-zero (length (refused_of header ms)));
-}
+-- a message that is proved is fed
+pub take_kept : (header : Roots) (ms : List Message) (m : Message) (old new : Gathered)
+    → IsGathered header ms old → message_refusal header m ≡ None → new.session.header ≡ header
+    → StandsFor new.session (proved_of header ms ++ m ∷ []) → new.proved ≡ old.proved + 1 → new.lies ≡ old.lies
+    → IsGathered header (ms ++ m ∷ []) new
+take_kept header ms m old new before holds under fed count lies =
+    let all : proved_of header ms ++ m ∷ [] ≡ proved_of header (ms ++ m ∷ []) =
+    ap (λ (r : Option CheckRefusal). proved_of header ms ++ cond (is_none r) (m ∷ []) []) (sym holds)
+    ∙ sym (proved_more header ms m) in
+    record {
+      under = under;
+      fed = subst (StandsFor new.session) all fed;
+      proved = count ∙ ap (λ (n : ℕ). n + 1) before.proved
+          ∙ sym (length-append (proved_of header ms) (m ∷ [])) ∙ ap length all;
+      lies = lies ∙ before.lies
+          ∙ sym (lies_more header ms m ∙ ap (λ (r : Option CheckRefusal).
+          length (refused_of header ms) + length (cond (not (is_none r)) (m ∷ []) [])) holds
+          ∙ add-zero (length (refused_of header ms)));
+    }
 
 -- another one is counted
 pub take_lie : (header : Roots) (ms : List Message) (m : Message) (old new : Gathered)
-    → IsGathered header ms old → (message_refusal header m ≡ None → ⊥) → new.proved.items ≡ old.proved.items
-    → new.lies ≡ old.lies + 1
+    → IsGathered header ms old → (message_refusal header m ≡ None → ⊥) → new.session ≡ old.session
+    → new.proved ≡ old.proved → new.lies ≡ old.lies + 1
     → IsGathered header (ms ++ m ∷ []) new
-take_lie header ms m old new before fails items lies = record {
-  under = subst (AllByRecursion (IsUnder header)) (sym items) before.under;
-  proved = ap (map kept_message) items ∙ before.proved
-      ∙ sym (proved_more header ms m ∙ ap (λ (b : Bool). proved_of header ms ++ cond b (m ∷ []) [])
-      (refused (message_refusal header m) fails)
-      ∙ append-nil (proved_of header ms));
-  lies = lies ∙ ap (λ (n : ℕ). n + 1) before.lies
-      ∙ sym (lies_more header ms m
-      ∙ ap (λ (b : Bool). length (refused_of header ms) + length (cond (not b) (m ∷ []) []))
-      (refused (message_refusal header m) fails));
-}
+take_lie header ms m old new before fails session proved lies =
+    let same : proved_of header ms ≡ proved_of header (ms ++ m ∷ []) =
+    sym (proved_more header ms m ∙ ap (λ (b : Bool). proved_of header ms ++ cond b (m ∷ []) [])
+    (refused (message_refusal header m) fails)
+    ∙ append-nil (proved_of header ms)) in
+    record {
+      under = ap (λ (s : SessionParts). s.header) session ∙ before.under;
+      fed = subst (λ (s : SessionParts). StandsFor s (proved_of header (ms ++ m ∷ []))) (sym session)
+          (subst (StandsFor old.session) same before.fed);
+      proved = proved ∙ before.proved ∙ ap length same;
+      lies = lies ∙ ap (λ (n : ℕ). n + 1) before.lies
+          ∙ sym (lies_more header ms m
+          ∙ ap (λ (b : Bool). length (refused_of header ms) + length (cond (not b) (m ∷ []) []))
+          (refused (message_refusal header m) fails));
+    }
 
 -- ---- messages that are made one by one
 

@@ -1,9 +1,8 @@
-//! The messages of the two sessions of a trial, as they are made from a grid and checked under its
-//! header.
+//! The messages of the two sessions of a trial, as they are made from a grid, checked under its header
+//! and fed.
 
-ghost use Rattle.std.specs.Prelude.{◌≡◌, ◌+◌, ◌*◌, ◌<◌, ◌≤◌, ◌^◌, ◌++◌, List, [], ◌∷◌, IsTrue, IfSome, IsNone, IfOk, OnOk, Some, None};
+ghost use Rattle.std.specs.Prelude.{◌≡◌, ◌+◌, ◌*◌, ◌<◌, ◌≤◌, ◌^◌, ◌++◌, List, [], ◌∷◌, IsTrue, IfSome, IsNone, IfOk, Some, None};
 ghost use Rattle.namespace_id.specs.Cells.{is_width, is_in_square};
-ghost use Rattle.data_header.specs.Headers.{Roots};
 ghost use Rattle.axis_roots.specs.declared.message.messages.Message.{Message as Sent};
 ghost use Rattle.axis_roots.specs.Messages.{message_refusal};
 ghost use Rattle.axis_roots.specs.Proved.{IsUnder, kept_message};
@@ -16,12 +15,14 @@ use axis_roots::{
 };
 use data_header::Header;
 use namespace_id::{Axis, Cell, NoMemory, SHARE_SIZE, Share, cell_numbered};
+use repair_queue::Session;
 use std::alloc::Global;
 
-/// Certificates of the messages of a session that are proved, in their order, and how many aren't.
+/// A session that is fed with the messages that are proved, how many these are, and how many aren't.
 #[derive(Drop)]
 pub(crate) struct Gathered {
-    pub(crate) proved: Vec<Proved>,
+    pub(crate) session: Session,
+    pub(crate) proved: u64,
     pub(crate) lies: u64,
 }
 
@@ -45,33 +46,35 @@ fn proved(header: &Header, message: Message) -> Option<Proved>
 }
 
 impl Gathered {
-    /// Of no messages.
-    pub(crate) fn new(alloc: Global) -> Gathered
-        ensures gathered { (header : Roots) → IsGathered header [] result }
-        ensures lies { result.lies ≡ 0 }
+    /// A session under a header that is fed with nothing yet.
+    pub(crate) fn new(alloc: Global, header: &Header) -> Result<Gathered, NoMemory>
+        ensures gathered { IfOk result (IsGathered header.now []) }
+        ensures none { IfOk result (λ gathered. gathered.proved + gathered.lies ≡ 0) }
     {
-        Gathered {
-            proved: Vec::new(alloc),
+        let session = Session::new(alloc, header)?;
+        Ok(Gathered {
+            session,
+            proved: 0,
             lies: 0,
-        }
+        })
     }
 
-    /// Keeps a message where it is proved, and else counts it.
-    fn take_in(&mut self, header: &Header, message: Message) -> Result<(), NoMemory>
-        requires few { self.old.lies < 2 ^ 32 }
+    /// Feeds the session with a message where it is proved, and counts it.
+    fn take_in(&mut self, header: &Header, message: Message)
+        requires header { self.old.session.header ≡ header.now }
+        requires few { self.old.proved + self.old.lies < 2 ^ 32 }
+        ensures header { self.new.session.header ≡ header.now }
         ensures gathered { (ms : List Sent) → IsGathered header.now ms self.old →
-            OnOk result (IsGathered header.now (ms ++ message ∷ []) self.new) }
-        ensures near { self.new.lies ≤ self.old.lies + 1 }
+            IsGathered header.now (ms ++ message ∷ []) self.new }
+        ensures near { self.new.proved + self.new.lies ≤ self.old.proved + self.old.lies + 1 }
     {
         match proved(header, message) {
             Some(proved) => {
-                let Ok(()) = self.proved.push(proved) else {
-                    return Err(NoMemory);
-                };
+                let _state = self.session.feed(proved);
+                self.proved += 1;
             }
             None => self.lies += 1,
         }
-        Ok(())
     }
 }
 
@@ -86,17 +89,14 @@ fn message_at(grid: &Grid, trees: &Trees, cell: Cell, axis: Axis) -> Message
 }
 
 /// Takes in the message of the first cell of each odd row, along its row, with its share spoiled.
-pub(crate) fn gather_lies(
-    grid: &Grid,
-    trees: &Trees,
-    header: &Header,
-    gathered: &mut Gathered,
-) -> Result<(), NoMemory>
+pub(crate) fn gather_lies(grid: &Grid, trees: &Trees, header: &Header, gathered: &mut Gathered)
     requires trees { trees_of_grid grid.now.k grid.now.shares ≡ Some trees.now }
-    requires none { gathered.old.lies ≡ 0 }
+    requires header { gathered.old.session.header ≡ header.now }
+    requires none { gathered.old.proved + gathered.old.lies ≡ 0 }
+    ensures header { gathered.new.session.header ≡ header.now }
     ensures gathered { IsGathered header.now [] gathered.old →
-        OnOk result (IsGathered header.now (lies_of grid.now.k grid.now.shares) gathered.new) }
-    ensures few { gathered.new.lies ≤ grid.now.k }
+        IsGathered header.now (lies_of grid.now.k grid.now.shares) gathered.new }
+    ensures few { gathered.new.proved + gathered.new.lies ≤ grid.now.k }
 {
     for i in 0..grid.width() {
         let cell = Cell {
@@ -105,9 +105,8 @@ pub(crate) fn gather_lies(
         };
         let mut message = message_at(grid, trees, cell, Axis::Row);
         spoil(&mut message.share);
-        gathered.take_in(header, message)?;
+        gathered.take_in(header, message);
     }
-    Ok(())
 }
 
 /// Whether row and column of a cell add up to an even number.
@@ -131,62 +130,48 @@ fn axis_of(cell: Cell) -> Axis
 }
 
 /// Takes in the message of a cell where its row and its column add up to an even number.
-fn gather_even(
-    grid: &Grid,
-    trees: &Trees,
-    header: &Header,
-    cell: Cell,
-    gathered: &mut Gathered,
-) -> Result<(), NoMemory>
+fn gather_even(grid: &Grid, trees: &Trees, header: &Header, cell: Cell, gathered: &mut Gathered)
     requires width { IsTrue (is_width grid.now.k) }
     requires trees { trees_of_grid grid.now.k grid.now.shares ≡ Some trees.now }
     requires cell { IsTrue (is_in_square grid.now.k cell) }
-    requires few { gathered.old.lies < 2 ^ 32 }
+    requires header { gathered.old.session.header ≡ header.now }
+    requires few { gathered.old.proved + gathered.old.lies < 2 ^ 32 }
+    ensures header { gathered.new.session.header ≡ header.now }
     ensures gathered { (ms : List Sent) → IsGathered header.now ms gathered.old →
-        OnOk result (IsGathered header.now
-        (ms ++ half_among grid.now.k grid.now.shares (cell ∷ [])) gathered.new) }
-    ensures near { gathered.new.lies ≤ gathered.old.lies + 1 }
+        IsGathered header.now (ms ++ half_among grid.now.k grid.now.shares (cell ∷ []))
+        gathered.new }
+    ensures near { gathered.new.proved + gathered.new.lies
+        ≤ gathered.old.proved + gathered.old.lies + 1 }
 {
     if is_even(cell) {
-        gathered.take_in(header, message_at(grid, trees, cell, axis_of(cell)))?;
+        gathered.take_in(header, message_at(grid, trees, cell, axis_of(cell)));
     }
-    Ok(())
 }
 
 /// Takes in the messages of half of the cells, from the last one back: of those whose row and
 /// column add up to an even number.
-pub(crate) fn gather_half(
-    grid: &Grid,
-    trees: &Trees,
-    header: &Header,
-    gathered: &mut Gathered,
-) -> Result<(), NoMemory>
+pub(crate) fn gather_half(grid: &Grid, trees: &Trees, header: &Header, gathered: &mut Gathered)
     requires trees { trees_of_grid grid.now.k grid.now.shares ≡ Some trees.now }
-    requires few { gathered.old.lies ≤ grid.now.k }
+    requires header { gathered.old.session.header ≡ header.now }
+    requires few { gathered.old.proved + gathered.old.lies ≤ grid.now.k }
     ensures { IsGathered header.now (lies_of grid.now.k grid.now.shares) gathered.old →
-        OnOk result
-        (IsGathered header.now (first_messages grid.now.k grid.now.shares) gathered.new) }
+        IsGathered header.now (first_messages grid.now.k grid.now.shares) gathered.new }
 {
     let side = 2 * grid.width();
     let mut left = side as usize * side as usize;
     while left > 0 {
         left -= 1;
-        gather_even(grid, trees, header, cell_numbered(side, left), gathered)?;
+        gather_even(grid, trees, header, cell_numbered(side, left), gathered);
     }
-    Ok(())
 }
 
 /// Takes in the messages of the first k cells of the last row, along their columns.
-pub(crate) fn gather_low(
-    grid: &Grid,
-    trees: &Trees,
-    header: &Header,
-    gathered: &mut Gathered,
-) -> Result<(), NoMemory>
+pub(crate) fn gather_low(grid: &Grid, trees: &Trees, header: &Header, gathered: &mut Gathered)
     requires trees { trees_of_grid grid.now.k grid.now.shares ≡ Some trees.now }
-    requires none { gathered.old.lies ≡ 0 }
-    ensures { IsGathered header.now [] gathered.old → OnOk result
-        (IsGathered header.now (second_messages grid.now.k grid.now.shares) gathered.new) }
+    requires header { gathered.old.session.header ≡ header.now }
+    requires none { gathered.old.proved + gathered.old.lies ≡ 0 }
+    ensures { IsGathered header.now [] gathered.old →
+        IsGathered header.now (second_messages grid.now.k grid.now.shares) gathered.new }
 {
     let k = grid.width();
     for col in 0..k {
@@ -194,7 +179,6 @@ pub(crate) fn gather_low(
             row: 2 * k - 1,
             col,
         };
-        gathered.take_in(header, message_at(grid, trees, cell, Axis::Col))?;
+        gathered.take_in(header, message_at(grid, trees, cell, Axis::Col));
     }
-    Ok(())
 }

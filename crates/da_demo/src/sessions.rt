@@ -13,7 +13,6 @@ use crate::{Outcome, Upheld};
 use axis_roots::{Grid, Trees};
 use data_header::{Header, data_root};
 use namespace_id::NoMemory;
-use repair_queue::repair_list;
 use square_layout::Square;
 use std::alloc::Global;
 
@@ -37,7 +36,7 @@ fn trees_of(alloc: Global, grid: &Grid) -> Result<Trees, NoMemory>
     Ok(trees.unwrap())
 }
 
-/// The messages of the first session: lies, and half of the cells.
+/// The first session, fed: with lies, and half of the cells.
 fn first_gathered(
     alloc: Global,
     grid: &Grid,
@@ -48,13 +47,13 @@ fn first_gathered(
     ensures { IfOk result
         (IsGathered header.now (first_messages grid.now.k grid.now.shares)) }
 {
-    let mut gathered = Gathered::new(alloc);
-    gather_lies(grid, trees, header, &mut gathered)?;
-    gather_half(grid, trees, header, &mut gathered)?;
+    let mut gathered = Gathered::new(alloc, header)?;
+    gather_lies(grid, trees, header, &mut gathered);
+    gather_half(grid, trees, header, &mut gathered);
     Ok(gathered)
 }
 
-/// The messages of the second session.
+/// The second session, fed.
 fn second_gathered(
     alloc: Global,
     grid: &Grid,
@@ -65,8 +64,8 @@ fn second_gathered(
     ensures { IfOk result
         (IsGathered header.now (second_messages grid.now.k grid.now.shares)) }
 {
-    let mut gathered = Gathered::new(alloc);
-    gather_low(grid, trees, header, &mut gathered)?;
+    let mut gathered = Gathered::new(alloc, header)?;
+    gather_low(grid, trees, header, &mut gathered);
     Ok(gathered)
 }
 
@@ -78,14 +77,16 @@ pub(crate) fn first_session(alloc: Global, grid: &Grid, square: &Square) -> Resu
 {
     let trees = trees_of(alloc, grid)?;
     let header = trees.header(alloc)?;
-    let Gathered { proved, lies } = first_gathered(alloc, grid, &trees, &header)?;
-    let count = proved.len() as u64;
-    let verdict = repair_list(alloc, &header, proved)?;
-    let (outcome, _proof) = tell(verdict, square);
+    let Gathered {
+        session,
+        proved,
+        lies,
+    } = first_gathered(alloc, grid, &trees, &header)?;
+    let (outcome, _proof) = tell(session.finish(), square);
     let root = data_root(&header);
     Ok(First {
         root,
-        proved: count,
+        proved,
         lies,
         outcome,
     })
@@ -104,7 +105,6 @@ pub(crate) fn second_session(
     let trees = trees_of(alloc, grid)?;
     let header = trees.header(alloc)?;
     let gathered = second_gathered(alloc, grid, &trees, &header)?;
-    let verdict = repair_list(alloc, &header, gathered.proved)?;
-    let (outcome, proof) = tell(verdict, square);
+    let (outcome, proof) = tell(gathered.session.finish(), square);
     Ok((outcome, judge(alloc, &header, proof)?))
 }

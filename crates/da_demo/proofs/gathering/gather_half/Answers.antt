@@ -12,6 +12,7 @@ loop-left-init c =
       gathered = subst (λ (ms : List Message). IsGathered c.args.header.now ms c.args.gathered.now)
           (first_none c.args.grid.now.k c.args.grid.now.shares _ all);
       within = le_of_eq all;
+      under = c.requires.header;
       few = omega (arith, all, c.requires.few);
     }
 
@@ -23,9 +24,10 @@ loop-left-preserved c = record {
       c.gather_even.new.gathered _ c.loop-left.left _ c.cell_numbered.result
       c.cell_numbered.ensures.value (ap (λ (w : ℕ). 2 * w) c.width-side.ensures.value) (omega arith)
       (omega (arith, c.loop-left.invariant.within))
-      (c.loop-left.invariant.gathered before) c.in_ok-gather_even.ensures.gathered;
+      (c.loop-left.invariant.gathered before) c.gather_even.ensures.gathered;
   within = omega (arith, c.loop-left.invariant.within);
-  few = omega (arith, c.loop-left.invariant.few, c.in_ok-gather_even.ensures.near);
+  under = c.gather_even.ensures.header;
+  few = omega (arith, c.loop-left.invariant.few, c.gather_even.ensures.near);
 }
 
 -- there are few

@@ -1,4 +1,4 @@
-use Rattle.std.proofs.Common.{◌+◌, ◌*◌, ◌≤◌}
+use Rattle.std.proofs.Common.{◌≡◌, ◌+◌, ◌*◌, ◌≤◌}
 use Rattle.da_demo.specs.Sessions.{lies_of}
 use Rattle.da_demo.specs.Gathered.{IsGathered}
 use Rattle.da_demo.proofs.HalfLemmas.{first_from}
@@ -10,7 +10,8 @@ invariant-loop-left l = record {
   gathered : IsGathered l.header (lies_of l.grid.k l.grid.shares) l.fn.gathered
       → IsGathered l.header (first_from l.grid.k l.grid.shares l.left) l.gathered;
   within : l.left ≤ 2 * l.grid.k * (2 * l.grid.k);
-  few : l.gathered.lies + l.left ≤ l.grid.k + 2 * l.grid.k * (2 * l.grid.k);
+  under : l.gathered.session.header ≡ l.header;
+  few : l.gathered.proved + l.gathered.lies + l.left ≤ l.grid.k + 2 * l.grid.k * (2 * l.grid.k);
 }
 
 -- each turn is for one cell

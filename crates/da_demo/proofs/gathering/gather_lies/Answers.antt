@@ -10,6 +10,7 @@ pub loop-i-init : goal.loop-i-init
 loop-i-init c = record {
   gathered = gathered_none c.args.header.now
       (λ i. spoiled_message (message_at c.args.grid.now.k c.args.grid.now.shares (lie_cell i) Row)) c.args.gathered.now;
+  under = c.requires.header;
   few = omega (arith, c.requires.none);
 }
 
@@ -23,8 +24,9 @@ loop-i-preserved c = record {
       (lie_is c.message_at-message.result
       (message_at c.args.grid.now.k c.args.grid.now.shares (lie_cell c.loop-i.i) Row) c.spoil.new.share
       c.message_at-message.ensures c.spoil.ensures)
-      (c.loop-i.invariant.gathered before) c.in_ok-take_in.ensures.gathered;
-  few = omega (arith, c.loop-i.invariant.few, c.in_ok-take_in.ensures.near);
+      (c.loop-i.invariant.gathered before) c.take_in.ensures.gathered;
+  under = c.take_in.ensures.header;
+  few = omega (arith, c.loop-i.invariant.few, c.take_in.ensures.near);
 }
 
 -- all

@@ -1,4 +1,4 @@
-use Rattle.std.proofs.Common.{◌≤◌, [], map}
+use Rattle.std.proofs.Common.{◌≡◌, ◌+◌, ◌≤◌, [], map}
 use Rattle.namespace_id.specs.declared.cells.Axis.TheVariants.{Row}
 use Rattle.namespace_id.specs.Lists.{ascending}
 use Rattle.axis_roots.specs.Trees.{message_at}
@@ -12,5 +12,6 @@ invariant-loop-i l = record {
   gathered : IsGathered l.header [] l.fn.gathered
       → IsGathered l.header (map (λ i. spoiled_message (message_at l.grid.k l.grid.shares (lie_cell i) Row))
       (ascending 0 l.i)) l.gathered;
-  few : l.gathered.lies ≤ l.i;
+  under : l.gathered.session.header ≡ l.header;
+  few : l.gathered.proved + l.gathered.lies ≤ l.i;
 }

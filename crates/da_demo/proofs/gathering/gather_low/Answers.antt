@@ -11,6 +11,7 @@ loop-col-init c = record {
   gathered = gathered_none c.args.header.now
       (λ col. message_at c.args.grid.now.k c.args.grid.now.shares (low_cell c.args.grid.now.k col) Col)
       c.args.gathered.now;
+  under = c.requires.header;
   few = omega (arith, c.requires.none);
 }
 
@@ -24,8 +25,9 @@ loop-col-preserved c = record {
       (c.message_at.ensures
       ∙ ap (λ (k : ℕ). message_at c.args.grid.now.k c.args.grid.now.shares (low_cell k c.loop-col.col) Col)
       c.width-k.ensures.value)
-      (c.loop-col.invariant.gathered before) c.in_ok-take_in.ensures.gathered;
-  few = omega (arith, c.loop-col.invariant.few, c.in_ok-take_in.ensures.near);
+      (c.loop-col.invariant.gathered before) c.take_in.ensures.gathered;
+  under = c.take_in.ensures.header;
+  few = omega (arith, c.loop-col.invariant.few, c.take_in.ensures.near);
 }
 
 -- all

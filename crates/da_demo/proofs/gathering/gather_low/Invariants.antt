@@ -1,4 +1,4 @@
-use Rattle.std.proofs.Common.{◌≤◌, [], map}
+use Rattle.std.proofs.Common.{◌≡◌, ◌+◌, ◌≤◌, [], map}
 use Rattle.namespace_id.specs.declared.cells.Axis.TheVariants.{Col}
 use Rattle.namespace_id.specs.Lists.{ascending}
 use Rattle.axis_roots.specs.Trees.{message_at}
@@ -12,5 +12,6 @@ invariant-loop-col l = record {
   gathered : IsGathered l.header [] l.fn.gathered
       → IsGathered l.header (map (λ col. message_at l.grid.k l.grid.shares (low_cell l.grid.k col) Col)
       (ascending 0 l.col)) l.gathered;
-  few : l.gathered.lies ≤ l.col;
+  under : l.gathered.session.header ≡ l.header;
+  few : l.gathered.proved + l.gathered.lies ≤ l.col;
 }

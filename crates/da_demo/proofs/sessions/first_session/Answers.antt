@@ -1,23 +1,22 @@
-use Rattle.std.proofs.Common.{◌∙◌, List, length, sym, ap, subst, rules}
-use Rattle.std.proofs.lemmas.List.{length-map}
-use Rattle.axis_roots.specs.declared.message.messages.Message.{Message}
-use Rattle.axis_roots.specs.Proved.{kept_message}
+use Rattle.std.proofs.Common.{subst, rules}
+use Rattle.data_header.specs.Headers.{Roots}
 use Rattle.repair_queue.specs.Verdicts.{IsVerdict}
 use Rattle.repair_queue.specs.Answers.{parts_of}
+use Rattle.da_demo.specs.Sessions.{proved_of, first_messages}
 use Rattle.da_demo.proofs.sessions.first_session.Goals as goal
 
--- what is proved is kept in the order of the messages
+-- the verdict is one over what was fed
 pub returns : goal.returns
-returns c = record {
-  header = c.in_ok-header.header;
-  own = search rules;
-  root = search rules;
-  proved = c.len-count.ensures ∙ c.in_ok-proved.field-0.proved.ok.0
-      ∙ sym (length-map c.in_ok-proved.field-0.proved.items kept_message) ∙ ap length c.in_ok-proved.ensures.proved;
-  lies = c.in_ok-proved.ensures.lies;
-  verdict = parts_of c.in_ok-verdict.verdict;
-  answers = subst (λ (ms : List Message). IsVerdict c.in_ok-header.header ms (parts_of c.in_ok-verdict.verdict))
-      c.in_ok-proved.ensures.proved
-      c.in_ok-verdict.ensures.verdict;
-  outcome = c.tell-outcome.ensures.outcome;
-}
+returns c =
+    let fed = c.in_ok-session.ensures in
+    record {
+      header = c.in_ok-header.header;
+      own = search rules;
+      root = search rules;
+      proved = fed.proved;
+      lies = fed.lies;
+      verdict = parts_of c.finish.result;
+      answers = subst (λ (h : Roots). IsVerdict h (proved_of c.in_ok-header.header (first_messages c.args.grid.now.k c.args.grid.now.shares)) (parts_of c.finish.result))
+          fed.under (c.finish.ensures.verdict _ fed.fed);
+      outcome = c.tell-outcome.ensures.outcome;
+    }
