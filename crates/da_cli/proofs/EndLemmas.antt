@@ -147,3 +147,11 @@ once_output M old new before now Same status is ends = record {
   ends = ends;
   late = λ e. absurd (memory_output (sym (ap kind_of e) ∙ is));
 }
+
+-- what the files ask for is refused
+pub once_request : (M : Relation) (old : Option (List ℕ)) (before : ℕ) (Same : Type 0) (status : Status) → kind_of status ≡ request → M [] status → Same
+    → EndsAtOnce M old old before before Same status
+once_request M old before Same status e meant same = record {
+  ends = ends_request M old before Same status e meant same;
+  late = λ memory. same;
+}

@@ -13,6 +13,7 @@ pub mod FedLemmas
 pub mod MessageLemmas
 pub mod ClashLemmas
 pub mod RepairLemmas
+pub mod CountedLies
 pub mod SecondLemmas
 pub mod LightLemmas
 pub mod NodeLemmas

@@ -32,7 +32,7 @@ use Rattle.da_cli.proofs.MessageLemmas.{messages_fit}
 use Rattle.da_cli.proofs.ClashLemmas.{found_full}
 
 -- the answer by what the two files are
-abbrev answer_by : Result Roots ℕ → List Raw → Relation
+abbrev pub answer_by : Result Roots ℕ → List Raw → Relation
 answer_by a raws w status = MatchResult a (λ h. Repairs h raws w status) (λ at. ⊥)
 
 -- the meaning of repair by what HEADER is and where MESSAGES leaves its form

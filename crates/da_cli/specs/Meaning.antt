@@ -50,6 +50,8 @@ Meaning command files = Judged (judged_of command files) (AnswerOf command files
 
 -- commands that take all of their memory before they write
 abbrev pub TakesFirst : Command → Type 0
+TakesFirst Build = ⊤
+TakesFirst Header = ⊤
 TakesFirst Repair = ⊤
 TakesFirst (Light key count) = ⊤
 TakesFirst (Demo number k) = ⊤

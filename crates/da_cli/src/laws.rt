@@ -1,7 +1,7 @@
 //! What the relation of a run says of each kind of words and files.
 
-ghost use Rattle.std.specs.Prelude.{◌≡◌, ◌↔◌, ℕ, true, List, [], ◌∷◌, map, Ok, Some, None};
-ghost use Rattle.std.specs.List.{AllByRecursion};
+ghost use Rattle.std.specs.Prelude.{◌≡◌, ◌↔◌, ℕ, ◌+◌, true, List, [], ◌∷◌, length, map, Ok, Some, None};
+ghost use Rattle.std.specs.List.{AllByRecursion, filter};
 ghost use Rattle.namespace_id.specs.Bytes.{AreBytes};
 ghost use Rattle.namespace_id.specs.Shares.{AreShares};
 ghost use Rattle.square_layout.specs.Blocks.{BlockParts, SquareShares, IsSquare, IsBlock};
@@ -22,12 +22,14 @@ ghost use Rattle.da_wire.specs.Spelling.{spelling, IsFrame, sample_kind, request
 ghost use Rattle.da_wire.specs.Values.{values_bytes, bad_value};
 ghost use Rattle.da_wire.specs.Writing.{kind_of};
 ghost use Rattle.da_wire.specs.Reading.{Raw, is_among};
+ghost use Rattle.da_wire.specs.Frames.{frames_of};
 ghost use Rattle.da_cli.specs.declared.commands.check.Finding.TheVariants.{Proved};
 ghost use Rattle.da_cli.specs.declared.status.Status.{Status};
+ghost use Rattle.da_cli.specs.declared.status.Status.TheVariants.{Missing};
 ghost use Rattle.da_cli.specs.Limits.{file_limit};
 ghost use Rattle.da_cli.specs.commands.Frames.{header_in, square_in, block_in};
-ghost use Rattle.da_cli.specs.commands.Check.{finding_of, IsProvedFrame, IsOwnFrame};
-ghost use Rattle.da_cli.specs.commands.Repair.{Repairs, RepairsOwn};
+ghost use Rattle.da_cli.specs.commands.Check.{header_file, messages_file, finding_of, is_ok, IsProvedFrame, IsOwnFrame};
+ghost use Rattle.da_cli.specs.commands.Repair.{Repairs, RepairsOwn, RepairOf};
 ghost use Rattle.da_cli.specs.commands.Light.{Lights, JudgesOwn};
 ghost use Rattle.da_cli.specs.commands.Sample.{sample_frame, samples_in};
 ghost use Rattle.da_cli.specs.commands.Namespace.{namespaces_in};
@@ -82,6 +84,12 @@ pub fn run_laws()
         (status : Status) → AllByRecursion (λ raw. AreBytes raw.payload) frames →
         IsHeaderOf header square → Repairs header frames w status →
         RepairsOwn header frames square w status }
+
+    // The lies that a repair counts are the frames whose line of `check` isn't `ok`.
+    ensures lies { (files : List (List ℕ)) (header : Roots) (w : List ℕ) (cells lies : ℕ) →
+        header_in (header_file files) ≡ Ok header → RepairOf files w (Missing cells lies) →
+        lies + length (filter (λ frame. is_ok (finding_of header frame))
+        (frames_of (messages_file files))) ≡ length (frames_of (messages_file files)) }
 
     // Under the header of a square `light` writes no claim, or one of which a message and the square
     // name a collision.

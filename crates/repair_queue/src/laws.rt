@@ -134,6 +134,11 @@ pub fn verdict_laws()
         IsVerdict header ms (missing cells) → IsVerdict header ms (missing others) →
         cells ≡ others }
 
+    // Each cell of the square that isn't recoverable is listed among the missing ones.
+    ensures listed { (header : Roots) (ms : List Message) (cells : CellList) (cell : Cell) →
+        IsVerdict header ms (missing cells) → is_in_square header.k cell ≡ true →
+        (Half header ms cell → ⊥) → Contains cells.list cell }
+
     // Where no message is proved, all cells are missing, whatever the header.
     ensures nothing { (header : Roots) (ms : List Message) → is_width header.k ≡ true →
         ((m : Message) → Contains ms m → IsProved header m → ⊥) →

@@ -3,6 +3,7 @@ pub mod PlaceLemmas
 pub mod WalkLemmas
 pub mod RefusalLemmas
 pub mod EachLemmas
+pub mod ColumnLemmas
 pub mod CompleteLemmas
 pub mod EntryLemmas
 pub mod FoundLemmas

@@ -52,6 +52,16 @@ abbrev pub is_placed : ℕ → Found → Bool
 is_placed k (Range start shares nodes) = nat_lt 0 (length shares) && not (nat_lt k (start + length shares))
 is_placed k (Absence pos leaf nodes) = nat_lt pos k
 
+-- the first column that is taken by what is found
+abbrev pub first_column : Found → ℕ
+first_column (Range start shares nodes) = start
+first_column (Absence pos leaf nodes) = pos
+
+-- the column behind the last one that is
+abbrev pub end_column : Found → ℕ
+end_column (Range start shares nodes) = start + length shares
+end_column (Absence pos leaf nodes) = suc pos
+
 -- ---- its openings
 
 -- what is found in a row opens under the row's root, and leaves no other place for the namespace

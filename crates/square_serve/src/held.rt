@@ -309,7 +309,10 @@ impl Held {
 #[cfg(test)]
 mod tests {
     use super::*;
+    use crate::{NsRefusal, check_namespace};
     use axis_roots::opens;
+    use nmt_proofs::{Nodes, OpenRefusal};
+    use nmt_tree::leaf;
     use std::test::Fail;
 
     /// The namespace of version 0 that ends in this byte.
@@ -367,6 +370,68 @@ mod tests {
         let cell = Cell { row: 1, col: 2 };
         let sample = held.sample(cell, Axis::Col)?;
         assert!(rt; opens(held.header(), &sample).is_ok());
+        Ok(())
+    }
+
+    /// The nodes beside a cell of row 0 and beside the pair that it stands in; the first alone, or both.
+    fn nodes_beside(held: &Held, col: u16, both: bool) -> Result<Nodes, Fail> {
+        let message = held.sample(Cell { row: 0, col }, Axis::Row)?;
+        let path = message.path.nodes();
+        let mut nodes = Nodes::new();
+        if path.len() == 2 {
+            nodes.push(path[0]);
+            if both {
+                nodes.push(path[1]);
+            }
+        }
+        Ok(nodes)
+    }
+
+    /// Why an answer for namespace 3 of what is found in row 0 alone isn't complete.
+    fn refusal(alloc: Global, held: &Held, found: Found) -> Result<Option<NsRefusal>, Fail> {
+        let entries = vec![in alloc; NsEntry { row: 0, found }]?;
+        Ok(check_namespace(held.header(), &name_of(3), &NsAnswer { entries }).err())
+    }
+
+    #[test]
+    fn one_of_two_shares(rt: HostRuntime) -> Result<(), Fail> {
+        let alloc = rt.alloc();
+        let held = Held::of(alloc, square(alloc, [3, 3, 5, 7])?)?;
+        for col in 0..2 {
+            let list = vec![in alloc; share(3)]?;
+            let nodes = nodes_beside(&held, col, true)?;
+            let found = Found::Range {
+                start: col,
+                shares: ShareList { list },
+                nodes,
+            };
+            let want = NsRefusal::Proof(0, OpenRefusal::Incomplete(0));
+            assert_eq!(rt; refusal(alloc, &held, found)?, Some(want), "column {col}");
+        }
+        Ok(())
+    }
+
+    #[test]
+    fn absences_at_other_places(rt: HostRuntime) -> Result<(), Fail> {
+        let alloc = rt.alloc();
+        let held = Held::of(alloc, square(alloc, [1, 4, 5, 7])?)?;
+        let cases = [
+            ("as it is", 1, true, None),
+            ("position 0", 0, true, Some(OpenRefusal::Unordered)),
+            ("a node too few", 1, false, Some(OpenRefusal::NodeCount)),
+        ];
+        for (name, pos, both, why) in cases {
+            let found = Found::Absence {
+                pos,
+                leaf: leaf(&name_of(4), &share(4)),
+                nodes: nodes_beside(&held, 1, both)?,
+            };
+            let want = why.map(|why| NsRefusal::Proof(0, why));
+            assert_eq!(rt; refusal(alloc, &held, found)?, want, "{name}");
+        }
+        let entries = Vec::new(alloc);
+        let got = check_namespace(held.header(), &name_of(3), &NsAnswer { entries });
+        assert_eq!(rt; got, Err(NsRefusal::Rows(0)), "no entry");
         Ok(())
     }
 

@@ -1,6 +1,7 @@
 //! What is proved of answers to namespace requests.
 
-ghost use Rattle.std.specs.Prelude.{◌≡◌, ◌⊎◌, ◌↔◌, ℕ, List, None, true, false};
+ghost use Rattle.std.specs.Prelude.{◌≡◌, ◌<◌, ◌≤◌, ◌⊎◌, ◌↔◌, ℕ, List, None, true, false};
+ghost use Rattle.std.specs.List.{Contains};
 ghost use Rattle.namespace_id.specs.declared.cells.Cell.{Cell};
 ghost use Rattle.namespace_id.specs.declared.cells.Axis.{Axis};
 ghost use Rattle.namespace_id.specs.declared.namespaces.Namespace.{Namespace};
@@ -14,7 +15,7 @@ ghost use Rattle.axis_roots.specs.Grids.{IsHeaderOf};
 ghost use Rattle.axis_roots.specs.Openings.{IsProved};
 ghost use Rattle.axis_roots.specs.Trees.{message_at};
 ghost use Rattle.square_serve.specs.Shares.{shares_of};
-ghost use Rattle.square_serve.specs.Answers.{shown, IsComplete, answer_refusal};
+ghost use Rattle.square_serve.specs.Answers.{shown, first_column, end_column, IsComplete, answer_refusal};
 ghost use Rattle.square_serve.specs.Own.{ShowsAll, AnswerNames, IsOwnAnswer};
 ghost use Rattle.square_serve.specs.Serving.{HeldParts, IsHeld, Holds, answer_for};
 
@@ -23,6 +24,13 @@ pub fn answer_laws()
     // An answer is complete exactly where no check fails.
     ensures refusal { (header : Roots) (name : Namespace) (answer : List NsEntry) →
         (answer_refusal header name answer ≡ None) ↔ IsComplete header name answer }
+
+    // Each entry of a complete answer takes a column or more, all of them of the original square,
+    // whatever the header.
+    ensures columns { (header : Roots) (name : Namespace) (answer : List NsEntry) (entry : NsEntry) →
+        IsComplete header name answer → Contains answer entry →
+        (first_column entry.found < end_column entry.found)
+        × (end_column entry.found ≤ header.k) }
 
     // Under the header of a square a complete answer shows just the square's shares of the namespace, or
     // an entry and the square name a collision.

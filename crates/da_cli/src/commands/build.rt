@@ -5,7 +5,7 @@ ghost use Rattle.da_cli.specs.declared.commands.Command.TheVariants as CommandOf
 ghost use Rattle.da_cli.specs.Gathered.{contents_of};
 ghost use Rattle.da_cli.specs.commands.Build.{Builds};
 ghost use Rattle.da_cli.specs.Meaning.{Meaning};
-ghost use Rattle.da_cli.specs.Outcome.{Ends};
+ghost use Rattle.da_cli.specs.Outcome.{EndsAtOnce};
 
 use crate::Status;
 use crate::commands::frames::{Unread, block_in, give, square_frame};
@@ -17,9 +17,9 @@ use std::alloc::Global;
 /// The place of the file among the words that name files.
 const BLOCK: u32 = 0;
 
-/// Writes the square of a block.
+/// Writes the square of a block. All memory is taken before the write.
 fn build_square<O: Sink>(alloc: Global, block: &Block, out: &mut O) -> Status
-    ensures { Ends (Builds block.now) (O.taken out.old) (O.taken out.new) (O.faults out.old)
+    ensures { EndsAtOnce (Builds block.now) (O.taken out.old) (O.taken out.new) (O.faults out.old)
         (O.faults out.new) (out.new ≡ out.old) result }
 {
     match lay(alloc, block) {
@@ -31,8 +31,8 @@ fn build_square<O: Sink>(alloc: Global, block: &Block, out: &mut O) -> Status
 
 /// Lays out the block in BLOCK.
 pub(crate) fn execute<O: Sink>(alloc: Global, files: &[Vec<u8>], out: &mut O) -> Status
-    ensures { Ends (Meaning CommandOf.Build (contents_of files.now)) (O.taken out.old) (O.taken out.new)
-        (O.faults out.old) (O.faults out.new) (out.new ≡ out.old) result }
+    ensures { EndsAtOnce (Meaning CommandOf.Build (contents_of files.now)) (O.taken out.old)
+        (O.taken out.new) (O.faults out.old) (O.faults out.new) (out.new ≡ out.old) result }
 {
     match block_in(alloc, file(files, BLOCK)) {
         Ok(block) => build_square(alloc, &block, out),

@@ -7,7 +7,7 @@ ghost use Rattle.da_cli.specs.declared.commands.Command.TheVariants as CommandOf
 ghost use Rattle.da_cli.specs.Gathered.{contents_of};
 ghost use Rattle.da_cli.specs.commands.Header.{Heads};
 ghost use Rattle.da_cli.specs.Meaning.{Meaning};
-ghost use Rattle.da_cli.specs.Outcome.{Ends};
+ghost use Rattle.da_cli.specs.Outcome.{EndsAtOnce};
 
 use crate::commands::frames::{Unread, give, square_in};
 use crate::gathering::file;
@@ -35,9 +35,9 @@ fn header_frame(header: Header) -> Frame
     Frame::Header(header)
 }
 
-/// Writes the header of a square, if it has one.
+/// Writes the header of a square, if it has one. All memory is taken before the write.
 fn give_header<O: Sink>(alloc: Global, square: &Square, out: &mut O) -> Status
-    ensures { Ends (Heads square.now) (O.taken out.old) (O.taken out.new) (O.faults out.old)
+    ensures { EndsAtOnce (Heads square.now) (O.taken out.old) (O.taken out.new) (O.faults out.old)
         (O.faults out.new) (out.new ≡ out.old) result }
 {
     grid_laws();
@@ -54,8 +54,8 @@ fn give_header<O: Sink>(alloc: Global, square: &Square, out: &mut O) -> Status
 
 /// Computes the header of the square in SQUARE.
 pub(crate) fn execute<O: Sink>(alloc: Global, files: &[Vec<u8>], out: &mut O) -> Status
-    ensures { Ends (Meaning CommandOf.Header (contents_of files.now)) (O.taken out.old) (O.taken out.new)
-        (O.faults out.old) (O.faults out.new) (out.new ≡ out.old) result }
+    ensures { EndsAtOnce (Meaning CommandOf.Header (contents_of files.now)) (O.taken out.old)
+        (O.taken out.new) (O.faults out.old) (O.faults out.new) (out.new ≡ out.old) result }
 {
     match square_in(alloc, file(files, SQUARE)) {
         Ok(square) => give_header(alloc, &square, out),

@@ -1,6 +1,7 @@
 -- Facts of each element of a list.
-use Rattle.std.proofs.Common.{◌⊎◌, suc, List, [], ◌∷◌, refl, inl, inr, arith}
+use Rattle.std.proofs.Common.{◌≡◌, ◌⊎◌, suc, List, [], ◌∷◌, refl, inl, inr, arith, subst, ⊎_elim}
 use Rattle.std.specs.List.{AllByRecursion, Contains}
+use Rattle.namespace_id.proofs.MemberLemmas.{contains_cons, contains_none}
 
 -- a fact of each element follows from another
 pub each_then : {A : Type 0} (P R : A → Type 0) → ((x : A) → P x → R x) → (xs : List A) → AllByRecursion P xs → AllByRecursion R xs
@@ -28,3 +29,9 @@ each_or_one P Q (x ∷ xs) h = elim h.0 [
   ]
   | inr q ↦ inr (x, (0, omega arith, refl), q)
 ]
+
+-- a fact of each element holds of one
+pub each_of : {A : Type 0} (P : A → Type 0) (xs : List A) (x : A) → AllByRecursion P xs → Contains xs x → P x
+each_of P [] x h at = absurd (contains_none x at)
+each_of P (y ∷ ys) x h at =
+    ⊎_elim (λ (same : y ≡ x). subst P same h.0) (λ later. each_of P ys x h.1 later) (contains_cons y x ys at)

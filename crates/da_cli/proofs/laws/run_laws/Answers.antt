@@ -12,6 +12,7 @@ use Rattle.da_cli.proofs.FileLemmas.{header_file, square_file, block_file, answe
 use Rattle.da_cli.proofs.RunLemmas.{form_law, bad_input_law, excess_law, absent_law, failure_law}
 use Rattle.da_cli.proofs.CheckLemmas.{finding_proved, finding_own}
 use Rattle.da_cli.proofs.RepairLemmas.{repairs_own}
+use Rattle.da_cli.proofs.CountedLies.{lies_counted}
 use Rattle.da_cli.proofs.LightLemmas.{lights_own}
 use Rattle.da_cli.proofs.VerifyLemmas.{verified_proved, verified_complete, verified_accepted, verified_own}
 use Rattle.da_cli.proofs.laws.run_laws.Goals as goal
@@ -51,6 +52,9 @@ returns-clause-own_answer c =
 
 pub returns-clause-own_repair : goal.returns-clause-own_repair
 returns-clause-own_repair c = repairs_own c.wire_laws.ensures.message_spelled c.verdict_laws.ensures.own
+
+pub returns-clause-lies : goal.returns-clause-lies
+returns-clause-lies c = lies_counted
 
 pub returns-clause-own_light : goal.returns-clause-own_light
 returns-clause-own_light c = lights_own c.claim_laws.ensures.own

@@ -21,6 +21,9 @@ returns-clause-one_square c = one_square
 pub returns-clause-one_missing : goal.returns-clause-one_missing
 returns-clause-one_missing c = one_missing
 
+pub returns-clause-listed : goal.returns-clause-listed
+returns-clause-listed c = λ header ms cells cell m inside out. (m.missing cell).1 (inside, out)
+
 pub returns-clause-some_square : goal.returns-clause-some_square
 returns-clause-some_square c = whole_there
 

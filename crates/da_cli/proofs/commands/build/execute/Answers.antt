@@ -4,12 +4,12 @@ use Rattle.da_cli.specs.Gathered.{contents_of}
 use Rattle.da_cli.specs.commands.Frames.{block_in}
 use Rattle.da_cli.specs.commands.Build.{Builds}
 use Rattle.da_cli.specs.Meaning.{Meaning}
-use Rattle.da_cli.proofs.EndLemmas.{ends_as}
+use Rattle.da_cli.proofs.EndLemmas.{once_as}
 use Rattle.da_cli.proofs.BuildLemmas.{build_is}
 use Rattle.da_cli.proofs.commands.build.execute.Goals as goal
 
 -- the file is the block that was read
 pub returns-in-Ok : goal.returns-in-Ok
 returns-in-Ok g c =
-    ends_as (Builds c.in-Ok.block) (Meaning Build (contents_of c.args.files.now)) _ _ _ _ _ _
+    once_as (Builds c.in-Ok.block) (Meaning Build (contents_of c.args.files.now)) _ _ _ _ _ _
     (build_is (contents_of c.args.files.now) c.in-Ok.block (ap block_in (sym c.file.ensures) ∙ c.in-Ok.ensures)) c.build_square.ensures

@@ -4,12 +4,12 @@ use Rattle.da_cli.specs.Gathered.{contents_of}
 use Rattle.da_cli.specs.commands.Frames.{square_in}
 use Rattle.da_cli.specs.commands.Header.{Heads}
 use Rattle.da_cli.specs.Meaning.{Meaning}
-use Rattle.da_cli.proofs.EndLemmas.{ends_as}
+use Rattle.da_cli.proofs.EndLemmas.{once_as}
 use Rattle.da_cli.proofs.HeaderLemmas.{header_is}
 use Rattle.da_cli.proofs.commands.header.execute.Goals as goal
 
 -- the file is the square that was read
 pub returns-in-Ok : goal.returns-in-Ok
 returns-in-Ok g c =
-    ends_as (Heads c.in-Ok.square) (Meaning Header (contents_of c.args.files.now)) _ _ _ _ _ _
+    once_as (Heads c.in-Ok.square) (Meaning Header (contents_of c.args.files.now)) _ _ _ _ _ _
     (header_is (contents_of c.args.files.now) c.in-Ok.square (ap square_in (sym c.file.ensures) ∙ c.in-Ok.ensures)) c.give_header.ensures
