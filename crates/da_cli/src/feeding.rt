@@ -96,12 +96,7 @@ fn feed_frame(
 
 /// Feeds a session with the proved samples of the frames that end in a piece. Answers how many of the
 /// frames are lies.
-fn feed_piece(
-    header: &Header,
-    session: &mut Session,
-    stream: &mut FrameStream,
-    piece: &[u8],
-) -> u64
+fn feed_piece(header: &Header, session: &mut Session, stream: &mut FrameStream, piece: &[u8]) -> u64
     requires session { IsHeldSession session.old }
     requires under { session.old.header ≡ header.now }
     requires count { stream.old.taken + length piece.now < 2 ^ 64 }

@@ -13,8 +13,8 @@ ghost use Rattle.da_cli.specs.Ran.{Ran};
 ghost use Rattle.da_cli.specs.Run.{IsEarly, status_of, LeavesTold, Completes};
 
 use crate::Status;
-use crate::commands::{Command, execute};
 use crate::commands::streamed::stream;
+use crate::commands::{Command, execute};
 use crate::gathering::{Stop, gather};
 use crate::laws::run_laws;
 use crate::notes::note;

@@ -86,10 +86,19 @@ fn samples_that_are_fed(rt: HostRuntime) -> Result<(), Fail> {
     let open = SessionState::Open;
     let fraud = SessionState::Fraud;
     assert_eq!(rt; answered(alloc, &header, b"", 0, 99)?, (Ok(0), open));
-    assert_eq!(rt; answered(alloc, &header, &lies, 10_000, 999)?, (Ok(6), open));
-    assert_eq!(rt; answered(alloc, &header, &proved, 1_000, 999)?, (Ok(0), fraud));
+    assert_eq!(rt;
+        answered(alloc, &header, &lies, 10_000, 999)?,
+        (Ok(6), open)
+    );
+    assert_eq!(rt;
+        answered(alloc, &header, &proved, 1_000, 999)?,
+        (Ok(0), fraud)
+    );
     lies.extend_from_slice(&proved)?;
-    assert_eq!(rt; answered(alloc, &header, &lies, 10_000, 999)?, (Ok(6), fraud));
+    assert_eq!(rt;
+        answered(alloc, &header, &lies, 10_000, 999)?,
+        (Ok(6), fraud)
+    );
     Ok(())
 }
 
