@@ -1,9 +1,10 @@
-mod EventLemmas
+pub mod EventLemmas
 mod LawLemmas
 mod ListLemmas
-mod DistinctLemmas
+pub mod DistinctLemmas
 mod FailingLemmas
 mod MarkLemmas
 mod StateLemmas
 mod StepLemmas
 mod PickLemmas
+pub mod StandingLemmas

@@ -1,15 +1,19 @@
 //! The laws of light verdicts.
 
-ghost use Rattle.std.specs.Prelude.{◌≡◌, ◌↔◌, ◌++◌, List, Some};
+ghost use Rattle.std.specs.Prelude.{◌≡◌, ◌↔◌, ◌++◌, [], ◌∷◌, List, Some};
 ghost use Rattle.std.specs.List.{Contains};
 ghost use Rattle.namespace_id.specs.declared.cells.Cell.{Cell};
 ghost use Rattle.data_header.specs.Headers.{Roots};
-ghost use Rattle.axis_roots.specs.Claims.{ClaimParts};
+ghost use Rattle.axis_roots.specs.Claims.{ClaimParts, Accepts};
 ghost use Rattle.light_node.specs.declared.events.Event.{Event};
+ghost use Rattle.light_node.specs.declared.events.Event.TheVariants.{Claim};
 ghost use Rattle.light_node.specs.declared.events.LightState.{LightState};
 ghost use Rattle.light_node.specs.declared.events.LightState.TheVariants as state;
 ghost use Rattle.light_node.specs.declared.events.Light.{Light};
 ghost use Rattle.light_node.specs.Events.{IsFirstAccepted, IsState, IsLight, state_of};
+ghost use Rattle.light_node.specs.Nodes.{NodeParts, StandsFor, distinct};
+
+use crate::Picker;
 
 /// The laws of light verdicts. It does nothing.
 pub fn light_laws()
@@ -38,4 +42,22 @@ pub fn light_laws()
     ensures kept { (header : Roots) (events later : List Event) (claim : ClaimParts) →
         IsFirstAccepted header events (Some claim) →
         IsFirstAccepted header (events ++ later) (Some claim) }
+
+    // The state by a plan is that by its distinct cells.
+    ensures distinct { (header : Roots) (plan : List Cell) (events : List Event)
+        (one : LightState) →
+        IsState header plan events one ↔ IsState header (distinct plan) events one }
+{}
+
+/// The laws of a node and the events for which it stands. It does nothing.
+pub fn node_laws<F: Picker>()
+    // A node that stands for events stands for them with a claim behind that isn't accepted, and,
+    // where it keeps a claim, with any other behind.
+    ensures refused { (node : NodeParts F) (plan : List Cell) (events : List Event)
+        (claim : ClaimParts) → StandsFor F.picks node plan events →
+        (Accepts node.header claim → ⊥) →
+        StandsFor F.picks node plan (events ++ Claim claim ∷ []) }
+    ensures later { (node : NodeParts F) (plan : List Cell) (events : List Event)
+        (claim first : ClaimParts) → StandsFor F.picks node plan events →
+        node.claim ≡ Some first → StandsFor F.picks node plan (events ++ Claim claim ∷ []) }
 {}

@@ -16,6 +16,6 @@ mod tests;
 mod wanted;
 
 pub use events::{Event, Light, LightState};
-pub use laws::light_laws;
+pub use laws::{light_laws, node_laws};
 pub use nodes::LightNode;
 pub use picking::Picker;

@@ -1,5 +1,5 @@
 -- What is kept where each half-known row and column is decided: it settles the messages, and known cells are the recoverable ones.
-use Rattle.std.proofs.Common.{◌≡◌, ℕ, List, true, refl, sym, subst, inl, inr}
+use Rattle.std.proofs.Common.{◌≡◌, ℕ, List, true, false, refl, sym, subst, inl, inr}
 use Rattle.std.proofs.lemmas.Bool.{cases_Bool}
 use Rattle.namespace_id.specs.declared.cells.Cell.{Cell}
 use Rattle.namespace_id.specs.declared.cells.Axis.{Axis}
@@ -31,21 +31,24 @@ module _ (header : Roots) (ms : List Message) (slot : Kept) (flag : Flags) (shar
       subst (λ (c : Cell). Fact header ms c (shares c)) (cell_on-own one.0 cell)
       (stand.facts one.0 (index one.0 cell) (position one.0 cell) (index-lt header.k one.0 cell inside) (position-lt header.k one.0 cell inside) one.1)
 
-  -- the share that a kept message shows is one
-  pub shown_fact : (axis : Axis) (cell : Cell) (share : Share) → Shows (slot axis cell) share → Fact header ms cell share
-  shown_fact axis cell share shows =
+  -- the share that a kept message shows of a cell on none is one
+  pub shown_fact : (axis : Axis) (cell : Cell) (share : Share) → is_lined flag cell ≡ false → Shows (slot axis cell) share → Fact header ms cell share
+  shown_fact axis cell share off shows =
       let slotted : IsSlotted header axis cell shows.kept = sound.slotted axis cell shows.kept shows.held in
       subst (Fact header ms cell) shows.share_is
       (subst (λ (c : Cell). Fact header ms c (kept_message shows.kept).share) slotted.cell_is
-      (shown (kept_message shows.kept) (stand.fed axis cell shows.kept shows.held) (under_proved header shows.kept slotted.under)))
+      (shown (kept_message shows.kept) (stand.fed axis cell shows.kept off shows.held) (under_proved header shows.kept slotted.under)))
 
   -- known cells are recoverable
   pub found_half : (cell : Cell) → is_in_square header.k cell ≡ true → is_found slot flag cell ≡ true → Half header ms cell
-  found_half cell inside is = elim (found_how slot flag cell is) [
+  found_half cell inside is = elim (cases_Bool (is_lined flag cell)) [
     | inl on ↦ fact_half header ms cell (shares cell) (lined_fact cell inside on)
-    | inr (axis, kept, held) ↦
-        fact_half header ms cell (kept_message kept).share
-        (shown_fact axis cell (kept_message kept).share (record { kept = kept; held = held; share_is = refl }))
+    | inr off ↦ elim (found_how slot flag cell is) [
+      | inl on ↦ fact_half header ms cell (shares cell) (lined_fact cell inside on)
+      | inr (axis, kept, held) ↦
+          fact_half header ms cell (kept_message kept).share
+          (shown_fact axis cell (kept_message kept).share off (record { kept = kept; held = held; share_is = refl }))
+    ]
   ]
 
   module _ (rest : AreAtRest header.k slot flag) where

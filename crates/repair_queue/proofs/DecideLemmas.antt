@@ -21,7 +21,7 @@ use Rattle.repair_queue.specs.declared.ending.Ended.{Ended}
 use Rattle.repair_queue.specs.Closures.{AreChosen, Fact, rebuilt}
 use Rattle.repair_queue.specs.Slots.{Kept, Flags}
 use Rattle.repair_queue.specs.Lines.{AreFacts}
-use Rattle.repair_queue.specs.Boards.{Shared, is_lined, is_found, first_share, found_share, given_of, decided_of, share_of, IsSound, Stands, StandsFor}
+use Rattle.repair_queue.specs.Boards.{Shared, is_lined, is_found, first_share, found_share, given_of, decided_of, share_of, IsSound, Stands, HoldsFor}
 use Rattle.repair_queue.specs.Judging.{IsAlikeAt, IsApartAt, IsApartOrAlike}
 use Rattle.repair_queue.specs.Tools.{AreGathered}
 use Rattle.repair_queue.specs.Moves.{SettlesLine, DecidesLine}
@@ -55,12 +55,12 @@ module _ (header : Roots) (ms : List Message) (slot : Kept) (flag : Flags) (shar
         (elim (one_or_none (slot Row cell)) [
           | inl (kept, e) ↦
               subst (λ (s : Option Proved). Fact header ms cell (first_share s (slot Col cell))) (sym e)
-              (shown_fact header ms slot flag shares sound stand Row cell (kept_message kept).share (record { kept = kept; held = e; share_is = refl }))
+              (shown_fact header ms slot flag shares sound stand Row cell (kept_message kept).share off (record { kept = kept; held = e; share_is = refl }))
           | inr none ↦ elim (one_or_none (slot Col cell)) [
             | inl (kept, e) ↦
                 subst (λ (s : Option Proved). Fact header ms cell (first_share s (slot Col cell))) (sym none)
                 (subst (λ (s : Option Proved). Fact header ms cell (first_share None s)) (sym e)
-                (shown_fact header ms slot flag shares sound stand Col cell (kept_message kept).share (record { kept = kept; held = e; share_is = refl })))
+                (shown_fact header ms slot flag shares sound stand Col cell (kept_message kept).share off (record { kept = kept; held = e; share_is = refl })))
             | inr empty ↦ elim (found_how slot flag cell found) [
               | inl on ↦ absurd (let e : true ≡ false = sym on ∙ off in cc)
               | inr (Row, kept, e) ↦ let no : None ≡ Some kept = sym none ∙ e in absurd cc
@@ -90,6 +90,6 @@ module _ (header : Roots) (ms : List Message) (slot : Kept) (flag : Flags) (shar
 
 -- what settles a row or column of facts decides it
 pub settles_decides : (header : Roots) (s t : Board) (tools : Tools) (axis : Axis) (i : ℕ) (line : List Share) (result : Option Ended)
-    → ((ms : List Message) → StandsFor header ms s → AreFacts header ms axis i line) → SettlesLine header s t tools axis i line result → DecidesLine header s t tools result
+    → ((ms : List Message) → HoldsFor header ms s → AreFacts header ms axis i line) → SettlesLine header s t tools axis i line result → DecidesLine header s t tools result
 settles_decides header s t tools axis i line None facts settles = (settles.0, settles.1, λ ms stand. settles.2 ms (facts ms stand) stand)
 settles_decides header s t tools axis i line (Some ended) facts settles = λ ms stand. settles ms (facts ms stand) stand

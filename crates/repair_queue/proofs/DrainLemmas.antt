@@ -10,7 +10,7 @@ use Rattle.repair_queue.specs.declared.counts.Counts.{Counts}
 use Rattle.repair_queue.specs.declared.tools.Tools.{Tools}
 use Rattle.repair_queue.specs.declared.ending.Ended.{Ended}
 use Rattle.repair_queue.specs.Counts.{Numbers, count_of, pending, AreCounts}
-use Rattle.repair_queue.specs.Boards.{given_of, decided_of, AreCounted, AreWaiting, AreAtRest, IsGood, StandsFor}
+use Rattle.repair_queue.specs.Boards.{given_of, decided_of, AreCounted, AreWaiting, AreAtRest, IsGood, HoldsFor}
 use Rattle.repair_queue.specs.Tools.{AreTools}
 use Rattle.repair_queue.specs.Moves.{IsKeptOn, TakesMessage, DecidesLine, Drains, Steps}
 use Rattle.namespace_id.proofs.MemberLemmas.{contains_cons}
@@ -23,13 +23,13 @@ none_is (Some y) b test is = absurd (let e : true ≡ false = sym test ∙ is in
 
 -- what ends deciding ends all
 pub ends_drains : (header : Roots) (s mid t : Board) (tools : Tools) (result : Option Ended) (b : Bool) → b ≡ is_some result → b ≡ true
-    → ((ms : List Message) → StandsFor header ms s → StandsFor header ms mid) → DecidesLine header mid t tools result → Drains header s t tools result
+    → ((ms : List Message) → HoldsFor header ms s → HoldsFor header ms mid) → DecidesLine header mid t tools result → Drains header s t tools result
 ends_drains header s mid t tools (Some ended) b test is holds decides = λ ms stand. decides ms (holds ms stand)
 ends_drains header s mid t tools None b test is holds decides = absurd (let e : false ≡ true = sym test ∙ is in cc)
 
 -- a row or column that was decided
 pub decided_none : (header : Roots) (s t : Board) (tools : Tools) (result : Option Ended) (b : Bool) → b ≡ is_some result → b ≡ false → DecidesLine header s t tools result
-    → IsGood header t × AreTools header.k tools × ((ms : List Message) → StandsFor header ms s → StandsFor header ms t)
+    → IsGood header t × AreTools header.k tools × ((ms : List Message) → HoldsFor header ms s → HoldsFor header ms t)
 decided_none header s t tools None b test is decides = decides
 decided_none header s t tools (Some ended) b test is decides = absurd (let e : true ≡ false = sym test ∙ is in cc)
 

@@ -28,9 +28,10 @@ use Rattle.repair_queue.specs.Verdicts.{VerdictParts, IsWhole, IsMissing, IsVerd
 use Rattle.repair_queue.specs.Repairs.{IsEnd}
 use Rattle.repair_queue.specs.Answers.{parts_of, EndsAs}
 use Rattle.repair_queue.specs.Slots.{Kept, Flags}
-use Rattle.repair_queue.specs.Boards.{given_of, decided_of, share_of, is_found, IsGood, AreAtRest, StandsFor}
-use Rattle.repair_queue.specs.OpenBoards.{IsOpenBoard}
-use Rattle.repair_queue.specs.Sessions.{KeepsFor, state_of, AreLeft, AreNotFound, AreOriginals}
+use Rattle.repair_queue.specs.Boards.{given_of, decided_of, share_of, is_found, IsGood, AreAtRest, HoldsFor}
+use Rattle.repair_queue.specs.OpenBoards.{IsOpenBoard, KeepsFor}
+use Rattle.repair_queue.specs.Views.{end_of}
+use Rattle.repair_queue.specs.Sessions.{state_by, AreLeft, AreNotFound, AreOriginals}
 use Rattle.repair_queue.proofs.CountedLemmas.{nothing_found}
 use Rattle.repair_queue.proofs.LinedLemmas.{lined_by}
 use Rattle.repair_queue.proofs.AtRestLemmas.{lined_fact, found_half, half_found, decided_set, rest_settled}
@@ -58,7 +59,7 @@ some_in [] test is f e = true≢false (sym is ∙ f)
 some_in (x ∷ xs) test is f e = cc
 
 module _ (header : Roots) (b : Board) (good : IsGood header b) (rest : AreAtRest header.k (given_of b) (decided_of b)) (ms : List Message)
-    (stand : StandsFor header ms b) where
+    (stand : HoldsFor header ms b) where
   -- the messages are settled
   pub open_settled : IsSettled header ms
   open_settled = rest_settled header ms (given_of b) (decided_of b) (share_of b) good.sound stand rest
@@ -128,15 +129,15 @@ module _ (header : Roots) (b : Board) (good : IsGood header b) (rest : AreAtRest
         (originals.are cell (subst (λ (k : ℕ). is_original k cell ≡ true) good.width within))))
         (original_fact cell within))
 
--- the messages of a session that nothing ended are settled
-pub held_settled : (header : Roots) (b : Board) (tools : Tools) (end : Option Ended) → IsOpenBoard header b tools end → state_of end ≡ state.Open
-    → (ms : List Message) → KeepsFor header ms b end → IsSettled header ms
-held_settled header b tools None held is ms stand = open_settled header b held.0 held.2 ms stand
-held_settled header b tools (Some (ended.Fraud proof)) held is ms stand = absurd cc
-held_settled header b tools (Some (ended.Clash clash)) held is ms stand = absurd cc
+-- a list of the unknown cells of a session that nothing ended is for the header's width
+pub left_width : (header : Roots) (b : Board) (tools : Tools) (end : Option Ended) → IsOpenBoard header b tools end → state_by (end_of end) ≡ state.Open
+    → (cells : CellList) → AreNotFound b cells → cells.k ≡ header.k
+left_width header b tools None held is cells are = are.width ∙ sym held.0.width
+left_width header b tools (Some (ended.Fraud proof)) held is cells are = absurd cc
+left_width header b tools (Some (ended.Clash clash)) held is cells are = absurd cc
 
--- and the unknown cells are those that aren't recoverable
-pub held_left : (header : Roots) (b : Board) (tools : Tools) (end : Option Ended) → IsOpenBoard header b tools end → state_of end ≡ state.Open
+-- and these cells are those that aren't recoverable
+pub held_left : (header : Roots) (b : Board) (tools : Tools) (end : Option Ended) → IsOpenBoard header b tools end → state_by (end_of end) ≡ state.Open
     → (cells : CellList) → AreNotFound b cells → (ms : List Message) → KeepsFor header ms b end → AreLeft header ms cells
 held_left header b tools None held is cells are ms stand = left_over header b held.0 held.2 ms stand cells are
 held_left header b tools (Some (ended.Fraud proof)) held is cells are ms stand = absurd cc

@@ -46,7 +46,7 @@ clash_grows header ms others left right covers c = record {
 }
 
 -- with the same proved messages a list is settled too
-settled_same : (header : Roots) (ms others : List Message) → Covers header ms others → Covers header others ms → IsSettled header ms → IsSettled header others
+pub settled_same : (header : Roots) (ms others : List Message) → Covers header ms others → Covers header others ms → IsSettled header ms → IsSettled header others
 settled_same header ms others to from settled axis i d =
     let there : IsDecided header ms axis i = record {
       within = d.within;

@@ -122,7 +122,7 @@ module _ (header : Roots) (slot : Kept) (flag raised : Flags) (before after : Sh
     -- so it stands for the same messages
     pub keeping_stands : Stands header ms slot raised after
     keeping_stands = record {
-      fed = stand.fed;
+      fed = λ other cell kept off. stand.fed other cell kept (lined_was flag raised axis i x.flagged cell off);
       facts = facts_now;
       lined = λ m at proved on. elim (cases_eq (index axis m.cell) i) [
         | inl e ↦ written_here m.cell proved.inside e ∙ lined_here m at proved e

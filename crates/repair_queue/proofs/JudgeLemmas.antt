@@ -19,7 +19,7 @@ use Rattle.repair_queue.specs.declared.boards.Board.{Board}
 use Rattle.repair_queue.specs.Closures.{Fact}
 use Rattle.repair_queue.specs.Slots.{Kept, Flags, IsKnown, IsEmptied}
 use Rattle.repair_queue.specs.Pools.{AreAtHome}
-use Rattle.repair_queue.specs.Boards.{Shared, is_lined, is_found, first_share, found_share, given_of, decided_of, share_of, IsSound, StandsFor}
+use Rattle.repair_queue.specs.Boards.{Shared, is_lined, is_found, first_share, found_share, given_of, decided_of, share_of, IsSound, HoldsFor}
 use Rattle.repair_queue.specs.Judging.{IsReadable, IsOtherMessage}
 use Rattle.repair_queue.specs.Moves.{IsMessageAt}
 use Rattle.repair_queue.proofs.PlaceLemmas.{same_slot}
@@ -74,10 +74,10 @@ pub emptied_others : (old new : Kept) (axis : Axis) (cell : Cell) → IsEmptied 
 emptied_others old new axis cell emptied other d apart = emptied.elsewhere other d (λ x. apart x.1)
 
 -- another message that was taken
-pub other_taken : (header : Roots) (b : Board) (cell : Cell) (share : Share) (kept : Proved) → IsReadable header b → (axis : Axis) × (given_of b axis cell ≡ Some kept)
-    → (kept_message kept).share ≢ share → IsOtherMessage header b cell share kept
-other_taken header b cell share kept readable held apart =
-    let s = readable.sound.slotted held.0 cell kept held.1 in record { under = s.under; cell_is = s.cell_is; other = apart; known = inl held }
+pub other_taken : (header : Roots) (b : Board) (cell : Cell) (share : Share) (kept : Proved) → IsReadable header b → is_lined (decided_of b) cell ≡ false
+    → (axis : Axis) × (given_of b axis cell ≡ Some kept) → (kept_message kept).share ≢ share → IsOtherMessage header b cell share kept
+other_taken header b cell share kept readable off held apart =
+    let s = readable.sound.slotted held.0 cell kept held.1 in record { under = s.under; cell_is = s.cell_is; other = apart; known = inl (off, held) }
 
 -- such a message is against a line
 pub other_against : (header : Roots) (b : Board) (axis : Axis) (i pos : ℕ) (line : List Share) (cell : Cell) (share : Share) (kept : Proved) → cell ≡ cell_on axis i pos
@@ -91,11 +91,11 @@ other_against header b axis i pos line cell share kept is same o =
 
 -- and a fact
 pub other_fact : (header : Roots) (ms : List Message) (b : Board) (cell : Cell) (share : Share) (kept : Proved) → is_in_square header.k cell ≡ true → IsReadable header b
-    → StandsFor header ms b → IsOtherMessage header b cell share kept → Fact header ms (kept_message kept).cell (kept_message kept).share
+    → HoldsFor header ms b → IsOtherMessage header b cell share kept → Fact header ms (kept_message kept).cell (kept_message kept).share
 other_fact header ms b cell share kept inside readable stand o =
     subst (λ (c : Cell). Fact header ms c (kept_message kept).share) (sym o.cell_is) (elim o.known [
-      | inl (axis, held) ↦
-          shown_fact header ms (given_of b) (decided_of b) (share_of b) readable.sound stand axis cell (kept_message kept).share
+      | inl (off, (axis, held)) ↦
+          shown_fact header ms (given_of b) (decided_of b) (share_of b) readable.sound stand axis cell (kept_message kept).share off
           (record { kept = kept; held = held; share_is = refl })
       | inr (on, same) ↦
           subst (Fact header ms cell) (sym same) (lined_fact header ms (given_of b) (decided_of b) (share_of b) readable.sound stand cell inside on)

@@ -23,7 +23,7 @@ use Rattle.repair_queue.specs.declared.marks.Marks.{Marks}
 use Rattle.repair_queue.specs.Slots.{IsFlagged}
 use Rattle.repair_queue.specs.Lines.{AreFacts}
 use Rattle.repair_queue.specs.Counts.{count_of, pending, AreCounts}
-use Rattle.repair_queue.specs.Boards.{mark_of, AreMarks, given_of, decided_of, share_of, is_lined, AreLeavesOf, IsGood, StandsFor}
+use Rattle.repair_queue.specs.Boards.{mark_of, AreMarks, given_of, decided_of, share_of, is_lined, AreLeavesOf, IsGood, HoldsFor}
 use Rattle.repair_queue.specs.Keeping.{IsAlikeAll, IsCountedIn, AreWrittenLeaves}
 use Rattle.repair_queue.proofs.LinedLemmas.{lined_else}
 use Rattle.repair_queue.proofs.CountedLemmas.{kept_counted, kept_waiting}
@@ -138,7 +138,7 @@ module _ (header : Roots) (b : Board) (axis : Axis) (i : ℕ) (line : List Share
   }
 
   -- and stands for the same messages
-  pub kept_stands : (ms : List Message) → AreFacts header ms axis i line → StandsFor header ms b → StandsFor header ms kept_board
+  pub kept_stands : (ms : List Message) → AreFacts header ms axis i line → HoldsFor header ms b → HoldsFor header ms kept_board
   kept_stands ms facts stand =
       keeping_stands header (given_of b) (decided_of b) (mark_of marks) (share_of b) (share_of kept_board) axis i line keeping ms stand facts
 

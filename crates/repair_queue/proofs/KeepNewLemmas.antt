@@ -22,7 +22,7 @@ use Rattle.repair_queue.specs.Slots.{Kept, Flags, IsPut, crossing, IsAlike}
 use Rattle.repair_queue.specs.Repairs.{Shows}
 use Rattle.repair_queue.specs.Pools.{slot_in, IsPool}
 use Rattle.repair_queue.specs.Counts.{Numbers, count_of, pending, AreCounts, IsRaised, AreQueued}
-use Rattle.repair_queue.specs.Boards.{given_of, decided_of, share_of, is_lined, is_found, found_count, AreCounted, AreWaiting, IsGood, StandsFor}
+use Rattle.repair_queue.specs.Boards.{given_of, decided_of, share_of, is_lined, is_found, found_count, AreCounted, AreWaiting, IsGood, HoldsFor}
 use Rattle.repair_queue.specs.Moves.{IsKeptOn}
 use Rattle.repair_queue.proofs.PlaceLemmas.{own_or_crossing, same_cell}
 use Rattle.repair_queue.proofs.TakenLemmas.{under_proved}
@@ -135,7 +135,7 @@ module _ (header : Roots) (b : Board) (good : IsGood header b) (kept : Proved) (
       queued = queued;
     }
 
-    stands_with : (counts : Counts) (ms : List Message) → StandsFor header ms b → StandsFor header (ms ++ kept_message kept ∷ []) (board_with counts)
+    stands_with : (counts : Counts) (ms : List Message) → HoldsFor header ms b → HoldsFor header (ms ++ kept_message kept ∷ []) (board_with counts)
     stands_with counts ms stand = put_stands header (given_of b) (slot_in pool) (decided_of b) (share_of b) kept under empty put off ms stand
 
     -- where the cell was known
@@ -143,12 +143,12 @@ module _ (header : Roots) (b : Board) (good : IsGood header b) (kept : Proved) (
         → IsKeptOn header b (board_with b.counts) (kept_message kept)
     keeps_known other held = (
       good_with b.counts good.parts.counts refl
-      (λ axis i within low.
-      good.counted axis i within low
-      ∙ sym (count_from-same (λ pos. is_found (given_of b) (decided_of b) _) (λ pos. is_found (slot_in pool) (decided_of b) _) (2 * header.k) 0
-      (λ q l h. found_same (given_of b) (slot_in pool) (decided_of b) kept put
-      (found_held (given_of b) (decided_of b) (crossing (kept_message kept).axis) (kept_message kept).cell other held) _)))
-      good.queued,
+          (λ axis i within low.
+          good.counted axis i within low
+          ∙ sym (count_from-same (λ pos. is_found (given_of b) (decided_of b) _) (λ pos. is_found (slot_in pool) (decided_of b) _) (2 * header.k) 0
+          (λ q l h. found_same (given_of b) (slot_in pool) (decided_of b) kept put
+          (found_held (given_of b) (decided_of b) (crossing (kept_message kept).axis) (kept_message kept).cell other held) _)))
+          good.queued,
       stands_with b.counts,
     )
 

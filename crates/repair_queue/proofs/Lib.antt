@@ -47,4 +47,6 @@ pub mod SessionLemmas
 pub mod NotFoundLemmas
 pub mod SharesLemmas
 pub mod FinishLemmas
+pub mod ViewLemmas
+pub mod SessionLawLemmas
 pub mod NothingLemmas

@@ -13,11 +13,10 @@ use Rattle.repair_queue.specs.declared.tools.Tools.{Tools}
 use Rattle.repair_queue.specs.declared.ending.Ended.{Ended}
 use Rattle.repair_queue.specs.declared.ending.Ended.TheVariants as ended
 use Rattle.repair_queue.specs.Repairs.{IsEnd}
-use Rattle.repair_queue.specs.Boards.{given_of, decided_of, IsGood, AreAtRest, StandsFor}
+use Rattle.repair_queue.specs.Boards.{given_of, decided_of, IsGood, AreAtRest, HoldsFor}
 use Rattle.repair_queue.specs.Tools.{AreTools}
 use Rattle.repair_queue.specs.Moves.{Steps}
-use Rattle.repair_queue.specs.OpenBoards.{IsOpenBoard}
-use Rattle.repair_queue.specs.Sessions.{KeepsFor}
+use Rattle.repair_queue.specs.OpenBoards.{IsOpenBoard, KeepsFor}
 use Rattle.repair_queue.proofs.GrowthLemmas.{fraud_grows, clash_grows}
 
 -- a session that nothing ended
@@ -28,7 +27,7 @@ open_of header b tools (Some end) none test is open_board = absurd (true≢false
 
 -- it stands for what it stood for
 pub open_stands : (header : Roots) (ms : List Message) (b : Board) (end : Option Ended) (none : Bool) → is_some end ≡ not none → none ≡ true → KeepsFor header ms b end
-    → StandsFor header ms b
+    → HoldsFor header ms b
 open_stands header ms b None none test is keeps = keeps
 open_stands header ms b (Some end) none test is keeps = absurd (true≢false (test ∙ ap not is))
 
@@ -38,7 +37,7 @@ step_open header s t tools m None steps = (steps.0, steps.1, steps.2)
 step_open header s t tools m (Some end) steps = tt
 
 pub step_keeps : (header : Roots) (s t : Board) (tools : Tools) (m : Message) (result : Option Ended) → Steps header s t tools m result
-    → (ms : List Message) → StandsFor header ms s → KeepsFor header (ms ++ m ∷ []) t result
+    → (ms : List Message) → HoldsFor header ms s → KeepsFor header (ms ++ m ∷ []) t result
 step_keeps header s t tools m None steps ms stand = steps.3 ms stand
 step_keeps header s t tools m (Some end) steps ms stand = steps ms stand
 

@@ -36,7 +36,7 @@ nothing_sound header slot flag shares empty off = record {
 pub nothing_stands : (header : Roots) (slot : Kept) (flag : Flags) (shares : Shared) → ((axis : Axis) (cell : Cell) → slot axis cell ≡ None)
     → ((axis : Axis) (i : ℕ) → flag axis i ≡ false) → Stands header [] slot flag shares
 nothing_stands header slot flag shares empty off = record {
-  fed = λ axis cell kept e. let none : None ≡ Some kept = sym (empty axis cell) ∙ e in absurd cc;
+  fed = λ axis cell kept off e. let none : None ≡ Some kept = sym (empty axis cell) ∙ e in absurd cc;
   facts = λ axis i pos hi hp on. absurd (true≢false (sym on ∙ off axis i));
   lined = λ m at proved on. absurd (contains_none m at);
   shown = λ m at proved low. absurd (contains_none m at);
@@ -46,7 +46,7 @@ module _ (header : Roots) (ms : List Message) (slot : Kept) (flag : Flags) (shar
   -- a message on a decided row or column that has its share
   pub stands_lined : is_lined flag m.cell ≡ true → shares m.cell ≡ m.share → Stands header (ms ++ m ∷ []) slot flag shares
   stands_lined on same = record {
-    fed = λ axis cell kept e. Contains-append_left ms (m ∷ []) (kept_message kept) (stand.fed axis cell kept e);
+    fed = λ axis cell kept low e. Contains-append_left ms (m ∷ []) (kept_message kept) (stand.fed axis cell kept low e);
     facts = λ axis i pos hi hp set. fact_more header ms m (cell_on axis i pos) (shares (cell_on axis i pos)) (stand.facts axis i pos hi hp set);
     lined = λ n at proved set. elim (Contains-push_cases ms m n at) [
       | inl before ↦ stand.lined n before proved set
@@ -61,7 +61,7 @@ module _ (header : Roots) (ms : List Message) (slot : Kept) (flag : Flags) (shar
   -- a message on none whose share is shown already
   pub stands_shown : is_lined flag m.cell ≡ false → (axis : Axis) → Shows (slot axis m.cell) m.share → Stands header (ms ++ m ∷ []) slot flag shares
   stands_shown off own shows = record {
-    fed = λ axis cell kept e. Contains-append_left ms (m ∷ []) (kept_message kept) (stand.fed axis cell kept e);
+    fed = λ axis cell kept low e. Contains-append_left ms (m ∷ []) (kept_message kept) (stand.fed axis cell kept low e);
     facts = λ axis i pos hi hp set. fact_more header ms m (cell_on axis i pos) (shares (cell_on axis i pos)) (stand.facts axis i pos hi hp set);
     lined = λ n at proved set. elim (Contains-push_cases ms m n at) [
       | inl before ↦ stand.lined n before proved set
@@ -93,10 +93,10 @@ module _ (header : Roots) (old new : Kept) (flag : Flags) (shares : Shared) (kep
   pub put_stands : is_lined flag (kept_message kept).cell ≡ false → (ms : List Message) → Stands header ms old flag shares
       → Stands header (ms ++ kept_message kept ∷ []) new flag shares
   put_stands off ms stand = record {
-    fed = λ axis cell a e. elim (put_cases old new kept put axis cell a e) [
+    fed = λ axis cell a low e. elim (put_cases old new kept put axis cell a e) [
       | inl (ea, ec, is) ↦
           subst (λ (x : Proved). Contains (ms ++ kept_message kept ∷ []) (kept_message x)) is (Contains-push ms (kept_message kept))
-      | inr before ↦ Contains-append_left ms (kept_message kept ∷ []) (kept_message a) (stand.fed axis cell a before)
+      | inr before ↦ Contains-append_left ms (kept_message kept ∷ []) (kept_message a) (stand.fed axis cell a low before)
     ];
     facts = λ axis i pos hi hp set.
         fact_more header ms (kept_message kept) (cell_on axis i pos) (shares (cell_on axis i pos)) (stand.facts axis i pos hi hp set);

@@ -1,5 +1,5 @@
 -- What ends a session at a message.
-use Rattle.std.proofs.Common.{◌≡◌, ◌≢◌, ◌∙◌, ℕ, ◌*◌, ◌<◌, List, [], ◌∷◌, ◌++◌, map, true, sym, ap, subst}
+use Rattle.std.proofs.Common.{◌≡◌, ◌≢◌, ◌∙◌, ℕ, ◌*◌, ◌<◌, List, [], ◌∷◌, ◌++◌, map, true, false, sym, ap, subst}
 use Rattle.std.specs.Prelude.{Some}
 use Rattle.std.proofs.lemmas.List.Elements.{Contains-append_left, Contains-push}
 use Rattle.namespace_id.specs.declared.cells.Cell.{Cell}
@@ -24,7 +24,7 @@ use Rattle.repair_queue.specs.Settled.{along}
 use Rattle.repair_queue.specs.Lines.{AreFacts}
 use Rattle.repair_queue.specs.Repairs.{IsEnd}
 use Rattle.repair_queue.specs.Verdicts.{IsFoundClash}
-use Rattle.repair_queue.specs.Boards.{given_of, decided_of, share_of, IsGood, StandsFor}
+use Rattle.repair_queue.specs.Boards.{given_of, decided_of, share_of, is_lined, IsGood, HoldsFor}
 use Rattle.repair_queue.specs.Judging.{IsReadable}
 use Rattle.repair_queue.proofs.TakenLemmas.{under_proved}
 use Rattle.repair_queue.proofs.BesideLemmas.{AreBeside, two_messages}
@@ -84,7 +84,7 @@ module _ (header : Roots) (s t : Board) (good : IsGood header s) (message back :
 
   -- which ends the session
   pub taken_ends : (ended : Ended) → ((ms : List Message) → AreFacts header ms axis i line → Fact header ms (kept_message back).cell (kept_message back).share → IsEnd header ms ended)
-      → (ms : List Message) → StandsFor header ms s → IsEnd header (ms ++ kept_message message ∷ []) ended
+      → (ms : List Message) → HoldsFor header ms s → IsEnd header (ms ++ kept_message message ∷ []) ended
   taken_ends ended ends ms stand =
       let m1 : Message = kept_message message in
       ends (ms ++ m1 ∷ [])
@@ -95,7 +95,8 @@ module _ (header : Roots) (s t : Board) (good : IsGood header s) (message back :
       (shown m1 (Contains-push ms m1) (under_proved header message under)))
 
 module _ (header : Roots) (s : Board) (good : IsGood header s) (message back kept : Proved) (under : IsUnder header message) (same_back : back ≡ message)
-    (held : given_of s (kept_message message).axis (kept_message message).cell ≡ Some kept) (apart : (kept_message kept).share ≢ (kept_message message).share) where
+    (held : given_of s (kept_message message).axis (kept_message message).cell ≡ Some kept) (apart : (kept_message kept).share ≢ (kept_message message).share)
+    (off : is_lined (decided_of s) (kept_message message).cell ≡ false) where
   -- the message that is kept is proved, along the same axis and of the same cell
   pub beside_under : IsUnder header kept
   beside_under = (good.sound.slotted (kept_message message).axis (kept_message message).cell kept held).under
@@ -110,7 +111,7 @@ module _ (header : Roots) (s : Board) (good : IsGood header s) (message back kep
 
   -- their collision ends the session
   pub beside_clash : (left right : List ℕ) → clash_at (opened_by header.k (kept_message back)) (opened_by header.k (kept_message kept)) ≡ Some (left, right)
-      → (ms : List Message) → StandsFor header ms s → IsFoundClash header (ms ++ kept_message message ∷ []) left right
+      → (ms : List Message) → HoldsFor header ms s → IsFoundClash header (ms ++ kept_message message ∷ []) left right
   beside_clash left right found ms stand =
       let m : Message = kept_message message in
       let slotted = good.sound.slotted m.axis m.cell kept held in
@@ -122,5 +123,5 @@ module _ (header : Roots) (s : Board) (good : IsGood header s) (message back kep
         apart = apart;
       } in
       two_messages header m (kept_message kept) are (ms ++ m ∷ []) left right (Contains-push ms m)
-      (Contains-append_left ms (m ∷ []) (kept_message kept) (stand.fed m.axis m.cell kept held))
+      (Contains-append_left ms (m ∷ []) (kept_message kept) (stand.fed m.axis m.cell kept off held))
       (ap (λ (x : Proved). clash_at (opened_by header.k (kept_message x)) (opened_by header.k (kept_message kept))) (sym same_back) ∙ found)

@@ -127,16 +127,18 @@ pub record IsGood (header : Roots) (b : Board) : Type 0 where
 
 -- ---- of the fields and the messages
 
--- what is kept stands for the messages that were taken in: only these are kept, the shares of decided rows and columns
--- are facts, and each proved message's share is that of its decided row or column, or is shown by one that is kept
+-- what is kept stands for messages: of cells on no decided row or column only these are kept, the shares of decided rows
+-- and columns are facts, and each proved message's share is that of its decided row or column, or is shown by one that is
+-- kept
 pub record Stands (header : Roots) (ms : List Message) (slot : Kept) (flag : Flags) (shares : Shared) : Type 0 where
-  pub fed : (axis : Axis) (cell : Cell) (kept : Proved) → slot axis cell ≡ Some kept → Contains ms (kept_message kept)
+  pub fed : (axis : Axis) (cell : Cell) (kept : Proved) → is_lined flag cell ≡ false → slot axis cell ≡ Some kept
+      → Contains ms (kept_message kept)
   pub facts : (axis : Axis) (i pos : ℕ) → i < 2 * header.k → pos < 2 * header.k → flag axis i ≡ true
       → Fact header ms (cell_on axis i pos) (shares (cell_on axis i pos))
   pub lined : (m : Message) → Contains ms m → IsProved header m → is_lined flag m.cell ≡ true → shares m.cell ≡ m.share
   pub shown : (m : Message) → Contains ms m → IsProved header m → is_lined flag m.cell ≡ false
       → (axis : Axis) × Shows (slot axis m.cell) m.share
 
--- a board stands for these messages
-abbrev pub StandsFor : Roots → List Message → Board → Type 0
-StandsFor header ms b = Stands header ms (given_of b) (decided_of b) (share_of b)
+-- what a board keeps stands for these messages
+abbrev pub HoldsFor : Roots → List Message → Board → Type 0
+HoldsFor header ms b = Stands header ms (given_of b) (decided_of b) (share_of b)

@@ -38,13 +38,13 @@ pub record IsTakenAt (old new : Board) (cell : Cell) : Type 0 where
   pub grid : new.grid ≡ old.grid
   pub others : (axis : Axis) (d : Cell) → (d ≡ cell → ⊥) → given_of new axis d ≡ given_of old axis d
 
--- a message of the cell that is proved under the header and shows another share: it is kept, or it shows the share of its
--- decided row or column
+-- a message of the cell that is proved under the header and shows another share: it is kept of a cell on no decided row
+-- or column, or it shows the share of its decided one
 pub record IsOtherMessage (header : Roots) (b : Board) (cell : Cell) (share : Share) (kept : Proved) : Type 0 where
   pub under : IsUnder header kept
   pub cell_is : (kept_message kept).cell ≡ cell
   pub other : (kept_message kept).share ≢ share
-  pub known : ((axis : Axis) × (given_of b axis cell ≡ Some kept)) ⊎ ((is_lined (decided_of b) cell ≡ true) × ((kept_message kept).share ≡ share_of b cell))
+  pub known : ((is_lined (decided_of b) cell ≡ false) × ((axis : Axis) × (given_of b axis cell ≡ Some kept))) ⊎ ((is_lined (decided_of b) cell ≡ true) × ((kept_message kept).share ≡ share_of b cell))
 
 -- the position at which another share is known than the line's, if there is one
 abbrev pub IsApartOrAlike : ℕ → Board → Axis → ℕ → List Share → Option ℕ → Type 0

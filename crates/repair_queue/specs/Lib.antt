@@ -17,3 +17,5 @@ pub mod Keeping
 pub mod Moves
 pub mod Sessions
 pub mod OpenBoards
+pub mod SessionParts
+pub mod Views

@@ -1,5 +1,5 @@
 -- What each step of a session does: a message, a row or a column, and all of them.
-use Rattle.std.specs.Prelude.{◌≡◌, ◌≢◌, ℕ, List, [], ◌∷◌, ◌++◌, true, Option, Some, None}
+use Rattle.std.specs.Prelude.{◌≡◌, ◌≢◌, ℕ, List, [], ◌∷◌, ◌++◌, true, false, Option, Some, None}
 use Rattle.namespace_id.specs.declared.cells.Axis.{Axis}
 use Rattle.namespace_id.specs.declared.cells.Cell.{Cell}
 use Rattle.namespace_id.specs.declared.shares.Share.{Share}
@@ -15,16 +15,16 @@ use Rattle.repair_queue.specs.declared.taking.Taken.TheVariants.{Kept, Against, 
 use Rattle.repair_queue.specs.declared.ending.Ended.{Ended}
 use Rattle.repair_queue.specs.Lines.{AreFacts}
 use Rattle.repair_queue.specs.Repairs.{IsEnd}
-use Rattle.repair_queue.specs.Boards.{given_of, decided_of, share_of, IsGood, StandsFor, AreAtRest}
+use Rattle.repair_queue.specs.Boards.{given_of, decided_of, share_of, is_lined, IsGood, HoldsFor, AreAtRest}
 use Rattle.repair_queue.specs.Tools.{AreTools}
 
 -- a message is kept, or its share was known
 abbrev pub IsKeptOn : Roots → Board → Board → Message → Type 0
 IsKeptOn header s t m =
-    IsGood header t × ((ms : List Message) → StandsFor header ms s → StandsFor header (ms ++ m ∷ []) t)
+    IsGood header t × ((ms : List Message) → HoldsFor header ms s → HoldsFor header (ms ++ m ∷ []) t)
 
--- what comes of a message: it is kept; or a decided row or column through its cell has another share; or a message that
--- is kept along its axis shows another one
+-- what comes of a message: it is kept; or a decided row or column through its cell has another share; or there is none and
+-- a message that is kept along its axis shows another one
 abbrev pub IsEntered : Roots → Board → Board → Proved → Taken → Type 0
 IsEntered header s t message Kept = IsKeptOn header s t (kept_message message)
 IsEntered header s t message (Against axis back) =
@@ -33,39 +33,40 @@ IsEntered header s t message (Against axis back) =
 IsEntered header s t message (Beside back kept) =
     (back ≡ message) × (given_of s (kept_message message).axis (kept_message message).cell ≡ Some kept)
     × ((kept_message kept).share ≢ (kept_message message).share)
+    × (is_lined (decided_of s) (kept_message message).cell ≡ false)
 
 -- a message is taken in, or it ends the session
 abbrev pub TakesMessage : Roots → Board → Board → Tools → Message → Option Ended → Type 0
 TakesMessage header s t tools m None = IsKeptOn header s t m × AreTools header.k tools
-TakesMessage header s t tools m (Some ended) = (ms : List Message) → StandsFor header ms s → IsEnd header (ms ++ m ∷ []) ended
+TakesMessage header s t tools m (Some ended) = (ms : List Message) → HoldsFor header ms s → IsEnd header (ms ++ m ∷ []) ended
 
 -- a row or a column is decided, or it ends the session
 abbrev pub DecidesLine : Roots → Board → Board → Tools → Option Ended → Type 0
 DecidesLine header s t tools None =
-    IsGood header t × AreTools header.k tools × ((ms : List Message) → StandsFor header ms s → StandsFor header ms t)
-DecidesLine header s t tools (Some ended) = (ms : List Message) → StandsFor header ms s → IsEnd header ms ended
+    IsGood header t × AreTools header.k tools × ((ms : List Message) → HoldsFor header ms s → HoldsFor header ms t)
+DecidesLine header s t tools (Some ended) = (ms : List Message) → HoldsFor header ms s → IsEnd header ms ended
 
 -- a line with the header's root is kept, or a share that is known contradicts it
 abbrev pub SettlesLine : Roots → Board → Board → Tools → Axis → ℕ → List Share → Option Ended → Type 0
 SettlesLine header s t tools axis i line None =
     IsGood header t × AreTools header.k tools
-    × ((ms : List Message) → AreFacts header ms axis i line → StandsFor header ms s → StandsFor header ms t)
+    × ((ms : List Message) → AreFacts header ms axis i line → HoldsFor header ms s → HoldsFor header ms t)
 SettlesLine header s t tools axis i line (Some ended) =
-    (ms : List Message) → AreFacts header ms axis i line → StandsFor header ms s → IsEnd header ms ended
+    (ms : List Message) → AreFacts header ms axis i line → HoldsFor header ms s → IsEnd header ms ended
 
 -- all that can be decided is, or something ends the session
 abbrev pub Drains : Roots → Board → Board → Tools → Option Ended → Type 0
 Drains header s t tools None =
     IsGood header t × AreTools header.k tools × AreAtRest header.k (given_of t) (decided_of t)
-    × ((ms : List Message) → StandsFor header ms s → StandsFor header ms t)
-Drains header s t tools (Some ended) = (ms : List Message) → StandsFor header ms s → IsEnd header ms ended
+    × ((ms : List Message) → HoldsFor header ms s → HoldsFor header ms t)
+Drains header s t tools (Some ended) = (ms : List Message) → HoldsFor header ms s → IsEnd header ms ended
 
 -- both of a message: it is taken in, and what it lets decide is
 abbrev pub Steps : Roots → Board → Board → Tools → Message → Option Ended → Type 0
 Steps header s t tools m None =
     IsGood header t × AreTools header.k tools × AreAtRest header.k (given_of t) (decided_of t)
-    × ((ms : List Message) → StandsFor header ms s → StandsFor header (ms ++ m ∷ []) t)
-Steps header s t tools m (Some ended) = (ms : List Message) → StandsFor header ms s → IsEnd header (ms ++ m ∷ []) ended
+    × ((ms : List Message) → HoldsFor header ms s → HoldsFor header (ms ++ m ∷ []) t)
+Steps header s t tools m (Some ended) = (ms : List Message) → HoldsFor header ms s → IsEnd header (ms ++ m ∷ []) ended
 
 -- a message of a cell with this share, proved under the header
 pub record IsMessageAt (header : Roots) (cell : Cell) (share : Share) (kept : Proved) : Type 0 where

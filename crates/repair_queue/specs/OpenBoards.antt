@@ -1,13 +1,15 @@
 -- What holds of the fields of a session.
-use Rattle.std.specs.Prelude.{◌≡◌, ◌*◌, ◌≤◌, [], Option, Some, None, Vec, vec_capacity}
+use Rattle.std.specs.Prelude.{◌≡◌, ◌*◌, ◌≤◌, List, [], Option, Some, None, Vec, vec_capacity}
 use Rattle.std.specs.declared.alloc.Global.{Global}
 use Rattle.namespace_id.specs.declared.shares.Share.{Share}
 use Rattle.namespace_id.specs.Cells.{CellList}
 use Rattle.data_header.specs.Headers.{Roots}
+use Rattle.axis_roots.specs.declared.message.messages.Message.{Message}
 use Rattle.repair_queue.specs.declared.boards.Board.{Board}
 use Rattle.repair_queue.specs.declared.tools.Tools.{Tools}
 use Rattle.repair_queue.specs.declared.ending.Ended.{Ended}
-use Rattle.repair_queue.specs.Boards.{given_of, decided_of, IsGood, AreAtRest}
+use Rattle.repair_queue.specs.Boards.{given_of, decided_of, IsGood, AreAtRest, HoldsFor}
+use Rattle.repair_queue.specs.Repairs.{IsEnd}
 use Rattle.repair_queue.specs.Tools.{AreTools}
 
 -- what holds of the fields while nothing has ended a session: each row and column with k known cells is decided
@@ -15,10 +17,14 @@ abbrev pub IsOpenBoard : Roots → Board → Tools → Option Ended → Type 0
 IsOpenBoard header b tools None = IsGood header b × AreTools header.k tools × AreAtRest header.k (given_of b) (decided_of b)
 IsOpenBoard header b tools (Some ended) = Unit {0}
 
+-- what is kept stands for messages, or what ended the session is an answer over them
+abbrev pub KeepsFor : Roots → List Message → Board → Option Ended → Type 0
+KeepsFor header ms b None = HoldsFor header ms b
+KeepsFor header ms b (Some ended) = IsEnd header ms ended
+
 -- what holds of every session; there is room for what it hands out
 pub record IsSession (header : Roots) (b : Board) (tools : Tools) (end : Option Ended) (shares : Vec Share Global) (room : CellList) : Type 0 where
   pub open_board : IsOpenBoard header b tools end
   pub empty : shares.items ≡ []
   pub space : header.k * header.k ≤ vec_capacity shares
   pub cells : room.k ≡ header.k
-

@@ -1,5 +1,5 @@
--- A session as contracts see it, and for which messages it stands.
-use Rattle.std.specs.Prelude.{◌≡◌, ◌↔◌, ◌*◌, List, length, true, Option, Some, None}
+-- The state of a session, and what its calls answer.
+use Rattle.std.specs.Prelude.{◌≡◌, ◌↔◌, ◌*◌, List, length, true}
 use Rattle.std.specs.List.{Contains}
 use Rattle.namespace_id.specs.declared.cells.Cell.{Cell}
 use Rattle.namespace_id.specs.declared.shares.Share.{Share}
@@ -8,36 +8,23 @@ use Rattle.axis_roots.specs.Grids.{share_at}
 use Rattle.data_header.specs.Headers.{Roots}
 use Rattle.axis_roots.specs.declared.message.messages.Message.{Message}
 use Rattle.repair_queue.specs.declared.boards.Board.{Board}
-use Rattle.repair_queue.specs.declared.ending.Ended.{Ended}
-use Rattle.repair_queue.specs.declared.ending.Ended.TheVariants as ended
-use Rattle.repair_queue.specs.declared.fed.Session.{Session}
 use Rattle.repair_queue.specs.declared.fed.SessionState.{SessionState}
 use Rattle.repair_queue.specs.declared.fed.SessionState.TheVariants as state
 use Rattle.repair_queue.specs.declared.verdict.Verdict.{Verdict}
 use Rattle.repair_queue.specs.declared.verdict.Verdict.TheVariants.{Whole, Fraud, Missing, Clash}
-use Rattle.repair_queue.specs.OpenBoards.{IsSession}
 use Rattle.repair_queue.specs.Closures.{Half}
-use Rattle.repair_queue.specs.Repairs.{IsEnd}
-use Rattle.repair_queue.specs.Boards.{given_of, decided_of, share_of, is_found, StandsFor}
+use Rattle.repair_queue.specs.Boards.{given_of, decided_of, share_of, is_found}
+use Rattle.repair_queue.specs.SessionParts.{SessionParts, SessionEnd, going, accused, collided}
 
--- what is kept stands for the messages that were fed, or what ended the session is an answer over them
-abbrev pub KeepsFor : Roots → List Message → Board → Option Ended → Type 0
-KeepsFor header ms b None = StandsFor header ms b
-KeepsFor header ms b (Some ended) = IsEnd header ms ended
-
--- what holds of every session
-abbrev pub IsHeldSession : Session → Type 0
-IsHeldSession s = IsSession s.header s.board s.tools s.ended s.shares s.room
-
--- a session stands for a list of messages
-abbrev pub SessionStands : Session → List Message → Type 0
-SessionStands s ms = KeepsFor s.header ms s.board s.ended
+-- the state with what ended a session
+abbrev pub state_by : SessionEnd → SessionState
+state_by going = state.Open
+state_by (accused claim) = state.Fraud
+state_by (collided left right) = state.Clash
 
 -- the state of a session
-abbrev pub state_of : Option Ended → SessionState
-state_of None = state.Open
-state_of (Some (ended.Fraud proof)) = state.Fraud
-state_of (Some (ended.Clash clash)) = state.Clash
+abbrev pub state_of : SessionParts → SessionState
+state_of s = state_by s.ended
 
 -- the cells of the square that aren't recoverable, row-major
 pub record AreLeft (header : Roots) (ms : List Message) (cells : CellList) : Type 0 where

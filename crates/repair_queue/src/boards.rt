@@ -20,9 +20,9 @@ use axis_roots::Grid;
 use namespace_id::{Axis, Cell, DIGEST_SIZE, Digest, NoMemory, SHARE_SIZE, Share};
 use std::alloc::Global;
 
-/// What is known of the cells of a square: the messages that were given of cells on no decided row or column, the shares
-/// of the cells on decided ones with the digests of the leaves over them, and how many cells of each row and column are
-/// known.
+/// What is known of the cells of a square: the messages that were given of cells on no decided row
+/// or column, the shares of the cells on decided ones with the digests of the leaves over them, and
+/// how many cells of each row and column are known.
 #[derive(Drop)]
 pub(crate) struct Board {
     pub(crate) pool: Pool,
@@ -49,8 +49,10 @@ impl Board {
     pub(crate) fn new(alloc: Global, k: u16) -> Result<Board, NoMemory>
         requires width { IsTrue (is_width k) }
         ensures good { IfOk result (λ b. (header : Roots) → header.k ≡ k → IsGood header b) }
-        ensures empty { IfOk result (λ b. (axis : Along) (cell : Place) → given_of b axis cell ≡ None) }
-        ensures undecided { IfOk result (λ b. (axis : Along) (i : ℕ) → decided_of b axis i ≡ false) }
+        ensures empty { IfOk result
+            (λ b. (axis : Along) (cell : Place) → given_of b axis cell ≡ None) }
+        ensures undecided { IfOk result
+            (λ b. (axis : Along) (i : ℕ) → decided_of b axis i ≡ false) }
     {
         let pool = Pool::new(alloc, k)?;
         let marks = Marks::new(alloc, k)?;
@@ -96,13 +98,15 @@ pub(crate) fn is_on_decided(marks: &Marks, cell: Cell) -> bool
     is_marked(marks, Axis::Row, cell.row) || is_marked(marks, Axis::Col, cell.col)
 }
 
-/// The share that a message shows which is kept of a cell: that along its row, else that along its column.
+/// The share that a message shows which is kept of a cell: that along its row, else that along its
+/// column.
 fn shown_share(pool: &Pool, cell: Cell) -> Option<&Share>
     requires pool { HasPlaces pool.now }
     requires cell { is_in_square pool.now.k cell ≡ true }
     ensures { MatchOption result
         ((is_some (slot_in pool.now Row cell) || is_some (slot_in pool.now Col cell)) ≡ false)
-        (λ share. ((is_some (slot_in pool.now Row cell) || is_some (slot_in pool.now Col cell)) ≡ true)
+        (λ share.
+        ((is_some (slot_in pool.now Row cell) || is_some (slot_in pool.now Col cell)) ≡ true)
         × (share.now ≡ first_share (slot_in pool.now Row cell) (slot_in pool.now Col cell))) }
 {
     if let Some(kept) = held_in(pool, Axis::Row, cell) {
@@ -114,7 +118,8 @@ fn shown_share(pool: &Pool, cell: Cell) -> Option<&Share>
     }
 }
 
-/// A share that is known of a cell: that of its decided row or column, else that which a message shows.
+/// A share that is known of a cell: that of its decided row or column, else that which a message
+/// shows.
 pub(crate) fn known_share(board: &Board, cell: Cell) -> Option<&Share>
     requires parts { AreParts board.now }
     requires cell { is_in_square board.now.grid.k cell ≡ true }
@@ -129,7 +134,8 @@ pub(crate) fn known_share(board: &Board, cell: Cell) -> Option<&Share>
     shown_share(&board.pool, cell)
 }
 
-/// Whether a cell is known, by the messages that are kept and the rows and columns that are decided.
+/// Whether a cell is known, by the messages that are kept and the rows and columns that are
+/// decided.
 pub(crate) fn is_found(pool: &Pool, marks: &Marks, cell: Cell) -> bool
     requires pool { HasPlaces pool.now }
     requires marks { AreMarks marks.now }

@@ -21,8 +21,8 @@ use data_header::Header;
 use hash_clash::{Clash, Opening, clash_paths};
 use namespace_id::{Axis, leaf_namespace};
 
-/// Names what is wrong where a sample shows another share than the line of its row or its column that the buffers
-/// hold, which has the header's root.
+/// Names what is wrong where a sample shows another share than the line of its row or its column
+/// that the buffers hold, which has the header's root.
 pub(crate) fn conflict(
     buffers: &mut Buffers,
     header: &Header,

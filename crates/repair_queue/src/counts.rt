@@ -8,8 +8,8 @@ ghost use Rattle.repair_queue.specs.Counts.{count_of, pending, AreCounts, IsRais
 use namespace_id::{Axis, NoMemory};
 use std::alloc::Global;
 
-/// How many cells of each row and column of a square are known, and a queue of those that came to have k. Each
-/// enters it once.
+/// How many cells of each row and column of a square are known, and a queue of those that came to
+/// have k. Each enters it once.
 #[derive(Drop)]
 pub(crate) struct Counts {
     pub(crate) k: u16,

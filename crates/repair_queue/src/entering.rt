@@ -36,12 +36,14 @@ fn shows(pool: &Pool, axis: Axis, cell: Cell, share: &Share) -> bool
     }
 }
 
-/// Keeps a message of a cell of which none is kept along its axis, and counts the cell where it wasn't known.
+/// Keeps a message of a cell of which none is kept along its axis, and counts the cell where it
+/// wasn't known.
 fn keep_new(board: &mut Board, header: &Header, message: Proved)
     requires good { IsGood header.now board.old }
     requires under { IsUnder header.now message }
     requires off { is_lined (decided_of board.old) (kept_message message).cell ≡ false }
-    requires empty { given_of board.old (kept_message message).axis (kept_message message).cell ≡ None }
+    requires empty { given_of board.old (kept_message message).axis (kept_message message).cell
+        ≡ None }
     ensures { IsKeptOn header.now board.old board.new (kept_message message) }
 {
     let shown = message.message();
@@ -54,13 +56,14 @@ fn keep_new(board: &mut Board, header: &Header, message: Proved)
     }
 }
 
-/// Keeps a message of a cell on no decided row or column, where none that is kept along its axis shows another share.
-/// Where its share is shown already it is dropped.
+/// Keeps a message of a cell on no decided row or column, where none that is kept along its axis
+/// shows another share. Where its share is shown already it is dropped.
 fn keep(board: &mut Board, header: &Header, message: Proved)
     requires good { IsGood header.now board.old }
     requires under { IsUnder header.now message }
     requires off { is_lined (decided_of board.old) (kept_message message).cell ≡ false }
-    requires alike { IsAlike (given_of board.old (kept_message message).axis (kept_message message).cell)
+    requires alike { IsAlike
+        (given_of board.old (kept_message message).axis (kept_message message).cell)
         (kept_message message).share }
     ensures { IsKeptOn header.now board.old board.new (kept_message message) }
 {

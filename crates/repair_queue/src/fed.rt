@@ -5,6 +5,7 @@ use crate::ending::Ended;
 use crate::tools::Tools;
 use data_header::Header;
 use namespace_id::{CellRoom, Share};
+use std::marker::Model;
 
 /// Where a session stands.
 #[derive(Clone, Copy, Debug, PartialEq, Eq)]
@@ -17,8 +18,10 @@ pub enum SessionState {
     Clash,
 }
 
-/// A repair that is fed one proved sample at a time. All its memory is taken when it is made. Contracts see for which
-/// list of samples it stands. It may be dropped at any time.
+/// A repair that is fed one proved sample at a time. All its memory is taken when it is made.
+/// Contracts see what it keeps, and for which lists of samples that stands.
+///
+/// It may be dropped at any time.
 ///
 /// Al-Bassam, Sonnino, Buterin and Khoffi, 2-dimensional Reed-Solomon encoded Merkle tree;
 /// docs/RULES.md, "Closures and verdicts".
@@ -31,4 +34,16 @@ pub struct Session {
     // for what `finish` hands out
     pub(crate) shares: Vec<Share>,
     pub(crate) room: CellRoom,
+}
+
+impl Model for Session {
+    ghost use Rattle.repair_queue.specs.SessionParts.{SessionParts};
+    ghost use Rattle.repair_queue.specs.Views.{parts_by};
+    ghost use Rattle.repair_queue.specs.OpenBoards.{IsSession};
+
+    ghost Value = { SessionParts };
+
+    ghost view = { λ s. parts_by s.header s.board s.ended };
+
+    ghost invariant = { λ s. IsSession s.header s.board s.tools s.ended s.shares s.room };
 }

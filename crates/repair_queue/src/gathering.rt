@@ -23,12 +23,13 @@ pub(crate) fn gather(
 )
     requires good { IsGood header.now board.now }
     requires index { index < 2 * header.now.k }
-    requires half { header.now.k ≤ found_count (given_of board.now) (decided_of board.now) axis index (2 * header.now.k) }
+    requires half { header.now.k ≤ found_count (given_of board.now) (decided_of board.now) axis
+        index (2 * header.now.k) }
     requires known { header.now.k ≤ vec_capacity known.old }
     requires given { header.now.k ≤ vec_capacity given.old }
     ensures chosen { AreChosen header.now.k known.new.items }
-    ensures gathered { AreGathered (given_of board.now) (decided_of board.now) (share_of board.now) axis index
-        known.new.items given.new.items }
+    ensures gathered { AreGathered (given_of board.now) (decided_of board.now) (share_of board.now)
+        axis index known.new.items given.new.items }
     ensures known { header.now.k ≤ vec_capacity known.new }
     ensures given { header.now.k ≤ vec_capacity given.new }
 {
@@ -44,14 +45,9 @@ pub(crate) fn gather(
     }
 }
 
-/// The codeword with these shares at k positions. Where these are the originals the recovery shares are made of them.
-pub(crate) fn complete(
-    code: &mut Room,
-    k: u16,
-    known: &[u16],
-    given: &[Share],
-    line: &mut [Share],
-)
+/// The codeword with these shares at k positions. Where these are the originals the recovery shares
+/// are made of them.
+pub(crate) fn complete(code: &mut Room, k: u16, known: &[u16], given: &[Share], line: &mut [Share])
     requires width { code.old ≡ k }
     requires positive { 0 < k }
     requires known { AreChosen k known.now }

@@ -17,7 +17,7 @@ ghost use Rattle.repair_queue.specs.Lines.{AreFacts};
 ghost use Rattle.repair_queue.specs.Repairs.{IsEnd};
 ghost use Rattle.repair_queue.specs.Steps.{IsSpare};
 ghost use Rattle.repair_queue.specs.Counts.{count_of};
-ghost use Rattle.repair_queue.specs.Boards.{given_of, decided_of, share_of, found_count, found_share, is_found, AreAlikeLined, AreParts, IsGood, StandsFor};
+ghost use Rattle.repair_queue.specs.Boards.{given_of, decided_of, share_of, found_count, found_share, is_found, AreAlikeLined, AreParts, IsGood, HoldsFor};
 ghost use Rattle.repair_queue.specs.Tools.{AreTools, AreGathered, HasSpare};
 ghost use Rattle.repair_queue.specs.Judging.{IsAlikeAt, IsApartAt, IsReadable, IsTakenAt, AreFoundAt, AreShownBy, IsOtherMessage, IsApartOrAlike};
 ghost use Rattle.repair_queue.specs.Moves.{DecidesLine, SettlesLine, Drains, IsMessageAt};
@@ -59,10 +59,12 @@ fn first_apart(board: &Board, axis: Axis, index: u16, line: &[Share]) -> Option<
     requires index { index < 2 * board.now.grid.k }
     requires line { length line.now ≡ 2 * board.now.grid.k }
     ensures none { IsNone result → (pos : ℕ) → pos < 2 * board.now.grid.k →
-        IsAlikeAt (given_of board.now) (decided_of board.now) (share_of board.now) (cell_on axis index pos)
+        IsAlikeAt (given_of board.now) (decided_of board.now) (share_of board.now)
+        (cell_on axis index pos)
         (entry line.now pos) }
     ensures some { IfSome result (λ pos. (pos < 2 * board.now.grid.k)
-        × IsApartAt (given_of board.now) (decided_of board.now) (share_of board.now) (cell_on axis index pos)
+        × IsApartAt (given_of board.now) (decided_of board.now) (share_of board.now)
+        (cell_on axis index pos)
         (entry line.now pos)) }
 {
     for pos in 0..2 * board.grid.width() {
@@ -112,7 +114,8 @@ fn message_other(
     requires room { room.old.k ≡ header.now.k }
     requires across { length across.old ≡ 2 * header.now.k }
     requires cell { is_in_square header.now.k cell ≡ true }
-    requires apart { IsApartAt (given_of board.old) (decided_of board.old) (share_of board.old) cell share.now }
+    requires apart { IsApartAt (given_of board.old) (decided_of board.old) (share_of board.old)
+        cell share.now }
     ensures message { IsOtherMessage header.now board.old cell share.now result }
     ensures room { room.new.k ≡ header.now.k }
 {
@@ -122,7 +125,8 @@ fn message_other(
     }
 }
 
-/// Messages of known cells of a row or a column at these positions, each with the share that is known first.
+/// Messages of known cells of a row or a column at these positions, each with the share that is
+/// known first.
 fn messages_known(
     board: &mut Board,
     room: &mut AxisRoom,
@@ -141,7 +145,8 @@ fn messages_known(
     requires found { AreFoundAt (given_of board.old) (decided_of board.old) axis index known.now }
     requires spare { IsSpare header.now.k cells }
     ensures cells { (line : List Block) →
-        AreShownBy (given_of board.old) (decided_of board.old) (share_of board.old) axis index known.now line →
+        AreShownBy (given_of board.old) (decided_of board.old) (share_of board.old) axis index
+        known.now line →
         AreOfLine header.now axis index line known.now result.items }
     ensures room { room.new.k ≡ header.now.k }
 {
@@ -161,13 +166,15 @@ fn accuse(board: &mut Board, tools: &mut Tools, header: &Header, axis: Axis, ind
     requires tools { AreTools header.now.k tools.old }
     requires index { index < 2 * header.now.k }
     requires chosen { AreChosen header.now.k tools.old.known.items }
-    requires gathered { AreGathered (given_of board.old) (decided_of board.old) (share_of board.old) axis index
+    requires gathered { AreGathered (given_of board.old) (decided_of board.old)
+        (share_of board.old) axis index
         tools.old.known.items tools.old.given.items }
     requires line { IsCodeword header.now.k tools.old.buffers.line.items }
-    requires entries { HasEntries tools.old.known.items tools.old.given.items tools.old.buffers.line.items }
+    requires entries { HasEntries tools.old.known.items tools.old.given.items
+        tools.old.buffers.line.items }
     requires root { line_strict_root header.now.k axis index tools.old.buffers.line.items
         ≡ Some (root_of header.now axis index) → ⊥ }
-    ensures { (ms : List Message) → StandsFor header.now ms board.old → IsEnd header.now ms result }
+    ensures { (ms : List Message) → HoldsFor header.now ms board.old → IsEnd header.now ms result }
 {
     let cells = tools.spare.take().unwrap();
     let cells = messages_known(
@@ -186,7 +193,8 @@ fn accuse(board: &mut Board, tools: &mut Tools, header: &Header, axis: Axis, ind
     }
 }
 
-/// What is wrong where another share is known at a position than that of the line, which has the header's root.
+/// What is wrong where another share is known at a position than that of the line, which has the
+/// header's root.
 fn contradict(
     board: &mut Board,
     tools: &mut Tools,
@@ -203,7 +211,7 @@ fn contradict(
     requires apart { IsApartAt (given_of board.old) (decided_of board.old) (share_of board.old)
         (cell_on axis index pos) (entry tools.old.buffers.line.items pos) }
     ensures { (ms : List Message) → AreFacts header.now ms axis index tools.old.buffers.line.items →
-        StandsFor header.now ms board.old → IsEnd header.now ms result }
+        HoldsFor header.now ms board.old → IsEnd header.now ms result }
 {
     let cell = cell_on(axis, index, pos);
     let share = tools.buffers.line[pos as usize];
@@ -219,8 +227,8 @@ fn contradict(
     conflict(&mut tools.buffers, header, axis, index, other, cells)
 }
 
-/// Keeps the line of a row or a column, which has the header's root, or names what is wrong where another share is known
-/// at a position.
+/// Keeps the line of a row or a column, which has the header's root, or names what is wrong where
+/// another share is known at a position.
 fn settle(
     board: &mut Board,
     tools: &mut Tools,
@@ -234,11 +242,15 @@ fn settle(
     requires index { index < 2 * header.now.k }
     requires off { decided_of board.old axis index ≡ false }
     requires line { IsLineOf header.now axis index tools.old.buffers.line.items }
-    requires digests { tools.old.digests.items ≡ line_leaves header.now.k axis index tools.old.buffers.line.items }
-    requires apart { IsApartOrAlike header.now.k board.old axis index tools.old.buffers.line.items apart }
-    ensures settles { SettlesLine header.now board.old board.new tools.new axis index tools.old.buffers.line.items result }
+    requires digests { tools.old.digests.items
+        ≡ line_leaves header.now.k axis index tools.old.buffers.line.items }
+    requires apart { IsApartOrAlike header.now.k board.old axis index tools.old.buffers.line.items
+        apart }
+    ensures settles { SettlesLine header.now board.old board.new tools.new axis index
+        tools.old.buffers.line.items result }
     ensures next { IsNone result → board.new.counts.next ≡ board.old.counts.next }
-    ensures flagged { IsNone result → IsFlagged (decided_of board.old) (decided_of board.new) axis index }
+    ensures flagged { IsNone result →
+        IsFlagged (decided_of board.old) (decided_of board.new) axis index }
 {
     match apart {
         Some(pos) => Some(contradict(board, tools, header, axis, index, pos)),
@@ -268,13 +280,15 @@ fn rebuild_line(board: &Board, tools: &mut Tools, header: &Header, axis: Axis, i
     requires good { IsGood header.now board.now }
     requires tools { AreTools header.now.k tools.old }
     requires index { index < 2 * header.now.k }
-    requires half { header.now.k ≤ found_count (given_of board.now) (decided_of board.now) axis index (2 * header.now.k) }
+    requires half { header.now.k ≤ found_count (given_of board.now) (decided_of board.now) axis
+        index (2 * header.now.k) }
     ensures tools { AreTools header.now.k tools.new }
     ensures chosen { AreChosen header.now.k tools.new.known.items }
-    ensures gathered { AreGathered (given_of board.now) (decided_of board.now) (share_of board.now) axis index
-        tools.new.known.items tools.new.given.items }
+    ensures gathered { AreGathered (given_of board.now) (decided_of board.now) (share_of board.now)
+        axis index tools.new.known.items tools.new.given.items }
     ensures line { IsCodeword header.now.k tools.new.buffers.line.items }
-    ensures entries { HasEntries tools.new.known.items tools.new.given.items tools.new.buffers.line.items }
+    ensures entries { HasEntries tools.new.known.items tools.new.given.items
+        tools.new.buffers.line.items }
 {
     gather(
         board,
@@ -305,11 +319,14 @@ fn has_root(
     requires good { IsGood header.now board.now }
     requires tools { AreTools header.now.k tools.old }
     requires index { index < 2 * header.now.k }
-    requires kept { are_kept ≡ true → AreAlikeLined header.now.k (decided_of board.now) (share_of board.now) axis index
+    requires kept { are_kept ≡ true →
+        AreAlikeLined header.now.k (decided_of board.now) (share_of board.now) axis index
         tools.old.buffers.line.items }
-    ensures root { IsTrue result ↔ (line_strict_root header.now.k axis index tools.old.buffers.line.items
+    ensures root { IsTrue result
+        ↔ (line_strict_root header.now.k axis index tools.old.buffers.line.items
         ≡ Some (root_of header.now axis index)) }
-    ensures digests { tools.new.digests.items ≡ line_leaves header.now.k axis index tools.old.buffers.line.items }
+    ensures digests { tools.new.digests.items
+        ≡ line_leaves header.now.k axis index tools.old.buffers.line.items }
     ensures tools { AreTools header.now.k tools.new }
     ensures line { tools.new.buffers.line ≡ tools.old.buffers.line }
     ensures known { tools.new.known ≡ tools.old.known }
@@ -342,10 +359,12 @@ fn decide(
     requires tools { AreTools header.now.k tools.old }
     requires index { index < 2 * header.now.k }
     requires off { decided_of board.old axis index ≡ false }
-    requires half { header.now.k ≤ found_count (given_of board.old) (decided_of board.old) axis index (2 * header.now.k) }
+    requires half { header.now.k ≤ found_count (given_of board.old) (decided_of board.old) axis
+        index (2 * header.now.k) }
     ensures decides { DecidesLine header.now board.old board.new tools.new result }
     ensures next { IsNone result → board.new.counts.next ≡ board.old.counts.next }
-    ensures flagged { IsNone result → IsFlagged (decided_of board.old) (decided_of board.new) axis index }
+    ensures flagged { IsNone result →
+        IsFlagged (decided_of board.old) (decided_of board.new) axis index }
 {
     rebuild_line(board, tools, header, axis, index);
     let apart = first_apart(board, axis, index, &tools.buffers.line);
@@ -359,9 +378,12 @@ fn decide(
 /// Whether a row or a column isn't decided and k of its cells are known.
 fn is_due(board: &Board, header: &Header, axis: Axis, index: u16) -> bool
     requires good { IsGood header.now board.now }
-    ensures due { result ≡ true → (index < 2 * header.now.k) × (decided_of board.now axis index ≡ false)
-        × (header.now.k ≤ found_count (given_of board.now) (decided_of board.now) axis index (2 * header.now.k)) }
-    ensures past { result ≡ false → index < 2 * header.now.k → decided_of board.now axis index ≡ false →
+    ensures due { result ≡ true → (index < 2 * header.now.k)
+        × (decided_of board.now axis index ≡ false)
+        × (header.now.k ≤ found_count (given_of board.now) (decided_of board.now) axis index
+        (2 * header.now.k)) }
+    ensures past { result ≡ false → index < 2 * header.now.k → decided_of board.now axis index
+        ≡ false →
         header.now.k ≤ count_of board.now.counts axis index → ⊥ }
 {
     index < 2 * header.k

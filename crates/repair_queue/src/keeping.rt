@@ -12,7 +12,7 @@ ghost use Rattle.repair_queue.specs.Lines.{AreFacts};
 ghost use Rattle.repair_queue.specs.Slots.{IsFlagged};
 ghost use Rattle.repair_queue.specs.Counts.{count_of, pending, AreCounts};
 ghost use Rattle.repair_queue.specs.Pools.{slot_in, HasPlaces};
-ghost use Rattle.repair_queue.specs.Boards.{given_of, decided_of, share_of, mark_of, AreMarks, AreCounted, IsGood, StandsFor};
+ghost use Rattle.repair_queue.specs.Boards.{given_of, decided_of, share_of, mark_of, AreMarks, AreCounted, IsGood, HoldsFor};
 ghost use Rattle.repair_queue.specs.Keeping.{IsAlikeAll, IsCountedIn, AreWrittenLeaves};
 
 use crate::boards::{Board, is_found};
@@ -32,7 +32,8 @@ fn count_line(pool: &Pool, marks: &Marks, counts: &mut Counts, axis: Axis, index
     requires pool_width { pool.now.k ≡ counts.old.k }
     requires marks_width { marks.now.k ≡ counts.old.k }
     requires index { index < 2 * counts.old.k }
-    requires counted { AreCounted counts.old.k (slot_in pool.now) (mark_of marks.now) (count_of counts.old) }
+    requires counted { AreCounted counts.old.k (slot_in pool.now) (mark_of marks.now)
+        (count_of counts.old) }
     ensures counts { AreCounts counts.new }
     ensures width { counts.new.k ≡ counts.old.k }
     ensures next { counts.new.next ≡ counts.old.next }
@@ -90,13 +91,14 @@ pub(crate) fn keep_line(
     requires index { index < 2 * header.now.k }
     requires off { decided_of board.old axis index ≡ false }
     requires line { IsLineOf header.now axis index line.now }
-    requires alike { IsAlikeAll header.now.k (given_of board.old) (decided_of board.old) (share_of board.old) axis index line.now }
+    requires alike { IsAlikeAll header.now.k (given_of board.old) (decided_of board.old)
+        (share_of board.old) axis index line.now }
     requires digests { digests.now ≡ line_leaves header.now.k axis index line.now }
     ensures good { IsGood header.now board.new }
     ensures next { board.new.counts.next ≡ board.old.counts.next }
     ensures flagged { IsFlagged (decided_of board.old) (decided_of board.new) axis index }
     ensures stands { (ms : List Message) → AreFacts header.now ms axis index line.now →
-        StandsFor header.now ms board.old → StandsFor header.now ms board.new }
+        HoldsFor header.now ms board.old → HoldsFor header.now ms board.new }
 {
     count_line(&board.pool, &board.marks, &mut board.counts, axis, index);
     write_shares(&mut board.grid, axis, index, line);

@@ -1,5 +1,5 @@
-//! What is proved of the cells and shares that follow from proved messages, of what settles them, and of what
-//! repair may answer.
+//! What is proved of the cells and shares that follow from proved messages, of what settles them,
+//! and of what repair may answer.
 
 ghost use Rattle.std.specs.Prelude.{◌≡◌, ◌<◌, ◌*◌, ◌↔◌, ◌⊎◌, ℕ, List, Bool, true};
 ghost use Rattle.std.specs.List.{AllByRecursion, Contains};
@@ -21,9 +21,12 @@ ghost use Rattle.repair_queue.specs.Closures.{AreChosen, Half, Fact, IsDecided, 
 ghost use Rattle.repair_queue.specs.Derivations.{IsListed, IsSeen, IsFilled, IsShownPair, IsRebuiltPair};
 ghost use Rattle.repair_queue.specs.Settled.{IsSettled, Lines, Fits, along, CellsFit};
 ghost use Rattle.repair_queue.specs.Verdicts.{VerdictParts, whole, missing, fraud, clash, IsVerdict, IsOwnVerdict, AreAlike};
+ghost use Rattle.repair_queue.specs.SessionParts.{SessionParts, accused, collided, is_known, StandsFor};
+ghost use Rattle.repair_queue.specs.Sessions.{state_of};
+ghost use Rattle.repair_queue.specs.declared.fed.SessionState.TheVariants as state;
 
-/// What is proved of the cells that are recoverable and of the facts, for any header and any list of
-/// messages.
+/// What is proved of the cells that are recoverable and of the facts, for any header and any list
+/// of messages.
 ///
 /// docs/RULES.md, "Closures and verdicts".
 pub fn closure_laws()
@@ -31,8 +34,8 @@ pub fn closure_laws()
     ensures cells { (header : Roots) (ms : List Message) (cell : Cell) →
         Half header ms cell ↔ ((share : Share) × Fact header ms cell share) }
 
-    // The recoverable cells are a set that holds the cells of proved messages and, with k cells of a row
-    // or a column, all of it; every such set that a test tells holds them.
+    // The recoverable cells are a set that holds the cells of proved messages and, with k cells of
+    // a row or a column, all of it; every such set that a test tells holds them.
     ensures half_given { (header : Roots) (ms : List Message) (m : Message) → Contains ms m →
         IsProved header m → Half header ms m.cell }
     ensures half_closed { (header : Roots) (ms : List Message) (axis : Axis) (index : ℕ)
@@ -47,8 +50,8 @@ pub fn closure_laws()
         pos < 2 * header.k → set (cell_on axis index pos) ≡ true) →
         (cell : Cell) → Half header ms cell → set cell ≡ true }
 
-    // The facts are a set that holds the cells and shares of proved messages and, with k shares of a
-    // codeword along a row or a column, all of it; every such set that a test tells holds them.
+    // The facts are a set that holds the cells and shares of proved messages and, with k shares of
+    // a codeword along a row or a column, all of it; every such set that a test tells holds them.
     ensures fact_given { (header : Roots) (ms : List Message) (m : Message) → Contains ms m →
         IsProved header m → Fact header ms m.cell m.share }
     ensures fact_closed { (header : Roots) (ms : List Message) (axis : Axis) (index : ℕ)
@@ -102,6 +105,11 @@ pub fn settled_laws()
     ensures cells { (header : Roots) (ms : List Message) (shares : Cell → Share) →
         CellsFit header ms shares →
         Fits header ms (λ axis index d. along header.k shares axis index) }
+
+    // Only the proved messages count, not their order or repeats.
+    ensures same_proved { (header : Roots) (ms others : List Message) →
+        Covers header ms others → Covers header others ms →
+        IsSettled header ms ↔ IsSettled header others }
 {}
 
 /// What is proved of the answers that repair may give.
@@ -131,8 +139,8 @@ pub fn verdict_laws()
         ((m : Message) → Contains ms m → IsProved header m → ⊥) →
         IsVerdict header ms (missing (record { k = header.k; list = all_cells header.k })) }
 
-    // Where all cells are recoverable and the list is settled, there is a whole square; and the square
-    // that the facts hold is one: the header is its own.
+    // Where all cells are recoverable and the list is settled, there is a whole square; and the
+    // square that the facts hold is one: the header is its own.
     ensures some_square { (header : Roots) (ms : List Message) → AreRoots header →
         ((cell : Cell) → is_in_square header.k cell ≡ true → Half header ms cell) →
         IsSettled header ms → (square : SquareShares) × IsVerdict header ms (whole square) }
@@ -151,8 +159,8 @@ pub fn verdict_laws()
         Covers header ms others → IsVerdict header ms (clash left right) →
         IsVerdict header others (clash left right) }
 
-    // Only the proved messages count, not their order or repeats: another list with the same ones has
-    // the same answers, and what two such lists are answered is alike.
+    // Only the proved messages count, not their order or repeats: another list with the same ones
+    // has the same answers, and what two such lists are answered is alike.
     ensures same_proved { (header : Roots) (ms others : List Message) →
         Covers header ms others → Covers header others ms → (verdict : VerdictParts) →
         IsVerdict header ms verdict → IsVerdict header others verdict }
@@ -160,16 +168,16 @@ pub fn verdict_laws()
         Covers header others ms → (verdict other : VerdictParts) → IsVerdict header ms verdict →
         IsVerdict header others other → AreAlike verdict other }
 
-    // Under the header of a square the answer is this square or the missing cells, or a proved message
-    // and the square name a collision.
+    // Under the header of a square the answer is this square or the missing cells, or a proved
+    // message and the square name a collision.
     ensures own { (header : Roots) (square : SquareShares) (ms : List Message) →
         IsHeaderOf header square → AllByRecursion IsMessage ms → (verdict : VerdictParts) →
         IsVerdict header ms verdict → IsOwnVerdict square verdict
         ⊎ ((m : Message) × Contains ms m × IsProved header m × NamesClash m square) }
 
-    // Where no proved message and the square name one, the list is settled; with all cells recoverable
-    // the square is an answer; and each answer is the square or missing cells. Nothing is asked of
-    // messages that aren't proved.
+    // Where no proved message and the square name one, the list is settled; with all cells
+    // recoverable the square is an answer; and each answer is the square or missing cells. Nothing
+    // is asked of messages that aren't proved.
     ensures own_unnamed { (header : Roots) (square : SquareShares) (ms : List Message) →
         IsHeaderOf header square →
         ((m : Message) → Contains ms m → IsProved header m → NamesClash m square → ⊥) →
@@ -177,4 +185,29 @@ pub fn verdict_laws()
         × (((cell : Cell) → is_in_square header.k cell ≡ true → Half header ms cell) →
         IsVerdict header ms (whole square))
         × ((verdict : VerdictParts) → IsVerdict header ms verdict → IsOwnVerdict square verdict) }
+{}
+
+/// What is proved of the lists of messages for which a session stands.
+///
+/// docs/RULES.md, "Closures and verdicts".
+pub fn session_laws()
+    // A session that stands for a list stands for each one with the same proved messages, whatever
+    // their order and repeats.
+    ensures same_proved { (s : SessionParts) (ms others : List Message) →
+        Covers s.header ms others → Covers s.header others ms → StandsFor s ms →
+        StandsFor s others }
+
+    // An open one knows just the recoverable cells of the square, and the list is settled.
+    ensures known { (s : SessionParts) (ms : List Message) → state_of s ≡ state.Open →
+        StandsFor s ms → (cell : Cell) → is_in_square s.header.k cell ≡ true →
+        (is_known s cell ≡ true) ↔ Half s.header ms cell }
+    ensures settled { (s : SessionParts) (ms : List Message) → state_of s ≡ state.Open →
+        StandsFor s ms → IsSettled s.header ms }
+
+    // What ended another one is an answer.
+    ensures accused { (s : SessionParts) (ms : List Message) (claim : ClaimParts) →
+        s.ended ≡ accused claim → StandsFor s ms → IsVerdict s.header ms (fraud claim) }
+    ensures collided { (s : SessionParts) (ms : List Message) (left right : List ℕ) →
+        s.ended ≡ collided left right → StandsFor s ms →
+        IsVerdict s.header ms (clash left right) }
 {}

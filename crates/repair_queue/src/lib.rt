@@ -1,9 +1,10 @@
-//! What k proved samples of a row or a column say of the rest of it, and so on for the whole extended data
-//! square: its repair.
+//! What k proved samples of a row or a column say of the rest of it, and so on for the whole
+//! extended data square: its repair.
 //!
-//! `repair_list` answers a square with the header, missing cells, a fraud proof or a SHA-256 collision.
-//! `closure_laws` is on the cells and shares that follow from proved samples, `settled_laws` on when these fit
-//! the header, `verdict_laws` on the answers.
+//! `repair_list` answers a square with the header, missing cells, a fraud proof or a SHA-256
+//! collision. So does a `Session`, which is fed one sample at a time. `closure_laws` is on the cells
+//! and shares that follow from proved samples, `settled_laws` on when these fit the header,
+//! `verdict_laws` on the answers, `session_laws` on the lists for which a session stands.
 #![tactic(auto)]
 
 mod boards;
@@ -24,10 +25,12 @@ mod rooting;
 mod sessions;
 mod slots;
 mod taking;
+#[cfg(test)]
+mod tests;
 mod tools;
 mod verdict;
 
-pub use laws::{closure_laws, settled_laws, verdict_laws};
-pub use repairing::repair_list;
 pub use fed::{Session, SessionState};
+pub use laws::{closure_laws, session_laws, settled_laws, verdict_laws};
+pub use repairing::repair_list;
 pub use verdict::Verdict;

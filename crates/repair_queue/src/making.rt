@@ -29,8 +29,8 @@ pub(crate) fn read_along(grid: &Grid, axis: Axis, index: u16, line: &mut [Share]
     }
 }
 
-/// The message of a cell along its row or its column, whose shares have the header's root: it is made from the tree over
-/// them.
+/// The message of a cell along its row or its column, whose shares have the header's root: it is
+/// made from the tree over them.
 pub(crate) fn make(
     grid: &Grid,
     room: &mut AxisRoom,
@@ -76,8 +76,8 @@ pub(crate) fn take_first(pool: &mut Pool, cell: Cell) -> Proved
     take_from(pool, Axis::Col, cell).unwrap()
 }
 
-/// Takes the message of a cell out that shows another share than this one: that along its row, else that along its
-/// column.
+/// Takes the message of a cell out that shows another share than this one: that along its row, else
+/// that along its column.
 pub(crate) fn take_other(pool: &mut Pool, cell: Cell, share: &Share) -> Proved
     requires places { HasPlaces pool.old }
     requires cell { is_in_square pool.old.k cell ≡ true }

@@ -13,8 +13,8 @@ use axis_roots::Proved;
 use namespace_id::{Axis, Cell, NoMemory, Share};
 use std::alloc::Global;
 
-/// Messages of the cells of a square, at most one for each cell along each axis, in memory that was taken for two of
-/// each cell. What isn't used of it isn't written.
+/// Messages of the cells of a square, at most one for each cell along each axis, in memory that was
+/// taken for two of each cell. What isn't used of it isn't written.
 #[derive(Drop)]
 pub(crate) struct Pool {
     pub(crate) k: u16,
@@ -32,7 +32,8 @@ impl Pool {
         requires width { IsTrue (is_width k) }
         ensures pool { IfOk result IsPool }
         ensures width { IfOk result (λ p. p.k ≡ k) }
-        ensures empty { IfOk result (λ p. (axis : Along) (cell : Place) → slot_in p axis cell ≡ None) }
+        ensures empty { IfOk result
+            (λ p. (axis : Along) (cell : Place) → slot_in p axis cell ≡ None) }
     {
         let side = 2 * k as usize;
         let Ok(rows) = vec![in alloc; 0; side * side] else {

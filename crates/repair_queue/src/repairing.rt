@@ -9,7 +9,7 @@ ghost use Rattle.axis_roots.specs.Grids.{IsHeaderOf};
 ghost use Rattle.repair_queue.specs.Closures.{Covers};
 ghost use Rattle.repair_queue.specs.Verdicts.{VerdictParts, IsVerdict, IsOwnVerdict, AreAlike};
 ghost use Rattle.repair_queue.specs.Answers.{parts_of, SomeNames};
-ghost use Rattle.repair_queue.specs.Sessions.{SessionStands, IsHeldSession};
+ghost use Rattle.repair_queue.specs.SessionParts.{StandsFor};
 
 use crate::Verdict;
 use crate::fed::Session;
@@ -20,12 +20,10 @@ use std::alloc::Global;
 
 /// Feeds a session with the samples of a list, in their order.
 fn feed_list(session: &mut Session, messages: Vec<Proved>)
-    requires session { IsHeldSession session.old }
     requires under { AllByRecursion (IsUnder session.old.header) messages.items }
-    ensures session { IsHeldSession session.new }
     ensures header { session.new.header ≡ session.old.header }
-    ensures stands { (ms : List Sent) → SessionStands session.old ms →
-        SessionStands session.new (ms ++ map kept_message messages.items) }
+    ensures stands { (ms : List Sent) → StandsFor session.old ms →
+        StandsFor session.new (ms ++ map kept_message messages.items) }
 {
     for message in messages {
         session.feed(message);
@@ -43,11 +41,12 @@ fn repaired(alloc: Global, header: &Header, messages: Vec<Proved>) -> Result<Ver
     Ok(session.finish())
 }
 
-/// Repairs the square of a data availability header from proved samples: answers a square with that header; or a fraud
-/// proof; or exactly the cells that the samples leave unknown, where each row and column with k known cells fits the
-/// header; or a SHA-256 collision. The header may be anybody's. All samples are under it; their order and repeats play
-/// no part. Under the header of a square the answer is this square or the missing cells, or a sample and the square name
-/// a collision.
+/// Repairs the square of a data availability header from proved samples: answers a square with that
+/// header; or a fraud proof; or exactly the cells that the samples leave unknown, where each row
+/// and column with k known cells fits the header; or a SHA-256 collision. The header may be
+/// anybody's. All samples are under it; their order and repeats play no part. Under the header of a
+/// square the answer is this square or the missing cells, or a sample and the square name a
+/// collision.
 ///
 /// It takes the memory of a session, all at first; the one refusal is that there is none.
 ///
@@ -62,13 +61,14 @@ pub fn repair_list(
     ensures verdict { IfOk result (λ verdict.
         IsVerdict header.now (map kept_message messages.items) (parts_of verdict)) }
 
-    // Under the header of a square the answer is this square or the missing cells, or a sample and the square name
-    // a collision.
+    // Under the header of a square the answer is this square or the missing cells, or a sample and
+    // the square name a collision.
     ensures own { IfOk result (λ verdict. (square : SquareShares) → IsHeaderOf header.now square →
         IsOwnVerdict square (parts_of verdict)
         ⊎ SomeNames header.now (map kept_message messages.items) square) }
 
-    // What another list with the same proved samples is answered, whatever their order and repeats, is alike.
+    // What another list with the same proved samples is answered, whatever their order and repeats,
+    // is alike.
     ensures order { IfOk result (λ verdict. (others : List Sent) (other : VerdictParts) →
         Covers header.now (map kept_message messages.items) others →
         Covers header.now others (map kept_message messages.items) →

@@ -17,7 +17,8 @@ use data_header::Header;
 use namespace_id::{Axis, Cell, Digest, Namespace, Share};
 use nmt_tree::{are_ordered, fold_root, leaf};
 
-/// The digest of the leaf over a cell that would have this share. Where the cell has it already it was hashed before.
+/// The digest of the leaf over a cell that would have this share. Where the cell has it already it
+/// was hashed before.
 fn leaf_of(
     board: &Board,
     header: &Header,
@@ -71,7 +72,8 @@ fn root_over(names: &[Namespace], digests: &[Digest], folded: &mut [Digest]) -> 
     requires count { length digests.now ≡ length names.now }
     requires leaves { IsTrue (is_leaf_count (length names.now)) }
     requires folded { length folded.old ≡ length names.now }
-    ensures root { (k : ℕ) (axis : Along) (i : ℕ) (line : List Bytes) → is_width k ≡ true → length line ≡ 2 * k →
+    ensures root { (k : ℕ) (axis : Along) (i : ℕ) (line : List Bytes) → is_width k ≡ true →
+        length line ≡ 2 * k →
         names.now ≡ line_names k axis i line → digests.now ≡ line_leaves k axis i line →
         result ≡ line_strict_root k axis i line }
     ensures folded { length folded.new ≡ length folded.old }

@@ -1,14 +1,24 @@
 //! A repair that is fed one message at a time.
+//!
+//! The known cells of each row and column are counted. One that comes to have k enters a queue,
+//! once, and after each message the queue is emptied: so each row and column is decided once, and
+//! nothing is looked through again. To decide one, the codeword through k of its known shares is
+//! made and hashed. Where the header has another root, these k cells are a fraud proof. Where
+//! another share is known of a cell, that one and the line are a fraud proof or a collision. Else
+//! its shares are kept, and its cells that were unknown are counted for what crosses it. What is
+//! kept: of each cell on no decided row or column at most two messages, and of each other its share
+//! with the digest of its leaf. `Session::new` takes all memory, also that of the answer.
 
 ghost use Rattle.std.specs.Prelude.{◌≡◌, ◌≢◌, ◌*◌, ◌≤◌, ◌++◌, ◌∷◌, [], List, Some, IfOk, true, vec_capacity};
 ghost use Rattle.namespace_id.specs.Cells.{is_width};
 ghost use Rattle.axis_roots.specs.declared.message.messages.Message.{Message};
 ghost use Rattle.axis_roots.specs.Proved.{IsUnder, kept_message};
-ghost use Rattle.repair_queue.specs.Boards.{given_of, decided_of, IsGood, AreParts, AreAtRest, StandsFor};
-ghost use Rattle.repair_queue.specs.Settled.{IsSettled};
+ghost use Rattle.repair_queue.specs.Boards.{given_of, decided_of, IsGood, AreParts, AreAtRest, HoldsFor};
 ghost use Rattle.repair_queue.specs.Verdicts.{IsVerdict};
 ghost use Rattle.repair_queue.specs.Answers.{parts_of, EndsAs};
-ghost use Rattle.repair_queue.specs.Sessions.{SessionStands, IsHeldSession, state_of, IsOfState, AreLeft, AreNotFound, AreOriginals};
+ghost use Rattle.repair_queue.specs.SessionParts.{StandsFor};
+ghost use Rattle.repair_queue.specs.Views.{end_of};
+ghost use Rattle.repair_queue.specs.Sessions.{state_by, state_of, IsOfState, AreLeft, AreNotFound, AreOriginals};
 ghost use Rattle.repair_queue.specs.declared.fed.SessionState.TheVariants as state;
 
 use crate::Verdict;
@@ -78,7 +88,9 @@ fn original_shares(board: &Board, shares: Vec<Share>) -> Vec<Share>
     let k = board.grid.width();
     let count = k as usize * k as usize;
     for number in 0..count {
-        shares.push(*board.grid.cell(cell_numbered(k, number))).unwrap();
+        shares
+            .push(*board.grid.cell(cell_numbered(k, number)))
+            .unwrap();
     }
     shares
 }
@@ -90,7 +102,7 @@ fn answer_open(board: &Board, header: &Header, shares: Vec<Share>, room: CellRoo
     requires empty { shares.items ≡ [] }
     requires room { header.now.k * header.now.k ≤ vec_capacity shares }
     requires cells { room.k ≡ header.now.k }
-    ensures verdict { (ms : List Message) → StandsFor header.now ms board.now →
+    ensures verdict { (ms : List Message) → HoldsFor header.now ms board.now →
         IsVerdict header.now ms (parts_of result) }
     ensures state { IsOfState state.Open result }
 {
@@ -109,7 +121,7 @@ fn answer_open(board: &Board, header: &Header, shares: Vec<Share>, room: CellRoo
 /// The answer with which a session ended.
 fn answer_ended(ended: Ended) -> Verdict
     ensures value { EndsAs ended result }
-    ensures state { IsOfState (state_of (Some ended)) result }
+    ensures state { IsOfState (state_by (end_of (Some ended))) result }
 {
     match ended {
         Ended::Fraud(proof) => Verdict::Fraud(proof),
@@ -118,15 +130,13 @@ fn answer_ended(ended: Ended) -> Verdict
 }
 
 impl Session {
-    /// A session over the square of a header that was fed nothing. It keeps a copy of the header, and takes all memory
-    /// that it will need, also for what it hands out. It refuses only where there is none.
+    /// A session over the square of a header that was fed nothing. It keeps a copy of the header,
+    /// and takes all memory that it will need, also for what it hands out. It refuses only where
+    /// there is none.
     pub fn new(alloc: Global, header: &Header) -> Result<Session, NoMemory>
-        ensures session { IfOk result IsHeldSession }
         ensures header { IfOk result (λ s. s.header ≡ header.now) }
-        ensures stands { IfOk result (λ s. SessionStands s []) }
-        ensures open { IfOk result (λ s. state_of s.ended ≡ state.Open) }
-        ensures settled { IfOk result (λ s. (ms : List Message) → SessionStands s ms →
-            IsSettled s.header ms) }
+        ensures stands { IfOk result (λ s. StandsFor s []) }
+        ensures open { IfOk result (λ s. state_of s ≡ state.Open) }
     {
         let header = copy_of(alloc, header)?;
         let k = width(&header);
@@ -146,19 +156,15 @@ impl Session {
         })
     }
 
-    /// Takes a proved sample under the header, and answers the state after it. A fraud proof or a collision that was
-    /// found stays. It takes no memory.
+    /// Takes a proved sample under the header, and answers the state after it. A fraud proof or a
+    /// collision that was found stays. It takes no memory.
     pub fn feed(&mut self, message: Proved) -> SessionState
-        requires session { IsHeldSession self.old }
         requires under { IsUnder self.old.header message }
-        ensures session { IsHeldSession self.new }
         ensures header { self.new.header ≡ self.old.header }
-        ensures state { result ≡ state_of self.new.ended }
-        ensures stays { state_of self.old.ended ≢ state.Open → self.new ≡ self.old }
-        ensures stands { (ms : List Message) → SessionStands self.old ms →
-            SessionStands self.new (ms ++ kept_message message ∷ []) }
-        ensures settled { state_of self.new.ended ≡ state.Open → (ms : List Message) →
-            SessionStands self.new ms → IsSettled self.new.header ms }
+        ensures state { result ≡ state_of self.new }
+        ensures stays { state_of self.old ≢ state.Open → self.new ≡ self.old }
+        ensures stands { (ms : List Message) → StandsFor self.old ms →
+            StandsFor self.new (ms ++ kept_message message ∷ []) }
     {
         if self.ended.is_none() {
             self.ended = step(&mut self.board, &mut self.tools, &self.header, message);
@@ -168,7 +174,7 @@ impl Session {
 
     /// The state over everything that was fed. It takes no memory.
     pub fn state(&self) -> SessionState
-        ensures { result ≡ state_of self.now.ended }
+        ensures { result ≡ state_of self.now }
     {
         match &self.ended {
             None => SessionState::Open,
@@ -177,23 +183,24 @@ impl Session {
         }
     }
 
-    /// Fills the room with the cells that don't follow from what was fed, row-major, in place of what it held. Nothing
-    /// has ended the session, and the room is for the header's width. It takes no memory.
+    /// Fills the room with the cells that don't follow from what was fed, row-major, in place of
+    /// what it held. Nothing has ended the session, and the room is for the header's width. It
+    /// takes no memory.
     pub fn missing(&self, room: &mut CellRoom)
-        requires session { IsHeldSession self.now }
-        requires open { state_of self.now.ended ≡ state.Open }
+        requires open { state_of self.now ≡ state.Open }
         requires room { room.old.k ≡ self.now.header.k }
-        ensures { (ms : List Message) → SessionStands self.now ms → AreLeft self.now.header ms room.new }
+        ensures width { room.new.k ≡ room.old.k }
+        ensures left { (ms : List Message) → StandsFor self.now ms →
+            AreLeft self.now.header ms room.new }
     {
         fill_unknown(&self.board, room);
     }
 
     /// Ends the session with the answer over everything that was fed. It takes no memory.
     pub fn finish(self) -> Verdict
-        requires session { IsHeldSession self }
-        ensures verdict { (ms : List Message) → SessionStands self ms →
+        ensures verdict { (ms : List Message) → StandsFor self ms →
             IsVerdict self.header ms (parts_of result) }
-        ensures state { IsOfState (state_of self.ended) result }
+        ensures state { IsOfState (state_of self) result }
     {
         let Session {
             header,

@@ -5,8 +5,8 @@ use hash_clash::Clash;
 use namespace_id::Cells;
 use square_layout::Square;
 
-/// What repair answers for a header and a list of proved samples. It can't be dropped: who holds one has to take it
-/// apart.
+/// What repair answers for a header and a list of proved samples. It can't be dropped: who holds
+/// one has to take it apart.
 ///
 /// docs/RULES.md, "Closures and verdicts".
 pub enum Verdict {

@@ -36,4 +36,3 @@ returns-then-more-counts-clause-queued c =
       | in-Col w ↦ col_one_more c.args.counts.now c.match-axis.counts c.args.axis c.args.index c.count-more.result c.requires.counts c.requires.index w.in-Col.is c.count-more.ensures w.counts-is
     ] in
     queued c.args.counts.now c.match-axis.counts c.args.axis c.args.index (c.count-more.result + 1) c.requires.counts x (ap (λ (n : ℕ). n + 1) c.count-more.ensures) c.push.new.self (search rules) (search rules) (search rules) (c.if-more-counts.true ∙ x.width)
-

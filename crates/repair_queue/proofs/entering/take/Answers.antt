@@ -33,14 +33,14 @@ returns-in-Against c =
 
 -- a message of the same cell along the same axis is kept
 pub beside-requires-clause-other : goal.beside-requires-clause-other
-beside-requires-clause-other c = beside_under c.args.header.now c.args.board.now c.requires.good c.args.message c.in-Beside.message c.in-Beside.kept c.requires.under c.in-Beside.ensures.0 c.in-Beside.ensures.1 c.in-Beside.ensures.2
+beside-requires-clause-other c = beside_under c.args.header.now c.args.board.now c.requires.good c.args.message c.in-Beside.message c.in-Beside.kept c.requires.under c.in-Beside.ensures.0 c.in-Beside.ensures.1 c.in-Beside.ensures.2 c.in-Beside.ensures.3
 
 pub beside-requires-clause-axis : goal.beside-requires-clause-axis
-beside-requires-clause-axis c = beside_axis c.args.header.now c.args.board.now c.requires.good c.args.message c.in-Beside.message c.in-Beside.kept c.requires.under c.in-Beside.ensures.0 c.in-Beside.ensures.1 c.in-Beside.ensures.2
+beside-requires-clause-axis c = beside_axis c.args.header.now c.args.board.now c.requires.good c.args.message c.in-Beside.message c.in-Beside.kept c.requires.under c.in-Beside.ensures.0 c.in-Beside.ensures.1 c.in-Beside.ensures.2 c.in-Beside.ensures.3
 
 pub beside-requires-clause-cell : goal.beside-requires-clause-cell
-beside-requires-clause-cell c = beside_cell c.args.header.now c.args.board.now c.requires.good c.args.message c.in-Beside.message c.in-Beside.kept c.requires.under c.in-Beside.ensures.0 c.in-Beside.ensures.1 c.in-Beside.ensures.2
+beside-requires-clause-cell c = beside_cell c.args.header.now c.args.board.now c.requires.good c.args.message c.in-Beside.message c.in-Beside.kept c.requires.under c.in-Beside.ensures.0 c.in-Beside.ensures.1 c.in-Beside.ensures.2 c.in-Beside.ensures.3
 
 -- and their collision ends it
 pub returns-in-Beside : goal.returns-in-Beside
-returns-in-Beside c = beside_clash c.args.header.now c.args.board.now c.requires.good c.args.message c.in-Beside.message c.in-Beside.kept c.requires.under c.in-Beside.ensures.0 c.in-Beside.ensures.1 c.in-Beside.ensures.2 c.beside.result.left c.beside.result.right c.beside.ensures
+returns-in-Beside c = beside_clash c.args.header.now c.args.board.now c.requires.good c.args.message c.in-Beside.message c.in-Beside.kept c.requires.under c.in-Beside.ensures.0 c.in-Beside.ensures.1 c.in-Beside.ensures.2 c.in-Beside.ensures.3 c.beside.result.left c.beside.result.right c.beside.ensures

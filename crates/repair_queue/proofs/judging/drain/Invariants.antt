@@ -1,6 +1,6 @@
 use Rattle.std.proofs.Common.{List, ◌+◌, ◌-◌, ◌*◌}
 use Rattle.axis_roots.specs.declared.message.messages.Message.{Message}
-use Rattle.repair_queue.specs.Boards.{decided_of, IsGood, StandsFor}
+use Rattle.repair_queue.specs.Boards.{decided_of, IsGood, HoldsFor}
 use Rattle.repair_queue.specs.Tools.{AreTools}
 use Rattle.repair_queue.proofs.CountLemmas.{undecided_count}
 use Rattle.repair_queue.proofs.judging.drain.Given as goal
@@ -10,7 +10,7 @@ abbrev pub invariant-loop-axis : goal.invariant-loop-axis
 invariant-loop-axis l = record {
   good : IsGood l.header l.board;
   tools : AreTools l.header.k l.tools;
-  holds : (ms : List Message) → StandsFor l.header ms l.fn.board → StandsFor l.header ms l.board;
+  holds : (ms : List Message) → HoldsFor l.header ms l.fn.board → HoldsFor l.header ms l.board;
 }
 
 -- each turn decides a row or a column, or passes one of the queue

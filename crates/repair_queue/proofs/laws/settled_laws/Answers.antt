@@ -1,4 +1,5 @@
 use Rattle.repair_queue.proofs.SettledLemmas.{settled_fits, fits_settles, fits_once, fact_on_line, cells_fit}
+use Rattle.repair_queue.proofs.GrowthLemmas.{settled_same}
 use Rattle.repair_queue.proofs.laws.settled_laws.Goals as goal
 
 pub returns-clause-fits : goal.returns-clause-fits
@@ -15,3 +16,6 @@ returns-clause-facts c = fact_on_line
 
 pub returns-clause-cells : goal.returns-clause-cells
 returns-clause-cells c = cells_fit
+
+pub returns-clause-same_proved : goal.returns-clause-same_proved
+returns-clause-same_proved c = λ header ms others to from. (settled_same header ms others to from, settled_same header others ms from to)

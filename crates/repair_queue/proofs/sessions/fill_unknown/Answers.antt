@@ -42,15 +42,15 @@ loop-number-preserved c =
     subst (λ (w : ℕ). cell.row * (2 * w) + cell.col ≡ c.loop-number.number) c.width-k.ensures.value c.cell_numbered-cell.ensures.number in
     elim c.if-not-is_known.branch [
       | then-not-is_known w ↦ subst (IsFilling k known (c.loop-number.number + 1)) (sym (w.room-is ∙ w.add.ensures.value)) (record {
-          width = c.loop-number.invariant.width;
-          left = left_more k known c.loop-number.number c.loop-number.room.list cell within number c.loop-number.invariant.left
-              (λ is. true≢false (sym is ∙ sym c.is_known.ensures ∙ w.if-not-is_known.true));
-        })
+        width = c.loop-number.invariant.width;
+        left = left_more k known c.loop-number.number c.loop-number.room.list cell within number c.loop-number.invariant.left
+            (λ is. true≢false (sym is ∙ sym c.is_known.ensures ∙ w.if-not-is_known.true));
+      })
       | else-not-is_known w ↦ subst (IsFilling k known (c.loop-number.number + 1)) (sym w.room-is) (record {
-          width = c.loop-number.invariant.width;
-          left = left_same k known c.loop-number.number c.loop-number.room.list cell within number c.loop-number.invariant.left
-              (sym c.is_known.ensures ∙ w.if-not-is_known.false);
-        })
+        width = c.loop-number.invariant.width;
+        left = left_same k known c.loop-number.number c.loop-number.room.list cell within number c.loop-number.invariant.left
+            (sym c.is_known.ensures ∙ w.if-not-is_known.false);
+      })
     ]
 
 -- at the end these are all

@@ -1,20 +1,21 @@
-use Rattle.std.proofs.Common.{rules, ◌∙◌, ℕ, ◌*◌, ◌<◌, ◌≤◌, sym, subst, arith}
-use Rattle.std.specs.Prelude.{vec_capacity}
+use Rattle.std.proofs.Common.{rules, ◌∙◌, ℕ, ◌*◌, ◌<◌, ◌≤◌, [], sym, subst, arith}
+use Rattle.std.specs.Prelude.{None, vec_capacity}
 use Rattle.axis_roots.proofs.Grids.NumberLemmas.{width-ge}
 use Rattle.repair_queue.specs.Boards.{given_of, decided_of, share_of}
 use Rattle.repair_queue.specs.Tools.{AreTools}
 use Rattle.repair_queue.proofs.StandLemmas.{nothing_stands}
-use Rattle.repair_queue.proofs.FinishLemmas.{nothing_rests, open_settled}
+use Rattle.repair_queue.proofs.FinishLemmas.{nothing_rests}
+use Rattle.repair_queue.proofs.ViewLemmas.{keeps_stands}
 use Rattle.repair_queue.proofs.fed.Session.new.Goals as goal
 
 -- nothing is known of any cell
-pub returns-clause-session : goal.returns-clause-session
-returns-clause-session c = record {
+pub invariant_of-result : goal.invariant_of-result
+invariant_of-result c = record {
   open_board = (
     c.in_ok-board.ensures.good c.in_ok-header.header (sym c.width-k.ensures.value),
     subst (λ (k : ℕ). AreTools k c.in_ok-tools.tools) c.width-k.ensures.value c.in_ok-tools.ensures,
     nothing_rests c.in_ok-header.header.k (given_of c.in_ok-board.board) (decided_of c.in_ok-board.board)
-    (subst (λ (k : ℕ). 0 < k) c.width-k.ensures.value (width-ge c.width-k.result c.width-k.ensures.width)) c.in_ok-board.ensures.empty c.in_ok-board.ensures.undecided,
+        (subst (λ (k : ℕ). 0 < k) c.width-k.ensures.value (width-ge c.width-k.result c.width-k.ensures.width)) c.in_ok-board.ensures.empty c.in_ok-board.ensures.undecided,
   );
   empty = search rules;
   space = subst (λ (k : ℕ). k * k ≤ vec_capacity c.in-Ok.shares) c.width-k.ensures.value (omega (arith, c.in-Ok.ensures.capacity));
@@ -24,10 +25,6 @@ returns-clause-session c = record {
 -- so it stands for no message
 pub returns-clause-stands : goal.returns-clause-stands
 returns-clause-stands c =
-    nothing_stands c.in_ok-header.header (given_of c.in_ok-board.board) (decided_of c.in_ok-board.board) (share_of c.in_ok-board.board)
-    c.in_ok-board.ensures.empty c.in_ok-board.ensures.undecided
-
--- and these are settled
-pub returns-clause-settled : goal.returns-clause-settled
-returns-clause-settled c = λ ms stand. let held = (returns-clause-session c).open_board in
-    open_settled c.in_ok-header.header c.in_ok-board.board held.0 held.2 ms stand
+    keeps_stands c.in_ok-header.header c.in_ok-board.board c.in_ok-tools.tools None (invariant_of-result c).open_board []
+    (nothing_stands c.in_ok-header.header (given_of c.in_ok-board.board) (decided_of c.in_ok-board.board) (share_of c.in_ok-board.board)
+    c.in_ok-board.ensures.empty c.in_ok-board.ensures.undecided)

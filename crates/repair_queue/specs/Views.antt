@@ -1,0 +1,34 @@
+-- A session as contracts see it, by its fields.
+use Rattle.std.specs.Prelude.{map, Option, Some, None}
+use Rattle.data_header.specs.Headers.{Roots}
+use Rattle.axis_roots.specs.declared.message.messages.Message.{Message}
+use Rattle.axis_roots.specs.declared.message.proved.Proved.{Proved}
+use Rattle.axis_roots.specs.Proved.{kept_message}
+use Rattle.repair_queue.specs.declared.boards.Board.{Board}
+use Rattle.repair_queue.specs.declared.ending.Ended.{Ended}
+use Rattle.repair_queue.specs.declared.ending.Ended.TheVariants.{Fraud, Clash}
+use Rattle.repair_queue.specs.SessionParts.{SessionParts, SessionEnd, going, accused, collided}
+
+-- what ended it
+abbrev pub end_of : Option Ended → SessionEnd
+end_of None = going
+end_of (Some (Fraud proof)) = accused proof.claim
+end_of (Some (Clash clash)) = collided clash.left clash.right
+
+-- the message of a certificate, if there is one
+abbrev pub message_of : Option Proved → Option Message
+message_of None = None
+message_of (Some kept) = Some (kept_message kept)
+
+-- a session by its header, its board and what ended it
+abbrev pub parts_by : Roots → Board → Option Ended → SessionParts
+parts_by header b end = record {
+  header = header;
+  kept = map message_of b.pool.given.items;
+  row_places = b.pool.rows.items;
+  col_places = b.pool.cols.items;
+  row_marks = b.marks.rows.items;
+  col_marks = b.marks.cols.items;
+  shares = b.grid.shares;
+  ended = end_of end;
+}
