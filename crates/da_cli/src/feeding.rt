@@ -8,7 +8,7 @@ ghost use Rattle.axis_roots.specs.Proved.{IsUnder, kept_message};
 ghost use Rattle.axis_roots.specs.Openings.{IsProved};
 ghost use Rattle.axis_roots.specs.Messages.{message_refusal};
 ghost use Rattle.repair_queue.specs.Closures.{Covers};
-ghost use Rattle.repair_queue.specs.Sessions.{SessionStands, IsHeldSession};
+ghost use Rattle.repair_queue.specs.SessionParts.{StandsFor as SessionStands};
 ghost use Rattle.da_wire.specs.Reading.{Raw};
 ghost use Rattle.da_cli.specs.commands.Repair.{messages_in, lies_in};
 ghost use Rattle.da_io.specs.Faults.{count_on};
@@ -40,9 +40,7 @@ pub enum FeedFault {
 /// Feeds a session with the message of a frame, where it is one that is proved. Answers how many lies the
 /// frame is, none or one.
 fn feed_message(header: &Header, session: &mut Session, message: Option<Message>) -> u64
-    requires session { IsHeldSession session.old }
     requires under { session.old.header ≡ header.now }
-    ensures session { IsHeldSession session.new }
     ensures header { session.new.header ≡ header.now }
     ensures fed { (ms : List Sent) → SessionStands session.old ms →
         SessionStands session.new (ms ++ proved_by header.now message) }
@@ -72,10 +70,8 @@ fn feed_frame(
     stream: &mut FrameStream,
     piece: &[u8],
 ) -> (usize, u64)
-    requires session { IsHeldSession session.old }
     requires under { session.old.header ≡ header.now }
     requires count { stream.old.taken + length piece.now < 2 ^ 64 }
-    ensures session { IsHeldSession session.new }
     ensures header { session.new.header ≡ header.now }
     ensures gone { HasGone stream.old stream.new (SessionStands session.old) (SessionStands session.new)
         header.now (take result.0 piece.now) result.1 }
@@ -97,10 +93,8 @@ fn feed_frame(
 /// Feeds a session with the proved samples of the frames that end in a piece. Answers how many of the
 /// frames are lies.
 fn feed_piece(header: &Header, session: &mut Session, stream: &mut FrameStream, piece: &[u8]) -> u64
-    requires session { IsHeldSession session.old }
     requires under { session.old.header ≡ header.now }
     requires count { stream.old.taken + length piece.now < 2 ^ 64 }
-    ensures session { IsHeldSession session.new }
     ensures header { session.new.header ≡ header.now }
     ensures gone { HasGone stream.old stream.new (SessionStands session.old) (SessionStands session.new)
         header.now piece.now result }
@@ -152,7 +146,6 @@ pub fn feed_all<I: Inputs>(
     inputs: &mut I,
     limit: u64,
 ) -> Result<u64, FeedFault>
-    requires session { IsHeldSession session.old }
     requires under { session.old.header ≡ header.now }
     requires limit { limit ≤ file_limit }
 
@@ -164,7 +157,6 @@ pub fn feed_all<I: Inputs>(
         (I.given inputs.new) limit header.now
         (λ more. (ms : List Sent) → SessionStands session.old ms → SessionStands session.new (ms ++ more))
         result }
-    ensures session { IsHeldSession session.new }
     ensures header { session.new.header ≡ header.now }
     ensures end { EndsFed (I.rest inputs.new) result }
 

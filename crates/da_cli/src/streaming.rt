@@ -3,7 +3,7 @@
 ghost use Rattle.std.specs.Prelude.{◌≡◌, ◌++◌, List};
 ghost use Rattle.std.specs.String.{string_bytes};
 ghost use Rattle.axis_roots.specs.declared.message.messages.Message.{Message as Sent};
-ghost use Rattle.repair_queue.specs.Sessions.{SessionStands, IsHeldSession};
+ghost use Rattle.repair_queue.specs.SessionParts.{StandsFor as SessionStands};
 ghost use Rattle.da_cli.specs.Streamed.{FeedsFile, Skims};
 
 use crate::feeding::{FeedFault, feed_all};
@@ -21,9 +21,7 @@ pub(crate) fn feed_file<I: Inputs>(
     i: u32,
     inputs: &mut I,
 ) -> Result<Result<u64, u64>, Stop>
-    requires session { IsHeldSession session.old }
     requires under { session.old.header ≡ header.now }
-    ensures session { IsHeldSession session.new }
     ensures header { session.new.header ≡ header.now }
     ensures fed { FeedsFile I.Inputs i (string_bytes name) inputs.old inputs.new header.now
         (λ more. (ms : List Sent) → SessionStands session.old ms → SessionStands session.new (ms ++ more))

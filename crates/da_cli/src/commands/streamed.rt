@@ -2,7 +2,7 @@
 
 ghost use Rattle.std.specs.Prelude.{◌≡◌, [], length};
 ghost use Rattle.std.specs.String.{string_bytes};
-ghost use Rattle.repair_queue.specs.Sessions.{SessionStands, IsHeldSession};
+ghost use Rattle.repair_queue.specs.SessionParts.{StandsFor as SessionStands};
 ghost use Rattle.da_cli.specs.commands.Streamed.{RepairsFile, StreamsSecond, Streams};
 ghost use Rattle.da_cli.specs.Words.{words_of};
 
@@ -27,7 +27,6 @@ fn repair_file<I: Inputs, O: Sink>(
     inputs: &mut I,
     out: &mut O,
 ) -> Result<Status, Stop>
-    requires session { IsHeldSession session }
     requires under { session.header ≡ header.now }
     requires none { SessionStands session [] }
     ensures { RepairsFile I.Inputs O.Sink (string_bytes name) header.now inputs.old inputs.new

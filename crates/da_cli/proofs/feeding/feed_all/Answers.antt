@@ -1,13 +1,12 @@
 use Rattle.std.proofs.Common.{◌≡◌, ◌≤◌, ◌+◌, ◌∙◌, List, ℕ, sym, subst, ap, arith, take, length, length-take-le, refl, rules}
 use Rattle.da_io.specs.Faults.{count_on}
-use Rattle.repair_queue.specs.Sessions.{SessionStands}
+use Rattle.repair_queue.specs.SessionParts.{StandsFor as SessionStands}
 use Rattle.da_cli.proofs.FeedingLemmas.{HasFed, end_on, fed_none, fed_on, judged_feeds, failed_feeds, long_feeds, told}
 use Rattle.da_cli.proofs.feeding.feed_all.Goals as goal
 
 -- at first nothing was fed
 pub loop-count-init : goal.loop-count-init
 loop-count-init g c = record {
-  session = c.requires.session;
   header = c.requires.under;
   fed = fed_none c.new-stream.result (g.I.Inputs.rest c.args.inputs.now) (g.I.Inputs.given c.args.inputs.now) c.args.header.now (SessionStands c.args.session.now) c.new-stream.ensures.stands
       (g.met.I.Inputs.counted c.args.inputs.now).0;
@@ -53,7 +52,6 @@ loop-count-preserved g c =
     let within : c.in-Ok.count ≤ length c.read.new.buf = c.in-Ok.ensures.bound.0 in
     let len : length (take c.in-Ok.count c.read.new.buf) ≡ c.in-Ok.count = length-take-le c.in-Ok.count c.read.new.buf within in
     record {
-      session = c.feed_piece-lies.ensures.session;
       header = c.feed_piece-lies.ensures.header;
       fed = fed_on c.loop-count.stream c.feed_piece-lies.new.stream _ _ _ _ _ _ c.args.header.now c.loop-count.lies c.feed_piece-lies.result _ _ _ (take c.in-Ok.count c.read.new.buf)
           c.loop-count.invariant.fed c.feed_piece-lies.ensures.gone c.in-Ok.ensures.rest.0 (c.in-Ok.ensures.given ∙ ap (count_on (g.I.Inputs.given c.loop-count.inputs)) (sym len));

@@ -1,13 +1,12 @@
 use Rattle.std.proofs.Common.{◌≡◌, ◌-◌, ◌≤◌, List}
 use Rattle.axis_roots.specs.declared.message.messages.Message.{Message}
-use Rattle.repair_queue.specs.Sessions.{SessionStands, IsHeldSession}
+use Rattle.repair_queue.specs.SessionParts.{StandsFor as SessionStands}
 use Rattle.da_cli.proofs.FeedingLemmas.{HasFed}
 use Rattle.da_cli.proofs.feeding.feed_all.Given as goal
 
 -- what was read so far was fed, and no call has failed
 abbrev pub invariant-loop-count : goal.invariant-loop-count
 invariant-loop-count g l = record {
-  session : IsHeldSession l.session;
   header : l.session.header ≡ l.header;
   fed : HasFed l.stream (g.I.Inputs.rest l.fn.inputs) (g.I.Inputs.rest l.inputs) (g.I.Inputs.given l.fn.inputs) (g.I.Inputs.given l.inputs) l.header l.lies
       (SessionStands l.fn.session) (SessionStands l.session);

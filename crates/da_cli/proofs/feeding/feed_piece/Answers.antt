@@ -1,7 +1,7 @@
 use Rattle.std.proofs.Common.{◌≡◌, ◌<◌, ◌+◌, ◌∙◌, false, eqb, List, ℕ, sym, subst, ap, arith, take, drop, length, length-drop}
 use Rattle.std.proofs.lemmas.List.{take_rest}
 use Rattle.std.proofs.lemmas.Bool.Decides.{nat_tests}
-use Rattle.repair_queue.specs.Sessions.{SessionStands}
+use Rattle.repair_queue.specs.SessionParts.{StandsFor as SessionStands}
 use Rattle.da_cli.proofs.FeedingLemmas.{IsPart, part_on, part_all}
 use Rattle.da_cli.proofs.feeding.feed_piece.Goals as goal
 
@@ -16,7 +16,6 @@ loop-rest-preserved c =
     let left : 0 < length rest = grind (arith, nat_tests) in
     let some = c.feed_frame-count.ensures.some left in
     record {
-      session = c.feed_frame-count.ensures.session;
       header = c.feed_frame-count.ensures.header;
       part = subst (λ (l : List ℕ). IsPart c.args.stream.now c.feed_frame-count.new.stream (SessionStands c.args.session.now) (SessionStands c.feed_frame-count.new.session)
           c.args.header.now c.args.piece.now l (c.loop-rest.lies + c.feed_frame-count.result.1)) (sym (take_rest rest count)) on;

@@ -1,12 +1,11 @@
 use Rattle.std.proofs.Common.{◌≡◌, ◌+◌, ◌≤◌, ◌++◌, ℕ, List, length}
-use Rattle.repair_queue.specs.Sessions.{SessionStands, IsHeldSession}
+use Rattle.repair_queue.specs.SessionParts.{StandsFor as SessionStands}
 use Rattle.da_cli.proofs.FeedingLemmas.{IsPart}
 use Rattle.da_cli.proofs.feeding.feed_piece.Given as goal
 
 -- of the piece so many bytes are done
 abbrev pub invariant-loop-rest : goal.invariant-loop-rest
 invariant-loop-rest l = record {
-  session : IsHeldSession l.session;
   header : l.session.header ≡ l.header;
   part : IsPart l.fn.stream l.stream (SessionStands l.fn.session) (SessionStands l.session) l.header l.piece l.rest l.lies;
   few : l.lies + length l.rest ≤ length l.piece;

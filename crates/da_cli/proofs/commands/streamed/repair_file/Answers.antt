@@ -7,7 +7,7 @@ use Rattle.axis_roots.specs.declared.message.messages.Message.{Message}
 use Rattle.axis_roots.specs.Messages.{message_refusal}
 use Rattle.axis_roots.specs.Openings.{IsProved}
 use Rattle.repair_queue.specs.Answers.{parts_of}
-use Rattle.repair_queue.specs.Sessions.{SessionStands}
+use Rattle.repair_queue.specs.SessionParts.{StandsFor as SessionStands}
 use Rattle.repair_queue.specs.Verdicts.{IsVerdict}
 use Rattle.da_wire.specs.Frames.{frames_of, bad_frame}
 use Rattle.da_cli.specs.declared.status.Status.TheVariants.{BadInput}
