@@ -23,7 +23,7 @@ use data_header::Header;
 use repair_queue::Session;
 use thiserror::Error;
 
-/// Why a file was not fed whole.
+/// Why a file was not fed whole. The variants stand in the order in which they are tested.
 #[derive(Clone, Copy, Debug, PartialEq, Eq, Error)]
 pub enum FeedFault {
     /// A read failed.
@@ -55,7 +55,7 @@ fn feed_message(header: &Header, session: &mut Session, message: Option<Message>
     let _k = header.k;
     match check(header, message) {
         Ok(proved) => {
-            let _state = session.feed(proved);
+            session.feed(proved);
             0
         }
         Err(_) => 1,
@@ -138,8 +138,11 @@ fn judged(stream: &FrameStream, lies: u64) -> Result<u64, FeedFault>
 /// Feeds a session with the proved samples of what is left of the picked file, as its bytes come, at most
 /// `limit` of them. Answers how many of its frames are no proved sample.
 ///
-/// Fails at the first read that fails; then where more than `limit` bytes came; then, at the end, where the
-/// bytes are no list of frames, with the offset of the first that is none. It takes no memory.
+/// Refuses at the first read that fails; then where more than `limit` bytes came; then, at the end, where
+/// the bytes are no list of frames, with the offset of the first that is none. A refusal leaves the session
+/// fed with the first of the proved samples, those of the frames that had ended by then. It takes no memory.
+///
+/// docs/FORMATS.md, "Streams of frames".
 pub fn feed_all<I: Inputs>(
     header: &Header,
     session: &mut Session,

@@ -1,9 +1,18 @@
-use Rattle.std.proofs.Common.{◌≡◌, ◌<◌, ◌+◌, ◌∙◌, false, eqb, List, ℕ, sym, subst, ap, arith, take, drop, length, length-drop}
+use Rattle.std.proofs.Common.{◌≡◌, ◌<◌, ◌+◌, ◌∙◌, false, eqb, List, ℕ, refl, sym, subst, ap, arith, take, drop, length, length-drop}
 use Rattle.std.proofs.lemmas.List.{take_rest}
 use Rattle.std.proofs.lemmas.Bool.Decides.{nat_tests}
 use Rattle.repair_queue.specs.SessionParts.{StandsFor as SessionStands}
-use Rattle.da_cli.proofs.FeedingLemmas.{IsPart, part_on, part_all}
+use Rattle.da_cli.proofs.FeedingLemmas.{IsPart, part_none, part_on}
 use Rattle.da_cli.proofs.feeding.feed_piece.Goals as goal
+
+-- at first nothing is done
+pub loop-rest-init : goal.loop-rest-init
+loop-rest-init c = record {
+  header = c.requires.under;
+  part = part_none c.args.stream.now (SessionStands c.args.session.now) c.args.header.now c.args.piece.now;
+  few = omega arith;
+  taken = refl;
+}
 
 -- one frame more
 pub loop-rest-preserved : goal.loop-rest-preserved
