@@ -5,7 +5,6 @@ pub mod GatheredLemmas
 pub mod FrameLemmas
 pub mod FileLemmas
 pub mod CheckLemmas
-pub mod LieLemmas
 pub mod FeedingLemmas
 pub mod StreamedLemmas
 pub mod ComeLemmas

@@ -13,13 +13,13 @@ use Rattle.da_cli.specs.declared.status.Status.{Status}
 use Rattle.da_cli.specs.declared.status.Status.TheVariants.{BadInput}
 use Rattle.da_cli.specs.declared.commands.Command.TheVariants.{Repair}
 use Rattle.da_cli.specs.Gathered.{file_of}
-use Rattle.da_cli.specs.Outcome.{Refuses, Ends}
+use Rattle.da_cli.specs.Outcome.{Refuses, EndsAtOnce}
 use Rattle.da_cli.specs.Streamed.{IsRead, HasCome}
 use Rattle.da_cli.specs.commands.Frames.{header_in}
 use Rattle.da_cli.specs.commands.Repair.{Repairs}
 use Rattle.da_cli.specs.commands.Streamed.{RepairsFile, StreamsSecond, Streams}
 use Rattle.da_cli.specs.Meaning.{Meaning}
-use Rattle.da_cli.proofs.EndLemmas.{ends_as, ends_refused}
+use Rattle.da_cli.proofs.EndLemmas.{once_as, once_refused}
 use Rattle.da_cli.proofs.RepairLemmas.{repair_is, repair_refuses, repair_header}
 use Rattle.da_cli.proofs.ComeLemmas.{come_none, come_file, stop_file, come_memory}
 
@@ -40,7 +40,7 @@ module _ {I O : Type 0} (i : inputs.Ghosts I) (o : sink.Ghosts O) where
   -- how a command with this meaning ended
   abbrev Ended : List ℕ → List ℕ → O → O → Status → Type 0
   Ended text bytes old new status =
-      Ends (Meaning Repair (text ∷ bytes ∷ [])) (o.taken old) (o.taken new) (o.faults old) (o.faults new) (new ≡ old) status
+      EndsAtOnce (Meaning Repair (text ∷ bytes ∷ [])) (o.taken old) (o.taken new) (o.faults old) (o.faults new) (new ≡ old) status
 
   -- a file that isn't in its form, and an output that is as it was
   pub refused_ends : (number at : ℕ) (text bytes : List ℕ) (old new : O) (status : Status) → Refuses (BadInput number at) ≡ Meaning Repair (text ∷ bytes ∷ []) → status ≡ BadInput number at → new ≡ old
@@ -48,15 +48,15 @@ module _ {I O : Type 0} (i : inputs.Ghosts I) (o : sink.Ghosts O) where
   refused_ends number at text bytes old new status meant is same =
       subst (λ (s : Status). Ended text bytes old new s) (sym is)
       (subst (λ (x : O). Ended text bytes old x (BadInput number at)) (sym same)
-      (ends_as _ (Meaning Repair (text ∷ bytes ∷ [])) (o.taken old) (o.taken old) (o.faults old) (o.faults old) (old ≡ old) (BadInput number at) meant
-      (ends_refused number at (o.taken old) (o.faults old) (old ≡ old) refl)))
+      (once_as _ (Meaning Repair (text ∷ bytes ∷ [])) (o.taken old) (o.taken old) (o.faults old) (o.faults old) (old ≡ old) (BadInput number at) meant
+      (once_refused number at (o.taken old) (o.faults old) (old ≡ old) refl)))
 
   -- what is answered to bytes, by the first place at which no frame stands
   answered : (text bytes : List ℕ) (h : Roots) (old new : O) (status : Status) (bad : Option ℕ) → header_in text ≡ Ok h → bad_frame bytes ≡ bad
-      → MatchOption bad (Ends (Repairs h (frames_of bytes)) (o.taken old) (o.taken new) (o.faults old) (o.faults new) (new ≡ old) status) (λ at. (status ≡ BadInput 1 at) × (new ≡ old))
+      → MatchOption bad (EndsAtOnce (Repairs h (frames_of bytes)) (o.taken old) (o.taken new) (o.faults old) (o.faults new) (new ≡ old) status) (λ at. (status ≡ BadInput 1 at) × (new ≡ old))
       → Ended text bytes old new status
   answered text bytes h old new status None read e ends =
-      ends_as (Repairs h (frames_of bytes)) (Meaning Repair (text ∷ bytes ∷ [])) (o.taken old) (o.taken new) (o.faults old) (o.faults new) (new ≡ old) status (second_is text bytes h read e) ends
+      once_as (Repairs h (frames_of bytes)) (Meaning Repair (text ∷ bytes ∷ [])) (o.taken old) (o.taken new) (o.faults old) (o.faults new) (new ≡ old) status (second_is text bytes h read e) ends
   answered text bytes h old new status (Some at) read e ends = refused_ends 1 at text bytes old new status (second_refuses text bytes h at read e) ends.0 ends.1
 
   -- under a header

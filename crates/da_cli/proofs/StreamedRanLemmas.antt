@@ -1,5 +1,5 @@
 -- How a run ended whose second file was a stream.
-use Rattle.std.proofs.Common.{◌≡◌, ℕ, ◌+◌, ◌-◌, ◌<◌, List, String, Global, length, take, drop, Some, Result, Ok, Err, sym, subst}
+use Rattle.std.proofs.Common.{◌≡◌, ℕ, ◌+◌, ◌-◌, ◌<◌, List, String, Global, Option, length, take, drop, Some, Result, Ok, Err, sym, subst}
 use Rattle.da_io.specs.declared.inputs.Inputs as inputs
 use Rattle.da_io.specs.declared.sink.Sink as sink
 use Rattle.da_cli.specs.declared.gathering.Stop.{Stop}
@@ -10,7 +10,7 @@ use Rattle.da_cli.specs.declared.commands.Command.TheVariants.{Repair}
 use Rattle.da_cli.specs.Words.{words_of, call_of}
 use Rattle.da_cli.specs.Outcome.{Ends}
 use Rattle.da_cli.specs.Meaning.{Meaning}
-use Rattle.da_cli.specs.Run.{status_of}
+use Rattle.da_cli.specs.Run.{status_of, IsEarly}
 use Rattle.da_cli.specs.Ran.{Ran}
 use Rattle.da_cli.specs.Streamed.{HasCome}
 use Rattle.da_cli.specs.commands.Streamed.{Streams}
@@ -47,7 +47,13 @@ module _ {I O : Type 0} (i : inputs.Ghosts I) (o : sink.Ghosts O) where
       → Streams i o (words_of (take 2 (drop 1 words))) before now old new r → Ran i o (words_of words) before now old new (status_in r)
   ran_streamed words call before now old new (Ok status) e few two is s =
       ran_over i o words call s.0 before now old new status e few (gathered_two words call.files before now (Ok s.0) two s.1)
-      (subst (λ (c : Command). Ends (Meaning c s.0) (o.taken old) (o.taken new) (o.faults old) (o.faults new) (new ≡ old) status) (sym is) s.2)
+      (subst (λ (c : Command). Ends (Meaning c s.0) (o.taken old) (o.taken new) (o.faults old) (o.faults new) (new ≡ old) status) (sym is) s.2.ends)
   ran_streamed words call before now old new (Err why) e few two is s =
       subst (λ (x : O). Ran i o (words_of words) before now old x (status_of why)) (sym s.1)
       (ran_up_to i o words call before now old why e few (gathered_two words call.files before now (Err why) two s.0))
+
+  -- where memory ran out, the output is as it was
+  pub early_streamed : (words : List (String Global)) (call : Call) (before now : I) (old new : O) (r : Result Status Stop) → Some call ≡ call_of (words_of words)
+      → Streams i o (words_of (take 2 (drop 1 words))) before now old new r → IsEarly (call_of (words_of words)) (new ≡ old) (status_in r)
+  early_streamed words call before now old new (Ok status) e s = subst (λ (c : Option Call). IsEarly c (new ≡ old) status) e (λ first is. s.2.late is)
+  early_streamed words call before now old new (Err why) e s = subst (λ (c : Option Call). IsEarly c (new ≡ old) (status_of why)) e (λ first is. s.1)

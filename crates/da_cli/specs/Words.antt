@@ -93,6 +93,11 @@ abbrev pub IsRunnable : Command → Type 0
 IsRunnable (Demo number k) = is_trial_width k ≡ true
 IsRunnable command = ⊤
 
+-- repair has two files
+abbrev pub HasFiles : Command → ℕ → Type 0
+HasFiles Repair count = count ≡ 2
+HasFiles command count = ⊤
+
 -- the words that name files: they follow the command's word
 abbrev pub file_words : ℕ → List (List ℕ) → List (List ℕ)
 file_words count words = take count (drop 1 words)

@@ -1,7 +1,8 @@
 //! The commands, a file each, and the one that is run. `frames` has what several commands share: files
 //! and outputs that are one frame.
 
-ghost use Rattle.std.specs.Prelude.{◌≡◌};
+ghost use Rattle.std.specs.Prelude.{◌≡◌, ◌≢◌};
+ghost use Rattle.da_cli.specs.declared.commands.Command.TheVariants as CommandOf;
 ghost use Rattle.da_cli.specs.Gathered.{contents_of};
 ghost use Rattle.da_cli.specs.declared.status.Status.TheVariants.{NoMemory};
 ghost use Rattle.da_cli.specs.Meaning.{Meaning, TakesFirst};
@@ -53,7 +54,7 @@ pub(crate) enum Command {
     Demo(u64, u16),
 }
 
-/// Runs a command over the contents of its files.
+/// Runs a command over the contents of its files. `repair` isn't one of these: its second file is streamed.
 pub(crate) fn execute<O: Sink>(
     alloc: Global,
     command: Command,
@@ -61,6 +62,7 @@ pub(crate) fn execute<O: Sink>(
     out: &mut O,
 ) -> Status
     requires runnable { IsRunnable command }
+    requires gathered { command ≢ CommandOf.Repair }
     ensures ends { Ends (Meaning command (contents_of files.now)) (O.taken out.old) (O.taken out.new)
         (O.faults out.old) (O.faults out.new) (out.new ≡ out.old) result }
     ensures late { TakesFirst command → result ≡ NoMemory → out.new ≡ out.old }
@@ -72,7 +74,7 @@ pub(crate) fn execute<O: Sink>(
         Command::Sample => sample::execute(alloc, files, out),
         Command::Namespace => namespace::execute(alloc, files, out),
         Command::Verify => verify::execute(alloc, files, out),
-        Command::Repair => repair::execute(alloc, files, out),
+        Command::Repair => unreachable!(),
         Command::Light(key, count) => light::execute(alloc, files, &key, count, out),
         Command::Show => show::show(alloc, files, out),
         Command::Json => show::json(alloc, files, out),

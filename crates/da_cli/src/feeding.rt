@@ -8,6 +8,7 @@ ghost use Rattle.axis_roots.specs.Proved.{IsUnder, kept_message};
 ghost use Rattle.axis_roots.specs.Openings.{IsProved};
 ghost use Rattle.axis_roots.specs.Messages.{message_refusal};
 ghost use Rattle.repair_queue.specs.Closures.{Covers};
+ghost use Rattle.repair_queue.specs.SessionParts.{StandsFor as SessionStands};
 ghost use Rattle.da_wire.specs.Reading.{Raw};
 ghost use Rattle.da_cli.specs.commands.Repair.{messages_in, lies_in};
 ghost use Rattle.da_io.specs.Faults.{count_on};
@@ -19,9 +20,10 @@ use axis_roots::{Message, Proved, check, message_law, message_laws};
 use da_io::Inputs;
 use da_wire::{FrameError, FrameStream, Pushed, stream_laws};
 use data_header::Header;
+use repair_queue::Session;
 use thiserror::Error;
 
-/// Why a file was not fed whole.
+/// Why a file was not fed whole. The variants stand in the order in which they are tested.
 #[derive(Clone, Copy, Debug, PartialEq, Eq, Error)]
 pub enum FeedFault {
     /// A read failed.
@@ -35,29 +37,13 @@ pub enum FeedFault {
     Bad(u64),
 }
 
-/// What is fed with proved samples, one at a time.
-pub trait Fed {
-    /// The header that it is for.
-    ghost header: { Self → Roots };
-
-    /// Whether it stands for everything that it was fed.
-    ghost stands: { Self → List Sent → Type 0 };
-
-    /// Takes a proved sample.
-    fn feed(&mut self, message: Proved)
-        requires { IsUnder (header self.old) message }
-        ensures header { header self.new ≡ header self.old }
-        ensures stands { (ms : List Sent) → stands self.old ms →
-            stands self.new (ms ++ kept_message message ∷ []) };
-}
-
 /// Feeds a session with the message of a frame, where it is one that is proved. Answers how many lies the
 /// frame is, none or one.
-fn feed_message<S: Fed>(header: &Header, session: &mut S, message: Option<Message>) -> u64
-    requires { S.header session.old ≡ header.now }
-    ensures header { S.header session.new ≡ header.now }
-    ensures fed { (ms : List Sent) → S.stands session.old ms →
-        S.stands session.new (ms ++ proved_by header.now message) }
+fn feed_message(header: &Header, session: &mut Session, message: Option<Message>) -> u64
+    requires under { session.old.header ≡ header.now }
+    ensures header { session.new.header ≡ header.now }
+    ensures fed { (ms : List Sent) → SessionStands session.old ms →
+        SessionStands session.new (ms ++ proved_by header.now message) }
     ensures lies { result ≡ lies_by header.now message }
     ensures few { result ≤ 1 }
 {
@@ -78,16 +64,16 @@ fn feed_message<S: Fed>(header: &Header, session: &mut S, message: Option<Messag
 
 /// Pushes bytes up to the end of a frame, and feeds a session with its message. Answers how many bytes
 /// were taken and how many lies ended with them.
-fn feed_frame<S: Fed>(
+fn feed_frame(
     header: &Header,
-    session: &mut S,
+    session: &mut Session,
     stream: &mut FrameStream,
     piece: &[u8],
 ) -> (usize, u64)
-    requires under { S.header session.old ≡ header.now }
+    requires under { session.old.header ≡ header.now }
     requires count { stream.old.taken + length piece.now < 2 ^ 64 }
-    ensures header { S.header session.new ≡ header.now }
-    ensures gone { HasGone stream.old stream.new (S.stands session.old) (S.stands session.new)
+    ensures header { session.new.header ≡ header.now }
+    ensures gone { HasGone stream.old stream.new (SessionStands session.old) (SessionStands session.new)
         header.now (take result.0 piece.now) result.1 }
     ensures within { result.0 ≤ length piece.now }
     ensures some { 0 < length piece.now → 0 < result.0 }
@@ -106,16 +92,11 @@ fn feed_frame<S: Fed>(
 
 /// Feeds a session with the proved samples of the frames that end in a piece. Answers how many of the
 /// frames are lies.
-fn feed_piece<S: Fed>(
-    header: &Header,
-    session: &mut S,
-    stream: &mut FrameStream,
-    piece: &[u8],
-) -> u64
-    requires under { S.header session.old ≡ header.now }
+fn feed_piece(header: &Header, session: &mut Session, stream: &mut FrameStream, piece: &[u8]) -> u64
+    requires under { session.old.header ≡ header.now }
     requires count { stream.old.taken + length piece.now < 2 ^ 64 }
-    ensures header { S.header session.new ≡ header.now }
-    ensures gone { HasGone stream.old stream.new (S.stands session.old) (S.stands session.new)
+    ensures header { session.new.header ≡ header.now }
+    ensures gone { HasGone stream.old stream.new (SessionStands session.old) (SessionStands session.new)
         header.now piece.now result }
     ensures few { result ≤ length piece.now }
     ensures taken { stream.new.taken ≡ stream.old.taken + length piece.now }
@@ -157,15 +138,18 @@ fn judged(stream: &FrameStream, lies: u64) -> Result<u64, FeedFault>
 /// Feeds a session with the proved samples of what is left of the picked file, as its bytes come, at most
 /// `limit` of them. Answers how many of its frames are no proved sample.
 ///
-/// Fails at the first read that fails; then where more than `limit` bytes came; then, at the end, where the
-/// bytes are no list of frames, with the offset of the first that is none. It takes no memory.
-pub fn feed_all<I: Inputs, S: Fed>(
+/// Refuses at the first read that fails; then where more than `limit` bytes came; then, at the end, where
+/// the bytes are no list of frames, with the offset of the first that is none. A refusal leaves the session
+/// fed with the first of the proved samples, those of the frames that had ended by then. It takes no memory.
+///
+/// docs/FORMATS.md, "Streams of frames".
+pub fn feed_all<I: Inputs>(
     header: &Header,
-    session: &mut S,
+    session: &mut Session,
     inputs: &mut I,
     limit: u64,
 ) -> Result<u64, FeedFault>
-    requires under { S.header session.old ≡ header.now }
+    requires under { session.old.header ≡ header.now }
     requires limit { limit ≤ file_limit }
 
     // Where the bytes are told: what all of them come to or, past the limit, `TooLong`.
@@ -174,9 +158,9 @@ pub fn feed_all<I: Inputs, S: Fed>(
     // Told or not: what came, how much it was, the answer to that, and what the session was fed with.
     ensures fed { Feeds (I.rest inputs.old) (I.rest inputs.new) (I.given inputs.old)
         (I.given inputs.new) limit header.now
-        (λ more. (ms : List Sent) → S.stands session.old ms → S.stands session.new (ms ++ more))
+        (λ more. (ms : List Sent) → SessionStands session.old ms → SessionStands session.new (ms ++ more))
         result }
-    ensures header { S.header session.new ≡ header.now }
+    ensures header { session.new.header ≡ header.now }
     ensures end { EndsFed (I.rest inputs.new) result }
 
     // A failed read is answered exactly where one happened, and it was the last call.

@@ -16,7 +16,7 @@ mod streaming;
 mod tests;
 mod words;
 
-pub use feeding::{Fed, FeedFault, feed_all};
+pub use feeding::{FeedFault, feed_all};
 pub use gathering::FILE_LIMIT;
 pub use laws::run_laws;
 pub use running::run;

@@ -1,9 +1,9 @@
 //! The top call.
 
-ghost use Rattle.std.specs.Prelude.{◌≡◌, ◌↔◌, ℕ, ◌≤◌, length, ◌<◌, [], Some, None, IsSome};
+ghost use Rattle.std.specs.Prelude.{◌≡◌, ◌≢◌, ◌↔◌, ℕ, length, ◌<◌, [], Some, None, IsSome};
 ghost use Rattle.da_cli.specs.declared.status.Status.TheVariants.{Usage};
 ghost use Rattle.da_cli.specs.declared.commands.Command.TheVariants as CommandOf;
-ghost use Rattle.da_cli.specs.Words.{words_of, call_of, names_of};
+ghost use Rattle.da_cli.specs.Words.{words_of, call_of, names_of, IsRunnable};
 ghost use Rattle.da_cli.specs.Statuses.{kind_of, input_count, output_count};
 ghost use Rattle.da_cli.specs.Gathered.{IsLast};
 ghost use Rattle.da_cli.specs.Outcome.{FaultCause, ExcessCause, LastBy, PickCount, Untouched};
@@ -13,8 +13,8 @@ ghost use Rattle.da_cli.specs.Ran.{Ran};
 ghost use Rattle.da_cli.specs.Run.{IsEarly, status_of, LeavesTold, Completes};
 
 use crate::Status;
-use crate::commands::execute;
-use crate::commands::streamed::{Repairing, stream};
+use crate::commands::streamed::stream;
+use crate::commands::{Command, execute};
 use crate::gathering::{Stop, gather};
 use crate::laws::run_laws;
 use crate::notes::note;
@@ -34,6 +34,51 @@ fn status_of(stop: Stop) -> Status
     }
 }
 
+/// Runs a command over files that are gathered, without a note.
+fn answer_gathered<I: Inputs, O: Sink>(
+    alloc: Global,
+    words: &[String],
+    call: Call,
+    inputs: &mut I,
+    out: &mut O,
+) -> Status
+    requires call { Some call ≡ call_of (words_of words.now) }
+    requires files { call.files < length words.now }
+    requires few { call.files < 16 }
+    requires runnable { IsRunnable call.command }
+    requires gathered { call.command ≢ CommandOf.Repair }
+    ensures ran { Ran I.Inputs O.Sink (words_of words.now) inputs.old inputs.new out.old out.new
+        result }
+    ensures late { IsEarly (call_of (words_of words.now)) (out.new ≡ out.old) result }
+{
+    match gather(alloc, &words[1..1 + call.files], call.files, inputs) {
+        Ok(contents) => execute(alloc, call.command, &contents, out),
+        Err(stop) => status_of(stop),
+    }
+}
+
+/// Runs `repair` over a session that is fed as MESSAGES is read, without a note.
+fn answer_streamed<I: Inputs, O: Sink>(
+    alloc: Global,
+    words: &[String],
+    call: Call,
+    inputs: &mut I,
+    out: &mut O,
+) -> Status
+    requires call { Some call ≡ call_of (words_of words.now) }
+    requires few { call.files < length words.now }
+    requires two { call.files ≡ 2 }
+    requires repair { call.command ≡ CommandOf.Repair }
+    ensures ran { Ran I.Inputs O.Sink (words_of words.now) inputs.old inputs.new out.old out.new
+        result }
+    ensures late { IsEarly (call_of (words_of words.now)) (out.new ≡ out.old) result }
+{
+    match stream(alloc, &words[1..3], inputs, out) {
+        Ok(status) => status,
+        Err(stop) => status_of(stop),
+    }
+}
+
 /// Runs the command that the words are, without a note.
 fn answer<I: Inputs, O: Sink>(
     alloc: Global,
@@ -48,30 +93,10 @@ fn answer<I: Inputs, O: Sink>(
     let Some(call) = call_of(words) else {
         return Status::Usage;
     };
-    match gather(alloc, &words[1..1 + call.files], call.files, inputs) {
-        Ok(contents) => execute(alloc, call.command, &contents, out),
-        Err(stop) => status_of(stop),
-    }
-}
-
-/// Runs `repair` over a session that is fed as MESSAGES is read, without a note.
-fn answer_streamed<I: Inputs, O: Sink, S: Repairing>(
-    alloc: Global,
-    words: &[String],
-    call: Call,
-    inputs: &mut I,
-    out: &mut O,
-) -> Status
-    requires call { Some call ≡ call_of (words_of words.now) }
-    requires few { call.files < length words.now }
-    requires two { call.files ≡ 2 }
-    requires repair { call.command ≡ CommandOf.Repair }
-    ensures { Ran I.Inputs O.Sink (words_of words.now) inputs.old inputs.new out.old out.new
-        result }
-{
-    match stream::<I, O, S>(alloc, &words[1..3], inputs, out) {
-        Ok(status) => status,
-        Err(stop) => status_of(stop),
+    if call.command == Command::Repair {
+        answer_streamed(alloc, words, call, inputs, out)
+    } else {
+        answer_gathered(alloc, words, call, inputs, out)
     }
 }
 

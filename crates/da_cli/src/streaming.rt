@@ -3,26 +3,28 @@
 ghost use Rattle.std.specs.Prelude.{◌≡◌, ◌++◌, List};
 ghost use Rattle.std.specs.String.{string_bytes};
 ghost use Rattle.axis_roots.specs.declared.message.messages.Message.{Message as Sent};
+ghost use Rattle.repair_queue.specs.SessionParts.{StandsFor as SessionStands};
 ghost use Rattle.da_cli.specs.Streamed.{FeedsFile, Skims};
 
-use crate::feeding::{Fed, FeedFault, feed_all};
+use crate::feeding::{FeedFault, feed_all};
 use crate::gathering::{FILE_LIMIT, Stop};
 use da_io::Inputs;
 use data_header::Header;
+use repair_queue::Session;
 
 /// Picks the file that a word names, file `i`, and feeds a session with its proved samples. Answers how
 /// many of its frames are lies, or the first place at which no frame stands though bytes are left.
-pub(crate) fn feed_file<I: Inputs, S: Fed>(
+pub(crate) fn feed_file<I: Inputs>(
     header: &Header,
-    session: &mut S,
+    session: &mut Session,
     name: String,
     i: u32,
     inputs: &mut I,
 ) -> Result<Result<u64, u64>, Stop>
-    requires under { S.header session.old ≡ header.now }
-    ensures header { S.header session.new ≡ header.now }
+    requires under { session.old.header ≡ header.now }
+    ensures header { session.new.header ≡ header.now }
     ensures fed { FeedsFile I.Inputs i (string_bytes name) inputs.old inputs.new header.now
-        (λ more. (ms : List Sent) → S.stands session.old ms → S.stands session.new (ms ++ more))
+        (λ more. (ms : List Sent) → SessionStands session.old ms → SessionStands session.new (ms ++ more))
         result }
 {
     if inputs.pick(name).is_err() {

@@ -1,7 +1,7 @@
 //! Words, and the command that they are.
 
 ghost use Rattle.std.specs.Prelude.{◌≡◌, ◌<◌, length, IfSome, codes, true};
-ghost use Rattle.da_cli.specs.Words.{words_of, is_command, is_digit, digits_in, number_in, key_in, light_call, is_trial_width, width_in, demo_call, call_of, IsRunnable};
+ghost use Rattle.da_cli.specs.Words.{words_of, is_command, is_digit, digits_in, number_in, key_in, light_call, is_trial_width, width_in, demo_call, call_of, IsRunnable, HasFiles};
 
 use crate::commands::Command;
 use hex::FromHex;
@@ -75,6 +75,7 @@ fn light_call(key: &str, count: &str) -> Option<Call>
     ensures value { result ≡ light_call key.now count.now }
     ensures files { IfSome result (λ call. call.files ≡ 2) }
     ensures runnable { IfSome result (λ call. IsRunnable call.command) }
+    ensures own { IfSome result (λ call. HasFiles call.command call.files) }
 {
     let key = key_in(key)?;
     let count = number_in(count, u64::from(u32::MAX))?;
@@ -98,6 +99,7 @@ fn demo_call(number: &str, width: &str) -> Option<Call>
     ensures value { result ≡ demo_call number.now width.now }
     ensures files { IfSome result (λ call. call.files ≡ 0) }
     ensures runnable { IfSome result (λ call. IsRunnable call.command) }
+    ensures own { IfSome result (λ call. HasFiles call.command call.files) }
 {
     let number = number_in(number, u64::MAX)?;
     let k = width_in(width)?;
@@ -113,6 +115,7 @@ pub(crate) fn call_of(words: &[String]) -> Option<Call>
     ensures files { IfSome result (λ call. call.files < length words.now) }
     ensures few { IfSome result (λ call. call.files < 16) }
     ensures runnable { IfSome result (λ call. IsRunnable call.command) }
+    ensures own { IfSome result (λ call. HasFiles call.command call.files) }
 {
     if is_command(words, "check", 2) {
         return Some(Call {

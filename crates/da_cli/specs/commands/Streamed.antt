@@ -7,7 +7,7 @@ use Rattle.da_wire.specs.Frames.{frames_of, bad_frame}
 use Rattle.da_cli.specs.declared.gathering.Stop.{Stop}
 use Rattle.da_cli.specs.declared.status.Status.{Status}
 use Rattle.da_cli.specs.declared.status.Status.TheVariants.{BadInput}
-use Rattle.da_cli.specs.Outcome.{Ends, Refuses}
+use Rattle.da_cli.specs.Outcome.{EndsAtOnce}
 use Rattle.da_cli.specs.Streamed.{IsRead, HasCome}
 use Rattle.da_cli.specs.declared.gathering.Stop.TheVariants.{NoMemory}
 use Rattle.da_cli.specs.declared.commands.Command.TheVariants.{Repair}
@@ -20,7 +20,7 @@ abbrev pub RepairsFile : {I O : Type 0} → inputs.Ghosts I → sink.Ghosts O �
 RepairsFile i o name header before now old new (Ok status) =
     (bytes : List ℕ) × IsRead i 1 name before now (Ok bytes)
     × MatchOption (bad_frame bytes)
-    (Ends (Repairs header (frames_of bytes)) (o.taken old) (o.taken new) (o.faults old) (o.faults new) (new ≡ old) status)
+    (EndsAtOnce (Repairs header (frames_of bytes)) (o.taken old) (o.taken new) (o.faults old) (o.faults new) (new ≡ old) status)
     (λ at. (status ≡ BadInput 1 at) × (new ≡ old))
 RepairsFile i o name header before now old new (Err stop) = IsRead i 1 name before now (Err stop) × (new ≡ old)
 
@@ -28,7 +28,7 @@ RepairsFile i o name header before now old new (Err stop) = IsRead i 1 name befo
 abbrev pub StreamsSecond : {I O : Type 0} → inputs.Ghosts I → sink.Ghosts O → List ℕ → List ℕ → I → I → O → O → Result Status Stop → Type 0
 StreamsSecond i o name text before now old new (Ok status) =
     (bytes : List ℕ) × IsRead i 1 name before now (Ok bytes)
-    × Ends (Meaning Repair (text ∷ bytes ∷ [])) (o.taken old) (o.taken new) (o.faults old) (o.faults new) (new ≡ old) status
+    × EndsAtOnce (Meaning Repair (text ∷ bytes ∷ [])) (o.taken old) (o.taken new) (o.faults old) (o.faults new) (new ≡ old) status
 StreamsSecond i o name text before now old new (Err stop) =
     (IsRead i 1 name before now (Err stop) ⊎ ((stop ≡ NoMemory) × (now ≡ before))) × (new ≡ old)
 
@@ -36,5 +36,5 @@ StreamsSecond i o name text before now old new (Err stop) =
 abbrev pub Streams : {I O : Type 0} → inputs.Ghosts I → sink.Ghosts O → List (List ℕ) → I → I → O → O → Result Status Stop → Type 0
 Streams i o names before now old new (Ok status) =
     (contents : List (List ℕ)) × HasCome i names 2 before now (Ok contents)
-    × Ends (Meaning Repair contents) (o.taken old) (o.taken new) (o.faults old) (o.faults new) (new ≡ old) status
+    × EndsAtOnce (Meaning Repair contents) (o.taken old) (o.taken new) (o.faults old) (o.faults new) (new ≡ old) status
 Streams i o names before now old new (Err stop) = HasCome i names 2 before now (Err stop) × (new ≡ old)

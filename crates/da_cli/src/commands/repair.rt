@@ -1,4 +1,4 @@
-//! repair HEADER MESSAGES: the square of a header from a list of messages, or what is wrong or missing.
+//! What repair writes: the square of a header, or what is wrong or missing.
 
 ghost use Rattle.std.specs.Prelude.{◌≡◌, ◌≢◌, IfOk, IfSome, IsNone, IsSome, Some, true, false, List, [], map};
 ghost use Rattle.std.specs.List.{AllByRecursion};
@@ -38,59 +38,6 @@ use std::alloc::Global;
 pub(crate) const HEADER: u32 = 0;
 
 pub(crate) const MESSAGES: u32 = 1;
-
-/// The certificate of the message that a frame is; none where the frame is a lie.
-fn proved_in(header: &Header, frame: RawFrame<'_>) -> Option<Proved>
-    ensures ok { IfSome result (λ _.
-        is_ok (finding_of header.now (raw_seen frame.entry)) ≡ true) }
-    ensures message { IfSome result (λ proved.
-        message_in (raw_seen frame.entry) ≡ Some (kept_message proved)) }
-    ensures under { IfSome result (IsUnder header.now) }
-    ensures lie { IsNone result →
-        is_ok (finding_of header.now (raw_seen frame.entry)) ≡ false }
-    ensures unproved { IsNone result → (message : sent.Message) →
-        message_in (raw_seen frame.entry) ≡ Some message → IsProved header.now message → ⊥ }
-{
-    if frame.kind != b'M' {
-        return None;
-    }
-    let message = message(frame.payload)?;
-    message_laws();
-    let _k = header.k;
-    match check(header, message) {
-        Ok(proved) => Some(proved),
-        Err(_) => None,
-    }
-}
-
-/// The certificates of the frames that are proved messages, in their order, and how many others there
-/// are.
-fn collect(alloc: Global, header: &Header, messages: &[u8]) -> Result<(Vec<Proved>, u64), NoMemory>
-    ensures under { IfOk result (λ found. AllByRecursion (IsUnder header.now) found.0.items) }
-    ensures lies { IfOk result (λ found. found.1 ≡ lies_in header.now (frames_of messages.now)) }
-
-    // These are just the proved messages among the frames.
-    ensures all { IfOk result (λ found. Covers header.now
-        (messages_in (frames_of messages.now)) (map kept_message found.0.items)) }
-    ensures only { IfOk result (λ found. Covers header.now
-        (map kept_message found.0.items) (messages_in (frames_of messages.now))) }
-{
-    let mut all = Vec::new(alloc);
-    let mut lies = 0;
-    let mut rest = messages;
-    while let Some((frame, after)) = next_frame(rest) {
-        match proved_in(header, frame) {
-            Some(proved) => {
-                let Ok(()) = all.push(proved) else {
-                    return Err(NoMemory);
-                };
-            }
-            None => lies += 1,
-        }
-        rest = after;
-    }
-    Ok((all, lies))
-}
 
 /// The frame of a collision.
 fn clash_frame(clash: Clash) -> Frame
@@ -154,36 +101,4 @@ pub(crate) fn give_verdict<O: Sink>(
             )
         }
     }
-}
-
-/// Answers what repair comes to by messages under a header. All memory is taken before the write.
-fn repair<O: Sink>(alloc: Global, header: &Header, messages: &[u8], out: &mut O) -> Status
-    ensures { EndsAtOnce (Repairs header.now (frames_of messages.now)) (O.taken out.old)
-        (O.taken out.new) (O.faults out.old) (O.faults out.new) (out.new ≡ out.old) result }
-{
-    verdict_laws();
-    let Ok((proved, lies)) = collect(alloc, header, messages) else {
-        return Status::NoMemory;
-    };
-    let Ok(verdict) = repair_list(alloc, header, proved) else {
-        return Status::NoMemory;
-    };
-    give_verdict(alloc, header, verdict, lies, out)
-}
-
-/// Answers what repair of the square of the header in HEADER by the messages in MESSAGES comes to.
-pub(crate) fn execute<O: Sink>(alloc: Global, files: &[Vec<u8>], out: &mut O) -> Status
-    ensures { EndsAtOnce (Meaning CommandOf.Repair (contents_of files.now)) (O.taken out.old)
-        (O.taken out.new) (O.faults out.old) (O.faults out.new) (out.new ≡ out.old) result }
-{
-    let header = match header_in(alloc, file(files, HEADER)) {
-        Ok(header) => header,
-        Err(Unread::BadForm(at)) => return Status::BadInput(HEADER, at),
-        Err(Unread::NoMemory) => return Status::NoMemory,
-    };
-    let messages = file(files, MESSAGES);
-    if let Some(at) = bad_frame(messages) {
-        return Status::BadInput(MESSAGES, at);
-    }
-    repair(alloc, &header, messages, out)
 }

@@ -1,5 +1,6 @@
 use Rattle.std.proofs.Common.{◌≡◌, ◌≤◌, ◌+◌, ◌∙◌, List, ℕ, sym, subst, ap, arith, take, length, length-take-le, refl, rules}
 use Rattle.da_io.specs.Faults.{count_on}
+use Rattle.repair_queue.specs.SessionParts.{StandsFor as SessionStands}
 use Rattle.da_cli.proofs.FeedingLemmas.{HasFed, end_on, fed_none, fed_on, judged_feeds, failed_feeds, long_feeds, told}
 use Rattle.da_cli.proofs.feeding.feed_all.Goals as goal
 
@@ -7,7 +8,7 @@ use Rattle.da_cli.proofs.feeding.feed_all.Goals as goal
 pub loop-count-init : goal.loop-count-init
 loop-count-init g c = record {
   header = c.requires.under;
-  fed = fed_none c.new-stream.result (g.I.Inputs.rest c.args.inputs.now) (g.I.Inputs.given c.args.inputs.now) c.args.header.now (g.S.Fed.stands c.args.session.now) c.new-stream.ensures.stands
+  fed = fed_none c.new-stream.result (g.I.Inputs.rest c.args.inputs.now) (g.I.Inputs.given c.args.inputs.now) c.args.header.now (SessionStands c.args.session.now) c.new-stream.ensures.stands
       (g.met.I.Inputs.counted c.args.inputs.now).0;
   taken = c.new-stream.ensures.taken;
   few = omega arith;

@@ -1,14 +1,15 @@
 use Rattle.std.proofs.Common.{◌≡◌, ◌-◌, ◌≤◌, List}
 use Rattle.axis_roots.specs.declared.message.messages.Message.{Message}
+use Rattle.repair_queue.specs.SessionParts.{StandsFor as SessionStands}
 use Rattle.da_cli.proofs.FeedingLemmas.{HasFed}
 use Rattle.da_cli.proofs.feeding.feed_all.Given as goal
 
 -- what was read so far was fed, and no call has failed
 abbrev pub invariant-loop-count : goal.invariant-loop-count
 invariant-loop-count g l = record {
-  header : g.S.Fed.header l.session ≡ l.header;
+  header : l.session.header ≡ l.header;
   fed : HasFed l.stream (g.I.Inputs.rest l.fn.inputs) (g.I.Inputs.rest l.inputs) (g.I.Inputs.given l.fn.inputs) (g.I.Inputs.given l.inputs) l.header l.lies
-      (g.S.Fed.stands l.fn.session) (g.S.Fed.stands l.session);
+      (SessionStands l.fn.session) (SessionStands l.session);
   taken : l.stream.taken ≡ l.taken;
   few : l.lies ≤ l.taken;
   limit : l.taken ≤ l.limit;
