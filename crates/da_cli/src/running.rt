@@ -3,7 +3,7 @@
 ghost use Rattle.std.specs.Prelude.{◌≡◌, ◌≢◌, ◌↔◌, ℕ, length, ◌<◌, [], Some, None, IsSome};
 ghost use Rattle.da_cli.specs.declared.status.Status.TheVariants.{Usage};
 ghost use Rattle.da_cli.specs.declared.commands.Command.TheVariants as CommandOf;
-ghost use Rattle.da_cli.specs.Words.{words_of, call_of, names_of, IsRunnable};
+ghost use Rattle.da_cli.specs.Words.{words_of, call_of, names_of, IsRunnable, HasFiles};
 ghost use Rattle.da_cli.specs.Statuses.{kind_of, input_count, output_count};
 ghost use Rattle.da_cli.specs.Gathered.{IsLast};
 ghost use Rattle.da_cli.specs.Outcome.{FaultCause, ExcessCause, LastBy, PickCount, Untouched};
@@ -67,7 +67,7 @@ fn answer_streamed<I: Inputs, O: Sink>(
 ) -> Status
     requires call { Some call ≡ call_of (words_of words.now) }
     requires few { call.files < length words.now }
-    requires two { call.files ≡ 2 }
+    requires own { HasFiles call.command call.files }
     requires repair { call.command ≡ CommandOf.Repair }
     ensures ran { Ran I.Inputs O.Sink (words_of words.now) inputs.old inputs.new out.old out.new
         result }
