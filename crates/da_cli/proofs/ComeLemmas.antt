@@ -1,6 +1,5 @@
 -- The files of a list of names, of which one more was read, whether its bytes are kept or not.
-use Rattle.std.proofs.Common.{◌≡◌, ◌∙◌, ℕ, ◌+◌, ◌<◌, ◌≤◌, List, [], ◌∷◌, ◌++◌, length, drop, Some, None, Ok, Err, Result, IfOk, IfErr, refl, sym, ap, subst, arith, inl, inr, ⊎_elim}
-use Rattle.std.specs.Prelude.{◌⊎◌}
+use Rattle.std.proofs.Common.{◌≡◌, ◌∙◌, ℕ, ◌+◌, ◌<◌, ◌≤◌, List, [], ◌∷◌, ◌++◌, drop, Some, None, Ok, Err, refl, ap, subst, arith, inl, inr, ⊎_elim}
 use Rattle.std.specs.declared.option.Option.{Option}
 use Rattle.da_io.specs.declared.inputs.Inputs as inputs
 use Rattle.std.proofs.lemmas.Bool.{cases_lt}
@@ -8,8 +7,7 @@ use Rattle.da_io.specs.Faults.{max_count, count_on}
 use Rattle.da_io.specs.Files.{Files}
 use Rattle.da_cli.specs.declared.gathering.Stop.{Stop}
 use Rattle.da_cli.specs.declared.gathering.Stop.TheVariants as stop
-use Rattle.da_cli.specs.Limits.{file_limit}
-use Rattle.da_cli.specs.Gathered.{Gathered, whole, long, absent, after, gathered_from, AllRead, Gathers, ReadsFile, IsLastOf, PicksIn, StopsIn, WithinLimit, count_after}
+use Rattle.da_cli.specs.Gathered.{Gathered, whole, long, absent, after, gathered_from, AllRead, Gathers, ReadsFile, WithinLimit, count_after}
 use Rattle.da_cli.specs.Streamed.{IsRead, HasCome}
 use Rattle.da_cli.proofs.GatheredLemmas.{come_on, stop_here, stop_in, all_read_on, last_on, stop_picks}
 

@@ -1,11 +1,10 @@
 -- What a session is fed with of a file has the file's proved messages, and its lies are counted.
-use Rattle.std.proofs.Common.{◌≡◌, ◌∙◌, ℕ, suc, ◌+◌, Bool, true, false, cond, List, [], ◌∷◌, ◌++◌, Some, None, refl, sym, ap, subst, arith, ⊎_elim}
-use Rattle.std.specs.Prelude.{◌==◌}
+use Rattle.std.proofs.Common.{◌≡◌, ◌∙◌, ℕ, suc, ◌+◌, cond, List, [], ◌∷◌, ◌++◌, Some, None, refl, sym, subst, arith, ⊎_elim}
 use Rattle.std.specs.declared.option.Option.{Option}
 use Rattle.std.specs.Option.{option_map_or}
-use Rattle.std.specs.List.{sum_by, flat_map, Contains}
+use Rattle.std.specs.List.{sum_by, Contains}
 use Rattle.std.proofs.lemmas.List.Sums.{sum_by-append}
-use Rattle.std.proofs.lemmas.List.Elements.{Contains-append_left, Contains-append_right, Contains-append_cases}
+use Rattle.std.proofs.lemmas.List.Elements.{Contains-append_right, Contains-append_cases}
 use Rattle.data_header.specs.Headers.{Roots}
 use Rattle.axis_roots.specs.declared.message.messages.Message as sent
 use Rattle.axis_roots.specs.declared.message.messages.CheckRefusal.{CheckRefusal}
@@ -16,7 +15,7 @@ use Rattle.namespace_id.proofs.MemberLemmas.{contains_head, contains_cons, conta
 use Rattle.da_wire.specs.Reading.{Raw}
 use Rattle.da_wire.specs.Frames.{message_in}
 use Rattle.da_cli.specs.declared.commands.check.Finding.TheVariants.{Proved, NoMessage, Refused}
-use Rattle.da_cli.specs.commands.Check.{finding_of, is_ok}
+use Rattle.da_cli.specs.commands.Check.{is_ok}
 use Rattle.da_cli.specs.commands.Repair.{messages_in, lies_in}
 use Rattle.da_cli.specs.Feeding.{proved_by, lies_by, proved_among, lies_among}
 use Rattle.da_cli.proofs.FeedingLemmas.{accepted_by}

@@ -1,8 +1,8 @@
 -- A session is fed as a stream goes on.
-use Rattle.std.proofs.Common.{◌≡◌, ◌∙◌, ℕ, ◌+◌, ◌≤◌, ◌<◌, min, List, [], ◌∷◌, ◌++◌, length, take, drop, Some, None, Ok, Err, Result, refl, sym, ap, subst, arith, append_assoc, append-nil, length-append, take-append-drop}
+use Rattle.std.proofs.Common.{◌≡◌, ◌∙◌, ℕ, ◌+◌, ◌≤◌, ◌<◌, List, [], ◌∷◌, ◌++◌, length, take, drop, Some, None, Ok, Err, Result, refl, sym, ap, subst, arith, append_assoc, append-nil, length-append, take-append-drop}
 use Rattle.std.specs.List.{sum_by}
 use Rattle.std.specs.declared.option.Option.{Option}
-use Rattle.std.specs.Option.{option_map, option_map_or}
+use Rattle.std.specs.Option.{option_map_or}
 use Rattle.std.specs.Io.KnownBytes.{Consumes, Keeps, IsAtEnd}
 use Rattle.std.proofs.KnownBytes.{Consumes-nil, Consumes-trans, Consumes-kept}
 use Rattle.std.proofs.lemmas.Grind.{flat_map-append}
@@ -16,12 +16,12 @@ use Rattle.da_io.specs.Faults.{count_on}
 use Rattle.da_wire.specs.declared.streams.Pushed.TheVariants as pushed
 use Rattle.da_wire.specs.Reading.{Raw}
 use Rattle.da_wire.specs.Walks.{walk_from}
-use Rattle.da_wire.specs.Frames.{frames_of, bad_frame, message_in}
+use Rattle.da_wire.specs.Frames.{frames_of, message_in}
 use Rattle.da_wire.specs.StreamParts.{StreamParts}
-use Rattle.da_wire.specs.Streams.{StandsFor, IsPush, EndsFrame, FramesStay}
+use Rattle.da_wire.specs.Streams.{StandsFor, EndsFrame, FramesStay}
 use Rattle.da_cli.specs.declared.feeding.FeedFault.{FeedFault}
 use Rattle.da_cli.specs.declared.feeding.FeedFault.TheVariants.{ReadFailed, TooLong, Bad}
-use Rattle.da_cli.specs.Feeding.{proved_by, lies_by, proved_among, lies_among, HasGone, AnswersFed, IsFed, Feeds, FeedsTold, EndsFed, Judges}
+use Rattle.da_cli.specs.Feeding.{proved_by, lies_by, proved_among, lies_among, HasGone, AnswersFed, Feeds, FeedsTold, EndsFed, Judges}
 
 -- ---- one message
 

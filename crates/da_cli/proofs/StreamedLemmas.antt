@@ -1,5 +1,5 @@
 -- A file that was picked and then read on.
-use Rattle.std.proofs.Common.{◌≡◌, ◌∙◌, ℕ, ◌+◌, ◌≤◌, ◌<◌, min, List, [], ◌++◌, length, take, length-append, length-take-le, Some, None, Ok, Err, Result, refl, sym, ap, subst, arith}
+use Rattle.std.proofs.Common.{◌≡◌, ◌∙◌, ℕ, ◌+◌, ◌≤◌, ◌<◌, List, [], ◌++◌, length, take, length-append, length-take-le, Some, None, Ok, Err, refl, sym, ap, arith}
 use Rattle.std.specs.declared.option.Option.{Option}
 use Rattle.std.specs.Io.KnownBytes.{Consumes, IsAtEnd}
 use Rattle.std.proofs.KnownBytes.{Consumes-nil, Consumes-trans}
@@ -9,10 +9,9 @@ use Rattle.da_io.specs.declared.inputs.Ended.TheVariants as ended
 use Rattle.da_io.specs.declared.inputs.PickFailed.{PickFailed}
 use Rattle.da_io.specs.Faults.{max_count, count_on}
 use Rattle.da_io.specs.Files.{Files, Picks}
-use Rattle.da_cli.specs.declared.gathering.Stop.{Stop}
 use Rattle.da_cli.specs.declared.gathering.Stop.TheVariants as stop
 use Rattle.da_cli.specs.Limits.{file_limit}
-use Rattle.da_cli.specs.Gathered.{ReadsFile, StopsFile, count_after, WithinLimit}
+use Rattle.da_cli.specs.Gathered.{ReadsFile}
 use Rattle.da_cli.specs.Streamed.{IsRead}
 use Rattle.da_cli.proofs.FeedingLemmas.{all_left, long_left}
 

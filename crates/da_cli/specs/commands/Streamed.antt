@@ -1,5 +1,5 @@
 -- repair HEADER MESSAGES as MESSAGES is read: its bytes are not kept.
-use Rattle.std.specs.Prelude.{◌≡◌, ◌⊎◌, ℕ, List, [], ◌∷◌, Some, None, Ok, Err, Result, MatchOption}
+use Rattle.std.specs.Prelude.{◌≡◌, ◌⊎◌, ℕ, List, [], ◌∷◌, Ok, Err, Result, MatchOption}
 use Rattle.data_header.specs.Headers.{Roots}
 use Rattle.da_io.specs.declared.inputs.Inputs as inputs
 use Rattle.da_io.specs.declared.sink.Sink as sink

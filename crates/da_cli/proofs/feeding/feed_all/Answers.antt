@@ -1,7 +1,7 @@
-use Rattle.std.proofs.Common.{◌≡◌, ◌≤◌, ◌+◌, ◌∙◌, List, ℕ, sym, subst, ap, arith, take, length, length-take-le, refl, rules}
+use Rattle.std.proofs.Common.{◌≡◌, ◌≤◌, ◌∙◌, sym, ap, arith, take, length, length-take-le, refl}
 use Rattle.da_io.specs.Faults.{count_on}
 use Rattle.repair_queue.specs.SessionParts.{StandsFor as SessionStands}
-use Rattle.da_cli.proofs.FeedingLemmas.{HasFed, end_on, fed_none, fed_on, judged_feeds, failed_feeds, long_feeds, told}
+use Rattle.da_cli.proofs.FeedingLemmas.{end_on, fed_none, fed_on, judged_feeds, failed_feeds, long_feeds, told}
 use Rattle.da_cli.proofs.feeding.feed_all.Goals as goal
 
 -- at first nothing was fed

@@ -1,5 +1,4 @@
-use Rattle.std.proofs.Common.{◌≡◌, ◌-◌, ◌≤◌, List}
-use Rattle.axis_roots.specs.declared.message.messages.Message.{Message}
+use Rattle.std.proofs.Common.{◌≡◌, ◌-◌, ◌≤◌}
 use Rattle.repair_queue.specs.SessionParts.{StandsFor as SessionStands}
 use Rattle.da_cli.proofs.FeedingLemmas.{HasFed}
 use Rattle.da_cli.proofs.feeding.feed_all.Given as goal

@@ -1,4 +1,4 @@
-use Rattle.std.proofs.Common.{◌≡◌, ℕ, ◌++◌, take, sym, subst}
+use Rattle.std.proofs.Common.{ℕ, ◌++◌, take, sym, subst}
 use Rattle.repair_queue.specs.SessionParts.{StandsFor as SessionStands}
 use Rattle.da_wire.specs.declared.streams.Pushed.{Pushed}
 use Rattle.da_wire.specs.Frames.{frames_of}

@@ -1,4 +1,4 @@
-use Rattle.std.proofs.Common.{◌≡◌, ◌∙◌, List, ◌++◌, ◌∷◌, [], refl, sym, ap, subst}
+use Rattle.std.proofs.Common.{◌∙◌, List, ◌++◌, ◌∷◌, [], refl, sym, ap, subst}
 use Rattle.data_header.specs.Headers.{AreRoots}
 use Rattle.axis_roots.specs.declared.message.messages.Message.{Message as Sent}
 use Rattle.axis_roots.specs.Openings.{IsProved}

@@ -1,6 +1,5 @@
-use Rattle.std.proofs.Common.{◌≡◌, ◌-◌, ◌≤◌, ◌<◌, ℕ, List, length}
+use Rattle.std.proofs.Common.{◌-◌, ◌≤◌}
 use Rattle.std.specs.String.{string_bytes}
-use Rattle.da_io.specs.declared.inputs.Ended.TheVariants as ended
 use Rattle.da_cli.specs.Limits.{file_limit}
 use Rattle.da_cli.proofs.StreamedLemmas.{IsPassing}
 use Rattle.da_cli.proofs.streaming.skim_file.Given as goal

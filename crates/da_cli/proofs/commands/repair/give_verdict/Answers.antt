@@ -1,4 +1,4 @@
-use Rattle.std.proofs.Common.{◌∙◌, sym, ap, subst}
+use Rattle.std.proofs.Common.{◌∙◌, sym, ap}
 use Rattle.repair_queue.specs.Answers.{parts_of}
 use Rattle.repair_queue.specs.Verdicts.{VerdictParts, whole, missing, fraud, clash}
 use Rattle.da_wire.specs.Spelling.{spelling}

@@ -1,4 +1,4 @@
-use Rattle.std.proofs.Common.{◌≡◌, ◌∙◌, ℕ, List, [], ◌++◌, Ok, None, Result, sym, ap, subst, refl}
+use Rattle.std.proofs.Common.{◌≡◌, ◌∙◌, ℕ, List, [], ◌++◌, Ok, None, Result, sym, subst, refl}
 use Rattle.std.specs.Prelude.{MatchOption}
 use Rattle.std.specs.declared.option.Option.{Option}
 use Rattle.std.specs.String.{string_bytes}
@@ -9,7 +9,7 @@ use Rattle.axis_roots.specs.Openings.{IsProved}
 use Rattle.repair_queue.specs.Answers.{parts_of}
 use Rattle.repair_queue.specs.SessionParts.{StandsFor as SessionStands}
 use Rattle.repair_queue.specs.Verdicts.{IsVerdict}
-use Rattle.da_wire.specs.Frames.{frames_of, bad_frame}
+use Rattle.da_wire.specs.Frames.{frames_of}
 use Rattle.da_cli.specs.declared.status.Status.TheVariants.{BadInput}
 use Rattle.da_cli.specs.Outcome.{EndsAtOnce}
 use Rattle.da_cli.specs.commands.Repair.{Repairs}

@@ -1,6 +1,5 @@
-use Rattle.std.proofs.Common.{◌≡◌, ◌<◌, ◌≤◌, ℕ, List, ◌∷◌, drop, length, subst, arith}
+use Rattle.std.proofs.Common.{ℕ, List, subst, arith}
 use Rattle.std.specs.String.{string_bytes}
-use Rattle.da_io.specs.Faults.{max_count}
 use Rattle.da_cli.specs.Words.{words_of}
 use Rattle.da_cli.specs.commands.Streamed.{StreamsSecond}
 use Rattle.da_cli.proofs.GatheredLemmas.{name_here}
