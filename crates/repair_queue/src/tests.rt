@@ -4,7 +4,7 @@
 ghost use Rattle.std.specs.Prelude.{◌≡◌, IfOk, IsTrue};
 ghost use Rattle.namespace_id.specs.Cells.{is_in_square};
 
-use crate::{Session, SessionState};
+use crate::{Session, SessionState, Verdict};
 use axis_roots::{Grid, Message, check, header_of, message_of};
 use data_header::Header;
 use namespace_id::{Axis, Cell, CellRoom, Share};
@@ -117,6 +117,16 @@ fn feed_four(
     Ok(())
 }
 
+/// Whether an answer is a square.
+fn is_whole(verdict: Verdict) -> bool {
+    match verdict {
+        Verdict::Whole(_square) => true,
+        Verdict::Fraud(_proof) => false,
+        Verdict::Missing(_cells) => false,
+        Verdict::Clash(_clash) => false,
+    }
+}
+
 #[test]
 fn four_samples_of_a_square(rt: HostRuntime) -> Result<(), Fail> {
     let alloc = rt.alloc();
@@ -124,7 +134,9 @@ fn four_samples_of_a_square(rt: HostRuntime) -> Result<(), Fail> {
     let header = header(alloc, &grid)?;
     let mut room = CellRoom::new(alloc, 2)?;
     let mut session = Session::new(alloc, &header)?;
-    feed_four(&rt, alloc, &mut session, &mut room, &header, &grid)
+    feed_four(&rt, alloc, &mut session, &mut room, &header, &grid)?;
+    assert!(rt; is_whole(session.finish()), "all cells are known");
+    Ok(())
 }
 
 /// Feeds two samples of a row that is no codeword.
