@@ -1,0 +1,268 @@
+-- Seats whose nodes are handed one item more, and how they stand.
+use Rattle.std.proofs.Common.{◌≡◌, ◌∙◌, ℕ, List, [], ◌∷◌, ◌++◌, refl, sym, ap, subst, inl, inr}
+use Rattle.std.specs.Prelude.{Option, Some, None, Vec}
+use Rattle.std.specs.declared.alloc.Global.{Global}
+use Rattle.std.proofs.lemmas.Option.{none-some, same_Some}
+use Rattle.namespace_id.specs.declared.cells.Cell.{Cell}
+use Rattle.data_header.specs.Headers.{Roots}
+use Rattle.axis_roots.specs.declared.message.messages.Message.{Message}
+use Rattle.axis_roots.specs.Claims.{ClaimParts, Accepts}
+use Rattle.light_node.specs.declared.events.Event.{Event}
+use Rattle.light_node.specs.declared.events.LightState.{LightState}
+use Rattle.light_node.specs.declared.events.LightState.TheVariants as seen
+use Rattle.light_node.specs.declared.events.Light.{Light as LightVerdict}
+use Rattle.light_node.specs.declared.events.Light.TheVariants as verdict
+use Rattle.light_node.specs.Events.{IsState, IsFirstAccepted, IsLight}
+use Rattle.light_node.specs.Nodes.{NodeParts, StandsFor}
+use Rattle.da_net.specs.declared.items.Item.{Item}
+use Rattle.da_net.specs.declared.items.Item.TheVariants as item
+use Rattle.da_net.specs.declared.full.End.{End}
+use Rattle.da_net.specs.declared.full.End.TheVariants as end
+use Rattle.da_net.specs.declared.full.FullNode.{FullNode}
+use Rattle.da_net.specs.declared.seats.Node.{Node}
+use Rattle.da_net.specs.declared.seats.Node.TheVariants.{Full, Light}
+use Rattle.da_net.specs.declared.seats.Seat.{Seat}
+use Rattle.da_net.specs.Networks.{events_of, light, Standing, settled, clashing, waiting, available, rejecting, IsRejecting, IsClashing}
+use Rattle.da_net.specs.Nodes.{HasSpare, standing_by, IsFullNode, IsLightNode, Rejects, IsLightStep}
+use Rattle.da_net.specs.Nets.{Fits, state_of, light_state, claim_in}
+use Rattle.da_net.specs.Seats.{alarm_by, alarm_with, IsNodeFor, HasSpareFor, IsSeat, IsSeatStep, SeatStands}
+use Rattle.da_net.proofs.FullLemmas.{full_unaccepted}
+use Rattle.da_net.proofs.LightLemmas.{light_unaccepted, among}
+use Rattle.light_node.proofs.StandingLemmas.{state_distinct}
+
+-- ---- full nodes
+
+-- room for a claim of a node that doesn't reject
+pub spare_needed : (k : ℕ) (o : Option End) (spare : Option (Vec Message Global)) → HasSpareFor k (claim_in (alarm_by o)) spare
+    → (IsRejecting (standing_by o) → ⊥) → HasSpare k spare
+spare_needed k None spare has not = has
+spare_needed k (Some (end.Clash pair)) spare has not = has
+spare_needed k (Some (end.Rejected claim)) spare has not = absurd (not tt)
+
+-- and the other way round
+spare_for : (k : ℕ) (o : Option End) (spare : Option (Vec Message Global)) → ((IsRejecting (standing_by o) → ⊥) → HasSpare k spare)
+    → HasSpareFor k (claim_in (alarm_by o)) spare
+spare_for k None spare has = has (λ never. never)
+spare_for k (Some (end.Clash pair)) spare has = has (λ never. never)
+spare_for k (Some (end.Rejected claim)) spare has = tt
+
+-- who holds a claim rejects
+claim_rejects : (o : Option End) (claim : ClaimParts) → claim_in (alarm_by o) ≡ Some claim → IsRejecting (standing_by o)
+claim_rejects None claim e = absurd (none-some claim e)
+claim_rejects (Some (end.Clash pair)) claim e = absurd (none-some claim e)
+claim_rejects (Some (end.Rejected other)) claim e = tt
+
+-- a full node after an item
+pub full_step : {F : Type 0} (picks : F → ℕ → Cell → Type 0) (header : Roots) (items : List Item) (old new : FullNode)
+    (kept spare published : Option (Vec Message Global)) → IsFullNode header items new → ((IsRejecting (standing_by new.end) → ⊥) → HasSpare header.k spare)
+    → (IsRejecting (standing_by old.end) → new.end ≡ old.end)
+    → IsSeatStep {F = F} picks header items (record { node = Full old; kept = kept; published = published })
+    (record { node = Full new; kept = spare; published = published })
+full_step picks header items old new kept spare published is has keeps = record {
+  seat = record { is_node = is; spare = spare_for header.k new.end spare has };
+  kind = refl;
+  keeps = λ claim e. ap (λ (o : Option End). claim_in (alarm_by o)) (keeps (claim_rejects old.end claim e)) ∙ e;
+  unpublished = refl;
+}
+
+-- who has a collision is clashing
+clashing_end : (o : Option End) (left right : List ℕ) → alarm_by o ≡ Some (clashing left right) → IsClashing (standing_by o)
+clashing_end None left right e = absurd (none-some (clashing left right) e)
+clashing_end (Some one) left right e = subst IsClashing (sym (same_Some (standing_by (Some one)) (clashing left right) e)) tt
+
+-- and doesn't reject
+clashing_apart : (s : Standing) → IsClashing s → IsRejecting s → ⊥
+clashing_apart settled clashes rejects = clashes
+clashing_apart (clashing left right) clashes rejects = rejects
+clashing_apart waiting clashes rejects = clashes
+clashing_apart available clashes rejects = clashes
+clashing_apart (rejecting claim) clashes rejects = clashes
+
+-- a collision stays
+pub clash_stays : (old new : Option End) (left right : List ℕ) → (IsClashing (standing_by old) → new ≡ old) → alarm_by old ≡ Some (clashing left right)
+    → alarm_by new ≡ Some (clashing left right)
+clash_stays old new left right keeps e = ap alarm_by (keeps (clashing_end old left right e)) ∙ e
+
+-- who rejects is alarmed by the claim
+rejecting_end : (o : Option End) (claim : ClaimParts) → standing_by o ≡ rejecting claim → alarm_by o ≡ Some (rejecting claim)
+rejecting_end None claim e = absurd cc
+rejecting_end (Some one) claim e = ap Some e
+
+-- or goes for an accepted claim
+pub clash_goes : (old new : Option End) (left right : List ℕ) (claim : ClaimParts) → ((IsRejecting (standing_by old) → ⊥) → standing_by new ≡ rejecting claim)
+    → alarm_by old ≡ Some (clashing left right) → alarm_by new ≡ Some (rejecting claim)
+clash_goes old new left right claim claims e =
+    rejecting_end new claim (claims (clashing_apart (standing_by old) (clashing_end old left right e)))
+
+-- ---- light nodes
+
+-- no collision alarms a light node
+pub light_clash : (o : Option ClaimParts) (left right : List ℕ) → alarm_with o ≡ Some (clashing left right) → ⊥
+light_clash None left right e = none-some (clashing left right) e
+light_clash (Some claim) left right e = apart (same_Some (rejecting claim) (clashing left right) e)
+  where
+    apart : rejecting claim ≡ clashing left right → ⊥
+    apart h = cc
+
+-- the claim that a light node holds
+pub claim_with : (o : Option ClaimParts) → claim_in (alarm_with o) ≡ o
+claim_with None = refl
+claim_with (Some claim) = refl
+
+-- room for a claim after one that was held stays
+light_spare : (k : ℕ) (old new : Option ClaimParts) (spare : Option (Vec Message Global)) → HasSpareFor k old spare
+    → ((claim : ClaimParts) → old ≡ Some claim → new ≡ Some claim) → HasSpareFor k new spare
+light_spare k None None spare has keeps = has
+light_spare k None (Some claim) spare has keeps = tt
+light_spare k (Some claim) new spare has keeps = subst (λ (o : Option ClaimParts). HasSpareFor k o spare) (sym (keeps claim refl)) tt
+
+-- a light node after a message
+pub light_seat : {F : Type 0} (picks : F → ℕ → Cell → Type 0) (header : Roots) (items : List Item) (old new : NodeParts F)
+    (kept published : Option (Vec Message Global)) → HasSpareFor header.k (claim_in (alarm_with old.claim)) kept → IsLightStep picks header items old new
+    → IsSeatStep picks header items (record { node = Light old; kept = kept; published = published })
+    (record { node = Light new; kept = kept; published = published })
+light_seat picks header items old new kept published has step = record {
+  seat = record {
+    is_node = step.node;
+    spare = subst (λ (o : Option ClaimParts). HasSpareFor header.k o kept) (sym (claim_with new.claim))
+        (light_spare header.k old.claim new.claim kept (subst (λ (o : Option ClaimParts). HasSpareFor header.k o kept) (claim_with old.claim) has) step.keeps);
+  };
+  kind = ap light step.wanted;
+  keeps = λ claim e. claim_with new.claim ∙ step.keeps claim (sym (claim_with old.claim) ∙ e);
+  unpublished = refl;
+}
+
+-- who rejects needs no room
+rejects_spare : (k : ℕ) (o : Option ClaimParts) (spare : Option (Vec Message Global)) → Rejects o → HasSpareFor k (claim_in (alarm_with o)) spare
+rejects_spare k None spare rejects = absurd rejects
+rejects_spare k (Some claim) spare rejects = tt
+
+-- a light node after an accepted claim
+pub light_accepted : {F : Type 0} (picks : F → ℕ → Cell → Type 0) (header : Roots) (items : List Item) (old new : NodeParts F)
+    (kept spare published : Option (Vec Message Global)) → IsLightStep picks header items old new → Rejects new.claim
+    → IsSeatStep picks header items (record { node = Light old; kept = kept; published = published })
+    (record { node = Light new; kept = spare; published = published })
+light_accepted picks header items old new kept spare published step rejects = record {
+  seat = record { is_node = step.node; spare = rejects_spare header.k new.claim spare rejects };
+  kind = ap light step.wanted;
+  keeps = λ claim e. claim_with new.claim ∙ step.keeps claim (sym (claim_with old.claim) ∙ e);
+  unpublished = refl;
+}
+
+-- room for a claim of a light node that doesn't reject
+pub light_needed : (k : ℕ) (o : Option ClaimParts) (spare : Option (Vec Message Global)) → HasSpareFor k (claim_in (alarm_with o)) spare
+    → (Rejects o → ⊥) → HasSpare k spare
+light_needed k None spare has not = has
+light_needed k (Some claim) spare has not = absurd (not tt)
+
+-- ---- claims that aren't accepted
+
+node_unaccepted : {F : Type 0} (picks : F → ℕ → Cell → Type 0) (header : Roots) (items : List Item) (node : Node F) (claim : ClaimParts)
+    → (Accepts header claim → ⊥) → IsNodeFor picks header items node → IsNodeFor picks header (items ++ item.Claim claim ∷ []) node
+node_unaccepted picks header items (Full node) claim not is = full_unaccepted header items claim node not is
+node_unaccepted picks header items (Light node) claim not is = light_unaccepted picks header items node is claim not
+
+-- they change nothing
+pub unaccepted_step : {F : Type 0} (picks : F → ℕ → Cell → Type 0) (header : Roots) (items : List Item) (seat : Seat F) (claim : ClaimParts)
+    → (Accepts header claim → ⊥) → IsSeat picks header items seat → IsSeatStep picks header (items ++ item.Claim claim ∷ []) seat seat
+unaccepted_step picks header items seat claim not is = record {
+  seat = record { is_node = node_unaccepted picks header items seat.node claim not is.is_node; spare = is.spare };
+  kind = refl;
+  keeps = λ claim e. e;
+  unpublished = refl;
+}
+
+-- ---- how nodes stand
+
+-- a full node fits what ended it
+full_fits : (o : Option End) → Fits (alarm_by o) (standing_by o)
+full_fits None = λ alarmed. elim alarmed [
+  | inl never ↦ never
+  | inr never ↦ never
+]
+full_fits (Some one) = refl
+
+-- a full node stands as what ended it says
+pub full_standing : {F : Type 0} (picks : F → ℕ → Cell → Type 0) (header : Roots) (items : List Item) (node : FullNode)
+    (kept published : Option (Vec Message Global)) → IsFullNode header items node
+    → SeatStands {F = F} header items (record { node = Full node; kept = kept; published = published }) (standing_by node.end)
+full_standing picks header items node kept published is = record { stands = is.stands; fits = full_fits node.end }
+
+-- a light node's standing, with the claim that it holds
+light_by : {F : Type 0} (header : Roots) (items : List Item) (node : NodeParts F) (kept published : Option (Vec Message Global)) (o : Option ClaimParts)
+    (one : LightState) → node.claim ≡ o → IsState header node.wanted (events_of items) one → IsFirstAccepted header (events_of items) o
+    → (standing : Standing) × SeatStands header items (record { node = Light node; kept = kept; published = published }) standing
+    × (light_state one ≡ state_of standing)
+light_by header items node kept published None seen.Waiting e is first = (
+  waiting,
+  record {
+    stands = is;
+    fits = subst (λ (o : Option ClaimParts). Fits (alarm_with o) waiting) (sym e) (λ alarmed. elim alarmed [
+      | inl never ↦ never
+      | inr never ↦ never
+    ]);
+  },
+  refl,
+)
+light_by header items node kept published None seen.Available e is first = (
+  available,
+  record {
+    stands = is;
+    fits = subst (λ (o : Option ClaimParts). Fits (alarm_with o) available) (sym e) (λ alarmed. elim alarmed [
+      | inl never ↦ never
+      | inr never ↦ never
+    ]);
+  },
+  refl,
+)
+light_by header items node kept published None seen.Rejected e is first = absurd (accepted_none is)
+  where
+    accepted_none : IsState header node.wanted (events_of items) seen.Rejected → ⊥
+    accepted_none (claim, found) = first claim (among header (events_of items) claim found) found.0
+light_by header items node kept published (Some claim) seen.Waiting e is first = absurd (is.0 claim (among header (events_of items) claim first) first.0)
+light_by header items node kept published (Some claim) seen.Available e is first = absurd (is.0 claim (among header (events_of items) claim first) first.0)
+light_by header items node kept published (Some claim) seen.Rejected e is first = (
+  rejecting claim,
+  record { stands = first; fits = subst (λ (o : Option ClaimParts). Fits (alarm_with o) (rejecting claim)) (sym e) refl },
+  refl,
+)
+
+-- a light node stands as its state says
+pub light_standing : {F : Type 0} (picks : F → ℕ → Cell → Type 0) (header : Roots) (items : List Item) (node : NodeParts F)
+    (kept published : Option (Vec Message Global)) (one : LightState) → IsLightNode picks header items node
+    → ((plan : List Cell) (events : List Event) → StandsFor picks node plan events → IsState node.header plan events one)
+    → (standing : Standing) × SeatStands header items (record { node = Light node; kept = kept; published = published }) standing
+    × (light_state one ≡ state_of standing)
+light_standing picks header items node kept published one is state =
+    let by_plan = subst (λ (h : Roots). IsState h is.plan (events_of items) one) is.header_is (state is.plan (events_of items) is.stands) in
+    light_by header items node kept published node.claim one refl
+    (subst (λ (l : List Cell). IsState header l (events_of items) one) (sym is.stands.wanted) (state_distinct header is.plan (events_of items) one by_plan))
+    (subst (λ (h : Roots). IsFirstAccepted h (events_of items) node.claim) is.header_is is.stands.claim)
+
+module _ {F : Type 0} (picks : F → ℕ → Cell → Type 0) (header : Roots) (items : List Item) (seat : Seat F) (node : NodeParts F) (e : seat.node ≡ Light node)
+    (is : IsSeat picks header items seat) where
+  -- the light node of a seat
+  pub light_in : IsLightNode picks header items node
+  light_in = subst (λ (n : Node F). IsNodeFor picks header items n) e is.is_node
+
+  -- stands as its state says
+  pub light_stands : (one : LightState) → ((plan : List Cell) (events : List Event) → StandsFor picks node plan events → IsState node.header plan events one)
+      → (standing : Standing) × SeatStands header items seat standing × (light_state one ≡ state_of standing)
+  light_stands one state =
+      subst (λ (n : Node F). (standing : Standing) × SeatStands {F = F} header items (record { node = n; kept = seat.kept; published = seat.published }) standing
+      × (light_state one ≡ state_of standing)) (sym e) (light_standing picks header items node seat.kept seat.published one light_in state)
+
+-- ---- claims that light nodes answer
+
+-- the first accepted claim is one
+pub same_claims : ((header : Roots) (plan : List Cell) (events : List Event) (one other : LightVerdict) → IsLight header plan events one
+    → IsLight header plan events other → one ≡ other)
+    → (header : Roots) (events : List Event) (a b : Option ClaimParts) → IsFirstAccepted header events a → IsFirstAccepted header events b → a ≡ b
+same_claims once header events None None one two = refl
+same_claims once header events None (Some claim) one two = absurd (one claim (among header events claim two) two.0)
+same_claims once header events (Some claim) None one two = absurd (two claim (among header events claim one) one.0)
+same_claims once header events (Some claim) (Some other) one two =
+    ap Some (same_rejected claim other (once header [] events (verdict.Rejected claim) (verdict.Rejected other) one two))
+  where
+    same_rejected : (a b : ClaimParts) → verdict.Rejected a ≡ verdict.Rejected b → a ≡ b
+    same_rejected a b e = cc

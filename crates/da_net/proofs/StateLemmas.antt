@@ -1,0 +1,63 @@
+-- What the state of a node promises.
+use Rattle.std.proofs.Common.{◌≡◌, ◌∙◌, ℕ, List, refl, sym, subst, inl, inr}
+use Rattle.std.specs.Prelude.{◌⊎◌}
+use Rattle.std.specs.List.{Contains}
+use Rattle.data_header.specs.Headers.{Roots}
+use Rattle.square_layout.specs.Blocks.{SquareShares}
+use Rattle.axis_roots.specs.Grids.{IsHeaderOf}
+use Rattle.axis_roots.specs.Claims.{ClaimParts, Accepts}
+use Rattle.repair_queue.specs.Settled.{IsSettled}
+use Rattle.da_net.specs.declared.items.Item.{Item}
+use Rattle.da_net.specs.declared.items.Item.TheVariants as item
+use Rattle.da_net.specs.declared.items.NodeState.{NodeState}
+use Rattle.da_net.specs.declared.items.NodeState.TheVariants as state
+use Rattle.da_net.specs.Networks.{messages_of, Kind, full, light, Standing, settled, clashing, waiting, available, rejecting, Stands, IsRejecting, handed, IsRun}
+use Rattle.da_net.specs.Promises.{IsAlarmed, PoolNames}
+use Rattle.da_net.specs.Nets.{NetParts, network_of, state_of, HasState}
+use Rattle.da_net.proofs.PromiseLemmas.{rejects_by, alarmed_names}
+
+-- who rejects is in state Rejected
+rejects_state : (s : Standing) → IsRejecting s → state_of s ≡ state.Rejected
+rejects_state settled r = absurd r
+rejects_state (clashing left right) r = absurd r
+rejects_state waiting r = absurd r
+rejects_state available r = absurd r
+rejects_state (rejecting claim) r = refl
+
+-- who was handed an accepted claim is in state Rejected
+pub state_rejects : (net : NetParts) (node : ℕ) (one : NodeState) → HasState net node one → (claim : ClaimParts)
+    → Contains (handed net.pool net.steps node) (item.Claim claim) → Accepts net.header claim → one ≡ state.Rejected
+state_rejects net node one (standing, has, e) claim at accepts =
+    e ∙ rejects_state standing (rejects_by net.header has.kind (handed net.pool net.steps node) claim standing at accepts has.stands)
+
+-- who is open is settled
+open_settled : (header : Roots) (kind : Kind) (items : List Item) (s : Standing) → state_of s ≡ state.Open → Stands header kind items s → IsSettled header (messages_of items)
+open_settled header full items settled e stands = stands.1
+open_settled header (light plan) items settled e stands = absurd stands
+open_settled header kind items (clashing left right) e stands = absurd cc
+open_settled header kind items waiting e stands = absurd cc
+open_settled header kind items available e stands = absurd cc
+open_settled header kind items (rejecting claim) e stands = absurd cc
+
+pub state_settled : (net : NetParts) (node : ℕ) (one : NodeState) → HasState net node one → one ≡ state.Open
+    → IsSettled net.header (messages_of (handed net.pool net.steps node))
+state_settled net node one (standing, has, e) is_open =
+    open_settled net.header has.kind (handed net.pool net.steps node) standing (sym e ∙ is_open) has.stands
+
+-- in states Rejected and Clash a node is alarmed
+alarmed_state : (s : Standing) → (state_of s ≡ state.Rejected) ⊎ (state_of s ≡ state.Clash) → IsAlarmed s
+alarmed_state settled (inl e) = absurd cc
+alarmed_state settled (inr e) = absurd cc
+alarmed_state (clashing left right) e = inr tt
+alarmed_state waiting (inl e) = absurd cc
+alarmed_state waiting (inr e) = absurd cc
+alarmed_state available (inl e) = absurd cc
+alarmed_state available (inr e) = absurd cc
+alarmed_state (rejecting claim) e = inl tt
+
+-- under the header of a square that names a collision
+pub state_names : (net : NetParts) (node : ℕ) (one : NodeState) → IsRun (network_of net) net.pool net.steps → HasState net node one → (square : SquareShares)
+    → IsHeaderOf net.header square → (one ≡ state.Rejected) ⊎ (one ≡ state.Clash) → PoolNames net.pool square
+state_names net node one run (standing, has, e) square own bad =
+    alarmed_names (network_of net) net.pool net.steps node square run own has.kind standing has.stands
+    (alarmed_state standing (subst (λ (s : NodeState). (s ≡ state.Rejected) ⊎ (s ≡ state.Clash)) e bad))

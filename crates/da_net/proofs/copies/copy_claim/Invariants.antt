@@ -1,0 +1,10 @@
+use Rattle.std.proofs.Common.{◌≡◌, ◌≤◌, length, take}
+use Rattle.std.specs.Vec.{vec_capacity}
+use Rattle.da_net.proofs.copies.copy_claim.Given as goal
+
+-- the first messages are copied, and there is room for all
+abbrev pub invariant-loop-i : goal.invariant-loop-i
+invariant-loop-i l = record {
+  copied : l.cells.items ≡ take l.i l.claim.cells;
+  room : length l.claim.cells ≤ vec_capacity l.cells;
+}

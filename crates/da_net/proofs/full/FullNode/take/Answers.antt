@@ -1,0 +1,57 @@
+use Rattle.std.proofs.Common.{◌∙◌, ◌++◌, ◌∷◌, [], sym, subst, true≢false}
+use Rattle.axis_roots.specs.declared.message.messages.Message.{Message}
+use Rattle.da_net.specs.declared.full.Fed.TheVariants.{On, Ended}
+use Rattle.da_net.specs.Networks.{messages_of}
+use Rattle.da_net.specs.Nodes.{HasSpare, IsFed}
+use Rattle.da_net.proofs.FullLemmas.{session_of, full_ended, full_refused, taken_on, taken_end, room_end, none_rejects}
+use Rattle.da_net.proofs.full.FullNode.take.Goals as goal
+
+-- the session of an open node stands for its messages
+pub feed-requires-clause-fed : goal.feed-requires-clause-fed
+feed-requires-clause-fed c =
+    let items = c.requires.node.0 in
+    let both = session_of c.args.header.now items c.args.self.now c.in-Some.session (sym c.is_some.ensures ∙ c.if-is_some.false) (sym c.in-Some.ensures.value) c.requires.node.1 in
+    (messages_of items, both.0.stands)
+
+-- it ended before
+pub returns-then-is_some-clause-stands : goal.returns-then-is_some-clause-stands
+returns-then-is_some-clause-stands c = λ items is.
+    full_ended c.args.header.now items c.args.message c.args.self.now (sym c.is_some.ensures ∙ c.if-is_some.true) is
+
+-- the message isn't proved
+pub returns-in_default-clause-stands : goal.returns-in_default-clause-stands
+returns-in_default-clause-stands c = λ items is.
+    full_refused c.args.header.now items c.args.message c.args.self.now
+    (λ proved. true≢false (sym (c.in_default.ensures.accepts.1 proved))) is
+
+-- the session goes on
+pub returns-in-On-clause-stands : goal.returns-in-On-clause-stands
+returns-in-On-clause-stands c = λ items is.
+    (taken_on c.args.header.now items c.args.message c.args.self.now c.in-Some.session (sym c.is_some.ensures ∙ c.if-is_some.false)
+    (sym c.in-Some.ensures.value) c.args.room.now c.feed.new.room is c.in-On.session
+    (λ fed stands. subst (λ (m : Message). IsFed c.args.header.now (fed ++ m ∷ []) c.args.room.now c.feed.new.room (On c.in-On.session)) c.in-Ok.ensures.message
+    (c.in-On.ensures.fed fed stands))).0
+
+pub returns-in-On-clause-room : goal.returns-in-On-clause-room
+returns-in-On-clause-room c = λ not.
+    subst (HasSpare c.args.header.now.k) (sym (taken_on c.args.header.now c.requires.node.0 c.args.message c.args.self.now c.in-Some.session
+    (sym c.is_some.ensures ∙ c.if-is_some.false)
+    (sym c.in-Some.ensures.value) c.args.room.now c.feed.new.room c.requires.node.1 c.in-On.session
+    (λ fed stands. subst (λ (m : Message). IsFed c.args.header.now (fed ++ m ∷ []) c.args.room.now c.feed.new.room (On c.in-On.session)) c.in-Ok.ensures.message
+    (c.in-On.ensures.fed fed stands))).1) (c.requires.room not)
+
+-- or it ended
+pub returns-in-Ended-clause-stands : goal.returns-in-Ended-clause-stands
+returns-in-Ended-clause-stands c = λ items is.
+    taken_end c.args.header.now items c.args.message c.args.self.now c.in-Some.session (sym c.is_some.ensures ∙ c.if-is_some.false)
+    (sym c.in-Some.ensures.value) c.args.room.now c.feed.new.room is c.take.new.self c.in-Ended.end
+    (λ fed stands. subst (λ (m : Message). IsFed c.args.header.now (fed ++ m ∷ []) c.args.room.now c.feed.new.room (Ended c.in-Ended.end)) c.in-Ok.ensures.message
+    (c.in-Ended.ensures.fed fed stands))
+
+pub returns-in-Ended-clause-room : goal.returns-in-Ended-clause-room
+returns-in-Ended-clause-room c =
+    room_end c.args.header.now c.requires.node.0 c.args.message c.args.self.now c.in-Some.session (sym c.is_some.ensures ∙ c.if-is_some.false)
+    (sym c.in-Some.ensures.value) c.args.room.now c.feed.new.room c.requires.node.1 c.in-Ended.end
+    (λ fed stands. subst (λ (m : Message). IsFed c.args.header.now (fed ++ m ∷ []) c.args.room.now c.feed.new.room (Ended c.in-Ended.end)) c.in-Ok.ensures.message
+    (c.in-Ended.ensures.fed fed stands))
+    (c.requires.room (none_rejects c.args.self.now.end (sym c.is_some.ensures ∙ c.if-is_some.false)))

@@ -1,0 +1,5 @@
+pub mod Networks
+pub mod Promises
+pub mod Nodes
+pub mod Nets
+pub mod Seats
