@@ -12,8 +12,6 @@ mod lights;
 mod making;
 mod nets;
 mod seats;
-#[cfg(test)]
-mod tests;
 
 pub use items::{Item, Kept, NetError, NetEvent, NodeState, StepRefusal, Stepped};
 pub use laws::{agreement_laws, delivery_laws, joint_laws, rejection_laws};

@@ -4,8 +4,6 @@
 #![tactic(auto)]
 
 mod json;
-#[cfg(test)]
-mod tests;
 mod text;
 mod words;
 
