@@ -11,6 +11,7 @@ _da_words() {
         check) echo HEADER MESSAGES ;;
         repair) echo HEADER MESSAGES ;;
         light) echo HEADER MESSAGES KEY COUNT ;;
+        net) echo HEADER MESSAGES SCRIPT ;;
         show) echo FILE ;;
         json) echo FILE ;;
         demo) echo NUMBER WIDTH ;;
@@ -30,7 +31,7 @@ _da_files() {
 _da() {
     local word=${COMP_WORDS[COMP_CWORD]}
     local before=${COMP_WORDS[COMP_CWORD - 1]}
-    local commands="build header sample namespace verify check repair light show json demo"
+    local commands="build header sample namespace verify check repair light net show json demo"
     local words
     COMPREPLY=()
     # Behind a sign like > stands a file.

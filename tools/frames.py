@@ -8,6 +8,7 @@
     frames.py block JSON                    a block (kind V)
     frames.py samples LIST                  requests for samples (kind Q)
     frames.py namespaces LIST               requests for namespaces (kind P)
+    frames.py script FULL LIST              a script of a network of so many full nodes
     frames.py messages FILE..               files of messages and fraud claims as one list, each frame checked
     frames.py raw KIND HEX                  a frame of any kind byte and payload
 
@@ -593,6 +594,28 @@ def spell_sample(value, what):
     return row.to_bytes(2, "big") + col.to_bytes(2, "big") + bytes([AXES.index(parts[2])])
 
 
+def spell_step(value, what):
+    """A light node or an event of a script, from light,KEY,COUNT, put,ITEM, hand,PLACE,NODE or publish,NODE, and whether
+    it is an event."""
+    word, *rest = value.split(",") if isinstance(value, str) else [None]
+    if word == "light" and len(rest) == 2:
+        key = hex_bytes(rest[0], f"{what}, key")
+        if len(key) != 32:
+            raise Note(1, f"{what}: a key has 64 hexadecimal digits")
+        return key + whole(decimal(rest[1]), what, U16).to_bytes(2, "big"), False
+    if (word, len(rest)) not in (("put", 1), ("hand", 2), ("publish", 1)):
+        raise Note(1, f"{what}: {value!r} isn't light,KEY,COUNT, put,ITEM, hand,PLACE,NODE or publish,NODE")
+    a, b = {"put": rest + ["0"], "hand": rest, "publish": ["0"] + rest}[word]
+    tag = ("put", "hand", "publish").index(word)
+    numbers = whole(decimal(a), what, 2**32 - 1).to_bytes(4, "big") + whole(decimal(b), what, U16).to_bytes(2, "big")
+    return bytes([tag]) + numbers, True
+
+
+def decimal(text):
+    """The number of decimal digits, or the text where it is none."""
+    return int(text) if re.fullmatch("[0-9]{1,10}", text) else text
+
+
 # The commands: each answers the pieces of its output and its status.
 
 
@@ -657,6 +680,16 @@ def namespaces(args):
     return [frame(ord("P"), namespace_bytes(*item)) for item in items(list_words(args.words), "request")], 0
 
 
+def script(args):
+    """makes a script of a network: its light nodes, and then its events"""
+    steps = [spell_step(*item) for item in items(list_words(args.words), "step")]
+    lights = [text for text, is_event in steps if not is_event]
+    if [is_event for _, is_event in steps] != [False] * len(lights) + [True] * (len(steps) - len(lights)):
+        raise Note(1, "light nodes stand in front of all events")
+    front = whole(decimal(args.full), "FULL", U16).to_bytes(2, "big") + whole(len(lights), "lights", U16).to_bytes(2, "big")
+    return [front] + [text for text, _ in steps], 0
+
+
 def messages(args):
     """joins files of messages and fraud claims, each frame checked"""
     form = MESSAGES if args.any else Form(0, True, "MB")
@@ -704,6 +737,8 @@ def parser():
     add("block", block, "json", makes=True)
     for name, run in (("samples", samples), ("namespaces", namespaces)):
         add(name, run, makes=True).add_argument("words", nargs="+", metavar="LIST", help="words, or one JSON list")
+    steps = add("script", script, "full", makes=True)
+    steps.add_argument("words", nargs="*", metavar="LIST", help="words, or one JSON list")
     joined = add("messages", messages, makes=True)
     joined.add_argument("files", nargs="+", metavar="FILE")
     joined.add_argument("--any", action="store_true", help="take frames of any kind and payload")

@@ -564,6 +564,20 @@ class Making(Case):
             with self.subTest(words=words):
                 self.assertEqual(run("namespaces", *words)[0], 1)
 
+    def test_scripts(self):
+        key = "0a" * 32
+        steps = ["light,%s,3" % key, "put,7", "hand,258,1", "publish,2"]
+        want = bytes([0, 1, 0, 1]) + bytes([10] * 32) + bytes([0, 3]) + bytes([0, 0, 0, 0, 7, 0, 0])
+        want += bytes([1, 0, 0, 1, 2, 0, 1]) + bytes([2, 0, 0, 0, 0, 0, 2])
+        self.assertEqual(self.made("script", "1", *steps), want)
+        self.assertEqual(self.made("script", "1", json.dumps(steps)), want)
+        self.assertEqual(self.made("script", "65535"), b"\xff\xff\x00\x00")
+        for words in [["65536"], ["-1"], ["x"], ["1", "put"], ["1", "put,1,2"], ["1", "put,4294967296"], ["1", "hand,1"],
+                      ["1", "hand,1,65536"], ["1", "take,1"], ["1", "put,1", "light,%s,3" % key], ["1", "light,00,3"],
+                      ["1", "light,%s,65536" % key], ["1", "[1]"]]:
+            with self.subTest(words=words):
+                self.assertEqual(run("script", *words)[0], 1)
+
     def test_raw(self):
         for kind, byte in [("Q", b"Q"), ("51", b"Q"), ("5a", b"Z"), ("ff", b"\xff"), ("0", b"0")]:
             self.assertEqual(self.made("raw", kind, "00aB"), byte + b"\x00\x00\x00\x02\x00\xab")

@@ -151,14 +151,8 @@ class Values:
 
 
 def digests_of_tests(values):
-    tests = "crates/da/src/tests/"
-    empty = make.Grid(1, make.extend(1, make.square_of(1, [])))
-    roots = roots_of(empty)
-    values.constant(tests + "frames.rt", "ROOT", roots[0][58:])
-    values.constant(tests + "frames.rt", "PARITY_ROOT", roots[1][58:])
-    values.constant(tests + "frames.rt", "PARITY_LEAF", empty.leaves(make.ROW, 0)[1][58:])
-    values.constant("crates/data_header/src/proving.rt", "ROOT", data_root([bytes([i]) * 90 for i in range(1, 5)]))
-    values.constant("crates/light_node/src/tests.rt", "DATA_ROOT", data_root(roots_of(three_blobs())))
+    values.constant("crates/square_tests/src/headers.rt", "ROOT", data_root([bytes([i]) * 90 for i in range(1, 5)]))
+    values.constant("crates/peer_tests/src/squares.rt", "DATA_ROOT", data_root(roots_of(three_blobs())))
 
 
 def digests_of_rows(values):
@@ -201,13 +195,13 @@ def data_root(roots):
 def draws_and_blocks(values):
     vector = chacha_block(bytes(range(32)), [1, 0x09000000, 0x4A000000, 0])
     values.same("RFC 8439, 2.3.2", (hex(vector[0]), hex(vector[15])), ("0xe4e7f110", "0x4e3c50a2"))
-    path = "crates/sampling/src/draws/tests.rt"
-    cells = lambda some: ", ".join(f"cell({row}, {col})" for row, col in some)
+    path = "crates/square_tests/src/cells.rt"
+    cells = lambda some: ", ".join(f"({row}, {col})" for row, col in some)
     for name, key in (("counting", bytes(range(32))), ("zeros", bytes(32)), ("greatest_bytes", b"\xff" * 32)):
         least, some, most = (list(drawn(key, k, count)) for k, count in ((1, 4), (4, 4), (128, 4096)))
         text = f"least: [{cells(least)}], some: [{cells(some)}], most: [{cells(most[:3])}], last: {cells(most[-1:])},"
-        values.stands(path, name, f"let want = Drawn {{ {text} }};")
-    path = "crates/sampling/src/generating/tests.rt"
+        values.stands(path, name, f"let {name} = Drawn {{ {text} }};")
+    path = "crates/square_tests/src/generated.rt"
 
     def shape(data):
         some = lambda part: ", ".join(f"0x{byte:02x}" for byte in part)
@@ -216,10 +210,10 @@ def draws_and_blocks(values):
     units, pays, blobs = generated(7, 4)
     for what, data in (("unit", units[0]), ("pay_unit", pays[0]), ("one", blobs[0][1]), ("other", blobs[1][1])):
         values.stands(path, what, f"let {what} = {shape(data)};")
-    values.stands(path, "a namespace", f"&second.namespace.0[26..], {list(blobs[1][0][26:])}")
+    values.stands(path, "a namespace", f"second.namespace.0[26..] == {list(blobs[1][0][26:])}")
     (name, data), = generated(7, 1)[2]
     values.stands(path, "the least block", f"let shape = {shape(data)};")
-    values.stands(path, "its namespace", f"&blob.namespace.0[18..], {list(name[18:])}")
+    values.stands(path, "its namespace", f"blob.namespace.0[18..] == {list(name[18:])}")
 
     for number, k, places in ((7, 2, ("README.md", "docs/TUTORIAL.md", "docs/da.1")), (3, 16, ("docs/TUTORIAL.md",))):
         units, pays, blobs = generated(number, k)
@@ -229,32 +223,32 @@ def draws_and_blocks(values):
 
 
 def code_of_tests(values):
-    path = "crates/gf_cantor/src/field.rt"
+    path = "crates/square_tests/src/fields.rt"
     some = [(a, b, make.times(a, b)) for a, b in ((2, 2), (2, 3), (4, 4), (2, 4), (0, 9))]
     values.stands(path, "products", "[" + ", ".join(map(str, some)) + "]")
-    values.stands(path, "an inverse", f"inv(2), {make.over(1, 2)}")
-    values.stands(path, "a row", f"acc[510], {1 ^ make.times(2, 4)}")
-    values.stands(path, "its end", f"acc[511], {9 ^ make.times(2, 255)}")
+    values.stands(path, "an inverse", f"inv(2) == {make.over(1, 2)}")
+    values.stands(path, "a row", f"acc[510] == {1 ^ make.times(2, 4)}")
+    values.stands(path, "its end", f"acc[511] == {9 ^ make.times(2, 255)}")
     powers = [(i, make.POWER[i]) for i in (0, 1, 254)]
-    values.stands("crates/gf_cantor/src/tables.rt", "powers", "[" + ", ".join(map(str, powers)) + "]")
+    values.stands("crates/square_tests/src/fields.rt", "powers", "[" + ", ".join(map(str, powers)) + "]")
 
-    path = "crates/leopard_code/src/coding.rt"
+    path = "crates/square_tests/src/codewords.rt"
     pair = line(2, {0: 0, 1: 1})
-    values.stands(path, "two recovery shares", f"two, [share({pair[2]}), share({pair[3]})]")
+    values.stands(path, "two recovery shares", f"&[share({pair[2]}), share({pair[3]})]")
     wide = line(4, {0: 0, 1: 0, 2: 0, 3: 1})
-    values.stands(path, "four recovery shares", "four, [" + ", ".join(f"share({it})" for it in wide[4:]) + "]")
+    values.stands(path, "four recovery shares", "(&unit, &[" + ", ".join(f"share({it})" for it in wide[4:]) + "]")
     values.stands(path, "a codeword", f"let bytes = {wide};")
     values.same("through any four of eight", line(4, {i: wide[i] for i in (1, 3, 4, 7)}), wide)
 
-    path = "crates/lch_fft/src/transforms.rt"
+    path = "crates/square_tests/src/transforms.rt"
     for shift, name in ((0, "first"), (4, "second")):
         seen = [at([0, 0, 0, 1], shift + i) for i in range(4)]
-        values.stands(path, f"values at {shift}", f"{name}, shares({seen})")
+        values.stands(path, f"values at {shift}", f"{name} == shares({seen})")
     back = [9, 2, 6, 1]
     values.same("coefficients", [at(back, 4 + i) for i in range(4)], [0, 0, 0, 1])
-    values.stands(path, "coefficients", f"four, shares({back})")
-    values.stands(path, "values from coefficients", f"four, shares({[at(back, i) for i in range(4)]})")
-    values.stands("crates/lch_fft/src/derivatives.rt", "a derivative", f"four, shares({derived([1, 2, 3, 4])})")
+    values.stands(path, "coefficients", f"four == shares({back})")
+    values.stands(path, "values from coefficients", f"four == shares({[at(back, i) for i in range(4)]})")
+    values.stands("crates/square_tests/src/transforms.rt", "a derivative", f"four == shares({derived([1, 2, 3, 4])})")
 
 
 def main(words_given):

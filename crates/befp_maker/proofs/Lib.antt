@@ -6,4 +6,3 @@ mod GatheredLemmas
 mod PlaceLemmas
 mod AgainstLemmas
 mod WithLemmas
-mod HalfLemmas

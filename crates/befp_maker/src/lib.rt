@@ -8,8 +8,6 @@
 mod conflicts;
 mod halves;
 mod rooms;
-#[cfg(test)]
-mod tests;
 
 pub use conflicts::from_conflict;
 pub use halves::{Decided, from_half};

@@ -5,11 +5,11 @@ use Rattle.data_header.specs.Headers.{Roots}
 use Rattle.repair_queue.specs.Verdicts.{VerdictParts, whole, missing, fraud, clash}
 use Rattle.da_wire.specs.Reading.{Raw}
 use Rattle.da_wire.specs.Frames.{frames_of}
-use Rattle.da_cli.specs.declared.status.Status.TheVariants.{Missing}
-use Rattle.da_cli.specs.commands.Frames.{header_in}
-use Rattle.da_cli.specs.commands.Check.{header_file, messages_file, finding_of, is_ok}
-use Rattle.da_cli.specs.commands.Repair.{lies_in, answer_status, RepairOf}
-use Rattle.da_cli.proofs.RepairLemmas.{answer_by}
+use Rattle.da_status.specs.declared.status.Status.TheVariants.{Missing}
+use Rattle.da_commands.specs.Frames.{header_in}
+use Rattle.da_commands.specs.Check.{header_file, messages_file, finding_of, is_ok}
+use Rattle.da_commands.specs.Repair.{lies_in, answer_status, RepairOf}
+use Rattle.da_commands.proofs.RepairLemmas.{answer_by}
 
 -- one frame more, which is proved or a lie
 count_one : (ok : Bool) (lies n : ℕ) (frame : Raw) (proved : List Raw) → lies + length proved ≡ n

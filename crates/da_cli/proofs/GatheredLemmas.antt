@@ -13,7 +13,8 @@ use Rattle.da_cli.specs.Limits.{file_limit}
 use Rattle.da_cli.specs.Words.{words_of}
 use Rattle.da_io.specs.Faults.{count_on}
 use Rattle.da_io.specs.declared.inputs.Ended.TheVariants as ended
-use Rattle.da_cli.specs.Gathered.{Gathered, whole, long, absent, after, gathered_one, gathered_from, gathered, contents_of, file_of, IsWord, IsLastOf, PicksIn, ReadsFile, StopsFile, Gathers, StopsIn, AllRead}
+use Rattle.da_commands.specs.Contents.{contents_of, file_of}
+use Rattle.da_cli.specs.Gathered.{Gathered, whole, long, absent, after, gathered_one, gathered_from, gathered, IsWord, IsLastOf, PicksIn, ReadsFile, StopsFile, Gathers, StopsIn, AllRead}
 
 -- one more content in front of what is gathered after them
 after-after : (front : List (List ℕ)) (content : List ℕ) (g : Gathered) → after front (after (content ∷ []) g) ≡ after (front ++ content ∷ []) g
@@ -158,18 +159,3 @@ all_read_on (Some files) names i name content before here read = λ j hj.
 pub contents_more : (contents : List (Vec ℕ Global)) (content : Vec ℕ Global) → contents_of (contents ++ content ∷ []) ≡ contents_of contents ++ content.items ∷ []
 contents_more [] content = refl
 contents_more (c ∷ contents) content = ap (λ (l : List (List ℕ)). c.items ∷ l) (contents_more contents content)
-
--- file i of a list
-pub file_some : (files : List (Vec ℕ Global)) (i : ℕ) (file : Vec ℕ Global) → i < length files → file ≡ get_or files i file
-    → file.items ≡ file_of (contents_of files) i
-unfolding file_of
-file_some [] i file h e = absurd (omega arith)
-file_some (f ∷ files) zero file h e = ap (λ (v : Vec ℕ Global). v.items) e
-file_some (f ∷ files) (suc i) file h e = file_some files i file (omega arith) e
-
--- there is no file i
-pub file_none : (files : List (Vec ℕ Global)) (i : ℕ) → length files ≤ i → [] ≡ file_of (contents_of files) i
-unfolding file_of
-file_none [] i h = refl
-file_none (f ∷ files) zero h = absurd (omega arith)
-file_none (f ∷ files) (suc i) h = file_none files i (omega arith)

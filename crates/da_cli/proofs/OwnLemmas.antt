@@ -18,13 +18,13 @@ use Rattle.da_wire.specs.Reading.{Raw, promised, raw_of, is_among}
 use Rattle.da_wire.specs.Frames.{ok_of, raw_in, frames_of}
 use Rattle.da_wire.specs.Walks.{walk_from}
 use Rattle.da_io.specs.Files.{Files}
-use Rattle.da_cli.specs.declared.commands.check.Finding.{Finding}
-use Rattle.da_cli.specs.declared.commands.check.Finding.TheVariants.{Proved, NoMessage, Refused}
-use Rattle.da_cli.specs.declared.status.Status.{Status}
-use Rattle.da_cli.specs.commands.Check.{messages_file, finding_of, line_of, IsOwnFrame}
-use Rattle.da_cli.specs.commands.Repair.{Repairs, RepairsOwn}
-use Rattle.da_cli.specs.commands.Light.{Lights, JudgesOwn}
-use Rattle.da_cli.specs.commands.Verify.{answer_file, answer_kinds, answer_in, IsRefusal, verdict_line, IsOwnReply}
+use Rattle.da_commands.specs.declared.check.Finding.{Finding}
+use Rattle.da_commands.specs.declared.check.Finding.TheVariants.{Proved, NoMessage, Refused}
+use Rattle.da_status.specs.declared.status.Status.{Status}
+use Rattle.da_commands.specs.Check.{messages_file, finding_of, line_of, IsOwnFrame}
+use Rattle.da_commands.specs.Repair.{Repairs, RepairsOwn}
+use Rattle.da_commands.specs.Light.{Lights, JudgesOwn}
+use Rattle.da_commands.specs.Verify.{answer_file, answer_kinds, answer_in, IsRefusal, verdict_line, IsOwnReply}
 use Rattle.da_cli.specs.Own.{AreOwn}
 
 -- ---- frames of a byte string have bytes

@@ -8,15 +8,16 @@ use Rattle.da_io.specs.declared.inputs.Inputs as inputs
 use Rattle.da_io.specs.declared.sink.Sink as sink
 use Rattle.da_cli.specs.declared.gathering.Stop.{Stop}
 use Rattle.da_cli.specs.declared.gathering.Stop.TheVariants as stop
-use Rattle.da_cli.specs.declared.status.Status.{Status}
-use Rattle.da_cli.specs.declared.status.Status.TheVariants.{Usage, PickFault, ReadFault, TooLong}
+use Rattle.da_status.specs.declared.status.Status.{Status}
+use Rattle.da_status.specs.declared.status.Status.TheVariants.{Usage, PickFault, ReadFault, TooLong}
 use Rattle.da_cli.specs.declared.words.Call.{Call}
 use Rattle.da_cli.specs.Limits.{file_limit}
 use Rattle.da_cli.specs.Words.{words_of, call_of, names_of}
-use Rattle.da_cli.specs.Statuses.{kind_of, Reading, unread, failed, exceeded, begun, finished, row_of, counted_reading, input_count, output_count}
+use Rattle.da_status.specs.Statuses.{kind_of, Reading, unread, failed, exceeded, begun, finished, row_of, counted_reading, input_count, output_count}
 use Rattle.da_cli.specs.Gathered.{Gathers, IsWord, IsLastOf, PicksIn, StopsIn, WithinLimit, count_after}
-use Rattle.da_cli.specs.Outcome.{Untouched, FaultCause, GivenReading, ExcessCause, IfFinished, LastBy, PicksReading, PickCount, IsOwn, IsOwnBy, Ends}
-use Rattle.da_cli.specs.Meaning.{Meaning}
+use Rattle.da_cli.specs.Causes.{FaultCause, GivenReading, ExcessCause, IfFinished, LastBy, PicksReading, PickCount}
+use Rattle.da_status.specs.Outcome.{Untouched, IsOwn, IsOwnBy, Ends}
+use Rattle.da_commands.specs.Meaning.{Meaning}
 use Rattle.da_cli.specs.Run.{status_of}
 use Rattle.da_cli.specs.Ran.{Ran}
 use Rattle.da_cli.proofs.GatheredLemmas.{all_gathered}

@@ -7,37 +7,23 @@ use Rattle.std.proofs.lemmas.Grind.{common_steps}
 use Rattle.std.proofs.KnownBytes.{Appends-nil}
 use Rattle.std.proofs.lemmas.List.{take-map, drop-map, length-map}
 use Rattle.da_io.specs.Files.{Files}
-use Rattle.da_wire.specs.Values.{values_of}
-use Rattle.da_show.specs.Text.{text_of}
-use Rattle.da_show.specs.Json.{json_text}
-use Rattle.da_cli.specs.declared.commands.Command.{Command}
-use Rattle.da_cli.specs.declared.commands.Command.TheVariants.{Check, Build, Header, Sample, Namespace, Verify, Repair, Light, Show, Json, Demo}
+use Rattle.da_commands.specs.declared.command.Command.{Command}
 use Rattle.da_cli.specs.declared.words.Call.{Call}
-use Rattle.da_cli.specs.declared.status.Status.{Status}
-use Rattle.da_cli.specs.declared.status.Status.TheVariants.{BadInput, TooLong}
-use Rattle.da_cli.specs.Statuses.{Kind, usage, fault, excess, form, request, memory, write, output, kind_of, row_of, May}
+use Rattle.da_status.specs.declared.status.Status.{Status}
+use Rattle.da_status.specs.declared.status.Status.TheVariants.{BadInput, TooLong}
+use Rattle.da_status.specs.Statuses.{Kind, usage, fault, excess, form, request, memory, write, output, kind_of, row_of, May, IsDecided}
 use Rattle.da_cli.specs.Words.{words_of, call_of, file_words, names_in, names_of}
 use Rattle.da_cli.specs.Gathered.{Gathered, whole, long, absent, gathered, Gathers}
 use Rattle.da_cli.specs.declared.gathering.Stop.{Stop}
 use Rattle.da_cli.specs.declared.gathering.Stop.TheVariants as stop
-use Rattle.da_cli.specs.Outcome.{Relation, Refuses, Outputs, LeavesBy, Leaves}
-use Rattle.da_cli.specs.commands.Show.{all_kinds, shown_file}
-use Rattle.da_cli.specs.Judging.{first_bad, Judged}
-use Rattle.da_cli.specs.Meaning.{judged_of, AnswerOf, Meaning}
+use Rattle.da_status.specs.Outcome.{Relation, Refuses, Outputs, LeavesBy, Leaves}
+use Rattle.da_status.specs.Judging.{first_bad, Judged}
+use Rattle.da_commands.specs.Meaning.{judged_of, AnswerOf, Meaning}
 use Rattle.da_cli.specs.Run.{status_of, CommandOf, CallOf, RunOf, LeavesTold, CompletesBy, Completes}
-use Rattle.da_cli.specs.Laws.{FormLaw, BadInputLaw, ExcessLaw, AbsentLaw, IsDecided, FailureLaw}
+use Rattle.da_cli.specs.Laws.{FormLaw, BadInputLaw, ExcessLaw, AbsentLaw, FailureLaw}
 use Rattle.da_cli.proofs.GatheredLemmas.{AllGathered}
-use Rattle.da_cli.proofs.EndLemmas.{IsAnswer, answer_output}
-use Rattle.da_cli.proofs.CheckLemmas.{check_last}
-use Rattle.da_cli.proofs.BuildLemmas.{build_answers}
-use Rattle.da_cli.proofs.HeaderLemmas.{header_answers}
-use Rattle.da_cli.proofs.SampleLemmas.{sample_answers}
-use Rattle.da_cli.proofs.NamespaceLemmas.{namespace_answers}
-use Rattle.da_cli.proofs.VerifyLemmas.{verify_last}
-use Rattle.da_cli.proofs.RepairLemmas.{repair_last}
-use Rattle.da_cli.proofs.LightLemmas.{light_answers}
-use Rattle.da_cli.proofs.ShowLemmas.{shows_answers}
-use Rattle.da_cli.proofs.DemoLemmas.{demo_answers}
+use Rattle.da_status.proofs.EndLemmas.{IsAnswer}
+use Rattle.da_commands.proofs.MeaningLemmas.{answer_last}
 
 -- the relation of words that are a command
 run_of_call : (words : List (List ℕ)) (call : Call) (files : Files) (g : Gathered) → call_of words ≡ Some call
@@ -127,20 +113,6 @@ excess_law files words call i w status e read =
 pub absent_law : AbsentLaw
 absent_law files words call i w status e read run =
     subst (λ (R : Relation). R w status) (run_of_call words call files (absent i) e read) run
-
--- a command's answer comes with its output, or refuses what the files ask for
-pub answer_last : (command : Command) (files : List (List ℕ)) (w : List ℕ) (status : Status) → AnswerOf command files w status → IsAnswer (kind_of status)
-answer_last Check files w status h = answer_output status (check_last files w status h)
-answer_last Build files w status h = build_answers files w status h
-answer_last Header files w status h = header_answers files w status h
-answer_last Sample files w status h = sample_answers files w status h
-answer_last Namespace files w status h = namespace_answers files w status h
-answer_last Verify files w status h = answer_output status (verify_last files w status h)
-answer_last Repair files w status h = answer_output status (repair_last files w status h)
-answer_last (Light key count) files w status h = light_answers key count files w status h
-answer_last Show files w status h = shows_answers text_of (values_of all_kinds (shown_file files)) w status h
-answer_last Json files w status h = shows_answers json_text (values_of all_kinds (shown_file files)) w status h
-answer_last (Demo number k) files w status h = demo_answers number k w status h
 
 -- an answer is decided by the words and files
 decided_answer : (in_form : Bool) (Decided : Type 0) → May in_form Decided → Decided

@@ -3,17 +3,17 @@ use Rattle.std.proofs.Common.{◌≡◌, ℕ, ◌+◌, ◌-◌, ◌<◌, List, S
 use Rattle.da_io.specs.declared.inputs.Inputs as inputs
 use Rattle.da_io.specs.declared.sink.Sink as sink
 use Rattle.da_cli.specs.declared.gathering.Stop.{Stop}
-use Rattle.da_cli.specs.declared.status.Status.{Status}
+use Rattle.da_status.specs.declared.status.Status.{Status}
 use Rattle.da_cli.specs.declared.words.Call.{Call}
-use Rattle.da_cli.specs.declared.commands.Command.{Command}
-use Rattle.da_cli.specs.declared.commands.Command.TheVariants.{Repair}
+use Rattle.da_commands.specs.declared.command.Command.{Command}
+use Rattle.da_commands.specs.declared.command.Command.TheVariants.{Repair}
 use Rattle.da_cli.specs.Words.{words_of, call_of}
-use Rattle.da_cli.specs.Outcome.{Ends}
-use Rattle.da_cli.specs.Meaning.{Meaning}
+use Rattle.da_status.specs.Outcome.{Ends}
+use Rattle.da_commands.specs.Meaning.{Meaning}
 use Rattle.da_cli.specs.Run.{status_of, IsEarly}
 use Rattle.da_cli.specs.Ran.{Ran}
 use Rattle.da_cli.specs.Streamed.{HasCome}
-use Rattle.da_cli.specs.commands.Streamed.{Streams}
+use Rattle.da_cli.specs.StreamedRepair.{Streams}
 use Rattle.da_cli.proofs.RanLemmas.{HasGathered, ran_over, ran_up_to}
 
 -- the status of files that were read, or that of why they were not

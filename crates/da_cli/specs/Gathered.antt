@@ -1,6 +1,6 @@
 -- What the files of a list of names hold: they are read in its order, up to the first that can't be
 -- used.
-use Rattle.std.specs.Prelude.{◌≡◌, ℕ, zero, suc, ◌+◌, ◌-◌, ◌<◌, ◌≤◌, nat_lt, List, [], ◌∷◌, ◌++◌, length, map, drop, ⊤, ◌⊎◌, Some, None, Ok, Err, Result, Vec, if◌then◌else◌}
+use Rattle.std.specs.Prelude.{◌≡◌, ℕ, suc, ◌+◌, ◌-◌, ◌<◌, ◌≤◌, nat_lt, List, [], ◌∷◌, ◌++◌, length, drop, ⊤, ◌⊎◌, Some, None, Ok, Err, Result, Vec, if◌then◌else◌}
 use Rattle.std.specs.declared.option.Option.{Option}
 use Rattle.std.specs.declared.alloc.Global.{Global}
 use Rattle.da_io.specs.Faults.{count_on}
@@ -9,6 +9,7 @@ use Rattle.da_io.specs.declared.inputs.Ended.{Ended}
 use Rattle.da_io.specs.declared.inputs.Ended.TheVariants as ended
 use Rattle.da_cli.specs.declared.gathering.Stop.{Stop}
 use Rattle.da_cli.specs.declared.gathering.Stop.TheVariants.{PickFault, ReadFault, TooLong, NoMemory}
+use Rattle.da_commands.specs.Contents.{contents_of, file_of}
 use Rattle.da_cli.specs.Limits.{file_limit}
 
 -- the contents of all; or the first that is longer than the limit; or the first that isn't there
@@ -38,10 +39,6 @@ gathered_from files i (name ∷ names) = gathered_one i (files name) (gathered_f
 abbrev pub gathered : Files → List (List ℕ) → Gathered
 gathered files names = gathered_from files 0 names
 
--- the bytes of each content
-abbrev pub contents_of : List (Vec ℕ Global) → List (List ℕ)
-contents_of contents = map (λ (v : Vec ℕ Global). v.items) contents
-
 -- an answer as bytes: of one file, of some
 abbrev pub bytes_read : Result (Vec ℕ Global) Stop → Result (List ℕ) Stop
 bytes_read (Ok content) = Ok content.items
@@ -51,12 +48,6 @@ bytes_read (Err stop) = Err stop
 abbrev pub files_read : Result (Vec (Vec ℕ Global) Global) Stop → Result (List (List ℕ)) Stop
 files_read (Ok contents) = Ok (contents_of contents.items)
 files_read (Err stop) = Err stop
-
--- file i, empty where there is none
-unfoldable pub file_of : List (List ℕ) → ℕ → List ℕ
-file_of [] i = []
-file_of (file ∷ files) zero = file
-file_of (file ∷ files) (suc i) = file_of files i
 
 -- file word i is this name
 abbrev pub IsWord : List (List ℕ) → ℕ → Option (List ℕ) → Type 0

@@ -2,14 +2,14 @@
 use Rattle.std.specs.Prelude.{◌≡◌, ◌↔◌, ℕ, List, Some, None}
 use Rattle.da_io.specs.Files.{Files}
 use Rattle.da_cli.specs.declared.words.Call.{Call}
-use Rattle.da_cli.specs.declared.status.Status.{Status}
-use Rattle.da_cli.specs.declared.status.Status.TheVariants.{BadInput, TooLong}
-use Rattle.da_cli.specs.Statuses.{Kind, kind_of, Taken, complete, part, front, undefined, row_of}
+use Rattle.da_status.specs.declared.status.Status.{Status}
+use Rattle.da_status.specs.declared.status.Status.TheVariants.{BadInput, TooLong}
+use Rattle.da_status.specs.Statuses.{kind_of, IsDecided}
 use Rattle.da_cli.specs.Words.{call_of, file_words}
 use Rattle.da_cli.specs.Gathered.{gathered, whole, long, absent}
-use Rattle.da_cli.specs.Outcome.{Refuses}
-use Rattle.da_cli.specs.Judging.{first_bad}
-use Rattle.da_cli.specs.Meaning.{judged_of, AnswerOf}
+use Rattle.da_status.specs.Outcome.{Refuses}
+use Rattle.da_status.specs.Judging.{first_bad}
+use Rattle.da_commands.specs.Meaning.{judged_of, AnswerOf}
 use Rattle.da_cli.specs.Run.{RunOf}
 
 -- over files in their forms, just the command's answer belongs to the run
@@ -37,17 +37,6 @@ abbrev pub AbsentLaw : Type 0
 AbsentLaw = (files : Files) (words : List (List ℕ)) (call : Call) (i : ℕ) (w : List ℕ) (status : Status)
     → call_of words ≡ Some call → gathered files (file_words call.files words) ≡ absent i
     → RunOf files words w status → ⊥
-
--- a whole output is taken, which the words and files define
-abbrev pub IsDefined : Taken → Type 0
-IsDefined complete = Unit {0}
-IsDefined part = ⊥
-IsDefined front = ⊥
-IsDefined undefined = ⊥
-
--- the words and files decide on a status of this kind
-abbrev pub IsDecided : Kind → Type 0
-IsDecided kind = IsDefined (row_of kind).taken
 
 -- failures and want of memory belong to no run
 abbrev pub FailureLaw : Type 0

@@ -11,12 +11,12 @@ use Rattle.da_wire.specs.Frames.{frames_of}
 use Rattle.da_io.specs.Files.{Files}
 use Rattle.da_cli.specs.Words.{is_command, names_of}
 use Rattle.da_cli.specs.Gathered.{gathered, whole}
-use Rattle.da_cli.specs.commands.Frames.{header_in}
-use Rattle.da_cli.specs.commands.Check.{header_file, messages_file, finding_of, line_of, IsOwnFrame}
-use Rattle.da_cli.specs.declared.status.Status.{Status}
-use Rattle.da_cli.specs.commands.Repair.{RepairOf, RepairsOwn}
-use Rattle.da_cli.specs.commands.Light.{LightOf, JudgesOwn}
-use Rattle.da_cli.specs.commands.Verify.{answer_file, answer_in, IsRefusal, verdict_line, IsOwnReply}
+use Rattle.da_commands.specs.Frames.{header_in}
+use Rattle.da_commands.specs.Check.{header_file, messages_file, finding_of, line_of, IsOwnFrame}
+use Rattle.da_status.specs.declared.status.Status.{Status}
+use Rattle.da_commands.specs.Repair.{RepairOf, RepairsOwn}
+use Rattle.da_commands.specs.Light.{LightOf, JudgesOwn}
+use Rattle.da_commands.specs.Verify.{answer_file, answer_in, IsRefusal, verdict_line, IsOwnReply}
 
 -- over the files of `check`, where the header in HEADER is that of a square: a frame of MESSAGES whose line is `ok` is a message that shows the square's own share, or they name a collision
 abbrev pub AreOwnLines : Files → List (List ℕ) → Type 0

@@ -2,12 +2,13 @@
 use Rattle.std.specs.Prelude.{◌≡◌, ◌↔◌, ℕ, List, [], length, None, IsSome}
 use Rattle.da_io.specs.declared.inputs.Inputs as inputs
 use Rattle.da_io.specs.declared.sink.Sink as sink
-use Rattle.da_cli.specs.declared.status.Status.{Status}
-use Rattle.da_cli.specs.declared.status.Status.TheVariants.{Usage}
-use Rattle.da_cli.specs.Statuses.{kind_of, input_count, output_count}
+use Rattle.da_status.specs.declared.status.Status.{Status}
+use Rattle.da_status.specs.declared.status.Status.TheVariants.{Usage}
+use Rattle.da_status.specs.Statuses.{kind_of, input_count, output_count}
 use Rattle.da_cli.specs.Words.{call_of, names_of}
 use Rattle.da_cli.specs.Gathered.{IsLast}
-use Rattle.da_cli.specs.Outcome.{FaultCause, ExcessCause, LastBy, PickCount, Untouched}
+use Rattle.da_cli.specs.Causes.{FaultCause, ExcessCause, LastBy, PickCount}
+use Rattle.da_status.specs.Outcome.{Untouched}
 use Rattle.da_cli.specs.Run.{LeavesTold}
 
 -- the words were run: the inputs and the output before and afterwards, and the status

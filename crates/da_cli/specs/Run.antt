@@ -2,18 +2,18 @@
 use Rattle.std.specs.Prelude.{◌≡◌, ℕ, List, ⊤, Some, None}
 use Rattle.std.specs.declared.option.Option.{Option}
 use Rattle.da_io.specs.Files.{Files}
-use Rattle.da_cli.specs.declared.commands.Command.{Command}
+use Rattle.da_commands.specs.declared.command.Command.{Command}
 use Rattle.da_cli.specs.declared.words.Call.{Call}
-use Rattle.da_cli.specs.declared.status.Status.{Status}
-use Rattle.da_cli.specs.declared.status.Status.TheVariants.{Usage, PickFault, ReadFault, TooLong, NoMemory}
+use Rattle.da_status.specs.declared.status.Status.{Status}
+use Rattle.da_status.specs.declared.status.Status.TheVariants.{Usage, PickFault, ReadFault, TooLong, NoMemory}
 use Rattle.da_cli.specs.declared.gathering.Stop.{Stop}
 use Rattle.da_cli.specs.declared.gathering.Stop.TheVariants as stop
-use Rattle.da_cli.specs.Statuses.{Kind, kind_of, row_of, May}
+use Rattle.da_status.specs.Statuses.{Kind, kind_of, row_of, May}
 use Rattle.da_cli.specs.Words.{call_of, file_words}
 use Rattle.da_cli.specs.Gathered.{Gathered, whole, long, absent, gathered}
-use Rattle.da_cli.specs.Outcome.{Relation, Refuses, LeavesBy, Leaves}
-use Rattle.da_cli.specs.Judging.{first_bad}
-use Rattle.da_cli.specs.Meaning.{judged_of, AnswerOf, Meaning, TakesFirst}
+use Rattle.da_status.specs.Outcome.{Relation, Refuses, LeavesBy, Leaves}
+use Rattle.da_status.specs.Judging.{first_bad}
+use Rattle.da_commands.specs.Meaning.{judged_of, AnswerOf, Meaning, TakesFirst}
 
 -- a command over what was gathered; where a file isn't there, nothing is defined
 abbrev pub CommandOf : Command → Gathered → Relation

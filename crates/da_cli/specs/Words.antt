@@ -1,16 +1,16 @@
 -- Which words are a command.
-use Rattle.std.specs.Prelude.{◌≡◌, ⊤, ℕ, ◌+◌, ◌-◌, ◌*◌, ◌^◌, ◌==◌, ◌&&◌, ◌||◌, nat_le, not, Bool, true, false, List, [], ◌∷◌, length, get_or, map, take, drop, codes, if◌then◌else◌, Some, None, String}
+use Rattle.std.specs.Prelude.{◌≡◌, ⊤, ℕ, ◌+◌, ◌-◌, ◌*◌, ◌^◌, ◌==◌, ◌&&◌, ◌||◌, nat_le, not, Bool, false, List, [], ◌∷◌, length, get_or, map, take, drop, codes, if◌then◌else◌, Some, None, String}
 use Rattle.std.specs.declared.option.Option.{Option}
 use Rattle.std.specs.declared.alloc.Global.{Global}
 use Rattle.std.specs.List.{fold, list_all}
 use Rattle.std.specs.Option.{option_map, option_map_or}
-use Rattle.namespace_id.specs.Cells.{is_width}
 use Rattle.std.specs.String.{string_bytes}
 use Rattle.std.specs.Str.{bytes_eq}
 use Rattle.hex.specs.Hex.{decode_sized}
 use Rattle.da_wire.specs.Frames.{ok_of}
-use Rattle.da_cli.specs.declared.commands.Command.{Command}
-use Rattle.da_cli.specs.declared.commands.Command.TheVariants.{Check, Build, Header, Sample, Namespace, Verify, Repair, Light, Show, Json, Demo}
+use Rattle.da_commands.specs.declared.command.Command.{Command}
+use Rattle.da_commands.specs.declared.command.Command.TheVariants.{Check, Build, Header, Sample, Namespace, Verify, Repair, Light, Net, Show, Json, Demo}
+use Rattle.da_commands.specs.Demo.{is_trial_width}
 use Rattle.da_cli.specs.declared.words.Call.{Call}
 
 -- the bytes of each word
@@ -50,10 +50,6 @@ number_in most word = if is_number word && nat_le (digits_value word) most then 
 abbrev pub key_in : List ℕ → Option (List ℕ)
 key_in word = ok_of (decode_sized word 32)
 
--- whether a trial may have this width
-abbrev pub is_trial_width : ℕ → Bool
-is_trial_width k = is_width k && nat_le 2 k
-
 -- the width of a trial that a word is
 abbrev pub width_in : List ℕ → Option ℕ
 width_in word = option_map_or (λ k. if is_trial_width k then Some k else None) (number_in 128 word) None
@@ -86,12 +82,8 @@ call_of words =
     (if is_command words (codes "show") 1 then Some (record { command = Show; files = 1 }) else
     (if is_command words (codes "json") 1 then Some (record { command = Json; files = 1 }) else
     (if is_command words (codes "demo") 2 then demo_call (get_or words 1 []) (get_or words 2 []) else
-    None))))))))))
-
--- a command can be run: the width of a demo is a trial's
-abbrev pub IsRunnable : Command → Type 0
-IsRunnable (Demo number k) = is_trial_width k ≡ true
-IsRunnable command = ⊤
+    (if is_command words (codes "net") 3 then Some (record { command = Net; files = 3 }) else
+    None)))))))))))
 
 -- repair has two files
 abbrev pub HasFiles : Command → ℕ → Type 0

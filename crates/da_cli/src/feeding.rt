@@ -1,22 +1,20 @@
 //! Feeding a session with the proved samples of the picked file, as they come.
 
-ghost use Rattle.std.specs.Prelude.{◌≡◌, ◌+◌, ◌≤◌, ◌<◌, ◌^◌, ◌++◌, ℕ, List, [], ◌∷◌, length, take, None, IfOk};
-ghost use Rattle.std.specs.Io.KnownBytes.{IsAtEnd};
+ghost use Rattle.std.specs.Prelude.{◌≡◌, ◌+◌, ◌≤◌, ◌<◌, ◌^◌, ◌++◌, ℕ, List, length, take, None};
 ghost use Rattle.data_header.specs.Headers.{Roots};
 ghost use Rattle.axis_roots.specs.declared.message.messages.Message.{Message as Sent};
-ghost use Rattle.axis_roots.specs.Proved.{IsUnder, kept_message};
 ghost use Rattle.axis_roots.specs.Openings.{IsProved};
 ghost use Rattle.axis_roots.specs.Messages.{message_refusal};
 ghost use Rattle.repair_queue.specs.Closures.{Covers};
 ghost use Rattle.repair_queue.specs.SessionParts.{StandsFor as SessionStands};
 ghost use Rattle.da_wire.specs.Reading.{Raw};
-ghost use Rattle.da_cli.specs.commands.Repair.{messages_in, lies_in};
+ghost use Rattle.da_commands.specs.Repair.{messages_in, lies_in};
 ghost use Rattle.da_io.specs.Faults.{count_on};
 ghost use Rattle.da_cli.specs.Limits.{file_limit};
 ghost use Rattle.da_cli.specs.Feeding.{proved_by, lies_by, proved_among, lies_among, HasGone, Feeds, FeedsTold, EndsFed, fed_faults, fed_end, Judges};
 ghost use Rattle.da_wire.specs.Streams.{StandsFor, offset_of};
 
-use axis_roots::{Message, Proved, check, message_law, message_laws};
+use axis_roots::{Message, check, message_law, message_laws};
 use da_io::Inputs;
 use da_wire::{FrameError, FrameStream, Pushed, stream_laws};
 use data_header::Header;

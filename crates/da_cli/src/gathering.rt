@@ -1,11 +1,11 @@
 //! Reading the files of a command, in the order of the words.
 
-ghost use Rattle.std.specs.Prelude.{◌≡◌, ℕ, ◌≤◌, ◌<◌, length, IfErr, IfOk, Some, Ok, Err};
+ghost use Rattle.std.specs.Prelude.{◌≡◌, ◌≤◌, ◌<◌, length, IfErr, IfOk, Some, Ok, Err};
 ghost use Rattle.std.specs.String.{string_bytes};
 ghost use Rattle.da_cli.specs.Words.{words_of};
 ghost use Rattle.da_io.specs.Faults.{count_on};
 ghost use Rattle.da_io.specs.declared.inputs.Ended.TheVariants.{Fine};
-ghost use Rattle.da_cli.specs.Gathered.{bytes_read, files_read, IsLastOf, PicksIn, ReadsFile, StopsFile, Gathers, StopsIn, count_after, WithinLimit, contents_of, file_of};
+ghost use Rattle.da_cli.specs.Gathered.{bytes_read, files_read, IsLastOf, PicksIn, ReadsFile, StopsFile, Gathers, StopsIn, count_after, WithinLimit};
 
 use da_io::{InputFault, Inputs, read_all};
 use std::alloc::Global;
@@ -85,14 +85,4 @@ pub(crate) fn gather<I: Inputs>(
         };
     }
     Ok(contents)
-}
-
-/// The contents of file `i`, empty where there is none.
-pub(crate) fn file(files: &[Vec<u8>], i: u32) -> &[u8]
-    ensures { result.now ≡ file_of (contents_of files.now) i }
-{
-    match files.get(i as usize) {
-        Some(file) => file,
-        None => &[],
-    }
 }

@@ -1,23 +1,20 @@
-//! The commands of `da`: words and files in; an output, a status and a note out.
+//! The top call of `da`: words and files in; an output, a status and a note out.
 //!
-//! `run` is the top call. Picking and reading files, the write and the note line are the same for
-//! every command; a command is a file of `commands`, and one case of `Meaning` and of `execute`.
+//! `run` picks and reads the files of a command and gives the line of its status, in one way for
+//! every command; what each command writes is `da_commands`'. `repair` alone is fed as its second
+//! file is read, by `feed_all`. `run_laws` says what belongs to a run.
 #![tactic(auto)]
 
-mod commands;
 mod feeding;
 mod gathering;
 mod laws;
-mod notes;
 mod running;
-mod status;
+mod streamed;
 mod streaming;
-#[cfg(test)]
-mod tests;
 mod words;
 
+pub use da_status::{Asked, Status};
 pub use feeding::{FeedFault, feed_all};
 pub use gathering::FILE_LIMIT;
 pub use laws::run_laws;
 pub use running::run;
-pub use status::{Asked, Status};

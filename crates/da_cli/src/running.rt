@@ -1,25 +1,26 @@
 //! The top call.
 
-ghost use Rattle.std.specs.Prelude.{◌≡◌, ◌≢◌, ◌↔◌, ℕ, length, ◌<◌, [], Some, None, IsSome};
-ghost use Rattle.da_cli.specs.declared.status.Status.TheVariants.{Usage};
-ghost use Rattle.da_cli.specs.declared.commands.Command.TheVariants as CommandOf;
-ghost use Rattle.da_cli.specs.Words.{words_of, call_of, names_of, IsRunnable, HasFiles};
-ghost use Rattle.da_cli.specs.Statuses.{kind_of, input_count, output_count};
+ghost use Rattle.std.specs.Prelude.{◌≡◌, ◌≢◌, ◌↔◌, length, ◌<◌, [], Some, None, IsSome};
+ghost use Rattle.da_status.specs.declared.status.Status.TheVariants.{Usage};
+ghost use Rattle.da_commands.specs.declared.command.Command.TheVariants as CommandOf;
+ghost use Rattle.da_commands.specs.Meaning.{IsRunnable};
+ghost use Rattle.da_cli.specs.Words.{words_of, call_of, names_of, HasFiles};
+ghost use Rattle.da_status.specs.Statuses.{kind_of, input_count, output_count};
 ghost use Rattle.da_cli.specs.Gathered.{IsLast};
-ghost use Rattle.da_cli.specs.Outcome.{FaultCause, ExcessCause, LastBy, PickCount, Untouched};
-ghost use Rattle.da_cli.specs.Notes.{note_of, Notes};
+ghost use Rattle.da_cli.specs.Causes.{FaultCause, ExcessCause, LastBy, PickCount};
+ghost use Rattle.da_status.specs.Outcome.{Untouched};
+ghost use Rattle.da_status.specs.Notes.{note_of, Notes};
 ghost use Rattle.da_cli.specs.Own.{AreOwn};
 ghost use Rattle.da_cli.specs.Ran.{Ran};
 ghost use Rattle.da_cli.specs.Run.{IsEarly, status_of, LeavesTold, Completes};
 
-use crate::Status;
-use crate::commands::streamed::stream;
-use crate::commands::{Command, execute};
 use crate::gathering::{Stop, gather};
 use crate::laws::run_laws;
-use crate::notes::note;
+use crate::streamed::stream;
 use crate::words::{Call, call_of};
+use da_commands::{Command, execute};
 use da_io::{Inputs, Sink};
+use da_status::{Status, note};
 use std::alloc::Global;
 
 /// The status of files that were not read whole.
@@ -134,7 +135,7 @@ pub fn run<I: Inputs, O: Sink, N: Sink>(
     // What is decided before the output leaves it as it was.
     ensures untouched { Untouched (out.new ≡ out.old) result }
 
-    // `build`, `header`, `repair`, `light` and `demo` take all of their memory before they write.
+    // `build`, `header`, `repair`, `light`, `net` and `demo` take all of their memory before they write.
     ensures late { IsEarly (call_of (words_of words.now)) (out.new ≡ out.old) result }
 
     // A failed pick or read, an excess of length: of which file, and after which others.

@@ -1,9 +1,11 @@
 //! Words, and the command that they are.
 
-ghost use Rattle.std.specs.Prelude.{◌≡◌, ◌<◌, length, IfSome, codes, true};
-ghost use Rattle.da_cli.specs.Words.{words_of, is_command, is_digit, digits_in, number_in, key_in, light_call, is_trial_width, width_in, demo_call, call_of, IsRunnable, HasFiles};
+ghost use Rattle.std.specs.Prelude.{◌≡◌, ◌<◌, length, IfSome, true};
+ghost use Rattle.da_commands.specs.Meaning.{IsRunnable};
+ghost use Rattle.da_commands.specs.Demo.{is_trial_width};
+ghost use Rattle.da_cli.specs.Words.{words_of, is_command, is_digit, digits_in, number_in, key_in, light_call, width_in, demo_call, call_of, HasFiles};
 
-use crate::commands::Command;
+use da_commands::Command;
 use hex::FromHex;
 use namespace_id::is_width;
 
@@ -176,6 +178,12 @@ pub(crate) fn call_of(words: &[String]) -> Option<Call>
     }
     if is_command(words, "demo", 2) {
         return demo_call(words[1].as_str(), words[2].as_str());
+    }
+    if is_command(words, "net", 3) {
+        return Some(Call {
+            command: Command::Net,
+            files: 3,
+        });
     }
     None
 }

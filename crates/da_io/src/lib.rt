@@ -20,6 +20,3 @@ pub use mem_sink::MemSink;
 pub use out_sink::OutSink;
 pub use sink::{Sink, WriteFailed};
 pub use whole::{InputFault, NoMemory, read_all, write_all};
-
-#[cfg(test)]
-mod tests;

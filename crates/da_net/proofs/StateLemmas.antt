@@ -1,5 +1,5 @@
 -- What the state of a node promises.
-use Rattle.std.proofs.Common.{◌≡◌, ◌∙◌, ℕ, List, refl, sym, subst, inl, inr}
+use Rattle.std.proofs.Common.{◌≡◌, ◌∙◌, ℕ, List, Option, Some, None, refl, sym, ap, subst, inl, inr}
 use Rattle.std.specs.Prelude.{◌⊎◌}
 use Rattle.std.specs.List.{Contains}
 use Rattle.data_header.specs.Headers.{Roots}
@@ -13,7 +13,12 @@ use Rattle.da_net.specs.declared.items.NodeState.{NodeState}
 use Rattle.da_net.specs.declared.items.NodeState.TheVariants as state
 use Rattle.da_net.specs.Networks.{messages_of, Kind, full, light, Standing, settled, clashing, waiting, available, rejecting, Stands, IsRejecting, handed, IsRun}
 use Rattle.da_net.specs.Promises.{IsAlarmed, PoolNames}
-use Rattle.da_net.specs.Nets.{NetParts, network_of, state_of, HasState}
+use Rattle.da_net.specs.Nets.{NetParts, network_of, Fits, state_of, HasState}
+use Rattle.da_net.specs.declared.full.End.{End}
+use Rattle.da_net.specs.declared.full.End.TheVariants as end
+use Rattle.da_net.specs.declared.seats.Node.{Node}
+use Rattle.da_net.specs.declared.seats.Node.TheVariants.{Full, Light}
+use Rattle.da_net.specs.Seats.{alarm_by, alarm_with, alarm_of}
 use Rattle.da_net.proofs.PromiseLemmas.{rejects_by, alarmed_names}
 
 -- who rejects is in state Rejected
@@ -61,3 +66,24 @@ pub state_names : (net : NetParts) (node : ℕ) (one : NodeState) → IsRun (net
 state_names net node one run (standing, has, e) square own bad =
     alarmed_names (network_of net) net.pool net.steps node square run own has.kind standing has.stands
     (alarmed_state standing (subst (λ (s : NodeState). (s ≡ state.Rejected) ⊎ (s ≡ state.Clash)) e bad))
+
+-- ---- who isn't alarmed
+
+-- what ends a full node shows in its state
+end_calm : (o : Option End) (s : Standing) (one : NodeState) → Fits (alarm_by o) s → one ≡ state_of s → (one ≡ state.Rejected → ⊥) → (one ≡ state.Clash → ⊥)
+    → alarm_by o ≡ None
+end_calm None s one fits e not_rejected not_clash = refl
+end_calm (Some (end.Clash pair)) s one fits e not_rejected not_clash = absurd (not_clash (e ∙ ap state_of fits))
+end_calm (Some (end.Rejected claim)) s one fits e not_rejected not_clash = absurd (not_rejected (e ∙ ap state_of fits))
+
+-- and so does the claim of a light node
+claim_calm : (o : Option ClaimParts) (s : Standing) (one : NodeState) → Fits (alarm_with o) s → one ≡ state_of s → (one ≡ state.Rejected → ⊥)
+    → alarm_with o ≡ None
+claim_calm None s one fits e not_rejected = refl
+claim_calm (Some claim) s one fits e not_rejected = absurd (not_rejected (e ∙ ap state_of fits))
+
+-- a node in another state was not alarmed
+pub node_calm : {F : Type 0} (node : Node F) (s : Standing) (one : NodeState) → Fits (alarm_of node) s → one ≡ state_of s → (one ≡ state.Rejected → ⊥)
+    → (one ≡ state.Clash → ⊥) → alarm_of node ≡ None
+node_calm (Full node) s one fits e not_rejected not_clash = end_calm node.end s one fits e not_rejected not_clash
+node_calm (Light node) s one fits e not_rejected not_clash = claim_calm node.claim s one fits e not_rejected

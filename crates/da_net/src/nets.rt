@@ -239,6 +239,10 @@ impl<F: Picker> Net<F> {
         ensures own { (square : SquareShares) → IsHeaderOf self.now.header square →
             (result ≡ NodeState.Rejected) ⊎ (result ≡ NodeState.Clash) →
             PoolNames self.now.pool square }
+
+        // A node in another state was not alarmed.
+        ensures calm { (result ≡ NodeState.Rejected → ⊥) → (result ≡ NodeState.Clash → ⊥) →
+            alarm_at self.now node ≡ None }
     {
         state(&self.seats[node as usize])
     }

@@ -11,8 +11,6 @@ mod kinds;
 mod laws;
 mod reading;
 mod streams;
-#[cfg(test)]
-mod tests;
 mod writing;
 
 pub use bounds::frame_law;

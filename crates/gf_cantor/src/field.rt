@@ -120,30 +120,3 @@ pub fn field_laws()
     // The basis is a Cantor basis: a label's square and the label itself sum to the label at half.
     ensures cantor { (a : ℕ) → a < 256 → bit_xor (product a a) a ≡ a / 2 }
 {}
-
-#[cfg(test)]
-mod tests {
-    use super::*;
-
-    #[test]
-    fn products_and_inverses(rt: HostRuntime) {
-        // By a program in Python that multiplies binary polynomials.
-        for (a, b, c) in [(2, 2, 3), (2, 3, 1), (4, 4, 6), (2, 4, 10), (0, 9, 0)] {
-            assert_eq!(rt; mul(a, b), c, "{a} times {b}");
-        }
-        assert_eq!(rt; inv(2), 3);
-    }
-
-    #[test]
-    fn rows(rt: HostRuntime) {
-        // By the same program.
-        let mut acc = [1; 512];
-        acc[511] = 9;
-        let mut row = [4; 512];
-        row[511] = 255;
-        mul_row(&mut acc, &row, 2);
-        assert_eq!(rt; acc[0], 11);
-        assert_eq!(rt; acc[510], 11);
-        assert_eq!(rt; acc[511], 104);
-    }
-}

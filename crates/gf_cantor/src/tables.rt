@@ -85,18 +85,3 @@ pub fn power_laws()
         product (label (power i)) (label (power j)) ≡ label (power (i + j)) }
     ensures period { (i : ℕ) → power (i % 255) ≡ power i }
 {}
-
-#[cfg(test)]
-mod tests {
-    use super::*;
-
-    #[test]
-    fn powers_and_logarithms(rt: HostRuntime) {
-        // By a program in Python that multiplies binary polynomials.
-        for (i, a) in [(0, 1), (1, 104), (254, 66)] {
-            assert_eq!(rt; exp(i), a, "the power {i}");
-            assert_eq!(rt; log(a), i, "the logarithm of {a}");
-        }
-        assert_eq!(rt; exp(509), 66);
-    }
-}

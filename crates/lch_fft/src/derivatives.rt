@@ -55,30 +55,3 @@ pub fn derive(shares: &mut [Share])
 {
     derive_halves(shares);
 }
-
-#[cfg(test)]
-mod tests {
-    use super::*;
-
-    // Expected bytes: by a Python program with products of polynomials modulo 0x11D.
-
-    /// Four shares of one byte throughout.
-    fn shares(bytes: [u8; 4]) -> [Share; 4] {
-        [
-            Share([bytes[0]; SHARE_SIZE]),
-            Share([bytes[1]; SHARE_SIZE]),
-            Share([bytes[2]; SHARE_SIZE]),
-            Share([bytes[3]; SHARE_SIZE]),
-        ]
-    }
-
-    #[test]
-    fn derivatives(rt: HostRuntime) {
-        let mut four = shares([1, 2, 3, 4]);
-        derive(&mut four);
-        assert_eq!(rt; four, shares([1, 4, 4, 0]));
-        let mut one = [Share([7; SHARE_SIZE])];
-        derive(&mut one);
-        assert_eq!(rt; one, [Share([0; SHARE_SIZE])]);
-    }
-}

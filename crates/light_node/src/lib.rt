@@ -11,8 +11,6 @@ mod laws;
 mod marks;
 mod nodes;
 mod picking;
-#[cfg(test)]
-mod tests;
 mod wanted;
 
 pub use events::{Event, Light, LightState};

@@ -175,35 +175,3 @@ pub fn namespace_order()
     ensures total { (a b : Name) → (is_at_most a b ≡ true) ⊎ (is_at_most b a ≡ true) }
     ensures parity { (a : Name) → IsNamespace a → is_at_most a parity ≡ true }
 {}
-
-#[cfg(test)]
-mod tests {
-    use super::*;
-
-    /// Version 0, 18 zero bytes, and `low` as ten big-endian bytes.
-    fn version_0(low: u16) -> [u8; NAMESPACE_SIZE] {
-        let mut bytes = [0; NAMESPACE_SIZE];
-        bytes[27..].copy_from_slice(&low.to_be_bytes());
-        bytes
-    }
-
-    /// By the Celestia specifications, "Namespace", and docs/RULES.md, "Namespaces".
-    #[test]
-    fn blob_namespaces(rt: HostRuntime) {
-        let mut prefixed = [0; NAMESPACE_SIZE];
-        prefixed[1] = 1;
-        let reserved = version_0(0xff);
-        let least = version_0(0x100);
-        let cases: [(&str, &[u8], Option<NsError>); 6] = [
-            ("28 bytes", &[0; 28], Some(NsError::Length)),
-            ("parity", &[0xff; NAMESPACE_SIZE], Some(NsError::Version)),
-            ("tail padding", &TAIL_PADDING.0, Some(NsError::Version)),
-            ("a byte in the prefix", &prefixed, Some(NsError::Prefix)),
-            ("greatest reserved", &reserved, Some(NsError::Reserved)),
-            ("least of a blob", &least, None),
-        ];
-        for (name, bytes, want) in cases {
-            assert_eq!(rt; Namespace::blob(bytes).err(), want, "{name}");
-        }
-    }
-}

@@ -79,26 +79,3 @@ impl CellRoom {
         self.list.push(cell).unwrap();
     }
 }
-
-#[cfg(test)]
-mod tests {
-    use super::*;
-    use std::test::Fail;
-
-    /// A room is filled, emptied, filled anew and made a list.
-    #[test]
-    fn rooms(rt: HostRuntime) -> Result<(), Fail> {
-        let first = Cell { row: 0, col: 1 };
-        let last = Cell { row: 1, col: 0 };
-        let mut room = CellRoom::new(rt.alloc(), 1)?;
-        room.add(first);
-        room.add(last);
-        assert!(rt; room.cells() == [first, last].as_slice(), "filled");
-        room.clear();
-        assert!(rt; room.cells().is_empty(), "emptied");
-        room.add(last);
-        let cells = room.into_cells();
-        assert!(rt; cells.list.as_slice() == [last].as_slice(), "filled anew");
-        Ok(())
-    }
-}

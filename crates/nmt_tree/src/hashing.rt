@@ -91,35 +91,3 @@ pub fn join(left: &Digest, right: &Digest) -> Result<Digest, Unordered>
         Err(Unordered)
     }
 }
-
-#[cfg(test)]
-mod tests {
-    use super::*;
-
-    /// A digest of two namespaces of version 0 that end in these bytes.
-    fn digest(least: u8, greatest: u8) -> Digest {
-        let mut bytes = [0; DIGEST_SIZE];
-        bytes[28] = least;
-        bytes[57] = greatest;
-        Digest(bytes)
-    }
-
-    /// By docs/RULES.md, "Trees".
-    #[test]
-    fn ordered_joins(rt: HostRuntime) {
-        let cases = [
-            ("equal neighbors", digest(1, 5), digest(5, 9), true),
-            ("left above right", digest(1, 6), digest(5, 9), false),
-            ("left falls within", digest(5, 1), digest(7, 9), false),
-            ("right falls within", digest(1, 3), digest(7, 5), false),
-        ];
-        for (name, left, right, ordered) in cases {
-            let want = if ordered {
-                Ok(node(&left, &right))
-            } else {
-                Err(Unordered)
-            };
-            assert_eq!(rt; join(&left, &right), want, "{name}");
-        }
-    }
-}

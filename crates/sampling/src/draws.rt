@@ -94,6 +94,3 @@ pub fn cells(alloc: Global, key: &[u8; 32], k: u16, count: u32) -> Result<Vec<Ce
     }
     Ok(drawn)
 }
-
-#[cfg(test)]
-mod tests;

@@ -156,6 +156,3 @@ pub fn block(alloc: Global, number: u64, k: u16) -> Result<Block, NoMemory>
         width: Some(k),
     })
 }
-
-#[cfg(test)]
-mod tests;

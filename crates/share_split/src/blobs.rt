@@ -218,35 +218,3 @@ pub fn blob_shares(
     put_later(out, namespace, rest, count - 1);
     Ok(())
 }
-
-#[cfg(test)]
-mod tests {
-    use super::*;
-    use std::test::Fail;
-
-    /// The heads by the Celestia specifications, "Shares": the last two bytes of the namespace, the
-    /// info byte, and in a first share the length of the sequence.
-    #[test]
-    fn shares(rt: HostRuntime) -> Result<(), Fail> {
-        let mut name = [0; NAMESPACE_SIZE];
-        name[27] = 1;
-        name[28] = 1;
-        let name = Namespace(name);
-        let bytes = [7; 479];
-        let mut out = Vec::new(rt.alloc());
-        assert_eq!(rt; blob_shares(&name, &[], &mut out), Err(SplitError::Empty));
-        blob_shares(&name, &bytes[..478], &mut out)?;
-        assert_eq!(rt; out.len(), 1);
-        blob_shares(&name, &bytes, &mut out)?;
-        let [only, first, later] = out.as_slice() else {
-            panic!(rt; "{} shares", out.len());
-        };
-        assert_eq!(rt; &only.0[27..34], [1, 1, 1, 0, 0, 0x01, 0xde].as_slice());
-        assert!(rt; only.0[34..].iter().all(|byte| *byte == 7));
-        assert_eq!(rt; &first.0[27..34], [1, 1, 1, 0, 0, 0x01, 0xdf].as_slice());
-        assert!(rt; first.0[34..].iter().all(|byte| *byte == 7));
-        assert_eq!(rt; &later.0[27..31], [1, 1, 0, 7].as_slice());
-        assert!(rt; later.0[31..].iter().all(|byte| *byte == 0));
-        Ok(())
-    }
-}

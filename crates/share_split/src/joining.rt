@@ -164,6 +164,3 @@ pub fn join_laws()
     ensures units { (shares : List AShare) (units : List (List ℕ)) → AreShares shares →
         (units_of shares ≡ Ok units) ↔ AreUnits shares units }
 {}
-
-#[cfg(test)]
-mod tests;

@@ -44,27 +44,3 @@ pub fn width_laws()
     ensures powers { (n : ℕ) → (least : ℕ) × IsLeastPower n least }
     ensures roots { (n : ℕ) → (least : ℕ) × IsLeastRoot n least }
 {}
-
-#[cfg(test)]
-mod tests {
-    use super::*;
-
-    /// By docs/RULES.md, "Subtrees".
-    #[test]
-    fn widths(rt: HostRuntime) {
-        let cases = [
-            ("one share", 1, 1),
-            ("64 subtrees of width 1", 64, 1),
-            ("one share more", 65, 2),
-            ("64 subtrees of width 2", 128, 2),
-            ("one share more", 129, 4),
-            ("a square of 32", 1024, 16),
-            ("64 subtrees of width 64", 4096, 64),
-            ("one share more", 4097, 128),
-            ("a square of 128", 16384, 128),
-        ];
-        for (name, count, want) in cases {
-            assert_eq!(rt; subtree_width(count), want, "{name}, {count}");
-        }
-    }
-}

@@ -119,6 +119,3 @@ pub fn lay(alloc: Global, block: &Block) -> Result<Square, LayError>
     };
     Ok(Square { k, shares })
 }
-
-#[cfg(test)]
-mod tests;

@@ -180,24 +180,3 @@ impl Trees {
         })
     }
 }
-
-#[cfg(test)]
-mod tests {
-    use super::*;
-    use crate::header_of;
-    use namespace_id::Share;
-    use square_layout::Square;
-    use std::test::Fail;
-
-    #[test]
-    fn header_by_stored_trees(rt: HostRuntime) -> Result<(), Fail> {
-        let shares = vec![in rt.alloc(); Share([7; 512]); 1]?;
-        let grid = Grid::extend(rt.alloc(), &Square { k: 1, shares })?;
-        let trees = Trees::of(rt.alloc(), &grid)?.expect(&rt, "the namespaces do not fall");
-        let stored = trees.header(rt.alloc())?;
-        let folded = header_of(rt.alloc(), &grid)?.expect(&rt, "the namespaces do not fall");
-        assert_eq!(rt; stored.root_of(Axis::Row, 1), folded.root_of(Axis::Row, 1));
-        assert_eq!(rt; stored.root_of(Axis::Col, 0), folded.root_of(Axis::Col, 0));
-        Ok(())
-    }
-}

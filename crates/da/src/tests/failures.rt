@@ -1,133 +1,234 @@
-//! One call that fails, at each step of a run.
+//! One call that fails: the calls of each kind are numbered from 0, and one after another fails, until a run makes no call
+//! of that number.
 
-use super::frames::{SAMPLE, empty_block, empty_header, empty_square, message, messages};
-use super::{NEVER, run_into, run_over, run_two, small_sink, two_files};
-use da_cli::Status::{Done, PickFault, ReadFault, Refused, WriteFault};
+use da_cli::Status::{Done, Missing, PickFault, ReadFault, Refused, WriteFault};
+use da_cli::{Status, run};
 use da_io::{MemInputs, MemSink};
+use std::alloc::Global;
 use std::test::Fail;
 
-/// A call that fails: a pick or a read, numbered together; a write of the output; one of the note.
-#[derive(Clone, Copy, Debug, PartialEq, Eq)]
-enum Call {
-    Input(u64),
-    Write(u64),
-    Note(u64),
+/// The number of a call that no run makes.
+const NEVER: u64 = u64::MAX;
+
+/// A light node that draws no cell.
+const LIGHT: &str =
+    "light h one 0000000000000000000000000000000000000000000000000000000000000000 0";
+
+/// A file in memory.
+#[derive(Drop)]
+pub(super) struct File {
+    pub(super) name: String,
+    pub(super) content: Vec<u8>,
 }
 
-/// The calls on the inputs are a pick, five reads, a pick, and reads. The output is taken 4 bytes at
-/// a time.
+/// How a run ended, and what its output took.
+#[derive(Drop)]
+struct Ran {
+    status: Status,
+    out: MemSink,
+}
+
+/// Files that are read 1,000 bytes at a time, and of whose picks and reads one fails.
+pub(super) fn inputs(alloc: Global, files: &[File], fail: u64) -> Result<MemInputs, Fail> {
+    let mut names = Vec::new(alloc);
+    let mut contents = Vec::new(alloc);
+    for file in files {
+        names.push(file.name.clone()?)?;
+        contents.push(file.content.clone()?)?;
+    }
+    if names.len() != contents.len() {
+        return Err(Fail::new("a name for each file"));
+    }
+    Ok(MemInputs::new(names, contents, 1000, vec![in alloc; fail]?))
+}
+
+/// A sink that takes up to so many bytes at a time, and of whose writes one fails.
+fn sink(alloc: Global, piece: usize, fail: u64) -> Result<MemSink, Fail> {
+    match MemSink::new(alloc, 1 << 16, piece.max(1), vec![in alloc; fail]?) {
+        Ok(sink) => Ok(sink),
+        Err(_) => Err(Fail::new("no memory")),
+    }
+}
+
+/// Runs words over files into sinks that take so many bytes at a time. The calls of these numbers fail: a pick or a read, a
+/// write of the output, a write of the note.
+fn run_failing(
+    alloc: Global,
+    words: &str,
+    files: &[File],
+    piece: usize,
+    fail: (u64, u64, u64),
+) -> Result<Ran, Fail> {
+    let mut all = Vec::new(alloc);
+    for word in words.split(' ') {
+        all.push(String::from_str(alloc, word)?)?;
+    }
+    let mut inputs = inputs(alloc, files, fail.0)?;
+    let mut out = sink(alloc, piece, fail.1)?;
+    let mut notes = sink(alloc, piece, fail.2)?;
+    let status = run(alloc, &all, &mut inputs, &mut out, &mut notes);
+    Ok(Ran { status, out })
+}
+
+/// Adds a file.
+fn add(alloc: Global, files: &mut Vec<File>, name: &str, content: &[u8]) -> Result<(), Fail> {
+    let name = String::from_str(alloc, name)?;
+    let content = Vec::from_slice(alloc, content)?;
+    files.push(File { name, content })?;
+    Ok(())
+}
+
+/// The frame of a block of blobs of 1, 479 and 1 bytes, whose square has width 2.
+fn block(alloc: Global) -> Result<Vec<u8>, Fail> {
+    let head = [
+        b'V', 0, 0, 2, 0x55, 0, 0, 0, 0, 0, 0, 0, 0, 0, 0, 0, 0, 0, 3,
+    ];
+    let mut bytes = Vec::from_slice(alloc, &head)?;
+    for (name, first, count) in [(1, 31usize, 1usize), (2, 62, 479), (4, 93, 1)] {
+        bytes.extend_from_slice(&[0; 27])?;
+        bytes.extend_from_slice(&[1, name, 0, 0, 0, (count / 256) as u8, (count % 256) as u8])?;
+        for i in 0..count {
+            let sum = first.wrapping_add(i.wrapping_mul(7)).wrapping_add(i / 251);
+            bytes.push((sum % 255 + 1) as u8)?;
+        }
+    }
+    Ok(bytes)
+}
+
+/// Requests for the samples of cells, each on its row.
+fn requests(alloc: Global, cells: &[(u8, u8)]) -> Result<Vec<u8>, Fail> {
+    let mut bytes = Vec::new(alloc);
+    for &(row, col) in cells {
+        bytes.extend_from_slice(&[b'Q', 0, 0, 0, 5, 0, row, 0, col, 0])?;
+    }
+    Ok(bytes)
+}
+
+/// A proved message; then one with another share, one without its second node, one of row 4, one with another node; and a
+/// frame of another kind.
+fn refused(alloc: Global, one: &[u8; 703]) -> Result<Vec<u8>, Fail> {
+    let mut bytes = Vec::from_slice(alloc, one)?;
+    let mut share = *one;
+    share[521] ^= 1;
+    bytes.extend_from_slice(&share)?;
+    bytes.extend_from_slice(&[b'M', 0, 0, 2, 0x60])?;
+    bytes.extend_from_slice(&one[5..522])?;
+    bytes.push(1)?;
+    bytes.extend_from_slice(&one[523..613])?;
+    let mut row = *one;
+    row[6] = 4;
+    bytes.extend_from_slice(&row)?;
+    bytes.extend_from_slice(&one[..523])?;
+    bytes.extend_from_slice(&[0; 90])?;
+    bytes.extend_from_slice(&one[613..])?;
+    bytes.extend_from_slice(&[b'Q', 0, 0, 0, 5, 0, 0, 0, 0, 0])?;
+    Ok(bytes)
+}
+
+/// A block, requests, a script that puts a message and hands it to a full node, and what the program makes of the first
+/// two: the square "s", its header "h" and messages.
+pub(super) fn files(alloc: Global) -> Result<Vec<File>, Fail> {
+    let mut files = Vec::new(alloc);
+    add(alloc, &mut files, "block", &block(alloc)?)?;
+    let cells = requests(alloc, &[(0, 0), (0, 1), (1, 0), (2, 3)])?;
+    add(alloc, &mut files, "cells", &cells)?;
+    let diagonal = requests(alloc, &[(0, 0), (1, 1), (2, 2)])?;
+    add(alloc, &mut files, "diagonal", &diagonal)?;
+    add(alloc, &mut files, "corner", &requests(alloc, &[(0, 0)])?)?;
+    let mut name = [0; 34];
+    name[0] = b'P';
+    name[4] = 29;
+    name[32] = 1;
+    name[33] = 2;
+    add(alloc, &mut files, "name", &name)?;
+    let mut script = [0; 18];
+    script[1] = 1;
+    script[11] = 1;
+    add(alloc, &mut files, "script", &script)?;
+    let made = [
+        ("s", "build block"),
+        ("h", "header s"),
+        ("four", "sample s cells"),
+        ("three", "sample s diagonal"),
+        ("one", "sample s corner"),
+    ];
+    for (name, words) in made {
+        let ran = run_failing(alloc, words, &files, 4096, (NEVER, NEVER, NEVER))?;
+        add(alloc, &mut files, name, &ran.out.bytes)?;
+    }
+    Ok(files)
+}
+
+/// Each row has words, and how many bytes a sink takes at a time; then a kind of calls, and the numbers of those of which
+/// each fails in a run of its own, from the first up to the last and without it; then how these runs end, how many bytes
+/// the output takes in the first of them, and how many more in each later one.
 #[test]
 fn failed_calls(rt: HostRuntime) -> Result<(), Fail> {
     let alloc = rt.alloc();
-    let cases = [
-        (Call::Input(0), PickFault(0), "", "cannot open file 0\n"),
-        (Call::Input(4), ReadFault(0), "", "cannot read file 0\n"),
-        (Call::Input(6), PickFault(1), "", "cannot open file 1\n"),
-        (Call::Input(7), ReadFault(1), "", "cannot read file 1\n"),
-        (Call::Write(0), WriteFault, "", "cannot write\n"),
-        (Call::Write(1), WriteFault, "ok\n", "cannot write\n"),
-        (Call::Write(2), WriteFault, "ok\nrefu", "cannot write\n"),
-        (Call::Note(1), Refused, "ok\nrefused 4\n", "refu"),
-    ];
-    for (call, want, output, note) in cases {
-        let (input, write, noted) = match call {
-            Call::Input(number) => (number, NEVER, NEVER),
-            Call::Write(number) => (NEVER, number, NEVER),
-            Call::Note(number) => (NEVER, NEVER, number),
-        };
-        let mut inputs = two_files(alloc, empty_header(alloc)?, messages(alloc, &[])?, input)?;
-        let out = small_sink(alloc, 100, write)?;
-        let ran = run_into(alloc, &["check", "h", "m"], &mut inputs, out, noted)?;
-        assert_eq!(rt; ran.status, want, "{call:?}");
-        assert_eq!(rt; ran.out.bytes.as_slice(), output.as_bytes(), "{call:?}");
-        assert_eq!(rt; ran.notes.bytes.as_slice(), note.as_bytes(), "{call:?}");
-    }
-    Ok(())
-}
-
-/// The second write fails, and a frame needs none; then there is little room, or no write.
-#[test]
-fn frames_in_one_piece(rt: HostRuntime) -> Result<(), Fail> {
-    let alloc = rt.alloc();
-    let cases = [
-        ("one piece", 1000, 1, Done, 1000),
-        ("little room", 100, 99, WriteFault, 100),
-        ("no write", 1000, 0, WriteFault, 0),
-    ];
-    for (name, room, fail, want, size) in cases {
-        let built = run_over(alloc, "build", empty_block(alloc)?, room, fail)?;
-        assert_eq!(rt; built.status, want, "{name}");
-        let square = empty_square(alloc)?;
-        let front = square.get(..size).unwrap_or(&square);
-        assert_eq!(rt; built.out.bytes.as_slice(), front, "{name}");
-        let headed = run_over(alloc, "header", empty_square(alloc)?, room, fail)?;
-        assert_eq!(rt; headed.status, want, "{name}");
-        let header = empty_header(alloc)?;
-        let front = header.get(..size).unwrap_or(&header);
-        assert_eq!(rt; headed.out.bytes.as_slice(), front, "{name}");
-    }
-    Ok(())
-}
-
-/// The output takes 300 bytes at a time, and its second call fails.
-#[test]
-fn repaired_in_part(rt: HostRuntime) -> Result<(), Fail> {
-    let alloc = rt.alloc();
-    let mut inputs = two_files(alloc, empty_header(alloc)?, message(alloc, 0)?, NEVER)?;
-    let Ok(out) = MemSink::new(alloc, 1_000, 300, vec![in alloc; 1]?) else {
-        return Err(Fail::new("no memory"));
+    let mut files = files(alloc)?;
+    let Some(file) = files.last() else {
+        panic!(rt; "no file");
     };
-    let ran = run_into(alloc, &["repair", "h", "m"], &mut inputs, out, NEVER)?;
-    assert_eq!(rt; ran.status, WriteFault);
-    assert_eq!(rt; ran.out.bytes.len(), 300);
-    assert!(rt; empty_square(alloc)?.starts_with(ran.out.bytes.as_slice()));
-    Ok(())
-}
-
-/// Of two samples the second one's write fails.
-#[test]
-fn sampled_in_part(rt: HostRuntime) -> Result<(), Fail> {
-    let alloc = rt.alloc();
-    let mut requests = Vec::from_slice(alloc, &SAMPLE)?;
-    requests.extend_from_slice(&SAMPLE)?;
-    let words = ["sample", "h", "m"];
-    let ran = run_two(alloc, &words, empty_square(alloc)?, requests, 1)?;
-    assert_eq!(rt; ran.status, WriteFault);
-    assert_eq!(rt; ran.out.bytes.as_slice(), message(alloc, 0)?.as_slice());
-    Ok(())
-}
-
-/// Two requests: room for 3 bytes, no write, one write, two writes.
-#[test]
-fn shown_in_part(rt: HostRuntime) -> Result<(), Fail> {
-    let alloc = rt.alloc();
-    let line = "sample row=0 col=0 axis=row\n";
+    let Some(one) = file.content.first_chunk::<703>() else {
+        panic!(rt; "{} bytes", file.content.len());
+    };
+    let six = refused(alloc, one)?;
+    add(alloc, &mut files, "six", &six)?;
     let cases = [
-        (3, NEVER, WriteFault, 3),
-        (100, 0, WriteFault, 0),
-        (100, 1, WriteFault, line.len()),
-        (100, 2, Done, 2 * line.len()),
+        ("check h six", 100, "input", 0, 1, PickFault(0), 0, 0),
+        ("check h six", 100, "input", 1, 3, ReadFault(0), 0, 0),
+        ("check h six", 100, "input", 3, 4, PickFault(1), 0, 0),
+        ("check h six", 100, "input", 4, 9, ReadFault(1), 0, 0),
+        ("check h six", 100, "input", 9, 10, Refused, 53, 0),
+        ("check h six", 100, "write", 0, 1, WriteFault, 0, 0),
+        ("check h six", 100, "write", 1, 6, WriteFault, 3, 10),
+        ("check h six", 100, "write", 6, 7, Refused, 53, 0),
+        ("repair h four", 100, "input", 0, 1, PickFault(0), 0, 0),
+        ("repair h four", 100, "input", 1, 3, ReadFault(0), 0, 0),
+        ("repair h four", 100, "input", 3, 4, PickFault(1), 0, 0),
+        ("repair h four", 100, "input", 4, 8, ReadFault(1), 0, 0),
+        ("repair h four", 100, "input", 8, 9, Done, 2055, 0),
+        ("repair h four", 100, "write", 0, 21, WriteFault, 0, 100),
+        ("repair h four", 100, "write", 21, 22, Done, 2055, 0),
+        ("repair h three", 100, "note", 0, 2, Missing(13, 0), 63, 0),
+        ("repair h three", 4, "note", 0, 8, Missing(13, 0), 63, 0),
+        ("build block", 4096, "write", 0, 1, WriteFault, 0, 0),
+        ("build block", 4096, "write", 1, 2, Done, 2055, 0),
+        ("header s", 4096, "write", 0, 1, WriteFault, 0, 0),
+        ("header s", 4096, "write", 1, 2, Done, 727, 0),
+        ("sample s cells", 4096, "write", 0, 4, WriteFault, 0, 703),
+        ("sample s cells", 4096, "write", 4, 5, Done, 2812, 0),
+        ("namespace s name", 4096, "write", 0, 1, WriteFault, 0, 0),
+        ("namespace s name", 4096, "write", 1, 2, Done, 1436, 0),
+        ("verify h one", 4096, "write", 0, 1, WriteFault, 0, 0),
+        ("verify h one", 4096, "write", 1, 2, Done, 3, 0),
+        (LIGHT, 4096, "write", 0, 1, WriteFault, 0, 0),
+        (LIGHT, 4096, "write", 1, 2, Done, 10, 0),
+        ("net h one script", 4096, "write", 0, 1, WriteFault, 0, 0),
+        ("net h one script", 4096, "write", 1, 2, Done, 44, 0),
+        ("show cells", 4096, "write", 0, 4, WriteFault, 0, 28),
+        ("show cells", 4096, "write", 4, 5, Done, 112, 0),
+        ("json cells", 4096, "write", 0, 4, WriteFault, 0, 47),
+        ("json cells", 4096, "write", 4, 5, Done, 188, 0),
+        ("demo 7 2", 4096, "write", 0, 2, WriteFault, 0, 8),
+        ("demo 7 2", 4096, "write", 2, 3, WriteFault, 17, 0),
     ];
-    for (room, fail, want, size) in cases {
-        let mut file = Vec::from_slice(alloc, &SAMPLE)?;
-        file.extend_from_slice(&SAMPLE)?;
-        let ran = run_over(alloc, "show", file, room, fail)?;
-        assert_eq!(rt; ran.status, want, "{room} {fail}");
-        assert_eq!(rt; ran.out.bytes.len(), size, "{room} {fail}");
-        let taken = ran.out.bytes.as_slice();
-        let front = taken.get(..line.len()).unwrap_or(taken);
-        assert!(rt; line.as_bytes().starts_with(front), "{room} {fail}");
+    for (words, piece, kind, from, end, want, taken, more) in cases {
+        let whole = run_failing(alloc, words, &files, piece, (NEVER, NEVER, NEVER))?;
+        let mut size: usize = taken;
+        for number in from..end {
+            let fail = match kind {
+                "input" => (number, NEVER, NEVER),
+                "write" => (NEVER, number, NEVER),
+                _ => (NEVER, NEVER, number),
+            };
+            let ran = run_failing(alloc, words, &files, piece, fail)?;
+            assert_eq!(rt; ran.status, want, "{words}: {kind} {number}");
+            assert_eq!(rt; ran.out.bytes.len(), size, "{words}: {kind} {number}");
+            let front = whole.out.bytes.starts_with(&ran.out.bytes);
+            assert!(rt; front, "{words}: {kind} {number}");
+            size = size.wrapping_add(more);
+        }
     }
-    Ok(())
-}
-
-/// Each line of a trial is one write.
-#[test]
-fn told_in_part(rt: HostRuntime) -> Result<(), Fail> {
-    let alloc = rt.alloc();
-    let words = ["demo", "7", "2"];
-    let ran = run_two(alloc, &words, Vec::new(alloc), Vec::new(alloc), 2)?;
-    assert_eq!(rt; ran.status, WriteFault);
-    assert_eq!(rt; ran.out.bytes.as_slice(), b"width 2\nshares 4\n".as_slice());
     Ok(())
 }

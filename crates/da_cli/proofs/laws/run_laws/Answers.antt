@@ -1,20 +1,20 @@
 use Rattle.std.proofs.Common.{[], ◌∷◌}
 use Rattle.da_wire.specs.declared.frames.Frame.TheVariants.{Request}
 use Rattle.da_wire.specs.Spelling.{sample_kind, request_kind}
-use Rattle.da_cli.specs.commands.Sample.{sample_of, sample_frame}
-use Rattle.da_cli.specs.commands.Namespace.{namespace_of}
-use Rattle.da_cli.proofs.RequestLemmas.{asked_again}
-use Rattle.da_cli.proofs.SampleLemmas.{is_sample_frame}
-use Rattle.da_cli.proofs.NamespaceLemmas.{is_name_frame}
+use Rattle.da_commands.specs.Sample.{sample_of, sample_frame}
+use Rattle.da_commands.specs.Namespace.{namespace_of}
+use Rattle.da_commands.proofs.RequestLemmas.{asked_again}
+use Rattle.da_commands.proofs.SampleLemmas.{is_sample_frame}
+use Rattle.da_commands.proofs.NamespaceLemmas.{is_name_frame}
 use Rattle.square_layout.specs.Layout.{square_of}
 use Rattle.axis_roots.specs.Grids.{header_of_grid}
-use Rattle.da_cli.proofs.FileLemmas.{header_file, square_file, block_file, answer_file, square_again, some_there}
+use Rattle.da_commands.proofs.FileLemmas.{header_file, square_file, block_file, answer_file, square_again, some_there}
 use Rattle.da_cli.proofs.RunLemmas.{form_law, bad_input_law, excess_law, absent_law, failure_law}
-use Rattle.da_cli.proofs.CheckLemmas.{finding_proved, finding_own}
-use Rattle.da_cli.proofs.RepairLemmas.{repairs_own}
+use Rattle.da_commands.proofs.CheckLemmas.{finding_proved, finding_own}
+use Rattle.da_commands.proofs.RepairLemmas.{repairs_own}
 use Rattle.da_cli.proofs.CountedLies.{lies_counted}
-use Rattle.da_cli.proofs.LightLemmas.{lights_own}
-use Rattle.da_cli.proofs.VerifyLemmas.{verified_proved, verified_complete, verified_accepted, verified_own}
+use Rattle.da_commands.proofs.LightLemmas.{lights_own}
+use Rattle.da_commands.proofs.VerifyLemmas.{verified_proved, verified_complete, verified_accepted, verified_own}
 use Rattle.da_cli.proofs.laws.run_laws.Goals as goal
 
 pub returns-clause-form : goal.returns-clause-form

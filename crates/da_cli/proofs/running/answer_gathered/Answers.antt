@@ -1,12 +1,12 @@
 use Rattle.std.proofs.Common.{◌≡◌, List, Vec, Global, Option, ℕ, sym, ap, subst}
 use Rattle.da_cli.specs.declared.words.Call.{Call}
 use Rattle.da_cli.specs.Run.{IsEarly}
-use Rattle.da_cli.specs.declared.status.Status.{Status}
+use Rattle.da_status.specs.declared.status.Status.{Status}
 use Rattle.da_cli.specs.Words.{words_of}
-use Rattle.da_cli.specs.Gathered.{contents_of}
-use Rattle.da_cli.specs.Meaning.{Meaning}
+use Rattle.da_commands.specs.Contents.{contents_of}
+use Rattle.da_commands.specs.Meaning.{Meaning}
 use Rattle.da_cli.specs.Ran.{Ran}
-use Rattle.da_cli.proofs.EndLemmas.{ends_as}
+use Rattle.da_status.proofs.EndLemmas.{ends_as}
 use Rattle.da_cli.proofs.RanLemmas.{ran_over, ran_up_to}
 use Rattle.da_cli.proofs.running.answer_gathered.Goals as goal
 

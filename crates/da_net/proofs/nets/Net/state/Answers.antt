@@ -1,12 +1,12 @@
-use Rattle.std.proofs.Common.{◌≡◌, ◌<◌, Some, length, slice_get, refl, sym, subst, arith}
+use Rattle.std.proofs.Common.{◌≡◌, ◌∙◌, ◌<◌, Some, None, length, slice_get, refl, sym, subst, arith}
 use Rattle.std.proofs.lemmas.List.{length-map}
 use Rattle.std.proofs.lemmas.Option.{slice_get_read}
 use Rattle.da_net.specs.declared.seats.Seat.{Seat}
 use Rattle.da_net.specs.Networks.{handed, IsRun}
-use Rattle.da_net.specs.Nets.{NetParts, network_of, HasState}
+use Rattle.da_net.specs.Nets.{NetParts, network_of, alarm_at, HasState}
 use Rattle.da_net.specs.Seats.{kind_of, items_in}
-use Rattle.da_net.proofs.NetLemmas.{standing_there}
-use Rattle.da_net.proofs.StateLemmas.{state_rejects, state_settled, state_names}
+use Rattle.da_net.proofs.NetLemmas.{alarm_there, standing_there}
+use Rattle.da_net.proofs.StateLemmas.{state_rejects, state_settled, state_names, node_calm}
 use Rattle.da_net.proofs.nets.Net.state.Goals as goal
 
 -- the node of the seat stands so
@@ -32,3 +32,18 @@ pub returns-clause-own : goal.returns-clause-own
 returns-clause-own g c =
     state_names c.args.self.now c.args.node c.state.result
     (subst (λ (n : NetParts). IsRun (network_of n) n.pool n.steps) c.self.view_is c.self.invariant.1.run) (returns-clause-state g c)
+
+-- in another state nothing alarmed it
+pub returns-clause-calm : goal.returns-clause-calm
+returns-clause-calm g c = λ not_rejected not_clash.
+    let seats = c.self.inside.seats in
+    let node : c.args.node < length seats.items =
+    omega (arith, subst (λ (n : NetParts). c.args.node < length n.nodes) (sym c.self.view_is) c.requires, length-map seats.items (λ (s : Seat _). kind_of s.node)) in
+    let at : slice_get seats.items c.args.node ≡ Some c.index.result.now =
+    slice_get_read seats.items (length seats.items) c.args.node c.index.result.now refl node c.index.ensures in
+    let items = handed (items_in c.self.inside.pool.items) c.self.inside.steps.items c.args.node in
+    let found = c.state.ensures c.self.inside.header items (c.self.invariant.1.seated c.args.node c.index.result.now at) in
+    subst (λ (n : NetParts). alarm_at n c.args.node ≡ None) c.self.view_is
+    (alarm_there c.self.inside.header seats.items c.self.inside.most_items c.self.inside.most_steps c.self.inside.pool.items c.self.inside.steps.items
+    c.args.node c.index.result.now at
+    ∙ node_calm c.index.result.now.node found.0 c.state.result found.1.fits found.2 not_rejected not_clash)

@@ -1,0 +1,38 @@
+-- What every command answers over files in their forms.
+use Rattle.std.proofs.Common.{ℕ, List}
+use Rattle.da_wire.specs.Values.{values_of}
+use Rattle.da_show.specs.Text.{text_of}
+use Rattle.da_show.specs.Json.{json_text}
+use Rattle.da_status.specs.declared.status.Status.{Status}
+use Rattle.da_status.specs.Statuses.{kind_of}
+use Rattle.da_status.proofs.EndLemmas.{IsAnswer, answer_output}
+use Rattle.da_commands.specs.declared.command.Command.{Command}
+use Rattle.da_commands.specs.declared.command.Command.TheVariants.{Check, Build, Header, Sample, Namespace, Verify, Repair, Light, Net, Show, Json, Demo}
+use Rattle.da_commands.specs.Show.{all_kinds, shown_file}
+use Rattle.da_commands.specs.Meaning.{AnswerOf}
+use Rattle.da_commands.proofs.CheckLemmas.{check_last}
+use Rattle.da_commands.proofs.BuildLemmas.{build_answers}
+use Rattle.da_commands.proofs.HeaderLemmas.{header_answers}
+use Rattle.da_commands.proofs.SampleLemmas.{sample_answers}
+use Rattle.da_commands.proofs.NamespaceLemmas.{namespace_answers}
+use Rattle.da_commands.proofs.VerifyLemmas.{verify_last}
+use Rattle.da_commands.proofs.RepairLemmas.{repair_last}
+use Rattle.da_commands.proofs.LightLemmas.{light_answers}
+use Rattle.da_commands.proofs.NetLemmas.{net_answers}
+use Rattle.da_commands.proofs.ShowLemmas.{shows_answers}
+use Rattle.da_commands.proofs.DemoLemmas.{demo_answers}
+
+-- a command's answer comes with its output, or refuses what the files ask for
+pub answer_last : (command : Command) (files : List (List ℕ)) (w : List ℕ) (status : Status) → AnswerOf command files w status → IsAnswer (kind_of status)
+answer_last Check files w status h = answer_output status (check_last files w status h)
+answer_last Build files w status h = build_answers files w status h
+answer_last Header files w status h = header_answers files w status h
+answer_last Sample files w status h = sample_answers files w status h
+answer_last Namespace files w status h = namespace_answers files w status h
+answer_last Verify files w status h = answer_output status (verify_last files w status h)
+answer_last Repair files w status h = answer_output status (repair_last files w status h)
+answer_last (Light key count) files w status h = light_answers key count files w status h
+answer_last Net files w status h = net_answers files w status h
+answer_last Show files w status h = shows_answers text_of (values_of all_kinds (shown_file files)) w status h
+answer_last Json files w status h = shows_answers json_text (values_of all_kinds (shown_file files)) w status h
+answer_last (Demo number k) files w status h = demo_answers number k w status h

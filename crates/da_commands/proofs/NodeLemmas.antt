@@ -1,0 +1,108 @@
+-- Light nodes that are handed frames, and plans of drawn cells.
+use Rattle.std.proofs.Common.{◌≡◌, ◌∙◌, ℕ, zero, suc, Bool, true, false, ◌&&◌, List, [], ◌∷◌, ◌++◌, length, Some, None, Result, Ok, Err, IfOk, refl, sym, ap, ap₂, subst, arith, append-nil}
+use Rattle.std.specs.Prelude.{slice_get}
+use Rattle.std.specs.List.{list_all}
+use Rattle.std.specs.declared.option.Option.{Option}
+use Rattle.std.specs.Option.{option_map_or}
+use Rattle.std.proofs.Math.Seq.{append_snoc}
+use Rattle.namespace_id.specs.declared.cells.Cell.{Cell}
+use Rattle.light_node.specs.declared.events.Event.{Event}
+use Rattle.light_node.specs.Nodes.{NodeParts, StandsFor, IsSame}
+use Rattle.da_wire.specs.Reading.{Raw}
+use Rattle.da_commands.specs.Light.{event_in, events_in}
+
+-- ---- events
+
+-- an event that is there stands in front
+with_event : (o : Option Event) (later : List Event) (event : Event) → o ≡ Some event
+    → option_map_or (λ e. e ∷ later) o later ≡ event ∷ later
+with_event o later event here = ap (λ (x : Option Event). option_map_or (λ e. e ∷ later) x later) here
+
+-- where there is none the later ones are left
+without_event : (o : Option Event) (later : List Event) → o ≡ None → option_map_or (λ e. e ∷ later) o later ≡ later
+without_event o later none = ap (λ (x : Option Event). option_map_or (λ e. e ∷ later) x later) none
+
+-- the events among frames, by the first frame
+events_by : (rest after : List Raw) (frame : Raw) → rest ≡ frame ∷ after
+    → events_in rest ≡ option_map_or (λ e. e ∷ events_in after) (event_in frame) (events_in after)
+unfolding events_in
+events_by rest after frame next = ap events_in next
+
+module _ {F : Type 0} (picks : F → ℕ → Cell → Type 0) (old : NodeParts F) (frames : List Raw) where
+  -- a node that planned these cells and was handed nothing was handed all events but those of the rest since
+  abbrev pub Handed : NodeParts F → List Raw → Type 0
+  Handed node rest = (plan : List Cell) → StandsFor picks old plan []
+      → (done : List Event) × StandsFor picks node plan done × (events_in frames ≡ done ++ events_in rest)
+
+  -- the next frame is an event
+  pub handed_on : (node new : NodeParts F) (rest after : List Raw) (frame : Raw) (event : Event) → rest ≡ frame ∷ after
+      → event_in frame ≡ Some event
+      → ((plan : List Cell) (events : List Event) → StandsFor picks node plan events
+      → StandsFor picks new plan (events ++ event ∷ []))
+      → Handed node rest → Handed new after
+  handed_on node new rest after frame event next here step handed = λ plan stands.
+      let so_far = handed plan stands in
+      let later : events_in rest ≡ event ∷ events_in after =
+      events_by rest after frame next ∙ with_event (event_in frame) (events_in after) event here in
+      let parts : events_in frames ≡ (so_far.0 ++ event ∷ []) ++ events_in after =
+      so_far.2 ∙ ap (λ (l : List Event). so_far.0 ++ l) later ∙ sym (append_snoc so_far.0 event (events_in after)) in
+      (so_far.0 ++ event ∷ [], step plan so_far.0 so_far.1, parts)
+
+  -- the next frame is none
+  pub handed_past : (node : NodeParts F) (rest after : List Raw) (frame : Raw) → rest ≡ frame ∷ after
+      → event_in frame ≡ None
+      → Handed node rest → Handed node after
+  handed_past node rest after frame next none handed = λ plan stands.
+      let so_far = handed plan stands in
+      let later : events_in rest ≡ events_in after =
+      events_by rest after frame next ∙ without_event (event_in frame) (events_in after) none in
+      (so_far.0, so_far.1, so_far.2 ∙ ap (λ (l : List Event). so_far.0 ++ l) later)
+
+  -- all frames were handed over
+  pub handed_all : (node : NodeParts F) (rest : List Raw) → rest ≡ [] → Handed node rest
+      → (plan : List Cell) → StandsFor picks old plan [] → StandsFor picks node plan (events_in frames)
+  unfolding events_in
+  handed_all node rest none handed plan stands =
+      let so_far = handed plan stands in
+      let all : events_in frames ≡ so_far.0 = so_far.2 ∙ ap (λ (l : List Raw). so_far.0 ++ events_in l) none
+      ∙ append-nil so_far.0 in
+      subst (StandsFor picks node plan) (sym all) so_far.1
+
+-- what no call changes stays over two of them
+pub same_on : {F : Type 0} (a b d : NodeParts F) → IsSame a b → IsSame b d → IsSame a d
+same_on a b d one two = record {
+  header = two.header ∙ one.header;
+  limit = two.limit ∙ one.limit;
+  pick = two.pick ∙ one.pick;
+}
+
+-- ---- plans
+
+-- lists of one length are one where each entry of the first is the other's at its place
+pub same_list : {A : Type 0} (xs ys : List A) → length xs ≡ length ys
+    → ((i : ℕ) (x : A) → slice_get xs i ≡ Some x → slice_get ys i ≡ Some x) → xs ≡ ys
+same_list [] [] count same = refl
+same_list [] (y ∷ ys) count same = absurd (omega (arith, count))
+same_list (x ∷ xs) [] count same = absurd (omega (arith, count))
+same_list {A = A} (x ∷ xs) (y ∷ ys) count same =
+    let first : ◌≡◌ {A = Option A} (Some y) (Some x) = same 0 x refl in
+    let head : x ≡ y = cc in
+    ap₂ (λ (a : A) (l : List A). a ∷ l) head (same_list xs ys (omega (arith, count)) (λ i z e. same (suc i) z e))
+
+-- a fact of an answer is a weaker one
+pub ok_within : {A E : Type 0} (P Q : A → Type 0) (r : Result A E) → ((x : A) → P x → Q x) → IfOk r P → IfOk r Q
+ok_within P Q (Ok x) weaker p = weaker x p
+ok_within P Q (Err e) weaker p = tt
+
+-- two tests hold
+both_true : (a b : Bool) → (a && b) ≡ true → (a ≡ true) × (b ≡ true)
+both_true true b h = (refl, h)
+both_true false b h = absurd cc
+
+-- what a test says of all entries it says of each
+pub each_there : {A : Type 0} (test : A → Bool) (xs : List A) (i : ℕ) (x : A) → list_all test xs ≡ true
+    → slice_get xs i ≡ Some x → test x ≡ true
+each_there test [] i x all e = absurd cc
+each_there test (y ∷ xs) zero x all e =
+    let same : y ≡ x = cc in subst (λ z. test z ≡ true) same (both_true (test y) (list_all test xs) all).0
+each_there test (y ∷ xs) (suc i) x all e = each_there test xs i x (both_true (test y) (list_all test xs) all).1 e

@@ -1,0 +1,82 @@
+use Rattle.std.proofs.Common.{◌∙◌, ◌≡◌, ◌∷◌, true, refl, subst}
+use Rattle.std.specs.List.{AllByRecursion}
+use Rattle.namespace_id.specs.declared.namespaces.Namespace.{Namespace}
+use Rattle.namespace_id.specs.Names.{IsNamespace}
+use Rattle.da_commands.specs.Namespace.{namespaces_in, AllowsNames, is_other}
+use Rattle.square_serve.specs.Serving.{answer_for}
+use Rattle.da_commands.proofs.AnswerLemmas.{complete_short}
+use Rattle.da_commands.proofs.RequestLemmas.{all_pass}
+use Rattle.da_commands.proofs.ServingLemmas.{served_none, served_on, served_stopped, served_memory}
+use Rattle.da_commands.proofs.NamespaceLemmas.{are_named, have_names}
+use Rattle.da_commands.proofs.namespace.give_answers.Goals as goal
+
+pub loop-name-init : goal.loop-name-init
+loop-name-init g c = record {
+  served = λ square holds. served_none (AllowsNames square c.args.held.now.header) _ _;
+  named = are_named c.value_laws.ensures.values c.value_laws.ensures.bad c.args.requests.now c.bytes_law.ensures;
+  others = all_pass is_other 0 _ c.requires;
+  told = (λ s. s, λ s. s);
+  faults = refl;
+}
+
+-- the requests to come have answers
+pub returns-in-NoMemory : goal.returns-in-NoMemory
+returns-in-NoMemory g c = λ square holds.
+    let held = c.args.held.now in
+    let is = c.header-header.ensures.held in
+    served_memory (AllowsNames square held.header) _ _ _ _ _ _ _ (c.loop-name.invariant.served square holds) c.in-NoMemory.ensures
+    (have_names held square holds (λ name. c.serve_laws.ensures.complete held name is) (λ name. c.serve_laws.ensures.shares held square name is holds)
+    (λ name named other. c.wire_laws.ensures.names name (answer_for held name) named (c.serve_laws.ensures.entries held name is named)
+    (complete_short held name (answer_for held name) is (c.serve_laws.ensures.complete held name is named other))) _ c.loop-name.invariant.named c.loop-name.invariant.others)
+    c.loop-name.invariant.faults c.loop-name.invariant.told
+
+-- so has the next one, for whose answer there was no memory
+pub returns-in-Err-NoMemory : goal.returns-in-Err-NoMemory
+returns-in-Err-NoMemory g c = λ square holds.
+    let held = c.args.held.now in
+    let is = c.header-header.ensures.held in
+    served_memory (AllowsNames square held.header) _ _ _ _ _ _ _ (c.loop-name.invariant.served square holds)
+    (c.in-Request.name, namespaces_in c.in-Request.after.now, c.in-Request.ensures.0)
+    (have_names held square holds (λ name. c.serve_laws.ensures.complete held name is) (λ name. c.serve_laws.ensures.shares held square name is holds)
+    (λ name named other. c.wire_laws.ensures.names name (answer_for held name) named (c.serve_laws.ensures.entries held name is named)
+    (complete_short held name (answer_for held name) is (c.serve_laws.ensures.complete held name is named other))) _ c.loop-name.invariant.named c.loop-name.invariant.others)
+    c.loop-name.invariant.faults c.loop-name.invariant.told
+
+pub loop-name-preserved : goal.loop-name-preserved
+loop-name-preserved g c =
+    let held = c.args.held.now in
+    let name = c.in-Request.name in
+    let named : AllByRecursion IsNamespace (name ∷ namespaces_in c.in-Request.after.now) = subst (AllByRecursion IsNamespace) c.in-Request.ensures.0 c.loop-name.invariant.named in
+    let others : AllByRecursion (λ (n : Namespace). is_other n ≡ true) (name ∷ namespaces_in c.in-Request.after.now) =
+    subst (AllByRecursion (λ (n : Namespace). is_other n ≡ true)) c.in-Request.ensures.0 c.loop-name.invariant.others in
+    record {
+      served = λ square holds.
+          served_on (AllowsNames square held.header) _ _ _ _ _ _ name c.answer_frame.result (c.loop-name.invariant.served square holds) c.in-Request.ensures.0
+          (c.in-Ok.found, record { complete = c.in-Ok.ensures.complete; shares = c.in-Ok.ensures.shares square holds }, c.answer_frame.ensures.value)
+          c.in-Done.ensures.ends.leaves;
+      named = named.1;
+      others = others.1;
+      told = (λ s. c.give-status.ensures.ends.told.0 (c.loop-name.invariant.told.0 s), λ s. c.loop-name.invariant.told.1 (c.give-status.ensures.ends.told.1 s));
+      faults = c.in-Done.ensures.ends.faults ∙ c.loop-name.invariant.faults;
+    }
+
+pub returns-in_default : goal.returns-in_default
+returns-in_default g c = λ square holds.
+    let held = c.args.held.now in
+    let is = c.header-header.ensures.held in
+    let name = c.in-Request.name in
+    let named : AllByRecursion IsNamespace (name ∷ namespaces_in c.in-Request.after.now) = subst (AllByRecursion IsNamespace) c.in-Request.ensures.0 c.loop-name.invariant.named in
+    let others : AllByRecursion (λ (n : Namespace). is_other n ≡ true) (name ∷ namespaces_in c.in-Request.after.now) =
+    subst (AllByRecursion (λ (n : Namespace). is_other n ≡ true)) c.in-Request.ensures.0 c.loop-name.invariant.others in
+    served_stopped (AllowsNames square held.header) _ _ _ _ _ _ name c.answer_frame.result _ _ _ (c.loop-name.invariant.served square holds) c.in-Request.ensures.0
+    (c.in-Ok.found, record { complete = c.in-Ok.ensures.complete; shares = c.in-Ok.ensures.shares square holds }, c.answer_frame.ensures.value)
+    (have_names held square holds (λ n. c.serve_laws.ensures.complete held n is) (λ n. c.serve_laws.ensures.shares held square n is holds)
+    (λ n is_named other. c.wire_laws.ensures.names n (answer_for held n) is_named (c.serve_laws.ensures.entries held n is is_named)
+    (complete_short held n (answer_for held n) is (c.serve_laws.ensures.complete held n is is_named other))) _ named.1 others.1)
+    (λ s. c.give-status.ensures.ends.told.0 (c.loop-name.invariant.told.0 s), λ s. c.loop-name.invariant.told.1 (c.give-status.ensures.ends.told.1 s))
+    _ c.loop-name.invariant.faults c.answer_frame.ensures.spelled _ c.give-status.result c.in_default.not-Done c.give-status.ensures.ends
+
+-- a complete answer is short enough to be written
+pub answer_frame-requires : goal.answer_frame-requires
+answer_frame-requires g c =
+    complete_short c.args.held.now c.in-Request.name c.in-Ok.found c.header-header.ensures.held c.in-Ok.ensures.complete

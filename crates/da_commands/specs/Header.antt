@@ -1,0 +1,31 @@
+-- header SQUARE: the header of a square (a data availability header).
+use Rattle.std.specs.Prelude.{◌⊎◌, ℕ, List, [], ◌∷◌, MatchResult}
+use Rattle.std.specs.declared.option.Option.{Option}
+use Rattle.data_header.specs.Headers.{Roots}
+use Rattle.square_layout.specs.Blocks.{SquareShares}
+use Rattle.axis_roots.specs.Grids.{IsHeaderOf, HasNoHeader}
+use Rattle.da_wire.specs.declared.frames.Frame.TheVariants.{Header}
+use Rattle.da_status.specs.declared.status.Asked.TheVariants.{NoHeader}
+use Rattle.da_status.specs.declared.status.Status.TheVariants.{BadRequest}
+use Rattle.da_commands.specs.Contents.{file_of}
+use Rattle.da_status.specs.Outcome.{Relation, Refuses}
+use Rattle.da_commands.specs.Frames.{square_in, error_of, Writes}
+
+-- SQUARE, the one file of header
+abbrev pub square_file : List (List ℕ) → List ℕ
+square_file files = file_of files 0
+
+-- what header answers to a square: the frame of its header, or the refusal of a square that has none
+abbrev pub Heads : SquareShares → Relation
+Heads square w status =
+    ((header : Roots) × IsHeaderOf header square × Writes (Header header) w status)
+    ⊎ (HasNoHeader square × Refuses (BadRequest NoHeader) w status)
+
+-- SQUARE is a square and nothing else
+abbrev pub header_judged : List (List ℕ) → List (Option ℕ)
+header_judged files = error_of (square_in (square_file files)) ∷ []
+
+-- what header answers to a SQUARE that is a square
+abbrev pub HeaderOf : List (List ℕ) → Relation
+HeaderOf files w status =
+    MatchResult (square_in (square_file files)) (λ square. Heads square w status) (λ at. ⊥)

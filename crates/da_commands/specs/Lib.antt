@@ -1,0 +1,16 @@
+pub mod Contents
+pub mod Frames
+pub mod Check
+pub mod Build
+pub mod Header
+pub mod Choices
+pub mod Serving
+pub mod Sample
+pub mod Namespace
+pub mod Verify
+pub mod Repair
+pub mod Light
+pub mod Net
+pub mod Show
+pub mod Demo
+pub mod Meaning

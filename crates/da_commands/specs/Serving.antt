@@ -1,0 +1,56 @@
+-- Commands that answer requests over a square: their frames are a choice, and the first request that has no answer is
+-- refused.
+use Rattle.std.specs.Prelude.{◌≡◌, ◌⊎◌, ℕ, ◌+◌, ◌<◌, List, [], ◌∷◌, length, Bool, Option, Some, None, if◌then◌else◌, MatchOption}
+use Rattle.data_header.specs.Headers.{Roots}
+use Rattle.square_layout.specs.Blocks.{SquareShares}
+use Rattle.axis_roots.specs.Grids.{IsHeaderOf, HasNoHeader}
+use Rattle.da_wire.specs.declared.frames.Frame.{Frame}
+use Rattle.da_status.specs.declared.status.Asked.TheVariants.{NoHeader, At}
+use Rattle.da_status.specs.declared.status.Status.TheVariants.{Done, BadRequest}
+use Rattle.da_commands.specs.declared.serving.Next.{Next}
+use Rattle.da_commands.specs.Contents.{file_of}
+use Rattle.da_commands.specs.Choices.{FramesOf}
+use Rattle.da_status.specs.Outcome.{Relation, Refuses}
+
+-- SQUARE, the first file of sample and of namespace
+abbrev pub square_file : List (List ℕ) → List ℕ
+square_file files = file_of files 0
+
+-- REQUESTS, the second one
+abbrev pub requests_file : List (List ℕ) → List ℕ
+requests_file files = file_of files 1
+
+-- there is a first request
+abbrev pub HasRequest : {A : Type 0} → List A → Type 0
+HasRequest {A} requests = (request : A) × (later : List A) × (requests ≡ request ∷ later)
+
+-- what stands at the front of the requests in bytes: a request and the bytes after it, or that memory ran out in
+-- place of a request alone
+abbrev pub IsNext : {A : Type 0} → (List ℕ → List A) → List ℕ → Next A → Type 0
+IsNext requests_in bytes (Next.Request request after) =
+    (requests_in bytes ≡ request ∷ requests_in after.now) × (length after.now < length bytes)
+IsNext requests_in bytes Next.End = requests_in bytes ≡ []
+IsNext requests_in bytes Next.NoMemory = HasRequest (requests_in bytes)
+
+-- the number of the first request that fails a test; the first one has this number
+unfoldable pub failing_from : {A : Type 0} → (A → Bool) → ℕ → List A → Option ℕ
+failing_from test number [] = None
+failing_from test number (request ∷ requests) =
+    if test request then failing_from test (number + 1) requests else Some number
+
+-- for each request in its order a frame that it allows
+abbrev pub Gives : {A : Type 0} → (A → Frame → Type 0) → List A → Relation
+Gives Allows requests w status = FramesOf Allows requests w × (status ≡ Done)
+
+-- what is written for requests under the header of the square: for each in its order a frame that it allows, where
+-- all pass the test; else the first that doesn't is refused
+abbrev pub Answers : {A : Type 0} → (A → Bool) → (A → Frame → Type 0) → List A → Relation
+Answers test Allows requests w status =
+    MatchOption (failing_from test 0 requests) (Gives Allows requests w status)
+    (λ i. Refuses (BadRequest (At i)) w status)
+
+-- what is answered to requests over a square: that under its header, or the refusal of a square that has none
+abbrev pub Serves : {A : Type 0} → SquareShares → (A → Bool) → (Roots → A → Frame → Type 0) → List A → Relation
+Serves square test Allows requests w status =
+    ((header : Roots) × IsHeaderOf header square × Answers test (Allows header) requests w status)
+    ⊎ (HasNoHeader square × Refuses (BadRequest NoHeader) w status)

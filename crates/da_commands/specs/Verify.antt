@@ -1,0 +1,108 @@
+-- verify HEADER ANSWER: whether one answer holds under a header.
+use Rattle.std.specs.Prelude.{◌≡◌, ◌⊎◌, ℕ, List, [], ◌∷◌, ◌++◌, codes, decimal, Some, None, Result, MatchResult, ⊤}
+use Rattle.std.specs.declared.option.Option.{Option}
+use Rattle.std.specs.Option.{option_map, option_map_or}
+use Rattle.data_header.specs.Headers.{Roots}
+use Rattle.square_layout.specs.Blocks.{SquareShares}
+use Rattle.axis_roots.specs.declared.message.messages.CheckRefusal.{CheckRefusal}
+use Rattle.axis_roots.specs.declared.message.messages.CheckRefusal.TheVariants.{OutOfSquare, NodeCount, Unordered, OtherRoot}
+use Rattle.axis_roots.specs.Messages.{message_refusal}
+use Rattle.axis_roots.specs.Own.{ShowsOwn, NamesClash}
+use Rattle.axis_roots.specs.Claims.{ClaimNames}
+use Rattle.square_serve.specs.declared.checking.NsRefusal.{NsRefusal}
+use Rattle.square_serve.specs.declared.checking.NsRefusal.TheVariants as ns
+use Rattle.square_serve.specs.Answers.{answer_refusal}
+use Rattle.square_serve.specs.Own.{ShowsAll, AnswerNames}
+use Rattle.befp_verify.specs.declared.verifying.FraudRefusal.{FraudRefusal}
+use Rattle.befp_verify.specs.declared.verifying.FraudRefusal.TheVariants as fraud
+use Rattle.befp_verify.specs.Refusals.{HasCause}
+use Rattle.da_wire.specs.declared.frames.Frame.{Frame}
+use Rattle.da_wire.specs.declared.frames.Frame.TheVariants.{Message, Names, Fraud}
+use Rattle.da_wire.specs.Spelling.{message_kind, names_kind, fraud_kind}
+use Rattle.da_wire.specs.Reading.{only_of}
+use Rattle.da_status.specs.declared.status.Status.{Status}
+use Rattle.da_status.specs.declared.status.Status.TheVariants.{Done, Refused}
+use Rattle.da_commands.specs.Contents.{file_of}
+use Rattle.da_commands.specs.Frames.{header_in, single, error_of}
+use Rattle.da_status.specs.Outcome.{Relation}
+
+-- ---- ANSWER
+
+-- the number of the check that refuses a message
+abbrev pub check_number : CheckRefusal → ℕ
+check_number OutOfSquare = 1
+check_number NodeCount = 2
+check_number Unordered = 3
+check_number OtherRoot = 4
+
+-- the number of the check that refuses a namespace answer
+abbrev pub ns_number : NsRefusal → ℕ
+ns_number ns.Parity = 1
+ns_number (ns.Rows i) = 2
+ns_number (ns.Proof i why) = 3
+
+-- the number of the check that refuses a fraud claim
+abbrev pub fraud_number : FraudRefusal → ℕ
+fraud_number fraud.Shape = 1
+fraud_number (fraud.Cell i why) = 2
+fraud_number fraud.AxisMatches = 3
+
+-- an answer is refused by the check of this number, or by none where it holds; frames of other kinds are no answers, and
+-- none comes here
+abbrev pub IsRefusal : Roots → Frame → Option ℕ → Type 0
+IsRefusal header (Message m) refusal = refusal ≡ option_map check_number (message_refusal header m)
+IsRefusal header (Names name answer) refusal = refusal ≡ option_map ns_number (answer_refusal header name answer)
+IsRefusal header (Fraud claim) refusal =
+    (why : Option FraudRefusal) × HasCause header claim why × (refusal ≡ option_map fraud_number why)
+IsRefusal header frame refusal = refusal ≡ None
+
+-- a message shows the square's own share, a namespace answer just the square's shares of the namespace; or they and
+-- the square name a collision; a fraud claim and the square name one; nothing is said of other frames
+abbrev pub IsOwnReply : Frame → SquareShares → Type 0
+IsOwnReply (Message m) square = ShowsOwn m square ⊎ NamesClash m square
+IsOwnReply (Names name answer) square = ShowsAll name square answer ⊎ AnswerNames name square answer
+IsOwnReply (Fraud claim) square = ClaimNames claim square
+IsOwnReply frame square = ⊤
+
+-- the line for an answer, by the number of its refusal
+abbrev pub verdict_line : Option ℕ → List ℕ
+verdict_line refusal = option_map_or (λ number. codes "refused " ++ decimal number ++ codes "\n") refusal (codes "ok\n")
+
+-- the status for an answer
+abbrev pub verdict_status : Option ℕ → Status
+verdict_status refusal = option_map_or (λ number. Refused) refusal Done
+
+-- the kinds of answers
+abbrev pub answer_kinds : List ℕ
+answer_kinds = message_kind ∷ names_kind ∷ fraud_kind ∷ []
+
+-- the answer that a file is, or where it stops being one
+abbrev pub answer_in : List ℕ → Result Frame ℕ
+answer_in bytes = single Some (only_of bytes answer_kinds)
+
+-- ---- the command
+
+-- HEADER, the first file of verify
+abbrev pub header_file : List (List ℕ) → List ℕ
+header_file files = file_of files 0
+
+-- ANSWER, the second file of verify
+abbrev pub answer_file : List (List ℕ) → List ℕ
+answer_file files = file_of files 1
+
+-- HEADER is a header and nothing else, and ANSWER one message, one namespace answer or one fraud claim and nothing
+-- else
+abbrev pub verify_judged : List (List ℕ) → List (Option ℕ)
+verify_judged files = error_of (header_in (header_file files)) ∷ error_of (answer_in (answer_file files)) ∷ []
+
+-- the line and the status of an answer under a header
+abbrev pub Verifies : Roots → Frame → Relation
+Verifies header answer w status =
+    (refusal : Option ℕ) × IsRefusal header answer refusal × (w ≡ verdict_line refusal) × (status ≡ verdict_status refusal)
+
+-- what verify answers to a HEADER and an ANSWER in their forms
+abbrev pub VerifyOf : List (List ℕ) → Relation
+VerifyOf files w status =
+    MatchResult (header_in (header_file files))
+    (λ header. MatchResult (answer_in (answer_file files)) (λ answer. Verifies header answer w status) (λ at. ⊥))
+    (λ at. ⊥)

@@ -1,0 +1,110 @@
+//! check HEADER MESSAGES: which messages of a list of frames are proved under a header.
+
+ghost use Rattle.std.specs.Prelude.{◌≡◌};
+ghost use Rattle.da_wire.specs.Reading.{raw_seen};
+ghost use Rattle.da_wire.specs.Frames.{frames_of};
+ghost use Rattle.da_commands.specs.declared.command.Command.TheVariants.{Check};
+ghost use Rattle.da_commands.specs.Contents.{contents_of};
+ghost use Rattle.da_commands.specs.Check.{finding_of, line_of, is_ok, Lists};
+ghost use Rattle.da_commands.specs.Meaning.{Meaning};
+ghost use Rattle.da_status.specs.Outcome.{Ends};
+
+use crate::contents::file;
+use crate::frames::{Unread, header_in};
+use axis_roots::{CheckRefusal, opens};
+use da_io::{Sink, write_all};
+use da_status::Status;
+use da_wire::{RawFrame, bad_frame, message, next_frame};
+use data_header::Header;
+use std::alloc::Global;
+
+/// The places of the files among the words that name files.
+const HEADER: u32 = 0;
+
+const MESSAGES: u32 = 1;
+
+/// What `check` finds of a frame.
+#[derive(Clone, Copy)]
+pub enum Finding {
+    /// It is a message that is proved.
+    Proved,
+    /// It is no message of the grammar.
+    NoMessage,
+    /// It is a message that the first check which fails refuses.
+    Refused(CheckRefusal),
+}
+
+/// What is found of a frame under a header.
+fn finding_of(header: &Header, frame: RawFrame<'_>) -> Finding
+    ensures { result ≡ finding_of header.now (raw_seen frame.entry) }
+{
+    if frame.kind != b'M' {
+        return Finding::NoMessage;
+    }
+    let Some(message) = message(frame.payload) else {
+        return Finding::NoMessage;
+    };
+    match opens(header, &message) {
+        Ok(()) => Finding::Proved,
+        Err(why) => Finding::Refused(why),
+    }
+}
+
+/// The line for what is found of a frame.
+fn line_of(finding: Finding) -> &'static [u8]
+    ensures { result.now ≡ line_of finding }
+{
+    match finding {
+        Finding::Proved => b"ok\n",
+        Finding::NoMessage => b"refused 0\n",
+        Finding::Refused(CheckRefusal::OutOfSquare) => b"refused 1\n",
+        Finding::Refused(CheckRefusal::NodeCount) => b"refused 2\n",
+        Finding::Refused(CheckRefusal::Unordered) => b"refused 3\n",
+        Finding::Refused(CheckRefusal::OtherRoot) => b"refused 4\n",
+    }
+}
+
+fn is_ok(finding: Finding) -> bool
+    ensures { result ≡ is_ok finding }
+{
+    matches!(finding, Finding::Proved)
+}
+
+/// Writes the line of each frame, one at a time. It takes no memory.
+fn list<O: Sink>(header: &Header, messages: &[u8], out: &mut O) -> Status
+    ensures { Ends (Lists header.now (frames_of messages.now)) (O.taken out.old) (O.taken out.new)
+        (O.faults out.old) (O.faults out.new) (out.new ≡ out.old) result }
+{
+    let mut rest = messages;
+    let mut all_ok = true;
+    while let Some((frame, after)) = next_frame(rest) {
+        let finding = finding_of(header, frame);
+        let Ok(()) = write_all(out, line_of(finding)) else {
+            return Status::WriteFault;
+        };
+        all_ok &= is_ok(finding);
+        rest = after;
+    }
+    if all_ok {
+        Status::Done
+    } else {
+        Status::Refused
+    }
+}
+
+/// Answers to the messages in MESSAGES under the header in HEADER.
+pub(crate) fn execute<O: Sink>(alloc: Global, files: &[Vec<u8>], out: &mut O) -> Status
+    ensures { Ends (Meaning Check (contents_of files.now)) (O.taken out.old) (O.taken out.new)
+        (O.faults out.old) (O.faults out.new) (out.new ≡ out.old) result }
+{
+    let header = match header_in(alloc, file(files, HEADER)) {
+        Ok(header) => header,
+        Err(Unread::BadForm(at)) => return Status::BadInput(HEADER, at),
+        Err(Unread::NoMemory) => return Status::NoMemory,
+    };
+    let messages = file(files, MESSAGES);
+    if let Some(at) = bad_frame(messages) {
+        return Status::BadInput(MESSAGES, at);
+    }
+    list(&header, messages, out)
+}

@@ -1,0 +1,70 @@
+//! A command, and running it.
+
+ghost use Rattle.std.specs.Prelude.{◌≡◌, ◌≢◌};
+ghost use Rattle.da_commands.specs.declared.command.Command.TheVariants as CommandOf;
+ghost use Rattle.da_commands.specs.Contents.{contents_of};
+ghost use Rattle.da_status.specs.declared.status.Status.TheVariants.{NoMemory};
+ghost use Rattle.da_commands.specs.Meaning.{Meaning, TakesFirst, IsRunnable};
+ghost use Rattle.da_status.specs.Outcome.{Ends};
+
+use crate::{build, check, demo, header, light, namespace, net, sample, show, verify};
+use da_io::Sink;
+use da_status::Status;
+use std::alloc::Global;
+
+/// A command with its values.
+#[derive(Clone, Copy, Debug, PartialEq, Eq)]
+pub enum Command {
+    /// `check HEADER MESSAGES`
+    Check,
+    /// `build BLOCK`
+    Build,
+    /// `header SQUARE`
+    Header,
+    /// `sample SQUARE REQUESTS`
+    Sample,
+    /// `namespace SQUARE REQUESTS`
+    Namespace,
+    /// `verify HEADER ANSWER`
+    Verify,
+    /// `repair HEADER MESSAGES`
+    Repair,
+    /// `light HEADER MESSAGES KEY COUNT`, with the key of the draws and how many there are
+    Light([u8; 32], u32),
+    /// `net HEADER MESSAGES SCRIPT`
+    Net,
+    /// `show FILE`
+    Show,
+    /// `json FILE`
+    Json,
+    /// `demo NUMBER WIDTH`, with both numbers
+    Demo(u64, u16),
+}
+
+/// Runs a command over the contents of its files, which stand in the order of the words that name them.
+/// `repair` isn't one of these: its second file is streamed.
+///
+/// The files are judged in their order, then what they ask for; then comes the output. A file that isn't
+/// there is as one that is empty. Want of memory may be answered at any step.
+pub fn execute<O: Sink>(alloc: Global, command: Command, files: &[Vec<u8>], out: &mut O) -> Status
+    requires runnable { IsRunnable command }
+    requires gathered { command ≢ CommandOf.Repair }
+    ensures ends { Ends (Meaning command (contents_of files.now)) (O.taken out.old) (O.taken out.new)
+        (O.faults out.old) (O.faults out.new) (out.new ≡ out.old) result }
+    ensures late { TakesFirst command → result ≡ NoMemory → out.new ≡ out.old }
+{
+    match command {
+        Command::Check => check::execute(alloc, files, out),
+        Command::Build => build::execute(alloc, files, out),
+        Command::Header => header::execute(alloc, files, out),
+        Command::Sample => sample::execute(alloc, files, out),
+        Command::Namespace => namespace::execute(alloc, files, out),
+        Command::Verify => verify::execute(alloc, files, out),
+        Command::Repair => unreachable!(),
+        Command::Light(key, count) => light::execute(alloc, files, &key, count, out),
+        Command::Net => net::execute(alloc, files, out),
+        Command::Show => show::show(alloc, files, out),
+        Command::Json => show::json(alloc, files, out),
+        Command::Demo(number, k) => demo::execute(alloc, number, k, out),
+    }
+}

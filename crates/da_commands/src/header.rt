@@ -1,0 +1,65 @@
+//! header SQUARE: the header of a square (a data availability header).
+
+ghost use Rattle.std.specs.Prelude.{◌≡◌, IsSome};
+ghost use Rattle.da_wire.specs.Spelling.{spelling};
+ghost use Rattle.da_wire.specs.declared.frames.Frame.TheVariants as FrameOf;
+ghost use Rattle.da_commands.specs.declared.command.Command.TheVariants as CommandOf;
+ghost use Rattle.da_commands.specs.Contents.{contents_of};
+ghost use Rattle.da_commands.specs.Header.{Heads};
+ghost use Rattle.da_commands.specs.Meaning.{Meaning};
+ghost use Rattle.da_status.specs.Outcome.{EndsAtOnce};
+
+use crate::contents::file;
+use crate::frames::{Unread, give, square_in};
+use axis_roots::{Grid, grid_laws, header_of};
+use da_io::Sink;
+use da_status::{Asked, Status};
+use da_wire::{Frame, wire_laws};
+use data_header::Header;
+use namespace_id::digests_law;
+use square_layout::Square;
+use std::alloc::Global;
+
+/// The place of the file among the words that name files.
+const SQUARE: u32 = 0;
+
+/// The frame of a header.
+fn header_frame(header: Header) -> Frame
+    ensures value { result ≡ FrameOf.Header header }
+    ensures spelled { IsSome (spelling result) }
+{
+    wire_laws();
+    digests_law(&header.rows);
+    digests_law(&header.cols);
+    let _k = header.k;
+    Frame::Header(header)
+}
+
+/// Writes the header of a square, if it has one. All memory is taken before the write.
+fn give_header<O: Sink>(alloc: Global, square: &Square, out: &mut O) -> Status
+    ensures { EndsAtOnce (Heads square.now) (O.taken out.old) (O.taken out.new) (O.faults out.old)
+        (O.faults out.new) (out.new ≡ out.old) result }
+{
+    grid_laws();
+    let _k = square.k;
+    let Ok(grid) = Grid::extend(alloc, square) else {
+        return Status::NoMemory;
+    };
+    match header_of(alloc, &grid) {
+        Ok(Some(header)) => give(&header_frame(header), &mut Vec::new(alloc), out),
+        Ok(None) => Status::BadRequest(Asked::NoHeader),
+        Err(_) => Status::NoMemory,
+    }
+}
+
+/// Computes the header of the square in SQUARE.
+pub(crate) fn execute<O: Sink>(alloc: Global, files: &[Vec<u8>], out: &mut O) -> Status
+    ensures { EndsAtOnce (Meaning CommandOf.Header (contents_of files.now)) (O.taken out.old)
+        (O.taken out.new) (O.faults out.old) (O.faults out.new) (out.new ≡ out.old) result }
+{
+    match square_in(alloc, file(files, SQUARE)) {
+        Ok(square) => give_header(alloc, &square, out),
+        Err(Unread::BadForm(at)) => Status::BadInput(SQUARE, at),
+        Err(Unread::NoMemory) => Status::NoMemory,
+    }
+}

@@ -1,0 +1,27 @@
+//! The commands of `da` over the contents of their files: an output and a status.
+//!
+//! A command is a file of its own here and in `specs/`, a case of `Command`, of `Meaning` and of
+//! `execute`. `frames` has what several share: files and outputs that are one frame. `repair` has
+//! what is written for a verdict, since its second file is read by the crate above.
+#![tactic(auto)]
+
+mod build;
+mod check;
+mod command;
+mod contents;
+mod demo;
+mod frames;
+mod header;
+mod light;
+mod namespace;
+mod net;
+mod repair;
+mod sample;
+mod serving;
+mod show;
+mod verify;
+
+pub use check::Finding;
+pub use command::{Command, execute};
+pub use frames::{Unread, header_in};
+pub use repair::give_verdict;

@@ -1,0 +1,107 @@
+//! show FILE, json FILE: the frames of a file as text, or as JSON.
+
+ghost use Rattle.std.specs.Prelude.{◌≡◌, IfOk};
+ghost use Rattle.std.specs.String.{string_bytes};
+ghost use Rattle.da_wire.specs.Values.{values_of};
+ghost use Rattle.da_commands.specs.Contents.{contents_of};
+ghost use Rattle.da_commands.specs.Show.{all_kinds, shown_as, line_of, Shows, show_judged, shown_file, ShowOf, JsonOf};
+ghost use Rattle.da_status.specs.Judging.{Judged};
+ghost use Rattle.da_status.specs.Outcome.{Ends};
+
+use crate::contents::file;
+use da_io::{Sink, write_all};
+use da_status::Status;
+use da_wire::{Frame, bad_value, next_value};
+use namespace_id::NoMemory;
+use std::alloc::Global;
+
+/// The place of the file among the words that name files.
+const FILE: u32 = 0;
+
+/// The kinds of all frames that there are.
+const KINDS: &[u8] = b"HSMNBKXQPV";
+
+/// In which form a frame is shown.
+#[derive(Clone, Copy)]
+enum Form {
+    Text,
+    Json,
+}
+
+/// What is shown of a frame.
+fn shown(alloc: Global, form: Form, frame: &Frame) -> Result<String, NoMemory>
+    ensures { IfOk result (λ text. string_bytes text ≡ shown_as form frame.now) }
+{
+    match form {
+        Form::Text => da_show::show(alloc, frame),
+        Form::Json => da_show::show_json(alloc, frame),
+    }
+}
+
+/// What is shown of a frame, ended by a line feed.
+fn line(alloc: Global, form: Form, frame: &Frame) -> Result<String, NoMemory>
+    ensures { IfOk result (λ text. string_bytes text ≡ line_of (shown_as form) frame.now) }
+{
+    let mut text = shown(alloc, form, frame)?;
+    match text.push('\n') {
+        Ok(()) => Ok(text),
+        Err(_) => Err(NoMemory),
+    }
+}
+
+/// Writes what is shown of each frame, one at a time. The bytes are a list of frames.
+fn list<O: Sink>(alloc: Global, form: Form, frames: &[u8], out: &mut O) -> Status
+    ensures { Ends (Shows (shown_as form) (values_of all_kinds frames.now)) (O.taken out.old)
+        (O.taken out.new) (O.faults out.old) (O.faults out.new) (out.new ≡ out.old) result }
+{
+    let mut rest = frames;
+    loop {
+        let Ok(found) = next_value(alloc, rest, KINDS) else {
+            return Status::NoMemory;
+        };
+        let Some((frame, after)) = found else {
+            return Status::Done;
+        };
+        let shown = line(alloc, form, &frame);
+        drop(frame);
+        let Ok(text) = shown else {
+            return Status::NoMemory;
+        };
+        let Ok(()) = write_all(out, text.as_bytes()) else {
+            return Status::WriteFault;
+        };
+        rest = after;
+    }
+}
+
+/// Shows the frames in FILE, which is judged before the first line.
+fn judge<O: Sink>(alloc: Global, form: Form, files: &[Vec<u8>], out: &mut O) -> Status
+    ensures { Ends (Judged (show_judged (contents_of files.now))
+        (Shows (shown_as form) (values_of all_kinds (shown_file (contents_of files.now)))))
+        (O.taken out.old) (O.taken out.new) (O.faults out.old) (O.faults out.new)
+        (out.new ≡ out.old) result }
+{
+    let frames = file(files, FILE);
+    if let Some(at) = bad_value(frames, KINDS) {
+        return Status::BadInput(FILE, at);
+    }
+    list(alloc, form, frames, out)
+}
+
+/// Answers the text of each frame in FILE.
+pub(crate) fn show<O: Sink>(alloc: Global, files: &[Vec<u8>], out: &mut O) -> Status
+    ensures { Ends (Judged (show_judged (contents_of files.now)) (ShowOf (contents_of files.now)))
+        (O.taken out.old) (O.taken out.new) (O.faults out.old) (O.faults out.new)
+        (out.new ≡ out.old) result }
+{
+    judge(alloc, Form::Text, files, out)
+}
+
+/// Answers the JSON of each frame in FILE.
+pub(crate) fn json<O: Sink>(alloc: Global, files: &[Vec<u8>], out: &mut O) -> Status
+    ensures { Ends (Judged (show_judged (contents_of files.now)) (JsonOf (contents_of files.now)))
+        (O.taken out.old) (O.taken out.new) (O.faults out.old) (O.faults out.new)
+        (out.new ≡ out.old) result }
+{
+    judge(alloc, Form::Json, files, out)
+}

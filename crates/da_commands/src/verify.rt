@@ -1,0 +1,156 @@
+//! verify HEADER ANSWER: whether one answer holds under a header.
+
+ghost use Rattle.std.specs.Prelude.{◌≡◌, IfOk};
+ghost use Rattle.da_wire.specs.declared.frames.Frame.TheVariants as FrameOf;
+ghost use Rattle.da_commands.specs.declared.command.Command.TheVariants as CommandOf;
+ghost use Rattle.da_commands.specs.Contents.{contents_of};
+ghost use Rattle.da_commands.specs.Frames.{ReadsSingle};
+ghost use Rattle.da_commands.specs.Verify.{check_number, ns_number, fraud_number, IsRefusal, verdict_line, answer_in, Verifies};
+ghost use Rattle.da_commands.specs.Meaning.{Meaning};
+ghost use Rattle.da_status.specs.Outcome.{Ends};
+
+use crate::contents::file;
+use crate::frames::{Unread, header_in, reason};
+use axis_roots::{CheckRefusal, FraudClaim, opens};
+use befp_verify::{FraudRefusal, VerifyRoom};
+use da_io::{Sink, write_all};
+use da_status::{Line, Status, around};
+use da_wire::{Frame, read_only};
+use data_header::Header;
+use namespace_id::NoMemory;
+use square_serve::{NsRefusal, check_namespace};
+use std::alloc::Global;
+
+/// The places of the files among the words that name files.
+const HEADER: u32 = 0;
+
+const ANSWER: u32 = 1;
+
+/// The answer that a file is.
+fn answer_in(alloc: Global, bytes: &[u8]) -> Result<Frame, Unread>
+    ensures { ReadsSingle result (answer_in bytes.now) }
+{
+    match read_only(alloc, bytes, b"MNB") {
+        Ok(frame) => Ok(frame),
+        Err(error) => Err(reason(error)),
+    }
+}
+
+/// The number of the check that refuses a message.
+fn check_number(why: CheckRefusal) -> u64
+    ensures { result ≡ check_number why }
+{
+    match why {
+        CheckRefusal::OutOfSquare => 1,
+        CheckRefusal::NodeCount => 2,
+        CheckRefusal::Unordered => 3,
+        CheckRefusal::OtherRoot => 4,
+    }
+}
+
+/// The number of the check that refuses a namespace answer.
+fn ns_number(why: NsRefusal) -> u64
+    ensures { result ≡ ns_number why }
+{
+    match why {
+        NsRefusal::Parity => 1,
+        NsRefusal::Rows(_) => 2,
+        NsRefusal::Proof(..) => 3,
+    }
+}
+
+/// The number of the check that refuses a fraud claim.
+fn fraud_number(why: FraudRefusal) -> u64
+    ensures { result ≡ fraud_number why }
+{
+    match why {
+        FraudRefusal::Shape => 1,
+        FraudRefusal::Cell(..) => 2,
+        FraudRefusal::AxisMatches => 3,
+    }
+}
+
+/// The number of the check that refuses a fraud claim, none of one that is accepted. It takes the
+/// memory that verifying needs.
+fn refuse_claim(alloc: Global, header: &Header, claim: FraudClaim) -> Result<Option<u64>, NoMemory>
+    ensures { IfOk result (λ refusal. IsRefusal header.now (FrameOf.Fraud claim) refusal) }
+{
+    let mut room = VerifyRoom::new(alloc, header.k)?;
+    match befp_verify::verify(&mut room, header, claim) {
+        Ok(upheld) => {
+            let _claim = upheld.into_claim();
+            Ok(None)
+        }
+        Err(refused) => Ok(Some(fraud_number(refused.why))),
+    }
+}
+
+/// The number of the check that refuses an answer, none of one that holds. It takes memory for a
+/// fraud claim alone.
+fn refusal_of(alloc: Global, header: &Header, answer: Frame) -> Result<Option<u64>, NoMemory>
+    ensures { IfOk result (λ refusal. IsRefusal header.now answer refusal) }
+{
+    match answer {
+        Frame::Message(message) => match opens(header, &message) {
+            Ok(()) => Ok(None),
+            Err(why) => Ok(Some(check_number(why))),
+        },
+        Frame::Names(name, answer) => match check_namespace(header, &name, &answer) {
+            Ok(()) => Ok(None),
+            Err(why) => Ok(Some(ns_number(why))),
+        },
+        Frame::Fraud(claim) => refuse_claim(alloc, header, claim),
+        // Never taken: the kind was asked for. The type of a frame has the other kinds too.
+        _ => Ok(None),
+    }
+}
+
+/// The line for an answer.
+#[tactic(auto, using(da_status::proofs::DigitLemmas::digits_fit))]
+fn verdict_line(refusal: Option<u64>) -> Line
+    ensures { result ≡ verdict_line refusal }
+{
+    let mut line = Line::new();
+    match refusal {
+        Some(number) => around(&mut line, b"refused ", number, b"\n"),
+        None => line.put(b"ok\n"),
+    }
+    line
+}
+
+/// Writes the line for an answer under a header. Where there is no memory for a fraud claim nothing
+/// is written.
+fn verify<O: Sink>(alloc: Global, header: &Header, answer: Frame, out: &mut O) -> Status
+    ensures { Ends (Verifies header.now answer) (O.taken out.old) (O.taken out.new)
+        (O.faults out.old) (O.faults out.new) (out.new ≡ out.old) result }
+{
+    let Ok(refusal) = refusal_of(alloc, header, answer) else {
+        return Status::NoMemory;
+    };
+    let line = verdict_line(refusal);
+    let Ok(()) = write_all(out, line.as_bytes()) else {
+        return Status::WriteFault;
+    };
+    match refusal {
+        Some(_) => Status::Refused,
+        None => Status::Done,
+    }
+}
+
+/// Answers whether the answer in ANSWER holds under the header in HEADER.
+pub(crate) fn execute<O: Sink>(alloc: Global, files: &[Vec<u8>], out: &mut O) -> Status
+    ensures { Ends (Meaning CommandOf.Verify (contents_of files.now)) (O.taken out.old)
+        (O.taken out.new) (O.faults out.old) (O.faults out.new) (out.new ≡ out.old) result }
+{
+    let header = match header_in(alloc, file(files, HEADER)) {
+        Ok(header) => header,
+        Err(Unread::BadForm(at)) => return Status::BadInput(HEADER, at),
+        Err(Unread::NoMemory) => return Status::NoMemory,
+    };
+    let answer = match answer_in(alloc, file(files, ANSWER)) {
+        Ok(answer) => answer,
+        Err(Unread::BadForm(at)) => return Status::BadInput(ANSWER, at),
+        Err(Unread::NoMemory) => return Status::NoMemory,
+    };
+    verify(alloc, &header, answer, out)
+}

@@ -1,0 +1,4 @@
+pub mod Statuses
+pub mod Outcome
+pub mod Judging
+pub mod Notes

@@ -1,0 +1,67 @@
+-- The line that goes with a status.
+use Rattle.std.specs.Prelude.{◌≡◌, ℕ, List, [], ◌++◌, codes, decimal, ◌⊎◌, ◌↔◌, IsSome}
+use Rattle.std.specs.declared.option.Option.{Option}
+use Rattle.std.specs.Io.KnownBytes.{Appends}
+use Rattle.da_io.specs.Faults.{count_on}
+use Rattle.da_io.specs.Sinks.{AppendsPart}
+use Rattle.namespace_id.specs.declared.namespaces.NsError.{NsError}
+use Rattle.namespace_id.specs.declared.namespaces.NsError.TheVariants.{Length, Version, Prefix, Reserved}
+use Rattle.namespace_id.specs.declared.cells.Axis.{Axis}
+use Rattle.namespace_id.specs.declared.cells.Axis.TheVariants.{Row, Col}
+use Rattle.square_layout.specs.declared.laying.LayError.{LayError}
+use Rattle.square_layout.specs.declared.laying.LayError.TheVariants as lay
+use Rattle.da_status.specs.declared.status.Asked.{Asked}
+use Rattle.da_status.specs.declared.status.Asked.TheVariants.{NoHeader, At, Count, Nodes}
+use Rattle.da_status.specs.declared.status.Status.{Status}
+use Rattle.da_status.specs.declared.status.Status.TheVariants.{Done, Usage, PickFault, ReadFault, WriteFault, NoMemory, BadInput, TooLong, BadBlock, BadRequest, Fraud, Missing, Clash, Refused, Waiting}
+
+-- the numbers of the refusals of a namespace
+abbrev pub refusal_number : NsError → ℕ
+refusal_number Length = 1
+refusal_number Version = 2
+refusal_number Prefix = 3
+refusal_number Reserved = 4
+
+-- why a block can't be laid out: the number of the refusal, and what it tells
+abbrev pub block_note : LayError → List ℕ
+block_note (lay.BadBlob i why) = codes "1 " ++ decimal i ++ codes " " ++ decimal (refusal_number why)
+block_note (lay.EmptyBlob i) = codes "2 " ++ decimal i
+block_note (lay.TooLarge needed) = codes "3 " ++ decimal needed
+block_note (lay.WidthTooSmall needed) = codes "4 " ++ decimal needed
+block_note lay.BadWidth = codes "5"
+block_note lay.NoMemory = codes "6"
+
+-- why what the files ask for can't be answered, in words
+abbrev pub request_note : Asked → List ℕ
+request_note NoHeader = codes "no header"
+request_note (At i) = decimal i
+request_note Count = codes "count"
+request_note Nodes = codes "nodes"
+
+-- the kind of an axis, in a word
+abbrev pub axis_note : Axis → List ℕ
+axis_note Row = codes "row "
+axis_note Col = codes "col "
+
+-- the line of a status
+abbrev pub note_of : Status → List ℕ
+note_of Done = []
+note_of Usage = codes "usage: da COMMAND WORDS\n"
+note_of (PickFault i) = codes "cannot open file " ++ decimal i ++ codes "\n"
+note_of (ReadFault i) = codes "cannot read file " ++ decimal i ++ codes "\n"
+note_of WriteFault = codes "cannot write\n"
+note_of NoMemory = codes "out of memory\n"
+note_of (BadInput i at) = codes "bad input: file " ++ decimal i ++ codes " at " ++ decimal at ++ codes "\n"
+note_of (TooLong i) = codes "too long: file " ++ decimal i ++ codes "\n"
+note_of (BadBlock why) = codes "bad block: " ++ block_note why ++ codes "\n"
+note_of (BadRequest why) = codes "bad request: " ++ request_note why ++ codes "\n"
+note_of (Fraud axis i) = codes "fraud: " ++ axis_note axis ++ decimal i ++ codes "\n"
+note_of (Missing cells lies) = codes "missing: " ++ decimal cells ++ codes " cells, " ++ decimal lies ++ codes " lies\n"
+note_of Clash = codes "clash\n"
+note_of Refused = codes "refused\n"
+note_of (Waiting cells) = codes "waiting: " ++ decimal cells ++ codes "\n"
+
+-- the line was taken, or a proper prefix of it where a write failed
+pub record Notes (text : List ℕ) (old new : Option (List ℕ)) (before now : ℕ) : Type 0 where
+  pub told : IsSome old ↔ IsSome new
+  pub taken : (Appends old new text × (now ≡ before)) ⊎ (AppendsPart old new text × (now ≡ count_on before 1))

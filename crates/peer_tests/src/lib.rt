@@ -1,0 +1,24 @@
+//! Tests of what no proof can show of frames, streams, files, light nodes and networks: the bytes of the format, reads and
+//! writes that fail, and calls that succeed where memory is ample.
+#![tactic(auto)]
+
+#[cfg(test)]
+mod files;
+#[cfg(test)]
+mod light_nodes;
+#[cfg(test)]
+mod networks;
+#[cfg(test)]
+mod payloads;
+#[cfg(test)]
+mod runs;
+#[cfg(test)]
+mod sinks;
+#[cfg(test)]
+mod spellings;
+#[cfg(test)]
+mod squares;
+#[cfg(test)]
+mod streams;
+#[cfg(test)]
+mod unspellable;

@@ -1,0 +1,44 @@
+//! Bytes that are told by runs of one value, and those that values are written as.
+
+use da_wire::{Frame, write_frame};
+use std::alloc::Global;
+use std::test::Fail;
+
+/// Some bytes, and then so many of one value.
+pub(crate) type Run = (&'static [u8], usize, u8);
+
+/// The frame of the claim against column 3 by cells (0, 3) and (1, 3), each on its row with two nodes.
+pub(crate) const CLAIM: [Run; 4] = [
+    (b"B\0\0\x05\x7a\x01\x01\0\x03\0\x02\0\0\0\x03\0", 512, 5),
+    (b"\x02", 180, 6),
+    (b"\0\x01\0\x03\0", 512, 5),
+    (b"\x02", 180, 6),
+];
+
+/// The frame of the answer of a range in row 2 and an absence in row 3.
+pub(crate) const ANSWER: [Run; 5] = [
+    (b"N\0\0\x03\xef", 29, 9),
+    (b"\0\x02\0\x02\0\0\x01\0\x01", 512, 5),
+    (b"\x02", 180, 6),
+    (b"\0\x03\x01\0\x03", 90, 8),
+    (b"\x02", 180, 6),
+];
+
+/// The bytes that runs are.
+pub(crate) fn joined(alloc: Global, runs: &[Run]) -> Result<Vec<u8>, Fail> {
+    let mut all = Vec::new(alloc);
+    for (bytes, count, byte) in runs {
+        all.extend_from_slice(bytes)?;
+        for _ in 0..*count {
+            all.push(*byte)?;
+        }
+    }
+    Ok(all)
+}
+
+/// The bytes that a value is written as.
+pub(crate) fn written(alloc: Global, value: &Frame) -> Result<Vec<u8>, Fail> {
+    let mut out = Vec::new(alloc);
+    write_frame(value, &mut out)?;
+    Ok(out)
+}

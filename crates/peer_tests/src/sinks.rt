@@ -1,0 +1,51 @@
+//! Sinks in memory and real ones, and writes that fail.
+
+use da_io::{MemSink, OutSink, Sink, WriteFailed, write_all};
+use std::fs;
+use std::io::Cursor;
+use std::test::Fail;
+
+#[test]
+fn pieces(rt: HostRuntime) -> Result<(), Fail> {
+    let alloc = rt.alloc();
+    let cases = [
+        ("whole", 10, 99, Ok(()), "0123456789"),
+        ("little room", 7, 99, Err(WriteFailed), "0123456"),
+        ("second piece fails", 10, 1, Err(WriteFailed), "012"),
+    ];
+    for (name, room, fail, want, taken) in cases {
+        let Ok(mut out) = MemSink::new(alloc, room, 3, vec![in alloc; fail]?) else {
+            return Err(Fail::new("no memory"));
+        };
+        assert_eq!(rt; write_all(&mut out, b"0123456789"), want, "{name}");
+        assert_eq!(rt; out.bytes.as_slice(), taken.as_bytes(), "{name}");
+    }
+    Ok(())
+}
+
+#[test]
+fn real_sinks(rt: HostRuntime) -> Result<(), Fail> {
+    let mut out = OutSink::new(fs::File::create(&rt, "da_io_written")?);
+    let wrote = write_all(&mut out, b"0123456789");
+    let written = fs::read_to_string(&rt, "da_io_written")?;
+    fs::remove_file(&rt, "da_io_written")?;
+    assert_eq!(rt; wrote, Ok(()));
+    assert_eq!(rt; written.as_str(), "0123456789");
+    let mut full = OutSink::new(fs::File::create(&rt, "/dev/full")?);
+    assert_eq!(rt; write_all(&mut full, b"0"), Err(WriteFailed), "full");
+    Ok(())
+}
+
+/// A stream that takes a part of a piece, and then none.
+#[test]
+fn streams_with_little_room(rt: HostRuntime) -> Result<(), Fail> {
+    let mut room = [0; 7];
+    let mut out = OutSink::new(Cursor::new(room.as_mut_slice()));
+    let part = out.write(b"0123456789");
+    let none = out.write(b"789");
+    assert_eq!(rt; part, Ok(7), "a part");
+    assert_eq!(rt; none, Err(WriteFailed), "no room");
+    drop(out);
+    assert_eq!(rt; room.as_slice(), b"0123456".as_slice());
+    Ok(())
+}

@@ -1,0 +1,105 @@
+//! Codewords of shares. Expected bytes: by a Python program with products of polynomials modulo 0x11D.
+
+use crate::inputs::share;
+use leopard_code::{Room, are_positions, extend, rebuild};
+use namespace_id::{SHARE_SIZE, Share, is_width};
+use std::alloc::Global;
+use std::process::Abort;
+
+/// Extends in a new room.
+fn extended(rt: &impl Abort, alloc: Global, originals: &[Share], recovery: &mut [Share]) {
+    let count = originals.len();
+    assert!(rt; count <= 128 && is_width(count as u16) && recovery.len() == count);
+    let mut room = Room::new(alloc, count as u16).expect(rt, "there is memory");
+    extend(&mut room, originals, recovery);
+}
+
+#[test]
+fn extensions(rt: HostRuntime) {
+    let unit = [share(0), share(0), share(0), share(1)];
+    let cases: [(&[Share], &[Share]); 6] = [
+        (&[share(7)], &[share(7)]),
+        (&unit[2..], &[share(2), share(3)]),
+        (&[share(5); 2], &[share(5); 2]),
+        (&unit[..2], &unit[..2]),
+        (&unit, &[share(9), share(11), share(14), share(13)]),
+        (&[share(6); 4], &[share(6); 4]),
+    ];
+    for (originals, want) in cases {
+        assert!(rt; want.len() <= 4);
+        let mut recovery = [share(0); 4];
+        let recovery = &mut recovery[..want.len()];
+        extended(&rt, rt.alloc(), originals, recovery);
+        assert!(rt; &*recovery == want);
+    }
+}
+
+/// Rebuilds in a new room.
+fn rebuilt(rt: &impl Abort, alloc: Global, known: &[u16], shares: &[Share], all: &mut [Share]) {
+    let count = known.len();
+    assert!(rt; count <= 128 && is_width(count as u16) && are_positions(count as u16, known));
+    assert!(rt; shares.len() == count && all.len() == 2 * count);
+    let mut room = Room::new(alloc, count as u16).expect(rt, "there is memory");
+    rebuild(&mut room, known, shares, all);
+}
+
+#[test]
+fn two_recovery_shares(rt: HostRuntime) {
+    let mut all = [share(0); 4];
+    rebuilt(&rt, rt.alloc(), &[2, 3], &[share(2), share(3)], &mut all);
+    assert!(rt; all == [share(0), share(1), share(2), share(3)]);
+}
+
+#[test]
+fn each_four_of_eight(rt: HostRuntime) {
+    let bytes = [0, 0, 0, 1, 9, 11, 14, 13];
+    let mut word = [share(0); 8];
+    for pos in 0..8 {
+        word[pos] = share(bytes[pos]);
+    }
+    for mask in 0..256_u16 {
+        let mut known = [0; 4];
+        let mut shares = [share(0); 4];
+        let mut next = 0;
+        for pos in 0..8_u16 {
+            if (mask >> pos) & 1 == 1 && next < 4 {
+                known[next] = pos;
+                shares[next] = word[pos as usize];
+                next += 1;
+            }
+        }
+        if mask.count_ones() == 4 {
+            let mut all = [share(255); 8];
+            rebuilt(&rt, rt.alloc(), &known, &shares, &mut all);
+            assert!(rt; all == word, "{mask}");
+        }
+    }
+}
+
+#[test]
+fn greatest_width(rt: HostRuntime) {
+    let mut originals = [share(0); 128];
+    for i in 0..128 {
+        for b in 0..SHARE_SIZE {
+            originals[i].0[b] = ((i * b + 7 * i + b) % 256) as u8;
+        }
+    }
+    let mut recovery = [share(0); 128];
+    extended(&rt, rt.alloc(), &originals, &mut recovery);
+    let mut known = [0; 128];
+    let mut shares = [share(0); 128];
+    for i in 0..64 {
+        known[i] = 2 * i as u16 + 1;
+        shares[i] = originals[2 * i + 1];
+        known[64 + i] = 128 + 2 * i as u16;
+        shares[64 + i] = recovery[2 * i];
+    }
+    let mut all = [share(0); 256];
+    rebuilt(&rt, rt.alloc(), &known, &shares, &mut all);
+    for i in 0..128 {
+        assert!(rt;
+            all[i] == originals[i] && all[128 + i] == recovery[i],
+            "{i}"
+        );
+    }
+}

@@ -1,0 +1,171 @@
+//! Shares that are read back, and shares that are refused, by docs/RULES.md, "Reading shares".
+
+ghost use Rattle.std.specs.Prelude.{◌<◌};
+
+use crate::inputs::version_0;
+use namespace_id::{NAMESPACE_SIZE, SHARE_SIZE, Share, TRANSACTION};
+use share_split::{JoinError, blob_shares, join_blobs, join_units};
+
+/// A share with another byte at this place.
+fn changed(share: &Share, at: usize, byte: u8) -> Share
+    requires { at < 512 }
+{
+    let mut share = *share;
+    share.0[at] = byte;
+    share
+}
+
+/// The first share of a compact sequence of length 0.
+fn no_units() -> Share {
+    let mut share = Share([0; SHARE_SIZE]);
+    share.0[..NAMESPACE_SIZE].copy_from_slice(&TRANSACTION.0);
+    share.0[29] = 1;
+    share
+}
+
+/// The shares of units of 472 and 10 bytes: the second unit begins the second share.
+fn units() -> [Share; 2] {
+    let mut first = no_units();
+    first.0[32..34].copy_from_slice(&485u16.to_be_bytes());
+    first.0[37] = 38;
+    first.0[38..40].copy_from_slice(&[0xd8, 3]);
+    first.0[40..].copy_from_slice(&[5; 472]);
+    let mut second = Share([0; SHARE_SIZE]);
+    second.0[..NAMESPACE_SIZE].copy_from_slice(&TRANSACTION.0);
+    second.0[33] = 34;
+    second.0[34] = 10;
+    second.0[35..45].copy_from_slice(&[6; 10]);
+    [first, second]
+}
+
+#[test]
+fn blobs_of_shares(rt: HostRuntime) {
+    let alloc = rt.alloc();
+    let mut shares = Vec::new(alloc);
+    blob_shares(&version_0(0x0101), &[7; 478], &mut shares).expect(&rt, "there is memory");
+    shares.push(no_units()).expect(&rt, "there is memory");
+    blob_shares(&version_0(0x0103), &[7; 479], &mut shares).expect(&rt, "there is memory");
+    let blobs = join_blobs(alloc, &shares).expect(&rt, "the shares are those of blobs");
+    assert!(rt; blobs.len() == 2);
+    let first = &blobs[0];
+    assert!(rt; first.namespace == version_0(0x0101));
+    assert!(rt; first.bytes.as_slice() == [7; 478].as_slice());
+    let second = &blobs[1];
+    assert!(rt; second.namespace == version_0(0x0103));
+    assert!(rt; second.bytes.as_slice() == [7; 479].as_slice());
+    let none = join_blobs(alloc, &[]).expect(&rt, "no shares are those of no blobs");
+    assert!(rt; none.is_empty());
+}
+
+#[test]
+fn shares_that_are_no_blobs(rt: HostRuntime) {
+    let mut shares = Vec::new(rt.alloc());
+    blob_shares(&version_0(0x0101), &[7; 479], &mut shares).expect(&rt, "there is memory");
+    assert!(rt; shares.len() == 2);
+    let first = shares[0];
+    let second = shares[1];
+    let cases: [(&str, &[Share], JoinError); 9] = [
+        ("no start", &[second], JoinError::NoStart(0)),
+        ("no end", &[first], JoinError::Short(0)),
+        (
+            "version of the first",
+            &[changed(&first, 29, 3)],
+            JoinError::BadVersion(0),
+        ),
+        (
+            "version",
+            &[first, changed(&second, 29, 4)],
+            JoinError::BadVersion(1),
+        ),
+        (
+            "first byte of the namespace",
+            &[first, changed(&second, 0, 1)],
+            JoinError::MixedNamespace(1),
+        ),
+        (
+            "last byte of the namespace",
+            &[first, changed(&second, 28, 2)],
+            JoinError::MixedNamespace(1),
+        ),
+        (
+            "another start",
+            &[first, changed(&second, 29, 1)],
+            JoinError::Short(0),
+        ),
+        (
+            "first byte of the fill",
+            &[first, changed(&second, 31, 1)],
+            JoinError::NonZeroFill(1),
+        ),
+        (
+            "last byte of the fill",
+            &[first, changed(&second, 511, 1)],
+            JoinError::NonZeroFill(1),
+        ),
+    ];
+    for (name, shares, want) in cases {
+        let got = join_blobs(rt.alloc(), shares);
+        assert!(rt; got.err() == Some(want), "{name}");
+    }
+}
+
+#[test]
+fn units_of_shares(rt: HostRuntime) {
+    let alloc = rt.alloc();
+    let read = join_units(alloc, &units()).expect(&rt, "the shares are those of units");
+    assert!(rt; read.len() == 2);
+    let first = &read[0];
+    assert!(rt; first.bytes.as_slice() == [5; 472].as_slice());
+    let second = &read[1];
+    assert!(rt; second.bytes.as_slice() == [6; 10].as_slice());
+    let none: [&[Share]; 2] = [&[], &[no_units()]];
+    for shares in none {
+        let read = join_units(alloc, shares).expect(&rt, "the shares are those of units");
+        assert!(rt; read.is_empty());
+    }
+}
+
+#[test]
+fn shares_that_are_no_units(rt: HostRuntime) {
+    let [first, second] = units();
+    let mut longer = no_units();
+    longer.0[33] = 2;
+    longer.0[37] = 38;
+    longer.0[38] = 0x80;
+    let cases: [(&str, &[Share], JoinError); 6] = [
+        (
+            "a share after the sequence",
+            &[no_units(), no_units()],
+            JoinError::NoStart(1),
+        ),
+        (
+            "reserved bytes of the first",
+            &[changed(&first, 37, 39), second],
+            JoinError::BadReserved(0),
+        ),
+        (
+            "reserved bytes of the second",
+            &[first, changed(&second, 33, 35)],
+            JoinError::BadReserved(1),
+        ),
+        (
+            "a unit past the sequence",
+            &[first, changed(&second, 34, 11)],
+            JoinError::BadVarint(1),
+        ),
+        (
+            "a byte after the units",
+            &[first, changed(&second, 45, 1)],
+            JoinError::NonZeroFill(1),
+        ),
+        (
+            "a length of no last byte",
+            &[longer],
+            JoinError::BadVarint(0),
+        ),
+    ];
+    for (name, shares, want) in cases {
+        let got = join_units(rt.alloc(), shares);
+        assert!(rt; got.err() == Some(want), "{name}");
+    }
+}
