@@ -1,0 +1,288 @@
+#!/usr/bin/env python3
+"""celestia-node's JSON to frames, and a header back. It is not proved, and was tried on no answer of a running node.
+
+    celestia.py header JSON                    the header (kind H) of an extended header, or of its `dah` alone
+    celestia.py root JSON                      an extended header's data hash, and beside it the data root of its `dah`
+    celestia.py answer NAMESPACE HEADER JSON   the namespace answer (kind N) of rows of namespace data
+    celestia.py block JSON                     a block (kind V) of a blob, or of a list of blobs
+    celestia.py dah HEADER                     the `dah` of a file of one header
+
+Statuses and notes are those of frames.py, and 13 where a data hash isn't the data root. Python 3 and its standard
+library alone. tools/README.md says more.
+"""
+
+import argparse
+import base64
+import json
+import os
+import re
+import sys
+
+sys.dont_write_bytecode = True
+import frames  # noqa: E402
+
+HASH_BYTES = 32
+SHARES_LIMIT = 128  # of a range in a frame
+NODES_LIMIT = 16  # of a range and of an absence in a frame
+
+
+class Value:
+    """A value of the JSON, with its path. What isn't in its form is a note with the path and the reason's name."""
+
+    def __init__(self, value, path=""):
+        self.value, self.path = value, path
+
+    def bad(self, text, name):
+        """The note of a value that isn't in its form."""
+        return frames.Note(6, f"bad input: {self.path or 'the JSON'}: {text} ({name})")
+
+    def typed(self, kind, called):
+        """The value, of one type of JSON."""
+        if type(self.value) is not kind:
+            raise self.bad(f"{short(self.value)} isn't {called}", "BadType")
+        return self.value
+
+    def member(self, key):
+        """The value of a key; null where the key isn't there, since Go leaves out some that are empty."""
+        return Value(self.typed(dict, "an object").get(key), f"{self.path}.{key}" if self.path else key)
+
+    def needed(self, key):
+        """The value of a key that has to be there."""
+        found = self.member(key)
+        if found.value is None:
+            raise found.bad("it isn't there", "Missing")
+        return found
+
+    def items(self, most=None):
+        """The values of a list, at most so many; null is an empty one, as Go writes it."""
+        found = [] if self.value is None else self.typed(list, "a list")
+        if most is not None and len(found) > most:
+            raise self.bad(f"{len(found)} of them, and a frame has at most {most}", "BadCount")
+        return [Value(item, f"{self.path}[{i}]") for i, item in enumerate(found)]
+
+    def number(self, least, most):
+        """A number without a fraction; null is 0, since Go leaves that out."""
+        found = 0 if self.value is None else self.typed(int, "a number without a fraction")
+        if not least <= found <= most:
+            raise self.bad(f"{found} isn't from {least} to {most}", "BadNumber")
+        return found
+
+    def bytes(self, size=None):
+        """Bytes in base64, maybe just so many; null is none, as Go writes it."""
+        data = b"" if self.value is None else base64_bytes(self.typed(str, "a text"))
+        if data is None:
+            raise self.bad(f"{short(self.value)} isn't base64", "BadBase64")
+        return self.sized(data, size)
+
+    def digits(self, size):
+        """Just so many bytes as hexadecimal digits of either case."""
+        text = self.typed(str, "a text")
+        if not re.fullmatch("([0-9a-fA-F]{2})*", text):
+            raise self.bad(f"{short(text)} isn't hexadecimal digits", "BadHex")
+        return self.sized(bytes.fromhex(text), size)
+
+    def sized(self, data, size):
+        """These bytes, where there are so many."""
+        if size is not None and len(data) != size:
+            raise self.bad(f"{len(data)} bytes, and there are to be {size}", "BadLength")
+        return data
+
+
+def short(value):
+    """A value as a note shows it."""
+    text = json.dumps(value)
+    return text if len(text) <= 40 else text[:37] + "..."
+
+
+def base64_bytes(text):
+    """The bytes of a text that is their one spelling in base64 (RFC 4648, 4), or none."""
+    try:
+        data = base64.b64decode(text, validate=True)
+    except ValueError:
+        return None
+    return data if base64_text(data) == text else None
+
+
+def base64_text(data):
+    """Bytes in base64."""
+    return base64.b64encode(data).decode()
+
+
+def answered(word):
+    """The value of a word of JSON, or its `result` where it is a whole response of the node."""
+    try:
+        value = frames.json_word(word)
+    except frames.Note as note:
+        if note.status != 1:
+            raise
+        raise Value(None).bad(note.text.removeprefix("no JSON: "), "NoJson") from None
+    if isinstance(value, dict) and value.get("error") is not None:
+        raise Value(None, "error").bad(f"the node answered {short(value['error'])}", "NodeError")
+    return Value(value["result"], "result") if isinstance(value, dict) and "result" in value else Value(value)
+
+
+# The forms. What is made of each is a value of frames.py, or the payload of a frame.
+
+
+def header_of(dah):
+    """The header of a `dah`."""
+    allowed = [2 * k for k in frames.WIDTHS]
+    roots = []
+    for key in ("row_roots", "column_roots"):
+        found = dah.needed(key)
+        roots.append([item.bytes(frames.DIGEST_BYTES) for item in found.items()])
+        if len(roots[-1]) not in allowed:
+            text = f"{len(roots[-1])} roots, and there are to be {', '.join(map(str, allowed[:-1]))} or {allowed[-1]}"
+            raise found.bad(text, "BadCount")
+    rows, cols = roots
+    if len(rows) != len(cols):
+        raise dah.bad(f"{len(rows)} row roots, and {len(cols)} column roots", "BadCount")
+    return frames.Header(len(rows) // 2, rows, cols)
+
+
+def dah_of(value):
+    """The `dah` of an extended header, or the value itself where it has the roots."""
+    return value if value.member("row_roots").value is not None else value.needed("dah")
+
+
+def data_hash(value):
+    """The data hash of an extended header, with its path."""
+    return value.needed("header").needed("data_hash")
+
+
+def spell_header(header):
+    """The payload of a header."""
+    return header.k.to_bytes(2, "big") + b"".join(header.rows + header.cols)
+
+
+def spell_row(row, value):
+    """An entry of an answer: the shares of a row with their proof, or the proof that the row has none."""
+    shares = [item.bytes(frames.SHARE_BYTES) for item in value.member("shares").items(SHARES_LIMIT)]
+    proof = value.needed("proof")
+    start, end = proof.member("start").number(0, frames.U16), proof.needed("end").number(0, frames.U16 + 1)
+    nodes = [item.bytes(frames.DIGEST_BYTES) for item in proof.member("nodes").items(NODES_LIMIT)]
+    absent = proof.member("leaf_hash").value
+    ignored = proof.member("is_max_namespace_ignored")
+    if ignored.value is not True:
+        raise ignored.bad("it isn't true, as it is in Celestia's trees", "BadValue")
+    if bool(shares) == bool(absent):
+        text = "it has both shares and a leaf hash" if absent else "it has neither shares nor a leaf hash"
+        raise value.bad(text, "BadRow")
+    if end - start != max(len(shares), 1):
+        raise proof.bad(f"from {start} to {end}, and the row shows {max(len(shares), 1)}", "BadCount")
+    if absent:
+        shown = b"\x01" + start.to_bytes(2, "big") + proof.member("leaf_hash").bytes(frames.DIGEST_BYTES)
+    else:
+        shown = b"\x00" + start.to_bytes(2, "big") + len(shares).to_bytes(2, "big") + b"".join(shares)
+    return row.to_bytes(2, "big") + shown + bytes([len(nodes)]) + b"".join(nodes)
+
+
+def spell_answer(namespace, header, value):
+    """The payload of an answer. The node doesn't say which row each part is of: they are of the rows that by the
+    header may hold the namespace, from the first down."""
+    rows = [i for i, root in enumerate(header.rows[: header.k]) if root[:29] <= namespace <= root[29:58]]
+    found = value.items()
+    if len(found) != len(rows):
+        raise value.bad(f"{len(found)} rows, and by the header {len(rows)} may hold the namespace", "BadCount")
+    entries = [spell_row(row, item) for row, item in zip(rows, found)]
+    return namespace + len(entries).to_bytes(2, "big") + b"".join(entries)
+
+
+def spell_blob(value):
+    """A blob of a block. Its commitment and its index have to be in their form, and aren't used."""
+    version = value.needed("share_version")
+    if version.number(0, 127) != 0:
+        raise version.bad(f"{version.value}, and the blobs of a frame have 0", "Unsupported")
+    value.member("signer").bytes(0)
+    value.needed("commitment").bytes(HASH_BYTES)
+    value.member("index").number(-1, 2**63 - 1)
+    namespace, data = value.needed("namespace").bytes(frames.NAMESPACE_BYTES), value.member("data").bytes()
+    return namespace + b"\x00" + len(data).to_bytes(4, "big") + data
+
+
+def namespace_of(text):
+    """A namespace from base64, as the node writes it, or from hexadecimal digits as frames.py takes them."""
+    data = base64_bytes(text)
+    if data is not None and len(data) == frames.NAMESPACE_BYTES:
+        return data
+    return frames.namespace_bytes(text.removeprefix("0x"), "NAMESPACE")
+
+
+def one_header(name):
+    """The header of a file of one header frame."""
+    return next(frames.judged(frames.read_file(name), frames.HEADER))[2]
+
+
+# The commands: each answers the pieces of its output and its status.
+
+
+def header(args):
+    """the header of an extended header, whose data hash has to be its data root, or of a `dah` alone"""
+    value = answered(args.json)
+    made = header_of(dah_of(value))
+    if value.member("header").value is not None:
+        told, found = data_hash(value), made.data_root()
+        if told.digits(HASH_BYTES) != found:
+            raise frames.Note(13, f"refused: {told.path}: the data root of the dah is {found.hex()} (OtherRoot)")
+    return [frames.frame(ord("H"), spell_header(made))], 0
+
+
+def root(args):
+    """an extended header's data hash, and the data root of its `dah`"""
+    value = answered(args.json)
+    told = data_hash(value).digits(HASH_BYTES)
+    made = header_of(value.needed("dah")).data_root()
+    return [f"data_hash {told.hex()}\n", f"data_root {made.hex()}\n"], 0 if told == made else 13
+
+
+def answer(args):
+    """a namespace answer from the rows of namespace data, under the header of a file"""
+    namespace = namespace_of(args.namespace)
+    payload = spell_answer(namespace, one_header(args.header), answered(args.json))
+    return [frames.frame(ord("N"), payload)], 0
+
+
+def block(args):
+    """a block of a blob, or of a list of blobs"""
+    value = answered(args.json)
+    blobs = [spell_blob(item) for item in (value.items() if isinstance(value.value, list) else [value])]
+    # No width is asked for, and there are no units.
+    payload = bytes(10) + len(blobs).to_bytes(4, "big") + b"".join(blobs)
+    if len(payload) > frames.PAYLOAD_LIMIT:
+        raise value.bad(f"{len(payload)} bytes of a block, and a frame has at most {frames.PAYLOAD_LIMIT}", "TooLong")
+    return [frames.frame(ord("V"), payload)], 0
+
+
+def dah(args):
+    """the `dah` of a file of one header"""
+    made = one_header(args.header)
+    roots = {"row_roots": list(map(base64_text, made.rows)), "column_roots": list(map(base64_text, made.cols))}
+    return [json.dumps(roots, separators=(",", ":")) + "\n"], 0
+
+
+def parser():
+    """The words of each command."""
+    form = argparse.RawDescriptionHelpFormatter
+    top = frames.Parser(prog="celestia.py", description=__doc__, formatter_class=form)
+    commands = top.add_subparsers(metavar="COMMAND", required=True, dest="command")
+    words = {header: "json", root: "json", answer: "namespace header json", block: "json", dah: "header"}
+    for run, names in words.items():
+        command = commands.add_parser(run.__name__, description=run.__doc__, help=run.__doc__)
+        command.set_defaults(run=run)
+        for name in names.split():
+            command.add_argument(name, metavar=name.upper())
+        command.add_argument("-o", dest="output", metavar="FILE", help="where to write, else standard output")
+    return top
+
+
+def main(words, out, err):
+    """Runs the command of the words as frames.py runs its own; answers its status."""
+    frames.parser = parser
+    return frames.main(words, out, err)
+
+
+if __name__ == "__main__":
+    result = main(sys.argv[1:], sys.stdout.buffer, sys.stderr)
+    if result == 4:
+        os.dup2(os.open(os.devnull, os.O_WRONLY), sys.stdout.fileno())
+    sys.exit(result)

@@ -1,0 +1,451 @@
+#!/usr/bin/env python3
+"""Tests of tools/celestia.py, over squares of examples/make.py, and of a built `da` where DA names one.
+
+    python3 tools/celestia_test.py
+    DA=crates/da/out/da python3 tools/celestia_test.py
+
+The roots and the blob of tools/celestia/ are those of celestia-node's RPC documentation. No answer of a running node
+is among the tests.
+"""
+
+import base64
+import importlib.util
+import io
+import json
+import os
+import random
+import subprocess
+import sys
+import tempfile
+import unittest
+from unittest import mock
+
+sys.dont_write_bytecode = True
+TOOLS = os.path.dirname(os.path.abspath(__file__))
+EXAMPLES = os.path.join(os.path.dirname(TOOLS), "examples")
+sys.path.insert(0, TOOLS)
+import celestia  # noqa: E402
+import frames  # noqa: E402
+
+SPEC = importlib.util.spec_from_file_location("make", os.path.join(EXAMPLES, "make.py"))
+make = importlib.util.module_from_spec(SPEC)
+SPEC.loader.exec_module(make)
+
+DA = os.environ.get("DA")
+
+
+def text(name):
+    """A file of tools/celestia/, as JSON on one line without a space."""
+    with open(os.path.join(TOOLS, "celestia", name), encoding="utf-8") as file:
+        return json.dumps(json.load(file), separators=(",", ":"))
+
+
+# The example of an extended header, which is that of the empty block, and the empty block's data root as celestia-app's
+# `MinDataAvailabilityHeader` has it; and the example of `blob.Get`.
+HEADER, BLOB = text("header.json"), text("blob.json")
+EMPTY_ROOT = "3d96b7d238e7e0456f6af8e7cdf0a67bd6cf9c2089ecb559c659dcaa1f880353"
+BLOB_NAMESPACE = bytes(19) + bytes.fromhex("01020304050607080910")
+BLOB_DATA = b"This is an example of some blob data"
+
+PARSER = celestia.parser()
+
+
+def run(*words):
+    """The status, the output and the note of celestia.py on words."""
+    out, err = io.BytesIO(), io.StringIO()
+    with mock.patch.object(celestia, "parser", lambda: PARSER):
+        status = celestia.main([str(word) for word in words], out, err)
+    return status, out.getvalue(), err.getvalue()
+
+
+# The node's forms, written here from frames so that they are tried on JSON that celestia.py didn't make.
+
+
+def base64_of(data):
+    return base64.b64encode(data).decode()
+
+
+def value_of(data):
+    """The value of a file of one frame."""
+    (_, _, value), = frames.walk(data, frames.Form(0, False, frames.ALL_KINDS))
+    return value
+
+
+def dah_of(header):
+    """The `dah` of an H frame."""
+    value = value_of(header)
+    return {"row_roots": [base64_of(it) for it in value.rows], "column_roots": [base64_of(it) for it in value.cols]}
+
+
+def extended(header):
+    """An extended header of an H frame."""
+    told = value_of(header).data_root().hex().upper()
+    return {"header": {"chain_id": "test", "height": "1", "data_hash": told}, "commit": {}, "dah": dah_of(header)}
+
+
+def rows_of(answer):
+    """The rows of an N frame, as Go writes them: without what is zero or empty."""
+    rows = []
+    for entry in value_of(answer).entries:
+        is_range = isinstance(entry, frames.Range)
+        start = entry.start if is_range else entry.pos
+        shares = entry.shares if is_range else []
+        proof = {"start": start} if start else {}
+        proof["end"] = start + (len(shares) or 1)
+        if entry.nodes:
+            proof["nodes"] = [base64_of(it) for it in entry.nodes]
+        if not is_range:
+            proof["leaf_hash"] = base64_of(entry.digest)
+        proof["is_max_namespace_ignored"] = True
+        rows.append({"shares": [base64_of(it) for it in shares] or None, "proof": proof})
+    return rows
+
+
+def blob_of(namespace, data):
+    """A blob; its commitment is any 32 bytes, since nothing here computes one."""
+    told = {"namespace": base64_of(namespace), "data": base64_of(data), "share_version": 0}
+    return dict(told, commitment=base64_of(bytes(32)), index=7)
+
+
+def padded_square():
+    """The shares of a square of width 4 with reserved padding in front of its first blob, as go-square's builder may
+    leave it, and the block of what stands in it."""
+    units, pays, reserved = [b"a transaction"], [b"a payment"], bytes(28) + b"\xff"
+    blobs = [(make.name("0101"), b"\7" * 700), (make.name("0102"), b"\10")]
+    front = make.compact_shares(make.TRANSACTION, units) + make.compact_shares(make.PAY_FOR_BLOB, pays)
+    shares = front + make.blob_shares(reserved, b"") * 2
+    shares += [share for blob in blobs for share in make.blob_shares(*blob)]
+    shares += make.blob_shares(make.TAIL_PADDING, b"") * (16 - len(shares))
+    return shares, make.block(blobs, units, pays, width=4)
+
+
+class Case(unittest.TestCase):
+    """A test with a folder of its own for files."""
+
+    def setUp(self):
+        folder = tempfile.TemporaryDirectory()
+        self.addCleanup(folder.cleanup)
+        self.folder = folder.name
+
+    def file(self, data, name="f"):
+        """A file of these bytes, or of this value as JSON."""
+        path = os.path.join(self.folder, name)
+        with open(path, "wb") as file:
+            file.write(data if isinstance(data, bytes) else json.dumps(data).encode())
+        return path
+
+    def made(self, *words):
+        """What a command writes, with status 0 and no note."""
+        status, out, note = run(*words)
+        self.assertEqual((status, note), (0, ""))
+        return out
+
+    def same_header(self, header):
+        """A header comes back through its `dah` and through an extended header, and stands under its data hash."""
+        value = extended(header)
+        path = self.file(value)
+        self.assertEqual(self.made("header", path), header)
+        self.assertEqual(self.made("header", self.file(value["dah"], "dah")), header)
+        self.assertEqual(json.loads(self.made("dah", self.file(header, "header"))), value["dah"])
+        told = value["header"]["data_hash"].lower()
+        self.assertEqual(self.made("root", path).decode(), f"data_hash {told}\ndata_root {told}\n")
+
+    def same_answer(self, header, answer):
+        """An answer comes back through the node's rows, by any spelling of its namespace."""
+        path, rows = self.file(header, "header"), self.file(rows_of(answer))
+        namespace = value_of(answer).namespace
+        for word in (namespace.hex(), "0x" + namespace.hex(), base64_of(namespace)):
+            self.assertEqual(self.made("answer", word, path, rows), answer)
+
+    def same_block(self, blobs):
+        """Blobs come as a block, alone and in a list."""
+        for form, some in ((list, blobs), (lambda it: it[0], blobs[:1])):
+            told = self.file(form([blob_of(*blob) for blob in some]))
+            self.assertEqual(self.made("block", told), make.block(some))
+
+
+class Published(Case):
+    """What celestia-node's documentation has."""
+
+    def test_header(self):
+        empty = make.Grid(1, make.extend(1, make.square_of(1, []))).header()
+        dah = HEADER[HEADER.index('"dah":') + 6 : -1]
+        for value in (HEADER, dah, '{"jsonrpc":"2.0","id":1,"result":%s}' % HEADER):
+            self.assertEqual(self.made("header", value), empty)
+        self.assertEqual(self.made("dah", self.file(empty)).decode(), dah + "\n")
+        want = f"data_hash {EMPTY_ROOT}\ndata_root {EMPTY_ROOT}\n"
+        self.assertEqual(self.made("root", HEADER).decode(), want)
+
+    def test_blob(self):
+        want = make.block([(BLOB_NAMESPACE, BLOB_DATA)])
+        self.assertEqual(self.made("block", BLOB), want)
+        self.assertEqual(self.made("block", f"[{BLOB}]"), want)
+        self.assertEqual(self.made("block", '{"jsonrpc":"2.0","result":[%s,%s],"id":1}' % (BLOB, BLOB)),
+                         make.block([(BLOB_NAMESPACE, BLOB_DATA)] * 2))
+
+
+class Examples(Case):
+    """The forms of squares of examples/make.py, which go to width 4."""
+
+    def grids(self):
+        """Well encoded squares: the empty block's, examples/kinds/square, and two with transactions of width 4."""
+        two = [(make.name("0101"), b"\7"), (make.name("0102"), b"\7" * 479), (make.name("0104"), b"\7")]
+        four = [(make.name(f"02{i:02d}"), bytes([i]) * 700) for i in range(1, 5)]
+        squares = [make.square_of(1, []), make.square_of(2, two), make.square_of(4, four, [b"a transaction"])]
+        squares.append(padded_square()[0])
+        return [make.Grid(k, make.extend(k, square)) for k, square in zip((1, 2, 4, 4), squares)]
+
+    def test_headers(self):
+        for grid in self.grids():
+            with self.subTest(k=grid.k):
+                self.same_header(grid.header())
+        with open(os.path.join(EXAMPLES, "spoiled", "header"), "rb") as file:
+            self.same_header(file.read())
+
+    def test_answers(self):
+        kinds = set()
+        for grid in self.grids():
+            names = {share[:29] for row in grid.rows[: grid.k] for share in row[: grid.k]}
+            absent = {bytes(28) + b"\1", make.name("0103"), make.name("0203"), b"\xff" * 28 + b"\xfd"} - names
+            for namespace in sorted(names | absent):
+                answer = grid.answer(namespace)
+                with self.subTest(k=grid.k, namespace=namespace.hex()):
+                    self.same_answer(grid.header(), answer)
+                kinds |= {type(entry) for entry in value_of(answer).entries} or {None}
+        self.assertEqual(kinds, {frames.Range, frames.Absence, None})
+
+    def test_kept(self):
+        # The rows of tools/celestia/ are those of an answer of examples/.
+        with open(os.path.join(EXAMPLES, "kinds", "answer"), "rb") as file:
+            answer = file.read()
+        self.assertEqual(json.loads(text("rows.json")), rows_of(answer))
+        words = ["answer", make.name("0102").hex(), os.path.join(EXAMPLES, "kinds", "header"), text("rows.json")]
+        self.assertEqual(self.made(*words), answer)
+
+    def test_no_rows(self):
+        grid = self.grids()[0]
+        header = self.file(grid.header(), "header")
+        for value in ("[]", self.file(b"null"), '{"result":null}'):
+            self.assertEqual(self.made("answer", "00" * 29, header, value), grid.answer(bytes(29)))
+        # Rows of recovery shares alone are none of an answer.
+        self.assertEqual(self.made("answer", "ff" * 29, header, "[]"), make.answer_of(b"\xff" * 29, []))
+
+    def test_no_leaf_hash(self):
+        # A text without bytes stands for none, too.
+        grid = self.grids()[1]
+        answer = grid.answer(make.name("0102"))
+        rows = rows_of(answer)
+        for row in rows:
+            row["proof"]["leaf_hash"] = ""
+        words = ["answer", make.name("0102").hex(), self.file(grid.header(), "header"), self.file(rows)]
+        self.assertEqual(self.made(*words), answer)
+
+    def test_blocks(self):
+        self.same_block([(make.name("0101"), b"\7"), (make.name("0102"), bytes(range(256)) * 9)])
+        self.same_block([(b"\xff" * 29, b"")])
+        self.assertEqual(self.made("block", "[]"), make.block([]))
+        path = os.path.join(self.folder, "out")
+        self.assertEqual(self.made("block", BLOB, "-o", path), b"")
+        with open(path, "rb") as file:
+            self.assertEqual(file.read(), make.block([(BLOB_NAMESPACE, BLOB_DATA)]))
+
+
+class Refused(Case):
+    """Each form with one thing wrong: the status, and the note with the path and the reason's name."""
+
+    def refused(self, words, note, status=6):
+        found = run(*words)
+        self.assertEqual(found, (status, b"", note + "\n"))
+
+    def changed(self, value, path, put):
+        """A copy of a value with another one at a path; taken out where that is None."""
+        value = json.loads(json.dumps(value))
+        inner = value
+        for key in path[:-1]:
+            inner = inner[key]
+        if put is None:
+            del inner[path[-1]]
+        else:
+            inner[path[-1]] = put
+        return self.file(value)
+
+    def test_json(self):
+        for text, note in [
+            ("{", "the JSON: Expecting property name enclosed in double quotes: line 1 column 2 (char 1) (NoJson)"),
+            ('{"dah":1,"dah":2}', "the JSON: a key stands twice in one object (NoJson)"),
+            ("[]", "the JSON: [] isn't an object (BadType)"),
+            ("{}", "dah: it isn't there (Missing)"),
+            ('{"dah":[]}', "dah: [] isn't an object (BadType)"),
+            ('{"result":null}', "result: null isn't an object (BadType)"),
+            ('{"error":{"code":1,"message":"there is no such block"}}',
+             'error: the node answered {"code": 1, "message": "there is no s... (NodeError)'),
+        ]:
+            with self.subTest(text):
+                self.refused(["header", text], f"bad input: {note}")
+
+    def test_header(self):
+        two = make.Grid(2, make.extend(2, make.square_of(2, []))).header()
+        whole, zeros = extended(two), base64_of(bytes(90))
+        cases = [
+            (["dah"], None, "dah: it isn't there (Missing)"),
+            (["dah", "column_roots"], None, "dah.column_roots: it isn't there (Missing)"),
+            (["dah", "row_roots"], {}, "dah.row_roots: {} isn't a list (BadType)"),
+            (["dah", "row_roots", 1], 7, "dah.row_roots[1]: 7 isn't a text (BadType)"),
+            (["dah", "row_roots", 1], "AA=", 'dah.row_roots[1]: "AA=" isn\'t base64 (BadBase64)'),
+            (["dah", "row_roots", 1], "AB==", 'dah.row_roots[1]: "AB==" isn\'t base64 (BadBase64)'),
+            (["dah", "row_roots", 1], "A-_A", 'dah.row_roots[1]: "A-_A" isn\'t base64 (BadBase64)'),
+            (["dah", "row_roots", 1], "\u0661===", 'dah.row_roots[1]: "\\u0661===" isn\'t base64 (BadBase64)'),
+            (["dah", "column_roots", 3], "AAAA", "dah.column_roots[3]: 3 bytes, and there are to be 90 (BadLength)"),
+            (["dah", "row_roots"], [zeros] * 3,
+             "dah.row_roots: 3 roots, and there are to be 2, 4, 8, 16, 32, 64, 128 or 256 (BadCount)"),
+            (["dah", "row_roots"], [zeros] * 512,
+             "dah.row_roots: 512 roots, and there are to be 2, 4, 8, 16, 32, 64, 128 or 256 (BadCount)"),
+            (["dah", "row_roots"], [zeros] * 2, "dah: 2 row roots, and 4 column roots (BadCount)"),
+            (["header", "data_hash"], None, "header.data_hash: it isn't there (Missing)"),
+            (["header", "data_hash"], 5, "header.data_hash: 5 isn't a text (BadType)"),
+            (["header", "data_hash"], "0g", 'header.data_hash: "0g" isn\'t hexadecimal digits (BadHex)'),
+            (["header", "data_hash"], "00", "header.data_hash: 1 bytes, and there are to be 32 (BadLength)"),
+        ]
+        for path, put, note in cases:
+            with self.subTest(note):
+                self.refused(["header", self.changed(whole, path, put)], f"bad input: {note}")
+        found = self.changed(whole, ["header", "data_hash"], EMPTY_ROOT)
+        root = value_of(two).data_root().hex()
+        note = f"refused: header.data_hash: the data root of the dah is {root} (OtherRoot)"
+        self.refused(["header", found], note, 13)
+        self.assertEqual(run("root", found), (13, f"data_hash {EMPTY_ROOT}\ndata_root {root}\n".encode(), ""))
+        self.refused(["root", self.file(whole["dah"])], "bad input: header: it isn't there (Missing)")
+
+    def test_answer(self):
+        grid = Examples.grids(self)[1]
+        header, shown = self.file(grid.header(), "header"), rows_of(grid.answer(make.name("0102")))
+        absent, digest = rows_of(grid.answer(make.name("0103"))), base64_of(bytes(90))
+        share = shown[0]["shares"][0]
+        cases = [
+            (shown, [1], None, "the JSON: 1 rows, and by the header 2 may hold the namespace (BadCount)"),
+            (shown, [0], [], "[0]: [] isn't an object (BadType)"),
+            (shown, [0, "shares"], {}, "[0].shares: {} isn't a list (BadType)"),
+            (shown, [1, "shares", 0], "AAAA", "[1].shares[0]: 3 bytes, and there are to be 512 (BadLength)"),
+            (shown, [0, "shares"], [share] * 129, "[0].shares: 129 of them, and a frame has at most 128 (BadCount)"),
+            (shown, [0, "shares"], [], "[0]: it has neither shares nor a leaf hash (BadRow)"),
+            (shown, [0, "proof"], None, "[0].proof: it isn't there (Missing)"),
+            (shown, [0, "proof", "start"], "1", '[0].proof.start: "1" isn\'t a number without a fraction (BadType)'),
+            (shown, [0, "proof", "start"], True, "[0].proof.start: true isn't a number without a fraction (BadType)"),
+            (shown, [0, "proof", "start"], -1, "[0].proof.start: -1 isn't from 0 to 65535 (BadNumber)"),
+            (shown, [0, "proof", "start"], 0, "[0].proof: from 0 to 2, and the row shows 1 (BadCount)"),
+            (shown, [0, "proof", "end"], None, "[0].proof.end: it isn't there (Missing)"),
+            (shown, [0, "proof", "nodes", 1], "", "[0].proof.nodes[1]: 0 bytes, and there are to be 90 (BadLength)"),
+            (shown, [0, "proof", "nodes"], [digest] * 17,
+             "[0].proof.nodes: 17 of them, and a frame has at most 16 (BadCount)"),
+            (shown, [0, "proof", "leaf_hash"], digest, "[0]: it has both shares and a leaf hash (BadRow)"),
+            (shown, [1, "proof", "is_max_namespace_ignored"], None,
+             "[1].proof.is_max_namespace_ignored: it isn't true, as it is in Celestia's trees (BadValue)"),
+            (shown, [0, "proof", "is_max_namespace_ignored"], False,
+             "[0].proof.is_max_namespace_ignored: it isn't true, as it is in Celestia's trees (BadValue)"),
+            (absent, [0, "proof", "leaf_hash"], "AAAA",
+             "[0].proof.leaf_hash: 3 bytes, and there are to be 90 (BadLength)"),
+            (absent, [0, "proof", "end"], 3, "[0].proof: from 1 to 3, and the row shows 1 (BadCount)"),
+        ]
+        for value, path, put, note in cases:
+            name = "0102" if value is shown else "0103"
+            with self.subTest(note):
+                words = ["answer", make.name(name).hex(), header, self.changed(value, path, put)]
+                self.refused(words, f"bad input: {note}")
+
+    def test_block(self):
+        blob, most = json.loads(BLOB), frames.PAYLOAD_LIMIT
+        cases = [
+            (["namespace"], None, "namespace: it isn't there (Missing)"),
+            (["namespace"], "AAAA", "namespace: 3 bytes, and there are to be 29 (BadLength)"),
+            (["data"], "?", 'data: "?" isn\'t base64 (BadBase64)'),
+            (["data"], base64_of(bytes(most)),
+             f"the JSON: {most + 48} bytes of a block, and a frame has at most {most} (TooLong)"),
+            (["share_version"], None, "share_version: it isn't there (Missing)"),
+            (["share_version"], 1, "share_version: 1, and the blobs of a frame have 0 (Unsupported)"),
+            (["share_version"], 128, "share_version: 128 isn't from 0 to 127 (BadNumber)"),
+            (["signer"], base64_of(bytes(20)), "signer: 20 bytes, and there are to be 0 (BadLength)"),
+            (["commitment"], None, "commitment: it isn't there (Missing)"),
+            (["commitment"], "AAAA", "commitment: 3 bytes, and there are to be 32 (BadLength)"),
+            (["index"], -2, "index: -2 isn't from -1 to 9223372036854775807 (BadNumber)"),
+        ]
+        for path, put, note in cases:
+            with self.subTest(note):
+                self.refused(["block", self.changed(blob, path, put)], f"bad input: {note}")
+        self.refused(["block", f'{{"result":[{BLOB},7]}}'], "bad input: result[1]: 7 isn't an object (BadType)")
+
+    def test_words(self):
+        header = self.file(make.Grid(1, make.extend(1, make.square_of(1, []))).header(), "header")
+        name = "NAMESPACE: a namespace has 58 hexadecimal digits, or the last 20 where all others are 0"
+        self.refused(["answer", "00", header, "[]"], name, 1)
+        self.refused(["answer", "zz", header, "[]"], "NAMESPACE: 'zz' isn't bytes as hexadecimal digits", 1)
+        self.refused(["answer", "00" * 10, self.file(b"[]"), "[]"], "bad input: file 0 at 0")
+        self.refused(["dah", self.file(b"")], "bad input: file 0 at 0")
+        none = os.path.join(self.folder, "none")
+        self.refused(["dah", none], f"cannot open {none!r}", 2)
+        self.refused(["header", none], f"cannot open {none!r}", 2)
+        self.refused(["header", self.folder], f"cannot read {self.folder!r}", 3)
+        for words in ([], ["headers", "{}"], ["header"], ["answer", "00", "1"]):
+            self.assertEqual(run(*words)[:2], (1, b""))
+
+
+@unittest.skipUnless(DA, "the environment variable DA names no built da")
+class Program(Case):
+    """The forms of squares that `da` builds."""
+
+    def da(self, *words):
+        done = subprocess.run([DA, *words], stdout=subprocess.PIPE, stderr=subprocess.PIPE, check=False)
+        self.assertEqual((done.returncode, done.stderr), (0, b""), words)
+        return done.stdout
+
+    def squares(self):
+        """Blobs of some sizes, in few namespaces, as a block that asks for each width."""
+        draw = random.Random(41)
+        for k in (1, 2, 4, 8, 16):
+            sizes = [draw.randrange(1, 478 * max(k // 2, 1)) for _ in range(max(k // 2, 1))]
+            blobs = [(make.name(f"01{draw.randrange(0, 12, 2):02d}"), draw.randbytes(size)) for size in sizes]
+            yield k, blobs, make.block(blobs, width=k)
+
+    def test_squares(self):
+        kinds = set()
+        for k, blobs, block in self.squares():
+            with self.subTest(k=k):
+                square = self.file(self.da("build", self.file(block, "block")), "square")
+                header = self.da("header", square)
+                self.same_header(header)
+                names = {name for name, _ in blobs} | {make.name(f"01{i:02d}") for i in (1, 5, 11)}
+                for namespace in sorted(names):
+                    request = self.file(make.namespace_request(namespace), "request")
+                    answer = self.da("namespace", square, request)
+                    self.same_answer(header, answer)
+                    kinds |= {type(entry) for entry in value_of(answer).entries}
+                    rows = self.file(rows_of(answer), "rows")
+                    under = self.file(self.made("header", self.file(extended(header), "extended")), "under")
+                    read = self.file(self.made("answer", namespace.hex(), under, rows), "read")
+                    self.assertEqual(self.da("verify", under, read), b"ok\n")
+                # The block of the node's blobs asks for no width: its square is that of such a block.
+                self.same_block(blobs)
+                told = self.file([blob_of(*blob) for blob in blobs], "blobs")
+                read = self.file(self.made("block", told), "read")
+                self.assertEqual(self.da("build", read), self.da("build", self.file(make.block(blobs), "plain")))
+        self.assertEqual(kinds, {frames.Range, frames.Absence})
+
+
+    def test_padded(self):
+        # A square that `build` doesn't make, and that is taken where a square comes in.
+        shares, block = padded_square()
+        square = self.file(make.square(4, shares), "square")
+        self.assertNotEqual(self.da("build", self.file(block, "block")), make.square(4, shares))
+        header = self.da("header", square)
+        self.same_header(header)
+        for namespace in (make.name("0101"), make.name("0103"), bytes(28) + b"\xff"):
+            answer = self.da("namespace", square, self.file(make.namespace_request(namespace), "request"))
+            self.same_answer(header, answer)
+            words = ["verify", self.file(header, "header"), self.file(answer, "answer")]
+            self.assertEqual(self.da(*words), b"ok\n")
+
+
+if __name__ == "__main__":
+    result = unittest.main(exit=False).result
+    failed = len(result.failures) + len(result.errors)
+    print(f"{result.testsRun - failed - len(result.skipped)} passed, {failed} failed")
+    sys.exit(failed > 0)
