@@ -1,6 +1,6 @@
 -- Two openings or lists with one root that differ name a clash.
 use Rattle.std.proofs.Common.{◌≡◌, ◌∙◌, ◌<◌, ◌^◌, ℕ, List, [], length, get_or, Bool, true, false, ◌&&◌, Option, Some, None, refl, sym, ap, ap₂, subst, arith, IsTrue}
-use Rattle.std.specs.Prelude.{MatchOption, IsSomeAnd}
+use Rattle.std.specs.Prelude.{MatchOption, IsSomeAnd, IfSome}
 use Rattle.std.specs.Bool.{Decides}
 use Rattle.std.specs.Str.{bytes_eq}
 use Rattle.std.specs.Cmp.Lexicographic.{pointwise}
@@ -18,6 +18,8 @@ use Rattle.nmt_proofs.specs.Parts.{digest_of}
 use Rattle.nmt_proofs.specs.Openings.{one_leaf, opened}
 use Rattle.nmt_proofs.specs.Clashes.{IsClash, clash_at, whole, AreLeaves, IsOpening}
 use Rattle.nmt_proofs.proofs.ListedLemmas.{leaf_law, lists_law}
+use Rattle.nmt_proofs.proofs.AgreeLemmas.{found_is_clash}
+use Rattle.nmt_proofs.proofs.ShownLemmas.{opening-sized}
 use Rattle.nmt_proofs.proofs.TwinLemmas.{length-nodes, twins_law}
 use Rattle.hash_clash.specs.declared.openings.Opening.{Opening}
 use Rattle.hash_clash.specs.Openings.{HasShape, opened_at, is_counted, is_one_name, is_one_share, is_one_digest, is_one_opening, is_leaf_at, is_one_list}
@@ -103,3 +105,13 @@ leaves_clash n names names' shares shares' found count hn hs hn' hs' bn bs bn' b
     ap₂ (λ (x y : Bool). x && y)
     ((slice_eq-Decides name_decides names names' (pointwise is_one_name names names') refl).1 one.0)
     ((slice_eq-Decides share_decides shares shares' (pointwise is_one_share shares shares') refl).1 one.1)) apart
+
+-- two openings of places that may differ
+pub between_clash : (n pos pos' : ℕ) (a b : Opening) (found : Option (List ℕ × List ℕ)) → HasShape a → HasShape b → is_counted n pos a ≡ true → is_counted n pos' b ≡ true
+    → digest_of (opened_at n pos a) ≡ digest_of (opened_at n pos' b) → found ≡ clash_at (opened_at n pos a) (opened_at n pos' b)
+    → IfSome found (λ texts. IsClash texts.0 texts.1)
+between_clash n pos pos' a b None ha hb ca cb same e = tt
+between_clash n pos pos' a b (Some texts) ha hb ca cb same e =
+    found_is_clash (opened_at n pos a) (opened_at n pos' b) texts.0 texts.1
+    (opening-sized (halvings n) (one_leaf pos a.name a.share) a.path (opening_of n pos a ha ca))
+    (opening-sized (halvings n) (one_leaf pos' b.name b.share) b.path (opening_of n pos' b hb cb)) same (sym e)

@@ -3,6 +3,7 @@
 ghost use Rattle.std.specs.Prelude.{◌≡◌, ◌↔◌, IsSome, IsSomeAnd, IfSome, Some};
 ghost use Rattle.sha2.specs.Sha256.{sha256};
 ghost use Rattle.nmt_proofs.specs.Clashes.{IsClash};
+ghost use Rattle.hash_clash.specs.Collisions.{strings_in};
 
 use crate::Preimage;
 use namespace_id::bytes_law;
@@ -67,6 +68,17 @@ impl Clash {
             unreachable!()
         };
         Clash { left, right }
+    }
+
+    /// The collision that was found, if one was.
+    pub(crate) fn found_in(strings: Option<(Preimage, Preimage)>) -> Option<Clash>
+        requires { IfSome strings (λ pair. IsClash pair.0 pair.1) }
+        ensures { strings_in result ≡ strings }
+    {
+        match strings {
+            Some((left, right)) => Some(Clash { left, right }),
+            None => None,
+        }
     }
 
     /// The first string. That both are a collision is said with it.

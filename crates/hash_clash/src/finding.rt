@@ -11,6 +11,7 @@ ghost use Rattle.nmt_proofs.specs.Parts.{digest_of};
 ghost use Rattle.nmt_proofs.specs.Clashes.{join_text, apart_or, clash_at, whole};
 ghost use Rattle.hash_clash.specs.Openings.{opened_at, is_counted, is_one_opening, is_leaf_at, is_one_list};
 ghost use Rattle.hash_clash.specs.Sides.{part_of, IsSide};
+ghost use Rattle.hash_clash.specs.Collisions.{strings_in};
 
 use crate::openings::shape_law;
 use crate::sides::{Seen, Side, digest, look};
@@ -99,6 +100,29 @@ pub fn clash_paths(n: u16, pos: u16, a: &Opening, b: &Opening) -> Clash
     let a_side = Side::Opened(pos, a, a.path.nodes());
     let b_side = Side::Opened(pos, b, b.path.nodes());
     Clash::found(find(halvings(n as usize), 0, a_side, b_side))
+}
+
+/// The SHA-256 collision that two inclusion proofs name, of one place or of two, where they have one
+/// root; none exactly where they have no string that differs at an interval for which both have one.
+/// `n` is a number of leaves, a power of two up to 256, and both places are below it; each proof has
+/// as many nodes as there are subtrees that don't hold its place. The strings are chosen as by
+/// `clash_paths`. It takes no memory.
+///
+/// docs/RULES.md, "Collisions".
+pub fn clash_between(n: u16, pos_a: u16, a: &Opening, pos_b: u16, b: &Opening) -> Option<Clash>
+    requires leaves { IsTrue (is_leaf_count n) }
+    requires a_place { pos_a < n }
+    requires b_place { pos_b < n }
+    requires a_count { is_counted n pos_a a.now ≡ true }
+    requires b_count { is_counted n pos_b b.now ≡ true }
+    requires root { digest_of (opened_at n pos_a a.now) ≡ digest_of (opened_at n pos_b b.now) }
+    ensures { strings_in result ≡ clash_at (opened_at n pos_a a.now) (opened_at n pos_b b.now) }
+{
+    shape_law(a);
+    shape_law(b);
+    let a_side = Side::Opened(pos_a, a, a.path.nodes());
+    let b_side = Side::Opened(pos_b, b, b.path.nodes());
+    Clash::found_in(find(halvings(n as usize), 0, a_side, b_side))
 }
 
 /// The SHA-256 collision that an inclusion proof and a list of leaves name, where they have one

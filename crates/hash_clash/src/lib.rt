@@ -12,6 +12,6 @@ mod preimages;
 mod sides;
 
 pub use clashes::Clash;
-pub use finding::{clash_leaves, clash_path_leaves, clash_paths};
+pub use finding::{clash_between, clash_leaves, clash_path_leaves, clash_paths};
 pub use openings::Opening;
 pub use preimages::Preimage;

@@ -24,3 +24,10 @@ pub mod MadeLemmas
 pub mod NeighborLemmas
 pub mod HashedLemmas
 pub mod OrderLemmas
+pub mod SetLemmas
+pub mod MergeLemmas
+pub mod SetLawLemmas
+pub mod TileLemmas
+pub mod TileCountLemmas
+pub mod FewLemmas
+pub mod PieceLawLemmas

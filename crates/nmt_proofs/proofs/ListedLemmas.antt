@@ -62,7 +62,7 @@ agreed (suc d) st ns ss (s ∷ ys) nodes of count a =
     )
 
 -- an opening under the root of a list: a clash is in hand, or what follows where both agree
-listed_or : (d : ℕ) (xs : List Shown) (nodes : List Digest) (ns : List Namespace) (ss : List Share) (Fact : Type 0) → IsOpening d xs nodes → AreLeaves d ns ss
+pub listed_or : (d : ℕ) (xs : List Shown) (nodes : List Digest) (ns : List Namespace) (ss : List Share) (Fact : Type 0) → IsOpening d xs nodes → AreLeaves d ns ss
     → digest_of (opened d 0 xs nodes) ≡ root d ns ss → (Agree (opened d 0 xs nodes) (whole d ns ss) → Fact) → ClashOr (opened d 0 xs nodes) (whole d ns ss) Fact
 listed_or d xs nodes ns ss Fact h g e fact =
     agree_or d (opened d 0 xs nodes) (whole d ns ss) Fact (opening-deep d xs nodes h) (depth-whole d ns ss)
@@ -83,7 +83,7 @@ places_law d xs nodes ns ss h of g e =
     (agreed d 0 ns ss xs nodes (subst (λ (k : ℕ). ArePlaces 0 k xs) zero_first of) (eqb-true _ _ h.count))
 
 -- the list's leaf at a place
-leaf_listed : (pos : ℕ) (ns : List Namespace) (ss : List Share) (n : Namespace) (s : Share) → pos < length ns → pos < length ss
+pub leaf_listed : (pos : ℕ) (ns : List Namespace) (ss : List Share) (n : Namespace) (s : Share) → pos < length ns → pos < length ss
     → Agree (leaf n s) (whole 0 (drop pos ns) (drop pos ss)) → (slice_get ns pos ≡ Some n) × (slice_get ss pos ≡ Some s)
 unfolding whole
 leaf_listed zero (m ∷ ns) (t ∷ ss) n s h g a = (ap Some (sym a.0), ap Some (sym a.1))

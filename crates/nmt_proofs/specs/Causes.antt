@@ -4,7 +4,7 @@ use Rattle.std.specs.Option.{option_map}
 use Rattle.namespace_id.specs.declared.namespaces.Namespace.{Namespace}
 use Rattle.namespace_id.specs.declared.shares.Share.{Share}
 use Rattle.namespace_id.specs.declared.digests.Digest.{Digest}
-use Rattle.nmt_proofs.specs.Openings.{Opens, has_count, has_order, has_root, leaves_from, one_digest}
+use Rattle.nmt_proofs.specs.Openings.{Shown, Opens, has_count, has_order, has_root, leaves_from, one_digest}
 use Rattle.nmt_proofs.specs.Complete.{range_break, absence_break}
 use Rattle.nmt_proofs.specs.declared.opening.OpenRefusal.{OpenRefusal}
 use Rattle.nmt_proofs.specs.declared.opening.OpenRefusal.TheVariants.{NodeCount, Unordered, OtherRoot, Incomplete}
@@ -23,6 +23,11 @@ abbrev pub opening_refusal : Bool → Bool → Bool → Option ℕ → Option Op
 opening_refusal count order root break =
     if count then (if order then (if root then option_map Incomplete break else Some OtherRoot) else Some Unordered)
     else Some NodeCount
+
+-- the refusal of an opening that has nothing to be complete for
+abbrev pub set_refusal : ℕ → List Shown → List Digest → Digest → Option OpenRefusal
+set_refusal depth shown nodes root =
+    opening_refusal (has_count depth shown nodes) (has_order depth shown nodes) (has_root depth shown nodes root) None
 
 -- the refusal of a range proof
 abbrev pub range_refusal : ℕ → ℕ → Namespace → List Share → List Digest → Digest → Option OpenRefusal

@@ -1,7 +1,7 @@
 -- Where two parts with one digest differ: two strings with one SHA-256 digest.
 use Rattle.std.specs.Prelude.{◌≡◌, ◌≢◌, ◌^◌, ◌<◌, ◌≤◌, ◌+◌, ℕ, zero, suc, List, [], ◌∷◌, ◌++◌, length, take, drop, true, if◌then◌else◌, Option, Some, None, MatchOption}
 use Rattle.std.specs.Option.{option_or}
-use Rattle.std.specs.List.{AllByRecursion}
+use Rattle.std.specs.List.{AllByRecursion, slice_get}
 use Rattle.std.specs.Str.{bytes_eq}
 use Rattle.sha2.specs.Sha256.{sha256}
 use Rattle.namespace_id.specs.declared.namespaces.Namespace.{Namespace}
@@ -118,3 +118,12 @@ ArePlaces low high (s ∷ shown) =
 abbrev pub AreListed : List Namespace → List Share → List Shown → Type 0
 AreListed names shares shown =
     AllByRecursion (λ s. Agree s.part (whole 0 (drop s.from names) (drop s.from shares))) shown
+
+-- the leaves that a set shows at its places are the list's
+unfoldable pub AreLeavesOf : List Namespace → List Share → List ℕ → List Namespace → List Share → Type 0
+AreLeavesOf names shares [] shown_names shown_shares = Unit {0}
+AreLeavesOf names shares (pos ∷ places) [] shown_shares = Unit {0}
+AreLeavesOf names shares (pos ∷ places) (name ∷ shown_names) [] = Unit {0}
+AreLeavesOf names shares (pos ∷ places) (name ∷ shown_names) (share ∷ shown_shares) =
+    (slice_get names pos ≡ Some name) × (slice_get shares pos ≡ Some share)
+    × AreLeavesOf names shares places shown_names shown_shares

@@ -1,5 +1,6 @@
 pub mod Parts
 pub mod Openings
+pub mod Places
 pub mod Complete
 pub mod Pieces
 pub mod Causes
@@ -7,3 +8,4 @@ pub mod Paths
 pub mod Clashes
 pub mod Making
 pub mod Hashed
+pub mod Merging

@@ -10,7 +10,7 @@ use Rattle.nmt_proofs.specs.Complete.{range_break, absence_break, IsBetween}
 use Rattle.nmt_proofs.specs.Clashes.{AreLeaves}
 use Rattle.nmt_proofs.specs.Parts.{digest_of, is_in_order}
 use Rattle.namespace_id.specs.Digests.{no_digest}
-use Rattle.nmt_proofs.specs.Openings.{Shown, outside, Opens, one_leaf, one_digest, leaves_from, digests_from}
+use Rattle.nmt_proofs.specs.Openings.{Shown, outside, Opens, one_leaf, one_digest, leaves_from, digests_from, intervals_from}
 
 -- the digests over intervals of leaves, each told by where it begins and its depth
 abbrev pub spans : List Digest → List (ℕ × ℕ) → List Digest
@@ -68,3 +68,21 @@ CompletesAbsence count leaves pos leaf nodes =
     (name : Namespace) (names : List Namespace) (shares : List Share) →
     AreLeaves (halvings count) names shares → leaves ≡ leaf_digests names shares →
     IsBetween name names pos pos → absence_break (halvings count) pos name leaf nodes ≡ None
+
+-- the digests over neighboring intervals of leaves, from a place on
+unfoldable pub interval_digests : List Digest → ℕ → List ℕ → List Digest
+interval_digests leaves from [] = []
+interval_digests leaves from (size ∷ sizes) = span leaves from (halvings size) ∷ interval_digests leaves (from + size) sizes
+
+-- what is shown of subtrees of these sizes, side by side from a place on
+abbrev pub subtrees : List Digest → ℕ → List ℕ → List Shown
+subtrees leaves from sizes = intervals_from from sizes (interval_digests leaves from sizes)
+
+-- the nodes that open them
+abbrev pub subtree_nodes : ℕ → List Digest → ℕ → List ℕ → List Digest
+subtree_nodes count leaves from sizes = spans leaves (outside (halvings count) 0 (subtrees leaves from sizes))
+
+-- nodes open the digests of subtrees, under the root over the leaves
+abbrev pub OpensSubtrees : ℕ → List Digest → ℕ → List ℕ → List Digest → Type 0
+OpensSubtrees count leaves from sizes nodes =
+    Opens (halvings count) (subtrees leaves from sizes) nodes (span leaves 0 (halvings count))

@@ -89,6 +89,21 @@ digests_from from [] = []
 digests_from from (digest ∷ digests) =
     record { from = from; size = 1; part = given digest } ∷ digests_from (suc from) digests
 
+-- what the opening of several places shows: the leaf at each
+unfoldable pub leaves_at : List ℕ → List Namespace → List Share → List Shown
+leaves_at [] names shares = []
+leaves_at (pos ∷ places) [] shares = []
+leaves_at (pos ∷ places) (name ∷ names) [] = []
+leaves_at (pos ∷ places) (name ∷ names) (share ∷ shares) =
+    record { from = pos; size = 1; part = leaf name share } ∷ leaves_at places names shares
+
+-- what the opening of neighboring intervals shows, from a place on: the digest of each
+unfoldable pub intervals_from : ℕ → List ℕ → List Digest → List Shown
+intervals_from from [] digests = []
+intervals_from from (size ∷ sizes) [] = []
+intervals_from from (size ∷ sizes) (digest ∷ digests) =
+    record { from = from; size = size; part = given digest } ∷ intervals_from (from + size) sizes digests
+
 -- a shown part of which only the digest is kept
 abbrev pub shadow_of : Shown → Shown
 shadow_of s = record { from = s.from; size = s.size; part = given (digest_of s.part) }

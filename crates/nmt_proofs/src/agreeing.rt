@@ -1,6 +1,6 @@
 //! What two parts with one digest share.
 
-ghost use Rattle.std.specs.Prelude.{◌≡◌, ◌^◌, ◌<◌, ℕ, List, Some, None};
+ghost use Rattle.std.specs.Prelude.{◌≡◌, ◌^◌, ◌<◌, ◌≤◌, ℕ, List, length, Some, None};
 ghost use Rattle.std.specs.List.{slice_get};
 ghost use Rattle.namespace_id.specs.declared.namespaces.Namespace.{Namespace};
 ghost use Rattle.namespace_id.specs.declared.shares.Share.{Share};
@@ -8,9 +8,10 @@ ghost use Rattle.namespace_id.specs.declared.digests.Digest.{Digest};
 ghost use Rattle.nmt_tree.specs.Roots.{root};
 ghost use Rattle.nmt_tree.specs.Levels.{leaf_digests};
 ghost use Rattle.nmt_proofs.specs.Parts.{Part, digest_of};
-ghost use Rattle.nmt_proofs.specs.Openings.{Shown, one_leaf, opened, outside};
-ghost use Rattle.nmt_proofs.specs.Clashes.{IsClash, clash_at, ClashOr, IsSized, HasDepth, Agree, whole, AreLeaves, IsOpening, ArePlaces, AreListed};
-ghost use Rattle.nmt_proofs.specs.Making.{spans};
+ghost use Rattle.nmt_proofs.specs.Openings.{Shown, one_leaf, leaves_at, intervals_from, opened, outside};
+ghost use Rattle.nmt_proofs.specs.Clashes.{IsClash, clash_at, ClashOr, IsSized, HasDepth, Agree, whole, AreLeaves, IsOpening, ArePlaces, AreListed, AreLeavesOf};
+ghost use Rattle.nmt_proofs.specs.Places.{AreAscending, AreAligned};
+ghost use Rattle.nmt_proofs.specs.Making.{spans, interval_digests};
 ghost use Rattle.nmt_proofs.specs.Hashed.{hashed, first_apart};
 
 /// Where two parts of a tree have one digest, the strings at the first interval at which both have
@@ -57,6 +58,35 @@ pub fn clash_laws()
         ((slice_get names pos ≡ Some name) × (slice_get shares pos ≡ Some share)
         × (nodes ≡ spans (leaf_digests names shares)
         (outside depth 0 (one_leaf pos name share)))) }
+
+    // The same for one that shows the leaves of a set of places.
+    ensures set { (depth : ℕ) (places : List ℕ) (shown_names : List Namespace)
+        (shown_shares : List Share) (nodes : List Digest) (names : List Namespace)
+        (shares : List Share) →
+        IsOpening depth (leaves_at places shown_names shown_shares) nodes →
+        AreAscending 0 (2 ^ depth) places → AreLeaves depth names shares →
+        digest_of (opened depth 0 (leaves_at places shown_names shown_shares) nodes)
+        ≡ root depth names shares →
+        ClashOr (opened depth 0 (leaves_at places shown_names shown_shares) nodes)
+        (whole depth names shares)
+        (AreLeavesOf names shares places shown_names shown_shares
+        × (nodes ≡ spans (leaf_digests names shares)
+        (outside depth 0 (leaves_at places shown_names shown_shares)))) }
+
+    // The same for one that shows neighboring subtrees: their digests are those over the list's
+    // leaves.
+    ensures subtrees { (depth from : ℕ) (sizes : List ℕ) (digests nodes : List Digest)
+        (names : List Namespace) (shares : List Share) → depth ≤ 8 →
+        IsOpening depth (intervals_from from sizes digests) nodes →
+        AreAligned from (2 ^ depth) sizes → length digests ≡ length sizes →
+        AreLeaves depth names shares →
+        digest_of (opened depth 0 (intervals_from from sizes digests) nodes)
+        ≡ root depth names shares →
+        ClashOr (opened depth 0 (intervals_from from sizes digests) nodes)
+        (whole depth names shares)
+        ((digests ≡ interval_digests (leaf_digests names shares) from sizes)
+        × (nodes ≡ spans (leaf_digests names shares)
+        (outside depth 0 (intervals_from from sizes digests)))) }
 
     // Two openings of one leaf place under one root are one opening.
     ensures openings { (depth pos : ℕ) (name name' : Namespace) (share share' : Share)

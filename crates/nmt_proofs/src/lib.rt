@@ -17,6 +17,6 @@ mod paths;
 
 pub use agreeing::clash_laws;
 pub use completing::complete_laws;
-pub use making::{make_absent, make_leaf, make_range, making_laws};
-pub use opening::{OpenRefusal, open_absent, open_leaf, open_range};
+pub use making::{make_absent, make_leaf, make_nodes, make_range, making_laws};
+pub use opening::{OpenRefusal, open_absent, open_leaf, open_nodes, open_range, open_set};
 pub use paths::{Absent, Nodes, Path};

@@ -9,9 +9,11 @@ ghost use Rattle.namespace_id.specs.Digests.{no_digest};
 ghost use Rattle.nmt_tree.specs.Roots.{is_leaf_count, halvings};
 ghost use Rattle.nmt_tree.specs.Levels.{leaf_digests, span, HasOrderedJoins};
 ghost use Rattle.nmt_proofs.specs.Parts.{is_in_order};
-ghost use Rattle.nmt_proofs.specs.Openings.{Shown, outside, Opens, digests_from};
+ghost use Rattle.nmt_proofs.specs.Openings.{Shown, outside, Opens, digests_from, leaves_at, intervals_from};
+ghost use Rattle.nmt_proofs.specs.Places.{AreAligned, AreAscending};
+ghost use Rattle.nmt_proofs.specs.Merging.{Branch, AreBranches, merged_nodes, places_of, names_of, shares_of};
 ghost use Rattle.nmt_proofs.specs.Clashes.{whole, AreLeaves};
-ghost use Rattle.nmt_proofs.specs.Making.{spans, AreAtLeaves, leaf_nodes, range_nodes, OpensDigest, OpensLeaf, OpensLeaves, CompletesRange, CompletesAbsence};
+ghost use Rattle.nmt_proofs.specs.Making.{spans, AreAtLeaves, leaf_nodes, range_nodes, OpensDigest, OpensLeaf, OpensLeaves, CompletesRange, CompletesAbsence, subtrees, subtree_nodes, OpensSubtrees};
 ghost use Rattle.nmt_proofs.specs.Pieces.{shown};
 
 use crate::joining::{Piece, blank_pieces, count_outside, halves, is_piece};
@@ -172,9 +174,9 @@ pub fn make_range(tree: &Tree, from: u16, count: u16) -> Nodes
     nodes_beside(tree, depth, pieces)
 }
 
-/// Makes the NMT absence proof at place `pos`, below the number of leaves, of a tree that isn't empty:
-/// the digest of the leaf there, and the nodes that open it. It shows that a namespace is absent
-/// where the leaf is the first above that namespace.
+/// Makes the NMT absence proof at place `pos`, below the number of leaves, of a tree that isn't
+/// empty: the digest of the leaf there, and the nodes that open it. It shows that a namespace is
+/// absent where the leaf is the first above that namespace.
 ///
 /// It takes no memory, and hashes nothing.
 ///
@@ -186,8 +188,8 @@ pub fn make_absent(tree: &Tree, pos: u16) -> Absent
     ensures nodes { ForSome tree.now.leaves (λ leaves.
         result.nodes ≡ leaf_nodes tree.now.count leaves pos) }
 
-    // They open under the tree's root, and leave no place for a namespace that is above those before
-    // the leaf and below the leaf's.
+    // They open under the tree's root, and leave no place for a namespace that is above those
+    // before the leaf and below the leaf's.
     ensures opens { ForSome tree.now.leaves (λ leaves.
         OpensDigest tree.now.count leaves pos result.nodes) }
     ensures complete { ForSome tree.now.leaves (λ leaves.
@@ -206,14 +208,82 @@ pub fn make_absent(tree: &Tree, pos: u16) -> Absent
     }
 }
 
-/// Where every join over leaves is ordered, the digests of the intervals that hold nothing shown
-/// open what is shown of them at single places; and a list's joins are ordered where those of its
-/// part are.
+/// Writes neighboring intervals as pieces, from one place on. Which digests they show is left open:
+/// the intervals beside them don't depend on it.
+fn put_sizes(from: u16, sizes: &[u16], digest: Digest, pieces: &mut [Piece])
+    requires places { AreAligned from 256 sizes.now }
+    requires room { length sizes.now ≡ length pieces.old }
+    ensures { shown pieces.new ≡
+        intervals_from from sizes.now (replicate (length sizes.now) digest) }
+{
+    let mut at = from;
+    for i in 0..sizes.len() {
+        pieces[i] = Piece {
+            from: at,
+            size: sizes[i],
+            digest,
+        };
+        at += sizes[i];
+    }
+}
+
+/// Makes the NMT proof of neighboring subtrees of a tree that isn't empty: the nodes that open
+/// their digests. The first begins at place `from`; each has a power of two of places, and begins
+/// at a multiple of that; there is one at least, and they end within the tree. The nodes are the
+/// digests of the greatest subtrees that hold no place of theirs, left to right, at most two a
+/// level.
+///
+/// It takes no memory, and hashes nothing.
+///
+/// Celestia specifications, "Data Structures", namespaced Merkle trees; docs/RULES.md, "Openings of
+/// subtrees".
+pub fn make_nodes(tree: &Tree, from: u16, sizes: &[u16]) -> Nodes
+    requires filled { IsSome tree.now.leaves }
+    requires some { 0 < length sizes.now }
+    requires places { AreAligned from tree.now.count sizes.now }
+    ensures nodes { ForSome tree.now.leaves (λ leaves.
+        result ≡ subtree_nodes tree.now.count leaves from sizes.now) }
+
+    // They open under the tree's root.
+    ensures opens { ForSome tree.now.leaves (λ leaves.
+        OpensSubtrees tree.now.count leaves from sizes.now result) }
+{
+    let depth = halvings(tree.len() as usize);
+    let mut pieces = blank_pieces();
+    let pieces = &mut pieces[..sizes.len()];
+    put_sizes(from, sizes, Digest([0; 90]), pieces);
+    nodes_beside(tree, depth, pieces)
+}
+
+/// What the digests over leaves in the intervals that hold nothing shown open, and how openings of
+/// single leaves become one.
 pub fn making_laws()
+    // Where every join over leaves is ordered, these digests open what is shown at single places.
     ensures opens { (depth : ℕ) (leaves : List Digest) (shown : List Shown) →
         AreAtLeaves leaves 0 (2 ^ depth) shown → HasOrderedJoins leaves 0 depth →
         Opens depth shown (spans leaves (outside depth 0 shown)) (span leaves 0 depth) }
+
+    // A list's joins are ordered exactly where those of its part are.
     ensures in_order { (depth : ℕ) (names : List Namespace) (shares : List Share) →
         AreLeaves depth names shares → (HasOrderedJoins (leaf_digests names shares) 0 depth) ↔
         (is_in_order (whole depth names shares) ≡ true) }
+
+    // The same as the first for neighboring subtrees.
+    ensures subtrees { (depth from : ℕ) (leaves : List Digest) (sizes : List ℕ) → depth ≤ 8 →
+        AreAligned from (2 ^ depth) sizes → HasOrderedJoins leaves 0 depth →
+        Opens depth (subtrees leaves from sizes)
+        (spans leaves (outside depth 0 (subtrees leaves from sizes))) (span leaves 0 depth) }
+
+    // One opening of several places takes at most half as many nodes as there are leaves.
+    ensures few { (depth : ℕ) (places : List ℕ) (names : List Namespace) (shares : List Share) →
+        0 < length places → length names ≡ length places → length shares ≡ length places →
+        AreAscending 0 (2 ^ (depth + 1)) places →
+        length (outside (depth + 1) 0 (leaves_at places names shares)) ≤ 2 ^ depth }
+
+    // Openings of single leaves under one root, of which no two neighbors name a collision, are put
+    // together to one opening of all their leaves.
+    ensures merged { (depth : ℕ) (root beside : Digest) (branches : List Branch) →
+        0 < length branches → AreBranches depth root branches →
+        Opens depth (leaves_at (places_of branches) (names_of branches) (shares_of branches))
+        (merged_nodes depth 0 0 beside branches) root }
 {}

@@ -4,9 +4,10 @@
 ghost use Rattle.std.specs.Prelude.{◌≡◌, ◌<◌, ◌≤◌, ◌+◌, ℕ, length, take, IsTrue, IsOk, IsErrOf, ◌↔◌, None, Some, true, false};
 ghost use Rattle.namespace_id.specs.Answers.{refusal_in};
 ghost use Rattle.nmt_tree.specs.Roots.{is_leaf_count, halvings};
-ghost use Rattle.nmt_proofs.specs.Openings.{outside, has_count, has_order, has_root, Opens, one_leaf, one_digest, leaves_from, shadow};
+ghost use Rattle.nmt_proofs.specs.Openings.{outside, has_count, has_order, has_root, Opens, one_leaf, one_digest, leaves_from, leaves_at, intervals_from, shadow};
+ghost use Rattle.nmt_proofs.specs.Places.{AreAscending, AreAligned};
 ghost use Rattle.nmt_proofs.specs.Complete.{first_break, range_break, absence_break};
-ghost use Rattle.nmt_proofs.specs.Causes.{HasCause, OpensRange, OpensAbsence, range_refusal, absence_refusal};
+ghost use Rattle.nmt_proofs.specs.Causes.{HasCause, OpensRange, OpensAbsence, range_refusal, absence_refusal, set_refusal};
 ghost use Rattle.nmt_proofs.specs.Pieces.{shown};
 
 use crate::completing::{excludes, first_break};
@@ -91,6 +92,42 @@ fn put_leaves(from: u16, name: &Namespace, shares: &[Share], pieces: &mut [Piece
             size: 1,
             digest: leaf(name, &shares[i]),
         };
+    }
+}
+
+/// Writes leaves at places as pieces.
+fn put_set(places: &[u16], names: &[Namespace], shares: &[Share], pieces: &mut [Piece])
+    requires names { length names.now ≡ length places.now }
+    requires shares { length shares.now ≡ length places.now }
+    requires room { length places.now ≤ length pieces.old }
+    ensures { shown (take (length places.now) pieces.new) ≡
+        shadow (leaves_at places.now names.now shares.now) }
+{
+    for i in 0..places.len() {
+        pieces[i] = Piece {
+            from: places[i],
+            size: 1,
+            digest: leaf(&names[i], &shares[i]),
+        };
+    }
+}
+
+/// Writes neighboring intervals as pieces, from one place on.
+fn put_intervals(from: u16, sizes: &[u16], digests: &[Digest], pieces: &mut [Piece])
+    requires digests { length digests.now ≡ length sizes.now }
+    requires places { AreAligned from 256 sizes.now }
+    requires room { length sizes.now ≤ length pieces.old }
+    ensures { shown (take (length sizes.now) pieces.new) ≡
+        intervals_from from sizes.now digests.now }
+{
+    let mut at = from;
+    for i in 0..sizes.len() {
+        pieces[i] = Piece {
+            from: at,
+            size: sizes[i],
+            digest: digests[i],
+        };
+        at += sizes[i];
     }
 }
 
@@ -239,4 +276,97 @@ pub fn open_absent(
     } else {
         Err(OpenRefusal::Incomplete(nodes.len() as u64))
     }
+}
+
+/// Verifies one NMT inclusion proof of several leaves: whether the nodes open the leaves over `shares`,
+/// each with its namespace of `names`, at their places of `n` leaves under the root. `n` is a power of
+/// two, at most 256. The places ascend, there is one at least, and each is below `n`. The nodes are the
+/// digests of the greatest subtrees that hold none of the places, left to right.
+///
+/// Refuses another number of nodes, then a join that is not ordered, then another root. It takes no
+/// memory.
+///
+/// Celestia specifications, "Data Structures", namespaced Merkle trees; docs/RULES.md, "Openings of
+/// several places".
+pub fn open_set(
+    n: u16,
+    places: &[u16],
+    names: &[Namespace],
+    shares: &[Share],
+    nodes: &[Digest],
+    root: &Digest,
+) -> Result<(), OpenRefusal>
+    requires leaves { IsTrue (is_leaf_count n) }
+    requires some { 0 < length places.now }
+    requires places { AreAscending 0 n places.now }
+    requires names { length names.now ≡ length places.now }
+    requires shares { length shares.now ≡ length places.now }
+    ensures accepts { IsOk result ↔
+        Opens (halvings n) (leaves_at places.now names.now shares.now) nodes.now root.now }
+
+    // Each refusal comes exactly where its test is the first that fails.
+    ensures node_count { IsErrOf result OpenRefusal.NodeCount ↔
+        (has_count (halvings n) (leaves_at places.now names.now shares.now) nodes.now ≡ false) }
+    ensures unordered { IsErrOf result OpenRefusal.Unordered ↔
+        (has_count (halvings n) (leaves_at places.now names.now shares.now) nodes.now ≡ true)
+        × (has_order (halvings n) (leaves_at places.now names.now shares.now) nodes.now ≡ false) }
+    ensures other_root { IsErrOf result OpenRefusal.OtherRoot ↔
+        (has_count (halvings n) (leaves_at places.now names.now shares.now) nodes.now ≡ true)
+        × (has_order (halvings n) (leaves_at places.now names.now shares.now) nodes.now ≡ true)
+        × (has_root (halvings n) (leaves_at places.now names.now shares.now) nodes.now root.now ≡ false) }
+
+    // All of these at once; a set has nothing to be complete for.
+    ensures first { refusal_in result ≡
+        set_refusal (halvings n) (leaves_at places.now names.now shares.now) nodes.now root.now }
+    ensures never { (i : ℕ) → IsErrOf result (OpenRefusal.Incomplete i) → ⊥ }
+{
+    let mut pieces = blank_pieces();
+    put_set(places, names, shares, &mut pieces);
+    open(n, &pieces[..places.len()], nodes, root)
+}
+
+/// Verifies an NMT proof of neighboring subtrees: whether the nodes open their digests, from place `from`
+/// on of `n` leaves, under the root. `n` is a power of two, at most 256. Each subtree has a power of two
+/// of places, and begins at a multiple of that; there is one at least, and they end at or before `n`. The
+/// nodes are the digests of the greatest subtrees that hold no place of theirs, left to right.
+///
+/// Refuses another number of nodes, then a join that is not ordered, then another root. It takes no
+/// memory.
+///
+/// Celestia specifications, "Data Structures", namespaced Merkle trees; docs/RULES.md, "Openings of
+/// subtrees".
+pub fn open_nodes(
+    n: u16,
+    from: u16,
+    sizes: &[u16],
+    digests: &[Digest],
+    nodes: &[Digest],
+    root: &Digest,
+) -> Result<(), OpenRefusal>
+    requires leaves { IsTrue (is_leaf_count n) }
+    requires some { 0 < length sizes.now }
+    requires places { AreAligned from n sizes.now }
+    requires digests { length digests.now ≡ length sizes.now }
+    ensures accepts { IsOk result ↔
+        Opens (halvings n) (intervals_from from sizes.now digests.now) nodes.now root.now }
+
+    // Each refusal comes exactly where its test is the first that fails.
+    ensures node_count { IsErrOf result OpenRefusal.NodeCount ↔
+        (has_count (halvings n) (intervals_from from sizes.now digests.now) nodes.now ≡ false) }
+    ensures unordered { IsErrOf result OpenRefusal.Unordered ↔
+        (has_count (halvings n) (intervals_from from sizes.now digests.now) nodes.now ≡ true)
+        × (has_order (halvings n) (intervals_from from sizes.now digests.now) nodes.now ≡ false) }
+    ensures other_root { IsErrOf result OpenRefusal.OtherRoot ↔
+        (has_count (halvings n) (intervals_from from sizes.now digests.now) nodes.now ≡ true)
+        × (has_order (halvings n) (intervals_from from sizes.now digests.now) nodes.now ≡ true)
+        × (has_root (halvings n) (intervals_from from sizes.now digests.now) nodes.now root.now ≡ false) }
+
+    // All of these at once; subtrees have nothing to be complete for.
+    ensures first { refusal_in result ≡
+        set_refusal (halvings n) (intervals_from from sizes.now digests.now) nodes.now root.now }
+    ensures never { (i : ℕ) → IsErrOf result (OpenRefusal.Incomplete i) → ⊥ }
+{
+    let mut pieces = blank_pieces();
+    put_intervals(from, sizes, digests, &mut pieces);
+    open(n, &pieces[..sizes.len()], nodes, root)
 }

@@ -4,6 +4,8 @@ use Rattle.nmt_proofs.proofs.AgreeLemmas.{found_is_clash, none_found}
 use Rattle.nmt_proofs.proofs.WholeLemmas.{digest-whole, depth-whole, sized-whole}
 use Rattle.nmt_proofs.proofs.ShownLemmas.{opening-sized, opening-deep}
 use Rattle.nmt_proofs.proofs.ListedLemmas.{opening_law, places_law, leaf_law, lists_law, symmetric_law}
+use Rattle.nmt_proofs.proofs.SetLawLemmas.{set_law}
+use Rattle.nmt_proofs.proofs.PieceLawLemmas.{subtrees_law}
 use Rattle.nmt_proofs.proofs.TwinLemmas.{twins_law}
 use Rattle.nmt_proofs.proofs.agreeing.clash_laws.Goals as goal
 
@@ -42,3 +44,9 @@ returns-clause-root c = digest-whole
 
 pub returns-clause-hashed : goal.returns-clause-hashed
 returns-clause-hashed c = λ d p q dp dq. sym (first_apart-clash_at d 0 p q dp dq)
+
+pub returns-clause-set : goal.returns-clause-set
+returns-clause-set c = set_law
+
+pub returns-clause-subtrees : goal.returns-clause-subtrees
+returns-clause-subtrees c = subtrees_law
