@@ -3,5 +3,6 @@ pub mod SizeLemmas
 pub mod MessageLemmas
 pub mod OwnLemmas
 pub mod ClaimLemmas
+pub mod SetLemmas
 pub mod FalseClaimLemmas
 pub mod ProofLemmas

@@ -6,4 +6,5 @@ pub mod Grids
 pub mod Own
 pub mod Answers
 pub mod Trees
+pub mod Sets
 pub mod Claims

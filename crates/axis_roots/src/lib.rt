@@ -15,7 +15,7 @@ mod message;
 mod square;
 
 pub use answers::{Found, NsAnswer, NsEntry, ShareList, answer_law};
-pub use claims::{FraudClaim, FraudProof, claim_law, claim_laws};
+pub use claims::{FraudClaim, FraudProof, SetNodes, claim_law, claim_laws, is_along};
 pub use message::{
     CheckRefusal, Message, Proved, RefusedMessage, check, index, made_laws, message_from,
     message_law, message_laws, message_of, opens, own_laws, position,

@@ -1,5 +1,5 @@
 -- What proved cells of an axis decide.
-use Rattle.std.proofs.Common.{◌≡◌, ◌≢◌, ◌∙◌, ℕ, List, [], ◌∷◌, map, true, Option, Some, refl, subst}
+use Rattle.std.proofs.Common.{◌≡◌, ◌≢◌, ◌∙◌, ℕ, List, [], ◌∷◌, map, true, Option, Some, None, refl, subst}
 use Rattle.std.specs.List.{AllByRecursion}
 use Rattle.std.proofs.lemmas.Bool.{and_from}
 use Rattle.namespace_id.specs.declared.cells.Axis.{Axis}
@@ -14,6 +14,7 @@ use Rattle.axis_roots.specs.Proved.{kept_message, IsUnder}
 use Rattle.axis_roots.specs.Lines.{line_strict_root}
 use Rattle.axis_roots.specs.Claims.{ClaimParts, claim_with, has_shape, claimed_root, IsThrough, Accepts}
 use Rattle.axis_roots.proofs.Messages.ClaimLemmas.{are_inside}
+use Rattle.axis_roots.proofs.Messages.ProofLemmas.{plain_accepted}
 
 -- the messages of certificates under a header are proved under it
 pub kept_proved : (header : Roots) → ((c : Proved) → IsUnder header c → IsProved header (kept_message c))
@@ -33,11 +34,9 @@ pub through_same : (k n : ℕ) (axis : Axis) (i : ℕ) (cells given : List Prove
 through_same k n axis i cells given word width same through =
     subst (λ (m : ℕ). IsThrough m (claim_with axis i cells) word) width (subst (λ (cs : List Proved). IsThrough n (claim_with axis i cs) word) same through)
 
--- a claim of proved cells, through which goes a line with another root or none, is accepted
-pub accepted : (header : Roots) (claim : ClaimParts) (word : List Share) (found : Option Digest) → has_shape header.k claim ≡ true
+-- a claim of proved cells and no set, through which goes a line with another root or none, is accepted
+pub accepted : (header : Roots) (claim : ClaimParts) (word : List Share) (found : Option Digest) → claim.set ≡ None → has_shape header.k claim ≡ true
     → AllByRecursion (IsProved header) claim.cells → IsThrough header.k claim word → found ≡ line_strict_root header.k claim.axis claim.index word
     → found ≢ Some (claimed_root header claim) → Accepts header claim
-accepted header claim word found shape proved through is other = record {
-  proved = proved;
-  bad = record { shape = shape; word = word; through = through; other = λ e. other (is ∙ e) };
-}
+accepted header claim word found plain shape proved through is other =
+    (plain_accepted header claim plain).0 (proved, record { shape = shape; word = word; through = through; other = λ e. other (is ∙ e) })

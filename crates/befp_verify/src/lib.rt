@@ -5,8 +5,10 @@
 //! `Upheld` is the certificate of a claim that was accepted; only `verify` makes one.
 #![tactic(auto)]
 
+mod compacting;
 mod upheld;
 mod verifying;
 
+pub use compacting::{Compacted, compact};
 pub use upheld::Upheld;
 pub use verifying::{FraudRefusal, FraudRefused, VerifyRoom, verify};

@@ -1,24 +1,30 @@
 //! Fraud claims under a header.
 
-ghost use Rattle.std.specs.Prelude.{◌≡◌, ◌↔◌, ◌*◌, ◌<◌, ℕ, Option, IsTrue, IsOk, IfOk, IfErr, Some, None, true, false, length, map, nat_lt};
-ghost use Rattle.std.specs.List.{list_all};
+ghost use Rattle.std.specs.Prelude.{◌≡◌, ◌↔◌, ◌*◌, ◌<◌, ◌≤◌, ℕ, Option, IsTrue, IsOk, IfOk, IfErr, Some, None, true, false, length, map, take, nat_lt};
+ghost use Rattle.std.specs.List.{list_all, list_any};
+ghost use Rattle.nmt_proofs.specs.declared.opening.OpenRefusal.{OpenRefusal as NotOpened};
+ghost use Rattle.namespace_id.specs.Answers.{refusal_in};
 ghost use Rattle.namespace_id.specs.Cells.{is_width, is_in_square};
 ghost use Rattle.namespace_id.specs.Lists.{holds_along};
 ghost use Rattle.axis_roots.specs.declared.message.messages.CheckRefusal.{CheckRefusal as Why};
 ghost use Rattle.axis_roots.specs.Messages.{position};
-ghost use Rattle.axis_roots.specs.Claims.{ClaimParts, is_on, has_shape, claimed_root, FitsRoot, Accepts, IsFalseClaim};
+ghost use Rattle.axis_roots.specs.Sets.{is_along, along_in, names_in, is_bare, fits_set};
+ghost use Rattle.axis_roots.specs.Claims.{ClaimParts, is_on, has_shape, has_set_shape, is_set_cell, claimed_root, FitsRoot, Accepts, IsFalseClaim};
 ghost use Rattle.befp_verify.specs.declared.verifying.FraudRefusal.TheVariants as refusal;
-ghost use Rattle.befp_verify.specs.Refusals.{unproved_from, first_unproved, HasCause, why_of};
+ghost use Rattle.befp_verify.specs.Refusals.{is_shaped, cell_refusal, refused_from, first_unproved, nodes_refusal, unopened, HasCause, why_of};
 ghost use Rattle.befp_verify.specs.Lines.{IsRootThrough};
 
 use crate::Upheld;
 use axis_roots::{
-    CheckRefusal, FraudClaim, Message, claim_law, claim_laws, index, line_strict_root,
+    CheckRefusal, FraudClaim, Message, claim_law, claim_laws, index, is_along, line_strict_root,
     message_laws, opens, position,
 };
 use data_header::Header;
 use leopard_code::{Room, rebuild};
-use namespace_id::{Axis, Digest, Namespace, NoMemory, PARITY, SHARE_SIZE, Share};
+use namespace_id::{
+    Axis, Digest, Namespace, NoMemory, PARITY, SHARE_SIZE, Share, is_in_square, leaf_namespace,
+};
+use nmt_proofs::{OpenRefusal, open_set};
 use std::alloc::Global;
 use std::marker::Model;
 use thiserror::Error;
@@ -27,12 +33,16 @@ use thiserror::Error;
 #[derive(Clone, Copy, Debug, PartialEq, Eq, Error)]
 pub enum FraudRefusal {
     /// The index isn't one of the square, or there aren't just k cells, all on the axis, at ascending
-    /// positions.
+    /// positions; or there is a set, and no cell is along the axis, or one that is lies outside the
+    /// square or has a path of its own.
     #[error("a claim has k cells of one axis of the square, at ascending positions")]
     Shape,
     /// The first cell that isn't proved under the header, and why.
     #[error("cell {0} is not proved: {1}")]
     Cell(u64, CheckRefusal),
+    /// The set doesn't open the cells along the axis, and why.
+    #[error("the set does not open its cells: {0}")]
+    Set(OpenRefusal),
     /// The axis that goes through the cells has the header's root.
     #[error("the axis through the cells has the root of the header")]
     AxisMatches,
@@ -133,16 +143,179 @@ fn has_shape(k: u16, claim: &FraudClaim) -> bool
         && are_ascending(claim.axis, &claim.cells)
 }
 
-/// The first cell that isn't proved, and why.
-fn first_unproved(header: &Header, cells: &[Message]) -> Option<(u64, CheckRefusal)>
-    ensures { result ≡ unproved_from header.now 0 cells.now }
+/// Whether some cell is along the axis.
+pub(crate) fn some_along(axis: Axis, cells: &[Message]) -> bool
+    ensures { result ≡ list_any (is_along axis) cells.now }
+{
+    cells.iter().any(|message| is_along(axis, message))
+}
+
+/// Whether a message along the axis has a cell of the square, and no path of its own.
+fn is_bare(k: u16, axis: Axis, message: &Message) -> bool
+    requires { IsTrue (is_width k) }
+    ensures { result ≡ is_bare k axis message.now }
+{
+    if is_along(axis, message) {
+        is_in_square(k, message.cell) && message.path.nodes().is_empty()
+    } else {
+        true
+    }
+}
+
+/// Whether each cell is so.
+fn are_bare(k: u16, axis: Axis, cells: &[Message]) -> bool
+    requires { IsTrue (is_width k) }
+    ensures { result ≡ list_all (is_bare k axis) cells.now }
+{
+    cells.iter().all(|message| is_bare(k, axis, message))
+}
+
+/// Whether the cells of a claim fit its set, if it has one.
+fn has_set_shape(k: u16, claim: &FraudClaim) -> bool
+    requires { IsTrue (is_width k) }
+    ensures { result ≡ has_set_shape k claim.now }
+{
+    match &claim.set {
+        None => true,
+        Some(_nodes) => some_along(claim.axis, &claim.cells)
+            && are_bare(k, claim.axis, &claim.cells),
+    }
+}
+
+/// Whether a claim has its shape, and its cells fit its set, if it has one.
+fn is_shaped(k: u16, claim: &FraudClaim) -> bool
+    requires { IsTrue (is_width k) }
+    ensures { result ≡ is_shaped k claim.now }
+{
+    has_shape(k, claim) && has_set_shape(k, claim)
+}
+
+/// Whether the set of a claim shows the cell of a message.
+fn is_set_cell(claim: &FraudClaim, message: &Message) -> bool
+    ensures { result ≡ is_set_cell claim.now message.now }
+{
+    match &claim.set {
+        None => false,
+        Some(_nodes) => is_along(claim.axis, message),
+    }
+}
+
+/// Why a cell of a claim isn't proved, where the claim's set doesn't show it.
+fn cell_refusal(header: &Header, claim: &FraudClaim, message: &Message) -> Option<CheckRefusal>
+    ensures { result ≡ cell_refusal header.now claim.now message.now }
+{
+    if is_set_cell(claim, message) {
+        return None;
+    }
+    match opens(header, message) {
+        Ok(()) => None,
+        Err(why) => Some(why),
+    }
+}
+
+/// The first of these cells of a claim that isn't proved and that the claim's set doesn't show, and why.
+fn first_unproved(
+    header: &Header,
+    claim: &FraudClaim,
+    cells: &[Message],
+) -> Option<(u64, CheckRefusal)>
+    ensures { result ≡ refused_from (cell_refusal header.now claim.now) 0 cells.now }
 {
     for i in 0..cells.len() {
-        if let Err(why) = opens(header, &cells[i]) {
+        if let Some(why) = cell_refusal(header, claim, &cells[i]) {
             return Some((i as u64, why));
         }
     }
     None
+}
+
+/// Copies the positions, the leaf namespaces and the shares of the cells along an axis to the fronts of buffers, and
+/// tells how many there are.
+fn gather_along(
+    k: u16,
+    axis: Axis,
+    cells: &[Message],
+    known: &mut [u16],
+    names: &mut [Namespace],
+    shares: &mut [Share],
+) -> usize
+    requires width { IsTrue (is_width k) }
+    requires bare { list_all (is_bare k axis) cells.now ≡ true }
+    requires known { length cells.now ≤ length known.old }
+    requires names { length cells.now ≤ length names.old }
+    requires shares { length cells.now ≤ length shares.old }
+    ensures count { result ≡ length (along_in axis cells.now) }
+    ensures known { take result known.new ≡ map (λ m. position axis m.cell) (along_in axis cells.now) }
+    ensures names { take result names.new ≡ names_in k (along_in axis cells.now) }
+    ensures shares { take result shares.new ≡ map (λ m. m.share) (along_in axis cells.now) }
+{
+    let mut count = 0;
+    for at in 0..cells.len() {
+        let message = &cells[at];
+        if is_along(axis, message) {
+            known[count] = position(axis, message.cell);
+            names[count] = leaf_namespace(k, message.cell, &message.share);
+            shares[count] = message.share;
+            count += 1;
+        }
+    }
+    count
+}
+
+/// Why an opening is refused, if it is.
+fn reason(opened: Result<(), OpenRefusal>) -> Option<OpenRefusal>
+    ensures { result ≡ refusal_in opened }
+{
+    match opened {
+        Ok(()) => None,
+        Err(why) => Some(why),
+    }
+}
+
+/// Why the nodes of a set don't open the cells of a claim that are along its axis.
+fn nodes_refusal(
+    room: &mut VerifyRoom,
+    header: &Header,
+    claim: &FraudClaim,
+    nodes: &[Digest],
+) -> Option<OpenRefusal>
+    requires room { room.old ≡ header.now.k }
+    requires shape { has_shape header.now.k claim.now ≡ true }
+    requires set_shape { fits_set header.now.k claim.now.axis claim.now.cells (Some nodes.now) ≡ true }
+    ensures refusal { result ≡ nodes_refusal header.now claim.now (Some nodes.now) }
+    ensures room { room.new ≡ room.old }
+{
+    let k = header.k;
+    let count = gather_along(
+        k,
+        claim.axis,
+        &claim.cells,
+        &mut room.known,
+        &mut room.names,
+        &mut room.shares,
+    );
+    let axis_root = header.root_of(claim.axis, claim.index);
+    reason(open_set(
+        2 * k,
+        &room.known[..count],
+        &room.names[..count],
+        &room.shares[..count],
+        nodes,
+        &axis_root,
+    ))
+}
+
+/// Why the set of a claim doesn't open, if it has one.
+fn unopened(room: &mut VerifyRoom, header: &Header, claim: &FraudClaim) -> Option<OpenRefusal>
+    requires room { room.old ≡ header.now.k }
+    requires shape { is_shaped header.now.k claim.now ≡ true }
+    ensures refusal { result ≡ unopened header.now claim.now }
+    ensures room { room.new ≡ room.old }
+{
+    match &claim.set {
+        None => None,
+        Some(set) => nodes_refusal(room, header, claim, &set.nodes),
+    }
 }
 
 /// Copies the positions of cells on the axis, and their shares.
@@ -178,19 +351,23 @@ fn is_root(found: Option<Digest>, root: &Digest) -> bool
     found == Some(*root)
 }
 
-/// The three checks in their order.
+/// The four checks in their order.
 fn judge(room: &mut VerifyRoom, header: &Header, claim: &FraudClaim) -> Option<FraudRefusal>
     requires room { room.old ≡ header.now.k }
     ensures cause { HasCause header.now claim.now result }
     ensures room { room.new ≡ room.old }
 {
     claim_law(claim);
+    claim_laws();
     message_laws();
-    if !has_shape(header.k, claim) {
+    if !is_shaped(header.k, claim) {
         return Some(FraudRefusal::Shape);
     }
-    if let Some((i, why)) = first_unproved(header, &claim.cells) {
+    if let Some((i, why)) = first_unproved(header, claim, &claim.cells) {
         return Some(FraudRefusal::Cell(i, why));
+    }
+    if let Some(why) = unopened(room, header, claim) {
+        return Some(FraudRefusal::Set(why));
     }
     let root = header.root_of(claim.axis, claim.index);
     if is_root(root_through(room, claim), &root) {
@@ -213,12 +390,14 @@ fn cause_law(header: &Header)
 /// Verifies a bad-encoding fraud proof (BEFP) under a data availability header: whether the claim has just k
 /// cells of one axis, at ascending positions, each proved under the header's root of its row or its
 /// column, and the strict root of the one codeword through them is none or isn't the header's root of
-/// that axis. Under the header of a square it is accepted only where a message of it and the square name
-/// two strings with one SHA-256 digest.
+/// that axis. Where the claim has a set, its cells along the axis are proved by that in place of paths of
+/// their own. Under the header of a square a claim is accepted only where a message of it, or its set, and
+/// the square name two strings with one SHA-256 digest.
 ///
-/// Refuses another shape, then the first cell that isn't proved, with the reason of `opens`, then an axis
-/// that has the header's root; a refusal hands the claim back unchanged. The room is for the header's
-/// width, and its buffers are written. It takes no memory.
+/// Refuses another shape, then the first cell that isn't proved, with the reason of `opens`, then a set
+/// that doesn't open its cells, with the reason of `open_set`, then an axis that has the header's root; a
+/// refusal hands the claim back unchanged. The room is for the header's width, and its buffers are
+/// written. It takes no memory.
 ///
 /// Al-Bassam, Sonnino, Buterin and Khoffi, fraud proofs of incorrectly generated extended data;
 /// docs/RULES.md, "Fraud claims".
@@ -232,18 +411,22 @@ pub fn verify(
     ensures upheld { IfOk result (λ upheld. upheld ≡ claim) }
 
     // Each refusal comes exactly where its test is the first that fails, and hands the claim back.
-    ensures shape { (why_of result ≡ Some refusal.Shape) ↔ (has_shape header.now.k claim ≡ false) }
+    ensures shape { (why_of result ≡ Some refusal.Shape) ↔ (is_shaped header.now.k claim ≡ false) }
     ensures cell { (i : ℕ) (why : Why) → (why_of result ≡ Some (refusal.Cell i why)) ↔
-        (has_shape header.now.k claim ≡ true) × (first_unproved header.now claim ≡ Some (i, why)) }
+        (is_shaped header.now.k claim ≡ true) × (first_unproved header.now claim ≡ Some (i, why)) }
+    ensures set { (why : NotOpened) → (why_of result ≡ Some (refusal.Set why)) ↔
+        (is_shaped header.now.k claim ≡ true) × (first_unproved header.now claim ≡ None)
+        × (unopened header.now claim ≡ Some why) }
     ensures axis_matches { (why_of result ≡ Some refusal.AxisMatches) ↔
-        (has_shape header.now.k claim ≡ true) × (first_unproved header.now claim ≡ None)
-        × FitsRoot header.now.k claim (claimed_root header.now claim) }
+        (is_shaped header.now.k claim ≡ true) × (first_unproved header.now claim ≡ None)
+        × (unopened header.now claim ≡ None) × FitsRoot header.now.k claim (claimed_root header.now claim) }
     ensures returned { IfErr result (λ refused. refused.claim ≡ claim) }
 
     // All of these at once.
     ensures cause { HasCause header.now claim (why_of result) }
 
-    // A claim that is accepted under the header of a square has a message that names a collision with it.
+    // A claim that is accepted under the header of a square has a message, or a set, that names a collision
+    // with it.
     ensures own { IsOk result → IsFalseClaim header.now claim }
     ensures room { room.new ≡ room.old }
 {

@@ -62,6 +62,7 @@ fn claim_of(alloc: Global, proof: FraudProof) -> Result<FraudClaim, NoMemory>
         axis: proof.axis,
         index: proof.index,
         cells: messages_of(alloc, proof.cells)?,
+        set: None,
     })
 }
 

@@ -25,6 +25,7 @@ use Rattle.axis_roots.specs.Claims.{ClaimParts, positions_of, is_on, has_shape, 
 use Rattle.axis_roots.proofs.Grids.AxisLemmas.{index-cell_on, position-cell_on}
 use Rattle.befp_maker.specs.Gathered.{IsOfLine, AreOfLine}
 use Rattle.befp_maker.specs.Halves.{AreHalf}
+use Rattle.axis_roots.proofs.Messages.ProofLemmas.{plain_accepted}
 use Rattle.repair_queue.specs.declared.boards.Board.{Board}
 use Rattle.repair_queue.specs.declared.marks.Marks.{Marks}
 use Rattle.repair_queue.specs.Closures.{AreChosen, Fact}
@@ -159,15 +160,16 @@ module _ (header : Roots) (axis : Axis) (i : ℕ) (line : List Share) where
   accepts_here places cells within chosen are code other =
       let below : list_all (λ p. nat_lt p (2 * header.k)) places ≡ true =
       (and_parts (list_all (λ p. nat_lt p (2 * header.k)) places) (holds_along nat_lt places) chosen.positions).0 in
-      let half : AreHalf header axis i cells = half_here places cells within chosen are in record {
-        proved = all_proved header cells half.under;
-        bad = record {
+      let half : AreHalf header axis i cells = half_here places cells within chosen are in
+      (plain_accepted header (claim_with axis i cells) refl).0 (
+        all_proved header cells half.under,
+        record {
           shape = half.shape;
           word = line;
           through = record { codeword = code; entries = entries_here (2 * header.k) places cells (sym code.count) below are };
           other = other;
-        };
-      }
+        },
+      )
 
   -- which is a fraud where it is made of facts
   pub fraud_here : (ms : List Message) (places : List ℕ) (cells : List Proved) → AreChosen header.k places → AreOfLine header axis i line places cells

@@ -8,6 +8,7 @@ use Rattle.std.proofs.lemmas.List.{length-map}
 use Rattle.std.proofs.lemmas.Option.{get_or_from_slice_get}
 use Rattle.namespace_id.specs.declared.cells.Axis.{Axis}
 use Rattle.namespace_id.specs.declared.shares.Share.{Share}
+use Rattle.namespace_id.specs.Cells.{is_in_square}
 use Rattle.namespace_id.specs.Lists.{holds_along}
 use Rattle.leopard_code.specs.Codewords.{HasEntries}
 use Rattle.data_header.specs.Headers.{Roots}
@@ -18,7 +19,8 @@ use Rattle.axis_roots.specs.Lines.{blank, cell_on, line_strict_root, entry}
 use Rattle.axis_roots.specs.Claims.{ClaimParts, positions_of, ShowsBad, claimed_root}
 use Rattle.axis_roots.proofs.Grids.AxisLemmas.{cell_on-own}
 use Rattle.axis_roots.proofs.Grids.NumberLemmas.{position-lt}
-use Rattle.axis_roots.proofs.Messages.ClaimLemmas.{Shape, shape_of}
+use Rattle.axis_roots.proofs.Messages.ClaimLemmas.{are_inside, Shape, shape_of}
+use Rattle.axis_roots.proofs.Messages.SetLemmas.{claim_inside}
 use Rattle.repair_queue.specs.Closures.{AreChosen, Fact, IsDecided}
 use Rattle.repair_queue.specs.Settled.{IsLineSettled, IsSettled}
 use Rattle.repair_queue.specs.Verdicts.{IsFraud}
@@ -26,22 +28,29 @@ use Rattle.namespace_id.proofs.MemberLemmas.{contains_none, contains_cons}
 use Rattle.repair_queue.proofs.ClosureLemmas.{fact_half}
 use Rattle.repair_queue.proofs.SettledLemmas.{settled_word}
 
--- proved messages have positions below 2k
-positions_below : (header : Roots) (axis : Axis) (cells : List Message) → AllByRecursion (IsProved header) cells
+-- the cells of proved messages are in the square
+pub proved_inside : (header : Roots) (cells : List Message) → AllByRecursion (IsProved header) cells → are_inside header.k cells ≡ true
+proved_inside header [] proved = refl
+proved_inside header (m ∷ cells) proved =
+    and_from (is_in_square header.k m.cell) (are_inside header.k cells) proved.0.inside (proved_inside header cells proved.1)
+
+-- messages of cells in the square have positions below 2k
+positions_below : (header : Roots) (axis : Axis) (cells : List Message) → are_inside header.k cells ≡ true
     → list_all (λ pos. nat_lt pos (2 * header.k)) (map (λ m. position axis m.cell) cells) ≡ true
-positions_below header axis [] proved = refl
-positions_below header axis (m ∷ cells) proved =
-    let below : position axis m.cell < 2 * header.k = position-lt header.k axis m.cell proved.0.inside in
+positions_below header axis [] inside = refl
+positions_below header axis (m ∷ cells) inside =
+    let both = and_parts (is_in_square header.k m.cell) (are_inside header.k cells) inside in
+    let below : position axis m.cell < 2 * header.k = position-lt header.k axis m.cell both.0 in
     let here : nat_lt (position axis m.cell) (2 * header.k) ≡ true = grind (arith, nat_tests) in
     and_from (nat_lt (position axis m.cell) (2 * header.k)) (list_all (λ pos. nat_lt pos (2 * header.k)) (map (λ n. position axis n.cell) cells)) here
-    (positions_below header axis cells proved.1)
+    (positions_below header axis cells both.1)
 
--- the positions of a claim's cells, which are proved, are k positions
-pub claim_chosen : (header : Roots) (claim : ClaimParts) → AllByRecursion (IsProved header) claim.cells → Shape header.k claim → AreChosen header.k (positions_of claim)
-claim_chosen header claim proved shape = record {
+-- the positions of a claim's cells, which are in the square, are k positions
+pub claim_chosen : (header : Roots) (claim : ClaimParts) → are_inside header.k claim.cells ≡ true → Shape header.k claim → AreChosen header.k (positions_of claim)
+claim_chosen header claim inside shape = record {
   count = length-map claim.cells (λ m. position claim.axis m.cell) ∙ shape.count;
   positions = and_from (list_all (λ pos. nat_lt pos (2 * header.k)) (positions_of claim)) (holds_along nat_lt (positions_of claim))
-      (positions_below header claim.axis claim.cells proved) shape.rising;
+      (positions_below header claim.axis claim.cells inside) shape.rising;
 }
 
 -- at the positions of messages that are facts stand facts
@@ -70,7 +79,7 @@ pub fraud_unsettled : (header : Roots) (ms : List Message) (claim : ClaimParts) 
 fraud_unsettled header ms claim fraud settled =
     let bad : ShowsBad header.k claim (claimed_root header claim) = fraud.accepts.bad in
     let shape : Shape header.k claim = shape_of header.k claim bad.shape in
-    let are : AreChosen header.k (positions_of claim) = claim_chosen header claim fraud.accepts.proved shape in
+    let are : AreChosen header.k (positions_of claim) = claim_chosen header claim (claim_inside header claim fraud.accepts.set_shape fraud.accepts.proved) shape in
     let known : (p : ℕ) → Contains (positions_of claim) p → Fact header ms (cell_on claim.axis claim.index p) (entry bad.word p) =
     facts_there header ms claim.axis claim.index claim.cells bad.word shape.on fraud.facts bad.through.entries in
     let d : IsDecided header ms claim.axis claim.index = record {

@@ -34,7 +34,7 @@ use Rattle.axis_roots.proofs.Grids.ExtensionLemmas.{extension_once}
 use Rattle.axis_roots.proofs.Grids.HeaderLemmas.{header_width, header_root}
 
 -- the leaves of a row or a column of an extension
-leaves_are : (k : ℕ) (square grid : List Share) (axis : Axis) (i : ℕ) → is_width k ≡ true → Extends k square grid → i < 2 * k
+pub leaves_are : (k : ℕ) (square grid : List Share) (axis : Axis) (i : ℕ) → is_width k ≡ true → Extends k square grid → i < 2 * k
     → AreLeaves (halvings (2 * k)) (axis_names k grid axis i) (axis_shares k grid axis i)
 leaves_are k square grid axis i w extends h =
     let word = extends.codewords axis i h in
@@ -82,7 +82,7 @@ pub own_apart : (m : Message) (S : SquareShares) → IsSquare S → ShowsOwn m S
 own_apart m S whole shows names = alike_apart (opened_by S.k m) S m.axis (index m.axis m.cell) shows.grid whole shows.extends shows.alike names
 
 -- the share of a cell on its row or column
-share_on : (k : ℕ) (grid : List Share) (axis : Axis) (cell : Cell) (share : Share) → position axis cell < 2 * k
+pub share_on : (k : ℕ) (grid : List Share) (axis : Axis) (cell : Cell) (share : Share) → position axis cell < 2 * k
     → slice_get (axis_shares k grid axis (index axis cell)) (position axis cell) ≡ Some share → share ≡ share_at (2 * k) grid cell
 share_on k grid axis cell share h e =
     sym (get_or_from_slice_get (axis_shares k grid axis (index axis cell)) (position axis cell) share share e)

@@ -3,6 +3,8 @@ use Rattle.std.proofs.lemmas.List.Elements.{All-more}
 use Rattle.namespace_id.proofs.ElementLemmas.{all_passed}
 use Rattle.axis_roots.specs.declared.message.messages.Message.{Message}
 use Rattle.axis_roots.specs.Messages.{IsMessage}
+use Rattle.std.specs.Prelude.{IfSome}
+use Rattle.namespace_id.specs.Digests.{AreDigests}
 use Rattle.axis_roots.specs.Claims.{ClaimParts}
 use Rattle.axis_roots.proofs.claims.claim_law.Goals as goal
 
@@ -21,4 +23,5 @@ returns c =
       index_bytes = omega (arith, ap (λ (claim : ClaimParts). claim.index) c.claim.view_is);
       messages = all_passed IsMessage c.args.claim.now.cells c.loop-message.message-index
           (omega (arith, ap length cells, ap length c.deref-message-items.ensures.value)) c.loop-message.invariant;
+      digests = subst (λ (claim : ClaimParts). IfSome claim.set AreDigests) c.claim.view_is c.set_law.ensures;
     }

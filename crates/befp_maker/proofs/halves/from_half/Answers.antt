@@ -44,7 +44,7 @@ returns-else-is_root-clause-bad c =
     let claim : ClaimParts = claim_with c.args.axis c.args.index c.args.cells.items in
     let through : IsThrough c.args.header.now.k claim c.rebuild.new.self.shares =
     through_same _ _ _ _ _ _ _ c.requires.room c.deref.ensures.value c.rebuild.ensures.through in (
-      λ _. accepted c.args.header.now claim c.rebuild.new.self.shares c.rebuild.result c.requires.half.shape
+      λ _. accepted c.args.header.now claim c.rebuild.new.self.shares c.rebuild.result refl c.requires.half.shape
           (kept_proved c.args.header.now (c.message_laws.ensures.certificate c.args.header.now) c.args.cells.items c.requires.half.under) through
           (c.rebuild.ensures.root ∙ ap (λ (k : ℕ). line_strict_root k c.args.axis c.args.index c.rebuild.new.self.shares) c.requires.room)
           (λ e. absurd (false≢true (sym c.if-is_root.false ∙ c.is_root.ensures.1 (e ∙ ap Some (sym c.root_of-root.ensures))))),

@@ -24,7 +24,7 @@ rebuild-requires-clause-positions c =
 -- the line that was rebuilt is through the claim's cells
 pub returns-clause-root : goal.returns-clause-root
 returns-clause-root c =
-    let parts : ClaimParts = record { axis = c.claim.inside.axis; index = c.claim.inside.index; cells = c.claim.inside.cells.items } in
+    let parts : ClaimParts = record { axis = c.claim.inside.axis; index = c.claim.inside.index; cells = c.claim.inside.cells.items; set = c.claim.inside.set } in
     subst (λ (p : ClaimParts). IsRootThrough c.args.room.now p c.line_strict_root.result) c.claim.view_is
     (line_through c.args.room.now c.room.inside.code parts c.deref-2.result.now c.deref-3.result.now c.rebuild.new.all c.line_strict_root.result
     (c.room.invariant.coded ∙ c.room.view_is)
