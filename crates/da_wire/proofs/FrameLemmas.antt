@@ -16,7 +16,7 @@ use Rattle.da_wire.specs.kinds.Header.{header_payload}
 use Rattle.da_wire.specs.kinds.Square.{square_payload}
 use Rattle.da_wire.specs.kinds.Message.{message_payload}
 use Rattle.da_wire.specs.kinds.Names.{names_payload, is_long_answer}
-use Rattle.da_wire.specs.kinds.Fraud.{fraud_payload, is_long_claim}
+use Rattle.da_wire.specs.kinds.Fraud.{fraud_payload, is_unwritten}
 use Rattle.da_wire.specs.kinds.Missing.{missing_payload}
 use Rattle.da_wire.specs.kinds.Clash.{has_empty, clash_payload}
 use Rattle.da_wire.specs.kinds.Requests.{sample_payload, request_payload}
@@ -49,7 +49,7 @@ head_is (Message m) text e = head_of message_kind (message_payload m) text e
 head_is (Names name answer) text e =
     head_of names_kind (names_payload name answer) text (if_false (is_long_answer answer) (spelled names_kind (names_payload name answer)) text e).1
 head_is (Fraud claim) text e =
-    head_of fraud_kind (fraud_payload claim) text (if_false (is_long_claim claim) (spelled fraud_kind (fraud_payload claim)) text e).1
+    head_of fraud_kind (fraud_payload claim) text (if_false (is_unwritten claim) (spelled fraud_kind (fraud_payload claim)) text e).1
 head_is (Missing cells) text e =
     head_of missing_kind (missing_payload cells) text (if_false (eqb (length cells.list) 0) (spelled missing_kind (missing_payload cells)) text e).1
 head_is (Clash clash) text e =

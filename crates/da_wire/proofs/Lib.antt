@@ -11,4 +11,5 @@ pub mod TakingLemmas
 pub mod StreamLemmas
 pub mod PushLemmas
 pub mod CuttingLemmas
+pub mod AcceptedClaims
 pub mod Examples

@@ -12,3 +12,4 @@ pub mod Headed
 pub mod Texts
 pub mod Lists
 pub mod Lengths
+pub mod Told

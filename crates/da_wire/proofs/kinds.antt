@@ -12,7 +12,13 @@ pub mod Founds
 pub mod Entries
 pub mod NamesForm
 pub mod NamesSizes
+pub mod AccusedForm
+pub mod PlainForm
+pub mod CellParts
+pub mod ClaimCells
+pub mod SetForm
 pub mod FraudForm
+pub mod SetParts
 pub mod ClashForm
 pub mod BlockParts
 pub mod PayloadSizes

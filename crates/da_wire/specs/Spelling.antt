@@ -18,7 +18,7 @@ use Rattle.da_wire.specs.kinds.Header.{header_payload}
 use Rattle.da_wire.specs.kinds.Square.{square_payload}
 use Rattle.da_wire.specs.kinds.Message.{message_payload}
 use Rattle.da_wire.specs.kinds.Names.{names_payload, is_long_answer}
-use Rattle.da_wire.specs.kinds.Fraud.{fraud_payload, is_long_claim}
+use Rattle.da_wire.specs.kinds.Fraud.{fraud_payload, is_unwritten}
 use Rattle.da_wire.specs.kinds.Missing.{missing_payload}
 use Rattle.da_wire.specs.kinds.Clash.{AreStrings, has_empty, clash_payload}
 use Rattle.da_wire.specs.kinds.Requests.{sample_payload, request_payload}
@@ -92,8 +92,8 @@ abbrev pub spelled : ℕ → List ℕ → Option (List ℕ)
 spelled kind payload = if nat_lt max_payload (length payload) then None else Some (frame kind payload)
 
 -- the spelling of a value, where it has one: no cells are no missing cells, 0 is no width to ask for, an
--- answer has up to 128 entries, each of up to 128 shares, a claim has up to 128 cells, and no string of a
--- collision is empty
+-- answer has up to 128 entries, each of up to 128 shares, a claim has up to 128 cells, which fit its set
+-- where it has one, and no string of a collision is empty
 abbrev pub spelling : Frame → Option (List ℕ)
 spelling (Header h) = spelled header_kind (header_payload h)
 spelling (Square s) = spelled square_kind (square_payload s)
@@ -101,7 +101,7 @@ spelling (Message m) = spelled message_kind (message_payload m)
 spelling (Names name answer) =
     if is_long_answer answer then None else spelled names_kind (names_payload name answer)
 spelling (Fraud claim) =
-    if is_long_claim claim then None else spelled fraud_kind (fraud_payload claim)
+    if is_unwritten claim then None else spelled fraud_kind (fraud_payload claim)
 spelling (Missing cells) =
     if length cells.list == 0 then None else spelled missing_kind (missing_payload cells)
 spelling (Clash clash) = if has_empty clash then None else spelled clash_kind (clash_payload clash)

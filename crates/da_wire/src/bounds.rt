@@ -1,6 +1,6 @@
 //! The lengths and bounds of values at hand.
 
-ghost use Rattle.std.specs.Prelude.{◌≡◌, ◌<◌, ◌^◌, map, false, IfSome};
+ghost use Rattle.std.specs.Prelude.{◌≡◌, ◌<◌, ◌^◌, map, false, None, IfSome};
 ghost use Rattle.std.specs.List.{AllByRecursion};
 ghost use Rattle.namespace_id.specs.Bytes.{AreBytes};
 ghost use Rattle.namespace_id.specs.Cells.{AreCells};
@@ -14,7 +14,7 @@ ghost use Rattle.share_split.specs.Blobs.{IsNamed};
 ghost use Rattle.square_layout.specs.Blocks.{IsBlock};
 ghost use Rattle.da_wire.specs.codec.Texts.{IsCell};
 ghost use Rattle.da_wire.specs.kinds.Clash.{AreStrings};
-ghost use Rattle.da_wire.specs.kinds.Fraud.{is_long_claim};
+ghost use Rattle.da_wire.specs.kinds.Fraud.{is_unwritten};
 ghost use Rattle.da_wire.specs.Spelling.{IsFrame};
 
 use crate::Frame;
@@ -122,11 +122,12 @@ fn proved_law(cells: &[Proved])
     }
 }
 
-/// Says that the claim of a fraud proof has an index of two bytes, and up to 128 messages. It changes
-/// nothing.
+/// Says that the claim of a fraud proof has an index of two bytes, up to 128 messages and no set. It
+/// changes nothing.
 pub(crate) fn proof_law(proof: &FraudProof)
     ensures claim { IsClaim proof.now.claim }
-    ensures short { is_long_claim proof.now.claim ≡ false }
+    ensures plain { proof.now.claim.set ≡ None }
+    ensures short { is_unwritten proof.now.claim ≡ false }
 {
     let _k = proof.width();
     proved_law(&proof.cells);

@@ -70,7 +70,8 @@ pub enum FrameError {
 pub enum SpellError {
     /// The value has no spelling: an empty list of missing cells, a block that asks for the width 0,
     /// a namespace answer of more than 128 entries or of a range of more than 128 shares, a fraud claim
-    /// of more than 128 cells, a collision of which one string is empty, or a payload above its limit.
+    /// of more than 128 cells or of cells that don't fit its set, a collision of which one string is
+    /// empty, or a payload above its limit.
     #[error("the value has no spelling")]
     Unspellable,
     /// There was no memory.

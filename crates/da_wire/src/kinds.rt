@@ -4,9 +4,11 @@ ghost use Rattle.std.specs.Prelude.{◌≡◌};
 ghost use Rattle.da_wire.specs.Spelling.{kind_byte};
 ghost use Rattle.da_wire.specs.Reading.{kind_at};
 
+pub(crate) mod accused;
 pub(crate) mod block;
 pub(crate) mod clash;
 pub(crate) mod fraud;
+pub(crate) mod fraud_set;
 pub(crate) mod header;
 pub(crate) mod message;
 pub(crate) mod missing;

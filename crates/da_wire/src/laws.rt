@@ -12,13 +12,13 @@ ghost use Rattle.axis_roots.specs.declared.message.messages.Message as sent;
 ghost use Rattle.axis_roots.specs.Messages.{IsMessage};
 ghost use Rattle.axis_roots.specs.declared.answers.NsEntry.{NsEntry};
 ghost use Rattle.axis_roots.specs.Answers.{AreEntries};
-ghost use Rattle.axis_roots.specs.Claims.{ClaimParts, IsClaim};
+ghost use Rattle.axis_roots.specs.Claims.{ClaimParts, IsClaim, Accepts};
 ghost use Rattle.square_layout.specs.Blocks.{SquareShares, IsSquare};
 ghost use Rattle.hash_clash.specs.Collisions.{Strings};
 ghost use Rattle.da_wire.specs.declared.frames.Frame.TheVariants.{Header, Square, Message, Names, Fraud, Missing, Clash, Sample, Request};
 ghost use Rattle.da_wire.specs.Spelling.{max_payload, spelling};
 ghost use Rattle.da_wire.specs.kinds.Names.{is_long_answer};
-ghost use Rattle.da_wire.specs.kinds.Fraud.{is_long_claim};
+ghost use Rattle.da_wire.specs.kinds.Fraud.{is_unwritten};
 ghost use Rattle.da_wire.specs.kinds.Clash.{AreStrings, has_empty};
 ghost use Rattle.da_wire.specs.Laws.{SpelledIsRead, ReadIsSpelled, OneSpelling, OnlyIsSpelled, SpelledIsOnly, MessageIsRead, MessageIsSpelled, RawIsFrame, FramesAreTheFile, FilesAreFrames, BadFrameIsFirst, ValuesAreTheFile, FilesAreValues, BadValueIsFirst};
 ghost use Rattle.da_wire.specs.Streams.{EveryCutting, FramesStay};
@@ -34,15 +34,18 @@ pub fn wire_laws()
     ensures only { OnlyIsSpelled }
     ensures only_read { SpelledIsOnly }
 
-    // What has a spelling. Missing cells are at most as many as their square has.
+    // What has a spelling: a claim that is accepted is one that can be written. Missing cells are at most
+    // as many as their square has.
     ensures headers { (header : Roots) → IsHeader header → IsSome (spelling (Header header)) }
     ensures squares { (square : SquareShares) → IsSquare square → AreShares square.shares →
         IsSome (spelling (Square square)) }
     ensures messages { (m : sent.Message) → IsMessage m → IsSome (spelling (Message m)) }
     ensures names { (name : names.Namespace) (answer : List NsEntry) → IsNamespace name →
         AreEntries answer → is_long_answer answer ≡ false → IsSome (spelling (Names name answer)) }
-    ensures claims { (claim : ClaimParts) → IsClaim claim → is_long_claim claim ≡ false →
+    ensures claims { (claim : ClaimParts) → IsClaim claim → is_unwritten claim ≡ false →
         IsSome (spelling (Fraud claim)) }
+    ensures accepted { (header : Roots) (claim : ClaimParts) → Accepts header claim →
+        is_unwritten claim ≡ false }
     ensures missing { (cells : CellList) → AreCells cells → cells.list ≢ [] →
         IsSome (spelling (Missing cells)) }
     ensures cells { (cells : CellList) → AreCells cells →

@@ -12,7 +12,7 @@ use crate::codec::sizes::HEAD_SIZE;
 use crate::kinds::Kind;
 use crate::kinds::block::{block, block_parts};
 use crate::kinds::clash::clash;
-use crate::kinds::fraud::{fraud, fraud_parts};
+use crate::kinds::fraud::{fraud, is_fraud};
 use crate::kinds::header::{header, header_parts};
 use crate::kinds::message::message;
 use crate::kinds::missing::{missing, missing_parts};
@@ -107,7 +107,7 @@ fn is_in_form(kind: Kind, payload: &[u8]) -> bool
         Kind::Square => square_parts(payload).is_some(),
         Kind::Message => message(payload).is_some(),
         Kind::Names => names_parts(payload).is_some(),
-        Kind::Fraud => fraud_parts(payload).is_some(),
+        Kind::Fraud => is_fraud(payload),
         Kind::Missing => missing_parts(payload).is_some(),
         Kind::Clash => clash(payload).is_some(),
         Kind::Sample => sample(payload).is_some(),

@@ -30,20 +30,20 @@ unfolding many_at
 many_suc_none {A} one n bytes e = ap (λ (r : Option (A × List ℕ)). r >>= (λ first. after_first first.0 (many_at one n first.1))) e
 
 -- the next of those that are left
-many_left : {A : Type 0} (one : List ℕ → Option (A × List ℕ)) (count i : ℕ) (rest : List ℕ) (x : A) (after : List ℕ) → i < count → one rest ≡ Some (x, after)
+pub many_left : {A : Type 0} (one : List ℕ → Option (A × List ℕ)) (count i : ℕ) (rest : List ℕ) (x : A) (after : List ℕ) → i < count → one rest ≡ Some (x, after)
     → many_at one (count - i) rest ≡ after_first x (many_at one (count - (i + 1)) after)
 many_left one count i rest x after h e =
     let left : count - i ≡ suc (count - (i + 1)) = omega arith in
     ap (λ (n : ℕ). many_at one n rest) left ∙ many_suc one (count - (i + 1)) rest x after e
 
 -- where the next of those that are left can't be read, no more can
-many_none : {A : Type 0} (one : List ℕ → Option (A × List ℕ)) (count i : ℕ) (rest : List ℕ) → i < count → one rest ≡ None → many_at one (count - i) rest ≡ None
+pub many_none : {A : Type 0} (one : List ℕ → Option (A × List ℕ)) (count i : ℕ) (rest : List ℕ) → i < count → one rest ≡ None → many_at one (count - i) rest ≡ None
 many_none one count i rest h e =
     let left : count - i ≡ suc (count - (i + 1)) = omega arith in
     ap (λ (n : ℕ). many_at one n rest) left ∙ many_suc_none one (count - (i + 1)) rest e
 
 -- where none are left, none are read
-many_done : {A : Type 0} (one : List ℕ → Option (A × List ℕ)) (count i : ℕ) (rest : List ℕ) → count ≤ i → many_at one (count - i) rest ≡ Some ([], rest)
+pub many_done : {A : Type 0} (one : List ℕ → Option (A × List ℕ)) (count i : ℕ) (rest : List ℕ) → count ≤ i → many_at one (count - i) rest ≡ Some ([], rest)
 many_done one count i rest h =
     let none : count - i ≡ 0 = omega arith in
     ap (λ (n : ℕ). many_at one n rest) none ∙ many_zero one rest

@@ -21,7 +21,7 @@ use Rattle.da_wire.specs.declared.frames.Frame.TheVariants.{Header, Square, Mess
 use Rattle.da_wire.specs.codec.Texts.{text_bytes}
 use Rattle.da_wire.specs.Spelling.{max_payload, frame, spelled, spelling, names_kind, fraud_kind, clash_kind, sample_kind}
 use Rattle.da_wire.specs.kinds.Names.{is_long_answer, names_payload}
-use Rattle.da_wire.specs.kinds.Fraud.{is_long_claim, fraud_payload}
+use Rattle.da_wire.specs.kinds.Fraud.{is_unwritten, fraud_payload}
 use Rattle.da_wire.specs.kinds.Clash.{AreStrings, has_empty, clash_payload}
 use Rattle.da_wire.specs.kinds.Requests.{sample_payload}
 use Rattle.da_wire.proofs.codec.Readers.{if_false_again}
@@ -55,11 +55,11 @@ names_spelled name answer is are short =
     (if_false_again (is_long_answer answer) (spelled names_kind payload) (frame names_kind payload) short (spelled_within names_kind (length payload) payload refl (names_few name answer is are short)))
 
 -- each fraud claim has a spelling that has up to 128 cells
-pub fraud_spelled : (claim : ClaimParts) → IsClaim claim → is_long_claim claim ≡ false → IsSome (spelling (Fraud claim))
+pub fraud_spelled : (claim : ClaimParts) → IsClaim claim → is_unwritten claim ≡ false → IsSome (spelling (Fraud claim))
 fraud_spelled claim is short =
     let payload : List ℕ = fraud_payload claim in
     has_spelling (spelling (Fraud claim)) _
-    (if_false_again (is_long_claim claim) (spelled fraud_kind payload) (frame fraud_kind payload) short (spelled_within fraud_kind (length payload) payload refl (fraud_few claim is short)))
+    (if_false_again (is_unwritten claim) (spelled fraud_kind payload) (frame fraud_kind payload) short (spelled_within fraud_kind (length payload) payload refl (fraud_few claim is short)))
 
 -- missing cells have a spelling where there are any
 pub missing_spelled : (cells : CellList) → AreCells cells → (cells.list ≡ [] → ⊥) → IsSome (spelling (Missing cells))

@@ -208,6 +208,26 @@ pub(crate) fn shares_of(alloc: Global, count: usize, bytes: &[u8]) -> Result<Vec
 }
 
 /// So many digests, one after another, which are all of the bytes.
+pub(crate) fn digests_of(
+    alloc: Global,
+    count: usize,
+    bytes: &[u8],
+) -> Result<Vec<Digest>, AllocError>
+    requires { length bytes.now ≡ 90 * count }
+    ensures value { IfOk result (λ digests. digests.items ≡ digests_of count bytes.now) }
+    ensures len { IfOk result (λ digests. vec_len digests ≡ count) }
+{
+    let mut digests = Vec::with_capacity(alloc, count)?;
+    let mut rest = bytes;
+    for _ in 0..count {
+        let (front, after) = rest.split_at(DIGEST_SIZE);
+        digests.push(digest_of(front))?;
+        rest = after;
+    }
+    Ok(digests)
+}
+
+/// So many digests, one after another, which are all of the bytes, in a path.
 fn path_of(count: u8, bytes: &[u8]) -> Path
     requires few { count ≤ 8 }
     requires all { length bytes.now ≡ 90 * count }
@@ -223,7 +243,7 @@ fn path_of(count: u8, bytes: &[u8]) -> Path
     path
 }
 
-/// So many digests, one after another, which are all of the bytes.
+/// So many digests, one after another, which are all of the bytes, as nodes.
 fn nodes_of(count: u8, bytes: &[u8]) -> Nodes
     requires few { count ≤ 16 }
     requires all { length bytes.now ≡ 90 * count }

@@ -1,19 +1,18 @@
 //! The payload of a header.
 
-ghost use Rattle.std.specs.Prelude.{◌≡◌, ◌*◌, length, vec_len, None, Some, IfOk, IfSome, IsTrue, MatchOption, ◌+◌, ◌++◌};
+ghost use Rattle.std.specs.Prelude.{◌≡◌, ◌*◌, length, None, Some, IfOk, IfSome, IsTrue, MatchOption, ◌+◌, ◌++◌};
 ghost use Rattle.namespace_id.specs.Cells.{is_width};
 ghost use Rattle.namespace_id.specs.Answers.{HasRoom};
-ghost use Rattle.da_wire.specs.codec.Fields.{digests_of};
 ghost use Rattle.da_wire.specs.kinds.Header.{roots_of, header_at, header_payload};
 ghost use Rattle.da_wire.specs.Reading.{GivesUnlessFull};
 ghost use Rattle.da_wire.specs.Writing.{HasSize};
 ghost use Rattle.da_wire.specs.declared.frames.Frame.TheVariants as FrameOf;
 
 use crate::codec::appending::put_digests;
-use crate::codec::fields::{digest_of, u16_at};
+use crate::codec::fields::{digests_of, u16_at};
 use crate::codec::sizes::{DIGEST_SIZE, WIDTH_SIZE};
 use data_header::Header;
-use namespace_id::{Digest, append, digests_law, is_width};
+use namespace_id::{append, digests_law, is_width};
 use std::alloc::{AllocError, Global};
 
 /// The bytes of 2k roots, for each k.
@@ -21,22 +20,6 @@ const SIDE_SIZE: usize = 2 * DIGEST_SIZE;
 
 /// The bytes of all roots, 4k of them, for each k.
 const ROOTS_SIZE: usize = 2 * SIDE_SIZE;
-
-/// So many digests, one after another, which are all of the bytes.
-fn roots_of(alloc: Global, count: usize, bytes: &[u8]) -> Result<Vec<Digest>, AllocError>
-    requires { length bytes.now ≡ 90 * count }
-    ensures value { IfOk result (λ roots. roots.items ≡ digests_of count bytes.now) }
-    ensures len { IfOk result (λ roots. vec_len roots ≡ count) }
-{
-    let mut roots = Vec::with_capacity(alloc, count)?;
-    let mut rest = bytes;
-    for _ in 0..count {
-        let (front, after) = rest.split_at(DIGEST_SIZE);
-        roots.push(digest_of(front))?;
-        rest = after;
-    }
-    Ok(roots)
-}
 
 /// The width of a header, and the bytes of its roots, of which all are there.
 #[tactic(auto, unfolding(crate::specs::kinds::Header::header_at))]
@@ -61,8 +44,8 @@ pub(crate) fn header(alloc: Global, payload: &[u8]) -> Result<Option<Header>, Al
         return Ok(None);
     };
     let (rows, cols) = roots.split_at(SIDE_SIZE * k as usize);
-    let rows = roots_of(alloc, 2 * k as usize, rows)?;
-    let cols = roots_of(alloc, 2 * k as usize, cols)?;
+    let rows = digests_of(alloc, 2 * k as usize, rows)?;
+    let cols = digests_of(alloc, 2 * k as usize, cols)?;
     Ok(Some(Header { k, rows, cols }))
 }
 

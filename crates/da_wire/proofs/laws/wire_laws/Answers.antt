@@ -3,6 +3,7 @@ use Rattle.da_wire.proofs.FrameLemmas.{spelled_is_read, read_is_spelled, one_spe
 use Rattle.da_wire.proofs.OnlyLemmas.{only_is_spelled, spelled_only}
 use Rattle.da_wire.proofs.FrameListLemmas.{raw_is_frame, frames_are_the_file, files_are_frames, bad_frame_is_first}
 use Rattle.da_wire.proofs.kinds.Spelled.{header_spelled, square_spelled, message_spelled, names_spelled, fraud_spelled, missing_spelled, sample_spelled, request_spelled}
+use Rattle.da_wire.proofs.AcceptedClaims.{accepted_written}
 use Rattle.da_wire.proofs.kinds.CellCounts.{cells_counted}
 use Rattle.da_wire.proofs.laws.wire_laws.Goals as goal
 
@@ -35,6 +36,9 @@ returns-clause-names c = names_spelled
 
 pub returns-clause-claims : goal.returns-clause-claims
 returns-clause-claims c = fraud_spelled
+
+pub returns-clause-accepted : goal.returns-clause-accepted
+returns-clause-accepted c = accepted_written
 
 pub returns-clause-missing : goal.returns-clause-missing
 returns-clause-missing c = missing_spelled

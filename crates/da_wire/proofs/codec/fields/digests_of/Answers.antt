@@ -1,7 +1,7 @@
 use Rattle.std.proofs.Common.{ap, arith}
 use Rattle.da_wire.specs.codec.Fields.{digest}
 use Rattle.da_wire.proofs.codec.SplitLoops.{values_more, values_end}
-use Rattle.da_wire.proofs.kinds.header.roots_of.Goals as goal
+use Rattle.da_wire.proofs.codec.fields.digests_of.Goals as goal
 
 pub loop-preserved : goal.loop-preserved
 loop-preserved c = record {
@@ -12,4 +12,4 @@ loop-preserved c = record {
 }
 
 pub returns-clause-value : goal.returns-clause-value
-returns-clause-value c = values_end digest 90 _ c.loop.roots.items c.args.count c.loop.counter c.loop.rest.now c.loop-test.false c.loop.invariant.done
+returns-clause-value c = values_end digest 90 _ c.loop.digests.items c.args.count c.loop.counter c.loop.rest.now c.loop-test.false c.loop.invariant.done
