@@ -1,11 +1,12 @@
 -- Full nodes that are handed one item more.
 use Rattle.std.proofs.Common.{◌≡◌, ℕ, List, [], ◌∷◌, ◌++◌, true, refl, sym, subst, inl, inr}
-use Rattle.std.specs.Prelude.{Option, Some, None, is_some, false, length, Vec}
+use Rattle.std.specs.Prelude.{◌≤◌, Option, Some, None, IfSome, is_some, false, length}
 use Rattle.std.proofs.lemmas.List.Elements.{Contains-append_left, Contains-push}
 use Rattle.data_header.specs.Headers.{Roots}
 use Rattle.axis_roots.specs.declared.message.messages.Message.{Message}
 use Rattle.axis_roots.specs.Openings.{IsProved}
 use Rattle.axis_roots.specs.Claims.{ClaimParts, Accepts}
+use Rattle.axis_roots.proofs.Messages.SetLemmas.{accepted_few}
 use Rattle.repair_queue.specs.Closures.{Covers}
 use Rattle.repair_queue.specs.Settled.{IsSettled}
 use Rattle.repair_queue.specs.Verdicts.{IsFraud, IsFoundClash}
@@ -27,8 +28,8 @@ use Rattle.da_net.specs.Nodes.{HasSpare, standing_by, IsEnding, IsSession, HasSe
 use Rattle.da_net.specs.declared.full.Fed.TheVariants.{On, Ended as Stopped}
 use Rattle.repair_queue.specs.declared.fed.SessionState.{SessionState}
 use Rattle.repair_queue.specs.declared.fed.SessionState.TheVariants as state
-use Rattle.std.specs.declared.alloc.Global.{Global}
 use Rattle.axis_roots.proofs.Messages.ClaimLemmas.{Shape, shape_of}
+use Rattle.da_net.specs.declared.copies.ClaimRoom.{ClaimRoom}
 use Rattle.repair_queue.specs.Verdicts.{VerdictParts, IsVerdict}
 use Rattle.std.proofs.lemmas.Option.{same_Some}
 use Rattle.da_net.proofs.GrowthLemmas.{messages-message, messages-claim, covers_more, covers_refused, covers_self, none_by_message, none_by_claim}
@@ -166,6 +167,11 @@ module _ (header : Roots) (items : List Item) where
 pub accepted_count : (header : Roots) (claim : ClaimParts) → Accepts header claim → length claim.cells ≡ header.k
 accepted_count header claim accepts = let shape : Shape header.k claim = shape_of header.k claim accepts.bad.shape in shape.count
 
+-- and its set no more nodes than that
+pub accepted_nodes : (header : Roots) (claim : ClaimParts) → Accepts header claim → IfSome claim.set (λ nodes. length nodes ≤ length claim.cells)
+accepted_nodes header claim accepts =
+    subst (λ (n : ℕ). IfSome claim.set (λ nodes. length nodes ≤ n)) (sym (accepted_count header claim accepts)) (accepted_few header claim accepts)
+
 -- the answer of a session that isn't open ends a node
 pub ends_by : (one : SessionState) (answer : Verdict) → (one ≡ state.Open → ⊥) → IsOfState one answer → IsEnding (parts_of answer)
 ends_by state.Open answer not is = absurd (not refl)
@@ -179,7 +185,7 @@ ends_by state.Clash (verdict.Fraud proof) not is = tt
 ends_by state.Clash (verdict.Clash pair) not is = tt
 
 -- what ended a session by its verdict
-pub fed_ended : (header : Roots) (ms : List Message) (old new : Option (Vec Message Global)) (verdict : VerdictParts) (e : End) → EndsSo verdict e → SpareAfter old new e
+pub fed_ended : (header : Roots) (ms : List Message) (old new : Option ClaimRoom) (verdict : VerdictParts) (e : End) → EndsSo verdict e → SpareAfter old new e
     → IsVerdict header ms verdict → IsFed header ms old new (Stopped e)
 fed_ended header ms old new verdict (end.Clash pair) so same is = (subst (IsVerdict header ms) so is, same)
 fed_ended header ms old new verdict (end.Rejected claim) so same is = subst (IsVerdict header ms) so is
@@ -202,7 +208,7 @@ none_by None f = refl
 none_by (Some x) f = absurd cc
 
 module _ (header : Roots) (items : List Item) (m : Message) (node : FullNode) (old : SessionParts) (f : is_some node.end ≡ false) (e : node.session ≡ Some old)
-    (old_room new_room : Option (Vec Message Global)) (is : IsFullNode header items node) where
+    (old_room new_room : Option ClaimRoom) (is : IsFullNode header items node) where
   -- the session goes on
   pub taken_on : (s : SessionParts) → ((fed : List Message) → SessionStands old fed → IsFed header (fed ++ m ∷ []) old_room new_room (On s))
       → IsFullNode header (items ++ item.Message m ∷ []) (record { session = Some s; end = node.end }) × (new_room ≡ old_room)

@@ -1,14 +1,12 @@
 -- Light nodes that are handed one item more.
 use Rattle.std.proofs.Common.{◌≡◌, ◌∙◌, ℕ, List, [], ◌∷◌, ◌++◌, true, refl, sym, ap, subst}
-use Rattle.std.specs.Prelude.{Option, Some, None, is_some, false, option_copied, Vec}
+use Rattle.std.specs.Prelude.{Option, Some, None, is_some, false, option_copied}
 use Rattle.std.proofs.Common.{Bor}
-use Rattle.std.specs.declared.alloc.Global.{Global}
 use Rattle.std.specs.List.{Contains}
 use Rattle.std.proofs.lemmas.List.Elements.{Contains-append_left, Contains-append_right}
 use Rattle.namespace_id.proofs.MemberLemmas.{contains_head}
 use Rattle.namespace_id.specs.declared.cells.Cell.{Cell}
 use Rattle.data_header.specs.Headers.{Roots}
-use Rattle.axis_roots.specs.declared.message.messages.Message.{Message}
 use Rattle.axis_roots.specs.Claims.{ClaimParts, Accepts}
 use Rattle.light_node.specs.declared.events.Event.{Event}
 use Rattle.light_node.specs.declared.events.Event.TheVariants as event
@@ -18,6 +16,7 @@ use Rattle.light_node.specs.Events.{IsFirstAccepted, IsLight}
 use Rattle.light_node.specs.Nodes.{NodeParts, StandsFor}
 use Rattle.da_net.specs.declared.items.Item.{Item}
 use Rattle.da_net.specs.declared.items.Item.TheVariants as item
+use Rattle.da_net.specs.declared.copies.ClaimRoom.{ClaimRoom}
 use Rattle.da_net.specs.Networks.{event_of, events_of}
 use Rattle.da_net.specs.Nodes.{IsSpare, HasSpare, IsLightNode, Rejects, IsLightStep}
 use Rattle.light_node.proofs.EventLemmas.{first_kept}
@@ -126,9 +125,9 @@ module _ (header : Roots) (events : List Event) where
   missing_rejects (Some r) kept none found first rejects = absurd cc
 
 -- room that is there
-pub spare_some : (k : ℕ) (room : Option (Vec Message Global)) → HasSpare k room → is_some room ≡ true
+pub spare_some : (k : ℕ) (room : Option ClaimRoom) → HasSpare k room → is_some room ≡ true
 spare_some k None spare = absurd spare
 spare_some k (Some cells) spare = refl
 
-pub spare_is : (k : ℕ) (room : Option (Vec Message Global)) (cells : Vec Message Global) → room ≡ Some cells → HasSpare k room → IsSpare k cells
+pub spare_is : (k : ℕ) (room : Option ClaimRoom) (cells : ClaimRoom) → room ≡ Some cells → HasSpare k room → IsSpare k cells
 spare_is k room cells e spare = subst (HasSpare k) e spare

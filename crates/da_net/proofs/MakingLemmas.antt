@@ -1,12 +1,10 @@
 -- Seats of nodes to which nothing was handed.
 use Rattle.std.proofs.Common.{◌≡◌, ℕ, List, [], ◌∷◌, ◌++◌, length, map, replicate, refl, sym, ap, ap₂, subst, inl, inr}
-use Rattle.std.specs.Prelude.{Option, Some, None, Vec}
-use Rattle.std.specs.declared.alloc.Global.{Global}
+use Rattle.std.specs.Prelude.{Option, Some, None}
 use Rattle.namespace_id.specs.declared.cells.Cell.{Cell}
 use Rattle.std.specs.List.{AllZip, Contains}
 use Rattle.namespace_id.proofs.MemberLemmas.{contains_none, contains_cons}
 use Rattle.data_header.specs.Headers.{Roots}
-use Rattle.axis_roots.specs.declared.message.messages.Message.{Message}
 use Rattle.axis_roots.specs.Claims.{ClaimParts}
 use Rattle.repair_queue.specs.declared.fed.SessionState.TheVariants as state
 use Rattle.repair_queue.specs.SessionParts.{SessionParts, StandsFor as SessionStands}
@@ -17,6 +15,7 @@ use Rattle.light_node.specs.Events.{IsFirstAccepted}
 use Rattle.light_node.specs.Nodes.{NodeParts}
 use Rattle.da_net.specs.declared.seats.Node.TheVariants.{Full, Light}
 use Rattle.da_net.specs.declared.seats.Seat.{Seat}
+use Rattle.da_net.specs.declared.copies.ClaimRoom.{ClaimRoom}
 use Rattle.da_net.specs.Networks.{Kind, full, light, Standing, start}
 use Rattle.da_net.specs.Nodes.{HasSpare, IsSession, IsFresh}
 use Rattle.da_net.specs.Nets.{claim_in}
@@ -26,7 +25,7 @@ use Rattle.da_net.proofs.HandedLemmas.{placed}
 use Rattle.da_net.proofs.NetLemmas.{seen}
 
 -- the seat of a full node
-pub fresh_full : {F : Type 0} (picks : F → ℕ → Cell → Type 0) (header : Roots) (s : SessionParts) (kept published : Option (Vec Message Global))
+pub fresh_full : {F : Type 0} (picks : F → ℕ → Cell → Type 0) (header : Roots) (s : SessionParts) (kept published : Option ClaimRoom)
     → s.header ≡ header → state_of s ≡ state.Open → SessionStands s [] → HasSpare header.k kept → HasSpare header.k published
     → IsFreshSeat {F = F} picks header full (record { node = Full (record { session = Some s; end = None }); kept = kept; published = published })
 fresh_full picks header s kept published same goes stands spare other =
@@ -53,7 +52,7 @@ no_claim header (Some claim) (accepts, before, after, is, none) = absurd (empty 
     empty (x ∷ before) e = cc
 
 -- the seat of a light node
-pub fresh_light : {F : Type 0} (picks : F → ℕ → Cell → Type 0) (header : Roots) (node : NodeParts F) (kept published : Option (Vec Message Global))
+pub fresh_light : {F : Type 0} (picks : F → ℕ → Cell → Type 0) (header : Roots) (node : NodeParts F) (kept published : Option ClaimRoom)
     → IsFresh picks header node → HasSpare header.k kept → HasSpare header.k published
     → IsFreshSeat picks header (light node.wanted) (record { node = Light node; kept = kept; published = published })
 fresh_light picks header node kept published (same, plan, stands) spare other =

@@ -1,7 +1,7 @@
 -- What a step does to a network.
 use Rattle.std.proofs.Common.{◌≡◌, ◌∙◌, ◌≢◌, ℕ, ◌<◌, ◌≤◌, ◌+◌, ◌==◌, List, [], ◌∷◌, ◌++◌, append-nil, length, map, set, get_or, Bool, true, false, ◌||◌, ◌&&◌, true≢false, Option, Some, None, slice_get, option_to_list, refl, sym, ap, ap₂, subst, inl, inr, arith}
 use Rattle.std.proofs.Common.{Bor}
-use Rattle.std.specs.Prelude.{◌⊎◌, Vec, is_some, option_copied, IfSome, nat_le, cond, option_and_then, option_map}
+use Rattle.std.specs.Prelude.{◌⊎◌, is_some, option_copied, IfSome, nat_le, cond, option_and_then, option_map}
 use Rattle.std.specs.List.{list_any}
 use Rattle.std.proofs.lemmas.Bool.{cases_Bool, eq-eqb}
 use Rattle.std.proofs.lemmas.Bool.Decides.{eqb_tells, nat_tests}
@@ -30,8 +30,7 @@ use Rattle.da_net.specs.Nets.{is_full, is_pooling, has_claim, NetParts, AfterCla
 use Rattle.da_net.specs.Seats.{kind_of, alarm_by, alarm_with, alarm_of, IsNodeFor, HasSpareFor, HasUnpublished, IsSeat, IsSeatStep, SeatStands, IsJudged, items_in, network_with, IsNet, IsCopied}
 use Rattle.da_net.proofs.HandedLemmas.{handed-append, handed-grown, hands_within, step_hands}
 use Rattle.light_node.specs.Events.{IsFirstAccepted}
-use Rattle.axis_roots.specs.declared.message.messages.Message.{Message}
-use Rattle.std.specs.declared.alloc.Global.{Global}
+use Rattle.da_net.specs.declared.copies.ClaimRoom.{ClaimRoom}
 
 -- ---- lists
 
@@ -340,7 +339,7 @@ module _ {F : Type 0} (picks : F → ℕ → Cell → Type 0) (header : Roots) (
   copied_seat items seat = record {
     is_node = subst (IsNodeFor picks header items) (sym copied.node_is) seat.is_node;
     spare = subst (λ (n : Node F). HasSpareFor header.k (claim_in (alarm_of n)) new.kept) (sym copied.node_is)
-        (subst (λ (o : Option (Vec Message Global)). HasSpareFor header.k (claim_in (alarm_of old.node)) o) (sym copied.kept_is) seat.spare);
+        (subst (λ (o : Option ClaimRoom). HasSpareFor header.k (claim_in (alarm_of old.node)) o) (sym copied.kept_is) seat.spare);
   }
 
   -- the publishing counts

@@ -1,11 +1,9 @@
 -- Seats whose nodes are handed one item more, and how they stand.
 use Rattle.std.proofs.Common.{◌≡◌, ◌∙◌, ℕ, List, [], ◌∷◌, ◌++◌, refl, sym, ap, subst, inl, inr}
-use Rattle.std.specs.Prelude.{Option, Some, None, Vec}
-use Rattle.std.specs.declared.alloc.Global.{Global}
+use Rattle.std.specs.Prelude.{Option, Some, None}
 use Rattle.std.proofs.lemmas.Option.{none-some, same_Some}
 use Rattle.namespace_id.specs.declared.cells.Cell.{Cell}
 use Rattle.data_header.specs.Headers.{Roots}
-use Rattle.axis_roots.specs.declared.message.messages.Message.{Message}
 use Rattle.axis_roots.specs.Claims.{ClaimParts, Accepts}
 use Rattle.light_node.specs.declared.events.Event.{Event}
 use Rattle.light_node.specs.declared.events.LightState.{LightState}
@@ -22,6 +20,7 @@ use Rattle.da_net.specs.declared.full.FullNode.{FullNode}
 use Rattle.da_net.specs.declared.seats.Node.{Node}
 use Rattle.da_net.specs.declared.seats.Node.TheVariants.{Full, Light}
 use Rattle.da_net.specs.declared.seats.Seat.{Seat}
+use Rattle.da_net.specs.declared.copies.ClaimRoom.{ClaimRoom}
 use Rattle.da_net.specs.Networks.{events_of, light, Standing, settled, clashing, waiting, available, rejecting, IsRejecting, IsClashing}
 use Rattle.da_net.specs.Nodes.{HasSpare, standing_by, IsFullNode, IsLightNode, Rejects, IsLightStep}
 use Rattle.da_net.specs.Nets.{Fits, state_of, light_state, claim_in}
@@ -33,14 +32,14 @@ use Rattle.light_node.proofs.StandingLemmas.{state_distinct}
 -- ---- full nodes
 
 -- room for a claim of a node that doesn't reject
-pub spare_needed : (k : ℕ) (o : Option End) (spare : Option (Vec Message Global)) → HasSpareFor k (claim_in (alarm_by o)) spare
+pub spare_needed : (k : ℕ) (o : Option End) (spare : Option ClaimRoom) → HasSpareFor k (claim_in (alarm_by o)) spare
     → (IsRejecting (standing_by o) → ⊥) → HasSpare k spare
 spare_needed k None spare has not = has
 spare_needed k (Some (end.Clash pair)) spare has not = has
 spare_needed k (Some (end.Rejected claim)) spare has not = absurd (not tt)
 
 -- and the other way round
-spare_for : (k : ℕ) (o : Option End) (spare : Option (Vec Message Global)) → ((IsRejecting (standing_by o) → ⊥) → HasSpare k spare)
+spare_for : (k : ℕ) (o : Option End) (spare : Option ClaimRoom) → ((IsRejecting (standing_by o) → ⊥) → HasSpare k spare)
     → HasSpareFor k (claim_in (alarm_by o)) spare
 spare_for k None spare has = has (λ never. never)
 spare_for k (Some (end.Clash pair)) spare has = has (λ never. never)
@@ -54,7 +53,7 @@ claim_rejects (Some (end.Rejected other)) claim e = tt
 
 -- a full node after an item
 pub full_step : {F : Type 0} (picks : F → ℕ → Cell → Type 0) (header : Roots) (items : List Item) (old new : FullNode)
-    (kept spare published : Option (Vec Message Global)) → IsFullNode header items new → ((IsRejecting (standing_by new.end) → ⊥) → HasSpare header.k spare)
+    (kept spare published : Option ClaimRoom) → IsFullNode header items new → ((IsRejecting (standing_by new.end) → ⊥) → HasSpare header.k spare)
     → (IsRejecting (standing_by old.end) → new.end ≡ old.end)
     → IsSeatStep {F = F} picks header items (record { node = Full old; kept = kept; published = published })
     (record { node = Full new; kept = spare; published = published })
@@ -110,7 +109,7 @@ claim_with None = refl
 claim_with (Some claim) = refl
 
 -- room for a claim after one that was held stays
-light_spare : (k : ℕ) (old new : Option ClaimParts) (spare : Option (Vec Message Global)) → HasSpareFor k old spare
+light_spare : (k : ℕ) (old new : Option ClaimParts) (spare : Option ClaimRoom) → HasSpareFor k old spare
     → ((claim : ClaimParts) → old ≡ Some claim → new ≡ Some claim) → HasSpareFor k new spare
 light_spare k None None spare has keeps = has
 light_spare k None (Some claim) spare has keeps = tt
@@ -118,7 +117,7 @@ light_spare k (Some claim) new spare has keeps = subst (λ (o : Option ClaimPart
 
 -- a light node after a message
 pub light_seat : {F : Type 0} (picks : F → ℕ → Cell → Type 0) (header : Roots) (items : List Item) (old new : NodeParts F)
-    (kept published : Option (Vec Message Global)) → HasSpareFor header.k (claim_in (alarm_with old.claim)) kept → IsLightStep picks header items old new
+    (kept published : Option ClaimRoom) → HasSpareFor header.k (claim_in (alarm_with old.claim)) kept → IsLightStep picks header items old new
     → IsSeatStep picks header items (record { node = Light old; kept = kept; published = published })
     (record { node = Light new; kept = kept; published = published })
 light_seat picks header items old new kept published has step = record {
@@ -133,13 +132,13 @@ light_seat picks header items old new kept published has step = record {
 }
 
 -- who rejects needs no room
-rejects_spare : (k : ℕ) (o : Option ClaimParts) (spare : Option (Vec Message Global)) → Rejects o → HasSpareFor k (claim_in (alarm_with o)) spare
+rejects_spare : (k : ℕ) (o : Option ClaimParts) (spare : Option ClaimRoom) → Rejects o → HasSpareFor k (claim_in (alarm_with o)) spare
 rejects_spare k None spare rejects = absurd rejects
 rejects_spare k (Some claim) spare rejects = tt
 
 -- a light node after an accepted claim
 pub light_accepted : {F : Type 0} (picks : F → ℕ → Cell → Type 0) (header : Roots) (items : List Item) (old new : NodeParts F)
-    (kept spare published : Option (Vec Message Global)) → IsLightStep picks header items old new → Rejects new.claim
+    (kept spare published : Option ClaimRoom) → IsLightStep picks header items old new → Rejects new.claim
     → IsSeatStep picks header items (record { node = Light old; kept = kept; published = published })
     (record { node = Light new; kept = spare; published = published })
 light_accepted picks header items old new kept spare published step rejects = record {
@@ -150,7 +149,7 @@ light_accepted picks header items old new kept spare published step rejects = re
 }
 
 -- room for a claim of a light node that doesn't reject
-pub light_needed : (k : ℕ) (o : Option ClaimParts) (spare : Option (Vec Message Global)) → HasSpareFor k (claim_in (alarm_with o)) spare
+pub light_needed : (k : ℕ) (o : Option ClaimParts) (spare : Option ClaimRoom) → HasSpareFor k (claim_in (alarm_with o)) spare
     → (Rejects o → ⊥) → HasSpare k spare
 light_needed k None spare has not = has
 light_needed k (Some claim) spare has not = absurd (not tt)
@@ -184,12 +183,12 @@ full_fits (Some one) = refl
 
 -- a full node stands as what ended it says
 pub full_standing : {F : Type 0} (picks : F → ℕ → Cell → Type 0) (header : Roots) (items : List Item) (node : FullNode)
-    (kept published : Option (Vec Message Global)) → IsFullNode header items node
+    (kept published : Option ClaimRoom) → IsFullNode header items node
     → SeatStands {F = F} header items (record { node = Full node; kept = kept; published = published }) (standing_by node.end)
 full_standing picks header items node kept published is = record { stands = is.stands; fits = full_fits node.end }
 
 -- a light node's standing, with the claim that it holds
-light_by : {F : Type 0} (header : Roots) (items : List Item) (node : NodeParts F) (kept published : Option (Vec Message Global)) (o : Option ClaimParts)
+light_by : {F : Type 0} (header : Roots) (items : List Item) (node : NodeParts F) (kept published : Option ClaimRoom) (o : Option ClaimParts)
     (one : LightState) → node.claim ≡ o → IsState header node.wanted (events_of items) one → IsFirstAccepted header (events_of items) o
     → (standing : Standing) × SeatStands header items (record { node = Light node; kept = kept; published = published }) standing
     × (light_state one ≡ state_of standing)
@@ -229,7 +228,7 @@ light_by header items node kept published (Some claim) seen.Rejected e is first 
 
 -- a light node stands as its state says
 pub light_standing : {F : Type 0} (picks : F → ℕ → Cell → Type 0) (header : Roots) (items : List Item) (node : NodeParts F)
-    (kept published : Option (Vec Message Global)) (one : LightState) → IsLightNode picks header items node
+    (kept published : Option ClaimRoom) (one : LightState) → IsLightNode picks header items node
     → ((plan : List Cell) (events : List Event) → StandsFor picks node plan events → IsState node.header plan events one)
     → (standing : Standing) × SeatStands header items (record { node = Light node; kept = kept; published = published }) standing
     × (light_state one ≡ state_of standing)

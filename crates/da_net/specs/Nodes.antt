@@ -1,6 +1,5 @@
 -- What full nodes and light nodes keep, and for which items they stand.
-use Rattle.std.specs.Prelude.{◌≡◌, ℕ, List, [], Option, Some, None, Vec}
-use Rattle.std.specs.declared.alloc.Global.{Global}
+use Rattle.std.specs.Prelude.{◌≡◌, ℕ, List, [], Option, Some, None}
 use Rattle.namespace_id.specs.declared.cells.Cell.{Cell}
 use Rattle.namespace_id.specs.Answers.{HasRoom}
 use Rattle.data_header.specs.Headers.{Roots}
@@ -17,15 +16,18 @@ use Rattle.da_net.specs.declared.full.End.TheVariants as end
 use Rattle.da_net.specs.declared.full.Fed.{Fed}
 use Rattle.da_net.specs.declared.full.Fed.TheVariants.{On, Ended}
 use Rattle.da_net.specs.declared.full.FullNode.{FullNode}
+use Rattle.da_net.specs.declared.copies.ClaimRoom.{ClaimRoom}
 use Rattle.da_net.specs.Networks.{messages_of, events_of, full, Standing, settled, clashing, rejecting, Stands}
 
--- room for so many messages, with none in it
-pub record IsSpare (count : ℕ) (cells : Vec Message Global) : Type 0 where
-  pub empty : cells.items ≡ []
-  pub room : HasRoom cells count
+-- room for a claim of so many messages, and as many nodes of a set, with none in it
+pub record IsSpare (count : ℕ) (room : ClaimRoom) : Type 0 where
+  pub no_cells : room.cells.items ≡ []
+  pub cell_room : HasRoom room.cells count
+  pub no_nodes : room.nodes.items ≡ []
+  pub node_room : HasRoom room.nodes count
 
 -- such a room is there
-abbrev pub HasSpare : ℕ → Option (Vec Message Global) → Type 0
+abbrev pub HasSpare : ℕ → Option ClaimRoom → Type 0
 HasSpare count None = ⊥
 HasSpare count (Some room) = IsSpare count room
 
@@ -67,12 +69,12 @@ EndsSo verdict (end.Clash pair) = verdict ≡ clash pair.left pair.right
 EndsSo verdict (end.Rejected claim) = verdict ≡ fraud claim
 
 -- the room for a claim is as it was, where there is no claim
-abbrev pub SpareAfter : Option (Vec Message Global) → Option (Vec Message Global) → End → Type 0
+abbrev pub SpareAfter : Option ClaimRoom → Option ClaimRoom → End → Type 0
 SpareAfter old new (end.Clash pair) = new ≡ old
 SpareAfter old new (end.Rejected claim) = Unit {0}
 
 -- what comes of a session that was fed with these messages, and of the room for a claim
-abbrev pub IsFed : Roots → List Message → Option (Vec Message Global) → Option (Vec Message Global) → Fed → Type 0
+abbrev pub IsFed : Roots → List Message → Option ClaimRoom → Option ClaimRoom → Fed → Type 0
 IsFed header fed old new (On s) = IsSession header fed s × (new ≡ old)
 IsFed header fed old new (Ended (end.Clash pair)) = IsFoundClash header fed pair.left pair.right × (new ≡ old)
 IsFed header fed old new (Ended (end.Rejected claim)) = IsFraud header fed claim

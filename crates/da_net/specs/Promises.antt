@@ -26,7 +26,7 @@ WasHanded pool steps node one =
 abbrev pub IsAlarmed : Standing → Type 0
 IsAlarmed standing = IsRejecting standing ⊎ IsClashing standing
 
--- a message in the pool, by itself or in a claim, and the square name a collision
+-- a message in the pool, by itself or in a claim, or the set of a claim in the pool, and the square name a collision
 abbrev pub PoolNames : List Item → SquareShares → Type 0
 PoolNames pool square =
     ((m : Message) × Contains pool (item.Message m) × NamesClash m square)

@@ -4,7 +4,6 @@ use Rattle.std.specs.List.{list_any}
 use Rattle.std.specs.declared.alloc.Global.{Global}
 use Rattle.namespace_id.specs.declared.cells.Cell.{Cell}
 use Rattle.data_header.specs.Headers.{Roots}
-use Rattle.axis_roots.specs.declared.message.messages.Message.{Message}
 use Rattle.axis_roots.specs.Claims.{ClaimParts, Accepts}
 use Rattle.da_net.specs.declared.items.Item.{Item}
 use Rattle.da_net.specs.declared.items.Item.TheVariants as item
@@ -14,6 +13,7 @@ use Rattle.da_net.specs.declared.seats.Node.{Node}
 use Rattle.da_net.specs.declared.seats.Node.TheVariants.{Full, Light}
 use Rattle.da_net.specs.declared.seats.Seat.{Seat}
 use Rattle.da_net.specs.declared.seats.Entry.{Entry}
+use Rattle.da_net.specs.declared.copies.ClaimRoom.{ClaimRoom}
 use Rattle.da_net.specs.Networks.{Kind, full, light, Network, Standing, rejecting, Stands, handed, IsRun}
 use Rattle.da_net.specs.Nodes.{HasSpare, standing_by, IsFullNode, IsLightNode}
 use Rattle.da_net.specs.Nets.{Fits, claim_in, is_publishing}
@@ -46,12 +46,12 @@ IsNodeFor picks header items (Full node) = IsFullNode header items node
 IsNodeFor picks header items (Light node) = IsLightNode picks header items node
 
 -- there is room for a claim, where none is held
-abbrev pub HasSpareFor : ℕ → Option ClaimParts → Option (Vec Message Global) → Type 0
+abbrev pub HasSpareFor : ℕ → Option ClaimParts → Option ClaimRoom → Type 0
 HasSpareFor k None spare = HasSpare k spare
 HasSpareFor k (Some claim) spare = Unit {0}
 
 -- there is room for a claim, where none was published
-abbrev pub HasUnpublished : ℕ → Bool → Option (Vec Message Global) → Type 0
+abbrev pub HasUnpublished : ℕ → Bool → Option ClaimRoom → Type 0
 HasUnpublished k false spare = HasSpare k spare
 HasUnpublished k true spare = spare ≡ None
 

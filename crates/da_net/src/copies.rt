@@ -1,10 +1,19 @@
 //! Copies of messages and claims, into room that was taken before.
 
-ghost use Rattle.std.specs.Prelude.{◌≡◌, length};
+ghost use Rattle.std.specs.Prelude.{◌≡◌, ◌≤◌, [], length, IfSome};
+ghost use Rattle.namespace_id.specs.Answers.{HasRoom};
 ghost use Rattle.da_net.specs.Nodes.{IsSpare};
 
-use axis_roots::{FraudClaim, FraudProof, Message};
+use axis_roots::{FraudClaim, FraudProof, Message, SetNodes};
+use namespace_id::Digest;
 use nmt_proofs::Path;
+
+/// Room for a claim that is copied: for its messages, and for the nodes of its set.
+#[derive(Drop)]
+pub(crate) struct ClaimRoom {
+    pub(crate) cells: Vec<Message>,
+    pub(crate) nodes: Vec<Digest>,
+}
 
 /// A copy of a path.
 fn copy_path(path: &Path) -> Path
@@ -30,12 +39,41 @@ pub(crate) fn copy_message(message: &Message) -> Message
     }
 }
 
+/// A copy of digests.
+fn copy_nodes(nodes: &[Digest], room: Vec<Digest>) -> Vec<Digest>
+    requires empty { room.items ≡ [] }
+    requires room { HasRoom room (length nodes.now) }
+    ensures { result.items ≡ nodes.now }
+{
+    let mut copy = room;
+    for i in 0..nodes.len() {
+        copy.push(nodes[i]).unwrap();
+    }
+    copy
+}
+
+/// A copy of a set, if there is one.
+fn copy_set(set: &Option<SetNodes>, room: Vec<Digest>) -> Option<SetNodes>
+    requires empty { room.items ≡ [] }
+    requires room { IfSome set.now (λ nodes. HasRoom room (length nodes)) }
+    ensures { result ≡ set.now }
+{
+    let Some(set) = set else {
+        return None;
+    };
+    Some(SetNodes {
+        nodes: copy_nodes(&set.nodes, room),
+    })
+}
+
 /// A copy of a claim.
-pub(crate) fn copy_claim(claim: &FraudClaim, room: Vec<Message>) -> FraudClaim
-    requires { IsSpare (length claim.now.cells) room }
+pub(crate) fn copy_claim(claim: &FraudClaim, room: ClaimRoom) -> FraudClaim
+    requires spare { IsSpare (length claim.now.cells) room }
+    requires few { IfSome claim.now.set (λ nodes. length nodes ≤ length claim.now.cells) }
     ensures { result ≡ claim.now }
 {
-    let mut cells = room;
+    let ClaimRoom { cells, nodes } = room;
+    let mut cells = cells;
     for i in 0..claim.cells.len() {
         cells.push(copy_message(&claim.cells[i])).unwrap();
     }
@@ -43,11 +81,12 @@ pub(crate) fn copy_claim(claim: &FraudClaim, room: Vec<Message>) -> FraudClaim
         axis: claim.axis,
         index: claim.index,
         cells,
+        set: copy_set(&claim.set, nodes),
     }
 }
 
 /// The claim of a fraud proof.
-pub(crate) fn claim_of(proof: FraudProof, room: Vec<Message>) -> FraudClaim
+pub(crate) fn claim_of(proof: FraudProof, room: ClaimRoom) -> FraudClaim
     requires { IsSpare (length proof.claim.cells) room }
     ensures { result ≡ proof.claim }
 {
@@ -58,7 +97,7 @@ pub(crate) fn claim_of(proof: FraudProof, room: Vec<Message>) -> FraudClaim
         root: _,
         cells,
     } = proof;
-    let mut messages = room;
+    let mut messages = room.cells;
     for proved in cells {
         messages.push(proved.into_message()).unwrap();
     }
@@ -66,5 +105,6 @@ pub(crate) fn claim_of(proof: FraudProof, room: Vec<Message>) -> FraudClaim
         axis,
         index,
         cells: messages,
+        set: None,
     }
 }

@@ -12,7 +12,7 @@ ghost use Rattle.da_net.specs.declared.items.Item.TheVariants as item;
 ghost use Rattle.da_net.specs.Networks.{rejecting, IsRejecting, IsClashing};
 ghost use Rattle.da_net.specs.Nodes.{HasSpare, standing_by, IsFullNode, IsEnding, EndsSo, IsFed, SpareAfter};
 
-use crate::copies::{claim_of, copy_claim};
+use crate::copies::{ClaimRoom, claim_of, copy_claim};
 use axis_roots::{FraudClaim, Message, Proved, check};
 use data_header::Header;
 use hash_clash::Clash;
@@ -40,7 +40,7 @@ pub(crate) struct FullNode {
 }
 
 /// What ends a node whose session has this verdict, which is a fraud proof or a collision.
-fn end_of(verdict: Verdict, room: &mut Option<Vec<Message>>) -> End
+fn end_of(verdict: Verdict, room: &mut Option<ClaimRoom>) -> End
     requires ending { IsEnding (parts_of verdict) }
     requires room { (claim : ClaimParts) → parts_of verdict ≡ fraud claim →
         HasSpare (length claim.cells) room.old }
@@ -55,7 +55,7 @@ fn end_of(verdict: Verdict, room: &mut Option<Vec<Message>>) -> End
 }
 
 /// Feeds a session, and finishes it where that ends it.
-fn feed(session: Session, header: &Header, proved: Proved, room: &mut Option<Vec<Message>>) -> Fed
+fn feed(session: Session, header: &Header, proved: Proved, room: &mut Option<ClaimRoom>) -> Fed
     requires header { session.header ≡ header.now }
     requires fed { (fed : List Sent) × StandsFor session fed }
     requires under { IsUnder header.now proved }
@@ -83,12 +83,7 @@ fn has_claim(end: &Option<End>) -> bool
 
 impl FullNode {
     /// Takes a message.
-    pub(crate) fn take(
-        &mut self,
-        header: &Header,
-        message: Message,
-        room: &mut Option<Vec<Message>>,
-    )
+    pub(crate) fn take(&mut self, header: &Header, message: Message, room: &mut Option<ClaimRoom>)
         requires node { (items : List Handed) × IsFullNode header.now items self.old }
         requires room { (IsRejecting (standing_by self.old.end) → ⊥) →
             HasSpare header.now.k room.old }
@@ -119,7 +114,7 @@ impl FullNode {
         &mut self,
         header: &Header,
         claim: &FraudClaim,
-        room: &mut Option<Vec<Message>>,
+        room: &mut Option<ClaimRoom>,
     )
         requires accepts { Accepts header.now claim.now }
         requires room { (IsRejecting (standing_by self.old.end) → ⊥) →

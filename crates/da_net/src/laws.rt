@@ -61,7 +61,7 @@ pub fn rejection_laws()
         (IsClashing standing ⊎ ((standing ≡ settled) × IsSettled header (messages_of items))) }
 
     // Under the header of a square a node rejects or has a collision only where a message in the pool,
-    // by itself or in a claim, and the square name a collision.
+    // by itself or in a claim, or the set of a claim, and the square name a collision.
     ensures own { (net : Network) (pool : List Handed) (steps : List Step) (node : ℕ) (kind : Kind)
         (standing : Standing) (square : SquareShares) → IsRun net pool steps →
         IsHeaderOf net.header square → Stands net.header kind (handed pool steps node) standing →
@@ -80,7 +80,7 @@ pub fn agreement_laws()
         IsVerdict header (messages_of items) (whole square) → IsHeaderOf header square }
 
     // Then another node rejects or has a collision only where a message in the pool, by itself or in a
-    // claim, and this square name a collision; and another such node has this square, or they do.
+    // claim, or the set of a claim, and this square name a collision; and another such node has this square, or they do.
     ensures others { (net : Network) (pool : List Handed) (steps : List Step) (node other : ℕ)
         (kind : Kind) (standing : Standing) (square : SquareShares) → IsRun net pool steps →
         IsVerdict net.header (messages_of (handed pool steps node)) (whole square) →

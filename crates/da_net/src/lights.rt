@@ -7,7 +7,7 @@ ghost use Rattle.da_net.specs.declared.items.Item.{Item as Handed};
 ghost use Rattle.da_net.specs.declared.items.Item.TheVariants as item;
 ghost use Rattle.da_net.specs.Nodes.{HasSpare, IsLightNode, Rejects, IsLightStep};
 
-use crate::copies::copy_claim;
+use crate::copies::{ClaimRoom, copy_claim};
 use axis_roots::{FraudClaim, Message};
 use data_header::Header;
 use light_node::{Event, LightNode, Picker, light_laws};
@@ -26,7 +26,7 @@ pub(crate) fn hand_claim<F: Picker>(
     node: &mut LightNode<F>,
     header: &Header,
     claim: &FraudClaim,
-    room: &mut Option<Vec<Message>>,
+    room: &mut Option<ClaimRoom>,
 )
     requires node { (items : List Handed) × IsLightNode F.picks header.now items node.old }
     requires accepts { Accepts header.now claim.now }

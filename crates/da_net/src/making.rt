@@ -6,9 +6,9 @@ ghost use Rattle.da_net.specs.Networks.{Kind, full, light};
 ghost use Rattle.da_net.specs.Nodes.{HasSpare, IsFresh};
 ghost use Rattle.da_net.specs.Seats.{IsFreshSeat};
 
+use crate::copies::ClaimRoom;
 use crate::full::FullNode;
 use crate::seats::{Node, Seat};
-use axis_roots::Message;
 use data_header::Header;
 use light_node::{LightNode, Picker};
 use namespace_id::NoMemory;
@@ -16,13 +16,16 @@ use repair_queue::Session;
 use std::alloc::Global;
 
 /// Room for a claim of a square of width `k`.
-fn spare(alloc: Global, k: u16) -> Result<Option<Vec<Message>>, NoMemory>
+fn spare(alloc: Global, k: u16) -> Result<Option<ClaimRoom>, NoMemory>
     ensures { IfOk result (HasSpare k) }
 {
-    let Ok(room) = Vec::with_capacity(alloc, k as usize) else {
+    let Ok(cells) = Vec::with_capacity(alloc, k as usize) else {
         return Err(NoMemory);
     };
-    Ok(Some(room))
+    let Ok(nodes) = Vec::with_capacity(alloc, k as usize) else {
+        return Err(NoMemory);
+    };
+    Ok(Some(ClaimRoom { cells, nodes }))
 }
 
 /// The seat of a full node.

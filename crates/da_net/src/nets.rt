@@ -235,7 +235,7 @@ impl<F: Picker> Net<F> {
             IsSettled self.now.header (messages_of (handed self.now.pool self.now.steps node)) }
 
         // Under the header of a square a node rejects or has a collision only where a message in the pool, by itself or
-        // in a claim, and the square name a collision.
+        // in a claim, or the set of a claim in the pool, and the square name a collision.
         ensures own { (square : SquareShares) → IsHeaderOf self.now.header square →
             (result ≡ NodeState.Rejected) ⊎ (result ≡ NodeState.Clash) →
             PoolNames self.now.pool square }

@@ -10,7 +10,7 @@ ghost use Rattle.da_net.specs.Nets.{state_of, light_state, claim_in, clash_in, A
 ghost use Rattle.da_net.specs.Nodes.{HasSpare, standing_by};
 ghost use Rattle.da_net.specs.Seats.{kind_of, alarm_of, IsSeat, IsSeatStep, SeatStands, IsJudged, IsCopied};
 
-use crate::copies::{copy_claim, copy_message};
+use crate::copies::{ClaimRoom, copy_claim, copy_message};
 use crate::full::{End, FullNode};
 use crate::items::{Item, NodeState};
 use crate::lights::{hand_claim, hand_sample};
@@ -32,8 +32,8 @@ pub(crate) enum Node<F: Picker> {
 #[derive(Drop)]
 pub(crate) struct Seat<F: Picker> {
     pub(crate) node: Node<F>,
-    pub(crate) kept: Option<Vec<Message>>,
-    pub(crate) published: Option<Vec<Message>>,
+    pub(crate) kept: Option<ClaimRoom>,
+    pub(crate) published: Option<ClaimRoom>,
 }
 
 /// An item of the pool, and whether it is a claim that is accepted.

@@ -7,7 +7,7 @@ use Rattle.light_node.specs.Nodes.{StandsFor}
 use Rattle.da_net.specs.declared.items.Item.TheVariants as item
 use Rattle.da_net.specs.Networks.{events_of}
 use Rattle.da_net.specs.Nodes.{IsSpare}
-use Rattle.da_net.proofs.FullLemmas.{accepted_count}
+use Rattle.da_net.proofs.FullLemmas.{accepted_count, accepted_nodes}
 use Rattle.da_net.proofs.LightLemmas.{light_kept, light_step, light_rejects, found_rejects, missing_rejects, spare_some, spare_is}
 use Rattle.da_net.proofs.lights.hand_claim.Goals as goal
 
@@ -36,13 +36,17 @@ unwrap-requires g c =
     (sym c.is_some.ensures ∙ c.if-is_some.false) (c.claim.ensures is.plan (events_of c.requires.node.0) is.stands) is.stands.claim) in
     ap (λ (o : Option _). is_some o) c.take.ensures.value ∙ spare_some c.args.header.now.k c.args.room.now spare
 
-pub copy_claim-copy-requires : goal.copy_claim-copy-requires
-copy_claim-copy-requires g c =
+pub copy_claim-copy-requires-clause-spare : goal.copy_claim-copy-requires-clause-spare
+copy_claim-copy-requires-clause-spare g c =
     let is = c.requires.node.1 in
     let spare = c.requires.room (missing_rejects c.args.node.now.header (events_of c.requires.node.0) c.claim.result c.args.node.now.claim
     (sym c.is_some.ensures ∙ c.if-is_some.false) (c.claim.ensures is.plan (events_of c.requires.node.0) is.stands) is.stands.claim) in
     subst (λ (n : ℕ). IsSpare n c.unwrap.result) (sym (accepted_count c.args.header.now c.args.claim.now c.requires.accepts))
     (spare_is c.args.header.now.k c.args.room.now c.unwrap.result (sym c.take.ensures.value ∙ c.unwrap.ensures) spare)
+
+-- and for the nodes of its set
+pub copy_claim-copy-requires-clause-few : goal.copy_claim-copy-requires-clause-few
+copy_claim-copy-requires-clause-few g c = accepted_nodes c.args.header.now c.args.claim.now c.requires.accepts
 
 -- it is handed on
 pub returns-clause-step : goal.returns-clause-step
