@@ -1,0 +1,66 @@
+-- The roots of pieces, one by one.
+use Rattle.std.proofs.Common.{◌≡◌, ◌∙◌, ℕ, suc, ◌+◌, ◌<◌, ◌≤◌, List, [], ◌∷◌, ◌++◌, length, take, drop, map, get_or, refl, sym, ap, ap₂, subst, arith, drop-cons, add-one}
+use Rattle.std.proofs.lemmas.List.{append_assoc, append-nil, drop_all}
+use Rattle.std.specs.List.{AllByRecursion}
+use Rattle.namespace_id.specs.declared.shares.Share.{Share}
+use Rattle.namespace_id.specs.declared.digests.Digest.{Digest}
+use Rattle.namespace_id.specs.Shares.{name_in}
+use Rattle.nmt_tree.specs.Roots.{halvings, root}
+use Rattle.data_header.specs.DataRoots.{leaf_hash}
+use Rattle.blob_commit.specs.Commitments.{subtree_root, subtree_roots, leaf_hashes}
+use Rattle.blob_commit.specs.Cuts.{cut, levels_of}
+use Rattle.blob_commit.proofs.CutLemmas.{total, IsPiece, pieces-cut, levels_le, each-at}
+
+-- how many shares are left behind a piece
+pub left_behind : (sizes : List ℕ) (i z : ℕ) (rest after : List Share) → i < length sizes → z ≡ get_or sizes i 0 → total (drop i sizes) ≡ length rest
+    → length after + z ≡ length rest → total (drop (i + 1) sizes) ≡ length after
+left_behind sizes i z rest after lt e so_far count =
+    let next : total (drop i sizes) ≡ get_or sizes i 0 + total (drop (i + 1) sizes) =
+    ap total (drop-cons sizes i 0 lt) ∙ ap (λ (k : ℕ). get_or sizes i 0 + total (drop k sizes)) (sym (add-one i)) in
+    omega (arith, next, so_far, count, e)
+
+-- a piece fits into what is left
+pub piece_fits : (sizes : List ℕ) (i : ℕ) (rest : List Share) → i < length sizes → total (drop i sizes) ≡ length rest → get_or sizes i 0 ≤ length rest
+piece_fits sizes i rest lt so_far =
+    let next : total (drop i sizes) ≡ get_or sizes i 0 + total (drop (suc i) sizes) = ap total (drop-cons sizes i 0 lt) in
+    omega (arith, next, so_far)
+
+subtree_roots-cons : (z : ℕ) (sizes : List ℕ) (shares : List Share)
+    → subtree_roots (z ∷ sizes) shares ≡ root (halvings z) (map name_in (take z shares)) (take z shares) ∷ subtree_roots sizes (drop z shares)
+unfolding subtree_roots
+subtree_roots-cons z sizes shares = refl
+
+-- the hash of one more piece
+pub hash_more : (sizes : List ℕ) (i z : ℕ) (rest piece after : List Share) (hashes new whole : List (List ℕ)) (hash : List ℕ) (d : Digest) → i < length sizes → z ≡ get_or sizes i 0
+    → piece ≡ take z rest → after ≡ drop z rest → length piece ≡ z → d ≡ subtree_root piece → hash ≡ leaf_hash d → new ≡ hashes ++ hash ∷ []
+    → hashes ++ leaf_hashes (subtree_roots (drop i sizes) rest) ≡ whole
+    → new ++ leaf_hashes (subtree_roots (drop (i + 1) sizes) after) ≡ whole
+hash_more sizes i z rest piece after hashes new whole hash d lt e front back count root_is hash_is pushed so_far =
+    let tail : List ℕ = drop (i + 1) sizes in
+    let here : drop i sizes ≡ z ∷ tail =
+    drop-cons sizes i 0 lt ∙ ap₂ (λ (x k : ℕ). x ∷ drop k sizes) (sym e) (sym (add-one i)) in
+    let digest : d ≡ root (halvings z) (map name_in (take z rest)) (take z rest) =
+    root_is ∙ ap (λ (k : ℕ). root (halvings k) (map name_in piece) piece) count ∙ ap (λ (l : List Share). root (halvings z) (map name_in l) l) front in
+    let one : hash ∷ leaf_hashes (subtree_roots tail after) ≡ leaf_hashes (subtree_roots (drop i sizes) rest) =
+    ap₂ (λ (h : List ℕ) (l : List Share). h ∷ leaf_hashes (subtree_roots tail l)) (hash_is ∙ ap leaf_hash digest) back
+    ∙ sym (ap leaf_hashes (ap (λ (l : List ℕ). subtree_roots l rest) here ∙ subtree_roots-cons z tail rest)) in
+    ap (λ (l : List (List ℕ)). l ++ leaf_hashes (subtree_roots tail after)) pushed
+    ∙ append_assoc hashes (hash ∷ []) (leaf_hashes (subtree_roots tail after))
+    ∙ ap (λ (l : List (List ℕ)). hashes ++ l) one ∙ so_far
+
+subtree_roots-nil : (shares : List Share) → subtree_roots [] shares ≡ []
+unfolding subtree_roots
+subtree_roots-nil shares = refl
+
+-- all pieces
+pub hashes_all : (sizes : List ℕ) (i : ℕ) (rest : List Share) (hashes whole : List (List ℕ)) → length sizes ≤ i
+    → hashes ++ leaf_hashes (subtree_roots (drop i sizes) rest) ≡ whole → hashes ≡ whole
+hashes_all sizes i rest hashes whole end so_far =
+    sym (append-nil hashes)
+    ∙ ap (λ (l : List (List ℕ)). hashes ++ l) (sym (ap leaf_hashes (ap (λ (l : List ℕ). subtree_roots l rest) (drop_all i sizes end) ∙ subtree_roots-nil rest)))
+    ∙ so_far
+
+-- a piece is a count of leaves
+pub piece_sized : (sizes : List ℕ) (n i len : ℕ) → sizes ≡ cut n → 1 ≤ n → n ≤ 16384 → i < length sizes → len ≡ get_or sizes i 0 → IsPiece len
+piece_sized sizes n i len sizes_are some most lt e =
+    subst IsPiece (sym e) (each-at IsPiece sizes i 0 (subst (AllByRecursion IsPiece) (sym sizes_are) (pieces-cut (levels_of n) n (levels_le n some most))) lt)

@@ -1,0 +1,102 @@
+//! The commitment of a blob's shares.
+
+ghost use Rattle.std.specs.Prelude.{◌≡◌, ◌<◌, ◌≤◌, length, take, map, IsTrue, IfOk, IsErrOf, ◌↔◌, []};
+ghost use Rattle.namespace_id.specs.Shares.{name_in};
+ghost use Rattle.nmt_tree.specs.Roots.{is_leaf_count};
+ghost use Rattle.share_split.specs.Blobs.{blob_shares_of, share_count};
+ghost use Rattle.blob_commit.specs.Commitments.{subtree_root, commitment_over};
+
+use crate::buffers::Hashes;
+use crate::cutting::{cut_by, levels_of};
+use crate::hashing::{leaf_hash, root_over};
+use namespace_id::{Digest, NAMESPACE_SIZE, Namespace, Share};
+use nmt_tree::plain_root;
+use share_split::{Blob, blob_share_count, blob_shares};
+use square_layout::MAX_SHARES;
+use std::alloc::Global;
+use thiserror::Error;
+
+/// Why a blob has no commitment. The variants stand in the order in which they are tested.
+#[derive(Clone, Copy, Debug, PartialEq, Eq, Error)]
+pub enum CommitError {
+    /// There are no bytes.
+    #[error("a blob has at least one byte")]
+    Empty,
+    /// There are more shares than the greatest square has.
+    #[error("a blob has at most 16384 shares")]
+    TooLarge,
+    /// There was no memory.
+    #[error("out of memory")]
+    NoMemory,
+}
+
+/// Writes the namespaces that shares begin with.
+fn put_names(shares: &[Share], names: &mut [Namespace])
+    requires room { length shares.now ≡ length names.old }
+    ensures { names.new ≡ map name_in shares.now }
+{
+    for i in 0..shares.len() {
+        names[i] = shares[i].namespace();
+    }
+}
+
+/// The root of a subtree over shares, each a leaf under the namespace that it begins with.
+fn subtree_root(shares: &[Share]) -> Digest
+    requires count { IsTrue (is_leaf_count (length shares.now)) }
+    requires bound { length shares.now ≤ 128 }
+    ensures { result ≡ subtree_root shares.now }
+{
+    let mut names = [Namespace([0; NAMESPACE_SIZE]); 128];
+    let names = &mut names[..shares.len()];
+    put_names(shares, names);
+    plain_root(names, shares)
+}
+
+/// The commitment of shares, 32 bytes: they are cut into subtrees, and it is the plain SHA-256
+/// Merkle root over the roots of these. There is a share at least, and there are at most
+/// `MAX_SHARES`. It takes no memory.
+///
+/// Celestia specifications, "Data Square Layout", blob share commitment rules; RFC 6962, 2.1.
+pub fn commitment(shares: &[Share]) -> [u8; 32]
+    requires some { 1 ≤ length shares.now }
+    requires bound { length shares.now ≤ 16384 }
+    ensures { result ≡ commitment_over shares.now }
+{
+    let count = shares.len() as u32;
+    let sizes = cut_by(levels_of(count), count);
+    let sizes = sizes.sizes();
+    let mut hashes = Hashes::new();
+    let mut rest = shares;
+    for i in 0..sizes.len() {
+        let (piece, after) = rest.split_at(sizes[i] as usize);
+        hashes.push(leaf_hash(&subtree_root(piece)));
+        rest = after;
+    }
+    root_over(8, hashes.hashes())
+}
+
+/// The commitment of a blob: that of its shares. The room for these is taken at once.
+///
+/// Refuses a blob without bytes (`Empty`), then one of more than `MAX_SHARES` shares (`TooLarge`),
+/// then want of memory.
+///
+/// Celestia specifications, "Data Square Layout", blob share commitment rules.
+pub fn commitment_of(alloc: Global, blob: &Blob) -> Result<[u8; 32], CommitError>
+    ensures value { IfOk result (λ commitment.
+        commitment ≡ commitment_over (blob_shares_of blob.now.namespace blob.now.bytes)) }
+    ensures empty { IsErrOf result CommitError.Empty ↔ (blob.now.bytes ≡ []) }
+    ensures too_large { IsErrOf result CommitError.TooLarge ↔
+        (1 ≤ length blob.now.bytes) × (16384 < share_count (length blob.now.bytes)) }
+{
+    if blob.bytes.is_empty() {
+        return Err(CommitError::Empty);
+    }
+    if blob_share_count(blob.bytes.len() as u64) > MAX_SHARES {
+        return Err(CommitError::TooLarge);
+    }
+    let mut shares = Vec::new(alloc);
+    let Ok(()) = blob_shares(&blob.namespace, &blob.bytes, &mut shares) else {
+        return Err(CommitError::NoMemory);
+    };
+    Ok(commitment(&shares))
+}

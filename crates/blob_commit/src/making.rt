@@ -1,0 +1,228 @@
+//! Commitment proofs that are made from the trees of a square's rows.
+
+ghost use Rattle.std.specs.Prelude.{◌≡◌, ◌↔◌, ◌+◌, ◌-◌, ◌*◌, ◌%◌, ◌^◌, ◌<◌, ◌≤◌, ◌++◌, length, IsTrue, IsSome, IsErrOf, IfOk, OnOk, true, false};
+ghost use Rattle.std.specs.Option.{ForSome};
+ghost use Rattle.namespace_id.specs.declared.cells.Axis.TheVariants.{Row};
+ghost use Rattle.namespace_id.specs.Cells.{is_width};
+ghost use Rattle.nmt_tree.specs.Roots.{is_leaf_count, halvings};
+ghost use Rattle.nmt_tree.specs.Levels.{span};
+ghost use Rattle.nmt_proofs.specs.Openings.{intervals_from, Opens};
+ghost use Rattle.nmt_proofs.specs.Places.{AreAligned};
+ghost use Rattle.nmt_proofs.specs.Making.{interval_digests};
+ghost use Rattle.data_header.specs.DataRoots.{data_root_of, OpensRoot};
+ghost use Rattle.blob_commit.specs.Cuts.{levels_of};
+ghost use Rattle.blob_commit.specs.Proofs.{is_range, CommitHolds};
+ghost use Rattle.blob_commit.specs.Making.{IsRowTree, AreRowTrees, RowsHold, AddsRows};
+
+use crate::buffers::Hashes;
+use crate::cutting::{cut_by, levels_of};
+use crate::hashing::root_over;
+use crate::proofs::{CommitProof, CommitRow};
+use crate::proving::{is_range, part_of_row, put_rows};
+use data_header::{Header, make_root_proof};
+use namespace_id::{Axis, Digest, NoMemory};
+use nmt_proofs::make_nodes;
+use nmt_tree::Tree;
+use std::alloc::Global;
+use thiserror::Error;
+
+/// Why no commitment proof is made. The variants stand in the order in which they are tested.
+#[derive(Clone, Copy, Debug, PartialEq, Eq, Error)]
+pub enum ProveError {
+    /// The range is empty, goes past the square, or doesn't begin at a multiple of the width of its
+    /// subtrees.
+    #[error("the range is none of the square's")]
+    Range,
+    /// There was no memory.
+    #[error("out of memory")]
+    NoMemory,
+}
+
+impl From<NoMemory> for ProveError {
+    ghost use Rattle.blob_commit.specs.declared.making.ProveError.TheVariants.{NoMemory as Full};
+
+    ghost from_gives = { λ _ e. e ≡ Full };
+
+    fn from(_error: NoMemory) -> ProveError {
+        ProveError::NoMemory
+    }
+}
+
+/// The digest over the `size` leaves from place `from` on, of a tree that isn't empty.
+fn digest_in(tree: &Tree, from: u16, size: u16) -> Digest
+    requires filled { IsSome tree.now.leaves }
+    requires size { IsTrue (is_leaf_count size) }
+    requires aligned { from % size ≡ 0 }
+    requires within { from + size ≤ tree.now.count }
+    ensures { ForSome tree.now.leaves (λ leaves. result ≡ span leaves from (halvings size)) }
+{
+    tree.digest(from, size).unwrap()
+}
+
+/// Adds the digests of neighboring subtrees of a tree, from a place on.
+fn put_subtrees(
+    tree: &Tree,
+    from: u16,
+    sizes: &[u16],
+    subtrees: &mut Vec<Digest>,
+) -> Result<(), NoMemory>
+    requires filled { IsSome tree.now.leaves }
+    requires small { tree.now.count ≤ 256 }
+    requires places { AreAligned from tree.now.count sizes.now }
+    ensures { OnOk result (ForSome tree.now.leaves (λ leaves.
+        subtrees.new.items ≡ subtrees.old.items ++ interval_digests leaves from sizes.now)) }
+{
+    let Some((size, others)) = sizes.split_first() else {
+        return Ok(());
+    };
+    let Ok(()) = subtrees.push(digest_in(tree, from, *size)) else {
+        return Err(NoMemory);
+    };
+    put_subtrees(tree, from + *size, others, subtrees)
+}
+
+/// Makes a row of a commitment proof, from the tree of a row of the original square: for the
+/// subtrees of these sizes from a place on.
+fn make_row(
+    alloc: Global,
+    header: &Header,
+    tree: &Tree,
+    index: u16,
+    from: u16,
+    sizes: &[u16],
+) -> Result<CommitRow, NoMemory>
+    requires width { IsTrue (is_width header.now.k) }
+    requires index { index < header.now.k }
+    requires tree { IsRowTree header.now index tree.now }
+    requires some { 0 < length sizes.now }
+    requires places { AreAligned from (2 * header.now.k) sizes.now }
+    ensures lead { IfOk result (λ row.
+        OpensRoot (data_root_of header.now) header.now.k Row index row.root row.up) }
+    ensures count { IfOk result (λ row. length row.subtrees ≡ length sizes.now) }
+    ensures opens { IfOk result (λ row. Opens (halvings (2 * header.now.k))
+        (intervals_from from sizes.now row.subtrees) row.nodes row.root) }
+{
+    let mut subtrees = Vec::new(alloc);
+    put_subtrees(tree, from, sizes, &mut subtrees)?;
+    Ok(CommitRow {
+        root: header.root_of(Axis::Row, index),
+        up: make_root_proof(header, Axis::Row, index),
+        subtrees,
+        nodes: make_nodes(tree, from, sizes),
+    })
+}
+
+/// What is left of a range: the index of its first share, and how many there are.
+#[derive(Clone, Copy)]
+struct Rest {
+    at: u32,
+    left: u32,
+}
+
+/// Adds the rows that what is left of a range touches.
+fn add_rows(
+    alloc: Global,
+    header: &Header,
+    trees: &[Tree],
+    levels: u8,
+    rest: Rest,
+    rows: &mut Vec<CommitRow>,
+) -> Result<(), NoMemory>
+    requires number { header.now.k ≤ length trees.now }
+    requires trees { AreRowTrees header.now trees.now }
+    requires levels { 1 ≤ levels }
+    requires bound { levels ≤ 8 }
+    requires within { rest.at + rest.left ≤ header.now.k * header.now.k }
+    requires divides { header.now.k % 2 ^ (levels - 1) ≡ 0 }
+    requires begins { 0 < rest.left → rest.at % 2 ^ (levels - 1) ≡ 0 }
+    ensures { OnOk result (AddsRows (data_root_of header.now) header.now.k levels rest.at rest.left
+        rows.old.items rows.new.items) }
+{
+    if rest.left == 0 {
+        return Ok(());
+    }
+    let k = header.k;
+    let part = part_of_row(k, rest.at, rest.left);
+    let sizes = cut_by(levels, part);
+    let index = (rest.at / k as u32) as u16;
+    let from = (rest.at % k as u32) as u16;
+    let tree = &trees[index as usize];
+    let row = make_row(alloc, header, tree, index, from, sizes.sizes())?;
+    let Ok(()) = rows.push(row) else {
+        return Err(NoMemory);
+    };
+    let rest = Rest {
+        at: rest.at + part,
+        left: rest.left - part,
+    };
+    add_rows(alloc, header, trees, levels, rest, rows)
+}
+
+/// The rows of a proof of the commitment of the shares in a range of the square.
+fn rows_of(
+    alloc: Global,
+    header: &Header,
+    trees: &[Tree],
+    start: u32,
+    count: u32,
+) -> Result<Vec<CommitRow>, NoMemory>
+    requires width { IsTrue (is_width header.now.k) }
+    requires number { header.now.k ≤ length trees.now }
+    requires trees { AreRowTrees header.now trees.now }
+    requires range { is_range header.now.k start count ≡ true }
+    ensures { IfOk result (λ rows. RowsHold (data_root_of header.now) header.now.k (levels_of count)
+        start count rows.items) }
+{
+    let rest = Rest {
+        at: start,
+        left: count,
+    };
+    let mut rows = Vec::new(alloc);
+    add_rows(alloc, header, trees, levels_of(count), rest, &mut rows)?;
+    Ok(rows)
+}
+
+/// Makes a proof of the commitment of the `count` shares from the row-major index `start` on, under
+/// the data root of a header. `trees` begin with the trees over the leaves of the rows 0 to k - 1,
+/// none of them empty. No digest is hashed anew but for the commitment and the Merkle proofs of the
+/// rows' roots.
+///
+/// Refuses a range that has no share, that goes past the `k * k` shares of the square, or that
+/// doesn't begin at a multiple of the width of its subtrees (`Range`), then want of memory. It
+/// takes memory for the rows, and for the digests in each.
+///
+/// Celestia specifications, "Square Layout"; docs/RULES.md, "Commitment proofs".
+pub fn prove_commit(
+    alloc: Global,
+    header: &Header,
+    trees: &[Tree],
+    start: u32,
+    count: u32,
+) -> Result<CommitProof, ProveError>
+    requires number { header.now.k ≤ length trees.now }
+    requires trees { AreRowTrees header.now trees.now }
+    ensures range { IsErrOf result ProveError.Range ↔
+        (is_range header.now.k start count ≡ false) }
+
+    // The proof is of this range, and holds under the header's data root.
+    ensures k { IfOk result (λ proof. proof.k ≡ header.now.k) }
+    ensures start { IfOk result (λ proof. proof.start ≡ start) }
+    ensures count { IfOk result (λ proof. proof.count ≡ count) }
+    ensures holds { IfOk result (λ proof. CommitHolds (data_root_of header.now) proof) }
+{
+    let k = header.k;
+    if !is_range(k, start, count) {
+        return Err(ProveError::Range);
+    }
+    let rows = rows_of(alloc, header, trees, start, count)?;
+    let mut hashes = Hashes::new();
+    put_rows(&rows, &mut hashes);
+    let commitment = root_over(8, hashes.hashes());
+    Ok(CommitProof {
+        k,
+        start,
+        count,
+        commitment,
+        rows,
+    })
+}
