@@ -22,9 +22,13 @@ use Rattle.da_commands.specs.declared.check.Finding.{Finding}
 use Rattle.da_commands.specs.declared.check.Finding.TheVariants.{Proved, NoMessage, Refused}
 use Rattle.da_status.specs.declared.status.Status.{Status}
 use Rattle.da_commands.specs.Check.{messages_file, finding_of, line_of, IsOwnFrame}
+use Rattle.axis_roots.specs.Claims.{ClaimParts}
+use Rattle.da_commands.specs.Compact.{claim_file, claim_in, CompactsJudged, CompactsOwn}
 use Rattle.da_commands.specs.Repair.{Repairs, RepairsOwn}
 use Rattle.da_commands.specs.Light.{Lights, JudgesOwn}
 use Rattle.da_commands.specs.Verify.{answer_file, answer_kinds, answer_in, IsRefusal, verdict_line, IsOwnReply}
+use Rattle.da_commands.specs.VerifyFor.{is_answer_to, IsRefusalFor}
+use Rattle.da_commands.proofs.VerifyForLemmas.{asked_holds}
 use Rattle.da_cli.specs.Own.{AreOwn}
 
 -- ---- frames of a byte string have bytes
@@ -99,14 +103,23 @@ pub are_own : (told : Option Files) (words : List (List ℕ))
     → IsHeaderOf header square → Repairs header frames w status → RepairsOwn header frames square w status)
     → ((header : Roots) (frames : List Raw) (square : SquareShares) (key : List ℕ) (count : ℕ) (w : List ℕ) (status : Status)
     → IsHeaderOf header square → Lights key count header frames w status → JudgesOwn square w status)
+    → ((header : Roots) (claim : ClaimParts) (square : SquareShares) (w : List ℕ) (status : Status)
+    → IsHeaderOf header square → CompactsJudged header claim w status → CompactsOwn claim square status)
     → AreOwn told words
-are_own None words found verified file repaired lit = tt
-are_own (Some files) words found verified file repaired lit = record {
+are_own None words found verified file repaired lit compacted = tt
+are_own (Some files) words found verified file repaired lit compacted = record {
   check = λ contents header square i frame command read first own fits here ok.
       found header frame square (all_at HasBytes _ i frame (frames_fit _ fits 0) here) own (ok_is_proved (finding_of header frame) ok);
   verify = λ contents header square answer refusal command read first own fits second refused ok.
       verified header answer square ((file (answer_file contents) answer fits).0 second).0 own
       (subst (IsRefusal header answer) (ok_has_none refusal ok) refused);
+  compact = λ contents header square claim w status command read first own second answers.
+      compacted header claim square w status own
+      (subst (λ (b : Result ClaimParts ℕ). MatchResult b (λ c. CompactsJudged header c w status) (λ at. ⊥)) second
+      (subst (λ (a : Result Roots ℕ). MatchResult a (λ h. MatchResult (claim_in (claim_file contents)) (λ c. CompactsJudged h c w status) (λ at. ⊥)) (λ at. ⊥)) first answers));
+  verify_for = λ contents header square answer request refusal command read first own fits second third refused ok.
+      let holds = (asked_holds header answer request).0 (subst (IsRefusalFor (is_answer_to request answer) header answer) (ok_has_none refusal ok) refused) in
+      (holds.1, verified header answer square ((file (answer_file contents) answer fits).0 second).0 own holds.0);
   repair = λ contents header square w status command read first own fits answers.
       repaired header (frames_of (messages_file contents)) square w status (frames_fit _ fits 0) own
       (subst (λ (a : Result Roots ℕ). MatchResult a (λ h. Repairs h (frames_of (messages_file contents)) w status) (λ at. ⊥)) first answers);

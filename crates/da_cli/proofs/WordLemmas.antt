@@ -7,7 +7,7 @@ use Rattle.std.proofs.lemmas.List.{length-map, get_or-map}
 use Rattle.std.specs.declared.option.Option.{Option}
 use Rattle.std.specs.List.{fold, list_all}
 use Rattle.std.proofs.lemmas.Bool.Decides.{nat_tests}
-use Rattle.da_cli.specs.Words.{words_of, is_command, is_digit, light_call, demo_call, call_of}
+use Rattle.da_cli.specs.Words.{words_of, is_command, is_digit, light_call, demo_call, root_call, wanted_call, client_call, call_of}
 
 -- the number with one digit more
 abbrev with_digit : ℕ → ℕ → ℕ
@@ -108,39 +108,52 @@ here b x y holds = ap (λ (t : Bool). cond t x y) holds
 pub light_words : (words : List (List ℕ)) → is_command words (codes "check") 2 ≡ false
     → is_command words (codes "build") 1 ≡ false → is_command words (codes "header") 1 ≡ false
     → is_command words (codes "sample") 2 ≡ false → is_command words (codes "namespace") 2 ≡ false
-    → is_command words (codes "verify") 2 ≡ false → is_command words (codes "repair") 2 ≡ false
-    → is_command words (codes "light") 4 ≡ true
+    → is_command words (codes "verify") 2 ≡ false → is_command words (codes "compact") 2 ≡ false
+    → is_command words (codes "repair") 2 ≡ false → is_command words (codes "light") 4 ≡ true
     → call_of words ≡ light_call (get_or words 3 []) (get_or words 4 [])
-light_words words check build header sample namespace verify repair light =
+light_words words check build header sample namespace verify compact repair light =
     past _ _ _ _ check
     (past _ _ _ _ build
     (past _ _ _ _ header
     (past _ _ _ _ sample
     (past _ _ _ _ namespace
     (past _ _ _ _ verify
+    (past _ _ _ _ compact
     (past _ _ _ _ repair
-    (here (is_command words (codes "light") 4) (light_call (get_or words 3 []) (get_or words 4 [])) _ light)))))))
+    (here (is_command words (codes "light") 4) (light_call (get_or words 3 []) (get_or words 4 [])) _ light))))))))
 
 -- the call of the words of demo, which are no other command's
 pub demo_words : (words : List (List ℕ)) → is_command words (codes "check") 2 ≡ false
     → is_command words (codes "build") 1 ≡ false → is_command words (codes "header") 1 ≡ false
     → is_command words (codes "sample") 2 ≡ false → is_command words (codes "namespace") 2 ≡ false
-    → is_command words (codes "verify") 2 ≡ false → is_command words (codes "repair") 2 ≡ false
-    → is_command words (codes "light") 4 ≡ false → is_command words (codes "show") 1 ≡ false
-    → is_command words (codes "json") 1 ≡ false → is_command words (codes "demo") 2 ≡ true
+    → is_command words (codes "verify") 2 ≡ false → is_command words (codes "compact") 2 ≡ false
+    → is_command words (codes "repair") 2 ≡ false → is_command words (codes "light") 4 ≡ false
+    → is_command words (codes "show") 1 ≡ false → is_command words (codes "json") 1 ≡ false
+    → is_command words (codes "demo") 2 ≡ true
     → call_of words ≡ demo_call (get_or words 1 []) (get_or words 2 [])
-demo_words words check build header sample namespace verify repair light show json demo =
+demo_words words check build header sample namespace verify compact repair light show json demo =
     past _ _ _ _ check
     (past _ _ _ _ build
     (past _ _ _ _ header
     (past _ _ _ _ sample
     (past _ _ _ _ namespace
     (past _ _ _ _ verify
+    (past _ _ _ _ compact
     (past _ _ _ _ repair
     (past _ _ _ _ light
     (past _ _ _ _ show
     (past _ _ _ _ json
-    (here (is_command words (codes "demo") 2) (demo_call (get_or words 1 []) (get_or words 2 [])) _ demo))))))))))
+    (here (is_command words (codes "demo") 2) (demo_call (get_or words 1 []) (get_or words 2 [])) _ demo)))))))))))
+
+-- the call of the words of root with a ROOT
+pub root_words : (words : List (List ℕ)) → is_command words (codes "root") 2 ≡ true → client_call words ≡ root_call (get_or words 2 [])
+root_words words root = here (is_command words (codes "root") 2) (root_call (get_or words 2 [])) _ root
+
+-- the call of the words of wanted, which are no other command's
+pub wanted_words : (words : List (List ℕ)) → is_command words (codes "root") 2 ≡ false → is_command words (codes "wanted") 2 ≡ true
+    → client_call words ≡ wanted_call (get_or words 2 [])
+wanted_words words root wanted =
+    past _ _ _ _ root (here (is_command words (codes "wanted") 2) (wanted_call (get_or words 2 [])) _ wanted)
 
 -- a fact of what is there is a weaker one
 pub some_within : {A : Type 0} (P Q : A → Type 0) (o : Option A) → ((x : A) → P x → Q x) → IfSome o P → IfSome o Q

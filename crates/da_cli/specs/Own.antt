@@ -14,9 +14,12 @@ use Rattle.da_cli.specs.Gathered.{gathered, whole}
 use Rattle.da_commands.specs.Frames.{header_in}
 use Rattle.da_commands.specs.Check.{header_file, messages_file, finding_of, line_of, IsOwnFrame}
 use Rattle.da_status.specs.declared.status.Status.{Status}
+use Rattle.axis_roots.specs.Claims.{ClaimParts}
+use Rattle.da_commands.specs.Compact.{claim_file, claim_in, CompactOf, CompactsOwn}
 use Rattle.da_commands.specs.Repair.{RepairOf, RepairsOwn}
 use Rattle.da_commands.specs.Light.{LightOf, JudgesOwn}
 use Rattle.da_commands.specs.Verify.{answer_file, answer_in, IsRefusal, verdict_line, IsOwnReply}
+use Rattle.da_commands.specs.VerifyFor.{request_file, request_in, is_answer_to, IsAnswerTo, IsRefusalFor}
 
 -- over the files of `check`, where the header in HEADER is that of a square: a frame of MESSAGES whose line is `ok` is a message that shows the square's own share, or they name a collision
 abbrev pub AreOwnLines : Files → List (List ℕ) → Type 0
@@ -34,6 +37,23 @@ IsOwnLine files words = (contents : List (List ℕ)) (header : Roots) (square : 
     → AreBytes (answer_file contents) → answer_in (answer_file contents) ≡ Ok answer
     → IsRefusal header answer refusal → verdict_line refusal ≡ codes "ok\n" → IsOwnReply answer square
 
+-- over the files of `compact`, where the header in HEADER is that of a square: the claim is refused, or a message of it, or its set, and the square name a collision
+abbrev pub IsOwnCompact : Files → List (List ℕ) → Type 0
+IsOwnCompact files words = (contents : List (List ℕ)) (header : Roots) (square : SquareShares) (claim : ClaimParts) (w : List ℕ) (status : Status)
+    → is_command words (codes "compact") 2 ≡ true → gathered files (names_of words) ≡ whole contents
+    → header_in (header_file contents) ≡ Ok header → IsHeaderOf header square
+    → claim_in (claim_file contents) ≡ Ok claim → CompactOf contents w status → CompactsOwn claim square status
+
+-- over the files of `verify` with a REQUEST, where the header in HEADER is that of a square and the line is `ok`: ANSWER is to the request, and shows the square's own shares, or they name a collision
+abbrev pub IsOwnLineFor : Files → List (List ℕ) → Type 0
+IsOwnLineFor files words = (contents : List (List ℕ)) (header : Roots) (square : SquareShares) (answer request : Frame) (refusal : Option ℕ)
+    → is_command words (codes "verify") 3 ≡ true → gathered files (names_of words) ≡ whole contents
+    → header_in (header_file contents) ≡ Ok header → IsHeaderOf header square
+    → AreBytes (answer_file contents) → answer_in (answer_file contents) ≡ Ok answer
+    → request_in (request_file contents) ≡ Ok request
+    → IsRefusalFor (is_answer_to request answer) header answer refusal → verdict_line refusal ≡ codes "ok\n"
+    → IsAnswerTo request answer × IsOwnReply answer square
+
 -- over the files of `repair`, where the header in HEADER is that of a square: what is written and answered is that square or the missing cells, or a proved message of MESSAGES and the square name a collision
 abbrev pub IsOwnRepair : Files → List (List ℕ) → Type 0
 IsOwnRepair files words = (contents : List (List ℕ)) (header : Roots) (square : SquareShares) (w : List ℕ) (status : Status)
@@ -49,11 +69,14 @@ IsOwnLight files words = (contents : List (List ℕ)) (header : Roots) (square :
     → header_in (header_file contents) ≡ Ok header → IsHeaderOf header square
     → AreBytes (messages_file contents) → LightOf key count contents w status → JudgesOwn square w status
 
--- under the header of a square the line `ok` stands only for the square's own shares, a repair answers this square or
+-- under the header of a square the line `ok` stands only for the square's own shares, and for an answer to the request where
+-- there is one, a repair answers this square or
 -- the missing cells, and `light` writes no claim, or a collision is named
 pub record HasOwn (files : Files) (words : List (List ℕ)) : Type 0 where
   pub check : AreOwnLines files words
   pub verify : IsOwnLine files words
+  pub compact : IsOwnCompact files words
+  pub verify_for : IsOwnLineFor files words
   pub repair : IsOwnRepair files words
   pub light : IsOwnLight files words
 

@@ -7,9 +7,11 @@ use Rattle.std.specs.Option.{option_map, option_map_or}
 use Rattle.std.specs.String.{string_bytes}
 use Rattle.std.specs.Str.{bytes_eq}
 use Rattle.hex.specs.Hex.{decode_sized}
+use Rattle.namespace_id.specs.declared.cells.Axis.{Axis}
+use Rattle.namespace_id.specs.declared.cells.Axis.TheVariants.{Row, Col}
 use Rattle.da_wire.specs.Frames.{ok_of}
 use Rattle.da_commands.specs.declared.command.Command.{Command}
-use Rattle.da_commands.specs.declared.command.Command.TheVariants.{Check, Build, Header, Sample, Namespace, Verify, Repair, Light, Net, Show, Json, Demo}
+use Rattle.da_commands.specs.declared.command.Command.TheVariants.{Check, Build, Header, Sample, Namespace, Verify, Compact, Repair, Light, Net, Show, Json, Demo, VerifyFor, Root, RootIs, Wanted, Blobs, Help, Version}
 use Rattle.da_commands.specs.Demo.{is_trial_width}
 use Rattle.da_cli.specs.declared.words.Call.{Call}
 
@@ -54,6 +56,11 @@ key_in word = ok_of (decode_sized word 32)
 abbrev pub width_in : List ℕ → Option ℕ
 width_in word = option_map_or (λ k. if is_trial_width k then Some k else None) (number_in 128 word) None
 
+-- the axis that a word is
+abbrev pub axis_in : List ℕ → Option Axis
+axis_in word =
+    if bytes_eq word (codes "row") then Some Row else (if bytes_eq word (codes "col") then Some Col else None)
+
 -- ---- commands
 
 -- light HEADER MESSAGES KEY COUNT, where KEY and COUNT are these words
@@ -68,6 +75,26 @@ demo_call number width = option_map_or
     (λ n. option_map (λ k. record { command = Demo n k; files = 0 }) (width_in width))
     (number_in (2 ^ 64 - 1) number) None
 
+-- root HEADER ROOT, where ROOT is this word
+abbrev pub root_call : List ℕ → Option Call
+root_call root = option_map (λ bytes. record { command = RootIs bytes; files = 1 }) (key_in root)
+
+-- wanted MISSING AXIS, where AXIS is this word
+abbrev pub wanted_call : List ℕ → Option Call
+wanted_call word = option_map (λ axis. record { command = Wanted axis; files = 1 }) (axis_in word)
+
+-- the command of these words among those of one who asks for samples and shares, and those that tell of the program
+abbrev pub client_call : List (List ℕ) → Option Call
+client_call words =
+    if is_command words (codes "root") 2 then root_call (get_or words 2 []) else
+    (if is_command words (codes "wanted") 2 then wanted_call (get_or words 2 []) else
+    (if is_command words (codes "verify") 3 then Some (record { command = VerifyFor; files = 3 }) else
+    (if is_command words (codes "root") 1 then Some (record { command = Root; files = 1 }) else
+    (if is_command words (codes "blobs") 1 then Some (record { command = Blobs; files = 1 }) else
+    (if is_command words (codes "help") 0 then Some (record { command = Help; files = 0 }) else
+    (if is_command words (codes "version") 0 then Some (record { command = Version; files = 0 }) else
+    None))))))
+
 -- the command of these words, and how many of them name files
 abbrev pub call_of : List (List ℕ) → Option Call
 call_of words =
@@ -77,13 +104,14 @@ call_of words =
     (if is_command words (codes "sample") 2 then Some (record { command = Sample; files = 2 }) else
     (if is_command words (codes "namespace") 2 then Some (record { command = Namespace; files = 2 }) else
     (if is_command words (codes "verify") 2 then Some (record { command = Verify; files = 2 }) else
+    (if is_command words (codes "compact") 2 then Some (record { command = Compact; files = 2 }) else
     (if is_command words (codes "repair") 2 then Some (record { command = Repair; files = 2 }) else
     (if is_command words (codes "light") 4 then light_call (get_or words 3 []) (get_or words 4 []) else
     (if is_command words (codes "show") 1 then Some (record { command = Show; files = 1 }) else
     (if is_command words (codes "json") 1 then Some (record { command = Json; files = 1 }) else
     (if is_command words (codes "demo") 2 then demo_call (get_or words 1 []) (get_or words 2 []) else
     (if is_command words (codes "net") 3 then Some (record { command = Net; files = 3 }) else
-    None)))))))))))
+    client_call words))))))))))))
 
 -- repair has two files
 abbrev pub HasFiles : Command → ℕ → Type 0

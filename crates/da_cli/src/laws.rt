@@ -1,6 +1,6 @@
 //! What the relation of a run says of each kind of words and files.
 
-ghost use Rattle.std.specs.Prelude.{◌≡◌, ◌↔◌, ℕ, ◌+◌, true, List, [], ◌∷◌, length, map, Ok, Some, None};
+ghost use Rattle.std.specs.Prelude.{◌≡◌, ◌↔◌, ℕ, ◌+◌, true, false, List, [], ◌∷◌, length, map, Ok, Some, None};
 ghost use Rattle.std.specs.List.{AllByRecursion, filter};
 ghost use Rattle.namespace_id.specs.Bytes.{AreBytes};
 ghost use Rattle.namespace_id.specs.Shares.{AreShares};
@@ -29,11 +29,15 @@ ghost use Rattle.da_status.specs.declared.status.Status.TheVariants.{Missing};
 ghost use Rattle.da_cli.specs.Limits.{file_limit};
 ghost use Rattle.da_commands.specs.Frames.{header_in, square_in, block_in};
 ghost use Rattle.da_commands.specs.Check.{header_file, messages_file, finding_of, is_ok, IsProvedFrame, IsOwnFrame};
+ghost use Rattle.da_commands.specs.Compact.{CompactsJudged, CompactsOwn};
 ghost use Rattle.da_commands.specs.Repair.{Repairs, RepairsOwn, RepairOf};
 ghost use Rattle.da_commands.specs.Light.{Lights, JudgesOwn};
 ghost use Rattle.da_commands.specs.Sample.{sample_frame, samples_in};
 ghost use Rattle.da_commands.specs.Namespace.{namespaces_in};
 ghost use Rattle.da_commands.specs.Verify.{IsRefusal, answer_kinds, answer_in, IsOwnReply};
+ghost use Rattle.da_commands.specs.VerifyFor.{is_answer_to, IsAnswerTo, IsRefusalFor};
+ghost use Rattle.da_commands.specs.Root.{root_refusal};
+ghost use Rattle.data_header.specs.DataRoots.{data_root_of};
 ghost use Rattle.da_cli.specs.Laws.{FormLaw, BadInputLaw, ExcessLaw, AbsentLaw, FailureLaw};
 
 use crate::gathering::FILE_LIMIT;
@@ -72,11 +76,33 @@ pub fn run_laws()
     ensures upheld { (header : Roots) (claim : ClaimParts) →
         IsRefusal header (Fraud claim) None ↔ Accepts header claim }
 
+    // To a request an answer is not refused exactly where it is not without one and is to the request:
+    // a sample with the cell and the axis that are asked for, or a namespace answer with the namespace
+    // that is. It is refused by the number 0, first of all, exactly where it is to another.
+    ensures asked { (header : Roots) (answer request : Frame) →
+        IsRefusalFor (is_answer_to request answer) header answer None
+        ↔ (IsRefusal header answer None × IsAnswerTo request answer) }
+    ensures asked_other { (header : Roots) (answer request : Frame) →
+        IsRefusalFor (is_answer_to request answer) header answer (Some 0)
+        ↔ (is_answer_to request answer ≡ false) }
+    ensures answers { (request answer : Frame) →
+        (is_answer_to request answer ≡ true) ↔ IsAnswerTo request answer }
+
+    // A header is not refused exactly where its data root is the one that it is to have.
+    ensures rooted { (header : Roots) (root : List ℕ) →
+        (root_refusal header root ≡ None) ↔ (data_root_of header ≡ root) }
+
     // Under the header of a square an answer is not refused only where it shows the square's own
     // share, just the square's shares of the namespace, or they name a collision; a fraud claim only
     // where they name one.
     ensures own_answer { (header : Roots) (answer : Frame) (square : SquareShares) → IsFrame answer →
         IsHeaderOf header square → IsRefusal header answer None → IsOwnReply answer square }
+
+    // Under the header of a square `compact` refuses a claim, or a message of it, or its set, and the
+    // square name a collision.
+    ensures own_compact { (header : Roots) (claim : ClaimParts) (square : SquareShares) (w : List ℕ)
+        (status : Status) → IsHeaderOf header square → CompactsJudged header claim w status →
+        CompactsOwn claim square status }
 
     // Under the header of a square what a repair writes is this square or the missing cells, or a
     // proved message of the file and the square name a collision.

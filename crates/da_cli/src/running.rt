@@ -122,7 +122,7 @@ pub fn run<I: Inputs, O: Sink, N: Sink>(
         (O.taken out.new) result }
 
     // Under the header of a square `ok` stands only for messages that show the square's own share and for
-    // namespace answers that show just its shares, a repair answers this square or the missing cells, and
+    // namespace answers that show just its shares, each to the request where there is one, a repair answers this square or the missing cells, and
     // `light` writes no claim; or a collision is named, as a fraud claim always does; where the files are
     // told.
     ensures own { AreOwn (I.files inputs.old) (words_of words.now) }
@@ -135,7 +135,8 @@ pub fn run<I: Inputs, O: Sink, N: Sink>(
     // What is decided before the output leaves it as it was.
     ensures untouched { Untouched (out.new ≡ out.old) result }
 
-    // `build`, `header`, `repair`, `light`, `net` and `demo` take all of their memory before they write.
+    // All commands but `check`, `sample`, `namespace`, `verify` without a request, `show` and `json` take
+    // all of their memory before they write.
     ensures late { IsEarly (call_of (words_of words.now)) (out.new ≡ out.old) result }
 
     // A failed pick or read, an excess of length: of which file, and after which others.

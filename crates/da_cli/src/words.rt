@@ -3,11 +3,11 @@
 ghost use Rattle.std.specs.Prelude.{◌≡◌, ◌<◌, length, IfSome, true};
 ghost use Rattle.da_commands.specs.Meaning.{IsRunnable};
 ghost use Rattle.da_commands.specs.Demo.{is_trial_width};
-ghost use Rattle.da_cli.specs.Words.{words_of, is_command, is_digit, digits_in, number_in, key_in, light_call, width_in, demo_call, call_of, HasFiles};
+ghost use Rattle.da_cli.specs.Words.{words_of, is_command, is_digit, digits_in, number_in, key_in, light_call, width_in, demo_call, axis_in, root_call, wanted_call, client_call, call_of, HasFiles};
 
 use da_commands::Command;
 use hex::FromHex;
-use namespace_id::is_width;
+use namespace_id::{Axis, is_width};
 
 /// A command, and how many of the words after its own name files. These come first.
 #[derive(Clone, Copy, Debug, PartialEq, Eq)]
@@ -111,6 +111,93 @@ fn demo_call(number: &str, width: &str) -> Option<Call>
     })
 }
 
+/// The axis that a word is: `row` or `col`.
+fn axis_in(word: &str) -> Option<Axis>
+    ensures { result ≡ axis_in word.now }
+{
+    if word == "row" {
+        return Some(Axis::Row);
+    }
+    if word == "col" {
+        return Some(Axis::Col);
+    }
+    None
+}
+
+/// The call of `root` whose ROOT is this word.
+fn root_call(root: &str) -> Option<Call>
+    ensures value { result ≡ root_call root.now }
+    ensures files { IfSome result (λ call. call.files ≡ 1) }
+    ensures runnable { IfSome result (λ call. IsRunnable call.command) }
+    ensures own { IfSome result (λ call. HasFiles call.command call.files) }
+{
+    Some(Call {
+        command: Command::RootIs(key_in(root)?),
+        files: 1,
+    })
+}
+
+/// The call of `wanted` whose AXIS is this word.
+fn wanted_call(axis: &str) -> Option<Call>
+    ensures value { result ≡ wanted_call axis.now }
+    ensures files { IfSome result (λ call. call.files ≡ 1) }
+    ensures runnable { IfSome result (λ call. IsRunnable call.command) }
+    ensures own { IfSome result (λ call. HasFiles call.command call.files) }
+{
+    Some(Call {
+        command: Command::Wanted(axis_in(axis)?),
+        files: 1,
+    })
+}
+
+/// The command of these words, among those that one who asks for samples and shares has, and those
+/// that tell of the program.
+fn client_call(words: &[String]) -> Option<Call>
+    ensures value { result ≡ client_call (words_of words.now) }
+    ensures files { IfSome result (λ call. call.files < length words.now) }
+    ensures few { IfSome result (λ call. call.files < 16) }
+    ensures runnable { IfSome result (λ call. IsRunnable call.command) }
+    ensures own { IfSome result (λ call. HasFiles call.command call.files) }
+{
+    if is_command(words, "root", 2) {
+        return root_call(words[2].as_str());
+    }
+    if is_command(words, "wanted", 2) {
+        return wanted_call(words[2].as_str());
+    }
+    if is_command(words, "verify", 3) {
+        return Some(Call {
+            command: Command::VerifyFor,
+            files: 3,
+        });
+    }
+    if is_command(words, "root", 1) {
+        return Some(Call {
+            command: Command::Root,
+            files: 1,
+        });
+    }
+    if is_command(words, "blobs", 1) {
+        return Some(Call {
+            command: Command::Blobs,
+            files: 1,
+        });
+    }
+    if is_command(words, "help", 0) {
+        return Some(Call {
+            command: Command::Help,
+            files: 0,
+        });
+    }
+    if is_command(words, "version", 0) {
+        return Some(Call {
+            command: Command::Version,
+            files: 0,
+        });
+    }
+    None
+}
+
 /// The command of these words.
 pub(crate) fn call_of(words: &[String]) -> Option<Call>
     ensures value { result ≡ call_of (words_of words.now) }
@@ -155,6 +242,12 @@ pub(crate) fn call_of(words: &[String]) -> Option<Call>
             files: 2,
         });
     }
+    if is_command(words, "compact", 2) {
+        return Some(Call {
+            command: Command::Compact,
+            files: 2,
+        });
+    }
     if is_command(words, "repair", 2) {
         return Some(Call {
             command: Command::Repair,
@@ -185,5 +278,5 @@ pub(crate) fn call_of(words: &[String]) -> Option<Call>
             files: 3,
         });
     }
-    None
+    client_call(words)
 }

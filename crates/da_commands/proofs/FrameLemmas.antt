@@ -3,20 +3,26 @@ use Rattle.std.proofs.Common.{◌≡◌, ℕ, ◌+◌, Bool, true, false, cond, 
 use Rattle.std.specs.Prelude.{◌==◌, nat_lt}
 use Rattle.std.specs.declared.option.Option.{Option}
 use Rattle.std.specs.Option.{option_map, option_map_or}
+use Rattle.namespace_id.specs.Cells.{CellList}
 use Rattle.data_header.specs.Headers.{Roots}
 use Rattle.square_layout.specs.Blocks.{BlockParts, SquareShares}
 use Rattle.da_wire.specs.declared.frames.Frame.{Frame}
-use Rattle.da_wire.specs.declared.frames.Frame.TheVariants.{Header, Square, Block}
+use Rattle.da_wire.specs.declared.frames.Frame.TheVariants.{Header, Square, Block, Fraud, Missing}
 use Rattle.da_wire.specs.declared.frames.FrameError.{FrameError}
 use Rattle.da_wire.specs.declared.frames.FrameError.TheVariants.{Truncated, BadKind, TooLong, BadPayload, Trailing, NoMemory}
-use Rattle.da_wire.specs.Spelling.{max_payload, header_kind, square_kind, block_kind}
+use Rattle.da_wire.specs.Spelling.{max_payload, header_kind, square_kind, block_kind, fraud_kind, missing_kind}
 use Rattle.da_wire.specs.Reading.{Raw, raw_of, promised, is_kind, value_at, valued, value_of, is_among, tested_raw, tested_frame, ended, only_of, Reads}
 use Rattle.da_wire.specs.Frames.{ok_of}
 use Rattle.da_wire.specs.Values.{value_in}
 use Rattle.da_wire.specs.kinds.Header.{header_at}
 use Rattle.da_wire.specs.kinds.Square.{square_at}
 use Rattle.da_wire.specs.kinds.Block.{block_at}
+use Rattle.da_wire.specs.kinds.Fraud.{fraud_at}
+use Rattle.axis_roots.specs.Claims.{ClaimParts}
+use Rattle.da_commands.specs.Compact.{claim_of, claim_in}
+use Rattle.da_wire.specs.kinds.Missing.{missing_at}
 use Rattle.da_commands.specs.Verify.{answer_kinds, answer_in}
+use Rattle.da_commands.specs.Wanted.{missing_of, missing_in}
 use Rattle.da_commands.specs.Frames.{header_of, square_of, block_of, single, header_in, square_in, block_in, unread_of, ReadsSingle}
 
 -- a value that an answer has is of a kind, and an answer without a value isn't want of memory
@@ -167,15 +173,50 @@ pub block_unread : (bytes : List ℕ) (error : FrameError) → Reads NoMemory (�
     → ReadsSingle (Err (unread_of error)) (block_in bytes)
 block_unread bytes error h = unread_single block_of error _ (only_kind block_of block_kind bytes block_kinds) h
 
+-- missing cells that were read make a frame of their kind
+some_missing : (o : Option CellList) → IfSome (option_map Missing o) (λ (v : Frame). IsSome (missing_of v))
+some_missing None = tt
+some_missing (Some cells) = refl
+
+-- a payload of the kind of missing cells makes a frame of this kind
+missing_kinds : (payload : List ℕ) → IfSome (value_at missing_kind payload) (λ (v : Frame). IsSome (missing_of v))
+unfolding value_at
+missing_kinds payload = some_missing (missing_at payload)
+
+-- why a file was not read as missing cells
+pub missing_unread : (bytes : List ℕ) (error : FrameError) → Reads NoMemory (λ (v : Frame). v) (Err error) (only_of bytes (missing_kind ∷ []))
+    → ReadsSingle (Err (unread_of error)) (missing_in bytes)
+missing_unread bytes error h = unread_single missing_of error _ (only_kind missing_of missing_kind bytes missing_kinds) h
+
 -- what was read is there
 all_some : (o : Option Frame) → IfSome o (λ (v : Frame). IsSome (Some v))
 all_some None = tt
 all_some (Some v) = refl
 
+-- why a file was not read as one frame of some kinds
+pub kinds_unread : (kinds bytes : List ℕ) (error : FrameError) → Reads NoMemory (λ (v : Frame). v) (Err error) (only_of bytes kinds)
+    → ReadsSingle (Err (unread_of error)) (single Some (only_of bytes kinds))
+kinds_unread kinds bytes error h =
+    unread_single Some error (only_of bytes kinds)
+    (ended_kind Some (length bytes) (tested_frame (is_among kinds) 0 bytes)
+    (front_among Some kinds bytes (λ payload e. all_some (value_at (slice_index bytes 0) payload)))) h
+
 -- why a file was not read as an answer
 pub answer_unread : (bytes : List ℕ) (error : FrameError) → Reads NoMemory (λ (v : Frame). v) (Err error) (only_of bytes answer_kinds)
     → ReadsSingle (Err (unread_of error)) (answer_in bytes)
-answer_unread bytes error h =
-    unread_single Some error (only_of bytes answer_kinds)
-    (ended_kind Some (length bytes) (tested_frame (is_among answer_kinds) 0 bytes)
-    (front_among Some answer_kinds bytes (λ payload e. all_some (value_at (slice_index bytes 0) payload)))) h
+answer_unread bytes error h = kinds_unread answer_kinds bytes error h
+
+-- a claim that was read makes a frame of its kind
+some_claim : (o : Option ClaimParts) → IfSome (option_map Fraud o) (λ (v : Frame). IsSome (claim_of v))
+some_claim None = tt
+some_claim (Some claim) = refl
+
+-- a payload of the kind of fraud claims makes a frame of this kind
+claim_kinds : (payload : List ℕ) → IfSome (value_at fraud_kind payload) (λ (v : Frame). IsSome (claim_of v))
+unfolding value_at
+claim_kinds payload = some_claim (fraud_at payload)
+
+-- why a file was not read as a claim
+pub claim_unread : (bytes : List ℕ) (error : FrameError) → Reads NoMemory (λ (v : Frame). v) (Err error) (only_of bytes (fraud_kind ∷ []))
+    → ReadsSingle (Err (unread_of error)) (claim_in bytes)
+claim_unread bytes error read = unread_single claim_of error (only_of bytes (fraud_kind ∷ [])) (only_kind claim_of fraud_kind bytes claim_kinds) read

@@ -18,6 +18,11 @@ pub mod SampleLemmas
 pub mod AnswerLemmas
 pub mod NamespaceLemmas
 pub mod VerifyLemmas
+pub mod CompactLemmas
+pub mod VerifyForLemmas
+pub mod RootLemmas
+pub mod WantedLemmas
+pub mod BlobsLemmas
 pub mod ShowLemmas
 pub mod DemoLemmas
 pub mod MeaningLemmas

@@ -1,5 +1,5 @@
 -- What the command light answers.
-use Rattle.std.proofs.Common.{◌≡◌, ℕ, ◌<◌, ◌≤◌, Bool, true, false, List, [], ◌∷◌, length, Some, None, Result, Ok, Err, sym, ap, ap₂, subst, inl, inr, arith}
+use Rattle.std.proofs.Common.{◌≡◌, ℕ, ◌<◌, Bool, true, false, List, [], ◌∷◌, Some, None, Result, Ok, Err, sym, ap, ap₂, subst, inl, inr, arith}
 use Rattle.std.specs.Prelude.{MatchResult, nat_lt}
 use Rattle.std.specs.declared.option.Option.{Option}
 use Rattle.std.proofs.lemmas.Bool.Decides.{nat_tests}
@@ -8,10 +8,8 @@ use Rattle.namespace_id.specs.declared.cells.Cell.{Cell}
 use Rattle.square_layout.specs.Blocks.{SquareShares}
 use Rattle.axis_roots.specs.Claims.{ClaimParts, Accepts, IsFalseClaim}
 use Rattle.axis_roots.specs.Grids.{IsHeaderOf}
-use Rattle.axis_roots.proofs.Messages.ClaimLemmas.{shape_of}
 use Rattle.namespace_id.specs.Cells.{is_width}
-use Rattle.namespace_id.proofs.WidthLemmas.{is_width-le}
-use Rattle.da_wire.specs.kinds.Fraud.{is_long_claim}
+use Rattle.da_wire.proofs.AcceptedClaims.{accepted_written}
 use Rattle.sampling.specs.Draws.{draw_limit, drawn_cells}
 use Rattle.light_node.specs.declared.events.Event.{Event}
 use Rattle.light_node.specs.declared.events.Light.{Light}
@@ -113,20 +111,12 @@ pub light_answers : (key : List ℕ) (count : ℕ) (files : List (List ℕ)) (w 
 light_answers key count files w status r = by_header key count (header_in (header_file files))
     (frames_of (messages_file files)) w status r
 
--- a claim that is accepted under a header of a width can be written
-claim_short : (header : Roots) (claim : ClaimParts) → is_width header.k ≡ true → Accepts header claim
-    → is_long_claim claim ≡ false
-claim_short header claim width accepted =
-    let count : length claim.cells ≡ header.k = (shape_of header.k claim accepted.bad.shape).count in
-    let most : length claim.cells ≤ 128 = omega (arith, count, is_width-le header.k width) in
-    not_below 128 (length claim.cells) (λ more. omega (arith, most, more))
-
 -- a verdict under a header of a width has an output
 pub verdict_output : (header : Roots) (plan : List Cell) (events : List Event) (verdict : Light)
     → is_width header.k ≡ true
     → IsLight header plan events verdict → HasOutput verdict
 verdict_output header plan events light.Available width is = tt
-verdict_output header plan events (light.Rejected claim) width is = claim_short header claim width is.0
+verdict_output header plan events (light.Rejected claim) width is = accepted_written header claim is.0
 verdict_output header plan events (light.Waiting cells) width is = is.1
 
 -- the answer of a verdict on the cells that the key draws

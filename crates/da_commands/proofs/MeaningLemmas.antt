@@ -5,9 +5,9 @@ use Rattle.da_show.specs.Text.{text_of}
 use Rattle.da_show.specs.Json.{json_text}
 use Rattle.da_status.specs.declared.status.Status.{Status}
 use Rattle.da_status.specs.Statuses.{kind_of}
-use Rattle.da_status.proofs.EndLemmas.{IsAnswer, answer_output}
+use Rattle.da_status.proofs.EndLemmas.{IsAnswer, answer_output, status_answers}
 use Rattle.da_commands.specs.declared.command.Command.{Command}
-use Rattle.da_commands.specs.declared.command.Command.TheVariants.{Check, Build, Header, Sample, Namespace, Verify, Repair, Light, Net, Show, Json, Demo}
+use Rattle.da_commands.specs.declared.command.Command.TheVariants.{Check, Build, Header, Sample, Namespace, Verify, Compact, Repair, Light, Net, Show, Json, Demo, VerifyFor, Root, RootIs, Wanted, Blobs, Help, Version}
 use Rattle.da_commands.specs.Show.{all_kinds, shown_file}
 use Rattle.da_commands.specs.Meaning.{AnswerOf}
 use Rattle.da_commands.proofs.CheckLemmas.{check_last}
@@ -16,11 +16,16 @@ use Rattle.da_commands.proofs.HeaderLemmas.{header_answers}
 use Rattle.da_commands.proofs.SampleLemmas.{sample_answers}
 use Rattle.da_commands.proofs.NamespaceLemmas.{namespace_answers}
 use Rattle.da_commands.proofs.VerifyLemmas.{verify_last}
+use Rattle.da_commands.proofs.CompactLemmas.{compact_last}
 use Rattle.da_commands.proofs.RepairLemmas.{repair_last}
 use Rattle.da_commands.proofs.LightLemmas.{light_answers}
 use Rattle.da_commands.proofs.NetLemmas.{net_answers}
 use Rattle.da_commands.proofs.ShowLemmas.{shows_answers}
 use Rattle.da_commands.proofs.DemoLemmas.{demo_answers}
+use Rattle.da_commands.proofs.VerifyForLemmas.{verify_for_last}
+use Rattle.da_commands.proofs.RootLemmas.{root_last, root_is_last}
+use Rattle.da_commands.proofs.WantedLemmas.{wanted_last}
+use Rattle.da_commands.proofs.BlobsLemmas.{blobs_answers}
 
 -- a command's answer comes with its output, or refuses what the files ask for
 pub answer_last : (command : Command) (files : List (List ℕ)) (w : List ℕ) (status : Status) → AnswerOf command files w status → IsAnswer (kind_of status)
@@ -30,9 +35,17 @@ answer_last Header files w status h = header_answers files w status h
 answer_last Sample files w status h = sample_answers files w status h
 answer_last Namespace files w status h = namespace_answers files w status h
 answer_last Verify files w status h = answer_output status (verify_last files w status h)
+answer_last Compact files w status h = answer_output status (compact_last files w status h)
 answer_last Repair files w status h = answer_output status (repair_last files w status h)
 answer_last (Light key count) files w status h = light_answers key count files w status h
 answer_last Net files w status h = net_answers files w status h
 answer_last Show files w status h = shows_answers text_of (values_of all_kinds (shown_file files)) w status h
 answer_last Json files w status h = shows_answers json_text (values_of all_kinds (shown_file files)) w status h
 answer_last (Demo number k) files w status h = demo_answers number k w status h
+answer_last VerifyFor files w status h = answer_output status (verify_for_last files w status h)
+answer_last Root files w status h = answer_output status (root_last files w status h)
+answer_last (RootIs root) files w status h = answer_output status (root_is_last root files w status h)
+answer_last (Wanted axis) files w status h = answer_output status (wanted_last axis files w status h)
+answer_last Blobs files w status h = blobs_answers files w status h
+answer_last Help files w status h = status_answers status _ h.1 tt
+answer_last Version files w status h = status_answers status _ h.1 tt

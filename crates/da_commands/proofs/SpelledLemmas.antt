@@ -9,7 +9,7 @@ use Rattle.da_wire.specs.kinds.Header.{header_payload}
 use Rattle.da_wire.specs.kinds.Square.{square_payload}
 use Rattle.da_wire.specs.kinds.Message.{message_payload}
 use Rattle.da_wire.specs.kinds.Names.{names_payload, is_long_answer}
-use Rattle.da_wire.specs.kinds.Fraud.{fraud_payload, is_long_claim}
+use Rattle.da_wire.specs.kinds.Fraud.{fraud_payload, is_unwritten}
 use Rattle.da_wire.specs.kinds.Missing.{missing_payload}
 use Rattle.da_wire.specs.kinds.Clash.{has_empty, clash_payload}
 use Rattle.da_wire.specs.kinds.Requests.{sample_payload, request_payload}
@@ -36,7 +36,7 @@ spelling_some (Header h) text e = tested_some false header_kind (header_payload 
 spelling_some (Square s) text e = tested_some false square_kind (square_payload s) text e
 spelling_some (Message m) text e = tested_some false message_kind (message_payload m) text e
 spelling_some (Names name answer) text e = tested_some (is_long_answer answer) names_kind (names_payload name answer) text e
-spelling_some (Fraud claim) text e = tested_some (is_long_claim claim) fraud_kind (fraud_payload claim) text e
+spelling_some (Fraud claim) text e = tested_some (is_unwritten claim) fraud_kind (fraud_payload claim) text e
 spelling_some (Missing cells) text e = tested_some (length cells.list == 0) missing_kind (missing_payload cells) text e
 spelling_some (Clash clash) text e = tested_some (has_empty clash) clash_kind (clash_payload clash) text e
 spelling_some (Sample cell axis) text e = tested_some false sample_kind (sample_payload cell axis) text e

@@ -51,7 +51,7 @@ pub verify_refuses : (files : List (List ℕ)) (header : Roots) (at : ℕ) → h
 verify_refuses files header at read bad = sym (ap₂ verify_by read bad)
 
 -- a verdict comes with its output
-verdict_kind : (refusal : Option ℕ) → kind_of (verdict_status refusal) ≡ output
+pub verdict_kind : (refusal : Option ℕ) → kind_of (verdict_status refusal) ≡ output
 verdict_kind None = refl
 verdict_kind (Some number) = refl
 

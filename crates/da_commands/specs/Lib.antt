@@ -8,9 +8,15 @@ pub mod Serving
 pub mod Sample
 pub mod Namespace
 pub mod Verify
+pub mod Compact
+pub mod VerifyFor
 pub mod Repair
 pub mod Light
+pub mod Root
+pub mod Wanted
+pub mod Blobs
 pub mod Net
 pub mod Show
 pub mod Demo
+pub mod Help
 pub mod Meaning

@@ -14,7 +14,7 @@ use Rattle.light_node.specs.declared.events.Light.TheVariants as light
 use Rattle.light_node.specs.Events.{IsLight}
 use Rattle.da_wire.specs.declared.frames.Frame.TheVariants as frames
 use Rattle.da_wire.specs.Spelling.{spelling}
-use Rattle.da_wire.specs.kinds.Fraud.{is_long_claim}
+use Rattle.da_wire.specs.kinds.Fraud.{is_unwritten}
 use Rattle.da_wire.specs.Reading.{Raw}
 use Rattle.da_wire.specs.Frames.{frames_of, bad_frame, message_in, claim_in}
 use Rattle.da_status.specs.declared.status.Asked.TheVariants.{Count}
@@ -48,7 +48,7 @@ Answers (light.Waiting cells) w status =
 -- a verdict has an output: its claim can be written, and there are cells that it waits for
 abbrev pub HasOutput : Light → Type 0
 HasOutput light.Available = ⊤
-HasOutput (light.Rejected claim) = is_long_claim claim ≡ false
+HasOutput (light.Rejected claim) = is_unwritten claim ≡ false
 HasOutput (light.Waiting cells) = cells.list ≢ []
 
 -- what is written for frames under a header where these cells were planned: the light verdict

@@ -45,6 +45,7 @@ ns_number (ns.Proof i why) = 3
 abbrev pub fraud_number : FraudRefusal → ℕ
 fraud_number fraud.Shape = 1
 fraud_number (fraud.Cell i why) = 2
+fraud_number (fraud.Set why) = 4
 fraud_number fraud.AxisMatches = 3
 
 -- an answer is refused by the check of this number, or by none where it holds; frames of other kinds are no answers, and

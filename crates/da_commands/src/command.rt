@@ -7,9 +7,13 @@ ghost use Rattle.da_status.specs.declared.status.Status.TheVariants.{NoMemory};
 ghost use Rattle.da_commands.specs.Meaning.{Meaning, TakesFirst, IsRunnable};
 ghost use Rattle.da_status.specs.Outcome.{Ends};
 
-use crate::{build, check, demo, header, light, namespace, net, sample, show, verify};
+use crate::{
+    blobs, build, check, compact, demo, header, help, light, namespace, net, root, sample, show,
+    verify, verify_for, wanted,
+};
 use da_io::Sink;
 use da_status::Status;
+use namespace_id::Axis;
 use std::alloc::Global;
 
 /// A command with its values.
@@ -27,6 +31,8 @@ pub enum Command {
     Namespace,
     /// `verify HEADER ANSWER`
     Verify,
+    /// `compact HEADER CLAIM`
+    Compact,
     /// `repair HEADER MESSAGES`
     Repair,
     /// `light HEADER MESSAGES KEY COUNT`, with the key of the draws and how many there are
@@ -39,6 +45,20 @@ pub enum Command {
     Json,
     /// `demo NUMBER WIDTH`, with both numbers
     Demo(u64, u16),
+    /// `verify HEADER ANSWER REQUEST`
+    VerifyFor,
+    /// `root HEADER`
+    Root,
+    /// `root HEADER ROOT`, with the data root that the header is to have
+    RootIs([u8; 32]),
+    /// `wanted MISSING AXIS`, with the axis
+    Wanted(Axis),
+    /// `blobs SHARES`
+    Blobs,
+    /// `help`
+    Help,
+    /// `version`
+    Version,
 }
 
 /// Runs a command over the contents of its files, which stand in the order of the words that name them.
@@ -60,11 +80,19 @@ pub fn execute<O: Sink>(alloc: Global, command: Command, files: &[Vec<u8>], out:
         Command::Sample => sample::execute(alloc, files, out),
         Command::Namespace => namespace::execute(alloc, files, out),
         Command::Verify => verify::execute(alloc, files, out),
+        Command::Compact => compact::execute(alloc, files, out),
         Command::Repair => unreachable!(),
         Command::Light(key, count) => light::execute(alloc, files, &key, count, out),
         Command::Net => net::execute(alloc, files, out),
         Command::Show => show::show(alloc, files, out),
         Command::Json => show::json(alloc, files, out),
         Command::Demo(number, k) => demo::execute(alloc, number, k, out),
+        Command::VerifyFor => verify_for::execute(alloc, files, out),
+        Command::Root => root::root(alloc, files, out),
+        Command::RootIs(root) => root::root_is(alloc, files, &root, out),
+        Command::Wanted(axis) => wanted::execute(alloc, files, axis, out),
+        Command::Blobs => blobs::execute(alloc, files, out),
+        Command::Help => help::help(out),
+        Command::Version => help::version(out),
     }
 }

@@ -1,16 +1,20 @@
 //! Files that are one frame of a kind and nothing else, and outputs of one frame.
 
-ghost use Rattle.std.specs.Prelude.{◌≡◌, ◌≢◌, [], IsSome};
+ghost use Rattle.std.specs.Prelude.{◌≡◌, ◌≢◌, [], IsSome, false};
+ghost use Rattle.da_wire.specs.kinds.Fraud.{is_unwritten};
+ghost use Rattle.da_wire.specs.kinds.Clash.{has_empty};
 ghost use Rattle.da_wire.specs.Spelling.{spelling};
 ghost use Rattle.da_wire.specs.declared.frames.Frame.TheVariants as FrameOf;
 ghost use Rattle.da_status.specs.Statuses.{kind_of, output};
 ghost use Rattle.da_commands.specs.Frames.{header_in, square_in, block_in, unread_of, ReadsSingle, Writes, WritesText, WritesWith};
 ghost use Rattle.da_status.specs.Outcome.{EndsAtOnce};
 
+use axis_roots::{FraudClaim, claim_law};
 use da_io::{Sink, write_all};
 use da_status::Status;
-use da_wire::{Frame, FrameError, SpellError, read_only, wire_laws, write_frame};
+use da_wire::{Frame, FrameError, SpellError, read_only, value_laws, wire_laws, write_frame};
 use data_header::Header;
+use hash_clash::Clash;
 use namespace_id::{Cells, shares_law};
 use square_layout::{Block, Square};
 use std::alloc::Global;
@@ -93,6 +97,29 @@ pub(crate) fn missing_frame(cells: Cells) -> Frame
     wire_laws();
     let _k = cells.k;
     Frame::Missing(cells)
+}
+
+/// The frame of a claim that can be written.
+pub(crate) fn claim_frame(claim: FraudClaim) -> Frame
+    requires { is_unwritten claim ≡ false }
+    ensures value { result ≡ FrameOf.Fraud claim }
+    ensures spelled { IsSome (spelling result) }
+{
+    wire_laws();
+    claim_law(&claim);
+    Frame::Fraud(claim)
+}
+
+/// The frame of a collision.
+pub(crate) fn clash_frame(clash: Clash) -> Frame
+    requires { has_empty clash ≡ false }
+    ensures value { result ≡ FrameOf.Clash clash }
+    ensures spelled { IsSome (spelling result) }
+{
+    value_laws();
+    let _left = clash.left().bytes();
+    let _right = clash.right().bytes();
+    Frame::Clash(clash)
 }
 
 /// Writes a text as one piece, and answers a status of a complete output.

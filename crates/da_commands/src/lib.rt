@@ -5,21 +5,27 @@
 //! what is written for a verdict, since its second file is read by the crate above.
 #![tactic(auto)]
 
+mod blobs;
 mod build;
 mod check;
 mod command;
+mod compact;
 mod contents;
 mod demo;
 mod frames;
 mod header;
+mod help;
 mod light;
 mod namespace;
 mod net;
 mod repair;
+mod root;
 mod sample;
 mod serving;
 mod show;
 mod verify;
+mod verify_for;
+mod wanted;
 
 pub use check::Finding;
 pub use command::{Command, execute};

@@ -9,7 +9,7 @@ ghost use Rattle.light_node.specs.Events.{IsLight};
 ghost use Rattle.light_node.specs.Nodes.{StandsFor, IsSame};
 ghost use Rattle.light_node.specs.Plans.{PicksInside, IsPlan};
 ghost use Rattle.da_wire.specs.declared.frames.Frame.TheVariants as FrameOf;
-ghost use Rattle.da_wire.specs.kinds.Fraud.{is_long_claim};
+ghost use Rattle.da_wire.specs.kinds.Fraud.{is_unwritten};
 ghost use Rattle.da_wire.specs.Reading.{raw_seen};
 ghost use Rattle.da_wire.specs.Spelling.{spelling};
 ghost use Rattle.da_wire.specs.Frames.{frames_of};
@@ -20,12 +20,11 @@ ghost use Rattle.da_commands.specs.Meaning.{Meaning};
 ghost use Rattle.da_status.specs.Outcome.{EndsAtOnce};
 
 use crate::contents::file;
-use crate::frames::{Unread, give_with, header_in, missing_frame, put};
-use axis_roots::claim_law;
+use crate::frames::{Unread, claim_frame, give_with, header_in, missing_frame, put};
 use befp_verify::Upheld;
 use da_io::Sink;
 use da_status::{Asked, Status};
-use da_wire::{Frame, RawFrame, bad_frame, claim, message, next_frame, wire_laws};
+use da_wire::{RawFrame, bad_frame, claim, message, next_frame};
 use data_header::Header;
 use light_node::{Event, Light, LightNode, Picker};
 use namespace_id::{Cell, CellRoom, Cells, NoMemory};
@@ -114,27 +113,20 @@ fn verdict(
     )
 }
 
-/// The frame of a claim that was accepted.
-fn claim_frame(upheld: Upheld) -> Frame
-    requires { is_long_claim upheld ≡ false }
-    ensures value { result ≡ FrameOf.Fraud upheld }
-    ensures spelled { IsSome (spelling result) }
-{
-    wire_laws();
-    let claim = upheld.into_claim();
-    claim_law(&claim);
-    Frame::Fraud(claim)
-}
-
 /// Writes a claim that was accepted.
 fn give_claim<O: Sink>(alloc: Global, upheld: Upheld, out: &mut O) -> Status
-    requires { is_long_claim upheld ≡ false }
+    requires { is_unwritten upheld ≡ false }
     ensures { EndsAtOnce (Answers (verdict.Rejected upheld)) (O.taken out.old) (O.taken out.new)
         (O.faults out.old) (O.faults out.new) (out.new ≡ out.old) result }
 {
     let claim = upheld.claim();
     let status = Status::Fraud(claim.axis, claim.index);
-    give_with(&claim_frame(upheld), status, &mut Vec::new(alloc), out)
+    give_with(
+        &claim_frame(upheld.into_claim()),
+        status,
+        &mut Vec::new(alloc),
+        out,
+    )
 }
 
 /// Writes the cells that are waited for.

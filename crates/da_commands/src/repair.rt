@@ -5,12 +5,11 @@ ghost use Rattle.axis_roots.specs.declared.message.messages.Message as sent;
 ghost use Rattle.repair_queue.specs.Verdicts.{missing, fraud, IsVerdict};
 ghost use Rattle.repair_queue.specs.Answers.{parts_of};
 ghost use Rattle.da_wire.specs.declared.frames.Frame.TheVariants as FrameOf;
-ghost use Rattle.da_wire.specs.kinds.Clash.{has_empty};
 ghost use Rattle.da_wire.specs.Spelling.{spelling};
 ghost use Rattle.da_commands.specs.Repair.{Answers};
 ghost use Rattle.da_status.specs.Outcome.{EndsAtOnce};
 
-use crate::frames::{give, give_with, missing_frame, put, square_frame};
+use crate::frames::{clash_frame, give, give_with, missing_frame, put, square_frame};
 use axis_roots::FraudProof;
 use da_io::Sink;
 use da_status::Status;
@@ -20,18 +19,6 @@ use hash_clash::Clash;
 use namespace_id::{Cells, NoMemory};
 use repair_queue::Verdict;
 use std::alloc::Global;
-
-/// The frame of a collision.
-fn clash_frame(clash: Clash) -> Frame
-    requires { has_empty clash ≡ false }
-    ensures value { result ≡ FrameOf.Clash clash }
-    ensures spelled { IsSome (spelling result) }
-{
-    value_laws();
-    let _left = clash.left().bytes();
-    let _right = clash.right().bytes();
-    Frame::Clash(clash)
-}
 
 /// Writes missing cells, where so many frames were lies.
 fn give_missing<O: Sink>(alloc: Global, cells: Cells, lies: u64, out: &mut O) -> Status

@@ -4,16 +4,17 @@ ghost use Rattle.std.specs.Prelude.{◌≡◌, IfOk};
 ghost use Rattle.da_wire.specs.declared.frames.Frame.TheVariants as FrameOf;
 ghost use Rattle.da_commands.specs.declared.command.Command.TheVariants as CommandOf;
 ghost use Rattle.da_commands.specs.Contents.{contents_of};
-ghost use Rattle.da_commands.specs.Frames.{ReadsSingle};
-ghost use Rattle.da_commands.specs.Verify.{check_number, ns_number, fraud_number, IsRefusal, verdict_line, answer_in, Verifies};
+ghost use Rattle.da_commands.specs.Frames.{ReadsSingle, WritesText};
+ghost use Rattle.da_commands.specs.Verify.{check_number, ns_number, fraud_number, IsRefusal, verdict_line, verdict_status, answer_in, Verifies};
 ghost use Rattle.da_commands.specs.Meaning.{Meaning};
-ghost use Rattle.da_status.specs.Outcome.{Ends};
+ghost use Rattle.da_status.specs.Outcome.{Ends, EndsAtOnce};
+ghost use Rattle.da_status.specs.Statuses.{kind_of, output};
 
 use crate::contents::file;
-use crate::frames::{Unread, header_in, reason};
+use crate::frames::{Unread, header_in, put, reason};
 use axis_roots::{CheckRefusal, FraudClaim, opens};
 use befp_verify::{FraudRefusal, VerifyRoom};
-use da_io::{Sink, write_all};
+use da_io::Sink;
 use da_status::{Line, Status, around};
 use da_wire::{Frame, read_only};
 use data_header::Header;
@@ -27,7 +28,7 @@ const HEADER: u32 = 0;
 const ANSWER: u32 = 1;
 
 /// The answer that a file is.
-fn answer_in(alloc: Global, bytes: &[u8]) -> Result<Frame, Unread>
+pub(crate) fn answer_in(alloc: Global, bytes: &[u8]) -> Result<Frame, Unread>
     ensures { ReadsSingle result (answer_in bytes.now) }
 {
     match read_only(alloc, bytes, b"MNB") {
@@ -60,12 +61,13 @@ fn ns_number(why: NsRefusal) -> u64
 }
 
 /// The number of the check that refuses a fraud claim.
-fn fraud_number(why: FraudRefusal) -> u64
+pub(crate) fn fraud_number(why: FraudRefusal) -> u64
     ensures { result ≡ fraud_number why }
 {
     match why {
         FraudRefusal::Shape => 1,
         FraudRefusal::Cell(..) => 2,
+        FraudRefusal::Set(..) => 4,
         FraudRefusal::AxisMatches => 3,
     }
 }
@@ -87,7 +89,11 @@ fn refuse_claim(alloc: Global, header: &Header, claim: FraudClaim) -> Result<Opt
 
 /// The number of the check that refuses an answer, none of one that holds. It takes memory for a
 /// fraud claim alone.
-fn refusal_of(alloc: Global, header: &Header, answer: Frame) -> Result<Option<u64>, NoMemory>
+pub(crate) fn refusal_of(
+    alloc: Global,
+    header: &Header,
+    answer: Frame,
+) -> Result<Option<u64>, NoMemory>
     ensures { IfOk result (λ refusal. IsRefusal header.now answer refusal) }
 {
     match answer {
@@ -107,7 +113,7 @@ fn refusal_of(alloc: Global, header: &Header, answer: Frame) -> Result<Option<u6
 
 /// The line for an answer.
 #[tactic(auto, using(da_status::proofs::DigitLemmas::digits_fit))]
-fn verdict_line(refusal: Option<u64>) -> Line
+pub(crate) fn verdict_line(refusal: Option<u64>) -> Line
     ensures { result ≡ verdict_line refusal }
 {
     let mut line = Line::new();
@@ -116,6 +122,27 @@ fn verdict_line(refusal: Option<u64>) -> Line
         None => line.put(b"ok\n"),
     }
     line
+}
+
+/// The status for an answer.
+fn verdict_status(refusal: Option<u64>) -> Status
+    ensures value { result ≡ verdict_status refusal }
+    ensures output { kind_of result ≡ output }
+{
+    match refusal {
+        Some(_) => Status::Refused,
+        None => Status::Done,
+    }
+}
+
+/// Writes the line for an answer. It takes no memory.
+pub(crate) fn give_line<O: Sink>(refusal: Option<u64>, out: &mut O) -> Status
+    ensures { EndsAtOnce (WritesText (verdict_status refusal) (verdict_line refusal))
+        (O.taken out.old) (O.taken out.new) (O.faults out.old) (O.faults out.new)
+        (out.new ≡ out.old) result }
+{
+    let line = verdict_line(refusal);
+    put(line.as_bytes(), verdict_status(refusal), out)
 }
 
 /// Writes the line for an answer under a header. Where there is no memory for a fraud claim nothing
@@ -127,14 +154,7 @@ fn verify<O: Sink>(alloc: Global, header: &Header, answer: Frame, out: &mut O) -
     let Ok(refusal) = refusal_of(alloc, header, answer) else {
         return Status::NoMemory;
     };
-    let line = verdict_line(refusal);
-    let Ok(()) = write_all(out, line.as_bytes()) else {
-        return Status::WriteFault;
-    };
-    match refusal {
-        Some(_) => Status::Refused,
-        None => Status::Done,
-    }
+    give_line(refusal, out)
 }
 
 /// Answers whether the answer in ANSWER holds under the header in HEADER.

@@ -8,10 +8,12 @@ use Rattle.namespace_id.specs.declared.namespaces.NsError.{NsError}
 use Rattle.namespace_id.specs.declared.namespaces.NsError.TheVariants.{Length, Version, Prefix, Reserved}
 use Rattle.namespace_id.specs.declared.cells.Axis.{Axis}
 use Rattle.namespace_id.specs.declared.cells.Axis.TheVariants.{Row, Col}
+use Rattle.share_split.specs.declared.joining.JoinError.{JoinError}
+use Rattle.share_split.specs.declared.joining.JoinError.TheVariants as join
 use Rattle.square_layout.specs.declared.laying.LayError.{LayError}
 use Rattle.square_layout.specs.declared.laying.LayError.TheVariants as lay
 use Rattle.da_status.specs.declared.status.Asked.{Asked}
-use Rattle.da_status.specs.declared.status.Asked.TheVariants.{NoHeader, At, Count, Nodes}
+use Rattle.da_status.specs.declared.status.Asked.TheVariants.{NoHeader, At, Count, Nodes, Shares}
 use Rattle.da_status.specs.declared.status.Status.{Status}
 use Rattle.da_status.specs.declared.status.Status.TheVariants.{Done, Usage, PickFault, ReadFault, WriteFault, NoMemory, BadInput, TooLong, BadBlock, BadRequest, Fraud, Missing, Clash, Refused, Waiting}
 
@@ -31,12 +33,35 @@ block_note (lay.WidthTooSmall needed) = codes "4 " ++ decimal needed
 block_note lay.BadWidth = codes "5"
 block_note lay.NoMemory = codes "6"
 
+-- the numbers of the refusals of shares
+abbrev pub join_number : JoinError → ℕ
+join_number (join.BadVersion i) = 1
+join_number (join.MixedNamespace i) = 2
+join_number (join.Short i) = 3
+join_number (join.NoStart i) = 4
+join_number (join.NonZeroFill i) = 5
+join_number (join.BadVarint i) = 6
+join_number (join.BadReserved i) = 7
+join_number join.NoMemory = 8
+
+-- the share that such a refusal names, counted from 0
+abbrev pub join_share : JoinError → ℕ
+join_share (join.BadVersion i) = i
+join_share (join.MixedNamespace i) = i
+join_share (join.Short i) = i
+join_share (join.NoStart i) = i
+join_share (join.NonZeroFill i) = i
+join_share (join.BadVarint i) = i
+join_share (join.BadReserved i) = i
+join_share join.NoMemory = 0
+
 -- why what the files ask for can't be answered, in words
 abbrev pub request_note : Asked → List ℕ
 request_note NoHeader = codes "no header"
 request_note (At i) = decimal i
 request_note Count = codes "count"
 request_note Nodes = codes "nodes"
+request_note (Shares why) = codes "shares " ++ decimal (join_number why) ++ codes " " ++ decimal (join_share why)
 
 -- the kind of an axis, in a word
 abbrev pub axis_note : Axis → List ℕ

@@ -1,12 +1,13 @@
 //! The line that goes with a status.
 
 ghost use Rattle.std.specs.Prelude.{◌≡◌, ◌+◌, ◌≤◌, ◌++◌, length, decimal};
-ghost use Rattle.da_status.specs.Notes.{refusal_number, block_note, axis_note, note_of, Notes};
+ghost use Rattle.da_status.specs.Notes.{refusal_number, block_note, join_number, join_share, axis_note, note_of, Notes};
 
 use crate::line::Line;
 use crate::status::{Asked, Status};
 use da_io::{Sink, write_all};
 use namespace_id::{Axis, NsError};
+use share_split::JoinError;
 use square_layout::LayError;
 
 /// Puts a number, in decimal digits, between two texts. The line needs room for both texts and
@@ -53,6 +54,38 @@ fn note_block(line: &mut Line, why: LayError)
     }
 }
 
+/// The number of a refusal of shares.
+fn join_number(why: JoinError) -> u64
+    ensures { result ≡ join_number why }
+{
+    match why {
+        JoinError::BadVersion(_) => 1,
+        JoinError::MixedNamespace(_) => 2,
+        JoinError::Short(_) => 3,
+        JoinError::NoStart(_) => 4,
+        JoinError::NonZeroFill(_) => 5,
+        JoinError::BadVarint(_) => 6,
+        JoinError::BadReserved(_) => 7,
+        JoinError::NoMemory => 8,
+    }
+}
+
+/// The share that a refusal of shares names.
+fn join_share(why: JoinError) -> u64
+    ensures { result ≡ join_share why }
+{
+    match why {
+        JoinError::BadVersion(i) => i,
+        JoinError::MixedNamespace(i) => i,
+        JoinError::Short(i) => i,
+        JoinError::NoStart(i) => i,
+        JoinError::NonZeroFill(i) => i,
+        JoinError::BadVarint(i) => i,
+        JoinError::BadReserved(i) => i,
+        JoinError::NoMemory => 0,
+    }
+}
+
 /// The kind of an axis, in a word and a space: `row `, `col `.
 pub fn axis_note(axis: Axis) -> &'static [u8]
     ensures { result.now ≡ axis_note axis }
@@ -90,6 +123,10 @@ fn note_of(status: Status) -> Line
         Status::BadRequest(Asked::At(i)) => around(&mut line, b"bad request: ", i, b"\n"),
         Status::BadRequest(Asked::Count) => line.put(b"bad request: count\n"),
         Status::BadRequest(Asked::Nodes) => line.put(b"bad request: nodes\n"),
+        Status::BadRequest(Asked::Shares(why)) => {
+            around(&mut line, b"bad request: shares ", join_number(why), b" ");
+            around(&mut line, b"", join_share(why), b"\n");
+        }
         Status::Fraud(axis, i) => {
             line.put(b"fraud: ");
             line.put(axis_note(axis));

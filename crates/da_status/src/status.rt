@@ -4,6 +4,7 @@ ghost use Rattle.std.specs.Prelude.{◌≡◌};
 ghost use Rattle.da_status.specs.Statuses.{number_of};
 
 use namespace_id::Axis;
+use share_split::JoinError;
 use square_layout::LayError;
 
 /// Why what the files ask for can't be answered.
@@ -17,6 +18,8 @@ pub enum Asked {
     Count,
     /// A network can't have so many nodes, items or events, or a light node of it would draw too many cells.
     Nodes,
+    /// The shares are no blobs. No run has `JoinError::NoMemory` here: want of memory is a status of its own.
+    Shares(JoinError),
 }
 
 /// How a run ended. Files are numbered from 0 among the words that name files; `at` is an offset in

@@ -11,10 +11,13 @@ use Rattle.axis_roots.specs.Grids.{header_of_grid}
 use Rattle.da_commands.proofs.FileLemmas.{header_file, square_file, block_file, answer_file, square_again, some_there}
 use Rattle.da_cli.proofs.RunLemmas.{form_law, bad_input_law, excess_law, absent_law, failure_law}
 use Rattle.da_commands.proofs.CheckLemmas.{finding_proved, finding_own}
+use Rattle.da_commands.proofs.CompactLemmas.{compacts_own}
 use Rattle.da_commands.proofs.RepairLemmas.{repairs_own}
 use Rattle.da_cli.proofs.CountedLies.{lies_counted}
 use Rattle.da_commands.proofs.LightLemmas.{lights_own}
 use Rattle.da_commands.proofs.VerifyLemmas.{verified_proved, verified_complete, verified_accepted, verified_own}
+use Rattle.da_commands.proofs.VerifyForLemmas.{asked_holds, asked_other, answers_to}
+use Rattle.da_commands.proofs.RootLemmas.{tied}
 use Rattle.da_cli.proofs.laws.run_laws.Goals as goal
 
 pub returns-clause-form : goal.returns-clause-form
@@ -49,6 +52,9 @@ pub returns-clause-own_answer : goal.returns-clause-own_answer
 returns-clause-own_answer c =
     verified_own c.message_laws.ensures.refusal c.message_laws.ensures.own c.answer_laws.ensures.refusal c.answer_laws.ensures.own
     c.claim_laws.ensures.own
+
+pub returns-clause-own_compact : goal.returns-clause-own_compact
+returns-clause-own_compact c = compacts_own c.claim_laws.ensures.own
 
 pub returns-clause-own_repair : goal.returns-clause-own_repair
 returns-clause-own_repair c = repairs_own c.wire_laws.ensures.message_spelled c.verdict_laws.ensures.own
@@ -99,3 +105,15 @@ returns-clause-headed c = λ block is none.
     (c.grid_laws.ensures.laid (square_of block) grid.0 square grid.1
     (c.name_laws.ensures.rising block (c.name_laws.ensures.named block none))) in
     (header.0, c.grid_laws.ensures.header (square_of block) grid.0 header.0 square grid.1 header.1)
+
+pub returns-clause-asked : goal.returns-clause-asked
+returns-clause-asked c = asked_holds
+
+pub returns-clause-asked_other : goal.returns-clause-asked_other
+returns-clause-asked_other c = asked_other
+
+pub returns-clause-answers : goal.returns-clause-answers
+returns-clause-answers c = answers_to
+
+pub returns-clause-rooted : goal.returns-clause-rooted
+returns-clause-rooted c = tied

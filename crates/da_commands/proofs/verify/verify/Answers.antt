@@ -1,11 +1,11 @@
-use Rattle.std.proofs.Common.{◌∙◌, refl}
-use Rattle.da_commands.specs.Verify.{verdict_status}
-use Rattle.da_status.proofs.EndLemmas.{ends_in_fault}
+use Rattle.da_commands.specs.Frames.{WritesText}
+use Rattle.da_commands.specs.Verify.{verdict_line, verdict_status, Verifies}
+use Rattle.da_status.proofs.EndLemmas.{ends_within}
 use Rattle.da_commands.proofs.verify.verify.Goals as goal
 
--- a write failed after the front of the line
-pub returns-in_default-write_all : goal.returns-in_default-write_all
-returns-in_default-write_all g c =
+-- the line is that of the answer's refusal
+pub returns : goal.returns
+returns g c =
     let refusal = c.in-Ok.refusal in
-    ends_in_fault _ _ (verdict_status refusal) _ _ _ _ _ (refusal, c.in-Ok.ensures, c.as_bytes.ensures ∙ c.verdict_line-line.ensures, refl)
-    c.in_default-write_all.ensures.taken c.in_default-write_all.ensures.faults c.in_default-write_all.ensures.told
+    ends_within (WritesText (verdict_status refusal) (verdict_line refusal)) (Verifies c.args.header.now c.args.answer) _ _ _ _ _ _
+    (λ w s h. (refusal, c.in-Ok.ensures, h.0, h.1)) c.give_line.ensures.ends

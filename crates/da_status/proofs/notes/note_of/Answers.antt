@@ -12,3 +12,6 @@ put-requires-in-BadBlock-2 c =
 
 pub around-requires-in-Missing-2 : goal.around-requires-in-Missing-2
 around-requires-in-Missing-2 c = omega (arith, ap length c.new-line.ensures, simp length-append at (ap length c.around-in-Missing.ensures), digits_fit c.from-in-Missing.result (omega arith))
+
+pub around-requires-in-BadRequest-Shares-2 : goal.around-requires-in-BadRequest-Shares-2
+around-requires-in-BadRequest-Shares-2 c = omega (arith, ap length c.new-line.ensures, simp length-append at (ap length c.around-in-BadRequest-Shares.ensures), digits_fit c.join_number.result (omega arith))

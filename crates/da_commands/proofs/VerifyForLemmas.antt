@@ -1,0 +1,185 @@
+-- What the command verify answers to a request.
+use Rattle.std.proofs.Common.{◌≡◌, ◌∙◌, ℕ, Bool, true, false, List, [], ◌∷◌, Some, None, Result, Ok, Err, refl, sym, ap, ap₂, eqb-true, eq-eqb}
+use Rattle.std.specs.Prelude.{MatchResult, ◌↔◌, ◌&&◌, ◌==◌}
+use Rattle.std.specs.declared.option.Option.{Option}
+use Rattle.std.specs.Option.{option_map}
+use Rattle.std.proofs.lemmas.Bool.{and_parts, and_from}
+use Rattle.std.proofs.lemmas.Slice.Eq.{bytes_eq-Decides}
+use Rattle.namespace_id.specs.declared.cells.Axis.{Axis}
+use Rattle.namespace_id.specs.declared.cells.Axis.TheVariants.{Row, Col}
+use Rattle.namespace_id.specs.declared.cells.Cell.{Cell}
+use Rattle.namespace_id.specs.declared.namespaces.Namespace as names
+use Rattle.data_header.specs.Headers.{Roots}
+use Rattle.axis_roots.specs.Sets.{is_one_axis, is_along}
+use Rattle.axis_roots.specs.declared.message.messages.Message as sent
+use Rattle.axis_roots.specs.declared.message.messages.CheckRefusal.{CheckRefusal}
+use Rattle.axis_roots.specs.declared.message.messages.CheckRefusal.TheVariants.{OutOfSquare, NodeCount, Unordered, OtherRoot}
+use Rattle.axis_roots.specs.Messages.{message_refusal}
+use Rattle.square_serve.specs.declared.checking.NsRefusal.{NsRefusal}
+use Rattle.square_serve.specs.declared.checking.NsRefusal.TheVariants as ns
+use Rattle.square_serve.specs.Answers.{answer_refusal}
+use Rattle.befp_verify.specs.declared.verifying.FraudRefusal.{FraudRefusal}
+use Rattle.befp_verify.specs.declared.verifying.FraudRefusal.TheVariants as fraud
+use Rattle.da_wire.specs.declared.frames.Frame.{Frame}
+use Rattle.da_wire.specs.declared.frames.Frame.TheVariants.{Message, Names, Fraud, Sample, Request}
+use Rattle.da_status.specs.declared.status.Status.{Status}
+use Rattle.da_status.specs.declared.status.Status.TheVariants.{BadInput}
+use Rattle.da_commands.specs.declared.command.Command.TheVariants as command
+use Rattle.da_status.specs.Statuses.{kind_of, output}
+use Rattle.da_status.specs.Outcome.{Relation, Refuses}
+use Rattle.da_status.specs.Judging.{Judged}
+use Rattle.da_commands.specs.Frames.{header_in, error_of}
+use Rattle.da_commands.specs.Verify.{header_file, answer_file, answer_in, check_number, ns_number, fraud_number, IsRefusal}
+use Rattle.da_commands.specs.VerifyFor.{request_file, request_in, is_of_cell, is_sample, is_for, is_answer_to, Samples, Tells, IsAnswerTo, IsRefusalFor, VerifiesFor, VerifyForOf}
+use Rattle.da_commands.specs.Meaning.{Meaning}
+use Rattle.da_commands.proofs.VerifyLemmas.{verdict_kind}
+
+-- ---- the three files
+
+-- the answer by what the three files are
+abbrev answer_by : Result Roots ℕ → Result Frame ℕ → Result Frame ℕ → Relation
+answer_by a b d w status =
+    MatchResult a
+    (λ header. MatchResult b (λ answer. MatchResult d (λ request. VerifiesFor header answer request w status) (λ at. ⊥)) (λ at. ⊥))
+    (λ at. ⊥)
+
+-- the meaning by what the three files are
+abbrev verify_by : Result Roots ℕ → Result Frame ℕ → Result Frame ℕ → Relation
+verify_by a b d = Judged (error_of a ∷ error_of b ∷ error_of d ∷ []) (answer_by a b d)
+
+module _ (files : List (List ℕ)) (header : Roots) (read : header_in (header_file files) ≡ Ok header) where
+  -- the meaning of a second file that is no answer
+  pub verify_for_refuses : (at : ℕ) → answer_in (answer_file files) ≡ Err at → Refuses (BadInput 1 at) ≡ Meaning command.VerifyFor files
+  verify_for_refuses at bad =
+      sym (ap₂ (λ (a : Result Roots ℕ) (b : Result Frame ℕ). verify_by a b (request_in (request_file files))) read bad)
+
+  module _ (answer : Frame) (reads : answer_in (answer_file files) ≡ Ok answer) where
+    -- the meaning by what the third file is
+    by_third : (d : Result Frame ℕ) → request_in (request_file files) ≡ d → verify_by (Ok header) (Ok answer) d ≡ Meaning command.VerifyFor files
+    by_third d third =
+        sym (ap₂ (λ (a : Result Roots ℕ) (b : Result Frame ℕ). verify_by a b (request_in (request_file files))) read reads
+        ∙ ap (verify_by (Ok header) (Ok answer)) third)
+
+    -- the meaning of a third file that is no request
+    pub verify_for_asks_none : (at : ℕ) → request_in (request_file files) ≡ Err at → Refuses (BadInput 2 at) ≡ Meaning command.VerifyFor files
+    verify_for_asks_none at bad = by_third (Err at) bad
+
+    -- the meaning of files that were read
+    pub verify_for_is : (request : Frame) → request_in (request_file files) ≡ Ok request
+        → VerifiesFor header answer request ≡ Meaning command.VerifyFor files
+    verify_for_is request asked = by_third (Ok request) asked
+
+-- what verify answers comes with a complete output, by what the files are
+by_files : (a : Result Roots ℕ) (b d : Result Frame ℕ) (w : List ℕ) (status : Status) → answer_by a b d w status → kind_of status ≡ output
+by_files (Ok header) (Ok answer) (Ok request) w status h = ap kind_of h.3 ∙ verdict_kind h.0
+by_files (Ok header) (Ok answer) (Err at) w status h = absurd h
+by_files (Ok header) (Err at) d w status h = absurd h
+by_files (Err at) b d w status h = absurd h
+
+-- what verify answers comes with a complete output
+pub verify_for_last : (files : List (List ℕ)) (w : List ℕ) (status : Status) → VerifyForOf files w status → kind_of status ≡ output
+verify_for_last files w status h =
+    by_files (header_in (header_file files)) (answer_in (answer_file files)) (request_in (request_file files)) w status h
+
+-- ---- what answers to a request
+
+-- axes of one kind are one axis, and the other way
+same_axis : (a b : Axis) → (is_one_axis a b ≡ true) ↔ (b ≡ a)
+same_axis Row Row = (λ e. refl, λ e. refl)
+same_axis Row Col = (λ e. absurd cc, λ e. absurd cc)
+same_axis Col Row = (λ e. absurd cc, λ e. absurd cc)
+same_axis Col Col = (λ e. refl, λ e. refl)
+
+-- the cell of a row and a column
+abbrev cell_at : ℕ → ℕ → Cell
+cell_at row col = record { row = row; col = col }
+
+-- a message is of a cell along an axis just where both are its own
+of_cell : (cell : Cell) (axis : Axis) (m : sent.Message) → (is_of_cell cell axis m ≡ true) ↔ ((m.cell ≡ cell) × (m.axis ≡ axis))
+of_cell cell axis m = (
+  λ e.
+      let outer = and_parts ((m.cell.row == cell.row) && (m.cell.col == cell.col)) (is_along axis m) e in
+      let inner = and_parts (m.cell.row == cell.row) (m.cell.col == cell.col) outer.0 in (
+        ap₂ cell_at (eqb-true m.cell.row cell.row inner.0) (eqb-true m.cell.col cell.col inner.1),
+        (same_axis axis m.axis).0 outer.1,
+      ),
+  λ h. and_from ((m.cell.row == cell.row) && (m.cell.col == cell.col)) (is_along axis m)
+      (and_from (m.cell.row == cell.row) (m.cell.col == cell.col) (eq-eqb m.cell.row cell.row (ap (λ (c : Cell). c.row) h.0))
+      (eq-eqb m.cell.col cell.col (ap (λ (c : Cell). c.col) h.0)))
+      ((same_axis axis m.axis).1 h.1),
+)
+
+-- a frame is a sample of a cell along an axis just where it is a message of both
+sample_is : (cell : Cell) (axis : Axis) (answer : Frame) → (is_sample cell axis answer ≡ true) ↔ Samples cell axis answer
+sample_is cell axis (Message m) = of_cell cell axis m
+sample_is cell axis answer = (λ e. absurd cc, λ h. absurd h)
+
+-- a frame is an answer for a namespace just where it is a namespace answer with it
+for_is : (name : names.Namespace) (answer : Frame) → (is_for name answer ≡ true) ↔ Tells name answer
+for_is name (Names other answer) = (
+  λ e. ap (λ (l : List ℕ). record { 0 = l }) ((bytes_eq-Decides other.0 name.0).0 e),
+  λ h. (bytes_eq-Decides other.0 name.0).1 (ap (λ (n : names.Namespace). n.0) h),
+)
+for_is name answer = (λ e. absurd cc, λ h. absurd h)
+
+-- a frame answers to a request just where it is a sample of the cell along the axis that are asked for, or a namespace
+-- answer with the namespace that is asked for
+pub answers_to : (request answer : Frame) → (is_answer_to request answer ≡ true) ↔ IsAnswerTo request answer
+answers_to (Sample cell axis) answer = sample_is cell axis answer
+answers_to (Request name) answer = for_is name answer
+answers_to request answer = (λ e. absurd cc, λ h. absurd h)
+
+-- ---- answers that aren't refused, and those that are to another request
+
+-- an answer isn't refused just where it is to the request and holds, by whether it is to the request
+none_by : (b : Bool) (header : Roots) (answer : Frame) → IsRefusalFor b header answer None ↔ (IsRefusal header answer None × (b ≡ true))
+none_by true header answer = (λ h. (h, refl), λ h. h.0)
+none_by false header answer = (λ e. absurd cc, λ h. absurd cc)
+
+-- an answer isn't refused just where it isn't without the request, and is to it
+pub asked_holds : (header : Roots) (answer request : Frame)
+    → IsRefusalFor (is_answer_to request answer) header answer None ↔ (IsRefusal header answer None × IsAnswerTo request answer)
+asked_holds header answer request =
+    let none = none_by (is_answer_to request answer) header answer in
+    let to = answers_to request answer in
+    (λ h. ((none.0 h).0, to.0 (none.0 h).1), λ h. none.1 (h.0, to.1 h.1))
+
+-- no check of a message has the number 0
+check_some : (why : Option CheckRefusal) → Some 0 ≡ option_map check_number why → ⊥
+check_some None e = cc
+check_some (Some OutOfSquare) e = cc
+check_some (Some NodeCount) e = cc
+check_some (Some Unordered) e = cc
+check_some (Some OtherRoot) e = cc
+
+-- nor one of a namespace answer
+ns_some : (why : Option NsRefusal) → Some 0 ≡ option_map ns_number why → ⊥
+ns_some None e = cc
+ns_some (Some ns.Parity) e = cc
+ns_some (Some (ns.Rows i)) e = cc
+ns_some (Some (ns.Proof i why)) e = cc
+
+-- nor one of a fraud claim
+fraud_some : (why : Option FraudRefusal) → Some 0 ≡ option_map fraud_number why → ⊥
+fraud_some None e = cc
+fraud_some (Some fraud.Shape) e = cc
+fraud_some (Some (fraud.Cell i why)) e = cc
+fraud_some (Some (fraud.Set why)) e = cc
+fraud_some (Some fraud.AxisMatches) e = cc
+
+-- no answer is refused by the number 0
+never_zero : (header : Roots) (answer : Frame) → IsRefusal header answer (Some 0) → ⊥
+never_zero header (Message m) h = check_some (message_refusal header m) h
+never_zero header (Names name answer) h = ns_some (answer_refusal header name answer) h
+never_zero header (Fraud claim) h = fraud_some h.0 h.2
+never_zero header frame h = absurd cc
+
+-- an answer is refused by the number 0 just where it isn't to the request, by whether it is
+zero_by : (b : Bool) (header : Roots) (answer : Frame) → IsRefusalFor b header answer (Some 0) ↔ (b ≡ false)
+zero_by true header answer = (λ h. absurd (never_zero header answer h), λ e. absurd cc)
+zero_by false header answer = (λ e. refl, λ e. refl)
+
+-- an answer is refused by the number 0 just where it isn't to the request
+pub asked_other : (header : Roots) (answer request : Frame)
+    → IsRefusalFor (is_answer_to request answer) header answer (Some 0) ↔ (is_answer_to request answer ≡ false)
+asked_other header answer request = zero_by (is_answer_to request answer) header answer

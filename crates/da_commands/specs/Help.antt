@@ -1,0 +1,46 @@
+-- help, version: the commands with their words, and the version of the program.
+use Rattle.std.specs.Prelude.{ℕ, List, [], ◌++◌, codes}
+use Rattle.std.specs.declared.option.Option.{Option}
+use Rattle.da_status.specs.declared.status.Status.TheVariants.{Done}
+use Rattle.da_status.specs.Outcome.{Relation}
+use Rattle.da_commands.specs.Frames.{WritesText}
+
+-- the commands with their words, one a line
+abbrev pub help_text : List ℕ
+help_text =
+    codes "da build BLOCK\n"
+    ++ codes "da header SQUARE\n"
+    ++ codes "da sample SQUARE REQUESTS\n"
+    ++ codes "da namespace SQUARE REQUESTS\n"
+    ++ codes "da verify HEADER ANSWER\n"
+    ++ codes "da verify HEADER ANSWER REQUEST\n"
+    ++ codes "da compact HEADER CLAIM\n"
+    ++ codes "da check HEADER MESSAGES\n"
+    ++ codes "da repair HEADER MESSAGES\n"
+    ++ codes "da light HEADER MESSAGES KEY COUNT\n"
+    ++ codes "da wanted MISSING AXIS\n"
+    ++ codes "da blobs SHARES\n"
+    ++ codes "da root HEADER\n"
+    ++ codes "da root HEADER ROOT\n"
+    ++ codes "da net HEADER MESSAGES SCRIPT\n"
+    ++ codes "da show FILE\n"
+    ++ codes "da json FILE\n"
+    ++ codes "da demo NUMBER WIDTH\n"
+    ++ codes "da help\n"
+    ++ codes "da version\n"
+
+-- the name of the program, and its version
+abbrev pub version_text : List ℕ
+version_text = codes "da 0.1.0\n"
+
+-- help and version have no file
+abbrev pub help_judged : List (Option ℕ)
+help_judged = []
+
+-- what help answers: the text of the commands
+abbrev pub HelpOf : Relation
+HelpOf = WritesText Done help_text
+
+-- what version answers: the line of the version
+abbrev pub VersionOf : Relation
+VersionOf = WritesText Done version_text

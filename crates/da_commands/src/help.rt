@@ -1,0 +1,51 @@
+//! help, version: the commands with their words, and the version of the program.
+
+ghost use Rattle.std.specs.Prelude.{◌≡◌};
+ghost use Rattle.da_commands.specs.Help.{HelpOf, VersionOf};
+ghost use Rattle.da_status.specs.Outcome.{EndsAtOnce};
+
+use crate::frames::put;
+use da_io::Sink;
+use da_status::Status;
+
+/// The commands with their words, one a line.
+const COMMANDS: &[u8] = b"\
+    da build BLOCK\n\
+    da header SQUARE\n\
+    da sample SQUARE REQUESTS\n\
+    da namespace SQUARE REQUESTS\n\
+    da verify HEADER ANSWER\n\
+    da verify HEADER ANSWER REQUEST\n\
+    da compact HEADER CLAIM\n\
+    da check HEADER MESSAGES\n\
+    da repair HEADER MESSAGES\n\
+    da light HEADER MESSAGES KEY COUNT\n\
+    da wanted MISSING AXIS\n\
+    da blobs SHARES\n\
+    da root HEADER\n\
+    da root HEADER ROOT\n\
+    da net HEADER MESSAGES SCRIPT\n\
+    da show FILE\n\
+    da json FILE\n\
+    da demo NUMBER WIDTH\n\
+    da help\n\
+    da version\n";
+
+/// The name of the program, and its version.
+const VERSION: &[u8] = b"da 0.1.0\n";
+
+/// Answers the commands with their words. It takes no memory.
+pub(crate) fn help<O: Sink>(out: &mut O) -> Status
+    ensures { EndsAtOnce HelpOf (O.taken out.old) (O.taken out.new) (O.faults out.old)
+        (O.faults out.new) (out.new ≡ out.old) result }
+{
+    put(COMMANDS, Status::Done, out)
+}
+
+/// Answers the version of the program. It takes no memory.
+pub(crate) fn version<O: Sink>(out: &mut O) -> Status
+    ensures { EndsAtOnce VersionOf (O.taken out.old) (O.taken out.new) (O.faults out.old)
+        (O.faults out.new) (out.new ≡ out.old) result }
+{
+    put(VERSION, Status::Done, out)
+}

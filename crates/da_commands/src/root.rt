@@ -1,0 +1,84 @@
+//! root HEADER, root HEADER ROOT: the data root of a header, and whether it is a given one.
+
+ghost use Rattle.std.specs.Prelude.{◌≡◌};
+ghost use Rattle.data_header.specs.DataRoots.{data_root_of};
+ghost use Rattle.da_commands.specs.declared.command.Command.TheVariants as CommandOf;
+ghost use Rattle.da_commands.specs.Contents.{contents_of};
+ghost use Rattle.da_commands.specs.Frames.{WritesText};
+ghost use Rattle.da_commands.specs.Root.{root_line, root_refusal};
+ghost use Rattle.da_commands.specs.Meaning.{Meaning};
+ghost use Rattle.da_status.specs.declared.status.Status.TheVariants as StatusOf;
+ghost use Rattle.da_status.specs.Outcome.{EndsAtOnce};
+
+use crate::contents::file;
+use crate::frames::{Unread, header_in, put};
+use crate::verify::give_line;
+use da_io::Sink;
+use da_status::{Line, Status};
+use data_header::{Header, data_root};
+use std::alloc::Global;
+
+/// The place of the file among the words that name files.
+const HEADER: u32 = 0;
+
+/// The line of a data root, in hexadecimal digits.
+fn root_line(root: &[u8; 32]) -> Line
+    ensures { result ≡ root_line root.now }
+{
+    let mut digits = [0u8; 64];
+    let _written = hex::encode_to_slice(root, &mut digits);
+    let mut line = Line::new();
+    line.put(&digits);
+    line.put(b"\n");
+    line
+}
+
+/// The number of the refusal of a header by the data root that it is to have, none where it has it.
+fn root_refusal(header: &Header, root: &[u8; 32]) -> Option<u64>
+    ensures { result ≡ root_refusal header.now root.now }
+{
+    if data_root(header) == *root {
+        None
+    } else {
+        Some(1)
+    }
+}
+
+/// Writes the line of a header's data root. It takes no memory.
+fn give_root<O: Sink>(header: &Header, out: &mut O) -> Status
+    ensures { EndsAtOnce (WritesText StatusOf.Done (root_line (data_root_of header.now)))
+        (O.taken out.old) (O.taken out.new) (O.faults out.old) (O.faults out.new)
+        (out.new ≡ out.old) result }
+{
+    put(root_line(&data_root(header)).as_bytes(), Status::Done, out)
+}
+
+/// Answers the data root of the header in HEADER.
+pub(crate) fn root<O: Sink>(alloc: Global, files: &[Vec<u8>], out: &mut O) -> Status
+    ensures { EndsAtOnce (Meaning CommandOf.Root (contents_of files.now)) (O.taken out.old)
+        (O.taken out.new) (O.faults out.old) (O.faults out.new) (out.new ≡ out.old) result }
+{
+    match header_in(alloc, file(files, HEADER)) {
+        Ok(header) => give_root(&header, out),
+        Err(Unread::BadForm(at)) => Status::BadInput(HEADER, at),
+        Err(Unread::NoMemory) => Status::NoMemory,
+    }
+}
+
+/// Answers whether the header in HEADER has this data root.
+pub(crate) fn root_is<O: Sink>(
+    alloc: Global,
+    files: &[Vec<u8>],
+    root: &[u8; 32],
+    out: &mut O,
+) -> Status
+    ensures { EndsAtOnce (Meaning (CommandOf.RootIs root.now) (contents_of files.now))
+        (O.taken out.old) (O.taken out.new) (O.faults out.old) (O.faults out.new)
+        (out.new ≡ out.old) result }
+{
+    match header_in(alloc, file(files, HEADER)) {
+        Ok(header) => give_line(root_refusal(&header, root), out),
+        Err(Unread::BadForm(at)) => Status::BadInput(HEADER, at),
+        Err(Unread::NoMemory) => Status::NoMemory,
+    }
+}

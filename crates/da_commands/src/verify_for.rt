@@ -1,0 +1,133 @@
+//! verify HEADER ANSWER REQUEST: whether one answer is to a request, and holds under a header.
+
+ghost use Rattle.std.specs.Prelude.{◌≡◌, IfOk};
+ghost use Rattle.da_commands.specs.declared.command.Command.TheVariants as CommandOf;
+ghost use Rattle.da_commands.specs.Contents.{contents_of};
+ghost use Rattle.da_commands.specs.Frames.{ReadsSingle};
+ghost use Rattle.da_commands.specs.VerifyFor.{request_in, is_of_cell, is_sample, is_for, is_answer_to, IsRefusalFor, VerifiesFor};
+ghost use Rattle.da_commands.specs.Meaning.{Meaning};
+ghost use Rattle.da_status.specs.Outcome.{EndsAtOnce};
+
+use crate::contents::file;
+use crate::frames::{Unread, header_in, reason};
+use crate::verify::{answer_in, give_line, refusal_of};
+use axis_roots::{Message, is_along};
+use da_io::Sink;
+use da_status::Status;
+use da_wire::{Frame, read_only};
+use data_header::Header;
+use namespace_id::{Axis, Cell, Namespace, NoMemory};
+use std::alloc::Global;
+
+/// The places of the files among the words that name files.
+const HEADER: u32 = 0;
+
+const ANSWER: u32 = 1;
+
+const REQUEST: u32 = 2;
+
+/// The request that a file is.
+fn request_in(alloc: Global, bytes: &[u8]) -> Result<Frame, Unread>
+    ensures { ReadsSingle result (request_in bytes.now) }
+{
+    match read_only(alloc, bytes, b"QP") {
+        Ok(frame) => Ok(frame),
+        Err(error) => Err(reason(error)),
+    }
+}
+
+/// Whether a message is of a cell, along an axis.
+fn is_of_cell(cell: Cell, axis: Axis, message: &Message) -> bool
+    ensures { result ≡ is_of_cell cell axis message.now }
+{
+    message.cell.row == cell.row && message.cell.col == cell.col && is_along(axis, message)
+}
+
+/// Whether a frame is a sample of a cell along an axis.
+fn is_sample(cell: Cell, axis: Axis, frame: &Frame) -> bool
+    ensures { result ≡ is_sample cell axis frame.now }
+{
+    match frame {
+        Frame::Message(message) => is_of_cell(cell, axis, message),
+        _ => false,
+    }
+}
+
+/// Whether a frame is a namespace answer for a namespace.
+fn is_for(name: &Namespace, frame: &Frame) -> bool
+    ensures { result ≡ is_for name.now frame.now }
+{
+    match frame {
+        Frame::Names(other, _) => other.0 == name.0,
+        _ => false,
+    }
+}
+
+/// Whether to a request a frame is the answer, before any proof is looked at.
+fn is_answer_to(request: &Frame, answer: &Frame) -> bool
+    ensures { result ≡ is_answer_to request.now answer.now }
+{
+    match request {
+        Frame::Sample(cell, axis) => is_sample(*cell, *axis, answer),
+        Frame::Request(name) => is_for(name, answer),
+        _ => false,
+    }
+}
+
+/// The number of the check that refuses an answer to a request, none of one that holds. It takes
+/// memory for a fraud claim alone.
+fn refusal_for(
+    alloc: Global,
+    header: &Header,
+    answer: Frame,
+    request: &Frame,
+) -> Result<Option<u64>, NoMemory>
+    ensures { IfOk result (λ refusal.
+        IsRefusalFor (is_answer_to request.now answer) header.now answer refusal) }
+{
+    if !is_answer_to(request, &answer) {
+        return Ok(Some(0));
+    }
+    refusal_of(alloc, header, answer)
+}
+
+/// Writes the line for an answer to a request under a header.
+fn verify_for<O: Sink>(
+    alloc: Global,
+    header: &Header,
+    answer: Frame,
+    request: &Frame,
+    out: &mut O,
+) -> Status
+    ensures { EndsAtOnce (VerifiesFor header.now answer request.now) (O.taken out.old)
+        (O.taken out.new) (O.faults out.old) (O.faults out.new) (out.new ≡ out.old) result }
+{
+    match refusal_for(alloc, header, answer, request) {
+        Ok(refusal) => give_line(refusal, out),
+        Err(_) => Status::NoMemory,
+    }
+}
+
+/// Answers whether the answer in ANSWER is to the request in REQUEST, and holds under the header in
+/// HEADER. All memory is taken before the write.
+pub(crate) fn execute<O: Sink>(alloc: Global, files: &[Vec<u8>], out: &mut O) -> Status
+    ensures { EndsAtOnce (Meaning CommandOf.VerifyFor (contents_of files.now)) (O.taken out.old)
+        (O.taken out.new) (O.faults out.old) (O.faults out.new) (out.new ≡ out.old) result }
+{
+    let header = match header_in(alloc, file(files, HEADER)) {
+        Ok(header) => header,
+        Err(Unread::BadForm(at)) => return Status::BadInput(HEADER, at),
+        Err(Unread::NoMemory) => return Status::NoMemory,
+    };
+    let answer = match answer_in(alloc, file(files, ANSWER)) {
+        Ok(answer) => answer,
+        Err(Unread::BadForm(at)) => return Status::BadInput(ANSWER, at),
+        Err(Unread::NoMemory) => return Status::NoMemory,
+    };
+    let request = match request_in(alloc, file(files, REQUEST)) {
+        Ok(request) => request,
+        Err(Unread::BadForm(at)) => return Status::BadInput(REQUEST, at),
+        Err(Unread::NoMemory) => return Status::NoMemory,
+    };
+    verify_for(alloc, &header, answer, &request, out)
+}
