@@ -47,6 +47,7 @@ fn claim(alloc: Global, grid: &Grid, first: u16, second: u16) -> Result<Event, F
         axis: Axis::Row,
         index: 3,
         cells,
+        set: None,
     }))
 }
 

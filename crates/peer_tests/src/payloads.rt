@@ -1,12 +1,12 @@
 //! Bytes that are no frame, by docs/FORMATS.md, "Payloads": each kind near the limits of its form.
 
-use crate::runs::{ANSWER, CLAIM, Run, joined};
+use crate::runs::{ANSWER, CLAIM, Run, SET_CLAIM, joined};
 use da_wire::{FrameError, read_frame};
 use std::alloc::Global;
 use std::test::Fail;
 
 /// Frames with payloads that are not in their form.
-const BAD_PAYLOADS: [(&str, &[Run]); 25] = [
+const BAD_PAYLOADS: [(&str, &[Run]); 28] = [
     ("S of width 3", &[(b"S\0\0\x12\x02\0\x03", 4_608, 5)]),
     ("M on axis 2", &[(b"M\0\0\x02\x06\0\0\0\0\x02", 513, 0)]),
     (
@@ -31,7 +31,25 @@ const BAD_PAYLOADS: [(&str, &[Run]); 25] = [
             (b"\x01\0\0\0\x02hi", 0, 0),
         ],
     ),
-    ("B, form 2", &[(b"B\0\0\0\x06\x02\x01\0\x03", 2, 0)]),
+    ("B, form 3", &[(b"B\0\0\0\x06\x03\x01\0\x03", 2, 0)]),
+    (
+        "B, a set and no cells",
+        &[(b"B\0\0\0\x08\x02\x01\0\x03", 4, 0)],
+    ),
+    (
+        "B, a set that shows no cell",
+        &[
+            (b"B\0\0\x02\x0c\x02\x01\0\x03\0\x01\0\0\0", 512, 5),
+            (b"", 3, 0),
+        ],
+    ),
+    (
+        "B, tag 2",
+        &[
+            (b"B\0\0\x02\x0b\x02\x01\0\x03\0\x01\0\0\x02", 512, 5),
+            (b"", 2, 0),
+        ],
+    ),
     ("B, axis 2", &[(b"B\0\0\0\x06\x01\x02\0\x03", 2, 0)]),
     (
         "B, 129 cells",
@@ -126,7 +144,11 @@ fn refused_cut(alloc: Global, whole: &[u8], size: u32) -> Result<Option<FrameErr
 #[test]
 fn payloads_that_are_cut(rt: HostRuntime) -> Result<(), Fail> {
     let alloc = rt.alloc();
-    let cases: [(&str, &[Run], u32); 2] = [("B", &CLAIM, 1_402), ("N", &ANSWER, 1_007)];
+    let cases: [(&str, &[Run], u32); 3] = [
+        ("B", &CLAIM, 1_402),
+        ("B with a set", &SET_CLAIM, 1_309),
+        ("N", &ANSWER, 1_007),
+    ];
     for (name, runs, whole) in cases {
         let bytes = joined(alloc, runs)?;
         assert_eq!(rt; refused_cut(alloc, &bytes, whole)?, None, "{name}, whole");

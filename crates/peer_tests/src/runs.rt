@@ -15,6 +15,15 @@ pub(crate) const CLAIM: [Run; 4] = [
     (b"\x02", 180, 6),
 ];
 
+/// The frame of the claim against column 3 that has a set of one node: the set shows cell (0, 3), and cell
+/// (2, 3) is on its row with two nodes.
+pub(crate) const SET_CLAIM: [Run; 4] = [
+    (b"B\0\0\x05\x1d\x02\x01\0\x03\0\x02\0\0\x01", 512, 5),
+    (b"\0\x02\0", 512, 4),
+    (b"\x02", 180, 6),
+    (b"\0\x01", 90, 7),
+];
+
 /// The frame of the answer of a range in row 2 and an absence in row 3.
 pub(crate) const ANSWER: [Run; 5] = [
     (b"N\0\0\x03\xef", 29, 9),

@@ -1,12 +1,12 @@
 //! Frames that are read and written again, by docs/FORMATS.md, "Payloads". What their values are is shown by
 //! rows of the command `show`.
 
-use crate::runs::{ANSWER, CLAIM, Run, joined, written};
+use crate::runs::{ANSWER, CLAIM, Run, SET_CLAIM, joined, written};
 use da_wire::read_only;
 use std::test::Fail;
 
 /// Frames of each kind but X, as no collision of SHA-256 is known.
-const FRAMES: [(&str, &[Run]); 27] = [
+const FRAMES: [(&str, &[Run]); 29] = [
     ("H, k = 1", &[(b"H\0\0\x01\x6a\0\x01", 360, 7)]),
     ("H, k = 2", &[(b"H\0\0\x02\xd2\0\x02", 720, 7)]),
     ("H, k = 128", &[(b"H\0\0\xb4\x02\0\x80", 46_080, 7)]),
@@ -42,6 +42,14 @@ const FRAMES: [(&str, &[Run]); 27] = [
         "B, 128 cells",
         &[(b"B\0\x01\x03\x06\x01\x01\0\x03\0\x80", 66_304, 0)],
     ),
+    (
+        "B, a set of no nodes",
+        &[
+            (b"B\0\0\x02\x0b\x02\x01\0\x03\0\x01\0\0\x01", 512, 5),
+            (b"", 2, 0),
+        ],
+    ),
+    ("B, a set", &SET_CLAIM),
     (
         "K, two cells",
         &[(b"K\0\0\0\x0e\0\x01\0\0\0\x02\0\0\0\0\0\x01\0\x01", 0, 0)],

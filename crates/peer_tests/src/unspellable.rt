@@ -1,8 +1,8 @@
 //! Values that have no spelling, by docs/FORMATS.md, "Payloads".
 
-use axis_roots::{Found, FraudClaim, Message, NsAnswer, NsEntry, ShareList};
+use axis_roots::{Found, FraudClaim, Message, NsAnswer, NsEntry, SetNodes, ShareList};
 use da_wire::{Frame, SpellError, write_frame};
-use namespace_id::{Axis, Cell, Cells, Namespace, Share};
+use namespace_id::{Axis, Cell, Cells, Digest, Namespace, Share};
 use nmt_proofs::{Nodes, Path};
 use square_layout::Block;
 use std::alloc::Global;
@@ -41,21 +41,53 @@ fn answer(alloc: Global, ranges: u16, shares: usize) -> Result<Frame, Fail> {
     Ok(Frame::Names(Namespace([9; 29]), NsAnswer { entries }))
 }
 
-/// The claim against column 3 by so many cells.
-fn claim(alloc: Global, count: u16) -> Result<Frame, Fail> {
+/// A path of one node.
+fn one_node() -> Path {
+    let mut path = Path::new();
+    path.push(Digest([6; 90]));
+    path
+}
+
+/// A message of a cell.
+fn message(row: u16, col: u16, axis: Axis, path: Path) -> Message {
+    Message {
+        cell: Cell { row, col },
+        axis,
+        share: Share([5; 512]),
+        path,
+    }
+}
+
+/// The claim against column 3 by so many cells, each on its row, with such a set.
+fn claim(alloc: Global, count: u16, set: Option<SetNodes>) -> Result<Frame, Fail> {
     let mut cells = Vec::new(alloc);
     for row in 0..count {
-        cells.push(Message {
-            cell: Cell { row, col: 3 },
-            axis: Axis::Row,
-            share: Share([5; 512]),
-            path: Path::new(),
-        })?;
+        cells.push(message(row, 3, Axis::Row, Path::new()))?;
     }
     Ok(Frame::Fraud(FraudClaim {
         axis: Axis::Col,
         index: 3,
         cells,
+        set,
+    }))
+}
+
+/// The set of so many nodes.
+fn set(alloc: Global, nodes: usize) -> Result<Option<SetNodes>, Fail> {
+    let nodes = vec![in alloc; Digest([6; 90]); nodes]?;
+    Ok(Some(SetNodes { nodes }))
+}
+
+/// The claim against column 3 by a cell that a set of so many nodes shows, and by one more cell.
+fn shown(alloc: Global, nodes: usize, more: Message) -> Result<Frame, Fail> {
+    let mut cells = Vec::new(alloc);
+    cells.push(message(0, 3, Axis::Col, Path::new()))?;
+    cells.push(more)?;
+    Ok(Frame::Fraud(FraudClaim {
+        axis: Axis::Col,
+        index: 3,
+        cells,
+        set: set(alloc, nodes)?,
     }))
 }
 
@@ -72,7 +104,35 @@ fn values_without_spelling(rt: HostRuntime) -> Result<(), Fail> {
     let cases = [
         ("no cells", refused(alloc, no_cells(alloc)?)?),
         ("width 0", refused(alloc, narrow_block(alloc))?),
-        ("129 claimed cells", refused(alloc, claim(alloc, 129)?)?),
+        (
+            "129 claimed cells",
+            refused(alloc, claim(alloc, 129, None)?)?,
+        ),
+        (
+            "a set that shows no cell",
+            refused(alloc, claim(alloc, 1, set(alloc, 0)?)?)?,
+        ),
+        (
+            "129 nodes",
+            refused(
+                alloc,
+                shown(alloc, 129, message(1, 3, Axis::Col, Path::new()))?,
+            )?,
+        ),
+        (
+            "a shown cell's path",
+            refused(
+                alloc,
+                shown(alloc, 1, message(1, 3, Axis::Col, one_node()))?,
+            )?,
+        ),
+        (
+            "a cell off the axis",
+            refused(
+                alloc,
+                shown(alloc, 1, message(1, 2, Axis::Row, Path::new()))?,
+            )?,
+        ),
         ("129 entries", refused(alloc, answer(alloc, 129, 0)?)?),
         ("129 shares", refused(alloc, answer(alloc, 1, 129)?)?),
     ];

@@ -29,7 +29,12 @@ fn refusal(
     let header = header_of_sevens(rt, alloc);
     let mut room = VerifyRoom::new(alloc, 1).expect(rt, "there is memory");
     let axis = Axis::Row;
-    let claim = FraudClaim { axis, index, cells };
+    let claim = FraudClaim {
+        axis,
+        index,
+        cells,
+        set: None,
+    };
     match verify(&mut room, &header, claim) {
         Ok(upheld) => {
             let _claim = upheld.into_claim();

@@ -1,0 +1,100 @@
+//! Commitments of blobs that other programs give, and commitment proofs that succeed with ample
+//! memory.
+
+use axis_roots::{Grid, header_of, message_of};
+use blob_commit::{
+    CommitError, CommitRefusal, ProveError, RootedMessage, RootedRefusal, check_commit, commitment,
+    commitment_of, prove_commit, rooted, row_trees,
+};
+use data_header::{data_root, make_root_proof};
+use namespace_id::{Axis, Cell, NAMESPACE_SIZE, Namespace, SHARE_SIZE, Share};
+use nmt_tree::Tree;
+use share_split::Blob;
+use square_layout::Square;
+use std::test::Fail;
+
+/// The commitment that go-square publishes (inclusion, `TestCreateCommitment`), of 1,536 bytes 0xff.
+const BY_GO_SQUARE: [u8; 32] = [
+    0x3b, 0x9e, 0x78, 0xb6, 0x64, 0x8e, 0xc1, 0xa2, 0x41, 0x92, 0x5b, 0x31, 0xda, 0x2e, 0xcb, 0x50,
+    0xbf, 0xc6, 0xf4, 0xad, 0x55, 0x2d, 0x32, 0x79, 0x92, 0x8c, 0xa1, 0x3e, 0xbe, 0xba, 0x8c, 0x2b,
+];
+
+/// The commitment that celestia-node's documentation gives of its example of a blob.
+const BY_CELESTIA_NODE: [u8; 32] = [
+    0x00, 0x3e, 0x44, 0xcd, 0xb1, 0xb4, 0xfc, 0x43, 0x2f, 0xa7, 0x0d, 0x29, 0xf0, 0xd2, 0x23, 0x31,
+    0x59, 0xe8, 0x08, 0xfe, 0x01, 0xbf, 0xa2, 0xbe, 0x57, 0xa8, 0x23, 0x9b, 0x07, 0x57, 0x50, 0xa5,
+];
+
+/// A blob whose namespace ends in these ten bytes.
+fn blob(id: [u8; 10], bytes: Vec<u8>) -> Blob {
+    let mut name = [0; NAMESPACE_SIZE];
+    name[19..].copy_from_slice(&id);
+    Blob {
+        namespace: Namespace(name),
+        bytes,
+    }
+}
+
+#[test]
+fn commitments_of_blobs(rt: HostRuntime) -> Result<(), Fail> {
+    let alloc = rt.alloc();
+    let ones = blob([1; 10], vec![in alloc; 0xff; 1536]?);
+    assert!(rt; commitment_of(alloc, &ones) == Ok(BY_GO_SQUARE));
+    let id = [1, 2, 3, 4, 5, 6, 7, 8, 9, 0x10];
+    let text = Vec::from_slice(alloc, b"This is an example of some blob data")?;
+    assert!(rt; commitment_of(alloc, &blob(id, text)) == Ok(BY_CELESTIA_NODE));
+    let empty = blob(id, Vec::new(alloc));
+    assert!(rt; commitment_of(alloc, &empty) == Err(CommitError::Empty));
+    Ok(())
+}
+
+/// The share of a number: four of each namespace, one behind another.
+fn share(number: u8) -> Share {
+    let mut bytes = [0; SHARE_SIZE];
+    bytes[28] = number / 4 + 1;
+    bytes[100] = number;
+    Share(bytes)
+}
+
+#[test]
+fn proofs_of_three_shares(rt: HostRuntime) -> Result<(), Fail> {
+    let alloc = rt.alloc();
+    let shares = vec![in alloc; share(0), share(1), share(2), share(3)]?;
+    let grid = Grid::extend(alloc, &Square { k: 2, shares })?;
+    let header = header_of(alloc, &grid)?.expect(&rt, "the namespaces do not fall");
+    let root = data_root(&header);
+    let trees = row_trees(alloc, &grid, &header)?;
+    let mut proof = prove_commit(alloc, &header, &trees, 1, 3)?;
+    assert!(rt; check_commit(&root, &proof) == Ok(()));
+    assert!(rt; commitment(&[share(1), share(2), share(3)]) == proof.commitment);
+    proof.commitment[3] ^= 1;
+    assert!(rt; check_commit(&root, &proof) == Err(CommitRefusal::Commitment));
+    let refused = prove_commit(alloc, &header, &trees, 3, 2);
+    assert!(rt; refused.err() == Some(ProveError::Range));
+    Ok(())
+}
+
+#[test]
+fn a_rooted_sample(rt: HostRuntime) -> Result<(), Fail> {
+    let alloc = rt.alloc();
+    let shares = vec![in alloc; share(0), share(1), share(2), share(3)]?;
+    let grid = Grid::extend(alloc, &Square { k: 2, shares })?;
+    let header = header_of(alloc, &grid)?.expect(&rt, "the namespaces do not fall");
+    let root = data_root(&header);
+    let mut tree = Tree::new(alloc, 4)?;
+    let cell = Cell { row: 3, col: 1 };
+    let message = message_of(&grid, cell, Axis::Col, &mut tree).expect(&rt, "ordered");
+    let mut proof = RootedMessage {
+        k: 2,
+        message,
+        root: header.root_of(Axis::Col, 1),
+        up: make_root_proof(&header, Axis::Col, 1),
+    };
+    assert!(rt; rooted(&root, &proof) == Ok(()));
+    proof.k = 3;
+    assert!(rt; rooted(&root, &proof) == Err(RootedRefusal::Shape));
+    proof.k = 2;
+    proof.root = header.root_of(Axis::Col, 0);
+    assert!(rt; rooted(&root, &proof) == Err(RootedRefusal::Root));
+    Ok(())
+}
