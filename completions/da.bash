@@ -7,14 +7,20 @@ _da_words() {
         header) echo SQUARE ;;
         sample) echo SQUARE REQUESTS ;;
         namespace) echo SQUARE REQUESTS ;;
-        verify) echo HEADER ANSWER ;;
+        verify) echo HEADER ANSWER REQUEST ;;
+        compact) echo HEADER CLAIM ;;
         check) echo HEADER MESSAGES ;;
         repair) echo HEADER MESSAGES ;;
         light) echo HEADER MESSAGES KEY COUNT ;;
+        wanted) echo MISSING AXIS ;;
+        blobs) echo SHARES ;;
+        root) echo HEADER ROOT ;;
         net) echo HEADER MESSAGES SCRIPT ;;
         show) echo FILE ;;
         json) echo FILE ;;
         demo) echo NUMBER WIDTH ;;
+        help) echo ;;
+        version) echo ;;
     esac
 }
 
@@ -31,7 +37,7 @@ _da_files() {
 _da() {
     local word=${COMP_WORDS[COMP_CWORD]}
     local before=${COMP_WORDS[COMP_CWORD - 1]}
-    local commands="build header sample namespace verify check repair light net show json demo"
+    local commands="build header sample namespace verify compact check repair light wanted blobs root net show json demo help version"
     local words
     COMPREPLY=()
     # Behind a sign like > stands a file.
@@ -46,7 +52,8 @@ _da() {
     fi
     read -r -a words < <(_da_words "${COMP_WORDS[1]}")
     case ${words[COMP_CWORD - 2]} in
-        '' | KEY | COUNT | NUMBER) ;;
+        '' | KEY | COUNT | NUMBER | ROOT) ;;
+        AXIS) mapfile -t COMPREPLY < <(compgen -W "row col" -- "$word") ;;
         WIDTH) mapfile -t COMPREPLY < <(compgen -W "2 4 8 16 32 64 128" -- "$word") ;;
         *) _da_files "$word" ;;
     esac

@@ -5,6 +5,7 @@
     frames.py json FILE                     the lines that `da json FILE` writes
     frames.py why FILE [--as COMMAND WORD]  why a file is `bad input`: the place and the field
     frames.py root FILE                     the data root of a file of one header
+    frames.py blobs FILE FOLDER             the blobs of a file of one block, each into a file of FOLDER
     frames.py block JSON                    a block (kind V)
     frames.py samples LIST                  requests for samples (kind Q)
     frames.py namespaces LIST               requests for namespaces (kind P)
@@ -31,6 +32,7 @@ NAMESPACE_BYTES = 29
 SHARE_BYTES = 512
 DIGEST_BYTES = 90
 MESSAGE_BYTES = 518  # a message without its nodes
+SET_CELL_BYTES = 515  # a cell that a set shows
 FRONT_BYTES = 5  # the kind and the length of a frame
 PAYLOAD_LIMIT = 16_777_216
 FILE_LIMIT = 536_870_912
@@ -247,16 +249,36 @@ class Answer(namedtuple("Answer", "namespace entries")):
         return {"namespace": self.namespace.hex(), "entries": [entry.members() for entry in self.entries]}
 
 
-class Claim(namedtuple("Claim", "axis index cells")):
+class Claim(namedtuple("Claim", "axis index cells set")):
     letter, name = "B", "fraud"
 
     @staticmethod
     def read(fields):
-        fields.number("form", 1, (1,), "always 1")
+        form = fields.number("form", 1, (1, 2))
         axis = fields.axis()
         index = fields.number("index", 2)
-        count = fields.count("cell count", 2, MESSAGE_BYTES, range(129))
-        return Claim(axis, index, [Message.read(fields, f" of cell {i}") for i in range(count)])
+        if form == 1:
+            count = fields.count("cell count", 2, MESSAGE_BYTES, range(129))
+            return Claim(axis, index, [Message.read(fields, f" of cell {i}") for i in range(count)], None)
+        count = fields.count("cell count", 2, SET_CELL_BYTES, range(129))
+        cells = [Claim.read_cell(fields, axis, index, f" of cell {i}") for i in range(count)]
+        at = fields.at
+        count = fields.count("node count of the set", 2, DIGEST_BYTES, range(129))
+        nodes = [fields.bytes(f"node {i} of the set", DIGEST_BYTES) for i in range(count)]
+        if all(cell.axis != axis for cell in cells):
+            raise BadField(at, "the set shows no cell, and shows one at least")
+        return Claim(axis, index, cells, nodes)
+
+    @staticmethod
+    def read_cell(fields, axis, index, of):
+        """A cell on the accused axis, by its position on it. The set shows it, or it has nodes on the crossing axis."""
+        pos = fields.number(f"position{of}", 2)
+        shown = fields.number(f"tag{of}", 1, (0, 1), "0 or 1")
+        share = fields.bytes(f"share{of}", SHARE_BYTES)
+        row, col = (index, pos) if axis == "row" else (pos, index)
+        if shown:
+            return Message(row, col, axis, share, [])
+        return Message(row, col, AXES[1 - AXES.index(axis)], share, fields.nodes(8, of))
 
     def lines(self):
         front = f"fraud {self.axis} {self.index} cells={len(self.cells)}"
@@ -376,19 +398,23 @@ ALL_KINDS = "".join(KINDS)
 # The form of a file: its number among the files of its command, whether it is a list, and the kinds of its frames, None
 # where only the framing is judged (docs/FORMATS.md, "Files of commands").
 Form = namedtuple("Form", "number is_list kinds")
+BLOCK = Form(0, False, "V")
 HEADER = Form(0, False, "H")
 SQUARE = Form(0, False, "S")
 MESSAGES = Form(1, True, None)
 FILE = Form(0, True, ALL_KINDS)
 FORMS = {
-    "build": {"BLOCK": Form(0, False, "V")},
+    "build": {"BLOCK": BLOCK},
     "header": {"SQUARE": SQUARE},
     "sample": {"SQUARE": SQUARE, "REQUESTS": Form(1, True, "Q")},
     "namespace": {"SQUARE": SQUARE, "REQUESTS": Form(1, True, "P")},
-    "verify": {"HEADER": HEADER, "ANSWER": Form(1, False, "MNB")},
+    "verify": {"HEADER": HEADER, "ANSWER": Form(1, False, "MNB"), "REQUEST": Form(2, False, "QP")},
     "check": {"HEADER": HEADER, "MESSAGES": MESSAGES},
     "repair": {"HEADER": HEADER, "MESSAGES": MESSAGES},
     "light": {"HEADER": HEADER, "MESSAGES": MESSAGES},
+    "wanted": {"MISSING": Form(0, False, "K")},
+    "blobs": {"SHARES": Form(0, False, "SN")},
+    "root": {"HEADER": HEADER},
     "show": {"FILE": FILE},
     "json": {"FILE": FILE},
 }
@@ -665,6 +691,19 @@ def root(args):
     return [f"{header.data_root().hex()}\n" for _, _, header in judged(read_file(args.file, 0), HEADER)], 0
 
 
+def blobs(args):
+    """writes the blobs of a block into files 0, 1 and so on of a folder, and a line for each"""
+    [(_, _, value)] = judged(read_file(args.file, 0), BLOCK)
+    os.makedirs(args.folder, exist_ok=True)
+    lines = []
+    for i, blob in enumerate(value.blobs):
+        name = os.path.join(args.folder, str(i))
+        with open(name, "wb") as file:
+            file.write(blob.data)
+        lines.append(f"{name} {blob.namespace.hex()} {len(blob.data)}\n")
+    return lines, 0
+
+
 def block(args):
     """makes a block"""
     return [frame(ord("V"), spell_block(json_word(args.json)))], 0
@@ -734,6 +773,7 @@ def parser():
     form = {"dest": "form", "nargs": 2, "metavar": ("COMMAND", "WORD"), "help": "such as `check MESSAGES`"}
     add("why", why, "file").add_argument("--as", **form)
     add("root", root, "file")
+    add("blobs", blobs, "file", "folder")
     add("block", block, "json", makes=True)
     for name, run in (("samples", samples), ("namespaces", namespaces)):
         add(name, run, makes=True).add_argument("words", nargs="+", metavar="LIST", help="words, or one JSON list")

@@ -91,6 +91,18 @@ def claim(axis, index, *cells):
     return u8(1) + u8(axis) + u16(index) + u16(len(cells)) + b"".join(cells)
 
 
+def shown_cell(pos, byte=7):
+    return u16(pos) + u8(1) + share_of(byte)
+
+
+def crossing_cell(pos, count, byte=7):
+    return u16(pos) + u8(0) + share_of(byte) + nodes(count)
+
+
+def set_claim(axis, index, count, *cells):
+    return u8(2) + u8(axis) + u16(index) + u16(len(cells)) + b"".join(cells) + u16(count) + digests(count)
+
+
 def missing(k, *cells):
     return u16(k) + u32(len(cells)) + b"".join(u16(row) + u16(col) for row, col in cells)
 
@@ -110,6 +122,7 @@ def block(width, units, pay, blobs):
 
 ANSWER = answer(range_entry(0, 1, 1, 2), absence_entry(1, 1, 2))
 CLAIM = claim(1, 3, message(2, 0, 3, 1), message(2, 2, 3))
+SET_CLAIM = set_claim(1, 3, 2, shown_cell(0), crossing_cell(2, 2, 9))
 BLOCK = block(4, [b"abc", b""], [b"de"], [(version_0(0x0101), b"\x07"), (version_0(0x0102), b"\x08\x08")])
 # A frame of each kind but X, of which nobody can make one.
 EACH = {
@@ -240,6 +253,20 @@ class Examples(Case):
         self.assertEqual(hashlib.sha256(b"\x01" + pairs[0] + pairs[1]).hexdigest(), first[-64:])
 
 
+    def test_blobs(self):
+        names = ["00" * 27 + "0101", "00" * 27 + "0102", "00" * 27 + "0104"]
+        sizes, folder = (1, 479, 1), os.path.join(self.folder, "into", "blobs")
+        lines = [f"{folder}/{i} {name} {size}\n" for i, (name, size) in enumerate(zip(names, sizes))]
+        self.assertEqual(self.made("blobs", os.path.join(EXAMPLES, "block"), folder).decode(), "".join(lines))
+        self.assertEqual(sorted(os.listdir(folder)), ["0", "1", "2"])
+        for i, size in enumerate(sizes):
+            with open(os.path.join(folder, str(i)), "rb") as file:
+                self.assertEqual(file.read(), b"\x07" * size)
+        self.assertEqual(run("blobs", os.path.join(EXAMPLES, "header"), folder), (6, b"", "bad input: file 0 at 0\n"))
+        self.assertEqual(run("blobs", os.path.join(EXAMPLES, "block"), self.file(b""))[::2], (4, "cannot write\n"))
+        self.assertEqual(self.made("blobs", self.file(frame("V", bytes(14)), "none"), folder), b"")
+
+
 class Reading(Case):
     """The tables of docs/FORMATS.md."""
 
@@ -252,6 +279,9 @@ class Reading(Case):
             ("N", answer(absence_entry(1, 1, 2)), 307),
             ("N", answer(*[range_entry(0, 0, 128, 16)] * 128), 8573983),
             ("B", claim(0, 3), 6), ("B", CLAIM, 1402), ("B", claim(0, 0, *[message(8)] * 128), 158470),
+            ("B", set_claim(0, 3, 0, shown_cell(0)), 523), ("B", set_claim(0, 3, 2, shown_cell(0), shown_cell(2)), 1218),
+            ("B", SET_CLAIM, 1399), ("B", set_claim(0, 3, 128, *[shown_cell(i) for i in range(128)]), 77448),
+            ("B", set_claim(0, 3, 128, shown_cell(0), *[crossing_cell(1, 8)] * 127), 169015),
             ("K", missing(1, (0, 0), (0, 1), (1, 0), (1, 1)), 22),
             ("Q", EACH["Q"], 5), ("P", EACH["P"], 29),
             ("V", block(0, [], [], []), 14), ("V", block(0, [], [], [(PARITY, b"ab")]), 50),
@@ -282,6 +312,11 @@ class Reading(Case):
             ("4e00000427" + "77" * 29 + "0081" + "00" * 1032, "BadPayload"),
             ("4200000006010100030000", "ok"),
             ("4200000006020100030000", "BadPayload"),
+            ("42000000080201000300000000", "BadPayload"),
+            ("420000020b0201000300010000" + "01" + "33" * 512 + "0000", "ok"),
+            ("420000020c0201000300010000" + "00" + "33" * 512 + "000000", "BadPayload"),
+            ("420000020b0201000300010000" + "02" + "33" * 512 + "0000", "BadPayload"),
+            ("4200000006030100030000", "BadPayload"),
             ("4200000006010200030000", "BadPayload"),
             ("420000000701010003000000", "BadPayload"),
             ("5a00000000", "BadKind"),
@@ -332,6 +367,21 @@ class Reading(Case):
         joined = self.file(b"".join(EACH_FRAME.values()))
         self.assertEqual(self.made("show", joined).decode(), "".join(f"{line}\n" for row in table for line in row[1]))
         self.assertEqual(self.made("json", joined).decode(), "".join(f"{row[2]}\n" for row in table))
+
+    def test_set_claim(self):
+        # The cells of a set are written by their positions; what the set shows has no nodes, and the set isn't printed.
+        hash_7, hash_9 = (hashlib.sha256(share_of(i)).hexdigest() for i in (7, 9))
+        path = self.file(frame("B", SET_CLAIM) + frame("B", b"\x02\x00" + SET_CLAIM[2:]))
+        lines = ["fraud col 3 cells=2", f"message row=0 col=3 axis=col nodes=0 share={hash_7}",
+                 f"message row=2 col=3 axis=row nodes=2 share={hash_9}",
+                 "fraud row 3 cells=2", f"message row=3 col=0 axis=row nodes=0 share={hash_7}",
+                 f"message row=3 col=2 axis=col nodes=2 share={hash_9}"]
+        self.assertEqual(self.made("show", path).decode(), "".join(f"{line}\n" for line in lines))
+        members = ['{"axis":"col","cells":[[0,3],[2,3]],"index":3,"kind":"fraud"}',
+                   '{"axis":"row","cells":[[3,0],[3,2]],"index":3,"kind":"fraud"}']
+        self.assertEqual(self.made("json", path).decode(), "".join(f"{line}\n" for line in members))
+        value = frames.Claim.read(frames.Fields(SET_CLAIM))
+        self.assertEqual((value.set, [len(cell.nodes) for cell in value.cells]), ([b"\x01" * 90, b"\x02" * 90], [0, 2]))
 
     def test_collision(self):
         # No two strings with one digest are known, so one more digest is said to be that of "a".
@@ -390,7 +440,9 @@ FIELDS = [
     ("N", answer(range_entry(0, 0, 1, 0), absence_entry(0, 0, 0)[:4]), 554, "the position of entry 1 takes 2 bytes"),
     ("N", answer() + b"\x00", 31, "bytes left over behind the last field: 1"),
     ("B", b"", 0, "the form takes 1 bytes, left are 0"),
-    ("B", b"\x02" + claim(0, 3)[1:], 0, "the form is 2, and is always 1"),
+    ("B", b"\x00" + claim(0, 3)[1:], 0, "the form is 0, and is 1 to 2"),
+    ("B", b"\x03" + claim(0, 3)[1:], 0, "the form is 3, and is 1 to 2"),
+    ("B", b"\x02" + claim(0, 3)[1:], 6, "the node count of the set takes 2 bytes, left are 0"),
     ("B", b"\x01", 1, "the axis takes 1 bytes, left are 0"),
     ("B", claim(2, 3), 1, "the axis is 2, and is 0 or 1"),
     ("B", bytes([1, 0, 0]), 2, "the index takes 2 bytes, left are 1"),
@@ -401,6 +453,16 @@ FIELDS = [
     ("B", claim(0, 3, message(2), message(9)), 6 + 698 + 517, "the node count of cell 1 is 9, and is 0 to 8"),
     ("B", claim(0, 3, message(2), message(1)[:-1]), 6 + 698 + 517, "the node count of cell 1 is 1, of 90 bytes or"),
     ("B", CLAIM + b"\x00", 1402, "bytes left over behind the last field: 1"),
+    ("B", set_claim(0, 3, 0), 6, "the set shows no cell, and shows one at least"),
+    ("B", set_claim(0, 3, 0, crossing_cell(0, 2)), 6 + 696, "the set shows no cell, and shows one at least"),
+    ("B", set_claim(0, 3, 0, *[shown_cell(0)] * 129), 4, "the cell count is 129, and is 0 to 128"),
+    ("B", set_claim(0, 3, 0, shown_cell(0))[:-3], 4, "the cell count is 1, of 515 bytes or more each, left are 514"),
+    ("B", set_claim(0, 3, 0, shown_cell(0), u16(1) + u8(2) + bytes(600)), 6 + 515 + 2, "the tag of cell 1 is 2, and is"),
+    ("B", set_claim(0, 3, 0, crossing_cell(0, 9)), 6 + 515, "the node count of cell 0 is 9, and is 0 to 8"),
+    ("B", set_claim(0, 3, 0, crossing_cell(0, 2))[:-50], 6 + 515, "the node count of cell 0 is 2, of 90 bytes or more"),
+    ("B", set_claim(0, 3, 129, shown_cell(0)), 6 + 515, "the node count of the set is 129, and is 0 to 128"),
+    ("B", set_claim(0, 3, 2, shown_cell(0))[:-1], 6 + 515, "the node count of the set is 2, of 90 bytes or more each"),
+    ("B", SET_CLAIM + b"\x00", 1399, "bytes left over behind the last field: 1"),
     ("K", missing(3, (0, 0)), 0, "the width k is 3, and is"),
     ("K", u16(1) + bytes(3), 2, "the cell count takes 4 bytes, left are 3"),
     ("K", missing(1), 2, "the cell count is 0, and is 1 to 4"),
@@ -672,6 +734,12 @@ class Program(Case):
             ("verify", "HEADER", header_2, [None, self.sample]),
             ("verify", "ANSWER", self.sample, [header_2, None]),
             ("verify", "ANSWER", self.answer, [header_2, None]),
+            ("verify", "REQUEST", path["samples"], [header_2, self.sample, None]),
+            ("verify", "REQUEST", path["namespaces"], [header_2, self.answer, None]),
+            ("wanted", "MISSING", self.missing, [None, "row"]),
+            ("blobs", "SHARES", square_2, [None]),
+            ("blobs", "SHARES", self.answer, [None]),
+            ("root", "HEADER", header_2, [None]),
             ("check", "HEADER", path["header"], [None, path["message"]]),
             ("check", "MESSAGES", path["messages"], [path["header"], None]),
             ("repair", "HEADER", path["header"], [None, path["message"]]),
@@ -699,6 +767,8 @@ class Program(Case):
         self.same_text(frame("H", header(128)))
         self.same_text(frame("N", answer(*[range_entry(i, i, 128, 16) for i in range(128)])))
         self.same_text(frame("B", claim(0, 0, *[message(8, i, i) for i in range(128)])))
+        self.same_text(frame("B", SET_CLAIM))
+        self.same_text(frame("B", set_claim(0, 0, 128, shown_cell(0), *[crossing_cell(i, 8) for i in range(127)])))
         self.same_text(frame("K", missing(128, *[(row, col) for row in range(256) for col in range(256)])))
         self.same_text(frame("V", block(0xFFFF, [b""] * 1000, [b"a"] * 1000, [(PARITY, b"")] * 1000)))
 
@@ -733,8 +803,8 @@ class Program(Case):
                     self.same_text(other)
 
     def test_damaged(self):
-        # At each place at which a field begins, in a file of all kinds.
-        data = b"".join(EACH_FRAME.values())
+        # At each place at which a field begins, in a file of all kinds, and of a claim with a set.
+        data = b"".join(EACH_FRAME.values()) + frame("B", SET_CLAIM)
         for at in places(data):
             for other in damaged(data, at):
                 self.same_text(other)
@@ -743,10 +813,10 @@ class Program(Case):
         # Payloads from which bytes are taken or into which bytes are put, in frames of the right length.
         draw = random.Random(7)
         for _ in range(150):
-            kind = draw.choice(list(EACH))
-            payload = EACH[kind]
+            kind, whole = draw.choice([*EACH.items(), ("B", SET_CLAIM)])
+            payload = whole
             for _ in range(draw.randrange(1, 3)):
-                at = draw.choice(places(frame(kind, EACH[kind]))[3:]) - 5
+                at = draw.choice(places(frame(kind, whole))[3:]) - 5
                 again = payload[at : at + draw.choice([1, 2, 90, 512, 608])]
                 more = draw.choice([b"", b"\x00", b"\x01", bytes(4), again])
                 payload = payload[:at] + more + payload[at + draw.choice([0, 0, 1, 2, 4, 90, 512]) :]
@@ -767,15 +837,17 @@ class Program(Case):
         made = self.file(self.made("block", json.dumps(value)), "block")
         square_8 = self.made_by_da("square", "build", made)
         header_8 = self.made_by_da("header", "header", square_8)
-        first = self.da("show", header_8)[1].decode().split("\n")[0]
-        self.assertEqual(first, f"header k=8 root={self.made('root', header_8).decode().strip()}")
+        self.assertEqual(self.da("root", header_8), (0, self.made("root", header_8), ""))
         asked = self.file(self.made("samples", "0,0,row", "3,9,col", "15,15,row"), "samples")
         samples = self.made_by_da("messages", "sample", square_8, asked)
         joined = self.file(self.made("messages", samples, samples), "joined")
         self.assertEqual(self.da("check", header_8, joined), (0, b"ok\n" * 6, ""))
         names = self.file(self.made("namespaces", f"{514:020x}"), "names")
         answered = self.made_by_da("answer", "namespace", square_8, names)
-        self.assertEqual(self.da("verify", header_8, answered), (0, b"ok\n", ""))
+        self.assertEqual(self.da("verify", header_8, answered, names), (0, b"ok\n", ""))
+        folder = os.path.join(self.folder, "blobs")
+        self.made("blobs", self.made_by_da("joined blobs", "blobs", answered), folder)
+        self.assertEqual(self.read(os.path.join(folder, "0")), b"\x07" * 514)
         for path in (made, square_8, header_8, asked, samples, joined, names, answered):
             self.same_text(b"", path)
 
