@@ -28,12 +28,12 @@ three true true false e = absurd (none-some _ (sym e))
 three true false c e = absurd (none-some _ (sym e))
 three false b c e = absurd (none-some _ (sym e))
 
-opens_of : (d : ℕ) (shown : List Shown) (nodes : List Digest) (root : Digest) → set_refusal d shown nodes root ≡ None → Opens d shown nodes root
+pub opens_of : (d : ℕ) (shown : List Shown) (nodes : List Digest) (root : Digest) → set_refusal d shown nodes root ≡ None → Opens d shown nodes root
 opens_of d shown nodes root e =
     let all = three (has_count d shown nodes) (has_order d shown nodes) (has_root d shown nodes root) e in
     record { count = all.0; order = all.1; value = all.2 }
 
-refused_not : (d : ℕ) (shown : List Shown) (nodes : List Digest) (root : Digest) → Opens d shown nodes root → set_refusal d shown nodes root ≡ None
+pub refused_not : (d : ℕ) (shown : List Shown) (nodes : List Digest) (root : Digest) → Opens d shown nodes root → set_refusal d shown nodes root ≡ None
 refused_not d shown nodes root h =
     ap₂ (λ (a b : Bool). opening_refusal a b (has_root d shown nodes root) None) h.count h.order ∙ ap (λ (c : Bool). opening_refusal true true c None) h.value
 

@@ -12,7 +12,9 @@ pub mod WalkLemmas
 pub mod FitLemmas
 pub mod AcceptLemmas
 pub mod RootedRefusalLemmas
+pub mod RootedSampleLemmas
 pub mod MakingLemmas
 pub mod BlobRangeLemmas
+pub mod ShapeLemmas
 pub mod RowTreeLemmas
 pub mod Examples

@@ -1,11 +1,19 @@
--- What the refusal of a root proof says of its sample.
-use Rattle.std.proofs.Common.{◌≡◌, ◌∙◌, Bool, true, false, Option, Some, None, Result, Ok, Err, if◌then◌else◌, refl, sym, ap}
+-- What the refusal of a root proof says of it.
+use Rattle.std.proofs.Common.{◌≡◌, ◌∙◌, ◌*◌, ℕ, Bool, true, false, List, Option, Some, None, Result, Ok, Err, if◌then◌else◌, refl, sym, ap}
 use Rattle.std.specs.Prelude.{IsErrOf}
+use Rattle.std.proofs.lemmas.Bool.{and_parts, and_from}
 use Rattle.std.specs.Option.{option_map_or}
 use Rattle.namespace_id.specs.Answers.{refusal_in}
+use Rattle.namespace_id.specs.Cells.{is_width, is_in_square}
+use Rattle.nmt_tree.specs.Roots.{halvings}
 use Rattle.nmt_proofs.specs.declared.opening.OpenRefusal.{OpenRefusal}
 use Rattle.blob_commit.specs.declared.rooting.RootedRefusal.{RootedRefusal}
 use Rattle.blob_commit.specs.declared.rooting.RootedRefusal.TheVariants as V
+use Rattle.axis_roots.specs.Messages.{IsMessage, shown_by, index}
+use Rattle.blob_commit.specs.Proofs.{RootedParts, RootedHolds}
+use Rattle.blob_commit.specs.Refusals.{has_rooted_shape, is_rooted_led, sample_refusal, rooted_refusal}
+use Rattle.blob_commit.proofs.WalkLemmas.{led-opens, opens-led}
+use Rattle.blob_commit.proofs.AcceptLemmas.{opens_of, refused_not}
 
 -- the refusal, by the three checks
 abbrev pub refusal_by : Bool → Bool → Option OpenRefusal → Option RootedRefusal
@@ -32,3 +40,36 @@ path_by r shape led sample e why = (
   λ k. named shape led sample why (sym e ∙ ap refusal_in k),
   λ k. let all : refusal_by shape led sample ≡ Some (V.Path why) = λ i. refusal_by (k.0 i) (k.1 i) (k.2 i) in refused_by r (V.Path why) (e ∙ all),
 )
+
+-- there is no refusal only where all three checks hold
+none_parts : (shape led : Bool) (sample : Option OpenRefusal) → refusal_by shape led sample ≡ None → (shape ≡ true) × (led ≡ true) × (sample ≡ None)
+none_parts true true None e = (refl, refl, refl)
+none_parts true true (Some why) e = absurd cc
+none_parts true false sample e = absurd cc
+none_parts false led sample e = absurd cc
+
+-- what is refused for nothing holds
+pub rooted_holds_of : (root : List ℕ) (proof : RootedParts) → IsMessage proof.message → rooted_refusal root proof ≡ None → RootedHolds root proof
+rooted_holds_of root proof sized e =
+    let m = proof.message in
+    let checks = none_parts (has_rooted_shape proof) (is_rooted_led root proof) (sample_refusal proof) e in
+    let shape = and_parts (is_width proof.k) (is_in_square proof.k m.cell) checks.0 in
+    record {
+      lead = led-opens root proof.k m.axis (index m.axis m.cell) proof.root proof.up checks.1;
+      opens = record {
+        width = shape.0;
+        inside = shape.1;
+        sized = sized;
+        opened = opens_of (halvings (2 * proof.k)) (shown_by proof.k m) m.path proof.root checks.2;
+      };
+    }
+
+-- and what holds is refused for nothing
+pub rooted_for_nothing : (root : List ℕ) (proof : RootedParts) → RootedHolds root proof → rooted_refusal root proof ≡ None
+rooted_for_nothing root proof h =
+    let m = proof.message in
+    ap (λ (b : Bool). refusal_by b (is_rooted_led root proof) (sample_refusal proof))
+    (and_from (is_width proof.k) (is_in_square proof.k m.cell) h.opens.width h.opens.inside)
+    ∙ ap (λ (b : Bool). refusal_by true b (sample_refusal proof))
+    (opens-led root proof.k m.axis (index m.axis m.cell) proof.root proof.up h.lead)
+    ∙ ap (refusal_by true true) (refused_not (halvings (2 * proof.k)) (shown_by proof.k m) m.path proof.root h.opens.opened)

@@ -15,9 +15,10 @@ mod sizes;
 mod trees;
 
 pub use committing::{CommitError, commitment, commitment_of};
-pub use laws::{commit_laws, range_laws};
+pub use laws::{commit_laws, range_laws, refusal_laws, sample_laws, shape_laws};
 pub use making::{ProveError, prove_commit};
 pub use proofs::{CommitProof, CommitRow, RootedMessage};
 pub use proving::{CommitRefusal, check_commit};
 pub use rooting::{RootedRefusal, rooted};
+pub use sizes::{commit_law, rooted_law, row_law};
 pub use trees::row_trees;

@@ -24,8 +24,8 @@ fn hashes_law(hashes: &[[u8; 32]])
     }
 }
 
-/// A row has digests and hashes.
-fn row_law(row: &CommitRow)
+/// Says that a row of a commitment proof has digests and hashes of their lengths. It changes nothing.
+pub fn row_law(row: &CommitRow)
     ensures { IsRow row.now }
 {
     digest_law(&row.root);
@@ -43,16 +43,17 @@ fn rows_law(rows: &[CommitRow])
     }
 }
 
-/// A commitment proof has a hash, and digests and hashes in each row. It changes nothing.
-pub(crate) fn commit_law(proof: &CommitProof)
+/// Says that a commitment proof has a hash, and digests and hashes of their lengths in each row. It
+/// changes nothing.
+pub fn commit_law(proof: &CommitProof)
     ensures { IsCommit proof.now }
 {
     hash_law(&proof.commitment);
     rows_law(&proof.rows);
 }
 
-/// A root proof has a message, a digest and hashes. It changes nothing.
-pub(crate) fn rooted_law(proof: &RootedMessage)
+/// Says that a root proof has a message, a digest and hashes of their lengths. It changes nothing.
+pub fn rooted_law(proof: &RootedMessage)
     ensures { IsRooted proof.now }
 {
     message_law(&proof.message);
