@@ -8,6 +8,7 @@ use blob_commit::{
 };
 use data_header::{data_root, make_root_proof};
 use namespace_id::{Axis, Cell, NAMESPACE_SIZE, Namespace, SHARE_SIZE, Share};
+use nmt_proofs::{Nodes, OpenRefusal};
 use nmt_tree::Tree;
 use share_split::Blob;
 use square_layout::Square;
@@ -23,6 +24,24 @@ const BY_GO_SQUARE: [u8; 32] = [
 const BY_CELESTIA_NODE: [u8; 32] = [
     0x00, 0x3e, 0x44, 0xcd, 0xb1, 0xb4, 0xfc, 0x43, 0x2f, 0xa7, 0x0d, 0x29, 0xf0, 0xd2, 0x23, 0x31,
     0x59, 0xe8, 0x08, 0xfe, 0x01, 0xbf, 0xa2, 0xbe, 0x57, 0xa8, 0x23, 0x9b, 0x07, 0x57, 0x50, 0xa5,
+];
+
+/// The commitment of 19 shares of number 0, by Python's hashlib: 19 subtrees of one share.
+const OF_19: [u8; 32] = [
+    0x00, 0x0c, 0xff, 0xed, 0xba, 0xa6, 0x83, 0xcc, 0x1c, 0xac, 0x11, 0xda, 0x48, 0x73, 0x3b, 0x8c,
+    0x58, 0x7a, 0xb6, 0xaa, 0x47, 0x29, 0x34, 0x4b, 0x22, 0x40, 0x95, 0xe8, 0x74, 0xd1, 0xb1, 0xc4,
+];
+
+/// That of 65 of them: 32 subtrees of two shares, and one of one.
+const OF_65: [u8; 32] = [
+    0x87, 0x2e, 0x3e, 0xf3, 0xe1, 0x77, 0x90, 0x61, 0xd0, 0x17, 0x15, 0x05, 0x43, 0xcb, 0x2a, 0xe5,
+    0x10, 0xbd, 0x5b, 0xd3, 0x17, 0x27, 0x43, 0xd8, 0x14, 0xd1, 0x57, 0x1c, 0x3a, 0x62, 0xbc, 0xd3,
+];
+
+/// That of 131 of them: 32 subtrees of four shares, one of two, and one of one.
+const OF_131: [u8; 32] = [
+    0x2e, 0xe1, 0xcc, 0x1c, 0x45, 0x8e, 0xa6, 0x89, 0xb8, 0xe2, 0xf2, 0xc5, 0x74, 0xbc, 0x22, 0xfd,
+    0xfd, 0x54, 0xe8, 0x58, 0x4a, 0x06, 0x41, 0x9b, 0x35, 0xe1, 0xf7, 0x28, 0x36, 0xea, 0xc1, 0xb3,
 ];
 
 /// A blob whose namespace ends in these ten bytes.
@@ -57,6 +76,14 @@ fn share(number: u8) -> Share {
 }
 
 #[test]
+fn commitments_of_cuts(rt: HostRuntime) {
+    let shares = [share(0); 131];
+    assert!(rt; commitment(&shares[..19]) == OF_19);
+    assert!(rt; commitment(&shares[..65]) == OF_65);
+    assert!(rt; commitment(&shares) == OF_131);
+}
+
+#[test]
 fn proofs_of_three_shares(rt: HostRuntime) -> Result<(), Fail> {
     let alloc = rt.alloc();
     let shares = vec![in alloc; share(0), share(1), share(2), share(3)]?;
@@ -71,6 +98,30 @@ fn proofs_of_three_shares(rt: HostRuntime) -> Result<(), Fail> {
     assert!(rt; check_commit(&root, &proof) == Err(CommitRefusal::Commitment));
     let refused = prove_commit(alloc, &header, &trees, 3, 2);
     assert!(rt; refused.err() == Some(ProveError::Range));
+    Ok(())
+}
+
+#[test]
+fn refused_proofs(rt: HostRuntime) -> Result<(), Fail> {
+    let alloc = rt.alloc();
+    let shares = vec![in alloc; share(0), share(1), share(2), share(3)]?;
+    let grid = Grid::extend(alloc, &Square { k: 2, shares })?;
+    let header = header_of(alloc, &grid)?.expect(&rt, "the namespaces do not fall");
+    let root = data_root(&header);
+    let trees = row_trees(alloc, &grid, &header)?;
+    let mut proof = prove_commit(alloc, &header, &trees, 1, 3)?;
+    if let Some(second) = proof.rows.get_mut(1) {
+        second.nodes = Nodes::new();
+    }
+    let why = CommitRefusal::Nodes(1, OpenRefusal::NodeCount);
+    assert!(rt; check_commit(&root, &proof) == Err(why));
+    if let Some(first) = proof.rows.get_mut(0) {
+        first.up = make_root_proof(&header, Axis::Row, 1);
+    }
+    let why = CommitRefusal::Root(0);
+    assert!(rt; check_commit(&root, &proof) == Err(why));
+    proof.start = 2;
+    assert!(rt; check_commit(&root, &proof) == Err(CommitRefusal::Shape));
     Ok(())
 }
 

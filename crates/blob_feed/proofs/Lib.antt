@@ -1,0 +1,14 @@
+mod EachLemmas
+mod ZipLemmas
+mod ShownLemmas
+mod CountLemmas
+mod HeightLemmas
+mod NameLemmas
+mod FedLemmas
+mod OnceLemmas
+mod StandLemmas
+mod OwnLemmas
+mod RowLemmas
+mod BlockLemmas
+mod BlobLemmas
+mod SquareLemmas

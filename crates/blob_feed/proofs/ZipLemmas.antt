@@ -1,0 +1,59 @@
+-- Two lists that go along, place by place.
+use Rattle.std.proofs.Common.{◌≡◌, ◌∙◌, ℕ, zero, suc, ◌-◌, ◌≤◌, List, [], ◌∷◌, ◌++◌, length, length-append, Some, None, slice_get, refl, ap, arith}
+use Rattle.std.specs.List.{AllZip}
+
+-- what stands behind a list
+pub get_behind : {X : Type 0} (xs : List X) (x : X) → slice_get (xs ++ x ∷ []) (length xs) ≡ Some x
+get_behind [] x = refl
+get_behind (y ∷ xs) x = get_behind xs x
+
+-- and beyond it
+pub get_beyond : {X : Type 0} (xs : List X) (n : ℕ) → length xs ≤ n → slice_get xs n ≡ None
+get_beyond [] n le = refl
+get_beyond (y ∷ xs) zero le = absurd (omega (arith, le))
+get_beyond (y ∷ xs) (suc n) le = get_beyond xs n (omega (arith, le))
+
+-- the last of a list
+pub last_pushed : {X : Type 0} (xs : List X) (x : X) → slice_get (xs ++ x ∷ []) (length (xs ++ x ∷ []) - 1) ≡ Some x
+last_pushed {X} xs x =
+    let long = length-append xs (x ∷ []) in
+    let last : length (xs ++ x ∷ []) - 1 ≡ length xs = omega (arith, long) in
+    ap (λ (n : ℕ). slice_get (xs ++ x ∷ []) n) last ∙ get_behind xs x
+
+module _ {A B : Type 0} (R : A → B → Type 0) where
+  -- one more of each
+  pub zip_push : (xs : List A) (ys : List B) (x : A) (y : B) → AllZip R xs ys → R x y
+      → AllZip R (xs ++ x ∷ []) (ys ++ y ∷ [])
+  zip_push [] [] x y all is = (is, tt)
+  zip_push [] (b ∷ ys) x y all is = absurd all
+  zip_push (a ∷ xs) [] x y all is = absurd all
+  zip_push (a ∷ xs) (b ∷ ys) x y all is = (all.0, zip_push xs ys x y all.1 is)
+
+  -- none goes along with none
+  pub zip_none : (ys : List B) → AllZip R [] ys → ys ≡ []
+  zip_none [] all = refl
+  zip_none (b ∷ ys) all = absurd all
+
+  -- what goes along with a list that ends in something
+  pub record Split (xs : List A) (x : A) (ys : List B) : Type 0 where
+    pub front : List B
+    pub last : B
+    pub parts : ys ≡ front ++ last ∷ []
+    pub along : AllZip R xs front
+    pub ends : R x last
+
+  -- it is parted so
+  pub zip_split : (xs : List A) (x : A) (ys : List B) → AllZip R (xs ++ x ∷ []) ys → Split xs x ys
+  zip_split [] x [] all = absurd all
+  zip_split [] x (b ∷ []) all = record { front = []; last = b; parts = refl; along = tt; ends = all.0 }
+  zip_split [] x (b ∷ c ∷ ys) all = absurd all.1
+  zip_split (a ∷ xs) x [] all = absurd all
+  zip_split (a ∷ xs) x (b ∷ ys) all =
+      let rest = zip_split xs x ys all.1 in
+      record {
+        front = b ∷ rest.front;
+        last = rest.last;
+        parts = ap (λ (l : List B). b ∷ l) rest.parts;
+        along = (all.0, rest.along);
+        ends = rest.ends;
+      }
