@@ -13,7 +13,7 @@ use Rattle.share_split.specs.declared.joining.JoinError.TheVariants as join
 use Rattle.square_layout.specs.declared.laying.LayError.{LayError}
 use Rattle.square_layout.specs.declared.laying.LayError.TheVariants as lay
 use Rattle.da_status.specs.declared.status.Asked.{Asked}
-use Rattle.da_status.specs.declared.status.Asked.TheVariants.{NoHeader, At, Count, Nodes, Shares}
+use Rattle.da_status.specs.declared.status.Asked.TheVariants.{NoHeader, At, Count, Nodes, Range, Shares}
 use Rattle.da_status.specs.declared.status.Status.{Status}
 use Rattle.da_status.specs.declared.status.Status.TheVariants.{Done, Usage, PickFault, ReadFault, WriteFault, NoMemory, BadInput, TooLong, BadBlock, BadRequest, Fraud, Missing, Clash, Refused, Waiting}
 
@@ -61,6 +61,7 @@ request_note NoHeader = codes "no header"
 request_note (At i) = decimal i
 request_note Count = codes "count"
 request_note Nodes = codes "nodes"
+request_note Range = codes "range"
 request_note (Shares why) = codes "shares " ++ decimal (join_number why) ++ codes " " ++ decimal (join_share why)
 
 -- the kind of an axis, in a word

@@ -123,6 +123,7 @@ fn note_of(status: Status) -> Line
         Status::BadRequest(Asked::At(i)) => around(&mut line, b"bad request: ", i, b"\n"),
         Status::BadRequest(Asked::Count) => line.put(b"bad request: count\n"),
         Status::BadRequest(Asked::Nodes) => line.put(b"bad request: nodes\n"),
+        Status::BadRequest(Asked::Range) => line.put(b"bad request: range\n"),
         Status::BadRequest(Asked::Shares(why)) => {
             around(&mut line, b"bad request: shares ", join_number(why), b" ");
             around(&mut line, b"", join_share(why), b"\n");

@@ -18,6 +18,8 @@ pub enum Asked {
     Count,
     /// A network can't have so many nodes, items or events, or a light node of it would draw too many cells.
     Nodes,
+    /// The range has no share, goes past the square, or doesn't begin at a multiple of the width of its subtrees.
+    Range,
     /// The shares are no blobs. No run has `JoinError::NoMemory` here: want of memory is a status of its own.
     Shares(JoinError),
 }

@@ -13,3 +13,6 @@ pub mod Texts
 pub mod Lists
 pub mod Lengths
 pub mod Told
+pub mod Short
+pub mod Hashes
+pub mod DigestLists

@@ -24,5 +24,9 @@ pub mod BlockParts
 pub mod PayloadSizes
 pub mod FraudSizes
 pub mod CellCounts
+pub mod Rows
+pub mod CommitForm
+pub mod RootedForm
+pub mod CommitSizes
 pub mod Spelled
 pub mod Forms

@@ -8,11 +8,11 @@ use Rattle.da_wire.specs.declared.frames.Frame.{Frame}
 use Rattle.da_wire.specs.declared.kinds.Kind.{Kind}
 use Rattle.da_wire.specs.declared.kinds.Kind.TheVariants as kinds
 use Rattle.da_wire.specs.codec.Fields.{◌>>=◌}
-use Rattle.da_wire.specs.declared.frames.Frame.TheVariants.{Header, Square, Message, Names, Fraud, Missing, Clash, Sample, Request, Block}
+use Rattle.da_wire.specs.declared.frames.Frame.TheVariants.{Header, Square, Message, Names, Fraud, Missing, Clash, Sample, Request, Block, Commit, Rooted}
 use Rattle.da_wire.specs.declared.frames.RawFrame.{RawFrame}
 use Rattle.da_wire.specs.declared.frames.FrameError.{FrameError}
 use Rattle.da_wire.specs.declared.frames.FrameError.TheVariants.{Truncated, BadKind, TooLong, BadPayload, Trailing}
-use Rattle.da_wire.specs.Spelling.{max_payload, header_kind, square_kind, message_kind, names_kind, fraud_kind, missing_kind, clash_kind, sample_kind, request_kind, block_kind}
+use Rattle.da_wire.specs.Spelling.{max_payload, header_kind, square_kind, message_kind, names_kind, fraud_kind, missing_kind, clash_kind, sample_kind, request_kind, block_kind, commit_kind, rooted_kind}
 use Rattle.da_wire.specs.kinds.Header.{header_at}
 use Rattle.da_wire.specs.kinds.Square.{square_at}
 use Rattle.da_wire.specs.kinds.Message.{message_at}
@@ -22,6 +22,8 @@ use Rattle.da_wire.specs.kinds.Missing.{missing_at}
 use Rattle.da_wire.specs.kinds.Clash.{clash_at}
 use Rattle.da_wire.specs.kinds.Requests.{sample_at, request_at}
 use Rattle.da_wire.specs.kinds.Block.{block_at}
+use Rattle.da_wire.specs.kinds.Commit.{commit_at}
+use Rattle.da_wire.specs.kinds.Rooted.{rooted_at}
 
 -- ---- kinds
 
@@ -37,7 +39,9 @@ kind_at byte =
     (if byte == clash_kind then Some kinds.Clash else
     (if byte == sample_kind then Some kinds.Sample else
     (if byte == request_kind then Some kinds.Request else
-    (if byte == block_kind then Some kinds.Block else None)))))))))
+    (if byte == block_kind then Some kinds.Block else
+    (if byte == commit_kind then Some kinds.Commit else
+    (if byte == rooted_kind then Some kinds.Rooted else None)))))))))))
 
 -- whether there are values of this kind
 abbrev pub is_kind : ℕ → Bool
@@ -55,6 +59,8 @@ value_of_kind kinds.Clash payload = option_map Clash (clash_at payload)
 value_of_kind kinds.Sample payload = option_map (λ s. Sample s.0 s.1) (sample_at payload)
 value_of_kind kinds.Request payload = option_map Request (request_at payload)
 value_of_kind kinds.Block payload = option_map Block (block_at payload)
+value_of_kind kinds.Commit payload = option_map Commit (commit_at payload)
+value_of_kind kinds.Rooted payload = option_map Rooted (rooted_at payload)
 
 -- the value of the kind that a byte is, whose payload the bytes are
 unfoldable pub value_at : ℕ → List ℕ → Option Frame

@@ -7,7 +7,7 @@ use Rattle.square_layout.specs.Blocks.{IsSquare, IsBlock}
 use Rattle.da_wire.specs.declared.frames.Frame.{Frame}
 use Rattle.da_wire.specs.declared.kinds.Kind.{Kind}
 use Rattle.da_wire.specs.declared.kinds.Kind.TheVariants as kinds
-use Rattle.da_wire.specs.declared.frames.Frame.TheVariants.{Header, Square, Message, Names, Fraud, Missing, Clash, Sample, Request, Block}
+use Rattle.da_wire.specs.declared.frames.Frame.TheVariants.{Header, Square, Message, Names, Fraud, Missing, Clash, Sample, Request, Block, Commit, Rooted}
 use Rattle.namespace_id.specs.Names.{IsNamespace}
 use Rattle.namespace_id.specs.Shares.{AreShares}
 use Rattle.axis_roots.specs.Messages.{IsMessage}
@@ -23,6 +23,8 @@ use Rattle.da_wire.specs.kinds.Missing.{missing_payload}
 use Rattle.da_wire.specs.kinds.Clash.{AreStrings, has_empty, clash_payload}
 use Rattle.da_wire.specs.kinds.Requests.{sample_payload, request_payload}
 use Rattle.da_wire.specs.kinds.Block.{block_payload, asks_for_zero}
+use Rattle.da_wire.specs.kinds.Commit.{IsCommitSent, is_long_commit, commit_payload}
+use Rattle.da_wire.specs.kinds.Rooted.{IsRootedSent, rooted_payload}
 
 -- the greatest payload: 16 MiB
 abbrev pub max_payload : ℕ
@@ -68,6 +70,14 @@ request_kind = 0x50
 abbrev pub block_kind : ℕ
 block_kind = 0x56
 
+-- the kind of a commitment proof: `C`
+abbrev pub commit_kind : ℕ
+commit_kind = 0x43
+
+-- the kind of a root proof: `R`
+abbrev pub rooted_kind : ℕ
+rooted_kind = 0x52
+
 -- the byte that a kind is
 abbrev pub kind_byte : Kind → ℕ
 kind_byte kinds.Header = header_kind
@@ -80,6 +90,8 @@ kind_byte kinds.Clash = clash_kind
 kind_byte kinds.Sample = sample_kind
 kind_byte kinds.Request = request_kind
 kind_byte kinds.Block = block_kind
+kind_byte kinds.Commit = commit_kind
+kind_byte kinds.Rooted = rooted_kind
 
 -- a frame: its kind, the length of its payload in four bytes, its payload
 abbrev pub frame : ℕ → List ℕ → List ℕ
@@ -93,7 +105,8 @@ spelled kind payload = if nat_lt max_payload (length payload) then None else Som
 
 -- the spelling of a value, where it has one: no cells are no missing cells, 0 is no width to ask for, an
 -- answer has up to 128 entries, each of up to 128 shares, a claim has up to 128 cells, which fit its set
--- where it has one, and no string of a collision is empty
+-- where it has one, no string of a collision is empty, and a commitment proof has up to 128 rows, each of up to
+-- 128 subtrees
 abbrev pub spelling : Frame → Option (List ℕ)
 spelling (Header h) = spelled header_kind (header_payload h)
 spelling (Square s) = spelled square_kind (square_payload s)
@@ -108,6 +121,9 @@ spelling (Clash clash) = if has_empty clash then None else spelled clash_kind (c
 spelling (Sample cell axis) = spelled sample_kind (sample_payload cell axis)
 spelling (Request name) = spelled request_kind (request_payload name)
 spelling (Block b) = if asks_for_zero b.width then None else spelled block_kind (block_payload b)
+spelling (Commit proof) =
+    if is_long_commit proof then None else spelled commit_kind (commit_payload proof)
+spelling (Rooted proof) = spelled rooted_kind (rooted_payload proof)
 
 -- ---- the values that there are
 
@@ -123,3 +139,5 @@ IsFrame (Clash clash) = AreStrings clash
 IsFrame (Sample cell axis) = IsCell cell
 IsFrame (Request name) = IsNamespace name
 IsFrame (Block b) = IsBlock b
+IsFrame (Commit proof) = IsCommitSent proof
+IsFrame (Rooted proof) = IsRootedSent proof

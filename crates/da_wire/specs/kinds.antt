@@ -7,3 +7,5 @@ pub mod Missing
 pub mod Clash
 pub mod Requests
 pub mod Block
+pub mod Commit
+pub mod Rooted

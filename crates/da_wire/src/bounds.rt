@@ -2,7 +2,7 @@
 
 ghost use Rattle.std.specs.Prelude.{◌≡◌, ◌<◌, ◌^◌, map, false, None, IfSome};
 ghost use Rattle.std.specs.List.{AllByRecursion};
-ghost use Rattle.namespace_id.specs.Bytes.{AreBytes};
+ghost use Rattle.namespace_id.specs.Bytes.{AreBytes, IsString};
 ghost use Rattle.namespace_id.specs.Cells.{AreCells};
 ghost use Rattle.namespace_id.specs.Names.{IsNamespace};
 ghost use Rattle.axis_roots.specs.Answers.{AreEntries};
@@ -15,10 +15,13 @@ ghost use Rattle.square_layout.specs.Blocks.{IsBlock};
 ghost use Rattle.da_wire.specs.codec.Texts.{IsCell};
 ghost use Rattle.da_wire.specs.kinds.Clash.{AreStrings};
 ghost use Rattle.da_wire.specs.kinds.Fraud.{is_unwritten};
+ghost use Rattle.da_wire.specs.kinds.Commit.{IsRowSent, IsCommitSent};
+ghost use Rattle.da_wire.specs.kinds.Rooted.{IsRootedSent};
 ghost use Rattle.da_wire.specs.Spelling.{IsFrame};
 
 use crate::Frame;
 use axis_roots::{FraudProof, NsAnswer, Proved, answer_law, claim_law, message_law};
+use blob_commit::{CommitProof, CommitRow, RootedMessage, rooted_law, row_law};
 use data_header::Header;
 use hash_clash::Clash;
 use namespace_id::{
@@ -113,6 +116,54 @@ fn clash_law(clash: &Clash)
     let _right = clash.right().bytes();
 }
 
+/// Says that a hash has 32 bytes. It changes nothing.
+pub(crate) fn hash_law(hash: &[u8; 32])
+    ensures { IsString 32 hash.now }
+{
+    bytes_law(hash);
+}
+
+/// Says that a row of a commitment proof has digests and hashes, up to 9 of these and up to 16 nodes. It
+/// changes nothing.
+fn sent_row_law(row: &CommitRow)
+    ensures { IsRowSent row.now }
+{
+    row_law(row);
+    let _up = row.up.hashes();
+    let _nodes = row.nodes.nodes();
+}
+
+/// Says so of each row of a slice. It changes nothing.
+fn sent_rows_law(rows: &[CommitRow])
+    ensures { AllByRecursion IsRowSent rows.now }
+{
+    for row in rows {
+        sent_row_law(row);
+    }
+}
+
+/// Says that a commitment proof has a width of two bytes, a range of numbers of four, a hash, and such
+/// rows. It changes nothing.
+fn sent_commit_law(proof: &CommitProof)
+    ensures { IsCommitSent proof.now }
+{
+    let _k = proof.k;
+    let _start = proof.start;
+    let _count = proof.count;
+    hash_law(&proof.commitment);
+    sent_rows_law(&proof.rows);
+}
+
+/// Says that a root proof has a width of two bytes, a message, a digest, and up to 9 hashes. It changes
+/// nothing.
+fn sent_rooted_law(proof: &RootedMessage)
+    ensures { IsRootedSent proof.now }
+{
+    let _k = proof.k;
+    let _up = proof.up.hashes();
+    rooted_law(proof);
+}
+
 /// Says that each certificate of a slice keeps a message. It changes nothing.
 fn proved_law(cells: &[Proved])
     ensures { AllByRecursion IsMessage (map kept_message cells.now) }
@@ -149,5 +200,7 @@ pub fn frame_law(frame: &Frame)
         Frame::Sample(cell, _) => cell_law(cell),
         Frame::Request(name) => namespace_law(name),
         Frame::Block(block) => block_law(block),
+        Frame::Commit(proof) => sent_commit_law(proof),
+        Frame::Rooted(proof) => sent_rooted_law(proof),
     }
 }

@@ -1,6 +1,7 @@
 //! Frames, and why bytes or values are none.
 
 use axis_roots::{FraudClaim, Message, NsAnswer};
+use blob_commit::{CommitProof, RootedMessage};
 use data_header::Header;
 use hash_clash::Clash;
 use namespace_id::{Axis, Cell, Cells, Namespace};
@@ -39,6 +40,10 @@ pub enum Frame {
     Request(Namespace),
     /// V: a block.
     Block(Block),
+    /// C: a commitment proof.
+    Commit(CommitProof),
+    /// R: a sample with the proof of its axis root under the data root.
+    Rooted(RootedMessage),
 }
 
 /// Why bytes are no frame. The variants but the last stand in the order in which they are tested; each
@@ -71,7 +76,8 @@ pub enum SpellError {
     /// The value has no spelling: an empty list of missing cells, a block that asks for the width 0,
     /// a namespace answer of more than 128 entries or of a range of more than 128 shares, a fraud claim
     /// of more than 128 cells or of cells that don't fit its set, a collision of which one string is
-    /// empty, or a payload above its limit.
+    /// empty, a commitment proof of more than 128 rows or with more than 128 subtrees in one, or a payload
+    /// above its limit.
     #[error("the value has no spelling")]
     Unspellable,
     /// There was no memory.

@@ -7,6 +7,7 @@ ghost use Rattle.da_wire.specs.Reading.{kind_at};
 pub(crate) mod accused;
 pub(crate) mod block;
 pub(crate) mod clash;
+pub(crate) mod commit;
 pub(crate) mod fraud;
 pub(crate) mod fraud_set;
 pub(crate) mod header;
@@ -14,6 +15,7 @@ pub(crate) mod message;
 pub(crate) mod missing;
 pub(crate) mod names;
 pub(crate) mod requests;
+pub(crate) mod rooted;
 pub(crate) mod square;
 
 /// The kinds of which there are values.
@@ -29,6 +31,8 @@ pub(crate) enum Kind {
     Sample,
     Request,
     Block,
+    Commit,
+    Rooted,
 }
 
 impl Kind {
@@ -47,6 +51,8 @@ impl Kind {
             b'Q' => Some(Kind::Sample),
             b'P' => Some(Kind::Request),
             b'V' => Some(Kind::Block),
+            b'C' => Some(Kind::Commit),
+            b'R' => Some(Kind::Rooted),
             _ => None,
         }
     }
@@ -66,6 +72,8 @@ impl Kind {
             Kind::Sample => b'Q',
             Kind::Request => b'P',
             Kind::Block => b'V',
+            Kind::Commit => b'C',
+            Kind::Rooted => b'R',
         }
     }
 }

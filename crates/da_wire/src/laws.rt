@@ -1,6 +1,6 @@
 //! What is spelled is read, and what is read is spelled.
 
-ghost use Rattle.std.specs.Prelude.{◌≡◌, ◌≢◌, ◌<◌, ◌≤◌, ◌*◌, ◌^◌, List, [], false, length, IsSome};
+ghost use Rattle.std.specs.Prelude.{◌≡◌, ◌≢◌, ◌<◌, ◌≤◌, ◌*◌, ◌^◌, List, [], true, false, length, IsSome};
 ghost use Rattle.namespace_id.specs.declared.cells.Axis.{Axis};
 ghost use Rattle.namespace_id.specs.declared.cells.Cell.{Cell};
 ghost use Rattle.namespace_id.specs.declared.namespaces.Namespace as names;
@@ -15,15 +15,19 @@ ghost use Rattle.axis_roots.specs.Answers.{AreEntries};
 ghost use Rattle.axis_roots.specs.Claims.{ClaimParts, IsClaim, Accepts};
 ghost use Rattle.square_layout.specs.Blocks.{SquareShares, IsSquare};
 ghost use Rattle.hash_clash.specs.Collisions.{Strings};
-ghost use Rattle.da_wire.specs.declared.frames.Frame.TheVariants.{Header, Square, Message, Names, Fraud, Missing, Clash, Sample, Request};
+ghost use Rattle.blob_commit.specs.Proofs.{CommitParts, RootedParts, has_commit_shape};
+ghost use Rattle.da_wire.specs.declared.frames.Frame.TheVariants.{Header, Square, Message, Names, Fraud, Missing, Clash, Sample, Request, Commit, Rooted};
 ghost use Rattle.da_wire.specs.Spelling.{max_payload, spelling};
 ghost use Rattle.da_wire.specs.kinds.Names.{is_long_answer};
 ghost use Rattle.da_wire.specs.kinds.Fraud.{is_unwritten};
 ghost use Rattle.da_wire.specs.kinds.Clash.{AreStrings, has_empty};
+ghost use Rattle.da_wire.specs.kinds.Commit.{IsCommitSent, is_long_commit};
+ghost use Rattle.da_wire.specs.kinds.Rooted.{IsRootedSent};
 ghost use Rattle.da_wire.specs.Laws.{SpelledIsRead, ReadIsSpelled, OneSpelling, OnlyIsSpelled, SpelledIsOnly, MessageIsRead, MessageIsSpelled, RawIsFrame, FramesAreTheFile, FilesAreFrames, BadFrameIsFirst, ValuesAreTheFile, FilesAreValues, BadValueIsFirst};
 ghost use Rattle.da_wire.specs.Streams.{EveryCutting, FramesStay};
 
 use crate::reading::MAX_PAYLOAD;
+use blob_commit::shape_laws;
 
 /// Each value has at most one spelling, and no spelling is a proper prefix of another; what is read is
 /// what was spelled.
@@ -34,8 +38,8 @@ pub fn wire_laws()
     ensures only { OnlyIsSpelled }
     ensures only_read { SpelledIsOnly }
 
-    // What has a spelling: a claim that is accepted is one that can be written. Missing cells are at most
-    // as many as their square has.
+    // What has a spelling: a claim that is accepted is one that can be written, and so is a commitment
+    // proof that has its shape. Missing cells are at most as many as their square has.
     ensures headers { (header : Roots) → IsHeader header → IsSome (spelling (Header header)) }
     ensures squares { (square : SquareShares) → IsSquare square → AreShares square.shares →
         IsSome (spelling (Square square)) }
@@ -54,6 +58,12 @@ pub fn wire_laws()
     ensures requests { (name : names.Namespace) → IsNamespace name →
         IsSome (spelling (Request name)) }
 
+    ensures commits { (proof : CommitParts) → IsCommitSent proof → is_long_commit proof ≡ false →
+        IsSome (spelling (Commit proof)) }
+    ensures shaped { (proof : CommitParts) → has_commit_shape proof ≡ true →
+        is_long_commit proof ≡ false }
+    ensures rooted { (proof : RootedParts) → IsRootedSent proof → IsSome (spelling (Rooted proof)) }
+
     // The payloads of messages.
     ensures message_read { MessageIsRead }
     ensures message_spelled { MessageIsSpelled }
@@ -64,7 +74,9 @@ pub fn wire_laws()
     ensures files { FilesAreFrames }
     ensures bad { BadFrameIsFirst }
     ensures limit { MAX_PAYLOAD ≡ max_payload }
-{}
+{
+    shape_laws();
+}
 
 /// A file that is a list of frames in the grammar, of some kinds, is the spellings of its values, one
 /// after another.

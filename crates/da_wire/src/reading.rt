@@ -12,12 +12,14 @@ use crate::codec::sizes::HEAD_SIZE;
 use crate::kinds::Kind;
 use crate::kinds::block::{block, block_parts};
 use crate::kinds::clash::clash;
+use crate::kinds::commit::{commit, commit_parts};
 use crate::kinds::fraud::{fraud, is_fraud};
 use crate::kinds::header::{header, header_parts};
 use crate::kinds::message::message;
 use crate::kinds::missing::{missing, missing_parts};
 use crate::kinds::names::{names, names_parts};
 use crate::kinds::requests::{request, sample};
+use crate::kinds::rooted::rooted;
 use crate::kinds::square::{square, square_parts};
 use crate::{Frame, FrameError, RawFrame};
 use std::alloc::{AllocError, Global};
@@ -84,6 +86,8 @@ fn value_of_kind(alloc: Global, kind: Kind, payload: &[u8]) -> Result<Option<Fra
         Kind::Sample => Ok(sample(payload).map(|(cell, axis)| Frame::Sample(cell, axis))),
         Kind::Request => Ok(request(payload).map(Frame::Request)),
         Kind::Block => Ok(block(alloc, payload)?.map(Frame::Block)),
+        Kind::Commit => Ok(commit(alloc, payload)?.map(Frame::Commit)),
+        Kind::Rooted => Ok(rooted(payload).map(Frame::Rooted)),
     }
 }
 
@@ -113,6 +117,8 @@ fn is_in_form(kind: Kind, payload: &[u8]) -> bool
         Kind::Sample => sample(payload).is_some(),
         Kind::Request => request(payload).is_some(),
         Kind::Block => block_parts(payload).is_some(),
+        Kind::Commit => commit_parts(payload).is_some(),
+        Kind::Rooted => rooted(payload).is_some(),
     }
 }
 
@@ -152,10 +158,10 @@ fn refusal_before_more(frame: RawFrame<'_>) -> FrameError
 /// The value of the frame at the front of bytes, and the offset after it. `at` is the offset of the
 /// bytes in their file, and `at` plus their number fits a `u64`.
 ///
-/// Refuses no byte (`Truncated`), a kind that isn't one of H, S, M, N, B, K, X, Q, P and V (`BadKind`),
-/// then what `raw` refuses, then a payload that isn't in the grammar of its kind (`BadPayload`), each
-/// with `at`. Want of memory comes in place of a value alone: none is taken before the payload is known
-/// to be in its grammar.
+/// Refuses no byte (`Truncated`), a kind that isn't one of H, S, M, N, B, K, X, Q, P, V, C and R
+/// (`BadKind`), then what `raw` refuses, then a payload that isn't in the grammar of its kind
+/// (`BadPayload`), each with `at`. Want of memory comes in place of a value alone: none is taken before
+/// the payload is known to be in its grammar.
 ///
 /// docs/FORMATS.md, "Frames" and "Payloads".
 #[tactic(auto, unfolding(crate::specs::Reading::tested_raw))]

@@ -11,12 +11,14 @@ use crate::codec::sizes::HEAD_SIZE;
 use crate::kinds::Kind;
 use crate::kinds::block::{block_size, put_block};
 use crate::kinds::clash::{clash_size, put_clash};
+use crate::kinds::commit::{commit_size, put_commit};
 use crate::kinds::fraud::{fraud_size, proof_size, put_fraud, put_proof};
 use crate::kinds::header::{header_size, put_header};
 use crate::kinds::message::{message_size, put_message};
 use crate::kinds::missing::{missing_size, put_missing};
 use crate::kinds::names::{names_size, put_names};
 use crate::kinds::requests::{SAMPLE_SIZE, put_sample, request_size};
+use crate::kinds::rooted::{put_rooted, rooted_size};
 use crate::kinds::square::{put_square, square_size};
 use crate::{Frame, SpellError};
 use axis_roots::FraudProof;
@@ -37,6 +39,8 @@ fn kind_of(frame: &Frame) -> Kind
         Frame::Sample(..) => Kind::Sample,
         Frame::Request(_) => Kind::Request,
         Frame::Block(_) => Kind::Block,
+        Frame::Commit(_) => Kind::Commit,
+        Frame::Rooted(_) => Kind::Rooted,
     }
 }
 
@@ -55,6 +59,8 @@ fn payload_size(frame: &Frame) -> Option<u32>
         Frame::Sample(..) => Some(SAMPLE_SIZE),
         Frame::Request(name) => Some(request_size(name)),
         Frame::Block(block) => block_size(block),
+        Frame::Commit(proof) => commit_size(proof),
+        Frame::Rooted(proof) => Some(rooted_size(proof)),
     }
 }
 
@@ -76,6 +82,8 @@ fn put_payload(out: &mut Vec<u8>, frame: &Frame)
         Frame::Sample(cell, axis) => put_sample(out, *cell, *axis),
         Frame::Request(name) => append(out, &name.0),
         Frame::Block(block) => put_block(out, block),
+        Frame::Commit(proof) => put_commit(out, proof),
+        Frame::Rooted(proof) => put_rooted(out, proof),
     }
 }
 

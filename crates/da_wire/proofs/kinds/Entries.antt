@@ -1,12 +1,10 @@
 -- An entry that is read is the one that was written, and one that was written is read.
-use Rattle.std.proofs.Common.{◌≡◌, ℕ, ◌^◌, Bool, true, false, ◌||◌, List, [], ◌∷◌, ◌++◌, Option, Some, refl, arith}
+use Rattle.std.proofs.Common.{◌≡◌, ℕ, ◌^◌, false, List, ◌++◌, Option, Some, refl, arith}
 use Rattle.std.specs.Int.{w16, to_be_bytes}
-use Rattle.std.specs.List.{AllByRecursion, list_any}
-use Rattle.std.proofs.lemmas.Bool.{or_parts}
 use Rattle.namespace_id.specs.Bytes.{AreBytes}
 use Rattle.axis_roots.specs.declared.answers.Found.{Found}
 use Rattle.axis_roots.specs.declared.answers.NsEntry.{NsEntry}
-use Rattle.axis_roots.specs.Answers.{IsEntry, AreEntries}
+use Rattle.axis_roots.specs.Answers.{IsEntry}
 use Rattle.da_wire.specs.codec.Fields.{◌>>=◌, number_at}
 use Rattle.da_wire.specs.kinds.Names.{is_long_entry, found_bytes, entry_bytes, found_at, entry_at}
 use Rattle.da_wire.proofs.codec.Readers.{bind_some, bind_again, Takes, Takes-then, Takes-read}
@@ -58,24 +56,3 @@ entry_field = record {
   again = λ e rest is few. entry_again e rest is;
   some = λ e. omega arith;
 }
-
--- ---- lists of entries
-
--- where both tests fail, so does either
-pub none_of : (a b : Bool) → a ≡ false → b ≡ false → (a || b) ≡ false
-none_of true b p q = absurd cc
-none_of false b p q = q
-
--- entries that can be written are entries, and none is too long
-pub short_entries : (entries : List NsEntry) → AllByRecursion IsShortEntry entries → AreEntries entries × (list_any is_long_entry entries ≡ false)
-short_entries [] all = (tt, refl)
-short_entries (e ∷ es) all =
-    let others = short_entries es all.1 in
-    ((all.0.0, others.0), none_of (is_long_entry e) (list_any is_long_entry es) all.0.1 others.1)
-
--- entries of which none is too long can be written
-pub all_short : (entries : List NsEntry) → AreEntries entries → list_any is_long_entry entries ≡ false → AllByRecursion IsShortEntry entries
-all_short [] all none = tt
-all_short (e ∷ es) all none =
-    let both = or_parts (is_long_entry e) (list_any is_long_entry es) none in
-    ((all.0, both.0), all_short es all.1 both.1)

@@ -3,7 +3,7 @@ use Rattle.std.proofs.Common.{◌≡◌, ◌∙◌, ℕ, Bool, true, false, eqb,
 use Rattle.std.proofs.lemmas.Option.{same_Some}
 use Rattle.namespace_id.specs.Bytes.{AreBytes}
 use Rattle.da_wire.specs.declared.frames.Frame.{Frame}
-use Rattle.da_wire.specs.declared.frames.Frame.TheVariants.{Header, Square, Message, Names, Fraud, Missing, Clash, Sample, Request, Block}
+use Rattle.da_wire.specs.declared.frames.Frame.TheVariants.{Header, Square, Message, Names, Fraud, Missing, Clash, Sample, Request, Block, Commit, Rooted}
 use Rattle.da_wire.specs.declared.kinds.Kind.{Kind}
 use Rattle.da_wire.specs.declared.kinds.Kind.TheVariants as kinds
 use Rattle.da_wire.specs.Spelling.{kind_byte, spelled, spelling, IsFrame}
@@ -19,6 +19,8 @@ use Rattle.da_wire.proofs.kinds.MissingForm.{missing_form}
 use Rattle.da_wire.proofs.kinds.ClashForm.{clash_form}
 use Rattle.da_wire.proofs.kinds.RequestForms.{sample_form, request_form}
 use Rattle.da_wire.proofs.kinds.BlockForm.{block_form}
+use Rattle.da_wire.proofs.kinds.CommitForm.{commit_form}
+use Rattle.da_wire.proofs.kinds.RootedForm.{rooted_form}
 
 -- ---- the byte of a kind
 
@@ -34,6 +36,8 @@ kind_again kinds.Clash = refl
 kind_again kinds.Sample = refl
 kind_again kinds.Request = refl
 kind_again kinds.Block = refl
+kind_again kinds.Commit = refl
+kind_again kinds.Rooted = refl
 
 -- a byte is that of a kind, or it is looked for among the others
 by_byte : (here : Bool) (byte : ℕ) (kind found : Kind) (others : Option Kind) → eqb byte (kind_byte kind) ≡ here → cond here (Some kind) others ≡ Some found
@@ -53,7 +57,9 @@ kind_takes byte found e =
     by_byte (eqb byte (kind_byte kinds.Clash)) byte kinds.Clash found _ refl e6 (λ e7.
     by_byte (eqb byte (kind_byte kinds.Sample)) byte kinds.Sample found _ refl e7 (λ e8.
     by_byte (eqb byte (kind_byte kinds.Request)) byte kinds.Request found _ refl e8 (λ e9.
-    by_byte (eqb byte (kind_byte kinds.Block)) byte kinds.Block found None refl e9 (λ e10. absurd cc))))))))))
+    by_byte (eqb byte (kind_byte kinds.Block)) byte kinds.Block found _ refl e9 (λ e10.
+    by_byte (eqb byte (kind_byte kinds.Commit)) byte kinds.Commit found _ refl e10 (λ e11.
+    by_byte (eqb byte (kind_byte kinds.Rooted)) byte kinds.Rooted found None refl e11 (λ e12. absurd cc))))))))))))
 
 -- ---- values
 
@@ -69,6 +75,8 @@ spelled_by kinds.Clash = form_takes _ _ _ _ _ clash_form
 spelled_by kinds.Sample = form_takes _ _ _ _ _ sample_form
 spelled_by kinds.Request = form_takes _ _ _ _ _ request_form
 spelled_by kinds.Block = form_takes _ _ _ _ _ block_form
+spelled_by kinds.Commit = form_takes _ _ _ _ _ commit_form
+spelled_by kinds.Rooted = form_takes _ _ _ _ _ rooted_form
 
 -- a value that is read of a payload is what the payload spells
 pub value_takes : (byte : ℕ) (payload : List ℕ) (value : Frame) → AreBytes payload → value_at byte payload ≡ Some value
@@ -90,3 +98,5 @@ value_again (Clash clash) = form_written _ _ _ _ _ clash_form (kind_again kinds.
 value_again (Sample cell axis) = form_written _ _ _ _ _ sample_form (kind_again kinds.Sample) (cell, axis)
 value_again (Request name) = form_written _ _ _ _ _ request_form (kind_again kinds.Request) name
 value_again (Block b) = form_written _ _ _ _ _ block_form (kind_again kinds.Block) b
+value_again (Commit proof) = form_written _ _ _ _ _ commit_form (kind_again kinds.Commit) proof
+value_again (Rooted proof) = form_written _ _ _ _ _ rooted_form (kind_again kinds.Rooted) proof

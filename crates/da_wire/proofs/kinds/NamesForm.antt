@@ -9,7 +9,7 @@ use Rattle.namespace_id.specs.declared.namespaces.Namespace.{Namespace}
 use Rattle.namespace_id.specs.Bytes.{AreBytes}
 use Rattle.namespace_id.specs.Names.{IsNamespace}
 use Rattle.axis_roots.specs.declared.answers.NsEntry.{NsEntry}
-use Rattle.axis_roots.specs.Answers.{AreEntries}
+use Rattle.axis_roots.specs.Answers.{IsEntry, AreEntries}
 use Rattle.da_wire.specs.codec.Fields.{string_at}
 use Rattle.da_wire.specs.codec.Texts.{list_bytes}
 use Rattle.da_wire.specs.kinds.Names.{is_long_entry, is_long_answer, entry_bytes, names_payload, entry_at, entries_at, names_at}
@@ -20,7 +20,8 @@ use Rattle.da_wire.proofs.codec.Headed.{ended, behind, headed, headed_some}
 use Rattle.da_wire.proofs.codec.Numbers.{wide16}
 use Rattle.da_wire.proofs.codec.Strings.{string_takes, string_again}
 use Rattle.da_wire.proofs.codec.Lists.{list_takes, list_again}
-use Rattle.da_wire.proofs.kinds.Entries.{IsShortEntry, entry_field, none_of, short_entries, all_short}
+use Rattle.da_wire.proofs.codec.Short.{none_of, short_parts, all_short}
+use Rattle.da_wire.proofs.kinds.Entries.{IsShortEntry, entry_field}
 use Rattle.da_wire.proofs.kinds.Form.{IsForm}
 
 -- a namespace and what is found of it
@@ -49,7 +50,7 @@ names_takes payload x fits e =
     let entries : List NsEntry = r.2.0 in
     let t = string_takes 29 payload name r.0.1 fits r.1 in
     let u = list_takes entry_at entry_bytes IsShortEntry entry_field w16 (2 ^ 16) wide16 128 r.0.1 entries r.2.1 t.0.rest_fits r.3 in
-    let short = short_entries entries u.1 in
+    let short = short_parts IsEntry is_long_entry entries u.1 in
     let both = Takes-then payload name r.0.1 (list_bytes w16 entry_bytes entries) r.2.1 t.0 u.0 in
     let all : payload ≡ names_payload (named name entries).0 entries = Takes-all payload (name ++ list_bytes w16 entry_bytes entries) r.2.1 both r.4 in
     let few : is_long_answer entries ≡ false = none_of (ltb 128 (length entries)) (list_any is_long_entry entries) (le-ltb _ _ u.2) short.1 in
@@ -67,7 +68,7 @@ names_again name entries is are short small =
     let sum : length (names_payload name entries) ≡ length name.0 + length text = length-append name.0 text in
     let listed : entries_at text ≡ Some (entries, []) =
     subst (λ (l : List ℕ). entries_at l ≡ Some (entries, [])) (append-nil text)
-    (list_again entry_at entry_bytes IsShortEntry entry_field w16 (2 ^ 16) wide16 128 entries [] (all_short entries are parts.1) (omega arith) (omega arith) few) in
+    (list_again entry_at entry_bytes IsShortEntry entry_field w16 (2 ^ 16) wide16 128 entries [] (all_short IsEntry is_long_entry entries are parts.1) (omega arith) (omega arith) few) in
     let found : behind entries_at named (name.0, text) ≡ Some read = bind_again (entries_at text) (ended (named name.0)) (entries, []) read listed refl in
     bind_again (string_at 29 (name.0 ++ text)) (behind entries_at named) (name.0, text) read (string_again 29 name.0 text is.size_is) found
 

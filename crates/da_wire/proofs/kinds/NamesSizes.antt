@@ -9,15 +9,16 @@ use Rattle.namespace_id.specs.Names.{IsNamespace}
 use Rattle.axis_roots.specs.declared.answers.Found.{Found}
 use Rattle.axis_roots.specs.declared.answers.Found.TheVariants.{Range, Absence}
 use Rattle.axis_roots.specs.declared.answers.NsEntry.{NsEntry}
-use Rattle.axis_roots.specs.Answers.{AreEntries}
+use Rattle.axis_roots.specs.Answers.{IsEntry, AreEntries}
 use Rattle.da_wire.specs.Spelling.{max_payload}
 use Rattle.da_wire.specs.codec.Texts.{path_bytes, share_bytes, list_bytes}
 use Rattle.da_wire.specs.kinds.Names.{is_long_entry, is_long_answer, found_bytes, entry_bytes, names_payload}
 use Rattle.da_wire.proofs.codec.Digests.{length-digest_bytes}
 use Rattle.da_wire.proofs.codec.Shares.{length-share_bytes}
 use Rattle.da_wire.proofs.codec.Lengths.{texts_few}
+use Rattle.da_wire.proofs.codec.Short.{all_short}
 use Rattle.da_wire.proofs.kinds.Ranges.{IsWritable}
-use Rattle.da_wire.proofs.kinds.Entries.{IsShortEntry, all_short}
+use Rattle.da_wire.proofs.kinds.Entries.{IsShortEntry}
 
 -- what is found in a row has at most 66,982 bytes
 found_few : (found : Found) → IsWritable found → length (found_bytes found) ≤ 66982
@@ -38,4 +39,4 @@ pub names_few : (name : Namespace) (answer : List NsEntry) → IsNamespace name 
 names_few name answer is are short =
     let parts = or_parts (ltb 128 (length answer)) (list_any is_long_entry answer) short in
     let few : length answer ≤ 128 = ltb-false 128 (length answer) parts.0 in
-    omega (arith, few, is.size_is, texts_few entry_bytes IsShortEntry 66984 entry_few answer (all_short answer are parts.1), length-append name.0 (list_bytes w16 entry_bytes answer))
+    omega (arith, few, is.size_is, texts_few entry_bytes IsShortEntry 66984 entry_few answer (all_short IsEntry is_long_entry answer are parts.1), length-append name.0 (list_bytes w16 entry_bytes answer))

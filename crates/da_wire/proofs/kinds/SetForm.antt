@@ -1,6 +1,6 @@
 -- A claim with a set that is read of a payload is what the payload spells, and the payload that one has is read.
 use Rattle.std.proofs.Common.{◌≡◌, ◌∙◌, ℕ, ◌+◌, ◌^◌, ◌<◌, ◌≤◌, true, eqb, cond, ◌&&◌, List, [], ◌++◌, length, Option, None, Some, refl, sym, subst, arith, append-nil, append_assoc, eqb-true}
-use Rattle.std.specs.Int.{w16, to_be_bytes}
+use Rattle.std.specs.Int.{w16}
 use Rattle.std.specs.List.{list_all, list_any}
 use Rattle.std.proofs.lemmas.Bool.{and_parts}
 use Rattle.std.proofs.lemmas.List.{length-append}
@@ -11,12 +11,12 @@ use Rattle.namespace_id.specs.Digests.{AreDigests}
 use Rattle.axis_roots.specs.declared.message.messages.Message.{Message}
 use Rattle.axis_roots.specs.Sets.{is_along}
 use Rattle.axis_roots.specs.Claims.{ClaimParts, IsClaim}
-use Rattle.da_wire.specs.codec.Fields.{◌>>=◌, count_at, digests_at}
-use Rattle.da_wire.specs.codec.Texts.{digest_bytes, list_bytes}
+use Rattle.da_wire.specs.codec.Fields.{◌>>=◌}
+use Rattle.da_wire.specs.codec.Texts.{list_bytes}
 use Rattle.da_wire.specs.kinds.Fraud.{cell_payload, set_payload, accused_at, set_cell_at, set_cells_at, set_nodes_at, with_set_at}
 use Rattle.da_wire.proofs.codec.Readers.{bind_some, bind_again, if_true_again, Takes, Takes-then, Takes-all}
-use Rattle.da_wire.proofs.codec.Numbers.{wide16, count_takes, count_again}
-use Rattle.da_wire.proofs.codec.Digests.{digests_take, digests_again}
+use Rattle.da_wire.proofs.codec.Numbers.{wide16}
+use Rattle.da_wire.proofs.codec.DigestLists.{digest_list_takes, digest_list_again}
 use Rattle.da_wire.proofs.codec.Lists.{list_takes, list_again}
 use Rattle.da_wire.proofs.kinds.AccusedForm.{Accused, text, accused_takes, accused_again}
 use Rattle.da_wire.proofs.kinds.ClaimCells.{is_at, IsSetCell, set_cell_field, placed_messages, all_placed}
@@ -27,30 +27,16 @@ use Rattle.da_wire.proofs.kinds.ClaimCells.{is_at, IsSetCell, set_cell_field, pl
 abbrev pub node_list : List Digest → List ℕ
 node_list nodes = list_bytes w16 (λ d. d.0) nodes
 
--- what `set_nodes_at` does after the count
-abbrev after_count : ℕ × List ℕ → Option (List Digest × List ℕ)
-after_count count = digests_at count.0 count.1
-
 -- nodes that are read are those that were written, and aren't too many
 set_nodes_take : (bytes : List ℕ) (nodes : List Digest) (rest : List ℕ) → AreBytes bytes → set_nodes_at bytes ≡ Some (nodes, rest)
     → Takes bytes (node_list nodes) rest × AreDigests nodes × (length nodes ≤ 128)
 unfolding set_nodes_at
-set_nodes_take bytes nodes rest fits e =
-    let a = bind_some (count_at w16 128 bytes) after_count (nodes, rest) e in
-    let t = count_takes w16 (2 ^ 16) wide16 128 bytes a.0.0 a.0.1 fits a.1 in
-    let u = digests_take a.0.0 a.0.1 nodes rest t.0.rest_fits a.2 in
-    let both = Takes-then bytes (to_be_bytes w16 a.0.0) a.0.1 (digest_bytes nodes) rest t.0 u.0 in
-    (subst (λ (n : ℕ). Takes bytes (to_be_bytes w16 n ++ digest_bytes nodes) rest) (sym u.1) both, u.2, subst (λ (n : ℕ). n ≤ 128) (sym u.1) t.1)
+set_nodes_take bytes nodes rest fits e = digest_list_takes 128 bytes nodes rest fits e
 
 -- nodes that were written are read, whatever follows them
 set_nodes_again : (nodes : List Digest) (rest : List ℕ) → AreDigests nodes → length nodes ≤ 128 → set_nodes_at (node_list nodes ++ rest) ≡ Some (nodes, rest)
 unfolding set_nodes_at
-set_nodes_again nodes rest all few =
-    let count : List ℕ = to_be_bytes w16 (length nodes) in
-    let tail : List ℕ = digest_bytes nodes ++ rest in
-    subst (λ (l : List ℕ). (count_at w16 128 l >>= after_count) ≡ Some (nodes, rest)) (sym (append_assoc count (digest_bytes nodes) rest))
-    (bind_again (count_at w16 128 (count ++ tail)) after_count (length nodes, tail) (nodes, rest)
-    (count_again w16 (2 ^ 16) wide16 128 (length nodes) tail (omega (arith, few)) few) (digests_again nodes rest all))
+set_nodes_again nodes rest all few = digest_list_again 128 nodes rest all (omega (arith, few)) few
 
 -- ---- claims
 

@@ -17,17 +17,21 @@ use Rattle.axis_roots.specs.Claims.{ClaimParts, IsClaim}
 use Rattle.axis_roots.specs.Messages.{IsMessage}
 use Rattle.square_layout.specs.Blocks.{SquareShares, IsSquare}
 use Rattle.hash_clash.specs.Collisions.{Strings}
-use Rattle.da_wire.specs.declared.frames.Frame.TheVariants.{Header, Square, Message, Names, Fraud, Missing, Clash, Sample, Request}
+use Rattle.blob_commit.specs.Proofs.{CommitParts, RootedParts}
+use Rattle.da_wire.specs.declared.frames.Frame.TheVariants.{Header, Square, Message, Names, Fraud, Missing, Clash, Sample, Request, Commit, Rooted}
 use Rattle.da_wire.specs.codec.Texts.{text_bytes}
-use Rattle.da_wire.specs.Spelling.{max_payload, frame, spelled, spelling, names_kind, fraud_kind, clash_kind, sample_kind}
+use Rattle.da_wire.specs.Spelling.{max_payload, frame, spelled, spelling, names_kind, fraud_kind, clash_kind, sample_kind, commit_kind}
 use Rattle.da_wire.specs.kinds.Names.{is_long_answer, names_payload}
 use Rattle.da_wire.specs.kinds.Fraud.{is_unwritten, fraud_payload}
 use Rattle.da_wire.specs.kinds.Clash.{AreStrings, has_empty, clash_payload}
 use Rattle.da_wire.specs.kinds.Requests.{sample_payload}
+use Rattle.da_wire.specs.kinds.Commit.{IsCommitSent, is_long_commit, commit_payload}
+use Rattle.da_wire.specs.kinds.Rooted.{IsRootedSent}
 use Rattle.da_wire.proofs.codec.Readers.{if_false_again}
 use Rattle.da_wire.proofs.codec.Lengths.{spelled_within}
 use Rattle.da_wire.proofs.kinds.NamesSizes.{names_few}
 use Rattle.da_wire.proofs.kinds.FraudSizes.{fraud_few}
+use Rattle.da_wire.proofs.kinds.CommitSizes.{commit_few, rooted_sized}
 use Rattle.da_wire.proofs.kinds.PayloadSizes.{header_sized, square_sized, message_sized, missing_sized, request_sized}
 use Rattle.da_wire.proofs.kinds.CellCounts.{cells_few}
 
@@ -82,3 +86,14 @@ sample_spelled cell axis = has_spelling (spelling (Sample cell axis)) _ (spelled
 -- each request for a namespace has a spelling
 pub request_spelled : (name : Namespace) → IsNamespace name → IsSome (spelling (Request name))
 request_spelled name is = has_spelling (spelling (Request name)) _ (request_sized name 29 (sym is.size_is) (omega arith)).1
+
+-- each commitment proof has a spelling that has up to 128 rows, each of up to 128 subtrees
+pub commit_spelled : (proof : CommitParts) → IsCommitSent proof → is_long_commit proof ≡ false → IsSome (spelling (Commit proof))
+commit_spelled proof is short =
+    let payload : List ℕ = commit_payload proof in
+    has_spelling (spelling (Commit proof)) _
+    (if_false_again (is_long_commit proof) (spelled commit_kind payload) (frame commit_kind payload) short (spelled_within commit_kind (length payload) payload refl (commit_few proof is short)))
+
+-- each root proof has a spelling
+pub rooted_spelled : (proof : RootedParts) → IsRootedSent proof → IsSome (spelling (Rooted proof))
+rooted_spelled proof is = has_spelling (spelling (Rooted proof)) _ (rooted_sized proof (611 + 90 * length proof.message.path + 32 * length proof.up) is.is is.few_hashes refl).1

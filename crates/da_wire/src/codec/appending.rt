@@ -4,6 +4,7 @@ ghost use Rattle.std.specs.Prelude.{◌≡◌, ◌≤◌, ◌<◌, ◌^◌, leng
 ghost use Rattle.std.specs.Int.{w16, w32};
 ghost use Rattle.namespace_id.specs.Answers.{HasRoom};
 ghost use Rattle.da_wire.specs.codec.Texts.{digest_bytes, path_bytes, share_bytes, axis_byte, cell_bytes, text_bytes};
+ghost use Rattle.da_wire.specs.kinds.Commit.{hash_bytes};
 ghost use Rattle.da_wire.specs.Writing.{IsShort};
 
 use namespace_id::{Axis, Cell, Digest, Share, append};
@@ -30,6 +31,20 @@ pub(crate) fn put_path(out: &mut Vec<u8>, digests: &[Digest])
 {
     append(out, &[digests.len() as u8]);
     put_digests(out, digests);
+}
+
+/// Appends hashes behind their count in a byte.
+pub(crate) fn put_hashes(out: &mut Vec<u8>, hashes: &[[u8; 32]])
+    requires few { length hashes.now < 256 }
+    requires room { HasRoom out.old (length (hash_bytes hashes.now)) }
+    ensures appended { out.new.items ≡ out.old.items ++ hash_bytes hashes.now }
+    ensures len { vec_len out.new ≡ vec_len out.old + length (hash_bytes hashes.now) }
+    ensures capacity { vec_capacity out.old ≤ vec_capacity out.new }
+{
+    append(out, &[hashes.len() as u8]);
+    for hash in hashes {
+        append(out, hash);
+    }
 }
 
 /// Appends shares, one after another.

@@ -3,9 +3,13 @@
 ghost use Rattle.std.specs.Prelude.{◌≡◌, ◌≤◌, ◌*◌, length, vec_len, IfOk, IfSome};
 ghost use Rattle.std.specs.Int.{w16, w32};
 ghost use Rattle.namespace_id.specs.Answers.{Gives};
-ghost use Rattle.da_wire.specs.codec.Fields.{digests_of, shares_of, shares_at, text_at, count_at, number_at, byte_at, string_at, axis_at, path_at, cell_at};
+ghost use Rattle.da_wire.specs.codec.Fields.{split_into, digests_of, shares_of, shares_at, text_at, count_at, number_at, byte_at, string_at, axis_at, path_at, cell_at};
+ghost use Rattle.da_wire.specs.kinds.Commit.{hashes_at};
 
-use crate::codec::sizes::{DIGEST_SIZE, NAMESPACE_SIZE, NODES_LIMIT, PATH_LIMIT, SHARE_SIZE};
+use crate::codec::sizes::{
+    DIGEST_SIZE, HASH_SIZE, HASHES_LIMIT, NAMESPACE_SIZE, NODES_LIMIT, PATH_LIMIT, SHARE_SIZE,
+};
+use data_header::RootPath;
 use namespace_id::{Axis, Cell, Digest, Namespace, Share};
 use nmt_proofs::{Nodes, Path};
 use std::alloc::{AllocError, Global};
@@ -73,6 +77,16 @@ pub(crate) fn digest_of(bytes: &[u8]) -> Digest
     digest
 }
 
+/// The hash that 32 bytes are.
+fn hash_of(bytes: &[u8]) -> [u8; 32]
+    requires { length bytes.now ≡ 32 }
+    ensures { result ≡ bytes.now }
+{
+    let mut hash = [0; HASH_SIZE];
+    hash.copy_from_slice(bytes);
+    hash
+}
+
 /// A share, and the bytes after it.
 pub(crate) fn share_at(bytes: &[u8]) -> Option<(Share, &[u8])>
     ensures { Gives (λ x. (x.0.0, x.1.now)) result (string_at 512 bytes.now) }
@@ -104,6 +118,17 @@ pub(crate) fn digest_at(bytes: &[u8]) -> Option<(Digest, &[u8])>
     }
     let (front, rest) = bytes.split_at(DIGEST_SIZE);
     Some((digest_of(front), rest))
+}
+
+/// A hash, and the bytes after it.
+pub(crate) fn hash_at(bytes: &[u8]) -> Option<([u8; 32], &[u8])>
+    ensures { Gives (λ x. (x.0, x.1.now)) result (string_at 32 bytes.now) }
+{
+    if bytes.len() < HASH_SIZE {
+        return None;
+    }
+    let (front, rest) = bytes.split_at(HASH_SIZE);
+    Some((hash_of(front), rest))
 }
 
 /// A count of two bytes, at most the limit, and the bytes after it.
@@ -292,4 +317,47 @@ pub(crate) fn nodes_at(bytes: &[u8]) -> Option<(Nodes, &[u8])>
 {
     let (count, digests, rest) = digests_at(bytes, NODES_LIMIT)?;
     Some((nodes_of(count, digests), rest))
+}
+
+/// So many hashes, one after another, which are all of the bytes, in a root path.
+fn hashes_of(count: u8, bytes: &[u8]) -> RootPath
+    requires few { count ≤ 9 }
+    requires all { length bytes.now ≡ 32 * count }
+    ensures { result ≡ split_into (λ hash. hash) 32 count bytes.now }
+{
+    let mut hashes = RootPath::new();
+    let mut rest = bytes;
+    for _ in 0..count {
+        let (front, after) = rest.split_at(HASH_SIZE);
+        hashes.push(hash_of(front));
+        rest = after;
+    }
+    hashes
+}
+
+/// A count of at most 9, the bytes of so many hashes, and the bytes after them.
+#[tactic(auto, unfolding(crate::specs::kinds::Commit::hashes_at))]
+fn hash_list_at(bytes: &[u8]) -> Option<(u8, &[u8], &[u8])>
+    ensures value { Gives (λ x. (split_into (λ hash. hash) 32 x.0 x.1.now, x.2.now))
+        result (hashes_at bytes.now) }
+    ensures few { IfSome result (λ x. x.0 ≤ 9) }
+    ensures all { IfSome result (λ x. length x.1.now ≡ 32 * x.0) }
+{
+    let (count, rest) = u8_at(bytes)?;
+    if count > HASHES_LIMIT {
+        return None;
+    }
+    if rest.len() < HASH_SIZE * count as usize {
+        return None;
+    }
+    let (hashes, rest) = rest.split_at(HASH_SIZE * count as usize);
+    Some((count, hashes, rest))
+}
+
+/// A count of at most 9, so many hashes, and the bytes after them.
+pub(crate) fn hashes_at(bytes: &[u8]) -> Option<(RootPath, &[u8])>
+    ensures { Gives (λ x. (x.0, x.1.now)) result (hashes_at bytes.now) }
+{
+    let (count, hashes, rest) = hash_list_at(bytes)?;
+    Some((hashes_of(count, hashes), rest))
 }

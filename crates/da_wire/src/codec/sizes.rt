@@ -18,6 +18,12 @@ pub(crate) const PATH_LIMIT: u8 = 8;
 /// The most nodes of a range proof or an absence proof.
 pub(crate) const NODES_LIMIT: u8 = 16;
 
+/// The most hashes that lead from an axis root to a data root.
+pub(crate) const HASHES_LIMIT: u8 = 9;
+
+/// The bytes of a hash.
+pub(crate) const HASH_SIZE: usize = 32;
+
 /// The bytes of a cell.
 pub(crate) const CELL_SIZE: usize = 4;
 

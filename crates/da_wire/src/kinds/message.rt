@@ -13,7 +13,7 @@ use axis_roots::Message;
 use namespace_id::{append, digests_law, share_law};
 
 /// The bytes of a message whose path has no nodes: its cell, its axis, its share, and the count 0.
-const BARE_SIZE: usize = CELL_SIZE + 1 + SHARE_SIZE + 1;
+pub(crate) const BARE_SIZE: usize = CELL_SIZE + 1 + SHARE_SIZE + 1;
 
 /// The message at the front of bytes, and the bytes after it.
 #[tactic(auto, unfolding(crate::specs::kinds::Message::message_front))]

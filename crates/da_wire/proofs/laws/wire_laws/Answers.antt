@@ -2,9 +2,10 @@ use Rattle.da_wire.proofs.kinds.MessageForm.{message_again, message_takes}
 use Rattle.da_wire.proofs.FrameLemmas.{spelled_is_read, read_is_spelled, one_spelling}
 use Rattle.da_wire.proofs.OnlyLemmas.{only_is_spelled, spelled_only}
 use Rattle.da_wire.proofs.FrameListLemmas.{raw_is_frame, frames_are_the_file, files_are_frames, bad_frame_is_first}
-use Rattle.da_wire.proofs.kinds.Spelled.{header_spelled, square_spelled, message_spelled, names_spelled, fraud_spelled, missing_spelled, sample_spelled, request_spelled}
+use Rattle.da_wire.proofs.kinds.Spelled.{header_spelled, square_spelled, message_spelled, names_spelled, fraud_spelled, missing_spelled, sample_spelled, request_spelled, commit_spelled, rooted_spelled}
 use Rattle.da_wire.proofs.AcceptedClaims.{accepted_written}
 use Rattle.da_wire.proofs.kinds.CellCounts.{cells_counted}
+use Rattle.da_wire.proofs.kinds.CommitSizes.{commit_short}
 use Rattle.da_wire.proofs.laws.wire_laws.Goals as goal
 
 pub returns-clause-read : goal.returns-clause-read
@@ -51,6 +52,15 @@ returns-clause-samples c = sample_spelled
 
 pub returns-clause-requests : goal.returns-clause-requests
 returns-clause-requests c = request_spelled
+
+pub returns-clause-commits : goal.returns-clause-commits
+returns-clause-commits c = commit_spelled
+
+pub returns-clause-shaped : goal.returns-clause-shaped
+returns-clause-shaped c = λ proof shape. commit_short proof (c.shape_laws.ensures.rows proof shape) (c.shape_laws.ensures.subtrees proof shape)
+
+pub returns-clause-rooted : goal.returns-clause-rooted
+returns-clause-rooted c = rooted_spelled
 
 pub returns-clause-message_read : goal.returns-clause-message_read
 returns-clause-message_read c = message_again

@@ -1,0 +1,8 @@
+use Rattle.std.proofs.Common.{◌≡◌, ◌-◌}
+use Rattle.da_wire.specs.codec.Fields.{many_at, read_rest}
+use Rattle.da_wire.specs.kinds.Commit.{row_at}
+use Rattle.da_wire.proofs.kinds.commit.after_rows.Given as goal
+
+-- what is left ends where all end
+abbrev pub invariant-loop : goal.invariant-loop
+invariant-loop l = read_rest (many_at row_at (l.count - l.counter) l.rest) ≡ read_rest (many_at row_at l.count l.bytes)

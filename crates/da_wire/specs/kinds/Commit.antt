@@ -1,0 +1,112 @@
+-- The payload of a commitment proof (docs/FORMATS.md, "Payloads").
+use Rattle.std.specs.Prelude.{◌≤◌, ◌<◌, ◌^◌, ℕ, List, ◌∷◌, length, nat_lt, Option, Some, None, if◌then◌else◌, ◌==◌, ◌||◌, Bool, ◌++◌}
+use Rattle.std.specs.Int.{w16, w32, to_be_bytes}
+use Rattle.std.specs.List.{AllByRecursion, flat_map, list_any}
+use Rattle.namespace_id.specs.Sizes.{digest_size}
+use Rattle.namespace_id.specs.Bytes.{IsString}
+use Rattle.namespace_id.specs.declared.digests.Digest.{Digest}
+use Rattle.blob_commit.specs.Proofs.{RowParts, CommitParts, IsRow}
+use Rattle.da_wire.specs.codec.Fields.{◌>>=◌, byte_at, string_at, number_at, count_at, digest, digests_at, path_at, values_at, list_at}
+use Rattle.da_wire.specs.codec.Texts.{path_bytes, list_bytes}
+use Rattle.da_wire.specs.kinds.Names.{most_nodes}
+
+-- the bytes of a hash, and of a commitment
+abbrev pub hash_size : ℕ
+hash_size = 32
+
+-- the most hashes that lead from an axis root to a data root
+abbrev pub most_hashes : ℕ
+most_hashes = 9
+
+-- the most rows of a commitment proof, as many as the greatest square has
+abbrev pub most_rows : ℕ
+most_rows = 128
+
+-- the most subtrees in a row, as many as it has original shares in the greatest square
+abbrev pub most_subtrees : ℕ
+most_subtrees = 128
+
+-- ---- the values that there are
+
+-- a row has digests and hashes of their lengths, and no more hashes and nodes than its type holds
+pub record IsRowSent (row : RowParts) : Type 0 where
+  pub is : IsRow row
+  pub few_hashes : length row.up ≤ most_hashes
+  pub few_nodes : length row.nodes ≤ most_nodes
+
+-- a commitment proof has numbers of their widths, a hash, and such rows
+pub record IsCommitSent (proof : CommitParts) : Type 0 where
+  pub k : proof.k < 2 ^ 16
+  pub start : proof.start < 2 ^ 32
+  pub count : proof.count < 2 ^ 32
+  pub commitment : IsString hash_size proof.commitment
+  pub rows : AllByRecursion IsRowSent proof.rows
+
+-- ---- what is written
+
+-- hashes behind their count in a byte
+abbrev pub hash_bytes : List (List ℕ) → List ℕ
+hash_bytes hashes = length hashes ∷ flat_map (λ h. h) hashes
+
+-- subtrees behind their count in two bytes
+abbrev pub subtree_bytes : List Digest → List ℕ
+subtree_bytes subtrees = list_bytes w16 (λ d. d.0) subtrees
+
+-- a row: its root, the hashes that lead from it to the data root, its subtrees, and the nodes that open these
+abbrev pub row_bytes : RowParts → List ℕ
+row_bytes row = row.root.0 ++ hash_bytes row.up ++ subtree_bytes row.subtrees ++ path_bytes row.nodes
+
+-- the width, the index of the first share and the number of shares, the commitment, and the rows behind their count
+abbrev pub commit_payload : CommitParts → List ℕ
+commit_payload proof =
+    to_be_bytes w16 proof.k ++ to_be_bytes w32 proof.start ++ to_be_bytes w32 proof.count ++ proof.commitment
+    ++ list_bytes w16 row_bytes proof.rows
+
+-- ---- what can be written
+
+-- whether a row has more subtrees than can be written
+abbrev pub is_long_row : RowParts → Bool
+is_long_row row = nat_lt most_subtrees (length row.subtrees)
+
+-- whether a commitment proof has more rows than can be written, or more subtrees in one of them
+abbrev pub is_long_commit : CommitParts → Bool
+is_long_commit proof = nat_lt most_rows (length proof.rows) || list_any is_long_row proof.rows
+
+-- ---- what is read
+
+-- hashes behind their count
+unfoldable pub hashes_at : List ℕ → Option (List (List ℕ) × List ℕ)
+hashes_at bytes = do
+  count ← byte_at bytes
+  if nat_lt most_hashes count.0 then None else values_at (λ hash. hash) hash_size count.0 count.1
+
+-- subtrees behind their count
+unfoldable pub subtrees_at : List ℕ → Option (List Digest × List ℕ)
+subtrees_at bytes = do
+  count ← count_at w16 most_subtrees bytes
+  digests_at count.0 count.1
+
+-- a row
+unfoldable pub row_at : List ℕ → Option (RowParts × List ℕ)
+row_at bytes = do
+  root ← string_at digest_size bytes
+  up ← hashes_at root.1
+  subtrees ← subtrees_at up.1
+  nodes ← path_at most_nodes subtrees.1
+  Some (record { root = digest root.0; up = up.0; subtrees = subtrees.0; nodes = nodes.0 }, nodes.1)
+
+-- rows behind their count
+abbrev pub rows_at : List ℕ → Option (List RowParts × List ℕ)
+rows_at bytes = list_at w16 most_rows row_at bytes
+
+-- a commitment proof that is all of the bytes
+unfoldable pub commit_at : List ℕ → Option CommitParts
+commit_at bytes = do
+  k ← number_at w16 bytes
+  start ← number_at w32 k.1
+  count ← number_at w32 start.1
+  commitment ← string_at hash_size count.1
+  rows ← rows_at commitment.1
+  if length rows.1 == 0
+      then Some (record { k = k.0; start = start.0; count = count.0; commitment = commitment.0; rows = rows.0 })
+      else None
