@@ -37,3 +37,5 @@ no_float (frames.Block block) =
       list_plain length_json (λ unit. refl) block.pay_units,
       list_plain length_json (λ unit. refl) block.units,
     )
+no_float (frames.Commit proof) = refl
+no_float (frames.Rooted proof) = refl

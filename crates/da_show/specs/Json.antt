@@ -20,6 +20,7 @@ use Rattle.axis_roots.specs.declared.answers.Found.{Found}
 use Rattle.axis_roots.specs.declared.answers.Found.TheVariants.{Range, Absence}
 use Rattle.axis_roots.specs.Claims.{ClaimParts}
 use Rattle.hash_clash.specs.Collisions.{Strings}
+use Rattle.blob_commit.specs.Proofs.{CommitParts, RootedParts}
 use Rattle.da_wire.specs.kinds.Block.{width_number}
 use Rattle.da_wire.specs.declared.frames.Frame.{Frame}
 use Rattle.da_wire.specs.declared.frames.Frame.TheVariants as frames
@@ -145,6 +146,21 @@ block_json block = object_of (
     ∷ (codes "units", list_of length_json block.units)
     ∷ (codes "width", count (width_number block.width)) ∷ [])
 
+-- a commitment proof: its range, its commitment, and how many rows it has
+abbrev pub commit_json : CommitParts → Data
+commit_json proof = object_of (
+    (codes "commitment", string (encode_lower proof.commitment)) ∷ (codes "count", count proof.count)
+    ∷ (codes "k", count proof.k) ∷ (codes "kind", string (codes "commit"))
+    ∷ (codes "rows", count (length proof.rows)) ∷ (codes "start", count proof.start) ∷ [])
+
+-- a root proof: its message, with the hash of its share, and the root of its axis
+abbrev pub rooted_json : RootedParts → Data
+rooted_json proof = object_of (
+    (codes "axis", string (axis_word proof.message.axis)) ∷ (codes "col", count proof.message.cell.col)
+    ∷ (codes "k", count proof.k) ∷ (codes "kind", string (codes "rooted"))
+    ∷ (codes "root", string (digest_word proof.root)) ∷ (codes "row", count proof.message.cell.row)
+    ∷ (codes "share", string (share_hash_word proof.message.share)) ∷ [])
+
 -- ---- the JSON
 
 -- the value of a frame
@@ -159,6 +175,8 @@ json_of (frames.Clash clash) = clash_json clash
 json_of (frames.Sample cell axis) = sample_json cell axis
 json_of (frames.Request name) = request_json name
 json_of (frames.Block block) = block_json block
+json_of (frames.Commit proof) = commit_json proof
+json_of (frames.Rooted proof) = rooted_json proof
 
 -- the text of it, without a space and on one line
 abbrev pub json_text : Frame → List ℕ

@@ -19,6 +19,7 @@ use Rattle.axis_roots.specs.declared.answers.Found.{Found}
 use Rattle.axis_roots.specs.declared.answers.Found.TheVariants.{Range, Absence}
 use Rattle.axis_roots.specs.Claims.{ClaimParts}
 use Rattle.hash_clash.specs.Collisions.{Strings}
+use Rattle.blob_commit.specs.Proofs.{CommitParts, RootedParts}
 use Rattle.da_wire.specs.kinds.Block.{width_number}
 use Rattle.da_wire.specs.declared.frames.Frame.{Frame}
 use Rattle.da_wire.specs.declared.frames.Frame.TheVariants as frames
@@ -170,6 +171,21 @@ unit_lines block = map (unit_line (codes "unit")) block.units ++ map (unit_line 
 abbrev pub block_lines : BlockParts → List (List ℕ)
 block_lines block = block_line block ∷ (unit_lines block ++ map blob_line block.blobs)
 
+-- a commitment proof: its width, its range, its commitment, and how many rows it has
+abbrev pub commit_line : CommitParts → List ℕ
+commit_line proof = line (codes "commit")
+    (named (codes "k") proof.k ∷ named (codes "start") proof.start ∷ named (codes "count") proof.count
+    ∷ (codes "commitment=" ++ encode_lower proof.commitment) ∷ named (codes "rows") (length proof.rows) ∷ [])
+
+-- a root proof's own line: its width, and the root of its axis
+abbrev pub rooted_line : RootedParts → List ℕ
+rooted_line proof =
+    line (codes "rooted") (named (codes "k") proof.k ∷ (codes "root=" ++ digest_word proof.root) ∷ [])
+
+-- a root proof, with the line of its message
+abbrev pub rooted_lines : RootedParts → List (List ℕ)
+rooted_lines proof = rooted_line proof ∷ message_line proof.message ∷ []
+
 -- ---- the text
 
 -- the lines of a frame
@@ -184,6 +200,8 @@ lines_of (frames.Clash clash) = clash_lines clash
 lines_of (frames.Sample cell axis) = sample_line cell axis ∷ []
 lines_of (frames.Request name) = request_line name ∷ []
 lines_of (frames.Block block) = block_lines block
+lines_of (frames.Commit proof) = commit_line proof ∷ []
+lines_of (frames.Rooted proof) = rooted_lines proof
 
 -- lines that come after another, each behind a line feed
 abbrev pub following : List (List ℕ) → List ℕ

@@ -28,6 +28,8 @@ fn json_of(alloc: Global, frame: &Frame) -> Result<Value, AllocError>
         Frame::Sample(cell, axis) => kinds::sample(alloc, *cell, *axis),
         Frame::Request(name) => kinds::request(alloc, name),
         Frame::Block(block) => kinds::block(alloc, block),
+        Frame::Commit(proof) => kinds::commit(alloc, proof),
+        Frame::Rooted(proof) => kinds::rooted(alloc, proof),
     }
 }
 

@@ -28,6 +28,8 @@ fn put_frame(alloc: Global, out: &mut String, frame: &Frame) -> Result<(), Alloc
         Frame::Sample(cell, axis) => lines::put_sample(out, *cell, *axis),
         Frame::Request(name) => lines::put_request(alloc, out, name),
         Frame::Block(block) => kinds::block(alloc, out, block),
+        Frame::Commit(proof) => lines::put_commit(alloc, out, proof),
+        Frame::Rooted(proof) => kinds::rooted(alloc, out, proof),
     }
 }
 

@@ -2,11 +2,12 @@
 
 ghost use Rattle.std.specs.Prelude.{◌≡◌, IfOk};
 ghost use Rattle.serde_json.specs.View.{view};
-ghost use Rattle.da_show.specs.Json.{header_json, square_json, message_json, names_json, claim_json, missing_json, clash_json, sample_json, request_json, block_json};
+ghost use Rattle.da_show.specs.Json.{header_json, square_json, message_json, names_json, claim_json, missing_json, clash_json, sample_json, request_json, block_json, commit_json, rooted_json};
 
 use super::lists;
-use crate::words::{axis_word, hash_word, name_word, share_hash_word, width_number};
+use crate::words::{axis_word, digest_word, hash_word, name_word, share_hash_word, width_number};
 use axis_roots::{FraudClaim, Message, NsAnswer};
+use blob_commit::{CommitProof, RootedMessage};
 use data_header::{Header, data_root};
 use hash_clash::Clash;
 use namespace_id::{Axis, Cell, Cells, Namespace};
@@ -113,5 +114,37 @@ pub(crate) fn block(alloc: Global, block: &Block) -> Result<Value, AllocError>
     let width = width_number(block);
     json!(in alloc; {
         "blobs": blobs, "kind": "block", "pay": pay, "units": units, "width": width
+    })
+}
+
+/// A commitment proof: its range, its commitment, and how many rows it has.
+pub(crate) fn commit(alloc: Global, proof: &CommitProof) -> Result<Value, AllocError>
+    ensures { IfOk result (λ value. view value ≡ commit_json proof.now) }
+{
+    let commitment = hash_word(alloc, &proof.commitment)?;
+    let count = proof.count;
+    let k = proof.k;
+    let rows = proof.rows.len();
+    let start = proof.start;
+    json!(in alloc; {
+        "commitment": commitment, "count": count, "k": k, "kind": "commit", "rows": rows,
+        "start": start
+    })
+}
+
+/// A root proof: its message, with the hash of its share, and the root of its axis.
+pub(crate) fn rooted(alloc: Global, proof: &RootedMessage) -> Result<Value, AllocError>
+    ensures { IfOk result (λ value. view value ≡ rooted_json proof.now) }
+{
+    let message = &proof.message;
+    let axis = axis_word(message.axis);
+    let col = message.cell.col;
+    let k = proof.k;
+    let root = digest_word(alloc, &proof.root)?;
+    let row = message.cell.row;
+    let share = share_hash_word(alloc, &message.share)?;
+    json!(in alloc; {
+        "axis": axis, "col": col, "k": k, "kind": "rooted", "root": root, "row": row,
+        "share": share
     })
 }

@@ -2,15 +2,17 @@
 
 ghost use Rattle.std.specs.Prelude.{◌≡◌, ◌++◌, OnOk};
 ghost use Rattle.std.specs.String.{string_bytes};
-ghost use Rattle.da_show.specs.Text.{joined, following, header_lines, square_lines, names_lines, claim_lines, missing_lines, clash_lines, unit_lines, block_lines};
+ghost use Rattle.da_show.specs.Text.{joined, following, header_lines, square_lines, names_lines, claim_lines, missing_lines, clash_lines, unit_lines, block_lines, rooted_lines};
 
 use super::lines::{
-    put_block, put_claim, put_header, put_missing, put_names, put_square, put_string,
+    put_block, put_claim, put_header, put_message, put_missing, put_names, put_rooted, put_square,
+    put_string,
 };
 use super::lists::{
     put_blobs, put_cells, put_entries, put_messages, put_roots, put_shares, put_units,
 };
 use axis_roots::{FraudClaim, NsAnswer};
+use blob_commit::RootedMessage;
 use data_header::Header;
 use hash_clash::Clash;
 use namespace_id::{Axis, Cells, Namespace};
@@ -96,4 +98,18 @@ pub(crate) fn block(alloc: Global, out: &mut String, block: &Block) -> Result<()
     put_block(out, block)?;
     units(out, block)?;
     put_blobs(alloc, out, &block.blobs)
+}
+
+/// A root proof and its message.
+pub(crate) fn rooted(
+    alloc: Global,
+    out: &mut String,
+    proof: &RootedMessage,
+) -> Result<(), AllocError>
+    ensures { OnOk result (string_bytes out.new
+        ≡ string_bytes out.old ++ joined (rooted_lines proof.now)) }
+{
+    put_rooted(alloc, out, proof)?;
+    out.push('\n')?;
+    put_message(alloc, out, &proof.message)
 }

@@ -3,12 +3,13 @@
 ghost use Rattle.std.specs.Prelude.{◌≡◌, ◌++◌, length, OnOk};
 ghost use Rattle.std.specs.String.{string_bytes};
 ghost use Rattle.da_show.specs.Parts.{axis_word};
-ghost use Rattle.da_show.specs.Text.{header_line, square_line, names_line, claim_line, missing_line, counts, sized_line, block_line, string_line, request_line, sample_line, cell_line, place, root_line, share_line, message_line, found_line, unit_line, blob_line};
+ghost use Rattle.da_show.specs.Text.{header_line, square_line, names_line, claim_line, missing_line, counts, sized_line, block_line, string_line, request_line, sample_line, cell_line, place, root_line, share_line, message_line, found_line, unit_line, blob_line, commit_line, rooted_line};
 
 use crate::words::{
     axis_word, digest_word, hash_word, name_word, share_hash_word, share_name_word, width_number,
 };
 use axis_roots::{Found, FraudClaim, Message};
+use blob_commit::{CommitProof, RootedMessage};
 use data_header::{Header, data_root};
 use namespace_id::{Axis, Cell, Cells, Digest, NAMESPACE_SIZE, Namespace, Share};
 use share_split::{Blob, Unit};
@@ -240,4 +241,36 @@ pub(crate) fn put_blob(alloc: Global, out: &mut String, blob: &Blob) -> Result<(
     let name = name_word(alloc, &blob.namespace)?;
     let size = blob.bytes.len();
     write!(out, "blob {name} {size}")
+}
+
+/// A commitment proof: its width, its range, its commitment, and how many rows it has.
+pub(crate) fn put_commit(
+    alloc: Global,
+    out: &mut String,
+    proof: &CommitProof,
+) -> Result<(), AllocError>
+    ensures { OnOk result (string_bytes out.new ≡ string_bytes out.old ++ commit_line proof.now) }
+{
+    let k = proof.k;
+    let start = proof.start;
+    let count = proof.count;
+    let commitment = hash_word(alloc, &proof.commitment)?;
+    let rows = proof.rows.len();
+    write!(
+        out,
+        "commit k={k} start={start} count={count} commitment={commitment} rows={rows}"
+    )
+}
+
+/// A root proof's own line, with the root of its axis.
+pub(crate) fn put_rooted(
+    alloc: Global,
+    out: &mut String,
+    proof: &RootedMessage,
+) -> Result<(), AllocError>
+    ensures { OnOk result (string_bytes out.new ≡ string_bytes out.old ++ rooted_line proof.now) }
+{
+    let k = proof.k;
+    let root = digest_word(alloc, &proof.root)?;
+    write!(out, "rooted k={k} root={root}")
 }
