@@ -7,7 +7,7 @@ use Rattle.std.proofs.lemmas.List.{length-map, get_or-map}
 use Rattle.std.specs.declared.option.Option.{Option}
 use Rattle.std.specs.List.{fold, list_all}
 use Rattle.std.proofs.lemmas.Bool.Decides.{nat_tests}
-use Rattle.da_cli.specs.Words.{words_of, is_command, is_digit, light_call, demo_call, root_call, wanted_call, client_call, call_of}
+use Rattle.da_cli.specs.Words.{words_of, is_command, is_digit, light_call, demo_call, root_call, wanted_call, prove_call, blob_call, client_call, call_of}
 
 -- the number with one digit more
 abbrev with_digit : ℕ → ℕ → ℕ
@@ -154,6 +154,16 @@ pub wanted_words : (words : List (List ℕ)) → is_command words (codes "root")
     → client_call words ≡ wanted_call (get_or words 2 [])
 wanted_words words root wanted =
     past _ _ _ _ root (here (is_command words (codes "wanted") 2) (wanted_call (get_or words 2 [])) _ wanted)
+
+-- the call of the words of prove with a range, which are no other command's
+pub prove_words : (words : List (List ℕ)) → is_command words (codes "blobs") 1 ≡ false → is_command words (codes "commit") 1 ≡ false
+    → is_command words (codes "prove") 2 ≡ false → is_command words (codes "prove") 3 ≡ true
+    → blob_call words ≡ prove_call (get_or words 2 []) (get_or words 3 [])
+prove_words words blobs commit prove range =
+    past _ _ _ _ blobs
+    (past _ _ _ _ commit
+    (past _ _ _ _ prove
+    (here (is_command words (codes "prove") 3) (prove_call (get_or words 2 []) (get_or words 3 [])) _ range)))
 
 -- a fact of what is there is a weaker one
 pub some_within : {A : Type 0} (P Q : A → Type 0) (o : Option A) → ((x : A) → P x → Q x) → IfSome o P → IfSome o Q

@@ -11,7 +11,7 @@ use Rattle.namespace_id.specs.declared.cells.Axis.{Axis}
 use Rattle.namespace_id.specs.declared.cells.Axis.TheVariants.{Row, Col}
 use Rattle.da_wire.specs.Frames.{ok_of}
 use Rattle.da_commands.specs.declared.command.Command.{Command}
-use Rattle.da_commands.specs.declared.command.Command.TheVariants.{Check, Build, Header, Sample, Namespace, Verify, Compact, Repair, Light, Net, Show, Json, Demo, VerifyFor, Root, RootIs, Wanted, Blobs, Help, Version}
+use Rattle.da_commands.specs.declared.command.Command.TheVariants.{Check, Build, Header, Sample, Namespace, Verify, Compact, Repair, Light, Net, Show, Json, Demo, VerifyFor, Root, RootIs, Wanted, Blobs, Commit, Prove, ProveRange, Help, Version}
 use Rattle.da_commands.specs.Demo.{is_trial_width}
 use Rattle.da_cli.specs.declared.words.Call.{Call}
 
@@ -83,6 +83,21 @@ root_call root = option_map (λ bytes. record { command = RootIs bytes; files = 
 abbrev pub wanted_call : List ℕ → Option Call
 wanted_call word = option_map (λ axis. record { command = Wanted axis; files = 1 }) (axis_in word)
 
+-- prove SQUARE START COUNT, where START and COUNT are these words
+abbrev pub prove_call : List ℕ → List ℕ → Option Call
+prove_call start count = option_map_or
+    (λ from. option_map (λ n. record { command = ProveRange from n; files = 1 }) (number_in (2 ^ 32 - 1) count))
+    (number_in (2 ^ 32 - 1) start) None
+
+-- the command of these words among those for blobs and their commitments
+abbrev pub blob_call : List (List ℕ) → Option Call
+blob_call words =
+    if is_command words (codes "blobs") 1 then Some (record { command = Blobs; files = 1 }) else
+    (if is_command words (codes "commit") 1 then Some (record { command = Commit; files = 1 }) else
+    (if is_command words (codes "prove") 2 then Some (record { command = Prove; files = 2 }) else
+    (if is_command words (codes "prove") 3 then prove_call (get_or words 2 []) (get_or words 3 []) else
+    None)))
+
 -- the command of these words among those of one who asks for samples and shares, and those that tell of the program
 abbrev pub client_call : List (List ℕ) → Option Call
 client_call words =
@@ -90,10 +105,9 @@ client_call words =
     (if is_command words (codes "wanted") 2 then wanted_call (get_or words 2 []) else
     (if is_command words (codes "verify") 3 then Some (record { command = VerifyFor; files = 3 }) else
     (if is_command words (codes "root") 1 then Some (record { command = Root; files = 1 }) else
-    (if is_command words (codes "blobs") 1 then Some (record { command = Blobs; files = 1 }) else
     (if is_command words (codes "help") 0 then Some (record { command = Help; files = 0 }) else
     (if is_command words (codes "version") 0 then Some (record { command = Version; files = 0 }) else
-    None))))))
+    blob_call words)))))
 
 -- the command of these words, and how many of them name files
 abbrev pub call_of : List (List ℕ) → Option Call

@@ -17,7 +17,7 @@ ghost use Rattle.namespace_id.specs.declared.namespaces.Namespace as names;
 ghost use Rattle.square_serve.specs.Answers.{IsComplete};
 ghost use Rattle.data_header.specs.Headers.{Roots, AreRoots, IsHeader};
 ghost use Rattle.da_wire.specs.declared.frames.Frame.{Frame};
-ghost use Rattle.da_wire.specs.declared.frames.Frame.TheVariants.{Header, Square, Message, Names, Fraud, Request, Block};
+ghost use Rattle.da_wire.specs.declared.frames.Frame.TheVariants.{Header, Square, Message, Names, Fraud, Request, Block, Commit, Rooted};
 ghost use Rattle.da_wire.specs.Spelling.{spelling, IsFrame, sample_kind, request_kind};
 ghost use Rattle.da_wire.specs.Values.{values_bytes, bad_value};
 ghost use Rattle.da_wire.specs.Writing.{kind_of};
@@ -38,10 +38,12 @@ ghost use Rattle.da_commands.specs.Verify.{IsRefusal, answer_kinds, answer_in, I
 ghost use Rattle.da_commands.specs.VerifyFor.{is_answer_to, IsAnswerTo, IsRefusalFor};
 ghost use Rattle.da_commands.specs.Root.{root_refusal};
 ghost use Rattle.data_header.specs.DataRoots.{data_root_of};
+ghost use Rattle.blob_commit.specs.Proofs.{CommitParts, CommitHolds, RootedParts, RootedHolds};
 ghost use Rattle.da_cli.specs.Laws.{FormLaw, BadInputLaw, ExcessLaw, AbsentLaw, FailureLaw};
 
 use crate::gathering::FILE_LIMIT;
 use axis_roots::{claim_laws, grid_laws, message_laws};
+use blob_commit::{commit_laws, refusal_laws};
 use da_wire::{value_laws, wire_laws};
 use repair_queue::verdict_laws;
 use square_layout::{name_laws, size_laws};
@@ -68,17 +70,23 @@ pub fn run_laws()
         IsHeaderOf header square → finding_of header frame ≡ Proved → IsOwnFrame frame square }
 
     // An answer is not refused exactly where it is a message that is proved, a namespace answer that is
-    // complete, or a fraud claim that is accepted.
+    // complete, a fraud claim that is accepted, or a commitment proof or a root proof that holds under
+    // the header's data root.
     ensures verified { (header : Roots) (message : sent.Message) → AreRoots header →
         IsMessage message → IsRefusal header (Message message) None ↔ IsProved header message }
     ensures complete { (header : Roots) (name : names.Namespace) (answer : List NsEntry) →
         IsRefusal header (Names name answer) None ↔ IsComplete header name answer }
     ensures upheld { (header : Roots) (claim : ClaimParts) →
         IsRefusal header (Fraud claim) None ↔ Accepts header claim }
+    ensures committed { (header : Roots) (proof : CommitParts) →
+        IsRefusal header (Commit proof) None ↔ CommitHolds (data_root_of header) proof }
+    ensures rooted_sample { (header : Roots) (proof : RootedParts) → IsMessage proof.message →
+        IsRefusal header (Rooted proof) None ↔ RootedHolds (data_root_of header) proof }
 
     // To a request an answer is not refused exactly where it is not without one and is to the request:
-    // a sample with the cell and the axis that are asked for, or a namespace answer with the namespace
-    // that is. It is refused by the number 0, first of all, exactly where it is to another.
+    // a sample, by itself or in a root proof, with the cell and the axis that are asked for, or a
+    // namespace answer with the namespace that is. It is refused by the number 0, first of all, exactly
+    // where it is to another.
     ensures asked { (header : Roots) (answer request : Frame) →
         IsRefusalFor (is_answer_to request answer) header answer None
         ↔ (IsRefusal header answer None × IsAnswerTo request answer) }
@@ -93,8 +101,8 @@ pub fn run_laws()
         (root_refusal header root ≡ None) ↔ (data_root_of header ≡ root) }
 
     // Under the header of a square an answer is not refused only where it shows the square's own
-    // share, just the square's shares of the namespace, or they name a collision; a fraud claim only
-    // where they name one.
+    // share, just the square's shares of the namespace, or the commitment of the square's shares in its
+    // range, or they name a collision; a fraud claim only where they name one.
     ensures own_answer { (header : Roots) (answer : Frame) (square : SquareShares) → IsFrame answer →
         IsHeaderOf header square → IsRefusal header answer None → IsOwnReply answer square }
 
@@ -163,4 +171,6 @@ pub fn run_laws()
     name_laws();
     answer_laws();
     verdict_laws();
+    commit_laws();
+    refusal_laws();
 }

@@ -3,7 +3,7 @@
 ghost use Rattle.std.specs.Prelude.{◌≡◌, ◌<◌, length, IfSome, true};
 ghost use Rattle.da_commands.specs.Meaning.{IsRunnable};
 ghost use Rattle.da_commands.specs.Demo.{is_trial_width};
-ghost use Rattle.da_cli.specs.Words.{words_of, is_command, is_digit, digits_in, number_in, key_in, light_call, width_in, demo_call, axis_in, root_call, wanted_call, client_call, call_of, HasFiles};
+ghost use Rattle.da_cli.specs.Words.{words_of, is_command, is_digit, digits_in, number_in, key_in, light_call, width_in, demo_call, axis_in, root_call, wanted_call, prove_call, blob_call, client_call, call_of, HasFiles};
 
 use da_commands::Command;
 use hex::FromHex;
@@ -150,6 +150,53 @@ fn wanted_call(axis: &str) -> Option<Call>
     })
 }
 
+/// The call of `prove` whose START and COUNT are these words.
+fn prove_call(start: &str, count: &str) -> Option<Call>
+    ensures value { result ≡ prove_call start.now count.now }
+    ensures files { IfSome result (λ call. call.files ≡ 1) }
+    ensures runnable { IfSome result (λ call. IsRunnable call.command) }
+    ensures own { IfSome result (λ call. HasFiles call.command call.files) }
+{
+    let start = number_in(start, u64::from(u32::MAX))?;
+    let count = number_in(count, u64::from(u32::MAX))?;
+    Some(Call {
+        command: Command::ProveRange(start as u32, count as u32),
+        files: 1,
+    })
+}
+
+/// The command of these words, among those for blobs and their commitments.
+fn blob_call(words: &[String]) -> Option<Call>
+    ensures value { result ≡ blob_call (words_of words.now) }
+    ensures files { IfSome result (λ call. call.files < length words.now) }
+    ensures few { IfSome result (λ call. call.files < 16) }
+    ensures runnable { IfSome result (λ call. IsRunnable call.command) }
+    ensures own { IfSome result (λ call. HasFiles call.command call.files) }
+{
+    if is_command(words, "blobs", 1) {
+        return Some(Call {
+            command: Command::Blobs,
+            files: 1,
+        });
+    }
+    if is_command(words, "commit", 1) {
+        return Some(Call {
+            command: Command::Commit,
+            files: 1,
+        });
+    }
+    if is_command(words, "prove", 2) {
+        return Some(Call {
+            command: Command::Prove,
+            files: 2,
+        });
+    }
+    if is_command(words, "prove", 3) {
+        return prove_call(words[2].as_str(), words[3].as_str());
+    }
+    None
+}
+
 /// The command of these words, among those that one who asks for samples and shares has, and those
 /// that tell of the program.
 fn client_call(words: &[String]) -> Option<Call>
@@ -177,12 +224,6 @@ fn client_call(words: &[String]) -> Option<Call>
             files: 1,
         });
     }
-    if is_command(words, "blobs", 1) {
-        return Some(Call {
-            command: Command::Blobs,
-            files: 1,
-        });
-    }
     if is_command(words, "help", 0) {
         return Some(Call {
             command: Command::Help,
@@ -195,7 +236,7 @@ fn client_call(words: &[String]) -> Option<Call>
             files: 0,
         });
     }
-    None
+    blob_call(words)
 }
 
 /// The command of these words.

@@ -23,6 +23,8 @@ pub mod VerifyForLemmas
 pub mod RootLemmas
 pub mod WantedLemmas
 pub mod BlobsLemmas
+pub mod CommitLemmas
+pub mod ProveLemmas
 pub mod ShowLemmas
 pub mod DemoLemmas
 pub mod MeaningLemmas

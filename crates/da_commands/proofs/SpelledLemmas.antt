@@ -3,8 +3,8 @@ use Rattle.std.proofs.Common.{◌≡◌, ◌∙◌, ℕ, ◌<◌, Bool, true, fa
 use Rattle.std.specs.Prelude.{◌==◌, nat_lt}
 use Rattle.std.specs.declared.option.Option.{Option}
 use Rattle.da_wire.specs.declared.frames.Frame.{Frame}
-use Rattle.da_wire.specs.declared.frames.Frame.TheVariants.{Header, Square, Message, Names, Fraud, Missing, Clash, Sample, Request, Block}
-use Rattle.da_wire.specs.Spelling.{spelling, spelled, max_payload, frame as framed, header_kind, square_kind, message_kind, names_kind, fraud_kind, missing_kind, clash_kind, sample_kind, request_kind, block_kind}
+use Rattle.da_wire.specs.declared.frames.Frame.TheVariants.{Header, Square, Message, Names, Fraud, Missing, Clash, Sample, Request, Block, Commit, Rooted}
+use Rattle.da_wire.specs.Spelling.{spelling, spelled, max_payload, frame as framed, header_kind, square_kind, message_kind, names_kind, fraud_kind, missing_kind, clash_kind, sample_kind, request_kind, block_kind, commit_kind, rooted_kind}
 use Rattle.da_wire.specs.kinds.Header.{header_payload}
 use Rattle.da_wire.specs.kinds.Square.{square_payload}
 use Rattle.da_wire.specs.kinds.Message.{message_payload}
@@ -14,6 +14,8 @@ use Rattle.da_wire.specs.kinds.Missing.{missing_payload}
 use Rattle.da_wire.specs.kinds.Clash.{has_empty, clash_payload}
 use Rattle.da_wire.specs.kinds.Requests.{sample_payload, request_payload}
 use Rattle.da_wire.specs.kinds.Block.{block_payload, asks_for_zero}
+use Rattle.da_wire.specs.kinds.Commit.{commit_payload, is_long_commit}
+use Rattle.da_wire.specs.kinds.Rooted.{rooted_payload}
 use Rattle.da_wire.specs.Writing.{AppendsSpelling}
 use Rattle.da_status.specs.declared.status.Status.{Status}
 use Rattle.da_commands.specs.Frames.{WritesWith, WritesText}
@@ -42,6 +44,8 @@ spelling_some (Clash clash) text e = tested_some (has_empty clash) clash_kind (c
 spelling_some (Sample cell axis) text e = tested_some false sample_kind (sample_payload cell axis) text e
 spelling_some (Request name) text e = tested_some false request_kind (request_payload name) text e
 spelling_some (Block b) text e = tested_some (asks_for_zero b.width) block_kind (block_payload b) text e
+spelling_some (Commit proof) text e = tested_some (is_long_commit proof) commit_kind (commit_payload proof) text e
+spelling_some (Rooted proof) text e = tested_some false rooted_kind (rooted_payload proof) text e
 
 -- where a spelling was appended to no bytes, what is written is the frame
 pub writes_frame : (frame : Frame) (final : Status) (old new shown : List ℕ) → old ≡ [] → AppendsSpelling frame old new → shown ≡ new

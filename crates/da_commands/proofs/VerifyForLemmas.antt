@@ -20,8 +20,14 @@ use Rattle.square_serve.specs.declared.checking.NsRefusal.TheVariants as ns
 use Rattle.square_serve.specs.Answers.{answer_refusal}
 use Rattle.befp_verify.specs.declared.verifying.FraudRefusal.{FraudRefusal}
 use Rattle.befp_verify.specs.declared.verifying.FraudRefusal.TheVariants as fraud
+use Rattle.data_header.specs.DataRoots.{data_root_of}
+use Rattle.blob_commit.specs.declared.proving.CommitRefusal.{CommitRefusal}
+use Rattle.blob_commit.specs.declared.proving.CommitRefusal.TheVariants as commit
+use Rattle.blob_commit.specs.declared.rooting.RootedRefusal.{RootedRefusal}
+use Rattle.blob_commit.specs.declared.rooting.RootedRefusal.TheVariants as rooted
+use Rattle.blob_commit.specs.Refusals.{commit_refusal, rooted_refusal}
 use Rattle.da_wire.specs.declared.frames.Frame.{Frame}
-use Rattle.da_wire.specs.declared.frames.Frame.TheVariants.{Message, Names, Fraud, Sample, Request}
+use Rattle.da_wire.specs.declared.frames.Frame.TheVariants.{Message, Names, Fraud, Commit, Rooted, Sample, Request}
 use Rattle.da_status.specs.declared.status.Status.{Status}
 use Rattle.da_status.specs.declared.status.Status.TheVariants.{BadInput}
 use Rattle.da_commands.specs.declared.command.Command.TheVariants as command
@@ -29,7 +35,7 @@ use Rattle.da_status.specs.Statuses.{kind_of, output}
 use Rattle.da_status.specs.Outcome.{Relation, Refuses}
 use Rattle.da_status.specs.Judging.{Judged}
 use Rattle.da_commands.specs.Frames.{header_in, error_of}
-use Rattle.da_commands.specs.Verify.{header_file, answer_file, answer_in, check_number, ns_number, fraud_number, IsRefusal}
+use Rattle.da_commands.specs.Verify.{header_file, answer_file, answer_in, check_number, ns_number, fraud_number, commit_number, rooted_number, IsRefusal}
 use Rattle.da_commands.specs.VerifyFor.{request_file, request_in, is_of_cell, is_sample, is_for, is_answer_to, Samples, Tells, IsAnswerTo, IsRefusalFor, VerifiesFor, VerifyForOf}
 use Rattle.da_commands.specs.Meaning.{Meaning}
 use Rattle.da_commands.proofs.VerifyLemmas.{verdict_kind}
@@ -109,9 +115,10 @@ of_cell cell axis m = (
       ((same_axis axis m.axis).1 h.1),
 )
 
--- a frame is a sample of a cell along an axis just where it is a message of both
+-- a frame is a sample of a cell along an axis just where it is a message of both, or a root proof with one
 sample_is : (cell : Cell) (axis : Axis) (answer : Frame) → (is_sample cell axis answer ≡ true) ↔ Samples cell axis answer
 sample_is cell axis (Message m) = of_cell cell axis m
+sample_is cell axis (Rooted proof) = of_cell cell axis proof.message
 sample_is cell axis answer = (λ e. absurd cc, λ h. absurd h)
 
 -- a frame is an answer for a namespace just where it is a namespace answer with it
@@ -167,11 +174,28 @@ fraud_some (Some (fraud.Cell i why)) e = cc
 fraud_some (Some (fraud.Set why)) e = cc
 fraud_some (Some fraud.AxisMatches) e = cc
 
+-- nor one of a commitment proof
+commit_some : (why : Option CommitRefusal) → Some 0 ≡ option_map commit_number why → ⊥
+commit_some None e = cc
+commit_some (Some commit.Shape) e = cc
+commit_some (Some (commit.Root i)) e = cc
+commit_some (Some (commit.Nodes i why)) e = cc
+commit_some (Some commit.Commitment) e = cc
+
+-- nor one of a root proof
+rooted_some : (why : Option RootedRefusal) → Some 0 ≡ option_map rooted_number why → ⊥
+rooted_some None e = cc
+rooted_some (Some rooted.Shape) e = cc
+rooted_some (Some rooted.Root) e = cc
+rooted_some (Some (rooted.Path why)) e = cc
+
 -- no answer is refused by the number 0
 never_zero : (header : Roots) (answer : Frame) → IsRefusal header answer (Some 0) → ⊥
 never_zero header (Message m) h = check_some (message_refusal header m) h
 never_zero header (Names name answer) h = ns_some (answer_refusal header name answer) h
 never_zero header (Fraud claim) h = fraud_some h.0 h.2
+never_zero header (Commit proof) h = commit_some (commit_refusal (data_root_of header) proof) h
+never_zero header (Rooted proof) h = rooted_some (rooted_refusal (data_root_of header) proof) h
 never_zero header frame h = absurd cc
 
 -- an answer is refused by the number 0 just where it isn't to the request, by whether it is

@@ -2,10 +2,12 @@ pub mod Contents
 pub mod Frames
 pub mod Check
 pub mod Build
+pub mod Commit
 pub mod Header
 pub mod Choices
 pub mod Serving
 pub mod Sample
+pub mod Prove
 pub mod Namespace
 pub mod Verify
 pub mod Compact

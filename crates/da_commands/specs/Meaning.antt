@@ -2,7 +2,7 @@
 use Rattle.std.specs.Prelude.{◌≡◌, ℕ, List, true, ⊤}
 use Rattle.std.specs.declared.option.Option.{Option}
 use Rattle.da_commands.specs.declared.command.Command.{Command}
-use Rattle.da_commands.specs.declared.command.Command.TheVariants.{Check, Build, Header, Sample, Namespace, Verify, Compact, Repair, Light, Net, Show, Json, Demo, VerifyFor, Root, RootIs, Wanted, Blobs, Help, Version}
+use Rattle.da_commands.specs.declared.command.Command.TheVariants.{Check, Build, Header, Sample, Namespace, Verify, Compact, Repair, Light, Net, Show, Json, Demo, VerifyFor, Root, RootIs, Wanted, Blobs, Commit, Prove, ProveRange, Help, Version}
 use Rattle.da_status.specs.Outcome.{Relation}
 use Rattle.da_status.specs.Judging.{Judged}
 use Rattle.da_commands.specs.Check.{check_judged, CheckOf}
@@ -21,6 +21,8 @@ use Rattle.da_commands.specs.VerifyFor.{verify_for_judged, VerifyForOf}
 use Rattle.da_commands.specs.Root.{root_judged, RootOf, RootIsOf}
 use Rattle.da_commands.specs.Wanted.{wanted_judged, WantedOf}
 use Rattle.da_commands.specs.Blobs.{blobs_judged, BlobsOf}
+use Rattle.da_commands.specs.Commit.{commit_judged, CommitOf}
+use Rattle.da_commands.specs.Prove.{prove_judged, ProveOf, prove_range_judged, ProveRangeOf}
 use Rattle.da_commands.specs.Help.{help_judged, HelpOf, VersionOf}
 
 -- of each file where it leaves its form, if it does
@@ -43,6 +45,9 @@ judged_of Root files = root_judged files
 judged_of (RootIs root) files = root_judged files
 judged_of (Wanted axis) files = wanted_judged files
 judged_of Blobs files = blobs_judged files
+judged_of Commit files = commit_judged files
+judged_of Prove files = prove_judged files
+judged_of (ProveRange start count) files = prove_range_judged files
 judged_of Help files = help_judged
 judged_of Version files = help_judged
 
@@ -66,6 +71,9 @@ AnswerOf Root files = RootOf files
 AnswerOf (RootIs root) files = RootIsOf root files
 AnswerOf (Wanted axis) files = WantedOf axis files
 AnswerOf Blobs files = BlobsOf files
+AnswerOf Commit files = CommitOf files
+AnswerOf Prove files = ProveOf files
+AnswerOf (ProveRange start count) files = ProveRangeOf start count files
 AnswerOf Help files = HelpOf
 AnswerOf Version files = VersionOf
 
@@ -92,6 +100,8 @@ TakesFirst Root = ⊤
 TakesFirst (RootIs root) = ⊤
 TakesFirst (Wanted axis) = ⊤
 TakesFirst Blobs = ⊤
+TakesFirst Commit = ⊤
+TakesFirst (ProveRange start count) = ⊤
 TakesFirst Help = ⊤
 TakesFirst Version = ⊤
 TakesFirst command = ⊥

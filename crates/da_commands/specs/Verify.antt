@@ -16,9 +16,17 @@ use Rattle.square_serve.specs.Own.{ShowsAll, AnswerNames}
 use Rattle.befp_verify.specs.declared.verifying.FraudRefusal.{FraudRefusal}
 use Rattle.befp_verify.specs.declared.verifying.FraudRefusal.TheVariants as fraud
 use Rattle.befp_verify.specs.Refusals.{HasCause}
+use Rattle.data_header.specs.DataRoots.{data_root_of}
+use Rattle.blob_commit.specs.declared.proving.CommitRefusal.{CommitRefusal}
+use Rattle.blob_commit.specs.declared.proving.CommitRefusal.TheVariants as commit
+use Rattle.blob_commit.specs.declared.rooting.RootedRefusal.{RootedRefusal}
+use Rattle.blob_commit.specs.declared.rooting.RootedRefusal.TheVariants as rooted
+use Rattle.blob_commit.specs.Refusals.{commit_refusal, rooted_refusal}
+use Rattle.blob_commit.specs.Places.{CommitsOwn, RootedOwn, CommitText, RootedText}
+use Rattle.blob_commit.specs.Places as places
 use Rattle.da_wire.specs.declared.frames.Frame.{Frame}
-use Rattle.da_wire.specs.declared.frames.Frame.TheVariants.{Message, Names, Fraud}
-use Rattle.da_wire.specs.Spelling.{message_kind, names_kind, fraud_kind}
+use Rattle.da_wire.specs.declared.frames.Frame.TheVariants.{Message, Names, Fraud, Commit, Rooted}
+use Rattle.da_wire.specs.Spelling.{message_kind, names_kind, fraud_kind, commit_kind, rooted_kind}
 use Rattle.da_wire.specs.Reading.{only_of}
 use Rattle.da_status.specs.declared.status.Status.{Status}
 use Rattle.da_status.specs.declared.status.Status.TheVariants.{Done, Refused}
@@ -48,6 +56,19 @@ fraud_number (fraud.Cell i why) = 2
 fraud_number (fraud.Set why) = 4
 fraud_number fraud.AxisMatches = 3
 
+-- the number of the check that refuses a commitment proof
+abbrev pub commit_number : CommitRefusal → ℕ
+commit_number commit.Shape = 1
+commit_number (commit.Root i) = 2
+commit_number (commit.Nodes i why) = 3
+commit_number commit.Commitment = 4
+
+-- the number of the check that refuses a root proof
+abbrev pub rooted_number : RootedRefusal → ℕ
+rooted_number rooted.Shape = 1
+rooted_number rooted.Root = 2
+rooted_number (rooted.Path why) = 3
+
 -- an answer is refused by the check of this number, or by none where it holds; frames of other kinds are no answers, and
 -- none comes here
 abbrev pub IsRefusal : Roots → Frame → Option ℕ → Type 0
@@ -55,14 +76,22 @@ IsRefusal header (Message m) refusal = refusal ≡ option_map check_number (mess
 IsRefusal header (Names name answer) refusal = refusal ≡ option_map ns_number (answer_refusal header name answer)
 IsRefusal header (Fraud claim) refusal =
     (why : Option FraudRefusal) × HasCause header claim why × (refusal ≡ option_map fraud_number why)
+IsRefusal header (Commit proof) refusal =
+    refusal ≡ option_map commit_number (commit_refusal (data_root_of header) proof)
+IsRefusal header (Rooted proof) refusal =
+    refusal ≡ option_map rooted_number (rooted_refusal (data_root_of header) proof)
 IsRefusal header frame refusal = refusal ≡ None
 
--- a message shows the square's own share, a namespace answer just the square's shares of the namespace; or they and
--- the square name a collision; a fraud claim and the square name one; nothing is said of other frames
+-- a message shows the square's own share, a namespace answer just the square's shares of the namespace, a commitment
+-- proof is of the square's width and its commitment that of the square's shares in its range, a root proof is of the
+-- square's width and shows the square's own share; or they and the square name a collision; a fraud claim and the square
+-- name one; nothing is said of other frames
 abbrev pub IsOwnReply : Frame → SquareShares → Type 0
 IsOwnReply (Message m) square = ShowsOwn m square ⊎ NamesClash m square
 IsOwnReply (Names name answer) square = ShowsAll name square answer ⊎ AnswerNames name square answer
 IsOwnReply (Fraud claim) square = ClaimNames claim square
+IsOwnReply (Commit proof) square = CommitsOwn proof square ⊎ places.NamesClash (CommitText proof) square
+IsOwnReply (Rooted proof) square = RootedOwn proof square ⊎ places.NamesClash (RootedText proof) square
 IsOwnReply frame square = ⊤
 
 -- the line for an answer, by the number of its refusal
@@ -75,7 +104,7 @@ verdict_status refusal = option_map_or (λ number. Refused) refusal Done
 
 -- the kinds of answers
 abbrev pub answer_kinds : List ℕ
-answer_kinds = message_kind ∷ names_kind ∷ fraud_kind ∷ []
+answer_kinds = message_kind ∷ names_kind ∷ fraud_kind ∷ commit_kind ∷ rooted_kind ∷ []
 
 -- the answer that a file is, or where it stops being one
 abbrev pub answer_in : List ℕ → Result Frame ℕ
@@ -91,8 +120,8 @@ header_file files = file_of files 0
 abbrev pub answer_file : List (List ℕ) → List ℕ
 answer_file files = file_of files 1
 
--- HEADER is a header and nothing else, and ANSWER one message, one namespace answer or one fraud claim and nothing
--- else
+-- HEADER is a header and nothing else, and ANSWER one message, one namespace answer, one fraud claim, one commitment
+-- proof or one root proof and nothing else
 abbrev pub verify_judged : List (List ℕ) → List (Option ℕ)
 verify_judged files = error_of (header_in (header_file files)) ∷ error_of (answer_in (answer_file files)) ∷ []
 

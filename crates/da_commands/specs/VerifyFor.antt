@@ -9,7 +9,7 @@ use Rattle.data_header.specs.Headers.{Roots}
 use Rattle.axis_roots.specs.declared.message.messages.Message as sent
 use Rattle.axis_roots.specs.Sets.{is_along}
 use Rattle.da_wire.specs.declared.frames.Frame.{Frame}
-use Rattle.da_wire.specs.declared.frames.Frame.TheVariants.{Message, Names, Sample, Request}
+use Rattle.da_wire.specs.declared.frames.Frame.TheVariants.{Message, Names, Rooted, Sample, Request}
 use Rattle.da_wire.specs.Spelling.{sample_kind, request_kind}
 use Rattle.da_wire.specs.Reading.{only_of}
 use Rattle.da_status.specs.Outcome.{Relation}
@@ -31,9 +31,10 @@ request_in bytes = single Some (only_of bytes request_kinds)
 abbrev pub is_of_cell : Cell → Axis → sent.Message → Bool
 is_of_cell cell axis m = (m.cell.row == cell.row) && (m.cell.col == cell.col) && is_along axis m
 
--- whether a frame is a sample of a cell along an axis
+-- whether a frame is a sample of a cell along an axis, by itself or in a root proof
 abbrev pub is_sample : Cell → Axis → Frame → Bool
 is_sample cell axis (Message m) = is_of_cell cell axis m
+is_sample cell axis (Rooted proof) = is_of_cell cell axis proof.message
 is_sample cell axis frame = false
 
 -- whether a frame is a namespace answer for a namespace
@@ -41,16 +42,17 @@ abbrev pub is_for : Namespace → Frame → Bool
 is_for name (Names other answer) = bytes_eq other.0 name.0
 is_for name frame = false
 
--- whether to a request a frame is the answer, before any proof is looked at: to one for a sample a message with its cell and its
--- axis, to one for a namespace a namespace answer with this namespace
+-- whether to a request a frame is the answer, before any proof is looked at: to one for a sample a message or a root
+-- proof with its cell and its axis, to one for a namespace a namespace answer with this namespace
 abbrev pub is_answer_to : Frame → Frame → Bool
 is_answer_to (Sample cell axis) answer = is_sample cell axis answer
 is_answer_to (Request name) answer = is_for name answer
 is_answer_to request answer = false
 
--- a message is of this cell and this axis, and other frames are no samples
+-- a message, or that of a root proof, is of this cell and this axis, and other frames are no samples
 abbrev pub Samples : Cell → Axis → Frame → Type 0
 Samples cell axis (Message m) = (m.cell ≡ cell) × (m.axis ≡ axis)
+Samples cell axis (Rooted proof) = (proof.message.cell ≡ cell) × (proof.message.axis ≡ axis)
 Samples cell axis frame = ⊥
 
 -- a namespace answer is for this namespace, and other frames are no namespace answers
@@ -58,8 +60,8 @@ abbrev pub Tells : Namespace → Frame → Type 0
 Tells name (Names other answer) = other ≡ name
 Tells name frame = ⊥
 
--- the same in plain equations: to a request for a sample a message with its cell and its axis, to one for a namespace a
--- namespace answer with this namespace
+-- the same in plain equations: to a request for a sample a message or a root proof with its cell and its axis, to one for
+-- a namespace a namespace answer with this namespace
 abbrev pub IsAnswerTo : Frame → Frame → Type 0
 IsAnswerTo (Sample cell axis) answer = Samples cell axis answer
 IsAnswerTo (Request name) answer = Tells name answer
@@ -76,8 +78,8 @@ abbrev pub IsRefusalFor : Bool → Roots → Frame → Option ℕ → Type 0
 IsRefusalFor true header answer refusal = IsRefusal header answer refusal
 IsRefusalFor false header answer refusal = refusal ≡ Some 0
 
--- HEADER is a header and nothing else, ANSWER one message, one namespace answer or one fraud claim and nothing else, and
--- REQUEST one request for a sample or for a namespace and nothing else
+-- HEADER is a header and nothing else, ANSWER one message, one namespace answer, one fraud claim, one commitment proof or
+-- one root proof and nothing else, and REQUEST one request for a sample or for a namespace and nothing else
 abbrev pub verify_for_judged : List (List ℕ) → List (Option ℕ)
 verify_for_judged files =
     error_of (header_in (header_file files)) ∷ error_of (answer_in (answer_file files))

@@ -8,8 +8,8 @@ ghost use Rattle.da_commands.specs.Meaning.{Meaning, TakesFirst, IsRunnable};
 ghost use Rattle.da_status.specs.Outcome.{Ends};
 
 use crate::{
-    blobs, build, check, compact, demo, header, help, light, namespace, net, root, sample, show,
-    verify, verify_for, wanted,
+    blobs, build, check, commit, compact, demo, header, help, light, namespace, net, prove, root,
+    sample, show, verify, verify_for, wanted,
 };
 use da_io::Sink;
 use da_status::Status;
@@ -55,6 +55,12 @@ pub enum Command {
     Wanted(Axis),
     /// `blobs SHARES`
     Blobs,
+    /// `commit BLOCK`
+    Commit,
+    /// `prove SQUARE REQUESTS`
+    Prove,
+    /// `prove SQUARE START COUNT`, with the index of the first share and the number of shares
+    ProveRange(u32, u32),
     /// `help`
     Help,
     /// `version`
@@ -92,6 +98,9 @@ pub fn execute<O: Sink>(alloc: Global, command: Command, files: &[Vec<u8>], out:
         Command::RootIs(root) => root::root_is(alloc, files, &root, out),
         Command::Wanted(axis) => wanted::execute(alloc, files, axis, out),
         Command::Blobs => blobs::execute(alloc, files, out),
+        Command::Commit => commit::execute(alloc, files, out),
+        Command::Prove => prove::execute(alloc, files, out),
+        Command::ProveRange(start, count) => prove::range(alloc, files, start, count, out),
         Command::Help => help::help(out),
         Command::Version => help::version(out),
     }

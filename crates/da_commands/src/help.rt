@@ -22,6 +22,9 @@ const COMMANDS: &[u8] = b"\
     da light HEADER MESSAGES KEY COUNT\n\
     da wanted MISSING AXIS\n\
     da blobs SHARES\n\
+    da commit BLOCK\n\
+    da prove SQUARE REQUESTS\n\
+    da prove SQUARE START COUNT\n\
     da root HEADER\n\
     da root HEADER ROOT\n\
     da net HEADER MESSAGES SCRIPT\n\

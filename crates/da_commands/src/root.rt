@@ -21,12 +21,12 @@ use std::alloc::Global;
 /// The place of the file among the words that name files.
 const HEADER: u32 = 0;
 
-/// The line of a data root, in hexadecimal digits.
-fn root_line(root: &[u8; 32]) -> Line
-    ensures { result ≡ root_line root.now }
+/// The line of a hash, as a data root is one, in hexadecimal digits.
+pub(crate) fn hash_line(hash: &[u8; 32]) -> Line
+    ensures { result ≡ root_line hash.now }
 {
     let mut digits = [0u8; 64];
-    let _written = hex::encode_to_slice(root, &mut digits);
+    let _written = hex::encode_to_slice(hash, &mut digits);
     let mut line = Line::new();
     line.put(&digits);
     line.put(b"\n");
@@ -50,7 +50,7 @@ fn give_root<O: Sink>(header: &Header, out: &mut O) -> Status
         (O.taken out.old) (O.taken out.new) (O.faults out.old) (O.faults out.new)
         (out.new ≡ out.old) result }
 {
-    put(root_line(&data_root(header)).as_bytes(), Status::Done, out)
+    put(hash_line(&data_root(header)).as_bytes(), Status::Done, out)
 }
 
 /// Answers the data root of the header in HEADER.

@@ -41,7 +41,7 @@ fn sample_of(frame: &Frame) -> Option<(Cell, Axis)>
 }
 
 /// The request at the front of a list of requests for samples.
-fn next_sample(alloc: Global, bytes: &[u8]) -> Next<'_, (Cell, Axis)>
+pub(crate) fn next_sample(alloc: Global, bytes: &[u8]) -> Next<'_, (Cell, Axis)>
     ensures { IsNext samples_in bytes.now result }
 {
     let Ok(found) = next_value(alloc, bytes, b"Q") else {
@@ -58,7 +58,7 @@ fn next_sample(alloc: Global, bytes: &[u8]) -> Next<'_, (Cell, Axis)>
 }
 
 /// The number of the first request of a cell that a square of width `k` doesn't have.
-fn first_outside(alloc: Global, k: u16, requests: &[u8]) -> Result<Option<u64>, NoMemory>
+pub(crate) fn first_outside(alloc: Global, k: u16, requests: &[u8]) -> Result<Option<u64>, NoMemory>
     requires { IsTrue (is_width k) }
     ensures { IfOk result (λ found.
         found ≡ failing_from (λ asked. is_in_square k asked.0) 0 (samples_in requests.now)) }

@@ -1,11 +1,14 @@
 //! verify HEADER ANSWER: whether one answer holds under a header.
 
 ghost use Rattle.std.specs.Prelude.{◌≡◌, IfOk};
+ghost use Rattle.std.specs.Option.{option_map};
+ghost use Rattle.data_header.specs.DataRoots.{data_root_of};
+ghost use Rattle.blob_commit.specs.Refusals.{commit_refusal, rooted_refusal};
 ghost use Rattle.da_wire.specs.declared.frames.Frame.TheVariants as FrameOf;
 ghost use Rattle.da_commands.specs.declared.command.Command.TheVariants as CommandOf;
 ghost use Rattle.da_commands.specs.Contents.{contents_of};
 ghost use Rattle.da_commands.specs.Frames.{ReadsSingle, WritesText};
-ghost use Rattle.da_commands.specs.Verify.{check_number, ns_number, fraud_number, IsRefusal, verdict_line, verdict_status, answer_in, Verifies};
+ghost use Rattle.da_commands.specs.Verify.{check_number, ns_number, fraud_number, commit_number, rooted_number, IsRefusal, verdict_line, verdict_status, answer_in, Verifies};
 ghost use Rattle.da_commands.specs.Meaning.{Meaning};
 ghost use Rattle.da_status.specs.Outcome.{Ends, EndsAtOnce};
 ghost use Rattle.da_status.specs.Statuses.{kind_of, output};
@@ -14,10 +17,11 @@ use crate::contents::file;
 use crate::frames::{Unread, header_in, put, reason};
 use axis_roots::{CheckRefusal, FraudClaim, opens};
 use befp_verify::{FraudRefusal, VerifyRoom};
+use blob_commit::{CommitProof, CommitRefusal, RootedMessage, RootedRefusal, check_commit, rooted};
 use da_io::Sink;
 use da_status::{Line, Status, around};
 use da_wire::{Frame, read_only};
-use data_header::Header;
+use data_header::{Header, data_root};
 use namespace_id::NoMemory;
 use square_serve::{NsRefusal, check_namespace};
 use std::alloc::Global;
@@ -31,7 +35,7 @@ const ANSWER: u32 = 1;
 pub(crate) fn answer_in(alloc: Global, bytes: &[u8]) -> Result<Frame, Unread>
     ensures { ReadsSingle result (answer_in bytes.now) }
 {
-    match read_only(alloc, bytes, b"MNB") {
+    match read_only(alloc, bytes, b"MNBCR") {
         Ok(frame) => Ok(frame),
         Err(error) => Err(reason(error)),
     }
@@ -72,6 +76,29 @@ pub(crate) fn fraud_number(why: FraudRefusal) -> u64
     }
 }
 
+/// The number of the check that refuses a commitment proof.
+fn commit_number(why: CommitRefusal) -> u64
+    ensures { result ≡ commit_number why }
+{
+    match why {
+        CommitRefusal::Shape => 1,
+        CommitRefusal::Root(_) => 2,
+        CommitRefusal::Nodes(..) => 3,
+        CommitRefusal::Commitment => 4,
+    }
+}
+
+/// The number of the check that refuses a root proof.
+fn rooted_number(why: RootedRefusal) -> u64
+    ensures { result ≡ rooted_number why }
+{
+    match why {
+        RootedRefusal::Shape => 1,
+        RootedRefusal::Root => 2,
+        RootedRefusal::Path(_) => 3,
+    }
+}
+
 /// The number of the check that refuses a fraud claim, none of one that is accepted. It takes the
 /// memory that verifying needs.
 fn refuse_claim(alloc: Global, header: &Header, claim: FraudClaim) -> Result<Option<u64>, NoMemory>
@@ -84,6 +111,30 @@ fn refuse_claim(alloc: Global, header: &Header, claim: FraudClaim) -> Result<Opt
             Ok(None)
         }
         Err(refused) => Ok(Some(fraud_number(refused.why))),
+    }
+}
+
+/// The number of the check that refuses a commitment proof under a header's data root, none of one
+/// that holds.
+fn refuse_commit(header: &Header, proof: &CommitProof) -> Option<u64>
+    ensures { result ≡
+        option_map commit_number (commit_refusal (data_root_of header.now) proof.now) }
+{
+    match check_commit(&data_root(header), proof) {
+        Ok(()) => None,
+        Err(why) => Some(commit_number(why)),
+    }
+}
+
+/// The number of the check that refuses a root proof under a header's data root, none of one that
+/// holds.
+fn refuse_rooted(header: &Header, proof: &RootedMessage) -> Option<u64>
+    ensures { result ≡
+        option_map rooted_number (rooted_refusal (data_root_of header.now) proof.now) }
+{
+    match rooted(&data_root(header), proof) {
+        Ok(()) => None,
+        Err(why) => Some(rooted_number(why)),
     }
 }
 
@@ -106,6 +157,8 @@ pub(crate) fn refusal_of(
             Err(why) => Ok(Some(ns_number(why))),
         },
         Frame::Fraud(claim) => refuse_claim(alloc, header, claim),
+        Frame::Commit(proof) => Ok(refuse_commit(header, &proof)),
+        Frame::Rooted(proof) => Ok(refuse_rooted(header, &proof)),
         // Never taken: the kind was asked for. The type of a frame has the other kinds too.
         _ => Ok(None),
     }

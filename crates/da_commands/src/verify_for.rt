@@ -43,12 +43,13 @@ fn is_of_cell(cell: Cell, axis: Axis, message: &Message) -> bool
     message.cell.row == cell.row && message.cell.col == cell.col && is_along(axis, message)
 }
 
-/// Whether a frame is a sample of a cell along an axis.
+/// Whether a frame is a sample of a cell along an axis, by itself or in a root proof.
 fn is_sample(cell: Cell, axis: Axis, frame: &Frame) -> bool
     ensures { result ≡ is_sample cell axis frame.now }
 {
     match frame {
         Frame::Message(message) => is_of_cell(cell, axis, message),
+        Frame::Rooted(proof) => is_of_cell(cell, axis, &proof.message),
         _ => false,
     }
 }

@@ -14,6 +14,9 @@ const NEVER: u64 = u64::MAX;
 const LIGHT: &str =
     "light h one 0000000000000000000000000000000000000000000000000000000000000000 0";
 
+/// A data root that no header here has.
+const OTHER_ROOT: &str = "root h 0000000000000000000000000000000000000000000000000000000000000000";
+
 /// A file in memory.
 #[derive(Drop)]
 pub(super) struct File {
@@ -125,8 +128,8 @@ fn refused(alloc: Global, one: &[u8; 703]) -> Result<Vec<u8>, Fail> {
     Ok(bytes)
 }
 
-/// A block, requests, a script that puts a message and hands it to a full node, and what the program makes of the first
-/// two: the square "s", its header "h" and messages.
+/// A block, requests, a script that puts a message and hands it to a full node, a claim of no cells, and what the program
+/// makes of the first two: the square "s", its header "h", messages and missing cells.
 pub(super) fn files(alloc: Global) -> Result<Vec<File>, Fail> {
     let mut files = Vec::new(alloc);
     add(alloc, &mut files, "block", &block(alloc)?)?;
@@ -145,11 +148,14 @@ pub(super) fn files(alloc: Global) -> Result<Vec<File>, Fail> {
     script[1] = 1;
     script[11] = 1;
     add(alloc, &mut files, "script", &script)?;
+    let claim = [b'B', 0, 0, 0, 6, 1, 1, 0, 3, 0, 0];
+    add(alloc, &mut files, "claim", &claim)?;
     let made = [
         ("s", "build block"),
         ("h", "header s"),
         ("four", "sample s cells"),
         ("three", "sample s diagonal"),
+        ("missing", "repair h three"),
         ("one", "sample s corner"),
     ];
     for (name, words) in made {
@@ -212,6 +218,28 @@ fn failed_calls(rt: HostRuntime) -> Result<(), Fail> {
         ("json cells", 4096, "write", 4, 5, Done, 188, 0),
         ("demo 7 2", 4096, "write", 0, 2, WriteFault, 0, 8),
         ("demo 7 2", 4096, "write", 2, 3, WriteFault, 17, 0),
+        ("compact h claim", 4096, "write", 0, 1, WriteFault, 0, 0),
+        ("compact h claim", 4096, "write", 1, 2, Refused, 10, 0),
+        ("verify h one corner", 4096, "write", 0, 1, WriteFault, 0, 0),
+        ("verify h one corner", 4096, "write", 1, 2, Done, 3, 0),
+        ("root h", 4096, "write", 0, 1, WriteFault, 0, 0),
+        ("root h", 4096, "write", 1, 2, Done, 65, 0),
+        (OTHER_ROOT, 4096, "write", 0, 1, WriteFault, 0, 0),
+        (OTHER_ROOT, 4096, "write", 1, 2, Refused, 10, 0),
+        ("wanted missing row", 4096, "write", 0, 1, WriteFault, 0, 0),
+        ("wanted missing row", 4096, "write", 1, 2, Done, 130, 0),
+        ("blobs s", 4096, "write", 0, 1, WriteFault, 0, 0),
+        ("blobs s", 4096, "write", 1, 2, Done, 602, 0),
+        ("commit block", 4096, "write", 0, 1, WriteFault, 0, 0),
+        ("commit block", 4096, "write", 1, 2, Done, 195, 0),
+        ("prove s cells", 4096, "write", 0, 4, WriteFault, 0, 892),
+        ("prove s cells", 4096, "write", 4, 5, Done, 3568, 0),
+        ("prove s 1 2", 4096, "write", 0, 1, WriteFault, 0, 0),
+        ("prove s 1 2", 4096, "write", 1, 2, Done, 969, 0),
+        ("help", 4096, "write", 0, 1, WriteFault, 0, 0),
+        ("help", 4096, "write", 1, 2, Done, 492, 0),
+        ("version", 4096, "write", 0, 1, WriteFault, 0, 0),
+        ("version", 4096, "write", 1, 2, Done, 9, 0),
     ];
     for (words, piece, kind, from, end, want, taken, more) in cases {
         let whole = run_failing(alloc, words, &files, piece, (NEVER, NEVER, NEVER))?;

@@ -6,6 +6,7 @@ use Rattle.da_commands.specs.Namespace.{namespace_of}
 use Rattle.da_commands.proofs.RequestLemmas.{asked_again}
 use Rattle.da_commands.proofs.SampleLemmas.{is_sample_frame}
 use Rattle.da_commands.proofs.NamespaceLemmas.{is_name_frame}
+use Rattle.data_header.specs.DataRoots.{data_root_of}
 use Rattle.square_layout.specs.Layout.{square_of}
 use Rattle.axis_roots.specs.Grids.{header_of_grid}
 use Rattle.da_commands.proofs.FileLemmas.{header_file, square_file, block_file, answer_file, square_again, some_there}
@@ -15,7 +16,7 @@ use Rattle.da_commands.proofs.CompactLemmas.{compacts_own}
 use Rattle.da_commands.proofs.RepairLemmas.{repairs_own}
 use Rattle.da_cli.proofs.CountedLies.{lies_counted}
 use Rattle.da_commands.proofs.LightLemmas.{lights_own}
-use Rattle.da_commands.proofs.VerifyLemmas.{verified_proved, verified_complete, verified_accepted, verified_own}
+use Rattle.da_commands.proofs.VerifyLemmas.{verified_proved, verified_complete, verified_accepted, verified_committed, verified_rooted, verified_own}
 use Rattle.da_commands.proofs.VerifyForLemmas.{asked_holds, asked_other, answers_to}
 use Rattle.da_commands.proofs.RootLemmas.{tied}
 use Rattle.da_cli.proofs.laws.run_laws.Goals as goal
@@ -51,7 +52,7 @@ returns-clause-verified c = λ header message roots is. verified_proved header m
 pub returns-clause-own_answer : goal.returns-clause-own_answer
 returns-clause-own_answer c =
     verified_own c.message_laws.ensures.refusal c.message_laws.ensures.own c.answer_laws.ensures.refusal c.answer_laws.ensures.own
-    c.claim_laws.ensures.own
+    c.claim_laws.ensures.own c.refusal_laws.ensures.commit c.commit_laws.ensures.commit c.refusal_laws.ensures.rooted c.commit_laws.ensures.rooted
 
 pub returns-clause-own_compact : goal.returns-clause-own_compact
 returns-clause-own_compact c = compacts_own c.claim_laws.ensures.own
@@ -70,6 +71,12 @@ returns-clause-complete c = λ header name answer. verified_complete header name
 
 pub returns-clause-upheld : goal.returns-clause-upheld
 returns-clause-upheld c = verified_accepted
+
+pub returns-clause-committed : goal.returns-clause-committed
+returns-clause-committed c = λ header proof. verified_committed header proof (c.refusal_laws.ensures.commit (data_root_of header) proof)
+
+pub returns-clause-rooted_sample : goal.returns-clause-rooted_sample
+returns-clause-rooted_sample c = λ header proof is. verified_rooted header proof (c.refusal_laws.ensures.rooted (data_root_of header) proof is)
 
 pub returns-clause-answer_file : goal.returns-clause-answer_file
 returns-clause-answer_file c = answer_file c.wire_laws.ensures.only

@@ -10,4 +10,4 @@ use Rattle.da_commands.proofs.root.give_root.Goals as goal
 pub returns : goal.returns
 returns g c =
     once_within (WritesText Done c.as_bytes.result.now) (WritesText Done (root_line (data_root_of c.args.header.now))) _ _ _ _ _ _
-    (λ w s h. (h.0 ∙ c.as_bytes.ensures ∙ c.root_line.ensures ∙ ap root_line c.data_root.ensures, h.1)) c.put.ensures
+    (λ w s h. (h.0 ∙ c.as_bytes.ensures ∙ c.hash_line.ensures ∙ ap root_line c.data_root.ensures, h.1)) c.put.ensures
