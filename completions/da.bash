@@ -14,6 +14,8 @@ _da_words() {
         light) echo HEADER MESSAGES KEY COUNT ;;
         wanted) echo MISSING AXIS ;;
         blobs) echo SHARES ;;
+        commit) echo BLOCK ;;
+        prove) echo SQUARE START COUNT ;;
         root) echo HEADER ROOT ;;
         net) echo HEADER MESSAGES SCRIPT ;;
         show) echo FILE ;;
@@ -37,7 +39,7 @@ _da_files() {
 _da() {
     local word=${COMP_WORDS[COMP_CWORD]}
     local before=${COMP_WORDS[COMP_CWORD - 1]}
-    local commands="build header sample namespace verify compact check repair light wanted blobs root net show json demo help version"
+    local commands="build header sample namespace verify compact check repair light wanted blobs commit prove root net show json demo help version"
     local words
     COMPREPLY=()
     # Behind a sign like > stands a file.
@@ -52,6 +54,7 @@ _da() {
     fi
     read -r -a words < <(_da_words "${COMP_WORDS[1]}")
     case ${words[COMP_CWORD - 2]} in
+        # In the place of START may stand a file REQUESTS.
         '' | KEY | COUNT | NUMBER | ROOT) ;;
         AXIS) mapfile -t COMPREPLY < <(compgen -W "row col" -- "$word") ;;
         WIDTH) mapfile -t COMPREPLY < <(compgen -W "2 4 8 16 32 64 128" -- "$word") ;;

@@ -104,6 +104,43 @@ def nodes(leaves, shown, start=0):
     return nodes(leaves[:half], shown, start) + nodes(leaves[half:], shown, start + half)
 
 
+# Plain trees over strings ("Data roots", "Subtrees").
+def half_of(strings):
+    return 1 << (len(strings) - 1).bit_length() - 1
+
+
+def plain_root(strings):
+    if len(strings) == 1:
+        return sha256(b"\0" + strings[0]).digest()
+    half = half_of(strings)
+    return sha256(b"\1" + plain_root(strings[:half]) + plain_root(strings[half:])).digest()
+
+
+def plain_path(strings, place):
+    """The hashes that lead from a leaf to the root, upwards."""
+    if len(strings) == 1:
+        return []
+    half = half_of(strings)
+    if place < half:
+        return plain_path(strings[:half], place) + [plain_root(strings[half:])]
+    return plain_path(strings[half:], place - half) + [plain_root(strings[:half])]
+
+
+# The sizes of the subtrees of shares whose greatest have this width ("Subtrees").
+def subtree_width(count):
+    return next(1 << i for i in range(8) if 64 << i >= count or 1 << 2 * i >= count)
+
+
+def cut(count, width):
+    sizes = []
+    while count:
+        while width > count:
+            width //= 2
+        sizes.append(width)
+        count -= width
+    return sizes
+
+
 class Grid:
     """An extended square with its trees, well encoded or not."""
 
@@ -114,9 +151,32 @@ class Grid:
         cells = [(index, p) if axis == ROW else (p, index) for p in range(2 * self.k)]
         return [leaf(self.rows[r][c][:29] if max(r, c) < self.k else PARITY, self.rows[r][c]) for r, c in cells]
 
+    def roots(self):
+        return [root(self.leaves(axis, i)) for axis in (ROW, COL) for i in range(2 * self.k)]
+
     def header(self):
-        roots = [root(self.leaves(axis, i)) for axis in (ROW, COL) for i in range(2 * self.k)]
-        return frame("H", u16(self.k) + b"".join(roots))
+        return frame("H", u16(self.k) + b"".join(self.roots()))
+
+    def rooted(self, row, col, axis=ROW):
+        """A message with the root of its axis, and the hashes that lead from that to the data root."""
+        roots, place = self.roots(), row if axis == ROW else 2 * self.k + col
+        return frame("R", u16(self.k) + self.cell(row, col, axis) + roots[place] + digests(plain_path(roots, place)))
+
+    def commitment(self, start, count):
+        """A proof of the commitment of so many shares from an index on ("Commitment proofs")."""
+        roots, rows, shown, at, width = self.roots(), [], [], start, subtree_width(count)
+        while at < start + count:
+            row, low = divmod(at, self.k)
+            part = min(self.k - low, start + count - at)
+            leaves, subtrees = self.leaves(ROW, row), []
+            for size in cut(part, width):
+                subtrees.append(root(leaves[low + sum(cut(part, width)[:len(subtrees)]):][:size]))
+            path = digests(plain_path(roots, row)) + u16(len(subtrees)) + b"".join(subtrees)
+            rows.append(roots[row] + path + digests(nodes(leaves, range(low, low + part))))
+            shown += subtrees
+            at += part
+        numbers = u16(self.k) + u32(start) + u32(count)
+        return frame("C", numbers + plain_root(shown) + u16(len(rows)) + b"".join(rows))
 
     def cell(self, row, col, axis):
         """The payload of a cell's message."""
@@ -264,6 +324,8 @@ def files():
         "kinds/answer": grid.answer(name("0102")),
         "kinds/absence": grid.answer(name("0103")),
         "kinds/claim": accused,
+        "kinds/commitment": grid.commitment(1, 2),
+        "kinds/rooted": grid.rooted(1, 2, COL),
         "kinds/missing": frame("K", u16(2) + u32(15) + b"".join(u16(r) + u16(c) for r, c in every if (r, c) != (1, 2))),
         "spoiled/header": spoiled.header(),
         "spoiled/messages": b"".join(spoiled.message(3, c, COL) for c in range(2)),
@@ -293,7 +355,7 @@ def files():
         "refused/claim-other-share": changed(accused, 100),
     }
     kinds = ["block", "kinds/square", "kinds/header", "kinds/sample", "kinds/answer", "kinds/absence", "kinds/claim",
-             "kinds/missing", "samples", "namespaces"]
+             "kinds/missing", "samples", "namespaces", "kinds/commitment", "kinds/rooted"]
     made["kinds/all"] = b"".join(made[kind] for kind in kinds)
     return made
 

@@ -430,6 +430,13 @@ class Program(Case):
         self.assertEqual(kinds, {frames.Range, frames.Absence})
 
 
+    def test_commitment(self):
+        # The commitment of the documentation's blob is the one that stands beside it there.
+        block = self.file(self.made("block", os.path.join(TOOLS, "celestia", "blob.json")), "block")
+        with open(os.path.join(TOOLS, "celestia", "blob.json"), encoding="utf-8") as file:
+            told = base64.b64decode(json.load(file)["commitment"])
+        self.assertEqual(self.da("commit", block).decode(), told.hex() + "\n")
+
     def test_padded(self):
         # A square that `build` doesn't make, and that is taken where a square comes in.
         shares, block = padded_square()

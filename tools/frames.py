@@ -31,6 +31,8 @@ AXES = ("row", "col")
 NAMESPACE_BYTES = 29
 SHARE_BYTES = 512
 DIGEST_BYTES = 90
+HASH_BYTES = 32
+COMMIT_ROW_BYTES = 94  # a row of a commitment proof without its hashes, subtrees and nodes
 MESSAGE_BYTES = 518  # a message without its nodes
 SET_CELL_BYTES = 515  # a cell that a set shows
 FRONT_BYTES = 5  # the kind and the length of a frame
@@ -121,6 +123,11 @@ class Fields:
         count = self.count(f"node count{of}", 1, DIGEST_BYTES, range(most + 1))
         return [self.bytes(f"node {i}{of}", DIGEST_BYTES) for i in range(count)]
 
+    def hashes(self, of=""):
+        """A count of hashes (u8), and the hashes."""
+        count = self.count(f"hash count{of}", 1, HASH_BYTES, range(10))
+        return [self.bytes(f"hash {i}{of}", HASH_BYTES) for i in range(count)]
+
     def strings(self, name):
         """A count of byte strings (u32), and each with its length (u32) before it."""
         count = self.count(f"{name} count", 4, 4)
@@ -132,7 +139,7 @@ class Fields:
             raise BadField(self.at, f"bytes left over behind the last field: {self.left()}")
 
 
-# The ten kinds (docs/FORMATS.md, "Payloads", "Text of frames", "JSON of frames"). `read` takes the fields of a payload,
+# The twelve kinds (docs/FORMATS.md, "Payloads", "Text of frames", "JSON of frames"). `read` takes the fields of a payload,
 # `lines` are the lines of `show`, and `members` those of the JSON object but its "kind", which is `name`.
 
 
@@ -391,7 +398,55 @@ class Block(namedtuple("Block", "width units pay blobs")):
         return dict(lengths, width=self.width, blobs=[blob.members() for blob in self.blobs])
 
 
-ALL = (Header, Square, Message, Answer, Claim, Missing, Clash, Sample, Request, Block)
+class CommitRow(namedtuple("CommitRow", "root up subtrees nodes")):
+    @staticmethod
+    def read(fields, of):
+        root = fields.bytes(f"root{of}", DIGEST_BYTES)
+        up = fields.hashes(of)
+        count = fields.count(f"subtree count{of}", 2, DIGEST_BYTES, range(129))
+        subtrees = [fields.bytes(f"subtree {i}{of}", DIGEST_BYTES) for i in range(count)]
+        return CommitRow(root, up, subtrees, fields.nodes(16, of))
+
+
+class Commit(namedtuple("Commit", "k start count commitment rows")):
+    letter, name = "C", "commit"
+
+    @staticmethod
+    def read(fields):
+        k, start, count = fields.number("width k", 2), fields.number("start", 4), fields.number("count", 4)
+        commitment = fields.bytes("commitment", HASH_BYTES)
+        rows = fields.count("row count", 2, COMMIT_ROW_BYTES, range(129))
+        return Commit(k, start, count, commitment, [CommitRow.read(fields, f" of row {i}") for i in range(rows)])
+
+    def lines(self):
+        numbers = f"k={self.k} start={self.start} count={self.count}"
+        return [f"commit {numbers} commitment={self.commitment.hex()} rows={len(self.rows)}"]
+
+    def members(self):
+        numbers = {"k": self.k, "start": self.start, "count": self.count, "rows": len(self.rows)}
+        return dict(numbers, commitment=self.commitment.hex())
+
+
+class Rooted(namedtuple("Rooted", "k message root up")):
+    letter, name = "R", "rooted"
+
+    @staticmethod
+    def read(fields):
+        k = fields.number("width k", 2)
+        message = Message.read(fields)
+        root = fields.bytes("root", DIGEST_BYTES)
+        return Rooted(k, message, root, fields.hashes())
+
+    def lines(self):
+        return [f"rooted k={self.k} root={self.root.hex()}"] + self.message.lines()
+
+    def members(self):
+        members = dict(self.message.members(), k=self.k, root=self.root.hex())
+        del members["nodes"]
+        return members
+
+
+ALL = (Header, Square, Message, Answer, Claim, Missing, Clash, Sample, Request, Block, Commit, Rooted)
 KINDS = {kind.letter: kind for kind in ALL}
 ALL_KINDS = "".join(KINDS)
 
@@ -408,7 +463,10 @@ FORMS = {
     "header": {"SQUARE": SQUARE},
     "sample": {"SQUARE": SQUARE, "REQUESTS": Form(1, True, "Q")},
     "namespace": {"SQUARE": SQUARE, "REQUESTS": Form(1, True, "P")},
-    "verify": {"HEADER": HEADER, "ANSWER": Form(1, False, "MNB"), "REQUEST": Form(2, False, "QP")},
+    "verify": {"HEADER": HEADER, "ANSWER": Form(1, False, "MNBCR"), "REQUEST": Form(2, False, "QP")},
+    "compact": {"HEADER": HEADER, "CLAIM": Form(1, False, "B")},
+    "commit": {"BLOCK": BLOCK},
+    "prove": {"SQUARE": SQUARE, "REQUESTS": Form(1, True, "Q")},
     "check": {"HEADER": HEADER, "MESSAGES": MESSAGES},
     "repair": {"HEADER": HEADER, "MESSAGES": MESSAGES},
     "light": {"HEADER": HEADER, "MESSAGES": MESSAGES},

@@ -120,10 +120,27 @@ def block(width, units, pay, blobs):
     return u16(width) + strings(*units) + strings(*pay) + u32(len(blobs)) + b"".join(spelled)
 
 
+def hashes(count):
+    return u8(count) + b"".join(u8(i + 1) * 32 for i in range(count))
+
+
+def commit_row(up, subtrees, count):
+    return b"\x06" * 90 + hashes(up) + u16(subtrees) + digests(subtrees) + nodes(count)
+
+
+def commit(k, start, count, *rows):
+    return u16(k) + u32(start) + u32(count) + b"\x0c" * 32 + u16(len(rows)) + b"".join(rows)
+
+
+def rooted(k, up, of):
+    return u16(k) + of + b"\x06" * 90 + hashes(up)
+
+
 ANSWER = answer(range_entry(0, 1, 1, 2), absence_entry(1, 1, 2))
 CLAIM = claim(1, 3, message(2, 0, 3, 1), message(2, 2, 3))
 SET_CLAIM = set_claim(1, 3, 2, shown_cell(0), crossing_cell(2, 2, 9))
 BLOCK = block(4, [b"abc", b""], [b"de"], [(version_0(0x0101), b"\x07"), (version_0(0x0102), b"\x08\x08")])
+COMMIT = commit(2, 1, 2, commit_row(3, 1, 2), commit_row(3, 1, 2))
 # A frame of each kind but X, of which nobody can make one.
 EACH = {
     "H": header(1),
@@ -135,6 +152,8 @@ EACH = {
     "Q": u16(1) + u16(2) + u8(1),
     "P": version_0(0x0102),
     "V": BLOCK,
+    "C": COMMIT,
+    "R": rooted(2, 3, message(2, 1, 2, 1)),
 }
 EACH_FRAME = {kind: frame(kind, payload) for kind, payload in EACH.items()}
 
@@ -285,6 +304,8 @@ class Reading(Case):
             ("K", missing(1, (0, 0), (0, 1), (1, 0), (1, 1)), 22),
             ("Q", EACH["Q"], 5), ("P", EACH["P"], 29),
             ("V", block(0, [], [], []), 14), ("V", block(0, [], [], [(PARITY, b"ab")]), 50),
+            ("C", commit(0, 0, 0), 44), ("C", COMMIT, 964), ("C", commit(0, 0, 0, *[commit_row(9, 128, 16)] * 128), 1707820),
+            ("R", EACH["R"], 887), ("R", rooted(0, 0, message(0)), 611), ("R", rooted(0, 9, message(8)), 1619),
         ]
         for kind, payload, length in table:
             with self.subTest(kind, length=length):
@@ -319,6 +340,11 @@ class Reading(Case):
             ("4200000006030100030000", "BadPayload"),
             ("4200000006010200030000", "BadPayload"),
             ("420000000701010003000000", "BadPayload"),
+            ("430000002c" + "00" * 44, "ok"),
+            ("430000002d" + "00" * 45, "BadPayload"),
+            ("430000002c" + "00" * 42 + "0081", "BadPayload"),
+            ("5200000263" + "00" * 611, "ok"),
+            ("5200000263" + "00" * 610 + "0a", "BadPayload"),
             ("5a00000000", "BadKind"),
             ("4d01000001", "TooLong"),
             ("4d000002", "Truncated"),
@@ -358,6 +384,10 @@ class Reading(Case):
                    f"blob {blobs[1]} 2"],
              f'{{"blobs":[{{"length":1,"namespace":"{blobs[0]}"}},{{"length":2,"namespace":"{blobs[1]}"}}],'
              '"kind":"block","pay":[2],"units":[3,0],"width":4}'),
+            ("C", [f"commit k=2 start=1 count=2 commitment={'0c' * 32} rows=2"],
+             f'{{"commitment":"{"0c" * 32}","count":2,"k":2,"kind":"commit","rows":2,"start":1}}'),
+            ("R", [f"rooted k=2 root={'06' * 90}", f"message row=1 col=2 axis=col nodes=2 share={hash_7}"],
+             f'{{"axis":"col","col":2,"k":2,"kind":"rooted","root":"{"06" * 90}","row":1,"share":"{hash_7}"}}'),
         ]
         for kind, lines, line in table:
             with self.subTest(kind):
@@ -502,6 +532,25 @@ FIELDS = [
     ("V", bytes(10) + u32(1) + bytes(29) + b"\x01" + u32(0), 43, "the share version of blob 0 is 1, and is always 0"),
     ("V", bytes(10) + u32(1) + bytes(30) + u32(2) + b"a", 48, "the blob 0 takes 2 bytes, left are 1"),
     ("V", BLOCK + b"\x00", len(BLOCK), "bytes left over behind the last field: 1"),
+    ("C", bytes(1), 0, "the width k takes 2 bytes, left are 1"),
+    ("C", bytes(5), 2, "the start takes 4 bytes, left are 3"),
+    ("C", bytes(9), 6, "the count takes 4 bytes, left are 3"),
+    ("C", bytes(41), 10, "the commitment takes 32 bytes, left are 31"),
+    ("C", bytes(43), 42, "the row count takes 2 bytes, left are 1"),
+    ("C", commit(0, 0, 0, *[commit_row(0, 0, 0)] * 129), 42, "the row count is 129, and is 0 to 128"),
+    ("C", commit(0, 0, 0, commit_row(0, 0, 0)[:-1]), 42, "the row count is 1, of 94 bytes or more each, left are 93"),
+    ("C", commit(0, 0, 0, commit_row(10, 0, 0)), 134, "the hash count of row 0 is 10, and is 0 to 9"),
+    ("C", commit(0, 0, 0, commit_row(0, 129, 0)), 135, "the subtree count of row 0 is 129, and is 0 to 128"),
+    ("C", commit(0, 0, 0, commit_row(0, 2, 0)[:-2]), 135, "the subtree count of row 0 is 2, of 90 bytes or more each"),
+    ("C", commit(0, 0, 0, commit_row(3, 1, 17)), 323, "the node count of row 0 is 17, and is 0 to 16"),
+    ("C", COMMIT + b"\x00", 964, "bytes left over behind the last field: 1"),
+    ("R", bytes(1), 0, "the width k takes 2 bytes, left are 1"),
+    ("R", bytes(5), 4, "the column takes 2 bytes, left are 1"),
+    ("R", rooted(2, 3, message(9)), 519, "the node count is 9, and is 0 to 8"),
+    ("R", rooted(2, 0, message(0))[:600], 520, "the root takes 90 bytes, left are 80"),
+    ("R", rooted(2, 10, message(0)), 610, "the hash count is 10, and is 0 to 9"),
+    ("R", rooted(2, 3, message(0))[:-1], 610, "the hash count is 3, of 32 bytes or more each, left are 95"),
+    ("R", EACH["R"] + b"\x00", 887, "bytes left over behind the last field: 1"),
 ]
 
 
@@ -523,7 +572,7 @@ class Why(Case):
             (b"Z", (), "file 0 at 0: kind byte 5a, and asked for is a kind of the table (BadKind)"),
             (b"Z", ("check", "MESSAGES"), "file 1 at 0: kind and length take 5 bytes, left are 1 (Truncated)"),
             (b"", ("check", "MESSAGES"), "ok: 0 frames"),
-            (b"", ("verify", "ANSWER"), "file 1 at 0: no byte is there, and asked for is kind M or N or B (Truncated)"),
+            (b"", ("verify", "ANSWER"), "file 1 at 0: no byte is there, and asked for is kind M or N or B or C or R (Truncated)"),
             (b"M\x00\x00\x02", (), "file 0 at 0: kind and length take 5 bytes, left are 4 (Truncated)"),
             (b"M\x01\x00\x00\x01", (), "file 0 at 0: kind M: the length is 16777217, and at most 16777216 (TooLong)"),
             (b"M\x01\x00\x00\x00", (), "file 0 at 0: kind M: the payload takes 16777216 bytes, left are 0 (Truncated)"),
@@ -722,6 +771,8 @@ class Program(Case):
         self.answer = self.made_by_da("answer", "namespace", square_2, path["namespaces"])
         self.sample = self.made_by_da("sample", "sample", square_2, path["samples"])
         self.missing = self.made_by_da("missing", "repair", header_2, self.sample)
+        self.proof = self.made_by_da("proof", "prove", square_2, "1", "2")
+        self.rooted = self.made_by_da("rooted", "prove", square_2, path["samples"])
         key = "00" * 32
         return [
             ("build", "BLOCK", path["block"], [None]),
@@ -736,6 +787,12 @@ class Program(Case):
             ("verify", "ANSWER", self.answer, [header_2, None]),
             ("verify", "REQUEST", path["samples"], [header_2, self.sample, None]),
             ("verify", "REQUEST", path["namespaces"], [header_2, self.answer, None]),
+            ("verify", "ANSWER", self.proof, [header_2, None]),
+            ("verify", "ANSWER", self.rooted, [header_2, None]),
+            ("commit", "BLOCK", path["block"], [None]),
+            ("prove", "SQUARE", square_2, [None, path["samples"]]),
+            ("prove", "SQUARE", square_2, [None, "1", "2"]),
+            ("prove", "REQUESTS", path["samples"], [square_2, None]),
             ("wanted", "MISSING", self.missing, [None, "row"]),
             ("blobs", "SHARES", square_2, [None]),
             ("blobs", "SHARES", self.answer, [None]),
@@ -758,7 +815,7 @@ class Program(Case):
             with self.subTest(command=command, word=word):
                 self.same_text(b"", path)
                 self.same_place(self.read(path), command, words, word)
-        for path in (self.answer, self.sample, self.missing):
+        for path in (self.answer, self.sample, self.missing, self.proof, self.rooted):
             self.same_text(b"", path)
         for size in (0, 1, 2, 8, 64, 128):
             data = frame("S", square(size)) if size else b""
@@ -770,6 +827,7 @@ class Program(Case):
         self.same_text(frame("B", SET_CLAIM))
         self.same_text(frame("B", set_claim(0, 0, 128, shown_cell(0), *[crossing_cell(i, 8) for i in range(127)])))
         self.same_text(frame("K", missing(128, *[(row, col) for row in range(256) for col in range(256)])))
+        self.same_text(frame("C", commit(0, 0, 0, *[commit_row(9, 128, 16)] * 128)))
         self.same_text(frame("V", block(0xFFFF, [b""] * 1000, [b"a"] * 1000, [(PARITY, b"")] * 1000)))
 
     def test_limit(self):
