@@ -1,5 +1,5 @@
 -- Worked lengths and widths, by the definitions (Celestia specifications, "Shares", "Square Layout").
-use Rattle.std.proofs.Common.{◌≡◌, [], ◌∷◌, refl}
+use Rattle.std.proofs.Common.{◌≡◌, true, false, [], ◌∷◌, refl}
 use Rattle.namespace_id.specs.Doublings.{least_doubling}
 use Rattle.share_split.specs.Blobs.{share_count}
 use Rattle.share_split.specs.Units.{varint_within, varint}
@@ -20,11 +20,18 @@ unfolding varint_within
 varint_of_300 = refl
 
 -- a blob of 478 bytes takes one share, one of 479 bytes two
-shares_of_478 : share_count 478 ≡ 1
+shares_of_478 : share_count 478 false ≡ 1
 shares_of_478 = refl
 
-shares_of_479 : share_count 479 ≡ 2
+shares_of_479 : share_count 479 false ≡ 2
 shares_of_479 = refl
+
+-- one share holds the 20 bytes of a signer and 458 bytes
+shares_of_458_signed : share_count 458 true ≡ 1
+shares_of_458_signed = refl
+
+shares_of_459_signed : share_count 459 true ≡ 2
+shares_of_459_signed = refl
 
 -- up to 64 shares have subtrees of one share, 65 shares of two
 width_of_64 : subtree_width_of 64 ≡ 1

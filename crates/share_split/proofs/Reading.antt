@@ -4,6 +4,8 @@ pub mod Fill
 pub mod Checks
 -- the fields of a share as parts of its bytes
 pub mod Cuts
+-- the signer of a first share
+pub mod Signers
 -- the shares of blobs by their fields
 pub mod Fields
 -- compact shares by their fields

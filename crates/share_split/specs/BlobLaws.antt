@@ -1,22 +1,26 @@
 -- Laws of the shares of blobs and of padding.
-use Rattle.std.specs.Prelude.{◌≡◌, ℕ, List, length}
+use Rattle.std.specs.Prelude.{◌≡◌, ◌≤◌, ℕ, Bool, List, length, Option, is_some, IfSome}
 use Rattle.namespace_id.specs.declared.namespaces.Namespace.{Namespace}
-use Rattle.namespace_id.specs.Bytes.{AreBytes}
+use Rattle.namespace_id.specs.Bytes.{AreBytes, IsString}
 use Rattle.namespace_id.specs.Names.{IsNamespace}
 use Rattle.namespace_id.specs.Shares.{IsShare, AreShares}
-use Rattle.share_split.specs.Blobs.{share_count, blob_shares_of}
+use Rattle.share_split.specs.Blobs.{signer_size, max_sequence_length, share_count, blob_shares_of}
 use Rattle.share_split.specs.Joined.{padding_share}
 
 -- the shares of a blob are as many as counted
 abbrev pub BlobSharesAreCounted : Type 0
-BlobSharesAreCounted = (name : Namespace) (bytes : List ℕ)
-    → length (blob_shares_of name bytes) ≡ share_count (length bytes)
+BlobSharesAreCounted = (name : Namespace) (signer : Option (List ℕ)) (bytes : List ℕ)
+    → length (blob_shares_of name signer bytes) ≡ share_count (length bytes) (is_some signer)
 
 -- the shares of a blob are shares
 abbrev pub BlobSharesAreShares : Type 0
-BlobSharesAreShares = (name : Namespace) (bytes : List ℕ) → IsNamespace name → AreBytes bytes
-    → AreShares (blob_shares_of name bytes)
+BlobSharesAreShares = (name : Namespace) (signer : Option (List ℕ)) (bytes : List ℕ) → IsNamespace name
+    → IfSome signer (IsString signer_size) → AreBytes bytes → AreShares (blob_shares_of name signer bytes)
 
 -- so is padding
 abbrev pub PaddingIsShare : Type 0
 PaddingIsShare = (name : Namespace) → IsNamespace name → IsShare (padding_share name)
+
+-- a blob that takes at most 16384 shares, as many as the greatest square has, is no longer than a sequence may be
+abbrev pub FewSharesHoldASequence : Type 0
+FewSharesHoldASequence = (size : ℕ) (signed : Bool) → share_count size signed ≤ 16384 → size ≤ max_sequence_length

@@ -1,44 +1,50 @@
 -- Shares that are blobs, or units, and nothing else.
-use Rattle.std.specs.Prelude.{◌≡◌, ◌≢◌, ◌≤◌, ◌⊎◌, ℕ, List, [], ◌∷◌, length}
+use Rattle.std.specs.Prelude.{◌≡◌, ◌≢◌, ◌≤◌, ◌⊎◌, ℕ, true, List, [], ◌∷◌, length, IfSome}
 use Rattle.std.specs.List.{flat_map, AllByRecursion}
+use Rattle.std.specs.Int.{w32, to_be_bytes}
 use Rattle.namespace_id.specs.declared.namespaces.Namespace.{Namespace}
 use Rattle.namespace_id.specs.declared.shares.Share.{Share}
-use Rattle.namespace_id.specs.Bytes.{AreBytes}
+use Rattle.namespace_id.specs.Bytes.{AreBytes, IsString}
 use Rattle.namespace_id.specs.Names.{IsNamespace}
-use Rattle.share_split.specs.Blobs.{NamedBytes, max_sequence_length, first_share, blob_shares_of}
+use Rattle.share_split.specs.Blobs.{NamedBytes, signer_size, max_sequence_length, sequence_share, blob_shares_of}
 use Rattle.share_split.specs.Units.{units_text, compact_shares}
 
--- a padding share: the first of a sequence of length 0, and zeros
+-- a padding share of a version: the first of a sequence of length 0, and zeros
+abbrev pub padding_of : ℕ → Namespace → Share
+padding_of version name = sequence_share name version true (to_be_bytes w32 0) []
+
+-- the padding share that is laid, which has version 0
 abbrev pub padding_share : Namespace → Share
-padding_share name = first_share name 0 []
+padding_share name = padding_of 0 name
 
 -- ---- blobs
 
 -- what stands in a list of blobs' shares: a padding share, or the shares of a blob
 pub data Piece : Type 0 where
-  padding : (name : Namespace) → Piece
+  padding : (version : ℕ) (name : Namespace) → Piece
   blob : (named : NamedBytes) → Piece
 
 -- the shares of such a piece
 abbrev pub piece_shares : Piece → List Share
-piece_shares (padding name) = padding_share name ∷ []
-piece_shares (blob named) = blob_shares_of named.namespace named.bytes
+piece_shares (padding version name) = padding_of version name ∷ []
+piece_shares (blob named) = blob_shares_of named.namespace named.signer named.bytes
 
 -- the blob that it is, none for padding
 abbrev pub piece_blobs : Piece → List NamedBytes
-piece_blobs (padding name) = []
+piece_blobs (padding version name) = []
 piece_blobs (blob named) = named ∷ []
 
--- a blob has bytes, as many as four bytes state
+-- a blob has bytes, as many as four bytes state, and a signer of 20 bytes, if it has one
 pub record IsBlob (named : NamedBytes) : Type 0 where
   pub name : IsNamespace named.namespace
   pub some : named.bytes ≢ []
   pub few : length named.bytes ≤ max_sequence_length
   pub fits : AreBytes named.bytes
+  pub signer : IfSome named.signer (IsString signer_size)
 
--- a padding share has a namespace, and a blob is one
+-- a padding share has version 0 or 1 and a namespace, and a blob is one
 abbrev pub IsPiece : Piece → Type 0
-IsPiece (padding name) = IsNamespace name
+IsPiece (padding version name) = (version ≤ 1) × IsNamespace name
 IsPiece (blob named) = IsBlob named
 
 -- shares that are these blobs, in their order, with padding shares before, between and behind them

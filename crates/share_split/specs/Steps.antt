@@ -20,7 +20,7 @@ open_after s = if is_complete s then None else Some s
 abbrev pub blobs_after : Sequence → List NamedBytes
 blobs_after s =
     if is_complete s && not (s.size == 0)
-    then record { namespace = s.name; bytes = s.content } ∷ []
+    then record { namespace = s.name; bytes = s.content; signer = s.signer } ∷ []
     else []
 
 -- blobs, and those that follow them

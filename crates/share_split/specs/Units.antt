@@ -75,11 +75,11 @@ reserved_of i starts = first_place i (starts_on (content_start i) starts)
 -- the first compact share of a sequence, whose fields are the length of the sequence and the reserved bytes
 abbrev pub first_compact_share : Namespace → ℕ → ℕ → List ℕ → Share
 first_compact_share name size reserved content =
-    sequence_share name true (to_be_bytes w32 size ++ to_be_bytes w32 reserved) content
+    sequence_share name 0 true (to_be_bytes w32 size ++ to_be_bytes w32 reserved) content
 
 -- a later compact share of a sequence, whose one field is the reserved bytes
 abbrev pub later_compact_share : Namespace → ℕ → List ℕ → Share
-later_compact_share name reserved content = sequence_share name false (to_be_bytes w32 reserved) content
+later_compact_share name reserved content = sequence_share name 0 false (to_be_bytes w32 reserved) content
 
 -- so many later compact shares, from share i on, over what is left of the text
 unfoldable pub later_compact_shares : ℕ → Namespace → ℕ → List ℕ → List ℕ → List Share

@@ -11,7 +11,9 @@ use Rattle.namespace_id.specs.Shares.{name_in}
 use Rattle.namespace_id.specs.Sizes.{namespace_size}
 use Rattle.share_split.specs.declared.joining.JoinError.{JoinError}
 use Rattle.share_split.specs.declared.joining.JoinError.TheVariants.{NoStart, Short, BadVersion, NonZeroFill, BadVarint, BadReserved, MixedNamespace, NoMemory}
-use Rattle.share_split.specs.Blobs.{length_place, NamedBytes}
+use Rattle.share_split.specs.declared.walking.Form.{Form}
+use Rattle.share_split.specs.declared.walking.Form.TheVariants.{Blobs, Units}
+use Rattle.share_split.specs.Blobs.{length_place, signer_size, signer_bytes, NamedBytes}
 use Rattle.share_split.specs.Units.{first_compact_content, later_compact_content, starts_from, reserved_of}
 
 -- ---- the fields of a share, behind its namespace
@@ -32,10 +34,23 @@ size_in share = from_be_bytes w32 (take 4 (drop length_place share.0))
 abbrev pub fields_in : Share → List ℕ
 fields_in share = drop (if is_start share then length_place + 4 else length_place) share.0
 
--- the content, which stands behind so many reserved bytes: none in the shares of blobs, four in
--- compact shares
-abbrev pub content_in : ℕ → Share → List ℕ
-content_in reserved share = drop reserved (fields_in share)
+-- whether it is the first share of a signed blob; a share of version 1 that begins a sequence of length 0 is
+-- padding, and has no signer
+abbrev pub is_signed : Share → Bool
+is_signed share = is_start share && version_in share == 1 && not (size_in share == 0)
+
+-- the signer of the blob that a first share begins, if there is one
+abbrev pub signer_in : Share → Option (List ℕ)
+signer_in share = if is_signed share then Some (take signer_size (fields_in share)) else None
+
+-- how many bytes come before the content: the signer in the shares of blobs, four reserved bytes in compact shares
+abbrev pub bytes_before : Form → Share → ℕ
+bytes_before Blobs share = length (signer_bytes (signer_in share))
+bytes_before Units share = 4
+
+-- the content of a share of this form
+abbrev pub content_in : Form → Share → List ℕ
+content_in form share = drop (bytes_before form share) (fields_in share)
 
 -- the number that the reserved bytes of a compact share state
 abbrev pub reserved_in : Share → ℕ
@@ -43,11 +58,13 @@ reserved_in share = from_be_bytes w32 (take 4 (fields_in share))
 
 -- ---- sequences
 
--- a sequence as far as its shares were read: the number of its first share, its namespace, its length
--- and its content so far
+-- a sequence as far as its shares were read: the number of its first share, its namespace, the version of its
+-- shares, its signer, if it has one, its length and its content so far
 pub record Sequence : Type 0 where
   pub first : ℕ
   pub name : Namespace
+  pub version : ℕ
+  pub signer : Option (List ℕ)
   pub size : ℕ
   pub content : List ℕ
 
@@ -60,43 +77,52 @@ abbrev pub is_complete : Sequence → Bool
 is_complete s = nat_le s.size (length s.content)
 
 -- the sequence that share i begins, and one that a share goes on
-abbrev pub begun_by : ℕ → ℕ → Share → Sequence
-begun_by reserved i share = record {
+abbrev pub begun_by : Form → ℕ → Share → Sequence
+begun_by form i share = record {
   first = i;
   name = name_in share;
+  version = version_in share;
+  signer = signer_in share;
   size = size_in share;
-  content = take (size_in share) (content_in reserved share);
+  content = take (size_in share) (content_in form share);
 }
 
 -- a sequence with the content of one more share
-abbrev pub extended_by : ℕ → Sequence → Share → Sequence
-extended_by reserved s share = record {
+abbrev pub extended_by : Form → Sequence → Share → Sequence
+extended_by form s share = record {
   first = s.first;
   name = s.name;
+  version = s.version;
+  signer = s.signer;
   size = s.size;
-  content = s.content ++ take (missing s) (content_in reserved share);
+  content = s.content ++ take (missing s) (content_in form share);
 }
 
 -- ---- the checks of share i, in their order; the first that fails
 
+-- whether a sequence of this form may have this version: 0, and in the shares of blobs 1 too
+abbrev pub is_version : Form → ℕ → Bool
+is_version Blobs version = nat_le version 1
+is_version Units version = version == 0
+
 -- whether all bytes after the last one of content are zero, where so many are to come
-abbrev pub is_filled : ℕ → ℕ → Share → Bool
-is_filled reserved bytes share = is_zeros (drop bytes (content_in reserved share))
+abbrev pub is_filled : Form → ℕ → Share → Bool
+is_filled form bytes share = is_zeros (drop bytes (content_in form share))
 
 -- where no sequence is open
-abbrev pub first_refusal : ℕ → ℕ → Share → Option JoinError
-first_refusal reserved i share =
-    if not (version_in share == 0) then Some (BadVersion i) else
+abbrev pub first_refusal : Form → ℕ → Share → Option JoinError
+first_refusal form i share =
+    if not (is_version form (version_in share)) then Some (BadVersion i) else
     (if not (is_start share) then Some (NoStart i) else
-    (if is_filled reserved (size_in share) share then None else Some (NonZeroFill i)))
+    (if is_filled form (size_in share) share then None else Some (NonZeroFill i)))
 
 -- where this one is open
-abbrev pub later_refusal : ℕ → ℕ → Sequence → Share → Option JoinError
-later_refusal reserved i s share =
-    if not (version_in share == 0) then Some (BadVersion i) else
+abbrev pub later_refusal : Form → ℕ → Sequence → Share → Option JoinError
+later_refusal form i s share =
+    if not (version_in share == s.version) then Some (BadVersion i) else
     (if not (bytes_eq (name_in share).0 s.name.0) then Some (MixedNamespace i) else
     (if is_start share then Some (Short s.first) else
-    (if is_filled reserved (missing s) share then None else Some (NonZeroFill i))))
+    (if is_filled form (missing s) share then None else Some (NonZeroFill i))))
 
 -- where the one sequence of the list is complete
 abbrev pub surplus_refusal : ℕ → Share → JoinError
@@ -108,17 +134,18 @@ surplus_refusal i share = if version_in share == 0 then NoStart i else BadVersio
 abbrev pub with_blob : Sequence → Result (List NamedBytes) JoinError → Result (List NamedBytes) JoinError
 with_blob s (Err e) = Err e
 with_blob s (Ok blobs) =
-    Ok (if s.size == 0 then blobs else record { namespace = s.name; bytes = s.content } ∷ blobs)
+    Ok (if s.size == 0 then blobs else
+    record { namespace = s.name; bytes = s.content; signer = s.signer } ∷ blobs)
 
 -- what is checked of share i, and what is read of its sequence then, where one may be open
 abbrev pub blob_refusal : ℕ → Option Sequence → Share → Option JoinError
-blob_refusal i None share = first_refusal 0 i share
-blob_refusal i (Some s) share = later_refusal 0 i s share
+blob_refusal i None share = first_refusal Blobs i share
+blob_refusal i (Some s) share = later_refusal Blobs i s share
 
 -- the sequence after share i, where one may be open
-abbrev pub taken_by : ℕ → ℕ → Option Sequence → Share → Sequence
-taken_by reserved i None share = begun_by reserved i share
-taken_by reserved i (Some s) share = extended_by reserved s share
+abbrev pub taken_by : Form → ℕ → Option Sequence → Share → Sequence
+taken_by form i None share = begun_by form i share
+taken_by form i (Some s) share = extended_by form s share
 
 -- the blobs that shares are, from share i on, where a sequence may be open
 unfoldable pub blobs_from : ℕ → Option Sequence → List Share → Result (List NamedBytes) JoinError
@@ -126,9 +153,9 @@ blobs_from i None [] = Ok []
 blobs_from i (Some s) [] = Err (Short s.first)
 blobs_from i so_far (share ∷ shares) =
     option_map_or Err (blob_refusal i so_far share)
-    (if is_complete (taken_by 0 i so_far share)
-    then with_blob (taken_by 0 i so_far share) (blobs_from (suc i) None shares)
-    else blobs_from (suc i) (Some (taken_by 0 i so_far share)) shares)
+    (if is_complete (taken_by Blobs i so_far share)
+    then with_blob (taken_by Blobs i so_far share) (blobs_from (suc i) None shares)
+    else blobs_from (suc i) (Some (taken_by Blobs i so_far share)) shares)
 
 -- the blobs that shares are, or the first check that fails
 abbrev pub blobs_of : List Share → Result (List NamedBytes) JoinError
@@ -138,9 +165,9 @@ blobs_of shares = blobs_from 0 None shares
 
 -- what is checked of share i of a compact sequence, where it may have begun
 abbrev pub unit_refusal : ℕ → Option Sequence → Share → Option JoinError
-unit_refusal i None share = first_refusal 4 i share
+unit_refusal i None share = first_refusal Units i share
 unit_refusal i (Some s) share =
-    if is_complete s then Some (surplus_refusal i share) else later_refusal 4 i s share
+    if is_complete s then Some (surplus_refusal i share) else later_refusal Units i s share
 
 -- the compact sequence that shares are, from share i on, as far as it was read; none for no shares
 unfoldable pub sequence_from : ℕ → Option Sequence → List Share → Result (Option Sequence) JoinError
@@ -148,7 +175,7 @@ sequence_from i None [] = Ok None
 sequence_from i (Some s) [] = if is_complete s then Ok (Some s) else Err (Short s.first)
 sequence_from i so_far (share ∷ shares) =
     option_map_or Err (unit_refusal i so_far share)
-    (sequence_from (suc i) (Some (taken_by 4 i so_far share)) shares)
+    (sequence_from (suc i) (Some (taken_by Units i so_far share)) shares)
 
 -- ---- the units in its content
 

@@ -1,7 +1,6 @@
 //! Compact shares, and the reserved bytes in them.
 
 ghost use Rattle.std.specs.Prelude.{◌≡◌, ◌+◌, ◌≤◌, ◌<◌, ◌^◌, ◌++◌, length};
-ghost use Rattle.std.specs.Int.{w32, to_be_bytes};
 ghost use Rattle.namespace_id.specs.Answers.{HasRoom};
 ghost use Rattle.share_split.specs.Blobs.{max_sequence_length};
 ghost use Rattle.share_split.specs.Units.{first_compact_content, later_compact_content, units_text, starts_from, content_start, reserved_of, first_compact_share, later_compact_share, later_compact_shares, compact_count, compact_shares};
@@ -11,7 +10,7 @@ use crate::blobs::{count_from, put_share, sequence_share, split_within};
 use crate::places::{content_start, place_in};
 use crate::texts::{NextUnit, next_on};
 use crate::{FIRST_COMPACT_CONTENT, LATER_COMPACT_CONTENT, Unit};
-use namespace_id::{Namespace, Share, write_at};
+use namespace_id::{Namespace, Share};
 
 /// The number that the reserved bytes of a share state: where in it the next unit starts, if it does.
 fn reserved_of(units: &[Unit], next: NextUnit, share: usize) -> u32
@@ -25,22 +24,17 @@ fn reserved_of(units: &[Unit], next: NextUnit, share: usize) -> u32
     place_in(share, next.start)
 }
 
-/// The fields of the first compact share: the length of the sequence, and the reserved bytes.
-fn first_fields(size: u32, reserved: u32) -> [u8; 8]
-    ensures { result ≡ to_be_bytes w32 size ++ to_be_bytes w32 reserved }
-{
-    let mut fields = [0; 8];
-    write_at(&mut fields, 0, &size.to_be_bytes());
-    write_at(&mut fields, 4, &reserved.to_be_bytes());
-    fields
-}
+/// The version of compact shares.
+const COMPACT_VERSION: u8 = 0;
 
 /// The first compact share of a sequence of `size` bytes, which begins with this content.
 fn first_compact_share(namespace: &Namespace, size: u32, reserved: u32, content: &[u8]) -> Share
     requires { length content.now ≤ first_compact_content }
     ensures { result ≡ first_compact_share namespace.now size reserved content.now }
 {
-    sequence_share(namespace, true, &first_fields(size, reserved), content)
+    let size = size.to_be_bytes();
+    let reserved = reserved.to_be_bytes();
+    sequence_share(namespace, COMPACT_VERSION, true, &size, &reserved, content)
 }
 
 /// A later compact share of a sequence.
@@ -48,7 +42,8 @@ fn later_compact_share(namespace: &Namespace, reserved: u32, content: &[u8]) -> 
     requires { length content.now ≤ later_compact_content }
     ensures { result ≡ later_compact_share namespace.now reserved content.now }
 {
-    sequence_share(namespace, false, &reserved.to_be_bytes(), content)
+    let reserved = reserved.to_be_bytes();
+    sequence_share(namespace, COMPACT_VERSION, false, &[], &reserved, content)
 }
 
 /// Appends so many later compact shares, over what is behind the first one's content in the text.

@@ -21,8 +21,9 @@ use thiserror::Error;
 /// open sequence is `Short` too.
 #[derive(Clone, Copy, Debug, PartialEq, Eq, Error)]
 pub enum JoinError {
-    /// The version of the share isn't 0.
-    #[error("the version of share {0} is not 0")]
+    /// The version of the share is above 1, or isn't 0 in compact shares, or isn't that of the first
+    /// share of its sequence.
+    #[error("the version of share {0} is above 1, not 0 for units, or not that of its sequence")]
     BadVersion(u64),
     /// The namespace of the share isn't that of its sequence.
     #[error("the namespace of share {0} is not that of its sequence")]
@@ -73,6 +74,7 @@ fn closed(sequence: Open, blobs: &mut Vec<Blob>) -> Result<Option<Open>, JoinErr
     let blob = Blob {
         namespace: sequence.namespace,
         bytes: sequence.bytes,
+        signer: sequence.signer,
     };
     if blobs.push(blob).is_err() {
         return Err(JoinError::NoMemory);
@@ -80,16 +82,16 @@ fn closed(sequence: Open, blobs: &mut Vec<Blob>) -> Result<Option<Open>, JoinErr
     Ok(None)
 }
 
-/// The blobs that shares are, in their order. A share that begins a sequence of length 0 is
-/// padding, and is passed over.
+/// The blobs that shares are, in their order, those with a signer in shares of version 1. A share
+/// that begins a sequence of length 0 is padding in both versions, has no signer, and is passed over.
 ///
-/// Refuses, at the first share with one of these faults, in this order: a version that isn't 0
-/// (`BadVersion`); in a sequence another namespace than its first share's (`MixedNamespace`), then
-/// the start of another sequence (`Short`, with the first share of the one that is cut short);
-/// where no sequence is open a share that begins none (`NoStart`); a byte behind the content that
-/// isn't 0 (`NonZeroFill`). Then shares that end in an open sequence (`Short`). Want of memory may
-/// come in place of any answer; it is taken as the content comes, and not for a length that a share
-/// promises.
+/// Refuses, at the first share with one of these faults, in this order: a version above 1, or in a
+/// sequence another than its first share's (`BadVersion`); in a sequence another namespace than its
+/// first share's (`MixedNamespace`), then the start of another sequence (`Short`, with the first
+/// share of the one that is cut short); where no sequence is open a share that begins none
+/// (`NoStart`); a byte behind the content that isn't 0 (`NonZeroFill`). Then shares that end in an
+/// open sequence (`Short`). Want of memory may come in place of any answer; it is taken as the
+/// content comes, and not for a length that a share promises.
 ///
 /// Celestia specifications, "Shares"; docs/RULES.md, "Reading shares".
 pub fn join_blobs(alloc: Global, shares: &[Share]) -> Result<Vec<Blob>, JoinError>

@@ -2,9 +2,10 @@
 //! shares themselves, what a list of shares is or the first check that fails, and how wide the subtrees
 //! are over the shares of a blob.
 //!
-//! Shares have version 0. The length of a sequence stands in its first share alone, and zeros fill
-//! the last one up. Units, as transactions, stand one after another in compact shares, each behind its
-//! length.
+//! The shares of a blob have version 1 where it names its signer, and version 0 where it doesn't, as
+//! compact shares have. The length of a sequence and the signer stand in its first share alone, and
+//! zeros fill the last one up. Units, as transactions, stand one after another in compact shares, each
+//! behind its length.
 #![tactic(auto)]
 
 mod blobs;
@@ -21,8 +22,8 @@ mod walking;
 mod widths;
 
 pub use blobs::{
-    Blob, FIRST_CONTENT, LATER_CONTENT, LENGTH_PLACE, MAX_SEQUENCE_LENGTH, SplitError,
-    blob_share_count, blob_shares, padding_share,
+    Blob, FIRST_CONTENT, FIRST_SIGNED_CONTENT, LATER_CONTENT, LENGTH_PLACE, MAX_SEQUENCE_LENGTH,
+    SIGNER_SIZE, SplitError, blob_share_count, blob_shares, padding_share,
 };
 pub use joining::{JoinError, join_blobs, join_laws, join_units};
 pub use laws::{blob_laws, size_laws};

@@ -1,33 +1,45 @@
 //! Sequences of shares, read share by share.
 
 ghost use Rattle.std.specs.Prelude.{◌≡◌, ◌≤◌, ◌++◌, take, OnOk};
-ghost use Rattle.share_split.specs.Walks.{content_in, first_refusal, surplus_refusal, blob_refusal, taken_by, unit_refusal};
+ghost use Rattle.share_split.specs.Walks.{content_in, is_version, first_refusal, surplus_refusal, blob_refusal, taken_by, unit_refusal};
 ghost use Rattle.share_split.specs.Steps.{TakesShare};
+ghost use Rattle.share_split.specs.declared.walking.Form.TheVariants.{Blobs, Units};
 
-use crate::JoinError;
 use crate::blobs::split_within;
-use crate::fields::{content, is_filled, is_start, size, version};
+use crate::fields::{content, is_filled, is_start, signer, size, version};
+use crate::{JoinError, SIGNER_SIZE};
 use namespace_id::{Namespace, Share};
 use std::alloc::{AllocError, Global};
 use std::marker::Model;
 
-/// The reserved bytes of a compact share, which stand before its content. Those of blobs have none.
-///
-/// Celestia specifications, "Shares", transaction shares.
-const RESERVED_SIZE: usize = 4;
+/// What the shares of a sequence hold: the bytes of a blob, or units, which stand in compact shares.
+#[derive(Clone, Copy)]
+pub(crate) enum Form {
+    Blobs,
+    Units,
+}
+
+/// Whether a sequence of this form may have this version: 0, and in the shares of blobs 1 too.
+fn is_version(form: Form, version: u8) -> bool
+    ensures { result ≡ is_version form version }
+{
+    match form {
+        Form::Blobs => version <= 1,
+        Form::Units => version == 0,
+    }
+}
 
 /// Why share i begins no sequence.
-fn first_refusal(share: &Share, reserved: usize, i: u64) -> Option<JoinError>
-    requires { reserved ≤ 4 }
-    ensures { result ≡ first_refusal reserved i share.now }
+fn first_refusal(share: &Share, form: Form, i: u64) -> Option<JoinError>
+    ensures { result ≡ first_refusal form i share.now }
 {
-    if version(share) != 0 {
+    if !is_version(form, version(share)) {
         return Some(JoinError::BadVersion(i));
     }
     if !is_start(share) {
         return Some(JoinError::NoStart(i));
     }
-    if !is_filled(share, reserved, size(share) as usize) {
+    if !is_filled(share, form, size(share) as usize) {
         return Some(JoinError::NonZeroFill(i));
     }
     None
@@ -44,12 +56,14 @@ fn surplus_refusal(share: &Share, i: u64) -> JoinError
     }
 }
 
-/// A sequence as far as its shares were read: the number of its first share, its namespace, its
-/// length, and its content so far.
+/// A sequence as far as its shares were read: the number of its first share, its namespace, the
+/// version of its shares, its signer, if it has one, its length, and its content so far.
 #[derive(Drop)]
 pub(crate) struct Open {
     pub first: u64,
     pub namespace: Namespace,
+    pub version: u8,
+    pub signer: Option<[u8; SIGNER_SIZE]>,
     pub size: u32,
     pub bytes: Vec<u8>,
 }
@@ -62,6 +76,8 @@ impl Model for Open {
     ghost view = { λ s. record {
       first = s.first;
       name = s.namespace;
+      version = s.version;
+      signer = s.signer;
       size = s.size;
       content = s.bytes.items;
     } };
@@ -71,14 +87,13 @@ impl Model for Open {
 fn put_content(
     bytes: &mut Vec<u8>,
     share: &Share,
-    reserved: usize,
+    form: Form,
     most: usize,
 ) -> Result<(), AllocError>
-    requires { reserved ≤ 4 }
     ensures { OnOk result
-        (bytes.new.items ≡ bytes.old.items ++ take most (content_in reserved share.now)) }
+        (bytes.new.items ≡ bytes.old.items ++ take most (content_in form share.now)) }
 {
-    bytes.extend_from_slice(split_within(content(share, reserved), most).0)
+    bytes.extend_from_slice(split_within(content(share, form), most).0)
 }
 
 impl Open {
@@ -101,30 +116,30 @@ impl Open {
 
     /// The sequence that share i begins. Memory is taken for the content that is there, and not for
     /// all that the share promises.
-    fn begun(alloc: Global, share: &Share, reserved: usize, i: u64) -> Result<Open, JoinError>
-        requires { reserved ≤ 4 }
+    fn begun(alloc: Global, share: &Share, form: Form, i: u64) -> Result<Open, JoinError>
         ensures { TakesShare result
-            (first_refusal reserved i share.now) (begun_by reserved i share.now) }
+            (first_refusal form i share.now) (begun_by form i share.now) }
     {
-        if let Some(refusal) = first_refusal(share, reserved, i) {
+        if let Some(refusal) = first_refusal(share, form, i) {
             return Err(refusal);
         }
         let mut bytes = Vec::new(alloc);
-        put_content(&mut bytes, share, reserved, size(share) as usize)?;
+        put_content(&mut bytes, share, form, size(share) as usize)?;
         Ok(Open {
             first: i,
             namespace: share.namespace(),
+            version: version(share),
+            signer: signer(share),
             size: size(share),
             bytes,
         })
     }
 
     /// Why share i doesn't go on with the sequence.
-    fn refusal(&self, share: &Share, reserved: usize, i: u64) -> Option<JoinError>
-        requires { reserved ≤ 4 }
-        ensures { result ≡ later_refusal reserved i self.now share.now }
+    fn refusal(&self, share: &Share, form: Form, i: u64) -> Option<JoinError>
+        ensures { result ≡ later_refusal form i self.now share.now }
     {
-        if version(share) != 0 {
+        if version(share) != self.version {
             return Some(JoinError::BadVersion(i));
         }
         if share.namespace() != self.namespace {
@@ -133,24 +148,23 @@ impl Open {
         if is_start(share) {
             return Some(JoinError::Short(self.first));
         }
-        if !is_filled(share, reserved, self.missing()) {
+        if !is_filled(share, form, self.missing()) {
             return Some(JoinError::NonZeroFill(i));
         }
         None
     }
 
     /// The sequence with the content of share i.
-    fn extended(self, share: &Share, reserved: usize, i: u64) -> Result<Open, JoinError>
-        requires { reserved ≤ 4 }
+    fn extended(self, share: &Share, form: Form, i: u64) -> Result<Open, JoinError>
         ensures { TakesShare result
-            (later_refusal reserved i self share.now) (extended_by reserved self share.now) }
+            (later_refusal form i self share.now) (extended_by form self share.now) }
     {
-        if let Some(refusal) = self.refusal(share, reserved, i) {
+        if let Some(refusal) = self.refusal(share, form, i) {
             return Err(refusal);
         }
         let mut open = self;
         let missing = open.missing();
-        put_content(&mut open.bytes, share, reserved, missing)?;
+        put_content(&mut open.bytes, share, form, missing)?;
         Ok(open)
     }
 }
@@ -162,11 +176,12 @@ pub(crate) fn with_blob_share(
     share: &Share,
     i: u64,
 ) -> Result<Open, JoinError>
-    ensures { TakesShare result (blob_refusal i so_far share.now) (taken_by 0 i so_far share.now) }
+    ensures { TakesShare result
+        (blob_refusal i so_far share.now) (taken_by Blobs i so_far share.now) }
 {
     match so_far {
-        None => Open::begun(alloc, share, 0, i),
-        Some(open) => open.extended(share, 0, i),
+        None => Open::begun(alloc, share, Form::Blobs, i),
+        Some(open) => open.extended(share, Form::Blobs, i),
     }
 }
 
@@ -177,15 +192,16 @@ pub(crate) fn with_unit_share(
     share: &Share,
     i: u64,
 ) -> Result<Open, JoinError>
-    ensures { TakesShare result (unit_refusal i so_far share.now) (taken_by 4 i so_far share.now) }
+    ensures { TakesShare result
+        (unit_refusal i so_far share.now) (taken_by Units i so_far share.now) }
 {
     match so_far {
-        None => Open::begun(alloc, share, RESERVED_SIZE, i),
+        None => Open::begun(alloc, share, Form::Units, i),
         Some(open) => {
             if open.is_complete() {
                 return Err(surplus_refusal(share, i));
             }
-            open.extended(share, RESERVED_SIZE, i)
+            open.extended(share, Form::Units, i)
         }
     }
 }

@@ -5,22 +5,22 @@ use Rattle.namespace_id.specs.declared.shares.Share.{Share}
 use Rattle.share_split.specs.declared.joining.JoinError.{JoinError}
 use Rattle.share_split.specs.Blobs.{NamedBytes}
 use Rattle.share_split.specs.Walks.{Sequence, is_complete, with_blob, blobs_from}
-use Rattle.share_split.proofs.Reading.BlobWalk.{Blobs}
+use Rattle.share_split.proofs.Reading.BlobWalk.{Read}
 use Rattle.share_split.proofs.Reading.BlobRead.{taken_on}
 
 -- a check that passed, and what followed
-pub checked : (o : Option JoinError) (r : Blobs) (blobs : List NamedBytes) → option_map_or Err o r ≡ Ok blobs → (o ≡ None) × (r ≡ Ok blobs)
+pub checked : (o : Option JoinError) (r : Read) (blobs : List NamedBytes) → option_map_or Err o r ≡ Ok blobs → (o ≡ None) × (r ≡ Ok blobs)
 checked None r blobs e = (refl, e)
 checked (Some why) r blobs e = absurd cc
 
 -- a complete sequence, and the others
-pub record IsClosed (s : Sequence) (r : Blobs) (blobs : List NamedBytes) : Type 0 where
+pub record IsClosed (s : Sequence) (r : Read) (blobs : List NamedBytes) : Type 0 where
   pub others : List NamedBytes
   pub rest : r ≡ Ok others
-  pub shown : cond (eqb s.size 0) others (record { namespace = s.name; bytes = s.content } ∷ others) ≡ blobs
+  pub shown : cond (eqb s.size 0) others (record { namespace = s.name; bytes = s.content; signer = s.signer } ∷ others) ≡ blobs
 
 -- a complete sequence was followed by other blobs
-closed : (s : Sequence) (r : Blobs) (blobs : List NamedBytes) → with_blob s r ≡ Ok blobs → IsClosed s r blobs
+closed : (s : Sequence) (r : Read) (blobs : List NamedBytes) → with_blob s r ≡ Ok blobs → IsClosed s r blobs
 closed s (Err why) blobs e = absurd cc
 closed s (Ok others) blobs e = record { others = others; rest = refl; shown = cc }
 

@@ -1,5 +1,5 @@
 -- Shares of a sequence, told by their fields: compact shares.
-use Rattle.std.proofs.Common.{◌≡◌, ◌∙◌, ℕ, ◌/◌, ◌%◌, ◌<◌, ◌^◌, eqb, true, false, List, ◌∷◌, ◌++◌, length, take, drop, sym, ap, ap₂, refl, arith}
+use Rattle.std.proofs.Common.{◌≡◌, ◌∙◌, ℕ, ◌/◌, ◌%◌, ◌<◌, ◌^◌, Bool, eqb, true, false, List, ◌∷◌, ◌++◌, length, take, drop, None, sym, ap, ap₂, refl, arith}
 use Rattle.std.proofs.lemmas.List.{drop-drop}
 use Rattle.std.proofs.lemmas.Nat.{from_be_bytes-to_be_bytes_4}
 use Rattle.std.specs.Int.{w32, to_be_bytes, from_be_bytes}
@@ -8,17 +8,24 @@ use Rattle.namespace_id.specs.declared.namespaces.Namespace.{Namespace}
 use Rattle.namespace_id.specs.declared.shares.Share.{Share}
 use Rattle.share_split.specs.Blobs.{filled, sequence_share}
 use Rattle.share_split.specs.Units.{first_compact_share, later_compact_share}
-use Rattle.share_split.specs.Walks.{is_start, fields_in, reserved_in}
-use Rattle.share_split.proofs.Reading.Cuts.{cut, four, parts, fours, stated, first_byte_is, later_byte_is, fields_first, fields_later}
+use Rattle.share_split.specs.Walks.{version_in, is_start, size_in, fields_in, signer_in, reserved_in}
+use Rattle.share_split.proofs.Reading.Cuts.{cut, four, parts, fours, stated, info_is, fields_first, fields_later}
+use Rattle.share_split.proofs.Reading.Signers.{signer_among, unsigned}
+use Rattle.share_split.specs.declared.walking.Form.TheVariants.{Units}
 use Rattle.share_split.proofs.Reading.Fields.{IsFirst, IsLater, named, share_of}
 
 -- a compact share and the number that its reserved bytes state
 abbrev pub IsCompactFirst : Namespace → ℕ → ℕ → List ℕ → Share → Type 0
-IsCompactFirst name size reserved text share = IsFirst 4 name size text share × (reserved_in share ≡ reserved)
+IsCompactFirst name size reserved text share = IsFirst Units name 0 None size text share × (reserved_in share ≡ reserved)
 
 -- the same of a later compact share
 abbrev pub IsCompactLater : Namespace → ℕ → List ℕ → Share → Type 0
-IsCompactLater name reserved text share = IsLater 4 name text share × (reserved_in share ≡ reserved)
+IsCompactLater name reserved text share = IsLater Units name 0 text share × (reserved_in share ≡ reserved)
+
+-- a compact share has no signer
+pub unsigned_compact : (share : Share) → version_in share ≡ 0 → signer_in share ≡ None
+unsigned_compact share version =
+    ap (λ (b : Bool). signer_among b (fields_in share)) (unsigned (is_start share) (version_in share) (size_in share) version)
 
 -- the first compact share has its fields
 pub first_compact_is : (name : Namespace) (size reserved : ℕ) (text : List ℕ) → length name.0 ≡ 29 → size < 2 ^ 32 → reserved < 2 ^ 32
@@ -31,12 +38,14 @@ first_compact_is name size reserved text len few small =
     let share : Share = first_compact_share name size reserved (take 474 text) in
     let c = cut share.0 name.0 (number ++ (place ++ content)) 1 len refl in
     let f = four share.0 number (place ++ content) refl c.behind in
+    let version : version_in share ≡ 0 = ap (λ (b : ℕ). b / 2) c.byte_is in
     let start : is_start share ≡ true = ap (λ (b : ℕ). eqb (b % 2) 1) c.byte_is in
     let fields : fields_in share ≡ place ++ content = fields_first share start ∙ f.1 in (
       record {
-        version_is = ap (λ (b : ℕ). b / 2) c.byte_is;
+        version_is = version;
         start_is = start;
         name_is = ap named c.front;
+        signer_is = unsigned_compact share version;
         size_is = ap (from_be_bytes w32) f.0 ∙ from_be_bytes-to_be_bytes_4 size few;
         content_is = ap (drop 4) fields;
       },
@@ -80,7 +89,7 @@ is_first_compact name size reserved text share whole is =
     let content_is : drop 38 bytes ≡ content = sym (drop-drop 4 34 bytes) ∙ sym (ap (drop 4) fields) ∙ first.content_is in
     ap share_of
     (parts bytes whole.size_is
-    ∙ ap₂ (λ (l : List ℕ) (b : ℕ). l ++ b ∷ drop 30 bytes) (ap (λ (n : Namespace). n.0) first.name_is) (first_byte_is share first.version_is first.start_is)
+    ∙ ap₂ (λ (l : List ℕ) (b : ℕ). l ++ b ∷ drop 30 bytes) (ap (λ (n : Namespace). n.0) first.name_is) (info_is share 0 true first.version_is first.start_is)
     ∙ ap (λ (l : List ℕ). name.0 ++ 1 ∷ l) (fours bytes 30 ∙ ap₂ (λ (x y : List ℕ). x ++ y) number_is (fours bytes 34 ∙ ap₂ (λ (x y : List ℕ). x ++ y) place_is content_is)))
 
 -- a share with the fields of a later compact share is it
@@ -98,5 +107,5 @@ is_later_compact name reserved text share whole is =
     let content_is : drop 34 bytes ≡ content = sym (drop-drop 4 30 bytes) ∙ sym (ap (drop 4) fields) ∙ later.content_is in
     ap share_of
     (parts bytes whole.size_is
-    ∙ ap₂ (λ (l : List ℕ) (b : ℕ). l ++ b ∷ drop 30 bytes) (ap (λ (n : Namespace). n.0) later.name_is) (later_byte_is share later.version_is later.start_is)
+    ∙ ap₂ (λ (l : List ℕ) (b : ℕ). l ++ b ∷ drop 30 bytes) (ap (λ (n : Namespace). n.0) later.name_is) (info_is share 0 false later.version_is later.start_is)
     ∙ ap (λ (l : List ℕ). name.0 ++ 0 ∷ l) (fours bytes 30 ∙ ap₂ (λ (x y : List ℕ). x ++ y) place_is content_is))

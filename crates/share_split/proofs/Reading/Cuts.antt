@@ -1,12 +1,14 @@
 -- The fields of a share as parts of its bytes.
-use Rattle.std.proofs.Common.{◌≡◌, ◌∙◌, ℕ, ◌+◌, ◌/◌, ◌%◌, ◌<◌, Bool, true, false, cond, eqb, eqb-true, List, ◌∷◌, ◌++◌, length, take, drop, slice_index, sym, ap, refl, arith, take-append-drop}
+use Rattle.std.proofs.Common.{◌≡◌, ◌∙◌, ℕ, ◌+◌, ◌/◌, ◌%◌, ◌<◌, Bool, true, false, cond, eqb, eqb-true, eq-eqb, List, ◌∷◌, ◌++◌, length, take, drop, slice_index, sym, ap, refl, arith, take-append-drop}
 use Rattle.std.proofs.lemmas.List.{take_at, drop_at, get_or_at, drop-drop, drop_more, length-drop, length-take}
 use Rattle.std.proofs.lemmas.Nat.{be_bytes_4}
 use Rattle.std.proofs.lemmas.Bool.Decides.{nat_tests}
 use Rattle.std.specs.Int.{w32, to_be_bytes, from_be_bytes}
 use Rattle.namespace_id.specs.Bytes.{AreBytes}
+use Rattle.namespace_id.specs.Shares.{IsShare}
 use Rattle.namespace_id.specs.declared.shares.Share.{Share}
 use Rattle.namespace_id.proofs.StringLemmas.{AreBytes-take, AreBytes-drop}
+use Rattle.share_split.specs.Blobs.{info}
 use Rattle.share_split.specs.Walks.{version_in, is_start, fields_in}
 
 -- ---- what is read of a share that was written
@@ -49,21 +51,24 @@ stated bytes at long fits =
 
 -- ---- the info byte
 
--- version 0 and a start are the byte 1
-start_byte : (byte : ℕ) → byte / 2 ≡ 0 → eqb (byte % 2) 1 ≡ true → byte ≡ 1
-start_byte byte version start = let odd : byte % 2 ≡ 1 = eqb-true _ _ start in omega arith
+-- an info byte states the version
+pub version_of_info : (version : ℕ) (start : Bool) → info version start / 2 ≡ version
+version_of_info version true = omega arith
+version_of_info version false = omega arith
 
--- version 0 and no start are the byte 0
-later_byte : (byte : ℕ) → byte / 2 ≡ 0 → eqb (byte % 2) 1 ≡ false → byte ≡ 0
-later_byte byte version later = grind (arith, nat_tests)
+-- it states whether a sequence starts
+pub start_of_info : (version : ℕ) (start : Bool) → eqb (info version start % 2) 1 ≡ start
+start_of_info version true = eq-eqb _ _ (omega arith)
+start_of_info version false = grind (arith, nat_tests)
 
--- the info byte of a first share
-pub first_byte_is : (share : Share) → version_in share ≡ 0 → is_start share ≡ true → slice_index share.0 29 ≡ 1
-first_byte_is share version start = start_byte (slice_index share.0 29) version start
+-- a byte that states these is the info byte
+info_back : (byte version : ℕ) (start : Bool) → byte / 2 ≡ version → eqb (byte % 2) 1 ≡ start → byte ≡ info version start
+info_back byte version true half odd = let one : byte % 2 ≡ 1 = eqb-true _ _ odd in omega arith
+info_back byte version false half even = grind (arith, nat_tests)
 
--- the info byte of a later share
-pub later_byte_is : (share : Share) → version_in share ≡ 0 → is_start share ≡ false → slice_index share.0 29 ≡ 0
-later_byte_is share version later = later_byte (slice_index share.0 29) version later
+-- the info byte of a share
+pub info_is : (share : Share) (version : ℕ) (start : Bool) → version_in share ≡ version → is_start share ≡ start → slice_index share.0 29 ≡ info version start
+info_is share version start half odd = info_back (slice_index share.0 29) version start half odd
 
 -- the fields begin behind the length in a first share, and behind the info byte in a later one
 pub fields_first : (share : Share) → is_start share ≡ true → fields_in share ≡ drop 34 share.0
@@ -72,3 +77,7 @@ fields_first share start = ap (λ (b : Bool). drop (cond b 34 30) share.0) start
 -- the fields of a later share begin behind its info byte
 pub fields_later : (share : Share) → is_start share ≡ false → fields_in share ≡ drop 30 share.0
 fields_later share later = ap (λ (b : Bool). drop (cond b 34 30) share.0) later
+
+-- those of a first share are as many as are left in it
+pub length-fields : (share : Share) → is_start share ≡ true → IsShare share → length (fields_in share) ≡ 478
+length-fields share start whole = omega (arith, ap length (fields_first share start), length-drop 34 share.0, whole.size_is)

@@ -2,7 +2,6 @@
 use Rattle.std.proofs.Common.{◌≡◌, ◌∙◌, ℕ, ◌+◌, ◌-◌, ◌≤◌, Bool, List, [], ◌∷◌, ◌++◌, length, take, drop, replicate, sym, ap, ap₂, refl, arith, length-append}
 use Rattle.std.proofs.lemmas.List.{drop-replicate, take-replicate, append_assoc}
 use Rattle.std.proofs.Math.Seq.{take-append-add}
-use Rattle.std.specs.Int.{w32, to_be_bytes}
 use Rattle.namespace_id.proofs.StringLemmas.{put_next}
 use Rattle.namespace_id.specs.declared.namespaces.Namespace.{Namespace}
 use Rattle.namespace_id.specs.declared.shares.Share.{Share}
@@ -65,31 +64,30 @@ begun_written name s t start info_byte n i es et =
     two ∙ head_laid name start n ∙ ap (λ (j : ℕ). head name j ++ replicate later_content 0) i
 
 -- a share of a sequence is its parts, one behind another, and zeros
-pub sequence_written : (name : Namespace) (start : Bool) (fields content t u v : List ℕ) → length name.0 ≡ 29
-    → length fields + length content ≤ later_content
-    → t ≡ head name.0 (info 0 start) ++ replicate later_content 0
-    → u ≡ take 30 t ++ fields ++ drop (30 + length fields) t
-    → v ≡ take (30 + length fields) u ++ content ++ drop (30 + length fields + length content) u
-    → share_of v ≡ sequence_share name start fields content
+pub sequence_written : (name : Namespace) (version : ℕ) (start : Bool) (field next content t u v w : List ℕ) (place : ℕ) → length name.0 ≡ 29
+    → length field + length next + length content ≤ later_content
+    → place ≡ 30 + length field
+    → t ≡ head name.0 (info version start) ++ replicate later_content 0
+    → u ≡ take 30 t ++ field ++ drop (30 + length field) t
+    → v ≡ take place u ++ next ++ drop (place + length next) u
+    → w ≡ take (place + length next) v ++ content ++ drop (place + length next + length content) v
+    → share_of w ≡ sequence_share name version start (field ++ next) content
 unfolding sequence_share
-sequence_written name start fields content t u v n h et eu ev =
-    let first : List ℕ = head name.0 (info 0 start) in
+sequence_written name version start field next content t u v w place n h p et eu ev ew =
+    let first : List ℕ = head name.0 (info version start) in
+    let fields : List ℕ = field ++ next in
     let rest : List ℕ = filled (later_content - length fields) content in
-    let begins : length first ≡ 30 = length-head name.0 (info 0 start) n in
-    let two : t ≡ laid first = et ∙ sym (head_laid name.0 (info 0 start) n) in
-    let three : u ≡ laid (first ++ fields) = laid_more first fields t u 30 two (sym begins) eu in
-    let place : length (first ++ fields) ≡ 30 + length fields = length-append first fields ∙ ap (λ (k : ℕ). k + length fields) begins in
-    let whole : v ≡ laid (first ++ fields ++ content) = laid_more (first ++ fields) content u v (30 + length fields) three (sym place) ev in
+    let begins : length first ≡ 30 = length-head name.0 (info version start) n in
+    let both : length fields ≡ length field + length next = length-append field next in
+    let two : t ≡ laid first = et ∙ sym (head_laid name.0 (info version start) n) in
+    let three : u ≡ laid (first ++ field) = laid_more first field t u 30 two (sym begins) eu in
+    let behind : length (first ++ field) ≡ place = omega (arith, length-append first field, begins, p) in
+    let four : v ≡ laid (first ++ fields) =
+    laid_more (first ++ field) next u v place three (sym behind) ev ∙ ap laid (append_assoc first field next) in
+    let last : length (first ++ fields) ≡ place + length next = omega (arith, length-append first fields, begins, both, p) in
+    let whole : w ≡ laid (first ++ fields ++ content) = laid_more (first ++ fields) content v w (place + length next) four (sym last) ew in
     ap share_of
     (whole
-    ∙ laid_filled (first ++ fields) content (later_content - length fields) (omega (arith, place, h)) (omega (arith, h))
+    ∙ laid_filled (first ++ fields) content (later_content - length fields) (omega (arith, last, both, p, h)) (omega (arith, both, h))
     ∙ append_assoc first fields rest
-    ∙ append_assoc name.0 (info 0 start ∷ []) (fields ++ rest))
-
--- the two fields of a first compact share, four bytes each
-pub eight_written : (s r t u : List ℕ) (size reserved : ℕ) → s ≡ to_be_bytes w32 size → r ≡ to_be_bytes w32 reserved
-    → t ≡ take 0 (replicate 8 0) ++ s ++ drop (0 + length s) (replicate 8 0) → u ≡ take 4 t ++ r ++ drop (4 + length r) t
-    → u ≡ to_be_bytes w32 size ++ to_be_bytes w32 reserved
-eight_written s r t u size reserved es er et eu =
-    eu ∙ ap₂ (λ (x y : List ℕ). take 4 x ++ y ++ drop (4 + length y) x)
-    (et ∙ ap (λ (x : List ℕ). take 0 (replicate 8 0) ++ x ++ drop (0 + length x) (replicate 8 0)) es) er
+    ∙ append_assoc name.0 (info version start ∷ []) (fields ++ rest))

@@ -85,15 +85,15 @@ length-filled n content =
     omega (arith, length-take n (content ++ replicate n 0), length-append content (replicate n 0), length-replicate {A = ℕ} n 0)
 
 -- an info byte is a byte
-info-lt : (start : Bool) → info 0 start < 256
-info-lt true = omega arith
-info-lt false = omega arith
+info-lt : (version : ℕ) (start : Bool) → version ≤ 1 → info version start < 256
+info-lt version true few = omega arith
+info-lt version false few = omega arith
 
 -- a share of a sequence is a share, where its fields have room in it
-pub sequence_fits : (name : Namespace) (start : Bool) (fields content : List ℕ) → length fields ≤ later_content → IsNamespace name
-    → AreBytes fields → AreBytes content → IsShare (sequence_share name start fields content)
+pub sequence_fits : (name : Namespace) (version : ℕ) (start : Bool) (fields content : List ℕ) → version ≤ 1 → length fields ≤ later_content → IsNamespace name
+    → AreBytes fields → AreBytes content → IsShare (sequence_share name version start fields content)
 unfolding sequence_share
-sequence_fits name start fields content few named fits content_fits =
+sequence_fits name version start fields content low few named fits content_fits =
     let n : ℕ = later_content - length fields in
     let rest : List ℕ = fields ++ filled n content in
     record {
@@ -101,12 +101,12 @@ sequence_fits name start fields content few named fits content_fits =
         arith,
         few,
         named.size_is,
-        length-append name.0 (info 0 start ∷ rest),
+        length-append name.0 (info version start ∷ rest),
         length-append fields (filled n content),
         length-filled n content,
       );
-      fits = AreBytes-append name.0 (info 0 start ∷ rest) named.fits
-          (AreBytes-cons (info 0 start) rest (info-lt start) (AreBytes-append fields (filled n content) fits (AreBytes-filled n content content_fits)));
+      fits = AreBytes-append name.0 (info version start ∷ rest) named.fits
+          (AreBytes-cons (info version start) rest (info-lt version start low) (AreBytes-append fields (filled n content) fits (AreBytes-filled n content content_fits)));
     }
 
 -- later compact shares are shares
@@ -115,7 +115,7 @@ later_are_shares : (name : Namespace) (i : ℕ) (starts text : List ℕ) (count 
 unfolding later_compact_shares
 later_are_shares name i starts text zero named fits = tt
 later_are_shares name i starts text (suc count) named fits = (
-  sequence_fits name false (to_be_bytes w32 (reserved_of i starts)) (take later_compact_content text) (omega arith) named
+  sequence_fits name 0 false (to_be_bytes w32 (reserved_of i starts)) (take later_compact_content text) (omega arith) (omega arith) named
       (AreBytes-number (reserved_of i starts)) (AreBytes-take later_compact_content text fits),
   later_are_shares name (suc i) starts (drop later_compact_content text) count named (AreBytes-drop later_compact_content text fits),
 )
@@ -128,7 +128,7 @@ unit_shares_are_shares name (unit ∷ units) named all =
     let text : List ℕ = units_text (unit ∷ units) in
     let fits : AreBytes text = AreBytes-units_text (unit ∷ units) all in
     let starts : List ℕ = starts_from 0 (unit ∷ units) in (
-      sequence_fits name true (to_be_bytes w32 (length text) ++ to_be_bytes w32 (reserved_of 0 starts)) (take first_compact_content text) (omega arith) named
+      sequence_fits name 0 true (to_be_bytes w32 (length text) ++ to_be_bytes w32 (reserved_of 0 starts)) (take first_compact_content text) (omega arith) (omega arith) named
           (AreBytes-append (to_be_bytes w32 (length text)) (to_be_bytes w32 (reserved_of 0 starts)) (AreBytes-number (length text)) (AreBytes-number (reserved_of 0 starts)))
           (AreBytes-take first_compact_content text fits),
       later_are_shares name 1 starts (drop first_compact_content text) (compact_count (length text) - 1) named (AreBytes-drop first_compact_content text fits),
