@@ -1,5 +1,5 @@
 -- Generated blobs and units take few shares.
-use Rattle.std.proofs.Common.{◌≡◌, ◌∙◌, ℕ, zero, suc, ◌+◌, ◌-◌, ◌*◌, ◌/◌, ◌%◌, ◌<◌, ◌≤◌, min, List, [], ◌∷◌, length, true, refl, ap, inl, inr, length-append, arith}
+use Rattle.std.proofs.Common.{◌≡◌, ◌∙◌, ℕ, zero, suc, ◌+◌, ◌-◌, ◌*◌, ◌/◌, ◌%◌, ◌<◌, ◌≤◌, min, List, [], ◌∷◌, length, true, false, refl, ap, inl, inr, length-append, arith}
 use Rattle.std.specs.Prelude.{None}
 use Rattle.std.specs.List.{AllByRecursion}
 use Rattle.std.proofs.Math.Nat.{mod-lt}
@@ -36,13 +36,13 @@ name_passes : (last : ℕ) → namespace_refusal (name_with last).0 ≡ None
 name_passes last = refl
 
 -- bytes for which so many shares have room take no more
-few_shares : (size later : ℕ) → size ≤ 478 + 482 * later → share_count size ≤ 1 + later
+few_shares : (size later : ℕ) → size ≤ 478 + 482 * later → share_count size false ≤ 1 + later
 few_shares size later h = elim (cases_lt 478 size) [
   | inl above ↦
-      let shares : share_count size ≡ 1 + ((size - 478) / 482 + min 1 ((size - 478) % 482)) =
+      let shares : share_count size false ≡ 1 + ((size - 478) / 482 + min 1 ((size - 478) % 482)) =
       grind (arith, nat_tests) in
       omega (arith, shares)
-  | inr within ↦ (let one : share_count size ≡ 1 = grind (arith, nat_tests) in omega (arith, one))
+  | inr within ↦ (let one : share_count size false ≡ 1 = grind (arith, nat_tests) in omega (arith, one))
 ]
 
 -- a blob has no more shares than its word says
@@ -64,7 +64,7 @@ blob_fits k key place some =
       named = name_passes (key_word key place % 16);
       some = omega (arith, long, len-ge k key place);
       few =
-          let shares : share_count (length (bytes_at key (place + 3) (blob_len k key place))) ≤ 1 + key_word key
+          let shares : share_count (length (bytes_at key (place + 3) (blob_len k key place))) false ≤ 1 + key_word key
           (place + 1) % k =
           few_shares (length (bytes_at key (place + 3) (blob_len k key place))) (key_word key (place + 1) % k)
           (omega (arith, long, len-le k key place)) in

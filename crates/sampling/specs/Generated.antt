@@ -1,5 +1,5 @@
 -- Generated blocks (docs/FORMATS.md, "Generated blocks").
-use Rattle.std.specs.Prelude.{ℕ, zero, suc, ◌+◌, ◌-◌, ◌*◌, ◌/◌, ◌%◌, List, [], ◌∷◌, ◌++◌, max, nat_le, take, replicate, Some, if◌then◌else◌}
+use Rattle.std.specs.Prelude.{ℕ, zero, suc, ◌+◌, ◌-◌, ◌*◌, ◌/◌, ◌%◌, List, [], ◌∷◌, ◌++◌, max, nat_le, take, replicate, Some, None, if◌then◌else◌}
 use Rattle.std.specs.Int.{w32, w64, to_le_bytes, div_ceil}
 use Rattle.namespace_id.specs.declared.namespaces.Namespace.{Namespace}
 use Rattle.share_split.specs.Blobs.{NamedBytes, first_content, later_content}
@@ -66,6 +66,7 @@ abbrev pub blob_at : ℕ → List ℕ → ℕ → NamedBytes
 blob_at k key place = record {
   namespace = name_with (key_word key place % 16);
   bytes = bytes_at key (place + 3) (blob_len k key place);
+  signer = None;
 }
 
 -- the place behind it

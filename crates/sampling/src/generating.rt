@@ -109,6 +109,7 @@ fn blob(alloc: Global, words: &mut ChaCha20Rng, k: u16) -> Result<Blob, NoMemory
     Ok(Blob {
         namespace: name_with(last),
         bytes,
+        signer: None,
     })
 }
 

@@ -13,3 +13,4 @@ pub mod StandingLemmas
 pub mod LeastWidthLemmas
 pub mod OrderLawLemmas
 pub mod SquareLemmas
+pub mod BlobLemmas

@@ -14,7 +14,8 @@ use Rattle.share_split.specs.Units.{unit_shares_of}
 use Rattle.share_split.specs.Joined.{padding_share}
 use Rattle.square_layout.specs.Blocks.{BlockParts}
 use Rattle.square_layout.specs.Layout.{put_in, in_order, start_after, share_count_of, placed, compact_end, laid}
-use Rattle.square_layout.proofs.ShareNameLemmas.{AreNamed, blob_shares_of-named, unit_shares_of-named, padding-named}
+use Rattle.square_layout.specs.ShareNames.{AreNamed}
+use Rattle.square_layout.proofs.ShareNameLemmas.{blob_shares_of-named, unit_shares_of-named, padding-named}
 use Rattle.square_layout.proofs.BlobOrderLemmas.{All-in_order}
 
 -- ---- shares whose namespaces never fall, from a namespace on
@@ -87,7 +88,7 @@ RiseFrom-placed name end [] count n high between up =
     (RiseFrom-named name tail_padding (replicate count (padding_share tail_padding)) [] high (padding-named count tail_padding refl) tt)
 RiseFrom-placed name end (blob ∷ blobs) count n high between up =
     let gap : List Share = replicate (start_after end blob - end) (padding_share name) in
-    let own : List Share = blob_shares_of blob.namespace blob.bytes in
+    let own : List Share = blob_shares_of blob.namespace blob.signer blob.bytes in
     let others : List Share = placed blob.namespace (start_after end blob + share_count_of blob) blobs in
     let tail : List Share = replicate count (padding_share tail_padding) in
     let rest : RiseFrom blob.namespace (others ++ tail) =
@@ -95,7 +96,7 @@ RiseFrom-placed name end (blob ∷ blobs) count n high between up =
     let grouped : gap ++ own ++ others ++ tail ≡ gap ++ (own ++ (others ++ tail)) = simp append_assoc in
     subst (RiseFrom name) (sym grouped)
     (RiseFrom-named name name gap (own ++ (others ++ tail)) (at_most_refl name) (padding-named (start_after end blob - end) name n)
-    (RiseFrom-named name blob.namespace own (others ++ tail) up.0 (blob_shares_of-named blob.namespace blob.bytes between.0.size) rest))
+    (RiseFrom-named name blob.namespace own (others ++ tail) up.0 (blob_shares_of-named blob.namespace blob.signer blob.bytes between.0.size) rest))
 
 -- ---- the square
 

@@ -1,5 +1,5 @@
 -- The order of blobs in a square: their namespaces never fall, and blobs of one namespace stay in order.
-use Rattle.std.proofs.Common.{◌≡◌, ◌∙◌, ℕ, Bool, true, if◌then◌else◌, ◌&&◌, List, [], ◌∷◌, filter, map, refl, sym, ap}
+use Rattle.std.proofs.Common.{◌≡◌, ◌∙◌, ℕ, Bool, true, if◌then◌else◌, ◌&&◌, List, [], ◌∷◌, filter, map, None, refl, sym, ap}
 use Rattle.std.proofs.lemmas.Slice.Eq.{bytes_eq-Decides}
 use Rattle.namespace_id.specs.declared.namespaces.Namespace.{Namespace}
 use Rattle.namespace_id.specs.Lists.{holds_along}
@@ -61,4 +61,4 @@ in_order-ascends blobs =
 -- the blobs of one namespace stay in the order in which they came
 pub filter-in_order : (name : Namespace) (blobs : List NamedBytes) → filter (has_name name) (in_order blobs) ≡ filter (has_name name) blobs
 filter-in_order name blobs =
-    ap (filter (has_name name)) (sym (order_by-is blobs)) ∙ filter-order_by names_rank (record { namespace = name; bytes = [] }) blobs
+    ap (filter (has_name name)) (sym (order_by-is blobs)) ∙ filter-order_by names_rank (record { namespace = name; bytes = []; signer = None }) blobs

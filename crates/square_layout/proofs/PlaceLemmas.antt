@@ -55,11 +55,11 @@ unfolding placed end_of
 length-placed name end [] = omega arith
 length-placed name end (blob ∷ blobs) =
     let gap : List Share = replicate (start_after end blob - end) (padding_share name) in
-    let own : List Share = blob_shares_of blob.namespace blob.bytes in
+    let own : List Share = blob_shares_of blob.namespace blob.signer blob.bytes in
     let others : List Share = placed blob.namespace (start_after end blob + share_count_of blob) blobs in
     let later = start_after-ge end blob in
     let long_gap : length gap ≡ start_after end blob - end = length-replicate (start_after end blob - end) (padding_share name) in
-    let long_own : length own ≡ share_count_of blob = length-blob_shares_of blob.namespace blob.bytes in
+    let long_own : length own ≡ share_count_of blob = length-blob_shares_of blob.namespace blob.signer blob.bytes in
     let all : length (gap ++ own ++ others) ≡ length gap + length own + length others =
     length-append (gap ++ own) others ∙ ap (λ (n : ℕ). n + length others) (length-append gap own) in
     let rest : start_after end blob + share_count_of blob + length others ≡ end_of (start_after end blob + share_count_of blob) blobs =

@@ -12,25 +12,25 @@ use Rattle.square_layout.proofs.PlaceLemmas.{start_after-ge, end_of-ge, end_of-n
 -- the padding before a blob, and its shares
 abbrev pub piece_of : Namespace → ℕ → NamedBytes → List Share
 piece_of before end blob =
-    replicate (start_after end blob - end) (padding_share before) ++ blob_shares_of blob.namespace blob.bytes
+    replicate (start_after end blob - end) (padding_share before) ++ blob_shares_of blob.namespace blob.signer blob.bytes
 
 -- what is there, with them behind
 abbrev pub put_behind : Namespace → NamedBytes → List Share → List Share
 put_behind before blob out =
-    out ++ replicate (start_after (length out) blob - length out) (padding_share before) ++ blob_shares_of blob.namespace blob.bytes
+    out ++ replicate (start_after (length out) blob - length out) (padding_share before) ++ blob_shares_of blob.namespace blob.signer blob.bytes
 
 -- what is put behind shares is the padding and the blob from their end on
 put_behind-is : (before : Namespace) (blob : NamedBytes) (out : List Share) → put_behind before blob out ≡ out ++ piece_of before (length out) blob
 put_behind-is before blob out =
-    append_assoc out (replicate (start_after (length out) blob - length out) (padding_share before)) (blob_shares_of blob.namespace blob.bytes)
+    append_assoc out (replicate (start_after (length out) blob - length out) (padding_share before)) (blob_shares_of blob.namespace blob.signer blob.bytes)
 
 -- the padding and the blob reach up to the end of the blob
 length-piece_of : (before : Namespace) (end : ℕ) (blob : NamedBytes) → end + length (piece_of before end blob) ≡ start_after end blob + share_count_of blob
 length-piece_of before end blob =
     let gap : List Share = replicate (start_after end blob - end) (padding_share before) in
-    let own : List Share = blob_shares_of blob.namespace blob.bytes in
+    let own : List Share = blob_shares_of blob.namespace blob.signer blob.bytes in
     let long_gap : length gap ≡ start_after end blob - end = length-replicate (start_after end blob - end) (padding_share before) in
-    let long_own : length own ≡ share_count_of blob = length-blob_shares_of blob.namespace blob.bytes in
+    let long_own : length own ≡ share_count_of blob = length-blob_shares_of blob.namespace blob.signer blob.bytes in
     omega (arith, long_gap, long_own, length-append gap own, start_after-ge end blob)
 
 -- with one blob more the end is where it ends
@@ -47,7 +47,7 @@ unfolding placed
 put_on before blob blobs others out new whole left n so_far =
     let rest : List Share = placed blob.namespace (start_after (length out) blob + share_count_of blob) others in
     let gap : List Share = replicate (start_after (length out) blob - length out) (padding_share before) in
-    let own : List Share = blob_shares_of blob.namespace blob.bytes in
+    let own : List Share = blob_shares_of blob.namespace blob.signer blob.bytes in
     ap₂ (λ (x : List Share) (e : ℕ). x ++ placed blob.namespace e others) (n ∙ put_behind-is before blob out) (put_end before blob out new n)
     ∙ append_assoc out (gap ++ own) rest
     ∙ sym (ap (λ (l : List NamedBytes). out ++ placed before (length out) l) left) ∙ so_far

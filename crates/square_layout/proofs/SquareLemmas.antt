@@ -72,7 +72,7 @@ if_passes true e h = refl
 if_passes false e h = absurd cc
 
 -- a width that isn't refused holds the shares
-size_passes : (width : Option ℕ) (count : ℕ) → size_refusal width count ≡ None
+pub size_passes : (width : Option ℕ) (count : ℕ) → size_refusal width count ≡ None
     → (is_width (option_map_or (λ k. k) width (holding_from 7 1 count)) ≡ true)
     × (count ≤ option_map_or (λ k. k) width (holding_from 7 1 count) * option_map_or (λ k. k) width (holding_from 7 1 count))
 size_passes None count h =
@@ -123,11 +123,11 @@ unfolding placed
 placed-shares_law name end [] named all = tt
 placed-shares_law name end (blob ∷ blobs) named all =
     let gap : List Share = replicate (start_after end blob - end) (padding_share name) in
-    let own : List Share = blob_shares_of blob.namespace blob.bytes in
+    let own : List Share = blob_shares_of blob.namespace blob.signer blob.bytes in
     let others : List Share = placed blob.namespace (start_after end blob + share_count_of blob) blobs in
     AreShares-append (gap ++ own) others
     (AreShares-append gap own (AreShares-replicate (start_after end blob - end) (padding_share name) (padding_is_share name named))
-    (blob_shares_are_shares blob.namespace blob.bytes all.0.name all.0.fits))
+    (blob_shares_are_shares blob.namespace blob.signer blob.bytes all.0.name all.0.signer all.0.fits))
     (placed-shares_law blob.namespace (start_after end blob + share_count_of blob) blobs all.0.name all.1)
 
 -- a square has shares

@@ -39,7 +39,7 @@ unfolding placed end_of last_name
 placed-append name end [] back = refl
 placed-append name end (first ∷ front) back =
     let next : ℕ = start_after end first + share_count_of first in
-    let own : List Share = replicate (start_after end first - end) (padding_share name) ++ blob_shares_of first.namespace first.bytes in
+    let own : List Share = replicate (start_after end first - end) (padding_share name) ++ blob_shares_of first.namespace first.signer first.bytes in
     ap (λ (l : List Share). own ++ l) (placed-append first.namespace next front back)
     ∙ sym (append_assoc own (placed first.namespace next front) (placed (last_name first.namespace front) (end_of next front) back))
 
@@ -47,10 +47,10 @@ placed-append name end (first ∷ front) back =
 placed-cons : (name : Namespace) (end : ℕ) (blob : NamedBytes) (back : List NamedBytes)
     → placed name end (blob ∷ back)
     ≡ replicate (start_after end blob - end) (padding_share name)
-    ++ (blob_shares_of blob.namespace blob.bytes ++ placed blob.namespace (start_after end blob + share_count_of blob) back)
+    ++ (blob_shares_of blob.namespace blob.signer blob.bytes ++ placed blob.namespace (start_after end blob + share_count_of blob) back)
 unfolding placed
 placed-cons name end blob back =
-    append_assoc (replicate (start_after end blob - end) (padding_share name)) (blob_shares_of blob.namespace blob.bytes)
+    append_assoc (replicate (start_after end blob - end) (padding_share name)) (blob_shares_of blob.namespace blob.signer blob.bytes)
     (placed blob.namespace (start_after end blob + share_count_of blob) back)
 
 -- what precedes a blob in a layout, without the padding
@@ -76,11 +76,11 @@ behind_of block front blob back =
 
 -- a layout is what stands before a blob, its padding and shares, and the others
 laid-parts : (block : BlockParts) (front back : List NamedBytes) (blob : NamedBytes) → in_order block.blobs ≡ front ++ blob ∷ back
-    → laid block ≡ before_of block front ++ (gap_of block front blob ++ (blob_shares_of blob.namespace blob.bytes ++ behind_of block front blob back))
+    → laid block ≡ before_of block front ++ (gap_of block front blob ++ (blob_shares_of blob.namespace blob.signer blob.bytes ++ behind_of block front blob back))
 laid-parts block front back blob e =
     let compact : List Share = compact_part block in
     let end : ℕ = compact_end block in
-    let rest : List Share = gap_of block front blob ++ (blob_shares_of blob.namespace blob.bytes ++ behind_of block front blob back) in
+    let rest : List Share = gap_of block front blob ++ (blob_shares_of blob.namespace blob.signer blob.bytes ++ behind_of block front blob back) in
     ap (λ (l : List NamedBytes). compact ++ placed primary_reserved_padding end l) e
     ∙ ap (λ (l : List Share). compact ++ l)
     (placed-append primary_reserved_padding end front (blob ∷ back)
@@ -97,20 +97,20 @@ compact_stands block =
 
 -- the shares of each blob stand where it starts
 pub blob_stands : (block : BlockParts) (front back : List NamedBytes) (blob : NamedBytes) → in_order block.blobs ≡ front ++ blob ∷ back
-    → take (share_count_of blob) (drop (start_after (end_of (compact_end block) front) blob) (laid block)) ≡ blob_shares_of blob.namespace blob.bytes
+    → take (share_count_of blob) (drop (start_after (end_of (compact_end block) front) blob) (laid block)) ≡ blob_shares_of blob.namespace blob.signer blob.bytes
 blob_stands block front back blob e =
     let end : ℕ = end_of (compact_end block) front in
     let start : ℕ = start_after end blob in
     let before : List Share = before_of block front in
     let gap : List Share = gap_of block front blob in
-    let mine : List Share = blob_shares_of blob.namespace blob.bytes in
+    let mine : List Share = blob_shares_of blob.namespace blob.signer blob.bytes in
     let behind : List Share = behind_of block front blob back in
     let whole : laid block ≡ (before ++ gap) ++ mine ++ behind =
     laid-parts block front back blob e ∙ sym (append_assoc before gap (mine ++ behind)) ∙ sym (append_assoc (before ++ gap) mine behind) in
     let place : start ≡ length (before ++ gap) =
     omega (arith, length-append before gap, length-before_of block front, length-replicate (start - end) (padding_share (padding_name front)), start_after-ge end blob) in
     ap (λ (l : List Share). take (share_count_of blob) (drop start l)) whole
-    ∙ middle (before ++ gap) mine behind start (share_count_of blob) place (sym (length-blob_shares_of blob.namespace blob.bytes))
+    ∙ middle (before ++ gap) mine behind start (share_count_of blob) place (sym (length-blob_shares_of blob.namespace blob.signer blob.bytes))
 
 -- one of many alike, behind others
 alike_stands : (before : List Share) (n : ℕ) (share : Share) (behind : List Share) (i : ℕ) → length before ≤ i → i < length before + n
@@ -137,7 +137,7 @@ gap_stands block front back blob i e from below =
     let size : length (before_of block front) ≡ end = length-before_of block front in
     ap (λ (l : List Share). slice_get l i) (laid-parts block front back blob e)
     ∙ alike_stands (before_of block front) (start_after end blob - end) (padding_share (padding_name front))
-    (blob_shares_of blob.namespace blob.bytes ++ behind_of block front blob back) i (omega (arith, size, from)) (omega (arith, size, from, below))
+    (blob_shares_of blob.namespace blob.signer blob.bytes ++ behind_of block front blob back) i (omega (arith, size, from)) (omega (arith, size, from, below))
 
 -- tail padding stands behind the layout
 pub tail_stands : (block : BlockParts) (i : ℕ) → length (laid block) ≤ i → i < width_for block * width_for block

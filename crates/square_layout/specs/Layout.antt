@@ -1,5 +1,5 @@
 -- Where the shares of a block stand in its square (Celestia specifications, "Square Layout").
-use Rattle.std.specs.Prelude.{ℕ, ◌+◌, ◌-◌, ◌*◌, ◌==◌, nat_le, Bool, List, [], ◌∷◌, ◌++◌, length, replicate, if◌then◌else◌}
+use Rattle.std.specs.Prelude.{ℕ, ◌+◌, ◌-◌, ◌*◌, ◌==◌, nat_le, Bool, List, [], ◌∷◌, ◌++◌, length, replicate, is_some, if◌then◌else◌}
 use Rattle.std.specs.Int.{div_ceil}
 use Rattle.std.specs.Option.{option_map_or}
 use Rattle.std.specs.Str.{bytes_eq}
@@ -35,7 +35,7 @@ has_name name blob = bytes_eq name.0 blob.namespace.0
 
 -- how many shares a blob takes
 abbrev pub share_count_of : NamedBytes → ℕ
-share_count_of blob = share_count (length blob.bytes)
+share_count_of blob = share_count (length blob.bytes) (is_some blob.signer)
 
 -- where a blob starts if what precedes it ends at `end`: at the least multiple of the width of its
 -- subtrees that isn't below
@@ -48,7 +48,7 @@ unfoldable pub placed : Namespace → ℕ → List NamedBytes → List Share
 placed name end [] = []
 placed name end (blob ∷ blobs) =
     replicate (start_after end blob - end) (padding_share name)
-    ++ blob_shares_of blob.namespace blob.bytes
+    ++ blob_shares_of blob.namespace blob.signer blob.bytes
     ++ placed blob.namespace (start_after end blob + share_count_of blob) blobs
 
 -- the namespace of the last of some blobs, or this one where there is none

@@ -8,12 +8,22 @@ ghost use Rattle.square_layout.specs.Refusals.{max_count};
 use crate::Block;
 use share_split::{Blob, blob_share_count, subtree_width, unit_share_count};
 
+/// How many shares a blob takes.
+fn share_count_of(blob: &Blob) -> u64
+    requires { 1 ≤ length blob.now.bytes }
+    ensures value { result ≡ share_count_of blob.now }
+    ensures some { 1 ≤ result }
+    ensures bound { result ≤ 2 ^ 56 }
+{
+    blob_share_count(blob.bytes.len() as u64, blob.signer.is_some())
+}
+
 /// Where a blob starts if what precedes it ends at `end`; 2^64 - 1 for any greater place.
 pub(crate) fn start_after(end: u64, blob: &Blob) -> u64
     requires { 1 ≤ length blob.now.bytes }
     ensures { result ≡ min (start_after end blob.now) max_count }
 {
-    let width = subtree_width(blob_share_count(blob.bytes.len() as u64));
+    let width = subtree_width(share_count_of(blob));
     end.div_ceil(width).saturating_mul(width)
 }
 
@@ -22,7 +32,7 @@ fn end_after(end: u64, blob: &Blob) -> u64
     requires { 1 ≤ length blob.now.bytes }
     ensures { result ≡ min (start_after end blob.now + share_count_of blob.now) max_count }
 {
-    start_after(end, blob).saturating_add(blob_share_count(blob.bytes.len() as u64))
+    start_after(end, blob).saturating_add(share_count_of(blob))
 }
 
 /// Where the last of some blobs ends if what precedes them ends at `end`; 2^64 - 1 for any greater

@@ -9,12 +9,14 @@ ghost use Rattle.namespace_id.specs.Names.{is_at_most, is_blob_namespace, namesp
 ghost use Rattle.namespace_id.specs.Shares.{AreShares, name_in};
 ghost use Rattle.share_split.specs.Widths.{subtree_width_of};
 ghost use Rattle.share_split.specs.Blobs.{NamedBytes, blob_shares_of};
-ghost use Rattle.share_split.specs.Joined.{padding_share};
+ghost use Rattle.share_split.specs.Joined.{padding_share, IsBlob};
 ghost use Rattle.square_layout.specs.Blocks.{BlockParts, IsBlock, IsSquare};
 ghost use Rattle.square_layout.specs.Layout.{has_name, in_order, share_count_of, start_after, end_of, padding_name, compact_part, compact_end, laid, needed, holding_from, width_for, square_of};
 ghost use Rattle.square_layout.specs.Refusals.{max_shares, layout_refusal};
+ghost use Rattle.square_layout.specs.ShareNames.{BlobSharesAreNamed, UnitSharesAreNamed, PaddingIsNamed};
 
 use crate::MAX_SHARES;
+use share_split::blob_laws;
 
 /// Blobs stand by ascending namespace, and blobs of one namespace as they came.
 pub fn order_laws()
@@ -37,7 +39,7 @@ pub fn start_laws()
         in_order block.blobs ≡ before ++ blob ∷ after →
         take (share_count_of blob)
         (drop (start_after (end_of (compact_end block) before) blob) (laid block))
-        ≡ blob_shares_of blob.namespace blob.bytes }
+        ≡ blob_shares_of blob.namespace blob.signer blob.bytes }
 
     // The compact shares stand in front, and padding everywhere else.
     ensures front { (block : BlockParts) →
@@ -82,3 +84,16 @@ pub fn name_laws()
         AllByRecursion (λ blob. is_blob_namespace blob.namespace.0 ≡ true) block.blobs →
         holds_along is_at_most (map name_in (square_of block).shares) ≡ true }
 {}
+
+/// The shares of a blob, those of units, and padding have their namespace. The blobs of a block of bytes
+/// that isn't refused are blobs, as they stand in its square too: each has a byte, and no more than four
+/// bytes state.
+pub fn share_laws()
+    ensures blobs { BlobSharesAreNamed }
+    ensures units { UnitSharesAreNamed }
+    ensures padding { PaddingIsNamed }
+    ensures ordered { (block : BlockParts) → layout_refusal block ≡ None → IsBlock block →
+        AllByRecursion IsBlob (in_order block.blobs) }
+{
+    blob_laws();
+}

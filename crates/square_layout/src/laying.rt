@@ -81,7 +81,7 @@ fn shares_of(alloc: Global, block: &Block, order: &[&Blob], k: u16) -> Result<Ve
 /// Square layout: the original data square (ODS) of a block. It has the compact shares of its units,
 /// those of its payments for blobs, its blobs by ascending namespace, each where its subtrees begin, and
 /// padding between them and behind. Its width is the least that holds these, or the one that the block
-/// asks for.
+/// asks for. The shares of a signed blob have version 1, and all others version 0, padding too.
 ///
 /// Refuses the first blob whose namespace isn't one of a blob (`BadBlob`), then the first that has no
 /// bytes (`EmptyBlob`), whatever memory there is; then more shares than the greatest square has

@@ -11,5 +11,5 @@ mod putting;
 mod widths;
 
 pub use blocks::{Block, Square};
-pub use laws::{name_laws, order_laws, size_laws, start_laws};
+pub use laws::{name_laws, order_laws, share_laws, size_laws, start_laws};
 pub use laying::{LayError, MAX_SHARES, lay};

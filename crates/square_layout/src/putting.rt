@@ -11,7 +11,7 @@ ghost use Rattle.square_layout.specs.Refusals.{max_shares};
 
 use crate::counting::start_after;
 use namespace_id::{Namespace, NoMemory, PRIMARY_RESERVED_PADDING, Share};
-use share_split::{Blob, SplitError, Unit, blob_shares, padding_share, unit_shares};
+use share_split::{Blob, SplitError, Unit, blob_laws, blob_shares, padding_share, unit_shares};
 use std::alloc::Global;
 
 /// Appends padding shares until there are `to` shares.
@@ -52,9 +52,10 @@ fn put_content(blob: &Blob, out: &mut Vec<Share>) -> Result<(), NoMemory>
     requires some { 1 ≤ length blob.now.bytes }
     requires fits { share_count_of blob.now ≤ max_shares }
     ensures { OnOk result (out.new.items ≡
-        out.old.items ++ blob_shares_of blob.now.namespace blob.now.bytes) }
+        out.old.items ++ blob_shares_of blob.now.namespace blob.now.signer blob.now.bytes) }
 {
-    match blob_shares(&blob.namespace, &blob.bytes, out) {
+    blob_laws();
+    match blob_shares(&blob.namespace, &blob.bytes, blob.signer.as_ref(), out) {
         Ok(()) => Ok(()),
         Err(SplitError::NoMemory) => Err(NoMemory),
         Err(SplitError::Empty | SplitError::TooLong) => unreachable!(),
@@ -70,7 +71,7 @@ fn put_blob(before: &Namespace, blob: &Blob, out: &mut Vec<Share>) -> Result<(),
         out.old.items
         ++ replicate (start_after (length out.old.items) blob.now - length out.old.items)
         (padding_share before.now)
-        ++ blob_shares_of blob.now.namespace blob.now.bytes) }
+        ++ blob_shares_of blob.now.namespace blob.now.signer blob.now.bytes) }
 {
     let start = start_after(out.len() as u64, blob);
     put_padding(before, start as usize, out)?;
