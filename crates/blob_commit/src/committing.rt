@@ -1,6 +1,6 @@
 //! The commitment of a blob's shares.
 
-ghost use Rattle.std.specs.Prelude.{◌≡◌, ◌<◌, ◌≤◌, length, take, map, IsTrue, IfOk, IsErrOf, ◌↔◌, []};
+ghost use Rattle.std.specs.Prelude.{◌≡◌, ◌<◌, ◌≤◌, length, take, map, is_some, IsTrue, IfOk, IsErrOf, ◌↔◌, []};
 ghost use Rattle.namespace_id.specs.Shares.{name_in};
 ghost use Rattle.nmt_tree.specs.Roots.{is_leaf_count};
 ghost use Rattle.share_split.specs.Blobs.{blob_shares_of, share_count};
@@ -11,7 +11,7 @@ use crate::cutting::{cut_by, levels_of};
 use crate::hashing::{leaf_hash, root_over};
 use namespace_id::{Digest, NAMESPACE_SIZE, Namespace, Share};
 use nmt_tree::plain_root;
-use share_split::{Blob, blob_share_count, blob_shares};
+use share_split::{Blob, blob_laws, blob_share_count, blob_shares};
 use square_layout::MAX_SHARES;
 use std::alloc::Global;
 use thiserror::Error;
@@ -75,7 +75,8 @@ pub fn commitment(shares: &[Share]) -> [u8; 32]
     root_over(8, hashes.hashes())
 }
 
-/// The commitment of a blob: that of its shares. The room for these is taken at once.
+/// The commitment of a blob: that of its shares, the first of which has its signer, if there is one.
+/// The room for these is taken at once.
 ///
 /// Refuses a blob without bytes (`Empty`), then one of more than `MAX_SHARES` shares (`TooLarge`),
 /// then want of memory.
@@ -83,19 +84,22 @@ pub fn commitment(shares: &[Share]) -> [u8; 32]
 /// Celestia specifications, "Data Square Layout", blob share commitment rules.
 pub fn commitment_of(alloc: Global, blob: &Blob) -> Result<[u8; 32], CommitError>
     ensures value { IfOk result (λ commitment.
-        commitment ≡ commitment_over (blob_shares_of blob.now.namespace blob.now.bytes)) }
+        commitment ≡ commitment_over (blob_shares_of blob.now.namespace blob.now.signer blob.now.bytes)) }
     ensures empty { IsErrOf result CommitError.Empty ↔ (blob.now.bytes ≡ []) }
     ensures too_large { IsErrOf result CommitError.TooLarge ↔
-        (1 ≤ length blob.now.bytes) × (16384 < share_count (length blob.now.bytes)) }
+        (1 ≤ length blob.now.bytes) ×
+        (16384 < share_count (length blob.now.bytes) (is_some blob.now.signer)) }
 {
     if blob.bytes.is_empty() {
         return Err(CommitError::Empty);
     }
-    if blob_share_count(blob.bytes.len() as u64) > MAX_SHARES {
+    if blob_share_count(blob.bytes.len() as u64, blob.signer.is_some()) > MAX_SHARES {
         return Err(CommitError::TooLarge);
     }
+    blob_laws();
     let mut shares = Vec::new(alloc);
-    let Ok(()) = blob_shares(&blob.namespace, &blob.bytes, &mut shares) else {
+    let signer = blob.signer.as_ref();
+    let Ok(()) = blob_shares(&blob.namespace, &blob.bytes, signer, &mut shares) else {
         return Err(CommitError::NoMemory);
     };
     Ok(commitment(&shares))

@@ -16,6 +16,9 @@ ghost use Rattle.blob_commit.specs.Refusals.{commit_refusal, rooted_refusal};
 ghost use Rattle.blob_commit.specs.Proofs.{CommitParts, CommitHolds, IsCommit, RootedParts, RootedHolds, IsRooted, has_commit_shape, is_range};
 ghost use Rattle.blob_commit.specs.Places.{IsOwnCommit, IsOwnRooted};
 
+use share_split::blob_laws;
+use square_layout::{size_laws, start_laws};
+
 /// What is proved of proofs under the data root of a square's header.
 pub fn commit_laws()
     // A commitment proof is of the square's width, and its commitment is that of the square's
@@ -42,8 +45,12 @@ pub fn range_laws()
         in_order block.blobs ≡ before ++ blob ∷ after →
         take (share_count_of blob)
         (drop (start_after (end_of (compact_end block) before) blob) (square_of block).shares)
-        ≡ blob_shares_of blob.namespace blob.bytes }
-{}
+        ≡ blob_shares_of blob.namespace blob.signer blob.bytes }
+{
+    blob_laws();
+    size_laws();
+    start_laws();
+}
 
 /// What is proved of a commitment proof that has its shape: it has at most 128 rows, each with at most
 /// 128 subtrees.

@@ -1,5 +1,5 @@
 -- What the shares of a namespace in the square of a block are.
-use Rattle.std.proofs.Common.{◌≡◌, ◌∙◌, ℕ, zero, suc, ◌+◌, ◌-◌, List, [], ◌∷◌, ◌++◌, append-nil, replicate, Bool, true, false, cond, true≢false, refl, sym, ap, ap₂, subst, inl, inr}
+use Rattle.std.proofs.Common.{◌≡◌, ◌∙◌, ℕ, zero, suc, ◌+◌, ◌-◌, List, [], ◌∷◌, ◌++◌, append-nil, replicate, Bool, true, false, cond, true≢false, refl, sym, ap, ap₂, subst, arith, inl, inr}
 use Rattle.std.specs.List.{filter, AllByRecursion}
 use Rattle.std.specs.Str.{bytes_eq}
 use Rattle.std.proofs.lemmas.Bool.{cases_Bool}
@@ -13,7 +13,7 @@ use Rattle.namespace_id.specs.Shares.{name_in}
 use Rattle.share_split.specs.Blobs.{NamedBytes, blob_shares_of}
 use Rattle.share_split.specs.Joined.{padding, blob, padding_share, piece_shares, piece_blobs, IsBlob, IsPiece, AreBlobs}
 use Rattle.square_layout.specs.Layout.{has_name, share_count_of, start_after, placed}
-use Rattle.square_layout.proofs.ShareNameLemmas.{AreNamed, blob_shares_of-named, padding-named}
+use Rattle.square_layout.specs.ShareNames.{AreNamed, BlobSharesAreNamed, PaddingIsNamed}
 use Rattle.square_serve.specs.Shares.{is_named}
 use Rattle.blob_feed.proofs.EachLemmas.{each_of_both}
 
@@ -63,7 +63,12 @@ both_blobs s t b c one other = record {
 
 -- padding
 one_padding : (name : Namespace) → IsNamespace name → AreBlobs (padding_share name ∷ []) []
-one_padding name named = record { pieces = padding name ∷ []; are_pieces = (named, tt); parts = refl; shown = refl }
+one_padding name named = record {
+  pieces = padding 0 name ∷ [];
+  are_pieces = ((omega arith, named), tt);
+  parts = refl;
+  shown = refl;
+}
 
 -- so much padding
 some_padding : (n : ℕ) (name : Namespace) → IsNamespace name → AreBlobs (replicate n (padding_share name)) []
@@ -73,11 +78,11 @@ some_padding (suc n) name named =
     (some_padding n name named)
 
 -- a blob
-one_blob : (named : NamedBytes) → IsBlob named → AreBlobs (blob_shares_of named.namespace named.bytes) (named ∷ [])
+one_blob : (named : NamedBytes) → IsBlob named → AreBlobs (blob_shares_of named.namespace named.signer named.bytes) (named ∷ [])
 one_blob named is = record {
   pieces = blob named ∷ [];
   are_pieces = (is, tt);
-  parts = sym (append-nil (blob_shares_of named.namespace named.bytes));
+  parts = sym (append-nil (blob_shares_of named.namespace named.signer named.bytes));
   shown = refl;
 }
 
@@ -126,19 +131,19 @@ no_choice true shares are = are
 no_choice false shares are = are
 
 -- the padding before a blob
-gap_part : (name before : Namespace) (n : ℕ) → IsNamespace before
+gap_part : PaddingIsNamed → (name before : Namespace) (n : ℕ) → IsNamespace before
     → AreBlobs (filter (is_named name) (replicate n (padding_share before))) []
-gap_part name before n named = no_choice (bytes_eq name.0 before.0)
+gap_part of_padding name before n named = no_choice (bytes_eq name.0 before.0)
     (filter (is_named name) (replicate n (padding_share before)))
     (part_of name before (replicate n (padding_share before)) [] (bytes_eq name.0 before.0) refl
-    (padding-named n before named.size_is) (some_padding n before named))
+    (of_padding n before named.size_is) (some_padding n before named))
 
 -- a blob
-own_part : (name : Namespace) (one : NamedBytes) → IsBlob one
-    → AreBlobs (filter (is_named name) (blob_shares_of one.namespace one.bytes)) (cond (has_name name one) (one ∷ []) [])
-own_part name one is = part_of name one.namespace (blob_shares_of one.namespace one.bytes) (one ∷ [])
+own_part : BlobSharesAreNamed → (name : Namespace) (one : NamedBytes) → IsBlob one
+    → AreBlobs (filter (is_named name) (blob_shares_of one.namespace one.signer one.bytes)) (cond (has_name name one) (one ∷ []) [])
+own_part of_blobs name one is = part_of name one.namespace (blob_shares_of one.namespace one.signer one.bytes) (one ∷ [])
     (has_name name one) refl
-    (blob_shares_of-named one.namespace one.bytes is.name.size_is) (one_blob one is)
+    (of_blobs one.namespace one.signer one.bytes is.name.size_is) (one_blob one is)
 
 -- the layout of no blobs
 placed_none : (before : Namespace) (end : ℕ) → placed before end [] ≡ []
@@ -146,9 +151,9 @@ unfolding placed
 placed_none before end = refl
 
 -- and of one more
-pub placed_step : (before : Namespace) (end : ℕ) (one : NamedBytes) (blobs : List NamedBytes)
+placed_step : (before : Namespace) (end : ℕ) (one : NamedBytes) (blobs : List NamedBytes)
     → placed before end (one ∷ blobs) ≡ replicate (start_after end one - end) (padding_share before)
-    ++ blob_shares_of one.namespace one.bytes
+    ++ blob_shares_of one.namespace one.signer one.bytes
     ++ placed one.namespace (start_after end one + share_count_of one) blobs
 unfolding placed
 placed_step before end one blobs = refl
@@ -177,14 +182,14 @@ between name one two own tail none_one none_two none_tail =
     ∙ append-nil (filter (is_named name) own)
 
 -- the blobs of a layout
-pub placed_part : (name before : Namespace) (end : ℕ) (blobs : List NamedBytes) → IsNamespace before
-    → AllByRecursion IsBlob blobs
+pub placed_part : BlobSharesAreNamed → PaddingIsNamed → (name before : Namespace) (end : ℕ)
+    (blobs : List NamedBytes) → IsNamespace before → AllByRecursion IsBlob blobs
     → AreBlobs (filter (is_named name) (placed before end blobs)) (filter (has_name name) blobs)
-placed_part name before end [] named are =
+placed_part of_blobs of_padding name before end [] named are =
     subst (λ (s : List Share). AreBlobs (filter (is_named name) s) []) (sym (placed_none before end)) no_blobs
-placed_part name before end (one ∷ blobs) named are =
+placed_part of_blobs of_padding name before end (one ∷ blobs) named are =
     step_part name one (filter (has_name name) blobs) (placed before end (one ∷ blobs))
-    (replicate (start_after end one - end) (padding_share before)) (blob_shares_of one.namespace one.bytes)
+    (replicate (start_after end one - end) (padding_share before)) (blob_shares_of one.namespace one.signer one.bytes)
     (placed one.namespace (start_after end one + share_count_of one) blobs) (placed_step before end one blobs)
-    (gap_part name before (start_after end one - end) named) (own_part name one are.0)
-    (placed_part name one.namespace (start_after end one + share_count_of one) blobs are.0.name are.1)
+    (gap_part of_padding name before (start_after end one - end) named) (own_part of_blobs name one are.0)
+    (placed_part of_blobs of_padding name one.namespace (start_after end one + share_count_of one) blobs are.0.name are.1)

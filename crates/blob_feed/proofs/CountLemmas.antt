@@ -14,7 +14,7 @@ use Rattle.namespace_id.proofs.WidthLemmas.{is_width-le}
 use Rattle.namespace_id.proofs.AscendingLemmas.{length-ascending}
 use Rattle.share_split.specs.declared.joining.JoinError.{JoinError}
 use Rattle.share_split.specs.Blobs.{NamedBytes}
-use Rattle.share_split.specs.Walks.{Sequence, with_blob, blob_refusal, taken_by, is_complete, blobs_from, blobs_of}
+use Rattle.share_split.specs.Walks.{Sequence, with_blob, blob_refusal, blobs_from, blobs_of}
 use Rattle.data_header.specs.Headers.{Roots}
 use Rattle.axis_roots.specs.declared.answers.Found.{Found}
 use Rattle.axis_roots.specs.declared.answers.Found.TheVariants.{Range, Absence}
@@ -52,9 +52,9 @@ one_more : (n : ℕ) (b : Bool) (blob : NamedBytes) (blobs : List NamedBytes) �
 one_more n true blob blobs few = omega (arith, few)
 one_more n false blob blobs few = omega (arith, few)
 
--- a complete sequence is one blob more at most
+-- a complete sequence is one blob more at most, wherever it began and whatever its version is
 with_few : (n : ℕ) (s : Sequence) (read : Read) → AtMost n read → AtMost (suc n) (with_blob s read)
-with_few n s (Ok blobs) few = one_more n (s.size == 0) (record { namespace = s.name; bytes = s.content }) blobs few
+with_few n s (Ok blobs) few = one_more n (s.size == 0) (record { namespace = s.name; bytes = s.content; signer = s.signer }) blobs few
 with_few n s (Err why) few = tt
 
 -- no more blobs than shares
@@ -63,17 +63,17 @@ unfolding blobs_from
 blobs_few [] i None = omega arith
 blobs_few [] i (Some s) = tt
 blobs_few (share ∷ shares) i None =
-    let s = taken_by 0 i None share in
     checked_few (suc (length shares)) (blob_refusal i None share) _
-    (either_few (suc (length shares)) (is_complete s) _ _
-    (with_few (length shares) s (blobs_from (suc i) None shares) (blobs_few shares (suc i) None))
-    (more (length shares) (blobs_from (suc i) (Some s) shares) (blobs_few shares (suc i) (Some s))))
-blobs_few (share ∷ shares) i (Some s0) =
-    let s = taken_by 0 i (Some s0) share in
-    checked_few (suc (length shares)) (blob_refusal i (Some s0) share) _
-    (either_few (suc (length shares)) (is_complete s) _ _
-    (with_few (length shares) s (blobs_from (suc i) None shares) (blobs_few shares (suc i) None))
-    (more (length shares) (blobs_from (suc i) (Some s) shares) (blobs_few shares (suc i) (Some s))))
+    (either_few (suc (length shares)) _ _ _
+    (with_few (length shares) (record { first = i; name = _; version = 0; signer = _; size = _; content = _ })
+    (blobs_from (suc i) None shares) (blobs_few shares (suc i) None))
+    (more (length shares) _ (blobs_few shares (suc i) (Some _))))
+blobs_few (share ∷ shares) i (Some s) =
+    checked_few (suc (length shares)) (blob_refusal i (Some s) share) _
+    (either_few (suc (length shares)) _ _ _
+    (with_few (length shares) (record { first = i; name = _; version = 0; signer = _; size = _; content = _ })
+    (blobs_from (suc i) None shares) (blobs_few shares (suc i) None))
+    (more (length shares) _ (blobs_few shares (suc i) (Some _))))
 
 -- fewer than four bytes state
 few_counted : (n : ℕ) (read : Read) → n < 2 ^ 32 → AtMost n read → IsCounted read

@@ -10,5 +10,4 @@ mod StandLemmas
 mod OwnLemmas
 mod RowLemmas
 mod BlockLemmas
-mod BlobLemmas
 mod SquareLemmas

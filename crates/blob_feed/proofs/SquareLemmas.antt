@@ -11,7 +11,7 @@ use Rattle.share_split.specs.Joined.{padding_share, IsBlob, AreBlobs}
 use Rattle.share_split.specs.Walks.{blobs_of}
 use Rattle.square_layout.specs.Blocks.{BlockParts, IsSquare}
 use Rattle.square_layout.specs.Layout.{has_name, in_order, placed, compact_end, laid, width_for, square_of}
-use Rattle.square_layout.proofs.ShareNameLemmas.{unit_shares_of-named, padding-named}
+use Rattle.square_layout.specs.ShareNames.{BlobSharesAreNamed, UnitSharesAreNamed, PaddingIsNamed}
 use Rattle.square_serve.specs.Shares.{is_named}
 use Rattle.blob_feed.specs.Feeds.{shares_in}
 use Rattle.blob_feed.proofs.RowLemmas.{shares_in_square}
@@ -38,21 +38,22 @@ other_than name other blob not_one same =
     not_one (subst (λ (n : Namespace). is_blob_namespace n.0 ≡ true) (sym same) blob)
 
 -- the shares of a namespace of a blob are among those of the blobs
-among_blobs : (block : BlockParts) (name : Namespace) → is_blob_namespace name.0 ≡ true
+among_blobs : UnitSharesAreNamed → PaddingIsNamed → (block : BlockParts) (name : Namespace)
+    → is_blob_namespace name.0 ≡ true
     → filter (is_named name) (square_of block).shares
     ≡ filter (is_named name) (placed primary_reserved_padding (compact_end block) (in_order block.blobs))
-among_blobs block name blob =
+among_blobs of_units of_padding block name blob =
     between name (unit_shares_of transaction block.units) (unit_shares_of pay_for_blob block.pay_units)
     (placed primary_reserved_padding (compact_end block) (in_order block.blobs))
     (replicate (width_for block * width_for block - length (laid block)) (padding_share tail_padding))
     (none_named name transaction (unit_shares_of transaction block.units)
-    (other_than name transaction blob not_transaction) (unit_shares_of-named transaction block.units refl))
+    (other_than name transaction blob not_transaction) (of_units transaction block.units refl))
     (none_named name pay_for_blob (unit_shares_of pay_for_blob block.pay_units)
-    (other_than name pay_for_blob blob not_pay_for_blob) (unit_shares_of-named pay_for_blob block.pay_units refl))
+    (other_than name pay_for_blob blob not_pay_for_blob) (of_units pay_for_blob block.pay_units refl))
     (none_named name tail_padding
     (replicate (width_for block * width_for block - length (laid block)) (padding_share tail_padding))
     (other_than name tail_padding blob not_tail)
-    (padding-named (width_for block * width_for block - length (laid block)) tail_padding refl))
+    (of_padding (width_for block * width_for block - length (laid block)) tail_padding refl))
 
 -- a share that is kept or not
 kept_share : (b : Bool) (share : Share) (kept : List Share) → IsShare share → AreShares kept
@@ -67,19 +68,20 @@ kept_shares test (share ∷ shares) are =
     kept_share (test share) share (filter test shares) are.0 (kept_shares test shares are.1)
 
 -- the shares of a namespace in the square of a block are read as the block's blobs of it, in the order of the block
-pub block_read : (block : BlockParts) (name : Namespace) → is_blob_namespace name.0 ≡ true
+pub block_read : BlobSharesAreNamed → UnitSharesAreNamed → PaddingIsNamed → (block : BlockParts) (name : Namespace)
+    → is_blob_namespace name.0 ≡ true
     → IsSquare (square_of block) → AreShares (square_of block).shares → IsNamespace primary_reserved_padding
     → AllByRecursion IsBlob (in_order block.blobs)
     → ((shares : List Share) (blobs : List NamedBytes) → AreShares shares
     → (blobs_of shares ≡ Ok blobs) ↔ AreBlobs shares blobs)
     → filter (has_name name) (in_order block.blobs) ≡ filter (has_name name) block.blobs
     → blobs_of (shares_in (square_of block) name) ≡ Ok (filter (has_name name) block.blobs)
-block_read block name blob whole are reserved blobs join stable =
+block_read of_blobs of_units of_padding block name blob whole are reserved blobs join stable =
     let kept : AreBlobs (filter (is_named name) (square_of block).shares)
     (filter (has_name name) (in_order block.blobs)) =
     subst (λ (s : List Share). AreBlobs s (filter (has_name name) (in_order block.blobs)))
-    (sym (among_blobs block name blob))
-    (placed_part name primary_reserved_padding (compact_end block) (in_order block.blobs) reserved blobs) in
+    (sym (among_blobs of_units of_padding block name blob))
+    (placed_part of_blobs of_padding name primary_reserved_padding (compact_end block) (in_order block.blobs) reserved blobs) in
     ap blobs_of (shares_in_square (square_of block) name whole)
     ∙ (join (filter (is_named name) (square_of block).shares) (filter (has_name name) block.blobs)
     (kept_shares (is_named name) (square_of block).shares are)).1

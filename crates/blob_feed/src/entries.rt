@@ -8,7 +8,7 @@ use thiserror::Error;
 /// What a follower has of a namespace at a height: its blobs, or why its shares are no blobs.
 #[derive(Debug, Drop)]
 pub enum Entry {
-    /// The blobs, in the order of their shares.
+    /// The blobs with their signers, in the order of their shares.
     Blobs(Vec<Blob>),
     /// The first fault of the shares, with the number of the share among those of the namespace.
     /// It is never want of memory.

@@ -17,8 +17,8 @@ ghost use Rattle.blob_feed.specs.Followers.{FollowerParts, StandsFor, kept_at};
 
 use crate::Filter;
 use namespace_id::{PRIMARY_RESERVED_PADDING, namespace_law, reserved_namespaces};
-use share_split::{blob_laws, join_laws};
-use square_layout::{order_laws, size_laws};
+use share_split::join_laws;
+use square_layout::{order_laws, share_laws, size_laws};
 use square_serve::answer_laws;
 
 /// The laws of what a follower keeps. It does nothing.
@@ -44,7 +44,7 @@ pub fn feed_laws<F: Filter>()
         (read ≡ blobs_of (shares_in square name)) ⊎ FirstNames items number name square }
 
     // In the square of a block, the shares of a namespace of a blob are read as the block's blobs
-    // of it, in the block's order.
+    // of it, with their signers, in the block's order.
     ensures joined { (block : BlockParts) (name : Namespace) → layout_refusal block ≡ None →
         IsBlock block → is_blob_namespace name.0 ≡ true →
         blobs_of (shares_in (square_of block) name) ≡ Ok (filter (has_name name) block.blobs) }
@@ -59,9 +59,9 @@ pub fn feed_laws<F: Filter>()
         ⊎ FirstNames items number name (square_of block) }
 {
     answer_laws();
-    blob_laws();
     join_laws();
     order_laws();
+    share_laws();
     size_laws();
     namespace_law(&PRIMARY_RESERVED_PADDING);
     reserved_namespaces();

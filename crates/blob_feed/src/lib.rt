@@ -1,5 +1,5 @@
 //! Following namespaces: from header to header, a follower keeps the blobs of the namespaces that
-//! its filter wants, complete, or why their shares are no blobs.
+//! its filter wants, complete and with their signers, or why their shares are no blobs.
 //!
 //! An answer counts only where it is complete under the header of the last height, and the first
 //! such answer for a namespace stays.

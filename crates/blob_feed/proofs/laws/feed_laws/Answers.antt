@@ -8,7 +8,6 @@ use Rattle.blob_feed.specs.Followers.{feeds_of}
 use Rattle.blob_feed.proofs.FedLemmas.{fed_at}
 use Rattle.blob_feed.proofs.OnceLemmas.{fed_once}
 use Rattle.blob_feed.proofs.OwnLemmas.{own_at, blobs_at}
-use Rattle.blob_feed.proofs.BlobLemmas.{ordered_blobs}
 use Rattle.blob_feed.proofs.SquareLemmas.{block_read}
 use Rattle.blob_feed.proofs.laws.feed_laws.Goals as goal
 
@@ -31,9 +30,10 @@ returns-clause-own g c = λ rule items number name read header square are fed ha
 -- the layout has just the blobs of the namespace
 pub returns-clause-joined : goal.returns-clause-joined
 returns-clause-joined g c = λ block name passes is named.
-    block_read block name named (c.size_laws.ensures.square block passes) (c.size_laws.ensures.shares block is)
+    block_read c.share_laws.ensures.blobs c.share_laws.ensures.units c.share_laws.ensures.padding block name named
+    (c.size_laws.ensures.square block passes) (c.size_laws.ensures.shares block is)
     (subst IsNamespace c.reserved_namespaces.ensures.primary_reserved_padding c.namespace_law.ensures)
-    (ordered_blobs block passes is (c.size_laws.ensures.square block passes) c.blob_laws.ensures.counted)
+    (c.share_laws.ensures.ordered block passes is)
     c.join_laws.ensures.blobs (c.order_laws.ensures.stable name block.blobs)
 
 -- both together
