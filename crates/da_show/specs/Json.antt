@@ -1,5 +1,5 @@
 -- The JSON of a frame (docs/FORMATS.md, "JSON of frames").
-use Rattle.std.specs.Prelude.{ℕ, List, [], ◌∷◌, codes, length, map}
+use Rattle.std.specs.Prelude.{ℕ, List, [], ◌∷◌, codes, length, map, Option, Some, None}
 use Rattle.hex.specs.Hex.{encode_lower}
 use Rattle.serde_json.specs.Data.{Data, number, string, array, object, Members, no_members, member, unsigned}
 use Rattle.serde_json.specs.View.{items_of}
@@ -133,10 +133,16 @@ request_json name =
 abbrev pub length_json : List ℕ → Data
 length_json unit = count (length unit)
 
--- a blob: its length and its namespace
+-- a signer, if there is one
+abbrev pub signer_json : Option (List ℕ) → List (List ℕ × Data)
+signer_json None = []
+signer_json (Some signer) = (codes "signer", string (encode_lower signer)) ∷ []
+
+-- a blob: its length, its namespace and its signer
 abbrev pub blob_json : NamedBytes → Data
 blob_json blob = object_of (
-    (codes "length", count (length blob.bytes)) ∷ (codes "namespace", string (name_word blob.namespace)) ∷ [])
+    (codes "length", count (length blob.bytes)) ∷ (codes "namespace", string (name_word blob.namespace))
+    ∷ signer_json blob.signer)
 
 -- a block: what it asks for, and the lengths of what is in it
 abbrev pub block_json : BlockParts → Data

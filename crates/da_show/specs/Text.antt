@@ -1,5 +1,5 @@
 -- The text of a frame (docs/FORMATS.md, "Text of frames").
-use Rattle.std.specs.Prelude.{ℕ, ◌+◌, List, [], ◌∷◌, ◌++◌, codes, decimal, length, map, get_or}
+use Rattle.std.specs.Prelude.{ℕ, ◌+◌, List, [], ◌∷◌, ◌++◌, codes, decimal, length, map, get_or, Option, Some, None}
 use Rattle.std.specs.List.{flat_map}
 use Rattle.hex.specs.Hex.{encode_lower}
 use Rattle.namespace_id.specs.declared.cells.Cell.{Cell}
@@ -144,9 +144,15 @@ request_line name = line (codes "request") (name_word name ∷ [])
 abbrev pub unit_line : List ℕ → List ℕ → List ℕ
 unit_line word unit = line word (decimal (length unit) ∷ [])
 
--- a blob: its namespace and its length
+-- a signer, if there is one
+abbrev pub signer_words : Option (List ℕ) → List (List ℕ)
+signer_words None = []
+signer_words (Some signer) = codes "signer" ∷ encode_lower signer ∷ []
+
+-- a blob: its namespace, its length and its signer
 abbrev pub blob_line : NamedBytes → List ℕ
-blob_line blob = line (codes "blob") (name_word blob.namespace ∷ decimal (length blob.bytes) ∷ [])
+blob_line blob =
+    line (codes "blob") (name_word blob.namespace ∷ decimal (length blob.bytes) ∷ signer_words blob.signer)
 
 -- how many units, units of payments and blobs there are, as a part of a line
 unfoldable pub counts : ℕ → ℕ → ℕ → List ℕ

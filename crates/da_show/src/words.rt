@@ -9,6 +9,7 @@ ghost use Rattle.da_show.specs.Parts.{axis_word, name_word, digest_word, share_n
 
 use namespace_id::{Axis, Digest, HASH_SIZE, Namespace, Share};
 use sha2::{Digest as _, Sha256};
+use share_split::SIGNER_SIZE;
 use square_layout::Block;
 use std::alloc::{AllocError, Global};
 
@@ -27,6 +28,13 @@ pub(crate) fn name_word(alloc: Global, name: &Namespace) -> Result<String, Alloc
     ensures { IfOk result (λ word. string_bytes word ≡ name_word name.now) }
 {
     hex::encode(alloc, name.0.as_slice())
+}
+
+/// The 20 bytes of a signer.
+pub(crate) fn signer_word(alloc: Global, signer: &[u8; SIGNER_SIZE]) -> Result<String, AllocError>
+    ensures { IfOk result (λ word. string_bytes word ≡ encode_lower signer.now) }
+{
+    hex::encode(alloc, signer.as_slice())
 }
 
 /// The 90 bytes of a digest.

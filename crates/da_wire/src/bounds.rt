@@ -10,7 +10,7 @@ ghost use Rattle.axis_roots.specs.Claims.{IsClaim};
 ghost use Rattle.axis_roots.specs.Messages.{IsMessage};
 ghost use Rattle.axis_roots.specs.Proved.{kept_message};
 ghost use Rattle.data_header.specs.Headers.{IsHeader};
-ghost use Rattle.share_split.specs.Blobs.{IsNamed};
+ghost use Rattle.share_split.specs.Blobs.{IsNamed, signer_size};
 ghost use Rattle.square_layout.specs.Blocks.{IsBlock};
 ghost use Rattle.da_wire.specs.codec.Texts.{IsCell};
 ghost use Rattle.da_wire.specs.kinds.Clash.{AreStrings};
@@ -27,7 +27,7 @@ use hash_clash::Clash;
 use namespace_id::{
     Cell, Cells, Namespace, bytes_law, digests_law, namespace_law, share_law, shares_law,
 };
-use share_split::{Blob, Unit};
+use share_split::{Blob, SIGNER_SIZE, Unit};
 use square_layout::Block;
 
 /// Says that a header has its width, 2k roots each, and digests of 90 bytes. It changes nothing.
@@ -62,15 +62,25 @@ fn units_law(units: &[Unit])
     }
 }
 
-/// Says that a blob has a namespace and bytes. It changes nothing.
+/// Says that a signer, if there is one, has 20 bytes. It changes nothing.
+fn signer_law(signer: &Option<[u8; SIGNER_SIZE]>)
+    ensures { IfSome signer.now (IsString signer_size) }
+{
+    if let Some(signer) = signer {
+        bytes_law(signer);
+    }
+}
+
+/// Says that a blob has a namespace, bytes, and a signer of 20 bytes, if it has one. It changes nothing.
 fn blob_law(blob: &Blob)
     ensures { IsNamed blob.now }
 {
     namespace_law(&blob.namespace);
     bytes_law(&blob.bytes);
+    signer_law(&blob.signer);
 }
 
-/// Says that each blob of a slice has a namespace and bytes. It changes nothing.
+/// Says so of each blob of a slice. It changes nothing.
 fn blobs_law(blobs: &[Blob])
     ensures { AllByRecursion IsNamed blobs.now }
 {

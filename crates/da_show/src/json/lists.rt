@@ -4,7 +4,7 @@ ghost use Rattle.std.specs.Prelude.{◌≡◌, IfOk};
 ghost use Rattle.serde_json.specs.View.{view};
 ghost use Rattle.da_show.specs.Json.{list_of, root_json, share_json, entry_json, found_json, cell_json, cell_of_json, length_json, blob_json};
 
-use crate::words::{digest_word, name_word, share_name_word};
+use crate::words::{digest_word, name_word, share_name_word, signer_word};
 use axis_roots::{Found, Message, NsEntry};
 use namespace_id::{Cell, Digest, Share};
 use serde_json::{Value, json};
@@ -103,13 +103,19 @@ pub(crate) fn units(alloc: Global, units: &[Unit]) -> Result<Value, AllocError>
     Ok(Value::Array(list))
 }
 
-/// A blob: its length and its namespace.
+/// A blob: its length, its namespace and its signer, if it has one.
 fn blob(alloc: Global, blob: &Blob) -> Result<Value, AllocError>
     ensures { IfOk result (λ value. view value ≡ blob_json blob.now) }
 {
     let length = blob.bytes.len();
     let name = name_word(alloc, &blob.namespace)?;
-    json!(in alloc; {"length": length, "namespace": name})
+    match &blob.signer {
+        Some(signer) => {
+            let signer = signer_word(alloc, signer)?;
+            json!(in alloc; {"length": length, "namespace": name, "signer": signer})
+        }
+        None => json!(in alloc; {"length": length, "namespace": name}),
+    }
 }
 
 /// Blobs.

@@ -6,7 +6,8 @@ ghost use Rattle.da_show.specs.Parts.{axis_word};
 ghost use Rattle.da_show.specs.Text.{header_line, square_line, names_line, claim_line, missing_line, counts, sized_line, block_line, string_line, request_line, sample_line, cell_line, place, root_line, share_line, message_line, found_line, unit_line, blob_line, commit_line, rooted_line};
 
 use crate::words::{
-    axis_word, digest_word, hash_word, name_word, share_hash_word, share_name_word, width_number,
+    axis_word, digest_word, hash_word, name_word, share_hash_word, share_name_word, signer_word,
+    width_number,
 };
 use axis_roots::{Found, FraudClaim, Message};
 use blob_commit::{CommitProof, RootedMessage};
@@ -234,13 +235,19 @@ pub(crate) fn put_unit(out: &mut String, word: &str, unit: &Unit) -> Result<(), 
     write!(out, "{word} {size}")
 }
 
-/// A blob: its namespace and its length.
+/// A blob: its namespace, its length and its signer, if it has one.
 pub(crate) fn put_blob(alloc: Global, out: &mut String, blob: &Blob) -> Result<(), AllocError>
     ensures { OnOk result (string_bytes out.new ≡ string_bytes out.old ++ blob_line blob.now) }
 {
     let name = name_word(alloc, &blob.namespace)?;
     let size = blob.bytes.len();
-    write!(out, "blob {name} {size}")
+    match &blob.signer {
+        Some(signer) => {
+            let signer = signer_word(alloc, signer)?;
+            write!(out, "blob {name} {size} signer {signer}")
+        }
+        None => write!(out, "blob {name} {size}"),
+    }
 }
 
 /// A commitment proof: its width, its range, its commitment, and how many rows it has.

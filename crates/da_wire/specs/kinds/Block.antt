@@ -4,7 +4,7 @@ use Rattle.std.specs.Option.{option_map_or}
 use Rattle.std.specs.Int.{w16, w32, to_be_bytes}
 use Rattle.namespace_id.specs.Sizes.{namespace_size}
 use Rattle.square_layout.specs.Blocks.{BlockParts}
-use Rattle.share_split.specs.Blobs.{NamedBytes}
+use Rattle.share_split.specs.Blobs.{NamedBytes, signer_size, version_of, signer_bytes}
 use Rattle.da_wire.specs.codec.Fields.{◌>>=◌, number_at, byte_at, string_at, text_at, list_at}
 use Rattle.da_wire.specs.codec.Texts.{text_bytes, list_bytes}
 
@@ -30,9 +30,10 @@ counted_bytes bytes_of values = list_bytes w32 bytes_of values
 abbrev pub counted_at : {A : Type 0} → (List ℕ → Option (A × List ℕ)) → List ℕ → Option (List A × List ℕ)
 counted_at one bytes = list_at w32 most one bytes
 
--- a blob: its namespace, the share version 0, its bytes
+-- a blob: its namespace, its share version, its signer where that is 1, and its bytes
 abbrev pub blob_bytes : NamedBytes → List ℕ
-blob_bytes blob = blob.namespace.0 ++ 0 ∷ unit_bytes blob.bytes
+blob_bytes blob =
+    blob.namespace.0 ++ version_of blob.signer ∷ (signer_bytes blob.signer ++ unit_bytes blob.bytes)
 
 -- the width that is asked for, 0 for none
 abbrev pub width_number : Option ℕ → ℕ
@@ -48,13 +49,26 @@ block_payload b =
 abbrev pub asks_for_zero : Option ℕ → Bool
 asks_for_zero width = option_map_or (λ k. k == 0) width false
 
--- a namespace, the share version 0, and the bytes of a blob
+-- a signer
+abbrev pub signed_at : List ℕ → Option (Option (List ℕ) × List ℕ)
+signed_at bytes = do
+  signer ← string_at signer_size bytes
+  Some (Some signer.0, signer.1)
+
+-- a share version, and the signer behind it where it is 1; there is none where it is 0, and no other version
+unfoldable pub signer_at : List ℕ → Option (Option (List ℕ) × List ℕ)
+signer_at bytes = do
+  version ← byte_at bytes
+  if version.0 == 0 then Some (None, version.1) else
+      (if version.0 == 1 then signed_at version.1 else None)
+
+-- a namespace, a share version, the signer where that is 1, and the bytes of a blob
 unfoldable pub blob_at : List ℕ → Option (NamedBytes × List ℕ)
 blob_at bytes = do
   name ← string_at namespace_size bytes
-  version ← byte_at name.1
-  text ← if version.0 == 0 then unit_at version.1 else None
-  Some (record { namespace = record { 0 = name.0 }; bytes = text.0 }, text.1)
+  signer ← signer_at name.1
+  text ← unit_at signer.1
+  Some (record { namespace = record { 0 = name.0 }; bytes = text.0; signer = signer.0 }, text.1)
 
 -- the width that a number asks for, none for 0
 abbrev pub asked_width : ℕ → Option ℕ

@@ -2,9 +2,10 @@
 
 ghost use Rattle.std.specs.Prelude.{◌≡◌, ◌≤◌, length, vec_len, None, Some, IfOk, IfSome, MatchOption, ◌+◌, ◌++◌, vec_capacity, IsSome};
 ghost use Rattle.namespace_id.specs.Answers.{Gives, HasRoom};
+ghost use Rattle.share_split.specs.Blobs.{version_of, signer_bytes};
 ghost use Rattle.da_wire.specs.codec.Fields.{many_at, read_items, read_rest};
 ghost use Rattle.da_wire.specs.Reading.{GivesUnlessFull};
-ghost use Rattle.da_wire.specs.kinds.Block.{blob_at, asked_width, block_at, blob_bytes, width_number, block_payload, unit_at, counted_at, unit_bytes, counted_bytes};
+ghost use Rattle.da_wire.specs.kinds.Block.{signed_at, signer_at, blob_at, asked_width, block_at, blob_bytes, width_number, block_payload, unit_at, counted_at, unit_bytes, counted_bytes};
 ghost use Rattle.da_wire.specs.Spelling.{max_payload};
 ghost use Rattle.da_wire.specs.Writing.{HasSize, IsShort, IsWithin};
 ghost use Rattle.da_wire.specs.declared.frames.Frame.TheVariants as FrameOf;
@@ -13,15 +14,18 @@ use crate::codec::appending::put_text;
 use crate::codec::fields::{count_at, name_at, text_at, u8_at, u16_at};
 use crate::codec::sizes::{COUNT_SIZE, WIDTH_SIZE, longer, with_bytes, with_text};
 use namespace_id::{Namespace, append};
-use share_split::{Blob, Unit};
+use share_split::{Blob, SIGNER_SIZE, Unit};
 use square_layout::Block;
 use std::alloc::{AllocError, Global};
 
 /// The greatest count or length: any number of four bytes.
 const MOST: u32 = u32::MAX;
 
-/// The share version of every blob.
-const SHARE_VERSION: u8 = 0;
+/// The share version of a blob without a signer.
+const UNSIGNED: u8 = 0;
+
+/// The share version of a blob with a signer.
+const SIGNED: u8 = 1;
 
 /// The parts of a payload that is a block: the width or 0, and its three lists, each from its count on.
 #[derive(Clone, Copy)]
@@ -32,19 +36,70 @@ pub(crate) struct BlockFields<'a> {
     blobs: &'a [u8],
 }
 
-/// The namespace and the bytes of a blob, and the bytes after it.
-#[tactic(auto, unfolding(crate::specs::kinds::Block::blob_at))]
-fn blob_at(bytes: &[u8]) -> Option<(Namespace, &[u8], &[u8])>
-    ensures { Gives (λ x. (record { namespace = x.0; bytes = x.1.now }, x.2.now))
-        result (blob_at bytes.now) }
+/// A blob where it lies in a payload.
+#[derive(Clone, Copy)]
+struct BlobFields<'a> {
+    namespace: Namespace,
+    signer: Option<[u8; SIGNER_SIZE]>,
+    bytes: &'a [u8],
+}
+
+/// The signer that 20 bytes are.
+fn signer_of(bytes: &[u8]) -> [u8; SIGNER_SIZE]
+    requires { length bytes.now ≡ 20 }
+    ensures { result ≡ bytes.now }
 {
-    let (name, rest) = name_at(bytes)?;
-    let (version, rest) = u8_at(rest)?;
-    if version != SHARE_VERSION {
+    let mut signer = [0; SIGNER_SIZE];
+    signer.copy_from_slice(bytes);
+    signer
+}
+
+/// A signer, and the bytes after it.
+fn signed_at(bytes: &[u8]) -> Option<(Option<[u8; SIGNER_SIZE]>, &[u8])>
+    ensures { Gives (λ x. (x.0, x.1.now)) result (signed_at bytes.now) }
+{
+    if bytes.len() < SIGNER_SIZE {
         return None;
     }
-    let (text, rest) = text_at(rest, MOST)?;
-    Some((name, text, rest))
+    let (signer, rest) = bytes.split_at(SIGNER_SIZE);
+    Some((Some(signer_of(signer)), rest))
+}
+
+/// The signer behind a share version that has one, none where the version has none, and the bytes after
+/// it.
+#[tactic(auto, unfolding(crate::specs::kinds::Block::signer_at))]
+fn signer_at(bytes: &[u8]) -> Option<(Option<[u8; SIGNER_SIZE]>, &[u8])>
+    ensures { Gives (λ x. (x.0, x.1.now)) result (signer_at bytes.now) }
+{
+    let (version, rest) = u8_at(bytes)?;
+    match version {
+        UNSIGNED => Some((None, rest)),
+        SIGNED => signed_at(rest),
+        _ => None,
+    }
+}
+
+/// A blob, and the bytes after it.
+#[tactic(auto, unfolding(crate::specs::kinds::Block::blob_at))]
+fn blob_at(bytes: &[u8]) -> Option<(BlobFields<'_>, &[u8])>
+    ensures { Gives (λ x. (
+      record {
+        namespace = x.0.namespace;
+        bytes = x.0.bytes.now;
+        signer = x.0.signer;
+      },
+      x.1.now,
+    )) result (blob_at bytes.now) }
+{
+    let (namespace, rest) = name_at(bytes)?;
+    let (signer, rest) = signer_at(rest)?;
+    let (bytes, rest) = text_at(rest, MOST)?;
+    let blob = BlobFields {
+        namespace,
+        signer,
+        bytes,
+    };
+    Some((blob, rest))
 }
 
 /// The bytes after so many units.
@@ -74,7 +129,7 @@ fn after_blobs(count: u32, bytes: &[u8]) -> Option<&[u8]>
 {
     let mut rest = bytes;
     for _ in 0..count {
-        let (_name, _text, after) = blob_at(rest)?;
+        let (_blob, after) = blob_at(rest)?;
         rest = after;
     }
     Some(rest)
@@ -151,9 +206,13 @@ fn blobs_of(alloc: Global, count: u32, bytes: &[u8]) -> Result<Vec<Blob>, AllocE
     let mut blobs = Vec::with_capacity(alloc, count as usize)?;
     let mut rest = bytes;
     for _ in 0..count {
-        let (namespace, text, after) = blob_at(rest).unwrap();
-        let bytes = Vec::from_slice(alloc, text)?;
-        blobs.push(Blob { namespace, bytes })?;
+        let (blob, after) = blob_at(rest).unwrap();
+        let bytes = Vec::from_slice(alloc, blob.bytes)?;
+        blobs.push(Blob {
+            namespace: blob.namespace,
+            bytes,
+            signer: blob.signer,
+        })?;
         rest = after;
     }
     Ok(blobs)
@@ -207,13 +266,34 @@ fn with_units(size: u32, units: &[Unit]) -> Option<u32>
     Some(size)
 }
 
+/// The share version of a blob with this signer, if there is one.
+fn version_of(signer: &Option<[u8; SIGNER_SIZE]>) -> u8
+    ensures { result ≡ version_of signer.now }
+{
+    match signer {
+        Some(_) => SIGNED,
+        None => UNSIGNED,
+    }
+}
+
+/// The bytes of a signer, none where there is no signer.
+fn signer_bytes(signer: &Option<[u8; SIGNER_SIZE]>) -> &[u8]
+    ensures { result.now ≡ signer_bytes signer.now }
+{
+    match signer {
+        Some(signer) => signer,
+        None => &[],
+    }
+}
+
 /// A length with that of a blob more.
 fn with_blob(size: u32, blob: &Blob) -> Option<u32>
     requires { size ≤ max_payload }
     ensures { IsWithin (size + length (blob_bytes blob.now)) result }
 {
     let size = with_bytes(size, &blob.namespace.0)?;
-    with_text(longer(size, 1)?, &blob.bytes)
+    let size = with_bytes(longer(size, 1)?, signer_bytes(&blob.signer))?;
+    with_text(size, &blob.bytes)
 }
 
 /// A length with that of a list of blobs more.
@@ -254,7 +334,7 @@ fn put_units(out: &mut Vec<u8>, units: &[Unit])
     }
 }
 
-/// Appends a blob: its namespace, the share version, its bytes.
+/// Appends a blob: its namespace, its share version, its signer, if it has one, and its bytes.
 fn put_blob(out: &mut Vec<u8>, blob: &Blob)
     requires few { IsShort (blob_bytes blob.now) }
     requires room { HasRoom out.old (length (blob_bytes blob.now)) }
@@ -263,7 +343,8 @@ fn put_blob(out: &mut Vec<u8>, blob: &Blob)
     ensures capacity { vec_capacity out.old ≤ vec_capacity out.new }
 {
     append(out, &blob.namespace.0);
-    append(out, &[SHARE_VERSION]);
+    append(out, &[version_of(&blob.signer)]);
+    append(out, signer_bytes(&blob.signer));
     put_text(out, &blob.bytes);
 }
 

@@ -2,14 +2,15 @@ use Rattle.da_wire.specs.kinds.Block.{blob_at}
 use Rattle.da_wire.proofs.codec.Many.{passed_more, passed_none, passed_end}
 use Rattle.da_wire.proofs.kinds.block.after_blobs.Goals as goal
 
-pub returns-in_err-_name : goal.returns-in_err-_name
-returns-in_err-_name c =
-    rw c.from_residual.ensures (passed_none blob_at c.args.count c.loop.counter c.loop.rest.now _ c.loop-test.true c.in_err-_name.ensures c.loop.invariant)
+pub returns-in_err-_blob : goal.returns-in_err-_blob
+returns-in_err-_blob c =
+    rw c.from_residual.ensures (passed_none blob_at c.args.count c.loop.counter c.loop.rest.now _ c.loop-test.true c.in_err-_blob.ensures c.loop.invariant)
 
 pub loop-preserved : goal.loop-preserved
 loop-preserved c =
-    passed_more blob_at c.args.count c.loop.counter c.loop.rest.now (record { namespace = c.in_ok-_name._name; bytes = c.in_ok-_name._text.now }) c.in_ok-_name.after.now _
-    c.loop-test.true c.in_ok-_name.ensures c.loop.invariant
+    let blob = c.in_ok-_blob._blob in
+    passed_more blob_at c.args.count c.loop.counter c.loop.rest.now (record { namespace = blob.namespace; bytes = blob.bytes.now; signer = blob.signer }) c.in_ok-_blob.after.now _
+    c.loop-test.true c.in_ok-_blob.ensures c.loop.invariant
 
 pub returns : goal.returns
 returns c = passed_end blob_at c.args.count c.loop.counter c.loop.rest.now _ c.loop-test.false c.loop.invariant

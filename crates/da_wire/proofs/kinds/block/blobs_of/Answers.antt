@@ -9,8 +9,9 @@ unwrap-requires c =
 
 pub loop-preserved : goal.loop-preserved
 loop-preserved c =
+    let blob = c.unwrap.result.0 in
     rw (c.in_ok-push.ensures.items, c.in_ok-bytes.ensures.items)
-    (kept_more blob_at c.args.count c.loop.counter c.loop.rest.now c.loop.blobs.items (record { namespace = c.unwrap.result.0; bytes = c.unwrap.result.1.now }) c.unwrap.result.2.now _ c.loop-test.true
+    (kept_more blob_at c.args.count c.loop.counter c.loop.rest.now c.loop.blobs.items (record { namespace = blob.namespace; bytes = blob.bytes.now; signer = blob.signer }) c.unwrap.result.1.now _ c.loop-test.true
     (gives_value _ c.blob_at.result (blob_at c.loop.rest.now) c.unwrap.result c.blob_at.ensures c.unwrap.ensures) c.loop.invariant)
 
 pub returns : goal.returns

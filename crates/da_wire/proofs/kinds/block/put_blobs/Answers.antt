@@ -1,11 +1,12 @@
-use Rattle.std.proofs.Common.{arith, ◌∷◌, length-append}
-use Rattle.da_wire.specs.kinds.Block.{blob_bytes, unit_bytes}
+use Rattle.std.proofs.Common.{arith}
+use Rattle.da_wire.specs.kinds.Block.{blob_bytes}
 use Rattle.da_wire.proofs.codec.Lengths.{count_few, part_few}
+use Rattle.da_wire.proofs.kinds.Blobs.{length-blob_bytes}
 use Rattle.da_wire.proofs.kinds.block.put_blobs.Goals as goal
 
 -- each takes four bytes and more
 pub overflow_cast-blobs : goal.overflow_cast-blobs
-overflow_cast-blobs c = omega (arith, count_few blob_bytes (λ blob. omega (arith, length-append blob.namespace.0 (0 ∷ unit_bytes blob.bytes))) c.args.blobs.now, c.requires.few)
+overflow_cast-blobs c = omega (arith, count_few blob_bytes (λ blob. omega (arith, length-blob_bytes blob)) c.args.blobs.now, c.requires.few)
 
 -- none is longer than all
 pub put_blob-requires-clause-few : goal.put_blob-requires-clause-few
