@@ -1,10 +1,14 @@
--- The line `ok`, the answer of a repair, and the claim of a light node, under the header of a square.
-use Rattle.std.proofs.Common.{◌≡◌, ◌↔◌, ℕ, zero, suc, ◌+◌, ◌-◌, Bool, true, false, cond, List, [], ◌∷◌, length, take, drop, None, Some, Result, Ok, Err, IfSome, refl, subst, slice_index}
+-- The line `ok`, the answer of a repair, the claim of a light node, and the blobs of a namespace, under the header of a
+-- square.
+use Rattle.std.proofs.Common.{◌≡◌, ◌↔◌, ◌⊎◌, ℕ, zero, suc, ◌+◌, ◌-◌, Bool, true, false, cond, List, [], ◌∷◌, length, take, drop, None, Some, Result, Ok, Err, IfSome, refl, subst, slice_index}
 use Rattle.std.specs.Prelude.{nat_lt, codes, slice_get, MatchResult}
 use Rattle.std.specs.declared.option.Option.{Option}
 use Rattle.std.specs.Option.{option_map, option_map_or}
-use Rattle.std.specs.List.{AllByRecursion}
+use Rattle.std.specs.List.{AllByRecursion, Contains}
+use Rattle.namespace_id.specs.declared.namespaces.Namespace.{Namespace}
 use Rattle.namespace_id.specs.Bytes.{AreBytes}
+use Rattle.share_split.specs.Walks.{blobs_of}
+use Rattle.blob_feed.specs.Feeds.{header_at, Read, IsFeedOf, shares_in, FirstNames}
 use Rattle.namespace_id.proofs.StringLemmas.{AreBytes-take, AreBytes-drop}
 use Rattle.data_header.specs.Headers.{Roots}
 use Rattle.square_layout.specs.Blocks.{SquareShares}
@@ -26,6 +30,8 @@ use Rattle.axis_roots.specs.Claims.{ClaimParts}
 use Rattle.da_commands.specs.Compact.{claim_file, claim_in, CompactsJudged, CompactsOwn}
 use Rattle.da_commands.specs.Repair.{Repairs, RepairsOwn}
 use Rattle.da_commands.specs.Light.{Lights, JudgesOwn}
+use Rattle.da_commands.specs.Namespace.{namespaces_in}
+use Rattle.da_commands.specs.Follow.{wanted_file, answers_file, items_in, Feed}
 use Rattle.da_commands.specs.Verify.{answer_file, answer_kinds, answer_in, IsRefusal, verdict_line, IsOwnReply}
 use Rattle.da_commands.specs.VerifyFor.{is_answer_to, IsRefusalFor}
 use Rattle.da_commands.proofs.VerifyForLemmas.{asked_holds}
@@ -90,8 +96,8 @@ ok_has_none : (refusal : Option ℕ) → verdict_line refusal ≡ codes "ok\n" �
 ok_has_none None e = refl
 ok_has_none (Some number) e = absurd cc
 
--- by what is known of frames that are found proved, of answers that aren't refused, and of what repair and light answer,
--- under the header of a square
+-- by what is known of frames that are found proved, of answers that aren't refused, and of what repair, light and follow
+-- answer, under the header of a square
 pub are_own : (told : Option Files) (words : List (List ℕ))
     → ((header : Roots) (frame : Raw) (square : SquareShares) → AreBytes frame.payload → IsHeaderOf header square
     → finding_of header frame ≡ Proved → IsOwnFrame frame square)
@@ -105,9 +111,13 @@ pub are_own : (told : Option Files) (words : List (List ℕ))
     → IsHeaderOf header square → Lights key count header frames w status → JudgesOwn square w status)
     → ((header : Roots) (claim : ClaimParts) (square : SquareShares) (w : List ℕ) (status : Status)
     → IsHeaderOf header square → CompactsJudged header claim w status → CompactsOwn claim square status)
+    → ((wanted : List Namespace) (answers : List ℕ) (feed : Feed) (number : ℕ) (name : Namespace) (read : Read) (header : Roots) (square : SquareShares)
+    → AreBytes answers → IsFeedOf (Contains wanted) (items_in answers) feed → feed number name ≡ Some read
+    → header_at (items_in answers) number ≡ Some header → IsHeaderOf header square
+    → (read ≡ blobs_of (shares_in square name)) ⊎ FirstNames (items_in answers) number name square)
     → AreOwn told words
-are_own None words found verified file repaired lit compacted = tt
-are_own (Some files) words found verified file repaired lit compacted = record {
+are_own None words found verified file repaired lit compacted followed = tt
+are_own (Some files) words found verified file repaired lit compacted followed = record {
   check = λ contents header square i frame command read first own fits here ok.
       found header frame square (all_at HasBytes _ i frame (frames_fit _ fits 0) here) own (ok_is_proved (finding_of header frame) ok);
   verify = λ contents header square answer refusal command read first own fits second refused ok.
@@ -126,4 +136,6 @@ are_own (Some files) words found verified file repaired lit compacted = record {
   light = λ contents header square key count w status command read first own fits answers.
       lit header (frames_of (messages_file contents)) square key count w status own
       (subst (λ (a : Result Roots ℕ). MatchResult a (λ h. Lights key count h (frames_of (messages_file contents)) w status) (λ at. ⊥)) first answers);
+  follow = λ contents header square feed number name read command gather fits headed own is has.
+      followed (namespaces_in (wanted_file contents)) (answers_file contents) feed number name read header square fits is has headed own;
 }

@@ -1,7 +1,11 @@
 -- What the line `ok`, and the answer of a repair, say under the header of a square.
-use Rattle.std.specs.Prelude.{◌≡◌, ℕ, List, codes, true, slice_get, ⊤, Some, None, Ok}
+use Rattle.std.specs.Prelude.{◌≡◌, ◌⊎◌, ℕ, List, codes, true, slice_get, ⊤, Some, None, Ok}
 use Rattle.std.specs.declared.option.Option.{Option}
+use Rattle.std.specs.List.{Contains}
+use Rattle.namespace_id.specs.declared.namespaces.Namespace as names
 use Rattle.namespace_id.specs.Bytes.{AreBytes}
+use Rattle.share_split.specs.Walks.{blobs_of}
+use Rattle.blob_feed.specs.Feeds.{header_at, Read, IsFeedOf, shares_in, FirstNames}
 use Rattle.data_header.specs.Headers.{Roots}
 use Rattle.square_layout.specs.Blocks.{SquareShares}
 use Rattle.axis_roots.specs.Grids.{IsHeaderOf}
@@ -18,6 +22,8 @@ use Rattle.axis_roots.specs.Claims.{ClaimParts}
 use Rattle.da_commands.specs.Compact.{claim_file, claim_in, CompactOf, CompactsOwn}
 use Rattle.da_commands.specs.Repair.{RepairOf, RepairsOwn}
 use Rattle.da_commands.specs.Light.{LightOf, JudgesOwn}
+use Rattle.da_commands.specs.Namespace.{namespaces_in}
+use Rattle.da_commands.specs.Follow.{wanted_file, answers_file, items_in, Feed}
 use Rattle.da_commands.specs.Verify.{answer_file, answer_in, IsRefusal, verdict_line, IsOwnReply}
 use Rattle.da_commands.specs.VerifyFor.{request_file, request_in, is_answer_to, IsAnswerTo, IsRefusalFor}
 
@@ -69,9 +75,17 @@ IsOwnLight files words = (contents : List (List ℕ)) (header : Roots) (square :
     → header_in (header_file contents) ≡ Ok header → IsHeaderOf header square
     → AreBytes (messages_file contents) → LightOf key count contents w status → JudgesOwn square w status
 
+-- over the files of `follow`, at a height whose header is that of a square: what is told of a namespace is what the square's shares of it are read as, or the first complete answer and the square name a collision
+abbrev pub IsOwnFollow : Files → List (List ℕ) → Type 0
+IsOwnFollow files words = (contents : List (List ℕ)) (header : Roots) (square : SquareShares) (feed : Feed) (number : ℕ) (name : names.Namespace) (read : Read)
+    → is_command words (codes "follow") 2 ≡ true → gathered files (names_of words) ≡ whole contents
+    → AreBytes (answers_file contents) → header_at (items_in (answers_file contents)) number ≡ Some header → IsHeaderOf header square
+    → IsFeedOf (Contains (namespaces_in (wanted_file contents))) (items_in (answers_file contents)) feed → feed number name ≡ Some read
+    → (read ≡ blobs_of (shares_in square name)) ⊎ FirstNames (items_in (answers_file contents)) number name square
+
 -- under the header of a square the line `ok` stands only for the square's own shares, and for an answer to the request where
 -- there is one, a repair answers this square or
--- the missing cells, and `light` writes no claim, or a collision is named
+-- the missing cells, `light` writes no claim, and `follow` tells of the square's shares, or a collision is named
 pub record HasOwn (files : Files) (words : List (List ℕ)) : Type 0 where
   pub check : AreOwnLines files words
   pub verify : IsOwnLine files words
@@ -79,6 +93,7 @@ pub record HasOwn (files : Files) (words : List (List ℕ)) : Type 0 where
   pub verify_for : IsOwnLineFor files words
   pub repair : IsOwnRepair files words
   pub light : IsOwnLight files words
+  pub follow : IsOwnFollow files words
 
 -- that, where the files are told
 abbrev pub AreOwn : Option Files → List (List ℕ) → Type 0

@@ -11,7 +11,7 @@ use Rattle.namespace_id.specs.declared.cells.Axis.{Axis}
 use Rattle.namespace_id.specs.declared.cells.Axis.TheVariants.{Row, Col}
 use Rattle.da_wire.specs.Frames.{ok_of}
 use Rattle.da_commands.specs.declared.command.Command.{Command}
-use Rattle.da_commands.specs.declared.command.Command.TheVariants.{Check, Build, Header, Sample, Namespace, Verify, Compact, Repair, Light, Net, Show, Json, Demo, VerifyFor, Root, RootIs, Wanted, Blobs, Commit, Prove, ProveRange, Help, Version}
+use Rattle.da_commands.specs.declared.command.Command.TheVariants.{Check, Build, Header, Sample, Namespace, Verify, Compact, Repair, Light, Net, Show, Json, Demo, VerifyFor, Root, RootIs, Wanted, Blobs, Commit, Prove, ProveRange, Follow, Help, Version}
 use Rattle.da_commands.specs.Demo.{is_trial_width}
 use Rattle.da_cli.specs.declared.words.Call.{Call}
 
@@ -96,7 +96,8 @@ blob_call words =
     (if is_command words (codes "commit") 1 then Some (record { command = Commit; files = 1 }) else
     (if is_command words (codes "prove") 2 then Some (record { command = Prove; files = 2 }) else
     (if is_command words (codes "prove") 3 then prove_call (get_or words 2 []) (get_or words 3 []) else
-    None)))
+    (if is_command words (codes "follow") 2 then Some (record { command = Follow; files = 2 }) else
+    None))))
 
 -- the command of these words among those of one who asks for samples and shares, and those that tell of the program
 abbrev pub client_call : List (List ℕ) → Option Call

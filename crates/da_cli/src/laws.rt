@@ -1,9 +1,11 @@
 //! What the relation of a run says of each kind of words and files.
 
-ghost use Rattle.std.specs.Prelude.{◌≡◌, ◌↔◌, ℕ, ◌+◌, true, false, List, [], ◌∷◌, length, map, Ok, Some, None};
-ghost use Rattle.std.specs.List.{AllByRecursion, filter};
+ghost use Rattle.std.specs.Prelude.{◌≡◌, ◌↔◌, ◌⊎◌, ℕ, ◌+◌, true, false, List, [], ◌∷◌, length, map, Ok, Some, None};
+ghost use Rattle.std.specs.List.{AllByRecursion, filter, Contains};
 ghost use Rattle.namespace_id.specs.Bytes.{AreBytes};
 ghost use Rattle.namespace_id.specs.Shares.{AreShares};
+ghost use Rattle.share_split.specs.Walks.{blobs_of};
+ghost use Rattle.blob_feed.specs.Feeds.{Item, header_at, Read, IsFeedOf, shares_in, FirstNames};
 ghost use Rattle.square_layout.specs.Blocks.{BlockParts, SquareShares, IsSquare, IsBlock};
 ghost use Rattle.square_layout.specs.Layout.{square_of};
 ghost use Rattle.square_layout.specs.Refusals.{layout_refusal};
@@ -37,6 +39,7 @@ ghost use Rattle.da_commands.specs.Namespace.{namespaces_in};
 ghost use Rattle.da_commands.specs.Verify.{IsRefusal, answer_kinds, answer_in, IsOwnReply};
 ghost use Rattle.da_commands.specs.VerifyFor.{is_answer_to, IsAnswerTo, IsRefusalFor};
 ghost use Rattle.da_commands.specs.Root.{root_refusal};
+ghost use Rattle.da_commands.specs.Follow.{items_in, Feed, Follows};
 ghost use Rattle.data_header.specs.DataRoots.{data_root_of};
 ghost use Rattle.blob_commit.specs.Proofs.{CommitParts, CommitHolds, RootedParts, RootedHolds};
 ghost use Rattle.da_cli.specs.Laws.{FormLaw, BadInputLaw, ExcessLaw, AbsentLaw, FailureLaw};
@@ -44,6 +47,7 @@ ghost use Rattle.da_cli.specs.Laws.{FormLaw, BadInputLaw, ExcessLaw, AbsentLaw, 
 use crate::gathering::FILE_LIMIT;
 use axis_roots::{claim_laws, grid_laws, message_laws};
 use blob_commit::{commit_laws, refusal_laws};
+use da_commands::follow_laws;
 use da_wire::{value_laws, wire_laws};
 use repair_queue::verdict_laws;
 use square_layout::{name_laws, size_laws};
@@ -131,6 +135,20 @@ pub fn run_laws()
         (count : ℕ) (w : List ℕ) (status : Status) → IsHeaderOf header square →
         Lights key count header frames w status → JudgesOwn square w status }
 
+    // For wanted namespaces, headers and answers `follow` has one output and one status.
+    ensures one_follow { (wanted : List names.Namespace) (items : List Item) (w v : List ℕ)
+        (one other : Status) → Follows wanted items w one → Follows wanted items v other →
+        (w ≡ v) × (one ≡ other) }
+
+    // At a height whose header is that of a square, what `follow` tells of a namespace is what the
+    // square's shares of it are read as, or the first complete answer and the square name a collision.
+    ensures own_follow { (wanted : List names.Namespace) (answers : List ℕ) (feed : Feed) (number : ℕ)
+        (name : names.Namespace) (read : Read) (header : Roots) (square : SquareShares) →
+        AreBytes answers → IsFeedOf (Contains wanted) (items_in answers) feed →
+        feed number name ≡ Some read → header_at (items_in answers) number ≡ Some header →
+        IsHeaderOf header square → (read ≡ blobs_of (shares_in square name))
+        ⊎ FirstNames (items_in answers) number name square }
+
     // A file is read as a header, a square, a block, an answer exactly where it is that value's one
     // spelling.
     ensures header_file { (bytes : List ℕ) (header : Roots) → AreBytes bytes →
@@ -173,4 +191,5 @@ pub fn run_laws()
     verdict_laws();
     commit_laws();
     refusal_laws();
+    follow_laws();
 }

@@ -122,9 +122,9 @@ pub fn run<I: Inputs, O: Sink, N: Sink>(
         (O.taken out.new) result }
 
     // Under the header of a square `ok` stands only for messages that show the square's own share and for
-    // namespace answers that show just its shares, each to the request where there is one, a repair answers this square or the missing cells, and
-    // `light` writes no claim; or a collision is named, as a fraud claim always does; where the files are
-    // told.
+    // namespace answers that show just its shares, each to the request where there is one, a repair answers
+    // this square or the missing cells, `light` writes no claim, and `follow` tells of the square's shares;
+    // or a collision is named, as a fraud claim always does; where the files are told.
     ensures own { AreOwn (I.files inputs.old) (words_of words.now) }
 
     // `Usage` comes exactly where the words are no command. Where no word names a file, nothing is

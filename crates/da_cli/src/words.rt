@@ -194,6 +194,12 @@ fn blob_call(words: &[String]) -> Option<Call>
     if is_command(words, "prove", 3) {
         return prove_call(words[2].as_str(), words[3].as_str());
     }
+    if is_command(words, "follow", 2) {
+        return Some(Call {
+            command: Command::Follow,
+            files: 2,
+        });
+    }
     None
 }
 

@@ -1,5 +1,5 @@
 -- What the command blobs answers.
-use Rattle.std.proofs.Common.{◌≡◌, ◌∙◌, ℕ, suc, ◌+◌, ◌*◌, ◌-◌, ◌≤◌, nat_le, Bool, true, false, cond, List, [], ◌∷◌, ◌++◌, length, Some, None, IsSome, Result, Ok, Err, refl, sym, ap, subst, inl, inr, arith, append_assoc, lit<, leb-true, leb-false, le-ltb, ltb-false}
+use Rattle.std.proofs.Common.{◌≡◌, ◌∙◌, ℕ, suc, ◌+◌, ◌*◌, ◌-◌, ◌≤◌, nat_le, Bool, true, false, cond, List, [], ◌∷◌, ◌++◌, length, Some, None, IsSome, is_some, IfSome, Result, Ok, Err, refl, sym, ap, subst, inl, inr, arith, append_assoc, lit<, leb-true, leb-false, le-ltb, ltb-false}
 use Rattle.std.specs.Prelude.{MatchResult, nat_lt}
 use Rattle.std.proofs.Math.Nat.{mul-le-mul_right}
 use Rattle.std.specs.declared.option.Option.{Option}
@@ -8,12 +8,12 @@ use Rattle.std.specs.List.{flat_map, AllByRecursion, list_any}
 use Rattle.std.proofs.lemmas.Bool.{cases_Bool, or_parts}
 use Rattle.std.proofs.lemmas.Grind.{div_ceil_times, flat_map-append}
 use Rattle.std.proofs.lemmas.List.{length-append}
-use Rattle.namespace_id.specs.Bytes.{AreBytes}
+use Rattle.namespace_id.specs.Bytes.{AreBytes, IsString}
 use Rattle.namespace_id.specs.declared.namespaces.Namespace as names
 use Rattle.namespace_id.specs.declared.shares.Share.{Share}
 use Rattle.namespace_id.proofs.WidthLemmas.{is_width-le}
 use Rattle.share_split.specs.declared.joining.JoinError.{JoinError}
-use Rattle.share_split.specs.Blobs.{NamedBytes, share_count}
+use Rattle.share_split.specs.Blobs.{NamedBytes, signer_size, version_of, signer_bytes, count_from, share_count}
 use Rattle.share_split.specs.Joined.{Piece, padding, blob, piece_shares, piece_blobs, IsPiece, AreBlobs}
 use Rattle.share_split.specs.Walks.{blobs_of}
 use Rattle.share_split.proofs.Writing.BlobLaws.{length-blob_shares_of}
@@ -88,33 +88,48 @@ joins_none shares why read = subst (λ (r : Result (List NamedBytes) JoinError).
 
 -- ---- the bytes of blobs
 
--- a blob's bytes behind 34 more fit into its shares
-count_fits : (size : ℕ) → size + 34 ≤ 512 * share_count size
-count_fits size = elim (cases_Bool (nat_le size 478)) [
+-- bytes behind as many as the first share has besides content fit into their shares
+count_fits : (first before size : ℕ) → before + first ≡ 512 → size + before ≤ 512 * count_from first 482 size
+count_fits first before size all = elim (cases_Bool (nat_le size first)) [
   | inl few ↦
-      subst (λ (b : Bool). size + 34 ≤ 512 * (cond b 1 (1 + div_ceil (size - 478) 482))) (sym few) (omega (arith, leb-true size 478 few))
+      subst (λ (b : Bool). size + before ≤ 512 * (cond b 1 (1 + div_ceil (size - first) 482))) (sym few) (omega (arith, all, leb-true size first few))
   | inr more ↦
-      subst (λ (b : Bool). size + 34 ≤ 512 * (cond b 1 (1 + div_ceil (size - 478) 482))) (sym more)
-      (omega (arith, leb-false size 478 more, (div_ceil_times (size - 478) 482 (lit< tt)).0))
+      subst (λ (b : Bool). size + before ≤ 512 * (cond b 1 (1 + div_ceil (size - first) 482))) (sym more)
+      (omega (arith, all, leb-false size first more, (div_ceil_times (size - first) 482 (lit< tt)).0))
 ]
 
--- a blob is written in as many bytes as its namespace, its version, a length and its bytes are
-length-blob_bytes : (named : NamedBytes) → length named.namespace.0 ≡ 29 → length (blob_bytes named) ≡ length named.bytes + 34
+-- a blob's bytes behind its signer and 34 more fit into its shares
+signer_fits : (signer : Option (List ℕ)) (size : ℕ) → IfSome signer (IsString signer_size)
+    → size + length (signer_bytes signer) + 34 ≤ 512 * share_count size (is_some signer)
+signer_fits None size is = omega (arith, count_fits 478 34 size refl)
+signer_fits (Some signer) size is = omega (arith, is.size_is, count_fits 458 54 size refl)
+
+-- a blob is written in as many bytes as its namespace, its version, its signer, a length and its bytes are
+length-blob_bytes : (named : NamedBytes) → length named.namespace.0 ≡ 29
+    → length (blob_bytes named) ≡ length named.bytes + length (signer_bytes named.signer) + 34
 length-blob_bytes named name =
+    let signer : List ℕ = signer_bytes named.signer in
     let count : List ℕ = to_be_bytes w32 (length named.bytes) in
     let four : length count ≡ 4 = refl in
-    omega (arith, name, four, length-append named.namespace.0 (0 ∷ count ++ named.bytes), length-append count named.bytes)
+    omega (
+      arith,
+      name,
+      four,
+      length-append named.namespace.0 (version_of named.signer ∷ signer ++ (count ++ named.bytes)),
+      length-append signer (count ++ named.bytes),
+      length-append count named.bytes,
+    )
 
 -- what is written of a piece fits into its shares
 piece_fits : (piece : Piece) → IsPiece piece → length (flat_map blob_bytes (piece_blobs piece)) ≤ 512 * length (piece_shares piece)
-piece_fits (padding name) is = omega arith
+piece_fits (padding version name) is = omega arith
 piece_fits (blob named) is =
     omega (
       arith,
       length-append (blob_bytes named) [],
       length-blob_bytes named is.name.size_is,
-      count_fits (length named.bytes),
-      length-blob_shares_of named.namespace named.bytes,
+      signer_fits named.signer (length named.bytes) is.signer,
+      length-blob_shares_of named.namespace named.signer named.bytes,
     )
 
 -- what is written of pieces fits into their shares

@@ -10,7 +10,7 @@ use Rattle.std.proofs.lemmas.Slice.Eq.{bytes_eq-Decides}
 use Rattle.std.proofs.lemmas.List.Elements.{filter-append}
 use Rattle.namespace_id.specs.declared.namespaces.Namespace.{Namespace}
 use Rattle.namespace_id.specs.Cells.{is_width}
-use Rattle.share_split.specs.Blobs.{NamedBytes, share_count}
+use Rattle.share_split.specs.Blobs.{NamedBytes}
 use Rattle.square_layout.specs.declared.laying.LayError.{LayError}
 use Rattle.square_layout.specs.declared.laying.LayError.TheVariants.{EmptyBlob}
 use Rattle.square_layout.specs.Blocks.{BlockParts, IsSquare}
@@ -162,7 +162,7 @@ range_few k start count width range = square_bound k count width (omega (arith, 
 
 -- a blob has bytes, and no more shares than the greatest square
 abbrev pub IsLaid : NamedBytes → Type 0
-IsLaid blob = (1 ≤ length blob.bytes) × (share_count (length blob.bytes) ≤ 16384)
+IsLaid blob = (1 ≤ length blob.bytes) × (share_count_of blob ≤ 16384)
 
 -- two facts of each element are one
 both_hold : {A : Type 0} (P Q : A → Type 0) (xs : List A) → AllByRecursion P xs → AllByRecursion Q xs → AllByRecursion (λ x. P x × Q x) xs

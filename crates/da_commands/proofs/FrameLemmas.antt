@@ -97,6 +97,12 @@ module _ {A : Type 0} (value : Frame → Option A) where
   ok_kind (Ok x) h = h
   ok_kind (Err e) h = tt
 
+  -- a value that is found at the front of bytes is of a kind that was asked for
+  pub found_among : (kinds bytes : List ℕ)
+      → ((payload : List ℕ) → is_among kinds (slice_index bytes 0) ≡ true → IfSome (value_at (slice_index bytes 0) payload) (λ (v : Frame). IsSome (value v)))
+      → IfSome (value_in kinds bytes) (λ (x : Frame × ℕ). IsSome (value x.0))
+  found_among kinds bytes h = ok_kind (tested_frame (is_among kinds) 0 bytes) (front_among kinds bytes h)
+
   -- a value that is found at the front of bytes is of the kind that was asked for
   pub found_kind : (kind : ℕ) (bytes : List ℕ) → ((payload : List ℕ) → IfSome (value_at kind payload) (λ (v : Frame). IsSome (value v)))
       → IfSome (value_in (kind ∷ []) bytes) (λ (x : Frame × ℕ). IsSome (value x.0))

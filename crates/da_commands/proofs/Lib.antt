@@ -25,6 +25,11 @@ pub mod WantedLemmas
 pub mod BlobsLemmas
 pub mod CommitLemmas
 pub mod ProveLemmas
+pub mod FeedLineLemmas
+pub mod EachOnceLemmas
+pub mod FeedOnceLemmas
+pub mod FeedItemLemmas
+pub mod FollowLemmas
 pub mod ShowLemmas
 pub mod DemoLemmas
 pub mod MeaningLemmas

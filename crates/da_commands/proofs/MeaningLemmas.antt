@@ -7,7 +7,7 @@ use Rattle.da_status.specs.declared.status.Status.{Status}
 use Rattle.da_status.specs.Statuses.{kind_of}
 use Rattle.da_status.proofs.EndLemmas.{IsAnswer, answer_output, status_answers}
 use Rattle.da_commands.specs.declared.command.Command.{Command}
-use Rattle.da_commands.specs.declared.command.Command.TheVariants.{Check, Build, Header, Sample, Namespace, Verify, Compact, Repair, Light, Net, Show, Json, Demo, VerifyFor, Root, RootIs, Wanted, Blobs, Commit, Prove, ProveRange, Help, Version}
+use Rattle.da_commands.specs.declared.command.Command.TheVariants.{Check, Build, Header, Sample, Namespace, Verify, Compact, Repair, Light, Net, Show, Json, Demo, VerifyFor, Root, RootIs, Wanted, Blobs, Commit, Prove, ProveRange, Follow, Help, Version}
 use Rattle.da_commands.specs.Show.{all_kinds, shown_file}
 use Rattle.da_commands.specs.Meaning.{AnswerOf}
 use Rattle.da_commands.proofs.CheckLemmas.{check_last}
@@ -28,6 +28,7 @@ use Rattle.da_commands.proofs.WantedLemmas.{wanted_last}
 use Rattle.da_commands.proofs.BlobsLemmas.{blobs_answers}
 use Rattle.da_commands.proofs.CommitLemmas.{commit_answers}
 use Rattle.da_commands.proofs.ProveLemmas.{prove_answers, prove_range_answers}
+use Rattle.da_commands.proofs.FollowLemmas.{follow_answers}
 
 -- a command's answer comes with its output, or refuses what the files ask for
 pub answer_last : (command : Command) (files : List (List ℕ)) (w : List ℕ) (status : Status) → AnswerOf command files w status → IsAnswer (kind_of status)
@@ -52,5 +53,6 @@ answer_last Blobs files w status h = blobs_answers files w status h
 answer_last Commit files w status h = commit_answers files w status h
 answer_last Prove files w status h = prove_answers files w status h
 answer_last (ProveRange start count) files w status h = prove_range_answers start count files w status h
+answer_last Follow files w status h = follow_answers files w status h
 answer_last Help files w status h = status_answers status _ h.1 tt
 answer_last Version files w status h = status_answers status _ h.1 tt

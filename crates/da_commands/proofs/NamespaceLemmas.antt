@@ -47,7 +47,7 @@ is_name_frame frame e = absurd cc
 -- ---- the namespaces that are asked for
 
 -- the values of a file can be written, wherever it leaves its form
-values_by : (kinds bytes : List ℕ) (bad : Option ℕ) → ValuesAreTheFile → BadValueIsFirst → AreBytes bytes → bad_value kinds bytes ≡ bad
+pub values_by : (kinds bytes : List ℕ) (bad : Option ℕ) → ValuesAreTheFile → BadValueIsFirst → AreBytes bytes → bad_value kinds bytes ≡ bad
     → AllByRecursion (IsValue kinds) (values_of kinds bytes)
 values_by kinds bytes None whole first fits e = (whole kinds bytes fits e).1
 values_by kinds bytes (Some at) whole first fits e = (first kinds bytes at fits e).2

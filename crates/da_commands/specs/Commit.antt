@@ -14,7 +14,7 @@ use Rattle.da_commands.specs.Build.{block_file, build_judged}
 
 -- the commitment of a blob: that of its shares
 abbrev pub commitment_of : NamedBytes → List ℕ
-commitment_of blob = commitment_over (blob_shares_of blob.namespace blob.bytes)
+commitment_of blob = commitment_over (blob_shares_of blob.namespace blob.signer blob.bytes)
 
 -- the line of a blob: its commitment in hexadecimal digits
 abbrev pub commitment_line : NamedBytes → List ℕ

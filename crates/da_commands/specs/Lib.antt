@@ -17,6 +17,7 @@ pub mod Light
 pub mod Root
 pub mod Wanted
 pub mod Blobs
+pub mod Follow
 pub mod Net
 pub mod Show
 pub mod Demo

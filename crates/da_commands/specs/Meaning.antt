@@ -2,7 +2,7 @@
 use Rattle.std.specs.Prelude.{◌≡◌, ℕ, List, true, ⊤}
 use Rattle.std.specs.declared.option.Option.{Option}
 use Rattle.da_commands.specs.declared.command.Command.{Command}
-use Rattle.da_commands.specs.declared.command.Command.TheVariants.{Check, Build, Header, Sample, Namespace, Verify, Compact, Repair, Light, Net, Show, Json, Demo, VerifyFor, Root, RootIs, Wanted, Blobs, Commit, Prove, ProveRange, Help, Version}
+use Rattle.da_commands.specs.declared.command.Command.TheVariants.{Check, Build, Header, Sample, Namespace, Verify, Compact, Repair, Light, Net, Show, Json, Demo, VerifyFor, Root, RootIs, Wanted, Blobs, Commit, Prove, ProveRange, Follow, Help, Version}
 use Rattle.da_status.specs.Outcome.{Relation}
 use Rattle.da_status.specs.Judging.{Judged}
 use Rattle.da_commands.specs.Check.{check_judged, CheckOf}
@@ -23,6 +23,7 @@ use Rattle.da_commands.specs.Wanted.{wanted_judged, WantedOf}
 use Rattle.da_commands.specs.Blobs.{blobs_judged, BlobsOf}
 use Rattle.da_commands.specs.Commit.{commit_judged, CommitOf}
 use Rattle.da_commands.specs.Prove.{prove_judged, ProveOf, prove_range_judged, ProveRangeOf}
+use Rattle.da_commands.specs.Follow.{follow_judged, FollowOf}
 use Rattle.da_commands.specs.Help.{help_judged, HelpOf, VersionOf}
 
 -- of each file where it leaves its form, if it does
@@ -48,6 +49,7 @@ judged_of Blobs files = blobs_judged files
 judged_of Commit files = commit_judged files
 judged_of Prove files = prove_judged files
 judged_of (ProveRange start count) files = prove_range_judged files
+judged_of Follow files = follow_judged files
 judged_of Help files = help_judged
 judged_of Version files = help_judged
 
@@ -74,6 +76,7 @@ AnswerOf Blobs files = BlobsOf files
 AnswerOf Commit files = CommitOf files
 AnswerOf Prove files = ProveOf files
 AnswerOf (ProveRange start count) files = ProveRangeOf start count files
+AnswerOf Follow files = FollowOf files
 AnswerOf Help files = HelpOf
 AnswerOf Version files = VersionOf
 
@@ -102,6 +105,7 @@ TakesFirst (Wanted axis) = ⊤
 TakesFirst Blobs = ⊤
 TakesFirst Commit = ⊤
 TakesFirst (ProveRange start count) = ⊤
+TakesFirst Follow = ⊤
 TakesFirst Help = ⊤
 TakesFirst Version = ⊤
 TakesFirst command = ⊥

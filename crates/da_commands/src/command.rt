@@ -8,8 +8,8 @@ ghost use Rattle.da_commands.specs.Meaning.{Meaning, TakesFirst, IsRunnable};
 ghost use Rattle.da_status.specs.Outcome.{Ends};
 
 use crate::{
-    blobs, build, check, commit, compact, demo, header, help, light, namespace, net, prove, root,
-    sample, show, verify, verify_for, wanted,
+    blobs, build, check, commit, compact, demo, follow, header, help, light, namespace, net, prove,
+    root, sample, show, verify, verify_for, wanted,
 };
 use da_io::Sink;
 use da_status::Status;
@@ -61,6 +61,8 @@ pub enum Command {
     Prove,
     /// `prove SQUARE START COUNT`, with the index of the first share and the number of shares
     ProveRange(u32, u32),
+    /// `follow WANTED ANSWERS`
+    Follow,
     /// `help`
     Help,
     /// `version`
@@ -101,6 +103,7 @@ pub fn execute<O: Sink>(alloc: Global, command: Command, files: &[Vec<u8>], out:
         Command::Commit => commit::execute(alloc, files, out),
         Command::Prove => prove::execute(alloc, files, out),
         Command::ProveRange(start, count) => prove::range(alloc, files, start, count, out),
+        Command::Follow => follow::execute(alloc, files, out),
         Command::Help => help::help(out),
         Command::Version => help::version(out),
     }

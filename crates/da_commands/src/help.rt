@@ -25,6 +25,7 @@ const COMMANDS: &[u8] = b"\
     da commit BLOCK\n\
     da prove SQUARE REQUESTS\n\
     da prove SQUARE START COUNT\n\
+    da follow WANTED ANSWERS\n\
     da root HEADER\n\
     da root HEADER ROOT\n\
     da net HEADER MESSAGES SCRIPT\n\

@@ -13,6 +13,8 @@ mod commit;
 mod compact;
 mod contents;
 mod demo;
+mod feed_lines;
+mod follow;
 mod frames;
 mod header;
 mod help;
@@ -31,5 +33,6 @@ mod wanted;
 
 pub use check::Finding;
 pub use command::{Command, execute};
+pub use follow::follow_laws;
 pub use frames::{Unread, header_in};
 pub use repair::give_verdict;

@@ -42,7 +42,7 @@ fn namespace_of(frame: &Frame) -> Option<Namespace>
 }
 
 /// The request at the front of a list of requests for namespaces.
-fn next_name(alloc: Global, bytes: &[u8]) -> Next<'_, Namespace>
+pub(crate) fn next_name(alloc: Global, bytes: &[u8]) -> Next<'_, Namespace>
     ensures { IsNext namespaces_in bytes.now result }
 {
     let Ok(found) = next_value(alloc, bytes, b"P") else {

@@ -35,13 +35,13 @@ block_note lay.NoMemory = codes "6"
 
 -- the numbers of the refusals of shares
 abbrev pub join_number : JoinError → ℕ
-join_number (join.BadVersion i) = 1
-join_number (join.MixedNamespace i) = 2
-join_number (join.Short i) = 3
-join_number (join.NoStart i) = 4
-join_number (join.NonZeroFill i) = 5
-join_number (join.BadVarint i) = 6
-join_number (join.BadReserved i) = 7
+join_number (join.NoStart i) = 1
+join_number (join.Short i) = 2
+join_number (join.BadVersion i) = 3
+join_number (join.NonZeroFill i) = 4
+join_number (join.BadVarint i) = 5
+join_number (join.BadReserved i) = 6
+join_number (join.MixedNamespace i) = 7
 join_number join.NoMemory = 8
 
 -- the share that such a refusal names, counted from 0

@@ -10,5 +10,5 @@ mod notes;
 mod status;
 
 pub use line::Line;
-pub use notes::{around, axis_note, note};
+pub use notes::{around, axis_note, join_number, join_share, note};
 pub use status::{Asked, Status};

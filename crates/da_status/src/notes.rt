@@ -55,23 +55,23 @@ fn note_block(line: &mut Line, why: LayError)
 }
 
 /// The number of a refusal of shares.
-fn join_number(why: JoinError) -> u64
+pub fn join_number(why: JoinError) -> u64
     ensures { result ≡ join_number why }
 {
     match why {
-        JoinError::BadVersion(_) => 1,
-        JoinError::MixedNamespace(_) => 2,
-        JoinError::Short(_) => 3,
-        JoinError::NoStart(_) => 4,
-        JoinError::NonZeroFill(_) => 5,
-        JoinError::BadVarint(_) => 6,
-        JoinError::BadReserved(_) => 7,
+        JoinError::NoStart(_) => 1,
+        JoinError::Short(_) => 2,
+        JoinError::BadVersion(_) => 3,
+        JoinError::NonZeroFill(_) => 4,
+        JoinError::BadVarint(_) => 5,
+        JoinError::BadReserved(_) => 6,
+        JoinError::MixedNamespace(_) => 7,
         JoinError::NoMemory => 8,
     }
 }
 
 /// The share that a refusal of shares names.
-fn join_share(why: JoinError) -> u64
+pub fn join_share(why: JoinError) -> u64
     ensures { result ≡ join_share why }
 {
     match why {

@@ -57,7 +57,8 @@ pub enum Status {
     Clash,
     /// The output is complete, and a line of it is a refusal.
     Refused,
-    /// The output is so many planned cells that no proved sample showed.
+    /// The output is so many planned cells that no proved sample showed, or so many of its lines say
+    /// of a wanted namespace that no complete answer for it came.
     Waiting(u64),
 }
 

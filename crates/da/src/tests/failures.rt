@@ -1,7 +1,7 @@
 //! One call that fails: the calls of each kind are numbered from 0, and one after another fails, until a run makes no call
 //! of that number.
 
-use da_cli::Status::{Done, Missing, PickFault, ReadFault, Refused, WriteFault};
+use da_cli::Status::{Done, Missing, PickFault, ReadFault, Refused, Waiting, WriteFault};
 use da_cli::{Status, run};
 use da_io::{MemInputs, MemSink};
 use std::alloc::Global;
@@ -236,8 +236,10 @@ fn failed_calls(rt: HostRuntime) -> Result<(), Fail> {
         ("prove s cells", 4096, "write", 4, 5, Done, 3568, 0),
         ("prove s 1 2", 4096, "write", 0, 1, WriteFault, 0, 0),
         ("prove s 1 2", 4096, "write", 1, 2, Done, 969, 0),
+        ("follow name h", 4096, "write", 0, 1, WriteFault, 0, 0),
+        ("follow name h", 4096, "write", 1, 2, Waiting(1), 86, 0),
         ("help", 4096, "write", 0, 1, WriteFault, 0, 0),
-        ("help", 4096, "write", 1, 2, Done, 492, 0),
+        ("help", 4096, "write", 1, 2, Done, 517, 0),
         ("version", 4096, "write", 0, 1, WriteFault, 0, 0),
         ("version", 4096, "write", 1, 2, Done, 9, 0),
     ];

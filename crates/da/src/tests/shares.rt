@@ -57,10 +57,10 @@ fn sequences(rt: HostRuntime) -> Result<(), Fail> {
     let alloc = rt.alloc();
     let mut shares = Vec::new(alloc);
     assert_eq!(rt;
-        blob_shares(&name(0x0101), &[], &mut shares),
+        blob_shares(&name(0x0101), &[], None, &mut shares),
         Err(SplitError::Empty)
     );
-    blob_shares(&name(0x0101), &[7; 479], &mut shares)?;
+    blob_shares(&name(0x0101), &[7; 479], None, &mut shares)?;
     let [first, later] = shares.as_slice() else {
         panic!(rt; "{} shares", shares.len());
     };
@@ -117,7 +117,10 @@ fn too_long(rt: HostRuntime) -> Result<(), Fail> {
     let mut out = Vec::new(alloc);
     let mut bytes = Vec::new(alloc);
     bytes.resize(MAX_SEQUENCE_LENGTH + 1, 7)?;
-    assert_eq!(rt; blob_shares(&name(0x0101), &bytes, &mut out), too_long);
+    assert_eq!(rt;
+        blob_shares(&name(0x0101), &bytes, None, &mut out),
+        too_long
+    );
     bytes.truncate(MAX_SEQUENCE_LENGTH - 4);
     let mut units = vec![in alloc; Unit { bytes }]?;
     assert_eq!(rt;

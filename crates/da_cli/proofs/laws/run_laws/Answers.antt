@@ -124,3 +124,9 @@ returns-clause-answers c = answers_to
 
 pub returns-clause-rooted : goal.returns-clause-rooted
 returns-clause-rooted c = tied
+
+pub returns-clause-one_follow : goal.returns-clause-one_follow
+returns-clause-one_follow c = c.follow_laws.ensures.once
+
+pub returns-clause-own_follow : goal.returns-clause-own_follow
+returns-clause-own_follow c = c.follow_laws.ensures.own

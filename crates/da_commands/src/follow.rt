@@ -1,0 +1,290 @@
+//! follow WANTED ANSWERS: the blobs of namespaces from height to height, complete.
+
+ghost use Rattle.std.specs.Prelude.{◌≡◌, ◌⊎◌, ◌++◌, ⊤, ℕ, List, Some, None, OnOk, IfOk, [], length};
+ghost use Rattle.std.specs.List.{list_any, cons_option, Contains};
+ghost use Rattle.namespace_id.specs.declared.namespaces.Namespace.{Namespace as Name};
+ghost use Rattle.namespace_id.specs.Bytes.{AreBytes};
+ghost use Rattle.share_split.specs.Walks.{blobs_of};
+ghost use Rattle.data_header.specs.Headers.{Roots};
+ghost use Rattle.square_layout.specs.Blocks.{SquareShares};
+ghost use Rattle.axis_roots.specs.Grids.{IsHeaderOf};
+ghost use Rattle.blob_feed.specs.Feeds.{Item, heights_of, header_at, Read, IsFeedOf, shares_in, FirstNames};
+ghost use Rattle.blob_feed.specs.Filters.{IsFilter, wanted_by};
+ghost use Rattle.blob_feed.specs.Followers.{StandsFor, count_of, is_name};
+ghost use Rattle.da_status.specs.declared.status.Status.{Status as Ended};
+ghost use Rattle.da_status.specs.Statuses.{kind_of, output};
+ghost use Rattle.da_status.specs.Outcome.{EndsAtOnce};
+ghost use Rattle.da_commands.specs.declared.command.Command.TheVariants as CommandOf;
+ghost use Rattle.da_commands.specs.Contents.{contents_of};
+ghost use Rattle.da_commands.specs.Serving.{failing_from};
+ghost use Rattle.da_commands.specs.Namespace.{namespaces_in};
+ghost use Rattle.da_commands.specs.Follow.{is_followed, each_once, item_of, items_in, bad_feed, IsLed, IsTimely, Feed, places_from, IsToldOf, feed_status, Follows, FollowsAsked};
+ghost use Rattle.da_commands.specs.Meaning.{Meaning};
+
+use crate::contents::file;
+use crate::feed_lines::{Told, lines};
+use crate::frames::put;
+use crate::namespace::next_name;
+use crate::serving::Next;
+use blob_feed::{Filter, FollowError, Follower, feed_laws};
+use da_io::Sink;
+use da_status::{Asked, Status};
+use da_wire::{Frame, bad_value, next_value, value_laws};
+use namespace_id::{Namespace, NoMemory};
+use std::alloc::Global;
+use std::collections::BTreeSet;
+use std::marker::Model;
+
+/// The places of the files among the words that name files.
+const WANTED: u32 = 0;
+
+const ANSWERS: u32 = 1;
+
+/// The kinds of the frames of ANSWERS.
+const KINDS: &[u8] = b"HN";
+
+/// A filter that wants the namespaces of a set, which contracts see as their list.
+#[derive(Drop)]
+struct Listed {
+    names: BTreeSet<Namespace>,
+}
+
+impl Model for Listed {
+    ghost use Rattle.std.specs.Prelude.{List};
+    ghost use Rattle.namespace_id.specs.declared.namespaces.Namespace.{Namespace as Name};
+
+    ghost Value = { List Name };
+
+    ghost view = { λ listed. listed.names.keys };
+}
+
+impl Filter for Listed {
+    ghost can_ask = { λ names name. ⊤ };
+
+    ghost answers = { λ names name wanted. list_any (is_name name) names ≡ wanted };
+
+    fn wants(&self, namespace: &Namespace) -> bool {
+        self.names.contains(namespace)
+    }
+}
+
+/// The number of the first namespace that is asked for and isn't one of a blob.
+fn first_other(alloc: Global, wanted: &[u8]) -> Result<Option<u64>, NoMemory>
+    ensures { IfOk result (λ found. found ≡ failing_from is_followed 0 (namespaces_in wanted.now)) }
+{
+    let mut rest = wanted;
+    let mut number = 0;
+    loop {
+        let (name, after) = match next_name(alloc, rest) {
+            Next::Request(name, after) => (name, after),
+            Next::End => return Ok(None),
+            Next::NoMemory => return Err(NoMemory),
+        };
+        if Namespace::blob(&name.0).is_err() {
+            return Ok(Some(number));
+        }
+        number += 1;
+        rest = after;
+    }
+}
+
+/// The set of the namespaces that are asked for.
+fn wanted_set(alloc: Global, wanted: &[u8]) -> Result<BTreeSet<Namespace>, NoMemory>
+    ensures { IfOk result (λ names. names.keys ≡ each_once (namespaces_in wanted.now)) }
+{
+    let mut names = BTreeSet::new(alloc);
+    let mut rest = wanted;
+    loop {
+        let (name, after) = match next_name(alloc, rest) {
+            Next::Request(name, after) => (name, after),
+            Next::End => return Ok(names),
+            Next::NoMemory => return Err(NoMemory),
+        };
+        if names.insert(name).is_err() {
+            return Err(NoMemory);
+        }
+        rest = after;
+    }
+}
+
+/// The namespaces of a set, ascending.
+fn in_order(alloc: Global, names: &BTreeSet<Namespace>) -> Result<Vec<Namespace>, NoMemory>
+    ensures { IfOk result (λ list. list.items ≡ names.now.keys) }
+{
+    match names.iter().copied().collect::<Vec<Namespace>>(alloc) {
+        Ok(list) => Ok(list),
+        Err(_) => Err(NoMemory),
+    }
+}
+
+/// Where bytes aren't a list of headers and answers that begins with a header.
+fn bad_feed(bytes: &[u8]) -> Option<u64>
+    ensures { result ≡ bad_feed bytes.now }
+{
+    if bytes.first() == Some(&b'N') {
+        Some(0)
+    } else {
+        bad_value(bytes, KINDS)
+    }
+}
+
+/// Hands a follower the header or the answer that a frame is. There is a height where it is an
+/// answer. One that is refused changes nothing.
+fn hand<F: Filter>(frame: Frame, follower: &mut Follower<F>) -> Result<(), NoMemory>
+    requires { IsTimely (count_of follower.old) frame }
+    ensures stands { OnOk result ((items : List Item) →
+        StandsFor (wanted_by F.answers follower.old.filter) follower.old items →
+        StandsFor (wanted_by F.answers follower.old.filter) follower.new
+        (items ++ cons_option (item_of frame) [])) }
+    ensures led { OnOk result ((later : List Item) →
+        (count_of follower.old ≡ 0 → IsLed (cons_option (item_of frame) later)) →
+        count_of follower.new ≡ 0 → IsLed later) }
+    ensures filter { follower.new.filter ≡ follower.old.filter }
+{
+    match frame {
+        Frame::Header(header) => {
+            // No run has so many: its files are shorter than as many headers.
+            if follower.heights() == u32::MAX {
+                return Err(NoMemory);
+            }
+            follower.header(header)
+        }
+        Frame::Names(name, answer) => match follower.answer(&name, &answer) {
+            Err(FollowError::NoMemory) => Err(NoMemory),
+            _ => Ok(()),
+        },
+        _ => Ok(()),
+    }
+}
+
+/// Hands a follower the headers and answers in a file, in their order.
+fn hand_over<F: Filter>(
+    alloc: Global,
+    answers: &[u8],
+    follower: &mut Follower<F>,
+) -> Result<(), NoMemory>
+    requires led { IsLed (items_in answers.now) }
+    requires none { StandsFor (wanted_by F.answers follower.old.filter) follower.old [] }
+    ensures stands { OnOk result (StandsFor (wanted_by F.answers follower.old.filter) follower.new
+        (items_in answers.now)) }
+    ensures filter { follower.new.filter ≡ follower.old.filter }
+{
+    let mut rest = answers;
+    loop {
+        let Ok(found) = next_value(alloc, rest, KINDS) else {
+            return Err(NoMemory);
+        };
+        let Some((frame, after)) = found else {
+            return Ok(());
+        };
+        hand(frame, follower)?;
+        rest = after;
+    }
+}
+
+/// What is written for headers and answers, by the square of a header.
+pub fn follow_laws()
+    // For wanted namespaces, headers and answers there is one output and one status.
+    ensures once { (wanted : List Name) (items : List Item) (w v : List ℕ) (one other : Ended) →
+        Follows wanted items w one → Follows wanted items v other → (w ≡ v) × (one ≡ other) }
+
+    // At a height whose header is that of a square, what is told of a namespace is what the square's
+    // shares of it are read as, or the first complete answer and the square name a collision.
+    ensures own { (wanted : List Name) (answers : List ℕ) (feed : Feed) (number : ℕ) (name : Name)
+        (read : Read) (header : Roots) (square : SquareShares) → AreBytes answers →
+        IsFeedOf (Contains wanted) (items_in answers) feed → feed number name ≡ Some read →
+        header_at (items_in answers) number ≡ Some header → IsHeaderOf header square →
+        (read ≡ blobs_of (shares_in square name))
+        ⊎ FirstNames (items_in answers) number name square }
+{
+    value_laws();
+    feed_laws::<Listed>();
+}
+
+/// The lines of what comes of answers by a filter, of these namespaces.
+fn told_by<F: Filter>(
+    alloc: Global,
+    filter: F,
+    names: &[Namespace],
+    answers: &[u8],
+) -> Result<Told, NoMemory>
+    requires filter { IsFilter F.can_ask F.answers filter }
+    requires led { IsLed (items_in answers.now) }
+    ensures { IfOk result (λ told. (feed : Feed)
+        × IsFeedOf (wanted_by F.answers filter) (items_in answers.now) feed
+        × IsToldOf feed (places_from names.now 0 (length (heights_of (items_in answers.now)))) told) }
+{
+    feed_laws::<F>();
+    let mut follower = Follower::new(alloc, filter);
+    hand_over(alloc, answers, &mut follower)?;
+    lines(alloc, &follower, names)
+}
+
+/// The lines of what comes of answers for the namespaces that are asked for.
+fn told(alloc: Global, wanted: &[u8], answers: &[u8]) -> Result<Told, NoMemory>
+    requires { IsLed (items_in answers.now) }
+    ensures { IfOk result (λ told. (feed : Feed)
+        × IsFeedOf (Contains (namespaces_in wanted.now)) (items_in answers.now) feed
+        × IsToldOf feed (places_from (each_once (namespaces_in wanted.now)) 0
+        (length (heights_of (items_in answers.now)))) told) }
+{
+    let names = wanted_set(alloc, wanted)?;
+    let ascending = in_order(alloc, &names)?;
+    told_by(alloc, Listed { names }, &ascending, answers)
+}
+
+/// The status of lines of which so many say that there is nothing.
+fn feed_status(missing: u64) -> Status
+    ensures value { result ≡ feed_status missing }
+    ensures output { kind_of result ≡ output }
+{
+    if missing == 0 {
+        Status::Done
+    } else {
+        Status::Waiting(missing)
+    }
+}
+
+/// Writes the lines of what comes of answers for the namespaces that are asked for, as one piece.
+fn give<O: Sink>(alloc: Global, wanted: &[u8], answers: &[u8], out: &mut O) -> Status
+    requires { IsLed (items_in answers.now) }
+    ensures { EndsAtOnce (Follows (namespaces_in wanted.now) (items_in answers.now))
+        (O.taken out.old) (O.taken out.new) (O.faults out.old) (O.faults out.new)
+        (out.new ≡ out.old) result }
+{
+    match told(alloc, wanted, answers) {
+        Ok(told) => put(&told.text, feed_status(told.missing), out),
+        Err(_) => Status::NoMemory,
+    }
+}
+
+/// Answers what comes of answers for the namespaces that are asked for, if all are ones of blobs.
+fn answer<O: Sink>(alloc: Global, wanted: &[u8], answers: &[u8], out: &mut O) -> Status
+    requires { bad_feed answers.now ≡ None }
+    ensures { EndsAtOnce (FollowsAsked (namespaces_in wanted.now) (items_in answers.now))
+        (O.taken out.old) (O.taken out.new) (O.faults out.old) (O.faults out.new)
+        (out.new ≡ out.old) result }
+{
+    match first_other(alloc, wanted) {
+        Ok(None) => give(alloc, wanted, answers, out),
+        Ok(Some(number)) => Status::BadRequest(Asked::At(number)),
+        Err(_) => Status::NoMemory,
+    }
+}
+
+/// Answers what the answers in ANSWERS bring of the namespaces in WANTED, height by height. All
+/// memory is taken before the write.
+pub(crate) fn execute<O: Sink>(alloc: Global, files: &[Vec<u8>], out: &mut O) -> Status
+    ensures { EndsAtOnce (Meaning CommandOf.Follow (contents_of files.now)) (O.taken out.old)
+        (O.taken out.new) (O.faults out.old) (O.faults out.new) (out.new ≡ out.old) result }
+{
+    let wanted = file(files, WANTED);
+    if let Some(at) = bad_value(wanted, b"P") {
+        return Status::BadInput(WANTED, at);
+    }
+    let answers = file(files, ANSWERS);
+    if let Some(at) = bad_feed(answers) {
+        return Status::BadInput(ANSWERS, at);
+    }
+    answer(alloc, wanted, answers, out)
+}
