@@ -20,6 +20,12 @@ const BY_GO_SQUARE: [u8; 32] = [
     0xbf, 0xc6, 0xf4, 0xad, 0x55, 0x2d, 0x32, 0x79, 0x92, 0x8c, 0xa1, 0x3e, 0xbe, 0xba, 0x8c, 0x2b,
 ];
 
+/// That of these bytes with the signer of 20 bytes 1, by Python's hashlib: four shares of version 1.
+const OF_SIGNED: [u8; 32] = [
+    0xf6, 0xc6, 0x27, 0x4d, 0x90, 0xba, 0xc3, 0x37, 0x6c, 0xf6, 0x77, 0x45, 0x22, 0x2e, 0xf3, 0xe8,
+    0xc9, 0x7d, 0x95, 0xaa, 0xed, 0xe9, 0x62, 0xe7, 0x37, 0xfd, 0xc3, 0xc9, 0x14, 0x0f, 0xbf, 0xc6,
+];
+
 /// The commitment that celestia-node's documentation gives of its example of a blob.
 const BY_CELESTIA_NODE: [u8; 32] = [
     0x00, 0x3e, 0x44, 0xcd, 0xb1, 0xb4, 0xfc, 0x43, 0x2f, 0xa7, 0x0d, 0x29, 0xf0, 0xd2, 0x23, 0x31,
@@ -45,25 +51,34 @@ const OF_131: [u8; 32] = [
 ];
 
 /// A blob whose namespace ends in these ten bytes.
-fn blob(id: [u8; 10], bytes: Vec<u8>) -> Blob {
+fn blob(id: [u8; 10], bytes: Vec<u8>, signer: Option<[u8; 20]>) -> Blob {
     let mut name = [0; NAMESPACE_SIZE];
     name[19..].copy_from_slice(&id);
     Blob {
         namespace: Namespace(name),
         bytes,
+        signer,
     }
 }
 
 #[test]
 fn commitments_of_blobs(rt: HostRuntime) -> Result<(), Fail> {
     let alloc = rt.alloc();
-    let ones = blob([1; 10], vec![in alloc; 0xff; 1536]?);
+    let ones = blob([1; 10], vec![in alloc; 0xff; 1536]?, None);
     assert!(rt; commitment_of(alloc, &ones) == Ok(BY_GO_SQUARE));
     let id = [1, 2, 3, 4, 5, 6, 7, 8, 9, 0x10];
     let text = Vec::from_slice(alloc, b"This is an example of some blob data")?;
-    assert!(rt; commitment_of(alloc, &blob(id, text)) == Ok(BY_CELESTIA_NODE));
-    let empty = blob(id, Vec::new(alloc));
+    assert!(rt; commitment_of(alloc, &blob(id, text, None)) == Ok(BY_CELESTIA_NODE));
+    let empty = blob(id, Vec::new(alloc), None);
     assert!(rt; commitment_of(alloc, &empty) == Err(CommitError::Empty));
+    Ok(())
+}
+
+#[test]
+fn a_signed_blob(rt: HostRuntime) -> Result<(), Fail> {
+    let alloc = rt.alloc();
+    let ones = blob([1; 10], vec![in alloc; 0xff; 1536]?, Some([1; 20]));
+    assert!(rt; commitment_of(alloc, &ones) == Ok(OF_SIGNED));
     Ok(())
 }
 

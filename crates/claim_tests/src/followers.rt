@@ -29,6 +29,7 @@ fn square(alloc: Global) -> Result<Square, Fail> {
     let blob = Blob {
         namespace: name(2),
         bytes: Vec::from_slice(alloc, b"abc")?,
+        signer: None,
     };
     let block = Block {
         units: Vec::new(alloc),

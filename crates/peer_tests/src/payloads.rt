@@ -24,11 +24,11 @@ const BAD_PAYLOADS: [(&str, &[Run]); 28] = [
         &[(b"V\0\0\0\x0e\0\0\xff\xff\xff\xff", 8, 0)],
     ),
     (
-        "V, share version 1",
+        "V, share version 2",
         &[
             (b"V\0\0\0\x32", 13, 0),
             (b"\x01", 29, 9),
-            (b"\x01\0\0\0\x02hi", 0, 0),
+            (b"\x02\0\0\0\x02hi", 0, 0),
         ],
     ),
     ("B, form 3", &[(b"B\0\0\0\x06\x03\x01\0\x03", 2, 0)]),

@@ -6,7 +6,7 @@ use da_wire::read_only;
 use std::test::Fail;
 
 /// Frames of each kind but X, as no collision of SHA-256 is known.
-const FRAMES: [(&str, &[Run]); 29] = [
+const FRAMES: [(&str, &[Run]); 30] = [
     ("H, k = 1", &[(b"H\0\0\x01\x6a\0\x01", 360, 7)]),
     ("H, k = 2", &[(b"H\0\0\x02\xd2\0\x02", 720, 7)]),
     ("H, k = 128", &[(b"H\0\0\xb4\x02\0\x80", 46_080, 7)]),
@@ -72,6 +72,15 @@ const FRAMES: [(&str, &[Run]); 29] = [
             (b"V\0\0\0\x32", 13, 0),
             (b"\x01", 29, 9),
             (b"\0\0\0\0\x02hi", 0, 0),
+        ],
+    ),
+    (
+        "V, a signed blob of one byte",
+        &[
+            (b"V\0\0\0\x45", 13, 0),
+            (b"\x01", 29, 9),
+            (b"\x01", 20, 8),
+            (b"\0\0\0\x01a", 0, 0),
         ],
     ),
     (

@@ -4,7 +4,7 @@ ghost use Rattle.std.specs.Prelude.{◌<◌};
 
 use crate::inputs::version_0;
 use namespace_id::{NAMESPACE_SIZE, SHARE_SIZE, Share, TRANSACTION};
-use share_split::{JoinError, blob_shares, join_blobs, join_units};
+use share_split::{JoinError, SIGNER_SIZE, blob_shares, join_blobs, join_units};
 
 /// A share with another byte at this place.
 fn changed(share: &Share, at: usize, byte: u8) -> Share
@@ -21,6 +21,11 @@ fn no_units() -> Share {
     share.0[..NAMESPACE_SIZE].copy_from_slice(&TRANSACTION.0);
     share.0[29] = 1;
     share
+}
+
+/// Padding of version 1.
+fn padding_of_version_1() -> Share {
+    changed(&no_units(), 29, 3)
 }
 
 /// The shares of units of 472 and 10 bytes: the second unit begins the second share.
@@ -42,17 +47,28 @@ fn units() -> [Share; 2] {
 fn blobs_of_shares(rt: HostRuntime) {
     let alloc = rt.alloc();
     let mut shares = Vec::new(alloc);
-    blob_shares(&version_0(0x0101), &[7; 478], &mut shares).expect(&rt, "there is memory");
+    let signer = [0x11; SIGNER_SIZE];
+    blob_shares(&version_0(0x0101), &[7; 478], None, &mut shares).expect(&rt, "there is memory");
     shares.push(no_units()).expect(&rt, "there is memory");
-    blob_shares(&version_0(0x0103), &[7; 479], &mut shares).expect(&rt, "there is memory");
+    blob_shares(&version_0(0x0103), &[7; 479], None, &mut shares).expect(&rt, "there is memory");
+    shares
+        .push(padding_of_version_1())
+        .expect(&rt, "there is memory");
+    blob_shares(&version_0(0x0101), &[8; 459], Some(&signer), &mut shares).expect(
+        &rt,
+        "there is memory",
+    );
     let blobs = join_blobs(alloc, &shares).expect(&rt, "the shares are those of blobs");
-    assert!(rt; blobs.len() == 2);
+    assert!(rt; blobs.len() == 3);
     let first = &blobs[0];
-    assert!(rt; first.namespace == version_0(0x0101));
+    assert!(rt; first.namespace == version_0(0x0101) && first.signer == None);
     assert!(rt; first.bytes.as_slice() == [7; 478].as_slice());
     let second = &blobs[1];
     assert!(rt; second.namespace == version_0(0x0103));
     assert!(rt; second.bytes.as_slice() == [7; 479].as_slice());
+    let signed = &blobs[2];
+    assert!(rt; signed.namespace == version_0(0x0101) && signed.signer == Some(signer));
+    assert!(rt; signed.bytes.as_slice() == [8; 459].as_slice());
     let none = join_blobs(alloc, &[]).expect(&rt, "no shares are those of no blobs");
     assert!(rt; none.is_empty());
 }
@@ -60,17 +76,37 @@ fn blobs_of_shares(rt: HostRuntime) {
 #[test]
 fn shares_that_are_no_blobs(rt: HostRuntime) {
     let mut shares = Vec::new(rt.alloc());
-    blob_shares(&version_0(0x0101), &[7; 479], &mut shares).expect(&rt, "there is memory");
-    assert!(rt; shares.len() == 2);
+    let name = version_0(0x0101);
+    let signer = [0x11; SIGNER_SIZE];
+    blob_shares(&name, &[7; 479], None, &mut shares).expect(&rt, "there is memory");
+    blob_shares(&name, &[7; 459], Some(&signer), &mut shares).expect(&rt, "there is memory");
+    assert!(rt; shares.len() == 4);
     let first = shares[0];
     let second = shares[1];
-    let cases: [(&str, &[Share], JoinError); 9] = [
+    let signed = shares[2];
+    let signed_later = shares[3];
+    let cases: [(&str, &[Share], JoinError); 12] = [
         ("no start", &[second], JoinError::NoStart(0)),
         ("no end", &[first], JoinError::Short(0)),
         (
             "version of the first",
-            &[changed(&first, 29, 3)],
+            &[changed(&signed, 29, 5)],
             JoinError::BadVersion(0),
+        ),
+        (
+            "version 0 behind version 1",
+            &[signed, changed(&signed_later, 29, 0)],
+            JoinError::BadVersion(1),
+        ),
+        (
+            "version 1 behind version 0",
+            &[first, signed_later],
+            JoinError::BadVersion(1),
+        ),
+        (
+            "fill of padding of version 1",
+            &[changed(&padding_of_version_1(), 511, 1)],
+            JoinError::NonZeroFill(0),
         ),
         (
             "version",

@@ -31,7 +31,11 @@ fn blobs_of(rt: &impl Abort, alloc: Global, lens: &[(u16, usize)]) -> Vec<Blob> 
     for (low, len) in lens {
         let bytes = vec![in alloc; 7; *len].expect(rt, "there is memory");
         let namespace = version_0(*low);
-        let blob = Blob { namespace, bytes };
+        let blob = Blob {
+            namespace,
+            bytes,
+            signer: None,
+        };
         blobs.push(blob).expect(rt, "there is memory");
     }
     blobs

@@ -2,7 +2,9 @@
 
 use crate::inputs::{units_of, version_0};
 use namespace_id::TRANSACTION;
-use share_split::{SplitError, blob_shares, subtree_width, unit_share_count, unit_shares};
+use share_split::{
+    SIGNER_SIZE, SplitError, blob_shares, subtree_width, unit_share_count, unit_shares,
+};
 
 /// The heads by the Celestia specifications, "Shares": the last two bytes of the namespace, the
 /// info byte, and in a first share the length of the sequence.
@@ -11,10 +13,10 @@ fn shares(rt: HostRuntime) {
     let name = version_0(0x0101);
     let bytes = [7; 479];
     let mut out = Vec::new(rt.alloc());
-    assert!(rt; blob_shares(&name, &[], &mut out) == Err(SplitError::Empty));
-    blob_shares(&name, &bytes[..478], &mut out).expect(&rt, "there is memory");
+    assert!(rt; blob_shares(&name, &[], None, &mut out) == Err(SplitError::Empty));
+    blob_shares(&name, &bytes[..478], None, &mut out).expect(&rt, "there is memory");
     assert!(rt; out.len() == 1);
-    blob_shares(&name, &bytes, &mut out).expect(&rt, "there is memory");
+    blob_shares(&name, &bytes, None, &mut out).expect(&rt, "there is memory");
     assert!(rt; out.len() == 3);
     let heads = [[1, 1, 1, 0, 0, 0x01, 0xde], [1, 1, 1, 0, 0, 0x01, 0xdf]];
     for i in 0..2 {
@@ -22,6 +24,28 @@ fn shares(rt: HostRuntime) {
         assert!(rt; &out[i].0[34..] == &bytes[..478], "{i}");
     }
     assert!(rt; out[2].0[27..31] == [1, 1, 0, 7]);
+    assert!(rt; out[2].0[31..] == [0; 481]);
+}
+
+/// The same with a signer, which stands behind the length, by the Celestia specifications, "Shares",
+/// share version 1.
+#[test]
+fn signed_shares(rt: HostRuntime) {
+    let name = version_0(0x0101);
+    let signer = [0x11; SIGNER_SIZE];
+    let bytes = [7; 459];
+    let mut out = Vec::new(rt.alloc());
+    blob_shares(&name, &bytes[..458], Some(&signer), &mut out).expect(&rt, "there is memory");
+    assert!(rt; out.len() == 1);
+    blob_shares(&name, &bytes, Some(&signer), &mut out).expect(&rt, "there is memory");
+    assert!(rt; out.len() == 3);
+    let heads = [[1, 1, 3, 0, 0, 0x01, 0xca], [1, 1, 3, 0, 0, 0x01, 0xcb]];
+    for i in 0..2 {
+        assert!(rt; &out[i].0[27..34] == heads[i].as_slice(), "{i}");
+        assert!(rt; out[i].0[34..54] == [0x11; 20], "{i}");
+        assert!(rt; &out[i].0[54..] == &bytes[..458], "{i}");
+    }
+    assert!(rt; out[2].0[27..31] == [1, 1, 2, 7]);
     assert!(rt; out[2].0[31..] == [0; 481]);
 }
 
