@@ -16,6 +16,7 @@ _da_words() {
         blobs) echo SHARES ;;
         commit) echo BLOCK ;;
         prove) echo SQUARE START COUNT ;;
+        follow) echo WANTED ANSWERS ;;
         root) echo HEADER ROOT ;;
         net) echo HEADER MESSAGES SCRIPT ;;
         show) echo FILE ;;
@@ -39,7 +40,7 @@ _da_files() {
 _da() {
     local word=${COMP_WORDS[COMP_CWORD]}
     local before=${COMP_WORDS[COMP_CWORD - 1]}
-    local commands="build header sample namespace verify compact check repair light wanted blobs commit prove root net show json demo help version"
+    local commands="build header sample namespace verify compact check repair light wanted blobs commit prove follow root net show json demo help version"
     local words
     COMPREPLY=()
     # Behind a sign like > stands a file.

@@ -234,14 +234,19 @@ def block(blobs, units=(), pays=(), width=0):
     payload = u16(width)
     for some in (units, pays):
         payload += u32(len(some)) + b"".join(u32(len(unit)) + unit for unit in some)
-    payload += u32(len(blobs))
-    return frame("V", payload + b"".join(name + b"\0" + u32(len(data)) + data for name, data in blobs))
+    return frame("V", payload + u32(len(blobs)) + b"".join(blob_text(*blob) for blob in blobs))
+
+
+def blob_text(namespace, data, signer=b""):
+    """A blob of a block, of share version 1 where it has a signer."""
+    return namespace + (b"\1" + signer if signer else b"\0") + u32(len(data)) + data
 
 
 # Shares ("Shares", "From a block to its square"): no blob has more than 64 shares, so there are no gaps.
-def blob_shares(namespace, data):
-    shares = [namespace + b"\1" + u32(len(data)) + data[:478]]
-    shares += [namespace + b"\0" + data[i:i + 482] for i in range(478, len(data), 482)]
+def blob_shares(namespace, data, signer=b""):
+    version, room = 1 if signer else 0, 478 - len(signer)
+    shares = [namespace + bytes([2 * version + 1]) + u32(len(data)) + signer + data[:room]]
+    shares += [namespace + bytes([2 * version]) + data[i:i + 482] for i in range(room, len(data), 482)]
     return [share.ljust(512, b"\0") for share in shares]
 
 
@@ -267,8 +272,8 @@ def compact_shares(namespace, units):
 
 def square_of(k, blobs, units=(), pays=()):
     shares = compact_shares(TRANSACTION, units) + compact_shares(PAY_FOR_BLOB, pays)
-    for name, data in sorted(blobs, key=lambda blob: blob[0]):
-        shares += blob_shares(name, data)
+    for blob in sorted(blobs, key=lambda blob: blob[0]):
+        shares += blob_shares(*blob)
     return shares + blob_shares(TAIL_PADDING, b"") * (k * k - len(shares))
 
 
@@ -305,6 +310,8 @@ def files():
     pays = [b"a payment for the first blob", b"a payment for the other two"]
     blobs = [(name("0202"), b"The first blob that came. " * 52), (name("0201"), b"The second blob."),
              (name("0202"), b"The third blob.")]
+    signed = [(name("0101"), b"A blob with a signer. " * 21, b"\x11" * 20), (name("0102"), b"A blob without one."),
+              (name("0102"), b"x", b"\x22" * 20)]
     one = (name("0101"), b"one")
     sample = grid.message(1, 2, COL)
     low = grid.message(0, 0)
@@ -332,6 +339,8 @@ def files():
         "spoiled/every": b"".join(spoiled.message(r, c) for r, c in every),
         "transactions/block": block(blobs, units, pays),
         "transactions/square": square(4, square_of(4, blobs, units, pays)),
+        "signed/block": block(signed),
+        "signed/square": square(2, square_of(2, signed)),
         "refused/block-version": block([one, (changed(one[0], 0), b"one")]),
         "refused/block-prefix": block([one, (changed(one[0], 18), b"one")]),
         "refused/block-reserved": block([one, (name("00ff"), b"one")]),
@@ -339,6 +348,7 @@ def files():
         "refused/block-above-width": block([one, one], width=1),
         "refused/block-no-width": block([one], width=3),
         "refused/block-cut": block([one])[:-1],
+        "refused/block-share-version": changed(block([one]), 48, 2),
         "refused/block-and-more": block([one]) + b"V",
         "refused/samples-cut": request(0, 0) + request(0, 1)[:-1],
         "refused/square-falling": square(2, two[::-1]),

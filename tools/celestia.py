@@ -1,11 +1,12 @@
 #!/usr/bin/env python3
-"""celestia-node's JSON to frames, and a header back. It is not proved, and was tried on no answer of a running node.
+"""celestia-node's JSON to frames, and headers and blobs back. It is not proved, and was tried on no running node.
 
     celestia.py header JSON                    the header (kind H) of an extended header, or of its `dah` alone
     celestia.py root JSON                      an extended header's data hash, and beside it the data root of its `dah`
     celestia.py answer NAMESPACE HEADER JSON   the namespace answer (kind N) of rows of namespace data
     celestia.py block JSON                     a block (kind V) of a blob, or of a list of blobs
     celestia.py dah HEADER                     the `dah` of a file of one header
+    celestia.py blobs BLOCK COMMITMENTS        the blobs of a file of one block, with the lines of `da commit` of it
 
 Statuses and notes are those of frames.py, and 13 where a data hash isn't the data root. Python 3 and its standard
 library alone. tools/README.md says more.
@@ -188,16 +189,40 @@ def spell_answer(namespace, header, value):
     return namespace + len(entries).to_bytes(2, "big") + b"".join(entries)
 
 
-def spell_blob(value):
-    """A blob of a block. Its commitment and its index have to be in their form, and aren't used."""
+def signer_of(value):
+    """The signer of a blob, just where its share version is 1."""
     version = value.needed("share_version")
-    if version.number(0, 127) != 0:
-        raise version.bad(f"{version.value}, and the blobs of a frame have 0", "Unsupported")
+    if version.number(0, 127) > 1:
+        raise version.bad(f"{version.value}, and the blobs of a frame have 0 or 1", "Unsupported")
+    if version.value == 1:
+        return value.needed("signer").bytes(frames.SIGNER_BYTES)
     value.member("signer").bytes(0)
+    return None
+
+
+def blob_of(value):
+    """A blob of a block. Its commitment and its index have to be in their form, and aren't used."""
+    signer = signer_of(value)
     value.needed("commitment").bytes(HASH_BYTES)
     value.member("index").number(-1, 2**63 - 1)
-    namespace, data = value.needed("namespace").bytes(frames.NAMESPACE_BYTES), value.member("data").bytes()
-    return namespace + b"\x00" + len(data).to_bytes(4, "big") + data
+    return frames.Blob(value.needed("namespace").bytes(frames.NAMESPACE_BYTES), signer, value.member("data").bytes())
+
+
+def told_blob(blob, commitment):
+    """A blob as the node has it before it stands in a block, which the index -1 says; Go leaves out a signer of none."""
+    told = {"namespace": base64_text(blob.namespace), "data": base64_text(blob.data), "share_version": 0}
+    told["commitment"] = base64_text(commitment)
+    if blob.signer is not None:
+        told.update(share_version=1, signer=base64_text(blob.signer))
+    return dict(told, index=-1)
+
+
+def commitments_of(name, count):
+    """The commitments of so many blobs, from a file of their lines."""
+    lines = frames.read_file(name).decode(errors="replace").splitlines()
+    if len(lines) != count:
+        raise Value(lines, "COMMITMENTS").bad(f"{len(lines)} lines, and the block has {count} blobs", "BadCount")
+    return [Value(line, f"COMMITMENTS[{i}]").digits(HASH_BYTES) for i, line in enumerate(lines)]
 
 
 def namespace_of(text):
@@ -208,9 +233,9 @@ def namespace_of(text):
     return frames.namespace_bytes(text.removeprefix("0x"), "NAMESPACE")
 
 
-def one_header(name):
-    """The header of a file of one header frame."""
-    return next(frames.judged(frames.read_file(name), frames.HEADER))[2]
+def one_of(name, form):
+    """The value of a file of one frame."""
+    return next(frames.judged(frames.read_file(name), form))[2]
 
 
 # The commands: each answers the pieces of its output and its status.
@@ -238,14 +263,14 @@ def root(args):
 def answer(args):
     """a namespace answer from the rows of namespace data, under the header of a file"""
     namespace = namespace_of(args.namespace)
-    payload = spell_answer(namespace, one_header(args.header), answered(args.json))
+    payload = spell_answer(namespace, one_of(args.header, frames.HEADER), answered(args.json))
     return [frames.frame(ord("N"), payload)], 0
 
 
 def block(args):
     """a block of a blob, or of a list of blobs"""
     value = answered(args.json)
-    blobs = [spell_blob(item) for item in (value.items() if isinstance(value.value, list) else [value])]
+    blobs = [blob_of(item).spelled() for item in (value.items() if isinstance(value.value, list) else [value])]
     # No width is asked for, and there are no units.
     payload = bytes(10) + len(blobs).to_bytes(4, "big") + b"".join(blobs)
     if len(payload) > frames.PAYLOAD_LIMIT:
@@ -255,9 +280,16 @@ def block(args):
 
 def dah(args):
     """the `dah` of a file of one header"""
-    made = one_header(args.header)
+    made = one_of(args.header, frames.HEADER)
     roots = {"row_roots": list(map(base64_text, made.rows)), "column_roots": list(map(base64_text, made.cols))}
     return [json.dumps(roots, separators=(",", ":")) + "\n"], 0
+
+
+def blobs(args):
+    """the blobs of a block, with their commitments"""
+    some = one_of(args.block, frames.BLOCK).blobs
+    told = map(told_blob, some, commitments_of(args.commitments, len(some)))
+    return [json.dumps(list(told), separators=(",", ":")) + "\n"], 0
 
 
 def parser():
@@ -265,7 +297,8 @@ def parser():
     form = argparse.RawDescriptionHelpFormatter
     top = frames.Parser(prog="celestia.py", description=__doc__, formatter_class=form)
     commands = top.add_subparsers(metavar="COMMAND", required=True, dest="command")
-    words = {header: "json", root: "json", answer: "namespace header json", block: "json", dah: "header"}
+    words = {header: "json", root: "json", answer: "namespace header json", block: "json", dah: "header",
+             blobs: "block commitments"}
     for run, names in words.items():
         command = commands.add_parser(run.__name__, description=run.__doc__, help=run.__doc__)
         command.set_defaults(run=run)

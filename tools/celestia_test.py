@@ -101,22 +101,25 @@ def rows_of(answer):
     return rows
 
 
-def blob_of(namespace, data):
+def blob_of(namespace, data, signer=b""):
     """A blob; its commitment is any 32 bytes, since nothing here computes one."""
-    told = {"namespace": base64_of(namespace), "data": base64_of(data), "share_version": 0}
+    told = {"namespace": base64_of(namespace), "data": base64_of(data), "share_version": 1 if signer else 0}
+    if signer:
+        told["signer"] = base64_of(signer)
     return dict(told, commitment=base64_of(bytes(32)), index=7)
 
 
 def padded_square():
     """The shares of a square of width 4 with reserved padding in front of its first blob, as go-square's builder may
-    leave it, and the block of what stands in it."""
+    leave it, and with padding of version 1 behind that, which has a signer; what stands in it as a block that asks for
+    the width, and its blobs as one."""
     units, pays, reserved = [b"a transaction"], [b"a payment"], bytes(28) + b"\xff"
-    blobs = [(make.name("0101"), b"\7" * 700), (make.name("0102"), b"\10")]
+    first, second = blobs = [(make.name("0101"), b"\7" * 700, b"\x11" * 20), (make.name("0102"), b"\10")]
     front = make.compact_shares(make.TRANSACTION, units) + make.compact_shares(make.PAY_FOR_BLOB, pays)
     shares = front + make.blob_shares(reserved, b"") * 2
-    shares += [share for blob in blobs for share in make.blob_shares(*blob)]
+    shares += make.blob_shares(*first) + [first[0] + b"\3" + bytes(482)] + make.blob_shares(*second)
     shares += make.blob_shares(make.TAIL_PADDING, b"") * (16 - len(shares))
-    return shares, make.block(blobs, units, pays, width=4)
+    return shares, make.block(blobs, units, pays, width=4), make.block(blobs)
 
 
 class Case(unittest.TestCase):
@@ -158,10 +161,14 @@ class Case(unittest.TestCase):
             self.assertEqual(self.made("answer", word, path, rows), answer)
 
     def same_block(self, blobs):
-        """Blobs come as a block, alone and in a list."""
+        """Blobs come as a block, alone and in a list, and come back."""
         for form, some in ((list, blobs), (lambda it: it[0], blobs[:1])):
             told = self.file(form([blob_of(*blob) for blob in some]))
             self.assertEqual(self.made("block", told), make.block(some))
+        block = self.file(make.block(blobs), "block")
+        lines = self.file((b"00" * 32 + b"\n") * len(blobs), "lines")
+        want = [dict(blob_of(*blob), index=-1) for blob in blobs]
+        self.assertEqual(json.loads(self.made("blobs", block, lines)), want)
 
 
 class Published(Case):
@@ -243,7 +250,14 @@ class Examples(Case):
     def test_blocks(self):
         self.same_block([(make.name("0101"), b"\7"), (make.name("0102"), bytes(range(256)) * 9)])
         self.same_block([(b"\xff" * 29, b"")])
+        self.same_block([(make.name("0101"), b"\7", b"\x11" * 20), (make.name("0101"), b"\7"),
+                         (make.name("0102"), b"\x10" * 459, bytes(range(20)))])
         self.assertEqual(self.made("block", "[]"), make.block([]))
+        self.assertEqual(self.made("blobs", self.file(make.block([])), self.file(b"", "lines")), b"[]\n")
+        # A signer may be left out, null or empty where there is none.
+        for none in (None, ""):
+            told = dict(blob_of(make.name("0101"), b"\7"), signer=none)
+            self.assertEqual(self.made("block", self.file(told)), make.block([(make.name("0101"), b"\7")]))
         path = os.path.join(self.folder, "out")
         self.assertEqual(self.made("block", BLOB, "-o", path), b"")
         with open(path, "rb") as file:
@@ -361,9 +375,12 @@ class Refused(Case):
             (["data"], base64_of(bytes(most)),
              f"the JSON: {most + 48} bytes of a block, and a frame has at most {most} (TooLong)"),
             (["share_version"], None, "share_version: it isn't there (Missing)"),
-            (["share_version"], 1, "share_version: 1, and the blobs of a frame have 0 (Unsupported)"),
+            (["share_version"], "1", 'share_version: "1" isn\'t a number without a fraction (BadType)'),
+            (["share_version"], 1, "signer: it isn't there (Missing)"),
+            (["share_version"], 2, "share_version: 2, and the blobs of a frame have 0 or 1 (Unsupported)"),
             (["share_version"], 128, "share_version: 128 isn't from 0 to 127 (BadNumber)"),
             (["signer"], base64_of(bytes(20)), "signer: 20 bytes, and there are to be 0 (BadLength)"),
+            (["signer"], 7, "signer: 7 isn't a text (BadType)"),
             (["commitment"], None, "commitment: it isn't there (Missing)"),
             (["commitment"], "AAAA", "commitment: 3 bytes, and there are to be 32 (BadLength)"),
             (["index"], -2, "index: -2 isn't from -1 to 9223372036854775807 (BadNumber)"),
@@ -372,6 +389,43 @@ class Refused(Case):
             with self.subTest(note):
                 self.refused(["block", self.changed(blob, path, put)], f"bad input: {note}")
         self.refused(["block", f'{{"result":[{BLOB},7]}}'], "bad input: result[1]: 7 isn't an object (BadType)")
+
+    def test_signer(self):
+        signed = [blob, _] = [blob_of(make.name(end), b"\7", b"\x11" * 20) for end in ("0101", "0102")]
+        self.assertEqual(blob["signer"], "ERERERERERERERERERERERERERE=")
+        cases = [
+            (["signer"], None, "signer: it isn't there (Missing)"),
+            (["signer"], "", "signer: 0 bytes, and there are to be 20 (BadLength)"),
+            (["signer"], base64_of(bytes(19)), "signer: 19 bytes, and there are to be 20 (BadLength)"),
+            (["signer"], base64_of(bytes(21)), "signer: 21 bytes, and there are to be 20 (BadLength)"),
+            (["signer"], "11" * 20, "signer: 30 bytes, and there are to be 20 (BadLength)"),
+            (["signer"], "ERER=", 'signer: "ERER=" isn\'t base64 (BadBase64)'),
+            (["signer"], [17] * 20, "signer: [17, 17, 17, 17, 17, 17, 17, 17, 17, ... isn't a text (BadType)"),
+            (["share_version"], 0, "signer: 20 bytes, and there are to be 0 (BadLength)"),
+            (["share_version"], 2, "share_version: 2, and the blobs of a frame have 0 or 1 (Unsupported)"),
+        ]
+        for path, put, note in cases:
+            with self.subTest(note):
+                self.refused(["block", self.changed(blob, path, put)], f"bad input: {note}")
+                self.refused(["block", self.changed(signed, [1] + path, put)], f"bad input: [1].{note}")
+        self.refused(["block", json.dumps(dict(blob, signer=None))], "bad input: signer: it isn't there (Missing)")
+
+    def test_blobs(self):
+        block = self.file(make.block([(make.name("0101"), b"\7"), (make.name("0102"), b"\10")]), "block")
+        line = "00" * 32 + "\n"
+        for lines, note in [
+            ("", "COMMITMENTS: 0 lines, and the block has 2 blobs (BadCount)"),
+            (line, "COMMITMENTS: 1 lines, and the block has 2 blobs (BadCount)"),
+            (line * 3, "COMMITMENTS: 3 lines, and the block has 2 blobs (BadCount)"),
+            (line + "00\n", "COMMITMENTS[1]: 1 bytes, and there are to be 32 (BadLength)"),
+            ("\n" + line, "COMMITMENTS[0]: 0 bytes, and there are to be 32 (BadLength)"),
+            (line + "zz" * 4, 'COMMITMENTS[1]: "zzzzzzzz" isn\'t hexadecimal digits (BadHex)'),
+        ]:
+            with self.subTest(note):
+                self.refused(["blobs", block, self.file(lines.encode())], f"bad input: {note}")
+        self.refused(["blobs", self.file(b""), self.file(line.encode(), "lines")], "bad input: file 0 at 0")
+        none = os.path.join(self.folder, "none")
+        self.refused(["blobs", block, none], f"cannot open {none!r}", 2)
 
     def test_words(self):
         header = self.file(make.Grid(1, make.extend(1, make.square_of(1, []))).header(), "header")
@@ -398,11 +452,12 @@ class Program(Case):
         return done.stdout
 
     def squares(self):
-        """Blobs of some sizes, in few namespaces, as a block that asks for each width."""
+        """Blobs of some sizes, in few namespaces, each other one with a signer, as a block that asks for each width."""
         draw = random.Random(41)
         for k in (1, 2, 4, 8, 16):
-            sizes = [draw.randrange(1, 478 * max(k // 2, 1)) for _ in range(max(k // 2, 1))]
+            sizes = [draw.randrange(1, 458 * max(k // 2, 1)) for _ in range(max(k // 2, 1))]
             blobs = [(make.name(f"01{draw.randrange(0, 12, 2):02d}"), draw.randbytes(size)) for size in sizes]
+            blobs[::2] = [blob + (draw.randbytes(20),) for blob in blobs[::2]]
             yield k, blobs, make.block(blobs, width=k)
 
     def test_squares(self):
@@ -412,7 +467,7 @@ class Program(Case):
                 square = self.file(self.da("build", self.file(block, "block")), "square")
                 header = self.da("header", square)
                 self.same_header(header)
-                names = {name for name, _ in blobs} | {make.name(f"01{i:02d}") for i in (1, 5, 11)}
+                names = {blob[0] for blob in blobs} | {make.name(f"01{i:02d}") for i in (1, 5, 11)}
                 for namespace in sorted(names):
                     request = self.file(make.namespace_request(namespace), "request")
                     answer = self.da("namespace", square, request)
@@ -424,6 +479,8 @@ class Program(Case):
                     self.assertEqual(self.da("verify", under, read), b"ok\n")
                 # The block of the node's blobs asks for no width: its square is that of such a block.
                 self.same_block(blobs)
+                in_order = sorted(blobs, key=lambda blob: blob[0])
+                self.assertEqual(self.da("blobs", square), make.block(in_order))
                 told = self.file([blob_of(*blob) for blob in blobs], "blobs")
                 read = self.file(self.made("block", told), "read")
                 self.assertEqual(self.da("build", read), self.da("build", self.file(make.block(blobs), "plain")))
@@ -437,11 +494,18 @@ class Program(Case):
             told = base64.b64decode(json.load(file)["commitment"])
         self.assertEqual(self.da("commit", block).decode(), told.hex() + "\n")
 
+    def test_blobs(self):
+        # Blobs go to the node with the commitments of `da`: the documentation's blob as it stands there.
+        block = self.file(self.made("block", BLOB), "block")
+        lines = self.file(self.da("commit", block), "lines")
+        self.assertEqual(self.made("blobs", block, lines).decode(), f"[{BLOB}]\n")
+
     def test_padded(self):
         # A square that `build` doesn't make, and that is taken where a square comes in.
-        shares, block = padded_square()
+        shares, block, blobs = padded_square()
         square = self.file(make.square(4, shares), "square")
         self.assertNotEqual(self.da("build", self.file(block, "block")), make.square(4, shares))
+        self.assertEqual(self.da("blobs", square), blobs)
         header = self.da("header", square)
         self.same_header(header)
         for namespace in (make.name("0101"), make.name("0103"), bytes(28) + b"\xff"):

@@ -29,6 +29,7 @@ from collections import namedtuple
 WIDTHS = (1, 2, 4, 8, 16, 32, 64, 128)
 AXES = ("row", "col")
 NAMESPACE_BYTES = 29
+SIGNER_BYTES = 20
 SHARE_BYTES = 512
 DIGEST_BYTES = 90
 HASH_BYTES = 32
@@ -366,15 +367,28 @@ class Request(namedtuple("Request", "namespace")):
         return {"namespace": self.namespace.hex()}
 
 
-class Blob(namedtuple("Blob", "namespace data")):
+class Blob(namedtuple("Blob", "namespace signer data")):
+    """A blob, with its signer in share version 1 and without one, None, in share version 0."""
+
     @staticmethod
     def read(fields, i):
         namespace = fields.bytes(f"namespace of blob {i}", NAMESPACE_BYTES)
-        fields.number(f"share version of blob {i}", 1, (0,), "always 0")
-        return Blob(namespace, fields.bytes(f"blob {i}", fields.number(f"length of blob {i}", 4)))
+        version = fields.number(f"share version of blob {i}", 1, (0, 1), "0 or 1")
+        signer = fields.bytes(f"signer of blob {i}", SIGNER_BYTES) if version == 1 else None
+        return Blob(namespace, signer, fields.bytes(f"blob {i}", fields.number(f"length of blob {i}", 4)))
+
+    def spelled(self):
+        """Its bytes in a block."""
+        signed = b"\x00" if self.signer is None else b"\x01" + self.signer
+        return self.namespace + signed + len(self.data).to_bytes(4, "big") + self.data
+
+    def line(self):
+        signed = "" if self.signer is None else f" signer {self.signer.hex()}"
+        return f"{self.namespace.hex()} {len(self.data)}{signed}"
 
     def members(self):
-        return {"namespace": self.namespace.hex(), "length": len(self.data)}
+        signed = {} if self.signer is None else {"signer": self.signer.hex()}
+        return {"namespace": self.namespace.hex(), "length": len(self.data), **signed}
 
 
 class Block(namedtuple("Block", "width units pay blobs")):
@@ -390,7 +404,7 @@ class Block(namedtuple("Block", "width units pay blobs")):
     def lines(self):
         counts = f"units={len(self.units)} pay={len(self.pay)} blobs={len(self.blobs)}"
         units = [f"unit {len(unit)}" for unit in self.units] + [f"pay {len(unit)}" for unit in self.pay]
-        blobs = [f"blob {blob.namespace.hex()} {len(blob.data)}" for blob in self.blobs]
+        blobs = [f"blob {blob.line()}" for blob in self.blobs]
         return [f"block width={self.width} {counts}"] + units + blobs
 
     def members(self):
@@ -451,8 +465,9 @@ KINDS = {kind.letter: kind for kind in ALL}
 ALL_KINDS = "".join(KINDS)
 
 # The form of a file: its number among the files of its command, whether it is a list, and the kinds of its frames, None
-# where only the framing is judged (docs/FORMATS.md, "Files of commands").
-Form = namedtuple("Form", "number is_list kinds")
+# where only the framing is judged; and those of its first frame where they are fewer (docs/FORMATS.md, "Files of
+# commands").
+Form = namedtuple("Form", "number is_list kinds first", defaults=(None,))
 BLOCK = Form(0, False, "V")
 HEADER = Form(0, False, "H")
 SQUARE = Form(0, False, "S")
@@ -467,6 +482,7 @@ FORMS = {
     "compact": {"HEADER": HEADER, "CLAIM": Form(1, False, "B")},
     "commit": {"BLOCK": BLOCK},
     "prove": {"SQUARE": SQUARE, "REQUESTS": Form(1, True, "Q")},
+    "follow": {"WANTED": Form(0, True, "P"), "ANSWERS": Form(1, True, "HN", "H")},
     "check": {"HEADER": HEADER, "MESSAGES": MESSAGES},
     "repair": {"HEADER": HEADER, "MESSAGES": MESSAGES},
     "light": {"HEADER": HEADER, "MESSAGES": MESSAGES},
@@ -524,7 +540,7 @@ def walk(data, form):
             kind, value = read_raw(data, at)
             end = at + FRONT_BYTES + len(value)
         else:
-            kind, value, end = read_frame(data, at, form.kinds)
+            kind, value, end = read_frame(data, at, form.first if form.first and at == 0 else form.kinds)
         if not form.is_list and end < len(data):
             raise Refusal(end, "Trailing", f"a byte {data[end]:02x} behind the one frame")
         yield at, kind, value
@@ -659,12 +675,16 @@ def spell_block(value):
 
 
 def spell_blob(value, what):
-    """A blob of a block: its namespace, share version, length and bytes."""
-    parts = members(value, what, ("namespace", "version", "data"))
+    """A blob of a block; its `signer` is null where it has none, and its `version` says whether it has one."""
+    parts = members(value, what, ("namespace", "version", "signer", "data"))
     namespace = namespace_bytes(parts.get("namespace"), f"{what}, namespace")
-    whole(parts.get("version", 0), f"{what}, version", 0)
-    data = json_bytes(parts.get("data"), f"{what}, data")
-    return namespace + b"\x00" + len(data).to_bytes(4, "big") + data
+    signer = None if parts.get("signer") is None else hex_bytes(parts["signer"], f"{what}, signer")
+    if signer is not None and len(signer) != SIGNER_BYTES:
+        raise Note(1, f"{what}, signer: a signer has {2 * SIGNER_BYTES} hexadecimal digits")
+    version = 0 if signer is None else 1
+    if whole(parts.get("version", version), f"{what}, version", 1) != version:
+        raise Note(1, f"{what}, version: it is 1 where there is a signer, and 0 where there is none")
+    return Blob(namespace, signer, json_bytes(parts.get("data"), f"{what}, data")).spelled()
 
 
 def spell_sample(value, what):
@@ -758,7 +778,7 @@ def blobs(args):
         name = os.path.join(args.folder, str(i))
         with open(name, "wb") as file:
             file.write(blob.data)
-        lines.append(f"{name} {blob.namespace.hex()} {len(blob.data)}\n")
+        lines.append(f"{name} {blob.line()}\n")
     return lines, 0
 
 

@@ -115,9 +115,12 @@ def strings(*values):
     return u32(len(values)) + b"".join(u32(len(value)) + value for value in values)
 
 
+def blob(namespace, data, signer=b""):
+    return namespace + u8(1 if signer else 0) + signer + u32(len(data)) + data
+
+
 def block(width, units, pay, blobs):
-    spelled = [namespace + u8(0) + u32(len(data)) + data for namespace, data in blobs]
-    return u16(width) + strings(*units) + strings(*pay) + u32(len(blobs)) + b"".join(spelled)
+    return u16(width) + strings(*units) + strings(*pay) + u32(len(blobs)) + b"".join(blob(*it) for it in blobs)
 
 
 def hashes(count):
@@ -139,7 +142,9 @@ def rooted(k, up, of):
 ANSWER = answer(range_entry(0, 1, 1, 2), absence_entry(1, 1, 2))
 CLAIM = claim(1, 3, message(2, 0, 3, 1), message(2, 2, 3))
 SET_CLAIM = set_claim(1, 3, 2, shown_cell(0), crossing_cell(2, 2, 9))
-BLOCK = block(4, [b"abc", b""], [b"de"], [(version_0(0x0101), b"\x07"), (version_0(0x0102), b"\x08\x08")])
+SIGNER = bytes(range(20, 40))
+SIGNED = (version_0(0x0103), b"\x09\x09\x09", SIGNER)
+BLOCK = block(4, [b"abc", b""], [b"de"], [(version_0(0x0101), b"\x07"), (version_0(0x0102), b"\x08\x08"), SIGNED])
 COMMIT = commit(2, 1, 2, commit_row(3, 1, 2), commit_row(3, 1, 2))
 # A frame of each kind but X, of which nobody can make one.
 EACH = {
@@ -285,6 +290,21 @@ class Examples(Case):
         self.assertEqual(run("blobs", os.path.join(EXAMPLES, "block"), self.file(b""))[::2], (4, "cannot write\n"))
         self.assertEqual(self.made("blobs", self.file(frame("V", bytes(14)), "none"), folder), b"")
 
+    def test_signed_blobs(self):
+        value = {"blobs": [
+            {"namespace": "00" * 8 + "0101", "signer": "11" * 20, "data": {"text": "A blob with a signer. ", "times": 21}},
+            {"namespace": "00" * 8 + "0102", "data": {"text": "A blob without one."}},
+            {"namespace": "00" * 8 + "0102", "signer": "22" * 20, "data": {"text": "x"}},
+        ]}
+        self.assertEqual(self.made("block", json.dumps(value)), example("signed/block"))
+        names, folder = ["00" * 27 + end for end in ("0101", "0102", "0102")], os.path.join(self.folder, "blobs")
+        lines = [f"{folder}/0 {names[0]} 462 signer {'11' * 20}", f"{folder}/1 {names[1]} 19",
+                 f"{folder}/2 {names[2]} 1 signer {'22' * 20}"]
+        path = os.path.join(EXAMPLES, "signed", "block")
+        self.assertEqual(self.made("blobs", path, folder).decode(), "".join(f"{line}\n" for line in lines))
+        with open(os.path.join(folder, "0"), "rb") as file:
+            self.assertEqual(file.read(), b"A blob with a signer. " * 21)
+
 
 class Reading(Case):
     """The tables of docs/FORMATS.md."""
@@ -304,6 +324,7 @@ class Reading(Case):
             ("K", missing(1, (0, 0), (0, 1), (1, 0), (1, 1)), 22),
             ("Q", EACH["Q"], 5), ("P", EACH["P"], 29),
             ("V", block(0, [], [], []), 14), ("V", block(0, [], [], [(PARITY, b"ab")]), 50),
+            ("V", block(0, [], [], [(version_0(0x0101), b"x", b"\x11" * 20)]), 69),
             ("C", commit(0, 0, 0), 44), ("C", COMMIT, 964), ("C", commit(0, 0, 0, *[commit_row(9, 128, 16)] * 128), 1707820),
             ("R", EACH["R"], 887), ("R", rooted(0, 0, message(0)), 611), ("R", rooted(0, 9, message(8)), 1619),
         ]
@@ -327,6 +348,9 @@ class Reading(Case):
             ("560000000e0004" + "00" * 12, "ok"),
             ("560000000f" + "00" * 15, "BadPayload"),
             ("560000000e0000ffffffff" + "00" * 8, "BadPayload"),
+            ("5600000044" + "00" * 13 + "01" + "00" * 29 + "01" + "11" * 20 + "00" * 4, "ok"),
+            ("5600000030" + "00" * 13 + "01" + "00" * 29 + "01" + "00" * 4, "BadPayload"),
+            ("5600000044" + "00" * 13 + "01" + "00" * 29 + "02" + "11" * 20 + "00" * 4, "BadPayload"),
             ("4e0000001f" + "77" * 29 + "0000", "ok"),
             ("4e00000020" + "77" * 29 + "000000", "BadPayload"),
             ("4e0000007f" + "77" * 29 + "0001000002" + "77" * 93, "BadPayload"),
@@ -361,7 +385,7 @@ class Reading(Case):
         root = frames.Header(1, [u8(i) * 90 for i in (1, 2)], [u8(i) * 90 for i in (3, 4)]).data_root().hex()
         names, hash_7, hash_9 = version_0(0x0102).hex(), *(hashlib.sha256(share_of(i)).hexdigest() for i in (7, 9))
         self.assertNotEqual(hash_7, hash_9)
-        blobs = [version_0(0x0101).hex(), names]
+        blobs = [version_0(0x0101).hex(), names, version_0(0x0103).hex()]
         table = [
             ("H", [f"header k=1 root={root}", f"row 0 {digest[0]}", f"row 1 {digest[1]}", f"col 0 {digest[2]}",
                    f"col 1 {digest[3]}"],
@@ -380,9 +404,10 @@ class Reading(Case):
             ("K", ["missing k=2 count=2", "cell 0 1", "cell 3 3"], '{"cells":[[0,1],[3,3]],"k":2,"kind":"missing"}'),
             ("Q", ["sample row=1 col=2 axis=col"], '{"axis":"col","col":2,"kind":"sample","row":1}'),
             ("P", [f"request {names}"], f'{{"kind":"request","namespace":"{names}"}}'),
-            ("V", ["block width=4 units=2 pay=1 blobs=2", "unit 3", "unit 0", "pay 2", f"blob {blobs[0]} 1",
-                   f"blob {blobs[1]} 2"],
-             f'{{"blobs":[{{"length":1,"namespace":"{blobs[0]}"}},{{"length":2,"namespace":"{blobs[1]}"}}],'
+            ("V", ["block width=4 units=2 pay=1 blobs=3", "unit 3", "unit 0", "pay 2", f"blob {blobs[0]} 1",
+                   f"blob {blobs[1]} 2", f"blob {blobs[2]} 3 signer {SIGNER.hex()}"],
+             f'{{"blobs":[{{"length":1,"namespace":"{blobs[0]}"}},{{"length":2,"namespace":"{blobs[1]}"}},'
+             f'{{"length":3,"namespace":"{blobs[2]}","signer":"{SIGNER.hex()}"}}],'
              '"kind":"block","pay":[2],"units":[3,0],"width":4}'),
             ("C", [f"commit k=2 start=1 count=2 commitment={'0c' * 32} rows=2"],
              f'{{"commitment":"{"0c" * 32}","count":2,"k":2,"kind":"commit","rows":2,"start":1}}'),
@@ -529,7 +554,11 @@ FIELDS = [
     ("V", bytes(6) + u32(1) + u32(5) + bytes(4), 14, "the pay unit 0 takes 5 bytes, left are 4"),
     ("V", bytes(12), 10, "the blob count takes 4 bytes, left are 2"),
     ("V", bytes(10) + u32(1) + bytes(33), 10, "the blob count is 1, of 34 bytes or more each, left are 33"),
-    ("V", bytes(10) + u32(1) + bytes(29) + b"\x01" + u32(0), 43, "the share version of blob 0 is 1, and is always 0"),
+    ("V", bytes(10) + u32(1) + bytes(29) + b"\x02" + u32(0), 43, "the share version of blob 0 is 2, and is 0 or 1"),
+    ("V", bytes(10) + u32(1) + bytes(29) + b"\xff" + bytes(24), 43, "the share version of blob 0 is 255, and is 0 or 1"),
+    ("V", bytes(10) + u32(1) + bytes(29) + b"\x01" + u32(0), 44, "the signer of blob 0 takes 20 bytes, left are 4"),
+    ("V", block(0, [], [], [SIGNED])[:-4], 64, "the length of blob 0 takes 4 bytes, left are 3"),
+    ("V", block(0, [], [], [SIGNED])[:-1], 68, "the blob 0 takes 3 bytes, left are 2"),
     ("V", bytes(10) + u32(1) + bytes(30) + u32(2) + b"a", 48, "the blob 0 takes 2 bytes, left are 1"),
     ("V", BLOCK + b"\x00", len(BLOCK), "bytes left over behind the last field: 1"),
     ("C", bytes(1), 0, "the width k takes 2 bytes, left are 1"),
@@ -581,6 +610,9 @@ class Why(Case):
             (message_1 + b"M", ("repair", "MESSAGES"), "file 1 at 613: kind and length take 5 bytes, left are 1"),
             (EACH_FRAME["Q"] * 2 + EACH_FRAME["P"], ("sample", "REQUESTS"), "file 1 at 20: kind P, and asked for is"),
             (EACH_FRAME["P"] + EACH_FRAME["Q"], ("namespace", "REQUESTS"), "file 1 at 34: kind Q, and asked for is"),
+            (EACH_FRAME["H"] + EACH_FRAME["N"], ("follow", "ANSWERS"), "ok: 2 frames"),
+            (EACH_FRAME["N"] + EACH_FRAME["H"], ("follow", "ANSWERS"), "file 1 at 0: kind N, and asked for is kind H ("),
+            (b"", ("follow", "ANSWERS"), "ok: 0 frames"),
             (EACH_FRAME["V"], ("build", "BLOCK"), "ok: 1 frames"),
             (EACH_FRAME["V"], ("show", "FILE"), "ok: 1 frames"),
         ]
@@ -629,7 +661,8 @@ class Making(Case):
             "pay": [{"file": path}],
             "blobs": [
                 {"namespace": "00000000000000000101", "data": "07"},
-                {"namespace": "00" * 27 + "0102", "version": 0, "data": {"hex": "08", "times": 2}},
+                {"namespace": "00" * 27 + "0102", "version": 0, "signer": None, "data": {"hex": "08", "times": 2}},
+                {"namespace": "00000000000000000103", "signer": SIGNER.hex(), "data": "090909"},
             ],
         }
         self.assertEqual(self.made("block", json.dumps(value)), EACH_FRAME["V"])
@@ -638,6 +671,8 @@ class Making(Case):
         self.assertEqual(self.made("block", json.dumps(value), "-o", out), b"")
         with open(out, "rb") as file:
             self.assertEqual(file.read(), EACH_FRAME["V"])
+        value["blobs"][2]["version"] = 1
+        self.assertEqual(self.made("block", json.dumps(value)), EACH_FRAME["V"])
         self.assertEqual(self.made("block", "{}"), frame("V", bytes(14)))
         self.assertEqual(self.made("block", '{"width": 0}'), frame("V", bytes(14)))
         self.assertEqual(self.made("block", '{"width": 65535}'), frame("V", b"\xff\xff" + bytes(12)))
@@ -654,6 +689,10 @@ class Making(Case):
                '{"units": [{"text": 1}]}', '{"units": [{"hex": "00", "times": -1}]}', '{"blobs": [[]]}',
                '{"blobs": [{}]}', '{"units": [{"hex": "00", "times": 16777217}]}',
                json.dumps({"blobs": [dict(blob, version=1)]}), json.dumps({"blobs": [dict(blob, namespace="00" * 11)]}),
+               json.dumps({"blobs": [dict(blob, version=2)]}), json.dumps({"blobs": [dict(blob, version=1, signer="")]}),
+               json.dumps({"blobs": [dict(blob, signer="11" * 19)]}), json.dumps({"blobs": [dict(blob, signer=11)]}),
+               json.dumps({"blobs": [dict(blob, version=0, signer="11" * 20)]}),
+               json.dumps({"blobs": [dict(blob, version=2, signer="11" * 20)]}),
                json.dumps({"blobs": [{"namespace": "00" * 10}]}), json.dumps({"blobs": [dict(blob, more=1)]})]
         for text in bad:
             with self.subTest(text):
@@ -773,6 +812,7 @@ class Program(Case):
         self.missing = self.made_by_da("missing", "repair", header_2, self.sample)
         self.proof = self.made_by_da("proof", "prove", square_2, "1", "2")
         self.rooted = self.made_by_da("rooted", "prove", square_2, path["samples"])
+        followed = self.file(self.read(header_2) + self.read(self.answer), "followed")
         key = "00" * 32
         return [
             ("build", "BLOCK", path["block"], [None]),
@@ -793,6 +833,8 @@ class Program(Case):
             ("prove", "SQUARE", square_2, [None, path["samples"]]),
             ("prove", "SQUARE", square_2, [None, "1", "2"]),
             ("prove", "REQUESTS", path["samples"], [square_2, None]),
+            ("follow", "WANTED", path["namespaces"], [None, followed]),
+            ("follow", "ANSWERS", followed, [path["namespaces"], None]),
             ("wanted", "MISSING", self.missing, [None, "row"]),
             ("blobs", "SHARES", square_2, [None]),
             ("blobs", "SHARES", self.answer, [None]),
@@ -892,6 +934,7 @@ class Program(Case):
     def test_makers(self):
         value = {"width": 8, "units": [{"text": "abc"}], "pay": [{"hex": "00", "times": 500}],
                  "blobs": [{"namespace": f"{i:020x}", "data": {"hex": "07", "times": i}} for i in (257, 514, 2304)]}
+        value["blobs"].append({"namespace": f"{514:020x}", "signer": SIGNER.hex(), "data": {"hex": "08", "times": 459}})
         made = self.file(self.made("block", json.dumps(value)), "block")
         square_8 = self.made_by_da("square", "build", made)
         header_8 = self.made_by_da("header", "header", square_8)
@@ -904,8 +947,10 @@ class Program(Case):
         answered = self.made_by_da("answer", "namespace", square_8, names)
         self.assertEqual(self.da("verify", header_8, answered, names), (0, b"ok\n", ""))
         folder = os.path.join(self.folder, "blobs")
-        self.made("blobs", self.made_by_da("joined blobs", "blobs", answered), folder)
+        lines = self.made("blobs", self.made_by_da("joined blobs", "blobs", answered), folder).decode().splitlines()
+        self.assertEqual([line.split(" ", 2)[2] for line in lines], ["514", f"459 signer {SIGNER.hex()}"])
         self.assertEqual(self.read(os.path.join(folder, "0")), b"\x07" * 514)
+        self.assertEqual(self.read(os.path.join(folder, "1")), b"\x08" * 459)
         for path in (made, square_8, header_8, asked, samples, joined, names, answered):
             self.same_text(b"", path)
 

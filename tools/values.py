@@ -171,6 +171,22 @@ def digests_of_rows(values):
         values.stands(f"rows/{row}/stdout", text.split("=")[0], text)
 
 
+def signed_rows(values):
+    """The rows of blobs of which some have a signer: out of order, the second one of two shares."""
+    blobs = [(make.name("0102"), b"x", b"\x22" * 20), (make.name("0101"), (bytes(range(256)) * 2)[:459], b"\x11" * 20)]
+    blobs.append((make.name("0102"), b"y"))
+    square = make.square_of(2, blobs)
+    grid = make.Grid(2, make.extend(2, square))
+    values.file("rows/files/block-signed", make.block(blobs))
+    values.file("rows/files/square-signed", make.square(2, square))
+    values.file("rows/files/header-signed", grid.header())
+    values.file("rows/files/answer-signed", grid.answer(make.name("0101")))
+    values.file("rows/blobs-of-signed-blobs/stdout", make.block(sorted(blobs, key=lambda blob: blob[0])))
+    values.file("rows/prove-a-signed-blob/stdout", grid.commitment(0, 2))
+    commitments = [grid.commitment(*shares)[15:47].hex() for shares in ((2, 1), (0, 2), (3, 1))]
+    values.file("rows/commit-signed-blobs/stdout", "".join(f"{it}\n" for it in commitments).encode())
+
+
 def three_blobs():
     """The extension of the square of the tests: blobs of 1, 479 and 1 bytes."""
     long, byte = b"", 63
@@ -255,6 +271,7 @@ def main(words_given):
     values = Values(words_given[0] if words_given else TOP)
     digests_of_tests(values)
     digests_of_rows(values)
+    signed_rows(values)
     draws_and_blocks(values)
     code_of_tests(values)
     print(f"{values.passed} passed, {values.failed} failed")
