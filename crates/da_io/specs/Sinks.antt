@@ -23,3 +23,9 @@ AppendsPart old new whole = (part : List ℕ) × IsProperPrefix part whole × Ap
 -- all of a piece was appended, or, where that failed, a proper prefix of it
 abbrev pub WritesAll : {T E : Type 0} → Option (List ℕ) → Option (List ℕ) → List ℕ → Result T E → Type 0
 WritesAll old new bytes result = MatchResult result (λ _. Appends old new bytes) (λ _. AppendsPart old new bytes)
+
+-- of bytes that were held, with a line behind them, the front was appended and the rest is held; or, where
+-- that failed, a proper prefix was appended
+abbrev pub Gathers : {T E : Type 0} → Option (List ℕ) → Option (List ℕ) → List ℕ → List ℕ → List ℕ → Result T E → Type 0
+Gathers old new held now line result =
+    MatchResult result (λ _. (front : List ℕ) × Appends old new front × (held ++ line ≡ front ++ now)) (λ _. AppendsPart old new (held ++ line))

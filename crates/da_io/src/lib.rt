@@ -7,6 +7,7 @@
 
 mod file_inputs;
 mod inputs;
+mod line_room;
 mod mem_inputs;
 mod mem_sink;
 mod out_sink;
@@ -15,6 +16,7 @@ mod whole;
 
 pub use file_inputs::FileInputs;
 pub use inputs::{Ended, Inputs, PickFailed, ReadFailed};
+pub use line_room::LineRoom;
 pub use mem_inputs::MemInputs;
 pub use mem_sink::MemSink;
 pub use out_sink::OutSink;

@@ -1,14 +1,16 @@
 -- How commands end.
-use Rattle.std.proofs.Common.{◌≡◌, ◌∙◌, ℕ, List, [], inl, inr, refl, sym, ap, subst, IsSome, ◌↔◌, ◌⊎◌}
+use Rattle.std.proofs.Common.{◌≡◌, ◌∙◌, ℕ, List, [], ◌++◌, Result, Ok, Err, cond, inl, inr, refl, sym, ap, subst, IsSome, ◌↔◌, ◌⊎◌}
+use Rattle.std.specs.Result.{is_ok}
 use Rattle.std.specs.declared.option.Option.{Option}
 use Rattle.std.specs.Io.KnownBytes.{Appends}
 use Rattle.std.proofs.KnownBytes.{Appends-nil}
-use Rattle.da_io.specs.Faults.{count_on}
-use Rattle.da_io.specs.Sinks.{IsProperPrefix, AppendsPart}
+use Rattle.da_io.specs.Faults.{count_on, CountsFault}
+use Rattle.da_io.specs.Sinks.{IsProperPrefix, AppendsPart, WritesAll}
 use Rattle.da_status.specs.declared.status.Status.{Status}
 use Rattle.da_status.specs.declared.status.Status.TheVariants.{WriteFault, BadInput, NoMemory}
 use Rattle.da_status.specs.Statuses.{Kind, request, output, memory, kind_of, Taken, complete, part, front, undefined, row_of, output_count, May, IsDecided}
 use Rattle.da_status.specs.Outcome.{Relation, Refuses, Outputs, IsTaken, LeavesBy, UntouchedBy, IsOwnBy, Ends, EndsAtOnce}
+use Rattle.da_status.proofs.WriteLemmas.{Written, written_on, written_part}
 
 -- a command with a meaning that is another's
 pub ends_as : (M N : Relation) (old new : Option (List ℕ)) (before now : ℕ) (Same : Type 0) (status : Status) → M ≡ N
@@ -102,6 +104,18 @@ ends_in_fault M bytes status old new before now Same meant taken counted told = 
   untouched = tt;
   own = tt;
 }
+
+-- a run ends with the write of what was held: by a status where that write did not fail
+pub ends_after : {T E : Type 0} (M : Relation) (all rest held : List ℕ) (meant : Status) (a b c : Option (List ℕ)) (before now later : ℕ) (Same : Type 0)
+    (wrote : Result T E) (status : Status) → M all meant → Written a b all (held ++ rest) → now ≡ before → (IsSome a ↔ IsSome c)
+    → WritesAll b c held wrote → CountsFault now later wrote
+    → (Written a c all rest → later ≡ before → Ends M a c before later Same status)
+    → Ends M a c before later Same (cond (is_ok wrote) status WriteFault)
+ends_after M all rest held meant a b c before now later Same (Ok t) status m w counted told taken faults h =
+    h (written_on a b c all (held ++ rest) held rest w refl taken) (faults ∙ counted)
+ends_after M all rest held meant a b c before now later Same (Err e) status m w counted told taken faults h =
+    ends_in_fault M all meant a c before later Same m (written_part a b c all (held ++ rest) held rest w refl taken)
+    (faults ∙ ap (λ (n : ℕ). count_on n 1) counted) told
 
 -- ---- commands that take all of their memory before they write
 

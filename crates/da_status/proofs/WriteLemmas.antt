@@ -1,23 +1,10 @@
 -- Outputs that are written in pieces.
-use Rattle.std.proofs.Common.{◌≡◌, ℕ, List, ◌++◌, sym, ap, ◌∙◌, subst, arith, append_assoc}
+use Rattle.std.proofs.Common.{◌≡◌, ℕ, List, ◌++◌, sym, ap, ◌∙◌, subst, append_assoc}
 use Rattle.std.specs.declared.option.Option.{Option}
 use Rattle.std.specs.Io.KnownBytes.{Appends}
 use Rattle.std.proofs.KnownBytes.{Appends-trans}
-use Rattle.std.proofs.lemmas.List.{length-append}
 use Rattle.da_io.specs.Sinks.{AppendsPart}
-
--- a proper prefix of the front is one of the whole
-pub part_of_front : (a b : Option (List ℕ)) (front back : List ℕ) → AppendsPart a b front → AppendsPart a b (front ++ back)
-part_of_front a b front back p =
-    let more = p.1.0 in
-    let split : front ++ back ≡ p.0 ++ (more ++ back) = ap (λ (l : List ℕ). l ++ back) p.1.2 ∙ append_assoc p.0 more back in
-    (p.0, (more ++ back, omega (arith, p.1.1, length-append more back), split), p.2)
-
--- the front was taken, and then a proper prefix of the rest
-pub part_of_back : (a b c : Option (List ℕ)) (front back : List ℕ) → Appends a b front → AppendsPart b c back → AppendsPart a c (front ++ back)
-part_of_back a b c front back first p =
-    let split : front ++ back ≡ (front ++ p.0) ++ p.1.0 = ap (λ (l : List ℕ). front ++ l) p.1.2 ∙ sym (append_assoc front p.0 p.1.0) in
-    (front ++ p.0, (p.1.0, p.1.1, split), Appends-trans a b c front p.0 first p.2)
+use Rattle.da_io.proofs.PieceLemmas.{part_of_front, part_of_back}
 
 -- of all that is to be written the rest is left
 abbrev pub Written : Option (List ℕ) → Option (List ℕ) → List ℕ → List ℕ → Type 0
@@ -36,3 +23,19 @@ pub written_part : (a b c : Option (List ℕ)) (all rest piece more : List ℕ) 
 written_part a b c all rest piece more w e next =
     let split : all ≡ w.0 ++ (piece ++ more) = w.2 ∙ ap (λ (l : List ℕ). w.0 ++ l) e in
     subst (AppendsPart a c) (sym split) (part_of_back a b c w.0 (piece ++ more) w.1 (part_of_front b c piece more next))
+
+-- ---- lines that are held before they are written
+
+-- a line was added to what is held
+pub gathered_on : (a b c : Option (List ℕ)) (all rest held line more now : List ℕ) → Written a b all (held ++ rest) → rest ≡ line ++ more
+    → ((front : List ℕ) × Appends b c front × (held ++ line ≡ front ++ now)) → Written a c all (now ++ more)
+gathered_on a b c all rest held line more now w e g =
+    let split : held ++ rest ≡ g.0 ++ (now ++ more) =
+    ap (λ (l : List ℕ). held ++ l) e ∙ sym (append_assoc held line more) ∙ ap (λ (l : List ℕ). l ++ more) g.2 ∙ append_assoc g.0 now more in
+    written_on a b c all (held ++ rest) g.0 (now ++ more) w split g.1
+
+-- a proper prefix of what was held, with a line behind it, was taken
+pub gathered_part : (a b c : Option (List ℕ)) (all rest held line more : List ℕ) → Written a b all (held ++ rest) → rest ≡ line ++ more
+    → AppendsPart b c (held ++ line) → AppendsPart a c all
+gathered_part a b c all rest held line more w e part =
+    written_part a b c all (held ++ rest) (held ++ line) more w (ap (λ (l : List ℕ). held ++ l) e ∙ sym (append_assoc held line more)) part
