@@ -31,3 +31,4 @@ pub mod TileLemmas
 pub mod TileCountLemmas
 pub mod FewLemmas
 pub mod PieceLawLemmas
+pub mod PartialLemmas

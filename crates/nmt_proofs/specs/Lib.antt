@@ -9,3 +9,4 @@ pub mod Clashes
 pub mod Making
 pub mod Hashed
 pub mod Merging
+pub mod Partial

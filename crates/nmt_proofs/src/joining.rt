@@ -98,7 +98,7 @@ pub(crate) fn count_outside(depth: u8, start: u16, pieces: &[Piece]) -> usize
 }
 
 /// The node over two digests, where the join is ordered.
-fn ordered_node(left: &Digest, right: &Digest) -> Option<Digest>
+pub(crate) fn ordered_node(left: &Digest, right: &Digest) -> Option<Digest>
     ensures { result ≡ (if is_ordered_join left.now right.now then Some (node_digest left.now right.now) else None) }
 {
     join(left, right).ok()
