@@ -6,3 +6,4 @@ pub mod ClaimLemmas
 pub mod SetLemmas
 pub mod FalseClaimLemmas
 pub mod ProofLemmas
+pub mod PartialLemmas

@@ -8,3 +8,4 @@ pub mod Answers
 pub mod Trees
 pub mod Sets
 pub mod Claims
+pub mod Partials

@@ -4,6 +4,8 @@
 //! `Grid::extend` makes the extension of a square and `header_of` the header of a grid;
 //! `message_of` makes a sample, one share with its inclusion proof along a row or a column. `opens`
 //! judges one, and `Proved` is the certificate of one that it accepts: only `check` makes it.
+//! `PartialTrees` has both calls for many samples under one header, and remembers the digests that
+//! these have shown.
 //!
 //! The two are folders: `square` stands on the code and the layout of squares, `message` on
 //! inclusion proofs and headers.
@@ -17,7 +19,7 @@ mod square;
 pub use answers::{Found, NsAnswer, NsEntry, ShareList, answer_law};
 pub use claims::{FraudClaim, FraudProof, SetNodes, claim_law, claim_laws, is_along};
 pub use message::{
-    CheckRefusal, Message, Proved, RefusedMessage, check, index, made_laws, message_from,
-    message_law, message_laws, message_of, opens, own_laws, position,
+    CheckRefusal, Message, PartialTrees, Proved, RefusedMessage, check, index, made_laws,
+    message_from, message_law, message_laws, message_of, opens, opens_by, own_laws, position,
 };
 pub use square::{Grid, Trees, cell_on, grid_laws, header_of, line_strict_root, name_leaves};

@@ -1,4 +1,5 @@
-//! Share messages, whether one is proved under a header, and certificates of those that are.
+//! Share messages, whether one is proved under a header, certificates of those that are, and the
+//! digests that they have shown.
 //!
 //! All but `making` stand on the header and on inclusion proofs, and not on grids.
 
@@ -6,10 +7,12 @@ mod certificates;
 mod laws;
 mod making;
 mod messages;
+mod partials;
 mod proved;
 
 pub use certificates::{RefusedMessage, check};
 pub use laws::{message_laws, own_laws};
 pub use making::{made_laws, message_from, message_of};
 pub use messages::{CheckRefusal, Message, index, message_law, opens, position};
+pub use partials::{PartialTrees, opens_by};
 pub use proved::Proved;

@@ -9,7 +9,7 @@ use namespace_id::Digest;
 /// share at the cell under a root, which it keeps. So it is proved under every header of that width
 /// with that root of the message's axis.
 ///
-/// Only `check` makes one.
+/// Only `check` makes one, the function or that of `PartialTrees`.
 ///
 /// docs/RULES.md, "Proved messages".
 #[derive(Drop)]
