@@ -1,45 +1,15 @@
--- Marked cells, and the unmarked cells of a list, row by row.
-use Rattle.std.proofs.Common.{◌≡◌, ◌∙◌, ℕ, ◌+◌, ◌*◌, ◌<◌, ◌≤◌, List, [], ◌∷◌, ◌++◌, length, get_or, slice_get, Bool, true, false, Some, None, sym, ap, subst, inl, inr, arith}
+-- The unmarked cells of a list, row by row.
+use Rattle.std.proofs.Common.{◌≡◌, ◌∙◌, ℕ, ◌+◌, ◌*◌, ◌<◌, ◌≤◌, List, [], ◌∷◌, ◌++◌, Bool, true, sym, ap, subst, inl, inr, arith}
 use Rattle.std.specs.Prelude.{◌↔◌, ◌⊎◌}
 use Rattle.std.specs.List.{Contains, list_all}
 use Rattle.std.proofs.lemmas.Bool.{cases_eq}
-use Rattle.std.proofs.lemmas.List.Elements.{Contains-get_or, Contains-append_left, Contains-push, Contains-push_cases}
-use Rattle.std.proofs.lemmas.Option.{slice_get_past, get_or_from_slice_get}
+use Rattle.std.proofs.lemmas.List.Elements.{Contains-append_left, Contains-push, Contains-push_cases}
 use Rattle.namespace_id.specs.declared.cells.Cell.{Cell}
 use Rattle.namespace_id.specs.Cells.{CellList, is_in_square, is_before, cell_numbered}
 use Rattle.namespace_id.proofs.MemberLemmas.{contains_none}
 use Rattle.namespace_id.proofs.NumberLemmas.{inside, number-lt, cell_numbered-number, lower_before}
-use Rattle.namespace_id.proofs.RoomLemmas.{all_each, each_all}
-use Rattle.light_node.specs.Nodes.{is_marked, AreMarkedBefore, IsUnmarkedAt, IsUnmarkedIn}
-
--- a cell of a list of cells of the square is in the square
-pub inside_at : (k : ℕ) (cells : List Cell) (i : ℕ) (d : Cell) → list_all (is_in_square k) cells ≡ true → i < length
-    cells
-    → is_in_square k (get_or cells i d) ≡ true
-inside_at k cells i d all below =
-    all_each (is_in_square k) cells all (get_or cells i d) (Contains-get_or cells i d below)
-
-module _ (k : ℕ) (shown : List Bool) (cells : List Cell) (next : ℕ) where
-  -- one more marked cell
-  pub marked_more : (d : Cell) → AreMarkedBefore k shown cells next → is_marked k shown (get_or cells next d) ≡ true
-      → AreMarkedBefore k shown cells (next + 1)
-  marked_more d before here = λ i cell below e. elim (cases_eq i next) [
-    | inl same ↦
-        let is : get_or cells next d ≡ cell =
-        get_or_from_slice_get cells next cell d (ap (slice_get cells) (sym same) ∙ e) in
-        subst (λ (c : Cell). is_marked k shown c ≡ true) is here
-    | inr apart ↦ before i cell (omega arith) e
-  ]
-
-  -- an unmarked cell
-  pub unmarked_here : (d : Cell) → is_marked k shown (get_or cells next d) ≡ false → IsUnmarkedAt k shown cells next
-  unmarked_here d here = λ cell e.
-      subst (λ (c : Cell). is_marked k shown c ≡ false) (get_or_from_slice_get cells next cell d e) here
-
-  -- behind a list no cell stands
-  pub unmarked_past : length cells ≤ next → IsUnmarkedAt k shown cells next
-  unmarked_past past = λ cell e.
-      let no : None ≡ Some cell = sym (slice_get_past cells next past) ∙ e in cc
+use Rattle.namespace_id.proofs.RoomLemmas.{each_all}
+use Rattle.light_node.specs.Nodes.{IsUnmarkedIn}
 
 -- ---- the unmarked cells of a list
 

@@ -1,5 +1,5 @@
 -- Plans that grow by what a picker names.
-use Rattle.std.proofs.Common.{◌≡◌, ◌∙◌, ℕ, zero, suc, ◌+◌, ◌<◌, ◌≤◌, List, [], ◌∷◌, ◌++◌, length, length-append, take, true, Some, None, slice_get, refl, sym, ap, ap₂, subst, inl, inr, arith}
+use Rattle.std.proofs.Common.{◌≡◌, ◌∙◌, ℕ, zero, suc, ◌+◌, ◌<◌, ◌≤◌, List, [], ◌∷◌, ◌++◌, length, length-append, take, true, Some, slice_get, sym, ap, ap₂, subst, inl, inr, arith}
 use Rattle.std.specs.List.{Contains, list_all, fold}
 use Rattle.std.proofs.Math.Seq.{take-append_seam}
 use Rattle.std.proofs.lemmas.List.Sums.{fold-append}
@@ -13,15 +13,6 @@ use Rattle.light_node.proofs.DistinctLemmas.{added, all_added-begins, all_added-
 use Rattle.light_node.proofs.ListLemmas.{place_of, place_cases, place_front}
 
 module _ {F : Type 0} (picks : F → ℕ → Cell → Type 0) (pick : F) (first : ℕ) where
-  -- no cells
-  pub none_picked : (cells : List Cell) → ArePicked picks pick first 0 cells cells
-  none_picked cells = record {
-    cells = [];
-    count = refl;
-    picked = λ i cell e. let no : None ≡ Some cell = e in cc;
-    added = refl;
-  }
-
   -- one cell more
   pub one_picked : (n : ℕ) (old new newest : List Cell) (cell : Cell) → ArePicked picks pick first n old new
       → picks pick (first + n) cell → newest ≡ added new cell → ArePicked picks pick first (n + 1) old newest

@@ -1,5 +1,5 @@
 -- For which plan and events a node stands after a call.
-use Rattle.std.proofs.Common.{◌≡◌, ◌∙◌, ℕ, ◌*◌, ◌≤◌, List, [], ◌∷◌, ◌++◌, length, take, Bool, true, false, true≢false, Option, Some, None, is_some, slice_get, refl, sym, subst, ap, inl, inr, arith}
+use Rattle.std.proofs.Common.{◌≡◌, ◌∙◌, ℕ, ◌*◌, List, [], ◌∷◌, ◌++◌, length, take, Bool, true, false, true≢false, Option, Some, None, is_some, slice_get, refl, sym, subst, ap, inl, inr, arith}
 use Rattle.std.specs.Prelude.{◌↔◌, ◌⊎◌}
 use Rattle.namespace_id.proofs.RoomLemmas.{all_each}
 use Rattle.light_node.proofs.ListLemmas.{listed_at, lent_back}
@@ -122,6 +122,23 @@ module _ {F : Type 0} (picks : F → ℕ → Cell → Type 0) (node : NodeParts 
     claim = first_by_sample node.header events m node.claim stands.claim;
   }
 
+  -- nor does one of a cell that is marked show another
+  pub stands_marked : (m : Message) → is_in_square node.header.k m.cell ≡ true
+      → is_marked node.header.k node.shown m.cell ≡ true → StandsFor picks node plan (events ++ Sample m ∷ [])
+  stands_marked m inside marked = record {
+    count = stands.count;
+    picked = stands.picked;
+    wanted = stands.wanted;
+    shown = λ cell within. (
+      λ is. stays_shown node.header events (Sample m) cell ((stands.shown cell within).0 is),
+      λ shown. elim (sample_shows node.header events m cell shown) [
+        | inl before ↦ (stands.shown cell within).1 before
+        | inr is ↦ subst (λ (c : Cell). is_marked node.header.k node.shown c ≡ true) is.1 marked
+      ],
+    );
+    claim = first_by_sample node.header events m node.claim stands.claim;
+  }
+
   -- one that is proved shows its cell
   pub stands_sample : (m : Message) (marks : List Bool) (next : ℕ) → IsProved node.header m
       → AreMarkedToo node.header.k node.shown marks m.cell
@@ -147,34 +164,6 @@ module _ {F : Type 0} (picks : F → ℕ → Cell → Type 0) (node : NodeParts 
 
 module _ {F : Type 0} (can_pick : F → ℕ → Type 0) (picks : F → ℕ → Cell → Type 0) (node : NodeParts F)
     (good : IsNode can_pick picks node) where
-  -- another kept claim changes nothing
-  pub good_claim : (kept : Option ClaimParts) → IsNode can_pick picks (record node { claim = kept })
-  good_claim kept = record {
-    width = good.width;
-    picker = good.picker;
-    within = good.within;
-    marks = good.marks;
-    inside = good.inside;
-    next = good.next;
-    before = good.before;
-    waiting = good.waiting;
-  }
-
-  -- nor do other marks, with the next place after them
-  pub good_marks : (marks : List Bool) (next : ℕ) → length marks ≡ length node.shown → next ≤ length node.wanted
-      → AreMarkedBefore node.header.k marks node.wanted next → IsUnmarkedAt node.header.k marks node.wanted next
-      → IsNode can_pick picks (record node { shown = marks; next = next })
-  good_marks marks next count end before waiting = record {
-    width = good.width;
-    picker = good.picker;
-    within = good.within;
-    marks = count ∙ good.marks;
-    inside = good.inside;
-    next = end;
-    before = before;
-    waiting = waiting;
-  }
-
   -- what was marked in front stays so
   pub still_marked : (marks : List Bool) (one : Cell) → AreMarkedToo node.header.k node.shown marks one
       → AreMarkedBefore node.header.k marks node.wanted node.next

@@ -7,7 +7,7 @@ ghost use Rattle.namespace_id.specs.Cells.{is_width, is_in_square};
 ghost use Rattle.light_node.specs.Nodes.{is_marked, AreMarkedBefore, IsUnmarkedAt, IsUnmarkedIn};
 
 use indexmap::IndexSet;
-use namespace_id::{Cell, CellRoom, cell_numbered};
+use namespace_id::{Cell, CellRoom, cell_numbered, is_in_square};
 
 /// The place of a cell's mark.
 fn place(k: u16, cell: Cell) -> usize
@@ -27,6 +27,16 @@ fn is_marked(k: u16, shown: &[bool], cell: Cell) -> bool
     ensures { result ≡ is_marked k shown.now cell }
 {
     shown[place(k, cell)]
+}
+
+/// Whether a cell, which may be any, is one of the square and marked.
+pub(crate) fn has_mark(k: u16, shown: &[bool], cell: Cell) -> bool
+    requires width { IsTrue (is_width k) }
+    requires marks { length shown.now ≡ 2 * k * (2 * k) }
+    ensures inside { result ≡ true → is_in_square k cell ≡ true }
+    ensures marked { result ≡ true → is_marked k shown.now cell ≡ true }
+{
+    is_in_square(k, cell) && is_marked(k, shown, cell)
 }
 
 /// Marks a cell.

@@ -1,4 +1,14 @@
-//! Light nodes.
+//! Light nodes: no event walks over the plan.
+//!
+//! Marks of shown cells are never taken away, and wanted cells stay at their places, so the first
+//! wanted cell without a mark only moves on: `next` walks over the wanted cells once in the life of
+//! a node. The state is that a claim is kept, or that `next` is at the end, or isn't.
+//!
+//! Each cell of the square has a mark, planned or not: a proved sample counts also where it comes
+//! before its cell is planned, and then it is gone. So `more` has only to move `next` on. The
+//! wanted cells are those of the plan, each once; both lists have the same first cell that isn't
+//! shown, so `next_wanted` answers the earliest of the plan. Row by row the waiting cells are
+//! listed only when they are asked for, by a walk over all cells of the square.
 
 ghost use Rattle.std.specs.Prelude.{◌≡◌, ◌+◌, ◌≤◌, ◌++◌, ℕ, true, List, [], ◌∷◌, IfOk, OnOk, OnErr, length, option_copied};
 ghost use Rattle.namespace_id.specs.declared.cells.Cell.{Cell as Place};
@@ -9,10 +19,10 @@ ghost use Rattle.light_node.specs.Events.{IsFirstAccepted, IsState, IsLight, Are
 ghost use Rattle.light_node.specs.Plans.{PicksInside, IsNextWanted};
 ghost use Rattle.light_node.specs.Nodes.{StandsFor, IsSame};
 
-use crate::marks::{fill_unmarked, first_unmarked, mark};
+use crate::marks::{fill_unmarked, first_unmarked, has_mark, mark};
 use crate::wanted::want;
 use crate::{Event, Light, LightState, Picker};
-use axis_roots::{FraudClaim, Message, opens};
+use axis_roots::{FraudClaim, Message, PartialTrees, opens_by};
 use befp_verify::{Upheld, VerifyRoom, verify};
 use data_header::Header;
 use indexmap::IndexSet;
@@ -31,6 +41,8 @@ pub struct LightNode<F: Picker> {
     limit: u32,
     pick: F,
     planned: u32,
+    // what accepted samples have shown of the trees under the header, where that is kept
+    trees: Option<PartialTrees>,
     // the planned cells, each once, in the order of the plan
     wanted: IndexSet<Cell>,
     // for each cell of the square, row-major, whether a proved sample showed it
@@ -42,7 +54,7 @@ pub struct LightNode<F: Picker> {
 }
 
 impl<F: Picker> Model for LightNode<F> {
-    ghost use Rattle.std.specs.Prelude.{◌≡◌};
+    ghost use Rattle.std.specs.Prelude.{◌≡◌, IfSome};
     ghost use Rattle.light_node.specs.Nodes.{NodeParts, IsNode};
 
     ghost Value = { NodeParts F };
@@ -67,7 +79,7 @@ impl<F: Picker> Model for LightNode<F> {
       shown = n.shown.items;
       next = n.next;
       claim = n.claim;
-    }) };
+    }) × IfSome n.trees (λ trees. trees ≡ n.header) };
 }
 
 impl<F: Picker> Drop for LightNode<F> {
@@ -77,6 +89,7 @@ impl<F: Picker> Drop for LightNode<F> {
             limit: _,
             pick: _,
             planned: _,
+            trees: _,
             wanted: _,
             shown: _,
             next: _,
@@ -149,12 +162,27 @@ impl<F: Picker> LightNode<F> {
             limit,
             pick,
             planned: 0,
+            trees: None,
             wanted: IndexSet::new(alloc),
             shown,
             next: 0,
             room,
             claim: None,
         })
+    }
+
+    /// Keeps from now on what accepted samples show of the trees under the header, so that later ones
+    /// are hashed only up to what is known: where many are to come. For a square of width k it takes
+    /// 4k trees of 4k digests. It changes no answer.
+    ///
+    /// It refuses only where there is no memory, and then nothing has changed.
+    pub fn remember(&mut self, alloc: Global) -> Result<(), NoMemory>
+        ensures kept { self.new ≡ self.old }
+    {
+        if self.trees.is_none() {
+            self.trees = Some(PartialTrees::new(alloc, &self.header)?);
+        }
+        Ok(())
     }
 
     /// Plans the picker's cells for the next `count` numbers too. A cell that comes again is wanted
@@ -188,7 +216,8 @@ impl<F: Picker> LightNode<F> {
         self.wanted.get_index(self.next).copied()
     }
 
-    /// Marks the cell of a sample, where it is proved.
+    /// Marks the cell of a sample, where it is proved. A sample of a marked cell changes nothing, so
+    /// nothing of it is hashed.
     fn sample(&mut self, message: &Message)
         ensures stands { (plan : List Place) (events : List Happened) →
             StandsFor F.picks self.old plan events →
@@ -196,10 +225,13 @@ impl<F: Picker> LightNode<F> {
         ensures planned { self.new.planned ≡ self.old.planned }
         ensures kept { IsSame self.old self.new }
     {
-        let Ok(()) = opens(&self.header, message) else {
+        let k = width(&self.header);
+        if has_mark(k, &self.shown, message.cell) {
+            return;
+        }
+        let Ok(()) = opens_by(&self.header, &mut self.trees, message) else {
             return;
         };
-        let k = width(&self.header);
         mark(k, &mut self.shown, message.cell);
         self.next = first_unmarked(k, &self.shown, self.wanted.as_slice(), self.next);
     }
@@ -296,6 +328,7 @@ impl<F: Picker> LightNode<F> {
             limit: _,
             pick: _,
             planned: _,
+            trees: _,
             wanted,
             shown,
             next: _,

@@ -58,6 +58,7 @@ invariant_of-self-2 g c = (
       c.first_unmarked-self-inside.result (sym c.width-k.ensures.value) (sym c.deref.ensures.value) (sym
       c.as_slice.ensures.keys)
       c.first_unmarked-self-inside.ensures.unmarked),
+  c.self.invariant.2,
 )
 
 -- it stands for the longer plan

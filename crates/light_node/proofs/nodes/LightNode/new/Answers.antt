@@ -16,4 +16,5 @@ invariant_of-result g c = (
       c.in_ok-header.ensures) c.requires.picker)
       (sym c.in-Ok.shown.ok.0 ∙ c.in-Ok.ensures.len ∙ ap (λ (k : ℕ). 2 * k * (2 * k)) c.width-k.ensures.value)
       c.new-2.ensures.empty,
+  tt,
 )
