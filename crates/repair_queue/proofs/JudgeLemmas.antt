@@ -1,5 +1,5 @@
 -- Messages of known cells, for what ends a session.
-use Rattle.std.proofs.Common.{◌≡◌, ◌≢◌, ◌∙◌, ℕ, List, cond, Bool, true, false, refl, sym, ap, subst, inl, inr}
+use Rattle.std.proofs.Common.{◌≡◌, ◌≢◌, ◌∙◌, List, cond, Bool, true, false, refl, sym, ap, subst, inl, inr}
 use Rattle.std.specs.Prelude.{Some, None}
 use Rattle.std.proofs.lemmas.Bool.{true≢false}
 use Rattle.namespace_id.specs.declared.cells.Cell.{Cell}
@@ -10,11 +10,7 @@ use Rattle.namespace_id.specs.Cells.{is_in_square}
 use Rattle.data_header.specs.Headers.{Roots}
 use Rattle.axis_roots.specs.declared.message.messages.Message.{Message}
 use Rattle.axis_roots.specs.declared.message.proved.Proved.{Proved}
-use Rattle.axis_roots.specs.Messages.{index, position}
-use Rattle.axis_roots.specs.Proved.{kept_message, IsUnder}
-use Rattle.axis_roots.specs.Lines.{entry, cell_on}
-use Rattle.axis_roots.proofs.Grids.AxisLemmas.{index-cell_on, position-cell_on}
-use Rattle.befp_maker.specs.Conflicts.{IsAgainst}
+use Rattle.axis_roots.specs.Proved.{kept_message}
 use Rattle.repair_queue.specs.declared.boards.Board.{Board}
 use Rattle.repair_queue.specs.Closures.{Fact}
 use Rattle.repair_queue.specs.Slots.{Kept, Flags, IsKnown, IsEmptied}
@@ -48,15 +44,6 @@ taken_message header slot flag shares cell kept axis sound held off share =
       share_is = share ∙ sym (ap (λ (b : Bool). cond b (shares cell) (first_share (slot Row cell) (slot Col cell))) off);
     }
 
--- one that was made
-pub made_message : (header : Roots) (slot : Kept) (flag : Flags) (shares : Shared) (cell : Cell) (kept : Proved) → IsUnder header kept → (kept_message kept).cell ≡ cell
-    → is_lined flag cell ≡ true → (kept_message kept).share ≡ shares cell → IsMessageAt header cell (found_share slot flag shares cell) kept
-made_message header slot flag shares cell kept under is on share = record {
-  under = under;
-  cell_is = is;
-  share_is = share ∙ sym (ap (λ (b : Bool). cond b (shares cell) (first_share (slot Row cell) (slot Col cell))) on);
-}
-
 -- what is left is sound
 pub emptied_sound : (header : Roots) (old new : Kept) (flag : Flags) (shares : Shared) (axis : Axis) (cell : Cell) → IsEmptied old new axis cell
     → IsSound header old flag shares → IsSound header new flag shares
@@ -69,25 +56,11 @@ emptied_sound header old new flag shares axis cell emptied sound = record {
   lines = sound.lines;
 }
 
--- slots of other cells are as they were
-pub emptied_others : (old new : Kept) (axis : Axis) (cell : Cell) → IsEmptied old new axis cell → (other : Axis) (d : Cell) → (d ≡ cell → ⊥) → new other d ≡ old other d
-emptied_others old new axis cell emptied other d apart = emptied.elsewhere other d (λ x. apart x.1)
-
 -- another message that was taken
 pub other_taken : (header : Roots) (b : Board) (cell : Cell) (share : Share) (kept : Proved) → IsReadable header b → is_lined (decided_of b) cell ≡ false
     → (axis : Axis) × (given_of b axis cell ≡ Some kept) → (kept_message kept).share ≢ share → IsOtherMessage header b cell share kept
 other_taken header b cell share kept readable off held apart =
     let s = readable.sound.slotted held.0 cell kept held.1 in record { under = s.under; cell_is = s.cell_is; other = apart; known = inl (off, held) }
-
--- such a message is against a line
-pub other_against : (header : Roots) (b : Board) (axis : Axis) (i pos : ℕ) (line : List Share) (cell : Cell) (share : Share) (kept : Proved) → cell ≡ cell_on axis i pos
-    → share ≡ entry line pos → IsOtherMessage header b cell share kept → IsAgainst header axis i line kept
-other_against header b axis i pos line cell share kept is same o =
-    let here : (kept_message kept).cell ≡ cell_on axis i pos = o.cell_is ∙ is in record {
-      under = o.under;
-      on_axis = ap (index axis) here ∙ index-cell_on axis i pos;
-      apart = λ e. o.other (e ∙ ap (entry line) (ap (position axis) here ∙ position-cell_on axis i pos) ∙ sym same);
-    }
 
 -- and a fact
 pub other_fact : (header : Roots) (ms : List Message) (b : Board) (cell : Cell) (share : Share) (kept : Proved) → is_in_square header.k cell ≡ true → IsReadable header b

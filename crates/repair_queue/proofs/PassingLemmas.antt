@@ -3,9 +3,9 @@ use Rattle.std.proofs.Common.{◌≡◌, ◌∙◌, ℕ, zero, suc, ◌+◌, ◌
 use Rattle.std.specs.List.{Contains}
 use Rattle.std.proofs.lemmas.Bool.{cases_eq}
 use Rattle.repair_queue.specs.Closures.{AreChosen}
-pub use Rattle.repair_queue.specs.Counting.{one_if, count_from}
 use Rattle.namespace_id.proofs.MemberLemmas.{contains_head, contains_tail, contains_none, contains_cons}
-use Rattle.repair_queue.proofs.AscentLemmas.{Ascends, ascends_within, positions_ascend, ascend_positions}
+use Rattle.repair_queue.proofs.AscentLemmas.{Ascends, ascends_within, positions_ascend}
+pub use Rattle.repair_queue.specs.Counting.{one_if, count_from}
 
 -- ---- counts
 
@@ -82,15 +82,6 @@ taken f (suc n) first (suc k) h =
         )
 
 -- ---- chosen positions
-
--- k positions that pass, where the numbers up to some have k of them
-pub chosen_passing : (f : ℕ → Bool) (n k : ℕ) → n ≤ 2 * k → k ≤ count_from f 0 n → (chosen : List ℕ) × AreChosen k chosen × ((p : ℕ) → Contains chosen p → f p ≡ true)
-chosen_passing f n k within enough =
-    let all : AreTaken f n 0 k = taken f n 0 k enough in
-    let start : 0 + n ≡ n = omega arith in
-    let up : Ascends 0 (2 * k) (first_passing f k 0 n) =
-    ascends_within 0 0 (0 + n) (2 * k) (first_passing f k 0 n) (omega arith) (omega arith) all.ascends in
-    (first_passing f k 0 n, record { count = all.count; positions = ascend_positions k 0 (first_passing f k 0 n) up }, all.pass)
 
 -- where k positions pass, that many of the 2k numbers do
 pub chosen_counted : (f : ℕ → Bool) (k : ℕ) (chosen : List ℕ) → AreChosen k chosen → ((p : ℕ) → Contains chosen p → f p ≡ true) → k ≤ count_from f 0 (2 * k)

@@ -176,7 +176,3 @@ module _ (old new : Counts) (axis : Axis) (i more : ℕ) (counts : AreCounts old
         | inr off ↦ absurd (omega (arith, x.raised.elsewhere other j off, few, many))
       ];
     }
-    -- there was room for it
-
-  pub room_queued : more ≡ old.k → vec_len old.queue < vec_capacity old.queue
-  room_queued full = omega (arith, x.falls full, counts.used, counts.room)

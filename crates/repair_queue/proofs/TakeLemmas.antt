@@ -25,21 +25,9 @@ use Rattle.repair_queue.specs.Lines.{AreFacts}
 use Rattle.repair_queue.specs.Repairs.{IsEnd}
 use Rattle.repair_queue.specs.Verdicts.{IsFoundClash}
 use Rattle.repair_queue.specs.Boards.{given_of, decided_of, share_of, is_lined, IsGood, HoldsFor}
-use Rattle.repair_queue.specs.Judging.{IsReadable}
 use Rattle.repair_queue.proofs.TakenLemmas.{under_proved}
 use Rattle.repair_queue.proofs.BesideLemmas.{AreBeside, two_messages}
 use Rattle.repair_queue.proofs.StandLemmas.{fact_more}
-
--- what a board that is good says to who reads it
-pub good_readable : (header : Roots) (b : Board) → IsGood header b → IsReadable header b
-good_readable header b good = record {
-  width = good.width;
-  pool_width = good.parts.pool_width;
-  marks_width = good.parts.marks_width;
-  places = good.parts.pool.places;
-  marks = good.parts.marks;
-  sound = good.sound;
-}
 
 -- the line that is read of a decided row or column
 pub grid_line : (header : Roots) (b : Board) → IsGood header b → (axis : Axis) (i : ℕ) → along header.k (share_of b) axis i ≡ axis_shares b.grid.k b.grid.shares axis i

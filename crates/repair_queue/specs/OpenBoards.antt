@@ -22,8 +22,9 @@ abbrev pub KeepsFor : Roots → List Message → Board → Option Ended → Type
 KeepsFor header ms b None = HoldsFor header ms b
 KeepsFor header ms b (Some ended) = IsEnd header ms ended
 
--- what holds of every session; there is room for what it hands out
-pub record IsSession (header : Roots) (b : Board) (tools : Tools) (end : Option Ended) (shares : Vec Share Global) (room : CellList) : Type 0 where
+-- what holds of every session: its partial trees are under its header, and there is room for what it hands out
+pub record IsSession (header trees : Roots) (b : Board) (tools : Tools) (end : Option Ended) (shares : Vec Share Global) (room : CellList) : Type 0 where
+  pub partial : trees ≡ header
   pub open_board : IsOpenBoard header b tools end
   pub empty : shares.items ≡ []
   pub space : header.k * header.k ≤ vec_capacity shares

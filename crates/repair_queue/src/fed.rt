@@ -3,6 +3,7 @@
 use crate::boards::Board;
 use crate::ending::Ended;
 use crate::tools::Tools;
+use axis_roots::PartialTrees;
 use data_header::Header;
 use namespace_id::{CellRoom, Share};
 use std::marker::Model;
@@ -28,6 +29,8 @@ pub enum SessionState {
 #[derive(Drop)]
 pub struct Session {
     pub(crate) header: Header,
+    // what accepted samples have shown of the trees under it
+    pub(crate) trees: PartialTrees,
     pub(crate) board: Board,
     pub(crate) tools: Tools,
     pub(crate) ended: Option<Ended>,
@@ -45,5 +48,5 @@ impl Model for Session {
 
     ghost view = { λ s. parts_by s.header s.board s.ended };
 
-    ghost invariant = { λ s. IsSession s.header s.board s.tools s.ended s.shares s.room };
+    ghost invariant = { λ s. IsSession s.header s.trees s.board s.tools s.ended s.shares s.room };
 }

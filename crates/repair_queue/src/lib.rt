@@ -25,8 +25,6 @@ mod rooting;
 mod sessions;
 mod slots;
 mod taking;
-#[cfg(test)]
-mod tests;
 mod tools;
 mod verdict;
 

@@ -1,17 +1,27 @@
-//! A repair that is fed one message at a time.
+//! A repair that is fed one sample at a time.
 //!
 //! The known cells of each row and column are counted. One that comes to have k enters a queue,
-//! once, and after each message the queue is emptied: so each row and column is decided once, and
+//! once, and after each sample the queue is emptied: so each row and column is decided once, and
 //! nothing is looked through again. To decide one, the codeword through k of its known shares is
 //! made and hashed. Where the header has another root, these k cells are a fraud proof. Where
 //! another share is known of a cell, that one and the line are a fraud proof or a collision. Else
-//! its shares are kept, and its cells that were unknown are counted for what crosses it. What is
-//! kept: of each cell on no decided row or column at most two messages, and of each other its share
-//! with the digest of its leaf. `Session::new` takes all memory, also that of the answer.
+//! its shares are kept, and its cells that were unknown are counted for what crosses it.
+//!
+//! What is kept: of each cell on no decided row or column one sample, and a second only where
+//! another share was proved along the other axis. Those two may differ for a while: nothing follows
+//! from that until one of the axes is decided. Of each other cell its share is kept, with the
+//! digest of its leaf, so that each leaf is hashed once for its row and its column. No sample is
+//! made on the way: those of a decided axis that a fraud proof or a collision needs are made from
+//! its tree, once.
+//!
+//! `Session::new` takes all memory, also that of the answer.
 
-ghost use Rattle.std.specs.Prelude.{◌≡◌, ◌≢◌, ◌*◌, ◌≤◌, ◌++◌, ◌∷◌, [], List, Some, IfOk, true, vec_capacity};
+ghost use Rattle.std.specs.Prelude.{◌≡◌, ◌≢◌, ◌↔◌, ◌*◌, ◌≤◌, ◌++◌, ◌∷◌, [], List, Some, IsOk, IfOk, IfErr, true, vec_capacity};
 ghost use Rattle.namespace_id.specs.Cells.{is_width};
 ghost use Rattle.axis_roots.specs.declared.message.messages.Message.{Message};
+ghost use Rattle.axis_roots.specs.Messages.{message_refusal};
+ghost use Rattle.axis_roots.specs.Openings.{IsProved};
+ghost use Rattle.axis_roots.specs.Own.{IsOwn};
 ghost use Rattle.axis_roots.specs.Proved.{IsUnder, kept_message};
 ghost use Rattle.repair_queue.specs.Boards.{given_of, decided_of, IsGood, AreParts, AreAtRest, HoldsFor};
 ghost use Rattle.repair_queue.specs.Verdicts.{IsVerdict};
@@ -27,7 +37,7 @@ use crate::ending::Ended;
 use crate::entering::step;
 use crate::fed::{Session, SessionState};
 use crate::tools::Tools;
-use axis_roots::Proved;
+use axis_roots::{Message as Sample, PartialTrees, Proved, RefusedMessage};
 use data_header::Header;
 use namespace_id::{CellRoom, NoMemory, Share, cell_numbered};
 use square_layout::Square;
@@ -140,6 +150,7 @@ impl Session {
     {
         let header = copy_of(alloc, header)?;
         let k = width(&header);
+        let trees = PartialTrees::new(alloc, &header)?;
         let board = Board::new(alloc, k)?;
         let tools = Tools::new(alloc, k)?;
         let Ok(shares) = Vec::with_capacity(alloc, k as usize * k as usize) else {
@@ -148,12 +159,29 @@ impl Session {
         let room = CellRoom::new(alloc, k)?;
         Ok(Session {
             header,
+            trees,
             board,
             tools,
             ended: None,
             shares,
             room,
         })
+    }
+
+    /// Verifies a sample under the header, and makes the certificate of one that is accepted, as `check`
+    /// of `axis_roots` does. What accepted ones have shown of the trees isn't hashed again. The session
+    /// stands for what it was fed, as before. It takes no memory.
+    pub fn check(&mut self, message: Sample) -> Result<Proved, RefusedMessage>
+        ensures accepts { IsOk result ↔ IsProved self.old.header message }
+        ensures under { IfOk result (IsUnder self.old.header) }
+        ensures message { IfOk result (λ proved. kept_message proved ≡ message) }
+        ensures own { IsOk result → IsOwn self.old.header message }
+        ensures why { IfErr result (λ refused.
+            Some refused.why ≡ message_refusal self.old.header message) }
+        ensures returned { IfErr result (λ refused. refused.message ≡ message) }
+        ensures kept { self.new ≡ self.old }
+    {
+        self.trees.check(message)
     }
 
     /// Takes a proved sample under the header, and answers the state after it. A fraud proof or a
@@ -204,6 +232,7 @@ impl Session {
     {
         let Session {
             header,
+            trees: _,
             board,
             tools: _,
             ended,

@@ -11,6 +11,7 @@ use Rattle.repair_queue.proofs.fed.Session.new.Goals as goal
 -- nothing is known of any cell
 pub invariant_of-result : goal.invariant_of-result
 invariant_of-result c = record {
+  partial = c.in_ok-trees.ensures;
   open_board = (
     c.in_ok-board.ensures.good c.in_ok-header.header (sym c.width-k.ensures.value),
     subst (λ (k : ℕ). AreTools k c.in_ok-tools.tools) c.width-k.ensures.value c.in_ok-tools.ensures,
