@@ -43,7 +43,7 @@ pub record IsRow (k : ℕ) (grid : List Share) (row : ℕ) : Type 0 where
   pub ordered : is_ordered (axis_names k grid Row row) ≡ true
 
 -- each row of the original square is one, where the grid has a header
-row_of : (k : ℕ) (grid : List Share) (header : Roots) (row : ℕ) → is_width k ≡ true → AreShares (axis_shares k grid Row row) → header_of_grid k grid ≡ Some header
+pub row_of : (k : ℕ) (grid : List Share) (header : Roots) (row : ℕ) → is_width k ≡ true → AreShares (axis_shares k grid Row row) → header_of_grid k grid ≡ Some header
     → row < k → IsRow k grid row
 row_of k grid header row width are made h = record {
   width = width;
@@ -83,7 +83,7 @@ module _ (k : ℕ) (grid : List Share) (row : ℕ) (is : IsRow k grid row) where
         (over_span (halvings (2 * k)) 0 (axis_names k grid Row row) (axis_shares k grid Row row) is.leaves.name_bytes alike (omega (arith, is.leaves.name_count)))
 
     -- none of the row's but PARITY is above them
-    root_above : IsAbove (axis_names k grid Row row) 0 (halvings (2 * k)) (root_of header Row row)
+    pub root_above : IsAbove (axis_names k grid Row row) 0 (halvings (2 * k)) (root_of header Row row)
     root_above =
         subst (IsAbove (axis_names k grid Row row) 0 (halvings (2 * k))) row_root
         (above_span (halvings (2 * k)) 0 (axis_names k grid Row row) (axis_shares k grid Row row) is.leaves.name_bytes alike is.ordered (omega (arith, is.leaves.name_count)))

@@ -2,4 +2,5 @@ pub mod Shares
 pub mod Answers
 pub mod Placed
 pub mod Own
+pub mod Needed
 pub mod Serving

@@ -14,8 +14,8 @@ use Rattle.square_layout.specs.Blocks.{SquareShares, IsSquare}
 use Rattle.axis_roots.specs.declared.answers.Found.{Found}
 use Rattle.axis_roots.specs.declared.answers.Found.TheVariants.{Range, Absence}
 use Rattle.axis_roots.specs.declared.answers.NsEntry.{NsEntry}
-use Rattle.axis_roots.specs.Grids.{GridShares, IsGrid, Extends, axis_names, axis_shares, header_of_grid}
-use Rattle.axis_roots.specs.Trees.{AxisTrees, axis_leaves, trees_of_grid}
+use Rattle.axis_roots.specs.Grids.{IsGrid, Extends, axis_names, axis_shares, header_of_grid}
+use Rattle.axis_roots.specs.Trees.{axis_leaves}
 use Rattle.square_serve.specs.Answers.{wanted_rows}
 
 -- ---- held squares
@@ -31,12 +31,6 @@ pub record IsHeld (held : HeldParts) : Type 0 where
   pub grid : IsGrid (record { k = held.k; shares = held.grid })
   pub shares : AreShares held.grid
   pub roots : header_of_grid held.k held.grid ≡ Some held.header
-
--- what a held square keeps: a grid, its header, and the trees of all rows and columns
-pub record KeepsHeld (grid : GridShares) (header : Roots) (trees : AxisTrees) : Type 0 where
-  pub shares : AreShares grid.shares
-  pub roots : header_of_grid grid.k grid.shares ≡ Some header
-  pub stored : trees_of_grid grid.k grid.shares ≡ Some trees
 
 -- the grid is the extension of a square, and the header is the square's
 pub record Holds (held : HeldParts) (square : SquareShares) : Type 0 where

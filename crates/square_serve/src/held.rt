@@ -5,20 +5,21 @@ ghost use Rattle.namespace_id.specs.declared.cells.Axis.TheVariants.{Row};
 ghost use Rattle.namespace_id.specs.Names.{is_parity};
 ghost use Rattle.namespace_id.specs.Cells.{is_in_square};
 ghost use Rattle.square_layout.specs.Blocks.{SquareShares};
-ghost use Rattle.axis_roots.specs.Grids.{share_at, axis_names, axis_shares, header_of_grid, HasNoHeader};
+ghost use Rattle.axis_roots.specs.Grids.{share_at, axis_names, axis_shares, HasNoHeader};
 ghost use Rattle.axis_roots.specs.Openings.{IsProved};
-ghost use Rattle.axis_roots.specs.Trees.{axis_stored, trees_of_grid, message_at};
+ghost use Rattle.axis_roots.specs.Trees.{axis_stored, message_at};
 ghost use Rattle.square_serve.specs.Shares.{shares_of};
 ghost use Rattle.square_serve.specs.Answers.{shown, wanted_rows, IsComplete};
+ghost use Rattle.square_serve.specs.Needed.{AreNeeded, grid_roots};
 ghost use Rattle.square_serve.specs.Serving.{IsHeld, Holds, count_below, count_same, found_at, found_in, entry_in, answer_for};
 
-use crate::rows::is_wanted;
+use crate::needed::NeededTrees;
+use crate::ordering::are_ordered_axes;
+use crate::rows::may_hold;
 use crate::serve_laws;
-use axis_roots::{Found, Grid, Message, NsAnswer, NsEntry, ShareList, Trees, index, message_from};
+use axis_roots::{Found, Grid, Message, NsAnswer, NsEntry, ShareList, index, message_from};
 use data_header::Header;
-use namespace_id::{
-    Axis, Cell, Namespace, NoMemory, Share, is_in_square, namespace_law, shares_law,
-};
+use namespace_id::{Axis, Cell, Namespace, NoMemory, Share, is_in_square, namespace_law};
 use nmt_proofs::{make_absent, make_range};
 use nmt_tree::Tree;
 use square_layout::Square;
@@ -73,25 +74,25 @@ impl From<AllocError> for ServeError {
     }
 }
 
-/// An extended data square (EDS) that a node holds and serves: with its data availability header and the
-/// trees of all rows and columns, so that answers hash nothing.
+/// An extended data square (EDS) that a node holds and serves. The namespaced Merkle tree (NMT) of a row
+/// or a column is made when an answer first needs it.
 ///
 /// Celestia specifications, "Data Structures".
 #[derive(Drop)]
 pub struct Held {
     grid: Grid,
-    header: Header,
-    trees: Trees,
+    trees: NeededTrees,
 }
 
 impl Model for Held {
-    ghost use Rattle.square_serve.specs.Serving.{HeldParts, KeepsHeld};
+    ghost use Rattle.square_serve.specs.Needed.{AreNeeded, grid_roots};
+    ghost use Rattle.square_serve.specs.Serving.{HeldParts};
 
     ghost Value = { HeldParts };
 
-    ghost view = { λ h. record { k = h.grid.k; grid = h.grid.shares; header = h.header } };
+    ghost view = { λ h. record { k = h.grid.k; grid = h.grid.shares; header = grid_roots h.grid.k h.grid.shares } };
 
-    ghost invariant = { λ h. KeepsHeld h.grid h.header h.trees };
+    ghost invariant = { λ h. AreNeeded h.grid.k h.grid.shares h.trees };
 }
 
 /// The columns of a namespace in a row whose namespaces never fall: the first one, before which all are
@@ -187,26 +188,26 @@ fn found_in(
     found_at(alloc, grid, tree, row, columns)
 }
 
-/// The entries of the rows of a grid that may hold a namespace, by its header and its trees.
+/// The entries of the rows of a grid that may hold a namespace. The trees over these rows are made,
+/// those of other rows aren't.
 fn entries_of(
     alloc: Global,
     grid: &Grid,
-    header: &Header,
-    trees: &Trees,
+    trees: &mut NeededTrees,
     namespace: &Namespace,
 ) -> Result<Vec<NsEntry>, AllocError>
-    requires header { header_of_grid grid.now.k grid.now.shares ≡ Some header.now }
-    requires trees { trees_of_grid grid.now.k grid.now.shares ≡ Some trees.now }
+    requires trees { AreNeeded grid.now.k grid.now.shares trees.old }
     requires other { is_parity namespace.now ≡ false }
-    ensures { IfOk result (λ entries. entries.items ≡
+    ensures trees { AreNeeded grid.now.k grid.now.shares trees.new }
+    ensures entries { IfOk result (λ entries. entries.items ≡
         map (entry_in grid.now.k grid.now.shares namespace.now)
-        (wanted_rows header.now namespace.now)) }
+        (wanted_rows (grid_roots grid.now.k grid.now.shares) namespace.now)) }
 {
     let mut entries = Vec::new(alloc);
     for row in 0..grid.width() {
-        if is_wanted(header, namespace, row) {
-            let tree = trees.tree(Axis::Row, row);
-            let found = found_in(alloc, grid, tree, namespace, row)?;
+        if may_hold(grid, namespace, row) {
+            trees.make(grid, Axis::Row, row);
+            let found = found_in(alloc, grid, trees.tree(Axis::Row, row), namespace, row)?;
             entries.push(NsEntry { row, found })?;
         }
     }
@@ -214,11 +215,11 @@ fn entries_of(
 }
 
 impl Held {
-    /// Extends a square, and makes its header and all trees. Each leaf is hashed once, for its row and
-    /// its column, and each node once.
+    /// Extends a square, and sees that it has a header. Nothing is hashed yet.
     ///
-    /// Refuses a square without a header, which drops it. It takes memory for 4 * k * k shares, for 4k
-    /// trees of 4k - 1 digests each and for 4k roots, and for what it works with besides.
+    /// Refuses a square without a header, which drops it. It takes all memory but that of namespace
+    /// answers and of headers: for 4 * k * k shares, as many digests of leaves, 4k trees of 4k - 1
+    /// digests each, and for what it works with besides.
     ///
     /// Celestia specifications, "Data Structures", available data header.
     pub fn of(alloc: Global, square: Square) -> Result<Held, HeldError>
@@ -226,79 +227,90 @@ impl Held {
         ensures held { IfOk result (λ held. Holds held square) }
     {
         let grid = Grid::extend(alloc, &square)?;
-        let Some(trees) = Trees::of(alloc, &grid)? else {
+        if !are_ordered_axes(&grid) {
             return Err(HeldError::NoHeader);
-        };
-        let header = trees.header(alloc)?;
-        shares_law(&grid.shares);
-        Ok(Held {
-            grid,
-            header,
-            trees,
-        })
+        }
+        let trees = NeededTrees::of(alloc, &grid)?;
+        Ok(Held { grid, trees })
     }
 
-    /// The data availability header (DAH) of the square.
-    ///
-    /// Celestia specifications, "Data Structures", available data header.
-    pub fn header(&self) -> &Header
-        ensures value { result.now ≡ self.now.header }
-
-        // What is true of every held square.
+    /// Says what is true of every held square. It changes nothing.
+    pub fn held_law(&self)
         ensures held { IsHeld self.now }
     {
         // The width of a grid is told with what is true of every grid.
         let _k = self.grid.width();
-        &self.header
     }
 
-    /// The sample of a cell: its share with the inclusion proof along an axis. It hashes nothing, and
-    /// takes no memory.
+    /// The data availability header (DAH) of the square. The trees that weren't needed yet are made:
+    /// each leaf is hashed once, for its row and its column, and each node once.
+    ///
+    /// The one refusal is that there is no memory for 4k roots.
+    ///
+    /// Celestia specifications, "Data Structures", available data header.
+    pub fn header(&mut self, alloc: Global) -> Result<Header, NoMemory>
+        ensures value { IfOk result (λ h. h ≡ self.old.header) }
+        ensures kept { self.new ≡ self.old }
+    {
+        self.trees.header(alloc, &self.grid)
+    }
+
+    /// The sample of a cell: its share with the inclusion proof along an axis. It takes no memory, and
+    /// hashes nothing where the tree of that axis was needed before.
     ///
     /// Refuses exactly a cell whose row or column isn't below 2k.
     ///
     /// Celestia specifications, "Data Structures", namespaced Merkle tree inclusion proofs.
-    pub fn sample(&self, cell: Cell, axis: Axis) -> Result<Message, OutOfSquare>
-        ensures out_of_square { IsErr result ↔ (is_in_square self.now.k cell ≡ false) }
+    pub fn sample(&mut self, cell: Cell, axis: Axis) -> Result<Message, OutOfSquare>
+        ensures out_of_square { IsErr result ↔ (is_in_square self.old.k cell ≡ false) }
 
         // The message is that of the cell and the axis, shows the extension's share, and is proved
         // under the header.
         ensures value { IfOk result (λ message.
-            message ≡ message_at self.now.k self.now.grid cell axis) }
+            message ≡ message_at self.old.k self.old.grid cell axis) }
         ensures cell { IfOk result (λ message. message.cell ≡ cell) }
         ensures axis { IfOk result (λ message. message.axis ≡ axis) }
         ensures share { IfOk result (λ message.
-            message.share ≡ share_at (2 * self.now.k) self.now.grid cell) }
-        ensures proved { IfOk result (IsProved self.now.header) }
+            message.share ≡ share_at (2 * self.old.k) self.old.grid cell) }
+        ensures proved { IfOk result (IsProved self.old.header) }
+        ensures kept { self.new ≡ self.old }
     {
         if !is_in_square(self.grid.width(), cell) {
             return Err(OutOfSquare);
         }
-        let tree = self.trees.tree(axis, index(axis, cell));
+        let number = index(axis, cell);
+        self.trees.make(&self.grid, axis, number);
+        let tree = self.trees.tree(axis, number);
         Ok(message_from(&self.grid, cell, axis, tree))
     }
 
     /// The answer to a namespace request: for each row of the original square that may hold the
     /// namespace, from the first down, its shares there with the range proof, or an absence proof. It
-    /// hashes nothing.
+    /// hashes nothing where the trees of these rows were needed before.
     ///
     /// Refuses exactly `PARITY`. It takes memory for the entries and for the shares that they show.
     ///
     /// Celestia specifications, "Data Structures", namespace proofs; docs/RULES.md, "Namespace answers".
-    pub fn namespace(&self, alloc: Global, namespace: &Namespace) -> Result<NsAnswer, ServeError>
+    pub fn namespace(
+        &mut self,
+        alloc: Global,
+        namespace: &Namespace,
+    ) -> Result<NsAnswer, ServeError>
         ensures parity { IsErrOf result ServeError.Parity ↔ (is_parity namespace.now ≡ true) }
-        ensures value { IfOk result (λ answer. answer ≡ answer_for self.now namespace.now) }
+        ensures value { IfOk result (λ answer. answer ≡ answer_for self.old namespace.now) }
 
         // The answer is complete under the header, and shows just the shares of the square that is held.
         ensures complete { IfOk result (λ answer.
-            IsComplete self.now.header namespace.now answer) }
-        ensures shares { IfOk result (λ answer. (square : SquareShares) → Holds self.now square →
+            IsComplete self.old.header namespace.now answer) }
+        ensures shares { IfOk result (λ answer. (square : SquareShares) → Holds self.old square →
             shown answer ≡ shares_of square namespace.now) }
+        ensures kept { self.new ≡ self.old }
     {
         if namespace.is_parity() {
             return Err(ServeError::Parity);
         }
-        let entries = entries_of(alloc, &self.grid, self.header(), &self.trees, namespace)?;
+        self.held_law();
+        let entries = entries_of(alloc, &self.grid, &mut self.trees, namespace)?;
         // These tell that the answer is complete, and what it shows.
         namespace_law(namespace);
         serve_laws();

@@ -1,13 +1,15 @@
 //! What a node that holds a square answers to samples and namespace requests, and whether a namespace
 //! answer is complete.
 //!
-//! `held` keeps a square with its extension, its header and the trees of all rows and columns, so that
-//! an answer hashes nothing. `checking` judges an answer of anybody under a header alone.
+//! `held` keeps a square with its extension, and makes the tree of a row or a column when an answer
+//! first needs it. `checking` judges an answer of anybody under a header alone.
 #![tactic(auto)]
 
 mod checking;
 mod held;
 mod laws;
+mod needed;
+mod ordering;
 mod rows;
 
 pub use checking::{NsRefusal, check_namespace};

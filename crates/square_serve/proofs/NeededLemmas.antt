@@ -1,0 +1,64 @@
+-- Leaves that were hashed, and trees that are made of them.
+use Rattle.std.proofs.Common.{◌≡◌, ◌∙◌, ℕ, ◌+◌, ◌*◌, ◌<◌, List, length, get_or, set, replicate, IsTrue, Some, None, inl, inr, refl, sym, ap, subst, arith}
+use Rattle.std.specs.Prelude.{Option, IfSome}
+use Rattle.std.proofs.lemmas.Bool.{cases_eq}
+use Rattle.std.proofs.lemmas.List.{get_or-set_same, get_or-set_other, length-set, length-replicate, get_or-replicate}
+use Rattle.namespace_id.specs.declared.cells.Cell.{Cell}
+use Rattle.namespace_id.specs.declared.cells.Axis.{Axis}
+use Rattle.namespace_id.specs.declared.shares.Share.{Share}
+use Rattle.namespace_id.specs.declared.digests.Digest.{Digest}
+use Rattle.namespace_id.specs.Cells.{is_in_square}
+use Rattle.nmt_tree.specs.Trees.{StoredTree}
+use Rattle.axis_roots.specs.Grids.{leaf_over}
+use Rattle.axis_roots.specs.Trees.{no_tree}
+use Rattle.axis_roots.proofs.Grids.NumberLemmas.{inside, number-lt, cell_of, cell_of-number}
+use Rattle.square_serve.specs.Needed.{AreNeededLeaves, IsNeededTree, AreNeededTrees, empty_trees}
+
+-- cells with one number are one cell
+same_cell : (k : ℕ) (a b : Cell) → IsTrue (is_in_square k a) → IsTrue (is_in_square k b) → a.row * (2 * k) + a.col ≡ b.row * (2 * k) + b.col → a ≡ b
+same_cell k a b in_a in_b e = sym (cell_of-number (2 * k) a (inside k a in_a).1) ∙ ap (cell_of (2 * k)) e ∙ cell_of-number (2 * k) b (inside k b in_b).1
+
+-- one more leaf that was hashed
+pub leaf_put : (k : ℕ) (grid : List Share) (leaves : List (Option Digest)) (place : ℕ) (cell : Cell) (digest : Digest) → IsTrue (is_in_square k cell)
+    → place ≡ cell.row * (2 * k) + cell.col → digest ≡ leaf_over k grid cell → AreNeededLeaves k grid leaves → AreNeededLeaves k grid (set leaves place (Some digest))
+leaf_put k grid leaves place cell digest in_square at is so_far = record {
+  count = length-set leaves place (Some digest) ∙ so_far.count;
+  digests = λ other in_other.
+      let P : Option Digest → Type 0 = λ o. IfSome o (λ d. d ≡ leaf_over k grid other) in
+      let number : ℕ = other.row * (2 * k) + other.col in
+      let within : place < length leaves = omega (arith, at, so_far.count, number-lt (2 * k) cell (inside k cell in_square).0 (inside k cell in_square).1) in
+      elim (cases_eq number place) [
+        | inl here ↦
+            let one : other ≡ cell = same_cell k other cell in_other in_square (here ∙ at) in
+            subst P (sym (ap (λ (n : ℕ). get_or (set leaves place (Some digest)) n None) here ∙ get_or-set_same leaves place (Some digest) None within))
+            (is ∙ ap (leaf_over k grid) (sym one))
+        | inr apart ↦ subst P (sym (get_or-set_other leaves place number (Some digest) None apart)) (so_far.digests other in_other)
+      ];
+}
+
+-- a value that is related as no digest is, is none
+pub none_alone : (R : Option Digest → Type 0) → ((digest : Digest) → R (Some digest) → ⊥) → (y : Option Digest) → R y → y ≡ None
+none_alone R never None holds = refl
+none_alone R never (Some digest) holds = absurd (never digest holds)
+
+-- where no leaf was hashed
+pub no_leaves : (k number : ℕ) (grid : List Share) (leaves : List (Option Digest)) → leaves ≡ replicate number None → number ≡ 2 * k * (2 * k)
+    → AreNeededLeaves k grid leaves
+no_leaves k number grid leaves none all = record {
+  count = ap length none ∙ length-replicate number None ∙ all;
+  digests = λ cell in_square.
+      let place : ℕ = cell.row * (2 * k) + cell.col in
+      let within : place < number = omega (arith, all, number-lt (2 * k) cell (inside k cell in_square).0 (inside k cell in_square).1) in
+      subst (λ (o : Option Digest). IfSome o (λ d. d ≡ leaf_over k grid cell)) (sym (ap (λ (l : List (Option Digest)). get_or l place None) none ∙ get_or-replicate number place None None within)) tt;
+}
+
+-- where no tree was made
+pub no_trees : (k side : ℕ) (grid : List Share) (axis : Axis) (trees : List StoredTree) → trees ≡ empty_trees side side → side ≡ 2 * k → AreNeededTrees k grid axis trees
+no_trees k side grid axis trees none all =
+    let empty : StoredTree = record { count = side; leaves = None } in
+    record {
+      count = ap length none ∙ length-replicate side empty ∙ all;
+      each = λ index h.
+          subst (IsNeededTree k grid axis index) (sym (ap (λ (l : List StoredTree). get_or l index no_tree) none ∙ get_or-replicate side index empty no_tree (omega (arith, h, all))))
+          (record { count = all; leaves = tt });
+    }

@@ -1,0 +1,62 @@
+-- The trees of a grid that are made when they are asked for.
+use Rattle.std.specs.Prelude.{◌≡◌, ℕ, ◌+◌, ◌*◌, ◌<◌, ◌&&◌, not, List, length, get_or, replicate, Bool, true, IsTrue, Option, None, IfSome}
+use Rattle.namespace_id.specs.declared.cells.Cell.{Cell}
+use Rattle.namespace_id.specs.declared.cells.Axis.{Axis}
+use Rattle.namespace_id.specs.declared.cells.Axis.TheVariants.{Row, Col}
+use Rattle.namespace_id.specs.declared.namespaces.Namespace.{Namespace}
+use Rattle.namespace_id.specs.declared.shares.Share.{Share}
+use Rattle.namespace_id.specs.declared.digests.Digest.{Digest}
+use Rattle.namespace_id.specs.Names.{is_at_most, is_parity}
+use Rattle.namespace_id.specs.Shares.{AreShares}
+use Rattle.namespace_id.specs.Cells.{is_in_square}
+use Rattle.nmt_tree.specs.Trees.{StoredTree}
+use Rattle.data_header.specs.Headers.{Roots}
+use Rattle.axis_roots.specs.Grids.{leaf_over, axis_roots, are_ordered_axes}
+use Rattle.axis_roots.specs.Trees.{axis_leaves, no_tree}
+use Rattle.square_serve.specs.declared.needed.NeededTrees.{NeededTrees}
+
+-- the roots of all rows and all columns of a grid: its header, where it has one
+abbrev pub grid_roots : ℕ → List Share → Roots
+grid_roots k grid = record { k = k; rows = axis_roots k grid Row; cols = axis_roots k grid Col }
+
+-- whether the namespace of a leaf, which isn't PARITY, is at least this one
+abbrev pub reaches : Namespace → Namespace → Bool
+reaches name leaf = not (is_parity leaf) && is_at_most name leaf
+
+-- of the leaves over all cells, row-major, each one that was hashed has its digest
+pub record AreNeededLeaves (k : ℕ) (grid : List Share) (leaves : List (Option Digest)) : Type 0 where
+  pub count : length leaves ≡ 2 * k * (2 * k)
+  pub digests : (cell : Cell) → IsTrue (is_in_square k cell)
+      → IfSome (get_or leaves (cell.row * (2 * k) + cell.col) None) (λ digest. digest ≡ leaf_over k grid cell)
+
+-- a tree for the leaves along a row or a column, empty or over them
+pub record IsNeededTree (k : ℕ) (grid : List Share) (axis : Axis) (index : ℕ) (tree : StoredTree) : Type 0 where
+  pub count : tree.count ≡ 2 * k
+  pub leaves : IfSome tree.leaves (λ leaves. leaves ≡ axis_leaves k grid axis index)
+
+-- one for each row, or for each column, of a grid
+pub record AreNeededTrees (k : ℕ) (grid : List Share) (axis : Axis) (trees : List StoredTree) : Type 0 where
+  pub count : length trees ≡ 2 * k
+  pub each : (index : ℕ) → index < 2 * k → IsNeededTree k grid axis index (get_or trees index no_tree)
+
+-- so many empty trees, each for `count` leaves
+abbrev pub empty_trees : ℕ → ℕ → List StoredTree
+empty_trees number count = replicate number (record { count = count; leaves = None })
+
+-- the trees along an axis
+abbrev pub needed_along : NeededTrees → Axis → List StoredTree
+needed_along trees Row = trees.rows.items
+needed_along trees Col = trees.cols.items
+
+-- the tree of a row or a column
+abbrev pub needed_at : NeededTrees → Axis → ℕ → StoredTree
+needed_at trees axis index = get_or (needed_along trees axis) index no_tree
+
+-- those of the rows and the columns of a grid along which no namespaces fall, with a line for 2k digests
+pub record AreNeeded (k : ℕ) (grid : List Share) (trees : NeededTrees) : Type 0 where
+  pub shares : AreShares grid
+  pub ordered : are_ordered_axes k grid ≡ true
+  pub leaves : AreNeededLeaves k grid trees.leaves.items
+  pub rows : AreNeededTrees k grid Row trees.rows.items
+  pub cols : AreNeededTrees k grid Col trees.cols.items
+  pub line : length trees.line.items ≡ 2 * k

@@ -1,0 +1,214 @@
+//! The trees over the rows and columns of a grid, each made when it is first asked for.
+//!
+//! One sample needs one tree, and a namespace answer needs those of the rows that may hold the
+//! namespace. All memory is taken at the start: until it is asked for a tree is empty. Each leaf is
+//! hashed at most once, for its row and its column.
+
+ghost use Rattle.std.specs.Prelude.{◌≡◌, ◌*◌, ◌<◌, IsTrue, IfOk, IsSome, length, get_or, true};
+ghost use Rattle.namespace_id.specs.Cells.{is_in_square};
+ghost use Rattle.namespace_id.specs.Shares.{AreShares};
+ghost use Rattle.nmt_tree.specs.Roots.{is_leaf_count};
+ghost use Rattle.axis_roots.specs.Grids.{leaf_over, axis_roots, are_ordered_axes};
+ghost use Rattle.axis_roots.specs.Trees.{axis_leaves, axis_stored, no_tree, stored_root};
+ghost use Rattle.square_serve.specs.Needed.{AreNeededLeaves, AreNeededTrees, AreNeeded, grid_roots, empty_trees, needed_along, needed_at};
+
+use axis_roots::{Grid, cell_on};
+use data_header::Header;
+use namespace_id::{Axis, Cell, Digest, NoMemory, leaf_namespace, shares_law};
+use nmt_tree::{Tree, leaf};
+use std::alloc::Global;
+
+/// The namespaced Merkle trees (NMT) over all rows and columns of a grid, empty where they weren't
+/// asked for yet.
+#[derive(Drop)]
+pub(crate) struct NeededTrees {
+    // the digests of the leaves over all cells, row-major, none where a leaf wasn't hashed yet
+    leaves: Vec<Option<Digest>>,
+    rows: Vec<Tree>,
+    cols: Vec<Tree>,
+    // 2k digests to work in
+    line: Vec<Digest>,
+}
+
+/// The digest of the leaf over a cell. It's hashed where the table has none yet.
+fn leaf_over(grid: &Grid, leaves: &mut [Option<Digest>], cell: Cell) -> Digest
+    requires leaves { AreNeededLeaves grid.now.k grid.now.shares leaves.old }
+    requires cell { IsTrue (is_in_square grid.now.k cell) }
+    ensures value { result ≡ leaf_over grid.now.k grid.now.shares cell }
+    ensures leaves { AreNeededLeaves grid.now.k grid.now.shares leaves.new }
+{
+    let k = grid.width();
+    let place = cell.row as usize * (2 * k as usize) + cell.col as usize;
+    if let Some(digest) = leaves[place] {
+        return digest;
+    }
+    let name = leaf_namespace(k, cell, grid.cell(cell));
+    let digest = leaf(&name, grid.cell(cell));
+    leaves[place] = Some(digest);
+    digest
+}
+
+/// Copies the digests of the leaves along an axis.
+fn read_leaves(
+    grid: &Grid,
+    leaves: &mut [Option<Digest>],
+    axis: Axis,
+    index: u16,
+    line: &mut [Digest],
+)
+    requires leaves { AreNeededLeaves grid.now.k grid.now.shares leaves.old }
+    requires index { index < 2 * grid.now.k }
+    requires line { length line.old ≡ 2 * grid.now.k }
+    ensures leaves { AreNeededLeaves grid.now.k grid.now.shares leaves.new }
+    ensures line { line.new ≡ axis_leaves grid.now.k grid.now.shares axis index }
+{
+    for pos in 0..2 * grid.width() {
+        line[pos as usize] = leaf_over(grid, leaves, cell_on(axis, index, pos));
+    }
+}
+
+/// Makes the tree of an axis among those of its kind, if it is empty.
+fn make_tree(
+    grid: &Grid,
+    leaves: &mut [Option<Digest>],
+    axis: Axis,
+    index: u16,
+    line: &mut [Digest],
+    trees: &mut [Tree],
+)
+    requires shares { AreShares grid.now.shares }
+    requires ordered { are_ordered_axes grid.now.k grid.now.shares ≡ true }
+    requires leaves { AreNeededLeaves grid.now.k grid.now.shares leaves.old }
+    requires index { index < 2 * grid.now.k }
+    requires line { length line.old ≡ 2 * grid.now.k }
+    requires trees { AreNeededTrees grid.now.k grid.now.shares axis trees.old }
+    ensures leaves { AreNeededLeaves grid.now.k grid.now.shares leaves.new }
+    ensures trees { AreNeededTrees grid.now.k grid.now.shares axis trees.new }
+    ensures made { get_or trees.new index no_tree ≡
+        axis_stored grid.now.k grid.now.shares axis index }
+{
+    // The width of a grid is told with what is true of every grid.
+    let _k = grid.width();
+    let tree = &mut trees[index as usize];
+    if tree.root().is_none() {
+        read_leaves(grid, leaves, axis, index, line);
+        tree.put(line);
+    }
+}
+
+/// Empty trees, each for so many leaves.
+fn empty_trees(alloc: Global, count: u16) -> Result<Vec<Tree>, NoMemory>
+    requires { IsTrue (is_leaf_count count) }
+    ensures { IfOk result (λ trees. trees.items ≡ empty_trees count count) }
+{
+    let Ok(mut trees) = Vec::with_capacity(alloc, count as usize) else {
+        return Err(NoMemory);
+    };
+    for _ in 0..count {
+        let tree = Tree::new(alloc, count)?;
+        let Ok(()) = trees.push(tree) else {
+            return Err(NoMemory);
+        };
+    }
+    Ok(trees)
+}
+
+/// The root of a tree that is not empty.
+fn root_in(tree: &Tree) -> Digest
+    requires { IsSome tree.now.leaves }
+    ensures { result ≡ stored_root tree.now }
+{
+    tree.root().unwrap()
+}
+
+impl NeededTrees {
+    /// Empty trees for a grid along whose rows and columns no namespaces fall.
+    ///
+    /// It takes memory for 4k trees of 4k - 1 digests each, for 4 * k * k digests of leaves, and for
+    /// 2k digests besides. The one refusal is that it is out of memory.
+    pub(crate) fn of(alloc: Global, grid: &Grid) -> Result<NeededTrees, NoMemory>
+        requires { are_ordered_axes grid.now.k grid.now.shares ≡ true }
+        ensures { IfOk result (AreNeeded grid.now.k grid.now.shares) }
+    {
+        shares_law(&grid.shares);
+        let side = 2 * grid.width();
+        let number = side as usize * side as usize;
+        let Ok(leaves) = vec![in alloc; None; number] else {
+            return Err(NoMemory);
+        };
+        let Ok(line) = vec![in alloc; Digest([0; 90]); side as usize] else {
+            return Err(NoMemory);
+        };
+        Ok(NeededTrees {
+            leaves,
+            rows: empty_trees(alloc, side)?,
+            cols: empty_trees(alloc, side)?,
+            line,
+        })
+    }
+
+    /// Makes the tree of an axis of the grid, if it is empty. It takes no memory.
+    pub(crate) fn make(&mut self, grid: &Grid, axis: Axis, index: u16)
+        requires needed { AreNeeded grid.now.k grid.now.shares self.old }
+        requires index { index < 2 * grid.now.k }
+        ensures needed { AreNeeded grid.now.k grid.now.shares self.new }
+        ensures made { needed_at self.new axis index ≡
+            axis_stored grid.now.k grid.now.shares axis index }
+    {
+        let leaves = &mut self.leaves;
+        let line = &mut self.line;
+        match axis {
+            Axis::Row => make_tree(grid, leaves, axis, index, line, &mut self.rows),
+            Axis::Col => make_tree(grid, leaves, axis, index, line, &mut self.cols),
+        }
+    }
+
+    /// The tree of an axis.
+    pub(crate) fn tree(&self, axis: Axis, index: u16) -> &Tree
+        requires { index < length (needed_along self.now axis) }
+        ensures { result.now ≡ needed_at self.now axis index }
+    {
+        match axis {
+            Axis::Row => &self.rows[index as usize],
+            Axis::Col => &self.cols[index as usize],
+        }
+    }
+
+    /// The roots of all axes of one kind. Trees that are empty are made.
+    fn roots(&mut self, alloc: Global, grid: &Grid, axis: Axis) -> Result<Vec<Digest>, NoMemory>
+        requires { AreNeeded grid.now.k grid.now.shares self.old }
+        ensures needed { AreNeeded grid.now.k grid.now.shares self.new }
+        ensures roots { IfOk result (λ roots.
+            roots.items ≡ axis_roots grid.now.k grid.now.shares axis) }
+    {
+        let count = 2 * grid.width();
+        let Ok(mut roots) = Vec::with_capacity(alloc, count as usize) else {
+            return Err(NoMemory);
+        };
+        for index in 0..count {
+            self.make(grid, axis, index);
+            let Ok(()) = roots.push(root_in(self.tree(axis, index))) else {
+                return Err(NoMemory);
+            };
+        }
+        Ok(roots)
+    }
+
+    /// The data availability header (DAH) of the grid: the roots of all axes. Trees that are empty are
+    /// made.
+    ///
+    /// It takes memory for 4k roots, and refuses only where there is none.
+    pub(crate) fn header(&mut self, alloc: Global, grid: &Grid) -> Result<Header, NoMemory>
+        requires { AreNeeded grid.now.k grid.now.shares self.old }
+        ensures needed { AreNeeded grid.now.k grid.now.shares self.new }
+        ensures header { IfOk result (λ header. header ≡ grid_roots grid.now.k grid.now.shares) }
+    {
+        let rows = self.roots(alloc, grid, Axis::Row)?;
+        let cols = self.roots(alloc, grid, Axis::Col)?;
+        Ok(Header {
+            k: grid.k,
+            rows,
+            cols,
+        })
+    }
+}
