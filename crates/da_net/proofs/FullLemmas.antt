@@ -10,11 +10,8 @@ use Rattle.axis_roots.proofs.Messages.SetLemmas.{accepted_few}
 use Rattle.repair_queue.specs.Closures.{Covers}
 use Rattle.repair_queue.specs.Settled.{IsSettled}
 use Rattle.repair_queue.specs.Verdicts.{IsFraud, IsFoundClash}
-use Rattle.repair_queue.specs.declared.verdict.Verdict.{Verdict}
 use Rattle.repair_queue.specs.declared.verdict.Verdict.TheVariants as verdict
-use Rattle.repair_queue.specs.Answers.{parts_of}
 use Rattle.repair_queue.specs.SessionParts.{SessionParts, StandsFor as SessionStands}
-use Rattle.repair_queue.specs.Sessions.{IsOfState}
 use Rattle.repair_queue.proofs.GrowthLemmas.{fraud_grows, clash_grows, settled_same}
 use Rattle.repair_queue.proofs.SessionLawLemmas.{session_settled, session_same}
 use Rattle.light_node.specs.Events.{NoneAccepted}
@@ -24,9 +21,8 @@ use Rattle.da_net.specs.declared.full.End.{End}
 use Rattle.da_net.specs.declared.full.End.TheVariants as end
 use Rattle.da_net.specs.declared.full.FullNode.{FullNode}
 use Rattle.da_net.specs.Networks.{messages_of, events_of, full, settled, clashing, rejecting, Stands, IsRejecting}
-use Rattle.da_net.specs.Nodes.{HasSpare, standing_by, IsEnding, IsSession, HasSession, IsFullNode, EndsSo, SpareAfter, IsFed}
+use Rattle.da_net.specs.Nodes.{HasSpare, standing_by, IsSession, HasSession, IsFullNode, EndsSo, SpareAfter, IsFed}
 use Rattle.da_net.specs.declared.full.Fed.TheVariants.{On, Ended as Stopped}
-use Rattle.repair_queue.specs.declared.fed.SessionState.{SessionState}
 use Rattle.repair_queue.specs.declared.fed.SessionState.TheVariants as state
 use Rattle.axis_roots.proofs.Messages.ClaimLemmas.{Shape, shape_of}
 use Rattle.da_net.specs.declared.copies.ClaimRoom.{ClaimRoom}
@@ -171,18 +167,6 @@ accepted_count header claim accepts = let shape : Shape header.k claim = shape_o
 pub accepted_nodes : (header : Roots) (claim : ClaimParts) → Accepts header claim → IfSome claim.set (λ nodes. length nodes ≤ length claim.cells)
 accepted_nodes header claim accepts =
     subst (λ (n : ℕ). IfSome claim.set (λ nodes. length nodes ≤ n)) (sym (accepted_count header claim accepts)) (accepted_few header claim accepts)
-
--- the answer of a session that isn't open ends a node
-pub ends_by : (one : SessionState) (answer : Verdict) → (one ≡ state.Open → ⊥) → IsOfState one answer → IsEnding (parts_of answer)
-ends_by state.Open answer not is = absurd (not refl)
-ends_by state.Fraud (verdict.Whole square) not is = is
-ends_by state.Fraud (verdict.Missing cells) not is = is
-ends_by state.Fraud (verdict.Fraud proof) not is = tt
-ends_by state.Fraud (verdict.Clash pair) not is = tt
-ends_by state.Clash (verdict.Whole square) not is = is
-ends_by state.Clash (verdict.Missing cells) not is = is
-ends_by state.Clash (verdict.Fraud proof) not is = tt
-ends_by state.Clash (verdict.Clash pair) not is = tt
 
 -- what ended a session by its verdict
 pub fed_ended : (header : Roots) (ms : List Message) (old new : Option ClaimRoom) (verdict : VerdictParts) (e : End) → EndsSo verdict e → SpareAfter old new e

@@ -8,3 +8,4 @@ pub mod NetLemmas
 pub mod MissingLemmas
 pub mod StateLemmas
 pub mod MakingLemmas
+pub mod RefusalLemmas

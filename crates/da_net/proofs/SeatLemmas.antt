@@ -16,13 +16,12 @@ use Rattle.da_net.specs.declared.items.Item.{Item}
 use Rattle.da_net.specs.declared.items.Item.TheVariants as item
 use Rattle.da_net.specs.declared.full.End.{End}
 use Rattle.da_net.specs.declared.full.End.TheVariants as end
-use Rattle.da_net.specs.declared.full.FullNode.{FullNode}
 use Rattle.da_net.specs.declared.seats.Node.{Node}
 use Rattle.da_net.specs.declared.seats.Node.TheVariants.{Full, Light}
 use Rattle.da_net.specs.declared.seats.Seat.{Seat}
 use Rattle.da_net.specs.declared.copies.ClaimRoom.{ClaimRoom}
-use Rattle.da_net.specs.Networks.{events_of, light, Standing, settled, clashing, waiting, available, rejecting, IsRejecting, IsClashing}
-use Rattle.da_net.specs.Nodes.{HasSpare, standing_by, IsFullNode, IsLightNode, Rejects, IsLightStep}
+use Rattle.da_net.specs.Networks.{events_of, light, Standing, clashing, waiting, available, rejecting, IsClashing}
+use Rattle.da_net.specs.Nodes.{standing_by, IsLightNode, IsLightStep}
 use Rattle.da_net.specs.Nets.{Fits, state_of, light_state, claim_in}
 use Rattle.da_net.specs.Seats.{alarm_by, alarm_with, IsNodeFor, HasSpareFor, IsSeat, IsSeatStep, SeatStands}
 use Rattle.da_net.proofs.FullLemmas.{full_unaccepted}
@@ -31,77 +30,17 @@ use Rattle.light_node.proofs.StandingLemmas.{state_distinct}
 
 -- ---- full nodes
 
--- room for a claim of a node that doesn't reject
-pub spare_needed : (k : ℕ) (o : Option End) (spare : Option ClaimRoom) → HasSpareFor k (claim_in (alarm_by o)) spare
-    → (IsRejecting (standing_by o) → ⊥) → HasSpare k spare
-spare_needed k None spare has not = has
-spare_needed k (Some (end.Clash pair)) spare has not = has
-spare_needed k (Some (end.Rejected claim)) spare has not = absurd (not tt)
-
--- and the other way round
-spare_for : (k : ℕ) (o : Option End) (spare : Option ClaimRoom) → ((IsRejecting (standing_by o) → ⊥) → HasSpare k spare)
-    → HasSpareFor k (claim_in (alarm_by o)) spare
-spare_for k None spare has = has (λ never. never)
-spare_for k (Some (end.Clash pair)) spare has = has (λ never. never)
-spare_for k (Some (end.Rejected claim)) spare has = tt
-
--- who holds a claim rejects
-claim_rejects : (o : Option End) (claim : ClaimParts) → claim_in (alarm_by o) ≡ Some claim → IsRejecting (standing_by o)
-claim_rejects None claim e = absurd (none-some claim e)
-claim_rejects (Some (end.Clash pair)) claim e = absurd (none-some claim e)
-claim_rejects (Some (end.Rejected other)) claim e = tt
-
--- a full node after an item
-pub full_step : {F : Type 0} (picks : F → ℕ → Cell → Type 0) (header : Roots) (items : List Item) (old new : FullNode)
-    (kept spare published : Option ClaimRoom) → IsFullNode header items new → ((IsRejecting (standing_by new.end) → ⊥) → HasSpare header.k spare)
-    → (IsRejecting (standing_by old.end) → new.end ≡ old.end)
-    → IsSeatStep {F = F} picks header items (record { node = Full old; kept = kept; published = published })
-    (record { node = Full new; kept = spare; published = published })
-full_step picks header items old new kept spare published is has keeps = record {
-  seat = record { is_node = is; spare = spare_for header.k new.end spare has };
-  kind = refl;
-  keeps = λ claim e. ap (λ (o : Option End). claim_in (alarm_by o)) (keeps (claim_rejects old.end claim e)) ∙ e;
-  unpublished = refl;
-}
-
 -- who has a collision is clashing
 clashing_end : (o : Option End) (left right : List ℕ) → alarm_by o ≡ Some (clashing left right) → IsClashing (standing_by o)
 clashing_end None left right e = absurd (none-some (clashing left right) e)
 clashing_end (Some one) left right e = subst IsClashing (sym (same_Some (standing_by (Some one)) (clashing left right) e)) tt
-
--- and doesn't reject
-clashing_apart : (s : Standing) → IsClashing s → IsRejecting s → ⊥
-clashing_apart settled clashes rejects = clashes
-clashing_apart (clashing left right) clashes rejects = rejects
-clashing_apart waiting clashes rejects = clashes
-clashing_apart available clashes rejects = clashes
-clashing_apart (rejecting claim) clashes rejects = clashes
 
 -- a collision stays
 pub clash_stays : (old new : Option End) (left right : List ℕ) → (IsClashing (standing_by old) → new ≡ old) → alarm_by old ≡ Some (clashing left right)
     → alarm_by new ≡ Some (clashing left right)
 clash_stays old new left right keeps e = ap alarm_by (keeps (clashing_end old left right e)) ∙ e
 
--- who rejects is alarmed by the claim
-rejecting_end : (o : Option End) (claim : ClaimParts) → standing_by o ≡ rejecting claim → alarm_by o ≡ Some (rejecting claim)
-rejecting_end None claim e = absurd cc
-rejecting_end (Some one) claim e = ap Some e
-
--- or goes for an accepted claim
-pub clash_goes : (old new : Option End) (left right : List ℕ) (claim : ClaimParts) → ((IsRejecting (standing_by old) → ⊥) → standing_by new ≡ rejecting claim)
-    → alarm_by old ≡ Some (clashing left right) → alarm_by new ≡ Some (rejecting claim)
-clash_goes old new left right claim claims e =
-    rejecting_end new claim (claims (clashing_apart (standing_by old) (clashing_end old left right e)))
-
 -- ---- light nodes
-
--- no collision alarms a light node
-pub light_clash : (o : Option ClaimParts) (left right : List ℕ) → alarm_with o ≡ Some (clashing left right) → ⊥
-light_clash None left right e = none-some (clashing left right) e
-light_clash (Some claim) left right e = apart (same_Some (rejecting claim) (clashing left right) e)
-  where
-    apart : rejecting claim ≡ clashing left right → ⊥
-    apart h = cc
 
 -- the claim that a light node holds
 pub claim_with : (o : Option ClaimParts) → claim_in (alarm_with o) ≡ o
@@ -131,29 +70,6 @@ light_seat picks header items old new kept published has step = record {
   unpublished = refl;
 }
 
--- who rejects needs no room
-rejects_spare : (k : ℕ) (o : Option ClaimParts) (spare : Option ClaimRoom) → Rejects o → HasSpareFor k (claim_in (alarm_with o)) spare
-rejects_spare k None spare rejects = absurd rejects
-rejects_spare k (Some claim) spare rejects = tt
-
--- a light node after an accepted claim
-pub light_accepted : {F : Type 0} (picks : F → ℕ → Cell → Type 0) (header : Roots) (items : List Item) (old new : NodeParts F)
-    (kept spare published : Option ClaimRoom) → IsLightStep picks header items old new → Rejects new.claim
-    → IsSeatStep picks header items (record { node = Light old; kept = kept; published = published })
-    (record { node = Light new; kept = spare; published = published })
-light_accepted picks header items old new kept spare published step rejects = record {
-  seat = record { is_node = step.node; spare = rejects_spare header.k new.claim spare rejects };
-  kind = ap light step.wanted;
-  keeps = λ claim e. claim_with new.claim ∙ step.keeps claim (sym (claim_with old.claim) ∙ e);
-  unpublished = refl;
-}
-
--- room for a claim of a light node that doesn't reject
-pub light_needed : (k : ℕ) (o : Option ClaimParts) (spare : Option ClaimRoom) → HasSpareFor k (claim_in (alarm_with o)) spare
-    → (Rejects o → ⊥) → HasSpare k spare
-light_needed k None spare has not = has
-light_needed k (Some claim) spare has not = absurd (not tt)
-
 -- ---- claims that aren't accepted
 
 node_unaccepted : {F : Type 0} (picks : F → ℕ → Cell → Type 0) (header : Roots) (items : List Item) (node : Node F) (claim : ClaimParts)
@@ -180,12 +96,6 @@ full_fits None = λ alarmed. elim alarmed [
   | inr never ↦ never
 ]
 full_fits (Some one) = refl
-
--- a full node stands as what ended it says
-pub full_standing : {F : Type 0} (picks : F → ℕ → Cell → Type 0) (header : Roots) (items : List Item) (node : FullNode)
-    (kept published : Option ClaimRoom) → IsFullNode header items node
-    → SeatStands {F = F} header items (record { node = Full node; kept = kept; published = published }) (standing_by node.end)
-full_standing picks header items node kept published is = record { stands = is.stands; fits = full_fits node.end }
 
 -- a light node's standing, with the claim that it holds
 light_by : {F : Type 0} (header : Roots) (items : List Item) (node : NodeParts F) (kept published : Option ClaimRoom) (o : Option ClaimParts)

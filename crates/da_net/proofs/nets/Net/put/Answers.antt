@@ -10,6 +10,25 @@ use Rattle.da_net.specs.Seats.{items_in, IsNet}
 use Rattle.da_net.proofs.NetLemmas.{seen, net_put, room_for_step, room_for_item}
 use Rattle.da_net.proofs.nets.Net.put.Goals as goal
 
+-- there is room for the item
+pub push_reserved-requires : goal.push_reserved-requires
+push_reserved-requires g c =
+    let free = subst (λ (n : NetParts). is_full n (event.Put c.args.item) ≡ false) (sym c.self.view_is) c.requires in
+    let net : NetParts = seen c.self.inside.header c.self.inside.seats.items c.self.inside.most_items c.self.inside.most_steps c.self.inside.pool.items
+    c.self.inside.steps.items in
+    let some : length (items_in c.self.inside.pool.items) < c.self.inside.most_items = room_for_item net (event.Put c.args.item) free refl in
+    let count = length-map c.self.inside.pool.items (λ (e : Entry). e.item) in
+    omega (arith, some, count, c.self.inside.pool.ok.0, c.self.invariant.2.places)
+
+-- and for the step
+pub push_reserved-requires-2 : goal.push_reserved-requires-2
+push_reserved-requires-2 g c =
+    let free = subst (λ (n : NetParts). is_full n (event.Put c.args.item) ≡ false) (sym c.self.view_is) c.requires in
+    let net : NetParts = seen c.self.inside.header c.self.inside.seats.items c.self.inside.most_items c.self.inside.most_steps c.self.inside.pool.items
+    c.self.inside.steps.items in
+    let step : length c.self.inside.steps.items < c.self.inside.most_steps = room_for_step net (event.Put c.args.item) free in
+    omega (arith, step, c.self.inside.steps.ok.0, c.self.invariant.3.places)
+
 -- it is a network again
 pub invariant_of-self : goal.invariant_of-self
 invariant_of-self g c =

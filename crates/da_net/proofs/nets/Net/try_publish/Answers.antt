@@ -1,0 +1,44 @@
+use Rattle.std.proofs.Common.{◌≡◌, ◌∙◌, ◌<◌, ◌≤◌, length, sym, subst, arith}
+use Rattle.std.proofs.lemmas.List.{length-map}
+use Rattle.da_net.specs.declared.seats.Seat.{Seat}
+use Rattle.da_net.specs.Nets.{NetParts}
+use Rattle.da_net.specs.Seats.{kind_of}
+use Rattle.da_net.proofs.RefusalLemmas.{no_publisher, not_rejecting, has_done, may_publish}
+use Rattle.da_net.proofs.nets.Net.try_publish.Goals as goal
+
+-- the node isn't there
+pub returns-then-len-by-clause-refusal : goal.returns-then-len-by-clause-refusal
+returns-then-len-by-clause-refusal g c =
+    let seats = c.self.inside.seats in
+    no_publisher c.args.self.now c.args.by
+    (subst (λ (n : NetParts). length n.nodes ≤ c.args.by) c.self.view_is
+    (omega (arith, c.if-len-by.true, c.len.ensures, seats.ok.0, length-map seats.items (λ (s : Seat _). kind_of s.node))))
+
+-- it doesn't reject
+pub returns-then-not-is_rejecting-clause-refusal : goal.returns-then-not-is_rejecting-clause-refusal
+returns-then-not-is_rejecting-clause-refusal g c =
+    let seats = c.self.inside.seats in
+    not_rejecting c.args.self.now c.args.by
+    (subst (λ (n : NetParts). c.args.by < length n.nodes) c.self.view_is
+    (omega (arith, c.if-len-by.false, c.len.ensures, seats.ok.0, length-map seats.items (λ (s : Seat _). kind_of s.node))))
+    (sym c.is_rejecting.ensures ∙ c.if-not-is_rejecting.true)
+
+-- it has published its claim
+pub returns-then-has_published-clause-refusal : goal.returns-then-has_published-clause-refusal
+returns-then-has_published-clause-refusal g c =
+    let seats = c.self.inside.seats in
+    has_done c.args.self.now c.args.by
+    (subst (λ (n : NetParts). c.args.by < length n.nodes) c.self.view_is
+    (omega (arith, c.if-len-by.false, c.len.ensures, seats.ok.0, length-map seats.items (λ (s : Seat _). kind_of s.node))))
+    (sym c.is_rejecting.ensures ∙ c.if-not-is_rejecting.false)
+    (sym c.has_published.ensures ∙ c.if-has_published.true)
+
+-- it publishes it now
+pub returns-clause-refusal : goal.returns-clause-refusal
+returns-clause-refusal g c =
+    let seats = c.self.inside.seats in
+    may_publish c.args.self.now c.args.by
+    (subst (λ (n : NetParts). c.args.by < length n.nodes) c.self.view_is
+    (omega (arith, c.if-len-by.false, c.len.ensures, seats.ok.0, length-map seats.items (λ (s : Seat _). kind_of s.node))))
+    (sym c.is_rejecting.ensures ∙ c.if-not-is_rejecting.false)
+    (sym c.has_published.ensures ∙ c.if-has_published.false)
