@@ -72,11 +72,6 @@ accepted header claim root width is shape proved opened line other =
       bad = record { shape = both.0; word = line.word; through = line.through; other = λ e. other (sym line.value ∙ e) };
     }
 
--- one by whose codeword the axis has the header's root
-pub fitting : (header : Roots) (claim : ClaimParts) (root : Option Digest) → IsRootThrough header.k claim root
-    → root ≡ Some (claimed_root header claim) → FitsRoot header.k claim (claimed_root header claim)
-fitting header claim root line same = record { word = line.word; through = line.through; same = line.value ∙ same }
-
 both_hold : (a b : Bool) → a ≡ true → b ≡ true → (a && b) ≡ true
 both_hold a b ha hb = λ i. ha i && hb i
 

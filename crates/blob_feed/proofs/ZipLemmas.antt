@@ -1,17 +1,11 @@
 -- Two lists that go along, place by place.
-use Rattle.std.proofs.Common.{◌≡◌, ◌∙◌, ℕ, zero, suc, ◌-◌, ◌≤◌, List, [], ◌∷◌, ◌++◌, length, length-append, Some, None, slice_get, refl, ap, arith}
+use Rattle.std.proofs.Common.{◌≡◌, ◌∙◌, ℕ, ◌-◌, List, [], ◌∷◌, ◌++◌, length, length-append, Some, slice_get, refl, ap, arith}
 use Rattle.std.specs.List.{AllZip}
 
 -- what stands behind a list
 pub get_behind : {X : Type 0} (xs : List X) (x : X) → slice_get (xs ++ x ∷ []) (length xs) ≡ Some x
 get_behind [] x = refl
 get_behind (y ∷ xs) x = get_behind xs x
-
--- and beyond it
-pub get_beyond : {X : Type 0} (xs : List X) (n : ℕ) → length xs ≤ n → slice_get xs n ≡ None
-get_beyond [] n le = refl
-get_beyond (y ∷ xs) zero le = absurd (omega (arith, le))
-get_beyond (y ∷ xs) (suc n) le = get_beyond xs n (omega (arith, le))
 
 -- the last of a list
 pub last_pushed : {X : Type 0} (xs : List X) (x : X) → slice_get (xs ++ x ∷ []) (length (xs ++ x ∷ []) - 1) ≡ Some x
@@ -28,11 +22,6 @@ module _ {A B : Type 0} (R : A → B → Type 0) where
   zip_push [] (b ∷ ys) x y all is = absurd all
   zip_push (a ∷ xs) [] x y all is = absurd all
   zip_push (a ∷ xs) (b ∷ ys) x y all is = (all.0, zip_push xs ys x y all.1 is)
-
-  -- none goes along with none
-  pub zip_none : (ys : List B) → AllZip R [] ys → ys ≡ []
-  zip_none [] all = refl
-  zip_none (b ∷ ys) all = absurd all
 
   -- what goes along with a list that ends in something
   pub record Split (xs : List A) (x : A) (ys : List B) : Type 0 where

@@ -1,9 +1,7 @@
 -- Walks over the events of a script.
-use Rattle.std.proofs.Common.{◌≡◌, ◌∙◌, ℕ, ◌≤◌, List, drop, length, Option, Some, None, Bool, true, false, if◌then◌else◌, refl, sym, ap}
+use Rattle.std.proofs.Common.{◌≡◌, ◌∙◌, ℕ, ◌≤◌, List, drop, length, Option, Some, None, Bool, if◌then◌else◌, sym, ap}
 use Rattle.std.specs.Option.{option_map}
-use Rattle.std.proofs.lemmas.Bool.{le-ltb, ltb-false}
-use Rattle.std.specs.Prelude.{nat_lt}
-use Rattle.std.proofs.lemmas.Option.{none-some}
+use Rattle.std.proofs.lemmas.Bool.{le-ltb}
 use Rattle.da_wire.specs.Walks.{stop_from}
 use Rattle.da_script.specs.declared.reading.Move.{Move}
 use Rattle.da_script.specs.Scripts.{front_size, move_at, bad_script}
@@ -22,14 +20,3 @@ pub bad_behind : (items : ℕ) (script : List ℕ) → front_size script ≤ len
 bad_behind items script within =
     ap (λ (b : Bool). if b then Some 0 else stop_from (move_at items) 0 (front_size script) (drop (front_size script) script))
     (le-ltb (length script) (front_size script) within)
-
--- a script that is in its form has all of its front
-pub front_there : (items : ℕ) (script : List ℕ) → bad_script items script ≡ None → front_size script ≤ length script
-front_there items script none = by (nat_lt (length script) (front_size script)) refl
-  where
-    by : (b : Bool) → nat_lt (length script) (front_size script) ≡ b → front_size script ≤ length script
-    by true e =
-        let cut : bad_script items script ≡ Some 0 =
-        ap (λ (b : Bool). if b then Some 0 else stop_from (move_at items) 0 (front_size script) (drop (front_size script) script)) e in
-        absurd (none-some 0 (sym none ∙ cut))
-    by false e = ltb-false (length script) (front_size script) e
