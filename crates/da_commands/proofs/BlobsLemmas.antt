@@ -1,5 +1,5 @@
 -- What the command blobs answers.
-use Rattle.std.proofs.Common.{◌≡◌, ◌∙◌, ℕ, suc, ◌+◌, ◌*◌, ◌-◌, ◌≤◌, nat_le, Bool, true, false, cond, List, [], ◌∷◌, ◌++◌, length, Some, None, IsSome, is_some, IfSome, Result, Ok, Err, refl, sym, ap, subst, inl, inr, arith, append_assoc, lit<, leb-true, leb-false, le-ltb, ltb-false}
+use Rattle.std.proofs.Common.{◌≡◌, ◌∙◌, ℕ, ◌+◌, ◌*◌, ◌-◌, ◌≤◌, nat_le, Bool, true, false, cond, List, [], ◌∷◌, ◌++◌, length, Some, None, IsSome, is_some, IfSome, Result, Ok, Err, refl, sym, ap, subst, inl, inr, arith, lit<, leb-true, leb-false, ltb-false}
 use Rattle.std.specs.Prelude.{MatchResult, nat_lt}
 use Rattle.std.proofs.Math.Nat.{mul-le-mul_right}
 use Rattle.std.specs.declared.option.Option.{Option}
@@ -23,10 +23,10 @@ use Rattle.axis_roots.specs.declared.answers.Found.TheVariants.{Range, Absence}
 use Rattle.axis_roots.specs.declared.answers.NsEntry.{NsEntry}
 use Rattle.da_wire.specs.declared.frames.Frame.{Frame}
 use Rattle.da_wire.specs.declared.frames.Frame.TheVariants.{Block, Names}
-use Rattle.da_wire.specs.Spelling.{spelling, max_payload, frame, spelled, names_kind, block_kind}
+use Rattle.da_wire.specs.Spelling.{spelling, frame, spelled, names_kind}
 use Rattle.da_wire.specs.Laws.{OnlyIsSpelled}
 use Rattle.da_wire.specs.Reading.{only_of}
-use Rattle.da_wire.specs.kinds.Block.{blob_bytes, block_payload}
+use Rattle.da_wire.specs.kinds.Block.{blob_bytes}
 use Rattle.da_wire.specs.kinds.Names.{is_long_found, is_long_entry, is_long_answer, names_payload, most_entries}
 use Rattle.da_status.specs.declared.status.Status.{Status}
 use Rattle.da_status.specs.declared.status.Status.TheVariants.{BadRequest}
@@ -81,10 +81,6 @@ pub joins_blobs : (shares : List Share) (blobs : List NamedBytes) (frame : Frame
     → (w : List ℕ) (status : Status) → Writes frame w status → Joins shares w status
 joins_blobs shares blobs frame read is w status gives =
     subst (λ (r : Result (List NamedBytes) JoinError). joins_by r w status) (sym read) (ap spelling (sym is) ∙ gives.0, gives.1)
-
--- shares that are no blobs are refused
-pub joins_none : (shares : List Share) (why : JoinError) → blobs_of shares ≡ Err why → Joins shares [] (BadRequest (Shares why))
-joins_none shares why read = subst (λ (r : Result (List NamedBytes) JoinError). joins_by r [] (BadRequest (Shares why))) (sym read) (refl, refl)
 
 -- ---- the bytes of blobs
 
@@ -151,19 +147,6 @@ pieces_fit (piece ∷ pieces) are =
 pub blobs_fit : (shares : List Share) (blobs : List NamedBytes) → AreBlobs shares blobs → length (flat_map blob_bytes blobs) ≤ 512 * length shares
 blobs_fit shares blobs are =
     omega (arith, ap (λ (l : List NamedBytes). length (flat_map blob_bytes l)) are.shown, ap length are.parts, pieces_fit are.pieces are.are_pieces)
-
--- a payload within the limit is spelled
-within_spelled : (kind : ℕ) (payload : List ℕ) → length payload ≤ max_payload → IsSome (spelled kind payload)
-within_spelled kind payload within =
-    subst (λ (b : Bool). IsSome (cond b None (Some (frame kind payload)))) (sym (le-ltb max_payload (length payload) within)) refl
-
--- blobs that are short enough have a frame
-pub block_spelled : (blobs : List NamedBytes) → length (flat_map blob_bytes blobs) ≤ 16384 * 512 → IsSome (spelling (Block (block_with blobs)))
-block_spelled blobs short =
-    let count : List ℕ = to_be_bytes w32 (length blobs) in
-    let four : length count ≡ 4 = refl in
-    let all : length (block_payload (block_with blobs)) ≡ suc (suc (suc (suc (suc (suc (suc (suc (suc (suc (length (count ++ flat_map blob_bytes blobs))))))))))) = refl in
-    within_spelled block_kind (block_payload (block_with blobs)) (omega (arith, short, four, all, length-append count (flat_map blob_bytes blobs)))
 
 -- ---- the shares of a frame
 
@@ -232,13 +215,3 @@ behind_here all rest after share so_far next is =
 pub behind_none : (all rest : List Share) → behind_compact all ≡ behind_compact rest → rest ≡ [] → behind_compact all ≡ rest
 unfolding behind_compact
 behind_none all rest so_far none = so_far ∙ ap behind_compact none ∙ sym none
-
--- ---- the shares of answers
-
--- those of one entry more
-pub shares_on : (all rest after : List NsEntry) (entry : NsEntry) (old new : List Share) → answer_shares all ≡ old ++ answer_shares rest
-    → rest ≡ entry ∷ after → new ≡ old ++ found_shares entry.found → answer_shares all ≡ new ++ answer_shares after
-shares_on all rest after entry old new done next more =
-    done ∙ ap (λ (l : List NsEntry). old ++ answer_shares l) next
-    ∙ sym (append_assoc old (found_shares entry.found) (answer_shares after))
-    ∙ ap (λ (l : List Share). l ++ answer_shares after) (sym more)

@@ -7,15 +7,17 @@ use Rattle.namespace_id.specs.Cells.{CellList}
 use Rattle.data_header.specs.Headers.{Roots}
 use Rattle.square_layout.specs.Blocks.{BlockParts, SquareShares}
 use Rattle.da_wire.specs.declared.frames.Frame.{Frame}
-use Rattle.da_wire.specs.declared.frames.Frame.TheVariants.{Header, Square, Block, Fraud, Missing}
+use Rattle.axis_roots.specs.declared.message.messages.Message as sent
+use Rattle.da_wire.specs.declared.frames.Frame.TheVariants.{Header, Square, Message, Block, Fraud, Missing}
 use Rattle.da_wire.specs.declared.frames.FrameError.{FrameError}
 use Rattle.da_wire.specs.declared.frames.FrameError.TheVariants.{Truncated, BadKind, TooLong, BadPayload, Trailing, NoMemory}
-use Rattle.da_wire.specs.Spelling.{max_payload, header_kind, square_kind, block_kind, fraud_kind, missing_kind}
+use Rattle.da_wire.specs.Spelling.{max_payload, header_kind, square_kind, message_kind, block_kind, fraud_kind, missing_kind}
 use Rattle.da_wire.specs.Reading.{Raw, raw_of, promised, is_kind, value_at, valued, value_of, is_among, tested_raw, tested_frame, ended, only_of, Reads}
 use Rattle.da_wire.specs.Frames.{ok_of}
 use Rattle.da_wire.specs.Values.{value_in}
 use Rattle.da_wire.specs.kinds.Header.{header_at}
 use Rattle.da_wire.specs.kinds.Square.{square_at}
+use Rattle.da_wire.specs.kinds.Message.{message_at}
 use Rattle.da_wire.specs.kinds.Block.{block_at}
 use Rattle.da_wire.specs.kinds.Fraud.{fraud_at}
 use Rattle.axis_roots.specs.Claims.{ClaimParts}
@@ -23,7 +25,7 @@ use Rattle.da_commands.specs.Compact.{claim_of, claim_in}
 use Rattle.da_wire.specs.kinds.Missing.{missing_at}
 use Rattle.da_commands.specs.Verify.{answer_kinds, answer_in}
 use Rattle.da_commands.specs.Wanted.{missing_of, missing_in}
-use Rattle.da_commands.specs.Frames.{header_of, square_of, block_of, single, header_in, square_in, block_in, unread_of, ReadsSingle}
+use Rattle.da_commands.specs.Frames.{header_of, square_of, message_of, block_of, single, header_in, square_in, message_in, block_in, unread_of, ReadsSingle}
 
 -- a value that an answer has is of a kind, and an answer without a value isn't want of memory
 abbrev pub IsOfKind : {X A : Type 0} → (X → Option A) → Result X FrameError → Type 0
@@ -154,6 +156,16 @@ square_kinds : (payload : List ℕ) → IfSome (value_at square_kind payload) (�
 unfolding value_at
 square_kinds payload = some_square (square_at payload)
 
+-- a message that was read makes a frame of its kind
+some_message : (o : Option sent.Message) → IfSome (option_map Message o) (λ (v : Frame). IsSome (message_of v))
+some_message None = tt
+some_message (Some m) = refl
+
+-- a payload of the kind of messages makes a frame of this kind
+message_kinds : (payload : List ℕ) → IfSome (value_at message_kind payload) (λ (v : Frame). IsSome (message_of v))
+unfolding value_at
+message_kinds payload = some_message (message_at payload)
+
 -- a block that was read makes a frame of its kind
 some_block : (o : Option BlockParts) → IfSome (option_map Block o) (λ (v : Frame). IsSome (block_of v))
 some_block None = tt
@@ -173,6 +185,11 @@ header_unread bytes error h = unread_single header_of error _ (only_kind header_
 pub square_unread : (bytes : List ℕ) (error : FrameError) → Reads NoMemory (λ (v : Frame). v) (Err error) (only_of bytes (square_kind ∷ []))
     → ReadsSingle (Err (unread_of error)) (square_in bytes)
 square_unread bytes error h = unread_single square_of error _ (only_kind square_of square_kind bytes square_kinds) h
+
+-- why a file was not read as a message
+pub message_unread : (bytes : List ℕ) (error : FrameError) → Reads NoMemory (λ (v : Frame). v) (Err error) (only_of bytes (message_kind ∷ []))
+    → ReadsSingle (Err (unread_of error)) (message_in bytes)
+message_unread bytes error h = unread_single message_of error _ (only_kind message_of message_kind bytes message_kinds) h
 
 -- why a file was not read as a block
 pub block_unread : (bytes : List ℕ) (error : FrameError) → Reads NoMemory (λ (v : Frame). v) (Err error) (only_of bytes (block_kind ∷ []))

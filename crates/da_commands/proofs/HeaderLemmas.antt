@@ -1,13 +1,18 @@
 -- What the command header answers.
-use Rattle.std.proofs.Common.{◌≡◌, ◌∙◌, ℕ, List, [], ◌∷◌, Some, None, Result, Ok, Err, refl, sym, ap, inl, inr}
-use Rattle.std.specs.Prelude.{MatchResult}
-use Rattle.data_header.specs.Headers.{Roots}
+use Rattle.std.proofs.Common.{◌≡◌, ◌∙◌, ℕ, ◌+◌, ◌*◌, Bool, true, false, cond, List, [], ◌∷◌, length, Some, None, Result, Ok, Err, refl, sym, ap, subst, inl, inr, arith, length-append}
+use Rattle.std.specs.Prelude.{MatchResult, nat_lt}
+use Rattle.std.specs.declared.option.Option.{Option}
+use Rattle.namespace_id.specs.declared.digests.Digest.{Digest}
+use Rattle.namespace_id.specs.Digests.{AreDigests}
+use Rattle.data_header.specs.Headers.{Roots, AreRoots}
 use Rattle.namespace_id.specs.declared.shares.Share.{Share}
 use Rattle.square_layout.specs.Blocks.{SquareShares, IsSquare}
 use Rattle.axis_roots.specs.Grids.{Extends, header_of_grid, IsHeaderOf}
 use Rattle.da_wire.specs.declared.frames.Frame.{Frame}
 use Rattle.da_wire.specs.declared.frames.Frame.TheVariants.{Header}
-use Rattle.da_wire.specs.Spelling.{spelling}
+use Rattle.da_wire.specs.Spelling.{spelling, max_payload, header_kind, frame as framed}
+use Rattle.da_wire.specs.codec.Texts.{digest_bytes}
+use Rattle.da_wire.specs.kinds.Header.{header_payload}
 use Rattle.da_status.specs.declared.status.Status.{Status}
 use Rattle.da_status.specs.declared.status.Status.TheVariants.{BadRequest}
 use Rattle.da_status.specs.declared.status.Asked.TheVariants.{NoHeader}
@@ -62,3 +67,40 @@ header_by read = Judged (error_of read ∷ []) (λ w status. MatchResult read (�
 -- the meaning of header over a SQUARE that is a square
 pub header_is : (files : List (List ℕ)) (square : SquareShares) → square_in (square_file files) ≡ Ok square → Heads square ≡ Meaning command.Header files
 header_is files square read = sym (ap header_by read)
+
+-- ---- the length of a header's spelling
+
+-- digests have 90 bytes each
+length-digests : (digests : List Digest) → AreDigests digests → length (digest_bytes digests) ≡ 90 * length digests
+length-digests [] all = refl
+length-digests (d ∷ ds) all =
+    omega (arith, length-append d.0 (digest_bytes ds), all.0.size_is, length-digests ds all.1)
+
+-- a spelling has five bytes before its payload
+length-spelled : (long : Bool) (kind : ℕ) (payload text : List ℕ) → ◌≡◌ {A = Option (List ℕ)} (cond long None (Some (framed kind payload))) (Some text)
+    → length text ≡ 5 + length payload
+length-spelled true kind payload text e = absurd cc
+length-spelled false kind payload text e =
+    let same : framed kind payload ≡ text = cc in subst (λ (t : List ℕ). length t ≡ 5 + length payload) same (omega arith)
+
+-- that of a header has seven bytes, and 360 for each k
+pub length-header : (h : Roots) → AreRoots h → AreDigests h.rows → AreDigests h.cols → (text : List ℕ) → spelling (Header h) ≡ Some text
+    → length text ≡ 7 + 360 * h.k
+length-header h roots rows cols text e =
+    omega (
+      arith,
+      length-spelled (nat_lt max_payload (length (header_payload h))) header_kind (header_payload h) text e,
+      length-append (digest_bytes h.rows) (digest_bytes h.cols),
+      length-digests h.rows rows,
+      length-digests h.cols cols,
+      roots.rows,
+      roots.cols,
+    )
+
+-- by what the fields of a header are
+pub sized_header : (h : Roots) (k : ℕ) (rows cols : List Digest) → record { k = k; rows = rows; cols = cols } ≡ h
+    → AreRoots (record { k = k; rows = rows; cols = cols }) → AreDigests rows → AreDigests cols
+    → (text : List ℕ) → spelling (Header h) ≡ Some text → length text ≡ 7 + 360 * h.k
+sized_header h k rows cols seen are rows_are cols_are =
+    subst (λ (h : Roots). (text : List ℕ) → spelling (Header h) ≡ Some text → length text ≡ 7 + 360 * h.k) seen
+    (length-header (record { k = k; rows = rows; cols = cols }) are rows_are cols_are)

@@ -67,13 +67,6 @@ not_below a b h = grind (arith, nat_tests)
 abbrev pub by_limit : Bool → Roots → List Cell → List Raw → Relation
 by_limit over header plan raws = Counted over (Judges header plan raws)
 
--- a count above the limit is refused
-pub lights_over : (key : List ℕ) (count : ℕ) (header : Roots) (raws : List Raw) → draw_limit header.k < count
-    → Refuses (BadRequest Count) ≡ Lights key count header raws
-lights_over key count header raws over =
-    let is : nat_lt (draw_limit header.k) count ≡ true = is_below (draw_limit header.k) count over in
-    sym (ap (λ (b : Bool). by_limit b header (drawn_cells key header.k count) raws) is)
-
 -- a count within the limit has a verdict
 pub lights_within : (key : List ℕ) (count : ℕ) (header : Roots) (raws : List Raw) → (draw_limit header.k < count → ⊥)
     → Judges header (drawn_cells key header.k count) raws ≡ Lights key count header raws

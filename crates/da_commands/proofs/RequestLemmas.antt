@@ -20,12 +20,6 @@ not_none None some e = absurd cc
 not_none (Some x) some e = absurd cc
 
 module _ {A : Type 0} (request_of : Frame → Option A) where
-  -- a frame that asks for something is the next request
-  pub next_request : (values later : List Frame) (frame : Frame) (request : A) → values ≡ frame ∷ later → request_of frame ≡ Some request
-      → filter_map request_of values ≡ request ∷ filter_map request_of later
-  next_request values later frame request parts is =
-      ap (filter_map request_of) parts ∙ ap (λ (o : Option A). cons_option o (filter_map request_of later)) is
-
   -- where the value at the front is a request there is a first request
   first_there : (o : Option (Frame × ℕ)) (rest : List ℕ) (kinds : List ℕ) → IfSome o (λ (x : Frame × ℕ). IsSome (request_of x.0)) → IsSome o
       → HasRequest (filter_map request_of (option_map_or (λ (x : Frame × ℕ). x.0 ∷ walk_from (value_in kinds) (x.1 - 1) rest) o []))

@@ -1,5 +1,5 @@
 -- What commands that answer requests over a square write, and how they end.
-use Rattle.std.proofs.Common.{◌≡◌, ◌∙◌, ℕ, Bool, List, [], ◌∷◌, ◌++◌, None, Some, IsSome, Result, Ok, Err, inl, inr, refl, sym, ap, ap₂, subst, arith, append_assoc, append-nil, ◌↔◌, ◌⊎◌}
+use Rattle.std.proofs.Common.{◌≡◌, ◌∙◌, ℕ, Bool, List, [], ◌∷◌, ◌++◌, None, Some, IsSome, Result, Ok, Err, inl, inr, refl, sym, ap, ap₂, subst, arith, append_assoc, ◌↔◌, ◌⊎◌}
 use Rattle.std.specs.declared.option.Option.{Option}
 use Rattle.std.specs.Prelude.{MatchResult, MatchOption}
 use Rattle.std.specs.List.{AllByRecursion}
@@ -25,7 +25,7 @@ use Rattle.da_commands.specs.Serving.{failing_from, HasRequest, Gives, Serves}
 use Rattle.da_status.proofs.EndLemmas.{IsAnswer, status_answers, ends_in_fault}
 use Rattle.da_commands.proofs.FileLemmas.{some_there}
 use Rattle.da_commands.proofs.SpelledLemmas.{spelling_some}
-use Rattle.da_status.proofs.WriteLemmas.{part_of_front, part_of_back}
+use Rattle.da_io.proofs.PieceLemmas.{part_of_front, part_of_back}
 use Rattle.da_commands.proofs.ChoiceLemmas.{frames_more, frames_front}
 
 -- ---- proper prefixes
@@ -78,19 +78,6 @@ module _ {A : Type 0} (Allows : A → Frame → Type 0) where
         subst (λ (l : List ℕ). FramesOf Allows all l) (append_assoc w text full.0)
             (subst (λ (l : List A). FramesOf Allows l ((w ++ text) ++ full.0)) same full.1),
       )
-
-  -- all were answered
-  pub served_done : (old new : Option (List ℕ)) (all rest : List A) (before now : ℕ) (Same : Type 0) → Served old new all rest → rest ≡ [] → now ≡ before
-      → (IsSome old ↔ IsSome new) → Ends (Gives Allows all) old new before now Same Done
-  served_done old new all rest before now Same s none counted told =
-      let same : s.0 ≡ all = sym (s.4 ∙ ap (λ (l : List A). s.0 ++ l) none ∙ append-nil s.0) in
-      record {
-        leaves = (s.1, (subst (λ (l : List A). FramesOf Allows l s.1) same s.2, refl), s.3);
-        faults = counted;
-        told = told;
-        untouched = tt;
-        own = tt;
-      }
 
   module _ (old mid new : Option (List ℕ)) (all rest later : List A) (request : A) (frame : Frame) (before now : ℕ) (Same : Type 0) (s : Served old mid all rest)
       (next : rest ≡ request ∷ later) (allowed : Allows request frame) (to_come : AllByRecursion (HasFrame Allows) later) (told : IsSome old ↔ IsSome new) where

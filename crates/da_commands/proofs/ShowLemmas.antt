@@ -1,20 +1,23 @@
 -- What the commands show and json answer.
-use Rattle.std.proofs.Common.{◌≡◌, ◌∙◌, ℕ, ◌<◌, List, [], ◌∷◌, ◌++◌, length, None, Some, IsSome, Bor, ◌↔◌, refl, sym, ap, subst, inr, arith, append-nil}
+use Rattle.std.proofs.Common.{◌≡◌, ◌∙◌, ℕ, ◌<◌, List, [], ◌∷◌, ◌++◌, length, None, Some, IsSome, Result, cond, Bor, ◌↔◌, refl, sym, ap, subst, inr, arith, append-nil}
 use Rattle.std.specs.declared.option.Option.{Option}
 use Rattle.std.specs.Option.{option_map_or}
+use Rattle.std.specs.Result.{is_ok}
 use Rattle.std.specs.Prelude.{◌-◌, MatchOption}
 use Rattle.std.proofs.lemmas.List.{length-append}
+use Rattle.da_io.specs.Faults.{CountsFault}
+use Rattle.da_io.specs.Sinks.{WritesAll}
 use Rattle.da_wire.specs.declared.frames.Frame.{Frame}
 use Rattle.da_wire.specs.Reading.{tested_raw}
 use Rattle.da_wire.specs.Walks.{walk_from}
 use Rattle.da_wire.specs.Values.{value_in, values_of, bad_value}
 use Rattle.da_status.specs.declared.status.Status.{Status}
-use Rattle.da_status.specs.declared.status.Status.TheVariants.{Done, NoMemory, BadInput}
+use Rattle.da_status.specs.declared.status.Status.TheVariants.{Done, NoMemory, WriteFault, BadInput}
 use Rattle.da_status.specs.Statuses.{kind_of}
 use Rattle.da_status.specs.Outcome.{Relation, Refuses, Ends}
 use Rattle.da_status.specs.Judging.{Judged}
 use Rattle.da_commands.specs.Show.{all_kinds, line_of, shown_bytes, shown_file, Shows, show_judged}
-use Rattle.da_status.proofs.EndLemmas.{IsAnswer, status_answers, ends_output}
+use Rattle.da_status.proofs.EndLemmas.{IsAnswer, status_answers, ends_output, ends_after}
 use Rattle.da_status.proofs.WriteLemmas.{Written}
 
 -- ---- the file
@@ -43,6 +46,13 @@ pub first_is : (kinds bytes : List ℕ) (found : Option (Frame × Bor (List ℕ)
     → MatchOption found (values_of kinds bytes ≡ []) (λ x. values_of kinds bytes ≡ x.0 ∷ values_of kinds x.1.now)
     → values_of kinds bytes ≡ frame ∷ values_of kinds after.now
 first_is kinds bytes found frame after is values =
+    subst (λ (o : Option (Frame × Bor (List ℕ))). MatchOption o (values_of kinds bytes ≡ []) (λ (x : Frame × Bor (List ℕ)). values_of kinds bytes ≡ x.0 ∷ values_of kinds x.1.now))
+    is values
+
+-- where no frame is found at the front there is none
+pub none_is : (kinds bytes : List ℕ) (found : Option (Frame × Bor (List ℕ))) → found ≡ None
+    → MatchOption found (values_of kinds bytes ≡ []) (λ x. values_of kinds bytes ≡ x.0 ∷ values_of kinds x.1.now) → values_of kinds bytes ≡ []
+none_is kinds bytes found is values =
     subst (λ (o : Option (Frame × Bor (List ℕ))). MatchOption o (values_of kinds bytes ≡ []) (λ (x : Frame × Bor (List ℕ)). values_of kinds bytes ≡ x.0 ∷ values_of kinds x.1.now))
     is values
 
@@ -93,3 +103,14 @@ module _ (shown : Frame → List ℕ) (frames : List Frame) (old new : Option (L
     untouched = tt;
     own = tt;
   }
+
+module _ (shown : Frame → List ℕ) (frames : List Frame) (old mid new : Option (List ℕ)) (before now later : ℕ) (Same : Type 0) (held rest : List ℕ) where
+  -- what was held was given to the output, and then the run ended
+  pub shows_after : {T E : Type 0} (wrote : Result T E) (status : Status) → Written old mid (shown_bytes shown frames) (held ++ rest) → now ≡ before
+      → (IsSome old ↔ IsSome mid) → (IsSome mid ↔ IsSome new) → WritesAll mid new held wrote → CountsFault now later wrote
+      → (Written old new (shown_bytes shown frames) rest → later ≡ before → (IsSome old ↔ IsSome new) → Ends (Shows shown frames) old new before later Same status)
+      → Ends (Shows shown frames) old new before later Same (cond (is_ok wrote) status WriteFault)
+  shows_after wrote status w counted told also taken faults ends =
+      let both : IsSome old ↔ IsSome new = (λ s. also.0 (told.0 s), λ s. told.1 (also.1 s)) in
+      ends_after (Shows shown frames) (shown_bytes shown frames) rest held Done old mid new before now later Same wrote status (refl, refl) w counted both taken faults
+      (λ v counts. ends v counts both)

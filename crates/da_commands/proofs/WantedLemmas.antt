@@ -1,13 +1,11 @@
 -- What the command wanted answers.
-use Rattle.std.proofs.Common.{◌≡◌, ◌∙◌, ℕ, List, [], ◌∷◌, ◌++◌, Result, Ok, Err, sym, ap, append_assoc}
+use Rattle.std.proofs.Common.{◌≡◌, ◌∙◌, ℕ, List, [], ◌∷◌, ◌++◌, Result, Ok, Err, sym, ap}
 use Rattle.std.specs.Prelude.{MatchResult}
 use Rattle.std.specs.declared.option.Option.{Option}
 use Rattle.std.specs.Option.{option_map_or}
 use Rattle.namespace_id.specs.declared.cells.Axis.{Axis}
-use Rattle.namespace_id.specs.declared.cells.Cell.{Cell}
 use Rattle.namespace_id.specs.Cells.{CellList}
 use Rattle.da_wire.specs.declared.frames.Frame.{Frame}
-use Rattle.da_wire.specs.declared.frames.Frame.TheVariants.{Sample}
 use Rattle.da_wire.specs.Values.{text_of}
 use Rattle.da_wire.specs.Writing.{AppendsSpelling}
 use Rattle.da_status.specs.declared.status.Status.{Status}
@@ -55,11 +53,3 @@ module _ (axis : Axis) where
 pub text_appended : (value : Frame) (old new : List ℕ) → AppendsSpelling value old new → new ≡ old ++ text_of value
 text_appended value old new h =
     h.2 ∙ ap (λ (l : List ℕ). old ++ l) (sym (ap (λ (o : Option (List ℕ)). option_map_or (λ (t : List ℕ). t) o []) h.1))
-
--- the request for one cell more
-pub asked_on : (axis : Axis) (all rest after : List Cell) (cell : Cell) (old new : List ℕ) → requests_bytes axis all ≡ old ++ requests_bytes axis rest
-    → rest ≡ cell ∷ after → new ≡ old ++ text_of (Sample cell axis) → requests_bytes axis all ≡ new ++ requests_bytes axis after
-asked_on axis all rest after cell old new done next more =
-    done ∙ ap (λ (l : List Cell). old ++ requests_bytes axis l) next
-    ∙ sym (append_assoc old (text_of (Sample cell axis)) (requests_bytes axis after))
-    ∙ ap (λ (l : List ℕ). l ++ requests_bytes axis after) (sym more)

@@ -5,10 +5,11 @@ use Rattle.std.specs.Option.{option_map_or}
 use Rattle.data_header.specs.Headers.{Roots}
 use Rattle.square_layout.specs.Blocks.{BlockParts, SquareShares}
 use Rattle.da_wire.specs.declared.frames.Frame.{Frame}
-use Rattle.da_wire.specs.declared.frames.Frame.TheVariants.{Header, Square, Block}
+use Rattle.axis_roots.specs.declared.message.messages.Message as sent
+use Rattle.da_wire.specs.declared.frames.Frame.TheVariants.{Header, Square, Message, Block}
 use Rattle.da_wire.specs.declared.frames.FrameError.{FrameError}
 use Rattle.da_wire.specs.declared.frames.FrameError.TheVariants.{Truncated, BadKind, TooLong, BadPayload, Trailing, NoMemory}
-use Rattle.da_wire.specs.Spelling.{spelling, header_kind, square_kind, block_kind}
+use Rattle.da_wire.specs.Spelling.{spelling, header_kind, square_kind, message_kind, block_kind}
 use Rattle.da_wire.specs.Reading.{only_of}
 use Rattle.da_commands.specs.declared.frames.Unread.{Unread}
 use Rattle.da_commands.specs.declared.frames.Unread.TheVariants as unread
@@ -35,6 +36,11 @@ abbrev pub square_of : Frame → Option SquareShares
 square_of (Square square) = Some square
 square_of frame = None
 
+-- the message that a frame is
+abbrev pub message_of : Frame → Option sent.Message
+message_of (Message m) = Some m
+message_of frame = None
+
 -- the block that a frame is
 abbrev pub block_of : Frame → Option BlockParts
 block_of (Block block) = Some block
@@ -52,6 +58,10 @@ header_in bytes = single header_of (only_of bytes (header_kind ∷ []))
 -- the square that a file is, or where it stops being a frame of one
 abbrev pub square_in : List ℕ → Result SquareShares ℕ
 square_in bytes = single square_of (only_of bytes (square_kind ∷ []))
+
+-- the message that a file is, or where it stops being a frame of one
+abbrev pub message_in : List ℕ → Result sent.Message ℕ
+message_in bytes = single message_of (only_of bytes (message_kind ∷ []))
 
 -- the block that a file is, or where it stops being a frame of one
 abbrev pub block_in : List ℕ → Result BlockParts ℕ

@@ -1,6 +1,6 @@
 //! check HEADER MESSAGES: which messages of a list of frames are proved under a header.
 
-ghost use Rattle.std.specs.Prelude.{◌≡◌};
+ghost use Rattle.std.specs.Prelude.{◌≡◌, IfSome};
 ghost use Rattle.da_wire.specs.Reading.{raw_seen};
 ghost use Rattle.da_wire.specs.Frames.{frames_of};
 ghost use Rattle.da_commands.specs.declared.command.Command.TheVariants.{Check};
@@ -10,9 +10,9 @@ ghost use Rattle.da_commands.specs.Meaning.{Meaning};
 ghost use Rattle.da_status.specs.Outcome.{Ends};
 
 use crate::contents::file;
-use crate::frames::{Unread, header_in};
-use axis_roots::{CheckRefusal, opens};
-use da_io::{Sink, write_all};
+use crate::frames::{Unread, header_in, is_long};
+use axis_roots::{CheckRefusal, PartialTrees, opens_by};
+use da_io::{LineRoom, Sink};
 use da_status::Status;
 use da_wire::{RawFrame, bad_frame, message, next_frame};
 use data_header::Header;
@@ -34,9 +34,11 @@ pub enum Finding {
     Refused(CheckRefusal),
 }
 
-/// What is found of a frame under a header.
-fn finding_of(header: &Header, frame: RawFrame<'_>) -> Finding
-    ensures { result ≡ finding_of header.now (raw_seen frame.entry) }
+/// What is found of a frame under a header, by the partial trees under it where there are some.
+fn finding_of(header: &Header, trees: &mut Option<PartialTrees>, frame: RawFrame<'_>) -> Finding
+    requires under { IfSome trees.old (λ kept. kept ≡ header.now) }
+    ensures value { result ≡ finding_of header.now (raw_seen frame.entry) }
+    ensures kept { trees.new ≡ trees.old }
 {
     if frame.kind != b'M' {
         return Finding::NoMessage;
@@ -44,7 +46,7 @@ fn finding_of(header: &Header, frame: RawFrame<'_>) -> Finding
     let Some(message) = message(frame.payload) else {
         return Finding::NoMessage;
     };
-    match opens(header, &message) {
+    match opens_by(header, trees, &message) {
         Ok(()) => Finding::Proved,
         Err(why) => Finding::Refused(why),
     }
@@ -70,25 +72,32 @@ fn is_ok(finding: Finding) -> bool
     matches!(finding, Finding::Proved)
 }
 
-/// Writes the line of each frame, one at a time. It takes no memory.
-fn list<O: Sink>(header: &Header, messages: &[u8], out: &mut O) -> Status
+/// Writes the line of each frame, as many at a time as the room holds. It takes no memory.
+fn list<O: Sink>(
+    header: &Header,
+    trees: &mut Option<PartialTrees>,
+    messages: &[u8],
+    out: &mut O,
+) -> Status
+    requires under { IfSome trees.old (λ kept. kept ≡ header.now) }
     ensures { Ends (Lists header.now (frames_of messages.now)) (O.taken out.old) (O.taken out.new)
         (O.faults out.old) (O.faults out.new) (out.new ≡ out.old) result }
 {
+    let mut room = LineRoom::new();
     let mut rest = messages;
     let mut all_ok = true;
     while let Some((frame, after)) = next_frame(rest) {
-        let finding = finding_of(header, frame);
-        let Ok(()) = write_all(out, line_of(finding)) else {
+        let finding = finding_of(header, trees, frame);
+        let Ok(()) = room.add(line_of(finding), out) else {
             return Status::WriteFault;
         };
         all_ok &= is_ok(finding);
         rest = after;
     }
-    if all_ok {
-        Status::Done
-    } else {
-        Status::Refused
+    match room.flush(out) {
+        Ok(()) if all_ok => Status::Done,
+        Ok(()) => Status::Refused,
+        Err(_) => Status::WriteFault,
     }
 }
 
@@ -106,5 +115,12 @@ pub(crate) fn execute<O: Sink>(alloc: Global, files: &[Vec<u8>], out: &mut O) ->
     if let Some(at) = bad_frame(messages) {
         return Status::BadInput(MESSAGES, at);
     }
-    list(&header, messages, out)
+    let mut trees = None;
+    if is_long(&header, messages) {
+        let Ok(kept) = PartialTrees::new(alloc, &header) else {
+            return Status::NoMemory;
+        };
+        trees = Some(kept);
+    }
+    list(&header, &mut trees, messages, out)
 }

@@ -6,10 +6,10 @@ ghost use Rattle.da_wire.specs.kinds.Clash.{has_empty};
 ghost use Rattle.da_wire.specs.Spelling.{spelling};
 ghost use Rattle.da_wire.specs.declared.frames.Frame.TheVariants as FrameOf;
 ghost use Rattle.da_status.specs.Statuses.{kind_of, output};
-ghost use Rattle.da_commands.specs.Frames.{header_in, square_in, block_in, unread_of, ReadsSingle, Writes, WritesText, WritesWith};
+ghost use Rattle.da_commands.specs.Frames.{header_in, square_in, message_in, block_in, unread_of, ReadsSingle, Writes, WritesText, WritesWith};
 ghost use Rattle.da_status.specs.Outcome.{EndsAtOnce};
 
-use axis_roots::{FraudClaim, claim_law};
+use axis_roots::{FraudClaim, Message, claim_law};
 use da_io::{Sink, write_all};
 use da_status::Status;
 use da_wire::{Frame, FrameError, SpellError, read_only, value_laws, wire_laws, write_frame};
@@ -53,14 +53,33 @@ pub fn header_in(alloc: Global, bytes: &[u8]) -> Result<Header, Unread>
     }
 }
 
+/// Whether a file of samples is so long that keeping what they show of the trees under the header costs
+/// less than it saves: 128 bytes for each share of the square.
+pub(crate) fn is_long(header: &Header, messages: &[u8]) -> bool {
+    let shares = u64::from(header.k) * u64::from(header.k);
+    messages.len() as u64 >= 128 * shares
+}
+
 /// The square that a file is.
-pub(crate) fn square_in(alloc: Global, bytes: &[u8]) -> Result<Square, Unread>
+pub fn square_in(alloc: Global, bytes: &[u8]) -> Result<Square, Unread>
     ensures { ReadsSingle result (square_in bytes.now) }
 {
     match read_only(alloc, bytes, b"S") {
         Ok(Frame::Square(square)) => Ok(square),
         // Never taken: the kind was asked for. The type of a frame has the other kinds too.
         Ok(_) => Err(Unread::BadForm(0)),
+        Err(error) => Err(reason(error)),
+    }
+}
+
+/// The message that a file is.
+pub fn message_in(alloc: Global, bytes: &[u8]) -> Result<Message, Unread>
+    ensures { ReadsSingle result (message_in bytes.now) }
+{
+    match read_only(alloc, bytes, b"M") {
+        Ok(Frame::Message(message)) => Ok(message),
+        // Never taken: the kind was asked for. The type of a frame has the other kinds too.
+        Ok(_other) => Err(Unread::BadForm(0)),
         Err(error) => Err(reason(error)),
     }
 }

@@ -1,6 +1,6 @@
 //! header SQUARE: the header of a square (a data availability header).
 
-ghost use Rattle.std.specs.Prelude.{◌≡◌, IsSome};
+ghost use Rattle.std.specs.Prelude.{◌≡◌, ◌+◌, ◌*◌, ℕ, List, length, Some, IsSome};
 ghost use Rattle.da_wire.specs.Spelling.{spelling};
 ghost use Rattle.da_wire.specs.declared.frames.Frame.TheVariants as FrameOf;
 ghost use Rattle.da_commands.specs.declared.command.Command.TheVariants as CommandOf;
@@ -23,10 +23,12 @@ use std::alloc::Global;
 /// The place of the file among the words that name files.
 const SQUARE: u32 = 0;
 
-/// The frame of a header.
-fn header_frame(header: Header) -> Frame
+/// The frame of a header. It has a spelling, of 7 bytes and 360 for each k.
+pub fn header_frame(header: Header) -> Frame
     ensures value { result ≡ FrameOf.Header header }
     ensures spelled { IsSome (spelling result) }
+    ensures size { (text : List ℕ) → spelling result ≡ Some text →
+        length text ≡ 7 + 360 * header.k }
 {
     wire_laws();
     digests_law(&header.rows);

@@ -20,7 +20,7 @@ ghost use Rattle.da_commands.specs.Meaning.{Meaning};
 ghost use Rattle.da_status.specs.Outcome.{EndsAtOnce};
 
 use crate::contents::file;
-use crate::frames::{Unread, claim_frame, give_with, header_in, missing_frame, put};
+use crate::frames::{Unread, claim_frame, give_with, header_in, is_long, missing_frame, put};
 use befp_verify::Upheld;
 use da_io::Sink;
 use da_status::{Asked, Status};
@@ -67,6 +67,21 @@ fn hand_over<F: Picker>(
     Ok(())
 }
 
+/// Has a node keep what samples show, where many come.
+fn remember_many<F: Picker>(
+    alloc: Global,
+    header: &Header,
+    messages: &[u8],
+    node: &mut LightNode<F>,
+) -> Result<(), NoMemory>
+    ensures { node.new ≡ node.old }
+{
+    if is_long(header, messages) {
+        node.remember(alloc)?;
+    }
+    Ok(())
+}
+
 /// The verdict under a header on messages, where the picker's cells for the first `count` numbers are
 /// planned.
 fn judge<F: Picker>(
@@ -84,6 +99,7 @@ fn judge<F: Picker>(
     let room = CellRoom::new(alloc, header.k)?;
     let mut node = LightNode::new(alloc, header, count, pick)?;
     node.more(count)?;
+    remember_many(alloc, header, messages, &mut node)?;
     hand_over(alloc, messages, &mut node)?;
     Ok(node.finish(room))
 }

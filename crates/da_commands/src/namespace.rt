@@ -91,10 +91,10 @@ fn answer_frame(name: Namespace, answer: NsAnswer) -> Frame
 }
 
 /// Writes the answers for the namespaces that are asked for, one at a time. None is `PARITY`.
-fn give_answers<O: Sink>(alloc: Global, held: &Held, requests: &[u8], out: &mut O) -> Status
+fn give_answers<O: Sink>(alloc: Global, held: &mut Held, requests: &[u8], out: &mut O) -> Status
     requires { failing_from is_other 0 (namespaces_in requests.now) ≡ None }
-    ensures { (square : SquareShares) → Holds held.now square →
-        Ends (Gives (AllowsNames square held.now.header) (namespaces_in requests.now))
+    ensures { (square : SquareShares) → Holds held.old square →
+        Ends (Gives (AllowsNames square held.old.header) (namespaces_in requests.now))
         (O.taken out.old) (O.taken out.new) (O.faults out.old) (O.faults out.new)
         (out.new ≡ out.old) result }
 {
@@ -102,7 +102,7 @@ fn give_answers<O: Sink>(alloc: Global, held: &Held, requests: &[u8], out: &mut 
     value_laws();
     serve_laws();
     bytes_law(requests);
-    let _header = held.header();
+    held.held_law();
     let mut text = Vec::new(alloc);
     let mut rest = requests;
     loop {
@@ -132,13 +132,13 @@ fn answer<O: Sink>(alloc: Global, square: Square, requests: &[u8], out: &mut O) 
         (O.faults out.new) (out.new ≡ out.old) result }
 {
     serve_laws();
-    let held = match Held::of(alloc, square) {
+    let mut held = match Held::of(alloc, square) {
         Ok(held) => held,
         Err(HeldError::NoHeader) => return Status::BadRequest(Asked::NoHeader),
         Err(HeldError::NoMemory) => return Status::NoMemory,
     };
     match first_parity(alloc, requests) {
-        Ok(None) => give_answers(alloc, &held, requests, out),
+        Ok(None) => give_answers(alloc, &mut held, requests, out),
         Ok(Some(number)) => Status::BadRequest(Asked::At(number)),
         Err(_) => Status::NoMemory,
     }

@@ -67,17 +67,20 @@ fn rooted_frame(proof: RootedMessage) -> Frame
 }
 
 /// Writes root proofs of the samples that are asked for, one at a time. The cells are in the square.
-fn give_proofs<O: Sink>(alloc: Global, held: &Held, requests: &[u8], out: &mut O) -> Status
-    requires { failing_from (λ asked. is_in_square held.now.k asked.0) 0 (samples_in requests.now) ≡ None }
-    ensures { (square : SquareShares) → Holds held.now square →
-        Ends (Gives (AllowsRootProof square held.now.header) (samples_in requests.now))
+fn give_proofs<O: Sink>(alloc: Global, held: &mut Held, requests: &[u8], out: &mut O) -> Status
+    requires { failing_from (λ asked. is_in_square held.old.k asked.0) 0 (samples_in requests.now) ≡ None }
+    ensures { (square : SquareShares) → Holds held.old square →
+        Ends (Gives (AllowsRootProof square held.old.header) (samples_in requests.now))
         (O.taken out.old) (O.taken out.new) (O.faults out.old) (O.faults out.new)
         (out.new ≡ out.old) result }
 {
     wire_laws();
     serve_laws();
     sample_laws();
-    let header = held.header();
+    held.held_law();
+    let Ok(header) = held.header(alloc) else {
+        return Status::NoMemory;
+    };
     let mut text = Vec::new(alloc);
     let mut rest = requests;
     loop {
@@ -90,7 +93,7 @@ fn give_proofs<O: Sink>(alloc: Global, held: &Held, requests: &[u8], out: &mut O
             // Never taken: the cells were judged. The call refuses cells outside.
             unreachable!()
         };
-        let proof = root_proof(header, message);
+        let proof = root_proof(&header, message);
         let status = give(&rooted_frame(proof), &mut text, out);
         match status {
             Status::Done => rest = after,
@@ -107,13 +110,13 @@ fn answer<O: Sink>(alloc: Global, square: Square, requests: &[u8], out: &mut O) 
 {
     serve_laws();
     let k = square.k;
-    let held = match Held::of(alloc, square) {
+    let mut held = match Held::of(alloc, square) {
         Ok(held) => held,
         Err(HeldError::NoHeader) => return Status::BadRequest(Asked::NoHeader),
         Err(HeldError::NoMemory) => return Status::NoMemory,
     };
     match first_outside(alloc, k, requests) {
-        Ok(None) => give_proofs(alloc, &held, requests, out),
+        Ok(None) => give_proofs(alloc, &mut held, requests, out),
         Ok(Some(number)) => Status::BadRequest(Asked::At(number)),
         Err(_) => Status::NoMemory,
     }

@@ -90,16 +90,16 @@ fn message_frame(message: Message) -> Frame
 }
 
 /// Writes the samples that are asked for, one at a time. The cells are in the square.
-fn give_samples<O: Sink>(alloc: Global, held: &Held, requests: &[u8], out: &mut O) -> Status
-    requires { failing_from (λ asked. is_in_square held.now.k asked.0) 0 (samples_in requests.now) ≡ None }
-    ensures { (square : SquareShares) → Holds held.now square →
-        Ends (Gives (AllowsSample square held.now.header) (samples_in requests.now))
+fn give_samples<O: Sink>(alloc: Global, held: &mut Held, requests: &[u8], out: &mut O) -> Status
+    requires { failing_from (λ asked. is_in_square held.old.k asked.0) 0 (samples_in requests.now) ≡ None }
+    ensures { (square : SquareShares) → Holds held.old square →
+        Ends (Gives (AllowsSample square held.old.header) (samples_in requests.now))
         (O.taken out.old) (O.taken out.new) (O.faults out.old) (O.faults out.new)
         (out.new ≡ out.old) result }
 {
     wire_laws();
     serve_laws();
-    let _header = held.header();
+    held.held_law();
     let mut text = Vec::new(alloc);
     let mut rest = requests;
     loop {
@@ -128,13 +128,13 @@ fn answer<O: Sink>(alloc: Global, square: Square, requests: &[u8], out: &mut O) 
 {
     serve_laws();
     let k = square.k;
-    let held = match Held::of(alloc, square) {
+    let mut held = match Held::of(alloc, square) {
         Ok(held) => held,
         Err(HeldError::NoHeader) => return Status::BadRequest(Asked::NoHeader),
         Err(HeldError::NoMemory) => return Status::NoMemory,
     };
     match first_outside(alloc, k, requests) {
-        Ok(None) => give_samples(alloc, &held, requests, out),
+        Ok(None) => give_samples(alloc, &mut held, requests, out),
         Ok(Some(number)) => Status::BadRequest(Asked::At(number)),
         Err(_) => Status::NoMemory,
     }

@@ -1,15 +1,17 @@
 //! show FILE, json FILE: the frames of a file as text, or as JSON.
 
-ghost use Rattle.std.specs.Prelude.{◌≡◌, IfOk};
+ghost use Rattle.std.specs.Prelude.{◌≡◌, IfOk, if◌then◌else◌};
+ghost use Rattle.std.specs.Result.{is_ok};
 ghost use Rattle.std.specs.String.{string_bytes};
 ghost use Rattle.da_wire.specs.Values.{values_of};
 ghost use Rattle.da_commands.specs.Contents.{contents_of};
 ghost use Rattle.da_commands.specs.Show.{all_kinds, shown_as, line_of, Shows, show_judged, shown_file, ShowOf, JsonOf};
+ghost use Rattle.da_status.specs.declared.status.Status.TheVariants.{WriteFault};
 ghost use Rattle.da_status.specs.Judging.{Judged};
 ghost use Rattle.da_status.specs.Outcome.{Ends};
 
 use crate::contents::file;
-use da_io::{Sink, write_all};
+use da_io::{LineRoom, Sink, WriteFailed};
 use da_status::Status;
 use da_wire::{Frame, bad_value, next_value};
 use namespace_id::NoMemory;
@@ -49,28 +51,40 @@ fn line(alloc: Global, form: Form, frame: &Frame) -> Result<String, NoMemory>
     }
 }
 
-/// Writes what is shown of each frame, one at a time. The bytes are a list of frames.
+/// The status of a run that ends with the last writes: this one where they did not fail.
+fn after(wrote: Result<(), WriteFailed>, status: Status) -> Status
+    ensures { result ≡ if is_ok wrote then status else WriteFault }
+{
+    match wrote {
+        Ok(()) => status,
+        Err(_) => Status::WriteFault,
+    }
+}
+
+/// Writes what is shown of each frame, as many lines at a time as the room holds. The bytes are a
+/// list of frames. Where memory runs out, what was shown before is written.
 fn list<O: Sink>(alloc: Global, form: Form, frames: &[u8], out: &mut O) -> Status
     ensures { Ends (Shows (shown_as form) (values_of all_kinds frames.now)) (O.taken out.old)
         (O.taken out.new) (O.faults out.old) (O.faults out.new) (out.new ≡ out.old) result }
 {
+    let mut room = LineRoom::new();
     let mut rest = frames;
     loop {
         let Ok(found) = next_value(alloc, rest, KINDS) else {
-            return Status::NoMemory;
+            return after(room.flush(out), Status::NoMemory);
         };
-        let Some((frame, after)) = found else {
-            return Status::Done;
+        let Some((frame, more)) = found else {
+            return after(room.flush(out), Status::Done);
         };
         let shown = line(alloc, form, &frame);
         drop(frame);
         let Ok(text) = shown else {
-            return Status::NoMemory;
+            return after(room.flush(out), Status::NoMemory);
         };
-        let Ok(()) = write_all(out, text.as_bytes()) else {
+        let Ok(()) = room.add(text.as_bytes(), out) else {
             return Status::WriteFault;
         };
-        rest = after;
+        rest = more;
     }
 }
 

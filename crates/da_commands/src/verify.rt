@@ -32,7 +32,7 @@ const HEADER: u32 = 0;
 const ANSWER: u32 = 1;
 
 /// The answer that a file is.
-pub(crate) fn answer_in(alloc: Global, bytes: &[u8]) -> Result<Frame, Unread>
+pub fn answer_in(alloc: Global, bytes: &[u8]) -> Result<Frame, Unread>
     ensures { ReadsSingle result (answer_in bytes.now) }
 {
     match read_only(alloc, bytes, b"MNBCR") {
@@ -42,7 +42,7 @@ pub(crate) fn answer_in(alloc: Global, bytes: &[u8]) -> Result<Frame, Unread>
 }
 
 /// The number of the check that refuses a message.
-fn check_number(why: CheckRefusal) -> u64
+pub fn check_number(why: CheckRefusal) -> u64
     ensures { result ≡ check_number why }
 {
     match why {
@@ -138,13 +138,10 @@ fn refuse_rooted(header: &Header, proof: &RootedMessage) -> Option<u64>
     }
 }
 
-/// The number of the check that refuses an answer, none of one that holds. It takes memory for a
-/// fraud claim alone.
-pub(crate) fn refusal_of(
-    alloc: Global,
-    header: &Header,
-    answer: Frame,
-) -> Result<Option<u64>, NoMemory>
+/// The number of the check that refuses an answer, none of one that holds. No check is of a frame of
+/// another kind, so none refuses it: `answer_in` reads answers alone. It takes memory for a fraud
+/// claim alone.
+pub fn refusal_of(alloc: Global, header: &Header, answer: Frame) -> Result<Option<u64>, NoMemory>
     ensures { IfOk result (λ refusal. IsRefusal header.now answer refusal) }
 {
     match answer {

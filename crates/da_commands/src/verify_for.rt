@@ -27,7 +27,7 @@ const ANSWER: u32 = 1;
 const REQUEST: u32 = 2;
 
 /// The request that a file is.
-fn request_in(alloc: Global, bytes: &[u8]) -> Result<Frame, Unread>
+pub fn request_in(alloc: Global, bytes: &[u8]) -> Result<Frame, Unread>
     ensures { ReadsSingle result (request_in bytes.now) }
 {
     match read_only(alloc, bytes, b"QP") {
@@ -77,7 +77,7 @@ fn is_answer_to(request: &Frame, answer: &Frame) -> bool
 
 /// The number of the check that refuses an answer to a request, none of one that holds. It takes
 /// memory for a fraud claim alone.
-fn refusal_for(
+pub fn refusal_for(
     alloc: Global,
     header: &Header,
     answer: Frame,

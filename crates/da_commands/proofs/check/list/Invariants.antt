@@ -1,14 +1,15 @@
-use Rattle.std.proofs.Common.{◌≡◌, ◌&&◌, length, IsSome, ◌↔◌}
+use Rattle.std.proofs.Common.{◌≡◌, ◌&&◌, ◌++◌, length, IsSome, ◌↔◌}
 use Rattle.da_wire.specs.Frames.{frames_of}
 use Rattle.da_commands.specs.Check.{lines_of, are_ok}
 use Rattle.da_status.proofs.WriteLemmas.{Written}
 use Rattle.da_commands.proofs.check.list.Given as goal
 
--- the lines of the frames before were written, no write failed, and it is known whether all of them are
--- proved
+-- the partial trees are those of this header, the lines of the frames before were written or are held, no write failed,
+-- and it is known whether all of them are proved
 abbrev pub invariant-loop-frame : goal.invariant-loop-frame
 invariant-loop-frame g l = record {
-  lines : Written (g.O.Sink.taken l.fn.out) (g.O.Sink.taken l.out) (lines_of l.header (frames_of l.messages)) (lines_of l.header (frames_of l.rest));
+  trees : l.trees ≡ l.fn.trees;
+  lines : Written (g.O.Sink.taken l.fn.out) (g.O.Sink.taken l.out) (lines_of l.header (frames_of l.messages)) (l.room ++ lines_of l.header (frames_of l.rest));
   ok : are_ok l.header (frames_of l.messages) ≡ (l.all_ok && are_ok l.header (frames_of l.rest));
   told : IsSome (g.O.Sink.taken l.fn.out) ↔ IsSome (g.O.Sink.taken l.out);
   faults : g.O.Sink.faults l.out ≡ g.O.Sink.faults l.fn.out;

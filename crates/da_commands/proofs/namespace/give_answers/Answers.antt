@@ -1,9 +1,10 @@
-use Rattle.std.proofs.Common.{◌∙◌, ◌≡◌, ◌∷◌, true, refl, subst}
+use Rattle.std.proofs.Common.{◌∙◌, ◌≡◌, ◌∷◌, true, refl, sym, subst}
 use Rattle.std.specs.List.{AllByRecursion}
 use Rattle.namespace_id.specs.declared.namespaces.Namespace.{Namespace}
 use Rattle.namespace_id.specs.Names.{IsNamespace}
 use Rattle.da_commands.specs.Namespace.{namespaces_in, AllowsNames, is_other}
-use Rattle.square_serve.specs.Serving.{answer_for}
+use Rattle.square_serve.specs.Answers.{IsComplete}
+use Rattle.square_serve.specs.Serving.{HeldParts, Holds, answer_for}
 use Rattle.da_commands.proofs.AnswerLemmas.{complete_short}
 use Rattle.da_commands.proofs.RequestLemmas.{all_pass}
 use Rattle.da_commands.proofs.ServingLemmas.{served_none, served_on, served_stopped, served_memory}
@@ -16,6 +17,7 @@ loop-name-init g c = record {
   named = are_named c.value_laws.ensures.values c.value_laws.ensures.bad c.args.requests.now c.bytes_law.ensures;
   others = all_pass is_other 0 _ c.requires;
   told = (λ s. s, λ s. s);
+  kept = refl;
   faults = refl;
 }
 
@@ -23,7 +25,7 @@ loop-name-init g c = record {
 pub returns-in-NoMemory : goal.returns-in-NoMemory
 returns-in-NoMemory g c = λ square holds.
     let held = c.args.held.now in
-    let is = c.header-header.ensures.held in
+    let is = c.held_law.ensures.held in
     served_memory (AllowsNames square held.header) _ _ _ _ _ _ _ (c.loop-name.invariant.served square holds) c.in-NoMemory.ensures
     (have_names held square holds (λ name. c.serve_laws.ensures.complete held name is) (λ name. c.serve_laws.ensures.shares held square name is holds)
     (λ name named other. c.wire_laws.ensures.names name (answer_for held name) named (c.serve_laws.ensures.entries held name is named)
@@ -34,7 +36,7 @@ returns-in-NoMemory g c = λ square holds.
 pub returns-in-Err-NoMemory : goal.returns-in-Err-NoMemory
 returns-in-Err-NoMemory g c = λ square holds.
     let held = c.args.held.now in
-    let is = c.header-header.ensures.held in
+    let is = c.held_law.ensures.held in
     served_memory (AllowsNames square held.header) _ _ _ _ _ _ _ (c.loop-name.invariant.served square holds)
     (c.in-Request.name, namespaces_in c.in-Request.after.now, c.in-Request.ensures.0)
     (have_names held square holds (λ name. c.serve_laws.ensures.complete held name is) (λ name. c.serve_laws.ensures.shares held square name is holds)
@@ -46,30 +48,33 @@ pub loop-name-preserved : goal.loop-name-preserved
 loop-name-preserved g c =
     let held = c.args.held.now in
     let name = c.in-Request.name in
+    let complete : IsComplete held.header name c.in-Ok.found = subst (λ (h : HeldParts). IsComplete h.header name c.in-Ok.found) c.loop-name.invariant.kept c.in-Ok.ensures.complete in
     let named : AllByRecursion IsNamespace (name ∷ namespaces_in c.in-Request.after.now) = subst (AllByRecursion IsNamespace) c.in-Request.ensures.0 c.loop-name.invariant.named in
     let others : AllByRecursion (λ (n : Namespace). is_other n ≡ true) (name ∷ namespaces_in c.in-Request.after.now) =
     subst (AllByRecursion (λ (n : Namespace). is_other n ≡ true)) c.in-Request.ensures.0 c.loop-name.invariant.others in
     record {
       served = λ square holds.
           served_on (AllowsNames square held.header) _ _ _ _ _ _ name c.answer_frame.result (c.loop-name.invariant.served square holds) c.in-Request.ensures.0
-          (c.in-Ok.found, record { complete = c.in-Ok.ensures.complete; shares = c.in-Ok.ensures.shares square holds }, c.answer_frame.ensures.value)
+          (c.in-Ok.found, record { complete = complete; shares = c.in-Ok.ensures.shares square (subst (λ (h : HeldParts). Holds h square) (sym c.loop-name.invariant.kept) holds) }, c.answer_frame.ensures.value)
           c.in-Done.ensures.ends.leaves;
       named = named.1;
       others = others.1;
       told = (λ s. c.give-status.ensures.ends.told.0 (c.loop-name.invariant.told.0 s), λ s. c.loop-name.invariant.told.1 (c.give-status.ensures.ends.told.1 s));
+      kept = c.in-Ok.ensures.kept ∙ c.loop-name.invariant.kept;
       faults = c.in-Done.ensures.ends.faults ∙ c.loop-name.invariant.faults;
     }
 
 pub returns-in_default : goal.returns-in_default
 returns-in_default g c = λ square holds.
     let held = c.args.held.now in
-    let is = c.header-header.ensures.held in
+    let is = c.held_law.ensures.held in
     let name = c.in-Request.name in
+    let complete : IsComplete held.header name c.in-Ok.found = subst (λ (h : HeldParts). IsComplete h.header name c.in-Ok.found) c.loop-name.invariant.kept c.in-Ok.ensures.complete in
     let named : AllByRecursion IsNamespace (name ∷ namespaces_in c.in-Request.after.now) = subst (AllByRecursion IsNamespace) c.in-Request.ensures.0 c.loop-name.invariant.named in
     let others : AllByRecursion (λ (n : Namespace). is_other n ≡ true) (name ∷ namespaces_in c.in-Request.after.now) =
     subst (AllByRecursion (λ (n : Namespace). is_other n ≡ true)) c.in-Request.ensures.0 c.loop-name.invariant.others in
     served_stopped (AllowsNames square held.header) _ _ _ _ _ _ name c.answer_frame.result _ _ _ (c.loop-name.invariant.served square holds) c.in-Request.ensures.0
-    (c.in-Ok.found, record { complete = c.in-Ok.ensures.complete; shares = c.in-Ok.ensures.shares square holds }, c.answer_frame.ensures.value)
+    (c.in-Ok.found, record { complete = complete; shares = c.in-Ok.ensures.shares square (subst (λ (h : HeldParts). Holds h square) (sym c.loop-name.invariant.kept) holds) }, c.answer_frame.ensures.value)
     (have_names held square holds (λ n. c.serve_laws.ensures.complete held n is) (λ n. c.serve_laws.ensures.shares held square n is holds)
     (λ n is_named other. c.wire_laws.ensures.names n (answer_for held n) is_named (c.serve_laws.ensures.entries held n is is_named)
     (complete_short held n (answer_for held n) is (c.serve_laws.ensures.complete held n is is_named other))) _ named.1 others.1)
@@ -79,4 +84,5 @@ returns-in_default g c = λ square holds.
 -- a complete answer is short enough to be written
 pub answer_frame-requires : goal.answer_frame-requires
 answer_frame-requires g c =
-    complete_short c.args.held.now c.in-Request.name c.in-Ok.found c.header-header.ensures.held c.in-Ok.ensures.complete
+    complete_short c.args.held.now c.in-Request.name c.in-Ok.found c.held_law.ensures.held
+    (subst (λ (h : HeldParts). IsComplete h.header c.in-Request.name c.in-Ok.found) c.loop-name.invariant.kept c.in-Ok.ensures.complete)

@@ -1,8 +1,11 @@
-use Rattle.std.proofs.Common.{◌∙◌, ◌≡◌, ◌∷◌, true, refl, subst}
+use Rattle.std.proofs.Common.{◌∙◌, ◌≡◌, ◌∷◌, ◌*◌, true, refl, ap, subst}
 use Rattle.std.specs.List.{AllByRecursion}
 use Rattle.namespace_id.specs.declared.cells.Cell.{Cell}
 use Rattle.namespace_id.specs.declared.cells.Axis.{Axis}
 use Rattle.namespace_id.specs.Cells.{is_in_square}
+use Rattle.axis_roots.specs.Grids.{share_at}
+use Rattle.axis_roots.specs.Openings.{IsProved}
+use Rattle.square_serve.specs.Serving.{HeldParts}
 use Rattle.da_commands.specs.Sample.{samples_in, AllowsSample}
 use Rattle.da_commands.proofs.RequestLemmas.{all_pass}
 use Rattle.da_commands.proofs.ServingLemmas.{served_none, served_on, served_stopped, served_memory}
@@ -14,6 +17,7 @@ loop-asked-init g c = record {
   served = λ square holds. served_none (AllowsSample square c.args.held.now.header) _ _;
   inside = all_pass (λ asked. is_in_square c.args.held.now.k asked.0) 0 _ c.requires;
   told = (λ s. s, λ s. s);
+  kept = refl;
   faults = refl;
 }
 
@@ -21,7 +25,7 @@ loop-asked-init g c = record {
 pub returns-in-NoMemory : goal.returns-in-NoMemory
 returns-in-NoMemory g c = λ square holds.
     served_memory (AllowsSample square c.args.held.now.header) _ _ _ _ _ _ _ (c.loop-asked.invariant.served square holds) c.in-NoMemory.ensures
-    (have_samples c.args.held.now square holds (λ cell axis. c.serve_laws.ensures.sample c.args.held.now cell axis c.header-header.ensures.held) c.wire_laws.ensures.messages _
+    (have_samples c.args.held.now square holds (λ cell axis. c.serve_laws.ensures.sample c.args.held.now cell axis c.held_law.ensures.held) c.wire_laws.ensures.messages _
     c.loop-asked.invariant.inside) c.loop-asked.invariant.faults c.loop-asked.invariant.told
 
 pub loop-asked-preserved : goal.loop-asked-preserved
@@ -34,10 +38,11 @@ loop-asked-preserved g c =
     record {
       served = λ square holds.
           served_on (AllowsSample square held.header) _ _ _ _ _ _ asked c.message_frame.result (c.loop-asked.invariant.served square holds) c.in-Request.ensures.0
-          (m, is_sample held square asked m holds c.in-Ok.ensures.cell c.in-Ok.ensures.axis c.in-Ok.ensures.share c.in-Ok.ensures.proved, c.message_frame.ensures.value)
+          (m, is_sample held square asked m holds c.in-Ok.ensures.cell c.in-Ok.ensures.axis (c.in-Ok.ensures.share ∙ ap (λ (h : HeldParts). share_at (2 * h.k) h.grid asked.0) c.loop-asked.invariant.kept) (subst (λ (h : HeldParts). IsProved h.header m) c.loop-asked.invariant.kept c.in-Ok.ensures.proved), c.message_frame.ensures.value)
           c.in-Done.ensures.ends.leaves;
       inside = inside.1;
       told = (λ s. c.give-status.ensures.ends.told.0 (c.loop-asked.invariant.told.0 s), λ s. c.loop-asked.invariant.told.1 (c.give-status.ensures.ends.told.1 s));
+      kept = c.in-Ok.ensures.kept ∙ c.loop-asked.invariant.kept;
       faults = c.in-Done.ensures.ends.faults ∙ c.loop-asked.invariant.faults;
     }
 
@@ -49,7 +54,7 @@ returns-in_default-status g c = λ square holds.
     let inside : AllByRecursion (λ (a : Cell × Axis). is_in_square held.k a.0 ≡ true) (asked ∷ samples_in c.in-Request.after.now) =
     subst (AllByRecursion (λ (a : Cell × Axis). is_in_square held.k a.0 ≡ true)) c.in-Request.ensures.0 c.loop-asked.invariant.inside in
     served_stopped (AllowsSample square held.header) _ _ _ _ _ _ asked c.message_frame.result _ _ _ (c.loop-asked.invariant.served square holds) c.in-Request.ensures.0
-    (m, is_sample held square asked m holds c.in-Ok.ensures.cell c.in-Ok.ensures.axis c.in-Ok.ensures.share c.in-Ok.ensures.proved, c.message_frame.ensures.value)
-    (have_samples held square holds (λ cell axis. c.serve_laws.ensures.sample held cell axis c.header-header.ensures.held) c.wire_laws.ensures.messages _ inside.1)
+    (m, is_sample held square asked m holds c.in-Ok.ensures.cell c.in-Ok.ensures.axis (c.in-Ok.ensures.share ∙ ap (λ (h : HeldParts). share_at (2 * h.k) h.grid asked.0) c.loop-asked.invariant.kept) (subst (λ (h : HeldParts). IsProved h.header m) c.loop-asked.invariant.kept c.in-Ok.ensures.proved), c.message_frame.ensures.value)
+    (have_samples held square holds (λ cell axis. c.serve_laws.ensures.sample held cell axis c.held_law.ensures.held) c.wire_laws.ensures.messages _ inside.1)
     (λ s. c.give-status.ensures.ends.told.0 (c.loop-asked.invariant.told.0 s), λ s. c.loop-asked.invariant.told.1 (c.give-status.ensures.ends.told.1 s))
     _ c.loop-asked.invariant.faults c.message_frame.ensures.spelled _ c.give-status.result c.in_default-status.not-Done c.give-status.ensures.ends

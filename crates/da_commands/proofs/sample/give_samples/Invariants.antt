@@ -10,10 +10,11 @@ use Rattle.da_commands.proofs.sample.give_samples.Given as goal
 -- the requests before were answered, no write failed, and those to come are of cells inside
 abbrev pub invariant-loop-asked : goal.invariant-loop-asked
 invariant-loop-asked g l = record {
-  served : (square : SquareShares) → Holds l.held square
-      → Served (AllowsSample square l.held.header) (g.O.Sink.taken l.fn.out) (g.O.Sink.taken l.out) (samples_in l.requests) (samples_in l.rest);
-  inside : AllByRecursion (λ asked. is_in_square l.held.k asked.0 ≡ true) (samples_in l.rest);
+  served : (square : SquareShares) → Holds l.fn.held square
+      → Served (AllowsSample square l.fn.held.header) (g.O.Sink.taken l.fn.out) (g.O.Sink.taken l.out) (samples_in l.requests) (samples_in l.rest);
+  inside : AllByRecursion (λ asked. is_in_square l.fn.held.k asked.0 ≡ true) (samples_in l.rest);
   told : IsSome (g.O.Sink.taken l.fn.out) ↔ IsSome (g.O.Sink.taken l.out);
+  kept : l.held ≡ l.fn.held;
   faults : g.O.Sink.faults l.out ≡ g.O.Sink.faults l.fn.out;
 }
 
