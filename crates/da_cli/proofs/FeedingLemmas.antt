@@ -120,13 +120,6 @@ part_on a b c A B C header piece rest count lies more part gone = (
   gone_on a b c A B C header part.0 (take count rest) lies more part.2 gone,
 )
 
--- all are
-pub part_all : (a b : StreamParts) (A B : List Message → Type 0) (header : Roots) (piece rest : List ℕ) (lies : ℕ) → rest ≡ [] → IsPart a b A B header piece rest lies
-    → HasGone a b A B header piece lies
-part_all a b A B header piece rest lies none part =
-    let all : part.0 ≡ piece = sym (append-nil part.0) ∙ ap (λ (l : List ℕ). part.0 ++ l) (sym none) ∙ sym part.1 in
-    subst (λ (l : List ℕ). HasGone a b A B header l lies) all part.2
-
 -- ---- all pieces
 
 -- what was read of a file, and what a session was fed with of it

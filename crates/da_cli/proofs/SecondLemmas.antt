@@ -88,7 +88,3 @@ module _ {I O : Type 0} (i : inputs.Ghosts I) (o : sink.Ghosts O) where
   pub stream_on : (names : List (List ℕ)) (name text : List ℕ) (before now : I) → i.picks before ≤ max_count
       → names ≡ name ∷ drop 1 names → IsRead i 0 name before now (Ok text) → HasCome i names 1 before now (Ok (text ∷ []))
   stream_on names name text before now few here read = come_file i names 0 before before now [] name text (come_none i names before few) here read
-
-  -- memory ran out before
-  pub stream_memory : (names : List (List ℕ)) (before : I) (out : O) → i.picks before ≤ max_count → Streams i o names before before out out (Err stop.NoMemory)
-  stream_memory names before out few = (come_memory i names 0 2 before before [] (omega arith) (omega arith) (come_none i names before few), refl)

@@ -36,10 +36,6 @@ and_false false = refl
 not_within : (a b : ℕ) → b < a → nat_le a b ≡ false
 not_within a b h = grind (arith, nat_tests)
 
--- it isn't
-is_within : (a b : ℕ) → a ≤ b → nat_le a b ≡ true
-is_within a b h = grind (arith, nat_tests)
-
 -- the second of two tests that hold
 second_true : (a b : Bool) → (a && b) ≡ true → b ≡ true
 second_true true b h = h
@@ -59,25 +55,12 @@ by_first b most value digit after =
     is_tested ((b && list_all is_digit after) && nat_le (fold with_digit value (digit ∷ after)) most)
     (fold with_digit value (digit ∷ after))
 
--- the next byte is no digit
-pub no_digit : (most value digit : ℕ) (rest after : List ℕ) → rest ≡ digit ∷ after → is_digit digit ≡ false
-    → digits_from most value rest ≡ None
-no_digit most value digit rest after next none =
-    ap (digits_from most value) next
-    ∙ ap (λ (b : Bool). by_first b most value digit after) none
-
 -- the next byte is a digit
 pub next_digit : (most value digit : ℕ) (rest after : List ℕ) → rest ≡ digit ∷ after → is_digit digit ≡ true
     → digits_from most value rest ≡ digits_from most (with_digit value digit) after
 next_digit most value digit rest after next is =
     ap (digits_from most value) next
     ∙ ap (λ (b : Bool). by_first b most value digit after) is
-
--- all bytes were digits
-pub all_digits : (most value : ℕ) (rest : List ℕ) → rest ≡ [] → value ≤ most → digits_from most value rest ≡ Some value
-all_digits most value rest none within =
-    let fits : nat_le value most ≡ true = is_within value most within in
-    ap (digits_from most value) none ∙ ap (λ (b : Bool). is_tested b value) fits
 
 -- ---- the words of commands
 

@@ -14,7 +14,7 @@ ghost use Rattle.da_cli.specs.Limits.{file_limit};
 ghost use Rattle.da_cli.specs.Feeding.{proved_by, lies_by, proved_among, lies_among, HasGone, Feeds, FeedsTold, EndsFed, fed_faults, fed_end, Judges};
 ghost use Rattle.da_wire.specs.Streams.{StandsFor, offset_of};
 
-use axis_roots::{Message, check, message_law, message_laws};
+use axis_roots::{Message, message_law, message_laws};
 use da_io::Inputs;
 use da_wire::{FrameError, FrameStream, Pushed, stream_laws};
 use data_header::Header;
@@ -51,7 +51,7 @@ fn feed_message(header: &Header, session: &mut Session, message: Option<Message>
     message_laws();
     message_law(&message);
     let _k = header.k;
-    match check(header, message) {
+    match session.check(message) {
         Ok(proved) => {
             session.feed(proved);
             0
