@@ -65,7 +65,8 @@ fn tell<F: Filter>(
 fn follows<F: Filter>(rt: &impl Abort, alloc: Global, filter: F) -> Result<(), Fail>
     requires { IsFilter F.can_ask F.answers filter }
 {
-    let full = Held::of(alloc, square(alloc)?)?.namespace(alloc, &name(2))?;
+    let mut held = Held::of(alloc, square(alloc)?)?;
+    let full = held.namespace(alloc, &name(2))?;
     let empty = NsAnswer {
         entries: Vec::new(alloc),
     };

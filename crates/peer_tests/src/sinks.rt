@@ -1,6 +1,6 @@
 //! Sinks in memory and real ones, and writes that fail.
 
-use da_io::{MemSink, OutSink, Sink, WriteFailed, write_all};
+use da_io::{LineRoom, MemSink, OutSink, Sink, WriteFailed, write_all};
 use std::fs;
 use std::io::Cursor;
 use std::test::Fail;
@@ -19,6 +19,33 @@ fn pieces(rt: HostRuntime) -> Result<(), Fail> {
         };
         assert_eq!(rt; write_all(&mut out, b"0123456789"), want, "{name}");
         assert_eq!(rt; out.bytes.as_slice(), taken.as_bytes(), "{name}");
+    }
+    Ok(())
+}
+
+/// Gives a sink lines of 3,000, 2,000, 5,000 and 10 bytes by way of a room.
+fn give_lines(out: &mut MemSink) -> Result<(), WriteFailed> {
+    let line = [b'a'; 5000];
+    let mut room = LineRoom::new();
+    for len in [3000, 2000, 5000, 10] {
+        room.add(&line[..len], out)?;
+    }
+    room.flush(out)
+}
+
+/// Lines are held until the next one has no room beside them, and one that is longer than the room is given on whole.
+/// Each row has the number of the write that fails, and how many bytes are taken.
+#[test]
+fn held_lines(rt: HostRuntime) -> Result<(), Fail> {
+    let alloc = rt.alloc();
+    let cases = [(0, 0), (1, 3000), (2, 5000), (3, 10000), (4, 10010)];
+    for (fail, taken) in cases {
+        let Ok(mut out) = MemSink::new(alloc, 20000, 20000, vec![in alloc; fail]?) else {
+            return Err(Fail::new("no memory"));
+        };
+        let wrote = give_lines(&mut out);
+        assert_eq!(rt; wrote.is_err(), fail < 4, "write {fail}");
+        assert_eq!(rt; out.bytes.len(), taken, "write {fail}");
     }
     Ok(())
 }

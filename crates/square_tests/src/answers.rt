@@ -75,7 +75,7 @@ fn shape(answer: &NsAnswer) -> (usize, u16, u16, usize) {
 /// By docs/RULES.md, "Namespace answers".
 #[test]
 fn answers_of_two_rows(rt: HostRuntime) {
-    let held = held(&rt, rt.alloc(), [1, 3, 3, 7]);
+    let mut held = held(&rt, rt.alloc(), [1, 3, 3, 7]);
     let cases = [
         ("in both rows", 3, (2, 0, 1, 1)),
         ("in the first row", 1, (1, 0, 0, 1)),
@@ -91,7 +91,7 @@ fn answers_of_two_rows(rt: HostRuntime) {
 }
 
 /// The nodes beside a cell of row 0 and beside the pair that it stands in; the first alone, or both.
-fn nodes_beside(rt: &impl Abort, held: &Held, col: u16, both: bool) -> Nodes {
+fn nodes_beside(rt: &impl Abort, held: &mut Held, col: u16, both: bool) -> Nodes {
     let message = held.sample(Cell { row: 0, col }, Axis::Row);
     let message = message.expect(rt, "the cell is in the square");
     let path = message.path.nodes();
@@ -106,31 +106,35 @@ fn nodes_beside(rt: &impl Abort, held: &Held, col: u16, both: bool) -> Nodes {
 }
 
 /// Why an answer for namespace 3 of what is found in row 0 alone isn't complete.
-fn refusal(rt: &impl Abort, alloc: Global, held: &Held, found: Found) -> Option<NsRefusal> {
+fn refusal(rt: &impl Abort, alloc: Global, held: &mut Held, found: Found) -> Option<NsRefusal> {
     let answer = answer(rt, alloc, found);
-    check_namespace(held.header(), &version_0(3), &answer).err()
+    let header = held.header(alloc).expect(rt, "there is memory");
+    check_namespace(&header, &version_0(3), &answer).err()
 }
 
 #[test]
 fn one_of_two_shares(rt: HostRuntime) {
     let alloc = rt.alloc();
-    let held = held(&rt, alloc, [3, 3, 5, 7]);
+    let mut held = held(&rt, alloc, [3, 3, 5, 7]);
     for col in 0..2 {
         let list = vec![in alloc; named_share(3)].expect(&rt, "there is memory");
         let found = Found::Range {
             start: col,
             shares: ShareList { list },
-            nodes: nodes_beside(&rt, &held, col, true),
+            nodes: nodes_beside(&rt, &mut held, col, true),
         };
         let want = Some(NsRefusal::Proof(0, OpenRefusal::Incomplete(0)));
-        assert!(rt; refusal(&rt, alloc, &held, found) == want, "column {col}");
+        assert!(rt;
+            refusal(&rt, alloc, &mut held, found) == want,
+            "column {col}"
+        );
     }
 }
 
 #[test]
 fn absences_at_other_places(rt: HostRuntime) {
     let alloc = rt.alloc();
-    let held = held(&rt, alloc, [1, 4, 5, 7]);
+    let mut held = held(&rt, alloc, [1, 4, 5, 7]);
     let unordered = NsRefusal::Proof(0, OpenRefusal::Unordered);
     let node_count = NsRefusal::Proof(0, OpenRefusal::NodeCount);
     let cases = [
@@ -142,9 +146,9 @@ fn absences_at_other_places(rt: HostRuntime) {
         let found = Found::Absence {
             pos,
             leaf: leaf(&version_0(4), &named_share(4)),
-            nodes: nodes_beside(&rt, &held, 1, both),
+            nodes: nodes_beside(&rt, &mut held, 1, both),
         };
-        assert!(rt; refusal(&rt, alloc, &held, found) == want, "{name}");
+        assert!(rt; refusal(&rt, alloc, &mut held, found) == want, "{name}");
     }
 }
 

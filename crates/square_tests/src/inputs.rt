@@ -73,7 +73,9 @@ pub(crate) fn header_of_sevens(rt: &impl Abort, alloc: Global) -> Header
 }
 
 /// The square of width 2 with shares of these namespaces.
-pub(crate) fn square_of(rt: &impl Abort, alloc: Global, names: [u16; 4]) -> Square {
+pub(crate) fn square_of(rt: &impl Abort, alloc: Global, names: [u16; 4]) -> Square
+    ensures { result.k ≡ 2 }
+{
     let shares = vec![in alloc;
         named_share(names[0]),
         named_share(names[1]),

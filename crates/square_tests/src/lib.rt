@@ -35,6 +35,8 @@ mod namespaces;
 #[cfg(test)]
 mod openings;
 #[cfg(test)]
+mod partials;
+#[cfg(test)]
 mod splitting;
 #[cfg(test)]
 mod transforms;
