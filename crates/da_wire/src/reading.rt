@@ -1,4 +1,13 @@
 //! Reading frames from the front of bytes.
+//!
+//! What bytes are and how a value is spelled are two functions: `frame_of`, `only_of` and `raw_of`
+//! read a list of bytes field by field and name the first refusal (`specs/Reading.antt`),
+//! `spelling` gives a value's bytes, where it has some (`specs/Spelling.antt`). Neither is a copy
+//! of the other, and `wire_laws` ties both. A relation alone would not say what is refused.
+//!
+//! Files are walked by one definition (`specs/Walks.antt`): as frames of any kind, of which only
+//! the framing counts, or as values of some kinds in the grammar. Frames are read where they lie,
+//! and memory is taken only for a payload that is in its grammar, so no count that lies costs any.
 
 ghost use Rattle.std.specs.Prelude.{◌≡◌, ◌↔◌, suc, ◌+◌, ◌<◌, ◌≤◌, ◌^◌, [], ◌∷◌, length, drop, Ok, Err, IsErr, IfOk, OnErr, IfSome, IsSome, IsNone, IsTrue, MatchOption};
 ghost use Rattle.std.specs.Option.{option_map};

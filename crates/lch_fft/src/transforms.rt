@@ -1,4 +1,15 @@
-//! The transforms.
+//! The transforms, by halves.
+//!
+//! Points are labels, and a label is a vector of bits. So the polynomials s_i with s_0(x) = x and
+//! s_(i+1) = s_i^2 + s_i are linear over xor, and over the Cantor basis s_i shifts a label right by
+//! i places. X_j is the product of the s_i over the set bits of j, of degree j: the X_j below n
+//! span the polynomials of n coefficients.
+//!
+//! A sum of d_j * X_j over 2m coefficients, m being 2^b, is on a block of 2m points the sum over
+//! the lower half plus s_b times the one over the upper half. s_b takes one value on each half of
+//! the block, and the two differ by 1. That is one butterfly for each pair of shares. `forward`
+//! goes on in both halves, `inverse` undoes it from below. Of n shares about n / 2 * log n
+//! multiples are taken, where a sum for each point would take n * n.
 
 ghost use Rattle.std.specs.Prelude.{◌≡◌, ◌+◌, ◌/◌, ◌%◌, ◌^◌, ◌<◌, ◌≤◌, ℕ, List, IsTrue, length};
 ghost use Rattle.namespace_id.specs.Shares.{AreShares};

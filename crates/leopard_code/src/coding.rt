@@ -1,4 +1,22 @@
-//! The code of one axis.
+//! The code of one axis, by transforms.
+//!
+//! `extend` finds the coefficients of the originals at the points k up to 2k, and evaluates them at
+//! 0 up to k. Both are of one codeword, since a sum of X_j for j below k is a polynomial of k
+//! coefficients (`proofs/TransformLemmas.antt`).
+//!
+//! `rebuild` divides a derivative. Let f be the polynomial of a byte column. Let L be the product of
+//! x + m over the missing positions m. The values of f * L at all 2k positions are known, since L
+//! is 0 at the missing ones. Its derivative, f' * L + f * L', is f * L' there, and L'(m) is the
+//! product of m + n over the other missing n. That isn't 0, so a division gives f(m). The
+//! derivative is one of coefficients: each s_i has the derivative 1, so that of X_j is the sum of
+//! the X_m with one set bit of j taken away.
+//!
+//! A position is its point xor k, so over positions f has the same degree, and nothing is put in
+//! the order of points. One array of 2k bytes, kept in `Room`, has L at the known positions and L'
+//! at the missing ones: products of differences, made as sums of logarithms. So the known shares
+//! alone are multiplied, and the missing ones alone divided.
+//!
+//! Sums by Lagrange's weights would take k * k multiples of shares in place of about k * log k.
 
 ghost use Rattle.std.specs.Prelude.{◌≡◌, ◌++◌, ◌*◌, IsTrue, length};
 ghost use Rattle.lch_fft.specs.Transforms.{is_count};
