@@ -1,0 +1,82 @@
+-- What each export answers to the bytes that it is given, in the words of the crates below.
+use Rattle.std.specs.Prelude.{◌≡◌, ◌⊎◌, ◌+◌, ◌*◌, ℕ, List, Some, MatchResult}
+use Rattle.std.specs.declared.option.Option.{Option}
+use Rattle.std.specs.Option.{option_map}
+use Rattle.data_header.specs.Headers as headers
+use Rattle.data_header.specs.DataRoots.{data_root_of}
+use Rattle.square_layout.specs.Blocks.{SquareShares}
+use Rattle.axis_roots.specs.Grids.{IsHeaderOf, HasNoHeader}
+use Rattle.axis_roots.specs.Messages.{message_refusal}
+use Rattle.axis_roots.specs.declared.message.messages.Message as sent
+use Rattle.axis_roots.specs.Openings.{IsProved}
+use Rattle.axis_roots.specs.Own.{IsOwn}
+use Rattle.da_wire.specs.declared.frames.Frame.{Frame}
+use Rattle.da_wire.specs.declared.frames.Frame.TheVariants.{Header}
+use Rattle.da_wire.specs.Spelling.{spelling}
+use Rattle.da_commands.specs.Frames.{header_in, message_in, square_in}
+use Rattle.da_commands.specs.Verify.{answer_in, check_number, IsRefusal}
+use Rattle.da_commands.specs.VerifyFor.{request_in, is_answer_to, IsRefusalFor}
+use Rattle.da_c.specs.declared.replies.Reply.TheVariants.{NoHeader}
+use Rattle.da_c.specs.Replies.{Replies, Outputs, Reads, Takes, Refuses, Fits, verdict}
+
+-- ---- judging
+
+-- da_check: whether a message is proved under a header
+abbrev pub Checks : List ℕ → List ℕ → Replies
+Checks header message =
+    Reads 0 (header_in header) (λ h. Reads 1 (message_in message)
+    (λ m reply. reply ≡ verdict (option_map check_number (message_refusal h m))))
+
+-- a header and a message are read of the bytes, and this is so of them
+abbrev pub IsOfBoth : (headers.Roots → sent.Message → Type 0) → List ℕ → List ℕ → Type 0
+IsOfBoth Fact header message =
+    MatchResult (header_in header) (λ h. MatchResult (message_in message) (λ m. Fact h m) (λ at. ⊥)) (λ at. ⊥)
+
+-- the bytes are a header and a message that is proved under it
+abbrev pub IsProvedUnder : List ℕ → List ℕ → Type 0
+IsProvedUnder header message = IsOfBoth IsProved header message
+
+-- the bytes are a header and a message, and if it is a square's header, the message shows the square's own share, or they
+-- name a collision
+abbrev pub IsOwnUnder : List ℕ → List ℕ → Type 0
+IsOwnUnder header message = IsOfBoth IsOwn header message
+
+-- da_holds: whether an answer holds under a header
+abbrev pub Holds : List ℕ → List ℕ → Replies
+Holds header answer =
+    Reads 0 (header_in header) (λ h. Reads 1 (answer_in answer)
+    (λ a reply. (refusal : Option ℕ) × IsRefusal h a refusal × (reply ≡ verdict refusal)))
+
+-- da_verify: whether an answer is to a request, and holds under a header
+abbrev pub Verifies : List ℕ → List ℕ → List ℕ → Replies
+Verifies header answer request =
+    Reads 0 (header_in header) (λ h. Reads 1 (answer_in answer) (λ a. Reads 2 (request_in request)
+    (λ r reply. (refusal : Option ℕ) × IsRefusalFor (is_answer_to r a) h a refusal × (reply ≡ verdict refusal))))
+
+-- ---- writing
+
+-- how many bytes a data root has
+abbrev pub root_size : ℕ
+root_size = 32
+
+-- the most bytes that the frame of a header has, that of width 128
+abbrev pub most_header : ℕ
+most_header = 7 + 360 * 128
+
+-- da_data_root: the data root of a header
+abbrev pub RootOf : List ℕ → ℕ → Outputs
+RootOf header room = Takes 0 (header_in header) (λ h. Fits (data_root_of h) room)
+
+-- the one spelling of a frame
+abbrev pub Spells : Frame → ℕ → Outputs
+Spells frame room w reply = (text : List ℕ) × (spelling frame ≡ Some text) × Fits text room w reply
+
+-- the frame of a square's header, or that the square has none
+abbrev pub Heads : SquareShares → ℕ → Outputs
+Heads square room w reply =
+    ((header : headers.Roots) × IsHeaderOf header square × Spells (Header header) room w reply)
+    ⊎ (HasNoHeader square × Refuses NoHeader w reply)
+
+-- da_header: the frame of the header of the square that the bytes are
+abbrev pub HeaderOf : List ℕ → ℕ → Outputs
+HeaderOf square room = Takes 0 (square_in square) (λ s. Heads s room)

@@ -1,0 +1,3 @@
+module example.org/da
+
+go 1.19
