@@ -7,6 +7,7 @@ use Rattle.gf_cantor.specs.Field.{product}
 use Rattle.gf_cantor.proofs.Laws.{product_comm, product_assoc, xor-product, product-zero, zero-product, one-product, has_inverse, zero_factor}
 use Rattle.byte_polynomial.specs.Polynomial.{value_at, AreCoefficients, Avoids, ArePoints, PassesThrough}
 use Rattle.byte_polynomial.proofs.Sums.{sum, scaled, value_at-sum, value_at-scaled, length-sum, length-scaled, AreCoefficients-sum, AreCoefficients-scaled, value_at-lt, xor_back, xor_zero-same}
+use Rattle.byte_polynomial.proofs.Roots.{AreRoots}
 
 -- the product of x - r over the points
 unfoldable pub vanishing : List ℕ → List ℕ
@@ -51,21 +52,16 @@ vanishing_elsewhere (r ∷ rs) x hx points away e =
     (xor_lt 8 x r hx points.0) (value_at-lt (vanishing rs) x (AreCoefficients-vanishing rs))
     (sym (value_at-vanishing r rs x) ∙ e))
 
--- adding a multiple of a polynomial that is 0 at the points keeps the values there
-unfoldable pub VanishesAt : List ℕ → List ℕ → Type 0
-VanishesAt ps [] = Unit {0}
-VanishesAt ps (x ∷ xs) = (value_at ps x ≡ 0) × VanishesAt ps xs
-
 -- with one point more it still vanishes at the others
-vanishing_more : (r : ℕ) (rs xs : List ℕ) → VanishesAt (vanishing rs) xs → VanishesAt (vanishing (r ∷ rs)) xs
-unfolding VanishesAt
+vanishing_more : (r : ℕ) (rs xs : List ℕ) → AreRoots (vanishing rs) xs → AreRoots (vanishing (r ∷ rs)) xs
+unfolding AreRoots
 vanishing_more r rs [] h = tt
 vanishing_more r rs (x ∷ xs) h =
     (value_at-vanishing r rs x ∙ ap (product (bit_xor x r)) h.0 ∙ product-zero (bit_xor x r), vanishing_more r rs xs h.1)
 
 -- a vanishing polynomial vanishes at its points
-pub vanishes : (rs : List ℕ) → VanishesAt (vanishing rs) rs
-unfolding VanishesAt
+pub vanishes : (rs : List ℕ) → AreRoots (vanishing rs) rs
+unfolding AreRoots
 vanishes [] = tt
 vanishes (r ∷ rs) = (
   value_at-vanishing r rs r ∙ ap (λ (v : ℕ). product v (value_at (vanishing rs) r)) (xor_self r) ∙ zero-product (value_at (vanishing rs) r),
@@ -73,8 +69,8 @@ vanishes (r ∷ rs) = (
 )
 
 -- adding a multiple of a polynomial that vanishes keeps the values
-pub takes_still : (cs ns : List ℕ) (c : ℕ) (xs ys : List ℕ) → VanishesAt ns xs → PassesThrough cs xs ys → PassesThrough (sum cs (scaled c ns)) xs ys
-unfolding VanishesAt PassesThrough
+pub takes_still : (cs ns : List ℕ) (c : ℕ) (xs ys : List ℕ) → AreRoots ns xs → PassesThrough cs xs ys → PassesThrough (sum cs (scaled c ns)) xs ys
+unfolding AreRoots PassesThrough
 takes_still cs ns c [] [] none takes = tt
 takes_still cs ns c [] (y ∷ ys) none takes = takes
 takes_still cs ns c (x ∷ xs) [] none takes = takes

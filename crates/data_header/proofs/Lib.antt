@@ -1,4 +1,3 @@
-pub mod CountLemmas
 pub mod RootLemmas
 pub mod LedLemmas
 pub mod OpenLemmas

@@ -1,5 +1,5 @@
 -- Data roots and root paths, from the roots and paths of rows and columns.
-use Rattle.std.proofs.Common.{◌≡◌, ℕ, suc, ◌+◌, ◌-◌, ◌*◌, ◌^◌, ◌<◌, List, [], ◌∷◌, ◌++◌, sym, ap, ap₂, ◌∙◌, arith, length, take, drop, get_or, length-append, subst, IsTrue, Bool, true}
+use Rattle.std.proofs.Common.{◌≡◌, ℕ, suc, ◌+◌, ◌*◌, ◌^◌, ◌<◌, List, [], ◌∷◌, ◌++◌, sym, ap, ap₂, ◌∙◌, arith, length, take, drop, get_or, length-append, subst, IsTrue, Bool, true}
 use Rattle.std.specs.Str.{bytes_eq}
 use Rattle.std.proofs.lemmas.Bool.Decides.{nat_tests}
 use Rattle.std.proofs.lemmas.Slice.Eq.{bytes_eq-Decides}
@@ -11,7 +11,8 @@ use Rattle.namespace_id.specs.Cells.{is_width}
 use Rattle.data_header.specs.Headers.{Roots, AreRoots, roots_along, root_of}
 use Rattle.data_header.specs.DataRoots.{leaf_hash, inner_hash, merkle_root, root_halvings, data_root_of, path_of, led, root_place, OpensRoot}
 use Rattle.std.proofs.Math.Seq.{take-append_seam, drop-append_seam}
-use Rattle.data_header.proofs.CountLemmas.{root_halvings-axis}
+use Rattle.namespace_id.specs.Powers.{halvings}
+use Rattle.namespace_id.proofs.PowerLemmas.{double_halvings}
 use Rattle.data_header.proofs.RootLemmas.{IsRootOf, IsPathOf, merkle_root-suc, length-path_of}
 use Rattle.data_header.proofs.LedLemmas.{led-left-power, led-right-power, led-path_of}
 
@@ -26,20 +27,18 @@ merkle_root-append d rows cols power =
 
 -- the data root, from the roots over the rows and over the columns
 pub data_root-axes : (header : Roots) → AreRoots header
-    → data_root_of header ≡ inner_hash (merkle_root (root_halvings header.k - 1) header.rows) (merkle_root (root_halvings header.k - 1) header.cols)
+    → data_root_of header ≡ inner_hash (merkle_root (halvings (2 * header.k)) header.rows) (merkle_root (halvings (2 * header.k)) header.cols)
 data_root-axes header h =
-    let axis = root_halvings-axis header.k h.width in
-    ap (λ (n : ℕ). merkle_root n (header.rows ++ header.cols)) axis.0
-    ∙ merkle_root-append (root_halvings header.k - 1) header.rows header.cols (h.rows ∙ axis.1)
+    merkle_root-append (halvings (2 * header.k)) header.rows header.cols (h.rows ∙ sym (double_halvings header.k h.width))
 
 -- the data root is the hash over the roots of rows and of columns, however these were made
 pub data_root-halves : (header : Roots) (rows cols : List ℕ) → AreRoots header
     → IsRootOf header.rows rows → IsRootOf header.cols cols
     → inner_hash rows cols ≡ data_root_of header
 data_root-halves header rows cols h row_root col_root =
-    let axis = root_halvings-axis header.k h.width in
-    let d : ℕ = root_halvings header.k - 1 in
-    ap₂ inner_hash (row_root d (h.rows ∙ axis.1)) (col_root d (h.cols ∙ axis.1)) ∙ sym (data_root-axes header h)
+    let d : ℕ = halvings (2 * header.k) in
+    let power : 2 * header.k ≡ 2 ^ d = sym (double_halvings header.k h.width) in
+    ap₂ inner_hash (row_root d (h.rows ∙ power)) (col_root d (h.cols ∙ power)) ∙ sym (data_root-axes header h)
 
 -- the hash over what stands along an axis and what stands along the other: rows on the left
 abbrev pub joined : Axis → List ℕ → List ℕ → List ℕ
@@ -59,7 +58,7 @@ counts header Col h = (h.cols, h.rows)
 
 -- the data root, from the roots over one axis and over the other
 data_root-joined : (header : Roots) (axis : Axis) → AreRoots header → data_root_of header
-    ≡ joined axis (merkle_root (root_halvings header.k - 1) (roots_along header axis)) (merkle_root (root_halvings header.k - 1) (roots_across header axis))
+    ≡ joined axis (merkle_root (halvings (2 * header.k)) (roots_along header axis)) (merkle_root (halvings (2 * header.k)) (roots_across header axis))
 data_root-joined header Row h = data_root-axes header h
 data_root-joined header Col h = data_root-axes header h
 
@@ -75,23 +74,23 @@ pub opens-axis : (header : Roots) (axis : Axis) (index : ℕ) (path : List (List
     → IsPathOf (roots_along header axis) index path → IsRootOf (roots_across header axis) other
     → OpensRoot (data_root_of header) header.k axis index (root_of header axis index) (path ++ other ∷ [])
 opens-axis header axis index path other h place path_is other_is =
-    let halvings = root_halvings-axis header.k h.width in
-    let d : ℕ = root_halvings header.k - 1 in
+    let d : ℕ = halvings (2 * header.k) in
+    let long : 2 * header.k ≡ 2 ^ d = sym (double_halvings header.k h.width) in
     let digests : List Digest = roots_along header axis in
-    let below : index < 2 ^ d = omega (arith, halvings.1) in
-    let power : length digests ≡ 2 ^ d = (counts header axis h).0 ∙ halvings.1 in
+    let below : index < 2 ^ d = omega (arith, long) in
+    let power : length digests ≡ 2 ^ d = (counts header axis h).0 ∙ long in
     let path_here : path ≡ path_of d digests index = path_is d power in
     let count : length path ≡ d = ap length path_here ∙ length-path_of d digests index in
     let top : List ℕ = leaf_hash (get_or digests index no_digest) in
     record {
       width = h.width;
       place = place;
-      count = omega (arith, length-append path (other ∷ []), halvings.0);
+      count = omega (arith, length-append path (other ∷ []), count);
       leads =
-          led-axis header.k axis index d path top other halvings.1 below count
+          led-axis header.k axis index d path top other long below count
           ∙ ap₂ (joined axis)
           (ap (led index top) path_here ∙ led-path_of d digests index no_digest below power)
-          (other_is d ((counts header axis h).1 ∙ halvings.1))
+          (other_is d ((counts header axis h).1 ∙ long))
           ∙ sym (data_root-joined header axis h);
     }
 

@@ -3,8 +3,9 @@ use Rattle.std.proofs.Common.{◌≡◌, ℕ, suc, ◌+◌, ◌-◌, ◌/◌, �
 use Rattle.std.proofs.lemmas.Bool.{cases_lt}
 use Rattle.std.proofs.lemmas.Bool.Decides.{nat_tests}
 use Rattle.namespace_id.specs.declared.digests.Digest.{Digest}
-use Rattle.data_header.specs.DataRoots.{leaf_hash, inner_hash, is_root_count, merkle_root, path_of}
-use Rattle.data_header.proofs.CountLemmas.{halvings, root_count-power}
+use Rattle.data_header.specs.DataRoots.{leaf_hash, inner_hash, merkle_root, path_of}
+use Rattle.namespace_id.specs.Powers.{is_power, halvings}
+use Rattle.namespace_id.proofs.PowerLemmas.{halvings-le, power_halvings}
 use Rattle.namespace_id.proofs.HalfLemmas.{depth_below, depth_zero, half_power}
 
 -- the root of one digest
@@ -156,10 +157,10 @@ length-path_of (suc d) digests place =
       | inr high ↦ ap length (path_of-high d digests place high) ∙ length-more _ _ d (length-path_of d (drop (2 ^ d) digests) (place - 2 ^ d))
     ]
 
--- a path has room for one more hash
-pub path_of-room : (digests : List Digest) (place : ℕ) (path : List (List ℕ)) → IsTrue (is_root_count (length digests))
+-- one more hash fits in a path
+pub path_of-room : (digests : List Digest) (place : ℕ) (path : List (List ℕ)) → IsTrue (is_power (length digests))
     → IsPathOf digests place path → length path < 9
 path_of-room digests place path count value =
-    let power = root_count-power (length digests) count in
-    let hashes : length path ≡ halvings (length digests) = ap length (value _ power.0) ∙ length-path_of _ digests place in
-    omega (arith, power.1)
+    let hashes : length path ≡ halvings (length digests) =
+    ap length (value _ (sym (power_halvings (length digests) count))) ∙ length-path_of _ digests place in
+    omega (arith, hashes, halvings-le (length digests) count)

@@ -1,11 +1,12 @@
 -- The data root over a header's axis roots, and the hashes that lead to it (Celestia specifications,
 -- "Data Structures"; RFC 6962, 2.1).
-use Rattle.std.specs.Prelude.{◌≡◌, ◌<◌, ◌*◌, ◌+◌, ◌/◌, ◌%◌, ◌^◌, ◌==◌, ◌-◌, ◌||◌, nat_lt, Bool, ℕ, zero, suc, List, [], ◌∷◌, ◌++◌, length, take, drop, true, if◌then◌else◌}
+use Rattle.std.specs.Prelude.{◌≡◌, ◌<◌, ◌*◌, ◌+◌, ◌/◌, ◌%◌, ◌^◌, ◌==◌, ◌-◌, nat_lt, ℕ, zero, suc, List, [], ◌∷◌, ◌++◌, length, take, drop, true, if◌then◌else◌}
 use Rattle.sha2.specs.Sha256.{sha256}
 use Rattle.namespace_id.specs.declared.cells.Axis.{Axis}
 use Rattle.namespace_id.specs.declared.cells.Axis.TheVariants.{Row, Col}
 use Rattle.namespace_id.specs.declared.digests.Digest.{Digest}
 use Rattle.namespace_id.specs.Cells.{is_width}
+use Rattle.namespace_id.specs.Powers.{halvings}
 use Rattle.data_header.specs.Headers.{Roots}
 
 -- the hash of a leaf of the plain Merkle tree, here an axis root (RFC 6962, 2.1: prefix 0x00)
@@ -24,22 +25,9 @@ merkle_root zero (digest ∷ digests) = leaf_hash digest
 merkle_root (suc depth) digests =
     inner_hash (merkle_root depth (take (2 ^ depth) digests)) (merkle_root depth (drop (2 ^ depth) digests))
 
--- whether the recursions take this many digests: a power of two from 1 to 256
-abbrev pub is_root_count : ℕ → Bool
-is_root_count n =
-    (n == 1) || (n == 2) || (n == 4) || (n == 8) || (n == 16) || (n == 32) || (n == 64) || (n == 128)
-    || (n == 256)
-
--- how often the 4k axis roots of a header can be halved
+-- how often the 4k axis roots of a header can be halved: once, and then as often as those of one axis
 abbrev pub root_halvings : ℕ → ℕ
-root_halvings k =
-    if k == 1 then 2 else
-    (if k == 2 then 3 else
-    (if k == 4 then 4 else
-    (if k == 8 then 5 else
-    (if k == 16 then 6 else
-    (if k == 32 then 7 else
-    (if k == 64 then 8 else 9))))))
+root_halvings k = suc (halvings (2 * k))
 
 -- the data root of a header: the plain Merkle root over its row roots, and then its column roots
 abbrev pub data_root_of : Roots → List ℕ

@@ -5,7 +5,8 @@
 //! at most 512 axis roots, so a proof costs about a thousand hashes and no memory.
 
 ghost use Rattle.std.specs.Prelude.{◌≡◌, ◌^◌, ◌<◌, ℕ, length, IsTrue};
-ghost use Rattle.data_header.specs.DataRoots.{leaf_hash, inner_hash, is_root_count, merkle_root, path_of, led};
+ghost use Rattle.namespace_id.specs.Powers.{is_power};
+ghost use Rattle.data_header.specs.DataRoots.{leaf_hash, inner_hash, merkle_root, path_of, led};
 
 use crate::RootPath;
 use namespace_id::Digest;
@@ -42,7 +43,7 @@ pub(crate) fn inner_hash(left: &[u8; 32], right: &[u8; 32]) -> [u8; 32]
 ///
 /// RFC 6962, 2.1.
 pub(crate) fn merkle_root(digests: &[Digest]) -> [u8; 32]
-    requires { IsTrue (is_root_count (length digests.now)) }
+    requires { IsTrue (is_power (length digests.now)) }
     ensures { (depth : ℕ) → length digests.now ≡ 2 ^ depth →
         result ≡ merkle_root depth digests.now }
 {
@@ -57,7 +58,7 @@ pub(crate) fn merkle_root(digests: &[Digest]) -> [u8; 32]
 ///
 /// RFC 6962, 2.1.1.
 pub(crate) fn path_of(digests: &[Digest], place: usize) -> RootPath
-    requires count { IsTrue (is_root_count (length digests.now)) }
+    requires count { IsTrue (is_power (length digests.now)) }
     requires place { place < length digests.now }
     ensures value { (depth : ℕ) → length digests.now ≡ 2 ^ depth →
         result ≡ path_of depth digests.now place }

@@ -75,9 +75,9 @@ fn high_products(by: u8) -> [u8; 16]
 }
 
 /// Adds `by` times each byte of `row` to the byte of `acc` at its place: one term of a weighted sum
-/// of shares. A byte is the sum of its low four bits and its high four bits, so its product is the sum
-/// of an entry of each of two tables of 16: they are made once for the row, and then looked up for 32
-/// bytes at a time. It takes no memory.
+/// of shares, 512 being the length of a share. A byte is the sum of its low four bits and its high
+/// four bits, so its product is the sum of an entry of each of two tables of 16: they are made once
+/// for the row, and then looked up for 32 bytes at a time. It takes no memory.
 ///
 /// docs/RULES.md, "The byte field" (profile, in the manner of Leopard's 8-bit field).
 pub fn mul_row(acc: &mut [u8; 512], row: &[u8; 512], by: u8)

@@ -6,7 +6,7 @@ use Rattle.lch_fft.specs.Transforms.{column, is_count}
 use Rattle.lch_fft.specs.Butterflies.{bytes_sum, halvings}
 use Rattle.lch_fft.specs.Derivatives.{raised, slopes, IsDerived}
 use Rattle.lch_fft.proofs.ColumnLemmas.{length-column, column-append, column-take, column-drop}
-use Rattle.lch_fft.proofs.CountLemmas.{count-bounds, count-half, halvings_half, halvings_one, halvings-le, power_halvings}
+use Rattle.namespace_id.proofs.PowerLemmas.{power-pos, power-half, not_one, halvings_half, halvings_one, halvings-le, power_halvings}
 use Rattle.lch_fft.proofs.SlopeLemmas.{length-slopes, slopes-at, raised-more}
 
 -- the derivative of one coefficient
@@ -25,8 +25,7 @@ one_share (t ∷ u ∷ ss) s b e z = absurd (omega arith)
 pub slopes-cleared : (old : List Share) (s : Share) (b : ℕ) → IsTrue (is_count (length old)) → length old / 2 ≡ 0 → get_or s.0 b 0 ≡ 0
     → column b (set old 0 s) ≡ slopes (halvings (length old)) (column b old)
 slopes-cleared old s b count one z =
-    let bounds = count-bounds (length old) count in
-    one_share old s b (omega arith) z ∙ slopes-one (length old) (column b old) count one
+    one_share old s b (omega (arith, one, power-pos (length old) count)) z ∙ slopes-one (length old) (column b old) count one
 
 -- what the derivatives of both halves make, with the high half added to the low one
 slopes-suc : (b n : ℕ) (d low high : List ℕ) → 2 ^ b ≡ n
@@ -48,7 +47,7 @@ pub slopes-halves : (old low high low2 low3 high2 : List Share) (b : ℕ)
 slopes-halves old low high low2 low3 high2 b count several el eh ll lh rl sl rh =
     let n : ℕ = length old / 2 in
     let d : ℕ = halvings (length old / 2) in
-    let half = count-half (length old) count several in
+    let half = power-half (length old) count (not_one (length old) several) in
     let cl : column b low ≡ take n (column b old) = ap (column b) el ∙ column-take b n old in
     let ch : column b high ≡ drop n (column b old) = ap (column b) eh ∙ column-drop b n old in
     let made : column b low2 ≡ slopes d (take n (column b old)) =
@@ -57,7 +56,7 @@ slopes-halves old low high low2 low3 high2 b count several el eh ll lh rl sl rh 
     ∙ slopes-suc d n (column b old) (column b low3) (column b high2) (power_halvings n half.0)
     (sl ∙ ap₂ bytes_sum made ch)
     (rh ∙ ap₂ (λ (k : ℕ) (x : List ℕ). slopes (halvings k) x) lh ch)
-    ∙ ap (λ (k : ℕ). slopes k (column b old)) (sym (halvings_half (length old) count several))
+    ∙ ap (λ (k : ℕ). slopes k (column b old)) (sym (halvings_half (length old) count (not_one (length old) several)))
 
 -- the derivative by halves is the derivative
 pub derived : (old new : List Share) → IsTrue (is_count (length old)) → length new ≡ length old

@@ -4,7 +4,7 @@ use Rattle.namespace_id.specs.declared.shares.Share.{Share}
 use Rattle.lch_fft.specs.Transforms.{column, is_count}
 use Rattle.lch_fft.specs.Butterflies.{bytes_sum, multiple, spread, gather, halvings}
 use Rattle.lch_fft.proofs.ColumnLemmas.{column-append, column-take, column-drop}
-use Rattle.lch_fft.proofs.CountLemmas.{count-half, halvings_half, halvings_one, power_halvings}
+use Rattle.namespace_id.proofs.PowerLemmas.{power-half, not_one, halvings_half, halvings_one, power_halvings}
 
 -- the transform of one coefficient
 pub spread-one : (n : ℕ) (d : List ℕ) (s : ℕ) → IsTrue (is_count n) → n / 2 ≡ 0 → d ≡ spread (halvings n) d s
@@ -40,7 +40,7 @@ pub spread-halves : (old low high low2 high2 low3 high3 : List Share) (s b : ℕ
 spread-halves old low high low2 high2 low3 high3 s b count several el eh ll lh sl sh rl rh =
     let n : ℕ = length old / 2 in
     let d : ℕ = halvings (length old / 2) in
-    let half = count-half (length old) count several in
+    let half = power-half (length old) count (not_one (length old) several) in
     let cl : column b low ≡ take n (column b old) = ap (column b) el ∙ column-take b n old in
     let ch : column b high ≡ drop n (column b old) = ap (column b) eh ∙ column-drop b n old in
     column-append b low3 high3
@@ -50,7 +50,7 @@ spread-halves old low high low2 high2 low3 high3 s b count several el eh ll lh s
     ∙ spread-suc d n (column b old) (column b low2) (column b high2) s (power_halvings n half.0)
     (sl ∙ ap₂ (λ (x y : List ℕ). bytes_sum x (multiple (s / n) y)) cl ch)
     (sh ∙ ap (λ (x : List ℕ). bytes_sum (column b low2) x) ch)
-    ∙ ap (λ (k : ℕ). spread k (column b old) s) (sym (halvings_half (length old) count several))
+    ∙ ap (λ (k : ℕ). spread k (column b old) s) (sym (halvings_half (length old) count (not_one (length old) several)))
 
 -- what the inverses of the halves and a stage undone make
 gather-suc : (b n : ℕ) (v low high : List ℕ) (s : ℕ) → 2 ^ b ≡ n
@@ -76,7 +76,7 @@ pub gather-halves : (old low high low2 high2 low3 high3 : List Share) (s b : ℕ
 gather-halves old low high low2 high2 low3 high3 s b count several el eh ll lh rl rh sh sl =
     let n : ℕ = length old / 2 in
     let d : ℕ = halvings (length old / 2) in
-    let half = count-half (length old) count several in
+    let half = power-half (length old) count (not_one (length old) several) in
     let cl : column b low2 ≡ gather d (take n (column b old)) s =
     rl ∙ ap₂ (λ (k : ℕ) (x : List ℕ). gather (halvings k) x s) ll (ap (column b) el ∙ column-take b n old) in
     let ch : column b high2 ≡ gather d (drop n (column b old)) (s + n) =
@@ -85,4 +85,4 @@ gather-halves old low high low2 high2 low3 high3 s b count several el eh ll lh r
     ∙ gather-suc d n (column b old) (column b low3) (column b high3) s (power_halvings n half.0)
     (sh ∙ ap₂ bytes_sum cl ch)
     (sl ∙ ap (λ (x : List ℕ). bytes_sum x (multiple (s / n) (column b high3))) cl)
-    ∙ ap (λ (k : ℕ). gather k (column b old) s) (sym (halvings_half (length old) count several))
+    ∙ ap (λ (k : ℕ). gather k (column b old) s) (sym (halvings_half (length old) count (not_one (length old) several)))

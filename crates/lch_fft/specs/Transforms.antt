@@ -1,8 +1,9 @@
 -- Additive transforms: sums of multiples of the polynomials X_j, and their values at blocks of points.
-use Rattle.std.specs.Prelude.{◌≡◌, ℕ, zero, suc, ◌+◌, ◌/◌, ◌%◌, ◌<◌, ◌==◌, ◌||◌, Bool, List, [], ◌∷◌, length, bit_xor, slice_index, if◌then◌else◌}
+use Rattle.std.specs.Prelude.{◌≡◌, ℕ, zero, suc, ◌+◌, ◌/◌, ◌%◌, ◌<◌, ◌==◌, Bool, List, [], ◌∷◌, length, bit_xor, slice_index, if◌then◌else◌}
 use Rattle.gf_cantor.specs.Field.{product}
 use Rattle.namespace_id.specs.declared.shares.Share.{Share}
 use Rattle.namespace_id.specs.Sizes.{share_size}
+use Rattle.namespace_id.specs.Powers.{is_power}
 
 -- the subspace polynomials: s_0(x) = x, and s_(i+1)(x) = s_i(x)^2 + s_i(x)
 unfoldable pub subspace : ℕ → ℕ → ℕ
@@ -41,4 +42,4 @@ pub record Evaluates (shift : ℕ) (coefficients values : List Share) : Type 0 w
 
 -- whether a transform may have this length: a power of two from 1 to 256
 abbrev pub is_count : ℕ → Bool
-is_count n = (n == 1) || (n == 2) || (n == 4) || (n == 8) || (n == 16) || (n == 32) || (n == 64) || (n == 128) || (n == 256)
+is_count n = is_power n

@@ -13,7 +13,7 @@ use Rattle.namespace_id.specs.Shares.{AreShares}
 use Rattle.lch_fft.specs.Transforms.{is_count, value, Evaluates}
 use Rattle.lch_fft.specs.Butterflies.{bytes_sum, halvings}
 use Rattle.lch_fft.specs.Derivatives.{slopes, IsDerived}
-use Rattle.lch_fft.proofs.CountLemmas.{count-bounds, power_halvings, halvings-le}
+use Rattle.namespace_id.proofs.PowerLemmas.{power-le, power_halvings, halvings-le}
 use Rattle.lch_fft.proofs.DeriveLemmas.{is_slopes}
 use Rattle.lch_fft.proofs.ByteLemmas.{length-bytes_sum}
 use Rattle.lch_fft.proofs.SubspaceLemmas.{subspace_shifts}
@@ -106,7 +106,7 @@ derivatives old middle derived new count shares values steps found b hb =
     let ds : List ℕ = column b middle in
     let long : length middle ≡ length old = sym values.count in
     let few : halvings (length old) ≤ 8 = halvings-le (length old) count in
-    let bounds = count-bounds (length old) count in
+    let wide : length old ≤ 256 = power-le (length old) count in
     let power : 2 ^ halvings (length old) ≡ length old = power_halvings (length old) count in
     let as_many : length (column b middle) ≡ 2 ^ halvings (length old) = length-column b middle ∙ long ∙ sym power in
     let bytes : AreCoefficients (column b middle) = column_bytes b middle shares in

@@ -6,8 +6,8 @@ use Rattle.gf_cantor.specs.Field.{product}
 use Rattle.gf_cantor.proofs.Laws.{product-lt, product_comm, product_assoc, product-zero, one-product, has_inverse}
 use Rattle.byte_polynomial.specs.Polynomial.{value_at, AreCoefficients, Avoids, ArePoints, PassesThrough}
 use Rattle.byte_polynomial.proofs.Sums.{sum, scaled, value_at-sum, value_at-scaled, length-sum, length-scaled, AreCoefficients-sum, AreCoefficients-scaled, value_at-lt}
-use Rattle.byte_polynomial.proofs.Through.{vanishing, length-vanishing, AreCoefficients-vanishing, value_at-vanishing, value_at-vanishing_none, vanishing_elsewhere, VanishesAt, vanishes, takes_still}
-use Rattle.byte_polynomial.proofs.Roots.{one_polynomial}
+use Rattle.byte_polynomial.proofs.Through.{vanishing, length-vanishing, AreCoefficients-vanishing, value_at-vanishing, value_at-vanishing_none, vanishing_elsewhere, vanishes, takes_still}
+use Rattle.byte_polynomial.proofs.Roots.{one_polynomial, AreRoots}
 use Rattle.leopard_code.specs.Codewords.{weighted}
 use Rattle.leopard_code.proofs.DifferenceLemmas.{away}
 
@@ -44,14 +44,14 @@ points_middle (b ∷ before) p ps h =
     (rest.0, ((λ e. apart.0 (sym e)), rest.1), (h.0, apart.1, rest.2))
 
 -- a polynomial that vanishes at two lists of points vanishes at each
-vanishes-append : (cs xs ys : List ℕ) → VanishesAt cs (xs ++ ys) → VanishesAt cs xs × VanishesAt cs ys
-unfolding VanishesAt
+vanishes-append : (cs xs ys : List ℕ) → AreRoots cs (xs ++ ys) → AreRoots cs xs × AreRoots cs ys
+unfolding AreRoots
 vanishes-append cs [] ys h = (tt, h)
 vanishes-append cs (x ∷ xs) ys h = let rest = vanishes-append cs xs ys h.1 in ((h.0, rest.0), rest.1)
 
 -- a sum with a multiple vanishes where both polynomials do
-vanishes_still : (cs ns : List ℕ) (c : ℕ) (xs : List ℕ) → VanishesAt cs xs → VanishesAt ns xs → VanishesAt (sum cs (scaled c ns)) xs
-unfolding VanishesAt
+vanishes_still : (cs ns : List ℕ) (c : ℕ) (xs : List ℕ) → AreRoots cs xs → AreRoots ns xs → AreRoots (sum cs (scaled c ns)) xs
+unfolding AreRoots
 vanishes_still cs ns c [] h g = tt
 vanishes_still cs ns c (x ∷ xs) h g = (
   value_at-sum cs (scaled c ns) x ∙ ap₂ bit_xor h.0 (value_at-scaled c ns x ∙ ap (product c) g.0 ∙ product-zero c),
@@ -59,8 +59,8 @@ vanishes_still cs ns c (x ∷ xs) h g = (
 )
 
 -- the zero polynomial vanishes everywhere
-zero_vanishes : (xs : List ℕ) → VanishesAt [] xs
-unfolding VanishesAt value_at
+zero_vanishes : (xs : List ℕ) → AreRoots [] xs
+unfolding AreRoots value_at
 zero_vanishes [] = tt
 zero_vanishes (x ∷ xs) = (refl, zero_vanishes xs)
 
@@ -98,9 +98,9 @@ more_left before p ps y ys c cs x (w ∷ ws) h rest first =
 
 -- a polynomial through the points that is 0 at those before, whose values the weights give
 lagrange_from : (before xs ys : List ℕ) → length xs ≡ length ys → ArePoints (before ++ xs) → AreCoefficients ys
-    → (cs : List ℕ) × (length cs ≤ length before + length xs) × AreCoefficients cs × VanishesAt cs before × PassesThrough cs xs ys
+    → (cs : List ℕ) × (length cs ≤ length before + length xs) × AreCoefficients cs × AreRoots cs before × PassesThrough cs xs ys
     × ((x : ℕ) (ws : List ℕ) → AreWeights before xs x ws → weighted ws ys ≡ value_at cs x)
-unfolding AreCoefficients PassesThrough AreWeights weighted value_at VanishesAt
+unfolding AreCoefficients PassesThrough AreWeights weighted value_at AreRoots
 lagrange_from before [] [] same points bytes = ([], omega arith, tt, zero_vanishes before, tt, λ x ws h. none_left before x ws h)
 lagrange_from before [] (y ∷ ys) same points bytes = absurd (omega arith)
 lagrange_from before (p ∷ ps) [] same points bytes = absurd (omega arith)

@@ -27,14 +27,6 @@ length-subspace (suc i) =
     let half : length (subspace_polynomial i) ≡ 2 ^ i + 1 = length-subspace i in
     omega (arith, double i, length-sum (multiplied s s) s, length-multiplied s s (omega arith) (omega arith))
 
--- s_i has bytes as coefficients
-AreCoefficients-subspace : (i : ℕ) → AreCoefficients (subspace_polynomial i)
-unfolding subspace_polynomial AreCoefficients
-AreCoefficients-subspace zero = (omega arith, (omega arith, tt))
-AreCoefficients-subspace (suc i) =
-    AreCoefficients-sum (multiplied (subspace_polynomial i) (subspace_polynomial i)) (subspace_polynomial i)
-    (AreCoefficients-multiplied (subspace_polynomial i) (subspace_polynomial i)) (AreCoefficients-subspace i)
-
 -- the polynomial has the values of s_i
 pub value_at-subspace : (i x : ℕ) → x < 256 → value_at (subspace_polynomial i) x ≡ subspace i x
 unfolding subspace_polynomial subspace value_at

@@ -2,7 +2,6 @@
 -- pos is taken as a point: the sum of a codeword's points and k are its positions.
 use Rattle.std.proofs.Common.{◌≡◌, ◌≢◌, ◌∙◌, ℕ, ◌+◌, ◌*◌, ◌<◌, ◌≤◌, List, ◌∷◌, ◌++◌, length, get_or, sym, ap, ap₂, subst, arith, IsTrue, inl, inr}
 use Rattle.std.specs.Prelude.{bit_xor, slice_get}
-use Rattle.std.proofs.lemmas.Bool.Decides.{nat_tests}
 use Rattle.std.proofs.lemmas.List.{get_or-map}
 use Rattle.gf_cantor.specs.Field.{product}
 use Rattle.gf_cantor.proofs.Laws.{product_comm, product-zero}
@@ -10,6 +9,7 @@ use Rattle.namespace_id.specs.declared.shares.Share.{Share}
 use Rattle.namespace_id.specs.Shares.{AreShares}
 use Rattle.namespace_id.specs.Cells.{is_width}
 use Rattle.namespace_id.proofs.WidthLemmas.{is_width-le}
+use Rattle.namespace_id.proofs.AllCellsLemmas.{width-ge}
 use Rattle.byte_polynomial.specs.Polynomial.{value_at, AreCoefficients, ArePoints, PassesThrough}
 use Rattle.byte_polynomial.proofs.Sums.{value_at-lt}
 use Rattle.byte_polynomial.proofs.Through.{through}
@@ -24,10 +24,6 @@ use Rattle.leopard_code.proofs.MissingLemmas.{IsKnown, IsMissing, Stands, length
 use Rattle.leopard_code.proofs.StandingLemmas.{stands, positions_rise}
 use Rattle.leopard_code.proofs.LocatorLemmas.{apart_from-avoids, apart_from-middle}
 use Rattle.leopard_code.proofs.ErasureLemmas.{away-root, missing_value}
-
--- a width is not 0
-width-pos : (k : ℕ) → IsTrue (is_width k) → 0 < k
-width-pos k h = grind (arith, nat_tests)
 
 -- what the calls of `rebuild` make, one after another, of shares at known positions
 pub record IsRebuilding (k : ℕ) (known : List ℕ) (shares : List Share) (values : List ℕ) (blank multiplied derived divided word : List Share) : Type 0 where
@@ -128,7 +124,7 @@ module _ (k : ℕ) (known : List ℕ) (shares : List Share) (values : List ℕ) 
       r.located pos h ∙ ap (λ (l : List ℕ). apart_from l pos) s.parts
       ∙ apart_from-middle s.before s.after pos (subst ArePoints s.parts (points_missing (2 * k) 0 known (omega arith))) in
       sym (found.4 pos (omega (arith, h, r.long)))
-      ∙ missing_value moved found.0 s.before s.after pos (2 * k) (omega arith) (omega (arith, same_length, width-pos k r.width)) (omega (arith, found.1, r.long))
+      ∙ missing_value moved found.0 s.before s.after pos (2 * k) (omega arith) (omega (arith, same_length, width-ge k r.width)) (omega (arith, found.1, r.long))
       (omega (arith, same_length, ap length s.parts, lost, r.count)) found.2 agree
       ∙ ap (product (value_at moved pos)) (sym apart)
 

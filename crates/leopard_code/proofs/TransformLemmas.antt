@@ -1,23 +1,18 @@
 -- Originals and what both transforms make of them are a codeword.
 use Rattle.std.proofs.Common.{◌≡◌, ◌∙◌, ℕ, zero, suc, ◌+◌, ◌<◌, ◌≤◌, List, [], ◌∷◌, ◌++◌, length, get_or, ◌^◌, sym, ap, subst, arith, length-append, IsTrue}
-use Rattle.std.proofs.lemmas.Bool.Decides.{nat_tests}
 use Rattle.namespace_id.specs.declared.shares.Share.{Share}
 use Rattle.namespace_id.specs.Shares.{AreShares}
 use Rattle.namespace_id.specs.Cells.{is_width}
 use Rattle.byte_polynomial.specs.Polynomial.{value_at, PassesThrough}
 use Rattle.lch_fft.specs.Transforms.{is_count, Evaluates}
 use Rattle.lch_fft.specs.Butterflies.{halvings}
-use Rattle.lch_fft.proofs.CountLemmas.{power_halvings, halvings-le}
+use Rattle.namespace_id.proofs.PowerLemmas.{width_power, power_halvings, halvings-le}
 use Rattle.namespace_id.specs.Lists.{ascending}
 use Rattle.namespace_id.proofs.ShareLemmas.{AreShares-append}
 use Rattle.namespace_id.proofs.WidthLemmas.{is_width-le}
 use Rattle.leopard_code.specs.Codewords.{points, column, IsCodeword}
 use Rattle.leopard_code.proofs.NovelLemmas.{coefficients, length-coefficients, AreCoefficients-coefficients, value_at-coefficients}
 use Rattle.leopard_code.proofs.PointLemmas.{length-column, column-append, column_bytes, takes-append}
-
--- a width is a length of a transform
-pub count_of_width : (k : ℕ) → IsTrue (is_width k) → IsTrue (is_count k)
-count_of_width k h = grind (arith, nat_tests)
 
 -- values at the points from one on
 takes-values : (cs ys : List ℕ) (n first : ℕ) → length ys ≡ n → ((i : ℕ) → i < n → value_at cs (first + i) ≡ get_or ys i 0) → PassesThrough cs (ascending first n) ys
@@ -48,7 +43,7 @@ pub codeword_by_transforms : (k : ℕ) (originals middle recovery : List Share) 
     → IsCodeword k (originals ++ recovery)
 unfolding points
 codeword_by_transforms k originals middle recovery width long so sm sr back forth =
-    let count : IsTrue (is_count k) = count_of_width k width in
+    let count : IsTrue (is_count k) = width_power k width in
     let narrow : k ≤ 128 = is_width-le k width in
     let power : 2 ^ halvings k ≡ k = power_halvings k count in
     let middle_long : length middle ≡ k = sym back.count ∙ long in

@@ -1,4 +1,4 @@
-//! The locator of the missing positions: the polynomial that is 0 just there.
+//! The locator of the missing positions: the polynomial that is 0 exactly there.
 
 ghost use Rattle.std.specs.Prelude.{◌≡◌, ◌<◌, ◌≤◌, ◌+◌, ◌*◌, ℕ, length, slice_index};
 ghost use Rattle.gf_cantor.specs.Field.{label, power, product};
@@ -7,7 +7,7 @@ ghost use Rattle.leopard_code.specs.Locators.{missing_from, difference, apart_fr
 use gf_cantor::{exp, log};
 
 /// Adds the logarithm of the difference of each place and `pos` to the sum at the place, but none
-/// to the sum at `pos` itself. One is at most 254, so there is room for those of 256 positions.
+/// to the sum at `pos` itself. One is at most 254, so those of 256 positions fit.
 fn add_logarithms(sums: &mut [u16; 256], count: usize, pos: usize)
     requires count { count ≤ 256 }
     requires pos { pos < 256 }

@@ -1,4 +1,4 @@
-//! Room for the code of one width.
+//! A room for the code of one width.
 
 ghost use Rattle.std.specs.Prelude.{◌≡◌, IsTrue, IfOk};
 ghost use Rattle.namespace_id.specs.Cells.{is_width};
@@ -28,14 +28,12 @@ impl Model for Room {
 }
 
 impl Room {
-    /// Room for the code of width `k`. It takes all memory that the code needs, 2k bytes.
+    /// A room for the code of width `k`. It takes all memory that the code needs, 2k bytes.
     pub fn new(alloc: Global, k: u16) -> Result<Room, NoMemory>
         requires { IsTrue (is_width k) }
         ensures { IfOk result (λ room. room ≡ k) }
     {
-        let Ok(locator) = vec![in alloc; 0; 2 * k as usize] else {
-            return Err(NoMemory);
-        };
+        let locator = vec![in alloc; 0; 2 * k as usize]?;
         Ok(Room { k, locator })
     }
 }

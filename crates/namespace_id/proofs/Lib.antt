@@ -7,10 +7,15 @@ pub mod AlongLemmas
 pub mod HalfLemmas
 pub mod DoublingLemmas
 pub mod WidthLemmas
+pub mod PowerLemmas
 pub mod AscendingLemmas
+pub mod AscentLemmas
 pub mod MemberLemmas
+pub mod ZipLemmas
+pub mod RefusalLemmas
 pub mod NumberLemmas
 pub mod RowMajorLemmas
 pub mod RoomLemmas
 pub mod AllCellsLemmas
 pub mod KeyLemmas
+pub mod BelowLemmas

@@ -16,7 +16,7 @@ pub in_square : (k : ℕ) (cell : Cell) → cell.row < 2 * k → cell.col < 2 * 
 in_square k cell row col = grind (arith, nat_tests)
 
 -- a row ends before a later one begins
-row_before : (m j n : ℕ) → m < j → m * n + n ≤ j * n
+pub row_before : (m j n : ℕ) → m < j → m * n + n ≤ j * n
 row_before m j n h =
     let more : (m + 1) * n ≤ j * n = mul-le-mul_right n (omega arith) in omega arith
 

@@ -55,7 +55,7 @@ module _ (k : ℕ) (cells : List Cell) (cell : Cell) (are : are_cells k cells �
       cells_from k (cells ++ cell ∷ []) parts.0 (all_next (is_in_square k) cells cell parts.1 within)
       (along_next is_before cells cell parts.2 after)
 
-  -- so there was room for it
+  -- so there was capacity for it
   pub cells_fewer : length cells < 2 * k * (2 * k)
   cells_fewer = omega (arith, cells_count k (cells ++ cell ∷ []) are_cells_with, length-append cells (cell ∷ []))
 

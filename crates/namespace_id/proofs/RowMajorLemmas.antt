@@ -103,7 +103,7 @@ cells_once k cells others first second same =
 
 -- ---- how many there are
 
--- behind a cell there is room for so many as have higher numbers
+-- behind a cell stand at most as many as have higher numbers
 count_from : (k : ℕ) (a : Cell) (cells : List Cell) → list_all (is_in_square k) (a ∷ cells) ≡ true
     → holds_along is_before (a ∷ cells) ≡ true
     → a.row * (2 * k) + a.col + length (a ∷ cells) ≤ 2 * k * (2 * k)

@@ -7,7 +7,7 @@ abbrev pub Gives : {X Y : Type 0} → (X → Y) → Option X → Option Y → Ty
 Gives view None read = read ≡ None
 Gives view (Some x) read = read ≡ Some (view x)
 
--- there is room for so many values more
+-- there is capacity for so many values more
 abbrev pub HasRoom : {A : Type 0} → Vec A Global → ℕ → Type 0
 HasRoom out count = vec_len out + count ≤ vec_capacity out
 

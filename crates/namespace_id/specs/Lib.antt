@@ -6,4 +6,5 @@ pub mod Digests
 pub mod Cells
 pub mod Lists
 pub mod Doublings
+pub mod Powers
 pub mod Answers

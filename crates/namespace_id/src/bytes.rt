@@ -18,7 +18,7 @@ pub fn write_at(bytes: &mut [u8], at: usize, part: &[u8])
     bytes[at..at + part.len()].copy_from_slice(part);
 }
 
-/// Appends bytes for which there is room.
+/// Appends bytes for which there is capacity.
 pub fn append(out: &mut Vec<u8>, bytes: &[u8])
     requires room { HasRoom out.old (length bytes.now) }
     ensures appended { out.new.items ≡ out.old.items ++ bytes.now }

@@ -12,6 +12,9 @@ use crate::{DIGEST_SIZE, NAMESPACE_SIZE, Namespace, bytes_law};
 #[derive(Clone, Copy, Debug, PartialEq, Eq)]
 pub struct Digest(pub [u8; DIGEST_SIZE]);
 
+/// A digest of zeros, for a place that nothing has been written to.
+pub const BLANK_DIGEST: Digest = Digest([0; DIGEST_SIZE]);
+
 impl Digest {
     /// The least namespace below the node, bytes 0 to 28.
     ///

@@ -18,7 +18,7 @@ pub use bytes::{append, bytes_law, write_at};
 pub use cells::{
     Axis, Cell, Cells, cell_numbered, cells_laws, is_before, is_in_square, is_width, leaf_namespace,
 };
-pub use digests::{Digest, digest_law, digests_law};
+pub use digests::{BLANK_DIGEST, Digest, digest_law, digests_law};
 pub use memory::NoMemory;
 pub use namespaces::{
     Namespace, NsError, PARITY, PAY_FOR_BLOB, PRIMARY_RESERVED_PADDING, TAIL_PADDING, TRANSACTION,

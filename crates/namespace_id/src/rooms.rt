@@ -8,9 +8,9 @@ use crate::{Cell, Cells, NoMemory};
 use std::alloc::Global;
 use std::marker::Model;
 
-/// A list of cells with room for every cell of its square: cells of the extended square of width
-/// `k`, strictly ascending in row-major order, in memory that was taken for 4k² of them. Contracts
-/// see its width and its list.
+/// A list of cells with capacity for every cell of its square: cells of the extended square of
+/// width `k`, strictly ascending in row-major order, in memory that was taken for 4k² of them.
+/// Contracts see its width and its list.
 #[derive(Debug, Drop)]
 pub struct CellRoom {
     k: u16,
@@ -38,9 +38,7 @@ impl CellRoom {
         ensures list { IfOk result (λ room. room.list ≡ []) }
     {
         let in_row = 2 * k as usize;
-        let Ok(list) = Vec::with_capacity(alloc, in_row * in_row) else {
-            return Err(NoMemory);
-        };
+        let list = Vec::with_capacity(alloc, in_row * in_row)?;
         Ok(CellRoom { k, list })
     }
 
@@ -62,7 +60,7 @@ impl CellRoom {
         }
     }
 
-    /// Empties the list. Its room stays.
+    /// Empties the list. Its capacity stays.
     pub fn clear(&mut self)
         ensures k { self.new.k ≡ self.old.k }
         ensures list { self.new.list ≡ [] }
@@ -70,7 +68,7 @@ impl CellRoom {
         self.list.clear();
     }
 
-    /// Adds a cell of the square that comes after every cell of the list. There is room for it.
+    /// Adds a cell of the square that comes after every cell of the list. There is capacity for it.
     pub fn add(&mut self, cell: Cell)
         requires cell { IsTrue (is_in_square self.old.k cell) }
         requires after { IsTrue (list_all (λ other. is_before other cell) self.old.list) }

@@ -38,9 +38,9 @@ none_where x y rest e = elim (cases_Bool (bytes_eq x y)) [
 ]
 
 -- what either of two searches found
-or_cases : (o p : Option (List ℕ × List ℕ)) (w : List ℕ × List ℕ) → option_or o p ≡ Some w → (o ≡ Some w) ⊎ (p ≡ Some w)
-or_cases None p w e = inr e
-or_cases (Some x) p w e = inl e
+pub or_found : (o p : Option (List ℕ × List ℕ)) (w : List ℕ × List ℕ) → option_or o p ≡ Some w → (o ≡ Some w) ⊎ (p ≡ Some w)
+or_found None p w e = inr e
+or_found (Some x) p w e = inl e
 
 -- each of two found nothing, where neither found anything
 pub or_none : (o p : Option (List ℕ × List ℕ)) → option_or o p ≡ None → (o ≡ None) × (p ≡ None)
@@ -73,7 +73,7 @@ found_is_clash (join l r) (join u v) a b h k e f =
     elim (compared (join_text (digest_of l) (digest_of r)) (join_text (digest_of u) (digest_of v)) a b (option_or (clash_at l u) (clash_at r v)) f) [
       | inl x ↦
           let same = join_parts (digest_of l) (digest_of r) (digest_of u) (digest_of v) hl hu x.0 in
-          elim (or_cases (clash_at l u) (clash_at r v) (a, b) x.1) [
+          elim (or_found (clash_at l u) (clash_at r v) (a, b) x.1) [
             | inl y ↦ found_is_clash l u a b h.0 k.0 same.0 y
             | inr y ↦ found_is_clash r v a b h.1 k.1 same.1 y
           ]

@@ -1,4 +1,4 @@
--- The first node that leaves room, by the parts of an opening.
+-- The first node that leaves a place, by the parts of an opening.
 use Rattle.std.proofs.Common.{◌≡◌, ◌∙◌, ℕ, suc, ◌+◌, List, [], ◌∷◌, ◌++◌, Bool, true, false, cond, Option, Some, None, ap, ap₂, sym, refl, length, take, drop, get_or, arith}
 use Rattle.std.specs.Prelude.{nat_lt}
 use Rattle.std.specs.Option.{option_or}
@@ -11,7 +11,7 @@ or_choice : (k : Bool) (a b : Option ℕ) (i : ℕ) → cond k (option_or a b) (
 or_choice true a b i = refl
 or_choice false a b i = refl
 
--- without nodes none leaves room
+-- without nodes none leaves a place
 first_break-none : (name : Namespace) (from number : ℕ) (xs : List (ℕ × ℕ)) → first_break name from number xs [] ≡ None
 unfolding first_break
 first_break-none name from number [] = refl
@@ -43,7 +43,7 @@ pub first_break-nothing : (name : Namespace) (from number : ℕ) (xs : List (ℕ
 unfolding first_break
 first_break-nothing name from number xs ns e = sym (ap (λ (l : List (ℕ × ℕ)). first_break name from number l ns) e)
 
--- an interval that takes one node, whether or not that leaves room
+-- an interval that takes one node, whether or not that leaves a place
 pub first_break-only : (name : Namespace) (from number start depth : ℕ) (xs : List (ℕ × ℕ)) (ns : List Digest) (o : Digest) (b : Bool) → xs ≡ (start, depth) ∷ []
     → length ns ≡ length xs → b ≡ excludes name (nat_lt start from) (get_or ns 0 o) → cond b None (Some number) ≡ first_break name from number xs ns
 first_break-only name from number start depth xs ns o b e count test =

@@ -1,11 +1,14 @@
 -- Each cause, from the checks of the body.
-use Rattle.std.proofs.Common.{◌≡◌, ℕ, Bool, true, false, Option, Some, None, refl, sym, ap, ◌∙◌, Result, Ok, Err, IsOk}
+use Rattle.std.proofs.Common.{◌≡◌, ℕ, Bool, true, false, Option, Some, None, refl, sym, ap, ◌∙◌, Result, Ok, Err, IsOk, List}
 use Rattle.std.proofs.lemmas.Bool.{true≢false}
 use Rattle.nmt_proofs.specs.declared.opening.OpenRefusal.{OpenRefusal}
 use Rattle.nmt_proofs.specs.declared.opening.OpenRefusal.TheVariants.{NodeCount, Unordered, OtherRoot, Incomplete}
 use Rattle.std.specs.Prelude.{IsErrOf}
+use Rattle.std.proofs.lemmas.Option.{none-some}
 use Rattle.namespace_id.specs.Answers.{refusal_in}
-use Rattle.nmt_proofs.specs.Causes.{HasCause, opening_refusal}
+use Rattle.namespace_id.specs.declared.digests.Digest.{Digest}
+use Rattle.nmt_proofs.specs.Causes.{HasCause, opening_refusal, set_refusal}
+use Rattle.nmt_proofs.specs.Openings.{Shown, Opens, has_count, has_order, has_root}
 
 -- the answer is `Ok` exactly where every check holds
 pub accepts : (r : Result (Unit {0}) OpenRefusal) (c o v : Bool) (b : Option ℕ) → HasCause r c o v b
@@ -42,7 +45,7 @@ other_root (Err Unordered) c o v b h = (λ k. absurd (cc), λ k. absurd (true≢
 other_root (Err OtherRoot) c o v b h = (λ k. h, λ k. refl)
 other_root (Err (Incomplete i)) c o v b h = (λ k. absurd (cc), λ k. absurd (true≢false (sym h.2 ∙ k.2)))
 
--- a node exactly where it is the first that leaves room, and all else holds
+-- a node exactly where it is the first that leaves a place, and all else holds
 pub incomplete : (r : Result (Unit {0}) OpenRefusal) (c o v : Bool) (b : Option ℕ) → HasCause r c o v b → (i : ℕ)
     → (IsErrOf r (Incomplete i) → (c ≡ true) × (o ≡ true) × (v ≡ true) × (b ≡ Some i)) × ((c ≡ true) × (o ≡ true) × (v ≡ true) × (b ≡ Some i) → IsErrOf r (Incomplete i))
 incomplete (Ok done) c o v b h i = (λ k. absurd (cc), λ k. let e : None ≡ Some i = sym h.3 ∙ k.3 in absurd (cc))
@@ -78,3 +81,20 @@ never_incomplete (Err NodeCount) c o v h i k = absurd cc
 never_incomplete (Err Unordered) c o v h i k = absurd cc
 never_incomplete (Err OtherRoot) c o v h i k = absurd cc
 never_incomplete (Err (Incomplete j)) c o v h i k = let e : None ≡ Some j = h.3 in absurd cc
+
+-- three checks hold where none of them is refused
+checks_hold : (c o v : Bool) → opening_refusal c o v None ≡ None → (c ≡ true) × (o ≡ true) × (v ≡ true)
+checks_hold true true true e = (refl, refl, refl)
+checks_hold true true false e = absurd (none-some _ (sym e))
+checks_hold true false v e = absurd (none-some _ (sym e))
+checks_hold false o v e = absurd (none-some _ (sym e))
+
+-- nodes open what is shown where they aren't refused
+pub opens_where : (d : ℕ) (ss : List Shown) (nodes : List Digest) (root : Digest) → set_refusal d ss nodes root ≡ None → Opens d ss nodes root
+opens_where d ss nodes root e =
+    let all = checks_hold (has_count d ss nodes) (has_order d ss nodes) (has_root d ss nodes root) e in
+    record { count = all.0; order = all.1; value = all.2 }
+
+-- and the other way round
+pub not_refused_where : (d : ℕ) (ss : List Shown) (nodes : List Digest) (root : Digest) → Opens d ss nodes root → set_refusal d ss nodes root ≡ None
+not_refused_where d ss nodes root h = λ i. opening_refusal (h.count i) (h.order i) (h.value i) None

@@ -25,7 +25,7 @@ use Rattle.nmt_proofs.proofs.BesideLemmas.{IsBeside, IsFound}
 abbrev pub IsExcluded : Namespace → ℕ → List Digest → ℕ × ℕ → Type 0
 IsExcluded name from leaves x = excludes name (nat_lt x.0 from) (span leaves x.0 x.1) ≡ true
 
--- where each does, no node leaves room
+-- where each does, no node leaves a place
 pub break_none : (name : Namespace) (from number : ℕ) (leaves : List Digest) (xs : List (ℕ × ℕ)) → AllByRecursion (IsExcluded name from leaves) xs
     → first_break name from number xs (spans leaves xs) ≡ None
 unfolding first_break
@@ -34,7 +34,7 @@ break_none name from number leaves (x ∷ xs) each =
     ap (λ (b : Bool). cond b (first_break name from (suc number) xs (spans leaves xs)) (Some number)) each.0
     ∙ break_none name from (suc number) leaves xs each.1
 
--- and where no node leaves room, each does
+-- and where no node leaves a place, each does
 pub none_breaks : (name : Namespace) (from number : ℕ) (leaves : List Digest) (xs : List (ℕ × ℕ)) → first_break name from number xs (spans leaves xs) ≡ None
     → AllByRecursion (IsExcluded name from leaves) xs
 unfolding first_break

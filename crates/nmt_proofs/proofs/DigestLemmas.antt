@@ -19,6 +19,10 @@ use Rattle.namespace_id.proofs.StringLemmas.{AreBytes-take, AreBytes-drop, AreBy
 use Rattle.nmt_tree.specs.Digests.{leaf_digest, joined_greatest, node_digest}
 use Rattle.nmt_proofs.specs.Clashes.{leaf_text, join_text}
 
+-- digests with the same bytes are one
+pub same_digest : (d e : Digest) → d.0 ≡ e.0 → d ≡ e
+same_digest d e same = ap (λ (bytes : List ℕ). record { 0 = bytes }) same
+
 -- lists that are joined of parts of one length have the same parts
 pub append_parts : (a b c d : List ℕ) → length a ≡ length c → a ++ b ≡ c ++ d → (a ≡ c) × (b ≡ d)
 append_parts [] b [] d same e = (refl, e)

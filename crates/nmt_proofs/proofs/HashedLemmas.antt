@@ -9,7 +9,7 @@ use Rattle.std.proofs.Math.Nat.{pow-suc}
 use Rattle.nmt_proofs.specs.Parts.{Part, given, leaf, join, digest_of}
 use Rattle.nmt_proofs.specs.Clashes.{HasDepth, leaf_text, join_text, apart_or, clash_at}
 use Rattle.nmt_proofs.specs.Hashed.{Text, hashed, is_one_interval, text_for, first_apart}
-use Rattle.nmt_proofs.proofs.ListLemmas.{each-append}
+use Rattle.nmt_proofs.proofs.ListLemmas.{each-append, each-then}
 
 -- what comes after two strings may come in two parts
 apart_seq : (a b : List ℕ) (o p : Option (List ℕ × List ℕ)) → apart_or a b (option_or o p) ≡ option_or (apart_or a b o) p
@@ -45,11 +45,6 @@ unfolding first_apart text_for
 apart_none [] = refl
 apart_none (s ∷ xs) = apart_none xs
 
--- what follows from a fact of each element
-each-imp : {A : Type 0} (P Q : A → Type 0) → ((a : A) → P a → Q a) → (xs : List A) → AllByRecursion P xs → AllByRecursion Q xs
-each-imp P Q f [] h = tt
-each-imp P Q f (x ∷ xs) h = (f x h.0, each-imp P Q f xs h.1)
-
 -- the intervals of a part lie within it
 abbrev IsWithin : ℕ → ℕ → ℕ → Text → Type 0
 IsWithin low high depth s = (low ≤ s.start) × (s.start < high) × (s.depth ≤ depth)
@@ -66,8 +61,8 @@ within (suc d) st (join l r) =
     let twice : 2 ^ suc d ≡ 2 ^ d * 2 = pow-suc 2 d in (
       (omega arith, omega (arith, twice, pow_pos d), omega arith),
       each-append (IsWithin st (st + 2 ^ suc d) (suc d)) (hashed d st l) (hashed d (st + 2 ^ d) r)
-          (each-imp (IsWithin st (st + 2 ^ d) d) (IsWithin st (st + 2 ^ suc d) (suc d)) (λ s w. (w.0, omega (arith, w.1, twice), omega (arith, w.2))) (hashed d st l) (within d st l))
-          (each-imp (IsWithin (st + 2 ^ d) (st + 2 ^ d + 2 ^ d) d) (IsWithin st (st + 2 ^ suc d) (suc d))
+          (each-then (IsWithin st (st + 2 ^ d) d) (IsWithin st (st + 2 ^ suc d) (suc d)) (λ s w. (w.0, omega (arith, w.1, twice), omega (arith, w.2))) (hashed d st l) (within d st l))
+          (each-then (IsWithin (st + 2 ^ d) (st + 2 ^ d + 2 ^ d) d) (IsWithin st (st + 2 ^ suc d) (suc d))
           (λ s w. (omega (arith, w.0), omega (arith, w.1, twice), omega (arith, w.2))) (hashed d (st + 2 ^ d) r) (within d (st + 2 ^ d) r)),
     )
 
@@ -132,16 +127,16 @@ first_apart-clash_at (suc d) st (join l r) (join u v) dp dq =
     let here : ((st == st) && (suc d == suc d)) ≡ true = and_from _ _ (eq-eqb st st refl) (eq-eqb (suc d) (suc d) refl) in
     let left : first_apart ls (top ∷ us ++ vs) ≡ clash_at l u =
     apart_same ls (top ∷ us ++ vs) us
-    (each-imp (IsWithin st m d) (λ (s : Text). text_for s (top ∷ us ++ vs) ≡ text_for s us)
+    (each-then (IsWithin st m d) (λ (s : Text). text_for s (top ∷ us ++ vs) ≡ text_for s us)
     (λ s w. text_skip s top (us ++ vs) (λ x y. omega (arith, w.2, y))
-    ∙ text_front s us vs (text_none s vs (each-imp (IsWithin m (m + 2 ^ d) d) (IsElsewhere s) (λ t z x y. omega (arith, w.1, z.0, x)) vs (within d m v))))
+    ∙ text_front s us vs (text_none s vs (each-then (IsWithin m (m + 2 ^ d) d) (IsElsewhere s) (λ t z x y. omega (arith, w.1, z.0, x)) vs (within d m v))))
     ls (within d st l))
     ∙ first_apart-clash_at d st l u dp.0 dq.0 in
     let right : first_apart rs (top ∷ us ++ vs) ≡ clash_at r v =
     apart_same rs (top ∷ us ++ vs) vs
-    (each-imp (IsWithin m (m + 2 ^ d) d) (λ (s : Text). text_for s (top ∷ us ++ vs) ≡ text_for s vs)
+    (each-then (IsWithin m (m + 2 ^ d) d) (λ (s : Text). text_for s (top ∷ us ++ vs) ≡ text_for s vs)
     (λ s w. text_skip s top (us ++ vs) (λ x y. omega (arith, w.2, y))
-    ∙ text_back s us vs (each-imp (IsWithin st m d) (IsElsewhere s) (λ t z x y. omega (arith, w.0, z.1, x)) us (within d st u)))
+    ∙ text_back s us vs (each-then (IsWithin st m d) (IsElsewhere s) (λ t z x y. omega (arith, w.0, z.1, x)) us (within d st u)))
     rs (within d m r))
     ∙ first_apart-clash_at d m r v dp.1 dq.1 in
     let rest : first_apart (ls ++ rs) (top ∷ us ++ vs) ≡ option_or (clash_at l u) (clash_at r v) =

@@ -25,6 +25,16 @@ pub each-split : {A : Type 0} (P : A → Type 0) (xs ys : List A) → AllByRecur
 each-split P [] ys h = (tt, h)
 each-split P (x ∷ xs) ys h = let rest = each-split P xs ys h.1 in ((h.0, rest.0), rest.1)
 
+-- a fact of each element follows from another
+pub each-then : {A : Type 0} (P Q : A → Type 0) → ((x : A) → P x → Q x) → (xs : List A) → AllByRecursion P xs → AllByRecursion Q xs
+each-then P Q step [] h = tt
+each-then P Q step (x ∷ xs) h = (step x h.0, each-then P Q step xs h.1)
+
+-- two facts of each element are one
+pub each-both : {A : Type 0} (P Q : A → Type 0) (xs : List A) → AllByRecursion P xs → AllByRecursion Q xs → AllByRecursion (λ x. P x × Q x) xs
+each-both P Q [] h k = tt
+each-both P Q (x ∷ xs) h k = ((h.0, k.0), each-both P Q xs h.1 k.1)
+
 -- lists with one front and one rest are one list
 pub same_halves : {A : Type 0} (i : ℕ) (xs ys : List A) → take i xs ≡ take i ys → drop i xs ≡ drop i ys → xs ≡ ys
 same_halves i xs ys e f = sym (take-append-drop i xs) ∙ ap₂ (λ (x y : List _). x ++ y) e f ∙ take-append-drop i ys

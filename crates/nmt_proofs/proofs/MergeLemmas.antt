@@ -3,7 +3,7 @@ use Rattle.std.proofs.Common.{◌≡◌, ◌∙◌, ℕ, zero, suc, ◌+◌, ◌
 use Rattle.std.specs.List.{AllByRecursion}
 use Rattle.std.specs.Option.{option_or}
 use Rattle.std.proofs.lemmas.Bool.{cases_Bool, and_parts, eq-eqb, le-ltb}
-use Rattle.std.proofs.lemmas.List.{take-map, drop-map}
+use Rattle.std.proofs.lemmas.List.{take-map, drop-map, get_or-take, get_or-drop}
 use Rattle.std.proofs.lemmas.Slice.Eq.{bytes_eq-Decides}
 use Rattle.std.proofs.Math.Nat.{pow-suc}
 use Rattle.namespace_id.specs.declared.digests.Digest.{Digest}
@@ -15,24 +15,15 @@ use Rattle.nmt_proofs.specs.Openings.{Shown, begun, is_interval, outside, opened
 use Rattle.nmt_proofs.specs.Clashes.{clash_at, join_text, IsSized, ArePlaces}
 use Rattle.nmt_proofs.specs.Places.{AreAscending}
 use Rattle.nmt_proofs.specs.Merging.{Branch, shown_of, leaves_of, merged_nodes, branch_tree, HoldsFrom, HoldsAlong, AreAlike, IsBranch, AreBranches}
-use Rattle.nmt_proofs.proofs.ListLemmas.{each-take, each-drop}
+use Rattle.nmt_proofs.proofs.ListLemmas.{each-take, each-drop, each-then, each-both}
 use Rattle.nmt_proofs.proofs.BegunLemmas.{places-halves}
 use Rattle.nmt_proofs.proofs.SingleLemmas.{single, opened_left, opened_right}
 use Rattle.nmt_proofs.proofs.DigestLemmas.{join_parts}
 use Rattle.nmt_proofs.proofs.AgreeLemmas.{digest-sized, none_where, or_none}
 use Rattle.nmt_proofs.proofs.ShownLemmas.{opening-sized}
+use Rattle.nmt_proofs.proofs.MadeLemmas.{and_true}
 
 -- ---- lists
-
--- what holds of each element by another fact
-each-weaken : {A : Type 0} (P Q : A → Type 0) (xs : List A) → ((x : A) → P x → Q x) → AllByRecursion P xs → AllByRecursion Q xs
-each-weaken P Q [] f h = tt
-each-weaken P Q (x ∷ xs) f h = (f x h.0, each-weaken P Q xs f h.1)
-
--- both facts hold of each
-each-both : {A : Type 0} (P Q : A → Type 0) (xs : List A) → AllByRecursion P xs → AllByRecursion Q xs → AllByRecursion (λ x. P x × Q x) xs
-each-both P Q [] h k = tt
-each-both P Q (x ∷ xs) h k = ((h.0, k.0), each-both P Q xs h.1 k.1)
 
 from-take : {A : Type 0} (R : A → A → Type 0) (n : ℕ) (x : A) (ys : List A) → HoldsFrom R x ys → HoldsFrom R x (take n ys)
 from-take R zero x ys h = tt
@@ -90,22 +81,6 @@ tree_halves : (d st t : ℕ) (b : Branch) → tree_in (suc d) st t b ≡ join (l
 unfolding tree_in left_in right_in
 tree_halves d st t b = choice (ltb b.pos (st + 2 ^ d)) (tree_in d st t b) (given (get_or b.nodes (t + d) no_digest)) (given (get_or b.nodes t no_digest)) (tree_in d (st + 2 ^ d) (suc t) b)
 
--- the nodes of a list at other places
-get_or-front : {A : Type 0} (n i : ℕ) (xs : List A) (o : A) → i < n → get_or (take n xs) i o ≡ get_or xs i o
-get_or-front zero i xs o h = absurd (omega arith)
-get_or-front (suc n) i [] o h = refl
-get_or-front (suc n) zero (x ∷ xs) o h = refl
-get_or-front (suc n) (suc i) (x ∷ xs) o h = get_or-front n i xs o (omega arith)
-
-get_or-nil : {A : Type 0} (i : ℕ) (o : A) → get_or [] i o ≡ o
-get_or-nil zero o = refl
-get_or-nil (suc i) o = refl
-
-get_or-behind : {A : Type 0} (n i : ℕ) (xs : List A) (o : A) → get_or (drop n xs) i o ≡ get_or xs (n + i) o
-get_or-behind zero i xs o = let e : i ≡ 0 + i = omega arith in ap (λ (k : ℕ). get_or xs k o) e
-get_or-behind (suc n) i [] o = get_or-nil i o ∙ sym (get_or-nil (suc n + i) o)
-get_or-behind (suc n) i (x ∷ xs) o = let e : suc (n + i) ≡ suc n + i = omega arith in get_or-behind n i xs o ∙ ap (λ (k : ℕ). get_or (x ∷ xs) k o) e
-
 -- what is opened of one leaf is the branch's tree
 opened-tree : (d st t : ℕ) (b : Branch) (ns : List Digest) → ((i : ℕ) → i < d → get_or ns i no_digest ≡ get_or b.nodes (t + i) no_digest)
     → opened d st (one_leaf b.pos b.name b.share) ns ≡ tree_in d st t b
@@ -120,15 +95,15 @@ opened-tree (suc d) st t b ns h =
       | inl before ↦
           opened_left d st b.pos p ns before
           ∙ ap₂ (λ (x : Part) (y : Digest). join x (given y))
-          (opened-tree d st t b (take d ns) (λ i lt. get_or-front d i ns no_digest lt ∙ h i (omega arith)))
-          (get_or-behind d 0 ns no_digest ∙ ap (λ (k : ℕ). get_or ns k no_digest) (let e : d + 0 ≡ d = omega arith in e) ∙ h d (omega arith))
+          (opened-tree d st t b (take d ns) (λ i lt. get_or-take d ns i no_digest lt ∙ h i (omega arith)))
+          (get_or-drop d ns 0 no_digest ∙ ap (λ (k : ℕ). get_or ns k no_digest) (let e : d + 0 ≡ d = omega arith in e) ∙ h d (omega arith))
           ∙ sym (ap (λ (c : Bool). cond c L R) before)
       | inr past ↦
           opened_right d st b.pos p ns past
           ∙ ap₂ (λ (x : Digest) (y : Part). join (given x) y)
-          (get_or-front 1 0 ns no_digest (omega arith) ∙ h 0 (omega arith) ∙ ap (λ (k : ℕ). get_or b.nodes k no_digest) (let e : t + 0 ≡ t = omega arith in e))
+          (get_or-take 1 ns 0 no_digest (omega arith) ∙ h 0 (omega arith) ∙ ap (λ (k : ℕ). get_or b.nodes k no_digest) (let e : t + 0 ≡ t = omega arith in e))
           (opened-tree d m (suc t) b (drop 1 ns) (λ i lt.
-          get_or-behind 1 i ns no_digest ∙ h (1 + i) (omega arith) ∙ ap (λ (k : ℕ). get_or b.nodes k no_digest) (let e : t + (1 + i) ≡ suc t + i = omega arith in e)))
+          get_or-drop 1 ns i no_digest ∙ h (1 + i) (omega arith) ∙ ap (λ (k : ℕ). get_or b.nodes k no_digest) (let e : t + (1 + i) ≡ suc t + i = omega arith in e)))
           ∙ sym (ap (λ (c : Bool). cond c L R) past)
     ]
 
@@ -264,9 +239,6 @@ unfolding merged_nodes opened outside
 merged_none zero st t g D e = record { digest = e; order = refl; count = refl }
 merged_none (suc d) st t g D e = record { digest = e; order = refl; count = refl }
 
-three_true : (a b c : Bool) → a ≡ true → b ≡ true → c ≡ true → (a && b && c) ≡ true
-three_true a b c ha hb hc = (λ i. ha i && hb i && hc i)
-
 -- by those of both halves
 merged_halves : (d st t : ℕ) (g A B D gl gr : Digest) (b : Branch) (bs : List Branch) → b.nodes ≡ b.nodes
     → gl ≡ get_or b.nodes t no_digest → gr ≡ get_or b.nodes (t + d) no_digest
@@ -300,7 +272,7 @@ merged_halves d st t g A B D gl gr b bs same el er en eo l r =
     (ap₂ (λ (x : List Shown) (y : List Digest). opened d m x y) rs (behind lm rm j count)) in
     record {
       digest = ap digest_of whole ∙ ap₂ node_digest l.digest r.digest ∙ en;
-      order = ap is_in_order whole ∙ three_true _ _ _ l.order r.order (ap₂ (λ (x y : Digest). is_ordered_join x y) l.digest r.digest ∙ eo);
+      order = ap is_in_order whole ∙ and_true _ _ _ l.order r.order (ap₂ (λ (x y : Digest). is_ordered_join x y) l.digest r.digest ∙ eo);
       count = ap length nodes ∙ length-append lm rm ∙ ap₂ (λ (x y : ℕ). x + y) l.count r.count
           ∙ ap₂ (λ (x y : List Shown). length (outside d st x) + length (outside d m y)) (sym ls) (sym rs)
           ∙ sym (length-append (outside d st (take k ss)) (outside d m (drop k ss)))
@@ -374,7 +346,7 @@ merged (suc d) st t g D (b ∷ bs) none of fits chain =
       | inr f ↦ beside_left d st t A B b fit f
     ])
     left_places
-    (each-weaken _ _ (take k xs) (left_tree d st t A B) (each-both _ _ (take k xs) (each-take _ k xs all_halves) before))
+    (each-then _ _ (left_tree d st t A B) (take k xs) (each-both _ _ (take k xs) (each-take _ k xs all_halves) before))
     (along-weaken _ _ _ (take k xs) (left_alike d st t) before (along-take _ k xs all.left)) in
     let r : IsMerged d m (suc t) (get_or b.nodes (t + d) no_digest) B (drop k xs) =
     merged d m (suc t) (get_or b.nodes (t + d) no_digest) B (drop k xs)
@@ -383,7 +355,7 @@ merged (suc d) st t g D (b ∷ bs) none of fits chain =
       | inr f ↦ absurd (let z : length (drop k xs) ≡ length xs = ap (λ (n : ℕ). length (drop n xs)) (none_before m b bs f) in omega (arith, z, e))
     ])
     right_places
-    (each-weaken _ _ (drop k xs) (right_tree d st t A B) (each-both _ _ (drop k xs) (each-drop _ k xs all_halves) past))
+    (each-then _ _ (right_tree d st t A B) (drop k xs) (each-both _ _ (drop k xs) (each-drop _ k xs all_halves) past))
     (along-weaken _ _ _ (drop k xs) (right_alike d st t) past (along-drop _ k xs all.right)) in
     merged_halves d st t g A B D (get_or b.nodes t no_digest) (get_or b.nodes (t + d) no_digest) b bs refl refl refl first.node first.order l r
 
@@ -420,7 +392,7 @@ merged_opens d root g bs some h =
     let m : IsMerged d 0 0 g root bs =
     merged d 0 0 g root bs (λ e. absurd (omega (arith, some, e)))
     (subst (λ (k : ℕ). ArePlaces 0 k (leaves_of bs)) zero_first (places_listed 0 (2 ^ d) bs h.places))
-    (each-weaken _ _ bs (branch_fits d root) h.each)
+    (each-then _ _ (branch_fits d root) bs h.each)
     (along-weaken (IsBranch d root) (AreAlike d) (Alike d 0 0) bs (λ x y hx hy e.
     subst₂ (λ (p q : Part). clash_at p q ≡ None) (branch_tree-in d root x hx) (branch_tree-in d root y hy) e) h.each h.alike) in
     subst (λ (ss : List Shown). Opens d ss (merged_nodes d 0 0 g bs) root) (leaves_listed bs) (record {

@@ -100,7 +100,7 @@ range_opens d from count leaves nodes name shares fits len joins en same e =
     (sym (en ∙ ap (spans leaves) (outside_leaves d from (take count (drop from leaves)) name shares (front ∙ sym same))))
     (made_opens d leaves (leaves_from from name shares) at joins)
 
--- and leave no room for a namespace of which all leaves stand in the range
+-- and leave no place for a namespace of which all leaves stand in the range
 pub range_complete : (d from count : ℕ) (leaves nodes : List Digest) (name : Namespace) (names : List Namespace) (shares shown : List Share) → 0 < count
     → from + count ≤ 2 ^ d → length leaves ≡ 2 ^ d → nodes ≡ spans leaves (outside d 0 (digests_from from (take count (drop from leaves))))
     → AreLeaves d names shares → leaves ≡ leaf_digests names shares → IsBetween name names from (from + count) → length shown ≡ count

@@ -1,4 +1,4 @@
--- When the digests that an opening leaves out leave no room for a namespace, and that no other leaf has it then.
+-- When the digests that an opening leaves out leave no place for a namespace, and that no other leaf has it then.
 use Rattle.std.proofs.Common.{◌≡◌, ◌⊎◌, ◌∙◌, ℕ, ◌+◌, ◌^◌, ◌<◌, ◌≤◌, List, [], ◌∷◌, ◌++◌, length, get_or, true, false, None, refl, sym, ap, subst, inl, inr, arith}
 use Rattle.std.specs.List.{AllByRecursion}
 use Rattle.std.proofs.lemmas.Bool.{cases_lt}
@@ -30,7 +30,7 @@ other_place : (P : ℕ × ℕ → Type 0) (depth from i : ℕ) (ss : List Shown)
     → AllByRecursion P (outside depth 0 ss) → i < 2 ^ depth → (i < from) ⊎ (from + length ss ≤ i) → IsFound P i
 other_place P depth from i ss run fits each lt other = outside_holds P depth 0 from i ss run (λ some. (omega arith, omega (arith, fits))) each (omega arith) (omega (arith, lt)) other
 
--- the nodes of a range leave no room where the namespaces beside it leave none
+-- the nodes of a range leave no place where the namespaces beside it leave none
 pub made_range : (depth from : ℕ) (name : Namespace) (names : List Namespace) (shares shown : List Share) → AreLeaves depth names shares → 0 < length shown
     → from + length shown ≤ 2 ^ depth → IsBetween name names from (from + length shown)
     → range_break depth from name shown (spans (leaf_digests names shares) (outside depth 0 (leaves_from from name shown))) ≡ None
@@ -42,7 +42,7 @@ made_range depth from name names shares shown of some fits between =
     (subst (λ (k : ℕ). IsBetween name names from (from + k)) (sym count) between) (omega arith)
     (beside_run depth from ss (run_leaves from name shown) (omega (arith, count, some)) (omega (arith, count, fits))))
 
--- where the nodes of a range leave no room, the namespaces beside it stand as they should
+-- where the nodes of a range leave no place, the namespaces beside it stand as they should
 pub range_stands : (depth from : ℕ) (name : Namespace) (names : List Namespace) (shares shown : List Share)
     → AreLeaves depth names shares → is_ordered names ≡ true → 0 < length shown → from + length shown ≤ 2 ^ depth
     → range_break depth from name shown (spans (leaf_digests names shares) (outside depth 0 (leaves_from from name shown))) ≡ None
@@ -95,7 +95,7 @@ unfolding span
 leaf_is_node pos leaf leaves xs e =
     ap (λ (d : Digest). spans leaves xs ++ d ∷ []) e ∙ sym (map-append (λ (x : ℕ × ℕ). span leaves x.0 x.1) xs ((pos, 0) ∷ []))
 
--- the nodes of an absence leave no room where the namespaces beside its place leave none
+-- the nodes of an absence leave no place where the namespaces beside its place leave none
 pub made_absence : (depth pos : ℕ) (name : Namespace) (names : List Namespace) (shares : List Share) (leaf : Digest) → AreLeaves depth names shares → pos < 2 ^ depth
     → IsBetween name names pos pos → leaf ≡ get_or (leaf_digests names shares) pos no_digest
     → absence_break depth pos name leaf (spans (leaf_digests names shares) (outside depth 0 (one_digest pos leaf))) ≡ None
@@ -105,7 +105,7 @@ made_absence depth pos name names shares leaf of lt between e =
     ap (first_break name pos 0 xs) (leaf_is_node pos leaf leaves (outside depth 0 (one_digest pos leaf)) e)
     ∙ break_none name pos 0 leaves xs (each_excluded name pos pos depth names shares xs of between (omega arith) (beside_place depth pos leaf lt))
 
--- where the nodes of an absence leave no room, the namespaces beside its place stand as they should
+-- where the nodes of an absence leave no place, the namespaces beside its place stand as they should
 pub absence_stands : (depth pos : ℕ) (name : Namespace) (names : List Namespace) (shares : List Share) (leaf : Digest)
     → AreLeaves depth names shares → is_ordered names ≡ true → pos < 2 ^ depth → leaf ≡ get_or (leaf_digests names shares) pos no_digest
     → absence_break depth pos name leaf (spans (leaf_digests names shares) (outside depth 0 (one_digest pos leaf))) ≡ None

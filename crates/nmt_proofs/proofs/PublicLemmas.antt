@@ -53,7 +53,7 @@ opens_absence d pos name leaf ns root r h =
     let both = accepts r _ _ _ _ h in
     (λ k. let x = both.0 k in record { opens = record { count = x.0; order = x.1; value = x.2 }; complete = x.3 }, λ k. both.1 (k.opens.count, k.opens.order, k.opens.value, k.complete))
 
--- it names a node exactly where the nodes open and that one is the first that leaves room
+-- it names a node exactly where the nodes open and that one is the first that leaves a place
 pub breaks_with : (d : ℕ) (ss : List Shown) (ns : List Digest) (root : Digest) (b : Option ℕ) (r : Result (Unit {0}) OpenRefusal)
     → HasCause r (has_count d ss ns) (has_order d ss ns) (has_root d ss ns root) b → (i : ℕ)
     → (IsErrOf r (Incomplete i) → Opens d ss ns root × (b ≡ Some i)) × (Opens d ss ns root × (b ≡ Some i) → IsErrOf r (Incomplete i))

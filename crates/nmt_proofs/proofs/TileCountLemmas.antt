@@ -67,11 +67,6 @@ row-behind m low high (s ∷ ss) le h = ap (λ b. cond b (suc (begun m ss)) 0) (
 one_outside : (d st : ℕ) (ss : List Shown) → ss ≡ [] → length (outside d st ss) ≡ 1
 one_outside d st ss e = ap (λ (l : List Shown). length (outside d st l)) e ∙ ap length (outside_empty d st)
 
--- an interval that is shown leaves nothing out, any other what its halves leave out
-outside_by : (b : Bool) (left right : List (ℕ × ℕ)) → length (cond b [] (left ++ right)) ≤ length left + length right
-outside_by true left right = omega arith
-outside_by false left right = omega (arith, length-append left right)
-
 -- a row that begins before the middle of an interval that is none of it
 head_cut : (d st low high : ℕ) (s : Shown) (ss : List Shown) → suc d ≤ 8 → st % 2 ^ suc d ≡ 0 → s.size < 2 ^ suc d → st ≤ low → high ≤ st + 2 ^ suc d → low < st + 2 ^ d
     → IsRow low high (s ∷ ss) → 2 ^ suc d ≡ 2 ^ d + 2 ^ d → IsCut low (st + 2 ^ d) high (s ∷ ss)

@@ -9,12 +9,12 @@ use Rattle.namespace_id.specs.Digests.{least_of, greatest_of}
 use Rattle.nmt_tree.specs.Spans.{name_at}
 use Rattle.nmt_proofs.specs.Openings.{outside, leaves_from, one_digest}
 
--- whether a node leaves no room for the namespace: left of what is opened its greatest namespace is below it,
+-- whether a node leaves no place for the namespace: left of what is opened its greatest namespace is below it,
 -- right of that its least is above it
 abbrev pub excludes : Namespace → Bool → Digest → Bool
 excludes name is_left node = if is_left then is_below (greatest_of node) name else is_below name (least_of node)
 
--- the number of the first node that leaves room, none where no node does; what is opened begins at `from`, so an
+-- the number of the first node that leaves a place, none where no node does; what is opened begins at `from`, so an
 -- interval that begins before lies left of it
 unfoldable pub first_break : Namespace → ℕ → ℕ → List (ℕ × ℕ) → List Digest → Option ℕ
 first_break name from number [] nodes = None

@@ -41,7 +41,7 @@ pub record RootedTree : Type 0 where
 abbrev pub rooted_tree : ℕ → List Node → RootedTree
 rooted_tree count nodes = record { count = count; root = digest_at nodes 1 }
 
--- what a partial tree keeps: room for all nodes, and each that is marked is joined of its halves
+-- what a partial tree keeps: capacity for all nodes; each that is marked is joined of its halves
 pub record IsPartial (count : ℕ) (nodes : List Node) : Type 0 where
   pub is_count : IsTrue (is_leaf_count count)
   pub room : length nodes ≡ 2 * count

@@ -1,4 +1,4 @@
-//! Which nodes leave room for a namespace, and what a complete opening leaves no room for.
+//! Which nodes leave a place for a namespace, and what a complete opening leaves no place for.
 
 ghost use Rattle.std.specs.Prelude.{◌≡◌, ◌+◌, ◌^◌, ◌<◌, ◌≤◌, ℕ, List, length, get_or, None, true, false};
 ghost use Rattle.namespace_id.specs.declared.namespaces.Namespace.{Namespace};
@@ -17,7 +17,7 @@ ghost use Rattle.nmt_proofs.specs.Pieces.{shown};
 use crate::joining::{Piece, count_outside, halves, is_piece};
 use namespace_id::{Digest, Namespace};
 
-/// Whether a node leaves no room for the namespace, left or right of what is opened.
+/// Whether a node leaves no place for the namespace, left or right of what is opened.
 pub(crate) fn excludes(name: &Namespace, is_left: bool, node: &Digest) -> bool
     ensures { result ≡ excludes name.now is_left node.now }
 {
@@ -28,8 +28,8 @@ pub(crate) fn excludes(name: &Namespace, is_left: bool, node: &Digest) -> bool
     }
 }
 
-/// The number of the first node that leaves room for the namespace, of the nodes of an interval in
-/// which the first has this number. What is opened begins at `from`.
+/// The number of the first node that leaves a place for the namespace, of the nodes of an interval
+/// in which the first has this number. What is opened begins at `from`.
 pub(crate) fn first_break(
     depth: u8,
     start: u16,
@@ -70,8 +70,8 @@ pub(crate) fn first_break(
 
 /// What is known of the digests over a list's leaves in the intervals that an opening leaves out.
 pub fn complete_laws()
-    // They leave no room where the namespaces before what is opened are below one, and those behind
-    // are above it.
+    // They leave no place where the namespaces before what is opened are below one, and those
+    // behind are above it.
     ensures made_range { (depth from : ℕ) (name : Namespace) (names : List Namespace)
         (shares shown : List Share) → AreLeaves depth names shares → 0 < length shown →
         from + length shown ≤ 2 ^ depth → IsBetween name names from (from + length shown) →
@@ -83,8 +83,8 @@ pub fn complete_laws()
         absence_break depth pos name leaf
         (spans (leaf_digests names shares) (outside depth 0 (one_digest pos leaf))) ≡ None }
 
-    // Where namespaces never fall and they leave no room, it is just so, but that PARITY may stand
-    // before what is opened.
+    // Where namespaces never fall and they leave no place, it is exactly so, but that PARITY may
+    // stand before what is opened.
     ensures range_between { (depth from : ℕ) (name : Namespace) (names : List Namespace)
         (shares shown : List Share) → IsNamespace name → AreLeaves depth names shares →
         is_ordered names ≡ true → 0 < length shown → from + length shown ≤ 2 ^ depth →

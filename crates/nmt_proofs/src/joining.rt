@@ -12,7 +12,7 @@ ghost use Rattle.nmt_proofs.specs.Parts.{join, ordered_digest};
 ghost use Rattle.nmt_proofs.specs.Openings.{begun, is_interval, is_halved, outside, opened};
 ghost use Rattle.nmt_proofs.specs.Pieces.{shown, shown_of};
 
-use namespace_id::Digest;
+use namespace_id::{BLANK_DIGEST, Digest};
 use nmt_tree::{join, leaf_count};
 
 /// The digest of an interval that an opening shows.
@@ -28,7 +28,7 @@ pub(crate) fn blank_pieces() -> [Piece; 256] {
     [Piece {
         from: 0,
         size: 0,
-        digest: Digest([0; 90]),
+        digest: BLANK_DIGEST,
     }; 256]
 }
 

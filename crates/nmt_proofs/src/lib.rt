@@ -3,10 +3,10 @@
 //!
 //! Every kind of opening is one notion, a partial tree: parts that are shown at their places, and
 //! nodes for the intervals that hold nothing shown. `joining` has the plain recursion over it,
-//! `opening` the public calls, `completing` which nodes leave room for a namespace, `partial` what
-//! openings showed of one tree, so that later ones are cheaper, `making` what makes openings from a
-//! stored tree, and `agreeing` the law between two parts with one digest: a SHA-256 collision is
-//! found where they first differ.
+//! `opening` the public calls, `completing` which nodes leave a place for a namespace, `partial`
+//! what openings showed of one tree, so that later ones are cheaper, `making` what makes openings
+//! from a stored tree, and `agreeing` the law between two parts with one digest: a SHA-256
+//! collision is found where they first differ.
 #![tactic(auto)]
 
 mod agreeing;

@@ -18,7 +18,7 @@ ghost use Rattle.nmt_proofs.specs.Pieces.{shown};
 
 use crate::joining::{Piece, blank_pieces, count_outside, halves, is_piece};
 use crate::{Absent, Nodes, Path};
-use namespace_id::Digest;
+use namespace_id::{BLANK_DIGEST, Digest};
 use nmt_tree::{Tree, halvings, leaf_count};
 
 /// The digest over the `size` leaves from place `from` on, of a tree that isn't empty.
@@ -71,7 +71,7 @@ fn path_of(nodes: &[Digest]) -> Path
 
 /// Nodes that are not written yet, as many as an opening may have.
 fn blank_nodes() -> [Digest; 16] {
-    [Digest([0; 90]); 16]
+    [BLANK_DIGEST; 16]
 }
 
 /// Makes the NMT inclusion proof of one leaf: the nodes that open the leaf at place `pos`, below
@@ -170,7 +170,7 @@ pub fn make_range(tree: &Tree, from: u16, count: u16) -> Nodes
     let depth = halvings(tree.len() as usize);
     let mut pieces = blank_pieces();
     let pieces = &mut pieces[..count as usize];
-    put_places(from, Digest([0; 90]), pieces);
+    put_places(from, BLANK_DIGEST, pieces);
     nodes_beside(tree, depth, pieces)
 }
 
@@ -251,7 +251,7 @@ pub fn make_nodes(tree: &Tree, from: u16, sizes: &[u16]) -> Nodes
     let depth = halvings(tree.len() as usize);
     let mut pieces = blank_pieces();
     let pieces = &mut pieces[..sizes.len()];
-    put_sizes(from, sizes, Digest([0; 90]), pieces);
+    put_sizes(from, sizes, BLANK_DIGEST, pieces);
     nodes_beside(tree, depth, pieces)
 }
 

@@ -28,7 +28,7 @@ pub enum OpenRefusal {
     /// The joined value isn't the root.
     #[error("the nodes lead to another root")]
     OtherRoot,
-    /// Of an opening that has to be complete, the number of the first node that leaves room; the number
+    /// Of an opening that has to be complete, the number of the first node that leaves a place; the number
     /// of nodes stands for the digest of an absence.
     #[error("node {0} leaves room for the namespace")]
     Incomplete(u64),
@@ -55,7 +55,7 @@ fn open(n: u16, pieces: &[Piece], nodes: &[Digest], root: &Digest) -> Result<(),
     }
 }
 
-/// Whether the nodes open the pieces under the root, and none leaves room for the namespace; the
+/// Whether the nodes open the pieces under the root, and none leaves a place for the namespace; the
 /// pieces begin at `from`.
 fn open_complete(
     n: u16,
@@ -182,7 +182,7 @@ pub fn open_leaf(
 /// right.
 ///
 /// Refuses another number of nodes, then a join that is not ordered, then another root, then the
-/// first node that leaves room: left of the range its greatest namespace is not below `name`, or
+/// first node that leaves a place: left of the range its greatest namespace is not below `name`, or
 /// right of it its least is not above. It takes no memory.
 ///
 /// Celestia specifications, "Data Structures", namespace proofs; docs/RULES.md, "Namespace proofs".
@@ -228,7 +228,7 @@ pub fn open_range(
 /// 256, and `pos` is below it; the nodes are as for `open_leaf`.
 ///
 /// Refuses another number of nodes, then a join that is not ordered, then another root, then the
-/// first node that leaves room: left of the place its greatest namespace is not below `name`, or
+/// first node that leaves a place: left of the place its greatest namespace is not below `name`, or
 /// right of it its least is not above. The digest of the leaf is looked at like a node on the right,
 /// and its number is the number of nodes. It takes no memory.
 ///

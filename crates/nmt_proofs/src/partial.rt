@@ -282,9 +282,7 @@ impl PartialTree {
             digest: *root,
             is_joined: false,
         };
-        let Ok(nodes) = vec![in alloc; blank; 2 * n as usize] else {
-            return Err(NoMemory);
-        };
+        let nodes = vec![in alloc; blank; 2 * n as usize]?;
         Ok(PartialTree { count: n, nodes })
     }
 

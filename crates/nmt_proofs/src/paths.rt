@@ -4,7 +4,7 @@
 
 ghost use Rattle.std.specs.Prelude.{◌≡◌, ◌<◌, ◌≤◌, [], ◌∷◌, ◌++◌, length};
 
-use namespace_id::Digest;
+use namespace_id::{BLANK_DIGEST, Digest};
 use std::marker::Model;
 
 /// An NMT inclusion proof of one leaf: the digests of the greatest subtrees that don't hold its
@@ -37,7 +37,7 @@ impl Path {
     {
         Path {
             count: 0,
-            nodes: [Digest([0; 90]); 8],
+            nodes: [BLANK_DIGEST; 8],
         }
     }
 
@@ -89,7 +89,7 @@ impl Nodes {
     {
         Nodes {
             count: 0,
-            nodes: [Digest([0; 90]); 16],
+            nodes: [BLANK_DIGEST; 16],
         }
     }
 

@@ -11,7 +11,7 @@ use Rattle.namespace_id.proofs.StringLemmas.{front, behind}
 use Rattle.nmt_tree.specs.Digests.{leaf_digest}
 use Rattle.nmt_tree.specs.Roots.{is_leaf_count, halvings}
 use Rattle.nmt_tree.specs.Levels.{leaf_digests, pairs, levels, span}
-use Rattle.nmt_tree.proofs.CountLemmas.{leaf_count-half, halvings_half, power_halvings}
+use Rattle.namespace_id.proofs.PowerLemmas.{power-half, halvings_half, power_halvings}
 use Rattle.nmt_tree.proofs.PairLemmas.{length-pairs, span-pairs}
 
 -- one more leaf gives one more digest
@@ -89,11 +89,11 @@ pub read_above : (n from size : ℕ) (digests leaves : List Digest) (result : Di
     → ((ls : List Digest) → length ls ≡ n / 2 → drop n digests ≡ levels (halvings (n / 2)) ls → result ≡ span ls (from / 2) (halvings (size / 2)))
     → result ≡ span leaves from (halvings size)
 read_above n from size digests leaves result is_n is_size several aligned within len e above =
-    let halves = leaf_count-half size is_size several in
+    let halves = power-half size is_size several in
     let some : 0 < size = halves.1 in
     let even : size / 2 + size / 2 ≡ size = halves.2 in
     let more : n ≡ 1 → ⊥ = λ one. several (omega arith) in
-    let whole = leaf_count-half n is_n more in
+    let whole = power-half n is_n more in
     let even_n : n / 2 + n / 2 ≡ n = whole.2 in
     let place = halved_multiple from size even aligned in
     let deeper : halvings size ≡ suc (halvings (size / 2)) = halvings_half size is_size several in

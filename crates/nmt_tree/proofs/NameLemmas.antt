@@ -26,7 +26,7 @@ first_at_most a (b ∷ names) (suc j) h lt =
     at_most_trans a b (name_at names j) both.0 (first_at_most b names j both.1 (omega arith))
 
 -- the names behind the first are in order
-ordered_tail : (a : Namespace) (names : List Namespace) → is_ordered (a ∷ names) ≡ true → is_ordered names ≡ true
+pub ordered_tail : (a : Namespace) (names : List Namespace) → is_ordered (a ∷ names) ≡ true → is_ordered names ≡ true
 unfolding holds_along
 ordered_tail a [] h = refl
 ordered_tail a (b ∷ names) h = (and_parts (is_at_most a b) (is_ordered (b ∷ names)) h).1

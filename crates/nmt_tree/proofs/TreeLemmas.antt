@@ -7,7 +7,7 @@ use Rattle.nmt_tree.specs.Roots.{is_leaf_count, halvings, is_ordered, root, stri
 use Rattle.namespace_id.specs.Names.{AreNamespaces}
 use Rattle.nmt_tree.specs.Levels.{leaf_digests, levels, span, HasOrderedJoins}
 use Rattle.nmt_tree.specs.Trees.{IsTree}
-use Rattle.nmt_tree.proofs.CountLemmas.{power_halvings}
+use Rattle.namespace_id.proofs.PowerLemmas.{power_halvings}
 use Rattle.nmt_tree.proofs.SpanLemmas.{length-leaf_digests, root_is_span}
 use Rattle.nmt_tree.proofs.LevelLemmas.{levels_leaves}
 use Rattle.nmt_tree.proofs.JoinLemmas.{joins_ordered}

@@ -24,7 +24,7 @@ abbrev pub stored_tree : ℕ → Bool → List Digest → StoredTree
 stored_tree count is_full digests =
     record { count = count; leaves = (if is_full then Some (take count digests) else None) }
 
--- what a tree keeps: room for the digests of all levels, and these where it isn't empty
+-- what a tree keeps: capacity for the digests of all levels, and these where it isn't empty
 pub record IsTree (count : ℕ) (is_full : Bool) (digests : List Digest) : Type 0 where
   pub is_count : IsTrue (is_leaf_count count)
   pub room : length digests + 1 ≡ 2 * count

@@ -17,7 +17,7 @@ ghost use Rattle.nmt_tree.specs.Trees.{AreTreeLeaves, digest_over};
 
 use crate::are_ordered;
 use crate::levels::{put_above, put_tree, read};
-use namespace_id::{DIGEST_SIZE, Digest, Namespace, NoMemory, Share, namespaces_law};
+use namespace_id::{BLANK_DIGEST, Digest, Namespace, NoMemory, Share, namespaces_law};
 use std::alloc::Global;
 use std::marker::Model;
 
@@ -51,9 +51,7 @@ impl Tree {
         ensures count { IfOk result (λ tree. tree.count ≡ n) }
         ensures empty { IfOk result (λ tree. tree.leaves ≡ None) }
     {
-        let Ok(digests) = vec![in alloc; Digest([0; DIGEST_SIZE]); 2 * n as usize - 1] else {
-            return Err(NoMemory);
-        };
+        let digests = vec![in alloc; BLANK_DIGEST; 2 * n as usize - 1]?;
         Ok(Tree {
             count: n,
             is_full: false,

@@ -1,13 +1,13 @@
 use Rattle.std.proofs.Common.{◌≡◌, arith, ◌/◌, ◌+◌, length}
-use Rattle.lch_fft.proofs.CountLemmas.{count-half}
+use Rattle.namespace_id.proofs.PowerLemmas.{power-half, not_one}
 use Rattle.lch_fft.proofs.DeriveLemmas.{slopes-halves, slopes-cleared}
 use Rattle.lch_fft.proofs.derivatives.+derive_halves.Goals as goal
 
 -- the derivatives of both halves, and the high half added, are that of the whole
 pub returns-else-half-eq0 : goal.returns-else-half-eq0
 returns-else-half-eq0 t c = λ b h.
-    let half = count-half (length c.args.shares.now) c.requires (omega arith) in
-    let same_sum : length c.args.shares.now / 2 + length c.args.shares.now / 2 ≡ length c.args.shares.now = half.1 in
+    let half = power-half (length c.args.shares.now) c.requires (not_one (length c.args.shares.now) (omega arith)) in
+    let same_sum : length c.args.shares.now / 2 + length c.args.shares.now / 2 ≡ length c.args.shares.now = half.2 in
     slopes-halves c.args.shares.now c.split_at_mut-low.result.0.now c.split_at_mut-low.result.1.now
     c.derive_halves.new.shares c.add_shares.new.low c.derive_halves-else-half-eq0.new.shares
     b c.requires (omega arith)

@@ -1,5 +1,5 @@
 use Rattle.std.proofs.Common.{◌≡◌, arith, ◌/◌, ◌+◌, length}
-use Rattle.lch_fft.proofs.CountLemmas.{count-half}
+use Rattle.namespace_id.proofs.PowerLemmas.{power-half, not_one}
 use Rattle.lch_fft.proofs.HalfLemmas.{spread-one, spread-halves}
 use Rattle.lch_fft.specs.Transforms.{column}
 use Rattle.lch_fft.proofs.transforms.+spread_halves.Goals as goal
@@ -7,8 +7,8 @@ use Rattle.lch_fft.proofs.transforms.+spread_halves.Goals as goal
 -- a stage and the transforms of both halves are that of the whole
 pub returns-then-half-gt0 : goal.returns-then-half-gt0
 returns-then-half-gt0 t c = λ b h.
-    let half = count-half (length c.args.shares.now) c.requires.count c.if-half-gt0.true in
-    let same_sum : length c.args.shares.now / 2 + length c.args.shares.now / 2 ≡ length c.args.shares.now = half.1 in
+    let half = power-half (length c.args.shares.now) c.requires.count (not_one (length c.args.shares.now) c.if-half-gt0.true) in
+    let same_sum : length c.args.shares.now / 2 + length c.args.shares.now / 2 ≡ length c.args.shares.now = half.2 in
     spread-halves c.args.shares.now c.split_at_mut-low.result.0.now c.split_at_mut-low.result.1.now
     c.spread_stage.new.low c.spread_stage.new.high c.spread_halves.new.shares c.spread_halves-then-half-gt0.new.shares
     c.args.shift b c.requires.count c.if-half-gt0.true

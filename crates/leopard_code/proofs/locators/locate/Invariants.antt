@@ -3,7 +3,7 @@ use Rattle.gf_cantor.specs.Field.{label, power, product}
 use Rattle.leopard_code.specs.Locators.{missing_from, apart_from}
 use Rattle.leopard_code.proofs.locators.locate.Given as goal
 
--- what is done and what is left make the whole product, and the sums have room for one logarithm more
+-- what is done and what is left make the whole product, and one logarithm more fits in the sums
 abbrev pub invariant-loop-pos : goal.invariant-loop-pos
 invariant-loop-pos l = record {
   parts : (left x : ℕ) → l.pos + left ≡ length l.fn.values → x < length l.fn.values

@@ -15,7 +15,7 @@ use Rattle.nmt_proofs.proofs.TileLemmas.{intervals_open}
 use Rattle.nmt_proofs.proofs.TileCountLemmas.{intervals_few, outside_intervals, length-interval_digests}
 use Rattle.nmt_proofs.proofs.making.make_nodes.Goals as goal
 
--- there is room for each subtree
+-- there is capacity for each subtree
 pub slice_bounds-pieces-end : goal.slice_bounds-pieces-end
 slice_bounds-pieces-end c = omega (arith, leaf_count-le c.args.tree.now.count c.len.ensures.count, aligned_few c.args.from c.args.tree.now.count c.args.sizes.now c.requires.places)
 

@@ -18,13 +18,13 @@ refused c =
     absence_refused (halvings c.args.n) c.args.pos c.args.name.now c.args.leaf.now c.args.nodes.now c.args.root.now c.in_err-open_complete.field-0.0 c.open_complete.result c.from_residual.result
     c.open_complete.ensures c.in_err-open_complete.was (p.1 ∙ ap (λ (e : OpenRefusal). Err e) p.2)
 
--- the leaf leaves no room either
+-- the leaf leaves no place either
 accepted : (c : Then-excludes) → IsAnswer (halvings c.args.n) c.args.pos c.args.name.now c.args.leaf.now c.args.nodes.now c.args.root.now (Ok tt)
 accepted c =
     absence_by_leaf (halvings c.args.n) c.args.pos c.args.name.now c.args.leaf.now c.args.nodes.now c.args.root.now c.open_complete.result true
     c.open_complete.ensures c.in_ok-open_complete.was (sym c.if-excludes.true ∙ c.excludes.ensures)
 
--- the leaf leaves room
+-- the leaf leaves a place
 broken : (c : Else-excludes) → IsAnswer (halvings c.args.n) c.args.pos c.args.name.now c.args.leaf.now c.args.nodes.now c.args.root.now (Err (Incomplete (length c.args.nodes.now)))
 broken c =
     absence_by_leaf (halvings c.args.n) c.args.pos c.args.name.now c.args.leaf.now c.args.nodes.now c.args.root.now c.open_complete.result false

@@ -14,7 +14,7 @@ pub put_intervals-requires-clause-places : goal.put_intervals-requires-clause-pl
 put_intervals-requires-clause-places c =
     aligned_within c.args.from c.args.n 256 c.args.sizes.now (leaf_count-le c.args.n c.requires.leaves) c.requires.places
 
--- there is room for each
+-- there is capacity for each
 pub put_intervals-requires-clause-room : goal.put_intervals-requires-clause-room
 put_intervals-requires-clause-room c =
     omega (arith, leaf_count-le c.args.n c.requires.leaves, aligned_few c.args.from c.args.n c.args.sizes.now c.requires.places)

@@ -9,7 +9,7 @@ use Rattle.nmt_proofs.proofs.PublicLemmas.{same_cause, opens}
 use Rattle.nmt_proofs.proofs.CauseLemmas.{node_count, unordered, other_root, first_refusal, never_incomplete}
 use Rattle.nmt_proofs.proofs.opening.open_set.Goals as goal
 
--- there is room for every place
+-- there is capacity for every place
 pub put_set-requires-clause-room : goal.put_set-requires-clause-room
 put_set-requires-clause-room c =
     omega (arith, leaf_count-le c.args.n c.requires.leaves, ascending_few 0 c.args.n c.args.places.now (omega arith) c.requires.places)

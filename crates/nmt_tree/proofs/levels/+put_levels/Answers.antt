@@ -1,6 +1,6 @@
 use Rattle.std.proofs.Common.{◌≡◌, ◌∙◌, ◌<◌, ◌≤◌, ◌/◌, sym, arith, length}
 use Rattle.std.proofs.lemmas.List.{length-take-le, take_all}
-use Rattle.nmt_tree.proofs.CountLemmas.{leaf_count-pos}
+use Rattle.namespace_id.proofs.PowerLemmas.{power-pos}
 use Rattle.nmt_tree.proofs.LevelLemmas.{levels_step, levels_one}
 use Rattle.nmt_tree.proofs.levels.+put_levels.Goals as goal
 
@@ -15,6 +15,6 @@ returns-then-count-gt1 t c =
 
 pub returns-else-count-gt1 : goal.returns-else-count-gt1
 returns-else-count-gt1 t c =
-    let some : 0 < c.args.count = leaf_count-pos c.args.count c.requires.count in
+    let some : 0 < c.args.count = power-pos c.args.count c.requires.count in
     let one : c.args.count ≡ 1 = omega arith in
     sym (levels_one c.args.count _ one ∙ take_all c.args.count c.args.digests.now (omega arith))

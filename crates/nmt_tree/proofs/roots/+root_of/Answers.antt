@@ -1,18 +1,18 @@
 use Rattle.std.proofs.Common.{◌≡◌, ◌∙◌, ◌<◌, ◌+◌, ◌/◌, length, arith, sym, subst, ℕ, IsTrue}
-use Rattle.nmt_tree.proofs.CountLemmas.{leaf_count-half}
+use Rattle.namespace_id.proofs.PowerLemmas.{power-half}
 use Rattle.nmt_tree.specs.Roots.{is_leaf_count}
 use Rattle.nmt_tree.proofs.RootLemmas.{root_one, root_halves}
 use Rattle.nmt_tree.proofs.roots.+root_of.Goals as goal
 
 pub root_of-left-requires : goal.root_of-left-requires
 root_of-left-requires t c =
-    let halves = leaf_count-half (length c.args.names.now) c.requires.count c.if-names-eq1.false in
+    let halves = power-half (length c.args.names.now) c.requires.count c.if-names-eq1.false in
     let some : 0 < length c.args.names.now = halves.1 in
     (omega arith, (subst (λ (k : ℕ). IsTrue (is_leaf_count k)) (sym c.split_at.ensures.front_len) halves.0, omega arith))
 
 pub root_of-right-requires : goal.root_of-right-requires
 root_of-right-requires t c =
-    let halves = leaf_count-half (length c.args.names.now) c.requires.count c.if-names-eq1.false in
+    let halves = power-half (length c.args.names.now) c.requires.count c.if-names-eq1.false in
     let same_sum : length c.args.names.now / 2 + length c.args.names.now / 2 ≡ length c.args.names.now = halves.2 in
     let right_len : length c.split_at.result.1.now ≡ length c.args.names.now / 2 = omega arith in
     let some : 0 < length c.args.names.now = halves.1 in

@@ -1,6 +1,6 @@
 use Rattle.std.proofs.Common.{length, sym}
 use Rattle.nmt_tree.specs.Roots.{halvings}
-use Rattle.nmt_tree.proofs.CountLemmas.{power_halvings}
+use Rattle.namespace_id.proofs.PowerLemmas.{power_halvings}
 use Rattle.nmt_tree.proofs.roots.plain_root.Goals as goal
 
 pub returns : goal.returns

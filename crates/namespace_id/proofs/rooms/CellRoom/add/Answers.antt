@@ -5,7 +5,7 @@ use Rattle.namespace_id.specs.Cells.{are_cells}
 use Rattle.namespace_id.proofs.RoomLemmas.{may_follow, are_cells_with, cells_fewer}
 use Rattle.namespace_id.proofs.rooms.CellRoom.add.Goals as goal
 
--- with one more these are cells of the square, so there were fewer than there is room for
+-- with one more these are cells of the square, so there were fewer than there is capacity for
 pub unwrap-requires : goal.unwrap-requires
 unwrap-requires c =
     let may =

@@ -4,6 +4,6 @@ use Rattle.namespace_id.proofs.rooms.CellRoom.new.Goals as goal
 -- no cell, and the memory that was asked for
 pub invariant_of-result : goal.invariant_of-result
 invariant_of-result c = record {
-  cells = are_no_cells c.args.k c.in-Ok.list.items c.requires.width c.in-Ok.ensures.items;
-  room = c.in-Ok.ensures.capacity;
+  cells = are_no_cells c.args.k c.in_ok-list.list.items c.requires.width c.in_ok-list.ensures.items;
+  room = c.in_ok-list.ensures.capacity;
 }
