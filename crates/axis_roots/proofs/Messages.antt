@@ -1,4 +1,4 @@
--- Messages, certificates and fraud claims.
+-- Samples, certificates and fraud claims.
 pub mod SizeLemmas
 pub mod MessageLemmas
 pub mod OwnLemmas

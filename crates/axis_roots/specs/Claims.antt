@@ -21,7 +21,7 @@ use Rattle.axis_roots.specs.Sets.{is_shown, set_tree, fits_set, OpensSet}
 use Rattle.axis_roots.specs.declared.message.proved.Proved.{Proved}
 use Rattle.axis_roots.specs.Proved.{kept_message}
 
--- a fraud claim as contracts see it: the axis that it accuses, by its kind and its index, messages of its cells, and the
+-- a fraud claim as contracts see it: the axis that it accuses, by its kind and its index, samples of its cells, and the
 -- nodes of its set, if it has one
 pub record ClaimParts : Type 0 where
   pub axis : Axis
@@ -29,7 +29,7 @@ pub record ClaimParts : Type 0 where
   pub cells : List Message
   pub set : Option (List Digest)
 
--- every claim has an index of two bytes, messages, and digests in its set
+-- every claim has an index of two bytes, samples, and digests in its set
 pub record IsClaim (claim : ClaimParts) : Type 0 where
   pub index_bytes : claim.index < 2 ^ 16
   pub messages : AllByRecursion IsMessage claim.cells
@@ -43,17 +43,17 @@ positions_of claim = map (λ m. position claim.axis m.cell) claim.cells
 abbrev pub shares_of : ClaimParts → List Share
 shares_of claim = map (λ m. m.share) claim.cells
 
--- whether a message is of a cell on the accused axis, whichever axis it is proved along
+-- whether a sample is of a cell on the accused axis, whichever axis it is proved along
 abbrev pub is_on : ClaimParts → Message → Bool
 is_on claim m = index claim.axis m.cell == claim.index
 
--- whether a claim accuses an axis of a square of width k by just k cells of it, at ascending positions
+-- whether a claim accuses an axis of a square of width k by exactly k cells of it, at ascending positions
 abbrev pub has_shape : ℕ → ClaimParts → Bool
 has_shape k claim =
     nat_lt claim.index (2 * k) && (length claim.cells == k) && list_all (is_on claim) claim.cells
     && holds_along nat_lt (positions_of claim)
 
--- a codeword that has the shares of the claim's cells at their positions; there is just one
+-- a codeword that has the shares of the claim's cells at their positions; there is exactly one
 pub record IsThrough (k : ℕ) (claim : ClaimParts) (word : List Share) : Type 0 where
   pub codeword : IsCodeword k word
   pub entries : HasEntries (positions_of claim) (shares_of claim) word
@@ -76,7 +76,7 @@ pub record FitsRoot (k : ℕ) (claim : ClaimParts) (root : Digest) : Type 0 wher
 abbrev pub claimed_root : Roots → ClaimParts → Digest
 claimed_root header claim = root_of header claim.axis claim.index
 
--- whether the set of a claim shows the cell of a message
+-- whether the set of a claim shows the cell of a sample
 abbrev pub is_set_cell : ClaimParts → Message → Bool
 is_set_cell claim m = is_shown claim.set claim.axis m
 
@@ -101,7 +101,7 @@ pub record Accepts (header : Roots) (claim : ClaimParts) : Type 0 where
   pub set : HasSet header claim
   pub bad : ShowsBad header.k claim (claimed_root header claim)
 
--- a message of a claim that its set doesn't show and the square name a collision
+-- a sample of a claim that its set doesn't show and the square name a collision
 abbrev pub MessageNames : ClaimParts → SquareShares → Type 0
 MessageNames claim square =
     (m : Message) × Contains claim.cells m × (is_set_cell claim m ≡ false) × NamesClash m square
@@ -113,17 +113,17 @@ SetNames claim square =
     (nodes : List Digest) × (claim.set ≡ Some nodes)
     × NamesAt (set_tree square.k claim.axis claim.cells nodes) square claim.axis claim.index
 
--- a message of a claim, or its set, and the square name a collision
+-- a sample of a claim, or its set, and the square name a collision
 abbrev pub ClaimNames : ClaimParts → SquareShares → Type 0
 ClaimNames claim square = MessageNames claim square ⊎ SetNames claim square
 
--- under the header of a square a message of the claim, or its set, and the square name a collision
+-- under the header of a square a sample of the claim, or its set, and the square name a collision
 abbrev pub IsFalseClaim : Roots → ClaimParts → Type 0
 IsFalseClaim header claim = (square : SquareShares) → IsHeaderOf header square → ClaimNames claim square
 
 -- ---- fraud proofs
 
--- the claim that an axis is bad, with certificates in place of messages
+-- the claim that an axis is bad, with certificates in place of samples
 abbrev pub claim_with : Axis → ℕ → List Proved → ClaimParts
 claim_with axis index cells = record { axis = axis; index = index; cells = map kept_message cells; set = None }
 

@@ -18,13 +18,8 @@ use Rattle.square_layout.specs.Blocks.{SquareShares, IsSquare}
 use Rattle.axis_roots.specs.Lines.{blank, cell_on, line_names, is_ordered_line, line_root, line_tree}
 use Rattle.namespace_id.specs.Digests.{no_digest}
 
--- a grid as contracts see it: its width k, and 4 * k * k shares, row-major
-pub record GridShares : Type 0 where
-  pub k : ℕ
-  pub shares : List Share
-
 -- the k of a grid is a width, and it has 2k by 2k shares
-pub record IsGrid (grid : GridShares) : Type 0 where
+pub record IsGrid (grid : SquareShares) : Type 0 where
   pub width : is_width grid.k ≡ true
   pub count : length grid.shares ≡ 2 * grid.k * (2 * grid.k)
 
@@ -91,12 +86,13 @@ are_ordered_axes k shares =
 abbrev pub axis_roots : ℕ → List Share → Axis → List Digest
 axis_roots k shares axis = map (axis_root k shares axis) (ascending 0 (2 * k))
 
+-- the roots of all rows and all columns of a grid: its header, where it has one
+abbrev pub grid_roots : ℕ → List Share → Roots
+grid_roots k shares = record { k = k; rows = axis_roots k shares Row; cols = axis_roots k shares Col }
+
 -- the header of a grid: the strict roots of all rows and columns, none where one of them has none
 abbrev pub header_of_grid : ℕ → List Share → Option Roots
-header_of_grid k shares =
-    if are_ordered_axes k shares
-    then Some (record { k = k; rows = axis_roots k shares Row; cols = axis_roots k shares Col })
-    else None
+header_of_grid k shares = if are_ordered_axes k shares then Some (grid_roots k shares) else None
 
 -- the header of a square is that of its extension
 pub record IsHeaderOf (header : Roots) (square : SquareShares) : Type 0 where

@@ -1,4 +1,4 @@
--- A message that opens under a root, and one that is proved under a header.
+-- A sample that opens under a root, and one that is proved under a header.
 use Rattle.std.specs.Prelude.{◌≡◌, ◌*◌, ℕ, true}
 use Rattle.std.specs.List.{AllByRecursion-prop}
 use Rattle.std.specs.Coded.{le_prop}
@@ -13,7 +13,7 @@ use Rattle.axis_roots.specs.declared.message.messages.Message.{Message}
 use Rattle.data_header.specs.Headers.{Roots}
 use Rattle.axis_roots.specs.Messages.{IsMessage, shown_by, root_for}
 
--- the cell of a message is in the square of width k, and its nodes open its share, under the leaf
+-- the cell of a sample is in the square of width k, and its nodes open its share, under the leaf
 -- namespace of the cell, at its place
 pub record OpensAt (k : ℕ) (m : Message) (root : Digest) : Type 0 where
   pub width : is_width k ≡ true
@@ -25,10 +25,10 @@ pub record OpensAt (k : ℕ) (m : Message) (root : Digest) : Type 0 where
 IsDigest-prop : (digest : Digest) → IsProp (IsDigest digest)
 IsDigest-prop digest = hlevel (le_prop, ℕ_set)
 
--- two proofs that a message opens under a root are one
+-- two proofs that a sample opens under a root are one
 pub OpensAt-prop : (k : ℕ) (m : Message) (root : Digest) → IsProp (OpensAt k m root)
 OpensAt-prop k m root = hlevel (le_prop, ℕ_set, Bool-set, AllByRecursion-prop IsDigest IsDigest-prop)
 
--- a message is proved under a header: it opens under the header's root of its axis
+-- a sample is proved under a header: it opens under the header's root of its axis
 abbrev pub IsProved : Roots → Message → Type 0
 IsProved header m = OpensAt header.k m (root_for header m)

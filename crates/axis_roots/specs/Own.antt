@@ -29,11 +29,11 @@ pub record AgreesAt (part : Part) (square : SquareShares) (axis : Axis) (i : ℕ
   pub same : Agree part (axis_tree square.k grid axis i)
   pub alike : clash_at part (axis_tree square.k grid axis i) ≡ None
 
--- the tree that a message opens in a square of width k, of which one leaf and the nodes are told
+-- the tree that a sample opens in a square of width k, of which one leaf and the nodes are told
 abbrev pub opened_by : ℕ → Message → Part
 opened_by k m = opened (halvings (2 * k)) 0 (shown_by k m) m.path
 
--- the message shows the share that the square's extension has at its cell, and no collision is named:
+-- the sample shows the share that the square's extension has at its cell, and no collision is named:
 -- the tree that it opens and the square's tree of that row or column differ in no string
 pub record ShowsOwn (m : Message) (square : SquareShares) : Type 0 where
   pub grid : List Share
@@ -42,12 +42,12 @@ pub record ShowsOwn (m : Message) (square : SquareShares) : Type 0 where
   pub alike : clash_at (opened_by square.k m)
       (axis_tree square.k grid m.axis (index m.axis m.cell)) ≡ None
 
--- the message and the square name a collision: the first two strings in which the tree that the
--- message opens and the square's tree of that row or column differ
+-- the sample and the square name a collision: the first two strings in which the tree that the
+-- sample opens and the square's tree of that row or column differ
 abbrev pub NamesClash : Message → SquareShares → Type 0
 NamesClash m square = NamesAt (opened_by square.k m) square m.axis (index m.axis m.cell)
 
--- under the header of a square a message shows the square's own share, or they name a collision
+-- under the header of a square a sample shows the square's own share, or they name a collision
 abbrev pub IsOwn : Roots → Message → Type 0
 IsOwn header m =
     (square : SquareShares) → IsHeaderOf header square → ShowsOwn m square ⊎ NamesClash m square

@@ -1,4 +1,4 @@
--- Proved messages: certificates, and the headers that they are under.
+-- Proved samples: certificates, and the headers that they are under.
 use Rattle.std.specs.Prelude.{◌≡◌, ℕ}
 use Rattle.namespace_id.specs.declared.digests.Digest.{Digest}
 use Rattle.data_header.specs.Headers.{Roots}
@@ -10,7 +10,7 @@ use Rattle.axis_roots.specs.Messages.{root_for}
 abbrev pub kept_width : Proved → ℕ
 kept_width proved = proved.k
 
--- the message that a certificate keeps
+-- the sample that a certificate keeps
 abbrev pub kept_message : Proved → Message
 kept_message proved = proved.message
 
@@ -18,7 +18,7 @@ kept_message proved = proved.message
 abbrev pub kept_root : Proved → Digest
 kept_root proved = proved.root
 
--- a certificate is under each header that has its width, and its root of the message's axis
+-- a certificate is under each header that has its width, and its root of the sample's axis
 pub record IsUnder (header : Roots) (proved : Proved) : Type 0 where
   pub width : header.k ≡ kept_width proved
   pub root : root_for header (kept_message proved) ≡ kept_root proved

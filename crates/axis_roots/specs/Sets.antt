@@ -20,25 +20,25 @@ is_one_axis Row Col = false
 is_one_axis Col Row = false
 is_one_axis Col Col = true
 
--- whether a message is along an axis: its own axis is that one
+-- whether a sample is along an axis: its own axis is that one
 abbrev pub is_along : Axis → Message → Bool
 is_along axis m = is_one_axis axis m.axis
 
--- whether a set shows a message's cell: there is a set, and the message is along the accused axis
+-- whether a set shows a sample's cell: there is a set, and the sample is along the accused axis
 abbrev pub is_shown : Option (List Digest) → Axis → Message → Bool
 is_shown None axis m = false
 is_shown (Some nodes) axis m = is_along axis m
 
--- the messages of a list that are along an axis
+-- the samples of a list that are along an axis
 unfoldable pub along_in : Axis → List Message → List Message
 along_in axis [] = []
 along_in axis (m ∷ cells) = if is_along axis m then m ∷ along_in axis cells else along_in axis cells
 
--- the leaf namespaces of messages, in a square of width k
+-- the leaf namespaces of samples, in a square of width k
 abbrev pub names_in : ℕ → List Message → List Namespace
 names_in k cells = map (λ m. leaf_namespace k m.cell m.share) cells
 
--- what a set shows of an axis of a square of width k: the shares of all messages along it, at their places, under the leaf
+-- what a set shows of an axis of a square of width k: the shares of all samples along it, at their places, under the leaf
 -- namespaces of their cells
 abbrev pub set_of : ℕ → Axis → List Message → List Shown
 set_of k axis cells =
@@ -49,7 +49,7 @@ set_of k axis cells =
 abbrev pub set_tree : ℕ → Axis → List Message → List Digest → Part
 set_tree k axis cells nodes = opened (halvings (2 * k)) 0 (set_of k axis cells) nodes
 
--- whether a message along the axis has a cell of the square, and no path of its own
+-- whether a sample along the axis has a cell of the square, and no path of its own
 abbrev pub is_bare : ℕ → Axis → Message → Bool
 is_bare k axis m = if is_along axis m then is_in_square k m.cell && (length m.path == 0) else true
 

@@ -1,4 +1,4 @@
--- The stored trees over the leaves of lines, and of all rows and columns of a grid, and messages made from them.
+-- The stored trees over the leaves of lines, and of all rows and columns of a grid, and samples made from them.
 use Rattle.std.specs.Prelude.{◌≡◌, ℕ, ◌*◌, List, map, length, get_or, true, Option, Some, None, IsSome, if◌then◌else◌}
 use Rattle.std.specs.List.{AllByRecursion}
 use Rattle.std.specs.Option.{option_map_or}
@@ -29,7 +29,7 @@ line_leaves k axis index line = leaf_digests (line_names k axis index line) line
 abbrev pub line_stored : ℕ → Axis → ℕ → List Share → StoredTree
 line_stored k axis index line = record { count = 2 * k; leaves = Some (line_leaves k axis index line) }
 
--- the message of the cell at a position of a line, along it
+-- the sample of the cell at a position of a line, along it
 abbrev pub line_message : ℕ → Axis → ℕ → List Share → ℕ → Message
 line_message k axis index line pos = record {
   cell = cell_on axis index pos;
@@ -94,7 +94,7 @@ no_tree = record { count = 0; leaves = None }
 abbrev pub tree_at : AxisTrees → Axis → ℕ → StoredTree
 tree_at trees axis index = get_or (trees_along trees axis) index no_tree
 
--- the message of a cell of a grid along an axis
+-- the sample of a cell of a grid along an axis
 abbrev pub message_at : ℕ → List Share → Cell → Axis → Message
 message_at k shares cell axis = record {
   cell = cell;

@@ -38,7 +38,7 @@ impl Model for SetNodes {
 /// A bad-encoding fraud proof (BEFP) as it is sent, before it is checked: the axis that it accuses and
 /// samples of its cells. Each has its inclusion proof along its row or its column; or else the claim has
 /// a set, which is one inclusion proof of all samples along the accused axis, and these have no nodes of
-/// their own. Any numbers, messages and nodes may stand in it: whether the claim is accepted is for a
+/// their own. Any numbers, samples and nodes may stand in it: whether the claim is accepted is for a
 /// verifier.
 ///
 /// Al-Bassam, Sonnino, Buterin and Khoffi, fraud proofs of incorrectly generated extended data;
@@ -97,7 +97,7 @@ impl FraudProof {
     }
 }
 
-/// Whether a message is along an axis: its own axis is that one.
+/// Whether a sample is along an axis: its own axis is that one.
 pub fn is_along(axis: Axis, message: &Message) -> bool
     ensures { result ≡ is_along axis message.now }
 {
@@ -117,7 +117,7 @@ fn set_law(set: &Option<SetNodes>)
     }
 }
 
-/// A claim has an index of two bytes, messages, and digests in its set. It changes nothing.
+/// A claim has an index of two bytes, samples, and digests in its set. It changes nothing.
 pub fn claim_law(claim: &FraudClaim)
     ensures { IsClaim claim.now }
 {
@@ -146,7 +146,7 @@ pub fn claim_laws()
         has_shape k claim ≡ true → IsThrough k claim word →
         is_ordered_line k claim.axis claim.index word ≡ false → ShowsBad k claim root }
 
-    // A claim that has no set is accepted exactly where its messages are proved and it shows its axis to be
+    // A claim that has no set is accepted exactly where its samples are proved and it shows its axis to be
     // bad.
     ensures plain { (header : Roots) (claim : ClaimParts) → claim.set ≡ None →
         (AllByRecursion (IsProved header) claim.cells
@@ -161,13 +161,13 @@ pub fn claim_laws()
     ensures few { (header : Roots) (claim : ClaimParts) → Accepts header claim →
         IfSome claim.set (λ nodes. length nodes ≤ header.k) }
 
-    // A claim that is accepted under a square's own header has a message, or a set, that names a
+    // A claim that is accepted under a square's own header has a sample, or a set, that names a
     // collision with the square.
     ensures own { (header : Roots) (claim : ClaimParts) → Accepts header claim →
         IsFalseClaim header claim }
 
     // The claim of a fraud proof is accepted under each header of its width that has its root of the
-    // axis, and under which its messages are proved.
+    // axis, and under which its samples are proved.
     ensures proof { (header : Roots) (proof : ProofParts) → IsFraudProof proof →
         header.k ≡ proof.k → claimed_root header proof.claim ≡ proof.root →
         AllByRecursion (IsProved header) proof.claim.cells → Accepts header proof.claim }

@@ -1,4 +1,4 @@
-//! Share messages, whether one is proved under a header, certificates of those that are, and the
+//! Samples, whether one is proved under a header, certificates of those that are, and the
 //! digests that they have shown.
 //!
 //! All but `making` stand on the header and on inclusion proofs, and not on grids.

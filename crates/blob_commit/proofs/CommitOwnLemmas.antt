@@ -1,7 +1,7 @@
 -- A commitment proof under the data root of a square's header is of the square's shares, or they name a collision.
 use Rattle.std.proofs.Common.{◌≡◌, ◌⊎◌, ◌∙◌, ℕ, suc, ◌+◌, ◌-◌, ◌*◌, ◌/◌, ◌%◌, ◌^◌, ◌<◌, ◌≤◌, ◌==◌, ◌&&◌, nat_lt, nat_le, min, List, [], ◌∷◌, ◌++◌, length, drop, take, map, true, refl, sym, ap, ap₂, subst, inl, inr, arith, length-drop}
 use Rattle.std.specs.List.{AllByRecursion}
-use Rattle.std.proofs.lemmas.Bool.{cases_lt, eqb-true, and_parts, ltb-true}
+use Rattle.std.proofs.lemmas.Bool.{cases_lt, eqb-true, and_parts, ltb-true, leb-true}
 use Rattle.std.proofs.lemmas.Bool.Decides.{nat_tests}
 use Rattle.std.proofs.lemmas.List.{drop-drop, drop-take, take-take, length-take-le}
 use Rattle.std.proofs.lemmas.Nat.{div-add-mod', pow_pos}
@@ -42,9 +42,6 @@ use Rattle.blob_commit.proofs.RootedLemmas.{clash_above, clash_inside}
 use Rattle.blob_commit.proofs.OwnRowLemmas.{pieces_inside}
 
 -- ---- numbers
-
-le_of : (a b : ℕ) → nat_le a b ≡ true → a ≤ b
-le_of a b h = grind (arith, nat_tests)
 
 -- there are at most eight halvings
 halvings-le : (n : ℕ) → halvings n ≤ 8
@@ -210,7 +207,7 @@ pub range_parts : (k start count : ℕ) → is_range k start count ≡ true → 
 range_parts k start count h =
     let two = and_parts (nat_lt 0 count && nat_le (start + count) (k * k)) (start % subtree_width_of count == 0) h in
     let one = and_parts (nat_lt 0 count) (nat_le (start + count) (k * k)) two.0 in
-    (ltb-true 0 count one.0, le_of (start + count) (k * k) one.1, eqb-true _ _ two.1)
+    (ltb-true 0 count one.0, leb-true (start + count) (k * k) one.1, eqb-true _ _ two.1)
 
 -- the width that a proof's first row leads to
 first_width : (header : Roots) (S : SquareShares) (k levels index at left : ℕ) (rows : List RowParts) → IsHeaderOf header S → AllByRecursion IsRow rows

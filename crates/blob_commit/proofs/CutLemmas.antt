@@ -1,5 +1,5 @@
 -- The sizes into which shares are cut.
-use Rattle.std.proofs.Common.{◌≡◌, ◌∙◌, ℕ, zero, suc, ◌+◌, ◌-◌, ◌*◌, ◌/◌, ◌%◌, ◌^◌, ◌<◌, ◌≤◌, List, [], ◌∷◌, ◌++◌, length, replicate, sym, ap, subst, arith, inl, inr, length-append, IsTrue, get_or}
+use Rattle.std.proofs.Common.{◌≡◌, ◌∙◌, ℕ, zero, suc, ◌+◌, ◌-◌, ◌*◌, ◌/◌, ◌%◌, ◌^◌, ◌<◌, ◌≤◌, List, [], ◌∷◌, ◌++◌, length, replicate, sym, ap, subst, arith, inl, inr, length-append, IsTrue}
 use Rattle.std.specs.List.{AllByRecursion}
 use Rattle.std.proofs.lemmas.List.{length-replicate, append_assoc, append-nil}
 use Rattle.std.proofs.lemmas.Bool.{cases_lt}
@@ -14,6 +14,7 @@ use Rattle.nmt_tree.proofs.CountLemmas.{leaf_count_power, power_halvings, leaf_c
 use Rattle.share_split.specs.Widths.{subtree_width_of}
 use Rattle.blob_commit.proofs.WidthLemmas.{width_count}
 use Rattle.blob_commit.specs.Cuts.{cut_by, cut, levels_of}
+use Rattle.nmt_proofs.proofs.ListLemmas.{each-append}
 
 -- so often fits a number
 fits_often : (n w m : ℕ) → 0 < w → n ≤ m * w → n / w ≤ m
@@ -91,18 +92,10 @@ total-cut l n =
 abbrev pub IsPiece : ℕ → Type 0
 IsPiece size = IsTrue (is_leaf_count size) × (size ≤ 128)
 
-pub each-append : {A : Type 0} (P : A → Type 0) (xs ys : List A) → AllByRecursion P xs → AllByRecursion P ys → AllByRecursion P (xs ++ ys)
-each-append P [] ys h g = g
-each-append P (x ∷ xs) ys h g = (h.0, each-append P xs ys h.1 g)
-
+-- what holds of one holds of each of so many
 each-replicate : {A : Type 0} (P : A → Type 0) (n : ℕ) (x : A) → P x → AllByRecursion P (replicate n x)
 each-replicate P zero x h = tt
 each-replicate P (suc n) x h = (h, each-replicate P n x h)
-
-pub each-at : {A : Type 0} (P : A → Type 0) (xs : List A) (i : ℕ) (d : A) → AllByRecursion P xs → i < length xs → P (get_or xs i d)
-each-at P [] i d h lt = absurd (omega arith)
-each-at P (x ∷ xs) zero d h lt = h.0
-each-at P (x ∷ xs) (suc i) d h lt = each-at P xs i d h.1 (omega arith)
 
 -- a power below 2 ^ 8
 power_le : (l : ℕ) → l < 8 → 2 ^ l ≤ 128
@@ -140,7 +133,7 @@ length-next levels n h =
     ap length (cut_next levels n h) ∙ length-append (replicate (n / 2 ^ (levels - 1)) (2 ^ (levels - 1))) (cut_by (levels - 1) (n % 2 ^ (levels - 1)))
     ∙ ap (λ (k : ℕ). k + length (cut_by (levels - 1) (n % 2 ^ (levels - 1)))) (length-replicate (n / 2 ^ (levels - 1)) (2 ^ (levels - 1)))
 
--- there is room for one more of the widest
+-- one more of the widest fits
 pub room_more : (old sizes : List ℕ) (levels n w counter : ℕ) → 0 < levels → w ≡ 2 ^ (levels - 1) → length old + length (cut_by levels n) ≤ 255
     → sizes ≡ old ++ replicate counter w → counter < n / w → length sizes < 255
 room_more old sizes levels n w counter some width room so_far more =

@@ -13,9 +13,10 @@ use Rattle.namespace_id.specs.Digests.{IsDigest, AreDigests, no_digest}
 use Rattle.namespace_id.proofs.StringLemmas.{AreBytes-cons, AreBytes-append}
 use Rattle.nmt_proofs.specs.Clashes.{IsClash}
 use Rattle.nmt_proofs.proofs.ListLemmas.{each-take, each-drop}
-use Rattle.nmt_proofs.proofs.DigestLemmas.{append_parts, string-sha256}
+use Rattle.nmt_proofs.proofs.DigestLemmas.{append_parts, string-sha256, same_digest}
 use Rattle.data_header.specs.DataRoots.{leaf_hash, inner_hash, merkle_root, led}
 use Rattle.blob_commit.specs.DataTrees.{Plain, known, ending, fork, hash_of, text_of, text_at, climbed, full}
+use Rattle.blob_commit.proofs.RowCutLemmas.{add_times}
 
 -- the hashes and digests in a tree have their lengths
 abbrev pub IsSized : Plain → Type 0
@@ -55,9 +56,6 @@ leaf-bytes d h = AreBytes-cons 0 d.0 (omega arith) h.fits
 
 fork-bytes : (a b : List ℕ) → IsString 32 a → IsString 32 b → AreBytes (1 ∷ a ++ b)
 fork-bytes a b h g = AreBytes-cons 1 (a ++ b) (omega arith) (AreBytes-append a b h.fits g.fits)
-
-same_digest : (d e : Digest) → d.0 ≡ e.0 → d ≡ e
-same_digest d e h = ap (λ (b : List ℕ). record { 0 = b }) h
 
 -- two strings with one hash are equal, or a collision
 equal_or : (a b : List ℕ) → AreBytes a → AreBytes b → sha256 a ≡ sha256 b → (a ≡ b) ⊎ IsClash a b
@@ -253,9 +251,6 @@ full-halved d st digests = ap₂ fork (full-take d (drop st digests)) (ap (full 
 one_times : (m : ℕ) → 1 * m ≡ m
 one_times m = omega arith
 
-add_mul : (a b m : ℕ) → (a + b) * m ≡ a * m + b * m
-add_mul a b m = omega arith
-
 -- where what is climbed agrees with the tree over digests, what it began with agrees with the tree at its place
 pub agree-climbed : (level place : ℕ) (tree : Plain) (hashes : List (List ℕ)) (digests : List Digest) → place < 2 ^ length hashes
     → Agree (climbed place tree hashes) (full (level + length hashes) digests) → Agree tree (full level (drop (place * 2 ^ level) digests))
@@ -285,7 +280,7 @@ agree-climbed level place tree (x ∷ hashes) digests h a =
           let both = subst (Agree (fork (known x) tree)) (full-halved level m digests) rest in
           let not_even : place % 2 ≡ 0 → ⊥ = λ e. absurd (let y : true ≡ false = sym (eq-eqb (place % 2) 0 e) ∙ f in cc) in
           let odd : half * 2 + 1 ≡ place = elim (cases_lt (place % 2) 1) [ inl lt ↦ absurd (not_even (omega (arith, lt))) | inr ge ↦ omega (arith, ge) ] in
-          let one : (half * 2 + 1) * 2 ^ level ≡ half * 2 * 2 ^ level + 2 ^ level = add_mul (half * 2) 1 (2 ^ level) ∙ ap (λ (k : ℕ). half * 2 * 2 ^ level + k) (one_times (2 ^ level)) in
+          let one : (half * 2 + 1) * 2 ^ level ≡ half * 2 * 2 ^ level + 2 ^ level = add_times (half * 2) 1 (2 ^ level) ∙ ap (λ (k : ℕ). half * 2 * 2 ^ level + k) (one_times (2 ^ level)) in
           subst (λ (k : ℕ). Agree tree (full level (drop k digests))) (ap (λ (k : ℕ). k + 2 ^ level) up ∙ sym one ∙ ap (λ (k : ℕ). k * 2 ^ level) odd) both.1
     ]
 

@@ -17,6 +17,7 @@ use Rattle.namespace_id.proofs.WidthLemmas.{is_width-le}
 use Rattle.nmt_tree.specs.Roots.{halvings}
 use Rattle.nmt_proofs.proofs.AgreeLemmas.{digest-sized}
 use Rattle.nmt_proofs.proofs.WholeLemmas.{digest-whole, sized-whole}
+use Rattle.nmt_proofs.proofs.ListLemmas.{each-append}
 use Rattle.data_header.specs.Headers.{Roots, root_of}
 use Rattle.data_header.specs.DataRoots.{root_halvings, root_place, data_root_of, OpensRoot}
 use Rattle.square_layout.specs.Blocks.{SquareShares}
@@ -38,10 +39,6 @@ pub record IsWhole (header : Roots) : Type 0 where
 digests_by_place : (digests : List Digest) → ((i : ℕ) → i < length digests → IsDigest (get_or digests i no_digest)) → AreDigests digests
 digests_by_place [] h = tt
 digests_by_place (x ∷ digests) h = (h 0 (omega arith), digests_by_place digests (λ i lt. h (suc i) (omega (arith, lt))))
-
-digests-append : (xs ys : List Digest) → AreDigests xs → AreDigests ys → AreDigests (xs ++ ys)
-digests-append [] ys h g = g
-digests-append (x ∷ xs) ys h g = (h.0, digests-append xs ys h.1 g)
 
 -- the root of an axis of a square's header is a digest
 axis_digest : (header : Roots) (S : SquareShares) (axis : Axis) (i : ℕ) → IsHeaderOf header S → i < 2 * S.k → IsDigest (root_of header axis i)
@@ -67,7 +64,7 @@ header_whole header S own =
       rows = omega (arith, rows, width);
       cols = omega (arith, cols, width);
       digests =
-          digests-append header.rows header.cols
+          each-append IsDigest header.rows header.cols
           (digests_by_place header.rows (λ i lt. axis_digest header S Row i own (omega (arith, lt, rows))))
           (digests_by_place header.cols (λ i lt. axis_digest header S Col i own (omega (arith, lt, cols))));
     }

@@ -1,7 +1,8 @@
 -- The roots of pieces, one by one.
-use Rattle.std.proofs.Common.{◌≡◌, ◌∙◌, ℕ, suc, ◌+◌, ◌<◌, ◌≤◌, List, [], ◌∷◌, ◌++◌, length, take, drop, map, get_or, refl, sym, ap, ap₂, subst, arith, drop-cons, add-one}
+use Rattle.std.proofs.Common.{◌≡◌, ◌∙◌, ℕ, ◌+◌, ◌<◌, ◌≤◌, List, [], ◌∷◌, ◌++◌, length, take, drop, map, get_or, refl, sym, ap, ap₂, subst, arith, drop-cons, add-one}
 use Rattle.std.proofs.lemmas.List.{append_assoc, append-nil, drop_all}
 use Rattle.std.specs.List.{AllByRecursion}
+use Rattle.std.proofs.lemmas.List.Elements.{All-from_recursion}
 use Rattle.namespace_id.specs.declared.shares.Share.{Share}
 use Rattle.namespace_id.specs.declared.digests.Digest.{Digest}
 use Rattle.namespace_id.specs.Shares.{name_in}
@@ -9,7 +10,7 @@ use Rattle.nmt_tree.specs.Roots.{halvings, root}
 use Rattle.data_header.specs.DataRoots.{leaf_hash}
 use Rattle.blob_commit.specs.Commitments.{subtree_root, subtree_roots, leaf_hashes}
 use Rattle.blob_commit.specs.Cuts.{cut, levels_of}
-use Rattle.blob_commit.proofs.CutLemmas.{total, IsPiece, pieces-cut, levels_le, each-at}
+use Rattle.blob_commit.proofs.CutLemmas.{total, IsPiece, pieces-cut, levels_le}
 
 -- how many shares are left behind a piece
 pub left_behind : (sizes : List ℕ) (i z : ℕ) (rest after : List Share) → i < length sizes → z ≡ get_or sizes i 0 → total (drop i sizes) ≡ length rest
@@ -18,12 +19,6 @@ left_behind sizes i z rest after lt e so_far count =
     let next : total (drop i sizes) ≡ get_or sizes i 0 + total (drop (i + 1) sizes) =
     ap total (drop-cons sizes i 0 lt) ∙ ap (λ (k : ℕ). get_or sizes i 0 + total (drop k sizes)) (sym (add-one i)) in
     omega (arith, next, so_far, count, e)
-
--- a piece fits into what is left
-pub piece_fits : (sizes : List ℕ) (i : ℕ) (rest : List Share) → i < length sizes → total (drop i sizes) ≡ length rest → get_or sizes i 0 ≤ length rest
-piece_fits sizes i rest lt so_far =
-    let next : total (drop i sizes) ≡ get_or sizes i 0 + total (drop (suc i) sizes) = ap total (drop-cons sizes i 0 lt) in
-    omega (arith, next, so_far)
 
 subtree_roots-cons : (z : ℕ) (sizes : List ℕ) (shares : List Share)
     → subtree_roots (z ∷ sizes) shares ≡ root (halvings z) (map name_in (take z shares)) (take z shares) ∷ subtree_roots sizes (drop z shares)
@@ -63,4 +58,4 @@ hashes_all sizes i rest hashes whole end so_far =
 -- a piece is a count of leaves
 pub piece_sized : (sizes : List ℕ) (n i len : ℕ) → sizes ≡ cut n → 1 ≤ n → n ≤ 16384 → i < length sizes → len ≡ get_or sizes i 0 → IsPiece len
 piece_sized sizes n i len sizes_are some most lt e =
-    subst IsPiece (sym e) (each-at IsPiece sizes i 0 (subst (AllByRecursion IsPiece) (sym sizes_are) (pieces-cut (levels_of n) n (levels_le n some most))) lt)
+    subst IsPiece (sym e) (All-from_recursion IsPiece sizes (subst (AllByRecursion IsPiece) (sym sizes_are) (pieces-cut (levels_of n) n (levels_le n some most))) i 0 lt)

@@ -1,12 +1,12 @@
 -- A root proof under the data root of a square's header.
-use Rattle.std.proofs.Common.{◌≡◌, ◌⊎◌, ◌∙◌, ℕ, ◌*◌, ◌<◌, List, [], ◌∷◌, ◌++◌, Bool, true, false, Option, Some, None, refl, sym, ap, subst, inl, inr, arith}
+use Rattle.std.proofs.Common.{◌≡◌, ◌∙◌, ℕ, ◌*◌, ◌<◌, List, [], ◌∷◌, ◌++◌, Bool, true, false, Some, None, refl, sym, ap, subst, inl, inr, arith}
 use Rattle.std.specs.Option.{option_or}
 use Rattle.std.proofs.lemmas.Option.{none-some}
 use Rattle.namespace_id.specs.declared.cells.Axis.{Axis}
 use Rattle.namespace_id.specs.declared.digests.Digest.{Digest}
 use Rattle.nmt_proofs.specs.Parts.{Part, given, leaf, join, digest_of}
 use Rattle.nmt_proofs.specs.Clashes.{clash_at, leaf_text, join_text}
-use Rattle.nmt_proofs.proofs.AgreeLemmas.{compared}
+use Rattle.nmt_proofs.proofs.AgreeLemmas.{compared, or_found}
 use Rattle.data_header.specs.Headers.{Roots}
 use Rattle.data_header.specs.DataRoots.{data_root_of, root_halvings, root_place}
 use Rattle.square_layout.specs.Blocks.{SquareShares}
@@ -27,11 +27,6 @@ pub record StringsAt (p q : Part) (left right : List ℕ) : Type 0 where
   pub turns : List Bool
   pub left_at : string_at turns p ≡ Some left
   pub right_at : string_at turns q ≡ Some right
-
--- what either of two searches found
-or_found : (o p : Option (List ℕ × List ℕ)) (w : List ℕ × List ℕ) → option_or o p ≡ Some w → (o ≡ Some w) ⊎ (p ≡ Some w)
-or_found None p w e = inr e
-or_found (Some x) p w e = inl e
 
 -- what was found stands at a place in both
 pub strings_found : (p q : Part) (a b : List ℕ) → clash_at p q ≡ Some (a, b) → StringsAt p q a b

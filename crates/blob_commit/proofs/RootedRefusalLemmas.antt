@@ -7,13 +7,13 @@ use Rattle.namespace_id.specs.Answers.{refusal_in}
 use Rattle.namespace_id.specs.Cells.{is_width, is_in_square}
 use Rattle.nmt_tree.specs.Roots.{halvings}
 use Rattle.nmt_proofs.specs.declared.opening.OpenRefusal.{OpenRefusal}
+use Rattle.nmt_proofs.proofs.CauseLemmas.{opens_where, not_refused_where}
 use Rattle.blob_commit.specs.declared.rooting.RootedRefusal.{RootedRefusal}
 use Rattle.blob_commit.specs.declared.rooting.RootedRefusal.TheVariants as V
 use Rattle.axis_roots.specs.Messages.{IsMessage, shown_by, index}
 use Rattle.blob_commit.specs.Proofs.{RootedParts, RootedHolds}
 use Rattle.blob_commit.specs.Refusals.{has_rooted_shape, is_rooted_led, sample_refusal, rooted_refusal}
 use Rattle.blob_commit.proofs.WalkLemmas.{led-opens, opens-led}
-use Rattle.blob_commit.proofs.AcceptLemmas.{opens_of, refused_not}
 
 -- the refusal, by the three checks
 abbrev pub refusal_by : Bool → Bool → Option OpenRefusal → Option RootedRefusal
@@ -60,7 +60,7 @@ rooted_holds_of root proof sized e =
         width = shape.0;
         inside = shape.1;
         sized = sized;
-        opened = opens_of (halvings (2 * proof.k)) (shown_by proof.k m) m.path proof.root checks.2;
+        opened = opens_where (halvings (2 * proof.k)) (shown_by proof.k m) m.path proof.root checks.2;
       };
     }
 
@@ -72,4 +72,4 @@ rooted_for_nothing root proof h =
     (and_from (is_width proof.k) (is_in_square proof.k m.cell) h.opens.width h.opens.inside)
     ∙ ap (λ (b : Bool). refusal_by true b (sample_refusal proof))
     (opens-led root proof.k m.axis (index m.axis m.cell) proof.root proof.up h.lead)
-    ∙ ap (refusal_by true true) (refused_not (halvings (2 * proof.k)) (shown_by proof.k m) m.path proof.root h.opens.opened)
+    ∙ ap (refusal_by true true) (not_refused_where (halvings (2 * proof.k)) (shown_by proof.k m) m.path proof.root h.opens.opened)

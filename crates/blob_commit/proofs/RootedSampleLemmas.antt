@@ -1,20 +1,20 @@
 -- A sample that is proved under the header of a square has a root proof under its data root.
 use Rattle.std.proofs.Common.{◌≡◌, ◌∙◌, ℕ, zero, suc, ◌-◌, ◌*◌, ◌^◌, ◌<◌, ◌≤◌, List, [], ◌∷◌, ◌++◌, length, take, drop, get_or, true, refl, sym, ap, subst, inl, inr, arith, length-append}
-use Rattle.std.specs.Prelude.{nat_le, nat_lt}
+use Rattle.std.specs.Prelude.{nat_le}
 use Rattle.std.specs.List.{AllByRecursion}
 use Rattle.std.proofs.Math.Nat.{pow-suc, one-le-pow}
-use Rattle.std.proofs.lemmas.Bool.{cases_lt, and_parts, ltb-true, leb-true}
+use Rattle.std.proofs.lemmas.Bool.{cases_lt, leb-true}
 use Rattle.std.proofs.lemmas.List.{length-take, length-drop}
+use Rattle.std.proofs.lemmas.List.Elements.{All-from_recursion}
 use Rattle.namespace_id.specs.declared.cells.Axis.{Axis}
-use Rattle.namespace_id.specs.declared.cells.Axis.TheVariants.{Row, Col}
-use Rattle.namespace_id.specs.declared.cells.Cell.{Cell}
 use Rattle.namespace_id.specs.declared.digests.Digest.{Digest}
 use Rattle.namespace_id.specs.Bytes.{IsString}
-use Rattle.namespace_id.specs.Cells.{is_width, is_in_square}
-use Rattle.namespace_id.specs.Digests.{IsDigest, AreDigests, no_digest}
+use Rattle.namespace_id.specs.Cells.{is_width}
+use Rattle.namespace_id.specs.Digests.{IsDigest, no_digest}
 use Rattle.namespace_id.proofs.TestLemmas.{passes_below, passes_below-at}
 use Rattle.namespace_id.proofs.WidthLemmas.{is_width-le}
 use Rattle.nmt_proofs.proofs.DigestLemmas.{string-sha256}
+use Rattle.nmt_proofs.proofs.ListLemmas.{each-append}
 use Rattle.data_header.specs.Headers.{Roots, root_of}
 use Rattle.data_header.specs.DataRoots.{leaf_hash, inner_hash, merkle_root, root_halvings, root_place, led, path_of, data_root_of}
 use Rattle.data_header.proofs.RootLemmas.{path_of-low, path_of-high, length-path_of}
@@ -23,9 +23,9 @@ use Rattle.axis_roots.specs.declared.message.messages.Message.{Message}
 use Rattle.axis_roots.specs.Messages.{index}
 use Rattle.axis_roots.specs.Openings.{IsProved}
 use Rattle.axis_roots.specs.Grids.{IsHeaderOf}
+use Rattle.axis_roots.proofs.Grids.NumberLemmas.{index-lt}
 use Rattle.square_layout.specs.Blocks.{SquareShares}
 use Rattle.blob_commit.specs.Proofs.{RootedParts, RootedHolds, IsRooted}
-use Rattle.blob_commit.proofs.CutLemmas.{each-append}
 use Rattle.blob_commit.proofs.HeaderLemmas.{header_whole, power_width, place-lt, root-at}
 
 -- ---- the hashes that lead to a data root
@@ -69,17 +69,6 @@ few_halvings k width =
 
 -- ---- the root of the axis of a sample
 
--- the axis through a cell of a square is one of its axes
-pub index-lt : (k : ℕ) (axis : Axis) (cell : Cell) → is_in_square k cell ≡ true → index axis cell < 2 * k
-index-lt k Row cell inside = ltb-true cell.row (2 * k) (and_parts (nat_lt cell.row (2 * k)) (nat_lt cell.col (2 * k)) inside).0
-index-lt k Col cell inside = ltb-true cell.col (2 * k) (and_parts (nat_lt cell.row (2 * k)) (nat_lt cell.col (2 * k)) inside).1
-
--- one of several digests is a digest
-digest_there : (digests : List Digest) (i : ℕ) → AreDigests digests → i < length digests → IsDigest (get_or digests i no_digest)
-digest_there [] i sized lt = absurd (omega arith)
-digest_there (digest ∷ digests) zero sized lt = sized.0
-digest_there (digest ∷ digests) (suc i) sized lt = digest_there digests i sized.1 (omega arith)
-
 -- ---- its root proof
 
 -- a sample that is proved under the header of a square has a root proof
@@ -108,7 +97,7 @@ sample_rooted header square message own proved =
       refl,
       record {
         message = proved.sized;
-        root = subst IsDigest here (digest_there roots place whole.digests (omega (arith, within, power, count)));
+        root = subst IsDigest here (All-from_recursion IsDigest roots whole.digests place no_digest (omega (arith, within, power, count)));
         up = path-strings d roots place count;
       },
       omega (arith, deep, few_halvings k whole.width),

@@ -17,7 +17,7 @@ use Rattle.blob_commit.proofs.CutLemmas.{total}
 
 -- ---- numbers
 
-add_times : (a b m : ℕ) → (a + b) * m ≡ a * m + b * m
+pub add_times : (a b m : ℕ) → (a + b) * m ≡ a * m + b * m
 add_times a b m = omega arith
 
 -- multiples of a number leave the rest as it is

@@ -143,7 +143,7 @@ subtrees-more hashes mid new rows others row e first rest =
     ∙ append_assoc hashes (leaf_hashes row.subtrees) (leaf_hashes (subtrees_of others))
     ∙ ap (λ (l : List (List ℕ)). hashes ++ l) (sym (map-append leaf_hash row.subtrees (subtrees_of others)) ∙ sym (ap leaf_hashes (subtrees-cons rows others row e)))
 
--- the room that is left
+-- the hashes that are left fit
 pub room_behind : (hashes mid : List (List ℕ)) (rows others : List RowParts) (row : RowParts) → rows ≡ row ∷ others → mid ≡ hashes ++ leaf_hashes row.subtrees
     → length hashes + length (subtrees_of rows) ≤ 255 → length mid + length (subtrees_of others) ≤ 255
 room_behind hashes mid rows others row e first room =

@@ -1,6 +1,6 @@
 -- How wide the subtrees over so many shares are.
 use Rattle.std.proofs.Common.{◌≡◌, ℕ, ◌+◌, ◌-◌, ◌*◌, ◌/◌, ◌%◌, ◌<◌, ◌≤◌, ◌&&◌, ◌||◌, ◌==◌, nat_le, nat_lt, Bool, true, IsTrue, refl, subst, arith, inl, inr}
-use Rattle.std.proofs.lemmas.Bool.{and_parts, cases_lt}
+use Rattle.std.proofs.lemmas.Bool.{and_parts, cases_lt, leb-true}
 use Rattle.std.proofs.lemmas.Bool.Decides.{nat_tests}
 use Rattle.std.proofs.Math.Nat.{mul-le-mul}
 use Rattle.namespace_id.specs.Cells.{is_width}
@@ -34,14 +34,11 @@ apt n some most =
     let same : 128 * a + b + 1 ≡ n = omega (arith, some) in
     subst (λ (m : ℕ). is_apt m ≡ true) same one
 
-le_of : (a b : ℕ) → nat_le a b ≡ true → a ≤ b
-le_of a b h = grind (arith, nat_tests)
-
 counts : (n w : ℕ) → is_count_for n w ≡ true → IsTrue (is_leaf_count w) × (w ≤ 128) × (n ≤ 128 * w)
 counts n w h =
     let two = and_parts (is_leaf_count w && nat_le w 128) (nat_le n (128 * w)) h in
     let one = and_parts (is_leaf_count w) (nat_le w 128) two.0 in
-    (one.0, le_of w 128 one.1, le_of n (128 * w) two.1)
+    (one.0, leb-true w 128 one.1, leb-true n (128 * w) two.1)
 
 -- it is a count of leaves
 pub width_count : (n : ℕ) → 1 ≤ n → n ≤ 16384 → IsTrue (is_leaf_count (subtree_width_of n)) × (subtree_width_of n ≤ 128) × (n ≤ 128 * subtree_width_of n)

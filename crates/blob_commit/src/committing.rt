@@ -76,10 +76,10 @@ pub fn commitment(shares: &[Share]) -> [u8; 32]
 }
 
 /// The commitment of a blob: that of its shares, the first of which has its signer, if there is one.
-/// The room for these is taken at once.
+/// The memory for these is taken at once.
 ///
 /// Refuses a blob without bytes (`Empty`), then one of more than `MAX_SHARES` shares (`TooLarge`),
-/// then want of memory.
+/// then out of memory.
 ///
 /// Celestia specifications, "Data Square Layout", blob share commitment rules.
 pub fn commitment_of(alloc: Global, blob: &Blob) -> Result<[u8; 32], CommitError>

@@ -188,7 +188,7 @@ fn rows_of(
 /// rows' roots.
 ///
 /// Refuses a range that has no share, that goes past the `k * k` shares of the square, or that
-/// doesn't begin at a multiple of the width of its subtrees (`Range`), then want of memory. It
+/// doesn't begin at a multiple of the width of its subtrees (`Range`), then out of memory. It
 /// takes memory for the rows, and for the digests in each.
 ///
 /// Celestia specifications, "Square Layout"; docs/RULES.md, "Commitment proofs".

@@ -52,7 +52,7 @@ pub fn commit_law(proof: &CommitProof)
     rows_law(&proof.rows);
 }
 
-/// Says that a root proof has a message, a digest and hashes of their lengths. It changes nothing.
+/// Says that a root proof has a sample, a digest and hashes of their lengths. It changes nothing.
 pub fn rooted_law(proof: &RootedMessage)
     ensures { IsRooted proof.now }
 {

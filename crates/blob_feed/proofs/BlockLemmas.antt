@@ -15,7 +15,7 @@ use Rattle.share_split.specs.Joined.{padding, blob, padding_share, piece_shares,
 use Rattle.square_layout.specs.Layout.{has_name, share_count_of, start_after, placed}
 use Rattle.square_layout.specs.ShareNames.{AreNamed, BlobSharesAreNamed, PaddingIsNamed}
 use Rattle.square_serve.specs.Shares.{is_named}
-use Rattle.blob_feed.proofs.EachLemmas.{each_of_both}
+use Rattle.nmt_proofs.proofs.ListLemmas.{each-append}
 
 -- a namespace of these bytes
 abbrev named_by : List ℕ → Namespace
@@ -54,7 +54,7 @@ no_blobs = record { pieces = []; are_pieces = tt; parts = refl; shown = refl }
 both_blobs : (s t : List Share) (b c : List NamedBytes) → AreBlobs s b → AreBlobs t c → AreBlobs (s ++ t) (b ++ c)
 both_blobs s t b c one other = record {
   pieces = one.pieces ++ other.pieces;
-  are_pieces = each_of_both IsPiece one.pieces other.pieces one.are_pieces other.are_pieces;
+  are_pieces = each-append IsPiece one.pieces other.pieces one.are_pieces other.are_pieces;
   parts = ap₂ (λ (x y : List Share). x ++ y) one.parts other.parts
       ∙ sym (flat_map-append piece_shares one.pieces other.pieces);
   shown = ap₂ (λ (x y : List NamedBytes). x ++ y) one.shown other.shown

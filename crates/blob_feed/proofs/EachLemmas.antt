@@ -4,12 +4,7 @@ use Rattle.std.specs.Prelude.{IfSome}
 use Rattle.std.specs.List.{AllByRecursion}
 
 module _ {X : Type 0} (P : X → Type 0) where
-  -- and of each of another behind it
-  pub each_of_both : (xs ys : List X) → AllByRecursion P xs → AllByRecursion P ys → AllByRecursion P (xs ++ ys)
-  each_of_both [] ys these those = those
-  each_of_both (x ∷ xs) ys these those = (these.0, each_of_both xs ys these.1 those)
-
-  -- it holds at each place
+  -- what holds of each holds at each place
   pub each_at : (xs : List X) → AllByRecursion P xs → (i : ℕ) → IfSome (slice_get xs i) P
   each_at [] all i = tt
   each_at (x ∷ xs) all zero = all.0

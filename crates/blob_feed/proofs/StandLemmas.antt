@@ -3,16 +3,17 @@ use Rattle.std.proofs.Common.{◌≡◌, ◌∙◌, List, [], ◌∷◌, ◌++�
 use Rattle.std.specs.List.{AllZip}
 use Rattle.std.specs.Option.{option_map}
 use Rattle.namespace_id.specs.declared.namespaces.Namespace.{Namespace}
+use Rattle.namespace_id.proofs.ZipLemmas.{zip_push}
 use Rattle.data_header.specs.Headers.{Roots}
 use Rattle.axis_roots.specs.declared.answers.NsEntry.{NsEntry}
 use Rattle.blob_feed.specs.declared.followers.Last.{Last}
 use Rattle.blob_feed.specs.Feeds.{NamedAnswer, Item, headed, answered, IsNamedAnswer, IsItem, Height, with_answer, heights_of}
 use Rattle.blob_feed.specs.Followers.{Feed, AreFed, StandsFor, IsEntered, IsLastEntry, entry_in, kept_in, last_feed, last_header}
-use Rattle.blob_feed.proofs.EachLemmas.{each_of_both}
 use Rattle.blob_feed.proofs.HeightLemmas.{heights_headed, heights_answered}
-use Rattle.blob_feed.proofs.ZipLemmas.{last_pushed, zip_push, zip_split, Split}
+use Rattle.blob_feed.proofs.ZipLemmas.{last_pushed, zip_split, Split}
 use Rattle.blob_feed.proofs.NameLemmas.{same_refl}
 use Rattle.blob_feed.proofs.FedLemmas.{none_fed}
+use Rattle.nmt_proofs.proofs.ListLemmas.{each-append}
 
 -- the header of the last height
 header_pushed : (heights : List Height) (last : Height) → last_header (heights ++ last ∷ []) ≡ Some last.header
@@ -52,7 +53,7 @@ module _ {F : Type 0} (wants : Namespace → Type 0) where
   stands_headed filter past last next items header is stands =
       let height : Height = record { header = header; answers = [] } in
       record {
-        are_items = each_of_both IsItem items (headed header ∷ []) stands.are_items (tt, tt);
+        are_items = each-append IsItem items (headed header ∷ []) stands.are_items (tt, tt);
         feeds = subst (λ (hs : List Height). AllZip (AreFed wants) (next ++ [] ∷ []) hs) (sym (heights_headed items header))
             (subst (λ (fs : List Feed). AllZip (AreFed wants) (fs ++ [] ∷ []) (heights_of items ++ height ∷ [])) (sym is)
             (zip_push (AreFed wants) (past ++ last_feed last) (heights_of items) [] height stands.feeds
@@ -75,7 +76,7 @@ module _ {F : Type 0} (wants : Namespace → Type 0) where
       let header : old.header ≡ parts.last.header = same_header old.header parts.last.header
       (stands.header ∙ ap last_header parts.parts ∙ header_pushed parts.front parts.last) in
       record {
-        are_items = each_of_both IsItem items (answered given ∷ []) stands.are_items (is, tt);
+        are_items = each-append IsItem items (answered given ∷ []) stands.are_items (is, tt);
         feeds = subst (AllZip (AreFed wants) (past ++ new.feed ∷ [])) (sym heights)
             (zip_push (AreFed wants) past parts.front new.feed (with_answer parts.last given) parts.along
             (fed parts.last header parts.ends));

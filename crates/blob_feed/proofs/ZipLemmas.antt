@@ -15,14 +15,6 @@ last_pushed {X} xs x =
     ap (λ (n : ℕ). slice_get (xs ++ x ∷ []) n) last ∙ get_behind xs x
 
 module _ {A B : Type 0} (R : A → B → Type 0) where
-  -- one more of each
-  pub zip_push : (xs : List A) (ys : List B) (x : A) (y : B) → AllZip R xs ys → R x y
-      → AllZip R (xs ++ x ∷ []) (ys ++ y ∷ [])
-  zip_push [] [] x y all is = (is, tt)
-  zip_push [] (b ∷ ys) x y all is = absurd all
-  zip_push (a ∷ xs) [] x y all is = absurd all
-  zip_push (a ∷ xs) (b ∷ ys) x y all is = (all.0, zip_push xs ys x y all.1 is)
-
   -- what goes along with a list that ends in something
   pub record Split (xs : List A) (x : A) (ys : List B) : Type 0 where
     pub front : List B

@@ -82,8 +82,8 @@ AreFed wants feed height = (name : Namespace) → IsFedAt wants height name (opt
 abbrev pub last_header : List Height → Option Roots
 last_header heights = option_map (λ h. h.header) (slice_get heights (length heights - 1))
 
--- a follower stands for the headers and answers that it was handed, in their order, but for those that were refused
--- for want of memory
+-- a follower stands for the headers and answers that it was handed, in their order, but for those at which
+-- memory ran out
 pub record StandsFor {F : Type 0} (wants : Namespace → Type 0) (follower : FollowerParts F) (items : List Item)
     : Type 0 where
   pub are_items : AreItems items
@@ -125,7 +125,7 @@ pub record IsLastEntry {F : Type 0} (follower : FollowerParts F) (name : Namespa
   pub kept : kept_at follower (count_of follower - 1) name ≡ Some entry
   pub read : read_of entry ≡ blobs_of (shares_shown answer)
 
--- a call wasn't refused for want of memory
+-- a call wasn't out of memory
 abbrev pub HadMemory : {T : Type 0} → Result T FollowError → Type 0
 HadMemory (Ok t) = ⊤
 HadMemory (Err (NotBlob why)) = ⊤

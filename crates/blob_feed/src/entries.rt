@@ -11,7 +11,7 @@ pub enum Entry {
     /// The blobs with their signers, in the order of their shares.
     Blobs(Vec<Blob>),
     /// The first fault of the shares, with the number of the share among those of the namespace.
-    /// It is never want of memory.
+    /// It is never out of memory.
     Malformed(JoinError),
 }
 

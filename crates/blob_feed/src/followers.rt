@@ -70,7 +70,7 @@ impl<F: Filter> Drop for Follower<F> {
     }
 }
 
-/// Appends the entries of a height for which there is room.
+/// Appends the entries of a height for which there is capacity.
 fn put_feed(past: &mut Vec<Feed>, feed: Feed)
     requires room { HasRoom past.old 1 }
     ensures { past.new.items ≡ past.old.items ++ feed ∷ [] }
@@ -233,7 +233,7 @@ impl<F: Filter> Follower<F> {
     /// Refuses a namespace that isn't one of a blob (`NotBlob`), then one that the filter doesn't
     /// want (`Unwanted`), then an answer that isn't complete under the last header (`Refused`, as
     /// `check_namespace`), then one for a namespace of which this height has an entry (`Twice`),
-    /// then want of memory. A refusal changes nothing.
+    /// then out of memory. A refusal changes nothing.
     ///
     /// Celestia specifications, "Data Structures", namespace proofs; docs/RULES.md, "Following
     /// namespaces".
@@ -251,7 +251,7 @@ impl<F: Filter> Follower<F> {
             IsRefusedFor (F.answers self.old.filter namespace.now) last namespace.now
             answer.now why }
 
-        // It stands for the answer too, refused or not, but for want of memory.
+        // It stands for the answer too, refused or not, unless memory ran out.
         ensures stands { HadMemory result → (items : List Item) →
             StandsFor (wanted_by F.answers self.old.filter) self.old items →
             StandsFor (wanted_by F.answers self.old.filter) self.new

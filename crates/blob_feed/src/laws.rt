@@ -49,7 +49,7 @@ pub fn feed_laws<F: Filter>()
         IsBlock block → is_blob_namespace name.0 ≡ true →
         blobs_of (shares_in (square_of block) name) ≡ Ok (filter (has_name name) block.blobs) }
 
-    // So it is just these where the header is that of the square of a block.
+    // So it is exactly these where the header is that of the square of a block.
     ensures block { (rule : F) (items : List Item) (number : ℕ) (name : Namespace) (read : Read)
         (header : Roots) (block : BlockParts) → AreItems items →
         FeedsAt (wanted_by F.answers rule) items number name (Some read) →

@@ -6,11 +6,11 @@ use Rattle.std.proofs.Math.Seq.{take-append_seam}
 use Rattle.hash_clash.specs.Preimages.{longest, used_bytes, IsPreimage}
 use Rattle.namespace_id.proofs.StringLemmas.{put_next}
 
--- what is written so far, and zeros behind it up to the size of the room
+-- what is written so far, and zeros behind it up to the size of the buffer
 abbrev pub laid : ℕ → List ℕ → List ℕ
 laid room before = before ++ replicate (room - length before) 0
 
--- the room behind a part that is put behind others
+-- what is left of the buffer behind a part that is put behind others
 room_behind : (room : ℕ) (before part : List ℕ) → room - length before - length part ≡ room - length (before ++ part)
 room_behind room before part = omega (arith, length-append before part)
 

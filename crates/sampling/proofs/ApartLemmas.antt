@@ -3,6 +3,7 @@ use Rattle.std.proofs.Common.{◌≡◌, ◌≢◌, ℕ, zero, suc, ◌<◌, Lis
 use Rattle.std.specs.Prelude.{Some, slice_get, ⊤}
 use Rattle.std.specs.List.{remove, AllByRecursion, list_all}
 use Rattle.std.proofs.lemmas.Bool.{and_parts, and_from}
+use Rattle.std.proofs.lemmas.List.Elements.{All-from_recursion}
 
 module _ {A : Type 0} where
   -- no element stands again behind itself
@@ -17,12 +18,6 @@ module _ {A : Type 0} where
   all-remove P (x ∷ xs) zero all = all.1
   all-remove P (x ∷ xs) (suc i) all = (all.0, all-remove P xs i all.1)
 
-  -- and of the one
-  pub all-at : (P : A → Type 0) (xs : List A) (i : ℕ) (d : A) → AllByRecursion P xs → i < length xs → P (get_or xs i d)
-  all-at P [] i d all h = absurd (omega arith)
-  all-at P (x ∷ xs) zero d all h = all.0
-  all-at P (x ∷ xs) (suc i) d all h = all-at P xs i d all.1 (omega arith)
-
   -- without one element there is still no repeat
   pub once-remove : (xs : List A) (i : ℕ) → AreOnce xs → AreOnce (remove xs i)
   once-remove [] zero once = once
@@ -36,7 +31,7 @@ module _ {A : Type 0} where
   once-at [] i d once h = absurd (omega arith)
   once-at (x ∷ xs) zero d once h = once.0
   once-at (x ∷ xs) (suc i) d once h =
-      (λ e. all-at (λ y. x ≢ y) xs i d once.0 (omega arith) (sym e), once-at xs i d once.1 (omega arith))
+      (λ e. All-from_recursion (λ y. x ≢ y) xs once.0 i d (omega arith) (sym e), once-at xs i d once.1 (omega arith))
 
   -- what holds of all holds of what stands at a place
   all-got : (P : A → Type 0) (xs : List A) (i : ℕ) (x : A) → AllByRecursion P xs → slice_get xs i ≡ Some x → P x

@@ -6,13 +6,14 @@ use Rattle.std.proofs.Math.Nat.{mod-lt}
 use Rattle.std.proofs.lemmas.List.Edits.{length-remove}
 use Rattle.std.proofs.lemmas.Bool.{and_parts}
 use Rattle.std.proofs.lemmas.Bool.Decides.{nat_tests}
+use Rattle.std.proofs.lemmas.List.Elements.{All-from_recursion}
 use Rattle.namespace_id.specs.declared.cells.Cell.{Cell}
 use Rattle.namespace_id.specs.Cells.{is_width, is_in_square, is_before, are_cells, cell_numbered, all_cells}
 use Rattle.namespace_id.proofs.AscendingLemmas.{length-ascending}
 use Rattle.namespace_id.specs.Lists.{ascending, holds_along}
 use Rattle.sampling.specs.Words.{key_number}
 use Rattle.sampling.specs.Draws.{draw_place, draws_from, drawn_cells, AreApart}
-use Rattle.sampling.proofs.ApartLemmas.{AreOnce, once_apart, all_tested, tested_all, all-remove, all-at, once-remove, once-at}
+use Rattle.sampling.proofs.ApartLemmas.{AreOnce, once_apart, all_tested, tested_all, all-remove, once-remove, once-at}
 
 -- a draw is from the rest
 pub place-lt : (key : List ℕ) (i : ℕ) (rest : List Cell) → 0 < length rest → draw_place key i rest < length rest
@@ -37,7 +38,7 @@ pub all_drawn : (P : Cell → Type 0) (key : List ℕ) (count i : ℕ) (rest : L
 unfolding draws_from
 all_drawn P key zero i rest all enough = tt
 all_drawn P key (suc count) i rest all enough = (
-  all-at P rest (draw_place key i rest) (cell_numbered 1 0) all (place-lt key i rest (omega arith)),
+  All-from_recursion P rest all (draw_place key i rest) (cell_numbered 1 0) (place-lt key i rest (omega arith)),
   all_drawn P key count (suc i) (remove rest (draw_place key i rest)) (all-remove P rest (draw_place key i rest) all)
       (rest_enough key count i rest enough),
 )
@@ -105,35 +106,6 @@ draw_end key i count rest drawn all h so_far =
 pub length-all : (k : ℕ) → length (all_cells k) ≡ 2 * k * (2 * k)
 length-all k =
     length-map (ascending 0 (2 * k * (2 * k))) (cell_numbered (2 * k)) ∙ length-ascending (2 * k * (2 * k)) 0
-
--- cells whose numbers count up, and the next one
-numbered_next : (in_row n first : ℕ)
-    → map (cell_numbered in_row) (ascending first n) ++ cell_numbered in_row (first + n) ∷ []
-    ≡ map (cell_numbered in_row) (ascending first (suc n))
-unfolding ascending
-numbered_next in_row zero first =
-    let same : first + 0 ≡ first = omega arith in ap (λ (number : ℕ). cell_numbered in_row number ∷ []) same
-numbered_next in_row (suc n) first =
-    let same : first + suc n ≡ suc first + n = omega arith in
-    ap (λ (cells : List Cell). cell_numbered in_row first ∷ cells)
-    (ap (λ (number : ℕ). map (cell_numbered in_row) (ascending (suc first) n) ++ cell_numbered in_row number ∷ []) same
-    ∙ numbered_next in_row n (suc first))
-
--- the step of a loop that lists cells by their numbers
-pub numbered_more : (in_row n : ℕ) (cells after : List Cell) (cell : Cell)
-    → cells ≡ map (cell_numbered in_row) (ascending 0 n)
-    → cell ≡ cell_numbered in_row n → after ≡ cells ++ cell ∷ []
-    → after ≡ map (cell_numbered in_row) (ascending 0 (n + 1))
-numbered_more in_row n cells after cell so_far is_cell is_after =
-    let start : n ≡ 0 + n = omega arith in
-    let next : suc n ≡ n + 1 = omega arith in
-    is_after ∙ ap₂ (λ (l : List Cell) (c : Cell). l ++ c ∷ []) so_far (is_cell ∙ ap (cell_numbered in_row) start)
-    ∙ numbered_next in_row n 0 ∙ ap (λ (m : ℕ). map (cell_numbered in_row) (ascending 0 m)) next
-
--- and at its start there are none
-pub numbered_none : (in_row : ℕ) (cells : List Cell) → cells ≡ [] → cells ≡ map (cell_numbered in_row) (ascending 0 0)
-unfolding ascending
-numbered_none in_row cells none = none
 
 -- two cells of which one is before the other are two
 before_other : (a b : Cell) → is_before a b ≡ true → a ≢ b

@@ -35,7 +35,7 @@ length-bytes_at key place len =
 name_passes : (last : ℕ) → namespace_refusal (name_with last).0 ≡ None
 name_passes last = refl
 
--- bytes for which so many shares have room take no more
+-- bytes that fit in so many shares take no more
 few_shares : (size later : ℕ) → size ≤ 478 + 482 * later → share_count size false ≤ 1 + later
 few_shares size later h = elim (cases_lt 478 size) [
   | inl above ↦

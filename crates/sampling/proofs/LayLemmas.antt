@@ -18,6 +18,7 @@ use Rattle.square_layout.specs.Blocks.{BlockParts}
 use Rattle.square_layout.specs.Layout.{put_in, in_order, share_count_of, start_after, end_of, compact_end, needed}
 use Rattle.square_layout.specs.Refusals.{bad_blob, empty_blob, size_refusal, width_refusal, max_shares, max_count, layout_refusal}
 use Rattle.square_layout.proofs.PlaceLemmas.{start_after-near}
+use Rattle.square_layout.proofs.BlobOrderLemmas.{All-in_order}
 use Rattle.sampling.specs.Generated.{blobs_at, unit_at, units_at, after_units, blob_count, block_of}
 use Rattle.sampling.proofs.FittingLemmas.{Fits, blobs_fit, length-blobs_at, narrow, less_narrow, made_unit_share}
 
@@ -40,24 +41,6 @@ empty-none k (blob ∷ blobs) i all =
     ap (λ (b : Bool). if b then Some (EmptyBlob i) else empty_blob (suc i) blobs) has ∙ empty-none k blobs (suc i) all.1
 
 -- ---- blobs in order
-
--- what holds of blobs holds of them with one more put among them
-all-put_in : (P : NamedBytes → Type 0) (blob : NamedBytes) (blobs : List NamedBytes) → P blob
-    → AllByRecursion P blobs → AllByRecursion P (put_in blob blobs)
-unfolding put_in
-all-put_in P blob [] here all = (here, tt)
-all-put_in P blob (other ∷ others) here all =
-    elim (is_at_most blob.namespace other.namespace) as (λ b. AllByRecursion P (if b then blob ∷ other ∷ others else other ∷ put_in blob others)) [
-      | true ↦ (here, all)
-      | false ↦ (all.0, all-put_in P blob others here all.1)
-    ]
-
--- and of them in order
-all-in_order : (P : NamedBytes → Type 0) (blobs : List NamedBytes) → AllByRecursion P blobs
-    → AllByRecursion P (in_order blobs)
-unfolding in_order
-all-in_order P [] all = tt
-all-in_order P (blob ∷ blobs) all = all-put_in P blob (in_order blobs) all.0 (all-in_order P blobs all.1)
 
 -- they are one more
 length-put_in : (blob : NamedBytes) (blobs : List NamedBytes) → length (put_in blob blobs) ≡ suc (length blobs)
@@ -172,7 +155,7 @@ made_lays k key width =
     length-in_order blobs ∙ length-blobs_at k key (blob_count k) from in
     let near : end_of (compact_end (block_of k key)) (in_order blobs) ≤ compact_end (block_of k key) + length
     (in_order blobs) * (k + gap_of k) =
-    end_near k (in_order blobs) (compact_end (block_of k key)) fits.2 (all-in_order (Fits k) blobs all) in
+    end_near k (in_order blobs) (compact_end (block_of k key)) fits.2 (All-in_order (Fits k) blobs all) in
     let width_of : length (in_order blobs) * (k + gap_of k) ≡ blob_count k * (k + gap_of k) =
     ap (λ (n : ℕ). n * (k + gap_of k)) long in
     let end : end_of (compact_end (block_of k key)) (in_order blobs) ≤ k * k =

@@ -47,14 +47,6 @@ length-word_bytes key (suc count) place =
       length-word_bytes key count (suc place),
     )
 
--- at the start of a loop over words there are no bytes
-pub bytes_start : (key bytes : List ℕ) (place count : ℕ) → bytes ≡ []
-    → bytes ++ word_bytes key (place + 0) (count - 0) ≡ word_bytes key place count
-bytes_start key bytes place count none =
-    let first : place + 0 ≡ place = omega arith in
-    let all : count - 0 ≡ count = omega arith in
-    ap₂ (λ (l m : List ℕ). l ++ m) none (ap₂ (λ (p n : ℕ). word_bytes key p n) first all)
-
 -- a word more
 pub bytes_step : (key bytes after all : List ℕ) (place i count word : ℕ) → i < count
     → bytes ++ word_bytes key (place + i) (count - i) ≡ all → word ≡ key_word key (place + i)

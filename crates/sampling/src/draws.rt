@@ -63,7 +63,7 @@ fn draw(words: &mut ChaCha20Rng, rest: &mut Vec<Cell>) -> Cell
 /// drawn, and no cell twice. The words of the key are those of ChaCha20 with stream 0, and each draw
 /// takes two of them. Equal keys draw equal cells, and fewer draws are the first ones of more.
 ///
-/// Refuses a count above the cells of the square or above 4,096, and want of memory.
+/// Refuses a count above the cells of the square or above 4,096, then out of memory.
 ///
 /// RFC 8439, "The ChaCha20 Block Function"; docs/FORMATS.md, "Drawn cells".
 pub fn cells(alloc: Global, key: &[u8; 32], k: u16, count: u32) -> Result<Vec<Cell>, DrawError>

@@ -138,7 +138,7 @@ fn blobs(alloc: Global, words: &mut ChaCha20Rng, k: u16) -> Result<Vec<Blob>, No
 /// unit and a unit of payments, of 1 to 400 bytes each; it has k / 2 blobs, but one where the width
 /// is 1, of 1 to k shares each. All is of the words of ChaCha20 under the key of the number.
 ///
-/// Refuses only want of memory.
+/// Refuses only where there is no memory.
 ///
 /// RFC 8439, "The ChaCha20 Block Function"; docs/FORMATS.md, "Generated blocks".
 pub fn block(alloc: Global, number: u64, k: u16) -> Result<Block, NoMemory>

@@ -246,9 +246,9 @@ units_in shares (Ok (Some s)) = reserved_units shares (units_from 0 0 s.content)
 abbrev pub units_of : List Share → Result (List (List ℕ)) JoinError
 units_of shares = units_in shares (sequence_from 0 None shares)
 
--- ---- what a call answered is what reading gives, but for want of memory
+-- ---- what a call answered is what reading gives, unless memory ran out
 
--- the value or the first check that fails, or want of memory
+-- the value or the first check that fails, or out of memory
 abbrev pub Joins : {X Y : Type 0} → (X → Y) → Result X JoinError → Result Y JoinError → Type 0
 Joins view (Ok x) read = read ≡ Ok (view x)
 Joins view (Err e) read = (e ≡ NoMemory) ⊎ (read ≡ Err e)

@@ -231,7 +231,7 @@ pub(crate) fn split_within(bytes: &[u8], most: usize) -> (&[u8], &[u8])
     bytes.split_at(bytes.len().min(most))
 }
 
-/// Appends a share for which there is room.
+/// Appends a share for which there is capacity.
 pub(crate) fn put_share(out: &mut Vec<Share>, share: Share)
     requires room { HasRoom out.old 1 }
     ensures appended { out.new.items ≡ out.old.items ++ share ∷ [] }
@@ -257,10 +257,10 @@ fn put_later(out: &mut Vec<Share>, namespace: &Namespace, version: u8, bytes: &[
 }
 
 /// Appends the shares of a blob, which has a signer or none. The namespace may be any:
-/// `Namespace::blob` tells those of blobs. The room for all shares is taken at once.
+/// `Namespace::blob` tells those of blobs. The memory for all shares is taken at once.
 ///
 /// Refuses a blob of no bytes (`Empty`), then one of more than `MAX_SEQUENCE_LENGTH` bytes
-/// (`TooLong`), then want of memory; a refusal leaves `out` as it was.
+/// (`TooLong`), then out of memory; a refusal leaves `out` as it was.
 ///
 /// Celestia specifications, "Shares".
 pub fn blob_shares(

@@ -90,8 +90,8 @@ fn closed(sequence: Open, blobs: &mut Vec<Blob>) -> Result<Option<Open>, JoinErr
 /// first share's (`MixedNamespace`), then the start of another sequence (`Short`, with the first
 /// share of the one that is cut short); where no sequence is open a share that begins none
 /// (`NoStart`); a byte behind the content that isn't 0 (`NonZeroFill`). Then shares that end in an
-/// open sequence (`Short`). Want of memory may come in place of any answer; it is taken as the
-/// content comes, and not for a length that a share promises.
+/// open sequence (`Short`). Out of memory may come in place of any answer; memory is taken as
+/// the content comes, and not for a length that a share promises.
 ///
 /// Celestia specifications, "Shares"; docs/RULES.md, "Reading shares".
 pub fn join_blobs(alloc: Global, shares: &[Share]) -> Result<Vec<Blob>, JoinError>
@@ -140,7 +140,7 @@ fn unit_sequence(alloc: Global, shares: &[Share]) -> Result<Option<Open>, JoinEr
 /// behind the content that isn't 0 (`NonZeroFill`). Then shares that end in an open sequence
 /// (`Short`). Then a length of a unit that is no shortest varint below 2^32, or that runs past the
 /// sequence with its unit (`BadVarint`, with the share in which it begins). Then reserved bytes
-/// that don't state where the first unit starts in their share (`BadReserved`). Want of memory may
+/// that don't state where the first unit starts in their share (`BadReserved`). Out of memory may
 /// come in place of any answer.
 ///
 /// Celestia specifications, "Shares", transaction shares; docs/RULES.md, "Reading shares".
@@ -159,7 +159,7 @@ pub fn join_units(alloc: Global, shares: &[Share]) -> Result<Vec<Unit>, JoinErro
     }
 }
 
-/// Shares are read as blobs, or as units, just where they are their shares.
+/// Shares are read as blobs, or as units, exactly where they are their shares.
 pub fn join_laws()
     ensures blobs { (shares : List AShare) (blobs : List NamedBytes) → AreShares shares →
         (blobs_of shares ≡ Ok blobs) ↔ AreBlobs shares blobs }

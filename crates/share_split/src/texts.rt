@@ -40,7 +40,7 @@ fn put_unit(out: &mut Vec<u8>, unit: &Unit)
     append(out, &unit.bytes);
 }
 
-/// The text of units, whose length is given. Refuses for want of memory alone, which is taken at once.
+/// The text of units, whose length is given. Refuses only where there is no memory, which is taken at once.
 pub(crate) fn units_text(alloc: Global, units: &[Unit], size: usize) -> Result<Vec<u8>, AllocError>
     requires size { size ≡ length (units_text units.now) }
     ensures text { IfOk result (λ text. text.items ≡ units_text units.now) }

@@ -53,11 +53,11 @@ pub fn unit_share_count(units: &[Unit]) -> u64
 }
 
 /// Appends the compact shares of units, none for no units. The namespace may be any: those of units
-/// are `TRANSACTION` and `PAY_FOR_BLOB`. The room for the text of the units is taken at once, and then
+/// are `TRANSACTION` and `PAY_FOR_BLOB`. The memory for the text of the units is taken at once, and then
 /// that for all shares.
 ///
 /// Refuses units that have with their lengths more than `MAX_SEQUENCE_LENGTH` bytes (`TooLong`), then
-/// want of memory, and never anything else; a refusal leaves `out` as it was.
+/// out of memory, and never anything else; a refusal leaves `out` as it was.
 ///
 /// Celestia specifications, "Shares", transaction shares.
 pub fn unit_shares(

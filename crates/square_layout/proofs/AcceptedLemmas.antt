@@ -1,13 +1,13 @@
 -- What is known of the blobs of a block where no check of them fails.
 use Rattle.std.proofs.Common.{◌≡◌, ◌∙◌, ℕ, zero, suc, ◌≤◌, ◌==◌, Bool, true, false, not, ◌&&◌, if◌then◌else◌, List, [], ◌∷◌, length, slice_index, slice_range, Option, Some, None, refl, sym, ap, subst, arith, ⊎_elim}
 use Rattle.std.specs.List.{AllByRecursion}
-use Rattle.std.specs.Option.{option_map_or, option_or}
+use Rattle.std.specs.Option.{option_or}
 use Rattle.std.proofs.lemmas.Bool.{true≢false}
 use Rattle.std.proofs.lemmas.Bool.Decides.{nat_tests}
-use Rattle.namespace_id.specs.declared.namespaces.NsError.{NsError}
 use Rattle.namespace_id.specs.declared.namespaces.NsError.TheVariants.{Length, Version, Prefix, Reserved}
 use Rattle.namespace_id.specs.Names.{is_at_most, is_zeros, is_reserved, is_blob_namespace, primary_reserved_padding, tail_padding, namespace_refusal}
 use Rattle.namespace_id.proofs.OrderLemmas.{at_most_total}
+use Rattle.namespace_id.proofs.RefusalLemmas.{both_none}
 use Rattle.share_split.specs.Blobs.{NamedBytes}
 use Rattle.square_layout.specs.declared.laying.LayError.{LayError}
 use Rattle.square_layout.specs.declared.laying.LayError.TheVariants.{BadBlob, EmptyBlob}
@@ -77,17 +77,12 @@ accepted_between blob h =
 
 -- ---- all blobs
 
--- no blob is refused where the first is not, and none behind it
-refused_some : (o : Option NsError) (i : ℕ) (rest : Option LayError) → option_map_or (λ (e : NsError). Some (BadBlob i e)) o rest ≡ None → (o ≡ None) × (rest ≡ None)
-refused_some None i rest h = (refl, h)
-refused_some (Some e) i rest h = absurd cc
-
 -- no namespace is refused
 pub no_bad_blob : (i : ℕ) (blobs : List NamedBytes) → bad_blob i blobs ≡ None → AllByRecursion IsBetween blobs
 unfolding bad_blob
 no_bad_blob i [] h = tt
 no_bad_blob i (blob ∷ blobs) h =
-    let both = refused_some (namespace_refusal blob.namespace.0) i (bad_blob (suc i) blobs) h in
+    let both = both_none (BadBlob i) (namespace_refusal blob.namespace.0) (bad_blob (suc i) blobs) h in
     (accepted_between blob both.0, no_bad_blob (suc i) blobs both.1)
 
 -- each is the namespace of a blob
@@ -96,7 +91,7 @@ blobs_named : (i : ℕ) (blobs : List NamedBytes) → bad_blob i blobs ≡ None
 unfolding bad_blob
 blobs_named i [] h = tt
 blobs_named i (blob ∷ blobs) h =
-    let both = refused_some (namespace_refusal blob.namespace.0) i (bad_blob (suc i) blobs) h in
+    let both = both_none (BadBlob i) (namespace_refusal blob.namespace.0) (bad_blob (suc i) blobs) h in
     (is_accepted blob.namespace.0 both.0, blobs_named (suc i) blobs both.1)
 
 -- no blob is empty where the first is not, and none behind it

@@ -54,11 +54,11 @@ end_fits block most h =
     let end : ℕ = end_of (compact_end block) (in_order block.blobs) in
     let is : needed block ≡ max 1 end = at_least_one-max end in omega (arith, is, h)
 
--- the compact shares have room where the layout has
+-- the compact shares fit where the layout does
 pub compact_fits : (block : BlockParts) (most : ℕ) → needed block ≤ most → compact_end block ≤ most
 compact_fits block most h = omega (arith, end_of-ge (compact_end block) (in_order block.blobs), end_fits block most h)
 
--- the layout has room where so many shares as it needs have
+-- the layout fits where so many shares as it needs do
 pub laid_fits : (block : BlockParts) (most : ℕ) → needed block ≤ most → length (laid block) ≤ most
 laid_fits block most h = omega (arith, length-laid block, end_fits block most h)
 
@@ -74,7 +74,7 @@ square_fits k h =
 pub compact_there : (block : BlockParts) (none out : List Share) → none ≡ [] → out ≡ none ++ compact_part block → out ≡ compact_part block
 compact_there block none out n o = o ∙ ap (λ (l : List Share). l ++ compact_part block) n
 
--- the blobs have room behind the compact shares where the layout has
+-- the blobs fit behind the compact shares where the layout does
 pub blobs_fit : (block : BlockParts) (out : List Share) (blobs : List NamedBytes) (most : ℕ) → out ≡ compact_part block → blobs ≡ in_order block.blobs
     → needed block ≤ most → end_of (length out) blobs ≤ most
 blobs_fit block out blobs most o b h =

@@ -23,6 +23,7 @@ use Rattle.square_layout.specs.Blocks.{BlockParts, IsBlock, IsSquare}
 use Rattle.namespace_id.specs.Doublings.{least_doubling}
 use Rattle.namespace_id.proofs.DoublingLemmas.{least_doubling-suc, least_doubling-found}
 use Rattle.namespace_id.proofs.ShareLemmas.{AreShares-append}
+use Rattle.namespace_id.proofs.RefusalLemmas.{if_none}
 use Rattle.square_layout.specs.Layout.{in_order, share_count_of, start_after, placed, compact_end, laid, needed, holds_shares, holding_from, width_for, square_of}
 use Rattle.square_layout.specs.Refusals.{max_shares, max_count, blob_refusal, width_refusal, size_refusal, layout_refusal}
 use Rattle.square_layout.proofs.AcceptedLemmas.{no_refusal}
@@ -60,11 +61,6 @@ holding_from-width (suc more) k count one last = elim (cases_Bool (nat_le count 
 -- the least width is one
 pub least_is_width : (count : ℕ) → is_width (holding_from 7 1 count) ≡ true
 least_is_width count = holding_from-width 7 1 count refl refl
-
--- a refusal that is none was not asked for
-if_none : (b : Bool) (e : LayError) (o : Option LayError) → (if b then Some e else o) ≡ None → (b ≡ false) × (o ≡ None)
-if_none true e o h = absurd cc
-if_none false e o h = (refl, h)
 
 -- a test that refuses where it fails has passed
 if_passes : (b : Bool) (e : LayError) → (if b then None else Some e) ≡ None → b ≡ true

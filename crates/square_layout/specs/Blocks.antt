@@ -24,7 +24,7 @@ pub record IsBlock (block : BlockParts) : Type 0 where
 abbrev pub HaveBytes : List NamedBytes → Type 0
 HaveBytes blobs = AllByRecursion (λ blob. 1 ≤ length blob.bytes) blobs
 
--- a square: its width k, and k * k shares, row-major
+-- a width k, and shares, row-major: k * k of a square, 2k by 2k of a grid
 pub record SquareShares : Type 0 where
   pub k : ℕ
   pub shares : List Share

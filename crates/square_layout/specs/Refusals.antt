@@ -56,7 +56,7 @@ size_refusal width count =
 abbrev pub layout_refusal : BlockParts → Option LayError
 layout_refusal block = option_or (blob_refusal block.blobs) (size_refusal block.width (needed block))
 
--- a call answered the first check that fails, or, where none does, a value; but for want of memory
+-- a call answered the first check that fails, or, where none does, a value; unless memory ran out
 abbrev pub Answers : {X : Type 0} → Result X LayError → Option LayError → Type 0
 Answers (Ok x) refusal = refusal ≡ None
 Answers (Err e) refusal = (e ≡ NoMemory) ⊎ (refusal ≡ Some e)

@@ -86,7 +86,7 @@ fn shares_of(alloc: Global, block: &Block, order: &[&Blob], k: u16) -> Result<Ve
 /// Refuses the first blob whose namespace isn't one of a blob (`BadBlob`), then the first that has no
 /// bytes (`EmptyBlob`), whatever memory there is; then more shares than the greatest square has
 /// (`TooLarge`), more than the square of the width that is asked for has (`WidthTooSmall`), and an
-/// asked width that is none (`BadWidth`). Want of memory may stand in place of any of these three and
+/// asked width that is none (`BadWidth`). Out of memory may stand in place of any of these three and
 /// of the square.
 ///
 /// Celestia specifications, "Square Layout".

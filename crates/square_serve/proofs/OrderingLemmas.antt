@@ -14,7 +14,7 @@ use Rattle.axis_roots.specs.Grids.{share_at, axis_names, axis_shares, is_ordered
 use Rattle.axis_roots.proofs.Grids.LineLemmas.{length-line_names, get_or-axis_names}
 
 module _ (k : ℕ) (grid : List Share) (axis : Axis) (index : ℕ) where
-  -- they never fall from the one before a place on just where they never do, and this is that one
+  -- they never fall from the one before a place on exactly where they never do; this is that one
   pub record IsOrderedFrom (pos : ℕ) (last : Namespace) : Type 0 where
     pub last_is : last ≡ name_at (axis_names k grid axis index) (pos - 1)
     pub rest : is_ordered (drop (pos - 1) (axis_names k grid axis index)) ≡ is_ordered_axis k grid axis index

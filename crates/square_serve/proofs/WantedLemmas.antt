@@ -15,11 +15,11 @@ use Rattle.nmt_tree.specs.Roots.{halvings}
 use Rattle.nmt_tree.specs.Spans.{name_at, IsOver}
 use Rattle.nmt_tree.proofs.NameLemmas.{same_name}
 use Rattle.data_header.specs.Headers.{root_of}
-use Rattle.axis_roots.specs.Grids.{share_at, axis_names, are_ordered_axes, header_of_grid}
+use Rattle.axis_roots.specs.Grids.{share_at, axis_names, are_ordered_axes, header_of_grid, grid_roots}
 use Rattle.axis_roots.proofs.Grids.LineLemmas.{leaf_count}
 use Rattle.axis_roots.proofs.Grids.StoredLemmas.{axis_shares-are}
 use Rattle.square_serve.specs.Answers.{is_wanted}
-use Rattle.square_serve.specs.Needed.{grid_roots, reaches}
+use Rattle.square_serve.specs.Needed.{reaches}
 use Rattle.square_serve.proofs.RowLemmas.{axis_names-original, axis_names-parity}
 use Rattle.square_serve.proofs.RowTreeLemmas.{IsRow, row_of, root_over, root_above}
 

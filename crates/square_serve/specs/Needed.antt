@@ -10,14 +10,9 @@ use Rattle.namespace_id.specs.Names.{is_at_most, is_parity}
 use Rattle.namespace_id.specs.Shares.{AreShares}
 use Rattle.namespace_id.specs.Cells.{is_in_square}
 use Rattle.nmt_tree.specs.Trees.{StoredTree}
-use Rattle.data_header.specs.Headers.{Roots}
-use Rattle.axis_roots.specs.Grids.{leaf_over, axis_roots, are_ordered_axes}
+use Rattle.axis_roots.specs.Grids.{leaf_over, are_ordered_axes}
 use Rattle.axis_roots.specs.Trees.{axis_leaves, no_tree}
 use Rattle.square_serve.specs.declared.needed.NeededTrees.{NeededTrees}
-
--- the roots of all rows and all columns of a grid: its header, where it has one
-abbrev pub grid_roots : ℕ → List Share → Roots
-grid_roots k grid = record { k = k; rows = axis_roots k grid Row; cols = axis_roots k grid Col }
 
 -- whether the namespace of a leaf, which isn't PARITY, is at least this one
 abbrev pub reaches : Namespace → Namespace → Bool

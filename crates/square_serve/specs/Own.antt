@@ -44,12 +44,12 @@ EntryAgrees name square entry = AgreesAt (opened_by square.k name entry.found) s
 abbrev pub AnswerNames : Namespace → SquareShares → List NsEntry → Type 0
 AnswerNames name square answer = (entry : NsEntry) × Contains answer entry × EntryNames name square entry
 
--- an answer shows just the square's shares of the namespace, and no entry names a collision
+-- an answer shows exactly the square's shares of the namespace, and no entry names a collision
 pub record ShowsAll (name : Namespace) (square : SquareShares) (answer : List NsEntry) : Type 0 where
   pub shares : shown answer ≡ shares_of square name
   pub alike : AllByRecursion (EntryAgrees name square) answer
 
--- under the header of a square an answer shows just the square's shares of the namespace, or an entry and the square
+-- under the header of a square an answer shows exactly the square's shares of the namespace, or an entry and the square
 -- name a collision
 abbrev pub IsOwnAnswer : Roots → Namespace → List NsEntry → Type 0
 IsOwnAnswer header name answer =

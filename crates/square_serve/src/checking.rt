@@ -136,7 +136,7 @@ fn judge(header: &Header, name: &Namespace, entries: &[NsEntry]) -> Result<(), N
 /// Verifies a namespace answer under a data availability header: whether there is an entry for each row
 /// of the original square that may hold the namespace, from the first down, and each opens under the
 /// root of its row and leaves no other place in it for the namespace. Under the header of a square it
-/// then shows just the square's shares of the namespace, or an entry and the square name two strings
+/// then shows exactly the square's shares of the namespace, or an entry and the square name two strings
 /// with one SHA-256 digest.
 ///
 /// Refuses `PARITY`, then the first entry that stands at a wrong place, then the first that doesn't
@@ -163,7 +163,7 @@ pub fn check_namespace(
     // All of these at once.
     ensures first { refusal_in result ≡ answer_refusal header.now namespace.now answer.now }
 
-    // Under the header of a square, what is accepted is just the square's shares of the namespace, or
+    // Under the header of a square, what is accepted is exactly the square's shares of the namespace, or
     // an entry and the square name a collision.
     ensures own { IsOk result → IsOwnAnswer header.now namespace.now answer.now }
 {

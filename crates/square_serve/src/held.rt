@@ -5,12 +5,12 @@ ghost use Rattle.namespace_id.specs.declared.cells.Axis.TheVariants.{Row};
 ghost use Rattle.namespace_id.specs.Names.{is_parity};
 ghost use Rattle.namespace_id.specs.Cells.{is_in_square};
 ghost use Rattle.square_layout.specs.Blocks.{SquareShares};
-ghost use Rattle.axis_roots.specs.Grids.{share_at, axis_names, axis_shares, HasNoHeader};
+ghost use Rattle.axis_roots.specs.Grids.{share_at, axis_names, axis_shares, grid_roots, HasNoHeader};
 ghost use Rattle.axis_roots.specs.Openings.{IsProved};
 ghost use Rattle.axis_roots.specs.Trees.{axis_stored, message_at};
 ghost use Rattle.square_serve.specs.Shares.{shares_of};
 ghost use Rattle.square_serve.specs.Answers.{shown, wanted_rows, IsComplete};
-ghost use Rattle.square_serve.specs.Needed.{AreNeeded, grid_roots};
+ghost use Rattle.square_serve.specs.Needed.{AreNeeded};
 ghost use Rattle.square_serve.specs.Serving.{IsHeld, Holds, count_below, count_same, found_at, found_in, entry_in, answer_for};
 
 use crate::needed::NeededTrees;
@@ -85,7 +85,8 @@ pub struct Held {
 }
 
 impl Model for Held {
-    ghost use Rattle.square_serve.specs.Needed.{AreNeeded, grid_roots};
+    ghost use Rattle.axis_roots.specs.Grids.{grid_roots};
+    ghost use Rattle.square_serve.specs.Needed.{AreNeeded};
     ghost use Rattle.square_serve.specs.Serving.{HeldParts};
 
     ghost Value = { HeldParts };
@@ -264,7 +265,7 @@ impl Held {
     pub fn sample(&mut self, cell: Cell, axis: Axis) -> Result<Message, OutOfSquare>
         ensures out_of_square { IsErr result ↔ (is_in_square self.old.k cell ≡ false) }
 
-        // The message is that of the cell and the axis, shows the extension's share, and is proved
+        // The sample is that of the cell and the axis, shows the extension's share, and is proved
         // under the header.
         ensures value { IfOk result (λ message.
             message ≡ message_at self.old.k self.old.grid cell axis) }
@@ -299,7 +300,7 @@ impl Held {
         ensures parity { IsErrOf result ServeError.Parity ↔ (is_parity namespace.now ≡ true) }
         ensures value { IfOk result (λ answer. answer ≡ answer_for self.old namespace.now) }
 
-        // The answer is complete under the header, and shows just the shares of the square that is held.
+        // The answer is complete under the header, and shows exactly the shares of the square that is held.
         ensures complete { IfOk result (λ answer.
             IsComplete self.old.header namespace.now answer) }
         ensures shares { IfOk result (λ answer. (square : SquareShares) → Holds self.old square →

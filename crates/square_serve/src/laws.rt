@@ -32,7 +32,7 @@ pub fn answer_laws()
         (first_column entry.found < end_column entry.found)
         × (end_column entry.found ≤ header.k) }
 
-    // Under the header of a square a complete answer shows just the square's shares of the namespace, or
+    // Under the header of a square a complete answer shows exactly the square's shares of the namespace, or
     // an entry and the square name a collision.
     ensures own { (header : Roots) (name : Namespace) (answer : List NsEntry) → IsNamespace name →
         AreEntries answer → IsComplete header name answer → IsOwnAnswer header name answer }
@@ -48,12 +48,12 @@ pub fn serve_laws()
     ensures header { (held : HeldParts) (square : SquareShares) → Holds held square →
         IsHeaderOf held.header square }
 
-    // The message of each cell and axis is proved under the header.
+    // The sample of each cell and axis is proved under the header.
     ensures sample { (held : HeldParts) (cell : Cell) (axis : Axis) → IsHeld held →
         is_in_square held.k cell ≡ true →
         IsProved held.header (message_at held.k held.grid cell axis) }
 
-    // The answer for each namespace but PARITY is complete under the header, and shows just the shares
+    // The answer for each namespace but PARITY is complete under the header, and shows exactly the shares
     // of the square that is held.
     ensures complete { (held : HeldParts) (name : Namespace) → IsHeld held → IsNamespace name →
         is_parity name ≡ false → IsComplete held.header name (answer_for held name) }

@@ -8,9 +8,9 @@ ghost use Rattle.std.specs.Prelude.{◌≡◌, ◌*◌, ◌<◌, IsTrue, IfOk, I
 ghost use Rattle.namespace_id.specs.Cells.{is_in_square};
 ghost use Rattle.namespace_id.specs.Shares.{AreShares};
 ghost use Rattle.nmt_tree.specs.Roots.{is_leaf_count};
-ghost use Rattle.axis_roots.specs.Grids.{leaf_over, axis_roots, are_ordered_axes};
+ghost use Rattle.axis_roots.specs.Grids.{leaf_over, axis_roots, are_ordered_axes, grid_roots};
 ghost use Rattle.axis_roots.specs.Trees.{axis_leaves, axis_stored, no_tree, stored_root};
-ghost use Rattle.square_serve.specs.Needed.{AreNeededLeaves, AreNeededTrees, AreNeeded, grid_roots, empty_trees, needed_along, needed_at};
+ghost use Rattle.square_serve.specs.Needed.{AreNeededLeaves, AreNeededTrees, AreNeeded, empty_trees, needed_along, needed_at};
 
 use axis_roots::{Grid, cell_on};
 use data_header::Header;

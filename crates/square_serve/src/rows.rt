@@ -5,9 +5,9 @@ ghost use Rattle.namespace_id.specs.declared.cells.Axis.TheVariants.{Row};
 ghost use Rattle.namespace_id.specs.Names.{is_parity};
 ghost use Rattle.namespace_id.specs.Shares.{AreShares};
 ghost use Rattle.nmt_tree.specs.Spans.{name_at};
-ghost use Rattle.axis_roots.specs.Grids.{axis_names, are_ordered_axes};
+ghost use Rattle.axis_roots.specs.Grids.{axis_names, are_ordered_axes, grid_roots};
 ghost use Rattle.square_serve.specs.Answers.{is_wanted};
-ghost use Rattle.square_serve.specs.Needed.{grid_roots, reaches};
+ghost use Rattle.square_serve.specs.Needed.{reaches};
 
 use axis_roots::Grid;
 use data_header::Header;

@@ -6,11 +6,12 @@ use Rattle.namespace_id.specs.declared.shares.Share.{Share}
 use Rattle.namespace_id.specs.Cells.{is_width}
 use Rattle.leopard_code.specs.Codewords.{IsCodeword}
 use Rattle.axis_roots.specs.Lines.{blank, cell_on}
-use Rattle.axis_roots.specs.Grids.{GridShares, IsGrid, share_at, axis_shares, Extends}
+use Rattle.axis_roots.specs.Grids.{IsGrid, share_at, axis_shares, Extends}
 use Rattle.axis_roots.proofs.Grids.AxisLemmas.{same_along}
 use Rattle.axis_roots.proofs.Grids.NumberLemmas.{in_square}
 use Rattle.axis_roots.proofs.Grids.ExtensionLemmas.{extends_by_lines}
 use Rattle.axis_roots.proofs.Grids.KeptLemmas.{AxesKept}
+use Rattle.square_layout.specs.Blocks.{SquareShares}
 
 -- the square copied, then the upper rows made codewords, then all columns
 filled : (k : ℕ) (square copied half whole : List Share) → IsTrue (is_width k) → length whole ≡ 2 * k * (2 * k)
@@ -29,7 +30,7 @@ filled k square copied half whole width size quarter rows by_rows cols by_cols =
     cols
 
 -- the same, where each step speaks of the width that its grid had
-pub filled_grid : (k a b d m n : ℕ) (square copied half : List Share) (whole : GridShares) → a ≡ k → b ≡ k → d ≡ k → whole.k ≡ k → m ≡ k → n ≡ 2 * k → IsGrid whole
+pub filled_grid : (k a b d m n : ℕ) (square copied half : List Share) (whole : SquareShares) → a ≡ k → b ≡ k → d ≡ k → whole.k ≡ k → m ≡ k → n ≡ 2 * k → IsGrid whole
     → ((cell : Cell) → cell.row < a → cell.col < a → share_at (2 * a) copied cell ≡ share_at a square cell)
     → ((row : ℕ) → row < m → IsCodeword b (axis_shares b half Row row)) → AxesKept b Row m copied half
     → ((col : ℕ) → col < n → IsCodeword d (axis_shares d whole.shares Col col)) → AxesKept d Col n half whole.shares

@@ -14,7 +14,7 @@ use Rattle.namespace_id.specs.Lists.{ascending}
 use Rattle.namespace_id.proofs.AscendingLemmas.{length-ascending}
 use Rattle.square_layout.specs.Blocks.{SquareShares, IsSquare}
 use Rattle.axis_roots.specs.Lines.{line_root, line_strict_root}
-use Rattle.axis_roots.specs.Grids.{axis_names, axis_shares, axis_root, axis_roots, is_ordered_axis, are_ordered_axes, header_of_grid, Extends, IsHeaderOf}
+use Rattle.axis_roots.specs.Grids.{axis_names, axis_shares, axis_root, axis_roots, is_ordered_axis, are_ordered_axes, header_of_grid, Extends, IsHeaderOf, grid_roots}
 use Rattle.axis_roots.proofs.Grids.AxisLemmas.{get_or-mapped}
 use Rattle.axis_roots.proofs.Grids.ExtensionLemmas.{extension_once}
 
@@ -98,42 +98,38 @@ pub none_if : {A : Type 0} (b : Bool) (made : A) → cond b (Some made) None ≡
 none_if true made e = absurd cc
 none_if false made e = refl
 
--- the roots of all rows and columns of a grid
-abbrev all_roots : ℕ → List Share → Roots
-all_roots k shares = record { k = k; rows = axis_roots k shares Row; cols = axis_roots k shares Col }
-
 -- a grid of width k has 2k roots along an axis
 length-axis_roots : (k : ℕ) (shares : List Share) (axis : Axis) → length (axis_roots k shares axis) ≡ 2 * k
 length-axis_roots k shares axis = length-map (ascending 0 (2 * k)) (axis_root k shares axis) ∙ length-ascending (2 * k) 0
 
 -- the root of one axis among all of them
-get_or-roots : (k : ℕ) (shares : List Share) (axis : Axis) (index : ℕ) → index < 2 * k → root_of (all_roots k shares) axis index ≡ axis_root k shares axis index
+get_or-roots : (k : ℕ) (shares : List Share) (axis : Axis) (index : ℕ) → index < 2 * k → root_of (grid_roots k shares) axis index ≡ axis_root k shares axis index
 get_or-roots k shares Row index h = get_or-mapped (axis_root k shares Row) (2 * k) index no_digest h
 get_or-roots k shares Col index h = get_or-mapped (axis_root k shares Col) (2 * k) index no_digest h
 
 -- the header has the grid's width
 pub header_width : (k : ℕ) (shares : List Share) (header : Roots) → header_of_grid k shares ≡ Some header → header.k ≡ k
-header_width k shares header e = ap (λ (roots : Roots). roots.k) (some_if (are_ordered_axes k shares) (all_roots k shares) header e).1
+header_width k shares header e = ap (λ (roots : Roots). roots.k) (some_if (are_ordered_axes k shares) (grid_roots k shares) header e).1
 
 -- its root of each axis is the root of the leaves along it
 pub header_root : (k : ℕ) (shares : List Share) (header : Roots) → header_of_grid k shares ≡ Some header → (axis : Axis) (index : ℕ) → index < 2 * k
     → root_of header axis index ≡ axis_root k shares axis index
 header_root k shares header e axis index h =
-    ap (λ (roots : Roots). root_of roots axis index) (some_if (are_ordered_axes k shares) (all_roots k shares) header e).1 ∙ get_or-roots k shares axis index h
+    ap (λ (roots : Roots). root_of roots axis index) (some_if (are_ordered_axes k shares) (grid_roots k shares) header e).1 ∙ get_or-roots k shares axis index h
 
 -- and its strict root
 pub header_strict : (k : ℕ) (shares : List Share) (header : Roots) → header_of_grid k shares ≡ Some header → (axis : Axis) (index : ℕ) → index < 2 * k
     → line_strict_root k axis index (axis_shares k shares axis index) ≡ Some (root_of header axis index)
 unfolding strict_root line_root
 header_strict k shares header e axis index h =
-    let ordered = ordered_axis k shares (some_if (are_ordered_axes k shares) (all_roots k shares) header e).0 axis index h in
+    let ordered = ordered_axis k shares (some_if (are_ordered_axes k shares) (grid_roots k shares) header e).0 axis index h in
     ap (λ (b : Bool). cond b (Some (root (halvings (2 * k)) (axis_names k shares axis index) (axis_shares k shares axis index))) None) ordered
     ∙ ap Some (sym (header_root k shares header e axis index h))
 
 -- a grid has none only where the namespaces of an axis fall
 pub header_falls : (k : ℕ) (shares : List Share) → header_of_grid k shares ≡ None
     → (axis : Axis) × (index : ℕ) × (index < 2 * k) × (is_ordered_axis k shares axis index ≡ false)
-header_falls k shares e = falling_axis k shares (none_if (are_ordered_axes k shares) (all_roots k shares) e)
+header_falls k shares e = falling_axis k shares (none_if (are_ordered_axes k shares) (grid_roots k shares) e)
 
 -- a square has at most one header
 pub header_once : (square : SquareShares) (header other : Roots) → IsHeaderOf header square → IsHeaderOf other square → header ≡ other
@@ -144,12 +140,12 @@ header_once square header other h o =
 -- it has a width and its count of roots
 pub header_roots : (square : SquareShares) (header : Roots) → IsHeaderOf header square → AreRoots header
 header_roots square header h =
-    let roots : AreRoots (all_roots square.k h.grid) = record {
+    let roots : AreRoots (grid_roots square.k h.grid) = record {
       width = h.whole.width;
       rows = length-axis_roots square.k h.grid Row;
       cols = length-axis_roots square.k h.grid Col;
     } in
-    let made : header ≡ all_roots square.k h.grid = (some_if (are_ordered_axes square.k h.grid) (all_roots square.k h.grid) header h.roots).1 in
+    let made : header ≡ grid_roots square.k h.grid = (some_if (are_ordered_axes square.k h.grid) (grid_roots square.k h.grid) header h.roots).1 in
     subst AreRoots (sym made) roots
 
 -- it is the header of any extension of the square
@@ -180,5 +176,5 @@ header_by_strict k shares header are width strict =
     let cols : header.cols ≡ axis_roots k shares Col =
     ext_get_or no_digest header.cols (axis_roots k shares Col) (are.cols ∙ wide ∙ sym (length-axis_roots k shares Col))
     (λ i h. let below : i < 2 * k = omega (arith, are.cols, wide, length-axis_roots k shares Col) in (each Col i below).1 ∙ sym (get_or-roots k shares Col i below)) in
-    let same : header ≡ all_roots k shares = λ i. record { k = width i; rows = rows i; cols = cols i } in
-    ap (λ (b : Bool). cond b (Some (all_roots k shares)) None) ordered ∙ ap Some (sym same)
+    let same : header ≡ grid_roots k shares = λ i. record { k = width i; rows = rows i; cols = cols i } in
+    ap (λ (b : Bool). cond b (Some (grid_roots k shares)) None) ordered ∙ ap Some (sym same)

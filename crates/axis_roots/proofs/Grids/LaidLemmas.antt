@@ -64,7 +64,7 @@ ordered-le names d i j ordered low high =
 -- ---- cells of one axis
 
 -- a cell of the original square is in its quarter
-original-inside : (k : ℕ) (cell : Cell) → is_original k cell ≡ true → (cell.row < k) × (cell.col < k)
+pub original-inside : (k : ℕ) (cell : Cell) → is_original k cell ≡ true → (cell.row < k) × (cell.col < k)
 original-inside k cell h = grind (arith, nat_tests)
 
 -- a cell before one of the original square is in it, and its number is smaller

@@ -3,7 +3,7 @@ use Rattle.std.proofs.Common.{◌≡◌, ◌∙◌, ℕ, ◌*◌, List, length, 
 use Rattle.std.specs.Prelude.{Option, Some, None}
 use Rattle.std.specs.List.{list_all}
 use Rattle.std.specs.Option.{option_map}
-use Rattle.std.proofs.lemmas.Bool.{and_from}
+use Rattle.std.proofs.lemmas.Bool.{and_from, and_right}
 use Rattle.std.proofs.lemmas.List.{length-map}
 use Rattle.namespace_id.specs.declared.cells.Axis.{Axis}
 use Rattle.namespace_id.specs.declared.cells.Axis.TheVariants.{Row, Col}
@@ -26,11 +26,6 @@ along_if k shares axis values = cond (are_ordered_along k shares axis) (Some val
 -- what is made of all axes, where these are ordered
 abbrev pub made_if : {X : Type 0} → ℕ → List Share → X → Option X
 made_if k shares whole = cond (are_ordered_axes k shares) (Some whole) None
-
--- a pair of tests of which the second fails
-and_false : (b : Bool) → (b && false) ≡ false
-and_false true = refl
-and_false false = refl
 
 module _ {A X : Type 0} where
   -- no values were found only where not all axes are ordered
@@ -63,7 +58,7 @@ module _ {A X : Type 0} where
   no_cols k shares values whole items made is none =
       let falls : are_ordered_along k shares Col ≡ false = none_along (are_ordered_along k shares Col) values items made is none in
       sym (ap (λ (b : Bool). cond b (Some whole) None)
-      (ap (λ (b : Bool). are_ordered_along k shares Row && b) falls ∙ and_false (are_ordered_along k shares Row)))
+      (ap (λ (b : Bool). are_ordered_along k shares Row && b) falls ∙ and_right (are_ordered_along k shares Row) false refl))
 
 -- of one whose rows and columns are ordered, all is
 pub both_along : {W : Type 0} (k : ℕ) (shares : List Share) (made whole : W) → are_ordered_along k shares Row ≡ true → are_ordered_along k shares Col ≡ true

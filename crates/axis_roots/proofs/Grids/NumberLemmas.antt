@@ -1,25 +1,17 @@
 -- Row-major lists, and the numbers of their cells.
-use Rattle.std.proofs.Common.{◌≡◌, ◌∙◌, ℕ, ◌+◌, ◌*◌, ◌/◌, ◌%◌, ◌<◌, ◌≤◌, List, length, get_or, map, sym, ap, ap₂, arith, IsTrue}
-use Rattle.std.proofs.Math.Nat.{div-lt_iff_lt-mul, mul-le-mul_right}
-use Rattle.std.proofs.lemmas.Nat.{div-mul-add, mod-mul-add, div-add-mod'}
+use Rattle.std.proofs.Common.{◌≡◌, ◌∙◌, ℕ, ◌+◌, ◌*◌, ◌/◌, ◌%◌, ◌<◌, List, length, get_or, map, sym, ap, arith, IsTrue}
+use Rattle.std.proofs.lemmas.Nat.{div-add-mod'}
 use Rattle.std.proofs.lemmas.List.{get_or-map, length-map, ext_get_or}
-use Rattle.std.proofs.lemmas.Bool.Decides.{nat_tests}
 use Rattle.namespace_id.specs.declared.cells.Cell.{Cell}
 use Rattle.namespace_id.specs.declared.cells.Axis.{Axis}
 use Rattle.namespace_id.specs.declared.cells.Axis.TheVariants.{Row, Col}
-use Rattle.namespace_id.specs.Cells.{is_width, is_in_square}
+use Rattle.namespace_id.specs.Cells.{is_in_square}
 use Rattle.namespace_id.specs.Lists.{ascending}
 use Rattle.namespace_id.proofs.AscendingLemmas.{length-ascending, get_or-ascending}
 use Rattle.axis_roots.specs.Messages.{position, index}
-
--- a row ends before a later one begins
-row_before : (m j n : ℕ) → m < j → m * n + n ≤ j * n
-row_before m j n h =
-    let more : (m + 1) * n ≤ j * n = mul-le-mul_right n (omega arith) in omega arith
-
--- what the test of a cell says
-pub inside : (k : ℕ) (cell : Cell) → IsTrue (is_in_square k cell) → (cell.row < 2 * k) × (cell.col < 2 * k)
-inside k cell h = grind (arith, nat_tests)
+pub use Rattle.namespace_id.specs.Cells.{cell_numbered as cell_of}
+pub use Rattle.namespace_id.proofs.NumberLemmas.{inside, in_square, number-lt, row-lt, cell_numbered-number as cell_of-number}
+pub use Rattle.namespace_id.proofs.WidthLemmas.{is_width-pos as width-ge}
 
 -- the place of a cell of the square on its axis
 pub position-lt : (k : ℕ) (axis : Axis) (cell : Cell) → IsTrue (is_in_square k cell) → position axis cell < 2 * k
@@ -30,30 +22,6 @@ position-lt k Col cell h = (inside k cell h).0
 pub index-lt : (k : ℕ) (axis : Axis) (cell : Cell) → IsTrue (is_in_square k cell) → index axis cell < 2 * k
 index-lt k Row cell h = (inside k cell h).0
 index-lt k Col cell h = (inside k cell h).1
-
--- a cell whose row and column are below 2k is in the square
-pub in_square : (k : ℕ) (cell : Cell) → cell.row < 2 * k → cell.col < 2 * k → IsTrue (is_in_square k cell)
-in_square k cell hr hc = grind (arith, nat_tests)
-
--- a width is not 0
-pub width-ge : (k : ℕ) → IsTrue (is_width k) → 0 < k
-width-ge k h = grind (arith, nat_tests)
-
--- the number of a cell is below that of all cells
-pub number-lt : (n : ℕ) (cell : Cell) → cell.row < n → cell.col < n → cell.row * n + cell.col < n * n
-number-lt n cell hr hc = omega (arith, row_before cell.row n n hr)
-
--- the cell with a number
-abbrev pub cell_of : ℕ → ℕ → Cell
-cell_of n number = record { row = number / n; col = number % n }
-
--- the cell with the number of a cell is that cell
-pub cell_of-number : (n : ℕ) (cell : Cell) → cell.col < n → cell_of n (cell.row * n + cell.col) ≡ cell
-cell_of-number n cell h = ap₂ (λ (r c : ℕ). record { row = r; col = c }) (div-mul-add cell.row n cell.col h) (mod-mul-add cell.row n cell.col h)
-
--- the row of a number
-row-lt : (n number : ℕ) → 0 < n → number < n * n → number / n < n
-row-lt n number some h = (div-lt_iff_lt-mul some).1 h
 
 -- the row-major list of the values at all cells
 pub listed : {A : Type 0} → ℕ → (Cell → A) → List A

@@ -1,8 +1,8 @@
 -- Stored trees of rows and columns, and their roots.
-use Rattle.std.proofs.Common.{◌≡◌, ◌∙◌, ℕ, zero, suc, ◌+◌, ◌*◌, ◌<◌, List, [], ◌∷◌, ◌++◌, length, map, Bool, true, false, cond, refl, sym, ap, ap₂, subst, arith, IsTrue}
+use Rattle.std.proofs.Common.{◌≡◌, ◌∙◌, ℕ, ◌+◌, ◌*◌, ◌<◌, List, length, map, Bool, true, false, cond, refl, sym, ap, ap₂, subst, arith, IsTrue}
 use Rattle.std.specs.Prelude.{Option, Some, None, IsSome}
 use Rattle.std.specs.List.{list_all}
-use Rattle.std.proofs.lemmas.List.{length-map, map_push}
+use Rattle.std.proofs.lemmas.List.{length-map}
 use Rattle.std.proofs.lemmas.Simd.{map-map}
 use Rattle.namespace_id.specs.declared.cells.Axis.{Axis}
 use Rattle.namespace_id.specs.declared.cells.Axis.TheVariants.{Row, Col}
@@ -23,29 +23,6 @@ use Rattle.axis_roots.proofs.Grids.WordLemmas.{each-map, share_anywhere}
 use Rattle.axis_roots.proofs.Grids.LineLemmas.{leaf_count, line_names-are, length-line_names, axis_leaves-cells}
 use Rattle.axis_roots.proofs.Grids.HeaderLemmas.{some_if, none_if, ordered_axis}
 use Rattle.axis_roots.proofs.Grids.RootingLemmas.{root-leaves, one_falls, all_ordered}
-
--- ---- values that are listed one after another
-
--- one more number
-ascending_more : (n first : ℕ) → ascending first (suc n) ≡ ascending first n ++ (first + n) ∷ []
-unfolding ascending
-ascending_more zero first = let e : first ≡ first + 0 = omega arith in ap (λ (x : ℕ). x ∷ []) e
-ascending_more (suc n) first =
-    let e : suc first + n ≡ first + suc n = omega arith in
-    ap (λ (l : List ℕ). first ∷ l) (ascending_more n (suc first) ∙ ap (λ (x : ℕ). ascending (suc first) n ++ x ∷ []) e)
-
--- no value yet
-pub mapped_none : {A : Type 0} (f : ℕ → A) (xs : List A) → xs ≡ [] → xs ≡ map f (ascending 0 0)
-unfolding ascending
-mapped_none f xs none = none
-
--- one more value
-pub mapped_more : {A : Type 0} (f : ℕ → A) (n : ℕ) (xs : List A) (x : A) → xs ≡ map f (ascending 0 n) → x ≡ f n → xs ++ x ∷ [] ≡ map f (ascending 0 (n + 1))
-mapped_more f n xs x before is =
-    let start : n ≡ 0 + n = omega arith in
-    let next : suc n ≡ n + 1 = omega arith in
-    ap₂ (λ (l : List _) (y : _). l ++ y ∷ []) before (is ∙ ap f start)
-    ∙ sym (map_push f (ascending 0 n) (0 + n)) ∙ ap (map f) (sym (ascending_more n 0)) ∙ ap (λ (m : ℕ). map f (ascending 0 m)) next
 
 -- ---- trees
 

@@ -25,7 +25,7 @@ use Rattle.axis_roots.proofs.Grids.NumberLemmas.{position-lt}
 
 -- ---- the cells of a claim
 
--- whether the cells of these messages are in the square
+-- whether the cells of these samples are in the square
 abbrev pub are_inside : ℕ → List Message → Bool
 are_inside k cells = list_all (λ m. is_in_square k m.cell) cells
 
@@ -60,7 +60,7 @@ positions-lt k axis (m ∷ cells) inside =
     (positions-lt k axis cells both.1)
 
 -- the positions of a claim's cells are positions of a codeword
-positions_fit : (k : ℕ) (claim : ClaimParts) → Shape k claim → are_inside k claim.cells ≡ true → IsTrue (are_positions k (positions_of claim))
+pub positions_fit : (k : ℕ) (claim : ClaimParts) → Shape k claim → are_inside k claim.cells ≡ true → IsTrue (are_positions k (positions_of claim))
 positions_fit k claim shape inside =
     and_from (list_all (λ pos. nat_lt pos (2 * k)) (positions_of claim)) (holds_along nat_lt (positions_of claim)) (positions-lt k claim.axis claim.cells inside)
     shape.rising
@@ -69,7 +69,7 @@ positions_fit k claim shape inside =
 positions_count : (k : ℕ) (claim : ClaimParts) → Shape k claim → length (positions_of claim) ≡ k
 positions_count k claim shape = length-map claim.cells (λ m. position claim.axis m.cell) ∙ shape.count
 
--- the shares of messages are shares
+-- the shares of samples are shares
 shares_fit : (cells : List Message) → AllByRecursion IsMessage cells → AreShares (map (λ m. m.share) cells)
 shares_fit [] are = tt
 shares_fit (m ∷ cells) are = (are.0.share, shares_fit cells are.1)

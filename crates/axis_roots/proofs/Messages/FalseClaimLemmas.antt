@@ -38,7 +38,7 @@ use Rattle.axis_roots.proofs.Messages.OwnLemmas.{leaves_are, names_or_agrees, sh
 use Rattle.axis_roots.proofs.Messages.ClaimLemmas.{are_inside, Shape, shape_of, word_once}
 use Rattle.axis_roots.proofs.Messages.SetLemmas.{bare_inside, along-each, set_ascending, set_opening, listed_shares, claim_inside}
 
--- a message shows the share of the extension that the header is made of
+-- a sample shows the share of the extension that the header is made of
 own_share : (header : Roots) (square : SquareShares) (own : IsHeaderOf header square) (m : Message) → ShowsOwn m square
     → m.share ≡ share_at (2 * square.k) own.grid m.cell
 own_share header square own m shows =
@@ -46,7 +46,7 @@ own_share header square own m shows =
     ∙ ap (λ (grid : List Share). share_at (2 * square.k) grid m.cell)
     (extension_once square.k square.shares shows.grid own.grid own.whole.width shows.extends own.extends)
 
--- the message shows the share of a grid at its cell
+-- the sample shows the share of a grid at its cell
 abbrev IsOwnShare : ℕ → List Share → Message → Type 0
 IsOwnShare k grid m = m.share ≡ share_at (2 * k) grid m.cell
 
@@ -61,7 +61,7 @@ own_here header square own claim m proved shown = elim (cases_Bool (is_set_cell 
   ]
 ]
 
--- under the header of a square all cells show the square's own shares, or the message of one names a collision
+-- under the header of a square all cells show the square's own shares, or the sample of one names a collision
 own_or_named : (header : Roots) (square : SquareShares) (own : IsHeaderOf header square) (claim : ClaimParts) (cells : List Message) → AreProved header claim cells
     → AllByRecursion (λ m. is_set_cell claim m ≡ true → IsOwnShare square.k own.grid m) cells
     → AllByRecursion (IsOwnShare square.k own.grid) cells ⊎ ((m : Message) × Contains cells m × (is_set_cell claim m ≡ false) × NamesClash m square)
@@ -79,7 +79,7 @@ own_or_named header square own claim (m ∷ cells) proved shown = elim (own_here
 
 -- ---- what the set shows
 
--- messages along an axis, of which each shows what stands there, show the grid's own shares
+-- samples along an axis, of which each shows what stands there, show the grid's own shares
 own_along : (k : ℕ) (grid : List Share) (axis : Axis) (i : ℕ) (cells : List Message) → list_all (λ m. index axis m.cell == i) cells ≡ true
     → AllByRecursion (λ m. is_along axis m ≡ true → is_in_square k m.cell ≡ true) cells
     → AllByRecursion (λ m. is_along axis m ≡ true → slice_get (axis_shares k grid axis i) (position axis m.cell) ≡ Some m.share) cells
@@ -136,7 +136,7 @@ set_own_or_named header square own claim (Some nodes) e opens fits shape =
 
 -- ---- claims
 
--- messages that show a grid's own shares on an axis show what stands on it
+-- samples that show a grid's own shares on an axis show what stands on it
 own_entries : (k : ℕ) (grid : List Share) (axis : Axis) (i : ℕ) (cells : List Message) → list_all (λ m. index axis m.cell == i) cells ≡ true
     → are_inside k cells ≡ true → AllByRecursion (λ m. m.share ≡ share_at (2 * k) grid m.cell) cells
     → HasEntries (map (λ m. position axis m.cell) cells) (map (λ m. m.share) cells) (axis_shares k grid axis i)
@@ -168,7 +168,7 @@ own_not_bad header square own claim inside shares bad =
     let one : bad.word ≡ line = word_once k claim bad.word line own.whole.width shape inside bad.through through in
     bad.other (ap (line_strict_root k claim.axis claim.index) one ∙ header_strict k own.grid header own.roots claim.axis claim.index shape.index)
 
--- so a claim that is accepted has a message, or a set, that names a collision
+-- so a claim that is accepted has a sample, or a set, that names a collision
 pub accepted_false : (header : Roots) (claim : ClaimParts) → Accepts header claim → IsFalseClaim header claim
 accepted_false header claim accepts square own =
     let width : header.k ≡ square.k = header_width square.k own.grid header own.roots in

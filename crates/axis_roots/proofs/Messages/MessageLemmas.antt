@@ -1,4 +1,4 @@
--- Messages made from the leaves of a line, and along an axis of a grid.
+-- Samples made from the leaves of a line, and along an axis of a grid.
 use Rattle.std.proofs.Common.{◌≡◌, ◌∙◌, ℕ, ◌*◌, ◌^◌, ◌<◌, List, length, get_or, true, refl, sym, ap, subst, arith, IsTrue}
 use Rattle.std.specs.Prelude.{Option, Some}
 use Rattle.namespace_id.specs.declared.cells.Cell.{Cell}
@@ -42,7 +42,7 @@ own_leaf k shares axis cell share within at =
     ∙ sym (ap (λ (leaves : List Digest). get_or leaves (position axis cell) no_digest) (axis_leaves-cells k shares axis (index axis cell))
     ∙ get_or-along k (leaf_over k shares) axis (index axis cell) (position axis cell) no_digest (position-lt k axis cell within))
 
--- nodes that open the leaf at the place of a message's cell
+-- nodes that open the leaf at the place of a sample's cell
 pub opens_made : (k n i pos : ℕ) (shares : List Share) (m : Message) (leaves : Option (List Digest)) → IsTrue (is_width k) → IsTrue (is_in_square k m.cell) → IsMessage m
     → m.share ≡ share_at (2 * k) shares m.cell → n ≡ 2 * k → i ≡ index m.axis m.cell → pos ≡ position m.axis m.cell
     → leaves ≡ Some (axis_leaves k shares m.axis i)
@@ -86,7 +86,7 @@ line_joins_ordered k axis i line width long are ordered =
     joins_ordered (halvings (2 * k)) 0 (line_names k axis i line) line (line_names-are k axis i line are) (long ∙ sym named) ordered
     (omega (arith, named, leaf_count k width))
 
--- the message of a position of an ordered line opens
+-- the sample of a position of an ordered line opens
 pub line_opens : (k : ℕ) (axis : Axis) (i pos : ℕ) (line : List Share) → is_width k ≡ true → i < 2 * k → pos < 2 * k → length line ≡ 2 * k
     → AreShares line → is_ordered_line k axis i line ≡ true → OpensAt k (line_message k axis i line pos) (line_root k axis i line)
 line_opens k axis i pos line width hi hp long are ordered = record {
@@ -106,7 +106,7 @@ line_opens k axis i pos line width hi hp long are ordered = record {
 
 -- ---- grids
 
--- the message of a cell of a grid is that of its position on its axis
+-- the sample of a cell of a grid is that of its position on its axis
 message-line : (k : ℕ) (shares : List Share) (cell : Cell) (axis : Axis) → is_in_square k cell ≡ true
     → message_at k shares cell axis ≡ line_message k axis (index axis cell) (axis_shares k shares axis (index axis cell)) (position axis cell)
 message-line k shares cell axis within =
@@ -120,7 +120,7 @@ message-line k shares cell axis within =
       path = leaf_nodes (2 * k) (axis_leaves k shares axis (index axis cell)) (position axis cell);
     }
 
--- the message of a cell of a grid opens, where the axis is ordered
+-- the sample of a cell of a grid opens, where the axis is ordered
 pub message_opens : (k : ℕ) (shares : List Share) (cell : Cell) (axis : Axis) → IsGrid (record { k = k; shares = shares }) → AreShares shares
     → is_in_square k cell ≡ true → is_ordered_axis k shares axis (index axis cell) ≡ true
     → OpensAt k (message_at k shares cell axis) (axis_root k shares axis (index axis cell))

@@ -1,4 +1,4 @@
--- A partial tree under a root of a square's header, and a message under the header: what they show is
+-- A partial tree under a root of a square's header, and a sample under the header: what they show is
 -- the square's, or they name a collision.
 use Rattle.std.proofs.Common.{◌≡◌, ◌∙◌, ℕ, ◌*◌, ◌<◌, List, true, Some, None, refl, sym, ap, subst, inl, inr}
 use Rattle.std.specs.Prelude.{◌⊎◌, Option, MatchOption}
@@ -75,9 +75,9 @@ alike_apart part S axis i grid whole extends alike names =
 pub agrees_apart : (S : SquareShares) (axis : Axis) (i : ℕ) (part : Part) → IsSquare S → AgreesAt part S axis i → NamesAt part S axis i → ⊥
 agrees_apart S axis i part whole agrees names = alike_apart part S axis i agrees.grid whole agrees.extends agrees.alike names
 
--- ---- messages
+-- ---- samples
 
--- and neither does a message that shows the square's own share
+-- and neither does a sample that shows the square's own share
 pub own_apart : (m : Message) (S : SquareShares) → IsSquare S → ShowsOwn m S → NamesClash m S → ⊥
 own_apart m S whole shows names = alike_apart (opened_by S.k m) S m.axis (index m.axis m.cell) shows.grid whole shows.extends shows.alike names
 
@@ -89,7 +89,7 @@ share_on k grid axis cell share h e =
     ∙ get_or-along k (share_at (2 * k) grid) axis (index axis cell) (position axis cell) share h
     ∙ ap (share_at (2 * k) grid) (cell_on-own axis cell)
 
--- a message that opens is an opening of one leaf
+-- a sample that opens is an opening of one leaf
 opening_of : (k : ℕ) (m : Message) (root : Digest) → OpensAt k m root → IsOpening (halvings (2 * k)) (shown_by k m) m.path
 opening_of k m root opens = record {
   count = opens.opened.count;
@@ -109,7 +109,7 @@ shows_own k m square grid root opens extends same =
     (opening_of k m root opens) (subst (λ (n : ℕ). pos < n) (leaf_count k opens.width) below) leaves same in
     share_on k grid m.axis m.cell m.share below listed.1
 
--- under the header of a square a message shows the square's own share, or they name a collision
+-- under the header of a square a sample shows the square's own share, or they name a collision
 pub accepted_own : (header : Roots) (m : Message) → IsProved header m → IsOwn header m
 accepted_own header m proved square own =
     let k : ℕ = square.k in

@@ -9,7 +9,7 @@ use Rattle.axis_roots.specs.Sets.{is_shown, fits_set, OpensSet}
 use Rattle.axis_roots.specs.Claims.{ClaimParts, ProofParts, ShowsBad, claimed_root, IsFraudProof, is_set_cell, Accepts}
 use Rattle.axis_roots.proofs.Messages.SetLemmas.{each_by}
 
--- a claim without a set is accepted where its messages are proved and it shows its axis to be bad
+-- a claim without a set is accepted where its samples are proved and it shows its axis to be bad
 plain_to : (header : Roots) (claim : ClaimParts) → claim.set ≡ None → AllByRecursion (IsProved header) claim.cells × ShowsBad header.k claim (claimed_root header claim) → Accepts header claim
 plain_to header claim e h = record {
   set_shape = ap (λ (s : Option (List Digest)). fits_set header.k claim.axis claim.cells s) e;
@@ -30,7 +30,7 @@ pub plain_accepted : (header : Roots) (claim : ClaimParts) → claim.set ≡ Non
     → (AllByRecursion (IsProved header) claim.cells × ShowsBad header.k claim (claimed_root header claim)) ↔ Accepts header claim
 plain_accepted header claim e = (plain_to header claim e, plain_from header claim e)
 
--- the claim of a fraud proof is accepted where its messages are proved and the root is the header's
+-- the claim of a fraud proof is accepted where its samples are proved and the root is the header's
 pub proof_accepted : (header : Roots) (proof : ProofParts) → IsFraudProof proof → header.k ≡ proof.k → claimed_root header proof.claim ≡ proof.root
     → AllByRecursion (IsProved header) proof.claim.cells → Accepts header proof.claim
 proof_accepted header proof is width root proved =

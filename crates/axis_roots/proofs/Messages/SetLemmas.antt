@@ -1,4 +1,4 @@
--- The set of a fraud claim: the messages that it shows, and their places.
+-- The set of a fraud claim: the samples that it shows, and their places.
 use Rattle.std.proofs.Common.{◌≡◌, ◌∙◌, ℕ, suc, ◌+◌, ◌*◌, ◌^◌, ◌<◌, ◌≤◌, List, [], ◌∷◌, length, map, Bool, true, false, cond, ◌==◌, ◌&&◌, refl, sym, ap, subst, inl, inr, arith, eqb-true}
 use Rattle.std.specs.Prelude.{Option, Some, None, IfSome, nat_lt, ◌||◌}
 use Rattle.std.specs.List.{AllByRecursion, list_all, list_any, slice_get}
@@ -26,9 +26,9 @@ use Rattle.axis_roots.proofs.Messages.ClaimLemmas.{are_inside, shape_of}
 use Rattle.axis_roots.proofs.Grids.LineLemmas.{leaf_count}
 use Rattle.axis_roots.proofs.Grids.NumberLemmas.{position-lt}
 
--- ---- the messages along an axis
+-- ---- the samples along an axis
 
--- a fact of each message holds of those along an axis
+-- a fact of each sample holds of those along an axis
 pub each-along : (P : Message → Type 0) (axis : Axis) (cells : List Message) → AllByRecursion P cells → AllByRecursion P (along_in axis cells)
 unfolding along_in
 each-along P axis [] h = tt
@@ -39,7 +39,7 @@ each-along P axis (m ∷ cells) h =
       | inr f ↦ subst Goal (sym f) (each-along P axis cells h.1)
     ]
 
--- a fact of those along an axis holds of each message that is along it
+-- a fact of those along an axis holds of each sample that is along it
 pub along-each : (P : Message → Type 0) (axis : Axis) (cells : List Message) → AllByRecursion P (along_in axis cells) → AllByRecursion (λ m. is_along axis m ≡ true → P m) cells
 unfolding along_in
 along-each P axis [] h = tt
@@ -150,7 +150,7 @@ some_along axis (m ∷ cells) h =
 
 -- ---- what it shows
 
--- messages show leaves
+-- samples show leaves
 leaves_shown : (k : ℕ) (axis : Axis) (ms : List Message) → AllByRecursion IsMessage ms → AreShown (leaves_at (map (λ m. position axis m.cell) ms) (names_in k ms) (map (λ m. m.share) ms))
 unfolding leaves_at
 leaves_shown k axis [] h = tt

@@ -1,4 +1,4 @@
--- The sizes of messages that are made of a line.
+-- The sizes of samples that are made of a line.
 use Rattle.std.proofs.Common.{◌≡◌, ◌∙◌, ℕ, zero, suc, ◌+◌, ◌*◌, ◌^◌, ◌<◌, ◌≤◌, List, [], ◌∷◌, length, map, get_or, ltb, sym, ap, subst, inl, inr, arith, IsTrue}
 use Rattle.std.proofs.lemmas.Bool.{cases_Bool}
 use Rattle.std.proofs.lemmas.Bool.Decides.{nat_tests}
@@ -88,7 +88,7 @@ length-line_leaves k axis i line long =
     let named : length (line_names k axis i line) ≡ 2 * k = length-line_names k axis i line in
     length-leaf_digests (line_names k axis i line) line (named ∙ sym long) ∙ named
 
--- the message of a position of a line has the sizes of a message
+-- the sample of a position of a line has the sizes of a sample
 pub sizes-line_message : (k : ℕ) (axis : Axis) (i pos : ℕ) (line : List Share) → IsTrue (is_width k) → i < 2 * k → pos < 2 * k → length line ≡ 2 * k
     → AreShares line → IsMessage (line_message k axis i line pos)
 sizes-line_message k axis i pos line width hi hp long are =

@@ -1,4 +1,4 @@
-//! Certificates: only a message that is proved under a header gets one.
+//! Certificates: only a sample that is proved under a header gets one.
 
 ghost use Rattle.std.specs.Prelude.{◌≡◌, ◌↔◌, IsOk, IfOk, IfErr, Some};
 ghost use Rattle.axis_roots.specs.Messages.{message_refusal};
@@ -20,17 +20,17 @@ pub struct RefusedMessage {
 /// Verifies a sample under a data availability header, as `opens` does, and makes the certificate
 /// of one that is accepted.
 ///
-/// Refuses what `opens` refuses, with its reason, and hands the message back unchanged. It takes no
-/// memory. Who only wants the judgement, and not to hand the message on, calls `opens`.
+/// Refuses what `opens` refuses, with its reason, and hands the sample back unchanged. It takes no
+/// memory. Who only wants the judgement, and not to hand the sample on, calls `opens`.
 ///
-/// docs/RULES.md, "Proved messages".
+/// docs/RULES.md, "Proved samples".
 pub fn check(header: &Header, message: Message) -> Result<Proved, RefusedMessage>
     ensures accepts { IsOk result ↔ IsProved header.now message }
     ensures under { IfOk result (IsUnder header.now) }
     ensures message { IfOk result (λ proved. kept_message proved ≡ message) }
     ensures own { IsOk result → IsOwn header.now message }
 
-    // A refusal names the first check that fails, and hands the message back.
+    // A refusal names the first check that fails, and hands the sample back.
     ensures why { IfErr result (λ refused. Some refused.why ≡ message_refusal header.now message) }
     ensures returned { IfErr result (λ refused. refused.message ≡ message) }
 {

@@ -15,17 +15,17 @@ ghost use Rattle.axis_roots.specs.Own.{AgreesAt, NamesAt, ShowsOwn, NamesClash, 
 ghost use Rattle.axis_roots.specs.Proved.{IsUnder, kept_message};
 ghost use Rattle.axis_roots.specs.Grids.{IsHeaderOf};
 
-/// What is proved of a message under a header.
+/// What is proved of a sample under a header.
 pub fn message_laws()
-    // The message of a certificate is proved under each header that the certificate is under.
+    // The sample of a certificate is proved under each header that the certificate is under.
     ensures certificate { (header : Roots) (proved : Certificate) → IsUnder header proved →
         IsProved header (kept_message proved) }
 
-    // A message is proved exactly where no check fails.
+    // A sample is proved exactly where no check fails.
     ensures refusal { (header : Roots) (message : Sent) → AreRoots header → IsMessage message →
         (message_refusal header message ≡ None) ↔ IsProved header message }
 
-    // Under the header of a square a proved message shows the square's own share, or they name a
+    // Under the header of a square a proved sample shows the square's own share, or they name a
     // collision.
     ensures own { (header : Roots) (message : Sent) → IsProved header message →
         IsOwn header message }
@@ -41,7 +41,7 @@ pub fn own_laws()
         digest_of part ≡ root_of header axis index →
         AgreesAt part square axis index ⊎ NamesAt part square axis index }
 
-    // Never both; and of a message that shows the square's own share none is named either.
+    // Never both; and of a sample that shows the square's own share none is named either.
     ensures parts_apart { (square : SquareShares) (axis : Axis) (index : ℕ) (part : Part) →
         IsSquare square → AgreesAt part square axis index → NamesAt part square axis index → ⊥ }
     ensures messages_apart { (message : Sent) (square : SquareShares) → IsSquare square →

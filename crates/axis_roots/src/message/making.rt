@@ -1,5 +1,5 @@
-//! Messages that are made from a grid: from the stored tree of an axis, or by a tree that is filled
-//! for the one message.
+//! Samples that are made from a grid: from the stored tree of an axis, or by a tree that is filled
+//! for the one sample.
 
 ghost use Rattle.std.specs.Prelude.{◌≡◌, ◌*◌, ◌<◌, ◌↔◌, ℕ, List, IsTrue, IfSome, IsNone, IfOk, length, Some, true, false};
 ghost use Rattle.namespace_id.specs.Cells.{is_width, is_in_square};
@@ -24,7 +24,7 @@ use nmt_tree::Tree;
 /// column of the cell are below 2k. It hashes nothing, and takes no memory.
 ///
 /// Celestia specifications, "Data Structures", namespaced Merkle tree inclusion proofs;
-/// docs/RULES.md, "Proved messages".
+/// docs/RULES.md, "Proved samples".
 pub fn message_from(grid: &Grid, cell: Cell, axis: Axis, tree: &Tree) -> Message
     requires cell { IsTrue (is_in_square grid.now.k cell) }
     requires tree { tree.now ≡ axis_stored grid.now.k grid.now.shares axis (index_of axis cell) }
@@ -46,18 +46,18 @@ pub fn message_from(grid: &Grid, cell: Cell, axis: Axis, tree: &Tree) -> Message
 /// Makes the sample of a cell: its share with the inclusion proof along an axis. There is none
 /// exactly where the namespaces of that axis fall. Row and column of the cell are below 2k.
 ///
-/// The tree is one for 2k leaves. Where there is a message it is filled with those along the axis,
+/// The tree is one for 2k leaves. Where there is a sample it is filled with those along the axis,
 /// whatever it held; otherwise it stays as it was. The call takes no memory besides.
 ///
 /// Celestia specifications, "Data Structures", namespaced Merkle tree inclusion proofs;
-/// docs/RULES.md, "Proved messages".
+/// docs/RULES.md, "Proved samples".
 pub fn message_of(grid: &Grid, cell: Cell, axis: Axis, tree: &mut Tree) -> Option<Message>
     requires cell { IsTrue (is_in_square grid.now.k cell) }
     requires tree { tree.old.count ≡ 2 * grid.now.k }
     ensures none { IsNone result ↔
         (is_ordered_axis grid.now.k grid.now.shares axis (index_of axis cell) ≡ false) }
 
-    // The message shows the grid's share, and opens it under the root of the axis.
+    // The sample shows the grid's share, and opens it under the root of the axis.
     ensures cell { IfSome result (λ message. message.cell ≡ cell) }
     ensures axis { IfSome result (λ message. message.axis ≡ axis) }
     ensures share { IfSome result (λ message.
@@ -81,7 +81,7 @@ pub fn message_of(grid: &Grid, cell: Cell, axis: Axis, tree: &mut Tree) -> Optio
     }
 }
 
-/// Along an axis whose namespaces never fall, the message of each cell opens under the root.
+/// Along an axis whose namespaces never fall, the sample of each cell opens under the root.
 pub fn made_laws()
     // Of a grid, and of a line of 2k shares that stands in none.
     ensures opens { (k : ℕ) (shares : List Share) (cell : Place) (axis : Along) →

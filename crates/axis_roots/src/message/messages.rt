@@ -1,4 +1,4 @@
-//! Samples, which are called share messages, and whether one is proved under a header.
+//! Samples, and whether one is proved under a header.
 
 ghost use Rattle.std.specs.Prelude.{◌≡◌, ◌↔◌, IsOk, IsErrOf, IsErrAnd, true, false};
 ghost use Rattle.namespace_id.specs.Answers.{refusal_in};
@@ -11,13 +11,13 @@ use namespace_id::{Axis, Cell, Share, digests_law, is_in_square, leaf_namespace,
 use nmt_proofs::{OpenRefusal, Path, open_leaf};
 use thiserror::Error;
 
-/// A sample: a share of a cell with its inclusion proof under the root of its row or its column. It
-/// is called a share message, since it is what one node sends to another.
+/// A sample: a share of a cell with its inclusion proof under the root of its row or its column, as
+/// one node sends it to another.
 ///
 /// The cell may be any, and so may the nodes: whether a square has the cell and whether the nodes
 /// open the share is for `opens`.
 ///
-/// docs/RULES.md, "Proved messages".
+/// docs/RULES.md, "Proved samples".
 #[derive(Debug, Drop)]
 pub struct Message {
     pub cell: Cell,
@@ -26,7 +26,7 @@ pub struct Message {
     pub path: Path,
 }
 
-/// Why a message is not proved. The variants stand in the order in which they are tested.
+/// Why a sample is not proved. The variants stand in the order in which they are tested.
 #[derive(Clone, Copy, Debug, PartialEq, Eq, Error)]
 pub enum CheckRefusal {
     #[error("the cell is outside the square")]
@@ -51,7 +51,7 @@ pub fn position(axis: Axis, cell: Cell) -> u16
 
 /// Which row or column runs through a cell: the row's number, or the column's.
 ///
-/// docs/RULES.md, "Proved messages".
+/// docs/RULES.md, "Proved samples".
 pub fn index(axis: Axis, cell: Cell) -> u16
     ensures { result ≡ index axis cell }
 {
@@ -61,7 +61,7 @@ pub fn index(axis: Axis, cell: Cell) -> u16
     }
 }
 
-/// A message has numbers of two bytes, a share, and up to 8 digests. It changes nothing.
+/// A sample has numbers of two bytes, a share, and up to 8 digests. It changes nothing.
 pub fn message_law(message: &Message)
     ensures { IsMessage message.now }
 {
@@ -82,7 +82,7 @@ pub fn message_law(message: &Message)
 /// what it accepts as a certificate.
 ///
 /// Celestia specifications, "Data Structures", namespaced Merkle tree inclusion proofs;
-/// docs/RULES.md, "Proved messages".
+/// docs/RULES.md, "Proved samples".
 pub fn opens(header: &Header, message: &Message) -> Result<(), CheckRefusal>
     ensures accepts { IsOk result ↔ IsProved header.now message.now }
     ensures out_of_square { IsErrOf result CheckRefusal.OutOfSquare ↔
@@ -103,7 +103,7 @@ pub fn opens(header: &Header, message: &Message) -> Result<(), CheckRefusal>
     // All of these at once.
     ensures first { refusal_in result ≡ message_refusal header.now message.now }
 
-    // Under the header of a square, what is accepted is the square's own share, or the message and the
+    // Under the header of a square, what is accepted is the square's own share, or the sample and the
     // square name a collision.
     ensures own { IsOk result → IsOwn header.now message.now }
 {

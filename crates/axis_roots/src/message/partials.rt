@@ -27,9 +27,7 @@ fn trees_under(alloc: Global, n: u16, roots: &[Digest]) -> Result<Vec<PartialTre
     requires leaves { IsTrue (is_leaf_count n) }
     ensures trees { IfOk result (λ trees. trees.items ≡ map (rooted n) roots.now) }
 {
-    let Ok(mut trees) = Vec::with_capacity(alloc, roots.len()) else {
-        return Err(NoMemory);
-    };
+    let mut trees = Vec::with_capacity(alloc, roots.len())?;
     for root in roots {
         let tree = PartialTree::new(alloc, n, root)?;
         let Ok(()) = trees.push(tree) else {
@@ -39,8 +37,8 @@ fn trees_under(alloc: Global, n: u16, roots: &[Digest]) -> Result<Vec<PartialTre
     Ok(trees)
 }
 
-/// Whether the nodes of a message open its share in the tree of its row or column; these are the
-/// trees of the message's axis, in a square of width k.
+/// Whether the nodes of a sample open its share in the tree of its row or column; these are the
+/// trees of the sample's axis, in a square of width k.
 fn open_in(trees: &mut [PartialTree], k: u16, message: &Message) -> Result<(), OpenRefusal>
     requires width { IsTrue (is_width k) }
     requires cell { IsTrue (is_in_square k message.now.cell) }
@@ -106,7 +104,7 @@ impl PartialTrees {
         })
     }
 
-    /// Whether the nodes of a message with a cell of the square open its share.
+    /// Whether the nodes of a sample with a cell of the square open its share.
     fn open(&mut self, message: &Message) -> Result<(), OpenRefusal>
         requires inside { is_inside self.old message.now ≡ true }
         ensures accepts { IsOk result ↔ Opens (halvings (2 * self.old.k))
@@ -136,7 +134,7 @@ impl PartialTrees {
     /// hashed only up to their first digest that is kept; the answers are the same whatever is kept.
     ///
     /// Celestia specifications, "Data Structures", namespaced Merkle tree inclusion proofs;
-    /// docs/RULES.md, "Proved messages".
+    /// docs/RULES.md, "Proved samples".
     pub fn opens(&mut self, message: &Message) -> Result<(), CheckRefusal>
         ensures accepts { IsOk result ↔ IsProved self.old message.now }
         ensures out_of_square { IsErrOf result CheckRefusal.OutOfSquare ↔
@@ -157,7 +155,7 @@ impl PartialTrees {
         // All of these at once.
         ensures first { refusal_in result ≡ message_refusal self.old message.now }
 
-        // Under the header of a square, what is accepted is the square's own share, or the message
+        // Under the header of a square, what is accepted is the square's own share, or the sample
         // and the square name a collision.
         ensures own { IsOk result → IsOwn self.old message.now }
 
@@ -190,17 +188,17 @@ impl PartialTrees {
     /// Verifies a sample under the header, as `opens` does, and makes the certificate of one that is
     /// accepted, as the function `check` does.
     ///
-    /// Refuses what `opens` refuses, with its reason, and hands the message back unchanged. It takes
+    /// Refuses what `opens` refuses, with its reason, and hands the sample back unchanged. It takes
     /// no memory.
     ///
-    /// docs/RULES.md, "Proved messages".
+    /// docs/RULES.md, "Proved samples".
     pub fn check(&mut self, message: Message) -> Result<Proved, RefusedMessage>
         ensures accepts { IsOk result ↔ IsProved self.old message }
         ensures under { IfOk result (IsUnder self.old) }
         ensures message { IfOk result (λ proved. kept_message proved ≡ message) }
         ensures own { IsOk result → IsOwn self.old message }
 
-        // A refusal names the first check that fails, and hands the message back.
+        // A refusal names the first check that fails, and hands the sample back.
         ensures why { IfErr result (λ refused. Some refused.why ≡ message_refusal self.old message) }
         ensures returned { IfErr result (λ refused. refused.message ≡ message) }
 
@@ -218,7 +216,7 @@ impl PartialTrees {
 /// Verifies a sample under a header as `opens` does, by the partial trees under it where there are
 /// some, and alone otherwise. It takes no memory.
 ///
-/// docs/RULES.md, "Proved messages".
+/// docs/RULES.md, "Proved samples".
 pub fn opens_by(
     header: &Header,
     trees: &mut Option<PartialTrees>,

@@ -1,4 +1,4 @@
-//! The certificate of a proved message.
+//! The certificate of a proved sample.
 
 ghost use Rattle.axis_roots.specs.Openings.{OpensAt, OpensAt-prop};
 
@@ -7,11 +7,11 @@ use namespace_id::Digest;
 
 /// A certificate of a verified sample: its cell is in the square of width k, and its nodes open its
 /// share at the cell under a root, which it keeps. So it is proved under every header of that width
-/// with that root of the message's axis.
+/// with that root of the sample's axis.
 ///
 /// Only `check` makes one, the function or that of `PartialTrees`.
 ///
-/// docs/RULES.md, "Proved messages".
+/// docs/RULES.md, "Proved samples".
 #[derive(Drop)]
 pub struct Proved {
     k: u16,
@@ -24,7 +24,7 @@ impl Proved {
     ghost use Rattle.std.specs.Prelude.{◌≡◌};
     ghost use Rattle.axis_roots.specs.Proved.{kept_width, kept_message, kept_root};
 
-    /// A certificate of a message that opens.
+    /// A certificate of a sample that opens.
     pub(crate) fn of(k: u16, message: Message, root: Digest) -> Proved
         requires { OpensAt k message root }
         ensures width { kept_width result ≡ k }
@@ -34,14 +34,14 @@ impl Proved {
         Proved { k, message, root }
     }
 
-    /// The message.
+    /// The sample.
     pub fn message(&self) -> &Message
         ensures { result.now ≡ kept_message self.now }
     {
         &self.message
     }
 
-    /// The message, and no certificate any more.
+    /// The sample, and no certificate any more.
     pub fn into_message(self) -> Message
         ensures { result ≡ kept_message self }
     {

@@ -100,9 +100,7 @@ impl Grid {
         ensures { IfOk result (λ grid. grid.k ≡ k) }
     {
         let side = 2 * k as usize;
-        let Ok(shares) = vec![in alloc; Share([0; 512]); side * side] else {
-            return Err(NoMemory);
-        };
+        let shares = vec![in alloc; Share([0; 512]); side * side]?;
         Ok(Grid::of(k, shares))
     }
 
@@ -121,9 +119,7 @@ impl Grid {
     {
         let mut grid = Grid::blank(alloc, square.k)?;
         let mut room = Room::new(alloc, square.k)?;
-        let Ok(mut line) = vec![in alloc; Share([0; 512]); 2 * square.k as usize] else {
-            return Err(NoMemory);
-        };
+        let mut line = vec![in alloc; Share([0; 512]); 2 * square.k as usize]?;
         fill_grid(&mut room, &mut grid, square, &mut line);
         Ok(grid)
     }

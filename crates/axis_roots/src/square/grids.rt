@@ -18,9 +18,10 @@ pub struct Grid {
 }
 
 impl Model for Grid {
-    ghost use Rattle.axis_roots.specs.Grids.{GridShares, IsGrid};
+    ghost use Rattle.square_layout.specs.Blocks.{SquareShares};
+    ghost use Rattle.axis_roots.specs.Grids.{IsGrid};
 
-    ghost Value = { GridShares };
+    ghost Value = { SquareShares };
 
     ghost view = { λ g. record { k = g.k; shares = g.shares.items } };
 

@@ -13,7 +13,7 @@ ghost use Rattle.axis_roots.specs.Grids.{leaf_over, AreLeafDigests};
 use super::grids::place;
 use super::lines::cell_on;
 use crate::Grid;
-use namespace_id::{Axis, Cell, Digest, NoMemory, leaf_namespace};
+use namespace_id::{Axis, BLANK_DIGEST, Cell, Digest, NoMemory, leaf_namespace};
 use nmt_tree::leaf;
 use std::alloc::Global;
 
@@ -46,9 +46,7 @@ pub(super) fn leaves_of(alloc: Global, grid: &Grid) -> Result<Vec<Digest>, NoMem
     ensures { IfOk result (λ leaves. AreLeafDigests grid.now.k grid.now.shares leaves.items) }
 {
     let side = 2 * grid.width() as usize;
-    let Ok(mut leaves) = vec![in alloc; Digest([0; 90]); side * side] else {
-        return Err(NoMemory);
-    };
+    let mut leaves = vec![in alloc; BLANK_DIGEST; side * side]?;
     fill_leaves(grid, &mut leaves);
     Ok(leaves)
 }

@@ -14,7 +14,7 @@ use nmt_tree::strict_root;
 
 /// The cell at a position of a row or a column of this index.
 ///
-/// docs/RULES.md, "Proved messages".
+/// docs/RULES.md, "Proved samples".
 pub fn cell_on(axis: Axis, index: u16, pos: u16) -> Cell
     ensures { result ≡ cell_on axis index pos }
 {

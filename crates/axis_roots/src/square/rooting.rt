@@ -14,7 +14,7 @@ ghost use Rattle.axis_roots.specs.Grids.{AreLeafDigests, axis_shares, axis_roots
 use super::leaves::{are_ordered, leaves_of, read_leaves};
 use crate::Grid;
 use data_header::Header;
-use namespace_id::{Axis, Digest, NoMemory, shares_law};
+use namespace_id::{Axis, BLANK_DIGEST, Digest, NoMemory, shares_law};
 use nmt_tree::fold_root;
 use std::alloc::Global;
 
@@ -84,9 +84,7 @@ fn roots_of(
         (ascending 0 (2 * grid.now.k))
         then Some (axis_roots grid.now.k grid.now.shares axis) else None)) }
 {
-    let Ok(mut roots) = vec![in alloc; Digest([0; 90]); 2 * grid.width() as usize] else {
-        return Err(NoMemory);
-    };
+    let mut roots = vec![in alloc; BLANK_DIGEST; 2 * grid.width() as usize]?;
     if put_roots(grid, leaves, axis, line, &mut roots) {
         Ok(Some(roots))
     } else {
@@ -107,7 +105,7 @@ pub fn header_of(alloc: Global, grid: &Grid) -> Result<Option<Header>, NoMemory>
 {
     shares_law(&grid.shares);
     let leaves = leaves_of(alloc, grid)?;
-    let Ok(mut line) = vec![in alloc; Digest([0; 90]); 2 * grid.k as usize] else {
+    let Ok(mut line) = vec![in alloc; BLANK_DIGEST; 2 * grid.k as usize] else {
         return Err(NoMemory);
     };
     let Some(rows) = roots_of(alloc, grid, &leaves, Axis::Row, &mut line)? else {

@@ -15,7 +15,7 @@ ghost use Rattle.axis_roots.specs.Trees.{AreFilled, axis_stored, stored_along, s
 use super::leaves::{are_ordered, leaves_of, read_leaves};
 use crate::Grid;
 use data_header::Header;
-use namespace_id::{Axis, Digest, NoMemory, shares_law};
+use namespace_id::{Axis, BLANK_DIGEST, Digest, NoMemory, shares_law};
 use nmt_tree::Tree;
 use std::alloc::Global;
 use std::marker::Model;
@@ -111,9 +111,7 @@ fn roots_in(alloc: Global, trees: &[Tree]) -> Result<Vec<Digest>, NoMemory>
     requires { AreFilled trees.now }
     ensures { IfOk result (λ roots. roots.items ≡ map stored_root trees.now) }
 {
-    let Ok(mut roots) = Vec::with_capacity(alloc, trees.len()) else {
-        return Err(NoMemory);
-    };
+    let mut roots = Vec::with_capacity(alloc, trees.len())?;
     for tree in trees {
         let Ok(()) = roots.push(root_in(tree)) else {
             return Err(NoMemory);
@@ -135,7 +133,7 @@ impl Trees {
     {
         shares_law(&grid.shares);
         let leaves = leaves_of(alloc, grid)?;
-        let Ok(mut line) = vec![in alloc; Digest([0; 90]); 2 * grid.k as usize] else {
+        let Ok(mut line) = vec![in alloc; BLANK_DIGEST; 2 * grid.k as usize] else {
             return Err(NoMemory);
         };
         let Some(rows) = trees_of(alloc, grid, &leaves, Axis::Row, &mut line)? else {

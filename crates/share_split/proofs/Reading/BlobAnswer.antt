@@ -1,17 +1,10 @@
 -- What an answer tells of the checks and the sequences before it.
-use Rattle.std.proofs.Common.{◌≡◌, ℕ, ◌<◌, ◌≤◌, Bool, true, false, cond, eqb, leb-true, leb-false, List, ◌∷◌, length, Option, Some, None, Ok, Err, refl}
-use Rattle.std.specs.Option.{option_map_or}
+use Rattle.std.proofs.Common.{◌≡◌, ℕ, ◌<◌, ◌≤◌, Bool, true, false, cond, eqb, leb-true, leb-false, List, ◌∷◌, length, Some, None, Ok, Err, refl}
 use Rattle.namespace_id.specs.declared.shares.Share.{Share}
-use Rattle.share_split.specs.declared.joining.JoinError.{JoinError}
 use Rattle.share_split.specs.Blobs.{NamedBytes}
 use Rattle.share_split.specs.Walks.{Sequence, is_complete, with_blob, blobs_from}
 use Rattle.share_split.proofs.Reading.BlobWalk.{Read}
 use Rattle.share_split.proofs.Reading.BlobRead.{taken_on}
-
--- a check that passed, and what followed
-pub checked : (o : Option JoinError) (r : Read) (blobs : List NamedBytes) → option_map_or Err o r ≡ Ok blobs → (o ≡ None) × (r ≡ Ok blobs)
-checked None r blobs e = (refl, e)
-checked (Some why) r blobs e = absurd cc
 
 -- a complete sequence, and the others
 pub record IsClosed (s : Sequence) (r : Read) (blobs : List NamedBytes) : Type 0 where

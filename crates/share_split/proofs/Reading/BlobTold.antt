@@ -7,6 +7,7 @@ use Rattle.namespace_id.specs.Shares.{IsShare, AreShares, name_in}
 use Rattle.namespace_id.specs.declared.namespaces.Namespace.{Namespace}
 use Rattle.namespace_id.specs.declared.shares.Share.{Share}
 use Rattle.namespace_id.proofs.StringLemmas.{AreBytes-append}
+use Rattle.namespace_id.proofs.RefusalLemmas.{checked}
 use Rattle.share_split.specs.Blobs.{NamedBytes, first_blob_content}
 use Rattle.share_split.specs.Walks.{version_in, size_in, signer_in, Sequence, missing, begun_by, extended_by, first_refusal, later_refusal, blobs_from}
 use Rattle.share_split.specs.Joined.{AreBlobs}
@@ -18,7 +19,7 @@ use Rattle.share_split.proofs.Reading.Runs.{AreLater, drop-parted}
 use Rattle.share_split.proofs.Reading.BlobWalk.{blobs_on, blobs_from-cons, blobs_from-nil, blobs_from-open}
 use Rattle.share_split.proofs.Reading.BlobRead.{taken_on}
 use Rattle.share_split.proofs.Reading.Pieces.{one, with_sequence}
-use Rattle.share_split.proofs.Reading.BlobAnswer.{checked, goes_on}
+use Rattle.share_split.proofs.Reading.BlobAnswer.{goes_on}
 
 -- ---- the walk
 

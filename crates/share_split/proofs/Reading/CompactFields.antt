@@ -12,7 +12,8 @@ use Rattle.share_split.specs.Walks.{version_in, is_start, size_in, fields_in, si
 use Rattle.share_split.proofs.Reading.Cuts.{cut, four, parts, fours, stated, info_is, fields_first, fields_later}
 use Rattle.share_split.proofs.Reading.Signers.{signer_among, unsigned}
 use Rattle.share_split.specs.declared.walking.Form.TheVariants.{Units}
-use Rattle.share_split.proofs.Reading.Fields.{IsFirst, IsLater, named, share_of}
+use Rattle.share_split.proofs.Reading.Fields.{IsFirst, IsLater, named}
+use Rattle.share_split.proofs.Writing.Share.{share_of}
 
 -- a compact share and the number that its reserved bytes state
 abbrev pub IsCompactFirst : Namespace → ℕ → ℕ → List ℕ → Share → Type 0

@@ -14,6 +14,7 @@ use Rattle.share_split.specs.Blobs.{signer_size, info, filled, sequence_share, s
 use Rattle.share_split.specs.Walks.{version_in, is_start, size_in, fields_in, is_signed, signer_in, bytes_before, content_in}
 use Rattle.share_split.proofs.Reading.Cuts.{cut, four, parts, fours, stated, version_of_info, start_of_info, info_is, fields_first, fields_later, length-fields}
 use Rattle.share_split.proofs.Reading.Signers.{IsLabel, is_signed_by, signer_among, signer_again, signer_parts, length-room}
+use Rattle.share_split.proofs.Writing.Share.{share_of}
 
 -- how much content a first share of a form holds
 abbrev pub first_room : Form → Option (List ℕ) → ℕ
@@ -44,10 +45,6 @@ pub record IsLater (form : Form) (name : Namespace) (version : ℕ) (text : List
 -- the namespace of these bytes
 abbrev pub named : List ℕ → Namespace
 named bytes = record { 0 = bytes }
-
--- the share of these bytes
-abbrev pub share_of : List ℕ → Share
-share_of bytes = record { 0 = bytes }
 
 -- a later share has no signer
 pub unsigned_later : (share : Share) → is_start share ≡ false → signer_in share ≡ None

@@ -1,4 +1,4 @@
--- Shares are read as blobs, or as units, just where they are their shares.
+-- Shares are read as blobs, or as units, exactly where they are their shares.
 use Rattle.std.proofs.Common.{◌≡◌, ◌∙◌, ◌↔◌, ℕ, inl, inr, List, [], Option, None, Some, Result, Ok, Err, sym, ap}
 use Rattle.std.specs.Option.{option_map_or}
 use Rattle.namespace_id.specs.Shares.{AreShares}
@@ -19,7 +19,7 @@ use Rattle.share_split.proofs.Reading.UnitTold.{units_told}
 blobs_read : (shares : List Share) (blobs : List NamedBytes) → AreBlobs shares blobs → blobs_of shares ≡ Ok blobs
 blobs_read shares blobs are = ap (blobs_from 0 None) are.parts ∙ pieces_read 0 are.pieces are.are_pieces ∙ ap Ok (sym are.shown)
 
--- shares are read as blobs just where they are their shares
+-- shares are read as blobs exactly where they are their shares
 pub blobs_law : (shares : List Share) (blobs : List NamedBytes) → AreShares shares → (blobs_of shares ≡ Ok blobs) ↔ AreBlobs shares blobs
 blobs_law shares blobs wholes = (λ e. blobs_told shares 0 None blobs wholes tt e, λ are. blobs_read shares blobs are)
 
@@ -28,7 +28,7 @@ units_read : (shares : List Share) (units : List (List ℕ)) → AreUnits shares
 units_read shares units (inl none) = ap units_of none.0 ∙ ap (units_in []) (sequence_from-none 0) ∙ ap Ok (sym none.1)
 units_read shares units (inr are) = ap units_of are.parts ∙ compact_read are.name units are.name_is are.few
 
--- shares are read as units just where they are their shares
+-- shares are read as units exactly where they are their shares
 pub units_law : (shares : List Share) (units : List (List ℕ)) → AreShares shares → (units_of shares ≡ Ok units) ↔ AreUnits shares units
 units_law shares units wholes = (λ e. units_told shares units wholes e, λ are. units_read shares units are)
 

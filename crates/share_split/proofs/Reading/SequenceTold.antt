@@ -1,29 +1,16 @@
 -- Compact shares that are read as a sequence are its later shares, to the end of its text.
-use Rattle.std.proofs.Common.{◌≡◌, ◌∙◌, ℕ, suc, ◌+◌, ◌<◌, ◌≤◌, Bool, true, false, cond, leb-true, leb-false, List, [], ◌∷◌, ◌++◌, length, drop, Option, Some, None, Ok, Err, refl, sym, ap, subst, arith, length-append, append_assoc, append-nil}
-use Rattle.std.specs.Option.{option_map_or}
+use Rattle.std.proofs.Common.{◌≡◌, ◌∙◌, ℕ, suc, ◌+◌, ◌<◌, ◌≤◌, Bool, true, false, leb-true, leb-false, List, [], ◌∷◌, ◌++◌, length, drop, Option, Some, Ok, refl, sym, ap, subst, arith, length-append, append_assoc, append-nil}
 use Rattle.namespace_id.specs.Bytes.{AreBytes}
 use Rattle.namespace_id.specs.Shares.{AreShares}
 use Rattle.namespace_id.specs.declared.shares.Share.{Share}
 use Rattle.namespace_id.proofs.StringLemmas.{AreBytes-append}
-use Rattle.share_split.specs.declared.joining.JoinError.{JoinError}
+use Rattle.namespace_id.proofs.RefusalLemmas.{checked, if_none}
 use Rattle.share_split.specs.declared.walking.Form.TheVariants.{Units}
 use Rattle.share_split.specs.Walks.{Sequence, missing, is_complete, extended_by, later_refusal, surplus_refusal, unit_refusal, sequence_from}
 use Rattle.share_split.proofs.Reading.Sequence.{seq}
 use Rattle.share_split.proofs.Reading.Next.{later_told, later_part, part-fits}
 use Rattle.share_split.proofs.Reading.Runs.{AreLater, drop-parted}
-use Rattle.share_split.proofs.Reading.UnitWalk.{One, sequence_from-cons, sequence_from-whole, sequence_from-open}
-
--- ---- what an answer tells
-
--- a check that passed, and what followed
-pub checked : (o : Option JoinError) (r : One) (answer : Option Sequence) → option_map_or Err o r ≡ Ok answer → (o ≡ None) × (r ≡ Ok answer)
-checked None r answer e = (refl, e)
-checked (Some why) r answer e = absurd cc
-
--- the sequence wasn't complete before the share
-still_open : (done : Bool) (surplus : JoinError) (o : Option JoinError) → cond done (Some surplus) o ≡ None → (done ≡ false) × (o ≡ None)
-still_open true surplus o e = absurd cc
-still_open false surplus o e = (refl, e)
+use Rattle.share_split.proofs.Reading.UnitWalk.{sequence_from-cons, sequence_from-whole, sequence_from-open}
 
 -- ---- the walk
 
@@ -58,7 +45,7 @@ run_told [] i s answer wholes le e = end_by (is_complete s) i s answer refl le e
 run_told (share ∷ shares) i s answer wholes le e =
     let t : Sequence = extended_by Units s share in
     let p = checked (unit_refusal i (Some s) share) (sequence_from (suc i) (Some t) shares) answer (sym (sequence_from-cons i (Some s) share shares) ∙ e) in
-    let q = still_open (is_complete s) (surplus_refusal i share) (later_refusal Units i s share) p.0 in
+    let q = if_none (is_complete s) (surplus_refusal i share) (later_refusal Units i s share) p.0 in
     let x = later_told Units i s share wholes.0 q.1 in
     let part : List ℕ = later_part Units s share in
     let so_far : length (s.content ++ part) ≡ length s.content + length part = length-append s.content part in

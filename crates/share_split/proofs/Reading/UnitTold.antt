@@ -7,6 +7,7 @@ use Rattle.namespace_id.specs.declared.namespaces.Namespace.{Namespace}
 use Rattle.namespace_id.specs.declared.shares.Share.{Share}
 use Rattle.namespace_id.proofs.StringLemmas.{AreBytes-append}
 use Rattle.namespace_id.proofs.ShareLemmas.{name_in-is}
+use Rattle.namespace_id.proofs.RefusalLemmas.{checked}
 use Rattle.share_split.specs.declared.joining.JoinError.TheVariants.{BadReserved}
 use Rattle.share_split.specs.Units.{starts_from, reserved_of, first_compact_share, later_compact_shares, compact_count}
 use Rattle.share_split.specs.Walks.{version_in, size_in, signer_in, Sequence, begun_by, unit_refusal, sequence_from, units_from, bad_reserved, reserved_units, units_in, units_of}
@@ -19,7 +20,7 @@ use Rattle.share_split.proofs.Reading.Next.{first_told, first_part, size_in-smal
 use Rattle.share_split.proofs.Reading.Runs.{AreLater, drop-parted, good_cons, later_compact_only, later_compact_count}
 use Rattle.share_split.proofs.Reading.TextLaws.{units_back}
 use Rattle.share_split.proofs.Reading.UnitWalk.{One, sequence_from-cons, sequence_from-none}
-use Rattle.share_split.proofs.Reading.SequenceTold.{checked, run_told}
+use Rattle.share_split.proofs.Reading.SequenceTold.{run_told}
 
 -- ---- the whole sequence
 

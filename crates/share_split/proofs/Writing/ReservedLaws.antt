@@ -1,5 +1,5 @@
 -- What the reserved bytes of compact shares state.
-use Rattle.std.proofs.Common.{◌≡◌, ◌∙◌, ℕ, suc, ◌+◌, ◌-◌, ◌<◌, ◌≤◌, ◌==◌, ◌||◌, Bool, true, false, List, [], ◌∷◌, length, sym, ap, refl, inl, inr, arith}
+use Rattle.std.proofs.Common.{◌≡◌, ◌∙◌, ℕ, suc, ◌+◌, ◌-◌, ◌<◌, ◌≤◌, ◌==◌, ◌||◌, Bool, true, false, List, [], ◌∷◌, length, sym, ap, inl, inr, arith}
 use Rattle.std.specs.List.{list_any, AllByRecursion}
 use Rattle.std.proofs.lemmas.Bool.{cases_lt, cases_Bool, true≢false}
 use Rattle.std.proofs.lemmas.Bool.Decides.{nat_tests}
@@ -23,16 +23,6 @@ is_inside_where : (i at : ℕ) → content_start i ≤ at → at < content_start
 is_inside_where i at low high = grind (arith, nat_tests)
 
 -- ---- units start one after another
-
--- no units have no starts
-starts_from-nil : (at : ℕ) → starts_from at [] ≡ []
-unfolding starts_from
-starts_from-nil at = refl
-
--- the start of the first unit, and then those of the others
-starts_from-cons : (at : ℕ) (unit : List ℕ) (units : List (List ℕ)) → starts_from at (unit ∷ units) ≡ at ∷ starts_from (at + length (unit_text unit)) units
-unfolding starts_from
-starts_from-cons at unit units = refl
 
 -- none starts before the first
 starts_above : (at start : ℕ) (units : List (List ℕ)) → list_any (λ other. other == start) (starts_from at units) ≡ true → at ≤ start

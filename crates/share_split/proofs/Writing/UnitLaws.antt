@@ -89,7 +89,7 @@ info-lt : (version : ℕ) (start : Bool) → version ≤ 1 → info version star
 info-lt version true few = omega arith
 info-lt version false few = omega arith
 
--- a share of a sequence is a share, where its fields have room in it
+-- a share of a sequence is a share, where its fields fit in it
 pub sequence_fits : (name : Namespace) (version : ℕ) (start : Bool) (fields content : List ℕ) → version ≤ 1 → length fields ≤ later_content → IsNamespace name
     → AreBytes fields → AreBytes content → IsShare (sequence_share name version start fields content)
 unfolding sequence_share

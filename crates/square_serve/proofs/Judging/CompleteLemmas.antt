@@ -6,18 +6,20 @@ use Rattle.namespace_id.specs.declared.namespaces.Namespace.{Namespace}
 use Rattle.namespace_id.specs.declared.digests.Digest.{Digest}
 use Rattle.namespace_id.specs.declared.cells.Axis.TheVariants.{Row}
 use Rattle.namespace_id.specs.Names.{is_parity}
+use Rattle.namespace_id.proofs.RefusalLemmas.{both_none, none_both}
 use Rattle.nmt_tree.specs.Roots.{halvings}
 use Rattle.nmt_proofs.specs.declared.opening.OpenRefusal.{OpenRefusal}
 use Rattle.nmt_proofs.specs.Openings.{has_count, has_order, has_root, leaves_from, one_digest}
 use Rattle.nmt_proofs.specs.Complete.{range_break, absence_break}
 use Rattle.nmt_proofs.specs.Causes.{opening_refusal}
+use Rattle.nmt_proofs.proofs.ListLemmas.{each-then}
 use Rattle.data_header.specs.Headers.{Roots, root_of}
 use Rattle.axis_roots.specs.declared.answers.Found.{Found}
 use Rattle.axis_roots.specs.declared.answers.Found.TheVariants.{Range, Absence}
 use Rattle.axis_roots.specs.declared.answers.NsEntry.{NsEntry}
 use Rattle.square_serve.specs.declared.checking.NsRefusal.TheVariants.{Parity, Rows, Proof}
 use Rattle.square_serve.specs.Answers.{OpensFound, found_refusal, wanted_rows, is_placed, HoldsEntry, IsComplete, refused_from, first_misplaced, first_refused, answer_refusal}
-use Rattle.square_serve.proofs.Judging.EachLemmas.{each_then, each_from}
+use Rattle.square_serve.proofs.Judging.EachLemmas.{each_from}
 use Rattle.square_serve.proofs.Judging.PlaceLemmas.{none_misplaced, all_placed}
 
 -- ---- one opening
@@ -70,18 +72,6 @@ found-none k root name (Absence pos leaf nodes) h =
 abbrev OpensEntry : Roots → Namespace → NsEntry → Type 0
 OpensEntry header name entry = OpensFound header.k (root_of header Row entry.row) name entry.found
 
--- neither the first nor a later one is refused
-both_none : (number : ℕ) (o : Option OpenRefusal) (rest : Option (ℕ × OpenRefusal)) → option_map_or (λ why. Some (number, why)) o rest ≡ None
-    → (o ≡ None) × (rest ≡ None)
-both_none number None rest e = (refl, e)
-both_none number (Some why) rest e = absurd cc
-
--- and the other way round
-none_both : (number : ℕ) (o : Option OpenRefusal) (rest : Option (ℕ × OpenRefusal)) → o ≡ None → rest ≡ None
-    → option_map_or (λ why. Some (number, why)) o rest ≡ None
-none_both number None rest h e = e
-none_both number (Some why) rest h e = absurd cc
-
 -- where none is refused, each entry opens
 refused-none : (header : Roots) (name : Namespace) (number : ℕ) (answer : List NsEntry) → refused_from header name number answer ≡ None
     → AllByRecursion (OpensEntry header name) answer
@@ -89,7 +79,7 @@ unfolding refused_from
 refused-none header name number [] e = tt
 refused-none header name number (entry ∷ answer) e =
     let root : Digest = root_of header Row entry.row in
-    let both = both_none number (found_refusal header.k root name entry.found) (refused_from header name (suc number) answer) e in
+    let both = both_none (λ why. (number, why)) (found_refusal header.k root name entry.found) (refused_from header name (suc number) answer) e in
     (found-opens header.k root name entry.found both.0, refused-none header name (suc number) answer both.1)
 
 -- and the other way round
@@ -99,7 +89,7 @@ unfolding refused_from
 each-opens header name number [] each = refl
 each-opens header name number (entry ∷ answer) each =
     let root : Digest = root_of header Row entry.row in
-    none_both number (found_refusal header.k root name entry.found) (refused_from header name (suc number) answer)
+    none_both (λ why. (number, why)) (found_refusal header.k root name entry.found) (refused_from header name (suc number) answer)
     (found-none header.k root name entry.found each.0) (each-opens header name (suc number) answer each.1)
 
 -- ---- the three checks
@@ -136,8 +126,8 @@ none_refused header name answer e =
 -- no check of a complete answer fails
 complete-none : (header : Roots) (name : Namespace) (answer : List NsEntry) → IsComplete header name answer → answer_refusal header name answer ≡ None
 complete-none header name answer h =
-    let placed = each_then (HoldsEntry header name) (λ entry. is_placed header.k entry.found ≡ true) (λ entry holds. holds.placed) answer h.entries in
-    let opens = each_then (HoldsEntry header name) (OpensEntry header name) (λ entry holds. holds.opens) answer h.entries in
+    let placed = each-then (HoldsEntry header name) (λ entry. is_placed header.k entry.found ≡ true) (λ entry holds. holds.placed) answer h.entries in
+    let opens = each-then (HoldsEntry header name) (OpensEntry header name) (λ entry holds. holds.opens) answer h.entries in
     checks-hold (is_parity name) (first_misplaced header name answer) (first_refused header name answer) h.other
     (all_placed header.k 0 (wanted_rows header name) answer h.rows placed) (each-opens header name 0 answer opens)
 

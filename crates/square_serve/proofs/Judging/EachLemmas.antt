@@ -3,12 +3,7 @@ use Rattle.std.proofs.Common.{◌≡◌, ◌⊎◌, suc, List, [], ◌∷◌, re
 use Rattle.std.specs.List.{AllByRecursion, Contains}
 use Rattle.namespace_id.proofs.MemberLemmas.{contains_cons, contains_none}
 
--- a fact of each element follows from another
-pub each_then : {A : Type 0} (P R : A → Type 0) → ((x : A) → P x → R x) → (xs : List A) → AllByRecursion P xs → AllByRecursion R xs
-each_then P R step [] p = tt
-each_then P R step (x ∷ xs) p = (step x p.0, each_then P R step xs p.1)
-
--- or from two others
+-- a fact of each element follows from two others
 pub each_from : {A : Type 0} (P Q R : A → Type 0) → ((x : A) → P x → Q x → R x) → (xs : List A) → AllByRecursion P xs → AllByRecursion Q xs
     → AllByRecursion R xs
 each_from P Q R step [] p q = tt

@@ -1,5 +1,5 @@
 -- Entries of an answer: what one opens, and that it agrees with the square's tree of its row, or they name a collision.
-use Rattle.std.proofs.Common.{◌≡◌, ◌⊎◌, ℕ, zero, suc, ◌+◌, ◌*◌, ◌<◌, ◌≤◌, List, [], ◌∷◌, length, drop, get_or, refl, sym, ap, subst, arith}
+use Rattle.std.proofs.Common.{◌≡◌, ◌⊎◌, ℕ, zero, suc, ◌+◌, ◌*◌, ◌<◌, ◌≤◌, List, [], ◌∷◌, length, drop, get_or, refl, sym, subst, arith}
 use Rattle.std.proofs.lemmas.Slice.Eq.{bytes_eq-Decides}
 use Rattle.namespace_id.specs.declared.namespaces.Namespace.{Namespace}
 use Rattle.namespace_id.specs.declared.shares.Share.{Share}
@@ -13,6 +13,7 @@ use Rattle.nmt_proofs.specs.Parts.{leaf, digest_of}
 use Rattle.nmt_proofs.specs.Openings.{leaves_from}
 use Rattle.nmt_proofs.specs.Clashes.{Agree, AreShown, ArePlaces, AreListed, IsOpening, whole}
 use Rattle.nmt_proofs.proofs.ShownLemmas.{opening-sized, opening-deep}
+use Rattle.nmt_proofs.proofs.DigestLemmas.{same_digest}
 use Rattle.data_header.specs.Headers.{Roots, root_of}
 use Rattle.square_layout.specs.Blocks.{SquareShares}
 use Rattle.axis_roots.specs.declared.answers.Found.{Found}
@@ -77,10 +78,6 @@ opening_of k name root (Range start shares nodes) is made opens = record {
   node_bytes = made.3;
 }
 opening_of k name root (Absence pos digest nodes) is made opens = record { count = opens.opens.count; parts = (made.1, tt); node_bytes = made.3 }
-
--- digests with the same bytes are one
-same_digest : (a b : Digest) → a.0 ≡ b.0 → a ≡ b
-same_digest a b e = ap (λ (bytes : List ℕ). record { 0 = bytes }) e
 
 -- its digest is the root
 digest-opened_by : (k : ℕ) (name : Namespace) (root : Digest) (found : Found) → OpensFound k root name found → digest_of (opened_by k name found) ≡ root

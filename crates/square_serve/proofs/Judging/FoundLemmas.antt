@@ -1,4 +1,4 @@
--- What is found in a row of a square: just the row's shares of the namespace.
+-- What is found in a row of a square: exactly the row's shares of the namespace.
 use Rattle.std.proofs.Common.{◌≡◌, ◌∙◌, ◌&&◌, ℕ, ◌+◌, ◌*◌, ◌^◌, ◌<◌, ◌≤◌, List, [], length, true, false, not, nat_lt, refl, sym, ap, arith}
 use Rattle.std.proofs.lemmas.Bool.{eqb-true, cases_lt}
 use Rattle.std.proofs.lemmas.Bool.Decides.{nat_tests}
@@ -81,7 +81,7 @@ absence_shows header name square own row pos digest nodes other h placed opens s
     sym (row_shares-none square own.grid name row own.extends h
     (λ i lt. alone i (omega (arith, lt, size, one.leaves.name_count)) (cases_lt i pos)))
 
--- what is found in a row shows just the row's shares of the namespace
+-- what is found in a row shows exactly the row's shares of the namespace
 pub found_shows : (header : Roots) (name : Namespace) (square : SquareShares) (own : IsHeaderOf header square) (row : ℕ) (found : Found)
     → is_parity name ≡ false → row < square.k → is_placed square.k found ≡ true → OpensFound square.k (root_of header Row row) name found
     → Agree (opened_by square.k name found) (axis_tree square.k own.grid Row row) → shown_found row found ≡ row_shares square name row

@@ -1,5 +1,5 @@
--- Under the header of a square a complete answer shows just the square's shares of the namespace, or an entry and the square
--- name a collision.
+-- Under the header of a square a complete answer shows exactly the square's shares of the namespace, or an entry and
+-- the square name a collision.
 use Rattle.std.proofs.Common.{◌≡◌, ◌⊎◌, ℕ, ◌<◌, List, true, false, subst, inl, inr, arith}
 use Rattle.std.specs.List.{AllByRecursion}
 use Rattle.std.proofs.lemmas.List.Elements.{All-contains, All-from_recursion}
@@ -8,6 +8,7 @@ use Rattle.namespace_id.specs.declared.shares.Share.{Share}
 use Rattle.namespace_id.specs.declared.cells.Axis.TheVariants.{Row}
 use Rattle.namespace_id.specs.Names.{IsNamespace, is_parity}
 use Rattle.nmt_proofs.specs.Clashes.{Agree}
+use Rattle.nmt_proofs.proofs.ListLemmas.{each-then}
 use Rattle.data_header.specs.Headers.{Roots, root_of}
 use Rattle.square_layout.specs.Blocks.{SquareShares, IsSquare}
 use Rattle.axis_roots.specs.declared.answers.NsEntry.{NsEntry}
@@ -20,7 +21,7 @@ use Rattle.square_serve.specs.Shares.{row_shares, shares_of}
 use Rattle.square_serve.specs.Answers.{is_wanted, is_placed, wanted_rows, shown_found, shown, OpensFound, HoldsEntry, IsComplete}
 use Rattle.square_serve.specs.Own.{opened_by, EntryNames, EntryAgrees, AnswerNames, ShowsAll, IsOwnAnswer}
 use Rattle.square_serve.specs.Placed.{IsPlacedEntry}
-use Rattle.square_serve.proofs.Judging.EachLemmas.{each_then, each_from, each_or_one}
+use Rattle.square_serve.proofs.Judging.EachLemmas.{each_from, each_or_one}
 use Rattle.square_serve.proofs.Judging.PlaceLemmas.{placed_rows, wanted_below}
 use Rattle.square_serve.proofs.Judging.EntryLemmas.{entry_or}
 use Rattle.square_serve.proofs.Judging.FoundLemmas.{found_shows}
@@ -43,13 +44,13 @@ pub record IsSoundEntry (header : Roots) (name : Namespace) (entry : NsEntry) : 
 pub each_sound : (header : Roots) (name : Namespace) (answer : List NsEntry) → AreEntries answer → IsComplete header name answer
     → AllByRecursion (IsSoundEntry header name) answer
 each_sound header name answer sized complete =
-    let placed = each_then (HoldsEntry header name) (λ entry. is_placed header.k entry.found ≡ true) (λ entry holds. holds.placed) answer complete.entries in
+    let placed = each-then (HoldsEntry header name) (λ entry. is_placed header.k entry.found ≡ true) (λ entry holds. holds.placed) answer complete.entries in
     let rows = placed_rows header.k (wanted_rows header name) answer (wanted_below (is_wanted header name) header.k) complete.rows placed in
     let both = each_from IsEntry (IsPlacedEntry header.k) (λ entry. IsEntry entry × (entry.row < header.k)) (λ entry one there. (one, there.row)) answer sized rows in
     each_from (λ entry. IsEntry entry × (entry.row < header.k)) (HoldsEntry header name) (IsSoundEntry header name)
     (λ entry one holds. record { sized = one.0; row = one.1; holds = holds }) answer both complete.entries
 
--- an entry that agrees with the square's tree shows just its row's shares of the namespace
+-- an entry that agrees with the square's tree shows exactly its row's shares of the namespace
 entry_shows : (header : Roots) (name : Namespace) (square : SquareShares) (own : IsHeaderOf header square) (entry : NsEntry)
     → is_parity name ≡ false → IsSoundEntry header name entry → EntryAgrees name square entry
     → shown_found entry.row entry.found ≡ row_shares square name entry.row
@@ -59,7 +60,7 @@ entry_shows header name square own entry other sound agrees =
     (subst (λ (n : ℕ). is_placed n entry.found ≡ true) width sound.holds.placed)
     (subst (λ (n : ℕ). OpensFound n (root_of header Row entry.row) name entry.found) width sound.holds.opens) (row_agrees header name square own entry agrees)
 
--- where each entry agrees, the answer shows just the square's shares of the namespace
+-- where each entry agrees, the answer shows exactly the square's shares of the namespace
 all_shown : (header : Roots) (name : Namespace) (answer : List NsEntry) (square : SquareShares)
     → IsHeaderOf header square → IsComplete header name answer → AllByRecursion (IsSoundEntry header name) answer
     → AllByRecursion (EntryAgrees name square) answer → shown answer ≡ shares_of square name
@@ -68,12 +69,12 @@ all_shown header name answer square own complete sound alike =
     (each_from (IsSoundEntry header name) (EntryAgrees name square) (λ entry. shown_found entry.row entry.found ≡ row_shares square name entry.row)
     (λ entry one agrees. entry_shows header name square own entry complete.other one agrees) answer sound alike)
 
--- a complete answer shows just the square's shares of the namespace, or an entry names a collision
+-- a complete answer shows exactly the square's shares of the namespace, or an entry names a collision
 pub answer_own : (header : Roots) (name : Namespace) (answer : List NsEntry) → IsNamespace name → AreEntries answer
     → IsComplete header name answer → IsOwnAnswer header name answer
 answer_own header name answer is sized complete square own =
     let sound = each_sound header name answer sized complete in
-    let each = each_then (IsSoundEntry header name) (λ entry. EntryAgrees name square entry ⊎ EntryNames name square entry)
+    let each = each-then (IsSoundEntry header name) (λ entry. EntryAgrees name square entry ⊎ EntryNames name square entry)
     (λ entry one. entry_or header name square entry is own one.sized one.row one.holds) answer sound in
     elim (each_or_one (EntryAgrees name square) (EntryNames name square) answer each) [
       | inl alike ↦ inl (record { shares = all_shown header name answer square own complete sound alike; alike = alike })

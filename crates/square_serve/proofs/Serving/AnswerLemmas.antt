@@ -1,4 +1,4 @@
--- The answers of a held square: complete, of entries of their sizes, and with just the square's shares.
+-- The answers of a held square: complete, of entries of their sizes, and with exactly the square's shares.
 use Rattle.std.proofs.Common.{◌≡◌, ◌∙◌, ℕ, ◌<◌, map, true, false, sym, ap, subst, subst₂, arith}
 use Rattle.std.specs.List.{AllByRecursion}
 use Rattle.std.proofs.lemmas.Bool.{and_parts}
@@ -70,7 +70,7 @@ pub held_own : (held : HeldParts) (square : SquareShares) → Holds held square 
 held_own held square holds =
     header_made square held.grid held.header holds.whole holds.extends (ap (λ (k : ℕ). header_of_grid k held.grid) (sym holds.width) ∙ holds.roots)
 
--- the answer shows just the square's shares of the namespace
+-- the answer shows exactly the square's shares of the namespace
 pub answer_shares : (held : HeldParts) (square : SquareShares) (name : Namespace) → IsHeld held → Holds held square → IsNamespace name → is_parity name ≡ false
     → shown (answer_for held name) ≡ shares_of square name
 answer_shares held square name is holds named other =

@@ -24,6 +24,7 @@ use Rattle.nmt_proofs.proofs.ListedLemmas.{agreed}
 use Rattle.nmt_proofs.proofs.WholeLemmas.{whole_is_span}
 use Rattle.nmt_proofs.proofs.OtherLeafLemmas.{range_stands, absence_stands}
 use Rattle.nmt_proofs.proofs.RunLemmas.{run_leaves, run_digests, length-leaves_from, length-digests_from, outside-run}
+use Rattle.nmt_proofs.proofs.ListLemmas.{each-then}
 use Rattle.data_header.specs.Headers.{Roots, root_of}
 use Rattle.square_layout.specs.Blocks.{SquareShares}
 use Rattle.axis_roots.specs.declared.answers.Found.{Found}
@@ -41,7 +42,7 @@ use Rattle.square_serve.specs.Own.{opened_by, AnswerNames, EntryAgrees, EntryNam
 use Rattle.square_serve.specs.Serving.{HeldParts, Holds, found_in, entry_in, answer_for}
 use Rattle.square_serve.proofs.PassingLemmas.{each_passing}
 use Rattle.square_serve.proofs.RowTreeLemmas.{IsRow, own_row, root_over}
-use Rattle.square_serve.proofs.Judging.EachLemmas.{each_then, each_from, each_or_one}
+use Rattle.square_serve.proofs.Judging.EachLemmas.{each_from, each_or_one}
 use Rattle.square_serve.proofs.Judging.EntryLemmas.{leaves-places, range_listed, entry_or}
 use Rattle.square_serve.proofs.Judging.OwnLemmas.{IsSoundEntry, each_sound, row_agrees}
 use Rattle.square_serve.proofs.Judging.FoundLemmas.{placed_range, placed_absence}
@@ -297,7 +298,7 @@ answer_only held square name answer holds named sized complete =
     } in
     let sound = each_sound header name answer sized complete in
     let wanted = each_row (λ row. is_wanted header name row ≡ true) (wanted_rows header name) answer (each_wanted header name) complete.rows in
-    let each = each_then (IsSoundEntry header name) (λ entry. EntryAgrees name square entry ⊎ EntryNames name square entry)
+    let each = each-then (IsSoundEntry header name) (λ entry. EntryAgrees name square entry ⊎ EntryNames name square entry)
     (λ entry one. entry_or header name square entry named own one.sized one.row one.holds) answer sound in
     elim (each_or_one (EntryAgrees name square) (EntryNames name square) answer each) [
       | inl alike ↦

@@ -1,15 +1,14 @@
 -- Where a namespace stands among namespaces that never fall.
 use Rattle.std.proofs.Common.{◌≡◌, ◌∙◌, ℕ, zero, suc, ◌+◌, ◌<◌, ◌≤◌, List, [], ◌∷◌, length, Bool, true, false, cond, not, true≢false, inl, inr, refl, sym, ap, subst, subst₂, arith}
 use Rattle.std.specs.List.{filter}
-use Rattle.std.proofs.lemmas.Bool.{and_parts, cases_Bool, not-false}
+use Rattle.std.proofs.lemmas.Bool.{cases_Bool, not-false}
 use Rattle.std.proofs.lemmas.Slice.Eq.{bytes_eq-Decides}
 use Rattle.namespace_id.specs.declared.namespaces.Namespace.{Namespace}
 use Rattle.namespace_id.specs.Names.{is_at_most, is_below}
-use Rattle.namespace_id.specs.Lists.{holds_along}
 use Rattle.namespace_id.proofs.OrderLemmas.{at_most_refl, at_most_trans, at_most_antisym}
 use Rattle.nmt_tree.specs.Roots.{is_ordered}
 use Rattle.nmt_tree.specs.Spans.{name_at}
-use Rattle.nmt_tree.proofs.NameLemmas.{same_name, ordered_at}
+use Rattle.nmt_tree.proofs.NameLemmas.{same_name, ordered_at, ordered_tail}
 use Rattle.square_serve.specs.Serving.{count_below, count_same}
 use Rattle.square_serve.proofs.Serving.CountLemmas.{is_same, below_not-same}
 
@@ -19,12 +18,6 @@ pub record IsCounted (name : Namespace) (names : List Namespace) (below same : �
   pub under : (i : ℕ) → i < below → is_below (name_at names i) name ≡ true
   pub here : (i : ℕ) → below ≤ i → i < below + same → name_at names i ≡ name
   pub over : (i : ℕ) → below + same ≤ i → i < length names → is_below name (name_at names i) ≡ true
-
--- the namespaces behind the first never fall either
-ordered_rest : (a : Namespace) (names : List Namespace) → is_ordered (a ∷ names) ≡ true → is_ordered names ≡ true
-unfolding holds_along
-ordered_rest a [] h = refl
-ordered_rest a (b ∷ names) h = (and_parts (is_at_most a b) (is_ordered (b ∷ names)) h).1
 
 -- one that is at most another isn't above it
 pub at_most_not-below : (a b : Namespace) → is_at_most a b ≡ true → is_below b a ≡ true → ⊥
@@ -121,7 +114,7 @@ counted name [] h = record {
   over = λ i low high. absurd (omega (arith, high));
 }
 counted name (a ∷ names) h =
-    let rest = counted name names (ordered_rest a names h) in
+    let rest = counted name names (ordered_tail a names h) in
     let below : ℕ = count_below name names in
     let same : ℕ = count_same name names in
     let Goal : ℕ → ℕ → Type 0 = λ b s. IsCounted name (a ∷ names) b s in

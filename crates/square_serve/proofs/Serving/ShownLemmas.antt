@@ -1,4 +1,4 @@
--- What is found of a namespace in a row shows just the row's shares of it.
+-- What is found of a namespace in a row shows exactly the row's shares of it.
 use Rattle.std.proofs.Common.{◌≡◌, ◌≢◌, ◌∙◌, ℕ, ◌+◌, ◌*◌, ◌<◌, List, length, drop, false, inl, inr, sym, ap, arith}
 use Rattle.std.proofs.lemmas.Bool.{cases_lt}
 use Rattle.std.proofs.lemmas.List.{get_or-take, get_or-drop}

@@ -12,14 +12,13 @@ use Rattle.axis_roots.specs.declared.message.messages.Message.{Message}
 use Rattle.axis_roots.specs.Messages.{index, root_for}
 use Rattle.axis_roots.specs.Openings.{OpensAt, IsProved}
 use Rattle.axis_roots.specs.Lines.{blank}
-use Rattle.axis_roots.specs.Grids.{share_at, axis_shares, axis_root, is_ordered_axis, are_ordered_axes, header_of_grid, Extends, HasNoHeader}
+use Rattle.axis_roots.specs.Grids.{share_at, axis_shares, axis_root, is_ordered_axis, are_ordered_axes, header_of_grid, Extends, HasNoHeader, grid_roots}
 use Rattle.square_layout.specs.Blocks.{SquareShares}
 use Rattle.axis_roots.specs.Trees.{message_at}
 use Rattle.axis_roots.proofs.Grids.AxisLemmas.{length-along}
 use Rattle.axis_roots.proofs.Grids.NumberLemmas.{index-lt, number-lt}
 use Rattle.axis_roots.proofs.Grids.HeaderLemmas.{some_if, ordered_axis, header_width, header_root, header_not_made}
 use Rattle.axis_roots.proofs.Messages.MessageLemmas.{message_opens}
-use Rattle.square_serve.specs.Needed.{grid_roots}
 use Rattle.square_serve.specs.Serving.{HeldParts, IsHeld}
 use Rattle.square_serve.proofs.RowLemmas.{axis_shares-at}
 
@@ -31,9 +30,9 @@ no_header square k grid same extends falls = λ header is.
     header_not_made square grid header extends
     (ap (λ (n : ℕ). header_of_grid n grid) (sym same) ∙ ap (λ (b : Bool). cond b (Some (grid_roots k grid)) None) falls) is
 
--- ---- messages
+-- ---- samples
 
--- the message of a cell is proved under the header of its grid where it opens under the root of its axis
+-- the sample of a cell is proved under the header of its grid where it opens under the root of its axis
 pub message_proved : (k : ℕ) (shares : List Share) (header : Roots) (cell : Cell) (axis : Axis) (m : Message) → header_of_grid k shares ≡ Some header
     → IsTrue (is_in_square k cell) → m ≡ message_at k shares cell axis → OpensAt k m (axis_root k shares axis (index axis cell)) → IsProved header m
 message_proved k shares header cell axis m made inside e opens =

@@ -3,6 +3,6 @@ use Rattle.std.specs.List.{All}
 use Rattle.axis_roots.specs.Messages.{IsMessage}
 use Rattle.axis_roots.proofs.claims.claim_law.Given as goal
 
--- those before this one are messages
+-- those before this one are samples
 abbrev pub invariant-loop-message : goal.invariant-loop-message
 invariant-loop-message l = All IsMessage (take l.message-index l.claim.cells)

@@ -7,7 +7,7 @@ use Rattle.blob_commit.proofs.WalkLemmas.{some_hashes}
 use Rattle.blob_commit.proofs.MakingLemmas.{subtrees_few}
 use Rattle.blob_commit.proofs.making.prove_commit.Goals as goal
 
--- there is room for the hash of each subtree, and there is one
+-- there is capacity for the hash of each subtree, and there is one
 pub put_rows-requires : goal.put_rows-requires
 put_rows-requires c =
     let same : c.header.inside.k ≡ c.args.header.now.k = ap (λ (r : Roots). r.k) c.header.view_is in

@@ -7,7 +7,7 @@ use Rattle.axis_roots.specs.Grids.{is_ordered_axis, header_of_grid}
 use Rattle.blob_commit.proofs.RowTreeLemmas.{row_ordered, some_of, if_some, row_tree_of}
 use Rattle.blob_commit.proofs.trees.row_tree.Goals as goal
 
--- the names of the row don't fall, so there is a message
+-- the names of the row don't fall, so there is a sample
 filled : (k row : ℕ) (shares : List Share) (header : Roots) → header_of_grid k shares ≡ Some header → row < k → is_ordered_axis k shares Row row ≡ true
 filled k row shares header e lt = row_ordered k shares header row e (omega (arith, lt))
 

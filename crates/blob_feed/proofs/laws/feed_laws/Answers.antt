@@ -21,13 +21,13 @@ pub returns-clause-once : goal.returns-clause-once
 returns-clause-once g c = λ rule items number name one other.
     fed_once (wanted_by g.F.Filter.answers rule) (slice_get (heights_of items) number) name one other
 
--- it shows just the square's shares, or names a collision
+-- it shows exactly the square's shares, or names a collision
 pub returns-clause-own : goal.returns-clause-own
 returns-clause-own g c = λ rule items number name read header square are fed has own.
     own_at c.answer_laws.ensures.own (wanted_by g.F.Filter.answers rule) items number name read header square are fed
     has own
 
--- the layout has just the blobs of the namespace
+-- the layout has exactly the blobs of the namespace
 pub returns-clause-joined : goal.returns-clause-joined
 returns-clause-joined g c = λ block name passes is named.
     block_read c.share_laws.ensures.blobs c.share_laws.ensures.units c.share_laws.ensures.padding block name named

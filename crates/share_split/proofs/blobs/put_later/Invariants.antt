@@ -2,7 +2,7 @@ use Rattle.std.proofs.Common.{◌≡◌, ◌+◌, ◌-◌, ◌≤◌, ◌++◌, 
 use Rattle.share_split.specs.Blobs.{later_shares}
 use Rattle.share_split.proofs.blobs.put_later.Given as goal
 
--- what is there and what is left are all, and there is room for what is left
+-- what is there and what is left are all, and there is capacity for what is left
 abbrev pub invariant-loop : goal.invariant-loop
 invariant-loop l = record {
   all : l.out.items ++ later_shares (l.count - l.counter) l.namespace l.version l.rest ≡ l.fn.out.items ++ later_shares l.count l.namespace l.version l.bytes;

@@ -3,7 +3,7 @@ use Rattle.share_split.specs.Units.{later_compact_shares, starts_from}
 use Rattle.share_split.specs.Texts.{starts_of, IsNextOf}
 use Rattle.share_split.proofs.compact.put_later_compact.Given as goal
 
--- what is there and what is left are all, and there is room for what is left
+-- what is there and what is left are all, and there is capacity for what is left
 abbrev pub invariant-loop-i : goal.invariant-loop-i
 invariant-loop-i l = record {
   all : l.out.items ++ later_compact_shares (l.count - l.i) l.namespace (suc l.i) (starts_of l.units l.next) l.rest

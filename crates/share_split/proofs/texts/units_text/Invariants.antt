@@ -2,7 +2,7 @@ use Rattle.std.proofs.Common.{◌≡◌, ◌+◌, ◌≤◌, ◌++◌, drop, len
 use Rattle.share_split.specs.Units.{units_text}
 use Rattle.share_split.proofs.texts.units_text.Given as goal
 
--- what is there and what is left are the text, and there is room for what is left
+-- what is there and what is left are the text, and there is capacity for what is left
 abbrev pub invariant-loop-unit : goal.invariant-loop-unit
 invariant-loop-unit l = record {
   all : l.text.items ++ units_text (drop l.unit-index l.units) ≡ units_text l.units;

@@ -2,7 +2,7 @@ use Rattle.std.proofs.Common.{◌+◌, ◌≡◌, ◌≤◌, ◌++◌, length, v
 use Rattle.share_split.specs.Units.{varint}
 use Rattle.share_split.proofs.varints.put_varint.Given as goal
 
--- what is there and what is left are the varint, and there is room for what is left
+-- what is there and what is left are the varint, and there is capacity for what is left
 abbrev pub invariant-loop-rest : goal.invariant-loop-rest
 invariant-loop-rest l = record {
   all : l.out.items ++ varint l.rest ≡ l.fn.out.items ++ varint l.n;

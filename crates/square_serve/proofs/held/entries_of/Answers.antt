@@ -1,6 +1,7 @@
 use Rattle.std.proofs.Common.{◌∙◌, ◌<◌, List, ◌++◌, Vec, Global, ap, sym, subst, arith, append-nil}
 use Rattle.axis_roots.specs.declared.answers.NsEntry.{NsEntry}
-use Rattle.square_serve.specs.Needed.{AreNeeded, grid_roots}
+use Rattle.axis_roots.specs.Grids.{grid_roots}
+use Rattle.square_serve.specs.Needed.{AreNeeded}
 use Rattle.square_serve.proofs.Serving.EntryLemmas.{entries-pushed, entries-passed, entries-end}
 use Rattle.square_serve.proofs.held.entries_of.Goals.{then-may_hold+in_ok-found+in_ok-push, else-may_hold}
 use Rattle.square_serve.proofs.held.entries_of.Goals as goal

@@ -1,9 +1,10 @@
 use Rattle.std.proofs.Common.{◌≡◌, ◌++◌, map}
 use Rattle.square_serve.specs.Answers.{wanted_rows}
-use Rattle.square_serve.specs.Needed.{AreNeeded, grid_roots}
+use Rattle.square_serve.specs.Needed.{AreNeeded}
 use Rattle.square_serve.specs.Serving.{entry_in}
 use Rattle.square_serve.proofs.Serving.EntryLemmas.{entries_from}
 use Rattle.square_serve.proofs.held.entries_of.Given as goal
+use Rattle.axis_roots.specs.Grids.{grid_roots}
 
 -- the trees are those of the grid, and the entries so far and those of the rows that are left are all
 abbrev pub invariant-loop-row : goal.invariant-loop-row

@@ -3,7 +3,7 @@ use Rattle.axis_roots.specs.Openings.{IsProved}
 use Rattle.axis_roots.proofs.Messages.OwnLemmas.{accepted_own}
 use Rattle.axis_roots.proofs.message.messages.opens.Goals as goal
 
--- the message is proved where its nodes open it
+-- the sample is proved where its nodes open it
 pub returns-in-Ok-clause-own : goal.returns-in-Ok-clause-own
 returns-in-Ok-clause-own c =
     let proved : IsProved c.args.header.now c.args.message.now = search rules in

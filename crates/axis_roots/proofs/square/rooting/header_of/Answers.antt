@@ -1,8 +1,9 @@
 use Rattle.std.proofs.Common.{◌≡◌, ap}
 use Rattle.namespace_id.specs.declared.cells.Axis.TheVariants.{Row, Col}
-use Rattle.axis_roots.specs.Grids.{GridShares, axis_roots}
+use Rattle.axis_roots.specs.Grids.{axis_roots}
 use Rattle.axis_roots.proofs.Grids.MadeLemmas.{found_along, no_rows, no_cols, both_along, are_roots}
 use Rattle.axis_roots.proofs.square.rooting.header_of.Goals as goal
+use Rattle.square_layout.specs.Blocks.{SquareShares}
 
 pub returns-in_default-2 : goal.returns-in_default-2
 returns-in_default-2 c =
@@ -19,7 +20,7 @@ invariant_of-result c =
     let cols = found_along c.args.grid.now.k c.args.grid.now.shares Col (axis_roots c.args.grid.now.k c.args.grid.now.shares Col) _ _ c.in-Some-2.cols
     c.in_ok-cols.ensures c.in-Some-2.is in
     are_roots c.args.grid.now.k c.grid.inside.k c.args.grid.now.shares c.in-Some.rows.items c.in-Some-2.cols.items
-    (ap (λ (g : GridShares). g.k) c.grid.view_is) c.grid.invariant.width rows.1 cols.1
+    (ap (λ (g : SquareShares). g.k) c.grid.view_is) c.grid.invariant.width rows.1 cols.1
 
 pub returns : goal.returns
 returns c =
@@ -27,6 +28,6 @@ returns c =
     c.in_ok-rows.ensures c.in-Some.is in
     let cols = found_along c.args.grid.now.k c.args.grid.now.shares Col (axis_roots c.args.grid.now.k c.args.grid.now.shares Col) _ _ c.in-Some-2.cols
     c.in_ok-cols.ensures c.in-Some-2.is in
-    let width : c.grid.inside.k ≡ c.args.grid.now.k = ap (λ (g : GridShares). g.k) c.grid.view_is in
+    let width : c.grid.inside.k ≡ c.args.grid.now.k = ap (λ (g : SquareShares). g.k) c.grid.view_is in
     both_along c.args.grid.now.k c.args.grid.now.shares _ _ rows.0 cols.0
     (λ i. record { k = width i; rows = rows.1 i; cols = cols.1 i })

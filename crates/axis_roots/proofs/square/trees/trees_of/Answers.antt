@@ -2,8 +2,9 @@ use Rattle.std.proofs.Common.{◌∙◌, sym, arith, below_more}
 use Rattle.axis_roots.specs.Grids.{is_ordered_axis}
 use Rattle.axis_roots.specs.Trees.{axis_stored}
 use Rattle.axis_roots.proofs.Grids.HeaderLemmas.{some_if}
-use Rattle.axis_roots.proofs.Grids.StoredLemmas.{mapped_none, mapped_more, trees_missing, trees_there}
+use Rattle.axis_roots.proofs.Grids.StoredLemmas.{trees_missing, trees_there}
 use Rattle.axis_roots.proofs.square.trees.trees_of.Goals as goal
+use Rattle.namespace_id.proofs.AscentLemmas.{mapped_none, mapped_more}
 
 pub loop-index-init : goal.loop-index-init
 loop-index-init c = record {

@@ -1,7 +1,7 @@
 use Rattle.std.proofs.Common.{◌∙◌, ℕ, IsTrue, ap, sym, subst}
 use Rattle.namespace_id.specs.Cells.{is_in_square}
 use Rattle.axis_roots.specs.Openings.{IsProved}
-use Rattle.square_serve.specs.Needed.{grid_roots}
+use Rattle.axis_roots.specs.Grids.{grid_roots}
 use Rattle.square_serve.specs.Serving.{HeldParts}
 use Rattle.square_serve.proofs.WantedLemmas.{roots_made}
 use Rattle.square_serve.proofs.Serving.StoredLemmas.{message_proved}

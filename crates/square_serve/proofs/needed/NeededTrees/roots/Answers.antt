@@ -2,8 +2,8 @@ use Rattle.std.proofs.Common.{◌∙◌, ap}
 use Rattle.axis_roots.specs.Grids.{axis_root}
 use Rattle.axis_roots.specs.Trees.{stored_root}
 use Rattle.axis_roots.proofs.Grids.RootingLemmas.{root-leaves}
-use Rattle.axis_roots.proofs.Grids.StoredLemmas.{mapped_none, mapped_more}
 use Rattle.square_serve.proofs.needed.NeededTrees.roots.Goals as goal
+use Rattle.namespace_id.proofs.AscentLemmas.{mapped_none, mapped_more}
 
 pub loop-index-init : goal.loop-index-init
 loop-index-init c = record {
