@@ -1,4 +1,4 @@
--- Proved messages at positions of an axis: one message at its position, and a line's shares at the others.
+-- Proved samples at positions of an axis: one sample at its position, and a line's shares at the others.
 use Rattle.std.proofs.Common.{◌≡◌, ◌≢◌, ◌∙◌, ℕ, zero, suc, ◌+◌, ◌*◌, ◌<◌, ◌≤◌, List, [], ◌∷◌, ◌++◌, map, true, ◌==◌, refl, ap, ap₂, inl, inr, arith}
 use Rattle.std.specs.List.{AllByRecursion, list_all}
 use Rattle.std.proofs.lemmas.Bool.{and_from, cases_eq}
@@ -16,7 +16,7 @@ use Rattle.axis_roots.proofs.Grids.AxisLemmas.{index-cell_on, position-cell_on}
 use Rattle.befp_maker.specs.Conflicts.{IsMessageOf}
 use Rattle.befp_maker.specs.Gathered.{AreOfLine}
 
--- a proved message of the cell at a position: this message at its position, the line's share at another
+-- a proved sample of the cell at a position: this sample at its position, the line's share at another
 pub record IsWith (header : Roots) (axis : Axis) (i : ℕ) (line : List Share) (m : Message) (pos place : ℕ) (c : Proved) : Type 0 where
   pub under : IsUnder header c
   pub within : place < 2 * header.k
@@ -24,7 +24,7 @@ pub record IsWith (header : Roots) (axis : Axis) (i : ℕ) (line : List Share) (
   pub same : place ≡ pos → kept_message c ≡ m
   pub of_line : place ≢ pos → (kept_message c).share ≡ entry line place
 
--- such messages of some positions, in their order
+-- such samples of some positions, in their order
 abbrev pub AllWith : Roots → Axis → ℕ → List Share → Message → ℕ → List ℕ → List Proved → Type 0
 AllWith header axis i line m pos [] [] = Unit {0}
 AllWith header axis i line m pos [] (c ∷ cells) = ⊥
@@ -32,7 +32,7 @@ AllWith header axis i line m pos (p ∷ places) [] = ⊥
 AllWith header axis i line m pos (p ∷ places) (c ∷ cells) = IsWith header axis i line m pos p c × AllWith header axis i line m pos places cells
 
 module _ (header : Roots) (axis : Axis) (i : ℕ) (line : List Share) (m : Message) (pos : ℕ) where
-  -- messages of the line at other positions
+  -- samples of the line at other positions
   pub line_with : (n first : ℕ) (cells : List Proved) → ((p : ℕ) → first ≤ p → p < first + n → p ≢ pos) → first + n ≤ 2 * header.k
       → AreOfLine header axis i line (ascending first n) cells → AllWith header axis i line m pos (ascending first n) cells
   unfolding ascending
@@ -85,7 +85,7 @@ module _ (header : Roots) (axis : Axis) (i : ℕ) (line : List Share) (m : Messa
   under-with (p ∷ ps) [] all = elim all [ ]
   under-with (p ∷ ps) (c ∷ cells) all = (all.0.under, under-with ps cells all.1)
 
-  -- each is the message, or shows the line's share
+  -- each is the sample, or shows the line's share
   message_with : (p : ℕ) (c : Proved) → IsWith header axis i line m pos p c → IsMessageOf header.k axis i line m (kept_message c)
   message_with p c is = elim (cases_eq p pos) [
     | inl e ↦ inl (is.same e)

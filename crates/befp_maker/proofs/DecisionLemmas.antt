@@ -16,13 +16,13 @@ use Rattle.axis_roots.specs.Claims.{ClaimParts, claim_with, has_shape, claimed_r
 use Rattle.axis_roots.proofs.Messages.ClaimLemmas.{are_inside}
 use Rattle.axis_roots.proofs.Messages.ProofLemmas.{plain_accepted}
 
--- the messages of certificates under a header are proved under it
+-- the samples of certificates under a header are proved under it
 pub kept_proved : (header : Roots) → ((c : Proved) → IsUnder header c → IsProved header (kept_message c))
     → (cells : List Proved) → AllByRecursion (IsUnder header) cells → AllByRecursion (IsProved header) (map kept_message cells)
 kept_proved header law [] under = tt
 kept_proved header law (c ∷ cells) under = (law c under.0, kept_proved header law cells under.1)
 
--- cells of proved messages are in the square
+-- cells of proved samples are in the square
 pub proved_inside : (header : Roots) (cells : List Message) → AllByRecursion (IsProved header) cells → are_inside header.k cells ≡ true
 proved_inside header [] proved = refl
 proved_inside header (m ∷ cells) proved =

@@ -1,23 +1,16 @@
--- Proved messages of a line, one after another.
-use Rattle.std.proofs.Common.{◌≡◌, ◌∙◌, ℕ, zero, suc, ◌+◌, ◌-◌, ◌≤◌, List, [], ◌∷◌, ◌++◌, append_assoc, sym, ap, subst, arith}
+-- Proved samples of a line, one after another.
+use Rattle.std.proofs.Common.{◌≡◌, ◌∙◌, ℕ, suc, ◌+◌, ◌-◌, ◌≤◌, List, [], ◌∷◌, ◌++◌, append_assoc, sym, ap, subst, arith}
 use Rattle.std.proofs.lemmas.List.{append-nil}
 use Rattle.namespace_id.specs.declared.cells.Axis.{Axis}
 use Rattle.namespace_id.specs.declared.shares.Share.{Share}
 use Rattle.namespace_id.specs.Lists.{ascending}
+use Rattle.namespace_id.proofs.AscentLemmas.{ascending-last}
 use Rattle.data_header.specs.Headers.{Roots}
 use Rattle.axis_roots.specs.declared.message.proved.Proved.{Proved}
 use Rattle.befp_maker.specs.Gathered.{IsOfLine, AreOfLine, IsContinued}
 
--- numbers that count up end by the last of them
-pub ascending-last : (n first : ℕ) → ascending first (suc n) ≡ ascending first n ++ (first + n) ∷ []
-unfolding ascending
-ascending-last zero first = let start : first ≡ first + 0 = omega arith in ap (λ (p : ℕ). p ∷ []) start
-ascending-last (suc n) first =
-    let next : suc first + n ≡ first + suc n = omega arith in
-    ap (λ (ps : List ℕ). first ∷ ps) (ascending-last n (suc first)) ∙ ap (λ (p : ℕ). first ∷ ascending (suc first) n ++ p ∷ []) next
-
--- one more message
-of_line-more : (header : Roots) (axis : Axis) (i : ℕ) (line : List Share) (pos : ℕ) (c : Proved) (places : List ℕ) (made : List Proved)
+-- one more sample
+pub of_line-more : (header : Roots) (axis : Axis) (i : ℕ) (line : List Share) (pos : ℕ) (c : Proved) (places : List ℕ) (made : List Proved)
     → AreOfLine header axis i line places made → IsOfLine header axis i line pos c → AreOfLine header axis i line (places ++ pos ∷ []) (made ++ c ∷ [])
 of_line-more header axis i line pos c [] [] are is = (is, tt)
 of_line-more header axis i line pos c [] (d ∷ made) are is = elim are [ ]

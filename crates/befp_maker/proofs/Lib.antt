@@ -2,7 +2,7 @@ mod MessageLemmas
 mod CellLemmas
 mod DecisionLemmas
 mod RootLemmas
-mod GatheredLemmas
+pub mod GatheredLemmas
 mod PlaceLemmas
 mod AgainstLemmas
-mod WithLemmas
+pub mod WithLemmas

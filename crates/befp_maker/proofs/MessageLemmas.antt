@@ -1,4 +1,4 @@
--- The messages of a line whose strict root is the header's.
+-- The samples of a line whose strict root is the header's.
 use Rattle.std.proofs.Common.{◌≡◌, ◌∙◌, ℕ, ◌*◌, List, true, Some, sym, ap, subst}
 use Rattle.namespace_id.specs.declared.cells.Axis.{Axis}
 use Rattle.namespace_id.specs.declared.shares.Share.{Share}
@@ -21,7 +21,7 @@ unfolding strict_root line_root
 strict_there k axis i line root e =
     let found = some_if (is_ordered_line k axis i line) (line_root k axis i line) root e in (found.0, sym found.1)
 
--- so the message of each of its positions is proved
+-- so the sample of each of its positions is proved
 pub message_proved : (header : Roots) (k : ℕ) (axis : Axis) (i pos : ℕ) (line : List Share) (m : Message) → k ≡ header.k
     → line_strict_root k axis i line ≡ Some (root_of header axis i)
     → OpensAt k (line_message k axis i line pos) (line_root k axis i line)

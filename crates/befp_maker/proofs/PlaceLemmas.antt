@@ -1,16 +1,15 @@
 -- The k positions of a fraud proof: one, and the first k - 1 others.
-use Rattle.std.proofs.Common.{◌≡◌, ◌≢◌, ◌∙◌, ℕ, zero, suc, ◌+◌, ◌-◌, ◌*◌, ◌<◌, ◌≤◌, List, [], ◌∷◌, ◌++◌, length, length-append, Bool, true, cond, refl, sym, ap, ap₂, subst, inl, inr, arith}
+use Rattle.std.proofs.Common.{◌≡◌, ◌≢◌, ◌∙◌, ℕ, zero, suc, ◌+◌, ◌-◌, ◌*◌, ◌<◌, ◌≤◌, List, [], ◌∷◌, ◌++◌, length, length-append, Bool, true, cond, sym, ap, ap₂, subst, inl, inr, arith}
 use Rattle.std.specs.Prelude.{nat_lt}
 use Rattle.std.specs.List.{Contains, list_all}
-use Rattle.std.proofs.lemmas.Bool.{and_parts, and_from, cases_lt, lt-ltb, le-ltb}
-use Rattle.std.proofs.lemmas.Bool.Decides.{nat_tests}
+use Rattle.std.proofs.lemmas.Bool.{and_parts, cases_lt, lt-ltb, le-ltb}
 use Rattle.std.proofs.lemmas.List.{append-nil}
 use Rattle.std.proofs.lemmas.List.Elements.{Contains-append_left, Contains-push}
 use Rattle.namespace_id.specs.Lists.{holds_along, ascending}
 use Rattle.namespace_id.proofs.AscendingLemmas.{length-ascending}
+use Rattle.namespace_id.proofs.AscentLemmas.{ascending-last, along_then}
 use Rattle.axis_roots.proofs.Grids.WordLemmas.{first_positions}
 use Rattle.befp_maker.specs.Conflicts.{positions_with}
-use Rattle.befp_maker.proofs.GatheredLemmas.{ascending-last}
 
 -- numbers that count up, in two parts
 ascending-append : (a first b : ℕ) → ascending first (a + b) ≡ ascending first a ++ ascending (first + a) b
@@ -24,16 +23,6 @@ ascending-append (suc a) first b =
     let next : suc first + a ≡ first + suc a = omega arith in
     ap (ascending first) all ∙ ap (λ (ps : List ℕ). first ∷ ps) (ascending-append a (suc first) b)
     ∙ ap (λ (p : ℕ). first ∷ ascending (suc first) a ++ ascending p b) next
-
--- numbers that count up and then one that is above them ascend
-along_then : (n first p : ℕ) → first + n ≤ p → holds_along nat_lt (ascending first n ++ p ∷ []) ≡ true
-unfolding ascending holds_along
-along_then zero first p h = refl
-along_then (suc zero) first p h =
-    let next : nat_lt first p ≡ true = grind (arith, nat_tests) in and_from (nat_lt first p) true next refl
-along_then (suc (suc n)) first p h =
-    let next : nat_lt first (suc first) ≡ true = grind (arith, nat_tests) in
-    and_from (nat_lt first (suc first)) (holds_along nat_lt (ascending (suc first) (suc n) ++ p ∷ [])) next (along_then (suc n) (suc first) p (omega arith))
 
 -- the positions with one of the first k
 with-below : (k pos : ℕ) → pos < k → positions_with k pos ≡ ascending 0 k

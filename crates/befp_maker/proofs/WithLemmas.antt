@@ -1,6 +1,6 @@
--- The cells of the fraud proof of a message against a line.
-use Rattle.std.proofs.Common.{◌≡◌, ◌≢◌, ◌∙◌, ℕ, zero, suc, ◌+◌, ◌*◌, ◌<◌, ◌≤◌, List, [], ◌∷◌, ◌++◌, length, map, true, ◌==◌, ◌&&◌, refl, sym, ap, subst, inl, inr, arith}
-use Rattle.std.specs.Prelude.{◌⊎◌, nat_lt}
+-- The cells of the fraud proof of a sample against a line.
+use Rattle.std.proofs.Common.{◌≡◌, ◌≢◌, ◌∙◌, ℕ, suc, ◌+◌, ◌*◌, ◌<◌, ◌≤◌, List, [], ◌∷◌, ◌++◌, length, map, true, ◌==◌, ◌&&◌, refl, sym, ap, subst, inl, inr, arith}
+use Rattle.std.specs.Prelude.{nat_lt}
 use Rattle.std.specs.List.{Contains, list_all}
 use Rattle.std.proofs.lemmas.Bool.{and_from}
 use Rattle.std.proofs.lemmas.Bool.Decides.{nat_tests}
@@ -9,6 +9,7 @@ use Rattle.std.proofs.lemmas.Option.{get_or_from_slice_get}
 use Rattle.namespace_id.specs.declared.cells.Axis.{Axis}
 use Rattle.namespace_id.specs.declared.shares.Share.{Share}
 use Rattle.namespace_id.specs.Lists.{holds_along, ascending}
+use Rattle.namespace_id.proofs.MemberLemmas.{contains_cons}
 use Rattle.leopard_code.specs.Codewords.{HasEntries}
 use Rattle.data_header.specs.Headers.{Roots}
 use Rattle.axis_roots.specs.declared.message.messages.Message.{Message}
@@ -35,12 +36,7 @@ with_shape k claim index count on rising =
     (and_from (nat_lt claim.index (2 * k) && (length claim.cells == k)) (list_all (is_on claim) claim.cells)
     (and_from (nat_lt claim.index (2 * k)) (length claim.cells == k) below many) on) rising
 
--- an element of a list is the first, or a later one
-contains_cons : (x y : ℕ) (xs : List ℕ) → Contains (x ∷ xs) y → (x ≡ y) ⊎ Contains xs y
-contains_cons x y xs (zero, h, e) = inl e
-contains_cons x y xs (suc j, h, e) = inr (j, omega arith, e)
-
--- a list that goes through the cells has the message's share at its position, and the line's at the others
+-- a list that goes through the cells has the sample's share at its position, and the line's at the others
 entries_with : (header : Roots) (axis : Axis) (i : ℕ) (line : List Share) (m : Message) (pos : ℕ) (word : List Share) (ps : List ℕ) (cells : List Proved)
     → AllWith header axis i line m pos ps cells
     → HasEntries (map (λ n. position axis n.cell) (map kept_message cells)) (map (λ n. n.share) (map kept_message cells)) word
@@ -59,7 +55,7 @@ entries_with header axis i line m pos word (q ∷ ps) (c ∷ cells) all entries 
       )
 ]
 
--- the other message is one of its position
+-- the other sample is one of its position
 other_with : (header : Roots) (axis : Axis) (i : ℕ) (line : List Share) (other : Proved) → IsProved header (kept_message other) → IsAgainst header axis i line other
     → IsWith header axis i line (kept_message other) (position axis (kept_message other).cell) (position axis (kept_message other).cell) other
 other_with header axis i line other proved against = record {
@@ -70,7 +66,7 @@ other_with header axis i line other proved against = record {
   of_line = λ apart. absurd (apart refl);
 }
 
--- the other message between the line's first k - 1 others
+-- the other sample between the line's first k - 1 others
 are_with : (header : Roots) (axis : Axis) (i : ℕ) (line : List Share) (other : Proved) (first n : ℕ) (before behind : List Proved)
     → IsProved header (kept_message other) → i < 2 * header.k → IsAgainst header axis i line other → first + 1 + n ≡ header.k
     → (position axis (kept_message other).cell < header.k → first ≡ position axis (kept_message other).cell)
@@ -110,7 +106,7 @@ are_with header axis i line other first n before behind proved index against cou
       };
     }
 
--- a list that was continued by the ones before, by the other message, and by the ones behind it
+-- a list that was continued by the ones before, by the other sample, and by the ones behind it
 pub with_continued : (header : Roots) (axis : Axis) (i : ℕ) (line : List Share) (other : Proved) (first m n : ℕ) (old one two three : List Proved)
     → IsProved header (kept_message other) → i < 2 * header.k → IsAgainst header axis i line other → first + 1 + n ≡ header.k
     → (position axis (kept_message other).cell < header.k → first ≡ position axis (kept_message other).cell)

@@ -19,7 +19,7 @@ pub record IsLineOf (header : Roots) (axis : Axis) (i : ℕ) (line : List Share)
   pub codeword : IsCodeword header.k line
   pub root : line_strict_root header.k axis i line ≡ Some (root_of header axis i)
 
--- a proved message of a cell of the axis shows another share than the line
+-- a proved sample of a cell of the axis shows another share than the line
 pub record IsAgainst (header : Roots) (axis : Axis) (i : ℕ) (line : List Share) (other : Proved) : Type 0 where
   pub under : IsUnder header other
   pub on_axis : index axis (kept_message other).cell ≡ i
@@ -35,12 +35,12 @@ pub record IsThroughOther (k : ℕ) (line : List Share) (pos : ℕ) (share : Sha
   pub here : entry word pos ≡ share
   pub others : (p : ℕ) → Contains (positions_with k pos) p → p ≢ pos → entry word p ≡ entry line p
 
--- a message of a proof is the other message, or shows the line's share at a position
+-- a sample of a fraud proof is the other sample, or shows the line's share at a position
 abbrev pub IsMessageOf : ℕ → Axis → ℕ → List Share → Message → Message → Type 0
 IsMessageOf k axis i line other m =
     (m ≡ other) ⊎ ((pos : ℕ) × (pos < 2 * k) × (m.cell ≡ cell_on axis i pos) × (m.share ≡ entry line pos))
 
--- the fraud proof of the other message and of the line's first k - 1 others
+-- the fraud proof of the other sample and of the line's first k - 1 others
 pub record IsProofAgainst (header : Roots) (axis : Axis) (i : ℕ) (line : List Share) (other : Proved) (proof : ProofParts) : Type 0 where
   pub axis_is : proof.claim.axis ≡ axis
   pub index_is : proof.claim.index ≡ i

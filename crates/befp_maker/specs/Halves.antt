@@ -12,7 +12,7 @@ use Rattle.befp_maker.specs.declared.halves.Decided.{Decided}
 use Rattle.befp_maker.specs.declared.halves.Decided.TheVariants.{Matches, Bad}
 use Rattle.befp_maker.specs.Rooms.{RoomParts}
 
--- just k cells of an axis of the header's square, at ascending positions, all proved under the header
+-- exactly k cells of an axis of the header's square, at ascending positions, all proved under the header
 pub record AreHalf (header : Roots) (axis : Axis) (i : ℕ) (cells : List Proved) : Type 0 where
   pub shape : has_shape header.k (claim_with axis i cells) ≡ true
   pub under : AllByRecursion (IsUnder header) cells
@@ -32,7 +32,7 @@ abbrev pub is_bad : Decided → Bool
 is_bad (Matches cells) = false
 is_bad (Bad proof) = true
 
--- the axis matches: the cells come back, and the room holds the line that fits; or it is bad, and the proof has just
+-- the axis matches: the cells come back, and the room holds the line that fits; or it is bad, and the proof has exactly
 -- these cells
 abbrev pub IsDecision : Roots → Axis → ℕ → List Proved → RoomParts → Decided → Type 0
 IsDecision header axis i cells room (Matches back) = (back.items ≡ cells) × FitsHalf header axis i cells room.shares

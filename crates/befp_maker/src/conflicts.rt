@@ -17,7 +17,7 @@ use data_header::Header;
 use hash_clash::Clash;
 use namespace_id::{Axis, Share};
 
-/// Appends a proved sample for which there is room.
+/// Appends a proved sample for which there is capacity.
 fn put_cell(cells: &mut Vec<Proved>, cell: Proved)
     requires room { HasRoom cells.old 1 }
     ensures appended { cells.new.items ≡ cells.old.items ++ cell ∷ [] }
@@ -90,7 +90,7 @@ fn cells_with(
 /// line's first k - 1 others is another one. Where its strict root isn't the header's, that is a fraud proof; where
 /// it is, two lists of leaves have one root, and name a collision.
 ///
-/// The room is for the header's width, and holds that codeword afterwards; `cells` is empty and has room for k. It
+/// The room is for the header's width, and holds that codeword afterwards; `cells` is empty and has capacity for k. It
 /// takes no memory.
 ///
 /// docs/RULES.md, "Fraud claims", "Collisions".

@@ -1,7 +1,7 @@
 //! What k proved cells of a row or a column say of the rest of it: that it matches the header, or a fraud
 //! proof; and what a share against a line says that matches: a fraud proof, or a SHA-256 collision.
 //!
-//! `AxisRoom` has the buffers for one axis, and makes the proved messages of a line that matches.
+//! `AxisRoom` has the buffers for one axis, and makes the proved samples of a line that matches.
 //! `from_half` decides an axis, `from_conflict` takes a share against one that was decided.
 #![tactic(auto)]
 

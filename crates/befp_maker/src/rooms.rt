@@ -116,7 +116,7 @@ fn gather(axis: Axis, cells: &[Proved], known: &mut [u16], given: &mut [Share])
 }
 
 impl AxisRoom {
-    /// Room for squares of width `k`, with shares of zeros. It takes all memory that deciding needs, and refuses
+    /// A room for squares of width `k`, with shares of zeros. It takes all memory that deciding needs, and refuses
     /// only where there is none.
     pub fn new(alloc: Global, k: u16) -> Result<AxisRoom, NoMemory>
         requires width { IsTrue (is_width k) }
@@ -126,21 +126,11 @@ impl AxisRoom {
         let count = k as usize;
         let code = Room::new(alloc, k)?;
         let tree = Tree::new(alloc, 2 * k)?;
-        let Ok(known) = vec![in alloc; 0; count] else {
-            return Err(NoMemory);
-        };
-        let Ok(given) = vec![in alloc; blank(); count] else {
-            return Err(NoMemory);
-        };
-        let Ok(shares) = vec![in alloc; blank(); 2 * count] else {
-            return Err(NoMemory);
-        };
-        let Ok(names) = vec![in alloc; PARITY; 2 * count] else {
-            return Err(NoMemory);
-        };
-        let Ok(others) = vec![in alloc; PARITY; 2 * count] else {
-            return Err(NoMemory);
-        };
+        let known = vec![in alloc; 0; count]?;
+        let given = vec![in alloc; blank(); count]?;
+        let shares = vec![in alloc; blank(); 2 * count]?;
+        let names = vec![in alloc; PARITY; 2 * count]?;
+        let others = vec![in alloc; PARITY; 2 * count]?;
         Ok(AxisRoom {
             k,
             code,
@@ -243,7 +233,7 @@ impl AxisRoom {
     ///
     /// The tree over the shares is filled only where it is that of another axis. It takes no memory.
     ///
-    /// docs/RULES.md, "Proved messages".
+    /// docs/RULES.md, "Proved samples".
     pub fn proved(&mut self, header: &Header, axis: Axis, index: u16, pos: u16) -> Proved
         requires room { self.old.k ≡ header.now.k }
         requires index { index < 2 * self.old.k }

@@ -7,7 +7,7 @@ use Rattle.namespace_id.specs.declared.cells.Axis.{Axis}
 use Rattle.axis_roots.specs.declared.message.messages.Message.{Message}
 use Rattle.axis_roots.specs.Sets.{is_along, along_in}
 
--- those of one more message: it as well, where it is along the axis
+-- those of one more sample: it as well, where it is along the axis
 along_in-append : (axis : Axis) (cells : List Message) (m : Message) → along_in axis (cells ++ m ∷ []) ≡ cond (is_along axis m) (along_in axis cells ++ m ∷ []) (along_in axis cells)
 unfolding along_in
 along_in-append axis [] m = refl

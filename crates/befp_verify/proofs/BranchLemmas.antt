@@ -82,12 +82,6 @@ nodes_halved (suc d) st t m k g a b o (p ∷ ps) l r h several em ek el er ea eb
 
 -- ---- how many nodes are there
 
--- what is at a place of a list doesn't depend on what stands for none
-pub get_or-same : {A : Type 0} (xs : List A) (i : ℕ) (d e : A) → i < length xs → get_or xs i d ≡ get_or xs i e
-get_or-same [] i d e h = absurd (omega arith)
-get_or-same (x ∷ xs) zero d e h = refl
-get_or-same (x ∷ xs) (suc i) d e h = get_or-same xs i d e (omega arith)
-
 -- fewer are there too
 pub have_fewer : (n k : ℕ) (ps : List Placed) → k ≤ n → AllByRecursion (HasNodes n) ps → AllByRecursion (HasNodes k) ps
 have_fewer n k [] le h = tt

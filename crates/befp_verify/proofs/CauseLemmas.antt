@@ -1,16 +1,15 @@
 -- No two answers to a claim have their cause at once.
-use Rattle.std.proofs.Common.{◌≡◌, ◌≢◌, ◌∙◌, ℕ, List, Bool, true, false, ◌&&◌, Option, Some, None, refl, sym, ap}
+use Rattle.std.proofs.Common.{◌≡◌, ◌≢◌, ◌∙◌, ℕ, List, true, Option, Some, None, refl, sym, ap}
 use Rattle.std.specs.Prelude.{IfSome}
 use Rattle.std.specs.List.{AllByRecursion}
 use Rattle.std.specs.Option.{option_map_or}
 use Rattle.std.proofs.lemmas.Option.{none-some}
-use Rattle.std.proofs.lemmas.Bool.{true≢false, and_parts}
+use Rattle.std.proofs.lemmas.Bool.{true≢false, and_parts, and_from}
 use Rattle.namespace_id.specs.declared.digests.Digest.{Digest}
 use Rattle.namespace_id.specs.Digests.{AreDigests}
 use Rattle.namespace_id.specs.Cells.{is_width}
 use Rattle.nmt_proofs.specs.declared.opening.OpenRefusal.{OpenRefusal}
-use Rattle.nmt_proofs.specs.Openings.{Shown, has_count, has_order, has_root, Opens}
-use Rattle.nmt_proofs.specs.Causes.{opening_refusal, set_refusal}
+use Rattle.nmt_proofs.proofs.CauseLemmas.{opens_where, not_refused_where}
 use Rattle.data_header.specs.Headers.{Roots}
 use Rattle.axis_roots.specs.declared.message.messages.CheckRefusal.{CheckRefusal}
 use Rattle.axis_roots.specs.Messages.{IsMessage}
@@ -22,23 +21,6 @@ use Rattle.befp_verify.specs.Lines.{IsRootThrough}
 use Rattle.befp_verify.specs.Refusals.{is_shaped, first_unproved, nodes_refusal, unopened, HasCause}
 
 -- ---- the set
-
--- three checks hold where none of them is refused
-checks_hold : (c o v : Bool) → opening_refusal c o v None ≡ None → (c ≡ true) × (o ≡ true) × (v ≡ true)
-checks_hold true true true e = (refl, refl, refl)
-checks_hold true true false e = absurd (none-some _ (sym e))
-checks_hold true false v e = absurd (none-some _ (sym e))
-checks_hold false o v e = absurd (none-some _ (sym e))
-
--- nodes open what is shown where they aren't refused
-pub opens_where : (d : ℕ) (ss : List Shown) (nodes : List Digest) (root : Digest) → set_refusal d ss nodes root ≡ None → Opens d ss nodes root
-opens_where d ss nodes root e =
-    let all = checks_hold (has_count d ss nodes) (has_order d ss nodes) (has_root d ss nodes root) e in
-    record { count = all.0; order = all.1; value = all.2 }
-
--- and the other way round
-pub not_refused_where : (d : ℕ) (ss : List Shown) (nodes : List Digest) (root : Digest) → Opens d ss nodes root → set_refusal d ss nodes root ≡ None
-not_refused_where d ss nodes root h = λ i. opening_refusal (h.count i) (h.order i) (h.value i) None
 
 -- a set that isn't refused opens
 set_opens : (header : Roots) (claim : ClaimParts) (set : Option (List Digest)) → is_width header.k ≡ true → AllByRecursion IsMessage claim.cells → IfSome set AreDigests
@@ -72,16 +54,13 @@ accepted header claim root width is shape proved opened line other =
       bad = record { shape = both.0; word = line.word; through = line.through; other = λ e. other (sym line.value ∙ e) };
     }
 
-both_hold : (a b : Bool) → a ≡ true → b ≡ true → (a && b) ≡ true
-both_hold a b ha hb = λ i. ha i && hb i
-
 -- an accepted claim has no cause of a refusal
 not_refused : (header : Roots) (claim : ClaimParts)
     → (AreProved header claim claim.cells → first_unproved header claim ≡ None)
     → (Accepts header claim → FitsRoot header.k claim (claimed_root header claim) → ⊥)
     → (why : FraudRefusal) → Accepts header claim → HasCause header claim (Some why) → ⊥
 not_refused header claim none apart Shape accepts shape =
-    true≢false (sym (both_hold (has_shape header.k claim) (has_set_shape header.k claim) accepts.bad.shape accepts.set_shape) ∙ shape)
+    true≢false (sym (and_from (has_shape header.k claim) (has_set_shape header.k claim) accepts.bad.shape accepts.set_shape) ∙ shape)
 not_refused header claim none apart (Cell i why) accepts cell = none-some _ (sym (none accepts.proved) ∙ cell.1)
 not_refused header claim none apart (Set why) accepts cause = none-some _ (sym (set_passes header claim claim.set accepts.set) ∙ cause.2)
 not_refused header claim none apart AxisMatches accepts fits = apart accepts fits.3

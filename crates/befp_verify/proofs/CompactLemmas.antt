@@ -30,7 +30,7 @@ use Rattle.axis_roots.proofs.Messages.SetLemmas.{set_ascending, some_along, each
 use Rattle.axis_roots.proofs.Grids.LineLemmas.{leaf_count}
 use Rattle.befp_verify.specs.Compacting.{bare, bare_all, with_set, branch_of, branches_of}
 
--- ---- messages without their paths
+-- ---- samples without their paths
 
 -- one after another
 maps_once : {A B C : Type 0} (f : B → C) (g : A → B) (xs : List A) → map f (map g xs) ≡ map (λ x. f (g x)) xs
@@ -55,11 +55,11 @@ set_of-bare k axis cells =
     ∙ (λ i. leaves_at (maps_once (λ m. position axis m.cell) (bare axis) (along_in axis cells) i) (maps_once (λ m. leaf_namespace k m.cell m.share) (bare axis) (along_in axis cells) i)
     (maps_once (λ m. m.share) (bare axis) (along_in axis cells) i))
 
--- a message that isn't along the axis is left as it is
+-- a sample that isn't along the axis is left as it is
 bare_same : (axis : Axis) (m : Message) → is_along axis m ≡ false → bare axis m ≡ m
 bare_same axis m f = ap (λ (b : Bool). record { cell = m.cell; axis = m.axis; share = m.share; path = cond b [] m.path }) f
 
--- a message without its path is one too
+-- a sample without its path is one too
 bare_message : (axis : Axis) (m : Message) → IsMessage m → IsMessage (bare axis m)
 bare_message axis m h = record { row = h.row; col = h.col; share = h.share; few = few (is_along axis m); nodes = digests (is_along axis m) }
   where
@@ -135,7 +135,7 @@ one_axis Row Col e = absurd cc
 one_axis Col Row e = absurd cc
 one_axis Col Col e = refl
 
--- a proved message along the axis opens its leaf under the axis' root
+-- a proved sample along the axis opens its leaf under the axis' root
 is_branch : (header : Roots) (axis : Axis) (i : ℕ) (m : Message) → IsProved header m → is_along axis m ≡ true → index axis m.cell ≡ i
     → IsBranch (halvings (2 * header.k)) (root_of header axis i) (branch_of header.k axis m)
 is_branch header axis i m proved along on =

@@ -110,7 +110,7 @@ each_in P [] m h at = absurd (omega (arith, at.1))
 each_in P (c ∷ cells) m h (zero, lt, e) = subst P e h.0
 each_in P (c ∷ cells) m h (suc n, lt, e) = each_in P cells m h.1 (n, omega (arith, lt), e)
 
--- the tree of a message along the axis
+-- the tree of a sample along the axis
 tree_of : (k : ℕ) (axis : Axis) (m : Message) → is_along axis m ≡ true → branch_tree (halvings (2 * k)) (branch_of k axis m) ≡ opened_by k m
 tree_of k axis m along =
     ap (λ (a : Axis). opened (halvings (2 * k)) 0 (one_leaf (position a m.cell) (leaf_namespace k m.cell m.share) m.share) m.path) (one_axis axis m.axis along)

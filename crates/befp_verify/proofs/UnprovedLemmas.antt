@@ -11,6 +11,7 @@ use Rattle.axis_roots.specs.Messages.{IsMessage, message_refusal}
 use Rattle.axis_roots.specs.Openings.{IsProved}
 use Rattle.axis_roots.specs.Claims.{ClaimParts, is_set_cell, AreProved}
 use Rattle.befp_verify.specs.Refusals.{cell_refusal, refused_from}
+use Rattle.namespace_id.proofs.RefusalLemmas.{both_none, none_both}
 
 -- the first refused cell from one on: that one, or one of the later ones
 refused_next : (refusal : Message → Option CheckRefusal) (cells : List Message) (i : ℕ) (m : Message) → i < length cells → m ≡ get_or cells i m
@@ -45,18 +46,6 @@ refused_none refusal cells i h = sym (at_drop_all (refused_from refusal i) cells
 
 -- ---- all cells
 
--- neither the first cell nor a later one is refused
-both_none : (number : ℕ) (o : Option CheckRefusal) (rest : Option (ℕ × CheckRefusal)) → option_map_or (λ why. Some (number, why)) o rest ≡ None
-    → (o ≡ None) × (rest ≡ None)
-both_none number None rest e = (refl, e)
-both_none number (Some why) rest e = absurd cc
-
--- and the other way round
-none_both : (number : ℕ) (o : Option CheckRefusal) (rest : Option (ℕ × CheckRefusal)) → o ≡ None → rest ≡ None
-    → option_map_or (λ why. Some (number, why)) o rest ≡ None
-none_both number None rest e f = f
-none_both number (Some why) rest e f = absurd cc
-
 -- a cell that isn't the set's is proved where it isn't refused
 cell_proved : (header : Roots) (claim : ClaimParts) (m : Message) → (message_refusal header m ≡ None) ↔ IsProved header m → cell_refusal header claim m ≡ None
     → is_set_cell claim m ≡ false → IsProved header m
@@ -76,7 +65,7 @@ pub all_proved : (header : Roots) (claim : ClaimParts) → ((m : Message) → Is
 unfolding refused_from
 all_proved header claim law number [] sized e = tt
 all_proved header claim law number (m ∷ cells) sized e =
-    let both = both_none number (cell_refusal header claim m) (refused_from (cell_refusal header claim) (suc number) cells) e in
+    let both = both_none (λ why. (number, why)) (cell_refusal header claim m) (refused_from (cell_refusal header claim) (suc number) cells) e in
     (cell_proved header claim m (law m sized.0) both.0, all_proved header claim law (suc number) cells sized.1 both.1)
 
 -- and the other way round
@@ -85,6 +74,6 @@ pub none_refused : (header : Roots) (claim : ClaimParts) → ((m : Message) → 
 unfolding refused_from
 none_refused header claim law number [] all = refl
 none_refused header claim law number (m ∷ cells) all =
-    none_both number (cell_refusal header claim m) (refused_from (cell_refusal header claim) (suc number) cells)
+    none_both (λ why. (number, why)) (cell_refusal header claim m) (refused_from (cell_refusal header claim) (suc number) cells)
     (cell_passed header claim m (λ f. (law m (all.0 f).sized).1 (all.0 f)))
     (none_refused header claim law (suc number) cells all.1)

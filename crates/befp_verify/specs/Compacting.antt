@@ -17,11 +17,11 @@ use Rattle.axis_roots.specs.Claims.{ClaimParts, Accepts}
 use Rattle.befp_verify.specs.declared.compacting.Compacted.{Compacted}
 use Rattle.befp_verify.specs.declared.compacting.Compacted.TheVariants.{Claim, Clash}
 
--- a message without its path, where it is along the axis
+-- a sample without its path, where it is along the axis
 abbrev pub bare : Axis → Message → Message
 bare axis m = record { cell = m.cell; axis = m.axis; share = m.share; path = (if is_along axis m then [] else m.path) }
 
--- messages so
+-- samples so
 abbrev pub bare_all : Axis → List Message → List Message
 bare_all axis cells = map (bare axis) cells
 
@@ -33,12 +33,12 @@ with_set claim nodes = record { axis = claim.axis; index = claim.index; cells = 
 abbrev pub is_compact : ClaimParts → Bool
 is_compact claim = if is_some claim.set then true else (if list_any (is_along claim.axis) claim.cells then false else true)
 
--- the opening that a message makes at its place on the axis, in a square of width k
+-- the opening that a sample makes at its place on the axis, in a square of width k
 abbrev pub branch_of : ℕ → Axis → Message → Branch
 branch_of k axis m =
     record { pos = position axis m.cell; name = leaf_namespace k m.cell m.share; share = m.share; nodes = m.path }
 
--- those of all messages along the axis
+-- those of all samples along the axis
 abbrev pub branches_of : ℕ → Axis → List Message → List Branch
 branches_of k axis cells = map (branch_of k axis) (along_in axis cells)
 

@@ -16,7 +16,7 @@ use crate::verifying::some_along;
 use axis_roots::{FraudClaim, Message, SetNodes, is_along, position};
 use data_header::Header;
 use hash_clash::{Clash, Opening, clash_between};
-use namespace_id::{Axis, Digest, NoMemory, digests_law, leaf_namespace};
+use namespace_id::{Axis, BLANK_DIGEST, Digest, NoMemory, digests_law, leaf_namespace};
 use nmt_proofs::Path;
 use nmt_tree::{halvings, leaf_count};
 use std::alloc::Global;
@@ -96,7 +96,7 @@ fn merge(
     merge(below, middle, turns + 1, right_beside, right, nodes)
 }
 
-/// A message with the same values.
+/// A sample with the same values.
 fn same_message(message: &Message) -> Message
     ensures { result ≡ message.now }
 {
@@ -108,7 +108,7 @@ fn same_message(message: &Message) -> Message
     }
 }
 
-/// A message without its path, where it is along the axis.
+/// A sample without its path, where it is along the axis.
 fn bare_message(axis: Axis, message: &Message) -> Message
     ensures { result ≡ bare axis message.now }
 {
@@ -124,13 +124,11 @@ fn bare_message(axis: Axis, message: &Message) -> Message
     }
 }
 
-/// Messages with the same values.
+/// Samples with the same values.
 fn same_messages(alloc: Global, cells: &[Message]) -> Result<Vec<Message>, NoMemory>
     ensures { IfOk result (λ made. made.items ≡ cells.now) }
 {
-    let Ok(mut made) = Vec::with_capacity(alloc, cells.len()) else {
-        return Err(NoMemory);
-    };
+    let mut made = Vec::with_capacity(alloc, cells.len())?;
     for message in cells {
         let Ok(()) = made.push(same_message(message)) else {
             return Err(NoMemory);
@@ -139,13 +137,11 @@ fn same_messages(alloc: Global, cells: &[Message]) -> Result<Vec<Message>, NoMem
     Ok(made)
 }
 
-/// Messages without the paths of those that are along the axis.
+/// Samples without the paths of those that are along the axis.
 fn bare_messages(alloc: Global, axis: Axis, cells: &[Message]) -> Result<Vec<Message>, NoMemory>
     ensures { IfOk result (λ made. made.items ≡ bare_all axis cells.now) }
 {
-    let Ok(mut made) = Vec::with_capacity(alloc, cells.len()) else {
-        return Err(NoMemory);
-    };
+    let mut made = Vec::with_capacity(alloc, cells.len())?;
     for message in cells {
         let Ok(()) = made.push(bare_message(axis, message)) else {
             return Err(NoMemory);
@@ -161,9 +157,7 @@ fn same_set(alloc: Global, set: &Option<SetNodes>) -> Result<Option<SetNodes>, N
     let Some(set) = set else {
         return Ok(None);
     };
-    let Ok(nodes) = Vec::from_slice(alloc, &set.nodes) else {
-        return Err(NoMemory);
-    };
+    let nodes = Vec::from_slice(alloc, &set.nodes)?;
     Ok(Some(SetNodes { nodes }))
 }
 
@@ -179,7 +173,7 @@ fn same_claim(alloc: Global, claim: &FraudClaim) -> Result<FraudClaim, NoMemory>
     })
 }
 
-/// The opening that a message makes at its place on the axis.
+/// The opening that a sample makes at its place on the axis.
 fn placed_message(k: u16, axis: Axis, message: &Message) -> Placed
     requires width { IsTrue (is_width k) }
     requires inside { is_in_square k message.now.cell ≡ true }
@@ -195,7 +189,7 @@ fn placed_message(k: u16, axis: Axis, message: &Message) -> Placed
     }
 }
 
-/// Those of all messages along the axis.
+/// Those of all samples along the axis.
 fn placed_messages(
     alloc: Global,
     k: u16,
@@ -206,9 +200,7 @@ fn placed_messages(
     requires inside { AllByRecursion (λ m. is_in_square k m.cell ≡ true) cells.now }
     ensures { IfOk result (λ made. placed made.items ≡ branches_of k axis cells.now) }
 {
-    let Ok(mut made) = Vec::with_capacity(alloc, cells.len()) else {
-        return Err(NoMemory);
-    };
+    let mut made = Vec::with_capacity(alloc, cells.len())?;
     for i in 0..cells.len() {
         let message = &cells[i];
         if is_along(axis, message) {
@@ -251,7 +243,7 @@ fn first_clash(n: u16, branches: &[Placed]) -> Option<Clash>
 
 /// What stands for the node of the whole tree, which no opening takes.
 fn no_node() -> Digest {
-    Digest([0; 90])
+    BLANK_DIGEST
 }
 
 /// What makes a claim with a set of one that is accepted under a header and has none: the openings of its cells

@@ -32,7 +32,7 @@ use thiserror::Error;
 /// Why a fraud claim isn't accepted. The variants stand in the order in which they are tested.
 #[derive(Clone, Copy, Debug, PartialEq, Eq, Error)]
 pub enum FraudRefusal {
-    /// The index isn't one of the square, or there aren't just k cells, all on the axis, at ascending
+    /// The index isn't one of the square, or there aren't exactly k cells, all on the axis, at ascending
     /// positions; or there is a set, and no cell is along the axis, or one that is lies outside the
     /// square or has a path of its own.
     #[error("a claim has k cells of one axis of the square, at ascending positions")]
@@ -78,7 +78,7 @@ impl Model for VerifyRoom {
 }
 
 impl VerifyRoom {
-    /// Room for squares of width `k`. It takes all memory that verifying needs, and refuses only where there
+    /// A room for squares of width `k`. It takes all memory that verifying needs, and refuses only where there
     /// is none.
     pub fn new(alloc: Global, k: u16) -> Result<VerifyRoom, NoMemory>
         requires width { IsTrue (is_width k) }
@@ -86,18 +86,10 @@ impl VerifyRoom {
     {
         let count = k as usize;
         let code = Room::new(alloc, k)?;
-        let Ok(known) = vec![in alloc; 0; count] else {
-            return Err(NoMemory);
-        };
-        let Ok(shares) = vec![in alloc; Share([0; SHARE_SIZE]); count] else {
-            return Err(NoMemory);
-        };
-        let Ok(all) = vec![in alloc; Share([0; SHARE_SIZE]); 2 * count] else {
-            return Err(NoMemory);
-        };
-        let Ok(names) = vec![in alloc; PARITY; 2 * count] else {
-            return Err(NoMemory);
-        };
+        let known = vec![in alloc; 0; count]?;
+        let shares = vec![in alloc; Share([0; SHARE_SIZE]); count]?;
+        let all = vec![in alloc; Share([0; SHARE_SIZE]); 2 * count]?;
+        let names = vec![in alloc; PARITY; 2 * count]?;
         Ok(VerifyRoom {
             k,
             code,
@@ -131,7 +123,7 @@ fn are_ascending(axis: Axis, cells: &[Message]) -> bool
     true
 }
 
-/// Whether a claim accuses an axis of a square of width `k` by just k cells of it, at ascending
+/// Whether a claim accuses an axis of a square of width `k` by exactly k cells of it, at ascending
 /// positions.
 fn has_shape(k: u16, claim: &FraudClaim) -> bool
     requires { IsTrue (is_width k) }
@@ -150,7 +142,7 @@ pub(crate) fn some_along(axis: Axis, cells: &[Message]) -> bool
     cells.iter().any(|message| is_along(axis, message))
 }
 
-/// Whether a message along the axis has a cell of the square, and no path of its own.
+/// Whether a sample along the axis has a cell of the square, and no path of its own.
 fn is_bare(k: u16, axis: Axis, message: &Message) -> bool
     requires { IsTrue (is_width k) }
     ensures { result ≡ is_bare k axis message.now }
@@ -190,7 +182,7 @@ fn is_shaped(k: u16, claim: &FraudClaim) -> bool
     has_shape(k, claim) && has_set_shape(k, claim)
 }
 
-/// Whether the set of a claim shows the cell of a message.
+/// Whether the set of a claim shows the cell of a sample.
 fn is_set_cell(claim: &FraudClaim, message: &Message) -> bool
     ensures { result ≡ is_set_cell claim.now message.now }
 {
@@ -387,11 +379,11 @@ fn cause_law(header: &Header)
     message_laws();
 }
 
-/// Verifies a bad-encoding fraud proof (BEFP) under a data availability header: whether the claim has just k
+/// Verifies a bad-encoding fraud proof (BEFP) under a data availability header: whether the claim has exactly k
 /// cells of one axis, at ascending positions, each proved under the header's root of its row or its
 /// column, and the strict root of the one codeword through them is none or isn't the header's root of
 /// that axis. Where the claim has a set, its cells along the axis are proved by that in place of paths of
-/// their own. Under the header of a square a claim is accepted only where a message of it, or its set, and
+/// their own. Under the header of a square a claim is accepted only where a sample of it, or its set, and
 /// the square name two strings with one SHA-256 digest.
 ///
 /// Refuses another shape, then the first cell that isn't proved, with the reason of `opens`, then a set
@@ -425,7 +417,7 @@ pub fn verify(
     // All of these at once.
     ensures cause { HasCause header.now claim (why_of result) }
 
-    // A claim that is accepted under the header of a square has a message, or a set, that names a collision
+    // A claim that is accepted under the header of a square has a sample, or a set, that names a collision
     // with it.
     ensures own { IsOk result → IsFalseClaim header.now claim }
     ensures room { room.new ≡ room.old }

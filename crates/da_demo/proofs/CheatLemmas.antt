@@ -14,10 +14,10 @@ use Rattle.data_header.specs.Headers.{Roots}
 use Rattle.nmt_tree.specs.Roots.{is_ordered}
 use Rattle.axis_roots.specs.Lines.{cell_on}
 use Rattle.axis_roots.specs.Grids.{share_at, axis_names, axis_roots, are_ordered_axes, header_of_grid}
-use Rattle.axis_roots.proofs.Grids.NumberLemmas.{in_square}
 use Rattle.axis_roots.proofs.Grids.AxisLemmas.{same_along}
 use Rattle.axis_roots.proofs.Grids.LineLemmas.{axis_names-cells}
 use Rattle.axis_roots.proofs.Grids.HeaderLemmas.{ordered_axis, ordered_axes}
+use Rattle.axis_roots.proofs.Grids.WrittenLemmas.{on_axis_in_square}
 use Rattle.da_demo.specs.Sessions.{last_cell, IsCheat}
 
 -- a cell of the original square isn't the last one
@@ -42,18 +42,13 @@ same_name k grid other cell cheat inside = elim (cases_Bool (is_original k cell)
       ∙ sym (ap (λ (b : Bool). cond b (name_in (share_at (2 * k) grid cell)) parity) outside)
 ]
 
--- a cell at a place of an axis is in the square
-cell_inside : (k : ℕ) (axis : Axis) (i pos : ℕ) → i < 2 * k → pos < 2 * k → is_in_square k (cell_on axis i pos) ≡ true
-cell_inside k Row i pos hi hp = in_square k (cell_on Row i pos) hi hp
-cell_inside k Col i pos hi hp = in_square k (cell_on Col i pos) hp hi
-
 -- so are all namespaces along an axis
 same_names : (k : ℕ) (grid other : List Share) (axis : Axis) (i : ℕ) → IsCheat k grid other → i < 2 * k
     → axis_names k other axis i ≡ axis_names k grid axis i
 same_names k grid other axis i cheat h =
     axis_names-cells k other axis i
     ∙ same_along k (leaf_name k other) (leaf_name k grid) axis i parity
-    (λ pos hp. same_name k grid other (cell_on axis i pos) cheat (cell_inside k axis i pos h hp))
+    (λ pos hp. same_name k grid other (cell_on axis i pos) cheat (on_axis_in_square k axis i pos h hp))
     ∙ sym (axis_names-cells k grid axis i)
 
 -- where something is there, the test held

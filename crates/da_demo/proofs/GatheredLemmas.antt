@@ -9,11 +9,11 @@ use Rattle.repair_queue.specs.SessionParts.{SessionParts, StandsFor}
 use Rattle.da_demo.specs.declared.gathering.Gathered.{Gathered}
 use Rattle.namespace_id.specs.declared.shares.Share.{Share}
 use Rattle.namespace_id.specs.Lists.{ascending}
-use Rattle.axis_roots.proofs.Grids.StoredLemmas.{mapped_none, mapped_more}
+use Rattle.namespace_id.proofs.AscentLemmas.{mapped_none, mapped_more}
 use Rattle.da_demo.specs.Sessions.{proved_of, refused_of, spoiled, spoiled_message}
 use Rattle.da_demo.specs.Gathered.{IsGathered}
 
--- a message that is refused has a refusal
+-- a sample that is refused has a refusal
 refused : (r : Option CheckRefusal) → (r ≡ None → ⊥) → is_none r ≡ false
 refused None h = absurd (h refl)
 refused (Some why) h = refl
@@ -30,7 +30,7 @@ lies_more header ms m =
     ap length (filter-append (λ x. not (is_none (message_refusal header x))) ms (m ∷ []))
     ∙ length-append (refused_of header ms) (refused_of header (m ∷ []))
 
--- a message that is proved is fed
+-- a sample that is proved is fed
 pub take_kept : (header : Roots) (ms : List Message) (m : Message) (old new : Gathered)
     → IsGathered header ms old → message_refusal header m ≡ None → new.session.header ≡ header
     → StandsFor new.session (proved_of header ms ++ m ∷ []) → new.proved ≡ old.proved + 1 → new.lies ≡ old.lies
@@ -71,7 +71,7 @@ take_lie header ms m old new before fails session proved lies =
           (refused (message_refusal header m) fails));
     }
 
--- ---- messages that are made one by one
+-- ---- samples that are made one by one
 
 -- none yet
 pub gathered_none : (header : Roots) (f : ℕ → Message) (gathered : Gathered) → IsGathered header [] gathered
@@ -93,7 +93,7 @@ pub gathered_all : (header : Roots) (f : ℕ → Message) (n k : ℕ) (gathered 
     → IsGathered header (map f (ascending 0 n)) gathered → IsGathered header (map f (ascending 0 k)) gathered
 gathered_all header f n k gathered same = subst (λ (m : ℕ). IsGathered header (map f (ascending 0 m)) gathered) same
 
--- a lie is the message of its cell with the share spoiled
+-- a lie is the sample of its cell with the share spoiled
 pub lie_is : (made want : Message) (share : Share) → made ≡ want → share ≡ spoiled made.share
     → record made { share = share } ≡ spoiled_message want
 lie_is made want share is shown = ap (λ (s : Share). record made { share = s }) shown ∙ ap spoiled_message is

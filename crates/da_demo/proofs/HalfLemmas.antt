@@ -1,4 +1,4 @@
--- The cells of a square from the last one back, and the messages of half of them.
+-- The cells of a square from the last one back, and the samples of half of them.
 use Rattle.std.proofs.Common.{◌≡◌, ◌∙◌, ℕ, suc, ◌+◌, ◌-◌, ◌*◌, ◌<◌, ◌≤◌, true, mul-le-mul, List, [], ◌∷◌, ◌++◌, map, reverse, filter, append_assoc, append-nil, sym, ap, subst, arith}
 use Rattle.std.proofs.lemmas.List.{map-append, reverse-append}
 use Rattle.std.proofs.lemmas.List.Elements.{filter-append}
@@ -25,14 +25,14 @@ unfolding ascending
 back_more k left count =
     reverse-append (cell_numbered (2 * k) left ∷ []) (map (cell_numbered (2 * k)) (ascending (suc left) count))
 
--- the messages of half of these cells and of one more
+-- the samples of half of these cells and of one more
 half_more : (k : ℕ) (grid : List Share) (cells : List Cell) (cell : Cell)
     → half_among k grid (cells ++ cell ∷ []) ≡ half_among k grid cells ++ half_among k grid (cell ∷ [])
 half_more k grid cells cell =
     ap (map (λ c. message_at k grid c (axis_of c))) (filter-append is_even cells (cell ∷ []))
     ∙ map-append (λ c. message_at k grid c (axis_of c)) (filter is_even cells) (filter is_even (cell ∷ []))
 
--- the messages of the first session as far as the cells from a number on
+-- the samples of the first session as far as the cells from a number on
 abbrev pub first_from : ℕ → List Share → ℕ → List Message
 first_from k grid left = lies_of k grid ++ half_among k grid (cells_back k left (2 * k * (2 * k) - left))
 
@@ -68,7 +68,7 @@ first_all k grid left none =
     ap (first_from k grid) none
     ∙ ap (λ (n : ℕ). lies_of k grid ++ half_among k grid (cells_back k 0 n)) count
 
--- the message of one more cell is taken in
+-- the sample of one more cell is taken in
 pub half_next : (header : Roots) (k : ℕ) (grid : List Share) (old new : Gathered) (left before in_row : ℕ) (cell : Cell)
     → cell ≡ cell_numbered in_row left → in_row ≡ 2 * k → left + 1 ≡ before → left < 2 * k * (2 * k)
     → IsGathered header (first_from k grid before) old

@@ -6,7 +6,7 @@ use Rattle.repair_queue.specs.SessionParts.{StandsFor}
 use Rattle.da_demo.specs.declared.gathering.Gathered.{Gathered}
 use Rattle.da_demo.specs.Sessions.{proved_of, refused_of}
 
--- of these messages the session was fed with the proved ones, in their order; these and the others were counted
+-- of these samples the session was fed with the proved ones, in their order; these and the others were counted
 pub record IsGathered (header : Roots) (ms : List Message) (gathered : Gathered) : Type 0 where
   pub under : gathered.session.header ≡ header
   pub fed : StandsFor gathered.session (proved_of header ms)

@@ -1,4 +1,4 @@
--- The messages of the two sessions of a trial (docs/FORMATS.md, "The trial of a number").
+-- The samples of the two sessions of a trial (docs/FORMATS.md, "The trial of a number").
 use Rattle.std.specs.Prelude.{◌≡◌, ◌≢◌, ℕ, ◌+◌, ◌-◌, ◌*◌, ◌%◌, ◌==◌, List, ◌++◌, map, reverse, filter, length, slice_index, slice_set, bit_xor, Bool, true, is_none, not, if◌then◌else◌}
 use Rattle.namespace_id.specs.declared.cells.Cell.{Cell}
 use Rattle.namespace_id.specs.declared.cells.Axis.{Axis}
@@ -16,11 +16,11 @@ use Rattle.axis_roots.specs.Trees.{message_at}
 abbrev pub spoiled : Share → Share
 spoiled share = record { 0 = slice_set share.0 511 (bit_xor (slice_index share.0 511) 1) }
 
--- a message that shows such a share instead of its own
+-- a sample that shows such a share instead of its own
 abbrev pub spoiled_message : Message → Message
 spoiled_message m = record m { share = spoiled m.share }
 
--- the messages of a list that are proved under a header, and those that aren't
+-- the samples of a list that are proved under a header, and those that aren't
 abbrev pub proved_of : Roots → List Message → List Message
 proved_of header ms = filter (λ m. is_none (message_refusal header m)) ms
 
@@ -29,7 +29,7 @@ refused_of header ms = filter (λ m. not (is_none (message_refusal header m))) m
 
 -- ---- the first session: lies and half of the cells, under the header of the grid
 
--- the messages of the first cells of all odd rows, along their rows, with spoiled shares
+-- the samples of the first cells of all odd rows, along their rows, with spoiled shares
 abbrev pub lie_cell : ℕ → Cell
 lie_cell i = record { row = 2 * i + 1; col = 0 }
 
@@ -44,7 +44,7 @@ is_even cell = (cell.row + cell.col) % 2 == 0
 abbrev pub axis_of : Cell → Axis
 axis_of cell = if cell.row % 2 == 0 then Row else Col
 
--- the messages of those among cells, each along its axis
+-- the samples of those among cells, each along its axis
 abbrev pub half_among : ℕ → List Share → List Cell → List Message
 half_among k grid cells = map (λ cell. message_at k grid cell (axis_of cell)) (filter is_even cells)
 
@@ -68,7 +68,7 @@ pub record IsCheat (k : ℕ) (grid other : List Share) : Type 0 where
   pub others : (cell : Cell) → is_in_square k cell ≡ true → cell ≢ last_cell k
       → share_at (2 * k) other cell ≡ share_at (2 * k) grid cell
 
--- the messages of the first k cells of the last row, along their columns
+-- the samples of the first k cells of the last row, along their columns
 abbrev pub low_cell : ℕ → ℕ → Cell
 low_cell k col = record { row = 2 * k - 1; col = col }
 

@@ -1,4 +1,4 @@
-//! The messages of the two sessions of a trial, as they are made from a grid, checked under its header
+//! The samples of the two sessions of a trial, as they are made from a grid, checked under its header
 //! and fed.
 
 ghost use Rattle.std.specs.Prelude.{◌≡◌, ◌+◌, ◌*◌, ◌<◌, ◌≤◌, ◌^◌, ◌++◌, List, [], ◌∷◌, IsTrue, IfSome, IsNone, IfOk, Some, None};
@@ -18,7 +18,7 @@ use namespace_id::{Axis, Cell, NoMemory, SHARE_SIZE, Share, cell_numbered};
 use repair_queue::Session;
 use std::alloc::Global;
 
-/// A session that is fed with the messages that are proved, how many these are, and how many aren't.
+/// A session that is fed with the samples that are proved, how many these are, and how many aren't.
 #[derive(Drop)]
 pub(crate) struct Gathered {
     pub(crate) session: Session,
@@ -33,7 +33,7 @@ pub(crate) fn spoil(share: &mut Share)
     share.0[SHARE_SIZE - 1] ^= 1;
 }
 
-/// The certificate of a message; none where it isn't proved.
+/// The certificate of a sample; none where it isn't proved.
 fn proved(header: &Header, message: Message) -> Option<Proved>
     ensures under { IfSome result (IsUnder header.now) }
     ensures message { IfSome result (λ proved. kept_message proved ≡ message) }
@@ -59,7 +59,7 @@ impl Gathered {
         })
     }
 
-    /// Feeds the session with a message where it is proved, and counts it.
+    /// Feeds the session with a sample where it is proved, and counts it.
     fn take_in(&mut self, header: &Header, message: Message)
         requires header { self.old.session.header ≡ header.now }
         requires few { self.old.proved + self.old.lies < 2 ^ 32 }
@@ -78,7 +78,7 @@ impl Gathered {
     }
 }
 
-/// The message of a cell along an axis.
+/// The sample of a cell along an axis.
 fn message_at(grid: &Grid, trees: &Trees, cell: Cell, axis: Axis) -> Message
     requires cell { IsTrue (is_in_square grid.now.k cell) }
     requires trees { trees_of_grid grid.now.k grid.now.shares ≡ Some trees.now }
@@ -88,7 +88,7 @@ fn message_at(grid: &Grid, trees: &Trees, cell: Cell, axis: Axis) -> Message
     message_from(grid, cell, axis, trees.tree(axis, index(axis, cell)))
 }
 
-/// Takes in the message of the first cell of each odd row, along its row, with its share spoiled.
+/// Takes in the sample of the first cell of each odd row, along its row, with its share spoiled.
 pub(crate) fn gather_lies(grid: &Grid, trees: &Trees, header: &Header, gathered: &mut Gathered)
     requires trees { trees_of_grid grid.now.k grid.now.shares ≡ Some trees.now }
     requires header { gathered.old.session.header ≡ header.now }
@@ -129,7 +129,7 @@ fn axis_of(cell: Cell) -> Axis
     }
 }
 
-/// Takes in the message of a cell where its row and its column add up to an even number.
+/// Takes in the sample of a cell where its row and its column add up to an even number.
 fn gather_even(grid: &Grid, trees: &Trees, header: &Header, cell: Cell, gathered: &mut Gathered)
     requires width { IsTrue (is_width grid.now.k) }
     requires trees { trees_of_grid grid.now.k grid.now.shares ≡ Some trees.now }
@@ -148,7 +148,7 @@ fn gather_even(grid: &Grid, trees: &Trees, header: &Header, cell: Cell, gathered
     }
 }
 
-/// Takes in the messages of half of the cells, from the last one back: of those whose row and
+/// Takes in the samples of half of the cells, from the last one back: of those whose row and
 /// column add up to an even number.
 pub(crate) fn gather_half(grid: &Grid, trees: &Trees, header: &Header, gathered: &mut Gathered)
     requires trees { trees_of_grid grid.now.k grid.now.shares ≡ Some trees.now }
@@ -165,7 +165,7 @@ pub(crate) fn gather_half(grid: &Grid, trees: &Trees, header: &Header, gathered:
     }
 }
 
-/// Takes in the messages of the first k cells of the last row, along their columns.
+/// Takes in the samples of the first k cells of the last row, along their columns.
 pub(crate) fn gather_low(grid: &Grid, trees: &Trees, header: &Header, gathered: &mut Gathered)
     requires trees { trees_of_grid grid.now.k grid.now.shares ≡ Some trees.now }
     requires header { gathered.old.session.header ≡ header.now }

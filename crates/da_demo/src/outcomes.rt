@@ -33,7 +33,7 @@ pub struct Trial {
     pub blobs: u32,
     /// The data root of the block's header.
     pub root: [u8; 32],
-    /// How many messages of the first session were proved, and how many were refused.
+    /// How many samples of the first session were proved, and how many were refused.
     pub proved: u64,
     pub lies: u64,
     pub first: Outcome,

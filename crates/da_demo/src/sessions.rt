@@ -21,7 +21,7 @@ use std::alloc::Global;
 pub(crate) struct First {
     /// The data root of the grid's header.
     pub(crate) root: [u8; 32],
-    /// How many messages were proved, and how many were refused.
+    /// How many samples were proved, and how many were refused.
     pub(crate) proved: u64,
     pub(crate) lies: u64,
     pub(crate) outcome: Outcome,

@@ -39,7 +39,7 @@ pub(crate) fn tell(verdict: Verdict, square: &Square) -> (Outcome, Option<FraudP
     }
 }
 
-/// The messages of certificates.
+/// The samples of certificates.
 fn messages_of(alloc: Global, cells: Vec<Proved>) -> Result<Vec<Message>, NoMemory>
     ensures { IfOk result (λ messages. messages.items ≡ map kept_message cells.items) }
 {

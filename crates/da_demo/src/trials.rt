@@ -66,7 +66,7 @@ fn spoil_last(grid: &mut Grid)
 }
 
 /// Tries the whole core on the block that a number makes for a width: its square is repaired from
-/// half of its cells, k * k of them along rows and as many along columns, among k messages whose
+/// half of its cells, k * k of them along rows and as many along columns, among k samples whose
 /// share was changed; then a share of the extension is changed, and the square of that grid's
 /// header is repaired from k cells of its last row, proved along columns, and a fraud proof
 /// verified.

@@ -12,8 +12,8 @@ use Rattle.repair_queue.specs.Settled.{IsSettled}
 use Rattle.repair_queue.specs.Verdicts.{IsFraud, IsFoundClash}
 use Rattle.repair_queue.specs.declared.verdict.Verdict.TheVariants as verdict
 use Rattle.repair_queue.specs.SessionParts.{SessionParts, StandsFor as SessionStands}
-use Rattle.repair_queue.proofs.GrowthLemmas.{fraud_grows, clash_grows, settled_same}
-use Rattle.repair_queue.proofs.SessionLawLemmas.{session_settled, session_same}
+use Rattle.repair_queue.proofs.Facts.GrowthLemmas.{fraud_grows, clash_grows, settled_same}
+use Rattle.repair_queue.proofs.Facts.SessionLawLemmas.{session_settled, session_same}
 use Rattle.light_node.specs.Events.{NoneAccepted}
 use Rattle.da_net.specs.declared.items.Item.{Item}
 use Rattle.da_net.specs.declared.items.Item.TheVariants as item
@@ -30,11 +30,11 @@ use Rattle.repair_queue.specs.Verdicts.{VerdictParts, IsVerdict}
 use Rattle.std.proofs.lemmas.Option.{same_Some}
 use Rattle.da_net.proofs.GrowthLemmas.{messages-message, messages-claim, covers_more, covers_refused, covers_self, none_by_message, none_by_claim}
 
--- the messages of a session that nothing ended are settled
+-- the samples of a session that nothing ended are settled
 pub settled_by : (header : Roots) (ms : List Message) (s : SessionParts) → IsSession header ms s → IsSettled header ms
 settled_by header ms s has = subst (λ (h : Roots). IsSettled h ms) has.header_is (session_settled s ms has.goes_on has.stands)
 
--- it stands for each list with the same proved messages
+-- it stands for each list with the same proved samples
 session_covers : (header : Roots) (ms others : List Message) (s : SessionParts) → Covers header ms others → Covers header others ms → IsSession header ms s
     → IsSession header others s
 session_covers header ms others s to from has = record {
@@ -45,10 +45,10 @@ session_covers header ms others s to from has = record {
 }
 
 module _ (header : Roots) (items : List Item) where
-  -- ---- a message
+  -- ---- a sample
 
   module _ (m : Message) where
-    -- the messages with it
+    -- the samples with it
     abbrev more : List Message
     more = messages_of (items ++ item.Message m ∷ [])
 
@@ -73,7 +73,7 @@ module _ (header : Roots) (items : List Item) where
     pub full_ended : (node : FullNode) → is_some node.end ≡ true → IsFullNode header items node → IsFullNode header (items ++ item.Message m ∷ []) node
     full_ended node some is = let both = ended_node node.end node.session some is.stands in record { stands = both.0; session = both.1 }
 
-    -- a node whose session goes on, and a message that isn't proved
+    -- a node whose session goes on, and a sample that isn't proved
     refused_on : (IsProved header m → ⊥) → (s : Option SessionParts) → Stands header full items settled → HasSession header (messages_of items) None s
         → Stands header full (items ++ item.Message m ∷ []) settled × HasSession header more None s
     refused_on not None stands has = absurd has
@@ -117,7 +117,7 @@ module _ (header : Roots) (items : List Item) where
   -- ---- a claim
 
   module _ (c : ClaimParts) where
-    -- it changes no messages
+    -- it changes no samples
     same_session : (o : Option End) (s : Option SessionParts) → HasSession header (messages_of items) o s → HasSession header (messages_of (items ++ item.Claim c ∷ [])) o s
     same_session o s has = subst (λ (l : List Message). HasSession header l o s) (sym (messages-claim items c)) has
 
@@ -159,7 +159,7 @@ module _ (header : Roots) (items : List Item) where
 
 -- ---- sessions
 
--- an accepted claim has as many messages as the width
+-- an accepted claim has as many samples as the width
 pub accepted_count : (header : Roots) (claim : ClaimParts) → Accepts header claim → length claim.cells ≡ header.k
 accepted_count header claim accepts = let shape : Shape header.k claim = shape_of header.k claim accepts.bad.shape in shape.count
 

@@ -16,13 +16,13 @@ use Rattle.da_net.specs.Networks.{messages_of, event_of, events_of}
 
 -- ---- lists
 
--- one message more
+-- one sample more
 pub messages-message : (items : List Item) (m : Message) → messages_of (items ++ item.Message m ∷ []) ≡ messages_of items ++ m ∷ []
 messages-message [] m = refl
 messages-message (item.Message n ∷ items) m = ap (λ (l : List Message). n ∷ l) (messages-message items m)
 messages-message (item.Claim c ∷ items) m = messages-message items m
 
--- a claim is no message
+-- a claim is no sample
 pub messages-claim : (items : List Item) (c : ClaimParts) → messages_of (items ++ item.Claim c ∷ []) ≡ messages_of items
 messages-claim [] c = refl
 messages-claim (item.Message n ∷ items) c = ap (λ (l : List Message). n ∷ l) (messages-claim items c)
@@ -35,7 +35,7 @@ events-push (x ∷ items) one = ap (λ (l : List Event). event_of x ∷ l) (even
 
 -- ---- what covers what
 
--- a longer list has the proved messages
+-- a longer list has the proved samples
 pub covers_more : (header : Roots) (ms : List Message) (m : Message) → Covers header ms (ms ++ m ∷ [])
 covers_more header ms m n at proved = Contains-append_left ms (m ∷ []) n at
 
@@ -52,7 +52,7 @@ covers_self header ms m at proved = at
 
 -- ---- claims
 
--- after a message no claim is accepted that wasn't before
+-- after a sample no claim is accepted that wasn't before
 pub none_by_message : (header : Roots) (items : List Item) (m : Message) → NoneAccepted header (events_of items)
     → NoneAccepted header (events_of (items ++ item.Message m ∷ []))
 none_by_message header items m none =

@@ -4,13 +4,14 @@ use Rattle.std.specs.Prelude.{cond}
 use Rattle.std.specs.List.{Contains}
 use Rattle.std.proofs.lemmas.Bool.{cases_Bool, eqb-true, eq-eqb}
 use Rattle.std.proofs.lemmas.List.{length-append, get_or_append_left}
-use Rattle.std.proofs.lemmas.Option.{slice_get_within, get_or_from_slice_get, slice_get-get_or, slice_get_cases}
+use Rattle.std.proofs.lemmas.Option.{slice_get_within, get_or_from_slice_get, slice_get-get_or}
 use Rattle.std.proofs.lemmas.List.Elements.{Contains-append_left, Contains-append_right, Contains-append_cases, Contains-push_cases}
 use Rattle.namespace_id.proofs.MemberLemmas.{contains_head, contains_tail, contains_none, contains_cons}
 use Rattle.axis_roots.specs.declared.message.messages.Message.{Message}
 use Rattle.axis_roots.specs.Messages.{IsMessage}
 use Rattle.axis_roots.specs.Claims.{ClaimParts}
 use Rattle.light_node.specs.declared.events.Event.TheVariants as event
+use Rattle.light_node.proofs.ListLemmas.{listed_at, place_front}
 use Rattle.da_net.specs.declared.items.Item.{Item}
 use Rattle.da_net.specs.declared.items.Item.TheVariants as item
 use Rattle.da_net.specs.declared.items.Kept.{Kept}
@@ -18,29 +19,17 @@ use Rattle.da_net.specs.declared.items.Kept.TheVariants as kept
 use Rattle.da_net.specs.Networks.{messages_of, event_of, events_of, IsItem, Network, handed_by, handed, IsRun, start, put, hand, publish}
 use Rattle.da_net.specs.Promises.{WasHanded}
 
--- ---- items, messages and events
+-- ---- items, samples and events
 
 -- a place of a list is one of a longer list
 longer : {A : Type 0} (xs ys : List A) (i : ℕ) → i < length xs → i < length (xs ++ ys)
 longer xs ys i within = let e = length-append xs ys in omega (arith, within, e)
 
--- an item at a place is in the list
-pub placed : {A : Type 0} (xs : List A) (i : ℕ) (x : A) → slice_get xs i ≡ Some x → Contains xs x
-placed xs i x e = (i, slice_get_within xs i x e, get_or_from_slice_get xs i x x e)
-
--- and one in the list has a place
-pub place_of : {A : Type 0} (xs : List A) (x : A) → Contains xs x → (i : ℕ) × (slice_get xs i ≡ Some x)
-place_of xs x (i, within, e) = (i, slice_get-get_or xs i x within ∙ ap Some e)
-
--- two messages that are one item are one
+-- two samples that are one item are one
 same_message : (m n : Message) → item.Message m ≡ item.Message n → m ≡ n
 same_message m n e = cc
 
--- and so are two claims
-same_claim : (c d : ClaimParts) → item.Claim c ≡ item.Claim d → c ≡ d
-same_claim c d e = cc
-
--- a claim is no message
+-- a claim is no sample
 claim_apart : (c : ClaimParts) (m : Message) → item.Claim c ≡ item.Message m → ⊥
 claim_apart c m e = cc
 
@@ -49,7 +38,7 @@ event_claim : (one : Item) (c : ClaimParts) → event_of one ≡ event.Claim c �
 event_claim (item.Message m) c e = absurd cc
 event_claim (item.Claim d) c e = let same : d ≡ c = cc in ap (λ (x : ClaimParts). item.Claim x) same
 
--- a sample is a message
+-- an item whose event is a sample is this sample
 event_sample : (one : Item) (m : Message) → event_of one ≡ event.Sample m → one ≡ item.Message m
 event_sample (item.Message n) m e = let same : n ≡ m = cc in ap (λ (x : Message). item.Message x) same
 event_sample (item.Claim d) m e = absurd cc
@@ -70,7 +59,7 @@ claim_back (x ∷ items) c at = elim (contains_cons (event_of x) (event.Claim c)
   | inr later ↦ contains_tail x (item.Claim c) items (claim_back items c later)
 ]
 
--- a sample among the events is a message among the items
+-- a sample among the events is among the items
 pub sample_back : (items : List Item) (m : Message) → Contains (events_of items) (event.Sample m) → Contains items (item.Message m)
 sample_back [] m at = absurd (contains_none (event.Sample m) at)
 sample_back (x ∷ items) m at = elim (contains_cons (event_of x) (event.Sample m) (events_of items) at) [
@@ -78,7 +67,7 @@ sample_back (x ∷ items) m at = elim (contains_cons (event_of x) (event.Sample 
   | inr later ↦ contains_tail x (item.Message m) items (sample_back items m later)
 ]
 
--- a message among the items is among their messages
+-- a sample among the items is in the list of their samples
 pub message_there : (items : List Item) (m : Message) → Contains items (item.Message m) → Contains (messages_of items) m
 message_there [] m at = absurd (contains_none (item.Message m) at)
 message_there (item.Message n ∷ items) m at = elim (contains_cons (item.Message n) (item.Message m) items at) [
@@ -155,13 +144,6 @@ still_placed xs ys i x e =
     slice_get-get_or (xs ++ ys) i x (longer xs ys i within)
     ∙ ap Some (get_or_append_left xs ys x i within ∙ get_or_from_slice_get xs i x x e)
 
--- so does what stands at a place of it
-pub slice_get-append_left : {A : Type 0} (xs ys : List A) (i : ℕ) → i < length xs → slice_get (xs ++ ys) i ≡ slice_get xs i
-slice_get-append_left xs ys i within = elim (slice_get_cases xs i).1 [
-  | inl found ↦ still_placed xs ys i found.0 found.2 ∙ sym found.2
-  | inr past ↦ absurd (omega (arith, within, past.0))
-]
-
 -- what was handed isn't taken back
 pub stays_handed : (pool later : List Item) (steps more : List Kept) (node : ℕ) (one : Item) → Contains (handed pool steps node) one
     → Contains (handed (pool ++ later) (steps ++ more) node) one
@@ -175,7 +157,7 @@ stays_handed pool later steps more node one at =
 
 -- and is in the pool
 pub handed_pooled : (pool : List Item) (steps : List Kept) (node : ℕ) (one : Item) → Contains (handed pool steps node) one → Contains pool one
-handed_pooled pool steps node one at = let found = was_handed pool steps node one at in placed pool found.0 one found.2
+handed_pooled pool steps node one at = let found = was_handed pool steps node one at in listed_at pool found.0 one found.2
 
 -- ---- runs
 
@@ -199,7 +181,7 @@ hands_within net pool steps (publish before done by kind claim run is stands) pl
       | inr e ↦ absurd cc
     ]
 
--- the messages of the pool have their shape
+-- the samples of the pool have their shape
 pub pool_messages : (net : Network) (pool : List Item) (steps : List Kept) → IsRun net pool steps → (m : Message)
     → Contains pool (item.Message m) → IsMessage m
 pool_messages net pool steps start m at = absurd (contains_none (item.Message m) at)
@@ -232,7 +214,7 @@ handed-grown pool later (step ∷ steps) node within =
     by_grown : (s : Kept) → ((place to : ℕ) → s ≡ kept.Hand place to → place < length pool) → handed_by (pool ++ later) s node ≡ handed_by pool s node
     by_grown kept.Put within = refl
     by_grown (kept.Hand place to) within =
-        ap (λ (o : Option Item). cond (to == node) (option_to_list o) []) (slice_get-append_left pool later place (within place to refl))
+        ap (λ (o : Option Item). cond (to == node) (option_to_list o) []) (place_front pool later place (within place to refl))
     by_grown (kept.Publish by) within = refl
 
 -- so in a run it goes on

@@ -124,7 +124,7 @@ module _ (header : Roots) (events : List Event) where
   missing_rejects None (Some claim) none found first rejects = found claim (among header events claim first) first.0
   missing_rejects (Some r) kept none found first rejects = absurd cc
 
--- room that is there
+-- a room that is there
 pub spare_some : (k : ℕ) (room : Option ClaimRoom) → HasSpare k room → is_some room ≡ true
 spare_some k None spare = absurd spare
 spare_some k (Some cells) spare = refl

@@ -13,6 +13,7 @@ use Rattle.light_node.specs.declared.events.Event.{Event}
 use Rattle.light_node.specs.declared.events.Event.TheVariants as event
 use Rattle.light_node.specs.Events.{IsFirstAccepted}
 use Rattle.light_node.specs.Nodes.{NodeParts}
+use Rattle.light_node.proofs.ListLemmas.{listed_at}
 use Rattle.da_net.specs.declared.seats.Node.TheVariants.{Full, Light}
 use Rattle.da_net.specs.declared.seats.Seat.{Seat}
 use Rattle.da_net.specs.declared.copies.ClaimRoom.{ClaimRoom}
@@ -21,7 +22,6 @@ use Rattle.da_net.specs.Nodes.{HasSpare, IsSession, IsFresh}
 use Rattle.da_net.specs.Nets.{claim_in}
 use Rattle.da_net.specs.Seats.{kind_of, alarm_with, alarm_of, HasSpareFor, IsFreshSeat, IsNet}
 use Rattle.da_net.proofs.FullLemmas.{settled_by}
-use Rattle.da_net.proofs.HandedLemmas.{placed}
 use Rattle.da_net.proofs.NetLemmas.{seen}
 
 -- the seat of a full node
@@ -68,13 +68,6 @@ fresh_light picks header node kept published (same, plan, stands) spare other =
 
 -- ---- lists of them
 
--- pairs with one more
-pub zip_push : {A B : Type 0} (R : A → B → Type 0) (xs : List A) (ys : List B) (x : A) (y : B) → AllZip R xs ys → R x y → AllZip R (xs ++ x ∷ []) (ys ++ y ∷ [])
-zip_push R [] [] x y zip r = (r, tt)
-zip_push R [] (b ∷ ys) x y zip r = absurd zip
-zip_push R (a ∷ xs) [] x y zip r = absurd zip
-zip_push R (a ∷ xs) (b ∷ ys) x y zip r = (zip.0, zip_push R xs ys x y zip.1 r)
-
 -- one list of kinds is another
 pub zip_same : {A B : Type 0} (R : A → B → Type 0) (xs others : List A) (ys : List B) → xs ≡ others → AllZip R xs ys → AllZip R others ys
 zip_same R xs others ys e zip = subst (λ (l : List _). AllZip R l ys) e zip
@@ -110,9 +103,9 @@ module _ {F : Type 0} (picks : F → ℕ → Cell → Type 0) (header : Roots) w
   pub fresh_net : (kinds : List Kind) (seats : List (Seat F)) → AllZip (IsFreshSeat picks header) kinds seats → IsNet picks header seats [] []
   fresh_net kinds seats zip = record {
     run = start;
-    seated = λ node seat at. (each_fresh kinds seats zip seat (placed seats node seat at)).1.seat_is;
-    unpublished = λ node seat at. (each_fresh kinds seats zip seat (placed seats node seat at)).1.unpublished;
-    judged = λ place entry at. absurd (contains_none entry (placed [] place entry at));
+    seated = λ node seat at. (each_fresh kinds seats zip seat (listed_at seats node seat at)).1.seat_is;
+    unpublished = λ node seat at. (each_fresh kinds seats zip seat (listed_at seats node seat at)).1.unpublished;
+    judged = λ place entry at. absurd (contains_none entry (listed_at [] place entry at));
   }
 
   -- as contracts see it

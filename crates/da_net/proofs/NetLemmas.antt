@@ -23,7 +23,7 @@ use Rattle.da_net.specs.declared.seats.Node.{Node}
 use Rattle.da_net.specs.declared.seats.Node.TheVariants.{Full, Light}
 use Rattle.da_net.specs.declared.seats.Seat.{Seat}
 use Rattle.da_net.specs.declared.seats.Entry.{Entry}
-use Rattle.da_net.specs.Networks.{IsItem, events_of, Kind, full, light, Network, Standing, settled, clashing, waiting, available, rejecting, Stands, handed_by, handed, IsRun, put, hand, publish}
+use Rattle.da_net.specs.Networks.{IsItem, events_of, Kind, full, Network, Standing, settled, clashing, waiting, available, rejecting, Stands, handed_by, handed, IsRun, put, hand, publish}
 use Rattle.da_net.specs.Nodes.{standing_by}
 use Rattle.da_net.specs.declared.items.NetEvent.{NetEvent}
 use Rattle.da_net.specs.Nets.{is_full, is_pooling, has_claim, NetParts, AfterClash, alarm_at, Fits, HasState, state_of, claim_in, is_publishing, IsHanded, IsPooled}
@@ -31,6 +31,7 @@ use Rattle.da_net.specs.Seats.{kind_of, alarm_by, alarm_with, alarm_of, IsNodeFo
 use Rattle.da_net.proofs.HandedLemmas.{handed-append, handed-grown, hands_within, step_hands}
 use Rattle.light_node.specs.Events.{IsFirstAccepted}
 use Rattle.da_net.specs.declared.copies.ClaimRoom.{ClaimRoom}
+use Rattle.da_net.proofs.PromiseLemmas.{holds_accepted}
 
 -- ---- lists
 
@@ -211,7 +212,7 @@ seen header seats most_items most_steps pool steps = record {
   steps = steps;
 }
 
--- there is room for a step, and for an item
+-- there is capacity for a step, and for an item
 pub room_for_step : (net : NetParts) (one : NetEvent) → is_full net one ≡ false → length net.steps < net.most_steps
 room_for_step net one free = elim (cases_Bool (nat_le net.most_steps (length net.steps))) [
   | inl over ↦ absurd (true≢false (sym (ap (λ (b : Bool). cond b true (is_pooling one && nat_le net.most_items (length net.pool))) over) ∙ free))
@@ -319,11 +320,6 @@ node_claims picks header items (Light node) claim e is =
     subst (λ (h : Roots). IsFirstAccepted h (events_of items) (Some claim)) is.header_is
     (subst (IsFirstAccepted node.header (events_of items)) (light_claims node.claim claim e) is.stands.claim)
 
--- such a claim is accepted
-stands_accepts : (header : Roots) (kind : Kind) (items : List Item) (claim : ClaimParts) → Stands header kind items (rejecting claim) → Accepts header claim
-stands_accepts header full items claim stands = stands.0
-stands_accepts header (light plan) items claim stands = stands.0
-
 module _ {F : Type 0} (picks : F → ℕ → Cell → Type 0) (header : Roots) (seats : List (Seat F)) (pool : List Entry) (steps : List Kept)
     (is : IsNet picks header seats pool steps) (by : ℕ) (old new : Seat F) (at : slice_get seats by ≡ Some old) (claim : ClaimParts) (copied : IsCopied old new claim) where
   -- the claim as an item of the pool
@@ -383,7 +379,7 @@ module _ {F : Type 0} (picks : F → ℕ → Cell → Type 0) (header : Roots) (
           subst (λ (b : Bool). HasUnpublished header.k b seat.published)
           (sym (same_published picks header seats pool steps is (kept.Publish by) node (published_not node other.0))) (is.unpublished node seat other.1)
     ];
-    judged = judged_more picks header seats pool steps is claimed (λ e. stands_accepts header (kind_of old.node) (handed (items_in pool) steps by) claim by_stands, λ accepts. refl);
+    judged = judged_more picks header seats pool steps is claimed (λ e. holds_accepted header (kind_of old.node) (handed (items_in pool) steps by) claim by_stands, λ accepts. refl);
   }
 
   -- what it did
@@ -409,4 +405,4 @@ pub claim_accepts : {F : Type 0} (picks : F → ℕ → Cell → Type 0) (header
     → found ≡ claim_in (alarm_of node) → IsNodeFor picks header items node → IfSome found (Accepts header)
 claim_accepts picks header items node None e is = tt
 claim_accepts picks header items node (Some claim) e is =
-    stands_accepts header (kind_of node) items claim (node_claims picks header items node claim (sym e) is)
+    holds_accepted header (kind_of node) items claim (node_claims picks header items node claim (sym e) is)

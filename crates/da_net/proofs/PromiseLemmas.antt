@@ -18,8 +18,8 @@ use Rattle.axis_roots.proofs.Messages.FalseClaimLemmas.{accepted_false}
 use Rattle.repair_queue.specs.Closures.{Half, seen, filled}
 use Rattle.repair_queue.specs.Settled.{IsSettled}
 use Rattle.repair_queue.specs.Verdicts.{VerdictParts, whole, fraud, clash, IsWhole, IsVerdict, IsOwnVerdict}
-use Rattle.repair_queue.proofs.ClosureLemmas.{half_least}
-use Rattle.repair_queue.proofs.OwnLemmas.{own_verdict}
+use Rattle.repair_queue.proofs.Facts.ClosureLemmas.{half_least}
+use Rattle.repair_queue.proofs.Facts.OwnLemmas.{own_verdict}
 use Rattle.light_node.specs.declared.events.Event.{Event}
 use Rattle.light_node.specs.declared.events.Event.TheVariants as event
 use Rattle.light_node.specs.Events.{IsFirstAccepted}
@@ -76,7 +76,7 @@ full_cases header items (rejecting claim) stands = inl tt
 
 -- ---- under a square's own header
 
--- messages that were handed have their shape
+-- samples that were handed have their shape
 handed_sized : (items : List Item) → ((m : Message) → Contains items (item.Message m) → IsMessage m) → AllByRecursion IsMessage (messages_of items)
 handed_sized [] each = tt
 handed_sized (item.Message n ∷ items) each =
@@ -90,7 +90,7 @@ module _ (net : Network) (pool : List Item) (steps : List Kept) (node : ℕ) (sq
   claim_names claim at accepts =
       inr (claim, handed_pooled pool steps node (item.Claim claim) at, accepted_false net.header claim accepts square own)
 
-  -- what messages that were handed say of a verdict
+  -- what samples that were handed say of a verdict
   pub own_or_names : (v : VerdictParts) → IsVerdict net.header (messages_of (handed pool steps node)) v → IsOwnVerdict square v ⊎ PoolNames pool square
   own_or_names v verdict =
       let sized : AllByRecursion IsMessage (messages_of (handed pool steps node)) =
@@ -168,7 +168,7 @@ planned_cases net pool steps nodes to standing are too stands = elim (full_cases
 
 -- ---- closures
 
--- recoverable cells follow by halves from those of proved messages
+-- recoverable cells follow by halves from those of proved samples
 pub half_reached : (header : Roots) (ms : List Message) (cells : List Cell)
     → ((m : Message) → Contains ms m → IsProved header m → Contains cells m.cell) → (cell : Cell) → Half header ms cell → Reached header.k cells cell
 half_reached header ms cells all =

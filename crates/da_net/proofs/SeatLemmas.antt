@@ -1,7 +1,6 @@
 -- Seats whose nodes are handed one item more, and how they stand.
-use Rattle.std.proofs.Common.{◌≡◌, ◌∙◌, ℕ, List, [], ◌∷◌, ◌++◌, refl, sym, ap, subst, inl, inr}
+use Rattle.std.proofs.Common.{◌≡◌, ℕ, List, [], ◌∷◌, ◌++◌, refl, sym, ap, subst, inl, inr}
 use Rattle.std.specs.Prelude.{Option, Some, None}
-use Rattle.std.proofs.lemmas.Option.{none-some, same_Some}
 use Rattle.namespace_id.specs.declared.cells.Cell.{Cell}
 use Rattle.data_header.specs.Headers.{Roots}
 use Rattle.axis_roots.specs.Claims.{ClaimParts, Accepts}
@@ -14,31 +13,18 @@ use Rattle.light_node.specs.Events.{IsState, IsFirstAccepted, IsLight}
 use Rattle.light_node.specs.Nodes.{NodeParts, StandsFor}
 use Rattle.da_net.specs.declared.items.Item.{Item}
 use Rattle.da_net.specs.declared.items.Item.TheVariants as item
-use Rattle.da_net.specs.declared.full.End.{End}
 use Rattle.da_net.specs.declared.full.End.TheVariants as end
 use Rattle.da_net.specs.declared.seats.Node.{Node}
 use Rattle.da_net.specs.declared.seats.Node.TheVariants.{Full, Light}
 use Rattle.da_net.specs.declared.seats.Seat.{Seat}
 use Rattle.da_net.specs.declared.copies.ClaimRoom.{ClaimRoom}
-use Rattle.da_net.specs.Networks.{events_of, light, Standing, clashing, waiting, available, rejecting, IsClashing}
-use Rattle.da_net.specs.Nodes.{standing_by, IsLightNode, IsLightStep}
+use Rattle.da_net.specs.Networks.{events_of, Standing, waiting, available, rejecting}
+use Rattle.da_net.specs.Nodes.{IsLightNode}
 use Rattle.da_net.specs.Nets.{Fits, state_of, light_state, claim_in}
-use Rattle.da_net.specs.Seats.{alarm_by, alarm_with, IsNodeFor, HasSpareFor, IsSeat, IsSeatStep, SeatStands}
+use Rattle.da_net.specs.Seats.{alarm_with, IsNodeFor, IsSeat, IsSeatStep, SeatStands}
 use Rattle.da_net.proofs.FullLemmas.{full_unaccepted}
 use Rattle.da_net.proofs.LightLemmas.{light_unaccepted, among}
 use Rattle.light_node.proofs.StandingLemmas.{state_distinct}
-
--- ---- full nodes
-
--- who has a collision is clashing
-clashing_end : (o : Option End) (left right : List ℕ) → alarm_by o ≡ Some (clashing left right) → IsClashing (standing_by o)
-clashing_end None left right e = absurd (none-some (clashing left right) e)
-clashing_end (Some one) left right e = subst IsClashing (sym (same_Some (standing_by (Some one)) (clashing left right) e)) tt
-
--- a collision stays
-pub clash_stays : (old new : Option End) (left right : List ℕ) → (IsClashing (standing_by old) → new ≡ old) → alarm_by old ≡ Some (clashing left right)
-    → alarm_by new ≡ Some (clashing left right)
-clash_stays old new left right keeps e = ap alarm_by (keeps (clashing_end old left right e)) ∙ e
 
 -- ---- light nodes
 
@@ -46,29 +32,6 @@ clash_stays old new left right keeps e = ap alarm_by (keeps (clashing_end old le
 pub claim_with : (o : Option ClaimParts) → claim_in (alarm_with o) ≡ o
 claim_with None = refl
 claim_with (Some claim) = refl
-
--- room for a claim after one that was held stays
-light_spare : (k : ℕ) (old new : Option ClaimParts) (spare : Option ClaimRoom) → HasSpareFor k old spare
-    → ((claim : ClaimParts) → old ≡ Some claim → new ≡ Some claim) → HasSpareFor k new spare
-light_spare k None None spare has keeps = has
-light_spare k None (Some claim) spare has keeps = tt
-light_spare k (Some claim) new spare has keeps = subst (λ (o : Option ClaimParts). HasSpareFor k o spare) (sym (keeps claim refl)) tt
-
--- a light node after a message
-pub light_seat : {F : Type 0} (picks : F → ℕ → Cell → Type 0) (header : Roots) (items : List Item) (old new : NodeParts F)
-    (kept published : Option ClaimRoom) → HasSpareFor header.k (claim_in (alarm_with old.claim)) kept → IsLightStep picks header items old new
-    → IsSeatStep picks header items (record { node = Light old; kept = kept; published = published })
-    (record { node = Light new; kept = kept; published = published })
-light_seat picks header items old new kept published has step = record {
-  seat = record {
-    is_node = step.node;
-    spare = subst (λ (o : Option ClaimParts). HasSpareFor header.k o kept) (sym (claim_with new.claim))
-        (light_spare header.k old.claim new.claim kept (subst (λ (o : Option ClaimParts). HasSpareFor header.k o kept) (claim_with old.claim) has) step.keeps);
-  };
-  kind = ap light step.wanted;
-  keeps = λ claim e. claim_with new.claim ∙ step.keeps claim (sym (claim_with old.claim) ∙ e);
-  unpublished = refl;
-}
 
 -- ---- claims that aren't accepted
 
@@ -88,14 +51,6 @@ unaccepted_step picks header items seat claim not is = record {
 }
 
 -- ---- how nodes stand
-
--- a full node fits what ended it
-full_fits : (o : Option End) → Fits (alarm_by o) (standing_by o)
-full_fits None = λ alarmed. elim alarmed [
-  | inl never ↦ never
-  | inr never ↦ never
-]
-full_fits (Some one) = refl
 
 -- a light node's standing, with the claim that it holds
 light_by : {F : Type 0} (header : Roots) (items : List Item) (node : NodeParts F) (kept published : Option ClaimRoom) (o : Option ClaimParts)

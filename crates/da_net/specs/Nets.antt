@@ -129,7 +129,7 @@ is_pooling (event.Put one) = true
 is_pooling (event.Hand place to) = false
 is_pooling (event.Publish by) = true
 
--- whether there is no room for an event
+-- whether there is no capacity for an event
 abbrev pub is_full : NetParts → NetEvent → Bool
 is_full net one =
     if nat_le net.most_steps (length net.steps) then true else is_pooling one && nat_le net.most_items (length net.pool)
@@ -152,7 +152,7 @@ why_not_publish net by =
     else if not (has_claim (claim_in (alarm_at net by))) then Some refusal.NotRejecting
     else if list_any (is_publishing by) net.steps then Some refusal.Published else None
 
--- why an event is refused that there is room for
+-- why an event is refused for which there is capacity
 abbrev pub why_not_there : NetParts → NetEvent → Option StepRefusal
 why_not_there net (event.Put one) = None
 why_not_there net (event.Hand place to) = why_not_hand net place to

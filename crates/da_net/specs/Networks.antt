@@ -19,13 +19,13 @@ use Rattle.da_net.specs.declared.items.Kept.TheVariants as kept
 
 -- ---- items
 
--- the messages among items
+-- the samples among items
 abbrev pub messages_of : List Item → List Message
 messages_of [] = []
 messages_of (item.Message m ∷ items) = m ∷ messages_of items
 messages_of (item.Claim claim ∷ items) = messages_of items
 
--- an item as an event of a light node: each message is a sample
+-- an item as an event of a light node: a sample or a claim
 abbrev pub event_of : Item → Event
 event_of (item.Message m) = event.Sample m
 event_of (item.Claim claim) = event.Claim claim
@@ -35,7 +35,7 @@ abbrev pub events_of : List Item → List Event
 events_of [] = []
 events_of (one ∷ items) = event_of one ∷ events_of items
 
--- a message of an item has its numbers, share and digests
+-- a sample of an item has its numbers, share and digests
 abbrev pub IsItem : Item → Type 0
 IsItem (item.Message m) = IsMessage m
 IsItem (item.Claim claim) = Unit {0}

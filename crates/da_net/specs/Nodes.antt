@@ -19,7 +19,7 @@ use Rattle.da_net.specs.declared.full.FullNode.{FullNode}
 use Rattle.da_net.specs.declared.copies.ClaimRoom.{ClaimRoom}
 use Rattle.da_net.specs.Networks.{messages_of, events_of, full, Standing, settled, clashing, rejecting, Stands}
 
--- room for a claim of so many messages, and as many nodes of a set, with none in it
+-- a room for a claim of so many samples, and as many nodes of a set, with none in it
 pub record IsSpare (count : ℕ) (room : ClaimRoom) : Type 0 where
   pub no_cells : room.cells.items ≡ []
   pub cell_room : HasRoom room.cells count
@@ -39,7 +39,7 @@ standing_by None = settled
 standing_by (Some (end.Clash pair)) = clashing pair.left pair.right
 standing_by (Some (end.Rejected claim)) = rejecting claim
 
--- a session of the header that nothing ended stands for these messages
+-- a session of the header that nothing ended stands for these samples
 pub record IsSession (header : Roots) (ms : List Message) (s : SessionParts) : Type 0 where
   pub header_is : s.header ≡ header
   pub goes_on : state_of s ≡ state.Open
@@ -73,7 +73,7 @@ abbrev pub SpareAfter : Option ClaimRoom → Option ClaimRoom → End → Type 0
 SpareAfter old new (end.Clash pair) = new ≡ old
 SpareAfter old new (end.Rejected claim) = Unit {0}
 
--- what comes of a session that was fed with these messages, and of the room for a claim
+-- what comes of a session that was fed with these samples, and of the room for a claim
 abbrev pub IsFed : Roots → List Message → Option ClaimRoom → Option ClaimRoom → Fed → Type 0
 IsFed header fed old new (On s) = IsSession header fed s × (new ≡ old)
 IsFed header fed old new (Ended (end.Clash pair)) = IsFoundClash header fed pair.left pair.right × (new ≡ old)

@@ -26,13 +26,13 @@ WasHanded pool steps node one =
 abbrev pub IsAlarmed : Standing → Type 0
 IsAlarmed standing = IsRejecting standing ⊎ IsClashing standing
 
--- a message in the pool, by itself or in a claim, or the set of a claim in the pool, and the square name a collision
+-- a sample in the pool, by itself or in a claim, or the set of a claim in the pool, and the square name a collision
 abbrev pub PoolNames : List Item → SquareShares → Type 0
 PoolNames pool square =
     ((m : Message) × Contains pool (item.Message m) × NamesClash m square)
     ⊎ ((claim : ClaimParts) × Contains pool (item.Claim claim) × ClaimNames claim square)
 
--- all cells of the square are recoverable from a list of messages
+-- all cells of the square are recoverable from a list of samples
 abbrev pub AllRecoverable : Roots → List Message → Type 0
 AllRecoverable header ms = (cell : Cell) → is_in_square header.k cell ≡ true → Half header ms cell
 
@@ -63,7 +63,7 @@ abbrev pub IsPlanned : Network → List ℕ → Cell → Type 0
 IsPlanned net nodes cell = (node : ℕ) × (plan : List Cell) × Contains nodes node
     × (slice_get net.nodes node ≡ Some (light plan)) × Contains plan cell
 
--- each message that was handed to one of these nodes was handed to this one
+-- each sample that was handed to one of these nodes was handed to this one
 abbrev pub WereHandedTo : List Item → List Kept → List ℕ → ℕ → Type 0
 WereHandedTo pool steps nodes to = (node : ℕ) (m : Message) → Contains nodes node
     → Contains (handed pool steps node) (item.Message m) → Contains (handed pool steps to) (item.Message m)

@@ -45,12 +45,12 @@ abbrev pub IsNodeFor : {F : Type 0} → (F → ℕ → Cell → Type 0) → Root
 IsNodeFor picks header items (Full node) = IsFullNode header items node
 IsNodeFor picks header items (Light node) = IsLightNode picks header items node
 
--- there is room for a claim, where none is held
+-- there is a room for a claim, where none is held
 abbrev pub HasSpareFor : ℕ → Option ClaimParts → Option ClaimRoom → Type 0
 HasSpareFor k None spare = HasSpare k spare
 HasSpareFor k (Some claim) spare = Unit {0}
 
--- there is room for a claim, where none was published
+-- there is a room for a claim, where none was published
 abbrev pub HasUnpublished : ℕ → Bool → Option ClaimRoom → Type 0
 HasUnpublished k false spare = HasSpare k spare
 HasUnpublished k true spare = spare ≡ None
@@ -103,7 +103,7 @@ pub record IsNet {F : Type 0} (picks : F → ℕ → Cell → Type 0) (header : 
       → HasUnpublished header.k (list_any (is_publishing node) steps) seat.published
   pub judged : (place : ℕ) (entry : Entry) → slice_get pool place ≡ Some entry → IsJudged header entry
 
--- a list has at most so many values, and room for as many
+-- a list has at most so many values, and capacity for as many
 pub record HasPlaces {A : Type 0} (most : ℕ) (out : Vec A Global) : Type 0 where
   pub few : vec_len out ≤ most
   pub places : most ≤ vec_capacity out

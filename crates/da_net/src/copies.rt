@@ -1,4 +1,4 @@
-//! Copies of messages and claims, into room that was taken before.
+//! Copies of samples and claims, into rooms that were taken before.
 
 ghost use Rattle.std.specs.Prelude.{◌≡◌, ◌≤◌, [], length, IfSome};
 ghost use Rattle.namespace_id.specs.Answers.{HasRoom};
@@ -8,7 +8,7 @@ use axis_roots::{FraudClaim, FraudProof, Message, SetNodes};
 use namespace_id::Digest;
 use nmt_proofs::Path;
 
-/// Room for a claim that is copied: for its messages, and for the nodes of its set.
+/// A room for a claim that is copied: for its samples, and for the nodes of its set.
 #[derive(Drop)]
 pub(crate) struct ClaimRoom {
     pub(crate) cells: Vec<Message>,
@@ -27,7 +27,7 @@ fn copy_path(path: &Path) -> Path
     copy
 }
 
-/// A copy of a message.
+/// A copy of a sample.
 pub(crate) fn copy_message(message: &Message) -> Message
     ensures { result ≡ message.now }
 {

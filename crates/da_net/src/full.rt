@@ -82,7 +82,7 @@ fn has_claim(end: &Option<End>) -> bool
 }
 
 impl FullNode {
-    /// Takes a message.
+    /// Takes a sample.
     pub(crate) fn take(&mut self, header: &Header, message: Message, room: &mut Option<ClaimRoom>)
         requires node { (items : List Handed) × IsFullNode header.now items self.old }
         requires room { (IsRejecting (standing_by self.old.end) → ⊥) →

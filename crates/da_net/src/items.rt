@@ -56,7 +56,7 @@ pub enum Stepped {
 /// Why a step is refused. The variants stand in the order in which they are tested.
 #[derive(Debug, Drop, Error)]
 pub enum StepRefusal {
-    /// There is no room for a step, or for an item; the event comes back.
+    /// There is no capacity for a step, or for an item; the event comes back.
     #[error("there is no room for one more step or item")]
     Full(NetEvent),
     #[error("there is no such item in the pool")]

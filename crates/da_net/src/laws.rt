@@ -23,7 +23,7 @@ ghost use Rattle.da_net.specs.Promises.{WasHanded, IsAlarmed, PoolNames, AllReco
 ///
 /// docs/RULES.md, "Networks".
 pub fn delivery_laws()
-    // A node was handed just those items of the pool that a step handed to it.
+    // A node was handed exactly those items of the pool that a step handed to it.
     ensures handed { (pool : List Handed) (steps : List Step) (node : ℕ) (one : Handed) →
         Contains (handed pool steps node) one ↔ WasHanded pool steps node one }
 
@@ -60,7 +60,7 @@ pub fn rejection_laws()
         Stands header full items standing → IsRejecting standing ⊎
         (IsClashing standing ⊎ ((standing ≡ settled) × IsSettled header (messages_of items))) }
 
-    // Under the header of a square a node rejects or has a collision only where a message in the pool,
+    // Under the header of a square a node rejects or has a collision only where a sample in the pool,
     // by itself or in a claim, or the set of a claim, and the square name a collision.
     ensures own { (net : Network) (pool : List Handed) (steps : List Step) (node : ℕ) (kind : Kind)
         (standing : Standing) (square : SquareShares) → IsRun net pool steps →
@@ -79,7 +79,7 @@ pub fn agreement_laws()
     ensures header { (header : Roots) (items : List Handed) (square : SquareShares) →
         IsVerdict header (messages_of items) (whole square) → IsHeaderOf header square }
 
-    // Then another node rejects or has a collision only where a message in the pool, by itself or in a
+    // Then another node rejects or has a collision only where a sample in the pool, by itself or in a
     // claim, or the set of a claim, and this square name a collision; and another such node has this square, or they do.
     ensures others { (net : Network) (pool : List Handed) (steps : List Step) (node other : ℕ)
         (kind : Kind) (standing : Standing) (square : SquareShares) → IsRun net pool steps →
@@ -116,7 +116,7 @@ pub fn joint_laws()
         Reached net.header.k cells cell) →
         AllRecoverable net.header (messages_of (handed pool steps to)) }
 
-    // The cells that are recoverable from messages are the closure by halves of the cells of those
+    // The cells that are recoverable from samples are the closure by halves of the cells of those
     // that are proved.
     ensures closure { (header : Roots) (ms : List Sent) (cells : List Place) →
         ((cell : Place) → Contains cells cell

@@ -12,7 +12,7 @@ use axis_roots::{FraudClaim, Message};
 use data_header::Header;
 use light_node::{Event, LightNode, Picker, light_laws};
 
-/// Hands a message to a light node.
+/// Hands a sample to a light node.
 pub(crate) fn hand_sample<F: Picker>(node: &mut LightNode<F>, message: Message)
     ensures { (header : Roots) (items : List Handed) → IsLightNode F.picks header items node.old →
         IsLightStep F.picks header (items ++ item.Message message ∷ []) node.old node.new }

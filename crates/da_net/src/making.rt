@@ -15,7 +15,7 @@ use namespace_id::NoMemory;
 use repair_queue::Session;
 use std::alloc::Global;
 
-/// Room for a claim of a square of width `k`.
+/// A room for a claim of a square of width `k`.
 fn spare(alloc: Global, k: u16) -> Result<Option<ClaimRoom>, NoMemory>
     ensures { IfOk result (HasSpare k) }
 {

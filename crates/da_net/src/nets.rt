@@ -79,7 +79,7 @@ fn is_too_many(full: u16, lights: usize, items: u32, steps: u32) -> bool
 }
 
 impl<F: Picker> Net<F> {
-    /// Whether there is no room for an event.
+    /// Whether there is no capacity for an event.
     fn is_full(&self, event: &NetEvent) -> bool
         ensures { result ≡ is_full self.now event.now }
     {
@@ -201,9 +201,9 @@ impl<F: Picker> Net<F> {
     /// rejects publishes its claim. An item stays in the pool. A node that was handed an accepted claim rejects from then
     /// on, and keeps the claim that it first held.
     ///
-    /// Refuses a step for which there is no room, and hands the event back; then an item that isn't in the pool; then a
-    /// node that isn't there; then the publishing of a node that doesn't reject, and of one that has published. A refusal
-    /// changes nothing. It takes no memory.
+    /// Refuses a step for which there is no capacity, and hands the event back; then an item that isn't in the pool;
+    /// then a node that isn't there; then the publishing of a node that doesn't reject, and of one that has published.
+    /// A refusal changes nothing. It takes no memory.
     ///
     /// docs/RULES.md, "Networks".
     pub fn step(&mut self, event: NetEvent) -> Result<Stepped, StepRefusal>
@@ -234,7 +234,7 @@ impl<F: Picker> Net<F> {
         ensures settled { result ≡ NodeState.Open →
             IsSettled self.now.header (messages_of (handed self.now.pool self.now.steps node)) }
 
-        // Under the header of a square a node rejects or has a collision only where a message in the pool, by itself or
+        // Under the header of a square a node rejects or has a collision only where a sample in the pool, by itself or
         // in a claim, or the set of a claim in the pool, and the square name a collision.
         ensures own { (square : SquareShares) → IsHeaderOf self.now.header square →
             (result ≡ NodeState.Rejected) ⊎ (result ≡ NodeState.Clash) →
@@ -279,9 +279,9 @@ impl<F: Picker> Net<F> {
         missing(&self.seats[node as usize], room);
     }
 
-    /// A network of so many full nodes and of light nodes under the header to which nothing was handed, with room for so
-    /// many items and steps. Full nodes have the numbers from 0 on, light nodes the next ones. It takes all memory of the
-    /// network.
+    /// A network of so many full nodes and of light nodes under the header to which nothing was handed, with capacity
+    /// for so many items and steps. Full nodes have the numbers from 0 on, light nodes the next ones. It takes all
+    /// memory of the network.
     ///
     /// Refuses more than 8 full nodes, 64 light nodes, 65,536 items or 1,048,576 steps. A refusal drops what was handed
     /// in.

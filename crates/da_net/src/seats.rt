@@ -28,7 +28,7 @@ pub(crate) enum Node<F: Picker> {
     Light(LightNode<F>),
 }
 
-/// A node with room for the claim that it keeps, and for the claim that it publishes.
+/// A node with a room for the claim that it keeps, and one for the claim that it publishes.
 #[derive(Drop)]
 pub(crate) struct Seat<F: Picker> {
     pub(crate) node: Node<F>,
@@ -72,7 +72,7 @@ pub(crate) fn judge(room: &mut VerifyRoom, header: &Header, item: Item) -> Entry
     }
 }
 
-/// Hands a message to a node.
+/// Hands a sample to a node.
 fn hand_message<F: Picker>(seat: &mut Seat<F>, header: &Header, message: &Message)
     requires seat { (items : List Handed) × IsSeat F.picks header.now items seat.old }
     ensures step { (items : List Handed) → IsSeat F.picks header.now items seat.old →

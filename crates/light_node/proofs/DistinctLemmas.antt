@@ -2,7 +2,7 @@
 use Rattle.std.proofs.Common.{◌≡◌, ◌∙◌, List, [], ◌∷◌, ◌++◌, append_assoc, append-nil, Bool, true, false, ◌||◌, if◌then◌else◌, refl, sym, ap, subst, eq-eqb, inl, inr}
 use Rattle.std.specs.Prelude.{◌⊎◌}
 use Rattle.std.specs.List.{Contains, list_any, fold}
-use Rattle.std.proofs.lemmas.Bool.{and_from}
+use Rattle.std.proofs.lemmas.Bool.{and_from, cases_Bool}
 use Rattle.std.proofs.lemmas.List.Elements.{Contains-append_left, Contains-push, Contains-push_cases}
 use Rattle.indexmap.specs.IndexSet.{insert_key}
 use Rattle.indexmap.proofs.CallerLemmas.{Contains-list_any}
@@ -10,11 +10,6 @@ use Rattle.namespace_id.specs.declared.cells.Cell.{Cell}
 use Rattle.namespace_id.proofs.KeyLemmas.{equal_cells}
 use Rattle.namespace_id.proofs.MemberLemmas.{contains_head, contains_tail, contains_cons, contains_none}
 use Rattle.light_node.specs.Nodes.{is_same}
-
--- a test says one or the other
-pub decide : (b : Bool) → (b ≡ true) ⊎ (b ≡ false)
-decide true = inl refl
-decide false = inr refl
 
 -- a cell is added to a list, where it isn't there
 abbrev pub added : List Cell → Cell → List Cell
@@ -49,7 +44,7 @@ listed_found (x ∷ cells) cell at = elim (contains_cons x cell cells at) [
 -- a list stays, or gets a cell at its end
 pub added_cases : (cells : List Cell) (cell : Cell)
     → ((list_any (is_same cell) cells ≡ true) × (added cells cell ≡ cells)) ⊎ (added cells cell ≡ cells ++ cell ∷ [])
-added_cases cells cell = elim (decide (list_any (is_same cell) cells)) [
+added_cases cells cell = elim (cases_Bool (list_any (is_same cell) cells)) [
   | inl e ↦ inl (e, ap (λ (b : Bool). if b then cells else cells ++ cell ∷ []) e)
   | inr e ↦ inr (ap (λ (b : Bool). if b then cells else cells ++ cell ∷ []) e)
 ]

@@ -1,11 +1,12 @@
 -- The first cell of a list that fails a test.
 use Rattle.std.proofs.Common.{◌≡◌, ◌∙◌, ℕ, zero, suc, ◌<◌, List, [], ◌∷◌, ◌++◌, append_assoc, append-nil, Bool, true, false, ◌||◌, true≢false, if◌then◌else◌, Option, Some, None, slice_get, refl, sym, ap, subst, inl, inr, arith}
 use Rattle.std.specs.List.{Contains, list_any}
+use Rattle.std.proofs.lemmas.Bool.{cases_Bool}
 use Rattle.namespace_id.specs.declared.cells.Cell.{Cell}
 use Rattle.namespace_id.proofs.KeyLemmas.{equal_cells}
 use Rattle.namespace_id.proofs.MemberLemmas.{contains_cons, contains_none}
 use Rattle.light_node.specs.Nodes.{is_same}
-use Rattle.light_node.proofs.DistinctLemmas.{decide, added, all_added, added_cases}
+use Rattle.light_node.proofs.DistinctLemmas.{added, all_added, added_cases}
 
 -- the first cell of a list that fails a test
 abbrev pub first_failing : (Cell → Bool) → List Cell → Option Cell
@@ -24,7 +25,7 @@ module _ (test : Cell → Bool) where
   -- where two lists have the same first one, they have so behind one more cell
   both_behind : (x : Cell) (xs ys : List Cell) → (test x ≡ true → first_failing test xs ≡ first_failing test ys)
       → first_failing test (x ∷ xs) ≡ first_failing test (x ∷ ys)
-  both_behind x xs ys same = elim (decide (test x)) [
+  both_behind x xs ys same = elim (cases_Bool (test x)) [
     | inl e ↦ passes x xs e ∙ same e ∙ sym (passes x ys e)
     | inr e ↦ fails x xs e ∙ sym (fails x ys e)
   ]
@@ -40,7 +41,7 @@ module _ (test : Cell → Bool) where
       → first_failing test (front ++ c ∷ back) ≡ first_failing test (front ++ back)
   leave_repeat [] back c found = absurd (true≢false (sym found))
   leave_repeat (x ∷ front) back c found =
-      both_behind x (front ++ c ∷ back) (front ++ back) (λ passed. elim (decide (is_same c x)) [
+      both_behind x (front ++ c ∷ back) (front ++ back) (λ passed. elim (cases_Bool (is_same c x)) [
         | inl same ↦
             leave_out front back c (subst (λ (y : Cell). test y ≡ true) (sym (equal_cells c x same)) passed)
         | inr apart ↦
@@ -73,7 +74,7 @@ module _ (test : Cell → Bool) where
   -- where there is none, all pass
   pub none_failing : (xs : List Cell) → first_failing test xs ≡ None → (x : Cell) → Contains xs x → test x ≡ true
   none_failing [] e x at = absurd (contains_none x at)
-  none_failing (y ∷ xs) e x at = elim (decide (test y)) [
+  none_failing (y ∷ xs) e x at = elim (cases_Bool (test y)) [
     | inl passed ↦ elim (contains_cons y x xs at) [
       | inl same ↦ subst (λ (z : Cell). test z ≡ true) same passed
       | inr later ↦ none_failing xs (sym (passes y xs passed) ∙ e) x later
@@ -86,7 +87,7 @@ module _ (test : Cell → Bool) where
       → (before after : List Cell) × (xs ≡ before ++ x ∷ after) × ((y : Cell) → Contains before y → test y ≡ true)
       × (test x ≡ false)
   some_failing [] x e = cc
-  some_failing (y ∷ xs) x e = elim (decide (test y)) [
+  some_failing (y ∷ xs) x e = elim (cases_Bool (test y)) [
     | inl passed ↦
         let later = some_failing xs x (sym (passes y xs passed) ∙ e) in (
           y ∷ later.0,

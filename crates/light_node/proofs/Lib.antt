@@ -1,9 +1,8 @@
 pub mod EventLemmas
 mod LawLemmas
-mod ListLemmas
+pub mod ListLemmas
 pub mod DistinctLemmas
 mod FailingLemmas
-mod MarkLemmas
 mod StateLemmas
 mod StepLemmas
 mod PickLemmas

@@ -1,17 +1,13 @@
 -- Elements of lists by their places.
-use Rattle.std.proofs.Common.{◌≡◌, ◌∙◌, ℕ, zero, suc, ◌+◌, ◌<◌, List, [], ◌∷◌, ◌++◌, length, take, Some, slice_get, refl, sym, ap, inl, inr, arith}
+use Rattle.std.proofs.Common.{◌≡◌, ℕ, zero, suc, ◌+◌, ◌<◌, List, [], ◌∷◌, ◌++◌, length, Some, slice_get, refl, sym, inl, inr, arith}
 use Rattle.std.specs.Prelude.{◌⊎◌}
 use Rattle.std.specs.List.{Contains}
-use Rattle.std.proofs.Math.Seq.{take-append_seam}
-use Rattle.std.proofs.lemmas.Option.{slice_get_read}
-use Rattle.namespace_id.proofs.MemberLemmas.{contains_tail}
+use Rattle.std.proofs.lemmas.Option.{slice_get_read, slice_get_within, get_or_from_slice_get}
 
 module _ {A : Type 0} where
   -- what stands at a place is in the list
   pub listed_at : (xs : List A) (i : ℕ) (x : A) → slice_get xs i ≡ Some x → Contains xs x
-  listed_at [] i x e = cc
-  listed_at (y ∷ xs) zero x e = (0, omega arith, (let same : y ≡ x = cc in same))
-  listed_at (y ∷ xs) (suc i) x e = contains_tail y x xs (listed_at xs i x e)
+  listed_at xs i x e = (i, slice_get_within xs i x e, get_or_from_slice_get xs i x x e)
 
   -- what is in a list stands at a place
   pub place_of : (xs : List A) (x : A) → Contains xs x → (i : ℕ) × (i < length xs) × (slice_get xs i ≡ Some x)
@@ -32,7 +28,3 @@ module _ {A : Type 0} where
   place_front [] ys i below = absurd (omega arith)
   place_front (x ∷ xs) ys zero below = refl
   place_front (x ∷ xs) ys (suc i) below = place_front xs ys i (omega arith)
-
-  -- a list that was lent whole is the one that comes back
-  pub lent_back : (n : ℕ) (xs rest : List A) → length xs ≡ n → take n (xs ++ rest) ≡ xs
-  lent_back n xs rest e = ap (λ (m : ℕ). take m (xs ++ rest)) (sym e) ∙ take-append_seam xs rest

@@ -3,6 +3,7 @@ use Rattle.std.proofs.Common.{◌≡◌, ◌∙◌, List, [], ◌∷◌, Bool, t
 use Rattle.std.specs.Prelude.{◌↔◌}
 use Rattle.std.specs.List.{Contains}
 use Rattle.std.proofs.lemmas.List.Elements.{Contains-append_left, Contains-append_right}
+use Rattle.std.proofs.lemmas.Bool.{cases_Bool}
 use Rattle.namespace_id.specs.declared.cells.Cell.{Cell}
 use Rattle.namespace_id.specs.Cells.{CellList, AreCells, is_in_square}
 use Rattle.namespace_id.proofs.MemberLemmas.{contains_head, contains_none}
@@ -13,7 +14,7 @@ use Rattle.light_node.specs.declared.events.Event.{Event}
 use Rattle.light_node.specs.Events.{IsShown, NoneAccepted, IsFirstAccepted, AllShown, IsWaitedFor, AreWaitedFor}
 use Rattle.light_node.specs.Plans.{IsNextWanted}
 use Rattle.light_node.specs.Nodes.{NodeParts, IsNode, StandsFor, is_marked, IsUnmarkedIn}
-use Rattle.light_node.proofs.DistinctLemmas.{decide, all_added-have, all_added-only}
+use Rattle.light_node.proofs.DistinctLemmas.{all_added-have, all_added-only}
 use Rattle.light_node.proofs.FailingLemmas.{first_failing, first_failing-added, first_failing-at, none_failing, some_failing}
 
 module _ {F : Type 0} (can_pick : F → ℕ → Type 0) (picks : F → ℕ → Cell → Type 0) (node : NodeParts F)
@@ -70,7 +71,7 @@ module _ {F : Type 0} (can_pick : F → ℕ → Type 0) (picks : F → ℕ → C
   -- a cell that isn't shown isn't marked
   unshown_unmarked : (cell : Cell) → is_in_square node.header.k cell ≡ true → (IsShown node.header events cell → ⊥)
       → is_marked node.header.k node.shown cell ≡ false
-  unshown_unmarked cell within isnt = elim (decide (is_marked node.header.k node.shown cell)) [
+  unshown_unmarked cell within isnt = elim (cases_Bool (is_marked node.header.k node.shown cell)) [
     | inl marked ↦ absurd (isnt ((stands.shown cell within).0 marked))
     | inr unmarked ↦ unmarked
   ]
@@ -111,7 +112,7 @@ module _ {F : Type 0} (can_pick : F → ℕ → Type 0) (picks : F → ℕ → C
   -- where none is waited for, all are shown
   pub none_waited_for : (room : CellList) → room.list ≡ [] → AreWaitedFor node.header plan events room
       → AllShown node.header plan events
-  none_waited_for room none are = λ cell at. elim (decide (is_marked node.header.k node.shown cell)) [
+  none_waited_for room none are = λ cell at. elim (cases_Bool (is_marked node.header.k node.shown cell)) [
     | inl marked ↦ (stands.shown cell (planned_inside cell at)).0 marked
     | inr unmarked ↦
         let waits : Contains room.list cell =

@@ -2,10 +2,11 @@
 use Rattle.std.proofs.Common.{◌≡◌, ◌∙◌, ℕ, ◌*◌, List, [], ◌∷◌, ◌++◌, length, take, Bool, true, false, true≢false, Option, Some, None, is_some, slice_get, refl, sym, subst, ap, inl, inr, arith}
 use Rattle.std.specs.Prelude.{◌↔◌, ◌⊎◌}
 use Rattle.namespace_id.proofs.RoomLemmas.{all_each}
-use Rattle.light_node.proofs.ListLemmas.{listed_at, lent_back}
+use Rattle.light_node.proofs.ListLemmas.{listed_at}
 use Rattle.namespace_id.specs.declared.cells.Cell.{Cell}
 use Rattle.std.specs.List.{list_all}
 use Rattle.namespace_id.specs.Cells.{is_width, is_in_square}
+use Rattle.namespace_id.proofs.StringLemmas.{front}
 use Rattle.data_header.specs.Headers.{Roots}
 use Rattle.axis_roots.specs.declared.message.messages.Message.{Message}
 use Rattle.axis_roots.specs.Openings.{IsProved}
@@ -65,7 +66,7 @@ marked_too_at k m old same new cell e f are =
 pub lent_marks : (k m n : ℕ) (old same new rest : List Bool) (cell : Cell) → k ≡ m → old ≡ same → length new ≡ n
     → AreMarkedToo k old new cell → AreMarkedToo m same (take n (new ++ rest)) cell
 lent_marks k m n old same new rest cell e f count are =
-    subst (λ (l : List Bool). AreMarkedToo m same l cell) (sym (lent_back n new rest count))
+    subst (λ (l : List Bool). AreMarkedToo m same l cell) (sym (front new rest n count))
     (marked_too_at k m old same new cell e f are)
 
 -- the cells in front of a place are marked, also by other names

@@ -119,12 +119,8 @@ fn width(header: &Header) -> u16
 fn copy_of(alloc: Global, header: &Header) -> Result<Header, NoMemory>
     ensures { IfOk result (λ copy. copy ≡ header.now) }
 {
-    let Ok(rows) = Vec::from_slice(alloc, &header.rows) else {
-        return Err(NoMemory);
-    };
-    let Ok(cols) = Vec::from_slice(alloc, &header.cols) else {
-        return Err(NoMemory);
-    };
+    let rows = Vec::from_slice(alloc, &header.rows)?;
+    let cols = Vec::from_slice(alloc, &header.cols)?;
     Ok(Header {
         k: header.k,
         rows,
@@ -154,9 +150,7 @@ impl<F: Picker> LightNode<F> {
         let k = width(&header);
         let room = VerifyRoom::new(alloc, k)?;
         let in_row = 2 * k as usize;
-        let Ok(shown) = vec![in alloc; false; in_row * in_row] else {
-            return Err(NoMemory);
-        };
+        let shown = vec![in alloc; false; in_row * in_row]?;
         Ok(LightNode {
             header,
             limit,

@@ -24,6 +24,6 @@ abbrev pub EndsAs : Ended → Verdict → Type 0
 EndsAs (ended.Fraud proof) verdict = parts_of verdict ≡ fraud proof.claim
 EndsAs (ended.Clash pair) verdict = parts_of verdict ≡ clash pair.left pair.right
 
--- a message of a list that is proved and the square name a collision
+-- a sample of a list that is proved and the square name a collision
 abbrev pub SomeNames : Roots → List Message → SquareShares → Type 0
 SomeNames header ms square = (m : Message) × Contains ms m × IsProved header m × NamesClash m square

@@ -1,4 +1,4 @@
--- What a session keeps of a square: messages that were given, shares of decided rows and columns, and counts.
+-- What a session keeps of a square: samples that were given, shares of decided rows and columns, and counts.
 use Rattle.std.specs.Prelude.{◌≡◌, ℕ, ◌+◌, ◌*◌, ◌<◌, ◌≤◌, List, length, get_or, Bool, true, false, ◌||◌, Option, Some, None, is_some, if◌then◌else◌}
 use Rattle.std.specs.List.{Contains}
 use Rattle.namespace_id.specs.declared.cells.Cell.{Cell}
@@ -40,7 +40,7 @@ pub record AreMarks (m : Marks) : Type 0 where
 abbrev pub Shared : Type 0
 Shared = Cell → Share
 
--- what a board keeps: messages that were given, decided rows and columns, and the shares of the cells on them
+-- what a board keeps: samples that were given, decided rows and columns, and the shares of the cells on them
 abbrev pub given_of : Board → Kept
 given_of b = slot_in b.pool
 
@@ -54,7 +54,7 @@ share_of b = share_at (2 * b.grid.k) b.grid.shares
 abbrev pub is_lined : Flags → Cell → Bool
 is_lined flag cell = flag Row cell.row || flag Col cell.col
 
--- whether a cell is known: it lies on a decided row or column, or a message of it is kept
+-- whether a cell is known: it lies on a decided row or column, or a sample of it is kept
 abbrev pub is_found : Kept → Flags → Cell → Bool
 is_found slot flag cell = is_lined flag cell || is_some (slot Row cell) || is_some (slot Col cell)
 
@@ -62,13 +62,13 @@ is_found slot flag cell = is_lined flag cell || is_some (slot Row cell) || is_so
 abbrev pub found_count : Kept → Flags → Axis → ℕ → ℕ → ℕ
 found_count slot flag axis i n = count_from (λ pos. is_found slot flag (cell_on axis i pos)) 0 n
 
--- the share that the first of two messages shows, blank where there is none
+-- the share that the first of two samples shows, blank where there is none
 abbrev pub first_share : Option Proved → Option Proved → Share
 first_share (Some kept) slot = (kept_message kept).share
 first_share None (Some kept) = (kept_message kept).share
 first_share None None = blank
 
--- a share that is known of a cell: that of its decided row or column, else that which a message shows
+-- a share that is known of a cell: that of its decided row or column, else that which a sample shows
 abbrev pub found_share : Kept → Flags → Shared → Cell → Share
 found_share slot flag shares cell =
     if is_lined flag cell then shares cell else first_share (slot Row cell) (slot Col cell)
@@ -85,7 +85,7 @@ AreAtRest k slot flag = (axis : Axis) (i : ℕ) (chosen : List ℕ) → i < 2 * 
 
 -- ---- of the fields alone
 
--- messages are proved under the header and kept at their cells, and the shares along a decided row or column are a
+-- samples are proved under the header and kept at their cells, and the shares along a decided row or column are a
 -- codeword whose strict root is the header's
 pub record IsSound (header : Roots) (slot : Kept) (flag : Flags) (shares : Shared) : Type 0 where
   pub slotted : (axis : Axis) (cell : Cell) (kept : Proved) → slot axis cell ≡ Some kept → IsSlotted header axis cell kept
@@ -125,10 +125,10 @@ pub record IsGood (header : Roots) (b : Board) : Type 0 where
   pub counted : AreCounted header.k (given_of b) (decided_of b) (count_of b.counts)
   pub queued : AreWaiting header.k (decided_of b) (count_of b.counts) (pending b.counts)
 
--- ---- of the fields and the messages
+-- ---- of the fields and the samples
 
--- what is kept stands for messages: of cells on no decided row or column only these are kept, the shares of decided rows
--- and columns are facts, and each proved message's share is that of its decided row or column, or is shown by one that is
+-- what is kept stands for samples: of cells on no decided row or column only these are kept, the shares of decided rows
+-- and columns are facts, and each proved sample's share is that of its decided row or column, or is shown by one that is
 -- kept
 pub record Stands (header : Roots) (ms : List Message) (slot : Kept) (flag : Flags) (shares : Shared) : Type 0 where
   pub fed : (axis : Axis) (cell : Cell) (kept : Proved) → is_lined flag cell ≡ false → slot axis cell ≡ Some kept
@@ -139,6 +139,6 @@ pub record Stands (header : Roots) (ms : List Message) (slot : Kept) (flag : Fla
   pub shown : (m : Message) → Contains ms m → IsProved header m → is_lined flag m.cell ≡ false
       → (axis : Axis) × Shows (slot axis m.cell) m.share
 
--- what a board keeps stands for these messages
+-- what a board keeps stands for these samples
 abbrev pub HoldsFor : Roots → List Message → Board → Type 0
 HoldsFor header ms b = Stands header ms (given_of b) (decided_of b) (share_of b)

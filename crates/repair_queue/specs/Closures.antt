@@ -1,4 +1,4 @@
--- What follows from proved messages by the code: cells that are known, and their shares (docs/RULES.md, "Closures and
+-- What follows from proved samples by the code: cells that are known, and their shares (docs/RULES.md, "Closures and
 -- verdicts").
 use Rattle.std.specs.Prelude.{◌≡◌, ℕ, ◌*◌, ◌<◌, List, length, true}
 use Rattle.std.specs.List.{Contains}
@@ -16,7 +16,7 @@ pub record AreChosen (k : ℕ) (chosen : List ℕ) : Type 0 where
   pub count : length chosen ≡ k
   pub positions : are_positions k chosen ≡ true
 
--- the recoverable cells, a closure by halves: the least set that holds the cells of proved messages and, with k cells
+-- the recoverable cells, a closure by halves: the least set that holds the cells of proved samples and, with k cells
 -- of a row or a column, all 2k of it
 pub data Half (header : Roots) (ms : List Message) : Cell → Type 0 where
   seen : (m : Message) → Contains ms m → IsProved header m → Half header ms m.cell
@@ -24,7 +24,7 @@ pub data Half (header : Roots) (ms : List Message) : Cell → Type 0 where
       → ((p : ℕ) → Contains chosen p → Half header ms (cell_on axis i p)) → pos < 2 * header.k
       → Half header ms (cell_on axis i pos)
 
--- the facts: the least set of cells with shares that holds those of proved messages and, with k shares of a codeword
+-- the facts: the least set of cells with shares that holds those of proved samples and, with k shares of a codeword
 -- along a row or a column, all 2k of it
 pub data Fact (header : Roots) (ms : List Message) : Cell → Share → Type 0 where
   shown : (m : Message) → Contains ms m → IsProved header m → Fact header ms m.cell m.share
@@ -40,6 +40,6 @@ pub record IsDecided (header : Roots) (ms : List Message) (axis : Axis) (i : ℕ
   pub are_chosen : AreChosen header.k chosen
   pub halves : (p : ℕ) → Contains chosen p → Half header ms (cell_on axis i p)
 
--- each proved message of the first list stands in the second
+-- each proved sample of the first list stands in the second
 abbrev pub Covers : Roots → List Message → List Message → Type 0
 Covers header ms others = (m : Message) → Contains ms m → IsProved header m → Contains others m

@@ -27,7 +27,7 @@ pending c = drop c.next c.queue.items
 abbrev pub low : ℕ → List ℕ → ℕ
 low k counts = count_by (λ n. nat_lt n k) counts
 
--- there is a number for each row and column, and room for each of those that have fewer than k
+-- there is a number for each row and column, and capacity for each of those that have fewer than k
 pub record AreCounts (c : Counts) : Type 0 where
   pub width : is_width c.k ≡ true
   pub rows : length c.rows.items ≡ 2 * c.k

@@ -22,7 +22,7 @@ IsListed {A} given follows x = (xs : List A) × AreDerived given follows xs × C
 
 -- ---- cells
 
--- the cell of a proved message
+-- the cell of a proved sample
 abbrev pub IsSeen : Roots → List Message → Cell → Type 0
 IsSeen header ms cell = (m : Message) × Contains ms m × IsProved header m × (m.cell ≡ cell)
 
@@ -40,7 +40,7 @@ pub record IsFilled (header : Roots) (cells : List Cell) (cell : Cell) : Type 0 
 
 -- ---- cells with their shares
 
--- the cell and the share of a proved message
+-- the cell and the share of a proved sample
 abbrev pub IsShownPair : Roots → List Message → Cell × Share → Type 0
 IsShownPair header ms pair = (m : Message) × Contains ms m × IsProved header m × ((m.cell, m.share) ≡ pair)
 

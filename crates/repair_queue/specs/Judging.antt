@@ -17,7 +17,7 @@ pub record IsAlikeAt (slot : Kept) (flag : Flags) (shares : Shared) (cell : Cell
   pub lined : is_lined flag cell ≡ true → shares cell ≡ share
   pub given : is_lined flag cell ≡ false → (along : Axis) → IsAlike (slot along cell) share
 
--- the share of its decided row or column is another one, or a message shows another one
+-- the share of its decided row or column is another one, or a sample shows another one
 abbrev pub IsApartAt : Kept → Flags → Shared → Cell → Share → Type 0
 IsApartAt slot flag shares cell share =
     ((is_lined flag cell ≡ true) × (shares cell ≢ share))
@@ -32,13 +32,13 @@ pub record IsReadable (header : Roots) (b : Board) : Type 0 where
   pub marks : AreMarks b.marks
   pub sound : IsSound header (given_of b) (decided_of b) (share_of b)
 
--- at most messages of this cell were taken out
+-- at most samples of this cell were taken out
 pub record IsTakenAt (old new : Board) (cell : Cell) : Type 0 where
   pub marks : new.marks ≡ old.marks
   pub grid : new.grid ≡ old.grid
   pub others : (axis : Axis) (d : Cell) → (d ≡ cell → ⊥) → given_of new axis d ≡ given_of old axis d
 
--- a message of the cell that is proved under the header and shows another share: it is kept of a cell on no decided row
+-- a sample of the cell that is proved under the header and shows another share: it is kept of a cell on no decided row
 -- or column, or it shows the share of its decided one
 pub record IsOtherMessage (header : Roots) (b : Board) (cell : Cell) (share : Share) (kept : Proved) : Type 0 where
   pub under : IsUnder header kept

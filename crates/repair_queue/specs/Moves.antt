@@ -1,4 +1,4 @@
--- What each step of a session does: a message, a row or a column, and all of them.
+-- What each step of a session does: a sample, a row or a column, and all of them.
 use Rattle.std.specs.Prelude.{◌≡◌, ◌≢◌, ℕ, List, [], ◌∷◌, ◌++◌, true, false, Option, Some, None}
 use Rattle.namespace_id.specs.declared.cells.Axis.{Axis}
 use Rattle.namespace_id.specs.declared.cells.Cell.{Cell}
@@ -18,13 +18,13 @@ use Rattle.repair_queue.specs.Repairs.{IsEnd}
 use Rattle.repair_queue.specs.Boards.{given_of, decided_of, share_of, is_lined, IsGood, HoldsFor, AreAtRest}
 use Rattle.repair_queue.specs.Tools.{AreTools}
 
--- a message is kept, or its share was known
+-- a sample is kept, or its share was known
 abbrev pub IsKeptOn : Roots → Board → Board → Message → Type 0
 IsKeptOn header s t m =
     IsGood header t × ((ms : List Message) → HoldsFor header ms s → HoldsFor header (ms ++ m ∷ []) t)
 
--- what comes of a message: it is kept; or a decided row or column through its cell has another share; or there is none and
--- a message that is kept along its axis shows another one
+-- what comes of a sample: it is kept; or a decided row or column through its cell has another share; or there is none and
+-- a sample that is kept along its axis shows another one
 abbrev pub IsEntered : Roots → Board → Board → Proved → Taken → Type 0
 IsEntered header s t message Kept = IsKeptOn header s t (kept_message message)
 IsEntered header s t message (Against axis back) =
@@ -35,7 +35,7 @@ IsEntered header s t message (Beside back kept) =
     × ((kept_message kept).share ≢ (kept_message message).share)
     × (is_lined (decided_of s) (kept_message message).cell ≡ false)
 
--- a message is taken in, or it ends the session
+-- a sample is taken in, or it ends the session
 abbrev pub TakesMessage : Roots → Board → Board → Tools → Message → Option Ended → Type 0
 TakesMessage header s t tools m None = IsKeptOn header s t m × AreTools header.k tools
 TakesMessage header s t tools m (Some ended) = (ms : List Message) → HoldsFor header ms s → IsEnd header (ms ++ m ∷ []) ended
@@ -61,14 +61,14 @@ Drains header s t tools None =
     × ((ms : List Message) → HoldsFor header ms s → HoldsFor header ms t)
 Drains header s t tools (Some ended) = (ms : List Message) → HoldsFor header ms s → IsEnd header ms ended
 
--- both of a message: it is taken in, and what it lets decide is
+-- both of a sample: it is taken in, and what it lets decide is
 abbrev pub Steps : Roots → Board → Board → Tools → Message → Option Ended → Type 0
 Steps header s t tools m None =
     IsGood header t × AreTools header.k tools × AreAtRest header.k (given_of t) (decided_of t)
     × ((ms : List Message) → HoldsFor header ms s → HoldsFor header (ms ++ m ∷ []) t)
 Steps header s t tools m (Some ended) = (ms : List Message) → HoldsFor header ms s → IsEnd header (ms ++ m ∷ []) ended
 
--- a message of a cell with this share, proved under the header
+-- a sample of a cell with this share, proved under the header
 pub record IsMessageAt (header : Roots) (cell : Cell) (share : Share) (kept : Proved) : Type 0 where
   pub under : IsUnder header kept
   pub cell_is : (kept_message kept).cell ≡ cell

@@ -17,12 +17,12 @@ abbrev pub IsOpenBoard : Roots → Board → Tools → Option Ended → Type 0
 IsOpenBoard header b tools None = IsGood header b × AreTools header.k tools × AreAtRest header.k (given_of b) (decided_of b)
 IsOpenBoard header b tools (Some ended) = Unit {0}
 
--- what is kept stands for messages, or what ended the session is an answer over them
+-- what is kept stands for samples, or what ended the session is an answer over them
 abbrev pub KeepsFor : Roots → List Message → Board → Option Ended → Type 0
 KeepsFor header ms b None = HoldsFor header ms b
 KeepsFor header ms b (Some ended) = IsEnd header ms ended
 
--- what holds of every session: its partial trees are under its header, and there is room for what it hands out
+-- what holds of every session: its partial trees are under its header, and there is capacity for what it hands out
 pub record IsSession (header trees : Roots) (b : Board) (tools : Tools) (end : Option Ended) (shares : Vec Share Global) (room : CellList) : Type 0 where
   pub partial : trees ≡ header
   pub open_board : IsOpenBoard header b tools end

@@ -1,4 +1,4 @@
--- Messages that were given, at most one for each cell along each axis: what is kept of which cell, and what a change
+-- Samples that were given, at most one for each cell along each axis: what is kept of which cell, and what a change
 -- of it leaves.
 use Rattle.std.specs.Prelude.{◌≡◌, ◌≢◌, ℕ, ◌+◌, ◌*◌, ◌<◌, ◌≤◌, ◌==◌, List, length, get_or, true, Option, Some, None, IsSome, if◌then◌else◌, vec_capacity, vec_len}
 use Rattle.std.specs.List.{count_by}
@@ -15,16 +15,16 @@ use Rattle.repair_queue.specs.Slots.{Kept}
 unfoldable pub place_in : ℕ → List ℕ → Cell → ℕ
 place_in k places cell = if is_in_square k cell then get_or places (cell.row * (2 * k) + cell.col) 0 else 0
 
--- the places of messages, by the list of each kind
+-- the places of samples, by the list of each kind
 abbrev pub places_in : ℕ → List ℕ → List ℕ → Axis → Cell → ℕ
 places_in k rows cols Row cell = place_in k rows cell
 places_in k rows cols Col cell = place_in k cols cell
 
--- the place of the message of a cell along an axis, 0 where none is kept
+-- the place of the sample of a cell along an axis, 0 where none is kept
 abbrev pub place_of : Pool → Axis → Cell → ℕ
 place_of p = places_in p.k p.rows.items p.cols.items
 
--- the message that is kept of a cell along an axis, if one is
+-- the sample that is kept of a cell along an axis, if one is
 abbrev pub slot_in : Pool → Kept
 slot_in p axis cell = get_or p.given.items (place_of p axis cell) None
 
@@ -40,11 +40,11 @@ pub record HasPlaces (p : Pool) : Type 0 where
   pub to_rows : (i : ℕ) → get_or p.rows.items i 0 < length p.given.items
   pub to_cols : (i : ℕ) → get_or p.cols.items i 0 < length p.given.items
 
--- each place of a list that isn't 0 leads to a message
+-- each place of a list that isn't 0 leads to a sample
 abbrev pub AreFilled : List (Option Proved) → List ℕ → Type 0
 AreFilled given places = (i : ℕ) → get_or places i 0 ≢ 0 → IsSome (get_or given (get_or places i 0) None)
 
--- each leads to a message where it isn't 0, and there is room for one at each that is
+-- each leads to a sample where it isn't 0, and there is capacity for one at each that is
 pub record IsPool (p : Pool) : Type 0 where
   pub places : HasPlaces p
   pub first : get_or p.given.items 0 None ≡ None
@@ -53,7 +53,7 @@ pub record IsPool (p : Pool) : Type 0 where
   pub used : vec_len p.given + empties p.rows.items + empties p.cols.items ≡ 2 * (2 * p.k * (2 * p.k)) + 1
   pub room : 2 * (2 * p.k * (2 * p.k)) + 1 ≤ vec_capacity p.given
 
--- each message is kept at its own cell along its own axis
+-- each sample is kept at its own cell along its own axis
 abbrev pub AreAtHome : Kept → Type 0
 AreAtHome slot = (axis : Axis) (cell : Cell) (kept : Proved) → slot axis cell ≡ Some kept
     → ((kept_message kept).axis ≡ axis) × ((kept_message kept).cell ≡ cell)

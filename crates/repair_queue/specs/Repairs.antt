@@ -1,4 +1,4 @@
--- Messages that a repair keeps, and how it may end.
+-- Samples that a repair keeps, and how it may end.
 use Rattle.std.specs.Prelude.{◌≡◌, List, Option, Some}
 use Rattle.namespace_id.specs.declared.cells.Cell.{Cell}
 use Rattle.namespace_id.specs.declared.cells.Axis.{Axis}
@@ -11,13 +11,13 @@ use Rattle.repair_queue.specs.declared.ending.Ended.{Ended}
 use Rattle.repair_queue.specs.declared.ending.Ended.TheVariants.{Fraud, Clash}
 use Rattle.repair_queue.specs.Verdicts.{IsFraud, IsFoundClash}
 
--- a slot holds a message with this share
+-- a slot holds a sample with this share
 pub record Shows (slot : Option Proved) (share : Share) : Type 0 where
   pub kept : Proved
   pub held : slot ≡ Some kept
   pub share_is : (kept_message kept).share ≡ share
 
--- a message in a slot is one of its cell along its axis, proved under the header
+-- a sample in a slot is one of its cell along its axis, proved under the header
 pub record IsSlotted (header : Roots) (axis : Axis) (cell : Cell) (kept : Proved) : Type 0 where
   pub under : IsUnder header kept
   pub axis_is : (kept_message kept).axis ≡ axis

@@ -1,4 +1,4 @@
--- A session as contracts see it, and for which messages it stands (docs/RULES.md, "Closures and verdicts").
+-- A session as contracts see it, and for which samples it stands (docs/RULES.md, "Closures and verdicts").
 use Rattle.std.specs.Prelude.{◌≡◌, ◌↔◌, ℕ, ◌*◌, ◌<◌, List, get_or, Bool, true, false, ◌||◌, Option, Some, None, is_some}
 use Rattle.std.specs.List.{Contains}
 use Rattle.namespace_id.specs.declared.cells.Cell.{Cell}
@@ -23,7 +23,7 @@ pub data SessionEnd : Type 0 where
   accused : (claim : ClaimParts) → SessionEnd
   collided : (left right : List ℕ) → SessionEnd
 
--- a session: its header; an empty place and the messages that it keeps, with the place of each cell's along its row and
+-- a session: its header; an empty place and the samples that it keeps, with the place of each cell's along its row and
 -- along its column, row-major; the rows and the columns that it decided; a share for each cell, row-major; and what ended
 -- it
 pub record SessionParts : Type 0 where
@@ -36,7 +36,7 @@ pub record SessionParts : Type 0 where
   pub shares : List Share
   pub ended : SessionEnd
 
--- the message that is kept of a cell along an axis, if one is
+-- the sample that is kept of a cell along an axis, if one is
 abbrev pub message_at : SessionParts → Axis → Cell → Option Message
 message_at s axis cell = get_or s.kept (places_in s.header.k s.row_places s.col_places axis cell) None
 
@@ -48,7 +48,7 @@ marks_of s = flags_of s.row_marks s.col_marks
 abbrev pub is_decided : SessionParts → Cell → Bool
 is_decided s cell = marks_of s Row cell.row || marks_of s Col cell.col
 
--- whether a cell is known: it lies on a decided row or column, or a message of it is kept
+-- whether a cell is known: it lies on a decided row or column, or a sample of it is kept
 abbrev pub is_known : SessionParts → Cell → Bool
 is_known s cell = is_decided s cell || is_some (message_at s Row cell) || is_some (message_at s Col cell)
 
@@ -56,19 +56,19 @@ is_known s cell = is_decided s cell || is_some (message_at s Row cell) || is_som
 abbrev pub line_share : SessionParts → Cell → Share
 line_share s cell = share_at (2 * s.header.k) s.shares cell
 
--- a proved message of a list that shows a cell
+-- a proved sample of a list that shows a cell
 pub record IsShownBy (header : Roots) (ms : List Message) (cell : Cell) (m : Message) : Type 0 where
   pub listed : Contains ms m
   pub proved : IsProved header m
   pub cell_is : m.cell ≡ cell
 
--- a message of a cell is kept that shows this share
+-- a sample of a cell is kept that shows this share
 abbrev pub KeepsShare : SessionParts → Cell → Share → Type 0
 KeepsShare s cell share = (axis : Axis) × (m : Message) × (message_at s axis cell ≡ Some m) × (m.share ≡ share)
 
--- nothing has ended it. The known cells of the square are the recoverable ones. The messages are settled; just the rows
--- and columns with k recoverable cells are decided; and the share that is kept for a cell of one is what the facts hold
--- there. Of each other cell just the shares are kept that proved messages show, each with a message that shows it.
+-- nothing has ended it. The known cells of the square are the recoverable ones. The samples are settled; exactly the
+-- rows and columns with k recoverable cells are decided; and the share that is kept for a cell of one is what the facts
+-- hold there. Of each other cell exactly the shares are kept that proved samples show, each with such a sample.
 pub record StandsOpen (s : SessionParts) (ms : List Message) : Type 0 where
   pub known : (cell : Cell) → is_in_square s.header.k cell ≡ true → (is_known s cell ≡ true) ↔ Half s.header ms cell
   pub settled : IsSettled s.header ms
@@ -81,12 +81,12 @@ pub record StandsOpen (s : SessionParts) (ms : List Message) : Type 0 where
   pub shown : (cell : Cell) (m : Message) → is_decided s cell ≡ false → IsShownBy s.header ms cell m
       → KeepsShare s cell m.share
 
--- what ended it is an answer over these messages; where nothing did, it keeps what follows from them
+-- what ended it is an answer over these samples; where nothing did, it keeps what follows from them
 abbrev pub StandsBy : SessionParts → List Message → SessionEnd → Type 0
 StandsBy s ms going = StandsOpen s ms
 StandsBy s ms (accused claim) = IsFraud s.header ms claim
 StandsBy s ms (collided left right) = IsFoundClash s.header ms left right
 
--- a session stands for these messages
+-- a session stands for these samples
 abbrev pub StandsFor : SessionParts → List Message → Type 0
 StandsFor s ms = StandsBy s ms s.ended

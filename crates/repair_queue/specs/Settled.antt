@@ -1,4 +1,4 @@
--- Lists of messages under which every decided row and column has its root (docs/RULES.md, "Closures and verdicts").
+-- Lists of samples under which every decided row and column has its root (docs/RULES.md, "Closures and verdicts").
 use Rattle.std.specs.Prelude.{◌≡◌, ◌↔◌, ℕ, ◌*◌, ◌<◌, List, map, length, Some}
 use Rattle.std.specs.List.{Contains}
 use Rattle.namespace_id.specs.declared.cells.Cell.{Cell}
@@ -30,7 +30,7 @@ abbrev pub Lines : Roots → List Message → Type 0
 Lines header ms = (axis : Axis) (i : ℕ) → IsDecided header ms axis i → List Share
 
 -- they fit: each is a codeword with the header's strict root, two have one share where they cross, and each proved
--- message on one shows its share
+-- sample on one shows its share
 pub record Fits (header : Roots) (ms : List Message) (lines : Lines header ms) : Type 0 where
   pub codeword : (axis : Axis) (i : ℕ) (d : IsDecided header ms axis i) → IsCodeword header.k (lines axis i d)
   pub root : (axis : Axis) (i : ℕ) (d : IsDecided header ms axis i)
@@ -46,7 +46,7 @@ abbrev pub along : ℕ → (Cell → Share) → Axis → ℕ → List Share
 along k shares axis i = map shares (axis_cells k axis i)
 
 -- a share for each cell fits: each decided row and column is a codeword with the header's strict root, and each proved
--- message on one shows its cell's share
+-- sample on one shows its cell's share
 pub record CellsFit (header : Roots) (ms : List Message) (shares : Cell → Share) : Type 0 where
   pub codeword : (axis : Axis) (i : ℕ) → IsDecided header ms axis i → IsCodeword header.k (along header.k shares axis i)
   pub root : (axis : Axis) (i : ℕ) → IsDecided header ms axis i

@@ -1,4 +1,4 @@
--- The messages that are kept of each cell, one along its row and one along its column, and a flag for each row and
+-- The samples that are kept of each cell, one along its row and one along its column, and a flag for each row and
 -- column; and what a change of them leaves.
 use Rattle.std.specs.Prelude.{◌≡◌, ◌≢◌, ℕ, List, get_or, Bool, true, false, Option, Some, None}
 use Rattle.namespace_id.specs.declared.cells.Cell.{Cell}
@@ -8,7 +8,7 @@ use Rattle.axis_roots.specs.declared.message.proved.Proved.{Proved}
 use Rattle.namespace_id.specs.declared.shares.Share.{Share}
 use Rattle.axis_roots.specs.Proved.{kept_message}
 
--- what slots hold: for an axis and a cell the message that is kept, if one is
+-- what slots hold: for an axis and a cell the sample that is kept, if one is
 abbrev pub Kept : Type 0
 Kept = Axis → Cell → Option Proved
 
@@ -30,7 +30,7 @@ crossing Col = Row
 abbrev pub IsKnown : Kept → Cell → Type 0
 IsKnown slot cell = (axis : Axis) × (kept : Proved) × (slot axis cell ≡ Some kept)
 
--- a slot holds a message that shows another share
+-- a slot holds a sample that shows another share
 pub record IsApart (slot : Option Proved) (share : Share) : Type 0 where
   pub kept : Proved
   pub held : slot ≡ Some kept
@@ -42,7 +42,7 @@ IsAlike slot share = (kept : Proved) → slot ≡ Some kept → (kept_message ke
 
 -- ---- changes
 
--- one slot holds this message now, and no other changed
+-- one slot holds this sample now, and no other changed
 pub record IsPut (old new : Kept) (axis : Axis) (cell : Cell) (kept : Proved) : Type 0 where
   pub here : new axis cell ≡ Some kept
   pub elsewhere : (other : Axis) (d : Cell) → ((other ≡ axis) × (d ≡ cell) → ⊥) → new other d ≡ old other d

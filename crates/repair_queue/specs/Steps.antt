@@ -10,7 +10,7 @@ pub record AreBuffers (k : ℕ) (buffers : Buffers) : Type 0 where
   pub room : buffers.room.k ≡ k
   pub line : length buffers.line.items ≡ 2 * k
 
--- a list for messages is empty, and has room for k
+-- a list for samples is empty, and has capacity for k
 pub record IsSpare (k : ℕ) (cells : Vec Proved Global) : Type 0 where
   pub empty : cells.items ≡ []
   pub room : HasRoom cells k

@@ -10,7 +10,7 @@ use Rattle.repair_queue.specs.Slots.{Kept, Flags}
 use Rattle.repair_queue.specs.Steps.{AreBuffers, IsSpare}
 use Rattle.repair_queue.specs.Boards.{Shared, is_found, found_share}
 
--- a list for k messages that was not handed out
+-- a list for k samples that was not handed out
 abbrev pub HasSpare : ℕ → Option (Vec Proved Global) → Type 0
 HasSpare k spare = (cells : Vec Proved Global) × (spare ≡ Some cells) × IsSpare k cells
 

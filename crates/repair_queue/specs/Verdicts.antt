@@ -1,4 +1,4 @@
--- What repair may answer for a header and a list of messages (docs/RULES.md, "Closures and verdicts").
+-- What repair may answer for a header and a list of samples (docs/RULES.md, "Closures and verdicts").
 use Rattle.std.specs.Prelude.{◌≡◌, ◌≢◌, ◌↔◌, ℕ, ◌*◌, ◌<◌, List, [], length, true, Some}
 use Rattle.std.specs.List.{AllByRecursion, Contains}
 use Rattle.namespace_id.specs.declared.cells.Cell.{Cell}
@@ -34,7 +34,7 @@ pub record IsWhole (header : Roots) (ms : List Message) (square : SquareShares) 
   pub facts : (cell : Cell) → is_original header.k cell ≡ true → Fact header ms cell (share_at header.k square.shares cell)
   pub own : IsHeaderOf header square
 
--- the list is settled, and the cells, of which there are some, are just those of the square that aren't recoverable
+-- the list is settled, and the cells, of which there are some, are exactly those of the square that aren't recoverable
 pub record IsMissing (header : Roots) (ms : List Message) (cells : CellList) : Type 0 where
   pub settled : IsSettled header ms
   pub width : cells.k ≡ header.k
@@ -48,7 +48,7 @@ pub record IsFraud (header : Roots) (ms : List Message) (claim : ClaimParts) : T
   pub accepts : Accepts header claim
   pub facts : AllByRecursion (λ m. Fact header ms m.cell m.share) claim.cells
 
--- the trees that are known under the header's root of a row or a column: what a proved message opens, and the tree over
+-- the trees that are known under the header's root of a row or a column: what a proved sample opens, and the tree over
 -- a line of facts that has this root
 pub data IsKnownTree (header : Roots) (ms : List Message) (axis : Axis) (i : ℕ) : Part → Type 0 where
   of_message : (m : Message) → Contains ms m → IsProved header m → m.axis ≡ axis → index axis m.cell ≡ i

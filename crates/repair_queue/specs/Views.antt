@@ -15,7 +15,7 @@ end_of None = going
 end_of (Some (Fraud proof)) = accused proof.claim
 end_of (Some (Clash clash)) = collided clash.left clash.right
 
--- the message of a certificate, if there is one
+-- the sample of a certificate, if there is one
 abbrev pub message_of : Option Proved → Option Message
 message_of None = None
 message_of (Some kept) = Some (kept_message kept)

@@ -17,10 +17,10 @@ use crate::counts::Counts;
 use crate::marks::{Marks, is_marked};
 use crate::pools::{Pool, held_in};
 use axis_roots::Grid;
-use namespace_id::{Axis, Cell, DIGEST_SIZE, Digest, NoMemory, SHARE_SIZE, Share};
+use namespace_id::{Axis, BLANK_DIGEST, Cell, Digest, NoMemory, SHARE_SIZE, Share};
 use std::alloc::Global;
 
-/// What is known of the cells of a square: the messages that were given of cells on no decided row
+/// What is known of the cells of a square: the samples that were given of cells on no decided row
 /// or column, the shares of the cells on decided ones with the digests of the leaves over them, and
 /// how many cells of each row and column are known.
 #[derive(Drop)]
@@ -38,9 +38,7 @@ fn blank_grid(alloc: Global, k: u16) -> Result<Grid, NoMemory>
     ensures width { IfOk result (λ grid. grid.k ≡ k) }
 {
     let side = 2 * k as usize;
-    let Ok(shares) = vec![in alloc; Share([0; SHARE_SIZE]); side * side] else {
-        return Err(NoMemory);
-    };
+    let shares = vec![in alloc; Share([0; SHARE_SIZE]); side * side]?;
     Ok(Grid::of(k, shares))
 }
 
@@ -59,9 +57,7 @@ impl Board {
         let counts = Counts::new(alloc, k)?;
         let grid = blank_grid(alloc, k)?;
         let side = 2 * k as usize;
-        let Ok(leaves) = vec![in alloc; Digest([0; DIGEST_SIZE]); side * side] else {
-            return Err(NoMemory);
-        };
+        let leaves = vec![in alloc; BLANK_DIGEST; side * side]?;
         Ok(Board {
             pool,
             marks,
@@ -98,7 +94,7 @@ pub(crate) fn is_on_decided(marks: &Marks, cell: Cell) -> bool
     is_marked(marks, Axis::Row, cell.row) || is_marked(marks, Axis::Col, cell.col)
 }
 
-/// The share that a message shows which is kept of a cell: that along its row, else that along its
+/// The share that a sample shows which is kept of a cell: that along its row, else that along its
 /// column.
 fn shown_share(pool: &Pool, cell: Cell) -> Option<&Share>
     requires pool { HasPlaces pool.now }
@@ -118,7 +114,7 @@ fn shown_share(pool: &Pool, cell: Cell) -> Option<&Share>
     }
 }
 
-/// A share that is known of a cell: that of its decided row or column, else that which a message
+/// A share that is known of a cell: that of its decided row or column, else that which a sample
 /// shows.
 pub(crate) fn known_share(board: &Board, cell: Cell) -> Option<&Share>
     requires parts { AreParts board.now }
@@ -134,7 +130,7 @@ pub(crate) fn known_share(board: &Board, cell: Cell) -> Option<&Share>
     shown_share(&board.pool, cell)
 }
 
-/// Whether a cell is known, by the messages that are kept and the rows and columns that are
+/// Whether a cell is known, by the samples that are kept and the rows and columns that are
 /// decided.
 pub(crate) fn is_found(pool: &Pool, marks: &Marks, cell: Cell) -> bool
     requires pool { HasPlaces pool.now }

@@ -29,15 +29,9 @@ impl Counts {
         ensures none { IfOk result (λ c. (axis : Along) (i : ℕ) → count_of c axis i ≡ 0) }
     {
         let side = 2 * k as usize;
-        let Ok(rows) = vec![in alloc; 0; side] else {
-            return Err(NoMemory);
-        };
-        let Ok(cols) = vec![in alloc; 0; side] else {
-            return Err(NoMemory);
-        };
-        let Ok(queue) = Vec::with_capacity(alloc, 2 * side) else {
-            return Err(NoMemory);
-        };
+        let rows = vec![in alloc; 0; side]?;
+        let cols = vec![in alloc; 0; side]?;
+        let queue = Vec::with_capacity(alloc, 2 * side)?;
         Ok(Counts {
             k,
             rows,

@@ -32,9 +32,7 @@ impl Buffers {
         ensures { IfOk result (AreBuffers k) }
     {
         let room = AxisRoom::new(alloc, k)?;
-        let Ok(line) = vec![in alloc; Share([0; SHARE_SIZE]); 2 * k as usize] else {
-            return Err(NoMemory);
-        };
+        let line = vec![in alloc; Share([0; SHARE_SIZE]); 2 * k as usize]?;
         Ok(Buffers { room, line })
     }
 }

@@ -1,4 +1,4 @@
-//! Taking in a message.
+//! Taking in a sample.
 
 ghost use Rattle.std.specs.Prelude.{◌≡◌, None, true, false};
 ghost use Rattle.namespace_id.specs.Cells.{is_in_square};
@@ -24,7 +24,7 @@ use axis_roots::{Proved, index};
 use data_header::Header;
 use namespace_id::{Axis, Cell, Share};
 
-/// Whether a message that is kept of a cell along an axis shows this share.
+/// Whether a sample that is kept of a cell along an axis shows this share.
 fn shows(pool: &Pool, axis: Axis, cell: Cell, share: &Share) -> bool
     requires places { HasPlaces pool.now }
     requires cell { is_in_square pool.now.k cell ≡ true }
@@ -36,7 +36,7 @@ fn shows(pool: &Pool, axis: Axis, cell: Cell, share: &Share) -> bool
     }
 }
 
-/// Keeps a message of a cell of which none is kept along its axis, and counts the cell where it
+/// Keeps a sample of a cell of which none is kept along its axis, and counts the cell where it
 /// wasn't known.
 fn keep_new(board: &mut Board, header: &Header, message: Proved)
     requires good { IsGood header.now board.old }
@@ -56,7 +56,7 @@ fn keep_new(board: &mut Board, header: &Header, message: Proved)
     }
 }
 
-/// Keeps a message of a cell on no decided row or column, where none that is kept along its axis
+/// Keeps a sample of a cell on no decided row or column, where none that is kept along its axis
 /// shows another share. Where its share is shown already it is dropped.
 fn keep(board: &mut Board, header: &Header, message: Proved)
     requires good { IsGood header.now board.old }
@@ -77,7 +77,7 @@ fn keep(board: &mut Board, header: &Header, message: Proved)
     keep_new(board, header, message);
 }
 
-/// Takes a message in, where nothing that is known shows another share.
+/// Takes a sample in, where nothing that is known shows another share.
 fn enter(board: &mut Board, header: &Header, message: Proved) -> Taken
     requires good { IsGood header.now board.old }
     requires under { IsUnder header.now message }
@@ -99,7 +99,7 @@ fn enter(board: &mut Board, header: &Header, message: Proved) -> Taken
     Taken::Kept
 }
 
-/// Takes a message in, or names what is wrong where it shows another share than one that is known.
+/// Takes a sample in, or names what is wrong where it shows another share than one that is known.
 fn take(board: &mut Board, tools: &mut Tools, header: &Header, message: Proved) -> Option<Ended>
     requires good { IsGood header.now board.old }
     requires tools { AreTools header.now.k tools.old }
@@ -118,7 +118,7 @@ fn take(board: &mut Board, tools: &mut Tools, header: &Header, message: Proved) 
     }
 }
 
-/// Takes a message in, and decides what it lets decide.
+/// Takes a sample in, and decides what it lets decide.
 pub(crate) fn step(
     board: &mut Board,
     tools: &mut Tools,

@@ -75,7 +75,7 @@ fn first_apart(board: &Board, axis: Axis, index: u16, line: &[Share]) -> Option<
     None
 }
 
-/// A message of a known cell, with the share that is known first of it.
+/// A sample of a known cell, with the share that is known first of it.
 fn message_known(
     board: &mut Board,
     room: &mut AxisRoom,
@@ -101,7 +101,7 @@ fn message_known(
     }
 }
 
-/// A message of a cell that shows another share than this one.
+/// A sample of a cell that shows another share than this one.
 fn message_other(
     board: &mut Board,
     room: &mut AxisRoom,
@@ -125,7 +125,7 @@ fn message_other(
     }
 }
 
-/// Messages of known cells of a row or a column at these positions, each with the share that is
+/// Samples of known cells of a row or a column at these positions, each with the share that is
 /// known first.
 fn messages_known(
     board: &mut Board,

@@ -1,4 +1,4 @@
-//! What is proved of the cells and shares that follow from proved messages, of what settles them,
+//! What is proved of the cells and shares that follow from proved samples, of what settles them,
 //! and of what repair may answer.
 
 ghost use Rattle.std.specs.Prelude.{◌≡◌, ◌<◌, ◌*◌, ◌↔◌, ◌⊎◌, ℕ, List, Bool, true};
@@ -26,15 +26,15 @@ ghost use Rattle.repair_queue.specs.Sessions.{state_of};
 ghost use Rattle.repair_queue.specs.declared.fed.SessionState.TheVariants as state;
 
 /// What is proved of the cells that are recoverable and of the facts, for any header and any list
-/// of messages.
+/// of samples.
 ///
 /// docs/RULES.md, "Closures and verdicts".
 pub fn closure_laws()
-    // The cells of facts are just the recoverable ones.
+    // The cells of facts are exactly the recoverable ones.
     ensures cells { (header : Roots) (ms : List Message) (cell : Cell) →
         Half header ms cell ↔ ((share : Share) × Fact header ms cell share) }
 
-    // The recoverable cells are a set that holds the cells of proved messages and, with k cells of
+    // The recoverable cells are a set that holds the cells of proved samples and, with k cells of
     // a row or a column, all of it; every such set that a test tells holds them.
     ensures half_given { (header : Roots) (ms : List Message) (m : Message) → Contains ms m →
         IsProved header m → Half header ms m.cell }
@@ -50,7 +50,7 @@ pub fn closure_laws()
         pos < 2 * header.k → set (cell_on axis index pos) ≡ true) →
         (cell : Cell) → Half header ms cell → set cell ≡ true }
 
-    // The facts are a set that holds the cells and shares of proved messages and, with k shares of
+    // The facts are a set that holds the cells and shares of proved samples and, with k shares of
     // a codeword along a row or a column, all of it; every such set that a test tells holds them.
     ensures fact_given { (header : Roots) (ms : List Message) (m : Message) → Contains ms m →
         IsProved header m → Fact header ms m.cell m.share }
@@ -67,7 +67,7 @@ pub fn closure_laws()
         pos < 2 * header.k → set (cell_on axis index pos) (entry word pos) ≡ true) →
         (cell : Cell) (share : Share) → Fact header ms cell share → set cell share ≡ true }
 
-    // Both grow with the proved messages; so their order and repeats play no part.
+    // Both grow with the proved samples; so their order and repeats play no part.
     ensures grows { (header : Roots) (ms others : List Message) → Covers header ms others →
         (cell : Cell) (share : Share) → (Half header ms cell → Half header others cell)
         × (Fact header ms cell share → Fact header others cell share) }
@@ -84,7 +84,7 @@ pub fn closure_laws()
         ↔ IsListed (IsShownPair header ms) (IsRebuiltPair header) (cell, share) }
 {}
 
-/// What is proved of lists of messages under which every decided row and column has its root.
+/// What is proved of lists of samples under which every decided row and column has its root.
 ///
 /// docs/RULES.md, "Closures and verdicts".
 pub fn settled_laws()
@@ -106,7 +106,7 @@ pub fn settled_laws()
         CellsFit header ms shares →
         Fits header ms (λ axis index d. along header.k shares axis index) }
 
-    // Only the proved messages count, not their order or repeats.
+    // Only the proved samples count, not their order or repeats.
     ensures same_proved { (header : Roots) (ms others : List Message) →
         Covers header ms others → Covers header others ms →
         IsSettled header ms ↔ IsSettled header others }
@@ -139,7 +139,7 @@ pub fn verdict_laws()
         IsVerdict header ms (missing cells) → is_in_square header.k cell ≡ true →
         (Half header ms cell → ⊥) → Contains cells.list cell }
 
-    // Where no message is proved, all cells are missing, whatever the header.
+    // Where no sample is proved, all cells are missing, whatever the header.
     ensures nothing { (header : Roots) (ms : List Message) → is_width header.k ≡ true →
         ((m : Message) → Contains ms m → IsProved header m → ⊥) →
         IsVerdict header ms (missing (record { k = header.k; list = all_cells header.k })) }
@@ -156,7 +156,7 @@ pub fn verdict_laws()
         Fact header ms cell (share_at header.k square.shares cell)) →
         IsVerdict header ms (whole square) }
 
-    // A fraud or a collision stays one when messages are added.
+    // A fraud or a collision stays one when samples are added.
     ensures fraud_stays { (header : Roots) (ms others : List Message) (claim : ClaimParts) →
         Covers header ms others → IsVerdict header ms (fraud claim) →
         IsVerdict header others (fraud claim) }
@@ -164,7 +164,7 @@ pub fn verdict_laws()
         Covers header ms others → IsVerdict header ms (clash left right) →
         IsVerdict header others (clash left right) }
 
-    // Only the proved messages count, not their order or repeats: another list with the same ones
+    // Only the proved samples count, not their order or repeats: another list with the same ones
     // has the same answers, and what two such lists are answered is alike.
     ensures same_proved { (header : Roots) (ms others : List Message) →
         Covers header ms others → Covers header others ms → (verdict : VerdictParts) →
@@ -174,15 +174,15 @@ pub fn verdict_laws()
         IsVerdict header others other → AreAlike verdict other }
 
     // Under the header of a square the answer is this square or the missing cells, or a proved
-    // message and the square name a collision.
+    // sample and the square name a collision.
     ensures own { (header : Roots) (square : SquareShares) (ms : List Message) →
         IsHeaderOf header square → AllByRecursion IsMessage ms → (verdict : VerdictParts) →
         IsVerdict header ms verdict → IsOwnVerdict square verdict
         ⊎ ((m : Message) × Contains ms m × IsProved header m × NamesClash m square) }
 
-    // Where no proved message and the square name one, the list is settled; with all cells
+    // Where no proved sample and the square name one, the list is settled; with all cells
     // recoverable the square is an answer; and each answer is the square or missing cells. Nothing
-    // is asked of messages that aren't proved.
+    // is asked of samples that aren't proved.
     ensures own_unnamed { (header : Roots) (square : SquareShares) (ms : List Message) →
         IsHeaderOf header square →
         ((m : Message) → Contains ms m → IsProved header m → NamesClash m square → ⊥) →
@@ -192,17 +192,17 @@ pub fn verdict_laws()
         × ((verdict : VerdictParts) → IsVerdict header ms verdict → IsOwnVerdict square verdict) }
 {}
 
-/// What is proved of the lists of messages for which a session stands.
+/// What is proved of the lists of samples for which a session stands.
 ///
 /// docs/RULES.md, "Closures and verdicts".
 pub fn session_laws()
-    // A session that stands for a list stands for each one with the same proved messages, whatever
+    // A session that stands for a list stands for each one with the same proved samples, whatever
     // their order and repeats.
     ensures same_proved { (s : SessionParts) (ms others : List Message) →
         Covers s.header ms others → Covers s.header others ms → StandsFor s ms →
         StandsFor s others }
 
-    // An open one knows just the recoverable cells of the square, and the list is settled.
+    // An open one knows exactly the recoverable cells of the square, and the list is settled.
     ensures known { (s : SessionParts) (ms : List Message) → state_of s ≡ state.Open →
         StandsFor s ms → (cell : Cell) → is_in_square s.header.k cell ≡ true →
         (is_known s cell ≡ true) ↔ Half s.header ms cell }

@@ -1,4 +1,4 @@
-//! Messages of known cells, for what ends a session.
+//! Samples of known cells, for what ends a session.
 
 ghost use Rattle.std.specs.Prelude.{◌≡◌, ◌≢◌, ◌*◌, ◌<◌, length, true, Some};
 ghost use Rattle.namespace_id.specs.Cells.{is_in_square};
@@ -29,7 +29,7 @@ pub(crate) fn read_along(grid: &Grid, axis: Axis, index: u16, line: &mut [Share]
     }
 }
 
-/// The message of a cell along its row or its column, whose shares have the header's root: it is
+/// The sample of a cell along its row or its column, whose shares have the header's root: it is
 /// made from the tree over them.
 pub(crate) fn make(
     grid: &Grid,
@@ -57,7 +57,7 @@ pub(crate) fn make(
     room.proved(header, axis, i, position(axis, cell))
 }
 
-/// Takes the message out that is kept of a cell along its row, else that along its column.
+/// Takes the sample out that is kept of a cell along its row, else that along its column.
 pub(crate) fn take_first(pool: &mut Pool, cell: Cell) -> Proved
     requires places { HasPlaces pool.old }
     requires cell { is_in_square pool.old.k cell ≡ true }
@@ -76,7 +76,7 @@ pub(crate) fn take_first(pool: &mut Pool, cell: Cell) -> Proved
     take_from(pool, Axis::Col, cell).unwrap()
 }
 
-/// Takes the message of a cell out that shows another share than this one: that along its row, else
+/// Takes the sample of a cell out that shows another share than this one: that along its row, else
 /// that along its column.
 pub(crate) fn take_other(pool: &mut Pool, cell: Cell, share: &Share) -> Proved
     requires places { HasPlaces pool.old }

@@ -26,12 +26,8 @@ impl Marks {
         ensures undecided { IfOk result (λ m. (axis : Along) (i : ℕ) → mark_of m axis i ≡ false) }
     {
         let side = 2 * k as usize;
-        let Ok(rows) = vec![in alloc; false; side] else {
-            return Err(NoMemory);
-        };
-        let Ok(cols) = vec![in alloc; false; side] else {
-            return Err(NoMemory);
-        };
+        let rows = vec![in alloc; false; side]?;
+        let cols = vec![in alloc; false; side]?;
         Ok(Marks { k, rows, cols })
     }
 }

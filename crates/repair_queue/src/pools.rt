@@ -1,4 +1,4 @@
-//! The messages that were given and are kept: at most one for each cell along each axis.
+//! The samples that were given and are kept: at most one for each cell along each axis.
 
 ghost use Rattle.std.specs.Prelude.{◌≡◌, ◌+◌, ◌*◌, ◌<◌, IsTrue, IfOk, MatchOption, None, Some, true, false, length};
 ghost use Rattle.namespace_id.specs.declared.cells.Cell.{Cell as Place};
@@ -13,21 +13,21 @@ use axis_roots::Proved;
 use namespace_id::{Axis, Cell, NoMemory, Share};
 use std::alloc::Global;
 
-/// Messages of the cells of a square, at most one for each cell along each axis, in memory that was
+/// Samples of the cells of a square, at most one for each cell along each axis, in memory that was
 /// taken for two of each cell. What isn't used of it isn't written.
 #[derive(Drop)]
 pub(crate) struct Pool {
     pub(crate) k: u16,
-    /// An empty place, and behind it the messages in the order in which they came.
+    /// An empty place, and behind it the samples in the order in which they came.
     pub(crate) given: Vec<Option<Proved>>,
-    /// For each cell, row-major, the place of the message along its row; 0 where none is kept.
+    /// For each cell, row-major, the place of the sample along its row; 0 where none is kept.
     pub(crate) rows: Vec<usize>,
     /// The same along its column.
     pub(crate) cols: Vec<usize>,
 }
 
 impl Pool {
-    /// A pool for a square of width `k`, in which no message is kept.
+    /// A pool for a square of width `k`, in which no sample is kept.
     pub(crate) fn new(alloc: Global, k: u16) -> Result<Pool, NoMemory>
         requires width { IsTrue (is_width k) }
         ensures pool { IfOk result IsPool }
@@ -36,15 +36,9 @@ impl Pool {
             (λ p. (axis : Along) (cell : Place) → slot_in p axis cell ≡ None) }
     {
         let side = 2 * k as usize;
-        let Ok(rows) = vec![in alloc; 0; side * side] else {
-            return Err(NoMemory);
-        };
-        let Ok(cols) = vec![in alloc; 0; side * side] else {
-            return Err(NoMemory);
-        };
-        let Ok(mut given) = Vec::with_capacity(alloc, 2 * (side * side) + 1) else {
-            return Err(NoMemory);
-        };
+        let rows = vec![in alloc; 0; side * side]?;
+        let cols = vec![in alloc; 0; side * side]?;
+        let mut given = Vec::with_capacity(alloc, 2 * (side * side) + 1)?;
         let Ok(()) = given.push(None) else {
             return Err(NoMemory);
         };
@@ -57,7 +51,7 @@ impl Pool {
     }
 }
 
-/// The place of the message of a cell along an axis; 0 where none is kept.
+/// The place of the sample of a cell along an axis; 0 where none is kept.
 fn place(pool: &Pool, axis: Axis, cell: Cell) -> usize
     requires pool { HasPlaces pool.now }
     requires cell { is_in_square pool.now.k cell ≡ true }
@@ -71,7 +65,7 @@ fn place(pool: &Pool, axis: Axis, cell: Cell) -> usize
     }
 }
 
-/// The message that is kept of a cell along an axis.
+/// The sample that is kept of a cell along an axis.
 pub(crate) fn held_in(pool: &Pool, axis: Axis, cell: Cell) -> Option<&Proved>
     requires pool { HasPlaces pool.now }
     requires cell { is_in_square pool.now.k cell ≡ true }
@@ -81,7 +75,7 @@ pub(crate) fn held_in(pool: &Pool, axis: Axis, cell: Cell) -> Option<&Proved>
     pool.given[place(pool, axis, cell)].as_ref()
 }
 
-/// Keeps a message, of whose cell none is kept along its axis.
+/// Keeps a sample, of whose cell none is kept along its axis.
 pub(crate) fn put_in(pool: &mut Pool, kept: Proved)
     requires pool { IsPool pool.old }
     requires cell { is_in_square pool.old.k (kept_message kept).cell ≡ true }
@@ -102,7 +96,7 @@ pub(crate) fn put_in(pool: &mut Pool, kept: Proved)
     }
 }
 
-/// Takes the message of a cell along an axis out. The pool keeps no more messages then.
+/// Takes the sample of a cell along an axis out. The pool keeps no more samples then.
 pub(crate) fn take_from(pool: &mut Pool, axis: Axis, cell: Cell) -> Option<Proved>
     requires pool { HasPlaces pool.old }
     requires cell { is_in_square pool.old.k cell ≡ true }
@@ -116,7 +110,7 @@ pub(crate) fn take_from(pool: &mut Pool, axis: Axis, cell: Cell) -> Option<Prove
     pool.given[place].take()
 }
 
-/// Whether a message is kept of a cell along an axis and shows another share than this one.
+/// Whether a sample is kept of a cell along an axis and shows another share than this one.
 pub(crate) fn is_other(pool: &Pool, axis: Axis, cell: Cell, share: &Share) -> bool
     requires pool { HasPlaces pool.now }
     requires cell { is_in_square pool.now.k cell ≡ true }

@@ -47,12 +47,8 @@ use std::alloc::Global;
 fn copy_of(alloc: Global, header: &Header) -> Result<Header, NoMemory>
     ensures { IfOk result (λ copy. copy ≡ header.now) }
 {
-    let Ok(rows) = Vec::from_slice(alloc, &header.rows) else {
-        return Err(NoMemory);
-    };
-    let Ok(cols) = Vec::from_slice(alloc, &header.cols) else {
-        return Err(NoMemory);
-    };
+    let rows = Vec::from_slice(alloc, &header.rows)?;
+    let cols = Vec::from_slice(alloc, &header.cols)?;
     Ok(Header {
         k: header.k,
         rows,
@@ -153,9 +149,7 @@ impl Session {
         let trees = PartialTrees::new(alloc, &header)?;
         let board = Board::new(alloc, k)?;
         let tools = Tools::new(alloc, k)?;
-        let Ok(shares) = Vec::with_capacity(alloc, k as usize * k as usize) else {
-            return Err(NoMemory);
-        };
+        let shares = Vec::with_capacity(alloc, k as usize * k as usize)?;
         let room = CellRoom::new(alloc, k)?;
         Ok(Session {
             header,

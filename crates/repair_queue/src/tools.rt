@@ -7,7 +7,7 @@ ghost use Rattle.repair_queue.specs.Tools.{AreTools};
 use crate::ending::Buffers;
 use axis_roots::Proved;
 use leopard_code::Room;
-use namespace_id::{DIGEST_SIZE, Digest, Namespace, NoMemory, PARITY, SHARE_SIZE, Share};
+use namespace_id::{BLANK_DIGEST, Digest, Namespace, NoMemory, PARITY, SHARE_SIZE, Share};
 use std::alloc::Global;
 
 /// Buffers for the steps of a session over a square of width k.
@@ -25,7 +25,7 @@ pub(crate) struct Tools {
     pub(crate) folded: Vec<Digest>,
     /// The line of a decided row or column that crosses it.
     pub(crate) across: Vec<Share>,
-    /// A list for k messages, until it is handed out.
+    /// A list for k samples, until it is handed out.
     pub(crate) spare: Option<Vec<Proved>>,
 }
 
@@ -38,27 +38,13 @@ impl Tools {
         let buffers = Buffers::new(alloc, k)?;
         let code = Room::new(alloc, k)?;
         let side = 2 * k as usize;
-        let Ok(known) = Vec::with_capacity(alloc, k as usize) else {
-            return Err(NoMemory);
-        };
-        let Ok(given) = Vec::with_capacity(alloc, k as usize) else {
-            return Err(NoMemory);
-        };
-        let Ok(names) = vec![in alloc; PARITY; side] else {
-            return Err(NoMemory);
-        };
-        let Ok(digests) = vec![in alloc; Digest([0; DIGEST_SIZE]); side] else {
-            return Err(NoMemory);
-        };
-        let Ok(folded) = vec![in alloc; Digest([0; DIGEST_SIZE]); side] else {
-            return Err(NoMemory);
-        };
-        let Ok(across) = vec![in alloc; Share([0; SHARE_SIZE]); side] else {
-            return Err(NoMemory);
-        };
-        let Ok(spare) = Vec::with_capacity(alloc, k as usize) else {
-            return Err(NoMemory);
-        };
+        let known = Vec::with_capacity(alloc, k as usize)?;
+        let given = Vec::with_capacity(alloc, k as usize)?;
+        let names = vec![in alloc; PARITY; side]?;
+        let digests = vec![in alloc; BLANK_DIGEST; side]?;
+        let folded = vec![in alloc; BLANK_DIGEST; side]?;
+        let across = vec![in alloc; Share([0; SHARE_SIZE]); side]?;
+        let spare = Vec::with_capacity(alloc, k as usize)?;
         Ok(Tools {
             buffers,
             code,

@@ -11,7 +11,7 @@ use Rattle.befp_maker.specs.Gathered.{IsContinued}
 use Rattle.befp_maker.proofs.WithLemmas.{with_continued}
 use Rattle.befp_maker.proofs.conflicts.cells_with.Goals as goal
 
--- the other message stands between the line's first k - 1 others
+-- the other sample stands between the line's first k - 1 others
 pub returns-clause-cells : goal.returns-clause-cells
 returns-clause-cells c =
     let width : c.header.inside.k ≡ c.args.header.now.k = ap (λ (r : Roots). r.k) c.header.view_is in

@@ -10,7 +10,7 @@ use Rattle.axis_roots.proofs.Messages.ClaimLemmas.{are_inside}
 use Rattle.befp_maker.proofs.DecisionLemmas.{kept_proved, proved_inside, through_same, accepted}
 use Rattle.befp_maker.proofs.halves.from_half.Goals as goal
 
--- the cells of proved messages are in the square
+-- the cells of proved samples are in the square
 pub rebuild-requires-clause-inside : goal.rebuild-requires-clause-inside
 rebuild-requires-clause-inside c =
     let claim : ClaimParts = claim_with c.args.axis c.args.index c.args.cells.items in

@@ -1,13 +1,14 @@
 use Rattle.std.proofs.Common.{◌≡◌, ◌∙◌, ◌+◌, ◌-◌, ◌<◌, ℕ, List, ◌++◌, length, get_or, sym, ap, subst, arith, append-nil}
 use Rattle.std.specs.List.{AllByRecursion}
 use Rattle.std.proofs.lemmas.Result.{on_ok_weaker}
+use Rattle.std.proofs.lemmas.List.{get_or_default}
 use Rattle.namespace_id.specs.declared.digests.Digest.{Digest}
 use Rattle.namespace_id.specs.Digests.{no_digest}
 use Rattle.nmt_proofs.proofs.ListLemmas.{each-take, each-drop}
 use Rattle.nmt_proofs.proofs.StepLemmas.{is_none, is_some, twice_half}
 use Rattle.befp_verify.specs.declared.compacting.Placed.{Placed}
 use Rattle.befp_verify.specs.Placed.{HasNodes}
-use Rattle.befp_verify.proofs.BranchLemmas.{nodes_none, nodes_one, nodes_halved, have_fewer, first_has, get_or-same, joined_nodes}
+use Rattle.befp_verify.proofs.BranchLemmas.{nodes_none, nodes_one, nodes_halved, have_fewer, first_has, joined_nodes}
 use Rattle.befp_verify.proofs.compacting.+merge.Goals as goal
 
 -- an interval that holds none takes one node
@@ -75,6 +76,6 @@ returns t c =
     (joined_nodes _ _ c.args.nodes.now.items _ _ _
     (nodes_halved c.args.depth c.args.start c.args.turns (c.args.start + c.leaf_count.result) c.count_before.result c.args.beside _ _ o ps c.split_at.result.0.now c.split_at.result.1.now
     some c.if-depth-eq0.false (ap (λ (n : ℕ). c.args.start + n) c.leaf_count.ensures) c.count_before.ensures.count c.split_at.ensures.front c.split_at.ensures.back
-    (get_or-same c.nodes-path.result.now c.args.turns _ no_digest here ∙ ap (λ (l : List Digest). get_or l c.args.turns no_digest) path)
-    (get_or-same c.nodes-path.result.now (c.args.turns + (c.args.depth - 1)) _ no_digest later ∙ ap (λ (l : List Digest). get_or l (c.args.turns + (c.args.depth - 1)) no_digest) path))
+    (get_or_default c.nodes-path.result.now c.args.turns _ no_digest here ∙ ap (λ (l : List Digest). get_or l c.args.turns no_digest) path)
+    (get_or_default c.nodes-path.result.now (c.args.turns + (c.args.depth - 1)) _ no_digest later ∙ ap (λ (l : List Digest). get_or l (c.args.turns + (c.args.depth - 1)) no_digest) path))
     c.in_ok-merge.ensures) c.merge-2.ensures

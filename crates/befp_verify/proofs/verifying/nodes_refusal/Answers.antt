@@ -12,13 +12,13 @@ use Rattle.axis_roots.specs.Messages.{position}
 use Rattle.axis_roots.specs.Sets.{is_along, along_in, names_in, is_bare}
 use Rattle.axis_roots.specs.Claims.{ClaimParts, claimed_root}
 use Rattle.axis_roots.proofs.Messages.SetLemmas.{set_ascending, some_along}
-use Rattle.befp_verify.proofs.ShapeLemmas.{lent_whole}
 use Rattle.befp_verify.proofs.verifying.nodes_refusal.Goals as goal
+use Rattle.namespace_id.proofs.StringLemmas.{front}
 
 pub open_set-requires-clause-some : goal.open_set-requires-clause-some
 open_set-requires-clause-some c =
     let places : take c.gather_along-count.result c.deref-2.result.now ≡ map (λ m. position c.args.claim.now.axis m.cell) (along_in c.args.claim.now.axis c.args.claim.now.cells) =
-    ap (take c.gather_along-count.result) (c.deref-2.ensures.value ∙ lent_whole _ c.gather_along-count.new.known _ (omega arith))
+    ap (take c.gather_along-count.result) (c.deref-2.ensures.value ∙ front c.gather_along-count.new.known _ _ (omega arith))
     ∙ c.gather_along-count.ensures.known
     ∙ ap (λ (ms : List Message). map (λ m. position c.claim.inside.axis m.cell) (along_in c.claim.inside.axis ms)) c.deref.ensures.value
     ∙ ap (λ (p : ClaimParts). map (λ m. position p.axis m.cell) (along_in p.axis p.cells)) c.claim.view_is in
@@ -28,7 +28,7 @@ open_set-requires-clause-some c =
 pub open_set-requires-clause-places : goal.open_set-requires-clause-places
 open_set-requires-clause-places c =
     let places : take c.gather_along-count.result c.deref-2.result.now ≡ map (λ m. position c.args.claim.now.axis m.cell) (along_in c.args.claim.now.axis c.args.claim.now.cells) =
-    ap (take c.gather_along-count.result) (c.deref-2.ensures.value ∙ lent_whole _ c.gather_along-count.new.known _ (omega arith))
+    ap (take c.gather_along-count.result) (c.deref-2.ensures.value ∙ front c.gather_along-count.new.known _ _ (omega arith))
     ∙ c.gather_along-count.ensures.known
     ∙ ap (λ (ms : List Message). map (λ m. position c.claim.inside.axis m.cell) (along_in c.claim.inside.axis ms)) c.deref.ensures.value
     ∙ ap (λ (p : ClaimParts). map (λ m. position p.axis m.cell) (along_in p.axis p.cells)) c.claim.view_is in
@@ -39,18 +39,18 @@ open_set-requires-clause-places c =
 pub returns-clause-refusal : goal.returns-clause-refusal
 returns-clause-refusal c =
     let places : take c.gather_along-count.result c.deref-2.result.now ≡ map (λ m. position c.args.claim.now.axis m.cell) (along_in c.args.claim.now.axis c.args.claim.now.cells) =
-    ap (take c.gather_along-count.result) (c.deref-2.ensures.value ∙ lent_whole _ c.gather_along-count.new.known _ (omega arith))
+    ap (take c.gather_along-count.result) (c.deref-2.ensures.value ∙ front c.gather_along-count.new.known _ _ (omega arith))
     ∙ c.gather_along-count.ensures.known
     ∙ ap (λ (ms : List Message). map (λ m. position c.claim.inside.axis m.cell) (along_in c.claim.inside.axis ms)) c.deref.ensures.value
     ∙ ap (λ (p : ClaimParts). map (λ m. position p.axis m.cell) (along_in p.axis p.cells)) c.claim.view_is in
     let width : c.header.inside.k ≡ c.args.header.now.k = ap (λ (r : Roots). r.k) c.header.view_is in
     let names : take c.gather_along-count.result c.deref-3.result.now ≡ names_in c.args.header.now.k (along_in c.args.claim.now.axis c.args.claim.now.cells) =
-    ap (take c.gather_along-count.result) (c.deref-3.ensures.value ∙ lent_whole _ c.gather_along-count.new.names _ (omega arith))
+    ap (take c.gather_along-count.result) (c.deref-3.ensures.value ∙ front c.gather_along-count.new.names _ _ (omega arith))
     ∙ c.gather_along-count.ensures.names
     ∙ ap₂ (λ (k : ℕ) (ms : List Message). names_in k (along_in c.claim.inside.axis ms)) width c.deref.ensures.value
     ∙ ap (λ (p : ClaimParts). names_in c.args.header.now.k (along_in p.axis p.cells)) c.claim.view_is in
     let shares : take c.gather_along-count.result c.deref-4.result.now ≡ map (λ m. m.share) (along_in c.args.claim.now.axis c.args.claim.now.cells) =
-    ap (take c.gather_along-count.result) (c.deref-4.ensures.value ∙ lent_whole _ c.gather_along-count.new.shares _ (omega arith))
+    ap (take c.gather_along-count.result) (c.deref-4.ensures.value ∙ front c.gather_along-count.new.shares _ _ (omega arith))
     ∙ c.gather_along-count.ensures.shares
     ∙ ap (λ (ms : List Message). map (λ m. m.share) (along_in c.claim.inside.axis ms)) c.deref.ensures.value
     ∙ ap (λ (p : ClaimParts). map (λ m. m.share) (along_in p.axis p.cells)) c.claim.view_is in

@@ -4,7 +4,7 @@ use Rattle.da_demo.specs.Gathered.{IsGathered}
 use Rattle.da_demo.proofs.HalfLemmas.{first_from}
 use Rattle.da_demo.proofs.gathering.gather_half.Given as goal
 
--- the messages of the cells from a number on are taken in
+-- the samples of the cells from a number on are taken in
 abbrev pub invariant-loop-left : goal.invariant-loop-left
 invariant-loop-left l = record {
   gathered : IsGathered l.header (lies_of l.grid.k l.grid.shares) l.fn.gathered

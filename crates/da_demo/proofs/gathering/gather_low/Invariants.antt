@@ -6,7 +6,7 @@ use Rattle.da_demo.specs.Sessions.{low_cell}
 use Rattle.da_demo.specs.Gathered.{IsGathered}
 use Rattle.da_demo.proofs.gathering.gather_low.Given as goal
 
--- the messages so far are taken in
+-- the samples so far are taken in
 abbrev pub invariant-loop-col : goal.invariant-loop-col
 invariant-loop-col l = record {
   gathered : IsGathered l.header [] l.fn.gathered

@@ -7,7 +7,7 @@ use Rattle.da_net.specs.Nodes.{HasSpare}
 use Rattle.da_net.proofs.FullLemmas.{accepted_count, fed_ended}
 use Rattle.da_net.proofs.full.feed.Goals as goal
 
--- a fraud proof has as many messages as there is room for
+-- a fraud proof has as many samples as there is capacity for
 pub end_of-requires-clause-room : goal.end_of-requires-clause-room
 end_of-requires-clause-room c = λ claim e.
     let fed = c.requires.fed in

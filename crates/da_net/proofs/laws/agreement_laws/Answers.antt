@@ -1,4 +1,4 @@
-use Rattle.repair_queue.proofs.WholeLemmas.{whole_there}
+use Rattle.repair_queue.proofs.Facts.WholeLemmas.{whole_there}
 use Rattle.da_net.specs.Networks.{messages_of}
 use Rattle.da_net.proofs.PromiseLemmas.{alarmed_names, same_whole}
 use Rattle.da_net.proofs.laws.agreement_laws.Goals as goal

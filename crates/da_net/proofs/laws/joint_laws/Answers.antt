@@ -12,7 +12,7 @@ pub returns-clause-all : goal.returns-clause-all
 returns-clause-all c = λ net pool steps nodes to cells are too planned all cell within.
     reached_half net pool steps nodes to are too cells planned cell (all cell within)
 
--- the listed cells are those of proved messages
+-- the listed cells are those of proved samples
 pub returns-clause-closure : goal.returns-clause-closure
 returns-clause-closure c = λ header ms cells listed cell. (
   half_reached header ms cells (λ m at proved. (listed m.cell).1 (m, at, proved, refl)) cell,

@@ -28,7 +28,7 @@ returns-then-is_some-clause-step g c = λ items is. record {
   keeps = λ claim e. e;
 }
 
--- there is room for the claim
+-- there is a room for the claim
 pub unwrap-requires : goal.unwrap-requires
 unwrap-requires g c =
     let is = c.requires.node.1 in

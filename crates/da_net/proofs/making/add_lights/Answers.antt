@@ -6,8 +6,9 @@ use Rattle.da_net.specs.declared.seats.Seat.{Seat}
 use Rattle.da_net.specs.Networks.{Kind, light}
 use Rattle.da_net.specs.Nodes.{IsFresh}
 use Rattle.da_net.specs.Seats.{IsFreshSeat}
-use Rattle.da_net.proofs.MakingLemmas.{zip_push, zip_same}
+use Rattle.da_net.proofs.MakingLemmas.{zip_same}
 use Rattle.da_net.proofs.making.add_lights.Goals as goal
+use Rattle.namespace_id.proofs.ZipLemmas.{zip_push}
 
 -- the next one is seated
 pub loop-node-preserved : goal.loop-node-preserved

@@ -4,8 +4,9 @@ use Rattle.std.proofs.lemmas.List.{replicate_more}
 use Rattle.da_net.specs.declared.seats.Seat.{Seat}
 use Rattle.da_net.specs.Networks.{full}
 use Rattle.da_net.specs.Seats.{IsFreshSeat}
-use Rattle.da_net.proofs.MakingLemmas.{zip_push, zip_same}
+use Rattle.da_net.proofs.MakingLemmas.{zip_same}
 use Rattle.da_net.proofs.making.full_seats.Goals as goal
+use Rattle.namespace_id.proofs.ZipLemmas.{zip_push}
 
 -- one more is there
 pub loop-number-preserved : goal.loop-number-preserved

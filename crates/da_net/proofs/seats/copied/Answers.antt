@@ -5,7 +5,7 @@ use Rattle.da_net.proofs.FullLemmas.{accepted_nodes}
 use Rattle.da_net.proofs.NetLemmas.{claim_accepts}
 use Rattle.da_net.proofs.seats.copied.Goals as goal
 
--- the claim is accepted, so there is room for the nodes of its set
+-- the claim is accepted, so there is capacity for the nodes of its set
 pub copy_claim-requires-clause-few : goal.copy_claim-requires-clause-few
 copy_claim-requires-clause-few g c =
     let accepts = claim_accepts g.F.Picker.picks c.args.header.now c.requires.seat.0 c.args.seat.now.node (option_copied c.claim.result) c.claim.ensures

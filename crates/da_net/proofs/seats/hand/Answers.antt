@@ -6,7 +6,7 @@ use Rattle.da_net.specs.Seats.{alarm_of, IsSeatStep, IsAcceptedItem}
 use Rattle.da_net.proofs.SeatLemmas.{unaccepted_step}
 use Rattle.da_net.proofs.seats.hand.Goals as goal
 
--- a message
+-- a sample
 pub returns-in-Message-clause-step : goal.returns-in-Message-clause-step
 returns-in-Message-clause-step g c = λ items is.
     subst (λ (one : Item). IsSeatStep g.F.Picker.picks c.args.header.now (items ++ one ∷ []) c.args.seat.now c.hand_message.new.seat) (sym c.in-Message.is)
@@ -27,7 +27,7 @@ returns-else-entry-clause-step g c = λ items is.
 
 -- ---- a collision
 
--- stays after a message
+-- stays after a sample
 pub returns-in-Message-clause-clashes : goal.returns-in-Message-clause-clashes
 returns-in-Message-clause-clashes g c = λ left right e.
     subst (λ (one : Item). AfterClash c.args.header.now left right one (alarm_of c.hand_message.new.seat.node)) (sym c.in-Message.is)

@@ -1,7 +1,7 @@
 use Rattle.std.proofs.Common.{List, subst}
 use Rattle.namespace_id.specs.declared.shares.Share.{Share}
 use Rattle.befp_maker.specs.Conflicts.{IsProofAgainst, IsClashAgainst}
-use Rattle.repair_queue.proofs.ConflictLemmas.{against_fraud, against_clash}
+use Rattle.repair_queue.proofs.Facts.ConflictLemmas.{against_fraud, against_clash}
 use Rattle.repair_queue.proofs.conflicts.conflict.Goals as goal
 
 -- the fraud proof is one of facts

@@ -1,5 +1,5 @@
 use Rattle.std.proofs.Common.{rules, ◌∙◌, ℕ, ◌+◌, sym, ap}
-use Rattle.repair_queue.proofs.RaiseLemmas.{IsOneMore, row_one_more, col_one_more, unqueued_counts, unqueued, queued_counts, queued}
+use Rattle.repair_queue.proofs.Counting.RaiseLemmas.{IsOneMore, row_one_more, col_one_more, unqueued_counts, unqueued, queued_counts, queued}
 use Rattle.repair_queue.proofs.counts.raise.Goals.{in-Row, in-Col}
 use Rattle.repair_queue.proofs.counts.raise.Goals as goal
 

@@ -2,8 +2,8 @@ use Rattle.std.proofs.Common.{◌≡◌, ◌∙◌, true, sym, subst}
 use Rattle.axis_roots.specs.declared.message.messages.Message.{Message}
 use Rattle.axis_roots.specs.Proved.{kept_message}
 use Rattle.repair_queue.specs.Boards.{is_lined, decided_of, share_of}
-use Rattle.repair_queue.proofs.KeepNewLemmas.{keeps_lined}
-use Rattle.repair_queue.proofs.TakeFromLemmas.{same_ne}
+use Rattle.repair_queue.proofs.Feeding.KeepNewLemmas.{keeps_lined}
+use Rattle.repair_queue.proofs.Places.TakeFromLemmas.{same_ne}
 use Rattle.repair_queue.proofs.entering.enter.Goals as goal
 
 -- its row or column is decided and has its share

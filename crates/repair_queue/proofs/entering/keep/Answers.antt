@@ -4,7 +4,7 @@ use Rattle.axis_roots.specs.declared.message.messages.Message.{Message}
 use Rattle.axis_roots.specs.Proved.{kept_message}
 use Rattle.repair_queue.specs.Boards.{given_of}
 use Rattle.repair_queue.specs.Repairs.{Shows}
-use Rattle.repair_queue.proofs.KeepNewLemmas.{keeps_shown, look_shows}
+use Rattle.repair_queue.proofs.Feeding.KeepNewLemmas.{keeps_shown, look_shows}
 use Rattle.repair_queue.proofs.entering.keep.Goals.{then-is_some-via-then-is_some, then-is_some-via-else-is_some+then-shows}
 use Rattle.repair_queue.proofs.entering.keep.Goals as goal
 

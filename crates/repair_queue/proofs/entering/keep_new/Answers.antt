@@ -5,7 +5,7 @@ use Rattle.axis_roots.specs.Proved.{kept_message}
 use Rattle.repair_queue.specs.Counts.{count_of, IsRaised}
 use Rattle.repair_queue.specs.Pools.{slot_in}
 use Rattle.repair_queue.specs.Boards.{given_of}
-use Rattle.repair_queue.proofs.KeepNewLemmas.{look_none, look_some, cross_none, cross_some, few_row, few_col, keeps_known, keeps_unknown}
+use Rattle.repair_queue.proofs.Feeding.KeepNewLemmas.{look_none, look_some, cross_none, cross_some, few_row, few_col, keeps_known, keeps_unknown}
 use Rattle.repair_queue.proofs.entering.keep_new.Goals as goal
 
 -- its row isn't known whole

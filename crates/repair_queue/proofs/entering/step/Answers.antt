@@ -1,8 +1,8 @@
 use Rattle.axis_roots.specs.Proved.{kept_message}
-use Rattle.repair_queue.proofs.DrainLemmas.{taken_none, steps_of}
+use Rattle.repair_queue.proofs.Feeding.DrainLemmas.{taken_none, steps_of}
 use Rattle.repair_queue.proofs.entering.step.Goals as goal
 
--- the message was taken in
+-- the sample was taken in
 pub drain-requires-clause-tools : goal.drain-requires-clause-tools
 drain-requires-clause-tools c =
     (taken_none c.args.header.now c.args.board.now c.take-ended.new.board c.take-ended.new.tools (kept_message c.args.message) c.take-ended.result c.is_some.result

@@ -3,7 +3,7 @@ use Rattle.namespace_id.proofs.StringLemmas.{front}
 use Rattle.axis_roots.proofs.Grids.AxisLemmas.{length-along}
 use Rattle.repair_queue.specs.declared.boards.Board.{Board}
 use Rattle.repair_queue.specs.Boards.{share_of}
-use Rattle.repair_queue.proofs.TakeLemmas.{taken_line, taken_against, taken_ends, beside_under, beside_axis, beside_cell, beside_clash}
+use Rattle.repair_queue.proofs.Feeding.TakeLemmas.{taken_line, taken_against, taken_ends, beside_under, beside_axis, beside_cell, beside_clash}
 use Rattle.repair_queue.proofs.entering.take.Goals as goal
 
 -- the line of a decided row or column is the header's
@@ -14,7 +14,7 @@ conflict-requires-clause-line c =
     c.read_along.new.line c.message.result.now c.message.ensures c.index-i.ensures c.read_along.ensures
     (front c.read_along.new.line _ c.args.tools.now.buffers.line.len (ap length c.read_along.ensures ∙ length-along c.enter.new.board.grid.k (share_of c.enter.new.board) c.in-Against.axis c.index-i.result ∙ ap (λ (b : Board). 2 * b.grid.k) c.in-Against.ensures.1 ∙ ap (λ (k : ℕ). 2 * k) (sym c.requires.good.width) ∙ sym c.requires.tools.buffers.line ∙ sym c.args.tools.now.buffers.line.ok.0))
 
--- the message is against it
+-- the sample is against it
 pub conflict-requires-clause-other : goal.conflict-requires-clause-other
 conflict-requires-clause-other c =
     taken_against c.args.header.now c.args.board.now c.enter.new.board c.requires.good c.args.message c.in-Against.message c.requires.under c.in-Against.axis c.in-Against.ensures.0
@@ -31,7 +31,7 @@ returns-in-Against c =
     (front c.read_along.new.line _ c.args.tools.now.buffers.line.len (ap length c.read_along.ensures ∙ length-along c.enter.new.board.grid.k (share_of c.enter.new.board) c.in-Against.axis c.index-i.result ∙ ap (λ (b : Board). 2 * b.grid.k) c.in-Against.ensures.1 ∙ ap (λ (k : ℕ). 2 * k) (sym c.requires.good.width) ∙ sym c.requires.tools.buffers.line ∙ sym c.args.tools.now.buffers.line.ok.0))
     c.conflict.result c.conflict.ensures.ended
 
--- a message of the same cell along the same axis is kept
+-- a sample of the same cell along the same axis is kept
 pub beside-requires-clause-other : goal.beside-requires-clause-other
 beside-requires-clause-other c = beside_under c.args.header.now c.args.board.now c.requires.good c.args.message c.in-Beside.message c.in-Beside.kept c.requires.under c.in-Beside.ensures.0 c.in-Beside.ensures.1 c.in-Beside.ensures.2 c.in-Beside.ensures.3
 

@@ -1,5 +1,5 @@
 use Rattle.std.proofs.Common.{arith}
-use Rattle.repair_queue.proofs.CompleteLemmas.{originals_known}
+use Rattle.repair_queue.proofs.Lines.CompleteLemmas.{originals_known}
 use Rattle.repair_queue.proofs.gathering.complete.Goals as goal
 
 pub overflow_sub-k : goal.overflow_sub-k

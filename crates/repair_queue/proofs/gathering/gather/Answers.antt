@@ -5,10 +5,10 @@ use Rattle.namespace_id.specs.declared.shares.Share.{Share}
 use Rattle.namespace_id.specs.Cells.{is_in_square}
 use Rattle.data_header.specs.Headers.{Roots}
 use Rattle.repair_queue.specs.Boards.{given_of, decided_of, share_of}
-use Rattle.repair_queue.proofs.HeldLineLemmas.{on_inside}
-use Rattle.repair_queue.proofs.GatherLemmas.{IsGathering, none_gathered, unknown_gathered, known_gathered, past_gathered, chosen_gathered}
+use Rattle.repair_queue.proofs.Lines.GatherLemmas.{IsGathering, none_gathered, unknown_gathered, known_gathered, past_gathered, chosen_gathered}
 use Rattle.repair_queue.proofs.gathering.gather.Goals.{then-len-header+in-Some, then-len-header+in_default, else-len-header}
 use Rattle.repair_queue.proofs.gathering.gather.Goals as goal
+use Rattle.axis_roots.proofs.Grids.WrittenLemmas.{on_axis_in_square}
 
 -- none at first
 pub loop-pos-init : goal.loop-pos-init
@@ -25,7 +25,7 @@ known_share-requires-clause-cell c =
     let same : c.header.inside.k ≡ c.args.header.now.k = ap (λ (x : Roots). x.k) c.header.view_is in
     subst (λ (k : ℕ). is_in_square k c.cell_on.result ≡ true) c.requires.good.width
     (subst (λ (x : Cell). is_in_square c.args.header.now.k x ≡ true) (sym c.cell_on.ensures)
-    (on_inside c.args.header.now.k c.args.axis c.args.index c.loop-pos.pos c.requires.index (omega arith)))
+    (on_axis_in_square c.args.header.now.k c.args.axis c.args.index c.loop-pos.pos c.requires.index (omega arith)))
 
 -- one position more
 pub loop-pos-preserved : goal.loop-pos-preserved

@@ -1,7 +1,7 @@
 use Rattle.std.proofs.Common.{◌≤◌}
 use Rattle.std.specs.Prelude.{vec_capacity}
 use Rattle.repair_queue.specs.Boards.{given_of, decided_of, share_of}
-use Rattle.repair_queue.proofs.GatherLemmas.{IsGathering}
+use Rattle.repair_queue.proofs.Lines.GatherLemmas.{IsGathering}
 use Rattle.repair_queue.proofs.gathering.gather.Given as goal
 
 -- the known positions that were looked at are gathered, as long as there are fewer than k

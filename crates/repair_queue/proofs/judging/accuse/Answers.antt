@@ -3,11 +3,11 @@ use Rattle.std.proofs.lemmas.Bool.{true≢false}
 use Rattle.axis_roots.specs.Claims.{ProofParts}
 use Rattle.repair_queue.specs.Verdicts.{IsFraud}
 use Rattle.repair_queue.specs.Boards.{given_of, decided_of, share_of}
-use Rattle.repair_queue.proofs.DecideLemmas.{gathered_facts}
-use Rattle.repair_queue.proofs.AccuseLemmas.{gathered_messages, half_here, accepts_here, fraud_here}
+use Rattle.repair_queue.proofs.Lines.DecideLemmas.{gathered_facts}
+use Rattle.repair_queue.proofs.Feeding.AccuseLemmas.{gathered_messages, half_here, accepts_here, fraud_here}
 use Rattle.repair_queue.proofs.judging.accuse.Goals as goal
 
--- the messages are those of k cells
+-- the samples are those of k cells
 pub from_half-requires-clause-half : goal.from_half-requires-clause-half
 from_half-requires-clause-half c =
     half_here c.args.header.now c.args.axis c.args.index c.args.tools.now.buffers.line.items c.args.tools.now.known.items c.messages_known-cells.result.items c.requires.index

@@ -3,7 +3,7 @@ use Rattle.namespace_id.specs.declared.shares.Share.{Share}
 use Rattle.repair_queue.specs.Boards.{given_of, decided_of, share_of}
 use Rattle.repair_queue.specs.Lines.{AreFacts}
 use Rattle.repair_queue.specs.Judging.{IsApartOrAlike}
-use Rattle.repair_queue.proofs.DecideLemmas.{apart_or_alike, gathered_facts, settles_decides}
+use Rattle.repair_queue.proofs.Lines.DecideLemmas.{apart_or_alike, gathered_facts, settles_decides}
 use Rattle.repair_queue.proofs.judging.decide.Goals as goal
 
 -- another share is known at a position, or none is

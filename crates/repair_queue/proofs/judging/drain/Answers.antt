@@ -1,7 +1,7 @@
 use Rattle.std.proofs.Common.{◌≡◌, ◌+◌, ◌*◌, ◌<◌, refl, arith, drop}
 use Rattle.repair_queue.specs.Boards.{decided_of}
-use Rattle.repair_queue.proofs.CountLemmas.{undecided_count, undecided-falls}
-use Rattle.repair_queue.proofs.DrainLemmas.{none_is, ends_drains, decided_none, passed_good, rested}
+use Rattle.repair_queue.proofs.Counting.CountLemmas.{undecided_count, undecided-falls}
+use Rattle.repair_queue.proofs.Feeding.DrainLemmas.{none_is, ends_drains, decided_none, passed_good, rested}
 use Rattle.repair_queue.proofs.judging.drain.Goals as goal
 
 -- deciding ends the session

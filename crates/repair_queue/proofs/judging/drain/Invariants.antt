@@ -2,7 +2,7 @@ use Rattle.std.proofs.Common.{List, ◌+◌, ◌-◌, ◌*◌}
 use Rattle.axis_roots.specs.declared.message.messages.Message.{Message}
 use Rattle.repair_queue.specs.Boards.{decided_of, IsGood, HoldsFor}
 use Rattle.repair_queue.specs.Tools.{AreTools}
-use Rattle.repair_queue.proofs.CountLemmas.{undecided_count}
+use Rattle.repair_queue.proofs.Counting.CountLemmas.{undecided_count}
 use Rattle.repair_queue.proofs.judging.drain.Given as goal
 
 -- the board is good, and stands for all that it stood for

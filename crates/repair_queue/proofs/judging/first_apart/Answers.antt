@@ -1,6 +1,6 @@
 use Rattle.std.proofs.Common.{arith}
 use Rattle.repair_queue.specs.Boards.{given_of, decided_of, share_of}
-use Rattle.repair_queue.proofs.TakeFromLemmas.{next_alike}
+use Rattle.repair_queue.proofs.Places.TakeFromLemmas.{next_alike}
 use Rattle.repair_queue.proofs.judging.first_apart.Goals as goal
 
 -- one position more

@@ -1,14 +1,14 @@
 use Rattle.std.proofs.Common.{refl, ◌∙◌}
 use Rattle.repair_queue.specs.Pools.{slot_in}
 use Rattle.repair_queue.specs.Boards.{given_of, decided_of, share_of}
-use Rattle.repair_queue.proofs.JudgeLemmas.{at_home, known_given, taken_message, emptied_sound}
+use Rattle.repair_queue.proofs.Feeding.JudgeLemmas.{at_home, known_given, taken_message, emptied_sound}
 use Rattle.repair_queue.proofs.judging.message_known.Goals as goal
 
 pub take_first-requires-clause-home : goal.take_first-requires-clause-home
 take_first-requires-clause-home c =
     at_home c.args.header.now (given_of c.args.board.now) (decided_of c.args.board.now) (share_of c.args.board.now) c.requires.readable.sound
 
--- a message of the cell is kept
+-- a sample of the cell is kept
 pub take_first-requires-clause-known : goal.take_first-requires-clause-known
 take_first-requires-clause-known c =
     known_given (given_of c.args.board.now) (decided_of c.args.board.now) c.args.cell c.requires.known (c.in-None.ensures.none refl)

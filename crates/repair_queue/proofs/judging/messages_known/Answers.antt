@@ -1,6 +1,6 @@
 use Rattle.std.proofs.Common.{rules, ◌≡◌, ◌∙◌, ◌+◌, [], ◌∷◌, ◌++◌, length, ap, arith}
 use Rattle.std.proofs.lemmas.List.{length_push}
-use Rattle.repair_queue.proofs.AccuseLemmas.{found_still, taken_more}
+use Rattle.repair_queue.proofs.Feeding.AccuseLemmas.{found_still, taken_more}
 use Rattle.repair_queue.proofs.judging.messages_known.Goals as goal
 
 -- the cell is known still
@@ -9,7 +9,7 @@ message_known-requires-clause-known c =
     found_still c.args.header.now c.args.board.now c.loop-i.board c.args.axis c.args.index c.args.known.now c.loop-i.cells.items c.loop-i.i c.loop-i.invariant.taken
     (omega arith) c.cell_on-cell.result _ c.cell_on-cell.ensures c.requires.found
 
--- one message more
+-- one sample more
 pub loop-i-preserved : goal.loop-i-preserved
 loop-i-preserved c =
     let items : c.push.new.self.items ≡ c.loop-i.cells.items ++ c.message_known.result ∷ [] = search rules in

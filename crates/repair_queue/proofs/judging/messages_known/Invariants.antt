@@ -1,9 +1,9 @@
 use Rattle.std.proofs.Common.{◌≡◌, ◌*◌, ◌≤◌, length, vec_len, vec_capacity}
 use Rattle.repair_queue.specs.Judging.{IsReadable}
-use Rattle.repair_queue.proofs.AccuseLemmas.{AreTakenTo}
+use Rattle.repair_queue.proofs.Feeding.AccuseLemmas.{AreTakenTo}
 use Rattle.repair_queue.proofs.judging.messages_known.Given as goal
 
--- messages of the cells so far were taken out or made
+-- samples of the cells so far were taken out or made
 abbrev pub invariant-loop-i : goal.invariant-loop-i
 invariant-loop-i l = record {
   readable : IsReadable l.header l.board;

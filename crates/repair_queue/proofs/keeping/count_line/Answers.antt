@@ -3,7 +3,7 @@ use Rattle.repair_queue.specs.declared.counts.Counts.{Counts}
 use Rattle.repair_queue.specs.Pools.{slot_in}
 use Rattle.repair_queue.specs.Boards.{mark_of}
 use Rattle.repair_queue.specs.Counts.{AreCounts, count_of, pending, AreQueued}
-use Rattle.repair_queue.proofs.CountLineLemmas.{IsCountedSo, none_so, known_so, unknown_so, few_so, all_so}
+use Rattle.repair_queue.proofs.Counting.CountLineLemmas.{IsCountedSo, none_so, known_so, unknown_so, few_so, all_so}
 use Rattle.repair_queue.proofs.keeping.count_line.Goals.{then-not-is_found, else-not-is_found}
 use Rattle.repair_queue.proofs.keeping.count_line.Goals as goal
 

@@ -2,7 +2,7 @@ use Rattle.std.proofs.Common.{◌≡◌}
 use Rattle.repair_queue.specs.Pools.{slot_in}
 use Rattle.repair_queue.specs.Boards.{mark_of}
 use Rattle.repair_queue.specs.Counts.{AreCounts, count_of, pending}
-use Rattle.repair_queue.proofs.CountLineLemmas.{IsCountedSo}
+use Rattle.repair_queue.proofs.Counting.CountLineLemmas.{IsCountedSo}
 use Rattle.repair_queue.proofs.keeping.count_line.Given as goal
 
 -- the unknown cells that were looked at are counted

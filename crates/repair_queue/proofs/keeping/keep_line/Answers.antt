@@ -6,7 +6,7 @@ use Rattle.nmt_tree.proofs.SpanLemmas.{length-leaf_digests}
 use Rattle.axis_roots.specs.Lines.{line_names}
 use Rattle.axis_roots.specs.Trees.{line_leaves}
 use Rattle.axis_roots.proofs.Grids.LineLemmas.{length-line_names}
-use Rattle.repair_queue.proofs.KeepLineLemmas.{IsLineKeptOn, kept_good, kept_stands, written_as}
+use Rattle.repair_queue.proofs.Lines.KeepLineLemmas.{IsLineKeptOn, kept_good, kept_stands, written_as}
 use Rattle.repair_queue.proofs.keeping.keep_line.Goals as goal
 
 -- there are as many digests as shares
@@ -49,7 +49,7 @@ returns-clause-good c =
     kept_good c.args.header.now c.args.board.now c.args.axis c.args.index c.args.line.now c.count_line.new.counts c.write_shares.new.grid
     (with_items c.args.board.now.leaves c.write_leaves.new.leaves) c.set_mark.new.marks x
 
--- and stands for the same messages
+-- and stands for the same samples
 pub returns-clause-stands : goal.returns-clause-stands
 returns-clause-stands c =
     let same : c.header.inside.k ≡ c.args.header.now.k = ap (λ (x : Roots). x.k) c.header.view_is in

@@ -1,6 +1,6 @@
 use Rattle.std.proofs.Common.{◌∙◌, arith}
 use Rattle.std.proofs.lemmas.List.{length-set}
-use Rattle.repair_queue.proofs.WriteLemmas.{none_written, one_written, all_written}
+use Rattle.repair_queue.proofs.Lines.WriteLemmas.{none_written, one_written, all_written}
 use Rattle.repair_queue.proofs.keeping.write_leaves.Goals as goal
 
 -- none is written

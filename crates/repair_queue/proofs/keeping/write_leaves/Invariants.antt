@@ -1,5 +1,5 @@
 use Rattle.std.proofs.Common.{◌≡◌, ◌*◌, length}
-use Rattle.repair_queue.proofs.WriteLemmas.{AreWrittenSo}
+use Rattle.repair_queue.proofs.Lines.WriteLemmas.{AreWrittenSo}
 use Rattle.repair_queue.proofs.keeping.write_leaves.Given as goal
 
 -- the digests so far

@@ -1,7 +1,7 @@
 use Rattle.std.proofs.Common.{◌≡◌, true}
 use Rattle.repair_queue.specs.Closures.{seen, filled, shown, rebuilt}
-use Rattle.repair_queue.proofs.ClosureLemmas.{half_least, fact_least, half_fact, fact_half, half_grows, fact_grows}
-use Rattle.repair_queue.proofs.DerivationLemmas.{half_listed, listed_half, fact_listed, listed_fact}
+use Rattle.repair_queue.proofs.Facts.ClosureLemmas.{half_least, fact_least, half_fact, fact_half, half_grows, fact_grows}
+use Rattle.repair_queue.proofs.Facts.DerivationLemmas.{half_listed, listed_half, fact_listed, listed_fact}
 use Rattle.repair_queue.proofs.laws.closure_laws.Goals as goal
 
 pub returns-clause-cells : goal.returns-clause-cells

@@ -1,4 +1,4 @@
-use Rattle.repair_queue.proofs.SessionLawLemmas.{session_same, session_known, session_settled, session_accused, session_collided}
+use Rattle.repair_queue.proofs.Facts.SessionLawLemmas.{session_same, session_known, session_settled, session_accused, session_collided}
 use Rattle.repair_queue.proofs.laws.session_laws.Goals as goal
 
 pub returns-clause-same_proved : goal.returns-clause-same_proved

@@ -1,5 +1,5 @@
-use Rattle.repair_queue.proofs.SettledLemmas.{settled_fits, fits_settles, fits_once, fact_on_line, cells_fit}
-use Rattle.repair_queue.proofs.GrowthLemmas.{settled_same}
+use Rattle.repair_queue.proofs.Facts.SettledLemmas.{settled_fits, fits_settles, fits_once, fact_on_line, cells_fit}
+use Rattle.repair_queue.proofs.Facts.GrowthLemmas.{settled_same}
 use Rattle.repair_queue.proofs.laws.settled_laws.Goals as goal
 
 pub returns-clause-fits : goal.returns-clause-fits

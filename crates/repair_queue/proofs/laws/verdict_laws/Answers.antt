@@ -1,9 +1,9 @@
-use Rattle.repair_queue.proofs.FraudLemmas.{fraud_unsettled}
-use Rattle.repair_queue.proofs.VerdictLemmas.{whole_missing, one_square, one_missing, alike}
-use Rattle.repair_queue.proofs.GrowthLemmas.{fraud_grows, clash_grows, same_verdict}
-use Rattle.repair_queue.proofs.WholeLemmas.{whole_there, whole_square}
-use Rattle.repair_queue.proofs.OwnLemmas.{own_verdict, own_unnamed}
-use Rattle.repair_queue.proofs.NothingLemmas.{all_missing}
+use Rattle.repair_queue.proofs.Facts.FraudLemmas.{fraud_unsettled}
+use Rattle.repair_queue.proofs.Facts.VerdictLemmas.{whole_missing, one_square, one_missing, alike}
+use Rattle.repair_queue.proofs.Facts.GrowthLemmas.{fraud_grows, clash_grows, same_verdict}
+use Rattle.repair_queue.proofs.Facts.WholeLemmas.{whole_there, whole_square}
+use Rattle.repair_queue.proofs.Facts.OwnLemmas.{own_verdict, own_unnamed}
+use Rattle.repair_queue.proofs.Facts.NothingLemmas.{all_missing}
 use Rattle.repair_queue.proofs.laws.verdict_laws.Goals as goal
 
 pub returns-clause-whole_missing : goal.returns-clause-whole_missing

@@ -2,7 +2,7 @@ use Rattle.axis_roots.proofs.Grids.NumberLemmas.{position-lt}
 use Rattle.std.proofs.Common.{ℕ, ◌*◌, ◌<◌, subst}
 use Rattle.axis_roots.specs.Messages.{position}
 use Rattle.axis_roots.specs.Proved.{kept_message}
-use Rattle.repair_queue.proofs.MakeLemmas.{made_share}
+use Rattle.repair_queue.proofs.Lines.MakeLemmas.{made_share}
 use Rattle.repair_queue.proofs.making.make.Goals as goal
 
 -- it shows the grid's share

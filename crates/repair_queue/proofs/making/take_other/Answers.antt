@@ -1,10 +1,10 @@
 use Rattle.std.proofs.Common.{◌∙◌, sym}
 use Rattle.namespace_id.specs.declared.cells.Axis.TheVariants.{Row, Col}
 use Rattle.repair_queue.specs.Pools.{slot_in}
-use Rattle.repair_queue.proofs.MakeLemmas.{other_col}
+use Rattle.repair_queue.proofs.Lines.MakeLemmas.{other_col}
 use Rattle.repair_queue.proofs.making.take_other.Goals as goal
 
--- the message along the row
+-- the sample along the row
 pub returns-then-is_other-clause-kept : goal.returns-then-is_other-clause-kept
 returns-then-is_other-clause-kept c = (Row, sym c.take_from.ensures.value ∙ c.unwrap.ensures)
 

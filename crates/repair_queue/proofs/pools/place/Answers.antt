@@ -1,5 +1,5 @@
 use Rattle.std.proofs.Common.{ℕ, ◌<◌, sym, subst, length}
-use Rattle.repair_queue.proofs.PoolLemmas.{place_read, row_place, col_place, place-lt}
+use Rattle.repair_queue.proofs.Places.PoolLemmas.{place_read, row_place, col_place, place-lt}
 use Rattle.repair_queue.proofs.pools.place.Goals as goal
 
 -- the place along the row

@@ -1,9 +1,9 @@
 use Rattle.std.proofs.Common.{rules}
 use Rattle.axis_roots.specs.Proved.{kept_message}
-use Rattle.repair_queue.proofs.PutInLemmas.{room_left, row_pool, col_pool, row_put_in, col_put_in}
+use Rattle.repair_queue.proofs.Places.PutInLemmas.{room_left, row_pool, col_pool, row_put_in, col_put_in}
 use Rattle.repair_queue.proofs.pools.put_in.Goals as goal
 
--- there is room for a message whose place is empty
+-- there is capacity for a sample whose place is empty
 pub unwrap-requires : goal.unwrap-requires
 unwrap-requires c =
     c.push.ensures.succeeds (room_left c.args.pool.now c.requires.pool (kept_message c.args.kept).axis (kept_message c.args.kept).cell c.requires.cell c.requires.empty)

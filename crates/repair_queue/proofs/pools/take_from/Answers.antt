@@ -1,5 +1,5 @@
 use Rattle.repair_queue.specs.Pools.{place_of}
-use Rattle.repair_queue.proofs.TakeFromLemmas.{emptied}
+use Rattle.repair_queue.proofs.Places.TakeFromLemmas.{emptied}
 use Rattle.repair_queue.proofs.pools.take_from.Goals as goal
 
 -- its slot is empty then, and all others are as they were

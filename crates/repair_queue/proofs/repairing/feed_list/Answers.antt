@@ -5,7 +5,7 @@ use Rattle.data_header.specs.Headers.{Roots}
 use Rattle.axis_roots.specs.declared.message.proved.Proved.{Proved}
 use Rattle.axis_roots.specs.Proved.{IsUnder, kept_message}
 use Rattle.repair_queue.specs.SessionParts.{StandsFor}
-use Rattle.repair_queue.proofs.SessionLemmas.{one_more}
+use Rattle.repair_queue.proofs.Feeding.SessionLemmas.{one_more}
 use Rattle.repair_queue.proofs.repairing.feed_list.Goals as goal
 
 -- none is fed yet

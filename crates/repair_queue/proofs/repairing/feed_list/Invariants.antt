@@ -5,7 +5,7 @@ use Rattle.axis_roots.specs.Proved.{IsUnder, kept_message}
 use Rattle.repair_queue.specs.SessionParts.{StandsFor}
 use Rattle.repair_queue.proofs.repairing.feed_list.Given as goal
 
--- the session is fed with the messages so far
+-- the session is fed with the samples so far
 abbrev pub invariant-loop-message : goal.invariant-loop-message
 invariant-loop-message l = record {
   split : l.fn.messages.items ≡ l.yielded ++ l.message-iterator.rest.items;

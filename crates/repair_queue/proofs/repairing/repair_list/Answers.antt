@@ -1,7 +1,7 @@
 use Rattle.std.proofs.Common.{map}
 use Rattle.axis_roots.specs.Proved.{kept_message}
 use Rattle.repair_queue.specs.Answers.{parts_of}
-use Rattle.repair_queue.proofs.WholeRepairLemmas.{if_ok, own_answer, alike_answer}
+use Rattle.repair_queue.proofs.Facts.WholeRepairLemmas.{if_ok, own_answer, alike_answer}
 use Rattle.repair_queue.proofs.repairing.repair_list.Goals as goal
 
 pub returns-clause-own : goal.returns-clause-own

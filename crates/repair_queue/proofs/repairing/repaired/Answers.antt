@@ -5,7 +5,7 @@ use Rattle.repair_queue.specs.Verdicts.{IsVerdict}
 use Rattle.repair_queue.specs.Answers.{parts_of}
 use Rattle.repair_queue.proofs.repairing.repaired.Goals as goal
 
--- the session's answer is one over all messages
+-- the session's answer is one over all samples
 pub returns : goal.returns
 returns c =
     subst (λ (h : Roots). IsVerdict h (map kept_message c.args.messages.items) (parts_of c.finish.result))

@@ -2,7 +2,7 @@ use Rattle.std.proofs.Common.{◌≡◌, ◌∙◌, length, ap, arith}
 use Rattle.std.proofs.lemmas.List.{length-set}
 use Rattle.data_header.specs.Headers.{Roots}
 use Rattle.axis_roots.proofs.Grids.LineLemmas.{length-line_names}
-use Rattle.repair_queue.proofs.DigestLemmas.{name_at, next_digest, all_digests}
+use Rattle.repair_queue.proofs.Lines.DigestLemmas.{name_at, next_digest, all_digests}
 use Rattle.repair_queue.proofs.rooting.digest_leaves.Goals as goal
 
 pub bounds-names-at : goal.bounds-names-at

@@ -1,7 +1,7 @@
 use Rattle.std.proofs.Common.{◌∙◌, ℕ, IsTrue, length, sym, ap, subst}
 use Rattle.nmt_tree.specs.Roots.{is_leaf_count}
 use Rattle.axis_roots.proofs.Grids.LineLemmas.{length-line_names}
-use Rattle.repair_queue.proofs.MakeLemmas.{falls, rises}
+use Rattle.repair_queue.proofs.Lines.MakeLemmas.{falls, rises}
 use Rattle.repair_queue.proofs.rooting.root_over.Goals as goal
 
 -- the names fall

@@ -2,7 +2,7 @@ use Rattle.std.proofs.Common.{◌≡◌, ◌∙◌, ℕ, [], sym, ap, subst}
 use Rattle.namespace_id.specs.Cells.{CellList}
 use Rattle.data_header.specs.Headers.{Roots, AreRoots}
 use Rattle.repair_queue.specs.Verdicts.{IsWhole, IsMissing}
-use Rattle.repair_queue.proofs.FinishLemmas.{none_in, some_in, open_missing, open_whole}
+use Rattle.repair_queue.proofs.Feeding.FinishLemmas.{none_in, some_in, open_missing, open_whole}
 use Rattle.repair_queue.proofs.sessions.answer_open.Goals as goal
 
 -- where no cell is unknown, the original shares are a whole square

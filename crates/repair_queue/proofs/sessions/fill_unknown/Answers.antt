@@ -3,7 +3,7 @@ use Rattle.namespace_id.specs.declared.cells.Cell.{Cell}
 use Rattle.namespace_id.specs.Cells.{is_in_square}
 use Rattle.namespace_id.proofs.NumberLemmas.{in_square}
 use Rattle.repair_queue.specs.Boards.{given_of, decided_of, is_found}
-use Rattle.repair_queue.proofs.NotFoundLemmas.{IsFilling, none_left, all_left, comes_after, left_same, left_more}
+use Rattle.repair_queue.proofs.Feeding.NotFoundLemmas.{IsFilling, none_left, all_left, comes_after, left_same, left_more}
 use Rattle.repair_queue.proofs.sessions.fill_unknown.Goals.{then-not-is_known, else-not-is_known}
 use Rattle.repair_queue.proofs.sessions.fill_unknown.Goals as goal
 

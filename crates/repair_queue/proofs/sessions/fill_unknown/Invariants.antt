@@ -1,5 +1,5 @@
 use Rattle.repair_queue.specs.Boards.{given_of, decided_of, is_found}
-use Rattle.repair_queue.proofs.NotFoundLemmas.{IsFilling}
+use Rattle.repair_queue.proofs.Feeding.NotFoundLemmas.{IsFilling}
 use Rattle.repair_queue.proofs.sessions.fill_unknown.Given as goal
 
 -- the unknown cells so far

@@ -1,7 +1,7 @@
 use Rattle.std.proofs.Common.{rules, ◌≡◌, ◌∙◌, ℕ, ◌+◌, ◌*◌, ◌<◌, ◌++◌, ◌∷◌, [], sym, subst, arith}
 use Rattle.namespace_id.specs.declared.cells.Cell.{Cell}
 use Rattle.repair_queue.specs.Boards.{share_of}
-use Rattle.repair_queue.proofs.SharesLemmas.{AreSharesBelow, no_shares, shares_more, all_shares}
+use Rattle.repair_queue.proofs.Feeding.SharesLemmas.{AreSharesBelow, no_shares, shares_more, all_shares}
 use Rattle.repair_queue.proofs.sessions.original_shares.Goals as goal
 
 -- none at first
@@ -11,7 +11,7 @@ loop-number-init c = record {
   space = c.requires.room;
 }
 
--- there is room
+-- there is capacity
 pub unwrap-requires : goal.unwrap-requires
 unwrap-requires c =
     let below : c.loop-number.number < c.args.board.now.grid.k * c.args.board.now.grid.k =

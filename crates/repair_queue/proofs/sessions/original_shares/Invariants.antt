@@ -1,7 +1,7 @@
 use Rattle.std.proofs.Common.{◌*◌, ◌≤◌}
 use Rattle.std.specs.Prelude.{vec_capacity}
 use Rattle.repair_queue.specs.Boards.{share_of}
-use Rattle.repair_queue.proofs.SharesLemmas.{AreSharesBelow}
+use Rattle.repair_queue.proofs.Feeding.SharesLemmas.{AreSharesBelow}
 use Rattle.repair_queue.proofs.sessions.original_shares.Given as goal
 
 -- the shares so far

@@ -11,7 +11,7 @@ use Rattle.befp_maker.proofs.rooms.AxisRoom.proved.Goals as goal
 pub path-path-requires-clause-ordered : goal.path-path-requires-clause-ordered
 path-path-requires-clause-ordered c = (strict_there c.args.self.now.k c.args.axis c.args.index c.args.self.now.shares _ c.requires.root).0
 
--- its message is proved
+-- its sample is proved
 pub certify-requires : goal.certify-requires
 certify-requires c =
     let room : RoomParts = c.args.self.now in

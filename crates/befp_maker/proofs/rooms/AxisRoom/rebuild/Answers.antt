@@ -3,8 +3,9 @@ use Rattle.namespace_id.proofs.StringLemmas.{front}
 use Rattle.leopard_code.specs.Codewords.{are_positions}
 use Rattle.axis_roots.specs.Messages.{position}
 use Rattle.axis_roots.specs.Claims.{positions_of, claim_with, IsThrough}
+use Rattle.axis_roots.proofs.Messages.ClaimLemmas.{positions_fit, shape_of}
 use Rattle.befp_maker.specs.Rooms.{RoomParts}
-use Rattle.befp_maker.proofs.CellLemmas.{map-kept, shape_positions, line_through}
+use Rattle.befp_maker.proofs.CellLemmas.{map-kept, line_through}
 use Rattle.befp_maker.proofs.rooms.AxisRoom.rebuild.Goals as goal
 
 -- the positions that were gathered are those of the cells
@@ -16,7 +17,8 @@ rebuild-requires-clause-positions c =
     let width : c.self.inside.code ≡ c.args.self.now.k = c.self.invariant.coded ∙ ap (λ (r : RoomParts). r.k) c.self.view_is in
     subst (λ (k : ℕ). IsTrue (are_positions k c.deref.result.now)) (sym width)
     (subst (λ (ps : List ℕ). IsTrue (are_positions c.args.self.now.k ps)) (sym known)
-    (shape_positions c.args.self.now.k (claim_with c.args.axis c.args.index c.args.cells.now) c.requires.shape c.requires.inside))
+    (positions_fit c.args.self.now.k (claim_with c.args.axis c.args.index c.args.cells.now)
+    (shape_of c.args.self.now.k (claim_with c.args.axis c.args.index c.args.cells.now) c.requires.shape) c.requires.inside))
 
 -- the line that was rebuilt is through the cells
 pub returns-clause-through : goal.returns-clause-through

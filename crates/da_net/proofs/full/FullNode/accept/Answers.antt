@@ -12,7 +12,7 @@ pub returns-then-has_claim-clause-stands : goal.returns-then-has_claim-clause-st
 returns-then-has_claim-clause-stands c = λ items is.
     full_kept c.args.header.now items c.args.claim.now c.args.self.now (c.has_claim.ensures.yes c.if-has_claim.true) is
 
--- there is room for the nodes of its set
+-- there is capacity for the nodes of its set
 pub copy_claim-copy-requires-clause-few : goal.copy_claim-copy-requires-clause-few
 copy_claim-copy-requires-clause-few c = accepted_nodes c.args.header.now c.args.claim.now c.requires.accepts
 

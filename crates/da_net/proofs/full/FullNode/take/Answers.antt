@@ -6,7 +6,7 @@ use Rattle.da_net.specs.Nodes.{HasSpare, IsFed}
 use Rattle.da_net.proofs.FullLemmas.{session_of, full_ended, full_refused, taken_on, taken_end, room_end, none_rejects}
 use Rattle.da_net.proofs.full.FullNode.take.Goals as goal
 
--- the session of an open node stands for its messages
+-- the session of an open node stands for its samples
 pub feed-requires-clause-fed : goal.feed-requires-clause-fed
 feed-requires-clause-fed c =
     let items = c.requires.node.0 in
@@ -18,7 +18,7 @@ pub returns-then-is_some-clause-stands : goal.returns-then-is_some-clause-stands
 returns-then-is_some-clause-stands c = λ items is.
     full_ended c.args.header.now items c.args.message c.args.self.now (sym c.is_some.ensures ∙ c.if-is_some.true) is
 
--- the message isn't proved
+-- the sample isn't proved
 pub returns-in_default-clause-stands : goal.returns-in_default-clause-stands
 returns-in_default-clause-stands c = λ items is.
     full_refused c.args.header.now items c.args.message c.args.self.now

@@ -41,7 +41,7 @@ copied-claim-requires-clause-rejects g c =
     (alarm_there c.self.inside.header seats.items c.self.inside.most_items c.self.inside.most_steps pool.items steps c.args.by c.index_mut.result.now at)
     (subst (λ (n : NetParts). is_some (claim_in (alarm_at n c.args.by)) ≡ true) (sym c.self.view_is) c.requires.rejects)
 
--- and has room for publishing it
+-- and has a room for publishing it
 pub copied-claim-requires-clause-room : goal.copied-claim-requires-clause-room
 copied-claim-requires-clause-room g c =
     let pool = c.self.inside.pool in

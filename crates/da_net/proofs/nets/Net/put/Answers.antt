@@ -10,7 +10,7 @@ use Rattle.da_net.specs.Seats.{items_in, IsNet}
 use Rattle.da_net.proofs.NetLemmas.{seen, net_put, room_for_step, room_for_item}
 use Rattle.da_net.proofs.nets.Net.put.Goals as goal
 
--- there is room for the item
+-- there is capacity for the item
 pub push_reserved-requires : goal.push_reserved-requires
 push_reserved-requires g c =
     let free = subst (λ (n : NetParts). is_full n (event.Put c.args.item) ≡ false) (sym c.self.view_is) c.requires in

@@ -10,11 +10,11 @@ pub invariant_of-result : goal.invariant_of-result
 invariant_of-result g c = (
   c.in_ok-room.ensures ∙ c.width-k.ensures.value,
   good_new g.F.Picker.can_pick g.F.Picker.picks c.args.pick c.args.limit c.in_ok-header.header c.new-2.result.keys
-      c.in-Ok.shown.items
+      c.in_ok-shown.shown.items
       (subst (λ (k : ℕ). is_width k ≡ true) c.width-k.ensures.value c.width-k.ensures.width)
       (subst (λ (h : Roots). PicksInside g.F.Picker.can_pick g.F.Picker.picks c.args.pick c.args.limit h.k) (sym
       c.in_ok-header.ensures) c.requires.picker)
-      (sym c.in-Ok.shown.ok.0 ∙ c.in-Ok.ensures.len ∙ ap (λ (k : ℕ). 2 * k * (2 * k)) c.width-k.ensures.value)
+      (sym c.in_ok-shown.shown.ok.0 ∙ c.in_ok-shown.ensures.len ∙ ap (λ (k : ℕ). 2 * k * (2 * k)) c.width-k.ensures.value)
       c.new-2.ensures.empty,
   tt,
 )

@@ -1,8 +1,8 @@
 use Rattle.std.proofs.Common.{rules, ◌≡◌, ◌∙◌, ℕ, ◌*◌, ◌<◌, length, sym, subst}
 use Rattle.std.proofs.lemmas.Bool.{true≢false}
 use Rattle.axis_roots.proofs.Grids.NumberLemmas.{width-ge}
-use Rattle.repair_queue.proofs.StandLemmas.{nothing_sound}
-use Rattle.repair_queue.proofs.CountedLemmas.{nothing_lined, nothing_counted, nothing_waiting}
+use Rattle.repair_queue.proofs.Feeding.StandLemmas.{nothing_sound}
+use Rattle.repair_queue.proofs.Counting.CountedLemmas.{nothing_lined, nothing_counted, nothing_waiting}
 use Rattle.repair_queue.proofs.boards.Board.new.Goals as goal
 
 -- nothing is kept and nothing is decided
@@ -16,7 +16,7 @@ returns-clause-good c header width = record {
     pool = c.in_ok-pool.ensures.pool;
     marks = c.in_ok-marks.ensures.marks;
     counts = c.in_ok-counts.ensures.counts;
-    digests = subst (λ (k : ℕ). length c.in-Ok.leaves.items ≡ 2 * k * (2 * k)) (sym c.in_ok-grid.ensures.width) (search rules);
+    digests = subst (λ (k : ℕ). length c.in_ok-leaves.leaves.items ≡ 2 * k * (2 * k)) (sym c.in_ok-grid.ensures.width) (search rules);
   };
   sound = nothing_sound header _ _ _ c.in_ok-pool.ensures.empty c.in_ok-marks.ensures.undecided;
   leaves = λ cell within on. absurd (true≢false (sym on ∙ nothing_lined _ c.in_ok-marks.ensures.undecided cell));

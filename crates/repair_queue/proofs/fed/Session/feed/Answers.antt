@@ -1,8 +1,8 @@
 use Rattle.std.proofs.Common.{◌∙◌, [], ◌∷◌, ◌++◌, sym, subst}
 use Rattle.axis_roots.specs.Proved.{kept_message}
 use Rattle.repair_queue.specs.SessionParts.{SessionParts, StandsFor}
-use Rattle.repair_queue.proofs.SessionLemmas.{open_of}
-use Rattle.repair_queue.proofs.ViewLemmas.{step_stands, ended_stands}
+use Rattle.repair_queue.proofs.Feeding.SessionLemmas.{open_of}
+use Rattle.repair_queue.proofs.Feeding.ViewLemmas.{step_stands, ended_stands}
 use Rattle.repair_queue.proofs.fed.Session.feed.Goals.{then-is_none+in-Some+in-Fraud-1, then-is_none+in-Some+in-Clash-1, then-is_none+in-None-1, else-is_none}
 use Rattle.repair_queue.proofs.fed.Session.feed.Goals as goal
 
@@ -12,7 +12,7 @@ step-requires-clause-tools c =
     (open_of c.self.inside.header c.self.inside.board c.self.inside.tools c.self.inside.ended c.is_none.result c.is_none.ensures c.if-is_none.true
     c.self.invariant.open_board).1
 
--- it stands for one message more
+-- it stands for one sample more
 pub returns-clause-stands : goal.returns-clause-stands
 returns-clause-stands c = elim c.if-is_none.branch [
   | then-is_none+in-Some+in-Fraud-1 w ↦ λ ms stand.

@@ -6,8 +6,8 @@ use Rattle.repair_queue.specs.Verdicts.{IsVerdict}
 use Rattle.repair_queue.specs.Answers.{parts_of}
 use Rattle.repair_queue.specs.OpenBoards.{KeepsFor}
 use Rattle.repair_queue.specs.SessionParts.{SessionParts, StandsFor}
-use Rattle.repair_queue.proofs.FinishLemmas.{ended_verdict}
-use Rattle.repair_queue.proofs.ViewLemmas.{stands_keeps}
+use Rattle.repair_queue.proofs.Feeding.FinishLemmas.{ended_verdict}
+use Rattle.repair_queue.proofs.Feeding.ViewLemmas.{stands_keeps}
 use Rattle.repair_queue.proofs.fed.Session.finish.Goals as goal
 
 -- what the board answers

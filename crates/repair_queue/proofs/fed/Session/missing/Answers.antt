@@ -3,8 +3,8 @@ use Rattle.data_header.specs.Headers.{Roots}
 use Rattle.repair_queue.specs.declared.fed.SessionState.TheVariants as state
 use Rattle.repair_queue.specs.SessionParts.{SessionParts, StandsFor}
 use Rattle.repair_queue.specs.Sessions.{state_of, AreLeft}
-use Rattle.repair_queue.proofs.FinishLemmas.{left_width, held_left}
-use Rattle.repair_queue.proofs.ViewLemmas.{stands_keeps}
+use Rattle.repair_queue.proofs.Feeding.FinishLemmas.{left_width, held_left}
+use Rattle.repair_queue.proofs.Feeding.ViewLemmas.{stands_keeps}
 use Rattle.repair_queue.proofs.fed.Session.missing.Goals as goal
 
 -- the room stays for the header's width

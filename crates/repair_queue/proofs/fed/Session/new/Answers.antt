@@ -3,9 +3,9 @@ use Rattle.std.specs.Prelude.{None, vec_capacity}
 use Rattle.axis_roots.proofs.Grids.NumberLemmas.{width-ge}
 use Rattle.repair_queue.specs.Boards.{given_of, decided_of, share_of}
 use Rattle.repair_queue.specs.Tools.{AreTools}
-use Rattle.repair_queue.proofs.StandLemmas.{nothing_stands}
-use Rattle.repair_queue.proofs.FinishLemmas.{nothing_rests}
-use Rattle.repair_queue.proofs.ViewLemmas.{keeps_stands}
+use Rattle.repair_queue.proofs.Feeding.StandLemmas.{nothing_stands}
+use Rattle.repair_queue.proofs.Feeding.FinishLemmas.{nothing_rests}
+use Rattle.repair_queue.proofs.Feeding.ViewLemmas.{keeps_stands}
 use Rattle.repair_queue.proofs.fed.Session.new.Goals as goal
 
 -- nothing is known of any cell
@@ -19,11 +19,11 @@ invariant_of-result c = record {
         (subst (λ (k : ℕ). 0 < k) c.width-k.ensures.value (width-ge c.width-k.result c.width-k.ensures.width)) c.in_ok-board.ensures.empty c.in_ok-board.ensures.undecided,
   );
   empty = search rules;
-  space = subst (λ (k : ℕ). k * k ≤ vec_capacity c.in-Ok.shares) c.width-k.ensures.value (omega (arith, c.in-Ok.ensures.capacity));
+  space = subst (λ (k : ℕ). k * k ≤ vec_capacity c.in_ok-shares.shares) c.width-k.ensures.value (omega (arith, c.in_ok-shares.ensures.capacity));
   cells = c.in_ok-room.ensures.k ∙ c.width-k.ensures.value;
 }
 
--- so it stands for no message
+-- so it stands for no sample
 pub returns-clause-stands : goal.returns-clause-stands
 returns-clause-stands c =
     keeps_stands c.in_ok-header.header c.in_ok-board.board c.in_ok-tools.tools None (invariant_of-result c).open_board []

@@ -6,11 +6,11 @@ pub returns : goal.returns
 returns c = record {
   buffers = search rules;
   code = search rules;
-  known = omega (arith, c.in-Ok.ensures.capacity);
-  given = omega (arith, c.in-Ok-with_capacity.ensures.capacity);
+  known = omega (arith, c.in_ok-known.ensures.capacity);
+  given = omega (arith, c.in_ok-given.ensures.capacity);
   names = search rules;
   digests = search rules;
   folded = search rules;
   across = search rules;
-  spare = (c.in-Ok-with_capacity-2.spare, refl, search rules);
+  spare = (c.in_ok-spare.spare, refl, search rules);
 }

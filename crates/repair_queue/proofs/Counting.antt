@@ -1,0 +1,7 @@
+-- Numbers that pass a test, and counts of known cells and of decided rows and columns.
+pub mod AscentLemmas
+pub mod PassingLemmas
+pub mod CountLemmas
+pub mod CountedLemmas
+pub mod CountLineLemmas
+pub mod RaiseLemmas

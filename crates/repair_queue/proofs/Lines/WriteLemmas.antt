@@ -1,0 +1,68 @@
+-- Digests of leaves that are written along a row or a column.
+use Rattle.std.proofs.Common.{◌≡◌, ◌≢◌, ◌∙◌, ℕ, ◌+◌, ◌*◌, ◌<◌, List, length, get_or, set, true, refl, sym, ap, inl, inr, arith}
+use Rattle.std.proofs.lemmas.Bool.{cases_eq}
+use Rattle.std.proofs.lemmas.List.{get_or-set_same, get_or-set_other, get_or_default}
+use Rattle.namespace_id.specs.declared.cells.Cell.{Cell}
+use Rattle.namespace_id.specs.declared.cells.Axis.{Axis}
+use Rattle.namespace_id.specs.declared.digests.Digest.{Digest}
+use Rattle.namespace_id.specs.Cells.{is_in_square}
+use Rattle.namespace_id.specs.Digests.{no_digest}
+use Rattle.axis_roots.specs.Messages.{index, position}
+use Rattle.axis_roots.specs.Lines.{cell_on}
+use Rattle.axis_roots.proofs.Grids.AxisLemmas.{index-cell_on, position-cell_on}
+use Rattle.axis_roots.proofs.Grids.NumberLemmas.{inside, cell_of, cell_of-number}
+use Rattle.axis_roots.proofs.Grids.WrittenLemmas.{on_axis_in_square}
+use Rattle.repair_queue.specs.Keeping.{AreWrittenLeaves}
+use Rattle.repair_queue.proofs.Places.SlotLemmas.{slot_number-lt}
+
+-- the number of a cell
+abbrev number_of : ℕ → Cell → ℕ
+number_of k cell = cell.row * (2 * k) + cell.col
+
+-- two cells of the square with one number are one
+one_number : (k : ℕ) (a b : Cell) → is_in_square k a ≡ true → is_in_square k b ≡ true → number_of k a ≡ number_of k b → a ≡ b
+one_number k a b ha hb e =
+    sym (cell_of-number (2 * k) a (inside k a ha).1) ∙ ap (cell_of (2 * k)) e ∙ cell_of-number (2 * k) b (inside k b hb).1
+
+-- the digests of the first positions are written, and those of other rows and columns stay
+pub record AreWrittenSo (k : ℕ) (old new : List Digest) (axis : Axis) (i : ℕ) (digests : List Digest) (n : ℕ) : Type 0 where
+  pub here : (pos : ℕ) → pos < n → get_or new (number_of k (cell_on axis i pos)) no_digest ≡ get_or digests pos no_digest
+  pub elsewhere : (cell : Cell) → is_in_square k cell ≡ true → index axis cell ≢ i → get_or new (number_of k cell) no_digest ≡ get_or old (number_of k cell) no_digest
+
+-- none at first
+pub none_written : (k : ℕ) (old : List Digest) (axis : Axis) (i : ℕ) (digests : List Digest) → AreWrittenSo k old old axis i digests 0
+none_written k old axis i digests = record { here = λ pos h. absurd (omega arith); elsewhere = λ cell h apart. refl }
+
+-- one more
+pub one_written : (k : ℕ) (old new : List Digest) (axis : Axis) (i : ℕ) (digests : List Digest) (pos at : ℕ) (cell : Cell) (d : Digest) → i < 2 * k → pos < 2 * k
+    → length new ≡ 2 * k * (2 * k) → length digests ≡ 2 * k → cell ≡ cell_on axis i pos → at ≡ number_of k cell
+    → AreWrittenSo k old new axis i digests pos → AreWrittenSo k old (set new at (get_or digests pos d)) axis i digests (pos + 1)
+one_written k old new axis i digests pos at cell d hi hp long count is number so =
+    let place : at ≡ number_of k (cell_on axis i pos) = number ∙ ap (number_of k) is in
+    let below : at < length new = omega (arith, long, place, slot_number-lt k (cell_on axis i pos) (on_axis_in_square k axis i pos hi hp)) in
+    record {
+      here = λ p h. elim (cases_eq p pos) [
+        | inl e ↦
+            ap (λ (q : ℕ). get_or (set new at (get_or digests pos d)) (number_of k (cell_on axis i q)) no_digest) e
+            ∙ ap (λ (n : ℕ). get_or (set new at (get_or digests pos d)) n no_digest) (sym place)
+            ∙ get_or-set_same new at (get_or digests pos d) no_digest below
+            ∙ get_or_default digests pos d no_digest (omega (arith, count))
+            ∙ ap (λ (q : ℕ). get_or digests q no_digest) (sym e)
+        | inr apart ↦
+            let before : p < pos = omega arith in
+            let off : number_of k (cell_on axis i p) ≢ at =
+            λ e. apart (sym (position-cell_on axis i p)
+            ∙ ap (position axis) (one_number k (cell_on axis i p) (cell_on axis i pos) (on_axis_in_square k axis i p hi (omega arith)) (on_axis_in_square k axis i pos hi hp) (e ∙ place))
+            ∙ position-cell_on axis i pos) in
+            get_or-set_other new at (number_of k (cell_on axis i p)) (get_or digests pos d) no_digest off ∙ so.here p before
+      ];
+      elsewhere = λ other within apart.
+          let off : number_of k other ≢ at =
+          λ e. apart (ap (index axis) (one_number k other (cell_on axis i pos) within (on_axis_in_square k axis i pos hi hp) (e ∙ place)) ∙ index-cell_on axis i pos) in
+          get_or-set_other new at (number_of k other) (get_or digests pos d) no_digest off ∙ so.elsewhere other within apart;
+    }
+
+-- all of them
+pub all_written : (k : ℕ) (old new : List Digest) (axis : Axis) (i : ℕ) (digests : List Digest) (n : ℕ) → 2 * k ≡ n → AreWrittenSo k old new axis i digests n
+    → AreWrittenLeaves k old new axis i digests
+all_written k old new axis i digests n end so = record { here = λ pos h. so.here pos (omega arith); elsewhere = so.elsewhere }

@@ -1,0 +1,177 @@
+-- Places of samples: what is read at a cell, and a sample more.
+use Rattle.std.proofs.Common.{◌≡◌, ◌≢◌, ◌∙◌, ℕ, ◌+◌, ◌*◌, ◌<◌, ◌==◌, List, [], ◌∷◌, ◌++◌, length, get_or, set, cond, Bool, true, false, refl, sym, ap, subst, inl, inr, arith}
+use Rattle.std.specs.Prelude.{Option, Some, None, IsSome}
+use Rattle.std.proofs.lemmas.Bool.{cases_Bool, cases_eq}
+use Rattle.std.proofs.lemmas.Bool.Decides.{nat_tests}
+use Rattle.std.proofs.lemmas.List.{get_or-set_same, get_or-set_other, get_or_read_under, get_or_append_left, length-append}
+use Rattle.std.proofs.lemmas.List.Sums.{sum_by-set}
+use Rattle.std.proofs.Math.Seq.{get_or-append_seam}
+use Rattle.namespace_id.specs.declared.cells.Cell.{Cell}
+use Rattle.namespace_id.specs.declared.cells.Axis.{Axis}
+use Rattle.namespace_id.specs.declared.cells.Axis.TheVariants.{Row, Col}
+use Rattle.namespace_id.specs.Cells.{is_in_square}
+use Rattle.axis_roots.specs.declared.message.proved.Proved.{Proved}
+use Rattle.axis_roots.proofs.Grids.NumberLemmas.{inside, cell_of, cell_of-number}
+use Rattle.repair_queue.specs.Pools.{place_in, places_in, empties, AreFilled}
+use Rattle.repair_queue.proofs.Places.SlotLemmas.{slot_number-lt}
+use Rattle.repair_queue.proofs.Counting.RaiseLemmas.{one_true}
+
+-- the place of a cell of the square is read at its number
+pub place_within : (k : ℕ) (places : List ℕ) (cell : Cell) → is_in_square k cell ≡ true → place_in k places cell ≡ get_or places (cell.row * (2 * k) + cell.col) 0
+unfolding place_in
+place_within k places cell within = ap (λ (b : Bool). cond b (get_or places (cell.row * (2 * k) + cell.col) 0) 0) within
+
+-- outside of it there is none
+place_outside : (k : ℕ) (places : List ℕ) (cell : Cell) → is_in_square k cell ≡ false → place_in k places cell ≡ 0
+unfolding place_in
+place_outside k places cell out = ap (λ (b : Bool). cond b (get_or places (cell.row * (2 * k) + cell.col) 0) 0) out
+
+-- what is read at the number of a cell is its place
+pub place_read : (k : ℕ) (places : List ℕ) (cell : Cell) (at value : ℕ) → is_in_square k cell ≡ true → length places ≡ 2 * k * (2 * k)
+    → at ≡ cell.row * (2 * k) + cell.col → value ≡ get_or places at value → value ≡ place_in k places cell
+place_read k places cell at value within long number read =
+    let below : at < 2 * k * (2 * k) = omega (arith, slot_number-lt k cell within) in
+    get_or_read_under places at (2 * k * (2 * k)) value 0 read below (sym long)
+    ∙ ap (λ (i : ℕ). get_or places i 0) number ∙ sym (place_within k places cell within)
+
+-- along a row, or a column
+pub row_place : (k : ℕ) (rows cols : List ℕ) (axis : Axis) (cell : Cell) (value : ℕ) → axis ≡ Row → value ≡ place_in k rows cell → value ≡ places_in k rows cols axis cell
+row_place k rows cols axis cell value is e = e ∙ ap (λ (a : Axis). places_in k rows cols a cell) (sym is)
+
+pub col_place : (k : ℕ) (rows cols : List ℕ) (axis : Axis) (cell : Cell) (value : ℕ) → axis ≡ Col → value ≡ place_in k cols cell → value ≡ places_in k rows cols axis cell
+col_place k rows cols axis cell value is e = e ∙ ap (λ (a : Axis). places_in k rows cols a cell) (sym is)
+
+-- a place leads to what is there
+pub place-lt : (k : ℕ) (places : List ℕ) (cell : Cell) (n : ℕ) → ((i : ℕ) → get_or places i 0 < n) → place_in k places cell < n
+place-lt k places cell n each = elim (cases_Bool (is_in_square k cell)) [
+  | inl there ↦ subst (λ (p : ℕ). p < n) (sym (place_within k places cell there)) (each (cell.row * (2 * k) + cell.col))
+  | inr out ↦ let some : get_or places 0 0 < n = each 0 in subst (λ (p : ℕ). p < n) (sym (place_outside k places cell out)) (omega arith)
+]
+
+pub places-lt : (k : ℕ) (rows cols : List ℕ) (axis : Axis) (cell : Cell) (n : ℕ) → ((i : ℕ) → get_or rows i 0 < n) → ((i : ℕ) → get_or cols i 0 < n)
+    → places_in k rows cols axis cell < n
+places-lt k rows cols Row cell n in_rows in_cols = place-lt k rows cell n in_rows
+places-lt k rows cols Col cell n in_rows in_cols = place-lt k cols cell n in_cols
+
+-- ---- a place that is set
+
+-- it is that of its cell
+place_set : (k : ℕ) (places : List ℕ) (cell : Cell) (at n : ℕ) → is_in_square k cell ≡ true → length places ≡ 2 * k * (2 * k)
+    → at ≡ cell.row * (2 * k) + cell.col → place_in k (set places at n) cell ≡ n
+place_set k places cell at n within long number =
+    place_within k (set places at n) cell within ∙ ap (λ (i : ℕ). get_or (set places at n) i 0) (sym number)
+    ∙ get_or-set_same places at n 0 (omega (arith, slot_number-lt k cell within))
+
+-- and those of all other cells stay
+place_other : (k : ℕ) (places : List ℕ) (cell d : Cell) (at n : ℕ) → is_in_square k cell ≡ true
+    → at ≡ cell.row * (2 * k) + cell.col → (d ≡ cell → ⊥) → place_in k (set places at n) d ≡ place_in k places d
+place_other k places cell d at n within number apart = elim (cases_Bool (is_in_square k d)) [
+  | inl there ↦
+      let numbers : d.row * (2 * k) + d.col ≢ at =
+      λ e. apart (sym (cell_of-number (2 * k) d (inside k d there).1) ∙ ap (cell_of (2 * k)) (e ∙ number) ∙ cell_of-number (2 * k) cell (inside k cell within).1) in
+      place_within k (set places at n) d there ∙ get_or-set_other places at (d.row * (2 * k) + d.col) n 0 numbers
+      ∙ sym (place_within k places d there)
+  | inr out ↦ place_outside k (set places at n) d out ∙ sym (place_outside k places d out)
+]
+
+-- places after one was set: this one, and that no other changed
+abbrev pub Placed : (Axis → Cell → ℕ) → (Axis → Cell → ℕ) → Axis → Cell → ℕ → Type 0
+Placed old new axis cell n = (new axis cell ≡ n) × ((other : Axis) (d : Cell) → ((other ≡ axis) × (d ≡ cell) → ⊥) → new other d ≡ old other d)
+
+pub row_placed : (k : ℕ) (rows cols : List ℕ) (axis : Axis) (cell : Cell) (at n : ℕ) → is_in_square k cell ≡ true → at ≡ cell.row * (2 * k) + cell.col
+    → length rows ≡ 2 * k * (2 * k) → axis ≡ Row → Placed (places_in k rows cols) (places_in k (set rows at n) cols) axis cell n
+row_placed k rows cols axis cell at n within number long is =
+    subst (λ (a : Axis). Placed (places_in k rows cols) (places_in k (set rows at n) cols) a cell n) (sym is) (
+      place_set k rows cell at n within long number,
+      elim [ Row ↦ λ d apart. place_other k rows cell d at n within number (λ e. apart (refl, e)) | Col ↦ λ d apart. refl ],
+    )
+
+pub col_placed : (k : ℕ) (rows cols : List ℕ) (axis : Axis) (cell : Cell) (at n : ℕ) → is_in_square k cell ≡ true → at ≡ cell.row * (2 * k) + cell.col
+    → length cols ≡ 2 * k * (2 * k) → axis ≡ Col → Placed (places_in k rows cols) (places_in k rows (set cols at n)) axis cell n
+col_placed k rows cols axis cell at n within number long is =
+    subst (λ (a : Axis). Placed (places_in k rows cols) (places_in k rows (set cols at n)) a cell n) (sym is) (
+      place_set k cols cell at n within long number,
+      elim [ Row ↦ λ d apart. refl | Col ↦ λ d apart. place_other k cols cell d at n within number (λ e. apart (refl, e)) ],
+    )
+
+-- ---- empty places
+
+-- setting one that is empty leaves one less
+pub empties-set : (places : List ℕ) (at n : ℕ) → at < length places → get_or places at 0 ≡ 0 → 0 < n → empties (set places at n) + 1 ≡ empties places
+empties-set places at n below none some =
+    let test : (get_or places at 0 == 0) ≡ true = let e : get_or places at 0 ≡ 0 = none in grind (arith, nat_tests) in
+    let other : (n == 0) ≡ false = grind (arith, nat_tests) in
+    let sums : empties (set places at n) + one_true (get_or places at 0 == 0) ≡ empties places + one_true (n == 0) =
+    sum_by-set (λ (x : ℕ). one_true (x == 0)) places at n 0 below in
+    let was : one_true (get_or places at 0 == 0) ≡ 1 = ap one_true test in
+    let is : one_true (n == 0) ≡ 0 = ap one_true other in
+    omega (arith, sums, was, is)
+
+-- so where one is empty there is one
+pub empties-some : (places : List ℕ) (at : ℕ) → at < length places → get_or places at 0 ≡ 0 → 0 < empties places
+empties-some places at below none = let less : empties (set places at 1) + 1 ≡ empties places = empties-set places at 1 below none (omega arith) in omega arith
+
+-- an entry that leads to no sample is empty
+pub none_empty : (given : List (Option Proved)) (places : List ℕ) (at : ℕ) → AreFilled given places → get_or given (get_or places at 0) None ≡ None → get_or places at 0 ≡ 0
+none_empty given places at filled none = elim (cases_eq (get_or places at 0) 0) [
+  | inl e ↦ e
+  | inr apart ↦ absurd (some_none (get_or given (get_or places at 0) None) none (filled at apart))
+]
+  where
+    some_none : (slot : Option Proved) → slot ≡ None → IsSome slot → ⊥
+    some_none None e some = absurd cc
+    some_none (Some kept) e some = absurd cc
+
+-- ---- a sample more
+
+module _ (given : List (Option Proved)) (kept : Proved) where
+  -- those before stay where they are
+  pub given_before : (i : ℕ) → i < length given → get_or (given ++ Some kept ∷ []) i None ≡ get_or given i None
+  given_before i below = get_or_append_left given (Some kept ∷ []) None i below
+
+  -- places that led to what is there still do
+  pub more-lt : (i : ℕ) → i < length given → i < length (given ++ Some kept ∷ [])
+  more-lt i below = omega (arith, length-append given (Some kept ∷ []))
+
+  -- a list of places in which one leads to it
+  pub set-lt : (places : List ℕ) (at : ℕ) → at < length places → ((i : ℕ) → get_or places i 0 < length given)
+      → (i : ℕ) → get_or (set places at (length given)) i 0 < length (given ++ Some kept ∷ [])
+  set-lt places at long each i = elim (cases_eq i at) [
+    | inl e ↦
+        let here : get_or (set places at (length given)) i 0 ≡ length given =
+        ap (λ (j : ℕ). get_or (set places at (length given)) j 0) e ∙ get_or-set_same places at (length given) 0 long in
+        omega (arith, here, length-append given (Some kept ∷ []))
+    | inr apart ↦
+        let there : get_or (set places at (length given)) i 0 ≡ get_or places i 0 = get_or-set_other places at i (length given) 0 apart in
+        omega (arith, there, each i, length-append given (Some kept ∷ []))
+  ]
+
+  -- others lead where they led
+  pub still_filled : (places : List ℕ) → ((i : ℕ) → get_or places i 0 < length given) → AreFilled given places → AreFilled (given ++ Some kept ∷ []) places
+  still_filled places each filled i apart = subst IsSome (sym (given_before (get_or places i 0) (each i))) (filled i apart)
+
+  pub set_filled : (places : List ℕ) (at : ℕ) → at < length places → ((i : ℕ) → get_or places i 0 < length given) → AreFilled given places
+      → AreFilled (given ++ Some kept ∷ []) (set places at (length given))
+  set_filled places at long each filled i apart = elim (cases_eq i at) [
+    | inl e ↦
+        let here : get_or (set places at (length given)) i 0 ≡ length given =
+        ap (λ (j : ℕ). get_or (set places at (length given)) j 0) e ∙ get_or-set_same places at (length given) 0 long in
+        let found : get_or (given ++ Some kept ∷ []) (get_or (set places at (length given)) i 0) None ≡ Some kept =
+        ap (λ (j : ℕ). get_or (given ++ Some kept ∷ []) j None) here ∙ get_or-append_seam given (Some kept) [] None in
+        subst IsSome (sym found) refl
+    | inr off ↦
+        let there : get_or (set places at (length given)) i 0 ≡ get_or places i 0 = get_or-set_other places at i (length given) 0 off in
+        subst (λ (p : ℕ). IsSome (get_or (given ++ Some kept ∷ []) p None)) (sym there)
+        (still_filled places each filled i (λ e. apart (there ∙ e)))
+  ]
+
+  -- what is kept of which cell then
+  pub placed_put : (old new : Axis → Cell → ℕ) (axis : Axis) (cell : Cell) → Placed old new axis cell (length given)
+      → ((other : Axis) (d : Cell) → old other d < length given)
+      → (get_or (given ++ Some kept ∷ []) (new axis cell) None ≡ Some kept)
+      × ((other : Axis) (d : Cell) → ((other ≡ axis) × (d ≡ cell) → ⊥)
+      → get_or (given ++ Some kept ∷ []) (new other d) None ≡ get_or given (old other d) None)
+  placed_put old new axis cell placed each = (
+    ap (λ (j : ℕ). get_or (given ++ Some kept ∷ []) j None) placed.0 ∙ get_or-append_seam given (Some kept) [] None,
+    λ other d apart. ap (λ (j : ℕ). get_or (given ++ Some kept ∷ []) j None) (placed.1 other d apart) ∙ given_before (old other d) (each other d),
+  )
