@@ -72,7 +72,7 @@ pub trait Inputs {
 
     /// Moves bytes of the picked file to the front of `buf`, and gives their number.
     ///
-    /// 0 for a `buf` with room is the end of the file. A failure gives no bytes.
+    /// 0 for a `buf` that isn't empty is the end of the file. A failure gives no bytes.
     fn read(&mut self, buf: &mut [u8]) -> Result<usize, ReadFailed>
         ensures bound { ReadsAtMost result buf.new }
         ensures given { GivesCounted (given self.old) (given self.new) result }

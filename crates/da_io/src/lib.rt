@@ -21,4 +21,4 @@ pub use mem_inputs::MemInputs;
 pub use mem_sink::MemSink;
 pub use out_sink::OutSink;
 pub use sink::{Sink, WriteFailed};
-pub use whole::{InputFault, NoMemory, read_all, write_all};
+pub use whole::{InputFault, NoMemory, PIECE_SIZE, read_all, write_all};

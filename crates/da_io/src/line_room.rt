@@ -41,7 +41,7 @@ impl LineRoom {
         }
     }
 
-    /// Holds a line for which there is room.
+    /// Holds a line that fits behind what is held.
     fn hold(&mut self, line: &[u8])
         requires { length self.old + length line.now ≤ 4096 }
         ensures { self.new ≡ self.old ++ line.now }
@@ -83,7 +83,7 @@ impl LineRoom {
         ensures faults { CountsFault (O.faults out.old) (O.faults out.new) result }
         ensures lost { IsErr result → self.new ≡ [] }
 
-        // Where both have room, the sink is left as it was.
+        // Where both fit, the sink is left as it was.
         ensures none { length self.old + length line.now ≤ 4096 → IsOk result }
         ensures unchanged { length self.old + length line.now ≤ 4096 → out.new ≡ out.old }
     {

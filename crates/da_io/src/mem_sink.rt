@@ -6,7 +6,7 @@ ghost use Rattle.da_io.specs.Faults.{max_count};
 use crate::{NoMemory, Sink, WriteFailed};
 use std::alloc::Global;
 
-/// A sink in memory, with room for so many bytes.
+/// A sink in memory, with capacity for so many bytes.
 ///
 /// Writes of pieces that aren't empty are numbered from 0, up to 2^64 - 1, where the count stops.
 #[derive(Drop)]
@@ -26,10 +26,10 @@ pub struct MemSink {
 impl MemSink {
     ghost use Rattle.std.specs.Prelude.{IfOk, []};
 
-    /// An empty sink with room for `room` bytes. Each write takes at most `piece` bytes, and those
-    /// with a number in `fail` fail.
+    /// An empty sink with capacity for `room` bytes. Each write takes at most `piece` bytes, and
+    /// those with a number in `fail` fail.
     ///
-    /// Takes the memory for all of its room at once.
+    /// Takes the memory for all of its capacity at once.
     pub fn new(
         alloc: Global,
         room: usize,
@@ -77,7 +77,7 @@ impl Sink for MemSink {
     ghost counted = { λ m. m.few_faults };
 
     /// Of a piece that isn't empty, fails exactly where its number is in `fail` or `room` bytes
-    /// were taken, and else takes as many bytes as a piece and the room allow.
+    /// were taken, and else takes as many bytes as a piece and `room` allow.
     fn write(&mut self, bytes: &[u8]) -> Result<usize, WriteFailed>
         ensures bound { WritesAtMost result bytes.now }
         ensures taken { WriteAppends (taken_of self.old) (taken_of self.new) result bytes.now }

@@ -10,6 +10,12 @@ use crate::{Inputs, Sink, WriteFailed};
 use std::alloc::Global;
 use thiserror::Error;
 
+/// How many bytes a read of a file asks for at once.
+///
+/// Each read is a call of the system, so larger pieces make fewer of them. A piece of this size still stands
+/// on the stack, and needs no memory that might not be had.
+pub const PIECE_SIZE: usize = 65_536;
+
 /// There was no memory.
 #[derive(Clone, Copy, Debug, PartialEq, Eq, Error)]
 #[error("out of memory")]
@@ -32,8 +38,8 @@ pub enum InputFault {
 /// Reads what is left of the picked file to its end, at most `limit` bytes.
 ///
 /// Fails at the first read that fails; then where more than `limit` bytes came, before any of
-/// those past it are kept; then for want of memory. With every answer the bytes that came are gone
-/// from the front of what was left; only `Ok` hands them over.
+/// those past it are kept; then where memory runs out. With every answer the bytes that came are
+/// gone from the front of what was left; only `Ok` hands them over.
 pub fn read_all<I: Inputs>(alloc: Global, inputs: &mut I, limit: u64) -> Result<Vec<u8>, InputFault>
     // Where the bytes are told: all of them or, past the limit, `TooLong`.
     ensures content { ReadsAll (I.rest inputs.old) limit result }
@@ -53,7 +59,7 @@ pub fn read_all<I: Inputs>(alloc: Global, inputs: &mut I, limit: u64) -> Result<
     ensures files { I.files inputs.new ≡ I.files inputs.old }
 {
     let mut content = Vec::new(alloc);
-    let mut buf = [0; 4096];
+    let mut buf = [0; PIECE_SIZE];
     loop {
         let Ok(count) = inputs.read(&mut buf) else {
             return Err(InputFault::ReadFailed);
