@@ -11,7 +11,7 @@ use Rattle.da_wire.specs.Streams.{EndsFrame, Push, ArePushes, taken_by, answered
 use Rattle.da_wire.proofs.StreamWalks.{walk_grows}
 use Rattle.da_wire.proofs.StreamLemmas.{steady}
 
--- the messages of frames
+-- the samples of frames
 abbrev messages : List Raw → List (Option Message)
 messages frames = map message_in frames
 

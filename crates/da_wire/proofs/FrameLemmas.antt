@@ -75,7 +75,7 @@ tests_hold false true false empty wrong read p q r = absurd cc
 tests_hold false true true empty wrong read p q r = refl
 
 -- where a frame is answered, all tests were passed
-tests_held : (none a b : Bool) (empty wrong : FrameError) (read : Result Raw FrameError) (f : Raw)
+pub tests_held : (none a b : Bool) (empty wrong : FrameError) (read : Result Raw FrameError) (f : Raw)
     → cond none (Err empty) (cond (a && b) read (Err wrong)) ≡ Ok f → (b ≡ true) × (read ≡ Ok f)
 tests_held true a b empty wrong read f e = absurd cc
 tests_held false false b empty wrong read f e = absurd cc
@@ -142,14 +142,14 @@ written_back value old new is text rest =
 -- ---- read, then spelled
 
 -- the value of a raw frame
-valued_some : (at : ℕ) (f : Raw) (o : Option Frame) (value : Frame) (next : ℕ) → valued at f o ≡ Ok (value, next) → (o ≡ Some value) × (at + f.size ≡ next)
+pub valued_some : (at : ℕ) (f : Raw) (o : Option Frame) (value : Frame) (next : ℕ) → valued at f o ≡ Ok (value, next) → (o ≡ Some value) × (at + f.size ≡ next)
 valued_some at f None value next e = absurd cc
 valued_some at f (Some v) value next e =
     let same = some_pair_parts v value (at + f.size) next (ap (λ (r : Answer). ok_of r) e) in
     (ap (λ (x : Frame). Some x) same.0, same.1)
 
 -- a value that is read is that of a frame of any kind
-raw_some : (at : ℕ) (r : Result Raw FrameError) (value : Frame) (next : ℕ) → value_of at r ≡ Ok (value, next)
+pub raw_some : (at : ℕ) (r : Result Raw FrameError) (value : Frame) (next : ℕ) → value_of at r ≡ Ok (value, next)
     → (f : Raw) × (r ≡ Ok f) × (value_at f.kind f.payload ≡ Some value) × (at + f.size ≡ next)
 raw_some at (Err why) value next e = absurd cc
 raw_some at (Ok f) value next e =

@@ -5,6 +5,8 @@ pub mod WalkLemmas
 pub mod ListedLemmas
 pub mod FrameListLemmas
 pub mod ValueListLemmas
+pub mod KindLemmas
+pub mod SingleLemmas
 pub mod MessageLengths
 pub mod StreamWalks
 pub mod TakingLemmas

@@ -1,4 +1,4 @@
--- How long the payload of a message is at most.
+-- How long the payload of a sample is at most.
 use Rattle.std.proofs.Common.{◌≡◌, ℕ, ◌<◌, ◌≤◌, List, length, Option, None, Some, arith, refl, ap}
 use Rattle.namespace_id.specs.Bytes.{AreBytes}
 use Rattle.axis_roots.specs.declared.message.messages.Message.{Message}
@@ -7,7 +7,7 @@ use Rattle.da_wire.specs.kinds.Message.{message_payload, message_at}
 use Rattle.da_wire.proofs.kinds.PayloadSizes.{length-message}
 use Rattle.da_wire.proofs.kinds.MessageForm.{message_takes}
 
--- a message of eight nodes has the longest payload
+-- a sample of eight nodes has the longest payload
 pub length-message_payload : (m : Message) → IsMessage m → length (message_payload m) ≤ 1238
 length-message_payload m is = omega (arith, length-message m is.share is.nodes, is.few)
 
@@ -18,6 +18,6 @@ none_of payload (Some m) fits h e =
     let t = message_takes payload m fits e in
     absurd (omega (arith, h, ap length t.1, length-message_payload m t.0))
 
--- a payload that is longer is that of no message
+-- a payload that is longer is that of no sample
 pub message_at-long : (payload : List ℕ) → AreBytes payload → 1238 < length payload → message_at payload ≡ None
 message_at-long payload fits h = none_of payload (message_at payload) fits h refl

@@ -128,7 +128,7 @@ push_more at taken front new before piece count step short few =
       later = λ here e. absurd (step_fine at taken front new before piece count here step short e);
     }
 
--- ---- the message of a whole frame
+-- ---- the sample of a whole frame
 
 -- a test that both sides make, and one that holds
 both_made : {A : Type 0} (a b c : Bool) (x y : Option A) → a ≡ c → b ≡ true → x ≡ y → cond (a && b) x None ≡ cond c y None
@@ -168,7 +168,7 @@ kind_same : (s : StreamParts) (bytes : List ℕ) → StandsFor s bytes → 5 ≤
 kind_same s bytes stands h =
     sym (get_or-take (under_way s) s.front 0 0 (omega (arith, h))) ∙ ap (λ (l : List ℕ). get_or l 0 0) (sym stands.front) ∙ get_or-take front_size (drop s.at bytes) 0 0 (omega arith)
 
--- the message in the room is that of the whole frame
+-- the sample in the room is that of the whole frame
 message_same : (s : StreamParts) (bytes : List ℕ) → StandsFor s bytes → under_way s ≡ 5 + promised s.front → front_message s.front ≡ message_in (frame_at (drop s.at bytes))
 message_same s bytes stands whole =
     let raw : Raw = frame_at (drop s.at bytes) in

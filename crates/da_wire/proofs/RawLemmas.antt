@@ -15,7 +15,7 @@ use Rattle.da_wire.proofs.codec.Strings.{AreBytes-rest}
 -- ---- three tests that must fail
 
 -- where a frame is answered, none of the three refusals held
-tests_failed : {A E : Type 0} (a b c : Bool) (x y z : E) (w v : A) → ◌≡◌ {A = Result A E} (cond a (Err x) (cond b (Err y) (cond c (Err z) (Ok w)))) (Ok v)
+pub tests_failed : {A E : Type 0} (a b c : Bool) (x y z : E) (w v : A) → ◌≡◌ {A = Result A E} (cond a (Err x) (cond b (Err y) (cond c (Err z) (Ok w)))) (Ok v)
     → (a ≡ false) × (b ≡ false) × (c ≡ false) × (w ≡ v)
 tests_failed true b c x y z w v e = absurd cc
 tests_failed false true c x y z w v e = absurd cc

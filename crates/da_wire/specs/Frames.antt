@@ -38,7 +38,7 @@ pub record IsRaw (raw : Raw) : Type 0 where
   pub payload : length raw.payload ≤ max_payload
   pub size : raw.size ≡ 5 + length raw.payload
 
--- the message of the grammar that a frame is, if it is one
+-- the sample of the grammar that a frame is, if it is one
 abbrev pub message_in : Raw → Option Message
 message_in frame = if frame.kind == message_kind then message_at frame.payload else None
 

@@ -49,16 +49,16 @@ abbrev pub SpelledIsOnly : Type 0
 SpelledIsOnly = (value : Frame) (bytes kinds : List ℕ) → IsFrame value → spelling value ≡ Some bytes
     → is_among kinds (kind_of value) ≡ true → only_of bytes kinds ≡ Ok value
 
--- the payload of a message is read as the message
+-- the payload of a sample is read as the sample
 abbrev pub MessageIsRead : Type 0
 MessageIsRead = (m : Message) → IsMessage m → message_at (message_payload m) ≡ Some m
 
--- a message that is read of a payload is what the payload spells
+-- a sample that is read of a payload is what the payload spells
 abbrev pub MessageIsSpelled : Type 0
 MessageIsSpelled = (payload : List ℕ) (m : Message) → AreBytes payload → message_at payload ≡ Some m
     → IsMessage m × (payload ≡ message_payload m)
 
--- a file that is a list of frames is just these frames, one after another
+-- a file that is a list of frames is exactly these frames, one after another
 abbrev pub FramesAreTheFile : Type 0
 FramesAreTheFile = (bytes : List ℕ) → AreBytes bytes → bad_frame bytes ≡ None
     → (frames_bytes (frames_of bytes) ≡ bytes) × AllByRecursion IsRaw (frames_of bytes)
@@ -82,7 +82,7 @@ RawIsFrame = (at : ℕ) (bytes : List ℕ) (raw : Raw) → AreBytes bytes
 
 -- ---- files that are lists of frames in the grammar, of some kinds
 
--- a file that is a list of frames of some kinds is just their values' spellings, one after another
+-- a file that is a list of frames of some kinds is exactly their values' spellings, one after another
 abbrev pub ValuesAreTheFile : Type 0
 ValuesAreTheFile = (kinds bytes : List ℕ) → AreBytes bytes → bad_value kinds bytes ≡ None
     → (values_bytes (values_of kinds bytes) ≡ bytes)

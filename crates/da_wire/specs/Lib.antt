@@ -7,5 +7,6 @@ pub mod Frames
 pub mod Laws
 pub mod Writing
 pub mod Values
+pub mod Single
 pub mod StreamParts
 pub mod Streams

@@ -38,7 +38,7 @@ header_kind = 0x48
 abbrev pub square_kind : ℕ
 square_kind = 0x53
 
--- the kind of a share message: `M`
+-- the kind of a sample: `M`
 abbrev pub message_kind : ℕ
 message_kind = 0x4d
 

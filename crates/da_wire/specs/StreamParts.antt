@@ -5,7 +5,7 @@ use Rattle.axis_roots.specs.declared.message.messages.Message.{Message}
 use Rattle.da_wire.specs.kinds.Message.{message_at}
 use Rattle.da_wire.specs.Reading.{promised}
 
--- how many bytes of a frame are kept: the head, and the greatest payload of a message
+-- how many bytes of a frame are kept: the head, and the greatest payload of a sample
 abbrev pub front_size : ℕ
 front_size = 1243
 
@@ -28,7 +28,7 @@ is_long front have = nat_le 5 have && nat_lt max_payload (promised front)
 abbrev pub IsUnfinished : List ℕ → ℕ → Type 0
 IsUnfinished front have = is_long front have ≡ false → have < 5 + promised front
 
--- the message of the grammar that the frame in a room is, if it is one: no message is longer than the room
+-- the sample of the grammar that the frame in a room is, if it is one: no sample is longer than the room
 abbrev pub front_message : List ℕ → Option Message
 front_message front =
     if (slice_index front 0 == message_kind) && nat_le (5 + promised front) front_size

@@ -49,7 +49,7 @@ AnswersFrame pushed.More = ⊥
 AnswersFrame (pushed.Frame message) = ⊤
 AnswersFrame (pushed.Bad at) = ⊥
 
--- a frame that is answered is the one after those before, and its message is answered, if it is one; with
+-- a frame that is answered is the one after those before, and its sample is answered, if it is one; with
 -- another answer the frames are those before
 abbrev pub EndsFrame : List Raw → List Raw → Pushed → Type 0
 EndsFrame before after pushed.More = after ≡ before
@@ -67,7 +67,7 @@ pub record IsPush (before piece : List ℕ) (count : ℕ) (answer : Pushed) : Ty
   pub fifth : (at : ℕ) → answer ≡ pushed.Bad at → (first_refusal before ≡ Some (TooLong at) → ⊥) → length before + count ≡ at + 5
   pub later : (at : ℕ) → first_refusal before ≡ Some (TooLong at) → count ≡ length piece
 
--- the message that a push answers, in a list
+-- the sample that a push answers, in a list
 abbrev pub messages_in : Pushed → List (Option Message)
 messages_in pushed.More = []
 messages_in (pushed.Frame message) = message ∷ []
@@ -89,7 +89,7 @@ ArePushes before (push ∷ later) =
 abbrev pub taken_by : List Push → List ℕ
 taken_by pushes = flat_map (λ push. take push.count push.piece) pushes
 
--- the messages that pushes answered, in order, none for each frame that isn't a message
+-- the samples that pushes answered, in order, none for each frame that isn't a sample
 abbrev pub answered : List Push → List (Option Message)
 answered pushes = flat_map (λ push. messages_in push.answer) pushes
 

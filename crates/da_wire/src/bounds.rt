@@ -164,7 +164,7 @@ fn sent_commit_law(proof: &CommitProof)
     sent_rows_law(&proof.rows);
 }
 
-/// Says that a root proof has a width of two bytes, a message, a digest, and up to 9 hashes. It changes
+/// Says that a root proof has a width of two bytes, a sample, a digest, and up to 9 hashes. It changes
 /// nothing.
 fn sent_rooted_law(proof: &RootedMessage)
     ensures { IsRootedSent proof.now }
@@ -174,7 +174,7 @@ fn sent_rooted_law(proof: &RootedMessage)
     rooted_law(proof);
 }
 
-/// Says that each certificate of a slice keeps a message. It changes nothing.
+/// Says that each certificate of a slice keeps a sample. It changes nothing.
 fn proved_law(cells: &[Proved])
     ensures { AllByRecursion IsMessage (map kept_message cells.now) }
 {
@@ -183,7 +183,7 @@ fn proved_law(cells: &[Proved])
     }
 }
 
-/// Says that the claim of a fraud proof has an index of two bytes, up to 128 messages and no set. It
+/// Says that the claim of a fraud proof has an index of two bytes, up to 128 samples and no set. It
 /// changes nothing.
 pub(crate) fn proof_law(proof: &FraudProof)
     ensures claim { IsClaim proof.now.claim }

@@ -24,7 +24,7 @@ pub enum Frame {
     Header(Header),
     /// S: an original square.
     Square(Square),
-    /// M: a share message.
+    /// M: a sample.
     Message(Message),
     /// N: a namespace and what is found of it.
     Names(Namespace, NsAnswer),
@@ -57,7 +57,7 @@ pub enum FrameError {
     #[error("the frame at {0} is of another kind")]
     BadKind(u64),
     /// The payload is above its limit.
-    #[error("the frame at {0} has more than 16777216 bytes")]
+    #[error("the payload of the frame at {0} has more than 16777216 bytes")]
     TooLong(u64),
     /// The payload isn't in the grammar of its kind.
     #[error("the payload of the frame at {0} is not in its form")]

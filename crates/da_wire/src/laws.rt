@@ -64,7 +64,7 @@ pub fn wire_laws()
         is_long_commit proof ≡ false }
     ensures rooted { (proof : RootedParts) → IsRootedSent proof → IsSome (spelling (Rooted proof)) }
 
-    // The payloads of messages.
+    // The payloads of samples.
     ensures message_read { MessageIsRead }
     ensures message_spelled { MessageIsSpelled }
 

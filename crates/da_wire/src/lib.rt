@@ -10,6 +10,7 @@ mod frames;
 mod kinds;
 mod laws;
 mod reading;
+mod single;
 mod streams;
 mod writing;
 
@@ -20,6 +21,10 @@ pub use kinds::message::message;
 pub use laws::{stream_laws, value_laws, wire_laws};
 pub use reading::{
     MAX_PAYLOAD, bad_frame, bad_value, next_frame, next_value, raw, read_frame, read_only,
+};
+pub use single::{
+    next_request, next_sample, read_block, read_claim, read_header, read_message, read_missing,
+    read_square,
 };
 pub use streams::{FrameStream, Pushed};
 pub use writing::{write_frame, write_proof};

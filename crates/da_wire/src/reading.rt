@@ -9,12 +9,13 @@
 //! the framing counts, or as values of some kinds in the grammar. Frames are read where they lie,
 //! and memory is taken only for a payload that is in its grammar, so no count that lies costs any.
 
-ghost use Rattle.std.specs.Prelude.{◌≡◌, ◌↔◌, suc, ◌+◌, ◌<◌, ◌≤◌, ◌^◌, [], ◌∷◌, length, drop, Ok, Err, IsErr, IfOk, OnErr, IfSome, IsSome, IsNone, IsTrue, MatchOption};
+ghost use Rattle.std.specs.Prelude.{◌≡◌, ◌↔◌, suc, ◌+◌, ◌<◌, ◌≤◌, ◌^◌, [], ◌∷◌, length, drop, true, Ok, Err, IsErr, IfOk, OnErr, IfSome, IsSome, IsNone, IsTrue, MatchOption};
 ghost use Rattle.std.specs.Option.{option_map};
 ghost use Rattle.namespace_id.specs.Answers.{Gives};
 ghost use Rattle.da_wire.specs.declared.frames.FrameError.TheVariants.{NoMemory};
 ghost use Rattle.da_wire.specs.Reading.{Reads, ReadsAt, raw_seen, raw_of, is_kind, value_of_kind, value_at, value_of, is_among, tested_raw, frame_of, ended, only_of, GivesUnlessFull};
 ghost use Rattle.da_wire.specs.Frames.{frames_of, bad_frame};
+ghost use Rattle.da_wire.specs.Writing.{kind_of};
 ghost use Rattle.da_wire.specs.Values.{value_in, value_and_rest, values_of, bad_value};
 
 use crate::codec::sizes::HEAD_SIZE;
@@ -154,7 +155,7 @@ fn valued(alloc: Global, frame: RawFrame<'_>, at: u64) -> Result<(Frame, u64), F
 }
 
 /// Why a frame at offset 0 after which a byte follows is refused.
-fn refusal_before_more(frame: RawFrame<'_>) -> FrameError
+pub(crate) fn refusal_before_more(frame: RawFrame<'_>) -> FrameError
     ensures { Err result ≡ ended (suc frame.entry.size) (value_of 0 (Ok (raw_seen frame.entry))) }
 {
     if has_value(frame.kind, frame.payload) {
@@ -169,7 +170,7 @@ fn refusal_before_more(frame: RawFrame<'_>) -> FrameError
 ///
 /// Refuses no byte (`Truncated`), a kind that isn't one of H, S, M, N, B, K, X, Q, P, V, C and R
 /// (`BadKind`), then what `raw` refuses, then a payload that isn't in the grammar of its kind
-/// (`BadPayload`), each with `at`. Want of memory comes in place of a value alone: none is taken before
+/// (`BadPayload`), each with `at`. Out of memory comes in place of a value alone: none is taken before
 /// the payload is known to be in its grammar.
 ///
 /// docs/FORMATS.md, "Frames" and "Payloads".
@@ -189,7 +190,7 @@ pub fn read_frame(alloc: Global, bytes: &[u8], at: u64) -> Result<(Frame, u64), 
 
 /// The frame at the front of bytes, of one of these kinds that there are, whatever its payload holds.
 #[tactic(auto, unfolding(crate::specs::Reading::tested_raw))]
-fn raw_among<'a>(bytes: &'a [u8], kinds: &[u8]) -> Result<RawFrame<'a>, FrameError>
+pub(crate) fn raw_among<'a>(bytes: &'a [u8], kinds: &[u8]) -> Result<RawFrame<'a>, FrameError>
     ensures value { ReadsAt (λ f. raw_seen f) result (tested_raw (is_among kinds.now) 0 bytes.now) }
     ensures some { IfOk result (λ f. 5 ≤ f.size) }
     ensures within { IfOk result (λ f. f.size ≤ length bytes.now) }
@@ -206,12 +207,13 @@ fn raw_among<'a>(bytes: &'a [u8], kinds: &[u8]) -> Result<RawFrame<'a>, FrameErr
 /// The value of the one frame that the bytes are, of one of these kinds.
 ///
 /// Refuses what `read_frame` at offset 0 refuses, where a kind that isn't one of `kinds` is `BadKind`
-/// too; then a byte after the frame (`Trailing`), with its offset. Want of memory comes in place of a
-/// value alone.
+/// too; then a byte after the frame (`Trailing`), with its offset. Out of memory comes in place of a
+/// value alone. A value is of one of `kinds`.
 ///
 /// docs/FORMATS.md, "Frames" and "Payloads".
 pub fn read_only(alloc: Global, bytes: &[u8], kinds: &[u8]) -> Result<Frame, FrameError>
-    ensures { Reads NoMemory (λ x. x) result (only_of bytes.now kinds.now) }
+    ensures read { Reads NoMemory (λ x. x) result (only_of bytes.now kinds.now) }
+    ensures kind { IfOk result (λ f. is_among kinds.now (kind_of f) ≡ true) }
 {
     let frame = raw_among(bytes, kinds)?;
     if frame.size < bytes.len() as u64 {
@@ -286,7 +288,8 @@ pub fn bad_value(bytes: &[u8], kinds: &[u8]) -> Option<u64>
 }
 
 /// The value of the frame at the front of bytes, and the bytes after it; none where no frame in the
-/// grammar, of one of these kinds, stands there. Want of memory comes in place of a value alone.
+/// grammar, of one of these kinds, stands there. Out of memory comes in place of a value alone. A
+/// value is of one of `kinds`.
 ///
 /// docs/FORMATS.md, "Lists of frames".
 pub fn next_value<'a>(
@@ -299,6 +302,8 @@ pub fn next_value<'a>(
     ensures memory { OnErr result (IsSome (value_in kinds.now bytes.now)) }
     ensures values { IfOk result (λ found. MatchOption found (values_of kinds.now bytes.now ≡ [])
         (λ x. values_of kinds.now bytes.now ≡ x.0 ∷ values_of kinds.now x.1.now)) }
+    ensures kind { IfOk result (λ found.
+        IfSome found (λ x. is_among kinds.now (kind_of x.0) ≡ true)) }
     ensures shorter { IfOk result (λ found.
         IfSome found (λ x. length x.1.now < length bytes.now)) }
 {

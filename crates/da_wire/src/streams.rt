@@ -1,6 +1,6 @@
 //! Streams of frames: bytes that come in pieces, cut anywhere.
 //!
-//! Of the frame under way a stream keeps as many bytes as the longest message has. The bytes of a longer
+//! Of the frame under way a stream keeps as many bytes as the longest sample has. The bytes of a longer
 //! frame, and of one of another kind, are counted as they pass, so that a stream takes no memory.
 
 ghost use Rattle.std.specs.Prelude.{◌≡◌, ◌+◌, ◌-◌, ◌<◌, ◌≤◌, ◌^◌, ◌++◌, ℕ, List, [], length, take, min};
@@ -18,7 +18,7 @@ use axis_roots::Message;
 use namespace_id::{bytes_law, write_at};
 use std::marker::Model;
 
-/// How many bytes of a frame are kept: the head, and the greatest payload of a message.
+/// How many bytes of a frame are kept: the head, and the greatest payload of a sample.
 const FRONT_SIZE: usize = 1243;
 
 /// What the bytes that a push took come to.
@@ -26,7 +26,7 @@ const FRONT_SIZE: usize = 1243;
 pub enum Pushed {
     /// Neither of the others; the whole piece was taken.
     More,
-    /// They end a frame: its message, where it is an M frame in the grammar.
+    /// They end a frame: its sample, where it is an M frame in the grammar.
     Frame(Option<Message>),
     /// The frame at this offset states a length above the limit.
     Bad(u64),
@@ -41,7 +41,7 @@ pub struct FrameStream {
     at: u64,
     // how many bytes were taken
     taken: u64,
-    // begins with the bytes of the frame under way, as many as there is room for
+    // begins with the bytes of the frame under way, as many as fit
     front: [u8; FRONT_SIZE],
 }
 
@@ -118,7 +118,7 @@ fn take_some(front: &mut [u8], have: u64, piece: &[u8]) -> usize
     head + fill(front, have, goal, &piece[head..])
 }
 
-/// The message of the grammar that the frame in a room is, if it is one.
+/// The sample of the grammar that the frame in a room is, if it is one.
 fn message_of(front: &[u8]) -> Option<Message>
     requires { length front.now ≡ front_size }
     ensures { result ≡ front_message front.now }

@@ -1,4 +1,4 @@
-//! Writing frames: room for all of a spelling is made first, and then no write can fail.
+//! Writing frames: capacity for all of a spelling is made first, and then no write can fail.
 
 ghost use Rattle.std.specs.Prelude.{◌≡◌, length, None, ◌+◌, ◌++◌, ◌↔◌, OnOk, OnErr, IsErrOf, IsSome};
 ghost use Rattle.namespace_id.specs.Answers.{HasRoom};
@@ -89,7 +89,7 @@ fn put_payload(out: &mut Vec<u8>, frame: &Frame)
 
 /// Appends the one spelling of a value, which is read back as the value.
 ///
-/// Refuses a value that has none (`Unspellable`), then want of memory; a refusal leaves `out` as it was.
+/// Refuses a value that has none (`Unspellable`), then out of memory; a refusal leaves `out` as it was.
 ///
 /// docs/FORMATS.md, "Frames" and "Payloads".
 pub fn write_frame(frame: &Frame, out: &mut Vec<u8>) -> Result<(), SpellError>

@@ -10,7 +10,7 @@ ghost use Rattle.square_layout.specs.Refusals.{layout_refusal, Answers};
 ghost use Rattle.axis_roots.specs.Grids.{IsHeaderOf, HasNoHeader};
 
 use axis_roots::{Grid, grid_laws, header_of};
-use da_wire::{Frame, FrameError, read_only};
+use da_wire::{FrameError, read_block};
 use data_header::data_root;
 use square_layout::{Block, LayError, lay};
 use std::alloc::{AllocError, Global};
@@ -61,10 +61,7 @@ fn print_root(rt: &HostRuntime) -> Result<(), Failure> {
         return Err(Failure::Usage);
     };
     let bytes = fs::read(rt, name.as_str())?;
-    // Another kind never comes: this one is asked for.
-    let Frame::Block(block) = read_only(rt.alloc(), &bytes, b"V")? else {
-        return Err(Failure::Usage);
-    };
+    let block = read_block(rt.alloc(), &bytes)?;
     let Some(root) = root_of(rt.alloc(), &block)? else {
         return Err(Failure::NoHeader);
     };

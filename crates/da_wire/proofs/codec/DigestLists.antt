@@ -4,27 +4,20 @@ use Rattle.std.specs.Int.{w16, to_be_bytes}
 use Rattle.namespace_id.specs.declared.digests.Digest.{Digest}
 use Rattle.namespace_id.specs.Bytes.{AreBytes}
 use Rattle.namespace_id.specs.Digests.{AreDigests}
-use Rattle.da_wire.specs.codec.Fields.{◌>>=◌, count_at, digests_at}
-use Rattle.da_wire.specs.codec.Texts.{digest_bytes, list_bytes}
+use Rattle.da_wire.specs.codec.Fields.{◌>>=◌, count_at, digests_at, digest_list_at}
+use Rattle.da_wire.specs.codec.Texts.{digest_bytes, digest_list}
 use Rattle.da_wire.proofs.codec.Readers.{bind_some, bind_again, Takes, Takes-then}
 use Rattle.da_wire.proofs.codec.Numbers.{wide16, count_takes, count_again}
 use Rattle.da_wire.proofs.codec.Digests.{digests_take, digests_again}
 
--- the bytes of digests behind their count
-abbrev pub digest_list : List Digest → List ℕ
-digest_list digests = list_bytes w16 (λ d. d.0) digests
-
 -- what is read after the count
-abbrev pub after_count : ℕ × List ℕ → Option (List Digest × List ℕ)
+abbrev after_count : ℕ × List ℕ → Option (List Digest × List ℕ)
 after_count count = digests_at count.0 count.1
-
--- digests behind their count, which is at most the limit
-abbrev pub digest_list_at : ℕ → List ℕ → Option (List Digest × List ℕ)
-digest_list_at limit bytes = count_at w16 limit bytes >>= after_count
 
 -- digests that are read are those that were written, and aren't too many
 pub digest_list_takes : (limit : ℕ) (bytes : List ℕ) (digests : List Digest) (rest : List ℕ) → AreBytes bytes → digest_list_at limit bytes ≡ Some (digests, rest)
     → Takes bytes (digest_list digests) rest × AreDigests digests × (length digests ≤ limit)
+unfolding digest_list_at
 digest_list_takes limit bytes digests rest fits e =
     let a = bind_some (count_at w16 limit bytes) after_count (digests, rest) e in
     let t = count_takes w16 (2 ^ 16) wide16 limit bytes a.0.0 a.0.1 fits a.1 in
@@ -35,6 +28,7 @@ digest_list_takes limit bytes digests rest fits e =
 -- digests that were written are read, whatever follows them
 pub digest_list_again : (limit : ℕ) (digests : List Digest) (rest : List ℕ) → AreDigests digests → length digests < 2 ^ 16 → length digests ≤ limit
     → digest_list_at limit (digest_list digests ++ rest) ≡ Some (digests, rest)
+unfolding digest_list_at
 digest_list_again limit digests rest all lt few =
     let count : List ℕ = to_be_bytes w16 (length digests) in
     let tail : List ℕ = digest_bytes digests ++ rest in

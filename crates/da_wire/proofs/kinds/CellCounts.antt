@@ -8,6 +8,7 @@ use Rattle.namespace_id.specs.declared.cells.Cell.{Cell}
 use Rattle.namespace_id.specs.Lists.{holds_along}
 use Rattle.namespace_id.specs.Cells.{CellList, AreCells, is_width, is_in_square, is_before}
 use Rattle.namespace_id.proofs.WidthLemmas.{is_width-le}
+use Rattle.namespace_id.proofs.NumberLemmas.{inside as within_square}
 use Rattle.da_wire.proofs.kinds.PayloadSizes.{square_few}
 
 -- the place of a cell in row-major order, in a square of this side
@@ -21,18 +22,14 @@ row_before side row col later h r =
     let most : side * suc row ≤ side * later = mul-le-mul_left side (omega (arith, r)) in
     omega (arith, next, most, h)
 
--- the row and the column of a cell of a square are below twice its width
-pub row_inside : (k : ℕ) (cell : Cell) → is_in_square k cell ≡ true → (cell.row < 2 * k) × (cell.col < 2 * k)
-row_inside k cell inside = (grind (arith, nat_tests), grind (arith, nat_tests))
-
 -- the place of a cell of a square is below the number of its cells
 place_inside : (k : ℕ) (cell : Cell) → is_in_square k cell ≡ true → place (2 * k) cell < 2 * k * (2 * k)
-place_inside k cell inside = let in_square = row_inside k cell inside in row_before (2 * k) cell.row cell.col (2 * k) in_square.1 in_square.0
+place_inside k cell inside = let in_square = within_square k cell inside in row_before (2 * k) cell.row cell.col (2 * k) in_square.1 in_square.0
 
 -- a cell that comes before another has a lower place
 place_before : (k : ℕ) (a b : Cell) → is_in_square k a ≡ true → is_before a b ≡ true → place (2 * k) a < place (2 * k) b
 place_before k a b inside before = elim (cases_lt a.row b.row) [
-  | inl above ↦ omega (arith, row_before (2 * k) a.row a.col b.row (row_inside k a inside).1 above)
+  | inl above ↦ omega (arith, row_before (2 * k) a.row a.col b.row (within_square k a inside).1 above)
   | inr not_above ↦
       let same : a.row ≡ b.row = grind (arith, nat_tests) in
       let left : a.col < b.col = grind (arith, nat_tests) in

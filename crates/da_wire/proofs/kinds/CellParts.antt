@@ -21,7 +21,7 @@ use Rattle.da_wire.proofs.codec.Paths.{path_takes, path_again}
 
 -- ---- the tag
 
--- the tag of a message on an axis, in a claim that accuses another or the same
+-- the tag of a sample on an axis, in a claim that accuses another or the same
 abbrev pub tag_byte : Axis → Axis → ℕ
 tag_byte axis found = cond (is_one_axis axis found) 1 0
 

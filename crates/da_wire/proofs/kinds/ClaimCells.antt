@@ -23,15 +23,15 @@ use Rattle.da_wire.proofs.kinds.CellParts.{tag_byte, tag_takes, tag_again, path_
 
 -- ---- the cell
 
--- whether a message is of a cell on this axis, and has no path where the set shows it
+-- whether a sample is of a cell on this axis, and has no path where the set shows it
 abbrev pub is_at : Axis → ℕ → Message → Bool
 is_at axis i m = eqb (index axis m.cell) i && is_path (is_along axis m) m.path
 
--- a message that can be written in a claim with a set
+-- a sample that can be written in a claim with a set
 abbrev pub IsSetCell : Axis → ℕ → Message → Type 0
 IsSetCell axis i m = IsMessage m × (is_at axis i m ≡ true)
 
--- the message of these fields
+-- the sample of these fields
 abbrev message : Cell → Axis → List ℕ → List Digest → Message
 message cell axis share path = record { cell = cell; axis = axis; share = record { 0 = share }; path = path }
 
@@ -111,14 +111,14 @@ set_cell_field axis i lt = record {
 
 -- ---- lists of cells
 
--- cells that can be written are messages, and all are placed
+-- cells that can be written are samples, and all are placed
 pub placed_messages : (axis : Axis) (i : ℕ) (cells : List Message) → AllByRecursion (IsSetCell axis i) cells → AllByRecursion IsMessage cells × (list_all (is_at axis i) cells ≡ true)
 placed_messages axis i [] all = (tt, refl)
 placed_messages axis i (m ∷ cells) all =
     let others = placed_messages axis i cells all.1 in
     ((all.0.0, others.0), and_from (is_at axis i m) (list_all (is_at axis i) cells) all.0.1 others.1)
 
--- messages that are placed can be written
+-- samples that are placed can be written
 pub all_placed : (axis : Axis) (i : ℕ) (cells : List Message) → AllByRecursion IsMessage cells → list_all (is_at axis i) cells ≡ true → AllByRecursion (IsSetCell axis i) cells
 all_placed axis i [] all placed = tt
 all_placed axis i (m ∷ cells) all placed =

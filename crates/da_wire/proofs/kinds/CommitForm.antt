@@ -2,7 +2,7 @@
 use Rattle.std.proofs.Common.{◌≡◌, ◌∙◌, ℕ, ◌+◌, ◌^◌, ◌<◌, ◌≤◌, Bool, ltb, eqb, cond, false, List, [], ◌++◌, length, Option, None, Some, refl, ap, subst, arith, append-nil, eqb-true, ltb-false, le-ltb}
 use Rattle.std.specs.Int.{w16, w32, to_be_bytes}
 use Rattle.std.specs.List.{list_any}
-use Rattle.std.proofs.lemmas.Bool.{or_parts}
+use Rattle.std.proofs.lemmas.Bool.{or_parts, or_from}
 use Rattle.std.proofs.lemmas.List.{length-append}
 use Rattle.std.proofs.lemmas.Option.{cond_some}
 use Rattle.namespace_id.specs.Bytes.{AreBytes}
@@ -16,7 +16,7 @@ use Rattle.da_wire.proofs.codec.Readers.{bind_some, bind_again, Takes-then, Take
 use Rattle.da_wire.proofs.codec.Numbers.{wide16, wide32, number_takes, number_again}
 use Rattle.da_wire.proofs.codec.Strings.{string_takes, string_again}
 use Rattle.da_wire.proofs.codec.Lists.{list_takes, list_again}
-use Rattle.da_wire.proofs.codec.Short.{none_of, short_parts, all_short}
+use Rattle.da_wire.proofs.codec.Short.{short_parts, all_short}
 use Rattle.da_wire.proofs.codec.Many.{made, by_rest}
 use Rattle.da_wire.proofs.codec.Headed.{ended}
 use Rattle.da_wire.proofs.kinds.Rows.{IsShortRow, row_field}
@@ -89,7 +89,7 @@ commit_takes payload x fits e =
     let e4 = Takes-then payload p3 c.0.1 list r.0.1 e3 t4.0 in
     let all : payload ≡ commit_payload proof = Takes-all payload (p3 ++ list) r.0.1 e4 (eqb-true (length r.0.1) 0 g.0) in
     let sent : IsCommitSent proof = record { k = t0.1; start = t1.1; count = t2.1; commitment = t3.1; rows = short.0 } in
-    let few : is_long_commit proof ≡ false = none_of (ltb 128 (length rows)) (list_any is_long_row rows) (le-ltb _ _ t4.2) short.1 in
+    let few : is_long_commit proof ≡ false = or_from (ltb 128 (length rows)) (list_any is_long_row rows) (le-ltb _ _ t4.2) short.1 in
     subst (λ (y : CommitParts). IsRead payload y) g.1 (sent, all, few)
 
 -- the payload of a commitment proof that isn't too long is read as the proof

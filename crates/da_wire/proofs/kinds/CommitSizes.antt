@@ -2,19 +2,19 @@
 use Rattle.std.proofs.Common.{◌≡◌, ◌∙◌, ℕ, ◌+◌, ◌*◌, ◌≤◌, false, ltb, List, [], ◌∷◌, ◌++◌, length, length-append, Some, refl, arith, ltb-false, le-ltb}
 use Rattle.std.specs.Int.{w16, to_be_bytes}
 use Rattle.std.specs.List.{AllByRecursion, list_any}
-use Rattle.std.proofs.lemmas.Bool.{or_parts}
+use Rattle.std.proofs.lemmas.Bool.{or_parts, or_from}
 use Rattle.blob_commit.specs.Proofs.{RowParts, CommitParts, RootedParts, IsRow, IsRooted}
 use Rattle.da_wire.specs.declared.frames.Frame.TheVariants.{Rooted}
 use Rattle.da_wire.specs.Spelling.{max_payload, rooted_kind}
-use Rattle.da_wire.specs.codec.Texts.{path_bytes, list_bytes}
+use Rattle.da_wire.specs.codec.Texts.{path_bytes, list_bytes, digest_list}
 use Rattle.da_wire.specs.kinds.Message.{message_payload}
-use Rattle.da_wire.specs.kinds.Commit.{IsRowSent, IsCommitSent, is_long_row, is_long_commit, hash_bytes, subtree_bytes, row_bytes, commit_payload}
+use Rattle.da_wire.specs.kinds.Commit.{IsRowSent, IsCommitSent, is_long_row, is_long_commit, hash_bytes, row_bytes, commit_payload}
 use Rattle.da_wire.specs.kinds.Rooted.{rooted_payload}
 use Rattle.da_wire.specs.Writing.{HasSize}
 use Rattle.da_wire.proofs.codec.Digests.{length-digest_bytes}
 use Rattle.da_wire.proofs.codec.Hashes.{length-hash_bytes}
 use Rattle.da_wire.proofs.codec.Lengths.{spelled_within, texts_few}
-use Rattle.da_wire.proofs.codec.Short.{none_of, all_short}
+use Rattle.da_wire.proofs.codec.Short.{all_short}
 use Rattle.da_wire.proofs.kinds.Rows.{IsShortRow}
 use Rattle.da_wire.proofs.kinds.PayloadSizes.{length-message}
 
@@ -24,8 +24,8 @@ use Rattle.da_wire.proofs.kinds.PayloadSizes.{length-message}
 pub length-row : (row : RowParts) → IsRow row → length (row_bytes row) ≡ 94 + 32 * length row.up + 90 * length row.subtrees + 90 * length row.nodes
 length-row row is =
     let led : List ℕ = row.root.0 ++ hash_bytes row.up in
-    let sum : length (row_bytes row) ≡ length (led ++ subtree_bytes row.subtrees) + length (path_bytes row.nodes) = length-append (led ++ subtree_bytes row.subtrees) (path_bytes row.nodes) in
-    let sum_led : length (led ++ subtree_bytes row.subtrees) ≡ length led + length (subtree_bytes row.subtrees) = length-append led (subtree_bytes row.subtrees) in
+    let sum : length (row_bytes row) ≡ length (led ++ digest_list row.subtrees) + length (path_bytes row.nodes) = length-append (led ++ digest_list row.subtrees) (path_bytes row.nodes) in
+    let sum_led : length (led ++ digest_list row.subtrees) ≡ length led + length (digest_list row.subtrees) = length-append led (digest_list row.subtrees) in
     omega (arith, sum, sum_led, length-append row.root.0 (hash_bytes row.up), is.root.size_is, length-hash_bytes row.up is.up, length-digest_bytes row.subtrees is.subtrees, length-digest_bytes row.nodes is.nodes)
 
 -- so one that can be written has at most 13,342
@@ -50,15 +50,15 @@ commit_few proof is short =
 -- rows of few subtrees aren't too long
 rows_short : (rows : List RowParts) → AllByRecursion (λ row. length row.subtrees ≤ 128) rows → list_any is_long_row rows ≡ false
 rows_short [] all = refl
-rows_short (row ∷ rows) all = none_of (is_long_row row) (list_any is_long_row rows) (le-ltb _ _ all.0) (rows_short rows all.1)
+rows_short (row ∷ rows) all = or_from (is_long_row row) (list_any is_long_row rows) (le-ltb _ _ all.0) (rows_short rows all.1)
 
 -- nor is a commitment proof that has few such rows
 pub commit_short : (proof : CommitParts) → length proof.rows ≤ 128 → AllByRecursion (λ row. length row.subtrees ≤ 128) proof.rows → is_long_commit proof ≡ false
-commit_short proof few all = none_of (ltb 128 (length proof.rows)) (list_any is_long_row proof.rows) (le-ltb _ _ few) (rows_short proof.rows all)
+commit_short proof few all = or_from (ltb 128 (length proof.rows)) (list_any is_long_row proof.rows) (le-ltb _ _ few) (rows_short proof.rows all)
 
 -- ---- root proofs
 
--- the payload of a root proof has 611 bytes, 90 for each node of its message, and 32 for each hash
+-- the payload of a root proof has 611 bytes, 90 for each node of its sample, and 32 for each hash
 length-rooted : (proof : RootedParts) → IsRooted proof → 611 + 90 * length proof.message.path + 32 * length proof.up ≡ length (rooted_payload proof)
 length-rooted proof is =
     let front : List ℕ = to_be_bytes w16 proof.k ++ message_payload proof.message in

@@ -46,7 +46,7 @@ by_byte true byte kind found others is e later = eqb-true byte (kind_byte kind) 
 by_byte false byte kind found others is e later = later e
 
 -- a byte that is read as a kind is that kind's byte
-kind_takes : (byte : ℕ) (found : Kind) → kind_at byte ≡ Some found → byte ≡ kind_byte found
+pub kind_takes : (byte : ℕ) (found : Kind) → kind_at byte ≡ Some found → byte ≡ kind_byte found
 kind_takes byte found e =
     by_byte (eqb byte (kind_byte kinds.Header)) byte kinds.Header found _ refl e (λ e1.
     by_byte (eqb byte (kind_byte kinds.Square)) byte kinds.Square found _ refl e1 (λ e2.

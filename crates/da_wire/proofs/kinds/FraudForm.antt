@@ -8,7 +8,7 @@ use Rattle.namespace_id.specs.declared.digests.Digest.{Digest}
 use Rattle.namespace_id.specs.Bytes.{AreBytes}
 use Rattle.axis_roots.specs.Sets.{is_along}
 use Rattle.axis_roots.specs.Claims.{ClaimParts, IsClaim}
-use Rattle.da_wire.specs.codec.Texts.{list_bytes}
+use Rattle.da_wire.specs.codec.Texts.{list_bytes, digest_list}
 use Rattle.da_wire.specs.kinds.Fraud.{is_placed, fits_form, is_unwritten, cell_payload, plain_payload, set_payload, payload_by, fraud_payload, accused_at, claim_cells_at, plain_at, with_set_at, either, fraud_at}
 use Rattle.da_wire.specs.declared.kinds.Kind.TheVariants as kinds
 use Rattle.da_wire.specs.declared.frames.Frame.TheVariants as frames
@@ -17,7 +17,7 @@ use Rattle.da_wire.proofs.kinds.AccusedForm.{text, accused_other}
 use Rattle.da_wire.proofs.kinds.PlainForm.{IsPlain, plain_is, plain_takes, plain_again}
 use Rattle.da_wire.proofs.kinds.PlainForm.{claim as plain_claim}
 use Rattle.da_wire.proofs.kinds.SetForm.{claim as set_claim}
-use Rattle.da_wire.proofs.kinds.SetForm.{IsWith, node_list, with_set_takes, with_set_again}
+use Rattle.da_wire.proofs.kinds.SetForm.{IsWith, with_set_takes, with_set_again}
 use Rattle.da_wire.proofs.kinds.Form.{IsForm}
 
 -- ---- two grammars
@@ -99,7 +99,7 @@ other_form claim nodes =
     let list : List ℕ = list_bytes w16 (cell_payload claim.axis) claim.cells in
     let front : List ℕ = text 2 (claim.axis, claim.index) in
     let none : accused_at 1 (set_payload claim nodes) ≡ None =
-    ap (accused_at 1) (append_assoc front list (node_list nodes)) ∙ accused_other 1 2 (claim.axis, claim.index) (list ++ node_list nodes) refl in
+    ap (accused_at 1) (append_assoc front list (digest_list nodes)) ∙ accused_other 1 2 (claim.axis, claim.index) (list ++ digest_list nodes) refl in
     plain_is (set_payload claim nodes) ∙ no_head claim_cells_at plain_claim (accused_at 1 (set_payload claim nodes)) none
 
 -- the payload of a claim that can be written is read as the claim, by whether it has a set

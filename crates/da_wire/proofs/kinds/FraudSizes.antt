@@ -15,7 +15,7 @@ use Rattle.axis_roots.specs.Sets.{is_along}
 use Rattle.axis_roots.specs.Claims.{ClaimParts, IsClaim}
 use Rattle.da_wire.specs.declared.frames.Frame.TheVariants.{Fraud}
 use Rattle.da_wire.specs.Spelling.{max_payload, spelled, fraud_kind}
-use Rattle.da_wire.specs.codec.Texts.{list_bytes}
+use Rattle.da_wire.specs.codec.Texts.{list_bytes, digest_list}
 use Rattle.da_wire.specs.kinds.Message.{message_payload}
 use Rattle.da_wire.specs.kinds.Fraud.{is_unwritten, fits_form, cell_payload, plain_payload, set_payload, payload_by, fraud_payload}
 use Rattle.da_wire.specs.Writing.{HasSize, IsWithin}
@@ -23,15 +23,10 @@ use Rattle.da_wire.proofs.codec.Digests.{length-digest_bytes}
 use Rattle.da_wire.proofs.codec.Lengths.{texts_few, spelled_within, spelled_beyond}
 use Rattle.da_wire.proofs.kinds.AccusedForm.{text}
 use Rattle.da_wire.proofs.kinds.CellParts.{path_text}
-use Rattle.da_wire.proofs.kinds.SetForm.{node_list}
 use Rattle.da_wire.proofs.kinds.FraudForm.{written_parts, fits_parts}
-use Rattle.da_wire.proofs.kinds.PayloadSizes.{length-message}
+use Rattle.da_wire.proofs.MessageLengths.{length-message_payload}
 
 -- ---- cells
-
--- a message has at most 1,238 bytes
-message_few : (m : Message) → IsMessage m → length (message_payload m) ≤ 1238
-message_few m is = omega (arith, is.few, length-message m is.share is.nodes)
 
 -- a cell of a claim with a set has 515 bytes, and those of its path
 pub length-cell : (axis : Axis) (m : Message) → IsShare m.share → length (cell_payload axis m) ≡ 515 + length (path_text (is_along axis m) m.path)
@@ -66,7 +61,7 @@ pub length-set : (claim : ClaimParts) (nodes : List Digest)
 length-set claim nodes =
     let front : List ℕ = text 2 (claim.axis, claim.index) in
     let list : List ℕ = list_bytes w16 (cell_payload claim.axis) claim.cells in
-    omega (arith, length-append (front ++ list) (node_list nodes), length-append front list)
+    omega (arith, length-append (front ++ list) (digest_list nodes), length-append front list)
 
 -- the payload of a claim without a set
 pub plain_text : (claim : ClaimParts) → claim.set ≡ None → fraud_payload claim ≡ plain_payload claim
@@ -74,7 +69,7 @@ plain_text claim e = ap (payload_by claim) e
 
 -- the payload by whether there is a set is within the limit
 few_by : (claim : ClaimParts) (set : Option (List Digest)) → claim.set ≡ set → IsClaim claim → fits_form claim set ≡ true → length claim.cells ≤ 128 → length (payload_by claim set) ≤ max_payload
-few_by claim None same is fits few = omega (arith, few, length-plain claim, texts_few message_payload IsMessage 1238 message_few claim.cells is.messages)
+few_by claim None same is fits few = omega (arith, few, length-plain claim, texts_few message_payload IsMessage 1238 length-message_payload claim.cells is.messages)
 few_by claim (Some nodes) same is fits few =
     let digests : AreDigests nodes = subst (λ (s : Option (List Digest)). IfSome s AreDigests) same is.digests in
     omega (

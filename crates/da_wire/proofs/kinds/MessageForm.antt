@@ -1,4 +1,4 @@
--- A message that is read of a payload is what the payload spells, and the payload that a message has is read.
+-- A sample that is read of a payload is what the payload spells, and the payload that a sample has is read.
 use Rattle.std.proofs.Common.{sym, append_assoc, arith, ◌≡◌, ℕ, eqb, cond, List, [], ◌∷◌, ◌++◌, length, Option, None, Some, refl, subst, append-nil, eqb-true}
 use Rattle.std.proofs.lemmas.Option.{cond_some}
 use Rattle.namespace_id.specs.declared.cells.Cell.{Cell}
@@ -19,7 +19,7 @@ use Rattle.da_wire.specs.declared.frames.Frame.TheVariants as frames
 use Rattle.da_wire.proofs.kinds.Form.{IsForm, never}
 use Rattle.da_wire.proofs.codec.Texts.{IsField}
 
--- the message of these fields
+-- the sample of these fields
 abbrev message : Cell → Axis → List ℕ → List Digest → Message
 message cell axis share path = record { cell = cell; axis = axis; share = record { 0 = share }; path = path }
 
@@ -39,7 +39,7 @@ after_axis cell axis = string_at 512 axis.1 >>= after_share cell axis.0
 abbrev after_cell : Cell × List ℕ → Option (Message × List ℕ)
 after_cell cell = axis_at cell.1 >>= after_axis cell.0
 
--- a message that is read at the front is what the front spells
+-- a sample that is read at the front is what the front spells
 front_takes : (bytes : List ℕ) (m : Message) (rest : List ℕ) → AreBytes bytes → message_front bytes ≡ Some (m, rest) → Takes bytes (message_payload m) rest × IsMessage m
 unfolding message_front
 front_takes bytes m rest fits e =
@@ -59,7 +59,7 @@ front_takes bytes m rest fits e =
     let made : IsMessage (message a.0.0 c.0.0 d.0.0 p.0.0) = record { row = t0.1.row; col = t0.1.col; share = t3.1; few = t4.1; nodes = t4.2 } in
     Takes-read message_payload IsMessage bytes (message a.0.0 c.0.0 d.0.0 p.0.0) m p.0.1 rest p.2 made e04
 
--- a message that is spelled at the front is read, whatever follows
+-- a sample that is spelled at the front is read, whatever follows
 front_again : (m : Message) (rest : List ℕ) → IsMessage m → message_front (message_payload m ++ rest) ≡ Some (m, rest)
 unfolding message_front
 front_again m rest is =
@@ -75,7 +75,7 @@ front_again m rest is =
     let all : (cell_at (cell_bytes m.cell ++ r2) >>= after_cell) ≡ Some read = bind_again (cell_at (cell_bytes m.cell ++ r2)) after_cell (m.cell, r2) read (cell_again m.cell r2 in_cell) s2 in
     subst (λ (l : List ℕ). (cell_at (cell_bytes m.cell ++ axis_byte m.axis ∷ l) >>= after_cell) ≡ Some read) (sym (append_assoc m.share.0 nodes rest)) all
 
--- messages are a field: several may stand one after another
+-- samples are a field: several may stand one after another
 pub message_field : IsField message_front message_payload IsMessage
 message_field = record {
   takes = front_takes;
@@ -83,11 +83,11 @@ message_field = record {
   some = λ m. omega arith;
 }
 
--- what `message_at` does after the message
+-- what `message_at` does after the sample
 abbrev after_front : Message × List ℕ → Option Message
 after_front front = cond (eqb (length front.1) 0) (Some front.0) None
 
--- a message that is read of a payload is what the payload spells
+-- a sample that is read of a payload is what the payload spells
 pub message_takes : (payload : List ℕ) (m : Message) → AreBytes payload → message_at payload ≡ Some m → IsMessage m × (payload ≡ message_payload m)
 unfolding message_at
 message_takes payload m fits e =
@@ -97,7 +97,7 @@ message_takes payload m fits e =
     subst (λ (x : Message). IsMessage x × (payload ≡ message_payload x)) g.1
     (t.1, Takes-all payload (message_payload a.0.0) a.0.1 t.0 (eqb-true (length a.0.1) 0 g.0))
 
--- the payload of a message is read as the message
+-- the payload of a sample is read as the sample
 pub message_again : (m : Message) → IsMessage m → message_at (message_payload m) ≡ Some m
 unfolding message_at
 message_again m is =

@@ -3,7 +3,7 @@
 use Rattle.std.proofs.Common.{◌≡◌, ℕ, ◌+◌, ◌^◌, ◌<◌, ◌≤◌, ltb, false, List, [], ◌++◌, length, Some, refl, subst, arith, append-nil, ltb-false, le-ltb}
 use Rattle.std.specs.Int.{w16}
 use Rattle.std.specs.List.{list_any}
-use Rattle.std.proofs.lemmas.Bool.{or_parts}
+use Rattle.std.proofs.lemmas.Bool.{or_parts, or_from}
 use Rattle.std.proofs.lemmas.List.{length-append}
 use Rattle.namespace_id.specs.declared.namespaces.Namespace.{Namespace}
 use Rattle.namespace_id.specs.Bytes.{AreBytes}
@@ -20,7 +20,7 @@ use Rattle.da_wire.proofs.codec.Headed.{ended, behind, headed, headed_some}
 use Rattle.da_wire.proofs.codec.Numbers.{wide16}
 use Rattle.da_wire.proofs.codec.Strings.{string_takes, string_again}
 use Rattle.da_wire.proofs.codec.Lists.{list_takes, list_again}
-use Rattle.da_wire.proofs.codec.Short.{none_of, short_parts, all_short}
+use Rattle.da_wire.proofs.codec.Short.{short_parts, all_short}
 use Rattle.da_wire.proofs.kinds.Entries.{IsShortEntry, entry_field}
 use Rattle.da_wire.proofs.kinds.Form.{IsForm}
 
@@ -53,7 +53,7 @@ names_takes payload x fits e =
     let short = short_parts IsEntry is_long_entry entries u.1 in
     let both = Takes-then payload name r.0.1 (list_bytes w16 entry_bytes entries) r.2.1 t.0 u.0 in
     let all : payload ≡ names_payload (named name entries).0 entries = Takes-all payload (name ++ list_bytes w16 entry_bytes entries) r.2.1 both r.4 in
-    let few : is_long_answer entries ≡ false = none_of (ltb 128 (length entries)) (list_any is_long_entry entries) (le-ltb _ _ u.2) short.1 in
+    let few : is_long_answer entries ≡ false = or_from (ltb 128 (length entries)) (list_any is_long_entry entries) (le-ltb _ _ u.2) short.1 in
     subst (λ (y : Named). IsRead payload y) r.5 ((t.1, short.0), all, few)
 
 -- the payload of a namespace answer that isn't too long is read as the answer

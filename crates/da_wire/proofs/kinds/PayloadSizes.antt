@@ -52,12 +52,12 @@ square_sized s n is shares e =
     let few : s.k * s.k ≤ 128 * 128 = square_few s.k (is_width-le s.k is.width) in
     (size, spelled_within square_kind n (square_payload s) size (omega arith))
 
--- the payload of a message has 518 bytes, and 90 for each node
+-- the payload of a sample has 518 bytes, and 90 for each node
 pub length-message : (m : sent.Message) → IsShare m.share → AreDigests m.path → 518 + 90 * length m.path ≡ length (message_payload m)
 length-message m share nodes =
     omega (arith, length-append m.share.0 (length m.path ∷ digest_bytes m.path), share.size_is, length-digest_bytes m.path nodes)
 
--- a message has a spelling, and this is its payload's length
+-- a sample has a spelling, and this is its payload's length
 pub message_sized : (m : sent.Message) (n : ℕ) → IsShare m.share → AreDigests m.path → length m.path ≤ 8 → n ≡ 518 + 90 * length m.path → HasSize (Message m) (Some n)
 message_sized m n share nodes few e =
     let size : n ≡ length (message_payload m) = e ∙ length-message m share nodes in

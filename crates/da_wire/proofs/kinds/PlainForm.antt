@@ -16,11 +16,11 @@ use Rattle.da_wire.proofs.codec.Headed.{ended, behind, headed, headed_some}
 use Rattle.da_wire.proofs.kinds.MessageForm.{message_field}
 use Rattle.da_wire.proofs.kinds.AccusedForm.{Accused, text, accused_takes, accused_again}
 
--- the claim without a set that accuses an axis by these messages
+-- the claim without a set that accuses an axis by these samples
 abbrev pub claim : Accused → List Message → ClaimParts
 claim accused cells = record { axis = accused.0; index = accused.1; cells = cells; set = None }
 
--- a payload is read as an accused axis and messages that end it
+-- a payload is read as an accused axis and samples that end it
 pub plain_is : (payload : List ℕ) → plain_at payload ≡ headed claim_cells_at claim (accused_at 1 payload)
 unfolding plain_at
 plain_is payload = refl

@@ -31,7 +31,7 @@ after_up k message root up = cond (eqb (length up.1) 0) (Some (rooted k message 
 abbrev after_root : ℕ → Message → List ℕ × List ℕ → Option RootedParts
 after_root k message root = hashes_at root.1 >>= after_up k message root.0
 
--- what `rooted_at` does after the message
+-- what `rooted_at` does after the sample
 abbrev after_message : ℕ → Message × List ℕ → Option RootedParts
 after_message k message = string_at 90 message.1 >>= after_root k message.0
 

@@ -7,36 +7,18 @@ use Rattle.std.proofs.lemmas.List.{length-append}
 use Rattle.std.proofs.lemmas.Option.{cond_some}
 use Rattle.namespace_id.specs.declared.digests.Digest.{Digest}
 use Rattle.namespace_id.specs.Bytes.{AreBytes}
-use Rattle.namespace_id.specs.Digests.{AreDigests}
 use Rattle.axis_roots.specs.declared.message.messages.Message.{Message}
 use Rattle.axis_roots.specs.Sets.{is_along}
 use Rattle.axis_roots.specs.Claims.{ClaimParts, IsClaim}
-use Rattle.da_wire.specs.codec.Fields.{◌>>=◌}
-use Rattle.da_wire.specs.codec.Texts.{list_bytes}
-use Rattle.da_wire.specs.kinds.Fraud.{cell_payload, set_payload, accused_at, set_cell_at, set_cells_at, set_nodes_at, with_set_at}
-use Rattle.da_wire.proofs.codec.Readers.{bind_some, bind_again, if_true_again, Takes, Takes-then, Takes-all}
+use Rattle.da_wire.specs.codec.Fields.{◌>>=◌, digest_list_at}
+use Rattle.da_wire.specs.codec.Texts.{list_bytes, digest_list}
+use Rattle.da_wire.specs.kinds.Fraud.{cell_payload, set_payload, accused_at, set_cell_at, set_cells_at, with_set_at}
+use Rattle.da_wire.proofs.codec.Readers.{bind_some, bind_again, if_true_again, Takes-then, Takes-all}
 use Rattle.da_wire.proofs.codec.Numbers.{wide16}
 use Rattle.da_wire.proofs.codec.DigestLists.{digest_list_takes, digest_list_again}
 use Rattle.da_wire.proofs.codec.Lists.{list_takes, list_again}
 use Rattle.da_wire.proofs.kinds.AccusedForm.{Accused, text, accused_takes, accused_again}
 use Rattle.da_wire.proofs.kinds.ClaimCells.{is_at, IsSetCell, set_cell_field, placed_messages, all_placed}
-
--- ---- the nodes of a set
-
--- the bytes of nodes behind their count
-abbrev pub node_list : List Digest → List ℕ
-node_list nodes = list_bytes w16 (λ d. d.0) nodes
-
--- nodes that are read are those that were written, and aren't too many
-set_nodes_take : (bytes : List ℕ) (nodes : List Digest) (rest : List ℕ) → AreBytes bytes → set_nodes_at bytes ≡ Some (nodes, rest)
-    → Takes bytes (node_list nodes) rest × AreDigests nodes × (length nodes ≤ 128)
-unfolding set_nodes_at
-set_nodes_take bytes nodes rest fits e = digest_list_takes 128 bytes nodes rest fits e
-
--- nodes that were written are read, whatever follows them
-set_nodes_again : (nodes : List Digest) (rest : List ℕ) → AreDigests nodes → length nodes ≤ 128 → set_nodes_at (node_list nodes ++ rest) ≡ Some (nodes, rest)
-unfolding set_nodes_at
-set_nodes_again nodes rest all few = digest_list_again 128 nodes rest all (omega (arith, few)) few
 
 -- ---- claims
 
@@ -50,7 +32,7 @@ after_nodes accused cells nodes = cond (eqb (length nodes.1) 0 && list_any (is_a
 
 -- what `with_set_at` does after the cells
 abbrev pub after_cells : Accused → List Message × List ℕ → Option ClaimParts
-after_cells accused cells = set_nodes_at cells.1 >>= after_nodes accused cells.0
+after_cells accused cells = digest_list_at 128 cells.1 >>= after_nodes accused cells.0
 
 -- what `with_set_at` does after the accused axis
 abbrev pub after_accused : Accused × List ℕ → Option ClaimParts
@@ -79,19 +61,19 @@ with_set_takes payload x fits e =
     let axis = accused.0 in
     let c = bind_some (set_cells_at axis accused.1 a.0.1) (after_cells accused) x a.2 in
     let cells : List Message = c.0.0 in
-    let n = bind_some (set_nodes_at c.0.1) (after_nodes accused cells) x c.2 in
+    let n = bind_some (digest_list_at 128 c.0.1) (after_nodes accused cells) x c.2 in
     let nodes : List Digest = n.0.0 in
     let rest : List ℕ = n.0.1 in
     let g = cond_some (eqb (length rest) 0 && list_any (is_along axis) cells) (claim accused cells nodes) x n.2 in
     let tests = and_parts (eqb (length rest) 0) (list_any (is_along axis) cells) g.0 in
     let t = accused_takes 2 payload accused a.0.1 fits a.1 in
     let u = list_takes (set_cell_at axis accused.1) (cell_payload axis) (IsSetCell axis accused.1) (set_cell_field axis accused.1 t.1) w16 (2 ^ 16) wide16 128 a.0.1 cells c.0.1 t.0.rest_fits c.1 in
-    let v = set_nodes_take c.0.1 nodes rest u.0.rest_fits n.1 in
+    let v = digest_list_takes 128 c.0.1 nodes rest u.0.rest_fits n.1 in
     let made = placed_messages axis accused.1 cells u.1 in
     let list : List ℕ = list_bytes w16 (cell_payload axis) cells in
     let front = Takes-then payload (text 2 accused) a.0.1 list c.0.1 t.0 u.0 in
-    let both = Takes-then payload (text 2 accused ++ list) c.0.1 (node_list nodes) rest front v.0 in
-    let all : payload ≡ set_payload (claim accused cells nodes) nodes = Takes-all payload (text 2 accused ++ list ++ node_list nodes) rest both (eqb-true (length rest) 0 tests.0) in (
+    let both = Takes-then payload (text 2 accused ++ list) c.0.1 (digest_list nodes) rest front v.0 in
+    let all : payload ≡ set_payload (claim accused cells nodes) nodes = Takes-all payload (text 2 accused ++ list ++ digest_list nodes) rest both (eqb-true (length rest) 0 tests.0) in (
       nodes,
       subst (λ (y : ClaimParts). IsWith payload y nodes) g.1 (record {
         is = record { index_bytes = t.1; messages = made.0; digests = v.1 };
@@ -113,13 +95,13 @@ with_set_again accused cells nodes is placed some few_nodes few small =
     let made : ClaimParts = claim accused cells nodes in
     let front : List ℕ = text 2 accused in
     let list : List ℕ = list_bytes w16 (cell_payload axis) cells in
-    let tail : List ℕ = node_list nodes in
+    let tail : List ℕ = digest_list nodes in
     let sum : length (set_payload made nodes) ≡ length (front ++ list) + length tail = length-append (front ++ list) tail in
     let sum_front : length (front ++ list) ≡ length front + length list = length-append front list in
     let joined : front ++ list ++ tail ≡ front ++ (list ++ tail) = append_assoc front list tail in
-    let nodes_read : set_nodes_at tail ≡ Some (nodes, []) = subst (λ (l : List ℕ). set_nodes_at l ≡ Some (nodes, [])) (append-nil tail) (set_nodes_again nodes [] is.digests few_nodes) in
+    let nodes_read : digest_list_at 128 tail ≡ Some (nodes, []) = subst (λ (l : List ℕ). digest_list_at 128 l ≡ Some (nodes, [])) (append-nil tail) (digest_list_again 128 nodes [] is.digests (omega (arith, few_nodes)) few_nodes) in
     let ended : after_nodes accused cells (nodes, []) ≡ Some made = if_true_again (list_any (is_along axis) cells) (Some made) made some refl in
-    let after : after_cells accused (cells, tail) ≡ Some made = bind_again (set_nodes_at tail) (after_nodes accused cells) (nodes, []) made nodes_read ended in
+    let after : after_cells accused (cells, tail) ≡ Some made = bind_again (digest_list_at 128 tail) (after_nodes accused cells) (nodes, []) made nodes_read ended in
     let listed : set_cells_at axis accused.1 (list ++ tail) ≡ Some (cells, tail) =
     list_again (set_cell_at axis accused.1) (cell_payload axis) (IsSetCell axis accused.1) (set_cell_field axis accused.1 is.index_bytes) w16 (2 ^ 16) wide16 128 cells tail
     (all_placed axis accused.1 cells is.messages placed) (omega arith) (omega (arith, few)) few in

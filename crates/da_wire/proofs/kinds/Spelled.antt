@@ -47,7 +47,7 @@ header_spelled h is = has_spelling (spelling (Header h)) _ (header_sized h (2 + 
 pub square_spelled : (s : SquareShares) → IsSquare s → AreShares s.shares → IsSome (spelling (Square s))
 square_spelled s is shares = has_spelling (spelling (Square s)) _ (square_sized s (2 + 512 * (s.k * s.k)) is shares refl).1
 
--- each message has a spelling
+-- each sample has a spelling
 pub message_spelled : (m : sent.Message) → IsMessage m → IsSome (spelling (Message m))
 message_spelled m is = has_spelling (spelling (Message m)) _ (message_sized m (518 + 90 * length m.path) is.share is.nodes is.few refl).1
 

@@ -101,6 +101,12 @@ count_at w limit bytes = do
   count ← number_at w bytes
   if nat_lt limit count.0 then None else Some count
 
+-- a count of two bytes, at most the limit, and so many digests
+unfoldable pub digest_list_at : ℕ → List ℕ → Option (List Digest × List ℕ)
+digest_list_at limit bytes = do
+  count ← count_at w16 limit bytes
+  digests_at count.0 count.1
+
 -- a byte string behind its length, which has this width and is at most the limit
 unfoldable pub text_at : Width → ℕ → List ℕ → Option (List ℕ × List ℕ)
 text_at w limit bytes = do

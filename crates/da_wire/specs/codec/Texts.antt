@@ -37,6 +37,10 @@ text_bytes w text = to_be_bytes w (length text) ++ text
 abbrev pub list_bytes : {A : Type 0} → Width → (A → List ℕ) → List A → List ℕ
 list_bytes w bytes_of values = to_be_bytes w (length values) ++ flat_map bytes_of values
 
+-- digests behind their count in two bytes
+abbrev pub digest_list : List Digest → List ℕ
+digest_list digests = list_bytes w16 (λ d. d.0) digests
+
 -- a cell has numbers of two bytes
 pub record IsCell (cell : Cell) : Type 0 where
   pub row : cell.row < 2 ^ 16

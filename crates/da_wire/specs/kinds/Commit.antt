@@ -2,17 +2,12 @@
 use Rattle.std.specs.Prelude.{◌≤◌, ◌<◌, ◌^◌, ℕ, List, ◌∷◌, length, nat_lt, Option, Some, None, if◌then◌else◌, ◌==◌, ◌||◌, Bool, ◌++◌}
 use Rattle.std.specs.Int.{w16, w32, to_be_bytes}
 use Rattle.std.specs.List.{AllByRecursion, flat_map, list_any}
-use Rattle.namespace_id.specs.Sizes.{digest_size}
+use Rattle.namespace_id.specs.Sizes.{hash_size, digest_size}
 use Rattle.namespace_id.specs.Bytes.{IsString}
-use Rattle.namespace_id.specs.declared.digests.Digest.{Digest}
 use Rattle.blob_commit.specs.Proofs.{RowParts, CommitParts, IsRow}
-use Rattle.da_wire.specs.codec.Fields.{◌>>=◌, byte_at, string_at, number_at, count_at, digest, digests_at, path_at, values_at, list_at}
-use Rattle.da_wire.specs.codec.Texts.{path_bytes, list_bytes}
+use Rattle.da_wire.specs.codec.Fields.{◌>>=◌, byte_at, string_at, number_at, digest, digest_list_at, path_at, values_at, list_at}
+use Rattle.da_wire.specs.codec.Texts.{path_bytes, list_bytes, digest_list}
 use Rattle.da_wire.specs.kinds.Names.{most_nodes}
-
--- the bytes of a hash, and of a commitment
-abbrev pub hash_size : ℕ
-hash_size = 32
 
 -- the most hashes that lead from an axis root to a data root
 abbrev pub most_hashes : ℕ
@@ -48,13 +43,9 @@ pub record IsCommitSent (proof : CommitParts) : Type 0 where
 abbrev pub hash_bytes : List (List ℕ) → List ℕ
 hash_bytes hashes = length hashes ∷ flat_map (λ h. h) hashes
 
--- subtrees behind their count in two bytes
-abbrev pub subtree_bytes : List Digest → List ℕ
-subtree_bytes subtrees = list_bytes w16 (λ d. d.0) subtrees
-
 -- a row: its root, the hashes that lead from it to the data root, its subtrees, and the nodes that open these
 abbrev pub row_bytes : RowParts → List ℕ
-row_bytes row = row.root.0 ++ hash_bytes row.up ++ subtree_bytes row.subtrees ++ path_bytes row.nodes
+row_bytes row = row.root.0 ++ hash_bytes row.up ++ digest_list row.subtrees ++ path_bytes row.nodes
 
 -- the width, the index of the first share and the number of shares, the commitment, and the rows behind their count
 abbrev pub commit_payload : CommitParts → List ℕ
@@ -80,18 +71,12 @@ hashes_at bytes = do
   count ← byte_at bytes
   if nat_lt most_hashes count.0 then None else values_at (λ hash. hash) hash_size count.0 count.1
 
--- subtrees behind their count
-unfoldable pub subtrees_at : List ℕ → Option (List Digest × List ℕ)
-subtrees_at bytes = do
-  count ← count_at w16 most_subtrees bytes
-  digests_at count.0 count.1
-
 -- a row
 unfoldable pub row_at : List ℕ → Option (RowParts × List ℕ)
 row_at bytes = do
   root ← string_at digest_size bytes
   up ← hashes_at root.1
-  subtrees ← subtrees_at up.1
+  subtrees ← digest_list_at most_subtrees up.1
   nodes ← path_at most_nodes subtrees.1
   Some (record { root = digest root.0; up = up.0; subtrees = subtrees.0; nodes = nodes.0 }, nodes.1)
 

@@ -13,8 +13,8 @@ use Rattle.axis_roots.specs.Lines.{cell_on}
 use Rattle.axis_roots.specs.Sets.{is_one_axis, is_along}
 use Rattle.axis_roots.specs.Claims.{ClaimParts, is_on}
 use Rattle.da_wire.specs.declared.kinds.fraud_set.SetFields.{SetFields}
-use Rattle.da_wire.specs.codec.Fields.{◌>>=◌, number_at, byte_at, string_at, axis_at, path_at, count_at, digests_at, digests_of, list_at, read_items}
-use Rattle.da_wire.specs.codec.Texts.{axis_byte, path_bytes, list_bytes}
+use Rattle.da_wire.specs.codec.Fields.{◌>>=◌, number_at, byte_at, string_at, axis_at, path_at, digest_list_at, digests_of, list_at, read_items}
+use Rattle.da_wire.specs.codec.Texts.{axis_byte, path_bytes, list_bytes, digest_list}
 use Rattle.da_wire.specs.kinds.Message.{message_payload, message_front}
 
 -- the forms of a claim, the byte in front of it: without a set, and with one
@@ -43,7 +43,7 @@ crossing Col = Row
 abbrev pub accused_bytes : Axis → ℕ → List ℕ
 accused_bytes axis index = axis_byte axis ∷ to_be_bytes w16 index
 
--- the axis that is accused, and messages of its cells behind their count in two bytes
+-- the axis that is accused, and samples of its cells behind their count in two bytes
 abbrev pub plain_payload : ClaimParts → List ℕ
 plain_payload claim =
     plain_form ∷ accused_bytes claim.axis claim.index ++ list_bytes w16 message_payload claim.cells
@@ -62,7 +62,7 @@ cell_payload axis m =
 abbrev pub set_payload : ClaimParts → List Digest → List ℕ
 set_payload claim nodes =
     set_form ∷ accused_bytes claim.axis claim.index ++ list_bytes w16 (cell_payload claim.axis) claim.cells
-    ++ list_bytes w16 (λ d. d.0) nodes
+    ++ digest_list nodes
 
 -- the payload of a claim, by whether it has a set
 abbrev pub payload_by : ClaimParts → Option (List Digest) → List ℕ
@@ -101,7 +101,7 @@ accused_at wanted bytes = do
   index ← number_at w16 axis.1
   Some ((axis.0, index.0), index.1)
 
--- messages of cells behind their count
+-- samples of cells behind their count
 abbrev pub claim_cells_at : List ℕ → Option (List Message × List ℕ)
 claim_cells_at bytes = list_at w16 most_cells message_front bytes
 
@@ -114,7 +114,7 @@ plain_at bytes = do
       then Some (record { axis = accused.0.0; index = accused.0.1; cells = cells.0; set = None })
       else None
 
--- the axis of a message by its tag: 1 for the accused axis, 0 for the crossing one
+-- the axis of a sample by its tag: 1 for the accused axis, 0 for the crossing one
 unfoldable pub tag_at : Axis → List ℕ → Option (Axis × List ℕ)
 tag_at axis bytes = do
   tag ← byte_at bytes
@@ -147,18 +147,12 @@ set_cell_at axis index bytes = do
 abbrev pub set_cells_at : Axis → ℕ → List ℕ → Option (List Message × List ℕ)
 set_cells_at axis index bytes = list_at w16 most_cells (set_cell_at axis index) bytes
 
--- the nodes of a set behind their count
-unfoldable pub set_nodes_at : List ℕ → Option (List Digest × List ℕ)
-set_nodes_at bytes = do
-  count ← count_at w16 most_set_nodes bytes
-  digests_at count.0 count.1
-
 -- a claim with a set that is all of the bytes; the set shows one cell at least
 unfoldable pub with_set_at : List ℕ → Option ClaimParts
 with_set_at bytes = do
   accused ← accused_at set_form bytes
   cells ← set_cells_at accused.0.0 accused.0.1 accused.1
-  nodes ← set_nodes_at cells.1
+  nodes ← digest_list_at most_set_nodes cells.1
   if (length nodes.1 == 0) && list_any (is_along accused.0.0) cells.0
       then Some (record { axis = accused.0.0; index = accused.0.1; cells = cells.0; set = Some nodes.0 })
       else None

@@ -1,4 +1,4 @@
--- The payload of a share message (docs/FORMATS.md, "Payloads").
+-- The payload of a sample (docs/FORMATS.md, "Payloads").
 use Rattle.axis_roots.specs.declared.message.messages.Message as sent
 use Rattle.std.specs.Prelude.{ℕ, List, [], ◌∷◌, length, Option, Some, None, if◌then◌else◌, ◌==◌, ◌++◌}
 use Rattle.std.specs.Int.{w16, to_be_bytes}
@@ -12,7 +12,7 @@ message_payload m =
     to_be_bytes w16 m.cell.row ++ to_be_bytes w16 m.cell.col ++ axis_byte m.axis ∷ []
     ++ m.share.0 ++ length m.path ∷ digest_bytes m.path
 
--- a message at the front of bytes, and the bytes after it
+-- a sample at the front of bytes, and the bytes after it
 unfoldable pub message_front : List ℕ → Option (sent.Message × List ℕ)
 message_front bytes = do
   cell ← cell_at bytes
@@ -29,7 +29,7 @@ message_front bytes = do
     path.1,
   )
 
--- a message that is all of the bytes
+-- a sample that is all of the bytes
 unfoldable pub message_at : List ℕ → Option sent.Message
 message_at bytes = do
   front ← message_front bytes

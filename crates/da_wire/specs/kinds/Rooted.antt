@@ -7,13 +7,13 @@ use Rattle.da_wire.specs.codec.Fields.{◌>>=◌, string_at, number_at, digest}
 use Rattle.da_wire.specs.kinds.Message.{message_payload, message_front}
 use Rattle.da_wire.specs.kinds.Commit.{most_hashes, hash_bytes, hashes_at}
 
--- a root proof has a width of two bytes, a message, a digest and hashes, and no more hashes than its type holds
+-- a root proof has a width of two bytes, a sample, a digest and hashes, and no more hashes than its type holds
 pub record IsRootedSent (proof : RootedParts) : Type 0 where
   pub k : proof.k < 2 ^ 16
   pub is : IsRooted proof
   pub few_hashes : length proof.up ≤ most_hashes
 
--- the width, the message, the root of its axis, and the hashes that lead from that to the data root
+-- the width, the sample, the root of its axis, and the hashes that lead from that to the data root
 abbrev pub rooted_payload : RootedParts → List ℕ
 rooted_payload proof =
     to_be_bytes w16 proof.k ++ message_payload proof.message ++ proof.root.0 ++ hash_bytes proof.up

@@ -1,4 +1,4 @@
-//! Fields of a payload, appended where there is room for them.
+//! Fields of a payload, appended where there is capacity for them.
 
 ghost use Rattle.std.specs.Prelude.{◌≡◌, ◌≤◌, ◌<◌, ◌^◌, length, vec_len, ◌+◌, ◌++◌, vec_capacity};
 ghost use Rattle.std.specs.Int.{w16, w32};

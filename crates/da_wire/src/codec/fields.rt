@@ -3,7 +3,7 @@
 ghost use Rattle.std.specs.Prelude.{◌≡◌, ◌≤◌, ◌*◌, length, vec_len, IfOk, IfSome};
 ghost use Rattle.std.specs.Int.{w16, w32};
 ghost use Rattle.namespace_id.specs.Answers.{Gives};
-ghost use Rattle.da_wire.specs.codec.Fields.{split_into, digests_of, shares_of, shares_at, text_at, count_at, number_at, byte_at, string_at, axis_at, path_at, cell_at};
+ghost use Rattle.da_wire.specs.codec.Fields.{split_into, digests_of, shares_of, shares_at, text_at, count_at, number_at, byte_at, string_at, axis_at, path_at, cell_at, digest_list_at};
 ghost use Rattle.da_wire.specs.kinds.Commit.{hashes_at};
 
 use crate::codec::sizes::{
@@ -142,6 +142,21 @@ pub(crate) fn count16_at(bytes: &[u8], limit: u16) -> Option<(u16, &[u8])>
         return None;
     }
     Some((count, rest))
+}
+
+/// A count of two bytes, at most the limit, the bytes of so many digests, and the bytes after them.
+#[tactic(auto, unfolding(crate::specs::codec::Fields::digest_list_at))]
+pub(crate) fn digest_list_at(bytes: &[u8], limit: u16) -> Option<(u16, &[u8], &[u8])>
+    ensures value { Gives (λ x. (digests_of x.0 x.1.now, x.2.now))
+        result (digest_list_at limit bytes.now) }
+    ensures all { IfSome result (λ x. length x.1.now ≡ 90 * x.0) }
+{
+    let (count, rest) = count16_at(bytes, limit)?;
+    if rest.len() < DIGEST_SIZE * count as usize {
+        return None;
+    }
+    let (digests, rest) = rest.split_at(DIGEST_SIZE * count as usize);
+    Some((count, digests, rest))
 }
 
 /// A count or a length of four bytes, at most the limit, and the bytes after it.

@@ -6,8 +6,9 @@ ghost use Rattle.std.specs.List.{flat_map, list_any};
 ghost use Rattle.std.specs.Option.{option_map_or};
 ghost use Rattle.namespace_id.specs.Answers.{Gives, HasRoom};
 ghost use Rattle.da_wire.specs.codec.Fields.{many_at, read_items, read_rest, digests_of};
+ghost use Rattle.da_wire.specs.codec.Texts.{digest_list};
 ghost use Rattle.da_wire.specs.Reading.{GivesUnlessFull};
-ghost use Rattle.da_wire.specs.kinds.Commit.{is_long_row, is_long_commit, subtree_bytes, row_bytes, commit_payload, subtrees_at, row_at, rows_at, commit_at};
+ghost use Rattle.da_wire.specs.kinds.Commit.{is_long_row, is_long_commit, row_bytes, commit_payload, row_at, rows_at, commit_at};
 ghost use Rattle.da_wire.specs.Spelling.{max_payload};
 ghost use Rattle.da_wire.specs.Writing.{HasSize, IsWithin};
 ghost use Rattle.da_wire.specs.declared.frames.Frame.TheVariants as FrameOf;
@@ -15,7 +16,7 @@ ghost use Rattle.da_wire.specs.declared.frames.Frame.TheVariants as FrameOf;
 use crate::bounds::hash_law;
 use crate::codec::appending::{put_digests, put_hashes, put_path};
 use crate::codec::fields::{
-    count16_at, digest_at, digests_of, hash_at, hashes_at, nodes_at, u16_at, u32_at,
+    count16_at, digest_at, digest_list_at, digests_of, hash_at, hashes_at, nodes_at, u16_at, u32_at,
 };
 use crate::codec::sizes::{DIGEST_SIZE, HASH_SIZE, longer};
 use blob_commit::{CommitProof, CommitRow, row_law};
@@ -59,20 +60,6 @@ pub(crate) struct CommitFields<'a> {
     rows: &'a [u8],
 }
 
-/// The count of subtrees, the bytes of their digests, and the bytes after them.
-#[tactic(auto, unfolding(crate::specs::kinds::Commit::subtrees_at))]
-fn subtrees_at(bytes: &[u8]) -> Option<(u16, &[u8], &[u8])>
-    ensures value { Gives (λ x. (digests_of x.0 x.1.now, x.2.now)) result (subtrees_at bytes.now) }
-    ensures all { IfSome result (λ x. length x.1.now ≡ 90 * x.0) }
-{
-    let (count, rest) = count16_at(bytes, MOST_SUBTREES)?;
-    if rest.len() < DIGEST_SIZE * count as usize {
-        return None;
-    }
-    let (subtrees, rest) = rest.split_at(DIGEST_SIZE * count as usize);
-    Some((count, subtrees, rest))
-}
-
 /// A row, and the bytes after it.
 #[tactic(auto, unfolding(crate::specs::kinds::Commit::row_at))]
 fn row_at(bytes: &[u8]) -> Option<(RowFields<'_>, &[u8])>
@@ -89,7 +76,7 @@ fn row_at(bytes: &[u8]) -> Option<(RowFields<'_>, &[u8])>
 {
     let (root, rest) = digest_at(bytes)?;
     let (up, rest) = hashes_at(rest)?;
-    let (count, subtrees, rest) = subtrees_at(rest)?;
+    let (count, subtrees, rest) = digest_list_at(rest, MOST_SUBTREES)?;
     let (nodes, rest) = nodes_at(rest)?;
     let row = RowFields {
         root,
@@ -304,9 +291,9 @@ pub(crate) fn commit_size(proof: &CommitProof) -> Option<u32>
 /// Appends the digests of subtrees behind their count.
 fn put_subtrees(out: &mut Vec<u8>, subtrees: &[Digest])
     requires few { length subtrees.now ≤ 128 }
-    requires room { HasRoom out.old (length (subtree_bytes subtrees.now)) }
-    ensures appended { out.new.items ≡ out.old.items ++ subtree_bytes subtrees.now }
-    ensures len { vec_len out.new ≡ vec_len out.old + length (subtree_bytes subtrees.now) }
+    requires room { HasRoom out.old (length (digest_list subtrees.now)) }
+    ensures appended { out.new.items ≡ out.old.items ++ digest_list subtrees.now }
+    ensures len { vec_len out.new ≡ vec_len out.old + length (digest_list subtrees.now) }
     ensures capacity { vec_capacity out.old ≤ vec_capacity out.new }
 {
     append(out, &(subtrees.len() as u16).to_be_bytes());

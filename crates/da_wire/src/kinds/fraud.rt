@@ -26,7 +26,7 @@ use std::alloc::{AllocError, Global};
 /// The form of a claim without a set, the byte in front of it.
 const FORM: u8 = 1;
 
-/// The bytes after so many messages.
+/// The bytes after so many samples.
 fn after_cells(count: u16, bytes: &[u8]) -> Option<&[u8]>
     ensures { Gives (λ x. x.now) result (read_rest (many_at message_front count bytes.now)) }
 {
@@ -38,7 +38,7 @@ fn after_cells(count: u16, bytes: &[u8]) -> Option<&[u8]>
     Some(rest)
 }
 
-/// The bytes after a list of messages.
+/// The bytes after a list of samples.
 #[tactic(auto, unfolding(crate::specs::codec::Fields::list_at))]
 fn after_cell_list(bytes: &[u8]) -> Option<&[u8]>
     ensures { Gives (λ x. x.now) result (read_rest (claim_cells_at bytes.now)) }
@@ -74,7 +74,7 @@ pub(crate) fn is_fraud(payload: &[u8]) -> bool
     plain_parts(payload).is_some() || set_fields(payload).is_some()
 }
 
-/// So many messages, one after another.
+/// So many samples, one after another.
 fn cells_of(alloc: Global, count: u16, bytes: &[u8]) -> Result<Vec<Message>, AllocError>
     requires { IsSome (many_at message_front count bytes.now) }
     ensures { IfOk result (λ cells.
@@ -90,7 +90,7 @@ fn cells_of(alloc: Global, count: u16, bytes: &[u8]) -> Result<Vec<Message>, All
     Ok(cells)
 }
 
-/// A list of messages.
+/// A list of samples.
 #[tactic(auto, unfolding(crate::specs::codec::Fields::list_at))]
 fn cell_list(alloc: Global, bytes: &[u8]) -> Result<Vec<Message>, AllocError>
     requires { IsSome (claim_cells_at bytes.now) }
@@ -128,7 +128,7 @@ pub(crate) fn fraud(alloc: Global, payload: &[u8]) -> Result<Option<FraudClaim>,
     }
 }
 
-/// The fraud claim whose payload the bytes are; none where they aren't one. Want of memory comes in place of a
+/// The fraud claim whose payload the bytes are; none where they aren't one. Out of memory comes in place of a
 /// claim alone.
 ///
 /// docs/FORMATS.md, "Payloads".
@@ -149,7 +149,7 @@ fn is_unwritten(claim: &FraudClaim) -> bool
     !fits_form(claim) || claim.cells.len() > MOST_CELLS as usize
 }
 
-/// A length with that of a message more.
+/// A length with that of a sample more.
 fn with_message(size: u32, message: &Message) -> Option<u32>
     requires size { size ≤ max_payload }
     ensures { IsWithin (size + length (message_payload message.now)) result }
@@ -157,7 +157,7 @@ fn with_message(size: u32, message: &Message) -> Option<u32>
     longer(size, message_size(message) as usize)
 }
 
-/// A length with that of a list of messages more.
+/// A length with that of a list of samples more.
 fn with_cells(size: u32, cells: &[Message]) -> Option<u32>
     requires size { size ≤ max_payload }
     ensures { IsWithin (size + 2 + length (flat_map message_payload cells.now)) result }
@@ -182,7 +182,7 @@ pub(crate) fn fraud_size(claim: &FraudClaim) -> Option<u32>
     }
 }
 
-/// A length with that of a list of certificates' messages more.
+/// A length with that of a list of certificates' samples more.
 fn with_proved(size: u32, cells: &[Proved]) -> Option<u32>
     requires size { size ≤ max_payload }
     ensures { IsWithin (size + 2 + length (flat_map message_payload (map kept_message cells.now)))
@@ -203,7 +203,7 @@ pub(crate) fn proof_size(proof: &FraudProof) -> u32
     with_proved(ACCUSED_SIZE, &proof.cells).unwrap()
 }
 
-/// Appends messages, one after another.
+/// Appends samples, one after another.
 fn put_cells(out: &mut Vec<u8>, cells: &[Message])
     requires room { HasRoom out.old (length (flat_map message_payload cells.now)) }
     ensures appended { out.new.items ≡ out.old.items ++ flat_map message_payload cells.now }
@@ -235,7 +235,7 @@ pub(crate) fn put_fraud(out: &mut Vec<u8>, claim: &FraudClaim)
     }
 }
 
-/// Appends the messages of certificates, one after another.
+/// Appends the samples of certificates, one after another.
 fn put_proved(out: &mut Vec<u8>, cells: &[Proved])
     requires room { HasRoom out.old
         (length (flat_map message_payload (map kept_message cells.now))) }

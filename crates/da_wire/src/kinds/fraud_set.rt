@@ -1,19 +1,20 @@
 //! The payload of a fraud claim with a set: judged where it lies, then read; and written.
 
 ghost use Rattle.std.specs.Prelude.{◌≡◌, ◌≤◌, ◌*◌, length, vec_len, None, Some, true, IfOk, IfSome, ◌+◌, ◌++◌, vec_capacity, IsSome};
-ghost use Rattle.std.specs.Int.{w16};
 ghost use Rattle.std.specs.List.{flat_map, list_all, list_any};
 ghost use Rattle.namespace_id.specs.Answers.{Gives, HasRoom};
 ghost use Rattle.axis_roots.specs.Sets.{is_one_axis, is_along};
 ghost use Rattle.da_wire.specs.codec.Fields.{many_at, read_items, digests_of};
-ghost use Rattle.da_wire.specs.codec.Texts.{digest_bytes, list_bytes};
+ghost use Rattle.da_wire.specs.codec.Texts.{digest_bytes, digest_list};
 ghost use Rattle.da_wire.specs.Reading.{GivesUnlessFull};
-ghost use Rattle.da_wire.specs.kinds.Fraud.{most_cells, crossing, tag_of, cell_payload, set_payload, is_placed, fits_form, tag_at, cell_path_at, set_cell_at, set_cells_at, set_nodes_at, with_set_at, passed, set_seen};
+ghost use Rattle.da_wire.specs.kinds.Fraud.{most_cells, crossing, tag_of, cell_payload, set_payload, is_placed, fits_form, tag_at, cell_path_at, set_cell_at, set_cells_at, with_set_at, passed, set_seen};
 ghost use Rattle.da_wire.specs.Spelling.{max_payload};
 ghost use Rattle.da_wire.specs.Writing.{IsWithin};
 
 use crate::codec::appending::{put_digests, put_path};
-use crate::codec::fields::{count16_at, digests_of, path_at, share_at, u8_at, u16_at};
+use crate::codec::fields::{
+    count16_at, digest_list_at, digests_of, path_at, share_at, u8_at, u16_at,
+};
 use crate::codec::sizes::{DIGEST_SIZE, SHARE_SIZE, longer};
 use crate::kinds::accused::{ACCUSED_SIZE, MOST_CELLS, NUMBER_SIZE, accused_at, put_accused};
 use axis_roots::{FraudClaim, Message, SetNodes, cell_on, index, is_along, position};
@@ -68,7 +69,7 @@ fn is_one_axis(axis: Axis, other: Axis) -> bool
     }
 }
 
-/// The axis of a message by its tag, and the bytes after it.
+/// The axis of a sample by its tag, and the bytes after it.
 #[tactic(auto, unfolding(crate::specs::kinds::Fraud::tag_at))]
 fn tag_at(axis: Axis, bytes: &[u8]) -> Option<(Axis, &[u8])>
     ensures { Gives (λ x. (x.0, x.1.now)) result (tag_at axis bytes.now) }
@@ -133,21 +134,6 @@ fn after_cell_list(axis: Axis, index: u16, bytes: &[u8]) -> Option<(bool, &[u8])
     after_cells(axis, index, count, rest)
 }
 
-/// The count of the nodes of a set, their bytes, and the bytes after them.
-#[tactic(auto, unfolding(crate::specs::kinds::Fraud::set_nodes_at))]
-fn set_nodes_at(bytes: &[u8]) -> Option<(u16, &[u8], &[u8])>
-    ensures value { Gives (λ x. (digests_of x.0 x.1.now, x.2.now))
-        result (set_nodes_at bytes.now) }
-    ensures all { IfSome result (λ x. length x.1.now ≡ 90 * x.0) }
-{
-    let (count, rest) = count16_at(bytes, MOST_NODES)?;
-    if rest.len() < DIGEST_SIZE * count as usize {
-        return None;
-    }
-    let (nodes, rest) = rest.split_at(DIGEST_SIZE * count as usize);
-    Some((count, nodes, rest))
-}
-
 /// The parts of the claim with a set whose payload the bytes are. It takes no memory.
 pub(crate) fn set_fields(payload: &[u8]) -> Option<SetFields<'_>>
     ensures parts { Gives (λ f. set_seen f) result (with_set_at payload.now) }
@@ -156,7 +142,7 @@ pub(crate) fn set_fields(payload: &[u8]) -> Option<SetFields<'_>>
 {
     let (axis, index, cells) = accused_at(FORM, payload)?;
     let (shown, rest) = after_cell_list(axis, index, cells)?;
-    let (count, nodes, rest) = set_nodes_at(rest)?;
+    let (count, nodes, rest) = digest_list_at(rest, MOST_NODES)?;
     if !rest.is_empty() || !shown {
         return None;
     }
@@ -351,7 +337,7 @@ fn put_cells(out: &mut Vec<u8>, axis: Axis, cells: &[Message])
 fn put_nodes(out: &mut Vec<u8>, nodes: &[Digest])
     requires few { length nodes.now ≤ 128 }
     requires room { HasRoom out.old (2 + length (digest_bytes nodes.now)) }
-    ensures { out.new.items ≡ out.old.items ++ list_bytes w16 (λ d. d.0) nodes.now }
+    ensures { out.new.items ≡ out.old.items ++ digest_list nodes.now }
 {
     append(out, &(nodes.len() as u16).to_be_bytes());
     put_digests(out, nodes);

@@ -1,4 +1,4 @@
-//! The payload of a share message.
+//! The payload of a sample.
 
 ghost use Rattle.std.specs.Prelude.{◌≡◌, ◌≤◌, length, vec_len, Some, ◌+◌, ◌++◌, vec_capacity};
 ghost use Rattle.namespace_id.specs.Answers.{Gives, HasRoom};
@@ -12,10 +12,10 @@ use crate::codec::sizes::{CELL_SIZE, DIGEST_SIZE, SHARE_SIZE};
 use axis_roots::Message;
 use namespace_id::{append, digests_law, share_law};
 
-/// The bytes of a message whose path has no nodes: its cell, its axis, its share, and the count 0.
+/// The bytes of a sample whose path has no nodes: its cell, its axis, its share, and the count 0.
 pub(crate) const BARE_SIZE: usize = CELL_SIZE + 1 + SHARE_SIZE + 1;
 
-/// The message at the front of bytes, and the bytes after it.
+/// The sample at the front of bytes, and the bytes after it.
 #[tactic(auto, unfolding(crate::specs::kinds::Message::message_front))]
 pub(crate) fn message_front(bytes: &[u8]) -> Option<(Message, &[u8])>
     ensures { Gives (λ x. (x.0, x.1.now)) result (message_front bytes.now) }
@@ -33,7 +33,7 @@ pub(crate) fn message_front(bytes: &[u8]) -> Option<(Message, &[u8])>
     Some((message, rest))
 }
 
-/// The message whose payload the bytes are; none where they aren't in the grammar of M. It takes no
+/// The sample whose payload the bytes are; none where they aren't in the grammar of M. It takes no
 /// memory.
 ///
 /// docs/FORMATS.md, "Payloads".
@@ -48,7 +48,7 @@ pub fn message(payload: &[u8]) -> Option<Message>
     Some(message)
 }
 
-/// The length of the payload of a message.
+/// The length of the payload of a sample.
 pub(crate) fn message_size(message: &Message) -> u32
     ensures { HasSize (FrameOf.Message message.now) (Some result) }
 {
@@ -58,7 +58,7 @@ pub(crate) fn message_size(message: &Message) -> u32
     BARE_SIZE as u32 + DIGEST_SIZE as u32 * nodes.len() as u32
 }
 
-/// Appends the payload of a message.
+/// Appends the payload of a sample.
 pub(crate) fn put_message(out: &mut Vec<u8>, message: &Message)
     requires room { HasRoom out.old (length (message_payload message.now)) }
     ensures appended { out.new.items ≡ out.old.items ++ message_payload message.now }

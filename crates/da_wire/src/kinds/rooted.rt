@@ -13,7 +13,7 @@ use crate::kinds::message::{BARE_SIZE as MESSAGE_SIZE, message_front, put_messag
 use blob_commit::{RootedMessage, rooted_law};
 use namespace_id::append;
 
-/// The bytes of a root proof whose message has no nodes and that has no hashes: its width, its message,
+/// The bytes of a root proof whose sample has no nodes and that has no hashes: its width, its sample,
 /// the root, and the count 0.
 const BARE_SIZE: u32 = WIDTH_SIZE + MESSAGE_SIZE as u32 + DIGEST_SIZE as u32 + 1;
 

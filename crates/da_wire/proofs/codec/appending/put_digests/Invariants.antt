@@ -2,7 +2,7 @@ use Rattle.std.proofs.Common.{◌≡◌, ◌+◌, ◌≤◌, ◌++◌, drop, len
 use Rattle.da_wire.specs.codec.Texts.{digest_bytes}
 use Rattle.da_wire.proofs.codec.appending.put_digests.Given as goal
 
--- what is there and what is left are all, and there is room for what is left
+-- what is there and what is left are all, and there is capacity for what is left
 abbrev pub invariant-loop-digest : goal.invariant-loop-digest
 invariant-loop-digest l = record {
   all : l.out.items ++ digest_bytes (drop l.digest-index l.digests) ≡ l.fn.out.items ++ digest_bytes l.digests;

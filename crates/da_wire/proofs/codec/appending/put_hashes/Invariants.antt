@@ -3,7 +3,7 @@ use Rattle.std.specs.List.{flat_map}
 use Rattle.da_wire.specs.kinds.Commit.{hash_bytes}
 use Rattle.da_wire.proofs.codec.appending.put_hashes.Given as goal
 
--- what is there and what is left are all, and there is room for what is left
+-- what is there and what is left are all, and there is capacity for what is left
 abbrev pub invariant-loop-hash : goal.invariant-loop-hash
 invariant-loop-hash l = record {
   all : l.out.items ++ flat_map (λ h. h) (drop l.hash-index l.hashes) ≡ l.fn.out.items ++ hash_bytes l.hashes;

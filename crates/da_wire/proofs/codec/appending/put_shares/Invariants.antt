@@ -2,7 +2,7 @@ use Rattle.std.proofs.Common.{◌≡◌, ◌+◌, ◌≤◌, ◌++◌, drop, len
 use Rattle.da_wire.specs.codec.Texts.{share_bytes}
 use Rattle.da_wire.proofs.codec.appending.put_shares.Given as goal
 
--- what is there and what is left are all, and there is room for what is left
+-- what is there and what is left are all, and there is capacity for what is left
 abbrev pub invariant-loop-share : goal.invariant-loop-share
 invariant-loop-share l = record {
   all : l.out.items ++ share_bytes (drop l.share-index l.shares) ≡ l.fn.out.items ++ share_bytes l.shares;

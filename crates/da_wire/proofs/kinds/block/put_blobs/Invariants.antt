@@ -3,7 +3,7 @@ use Rattle.std.specs.List.{flat_map}
 use Rattle.da_wire.specs.kinds.Block.{blob_bytes, counted_bytes}
 use Rattle.da_wire.proofs.kinds.block.put_blobs.Given as goal
 
--- what is there and what is left are all, and there is room for what is left
+-- what is there and what is left are all, and there is capacity for what is left
 abbrev pub invariant-loop-blob : goal.invariant-loop-blob
 invariant-loop-blob l = record {
   all : l.out.items ++ flat_map blob_bytes (drop l.blob-index l.blobs) ≡ l.fn.out.items ++ counted_bytes blob_bytes l.blobs;

@@ -3,7 +3,7 @@ use Rattle.std.specs.List.{flat_map}
 use Rattle.da_wire.specs.kinds.Block.{unit_bytes, counted_bytes}
 use Rattle.da_wire.proofs.kinds.block.put_units.Given as goal
 
--- what is there and what is left are all, and there is room for what is left
+-- what is there and what is left are all, and there is capacity for what is left
 abbrev pub invariant-loop-unit : goal.invariant-loop-unit
 invariant-loop-unit l = record {
   all : l.out.items ++ flat_map unit_bytes (drop l.unit-index l.units) ≡ l.fn.out.items ++ counted_bytes unit_bytes l.units;

@@ -3,7 +3,7 @@ use Rattle.std.specs.List.{flat_map}
 use Rattle.da_wire.specs.kinds.Commit.{row_bytes}
 use Rattle.da_wire.proofs.kinds.commit.put_rows.Given as goal
 
--- what is there and what is left are all, and there is room for what is left
+-- what is there and what is left are all, and there is capacity for what is left
 abbrev pub invariant-loop-row : goal.invariant-loop-row
 invariant-loop-row l = record {
   all : l.out.items ++ flat_map row_bytes (drop l.row-index l.rows) ≡ l.fn.out.items ++ flat_map row_bytes l.rows;

@@ -3,7 +3,7 @@ use Rattle.std.specs.List.{flat_map}
 use Rattle.da_wire.specs.kinds.Fraud.{cell_payload}
 use Rattle.da_wire.proofs.kinds.fraud_set.put_cells.Given as goal
 
--- what is there and what is left are all, and there is room for what is left
+-- what is there and what is left are all, and there is capacity for what is left
 abbrev pub invariant-loop-cell : goal.invariant-loop-cell
 invariant-loop-cell l = record {
   all : l.out.items ++ flat_map (cell_payload l.axis) (drop l.cell-index l.cells) ≡ l.fn.out.items ++ flat_map (cell_payload l.axis) l.cells;

@@ -3,7 +3,7 @@ use Rattle.std.specs.List.{flat_map}
 use Rattle.da_wire.specs.kinds.Names.{entry_bytes}
 use Rattle.da_wire.proofs.kinds.names.put_entries.Given as goal
 
--- what is there and what is left are all, and there is room for what is left
+-- what is there and what is left are all, and there is capacity for what is left
 abbrev pub invariant-loop-entry : goal.invariant-loop-entry
 invariant-loop-entry l = record {
   all : l.out.items ++ flat_map entry_bytes (drop l.entry-index l.entries) ≡ l.fn.out.items ++ flat_map entry_bytes l.entries;

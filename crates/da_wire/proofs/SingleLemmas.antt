@@ -1,0 +1,231 @@
+-- Readers of one kind: what stands at the front, and the one frame that all of the bytes are.
+use Rattle.std.proofs.Common.{◌≡◌, ◌∙◌, ℕ, ◌+◌, ◌-◌, ◌≤◌, Bool, true, false, eqb, ltb, ◌&&◌, cond, List, [], ◌∷◌, length, take, drop, Option, None, Some, Result, Ok, Err, refl, sym, ap, subst, arith, inl, inr, le-ltb}
+use Rattle.std.specs.Prelude.{⊤, IsOk, IsSome, IsErr, slice_index}
+use Rattle.std.specs.Option.{option_map, option_map_or, ok_or}
+use Rattle.std.specs.Result.{IsErrAnd}
+use Rattle.std.proofs.lemmas.List.{take_rest}
+use Rattle.namespace_id.specs.declared.cells.Cell.{Cell}
+use Rattle.namespace_id.specs.declared.cells.Axis.{Axis}
+use Rattle.da_wire.specs.declared.frames.Frame.{Frame}
+use Rattle.da_wire.specs.declared.frames.Frame.TheVariants.{Header, Square, Message, Fraud, Missing, Sample, Request, Block}
+use Rattle.da_wire.specs.declared.frames.FrameError.{FrameError}
+use Rattle.da_wire.specs.declared.frames.FrameError.TheVariants.{Truncated, BadKind, TooLong, BadPayload, Trailing, NoMemory}
+use Rattle.da_wire.specs.Spelling.{max_payload, header_kind, square_kind, message_kind, fraud_kind, missing_kind, sample_kind, request_kind, block_kind}
+use Rattle.da_wire.specs.Reading.{Raw, promised, raw_of, is_kind, value_at, valued, value_of, is_among, tested_raw, tested_frame, ended, only_of, Reads, ReadsAt}
+use Rattle.da_wire.specs.Values.{value_in, value_and_rest, values_of}
+use Rattle.da_wire.specs.Single.{single, of_payload, header_of, square_of, message_of, claim_of, missing_of, block_of}
+use Rattle.da_wire.specs.kinds.Header.{header_at}
+use Rattle.da_wire.specs.kinds.Square.{square_at}
+use Rattle.da_wire.specs.kinds.Message.{message_at}
+use Rattle.da_wire.specs.kinds.Fraud.{fraud_at}
+use Rattle.da_wire.specs.kinds.Missing.{missing_at}
+use Rattle.da_wire.specs.kinds.Requests.{sample_at, request_at}
+use Rattle.da_wire.specs.kinds.Block.{block_at}
+use Rattle.da_wire.proofs.RawLemmas.{frame_at}
+use Rattle.da_wire.proofs.ValueListLemmas.{value_found, value_missed}
+use Rattle.da_wire.proofs.WalkLemmas.{walk_on, walk_stop}
+use Rattle.da_wire.proofs.KindLemmas.{one_kind}
+
+-- ---- what a payload of a kind holds
+
+-- a payload of a request for a sample
+pub sample_value : (payload : List ℕ) → value_at sample_kind payload ≡ option_map (λ (s : Cell × Axis). Sample s.0 s.1) (sample_at payload)
+unfolding value_at
+sample_value payload = refl
+
+-- a payload of a request for the shares of a namespace
+pub request_value : (payload : List ℕ) → value_at request_kind payload ≡ option_map Request (request_at payload)
+unfolding value_at
+request_value payload = refl
+
+-- a payload of a header
+pub header_value : (payload : List ℕ) → value_at header_kind payload ≡ option_map Header (header_at payload)
+unfolding value_at
+header_value payload = refl
+
+-- a payload of a square
+pub square_value : (payload : List ℕ) → value_at square_kind payload ≡ option_map Square (square_at payload)
+unfolding value_at
+square_value payload = refl
+
+-- a payload of a sample
+pub message_value : (payload : List ℕ) → value_at message_kind payload ≡ option_map Message (message_at payload)
+unfolding value_at
+message_value payload = refl
+
+-- a payload of a fraud claim
+pub claim_value : (payload : List ℕ) → value_at fraud_kind payload ≡ option_map Fraud (fraud_at payload)
+unfolding value_at
+claim_value payload = refl
+
+-- a payload of missing cells
+pub missing_value : (payload : List ℕ) → value_at missing_kind payload ≡ option_map Missing (missing_at payload)
+unfolding value_at
+missing_value payload = refl
+
+-- a payload of a block
+pub block_value : (payload : List ℕ) → value_at block_kind payload ≡ option_map Block (block_at payload)
+unfolding value_at
+block_value payload = refl
+
+-- ---- what stands at the front
+
+module _ {A : Type 0} (kind : ℕ) (payload_at : List ℕ → Option A) (made : A → Frame) (same : (payload : List ℕ) → value_at kind payload ≡ option_map made (payload_at payload))
+    (bytes : List ℕ) (f : Raw) (front : tested_raw (is_among (kind ∷ [])) 0 bytes ≡ Ok f) where
+  -- the value of a frame of the kind
+  front_value : value_at f.kind f.payload ≡ option_map made (payload_at f.payload)
+  front_value = ap (λ (k : ℕ). value_at k f.payload) (one_kind kind bytes f front) ∙ same f.payload
+
+  -- a payload in its grammar is that of the value at the front
+  found : (a : A) → payload_at f.payload ≡ Some a → value_in (kind ∷ []) bytes ≡ Some (made a, f.size)
+  found a read = value_found (kind ∷ []) bytes f (made a) front (front_value ∙ ap (option_map made) read)
+
+  -- a payload that isn't in its grammar is that of none
+  pub missed : payload_at f.payload ≡ None → value_in (kind ∷ []) bytes ≡ None
+  missed read = value_missed (kind ∷ []) bytes f front (front_value ∙ ap (option_map made) read)
+
+  -- the value at the front, and the bytes after it
+  pub found_after : (a : A) → payload_at f.payload ≡ Some a
+      → value_and_rest (kind ∷ []) bytes ≡ Some (made a, take (length bytes - f.size) (drop f.size bytes))
+  found_after a read =
+      ap (λ (o : Option (Frame × ℕ)). option_map (λ x. (x.0, drop x.1 bytes)) o) (found a read)
+      ∙ ap (λ (l : List ℕ). Some (made a, l)) (sym (take_rest bytes f.size))
+
+  -- the value at the front, and those after it
+  pub found_values : (a : A) → payload_at f.payload ≡ Some a → 5 ≤ f.size → f.size ≤ length bytes
+      → values_of (kind ∷ []) bytes ≡ made a ∷ values_of (kind ∷ []) (take (length bytes - f.size) (drop f.size bytes))
+  found_values a read five within =
+      walk_on (value_in (kind ∷ [])) bytes (made a) f.size (found a read) (omega (arith, five)) (omega (arith, five, within))
+      ∙ ap (λ (l : List ℕ). made a ∷ values_of (kind ∷ []) l) (sym (take_rest bytes f.size))
+
+  -- where none stands at the front, there are none
+  pub missed_after : payload_at f.payload ≡ None → value_and_rest (kind ∷ []) bytes ≡ None
+  missed_after read = ap (λ (o : Option (Frame × ℕ)). option_map (λ x. (x.0, drop x.1 bytes)) o) (missed read)
+
+  pub missed_values : payload_at f.payload ≡ None → values_of (kind ∷ []) bytes ≡ []
+  missed_values read = walk_stop (value_in (kind ∷ [])) bytes (missed read)
+
+-- ---- the one frame that all of the bytes are
+
+-- a frame that ends no earlier than the bytes is all of them
+whole : (size : ℕ) (f : Raw) (o : Option Frame) → size ≤ f.size → ended size (valued 0 f o) ≡ option_map_or Ok o (Err (BadPayload 0))
+whole size f None h = refl
+whole size f (Some v) h = ap (λ (b : Bool). cond b (Err (Trailing (0 + f.size))) (Ok v)) (le-ltb (0 + f.size) size (omega (arith, h)))
+
+-- what is read of the one frame of a kind is what its payload holds
+pub only_is : (kind : ℕ) (bytes : List ℕ) (f : Raw) → tested_raw (is_among (kind ∷ [])) 0 bytes ≡ Ok f → length bytes ≤ f.size
+    → only_of bytes (kind ∷ []) ≡ of_payload kind f.payload
+only_is kind bytes f e h =
+    ap (λ (r : Result Raw FrameError). ended (length bytes) (value_of 0 r)) e
+    ∙ ap (λ (k : ℕ). ended (length bytes) (valued 0 f (value_at k f.payload))) (one_kind kind bytes f e)
+    ∙ whole (length bytes) f (value_at kind f.payload) h
+
+module _ {A : Type 0} (kind : ℕ) (payload_at : List ℕ → Option A) (made : A → Frame) (same : (payload : List ℕ) → value_at kind payload ≡ option_map made (payload_at payload))
+    (value : Frame → Option A) (back : (a : A) → value (made a) ≡ Some a) where
+  -- the value that a payload holds is that of its frame
+  of_option : (o : Option A) → single value (option_map_or Ok (option_map made o) (Err (BadPayload 0))) ≡ option_map_or Ok o (Err (BadPayload 0))
+  of_option None = refl
+  of_option (Some a) = ap (λ (r : Option A). option_map_or Ok r (Err (BadKind 0))) (back a)
+
+  -- the value of the one frame of the kind is what its payload holds
+  single_is : (read : Result Frame FrameError) (payload : List ℕ) → read ≡ of_payload kind payload
+      → single value read ≡ option_map_or Ok (payload_at payload) (Err (BadPayload 0))
+  single_is read payload e =
+      ap (single value) e ∙ ap (λ (o : Option Frame). single value (option_map_or Ok o (Err (BadPayload 0)))) (same payload) ∙ of_option (payload_at payload)
+
+  -- what a payload holds is given, or there is none
+  given : (o : Option A) (result read : Result A FrameError) → result ≡ ok_or o (BadPayload 0) → read ≡ option_map_or Ok o (Err (BadPayload 0)) → ReadsAt (λ x. x) result read
+  given None result read e r = subst (λ (x : Result A FrameError). ReadsAt (λ x. x) x read) (sym e) r
+  given (Some a) result read e r = subst (λ (x : Result A FrameError). ReadsAt (λ x. x) x read) (sym e) r
+
+  -- a reader that takes no memory reads as one that may run out of it
+  pub reads : (result read : Result A FrameError) → ReadsAt (λ x. x) result read → Reads NoMemory (λ x. x) result read
+  reads (Ok a) read h = h
+  reads (Err e) read h = inr h
+
+  -- what there is is given
+  there : (o : Option A) → IsSome o → IsOk {E = FrameError} (option_map_or Ok o (Err (BadPayload 0)))
+  there None h = absurd cc
+  there (Some a) h = refl
+
+  -- memory runs out in place of a value
+  wants : (result read : Result A FrameError) → IsErr result → IsErrAnd result (λ e. e ≡ NoMemory) → IsOk read → Reads NoMemory (λ x. x) result read
+  wants (Ok a) read is h ok = absurd h
+  wants (Err e) read is h ok = inl (h, ok)
+
+  -- a call that takes no memory gives what the one frame is
+  pub single_at : (bytes payload : List ℕ) (result : Result A FrameError) → only_of bytes (kind ∷ []) ≡ of_payload kind payload
+      → result ≡ ok_or (payload_at payload) (BadPayload 0) → ReadsAt (λ x. x) result (single value (only_of bytes (kind ∷ [])))
+  single_at bytes payload result e is = given (payload_at payload) result _ is (single_is (only_of bytes (kind ∷ [])) payload e)
+
+  -- a call that takes memory gives what the one frame is
+  pub single_read : (bytes payload : List ℕ) (o : Option A) (result : Result A FrameError) → only_of bytes (kind ∷ []) ≡ of_payload kind payload → payload_at payload ≡ o
+      → result ≡ ok_or o (BadPayload 0) → Reads NoMemory (λ x. x) result (single value (only_of bytes (kind ∷ [])))
+  single_read bytes payload o result e read is =
+      reads result _ (single_at bytes payload result e (is ∙ ap (λ (p : Option A). ok_or p (BadPayload 0)) (sym read)))
+
+  -- memory runs out where a payload holds a value
+  pub single_full : (bytes payload : List ℕ) (result : Result A FrameError) → only_of bytes (kind ∷ []) ≡ of_payload kind payload → IsSome (payload_at payload)
+      → IsErr result × IsErrAnd result (λ e. e ≡ NoMemory) → Reads NoMemory (λ x. x) result (single value (only_of bytes (kind ∷ [])))
+  single_full bytes payload result e some full =
+      wants result _ full.0 full.1 (subst IsOk (sym (single_is (only_of bytes (kind ∷ [])) payload e)) (there (payload_at payload) some))
+
+-- ---- no refusal is being out of memory
+
+-- an answer that is not out of memory
+abbrev pub IsNotFull : {X : Type 0} → Result X FrameError → Type 0
+IsNotFull (Ok x) = ⊤
+IsNotFull (Err e) = e ≡ NoMemory → ⊥
+
+-- what is read of the framing
+framing : (a b c : Bool) (f : Raw) → IsNotFull (cond a (Err (Truncated 0)) (cond b (Err (TooLong 0)) (cond c (Err (Truncated 0)) (Ok f))))
+framing true b c f = λ e. cc
+framing false true c f = λ e. cc
+framing false false true f = λ e. cc
+framing false false false f = tt
+
+-- what is read behind the test of a kind
+behind_test : (none passes : Bool) (read : Result Raw FrameError) → IsNotFull read → IsNotFull (cond none (Err (Truncated 0)) (cond passes read (Err (BadKind 0))))
+behind_test true passes read h = λ e. cc
+behind_test false true read h = h
+behind_test false false read h = λ e. cc
+
+-- what is read of a payload
+valued_by : (f : Raw) (o : Option Frame) → IsNotFull (valued 0 f o)
+valued_by f None = λ e. cc
+valued_by f (Some v) = tt
+
+-- what is read of a frame
+of_frame : (r : Result Raw FrameError) → IsNotFull r → IsNotFull (value_of 0 r)
+of_frame (Err e) h = h
+of_frame (Ok f) h = valued_by f (value_at f.kind f.payload)
+
+-- what is read of a frame with nothing behind it
+behind : (b : Bool) (at : ℕ) (value : Frame) → IsNotFull {X = Frame} (cond b (Err (Trailing at)) (Ok value))
+behind true at value = λ e. cc
+behind false at value = tt
+
+-- what is read of all of the bytes
+of_all : (size : ℕ) (r : Result (Frame × ℕ) FrameError) → IsNotFull r → IsNotFull (ended size r)
+of_all size (Err e) h = h
+of_all size (Ok x) h = behind (ltb x.1 size) x.1 x.0
+
+-- what is read of one frame
+pub only_not_full : (bytes kinds : List ℕ) → IsNotFull (only_of bytes kinds)
+unfolding raw_of tested_raw
+only_not_full bytes kinds =
+    let first : ℕ = slice_index bytes 0 in
+    of_all (length bytes) (tested_frame (is_among kinds) 0 bytes)
+    (of_frame (tested_raw (is_among kinds) 0 bytes)
+    (behind_test (eqb (length bytes) 0) (is_kind first && is_among kinds first) (raw_of 0 bytes)
+    (framing (ltb (length bytes) 5) (ltb max_payload (promised bytes)) (ltb (length bytes) (5 + promised bytes)) (frame_at bytes))))
+
+-- what is read of a frame's value
+value_by : {A : Type 0} (o : Option A) → IsNotFull (option_map_or Ok o (Err (BadKind 0)))
+value_by None = λ e. cc
+value_by (Some a) = tt
+
+-- what is read of one frame of a kind
+pub single_not_full : {A : Type 0} (value : Frame → Option A) (read : Result Frame FrameError) → IsNotFull read → IsNotFull (single value read)
+single_not_full value (Err e) h = h
+single_not_full value (Ok frame) h = value_by (value frame)
