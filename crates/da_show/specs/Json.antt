@@ -1,5 +1,5 @@
 -- The JSON of a frame (docs/FORMATS.md, "JSON of frames").
-use Rattle.std.specs.Prelude.{ℕ, List, [], ◌∷◌, codes, length, map, Option, Some, None}
+use Rattle.std.specs.Prelude.{ℕ, List, [], ◌∷◌, ◌++◌, codes, decimal, length, map, Option, Some, None}
 use Rattle.hex.specs.Hex.{encode_lower}
 use Rattle.serde_json.specs.Data.{Data, number, string, array, object, Members, no_members, member, unsigned}
 use Rattle.serde_json.specs.View.{items_of}
@@ -69,7 +69,7 @@ square_json square = object_of (
     (codes "k", count square.k) ∷ (codes "kind", string (codes "square"))
     ∷ (codes "namespaces", list_of share_json square.shares) ∷ [])
 
--- a message, with the hash of its share
+-- a sample, with the hash of its share
 abbrev pub message_json : Message → Data
 message_json m = object_of (
     (codes "axis", string (axis_word m.axis)) ∷ (codes "col", count m.cell.col)
@@ -96,11 +96,11 @@ names_json name entries = object_of (
 abbrev pub cell_json : Cell → Data
 cell_json cell = array (items_of (count cell.row ∷ count cell.col ∷ []))
 
--- the cell of a message
+-- the cell of a sample
 abbrev pub cell_of_json : Message → Data
 cell_of_json m = cell_json m.cell
 
--- a fraud claim, with the cells of its messages
+-- a fraud claim, with the cells of its samples
 abbrev pub claim_json : ClaimParts → Data
 claim_json claim = object_of (
     (codes "axis", string (axis_word claim.axis)) ∷ (codes "cells", list_of cell_of_json claim.cells)
@@ -123,6 +123,12 @@ abbrev pub sample_json : Cell → Axis → Data
 sample_json cell axis = object_of (
     (codes "axis", string (axis_word axis)) ∷ (codes "col", count cell.col) ∷ (codes "kind", string (codes "sample"))
     ∷ (codes "row", count cell.row) ∷ [])
+
+-- the text of a request for a sample, as it is put together
+unfoldable pub sample_text : Cell → Axis → List ℕ
+sample_text cell axis =
+    codes "{\"axis\":\"" ++ axis_word axis ++ codes "\",\"col\":" ++ decimal cell.col
+    ++ codes ",\"kind\":\"sample\",\"row\":" ++ decimal cell.row ++ codes "}"
 
 -- a request for the shares of a namespace
 abbrev pub request_json : Namespace → Data
@@ -159,7 +165,7 @@ commit_json proof = object_of (
     ∷ (codes "k", count proof.k) ∷ (codes "kind", string (codes "commit"))
     ∷ (codes "rows", count (length proof.rows)) ∷ (codes "start", count proof.start) ∷ [])
 
--- a root proof: its message, with the hash of its share, and the root of its axis
+-- a root proof: its sample, with the hash of its share, and the root of its axis
 abbrev pub rooted_json : RootedParts → Data
 rooted_json proof = object_of (
     (codes "axis", string (axis_word proof.message.axis)) ∷ (codes "col", count proof.message.cell.col)

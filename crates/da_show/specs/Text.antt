@@ -76,7 +76,7 @@ unfoldable pub place : Cell → Axis → List ℕ
 place cell axis =
     line (named (codes "row") cell.row) (named (codes "col") cell.col ∷ (codes "axis=" ++ axis_word axis) ∷ [])
 
--- a message, with the hash of its share
+-- a sample, with the hash of its share
 abbrev pub message_line : Message → List ℕ
 message_line m = line (codes "message")
     (place m.cell m.axis ∷ named (codes "nodes") (length m.path) ∷ (codes "share=" ++ share_hash_word m.share) ∷ [])
@@ -107,7 +107,7 @@ abbrev pub claim_line : ClaimParts → List ℕ
 claim_line claim =
     line (codes "fraud") (axis_word claim.axis ∷ decimal claim.index ∷ named (codes "cells") (length claim.cells) ∷ [])
 
--- a fraud claim, with a line for each of its messages
+-- a fraud claim, with a line for each of its samples
 abbrev pub claim_lines : ClaimParts → List (List ℕ)
 claim_lines claim = claim_line claim ∷ map message_line claim.cells
 
@@ -188,7 +188,7 @@ abbrev pub rooted_line : RootedParts → List ℕ
 rooted_line proof =
     line (codes "rooted") (named (codes "k") proof.k ∷ (codes "root=" ++ digest_word proof.root) ∷ [])
 
--- a root proof, with the line of its message
+-- a root proof, with the line of its sample
 abbrev pub rooted_lines : RootedParts → List (List ℕ)
 rooted_lines proof = rooted_line proof ∷ message_line proof.message ∷ []
 

@@ -3,9 +3,9 @@
 //! Both are definitions on the value of a frame (docs/FORMATS.md); nothing is judged.
 #![tactic(auto)]
 
-mod json;
+mod objects;
 mod text;
 mod words;
 
-pub use json::show_json;
-pub use text::show;
+pub use objects::{put_sample_json, show_json};
+pub use text::{put_sample, show};

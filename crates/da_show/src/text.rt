@@ -2,6 +2,7 @@
 
 ghost use Rattle.std.specs.Prelude.{◌≡◌, ◌++◌, IfOk, OnOk};
 ghost use Rattle.std.specs.String.{string_bytes};
+ghost use Rattle.da_wire.specs.declared.frames.Frame.TheVariants.{Sample};
 ghost use Rattle.da_show.specs.Text.{joined, lines_of, text_of};
 
 mod kinds;
@@ -9,7 +10,7 @@ mod lines;
 mod lists;
 
 use da_wire::Frame;
-use namespace_id::NoMemory;
+use namespace_id::{Axis, Cell, NoMemory};
 use std::alloc::{AllocError, Global};
 
 /// Appends the text of a frame.
@@ -35,7 +36,7 @@ fn put_frame(alloc: Global, out: &mut String, frame: &Frame) -> Result<(), Alloc
 
 /// The lines of a frame, with a line feed between each two and none at the end: what it is and what
 /// is in it, numbers in decimal and bytes in lower-case hexadecimal digits. Of the share in a
-/// message it shows the SHA-256 value.
+/// sample it shows the SHA-256 value.
 ///
 /// It refuses only where there is no memory.
 ///
@@ -46,6 +47,21 @@ pub fn show(alloc: Global, frame: &Frame) -> Result<String, NoMemory>
     let mut out = String::new(alloc);
     match put_frame(alloc, &mut out, frame) {
         Ok(()) => Ok(out),
+        Err(AllocError) => Err(NoMemory),
+    }
+}
+
+/// Appends what `show` gives for a request for the sample of a cell on an axis.
+///
+/// It refuses only where there is no memory.
+///
+/// docs/FORMATS.md, "Text of frames".
+pub fn put_sample(out: &mut String, cell: Cell, axis: Axis) -> Result<(), NoMemory>
+    ensures text { OnOk result (string_bytes out.new
+        ≡ string_bytes out.old ++ text_of (Sample cell axis)) }
+{
+    match lines::put_sample(out, cell, axis) {
+        Ok(()) => Ok(()),
         Err(AllocError) => Err(NoMemory),
     }
 }

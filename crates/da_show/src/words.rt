@@ -1,12 +1,13 @@
 //! The words and numbers that stand for parts of values, in texts and in JSON.
 
-ghost use Rattle.std.specs.Prelude.{◌≡◌, IfOk};
+ghost use Rattle.std.specs.Prelude.{◌≡◌, ◌++◌, decimal, IfOk, OnOk};
 ghost use Rattle.std.specs.String.{string_bytes};
 ghost use Rattle.sha2.specs.Sha256.{sha256};
 ghost use Rattle.hex.specs.Hex.{encode_lower};
 ghost use Rattle.da_wire.specs.kinds.Block.{width_number};
 ghost use Rattle.da_show.specs.Parts.{axis_word, name_word, digest_word, share_name_word, share_hash_word};
 
+use itoa::Buffer;
 use namespace_id::{Axis, Digest, HASH_SIZE, Namespace, Share};
 use sha2::{Digest as _, Sha256};
 use share_split::SIGNER_SIZE;
@@ -21,6 +22,14 @@ pub(crate) fn axis_word(axis: Axis) -> &'static str
         Axis::Row => "row",
         Axis::Col => "col",
     }
+}
+
+/// Appends a number in decimal.
+pub(crate) fn put_number(out: &mut String, number: u16) -> Result<(), AllocError>
+    ensures { OnOk result (string_bytes out.new ≡ string_bytes out.old ++ decimal number) }
+{
+    let mut buffer = Buffer::new();
+    out.push_str(buffer.format(number))
 }
 
 /// The 29 bytes of a namespace in hexadecimal digits.

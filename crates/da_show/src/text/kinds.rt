@@ -52,7 +52,7 @@ pub(crate) fn names(
     put_entries(out, &answer.entries)
 }
 
-/// A fraud claim and its messages.
+/// A fraud claim and its samples.
 pub(crate) fn claim(alloc: Global, out: &mut String, claim: &FraudClaim) -> Result<(), AllocError>
     ensures { OnOk result (string_bytes out.new
         ≡ string_bytes out.old ++ joined (claim_lines claim.now)) }
@@ -100,7 +100,7 @@ pub(crate) fn block(alloc: Global, out: &mut String, block: &Block) -> Result<()
     put_blobs(alloc, out, &block.blobs)
 }
 
-/// A root proof and its message.
+/// A root proof and its sample.
 pub(crate) fn rooted(
     alloc: Global,
     out: &mut String,

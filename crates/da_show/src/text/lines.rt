@@ -6,8 +6,8 @@ ghost use Rattle.da_show.specs.Parts.{axis_word};
 ghost use Rattle.da_show.specs.Text.{header_line, square_line, names_line, claim_line, missing_line, counts, sized_line, block_line, string_line, request_line, sample_line, cell_line, place, root_line, share_line, message_line, found_line, unit_line, blob_line, commit_line, rooted_line};
 
 use crate::words::{
-    axis_word, digest_word, hash_word, name_word, share_hash_word, share_name_word, signer_word,
-    width_number,
+    axis_word, digest_word, hash_word, name_word, put_number, share_hash_word, share_name_word,
+    signer_word, width_number,
 };
 use axis_roots::{Found, FraudClaim, Message};
 use blob_commit::{CommitProof, RootedMessage};
@@ -70,13 +70,15 @@ pub(crate) fn put_share(
 fn put_place(out: &mut String, cell: Cell, axis: Axis) -> Result<(), AllocError>
     ensures { OnOk result (string_bytes out.new ≡ string_bytes out.old ++ place cell axis) }
 {
-    let row = cell.row;
-    let col = cell.col;
-    write!(out, "row={row} col={col} axis=")?;
+    out.push_str("row=")?;
+    put_number(out, cell.row)?;
+    out.push_str(" col=")?;
+    put_number(out, cell.col)?;
+    out.push_str(" axis=")?;
     out.push_str(axis_word(axis))
 }
 
-/// A message, with the hash of its share.
+/// A sample, with the hash of its share.
 pub(crate) fn put_message(
     alloc: Global,
     out: &mut String,

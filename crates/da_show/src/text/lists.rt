@@ -44,7 +44,7 @@ pub(crate) fn put_shares(
     Ok(())
 }
 
-/// Messages.
+/// Samples.
 pub(crate) fn put_messages(
     alloc: Global,
     out: &mut String,

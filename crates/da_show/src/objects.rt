@@ -1,15 +1,17 @@
 //! The JSON of frames.
 
-ghost use Rattle.std.specs.Prelude.{◌≡◌, IfOk};
+ghost use Rattle.std.specs.Prelude.{◌≡◌, ◌++◌, IfOk, OnOk};
 ghost use Rattle.std.specs.String.{string_bytes};
 ghost use Rattle.serde_json.specs.View.{view};
-ghost use Rattle.da_show.specs.Json.{json_of, json_text};
+ghost use Rattle.da_wire.specs.declared.frames.Frame.TheVariants.{Sample};
+ghost use Rattle.da_show.specs.Json.{json_of, json_text, sample_text};
 
 mod kinds;
 mod lists;
 
+use crate::words::{axis_word, put_number};
 use da_wire::Frame;
-use namespace_id::NoMemory;
+use namespace_id::{Axis, Cell, NoMemory};
 use serde_json::Value;
 use std::alloc::{AllocError, Global};
 
@@ -52,6 +54,35 @@ pub fn show_json(alloc: Global, frame: &Frame) -> Result<String, NoMemory>
 {
     match json_text(alloc, frame) {
         Ok(text) => Ok(text),
+        Err(AllocError) => Err(NoMemory),
+    }
+}
+
+/// Appends the text of the object of a request for a sample.
+#[tactic(auto, unfolding(crate::specs::Json::sample_text))]
+fn put_object(out: &mut String, cell: Cell, axis: Axis) -> Result<(), AllocError>
+    ensures { OnOk result (string_bytes out.new ≡ string_bytes out.old ++ sample_text cell axis) }
+{
+    out.push_str("{\"axis\":\"")?;
+    out.push_str(axis_word(axis))?;
+    out.push_str("\",\"col\":")?;
+    put_number(out, cell.col)?;
+    out.push_str(",\"kind\":\"sample\",\"row\":")?;
+    put_number(out, cell.row)?;
+    out.push('}')
+}
+
+/// Appends what `show_json` gives for a request for the sample of a cell on an axis.
+///
+/// It refuses only where there is no memory.
+///
+/// docs/FORMATS.md, "JSON of frames".
+pub fn put_sample_json(out: &mut String, cell: Cell, axis: Axis) -> Result<(), NoMemory>
+    ensures text { OnOk result (string_bytes out.new
+        ≡ string_bytes out.old ++ json_text (Sample cell axis)) }
+{
+    match put_object(out, cell, axis) {
+        Ok(()) => Ok(()),
         Err(AllocError) => Err(NoMemory),
     }
 }

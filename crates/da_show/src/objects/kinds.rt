@@ -35,7 +35,7 @@ pub(crate) fn square(alloc: Global, square: &Square) -> Result<Value, AllocError
     json!(in alloc; {"k": k, "kind": "square", "namespaces": names})
 }
 
-/// A message, with the hash of its share.
+/// A sample, with the hash of its share.
 pub(crate) fn message(alloc: Global, message: &Message) -> Result<Value, AllocError>
     ensures { IfOk result (λ value. view value ≡ message_json message.now) }
 {
@@ -58,7 +58,7 @@ pub(crate) fn names(alloc: Global, name: &Namespace, answer: &NsAnswer) -> Resul
     json!(in alloc; {"entries": entries, "kind": "namespace", "namespace": name})
 }
 
-/// A fraud claim, with the cells of its messages.
+/// A fraud claim, with the cells of its samples.
 pub(crate) fn claim(alloc: Global, claim: &FraudClaim) -> Result<Value, AllocError>
     ensures { IfOk result (λ value. view value ≡ claim_json claim.now) }
 {
@@ -132,7 +132,7 @@ pub(crate) fn commit(alloc: Global, proof: &CommitProof) -> Result<Value, AllocE
     })
 }
 
-/// A root proof: its message, with the hash of its share, and the root of its axis.
+/// A root proof: its sample, with the hash of its share, and the root of its axis.
 pub(crate) fn rooted(alloc: Global, proof: &RootedMessage) -> Result<Value, AllocError>
     ensures { IfOk result (λ value. view value ≡ rooted_json proof.now) }
 {

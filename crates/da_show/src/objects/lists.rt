@@ -81,7 +81,7 @@ pub(crate) fn cells(alloc: Global, cells: &[Cell]) -> Result<Value, AllocError>
     Ok(Value::Array(list))
 }
 
-/// The cells of messages.
+/// The cells of samples.
 pub(crate) fn messages(alloc: Global, messages: &[Message]) -> Result<Value, AllocError>
     ensures { IfOk result (λ value. view value ≡ list_of cell_of_json messages.now) }
 {

@@ -2,7 +2,7 @@ use Rattle.std.proofs.Common.{◌∙◌, ap}
 use Rattle.std.proofs.lemmas.Result.{IfOk-weaker}
 use Rattle.serde_json.specs.Written.{has_float, compact_text}
 use Rattle.da_show.proofs.NoFloats.{no_float}
-use Rattle.da_show.proofs.json.json_text.Goals as goal
+use Rattle.da_show.proofs.objects.json_text.Goals as goal
 
 -- the value is the frame's object, which has no float
 pub returns : goal.returns
