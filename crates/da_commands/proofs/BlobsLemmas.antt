@@ -21,6 +21,7 @@ use Rattle.square_layout.specs.Blocks.{SquareShares, IsSquare}
 use Rattle.axis_roots.specs.declared.answers.Found.{Found}
 use Rattle.axis_roots.specs.declared.answers.Found.TheVariants.{Range, Absence}
 use Rattle.axis_roots.specs.declared.answers.NsEntry.{NsEntry}
+use Rattle.blob_feed.specs.Feeds.{shares_found}
 use Rattle.da_wire.specs.declared.frames.Frame.{Frame}
 use Rattle.da_wire.specs.declared.frames.Frame.TheVariants.{Block, Names}
 use Rattle.da_wire.specs.Spelling.{spelling, frame, spelled, names_kind}
@@ -31,29 +32,12 @@ use Rattle.da_wire.specs.kinds.Names.{is_long_found, is_long_entry, is_long_answ
 use Rattle.da_status.specs.declared.status.Status.{Status}
 use Rattle.da_status.specs.declared.status.Status.TheVariants.{BadRequest}
 use Rattle.da_status.specs.declared.status.Asked.TheVariants.{Shares}
-use Rattle.da_commands.specs.declared.command.Command.TheVariants as command
 use Rattle.da_status.specs.Statuses.{kind_of}
 use Rattle.da_status.specs.Outcome.{Relation, Refuses}
-use Rattle.da_status.specs.Judging.{Judged}
-use Rattle.da_commands.specs.Frames.{error_of, Writes}
-use Rattle.da_commands.specs.Blobs.{is_compact, behind_compact, found_shares, answer_shares, shares_of, share_kinds, shares_in, shares_file, block_with, Joins, BlobsOf}
-use Rattle.da_commands.specs.Meaning.{Meaning}
+use Rattle.da_commands.specs.Frames.{Writes}
+use Rattle.da_commands.specs.Blobs.{is_compact, behind_compact, answer_shares, shares_of, share_kinds, shares_in, shares_file, block_with, Joins, BlobsOf}
 use Rattle.da_status.proofs.EndLemmas.{IsAnswer, status_answers}
-
--- ---- the file
-
--- the answer by what SHARES is
-abbrev answer_by : Result Frame ℕ → Relation
-answer_by read w status = MatchResult read (λ frame. Joins (shares_of frame) w status) (λ at. ⊥)
-
--- the meaning by what SHARES is
-abbrev blobs_by : Result Frame ℕ → Relation
-blobs_by read = Judged (error_of read ∷ []) (answer_by read)
-
--- the meaning of blobs over a SHARES that is a square or a namespace answer
-pub blobs_is : (files : List (List ℕ)) (frame : Frame) → shares_in (shares_file files) ≡ Ok frame
-    → Joins (shares_of frame) ≡ Meaning command.Blobs files
-blobs_is files frame read = sym (ap blobs_by read)
+use Rattle.da_commands.proofs.FormLemmas.{over_each}
 
 -- ---- answers
 
@@ -67,14 +51,11 @@ by_blobs : (read : Result (List NamedBytes) JoinError) (w : List ℕ) (status : 
 by_blobs (Ok blobs) w status h = status_answers status _ h.1 tt
 by_blobs (Err why) w status h = status_answers status _ h.1 tt
 
--- what is answered is an answer, by what SHARES is
-by_frame : (read : Result Frame ℕ) (w : List ℕ) (status : Status) → answer_by read w status → IsAnswer (kind_of status)
-by_frame (Ok frame) w status h = by_blobs (blobs_of (shares_of frame)) w status h
-by_frame (Err at) w status h = absurd h
-
 -- what blobs answers to its files is an answer
 pub blobs_answers : (files : List (List ℕ)) (w : List ℕ) (status : Status) → BlobsOf files w status → IsAnswer (kind_of status)
-blobs_answers files w status h = by_frame (shares_in (shares_file files)) w status h
+blobs_answers files w status h =
+    over_each (λ frame. Joins (shares_of frame)) (shares_in (shares_file files)) w status (IsAnswer (kind_of status))
+    (λ frame. by_blobs (blobs_of (shares_of frame)) w status) h
 
 -- the frame of the blobs that shares are is the answer to the shares
 pub joins_blobs : (shares : List Share) (blobs : List NamedBytes) (frame : Frame) → blobs_of shares ≡ Ok blobs → frame ≡ Block (block_with blobs)
@@ -167,7 +148,7 @@ square_few square is =
     omega (arith, behind_few square.shares, is.count, le, mul-le-mul_right square.k le)
 
 -- what is found in a row has at most 128 shares
-found_few : (found : Found) → is_long_found found ≡ false → length (found_shares found) ≤ 128
+found_few : (found : Found) → is_long_found found ≡ false → length (shares_found found) ≤ 128
 found_few (Range start shares nodes) short = ltb-false 128 (length shares) short
 found_few (Absence pos leaf nodes) short = omega arith
 
@@ -176,7 +157,7 @@ entries_few : (entries : List NsEntry) → list_any is_long_entry entries ≡ fa
 entries_few [] short = omega arith
 entries_few (entry ∷ entries) short =
     let parts = or_parts (is_long_entry entry) (list_any is_long_entry entries) short in
-    omega (arith, found_few entry.found parts.0, entries_few entries parts.1, length-append (found_shares entry.found) (answer_shares entries))
+    omega (arith, found_few entry.found parts.0, entries_few entries parts.1, length-append (shares_found entry.found) (answer_shares entries))
 
 -- an answer that has a spelling isn't too long
 not_long : (long : Bool) (text : Option (List ℕ)) → IsSome (cond long None text) → long ≡ false

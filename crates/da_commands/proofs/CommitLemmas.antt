@@ -1,6 +1,6 @@
 -- What the command commit answers.
-use Rattle.std.proofs.Common.{◌≡◌, ◌∙◌, ℕ, suc, ◌≤◌, Bool, true, false, cond, List, [], ◌∷◌, ◌++◌, length, filter, Some, None, Result, Ok, Err, refl, sym, ap, subst, inl, inr, arith}
-use Rattle.std.specs.Prelude.{MatchResult, MatchOption, ◌==◌}
+use Rattle.std.proofs.Common.{◌≡◌, ◌∙◌, ℕ, suc, ◌≤◌, Bool, true, false, cond, List, [], ◌∷◌, ◌++◌, length, filter, Some, None, refl, sym, ap, subst, inl, inr, arith}
+use Rattle.std.specs.Prelude.{MatchOption, ◌==◌}
 use Rattle.std.specs.declared.option.Option.{Option}
 use Rattle.std.specs.Option.{option_or}
 use Rattle.std.specs.List.{AllByRecursion}
@@ -10,6 +10,7 @@ use Rattle.std.proofs.lemmas.Slice.Eq.{bytes_eq-Decides}
 use Rattle.std.proofs.lemmas.List.Elements.{filter-append}
 use Rattle.namespace_id.specs.declared.namespaces.Namespace.{Namespace}
 use Rattle.namespace_id.specs.Cells.{is_width}
+use Rattle.nmt_proofs.proofs.ListLemmas.{each-both}
 use Rattle.share_split.specs.Blobs.{NamedBytes}
 use Rattle.square_layout.specs.declared.laying.LayError.{LayError}
 use Rattle.square_layout.specs.declared.laying.LayError.TheVariants.{EmptyBlob}
@@ -21,17 +22,15 @@ use Rattle.blob_commit.proofs.WidthLemmas.{square_bound}
 use Rattle.blob_commit.proofs.CommitOwnLemmas.{range_parts}
 use Rattle.da_status.specs.declared.status.Status.{Status}
 use Rattle.da_status.specs.declared.status.Status.TheVariants.{Done, BadBlock}
-use Rattle.da_commands.specs.declared.command.Command.TheVariants as command
 use Rattle.da_status.specs.Statuses.{kind_of}
 use Rattle.da_status.specs.Outcome.{Relation, Refuses}
-use Rattle.da_status.specs.Judging.{Judged}
-use Rattle.da_commands.specs.Frames.{block_in, error_of, WritesText}
+use Rattle.da_commands.specs.Frames.{block_in, WritesText}
 use Rattle.da_commands.specs.Build.{block_file}
 use Rattle.da_commands.specs.Commit.{commitment_lines, Commits, CommitOf}
-use Rattle.da_commands.specs.Meaning.{Meaning}
 use Rattle.da_status.proofs.EndLemmas.{IsAnswer, status_answers}
+use Rattle.da_commands.proofs.FormLemmas.{over_each}
 
--- ---- the file
+-- ---- answers
 
 -- what is written for a block, or it is refused with
 abbrev commits_by : List ℕ → Option LayError → Relation
@@ -48,22 +47,11 @@ pub commits_lines : (block : BlockParts) → layout_refusal block ≡ None → (
 commits_lines block fine w status gives =
     subst (λ (o : Option LayError). commits_by (commitment_lines block.blobs) o w status) (sym fine) gives
 
--- what commit answers to a file that was read is an answer
-by_block : (read : Result BlockParts ℕ) (w : List ℕ) (status : Status) → MatchResult read (λ block. Commits block w status) (λ at. ⊥) → IsAnswer (kind_of status)
-by_block (Ok block) w status h = by_refusal (commitment_lines block.blobs) (layout_refusal block) w status h
-by_block (Err at) w status h = absurd h
-
 -- what commit answers to its files is an answer
 pub commit_answers : (files : List (List ℕ)) (w : List ℕ) (status : Status) → CommitOf files w status → IsAnswer (kind_of status)
-commit_answers files w status h = by_block (block_in (block_file files)) w status h
-
--- the meaning of a file that is a block, or isn't
-abbrev commit_by : Result BlockParts ℕ → Relation
-commit_by read = Judged (error_of read ∷ []) (λ w status. MatchResult read (λ block. Commits block w status) (λ at. ⊥))
-
--- the meaning of commit over a BLOCK that is a block
-pub commit_is : (files : List (List ℕ)) (block : BlockParts) → block_in (block_file files) ≡ Ok block → Commits block ≡ Meaning command.Commit files
-commit_is files block read = sym (ap commit_by read)
+commit_answers files w status h =
+    over_each Commits (block_in (block_file files)) w status (IsAnswer (kind_of status))
+    (λ block. by_refusal (commitment_lines block.blobs) (layout_refusal block) w status) h
 
 -- ---- one of several blobs is one of them in order
 
@@ -164,11 +152,6 @@ range_few k start count width range = square_bound k count width (omega (arith, 
 abbrev pub IsLaid : NamedBytes → Type 0
 IsLaid blob = (1 ≤ length blob.bytes) × (share_count_of blob ≤ 16384)
 
--- two facts of each element are one
-both_hold : {A : Type 0} (P Q : A → Type 0) (xs : List A) → AllByRecursion P xs → AllByRecursion Q xs → AllByRecursion (λ x. P x × Q x) xs
-both_hold P Q [] p q = tt
-both_hold P Q (x ∷ xs) p q = ((p.0, q.0), both_hold P Q xs p.1 q.1)
-
 -- such are the blobs of a block that isn't refused, by what is known of their order, of its square and of their ranges
 pub laid_blobs : (block : BlockParts)
     → ((name : Namespace) (l : List NamedBytes) → filter (has_name name) (in_order l) ≡ filter (has_name name) l)
@@ -184,4 +167,4 @@ laid_blobs block stable whole ranges fine =
     (λ before after blob e.
     let there = ordered blobs before after blob stable e in
     range_few (square_of block).k _ (share_count_of blob) whole.width (ranges there.0 there.1 blob there.2)) in
-    both_hold HasByte (λ (blob : NamedBytes). share_count_of blob ≤ 16384) blobs (have_bytes 0 blobs sized) few
+    each-both HasByte (λ (blob : NamedBytes). share_count_of blob ≤ 16384) blobs (have_bytes 0 blobs sized) few

@@ -1,6 +1,5 @@
 -- What the command compact answers.
-use Rattle.std.proofs.Common.{◌≡◌, ℕ, List, [], ◌∷◌, Some, None, Result, Ok, Err, false, refl, sym, ap, ap₂, subst, inl, inr, ◌∙◌}
-use Rattle.std.specs.Prelude.{MatchResult}
+use Rattle.std.proofs.Common.{◌≡◌, ℕ, List, [], ◌∷◌, Some, None, Result, Ok, Err, false, refl, sym, ap, subst, inl, inr, ◌∙◌}
 use Rattle.std.specs.declared.option.Option.{Option}
 use Rattle.hash_clash.specs.Collisions.{Strings}
 use Rattle.data_header.specs.Headers.{Roots}
@@ -17,34 +16,35 @@ use Rattle.da_wire.specs.kinds.Clash.{has_empty}
 use Rattle.da_wire.specs.kinds.Fraud.{is_unwritten}
 use Rattle.da_wire.proofs.AcceptedClaims.{accepted_written}
 use Rattle.da_status.specs.declared.status.Status.{Status}
-use Rattle.da_status.specs.declared.status.Status.TheVariants.{BadInput}
 use Rattle.da_status.specs.Statuses.{kind_of, output}
-use Rattle.da_status.specs.Outcome.{Relation, Refuses}
-use Rattle.da_status.specs.Judging.{Judged}
+use Rattle.da_status.specs.Judging.{first_bad}
 use Rattle.da_commands.specs.declared.command.Command.TheVariants as command
 use Rattle.da_commands.specs.Frames.{header_in, error_of}
+use Rattle.da_commands.specs.Forms.{single_judged, under_judged, Over}
 use Rattle.da_commands.specs.Verify.{header_file}
 use Rattle.da_commands.specs.Compact.{claim_file, claim_in, made_status, CompactsBy, CompactsJudged, CompactsOwn, CompactOf}
 use Rattle.da_commands.specs.Meaning.{Meaning}
+use Rattle.da_commands.proofs.FormLemmas.{second_bad, over_is, judged_over, over_each}
 use Rattle.da_commands.proofs.ClashLemmas.{found_full}
 
--- the answer by what the two files are
-abbrev answer_by : Result Roots ℕ → Result ClaimParts ℕ → Relation
-answer_by a b w status = MatchResult a (λ header. MatchResult b (λ claim. CompactsJudged header claim w status) (λ at. ⊥)) (λ at. ⊥)
+module _ (files : List (List ℕ)) (fine : first_bad 0 (single_judged header_in files) ≡ None) where
+  -- the first file that isn't in its form, by what the second one is
+  by_second : (read : Result ClaimParts ℕ) → claim_in (claim_file files) ≡ read → first_bad 0 (under_judged claim_in files) ≡ first_bad 1 (error_of read ∷ [])
+  by_second read is =
+      second_bad (error_of (header_in (header_file files))) (error_of (claim_in (claim_file files)) ∷ []) fine
+      ∙ ap (λ (r : Result ClaimParts ℕ). first_bad 1 (error_of r ∷ [])) is
 
--- the meaning of compact by what the two files are
-abbrev compact_by : Result Roots ℕ → Result ClaimParts ℕ → Relation
-compact_by a b = Judged (error_of a ∷ error_of b ∷ []) (answer_by a b)
+  -- the second file is no claim
+  pub compact_no_claim : (at : ℕ) → claim_in (claim_file files) ≡ Err at → first_bad 0 (under_judged claim_in files) ≡ Some (1, at)
+  compact_no_claim at bad = by_second (Err at) bad
 
--- the meaning of files that were read
-pub compact_is : (files : List (List ℕ)) (header : Roots) (claim : ClaimParts) → header_in (header_file files) ≡ Ok header → claim_in (claim_file files) ≡ Ok claim
-    → CompactsJudged header claim ≡ Meaning command.Compact files
-compact_is files header claim read reads = sym (ap₂ compact_by read reads)
-
--- the meaning of a second file that is no claim
-pub compact_refuses : (files : List (List ℕ)) (header : Roots) (at : ℕ) → header_in (header_file files) ≡ Ok header → claim_in (claim_file files) ≡ Err at
-    → Refuses (BadInput 1 at) ≡ Meaning command.Compact files
-compact_refuses files header at read bad = sym (ap₂ compact_by read bad)
+  -- the meaning of files that were read
+  pub compact_is : (header : Roots) (claim : ClaimParts) → header_in (header_file files) ≡ Ok header → claim_in (claim_file files) ≡ Ok claim
+      → CompactsJudged header claim ≡ Meaning command.Compact files
+  compact_is header claim read reads =
+      over_is (λ (c : ClaimParts). CompactsJudged header c) (claim_in (claim_file files)) claim reads
+      ∙ judged_over (λ (h : Roots). Over (claim_in (claim_file files)) (λ (c : ClaimParts). CompactsJudged h c)) (under_judged claim_in files)
+      (header_in (header_file files)) header (by_second (Ok claim) reads) read
 
 -- what a claim was made into is a complete output
 made_kind : (one : Compacted) → kind_of (made_status one) ≡ output
@@ -56,15 +56,13 @@ judged_kind : (header : Roots) (claim : ClaimParts) (why : Option FraudRefusal) 
 judged_kind header claim None w status h = ap kind_of h.2.1 ∙ made_kind h.0
 judged_kind header claim (Some why) w status h = ap kind_of h.1
 
--- what compact answers comes with a complete output, by what the files are
-by_files : (a : Result Roots ℕ) (b : Result ClaimParts ℕ) (w : List ℕ) (status : Status) → answer_by a b w status → kind_of status ≡ output
-by_files (Ok header) (Ok claim) w status h = judged_kind header claim h.0 w status h.2
-by_files (Ok header) (Err at) w status h = absurd h
-by_files (Err at) b w status h = absurd h
-
 -- what compact answers comes with a complete output
 pub compact_last : (files : List (List ℕ)) (w : List ℕ) (status : Status) → CompactOf files w status → kind_of status ≡ output
-compact_last files w status h = by_files (header_in (header_file files)) (claim_in (claim_file files)) w status h
+compact_last files w status h =
+    let Complete : Type 0 = kind_of status ≡ output in
+    over_each (λ header. Over (claim_in (claim_file files)) (λ claim. CompactsJudged header claim)) (header_in (header_file files)) w status Complete
+    (λ header. over_each (λ claim. CompactsJudged header claim) (claim_in (claim_file files)) w status Complete
+    (λ claim made. judged_kind header claim made.0 w status made.2)) h
 
 -- ---- what can be written
 

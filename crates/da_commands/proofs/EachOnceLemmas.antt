@@ -5,6 +5,8 @@ use Rattle.std.specs.declared.option.Option.{Option}
 use Rattle.std.specs.Ordering.{is_eq, match_ordering}
 use Rattle.std.specs.List.{fold, list_any, Contains}
 use Rattle.std.specs.BTreeSet.{insert_key}
+use Rattle.std.proofs.Math.Bool.{or-false, or_self_left, or_assoc, or_comm}
+use Rattle.std.proofs.lemmas.Bool.{or_right}
 use Rattle.std.proofs.lemmas.Map.Views.{Contains-from_any}
 use Rattle.std.proofs.lemmas.Map.Text.{is_eq-slice_cmp}
 use Rattle.std.proofs.lemmas.Slice.Eq.{bytes_eq-Decides}
@@ -16,30 +18,7 @@ use Rattle.da_commands.specs.Follow.{each_once, Feed}
 
 -- of three tests two change places
 or_swap : (a b d : Bool) → (a || (b || d)) ≡ (b || (a || d))
-or_swap true true d = refl
-or_swap true false d = refl
-or_swap false b d = refl
-
--- a test or another, and once more
-or_again : (a d : Bool) → (a || d) ≡ (a || (a || d))
-or_again true d = refl
-or_again false d = refl
-
--- the first of two tests goes behind
-or_behind : (a b d : Bool) → ((a || b) || d) ≡ (b || (a || d))
-or_behind true true d = refl
-or_behind true false d = refl
-or_behind false b d = refl
-
--- a test or one that fails
-or_false : (b : Bool) → (b || false) ≡ b
-or_false true = refl
-or_false false = refl
-
--- a test or one that passes
-or_true : (a b : Bool) → b ≡ true → (a || b) ≡ true
-or_true true b e = refl
-or_true false b e = e
+or_swap a b d = sym (or_assoc a b d) ∙ ap (λ (x : Bool). x || d) (or_comm a b) ∙ or_assoc b a d
 
 -- two namespaces that compare as one are one
 same_name : (name other : Namespace) → is_name name other ≡ true → name ≡ other
@@ -59,7 +38,7 @@ module _ (name : Namespace) where
   inserted_by key first keys Less e behind = refl
   inserted_by key first keys Equal e behind =
       ap (λ (n : Namespace). is_name name n || list_any (is_name name) keys) (sym (same_name key first (ap is_eq e)))
-      ∙ or_again (is_name name key) (list_any (is_name name) keys)
+      ∙ sym (or_self_left (is_name name key) (list_any (is_name name) keys))
       ∙ ap (λ (n : Namespace). is_name name key || (is_name name n || list_any (is_name name) keys)) (same_name key first (ap is_eq e))
   inserted_by key first keys Greater e behind =
       ap (λ (b : Bool). is_name name first || b) behind
@@ -74,11 +53,12 @@ module _ (name : Namespace) where
   -- so are all that were put at their places one after another
   inserted_all : (keys wanted : List Namespace) → list_any (is_name name) (fold (insert_key namespace_cmp) keys wanted)
       ≡ (list_any (is_name name) keys || list_any (is_name name) wanted)
-  inserted_all keys [] = sym (or_false (list_any (is_name name) keys))
+  inserted_all keys [] = sym (or-false (list_any (is_name name) keys))
   inserted_all keys (first ∷ wanted) =
       inserted_all (insert_key namespace_cmp keys first) wanted
       ∙ ap (λ (b : Bool). b || list_any (is_name name) wanted) (inserted first keys)
-      ∙ or_behind (is_name name first) (list_any (is_name name) keys) (list_any (is_name name) wanted)
+      ∙ or_assoc (is_name name first) (list_any (is_name name) keys) (list_any (is_name name) wanted)
+      ∙ or_swap (is_name name first) (list_any (is_name name) keys) (list_any (is_name name) wanted)
 
   -- a namespace that is listed is found
   found_there : (wanted : List Namespace) (k : ℕ) → k < length wanted → slice_index_or wanted k name ≡ name
@@ -88,7 +68,7 @@ module _ (name : Namespace) where
       let here : is_name name first ≡ true = subst (λ (n : Namespace). is_name name n ≡ true) (sym is) (same_refl name) in
       ap (λ (b : Bool). b || list_any (is_name name) wanted) here
   found_there (first ∷ wanted) (suc k) below is =
-      or_true (is_name name first) (list_any (is_name name) wanted) (found_there wanted k (omega (arith, below)) is)
+      or_right (is_name name first) (list_any (is_name name) wanted) (found_there wanted k (omega (arith, below)) is)
 
   -- a namespace that is found among those that are wanted, each once, is wanted
   wanted_there : (wanted : List Namespace) → list_any (is_name name) (each_once wanted) ≡ true → Contains wanted name
@@ -128,7 +108,7 @@ wanted_by_list wanted items feed is =
     feed_as (Contains wanted) (λ (name : Namespace). list_any (is_name name) (each_once wanted) ≡ true)
     (λ name there. wanted_found name wanted there) (λ name found. wanted_there name wanted found) items feed is
 
--- a call that failed means that a test fails, where it succeeds just where the test passes
+-- a call that failed means that a test fails, where it succeeds exactly where the test passes
 pub fails_by : {T E : Type 0} (r : Result T E) (b : Bool) → (IsOk r ↔ IsTrue b) → is_err r ≡ true → b ≡ false
 fails_by (Ok x) b law e = absurd cc
 fails_by (Err x) false law e = refl

@@ -2,26 +2,24 @@
 use Rattle.std.proofs.Common.{◌≡◌, ◌∙◌, ℕ, zero, suc, ◌≤◌, Bool, true, false, cond, List, [], ◌∷◌, ◌++◌, length, Some, None, IsSome, IfSome, refl, sym, ap, subst, arith, append_assoc, append-nil, slice_index}
 use Rattle.std.specs.Prelude.{◌-◌, ◌==◌}
 use Rattle.std.specs.declared.option.Option.{Option}
-use Rattle.std.specs.Option.{option_map, option_map_or}
+use Rattle.std.specs.Option.{option_map_or}
 use Rattle.std.specs.List.{filter_map, cons_option, AllZip, AllByRecursion}
-use Rattle.std.proofs.lemmas.Bool.Decides.{nat_tests}
 use Rattle.namespace_id.specs.declared.namespaces.Namespace.{Namespace}
 use Rattle.namespace_id.specs.Bytes.{AreBytes}
-use Rattle.data_header.specs.Headers.{Roots}
 use Rattle.blob_feed.specs.Feeds.{Item, AreItems, heights_of}
 use Rattle.blob_feed.specs.Filters.{wanted_by}
 use Rattle.blob_feed.specs.Followers.{FollowerParts, StandsFor, AreFed, feeds_of, count_of}
 use Rattle.da_wire.specs.declared.frames.Frame.{Frame}
 use Rattle.da_wire.specs.declared.frames.Frame.TheVariants.{Header, Names}
-use Rattle.da_wire.specs.Spelling.{header_kind, names_kind, IsFrame}
-use Rattle.da_wire.specs.Reading.{value_at, tested_raw, is_among}
-use Rattle.da_wire.specs.kinds.Header.{header_at}
+use Rattle.da_wire.specs.Spelling.{names_kind, IsFrame}
+use Rattle.da_wire.specs.Reading.{tested_raw, is_among}
+use Rattle.da_wire.specs.Writing.{kind_of}
+use Rattle.da_wire.specs.Single.{header_of}
 use Rattle.da_wire.specs.Walks.{walk_from}
 use Rattle.da_wire.specs.Values.{value_in, values_of, bad_value, IsValue}
 use Rattle.da_wire.specs.Laws.{ValuesAreTheFile, BadValueIsFirst}
-use Rattle.da_commands.specs.Frames.{header_of}
 use Rattle.da_commands.specs.Follow.{feed_kinds, item_of, items_in, begins_with_answer, bad_feed, IsLed, IsTimely}
-use Rattle.da_commands.proofs.FrameLemmas.{found_among}
+use Rattle.da_wire.proofs.KindLemmas.{found_kind}
 use Rattle.da_commands.proofs.NamespaceLemmas.{values_by}
 
 -- a frame of a header leads
@@ -35,27 +33,23 @@ led_by : (o : Option (Frame × ℕ)) (rest : List ℕ) → IfSome o (λ (x : Fra
 led_by None rest some = tt
 led_by (Some x) rest some = headed_led x.0 (filter_map item_of (walk_from (value_in feed_kinds) (x.1 - 1) rest)) some
 
--- a header that was read makes a frame of one
-some_header : (o : Option Roots) → IfSome (option_map Header o) (λ (v : Frame). IsSome (header_of v))
-some_header None = tt
-some_header (Some header) = refl
+-- a frame of ANSWERS that isn't an answer is a header
+other_frame : (frame : Frame) → (kind_of frame == names_kind) ≡ false → is_among feed_kinds (kind_of frame) ≡ true → IsSome (header_of frame)
+other_frame (Header header) other among = refl
+other_frame frame other among = absurd cc
 
--- a payload of the kind of headers makes a frame of one
-header_kinds : (payload : List ℕ) → IfSome (value_at header_kind payload) (λ (v : Frame). IsSome (header_of v))
-unfolding value_at
-header_kinds payload = some_header (header_at payload)
-
--- a kind of ANSWERS that isn't that of answers is that of headers
-other_kind : (kind : ℕ) → (kind == names_kind) ≡ false → is_among feed_kinds kind ≡ true → header_kind ≡ kind
-other_kind kind other among = grind (arith, nat_tests)
+-- the frame at the front of bytes that don't begin with an answer is a header, by the frame
+front_by : (bytes : List ℕ) (o : Option (Frame × ℕ)) → value_in feed_kinds bytes ≡ o → (slice_index bytes 0 == names_kind) ≡ false
+    → IfSome o (λ (x : Frame × ℕ). IsSome (header_of x.0))
+front_by bytes None e other = tt
+front_by bytes (Some x) e other =
+    let k = found_kind feed_kinds bytes x.0 x.1 e in
+    other_frame x.0 (ap (λ (n : ℕ). n == names_kind) k.0 ∙ other) k.1
 
 -- the frame at the front of bytes that don't begin with an answer is a header
 header_front : (bytes : List ℕ) → begins_with_answer bytes ≡ false
     → IfSome (value_in feed_kinds bytes) (λ (x : Frame × ℕ). IsSome (header_of x.0))
-header_front bytes other =
-    found_among header_of feed_kinds bytes
-    (λ payload among. subst (λ (k : ℕ). IfSome (value_at k payload) (λ (v : Frame). IsSome (header_of v)))
-    (other_kind (slice_index bytes 0) other among) (header_kinds payload))
+header_front bytes other = front_by bytes (value_in feed_kinds bytes) refl other
 
 -- where nothing is bad no answer begins
 no_answer : (b : Bool) (o : Option ℕ) → cond b (Some 0) o ≡ None → b ≡ false

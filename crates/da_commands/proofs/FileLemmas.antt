@@ -13,7 +13,8 @@ use Rattle.da_wire.specs.Writing.{kind_of}
 use Rattle.da_wire.specs.Reading.{is_among, only_of}
 use Rattle.da_wire.specs.Laws.{OnlyIsSpelled, SpelledIsOnly}
 use Rattle.da_commands.specs.Verify.{answer_kinds, answer_in}
-use Rattle.da_commands.specs.Frames.{header_of, square_of, block_of, single, header_in, square_in, block_in}
+use Rattle.da_wire.specs.Single.{header_of, square_of, block_of}
+use Rattle.da_commands.specs.Frames.{single, header_in, square_in, block_in}
 
 -- a frame whose value of a kind is this one is that value's frame
 header_frame : (frame : Frame) (header : Roots) → header_of frame ≡ Some header → frame ≡ Header header

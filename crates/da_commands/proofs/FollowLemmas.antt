@@ -1,56 +1,18 @@
 -- What the command follow answers.
-use Rattle.std.proofs.Common.{◌≡◌, ◌∙◌, ℕ, Bool, true, false, cond, List, [], ◌∷◌, length, Some, None, refl, sym, ap, ap₂, subst}
+use Rattle.std.proofs.Common.{◌≡◌, ℕ, Bool, true, false, cond, List, [], length, Some, None, refl, sym, subst}
 use Rattle.std.specs.Prelude.{◌==◌, MatchOption}
 use Rattle.std.specs.declared.option.Option.{Option}
 use Rattle.namespace_id.specs.declared.namespaces.Namespace.{Namespace}
 use Rattle.blob_feed.specs.Feeds.{Item, heights_of}
-use Rattle.da_wire.specs.Spelling.{request_kind}
-use Rattle.da_wire.specs.Values.{bad_value}
 use Rattle.da_status.specs.declared.status.Asked.TheVariants.{At}
 use Rattle.da_status.specs.declared.status.Status.{Status}
-use Rattle.da_status.specs.declared.status.Status.TheVariants.{Done, BadInput, BadRequest, Waiting}
+use Rattle.da_status.specs.declared.status.Status.TheVariants.{Done, BadRequest, Waiting}
 use Rattle.da_status.specs.Statuses.{kind_of}
 use Rattle.da_status.specs.Outcome.{Relation, Refuses}
-use Rattle.da_status.specs.Judging.{Judged}
 use Rattle.da_status.proofs.EndLemmas.{IsAnswer, status_answers}
-use Rattle.da_commands.specs.declared.command.Command.TheVariants as command
 use Rattle.da_commands.specs.Namespace.{namespaces_in}
 use Rattle.da_commands.specs.Serving.{failing_from}
-use Rattle.da_commands.specs.Follow.{wanted_file, answers_file, is_followed, each_once, items_in, bad_feed, places_from, missing_count, feed_status, Follows, FollowsAsked, FollowOf}
-use Rattle.da_commands.specs.Meaning.{Meaning}
-
--- ---- the files
-
--- the meaning by where WANTED and ANSWERS leave their forms
-abbrev follow_by : List (List ℕ) → Option ℕ → Option ℕ → Relation
-follow_by files a b = Judged (a ∷ b ∷ []) (FollowOf files)
-
--- the meaning by two facts of the files
-two_files : (files : List (List ℕ)) (a b : Option ℕ) → bad_value (request_kind ∷ []) (wanted_file files) ≡ a
-    → bad_feed (answers_file files) ≡ b → Meaning command.Follow files ≡ follow_by files a b
-two_files files a b wanted answers = ap₂ (follow_by files) wanted answers
-
--- WANTED as it was taken out of the files
-module _ (files : List (List ℕ)) (wanted : List ℕ) (w : wanted ≡ wanted_file files) where
-  -- it isn't a list of requests for namespaces
-  pub follow_unasked : (at : ℕ) → bad_value (request_kind ∷ []) wanted ≡ Some at
-      → Refuses (BadInput 0 at) ≡ Meaning command.Follow files
-  follow_unasked at bad =
-      sym (two_files files (Some at) (bad_feed (answers_file files)) (ap (bad_value (request_kind ∷ [])) (sym w) ∙ bad) refl)
-
-  -- and ANSWERS
-  module _ (answers : List ℕ) (a : answers ≡ answers_file files) (fine : bad_value (request_kind ∷ []) wanted ≡ None) where
-    -- it isn't a list of headers and answers that begins with a header
-    pub follow_unfed : (at : ℕ) → bad_feed answers ≡ Some at → Refuses (BadInput 1 at) ≡ Meaning command.Follow files
-    follow_unfed at bad =
-        sym (two_files files None (Some at) (ap (bad_value (request_kind ∷ [])) (sym w) ∙ fine) (ap bad_feed (sym a) ∙ bad))
-
-    -- it is one
-    pub follow_is : bad_feed answers ≡ None
-        → FollowsAsked (namespaces_in wanted) (items_in answers) ≡ Meaning command.Follow files
-    follow_is led =
-        ap₂ (λ (x y : List ℕ). FollowsAsked (namespaces_in x) (items_in y)) w a
-        ∙ sym (two_files files None None (ap (bad_value (request_kind ∷ [])) (sym w) ∙ fine) (ap bad_feed (sym a) ∙ led))
+use Rattle.da_commands.specs.Follow.{wanted_file, answers_file, is_followed, each_once, items_in, places_from, missing_count, feed_status, Follows, FollowsAsked, FollowOf}
 
 -- ---- answers
 

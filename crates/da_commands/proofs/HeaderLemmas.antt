@@ -1,6 +1,6 @@
 -- What the command header answers.
-use Rattle.std.proofs.Common.{◌≡◌, ◌∙◌, ℕ, ◌+◌, ◌*◌, Bool, true, false, cond, List, [], ◌∷◌, length, Some, None, Result, Ok, Err, refl, sym, ap, subst, inl, inr, arith, length-append}
-use Rattle.std.specs.Prelude.{MatchResult, nat_lt}
+use Rattle.std.proofs.Common.{◌≡◌, ◌∙◌, ℕ, ◌+◌, ◌*◌, Bool, true, false, cond, List, [], ◌∷◌, length, Some, None, refl, sym, ap, subst, inl, inr, arith, length-append}
+use Rattle.std.specs.Prelude.{nat_lt}
 use Rattle.std.specs.declared.option.Option.{Option}
 use Rattle.namespace_id.specs.declared.digests.Digest.{Digest}
 use Rattle.namespace_id.specs.Digests.{AreDigests}
@@ -16,28 +16,21 @@ use Rattle.da_wire.specs.kinds.Header.{header_payload}
 use Rattle.da_status.specs.declared.status.Status.{Status}
 use Rattle.da_status.specs.declared.status.Status.TheVariants.{BadRequest}
 use Rattle.da_status.specs.declared.status.Asked.TheVariants.{NoHeader}
-use Rattle.da_commands.specs.declared.command.Command.TheVariants as command
 use Rattle.da_status.specs.Statuses.{kind_of}
-use Rattle.da_status.specs.Outcome.{Relation}
-use Rattle.da_status.specs.Judging.{Judged}
-use Rattle.da_commands.specs.Frames.{square_in, error_of, Writes}
+use Rattle.da_commands.specs.Frames.{square_in, Writes}
 use Rattle.da_commands.specs.Header.{square_file, Heads, HeaderOf}
-use Rattle.da_commands.specs.Meaning.{Meaning}
 use Rattle.da_status.proofs.EndLemmas.{IsAnswer, status_answers}
+use Rattle.da_commands.proofs.FormLemmas.{over_each}
 
 -- what header answers to a square is an answer
 heads_answers : (square : SquareShares) (w : List ℕ) (status : Status) → Heads square w status → IsAnswer (kind_of status)
 heads_answers square w status (inl h) = status_answers status _ h.2.1 tt
 heads_answers square w status (inr h) = status_answers status _ h.1.1 tt
 
--- what header answers to a file that was read is an answer
-by_square : (read : Result SquareShares ℕ) (w : List ℕ) (status : Status) → MatchResult read (λ square. Heads square w status) (λ at. ⊥) → IsAnswer (kind_of status)
-by_square (Ok square) w status h = heads_answers square w status h
-by_square (Err at) w status h = absurd h
-
 -- what header answers to its files is an answer
 pub header_answers : (files : List (List ℕ)) (w : List ℕ) (status : Status) → HeaderOf files w status → IsAnswer (kind_of status)
-header_answers files w status h = by_square (square_in (square_file files)) w status h
+header_answers files w status h =
+    over_each Heads (square_in (square_file files)) w status (IsAnswer (kind_of status)) (λ square. heads_answers square w status) h
 
 -- the header of a square's extension is the square's
 pub own_header : (square : SquareShares) (k : ℕ) (grid : List Share) (header : Roots) → IsSquare square → k ≡ square.k
@@ -59,14 +52,6 @@ pub heads_none : (square : SquareShares) (k : ℕ) (grid : List Share) → k ≡
     → ((header : Roots) → header_of_grid square.k grid ≡ None → IsHeaderOf header square → ⊥) → Heads square [] (BadRequest NoHeader)
 heads_none square k grid same is law =
     inr ((λ header own. law header (ap (λ (n : ℕ). header_of_grid n grid) (sym same) ∙ sym is) own), (refl, refl))
-
--- the meaning of a file that is a square, or isn't
-abbrev header_by : Result SquareShares ℕ → Relation
-header_by read = Judged (error_of read ∷ []) (λ w status. MatchResult read (λ square. Heads square w status) (λ at. ⊥))
-
--- the meaning of header over a SQUARE that is a square
-pub header_is : (files : List (List ℕ)) (square : SquareShares) → square_in (square_file files) ≡ Ok square → Heads square ≡ Meaning command.Header files
-header_is files square read = sym (ap header_by read)
 
 -- ---- the length of a header's spelling
 

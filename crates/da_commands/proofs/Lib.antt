@@ -1,4 +1,5 @@
 pub mod ContentsLemmas
+pub mod FormLemmas
 pub mod FrameLemmas
 pub mod FileLemmas
 pub mod CheckLemmas

@@ -1,7 +1,6 @@
 -- What the command light answers.
-use Rattle.std.proofs.Common.{◌≡◌, ℕ, ◌<◌, Bool, true, false, List, [], ◌∷◌, Some, None, Result, Ok, Err, sym, ap, ap₂, subst, inl, inr, arith}
-use Rattle.std.specs.Prelude.{MatchResult, nat_lt}
-use Rattle.std.specs.declared.option.Option.{Option}
+use Rattle.std.proofs.Common.{◌≡◌, ℕ, ◌<◌, Bool, true, false, List, sym, ap, subst, inl, inr, arith}
+use Rattle.std.specs.Prelude.{nat_lt}
 use Rattle.std.proofs.lemmas.Bool.Decides.{nat_tests}
 use Rattle.data_header.specs.Headers.{Roots}
 use Rattle.namespace_id.specs.declared.cells.Cell.{Cell}
@@ -16,50 +15,21 @@ use Rattle.light_node.specs.declared.events.Light.{Light}
 use Rattle.light_node.specs.declared.events.Light.TheVariants as light
 use Rattle.light_node.specs.Events.{IsLight}
 use Rattle.da_wire.specs.Reading.{Raw}
-use Rattle.da_wire.specs.Frames.{frames_of, bad_frame}
+use Rattle.da_wire.specs.Frames.{frames_of}
 use Rattle.da_status.specs.declared.status.Asked.TheVariants.{Count}
 use Rattle.da_status.specs.declared.status.Status.{Status}
-use Rattle.da_status.specs.declared.status.Status.TheVariants.{BadInput, BadRequest}
-use Rattle.da_commands.specs.declared.command.Command.TheVariants as command
+use Rattle.da_status.specs.declared.status.Status.TheVariants.{BadRequest}
 use Rattle.da_status.specs.Statuses.{kind_of, output}
-use Rattle.da_status.specs.Outcome.{Relation, Refuses}
-use Rattle.da_status.specs.Judging.{Judged}
-use Rattle.da_commands.specs.Frames.{header_in, error_of}
+use Rattle.da_status.specs.Outcome.{Relation}
+use Rattle.da_commands.specs.Frames.{header_in}
 use Rattle.da_commands.specs.Check.{header_file, messages_file}
 use Rattle.da_commands.specs.Light.{events_in, Answers, Judges, HasOutput, Counted, Lights, JudgesOwn, LightOf}
-use Rattle.da_commands.specs.Meaning.{Meaning}
 use Rattle.da_status.proofs.EndLemmas.{IsAnswer, answer_output, status_answers}
-
--- ---- the two files
-
-module _ (key : List ℕ) (count : ℕ) where
-  -- the answer by what the two files are
-  abbrev answer_by : Result Roots ℕ → List Raw → Relation
-  answer_by a raws w status = MatchResult a (λ h. Lights key count h raws w status) (λ at. ⊥)
-
-  -- the meaning of light by what HEADER is and where MESSAGES leaves its form
-  abbrev light_by : List (List ℕ) → Result Roots ℕ → Option ℕ → Relation
-  light_by files a b = Judged (error_of a ∷ b ∷ []) (answer_by a (frames_of (messages_file files)))
-
-  -- the meaning of a second file that isn't a list of frames
-  pub light_refuses : (files : List (List ℕ)) (h : Roots) (at : ℕ) → header_in (header_file files) ≡ Ok h
-      → bad_frame (messages_file files) ≡ Some at
-      → Refuses (BadInput 1 at) ≡ Meaning (command.Light key count) files
-  light_refuses files h at read bad = sym (ap₂ (light_by files) read bad)
-
-  -- the meaning of files that were read is what light answers
-  pub light_is : (files : List (List ℕ)) (h : Roots) → header_in (header_file files) ≡ Ok h
-      → bad_frame (messages_file files) ≡ None
-      → Lights key count h (frames_of (messages_file files)) ≡ Meaning (command.Light key count) files
-  light_is files h read fine = sym (ap₂ (light_by files) read fine)
+use Rattle.da_commands.proofs.FormLemmas.{over_each}
 
 -- ---- the count
 
--- a number is below another
-is_below : (a b : ℕ) → a < b → nat_lt a b ≡ true
-is_below a b h = grind (arith, nat_tests)
-
--- it isn't
+-- a number isn't below another
 not_below : (a b : ℕ) → (a < b → ⊥) → nat_lt a b ≡ false
 not_below a b h = grind (arith, nat_tests)
 
@@ -89,20 +59,14 @@ limit_answers : (over : Bool) (header : Roots) (plan : List Cell) (raws : List R
 limit_answers true header plan raws w status h = status_answers status (BadRequest Count) h.1 tt
 limit_answers false header plan raws w status h = answer_output status (verdict_kind h.0 w status h.2)
 
--- what light answers is an answer, by what HEADER is
-by_header : (key : List ℕ) (count : ℕ) (a : Result Roots ℕ) (raws : List Raw) (w : List ℕ) (status : Status)
-    → answer_by key count a raws w status
-    → IsAnswer (kind_of status)
-by_header key count (Ok h) raws w status r = limit_answers (nat_lt (draw_limit h.k) count) h
-    (drawn_cells key h.k count) raws w status r
-by_header key count (Err at) raws w status r = absurd r
-
 -- what light answers to its files is an answer
 pub light_answers : (key : List ℕ) (count : ℕ) (files : List (List ℕ)) (w : List ℕ) (status : Status)
     → LightOf key count files w status
     → IsAnswer (kind_of status)
-light_answers key count files w status r = by_header key count (header_in (header_file files))
-    (frames_of (messages_file files)) w status r
+light_answers key count files w status r =
+    let raws = frames_of (messages_file files) in
+    over_each (λ h. Lights key count h raws) (header_in (header_file files)) w status (IsAnswer (kind_of status))
+    (λ h. limit_answers (nat_lt (draw_limit h.k) count) h (drawn_cells key h.k count) raws w status) r
 
 -- a verdict under a header of a width has an output
 pub verdict_output : (header : Roots) (plan : List Cell) (events : List Event) (verdict : Light)

@@ -1,4 +1,4 @@
--- Messages among the frames of a byte string.
+-- Samples among the frames of a byte string.
 use Rattle.std.proofs.Common.{◌≡◌, List, [], ◌∷◌, Some, None, refl}
 use Rattle.std.specs.Prelude.{◌==◌}
 use Rattle.std.specs.declared.option.Option.{Option}
@@ -15,13 +15,13 @@ use Rattle.da_wire.specs.Laws.{MessageIsSpelled}
 use Rattle.da_commands.specs.Repair.{messages_in}
 use Rattle.da_commands.proofs.CheckLemmas.{in_grammar}
 
--- messages in front of messages, where one is there
+-- a sample in front of samples, where one is there
 messages_on : (o : Option sent.Message) (later : List sent.Message) → ((m : sent.Message) → o ≡ Some m → IsMessage m) → AllByRecursion IsMessage later
     → AllByRecursion IsMessage (option_map_or (λ m. m ∷ later) o later)
 messages_on None later is all = all
 messages_on (Some m) later is all = (is m refl, all)
 
--- the messages among frames of bytes have the sizes of their type, by what is known of messages that were read
+-- the samples among frames of bytes have the sizes of their type, by what is known of samples that were read
 pub messages_fit : MessageIsSpelled → (frames : List Raw) → AllByRecursion (λ (raw : Raw). AreBytes raw.payload) frames
     → AllByRecursion IsMessage (messages_in frames)
 unfolding messages_in

@@ -1,7 +1,6 @@
 -- What the command namespace answers.
-use Rattle.std.proofs.Common.{◌≡◌, ℕ, true, false, List, [], ◌∷◌, None, Some, IsSome, IfSome, refl, subst}
+use Rattle.std.proofs.Common.{◌≡◌, ℕ, true, false, List, [], ◌∷◌, None, Some, IsSome, refl, subst}
 use Rattle.std.specs.declared.option.Option.{Option}
-use Rattle.std.specs.Option.{option_map}
 use Rattle.std.specs.List.{AllByRecursion, filter_map, cons_option}
 use Rattle.std.proofs.lemmas.Bool.{not-true}
 use Rattle.namespace_id.specs.declared.namespaces.Namespace as names
@@ -14,9 +13,8 @@ use Rattle.square_serve.specs.Serving.{HeldParts, Holds, answer_for}
 use Rattle.da_wire.specs.declared.frames.Frame.{Frame}
 use Rattle.da_wire.specs.declared.frames.Frame.TheVariants.{Names, Request}
 use Rattle.da_wire.specs.Spelling.{spelling, request_kind, IsFrame}
-use Rattle.da_wire.specs.Reading.{value_at, is_among}
+use Rattle.da_wire.specs.Reading.{is_among}
 use Rattle.da_wire.specs.Writing.{kind_of}
-use Rattle.da_wire.specs.kinds.Requests.{request_at}
 use Rattle.da_wire.specs.Values.{values_of, bad_value, IsValue}
 use Rattle.da_wire.specs.Laws.{ValuesAreTheFile, BadValueIsFirst}
 use Rattle.da_status.specs.declared.status.Status.{Status}
@@ -26,17 +24,8 @@ use Rattle.da_commands.specs.Frames.{square_in}
 use Rattle.da_commands.specs.Serving.{square_file, requests_file, Serves}
 use Rattle.da_commands.specs.Namespace.{namespace_of, namespaces_in, is_other, AllowsNames, NamespaceOf}
 use Rattle.da_status.proofs.EndLemmas.{IsAnswer}
-use Rattle.da_commands.proofs.ServingLemmas.{serves_answers, served_answers}
-
--- a request that was read makes a frame of its kind
-some_name : (o : Option names.Namespace) → IfSome (option_map Request o) (λ (v : Frame). IsSome (namespace_of v))
-some_name None = tt
-some_name (Some name) = refl
-
--- a payload of the kind of requests for namespaces makes a frame of this kind
-pub name_kinds : (payload : List ℕ) → IfSome (value_at request_kind payload) (λ (v : Frame). IsSome (namespace_of v))
-unfolding value_at
-name_kinds payload = some_name (request_at payload)
+use Rattle.da_commands.proofs.FormLemmas.{over_each}
+use Rattle.da_commands.proofs.ServingLemmas.{serves_answers}
 
 -- a frame of this kind asks for a namespace, and is the frame that does
 pub is_name_frame : (frame : Frame) → is_among (request_kind ∷ []) (kind_of frame) ≡ true
@@ -97,5 +86,5 @@ have_names held square holds complete shares spelled (name ∷ requests) are oth
 pub namespace_answers : (files : List (List ℕ)) (w : List ℕ) (status : Status) → NamespaceOf files w status → IsAnswer (kind_of_status status)
 namespace_answers files w status h =
     let asked = namespaces_in (requests_file files) in
-    served_answers (λ square. Serves square is_other (AllowsNames square) asked)
-    (λ square. serves_answers square is_other (AllowsNames square) asked) (square_in (square_file files)) w status h
+    over_each (λ square. Serves square is_other (AllowsNames square) asked) (square_in (square_file files)) w status
+    (IsAnswer (kind_of_status status)) (λ square. serves_answers square is_other (AllowsNames square) asked w status) h

@@ -1,6 +1,5 @@
 -- What the command net answers.
-use Rattle.std.proofs.Common.{◌≡◌, ◌∙◌, ℕ, Bool, true, false, List, [], ◌∷◌, length, Some, None, Result, Ok, Err, refl, sym, ap, ap₂, subst}
-use Rattle.std.specs.Prelude.{MatchResult}
+use Rattle.std.proofs.Common.{◌≡◌, ◌∙◌, ℕ, Bool, true, false, List, [], ◌∷◌, length, Some, None, Ok, refl, sym, ap, ap₂, subst}
 use Rattle.std.specs.declared.option.Option.{Option}
 use Rattle.data_header.specs.Headers.{Roots}
 use Rattle.da_wire.specs.Reading.{Raw}
@@ -9,79 +8,44 @@ use Rattle.da_script.specs.Scripts.{moves_of, bad_script}
 use Rattle.da_script.specs.Plays.{items_in, is_refused, first_net, Tells}
 use Rattle.da_status.specs.declared.status.Asked.TheVariants.{Nodes}
 use Rattle.da_status.specs.declared.status.Status.{Status}
-use Rattle.da_status.specs.declared.status.Status.TheVariants.{Done, BadInput, BadRequest}
+use Rattle.da_status.specs.declared.status.Status.TheVariants.{Done, BadRequest}
 use Rattle.da_status.specs.Statuses.{kind_of}
 use Rattle.da_status.specs.Outcome.{Relation, Refuses}
-use Rattle.da_status.specs.Judging.{Judged}
+use Rattle.da_status.specs.Judging.{first_bad}
 use Rattle.da_status.proofs.EndLemmas.{IsAnswer, status_answers}
 use Rattle.da_commands.specs.declared.command.Command.TheVariants as command
 use Rattle.da_commands.specs.Frames.{header_in, error_of}
+use Rattle.da_commands.specs.Forms.{messages_judged}
 use Rattle.da_commands.specs.Check.{header_file, messages_file}
-use Rattle.da_commands.specs.Net.{script_file, Limited, Nets, NetOf}
+use Rattle.da_commands.specs.Net.{script_file, Limited, Nets, net_judged, NetOf}
 use Rattle.da_commands.specs.Meaning.{Meaning}
+use Rattle.da_commands.proofs.FormLemmas.{third_bad, judged_over, over_each}
 
 -- ---- the three files
 
--- the answer by what HEADER is
-abbrev answer_by : Result Roots ℕ → List Raw → List ℕ → Relation
-answer_by a raws script w status = MatchResult a (λ h. Nets h raws script w status) (λ at. ⊥)
-
--- the meaning of net by what HEADER is and where MESSAGES and SCRIPT leave their forms
-abbrev net_by : List (List ℕ) → Result Roots ℕ → Option ℕ → Option ℕ → Relation
-net_by files a b c =
-    Judged (error_of a ∷ b ∷ c ∷ []) (answer_by a (frames_of (messages_file files)) (script_file files))
-
--- where SCRIPT leaves its form
-abbrev pub script_bad : List (List ℕ) → Option ℕ
-script_bad files = bad_script (length (items_in (frames_of (messages_file files)))) (script_file files)
-
--- the meaning by two facts of the files, whatever the third file is
-two_files : (files : List (List ℕ)) (a : Result Roots ℕ) (b : Option ℕ) → header_in (header_file files) ≡ a
-    → bad_frame (messages_file files) ≡ b → Meaning command.Net files ≡ net_by files a b (script_bad files)
-two_files files a b read bad = ap₂ (λ (x : Result Roots ℕ) (y : Option ℕ). net_by files x y (script_bad files)) read bad
-
--- the meaning of a second file that isn't a list of frames
-pub net_refuses : (files : List (List ℕ)) (h : Roots) (at : ℕ) → header_in (header_file files) ≡ Ok h
-    → bad_frame (messages_file files) ≡ Some at → Refuses (BadInput 1 at) ≡ Meaning command.Net files
-net_refuses files h at read bad = sym (two_files files (Ok h) (Some at) read bad)
-
--- the meaning of a third file that is no script
-pub net_refuses_script : (files : List (List ℕ)) (h : Roots) (at : ℕ) → header_in (header_file files) ≡ Ok h
-    → bad_frame (messages_file files) ≡ None → script_bad files ≡ Some at
-    → Refuses (BadInput 2 at) ≡ Meaning command.Net files
-net_refuses_script files h at read fine bad =
-    sym (two_files files (Ok h) None read fine ∙ ap (net_by files (Ok h) None) bad)
-
--- the meaning of files that were read is what net answers
-pub net_is : (files : List (List ℕ)) (h : Roots) → header_in (header_file files) ≡ Ok h
-    → bad_frame (messages_file files) ≡ None → script_bad files ≡ None
-    → Nets h (frames_of (messages_file files)) (script_file files) ≡ Meaning command.Net files
-net_is files h read fine none = sym (two_files files (Ok h) None read fine ∙ ap (net_by files (Ok h) None) none)
-
--- ---- as the command has them
-
--- MESSAGES and SCRIPT as they were taken out of the files
-module _ (files : List (List ℕ)) (h : Roots) (messages script : List ℕ) (read : header_in (header_file files) ≡ Ok h)
-    (m : messages ≡ messages_file files) (s : script ≡ script_file files) (fine : bad_frame messages ≡ None) where
-  -- MESSAGES is a list of frames
-  is_list : bad_frame (messages_file files) ≡ None
-  is_list = ap bad_frame (sym m) ∙ fine
-
-  -- where SCRIPT leaves its form
-  is_bad : (o : Option ℕ) → bad_script (length (items_in (frames_of messages))) script ≡ o → script_bad files ≡ o
-  is_bad o e =
-      ap₂ (λ (x y : List ℕ). bad_script (length (items_in (frames_of x))) y) (sym m) (sym s) ∙ e
+-- HEADER, MESSAGES and SCRIPT as they were taken out of the files
+module _ (files : List (List ℕ)) (h : Roots) (messages script : List ℕ) (fine : first_bad 0 (messages_judged files) ≡ None)
+    (read : header_in (header_file files) ≡ Ok h) (m : messages ≡ messages_file files) (s : script ≡ script_file files) where
+  -- the first file that isn't in its form, by where SCRIPT leaves its form
+  by_script : (o : Option ℕ) → bad_script (length (items_in (frames_of messages))) script ≡ o → first_bad 0 (net_judged files) ≡ first_bad 2 (o ∷ [])
+  by_script o e =
+      let bad = bad_script (length (items_in (frames_of (messages_file files)))) (script_file files) in
+      third_bad (error_of (header_in (header_file files))) (bad_frame (messages_file files)) (bad ∷ []) fine
+      ∙ ap (λ (b : Option ℕ). first_bad 2 (b ∷ []))
+      (ap₂ (λ (x y : List ℕ). bad_script (length (items_in (frames_of x))) y) (sym m) (sym s) ∙ e)
 
   -- SCRIPT is no script
   pub net_no_script : (at : ℕ) → bad_script (length (items_in (frames_of messages))) script ≡ Some at
-      → Refuses (BadInput 2 at) ≡ Meaning command.Net files
-  net_no_script at e = net_refuses_script files h at read is_list (is_bad (Some at) e)
+      → first_bad 0 (net_judged files) ≡ Some (2, at)
+  net_no_script at e = by_script (Some at) e
 
   -- SCRIPT is a script
   pub net_played : bad_script (length (items_in (frames_of messages))) script ≡ None
       → Nets h (frames_of messages) script ≡ Meaning command.Net files
   net_played e =
-      ap₂ (λ (x y : List ℕ). Nets h (frames_of x) y) m s ∙ net_is files h read is_list (is_bad None e)
+      ap₂ (λ (x y : List ℕ). Nets h (frames_of x) y) m s
+      ∙ judged_over (λ (r : Roots). Nets r (frames_of (messages_file files)) (script_file files)) (net_judged files) (header_in (header_file files)) h
+      (by_script None e) read
 
 -- ---- answers
 
@@ -129,14 +93,11 @@ lines_answer : (over : Bool) (header : Roots) (raws : List Raw) (script w : List
 lines_answer true header raws script w status h = status_answers status (BadRequest Nodes) h.1 tt
 lines_answer false header raws script w status h = status_answers status Done h.1 tt
 
--- what net answers is an answer, by what HEADER is
-by_header : (a : Result Roots ℕ) (raws : List Raw) (script w : List ℕ) (status : Status)
-    → answer_by a raws script w status → IsAnswer (kind_of status)
-by_header (Ok h) raws script w status r = lines_answer (too_large h raws script) h raws script w status r
-by_header (Err at) raws script w status r = absurd r
-
 -- what net answers to its files is an answer
 pub net_answers : (files : List (List ℕ)) (w : List ℕ) (status : Status) → NetOf files w status
     → IsAnswer (kind_of status)
 net_answers files w status r =
-    by_header (header_in (header_file files)) (frames_of (messages_file files)) (script_file files) w status r
+    let raws = frames_of (messages_file files) in
+    let script = script_file files in
+    over_each (λ h. Nets h raws script) (header_in (header_file files)) w status (IsAnswer (kind_of status))
+    (λ h. lines_answer (too_large h raws script) h raws script w status) r

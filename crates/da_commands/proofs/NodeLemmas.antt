@@ -1,7 +1,5 @@
--- Light nodes that are handed frames, and plans of drawn cells.
-use Rattle.std.proofs.Common.{◌≡◌, ◌∙◌, ℕ, zero, suc, Bool, true, false, ◌&&◌, List, [], ◌∷◌, ◌++◌, length, Some, None, Result, Ok, Err, IfOk, refl, sym, ap, ap₂, subst, arith, append-nil}
-use Rattle.std.specs.Prelude.{slice_get}
-use Rattle.std.specs.List.{list_all}
+-- Light nodes that are handed frames.
+use Rattle.std.proofs.Common.{◌≡◌, ◌∙◌, ℕ, List, [], ◌∷◌, ◌++◌, Some, None, Result, Ok, Err, IfOk, sym, ap, subst, append-nil}
 use Rattle.std.specs.declared.option.Option.{Option}
 use Rattle.std.specs.Option.{option_map_or}
 use Rattle.std.proofs.Math.Seq.{append_snoc}
@@ -76,33 +74,7 @@ same_on a b d one two = record {
   pick = two.pick ∙ one.pick;
 }
 
--- ---- plans
-
--- lists of one length are one where each entry of the first is the other's at its place
-pub same_list : {A : Type 0} (xs ys : List A) → length xs ≡ length ys
-    → ((i : ℕ) (x : A) → slice_get xs i ≡ Some x → slice_get ys i ≡ Some x) → xs ≡ ys
-same_list [] [] count same = refl
-same_list [] (y ∷ ys) count same = absurd (omega (arith, count))
-same_list (x ∷ xs) [] count same = absurd (omega (arith, count))
-same_list {A = A} (x ∷ xs) (y ∷ ys) count same =
-    let first : ◌≡◌ {A = Option A} (Some y) (Some x) = same 0 x refl in
-    let head : x ≡ y = cc in
-    ap₂ (λ (a : A) (l : List A). a ∷ l) head (same_list xs ys (omega (arith, count)) (λ i z e. same (suc i) z e))
-
 -- a fact of an answer is a weaker one
 pub ok_within : {A E : Type 0} (P Q : A → Type 0) (r : Result A E) → ((x : A) → P x → Q x) → IfOk r P → IfOk r Q
 ok_within P Q (Ok x) weaker p = weaker x p
 ok_within P Q (Err e) weaker p = tt
-
--- two tests hold
-both_true : (a b : Bool) → (a && b) ≡ true → (a ≡ true) × (b ≡ true)
-both_true true b h = (refl, h)
-both_true false b h = absurd cc
-
--- what a test says of all entries it says of each
-pub each_there : {A : Type 0} (test : A → Bool) (xs : List A) (i : ℕ) (x : A) → list_all test xs ≡ true
-    → slice_get xs i ≡ Some x → test x ≡ true
-each_there test [] i x all e = absurd cc
-each_there test (y ∷ xs) zero x all e =
-    let same : y ≡ x = cc in subst (λ z. test z ≡ true) same (both_true (test y) (list_all test xs) all).0
-each_there test (y ∷ xs) (suc i) x all e = each_there test xs i x (both_true (test y) (list_all test xs) all).1 e

@@ -1,6 +1,5 @@
 -- What the command prove answers.
-use Rattle.std.proofs.Common.{◌≡◌, ◌∙◌, ℕ, ◌*◌, ◌<◌, ◌≤◌, Bool, true, false, List, [], ◌∷◌, length, None, IsSome, Result, Ok, refl, sym, ap, ap₂, subst, inl, inr, arith}
-use Rattle.std.specs.Prelude.{MatchResult}
+use Rattle.std.proofs.Common.{◌≡◌, ◌∙◌, ℕ, ◌*◌, ◌<◌, ◌≤◌, Bool, true, false, List, [], ◌∷◌, length, None, IsSome, refl, sym, ap, ap₂, subst, inl, inr, arith}
 use Rattle.std.specs.List.{AllByRecursion}
 use Rattle.namespace_id.specs.declared.cells.Cell.{Cell}
 use Rattle.namespace_id.specs.declared.cells.Axis.{Axis}
@@ -19,7 +18,7 @@ use Rattle.axis_roots.specs.Trees.{message_at}
 use Rattle.axis_roots.proofs.Grids.HeaderLemmas.{header_width}
 use Rattle.blob_commit.specs.Proofs.{CommitParts, CommitHolds, RootedParts, RootedHolds, IsRooted, is_range}
 use Rattle.blob_commit.proofs.ShapeLemmas.{shape_parts}
-use Rattle.blob_commit.proofs.RootedSampleLemmas.{index-lt}
+use Rattle.axis_roots.proofs.Grids.NumberLemmas.{index-lt}
 use Rattle.square_serve.specs.Serving.{HeldParts, Holds}
 use Rattle.da_wire.specs.declared.frames.Frame.{Frame}
 use Rattle.da_wire.specs.declared.frames.Frame.TheVariants.{Commit, Rooted}
@@ -28,18 +27,15 @@ use Rattle.da_wire.specs.kinds.Rooted.{IsRootedSent}
 use Rattle.da_status.specs.declared.status.Status.{Status}
 use Rattle.da_status.specs.declared.status.Status.TheVariants.{BadRequest}
 use Rattle.da_status.specs.declared.status.Asked.TheVariants.{NoHeader, Range}
-use Rattle.da_commands.specs.declared.command.Command.TheVariants as command
 use Rattle.da_status.specs.Statuses.{kind_of}
-use Rattle.da_status.specs.Outcome.{Relation}
-use Rattle.da_status.specs.Judging.{Judged}
 use Rattle.da_commands.specs.Choices.{HasFrame}
-use Rattle.da_commands.specs.Frames.{square_in, error_of, Writes}
+use Rattle.da_commands.specs.Frames.{square_in, Writes}
 use Rattle.da_commands.specs.Serving.{square_file, requests_file, Serves}
 use Rattle.da_commands.specs.Sample.{samples_in, is_asked_inside}
 use Rattle.da_commands.specs.Prove.{IsRootProof, AllowsRootProof, ProveOf, ProvesIn, ProvesRange, ProveRangeOf}
-use Rattle.da_commands.specs.Meaning.{Meaning}
 use Rattle.da_status.proofs.EndLemmas.{IsAnswer, status_answers}
-use Rattle.da_commands.proofs.ServingLemmas.{serves_answers, served_answers}
+use Rattle.da_commands.proofs.FormLemmas.{over_each}
+use Rattle.da_commands.proofs.ServingLemmas.{serves_answers}
 
 -- ---- the root proof of a sample
 
@@ -63,7 +59,7 @@ holds_rooted header m i k root hashes here width is leads proved =
 
 -- ---- prove SQUARE REQUESTS
 
--- a root proof of a message of a held square is a root proof of it
+-- a root proof of a sample of a held square is a root proof of it
 pub is_root_proof : (held : HeldParts) (square : SquareShares) (asked : Cell × Axis) (m : sent.Message) (proof : RootedParts) → Holds held square
     → m.cell ≡ asked.0 → m.axis ≡ asked.1 → m.share ≡ share_at (2 * held.k) held.grid asked.0 → proof.k ≡ held.header.k → proof.message ≡ m
     → RootedHolds (data_root_of held.header) proof → IsRootProof square held.header asked proof
@@ -80,7 +76,7 @@ is_root_proof held square asked m proof holds cell axis share width message root
       holds = root;
     }
 
--- a message has a root proof under the data root of a header
+-- a sample has a root proof under the data root of a header
 abbrev pub HasRootProof : Roots → sent.Message → Type 0
 HasRootProof header m =
     (proof : RootedParts) × (proof.k ≡ header.k) × (proof.message ≡ m) × IsRooted proof × (length proof.up ≤ 9)
@@ -110,8 +106,8 @@ have_proofs held square holds rooted spelled (asked ∷ requests) inside =
 pub prove_answers : (files : List (List ℕ)) (w : List ℕ) (status : Status) → ProveOf files w status → IsAnswer (kind_of status)
 prove_answers files w status h =
     let asked = samples_in (requests_file files) in
-    served_answers (λ square. Serves square (is_asked_inside square) (AllowsRootProof square) asked)
-    (λ square. serves_answers square (is_asked_inside square) (AllowsRootProof square) asked) (square_in (square_file files)) w status h
+    over_each (λ square. Serves square (is_asked_inside square) (AllowsRootProof square) asked) (square_in (square_file files)) w status
+    (IsAnswer (kind_of status)) (λ square. serves_answers square (is_asked_inside square) (AllowsRootProof square) asked w status) h
 
 -- ---- prove SQUARE START COUNT
 
@@ -160,17 +156,9 @@ module _ (square : SquareShares) (start count : ℕ) where
   proves_answers w status (inl h) = in_range (is_range square.k start count) h.0 w status h.2
   proves_answers w status (inr h) = status_answers status _ h.1.1 tt
 
-module _ (start count : ℕ) where
-  -- what prove answers to its file is an answer
-  pub prove_range_answers : (files : List (List ℕ)) (w : List ℕ) (status : Status) → ProveRangeOf start count files w status → IsAnswer (kind_of status)
-  prove_range_answers files w status h =
-      served_answers (λ square. ProvesRange square start count) (λ square. proves_answers square start count) (square_in (square_file files)) w status h
-
-  -- the meaning of a file that is a square, or isn't
-  abbrev range_by : Result SquareShares ℕ → Relation
-  range_by read = Judged (error_of read ∷ []) (λ w status. MatchResult read (λ square. ProvesRange square start count w status) (λ at. ⊥))
-
-  -- the meaning of prove over a SQUARE that is a square
-  pub prove_range_is : (files : List (List ℕ)) (square : SquareShares) → square_in (square_file files) ≡ Ok square
-      → ProvesRange square start count ≡ Meaning (command.ProveRange start count) files
-  prove_range_is files square read = sym (ap range_by read)
+-- what prove answers to its file is an answer
+pub prove_range_answers : (start count : ℕ) (files : List (List ℕ)) (w : List ℕ) (status : Status) → ProveRangeOf start count files w status
+    → IsAnswer (kind_of status)
+prove_range_answers start count files w status h =
+    over_each (λ square. ProvesRange square start count) (square_in (square_file files)) w status (IsAnswer (kind_of status))
+    (λ square. proves_answers square start count w status) h

@@ -1,6 +1,5 @@
 -- What the command repair answers.
 use Rattle.std.proofs.Common.{◌≡◌, ◌≢◌, ◌∙◌, ℕ, false, List, [], ◌∷◌, Some, None, Result, Ok, Err, refl, sym, ap, ap₂, subst, inl, inr, ⊎_elim, ◌⊎◌}
-use Rattle.std.specs.Prelude.{MatchResult}
 use Rattle.std.specs.declared.option.Option.{Option}
 use Rattle.std.specs.List.{AllByRecursion}
 use Rattle.namespace_id.specs.Bytes.{AreBytes}
@@ -25,15 +24,17 @@ use Rattle.da_status.specs.Statuses.{kind_of, output}
 use Rattle.da_status.specs.Outcome.{Relation, Refuses}
 use Rattle.da_status.specs.Judging.{Judged}
 use Rattle.da_commands.specs.Frames.{header_in, error_of}
+use Rattle.da_commands.specs.Forms.{Over}
 use Rattle.da_commands.specs.Check.{header_file, messages_file}
 use Rattle.da_commands.specs.Repair.{messages_in, lies_in, answer_status, Answers, Repairs, RepairsOwn, RepairOf}
 use Rattle.da_commands.specs.Meaning.{Meaning}
+use Rattle.da_commands.proofs.FormLemmas.{over_each}
 use Rattle.da_commands.proofs.MessageLemmas.{messages_fit}
 use Rattle.da_commands.proofs.ClashLemmas.{found_full}
 
 -- the answer by what the two files are
 abbrev pub answer_by : Result Roots ℕ → List Raw → Relation
-answer_by a raws w status = MatchResult a (λ h. Repairs h raws w status) (λ at. ⊥)
+answer_by a raws = Over a (λ h. Repairs h raws)
 
 -- the meaning of repair by what HEADER is and where MESSAGES leaves its form
 abbrev repair_by : List (List ℕ) → Result Roots ℕ → Option ℕ → Relation
@@ -60,17 +61,15 @@ answer_kind lies (missing cells) = refl
 answer_kind lies (fraud claim) = refl
 answer_kind lies (clash left right) = refl
 
--- what repair answers comes with a complete output, by what HEADER is
-by_header : (a : Result Roots ℕ) (raws : List Raw) (w : List ℕ) (status : Status) → answer_by a raws w status → kind_of status ≡ output
-by_header (Ok h) raws w status r = ap kind_of r.2.1 ∙ answer_kind (lies_in h raws) r.0
-by_header (Err at) raws w status r = absurd r
-
 -- what repair answers comes with a complete output
 pub repair_last : (files : List (List ℕ)) (w : List ℕ) (status : Status) → RepairOf files w status → kind_of status ≡ output
-repair_last files w status r = by_header (header_in (header_file files)) (frames_of (messages_file files)) w status r
+repair_last files w status r =
+    let raws = frames_of (messages_file files) in
+    over_each (λ h. Repairs h raws) (header_in (header_file files)) w status (kind_of status ≡ output)
+    (λ h repaired. ap kind_of repaired.2.1 ∙ answer_kind (lies_in h raws) repaired.0) r
 
 -- the verdict over the certificates of frames, with its output, is an answer of repair; by what is known of lists with the
--- same proved messages
+-- same proved samples
 pub repairs : ((h : Roots) (ms others : List sent.Message) → Covers h ms others → Covers h others ms → (verdict : VerdictParts) → IsVerdict h ms verdict
     → IsVerdict h others verdict)
     → (header : Roots) (raws : List Raw) (ms : List sent.Message) (lies : ℕ) (verdict : Verdict) (parts : VerdictParts) → parts_of verdict ≡ parts
@@ -94,7 +93,7 @@ verdict_some header ms verdict cells same is = (subst (IsVerdict header ms) same
 -- ---- the header of a square
 
 -- under the header of a square repair answers the square or the missing cells, or a collision is named; by what is
--- known of messages that were read, and of answers
+-- known of samples that were read, and of answers
 pub repairs_own : MessageIsSpelled
     → ((h : Roots) (square : SquareShares) (ms : List sent.Message) → IsHeaderOf h square → AllByRecursion IsMessage ms → (verdict : VerdictParts)
     → IsVerdict h ms verdict → IsOwnVerdict square verdict ⊎ SomeNames h ms square)

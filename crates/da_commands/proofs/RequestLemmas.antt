@@ -1,56 +1,24 @@
 -- Lists of requests: the first one, and the first that fails a test.
-use Rattle.std.proofs.Common.{◌≡◌, ◌∙◌, ℕ, ◌+◌, Bool, true, false, cond, List, [], ◌∷◌, None, Some, IsSome, IfSome, Bor, map, refl, sym, ap, ap₂, subst}
+use Rattle.std.proofs.Common.{◌≡◌, ◌∙◌, ℕ, ◌+◌, ◌<◌, Bool, true, false, cond, List, [], ◌∷◌, length, None, Some, IfSome, Bor, map, refl, sym, ap, ap₂}
 use Rattle.std.specs.declared.option.Option.{Option}
-use Rattle.std.specs.Option.{option_map, option_map_or}
 use Rattle.std.specs.List.{filter_map, cons_option, AllByRecursion}
-use Rattle.std.specs.Prelude.{drop, ◌-◌}
-use Rattle.namespace_id.specs.Answers.{Gives}
+use Rattle.std.specs.Prelude.{MatchOption}
 use Rattle.da_wire.specs.declared.frames.Frame.{Frame}
-use Rattle.da_wire.specs.Reading.{value_at, tested_raw, is_among}
+use Rattle.da_wire.specs.Reading.{is_among}
 use Rattle.da_wire.specs.Writing.{kind_of}
-use Rattle.da_wire.specs.Walks.{walk_from}
-use Rattle.da_wire.specs.Values.{value_in, value_and_rest, values_of, values_bytes, IsValue}
-use Rattle.da_commands.specs.Serving.{failing_from, HasRequest}
-use Rattle.da_commands.proofs.FileLemmas.{some_there}
-use Rattle.da_commands.proofs.FrameLemmas.{found_kind}
+use Rattle.da_wire.specs.Values.{values_of, values_bytes, IsValue}
+use Rattle.da_commands.specs.Serving.{failing_from, IsNext}
 
--- an option that has a value isn't none
-not_none : {A : Type 0} (o : Option A) → IsSome o → o ≡ None → ⊥
-not_none None some e = absurd cc
-not_none (Some x) some e = absurd cc
-
-module _ {A : Type 0} (request_of : Frame → Option A) where
-  -- where the value at the front is a request there is a first request
-  first_there : (o : Option (Frame × ℕ)) (rest : List ℕ) (kinds : List ℕ) → IfSome o (λ (x : Frame × ℕ). IsSome (request_of x.0)) → IsSome o
-      → HasRequest (filter_map request_of (option_map_or (λ (x : Frame × ℕ). x.0 ∷ walk_from (value_in kinds) (x.1 - 1) rest) o []))
-  first_there None rest kinds of_kind some = absurd cc
-  first_there (Some x) rest kinds of_kind some =
-      let request = some_there (request_of x.0) of_kind in
-      let later = filter_map request_of (walk_from (value_in kinds) (x.1 - 1) rest) in
-      (request.0, later, ap (λ (o : Option A). cons_option o later) request.1)
-
-  module _ (kind : ℕ) (of_kind : (payload : List ℕ) → IfSome (value_at kind payload) (λ (v : Frame). IsSome (request_of v))) where
-    -- where a value of the kind is found there is a first request
-    pub has_request : (bytes : List ℕ) → IsSome (value_in (kind ∷ []) bytes) → HasRequest (filter_map request_of (values_of (kind ∷ []) bytes))
-    unfolding walk_from tested_raw
-    has_request [] some = absurd cc
-    has_request (byte ∷ rest) some =
-        first_there (value_in (kind ∷ []) (byte ∷ rest)) rest (kind ∷ []) (found_kind request_of kind (byte ∷ rest) of_kind) some
-
-    -- a value that is found is a request, by what is found
-    kind_found : (o : Option (Frame × ℕ)) (bytes rest : List ℕ) (frame : Frame) → IfSome o (λ (x : Frame × ℕ). IsSome (request_of x.0))
-        → option_map {U = Frame × List ℕ} (λ (x : Frame × ℕ). (x.0, drop x.1 bytes)) o ≡ Some (frame, rest) → IsSome (request_of frame)
-    kind_found None bytes rest frame h e = absurd cc
-    kind_found (Some x) bytes rest frame h e =
-        let same : ◌≡◌ {A = Frame × List ℕ} (x.0, drop x.1 bytes) (frame, rest) = cc in
-        subst (λ (p : Frame × List ℕ). IsSome (request_of p.0)) same h
-
-    -- a value of the kind that was found is a request
-    pub is_request : (bytes : List ℕ) (found : Option (Frame × Bor (List ℕ))) (frame : Frame) (after : Bor (List ℕ)) → found ≡ Some (frame, after)
-        → Gives (λ (x : Frame × Bor (List ℕ)). (x.0, x.1.now)) found (value_and_rest (kind ∷ []) bytes) → request_of frame ≡ None → ⊥
-    is_request bytes found frame after here gives none =
-        let read = subst (λ (o : Option (Frame × Bor (List ℕ))). Gives (λ (x : Frame × Bor (List ℕ)). (x.0, x.1.now)) o (value_and_rest (kind ∷ []) bytes)) here gives in
-        not_none (request_of frame) (kind_found (value_in (kind ∷ []) bytes) bytes after.now frame (found_kind request_of kind bytes of_kind) read) none
+-- a reader of requests finds the first request, and those after it
+pub is_next : {A : Type 0} (request_of : Frame → Option A) (make : A → Frame) → ((a : A) → request_of (make a) ≡ Some a) → (kinds bytes : List ℕ)
+    (next : Option (A × Bor (List ℕ)))
+    → MatchOption next (values_of kinds bytes ≡ []) (λ x. values_of kinds bytes ≡ make x.0 ∷ values_of kinds x.1.now)
+    → IfSome next (λ x. length x.1.now < length bytes) → IsNext (λ (l : List ℕ). filter_map request_of (values_of kinds l)) bytes next
+is_next request_of make back kinds bytes None found shorter = ap (filter_map request_of) found
+is_next {A} request_of make back kinds bytes (Some x) found shorter = (
+  ap (filter_map request_of) found ∙ ap (λ (o : Option A). cons_option o (filter_map request_of (values_of kinds x.1.now))) (back x.0),
+  shorter,
+)
 
 module _ {A : Type 0} (request_of : Frame → Option A) (make : A → Frame) (kinds : List ℕ)
     (is_made : (frame : Frame) → is_among kinds (kind_of frame) ≡ true → (request : A) × (request_of frame ≡ Some request) × (frame ≡ make request)) where
@@ -62,7 +30,7 @@ module _ {A : Type 0} (request_of : Frame → Option A) (make : A → Frame) (ki
       ap (λ (o : Option A). map make (cons_option o (filter_map request_of frames))) made.1
       ∙ ap₂ (λ (v : Frame) (vs : List Frame). v ∷ vs) (sym made.2) (made_again frames all.1)
 
-  -- a file of requests is just the spellings of the requests that are read of it
+  -- a file of requests is exactly the spellings of the requests that are read of it
   pub asked_again : (bytes : List ℕ) → (values_bytes (values_of kinds bytes) ≡ bytes) × AllByRecursion (IsValue kinds) (values_of kinds bytes)
       → values_bytes (map make (filter_map request_of (values_of kinds bytes))) ≡ bytes
   asked_again bytes h = ap values_bytes (made_again (values_of kinds bytes) h.1) ∙ h.0

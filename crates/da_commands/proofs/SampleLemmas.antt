@@ -1,7 +1,5 @@
 -- What the command sample answers.
-use Rattle.std.proofs.Common.{◌≡◌, ◌∙◌, ℕ, ◌*◌, true, List, [], ◌∷◌, None, Some, IsSome, IfSome, refl, sym, ap₂}
-use Rattle.std.specs.declared.option.Option.{Option}
-use Rattle.std.specs.Option.{option_map}
+use Rattle.std.proofs.Common.{◌≡◌, ◌∙◌, ℕ, ◌*◌, true, List, [], ◌∷◌, Some, IsSome, refl, sym, ap₂}
 use Rattle.std.specs.List.{AllByRecursion}
 use Rattle.namespace_id.specs.declared.cells.Cell.{Cell}
 use Rattle.namespace_id.specs.declared.cells.Axis.{Axis}
@@ -16,9 +14,8 @@ use Rattle.square_serve.specs.Serving.{HeldParts, Holds}
 use Rattle.da_wire.specs.declared.frames.Frame.{Frame}
 use Rattle.da_wire.specs.declared.frames.Frame.TheVariants.{Message, Sample}
 use Rattle.da_wire.specs.Spelling.{spelling, sample_kind}
-use Rattle.da_wire.specs.Reading.{value_at, is_among}
+use Rattle.da_wire.specs.Reading.{is_among}
 use Rattle.da_wire.specs.Writing.{kind_of}
-use Rattle.da_wire.specs.kinds.Requests.{sample_at}
 use Rattle.da_status.specs.declared.status.Status.{Status}
 use Rattle.da_status.specs.Statuses.{kind_of as kind_of_status}
 use Rattle.da_commands.specs.Choices.{HasFrame}
@@ -26,17 +23,8 @@ use Rattle.da_commands.specs.Frames.{square_in}
 use Rattle.da_commands.specs.Serving.{square_file, requests_file, Serves}
 use Rattle.da_commands.specs.Sample.{sample_of, sample_frame, samples_in, is_asked_inside, IsSample, AllowsSample, SampleOf}
 use Rattle.da_status.proofs.EndLemmas.{IsAnswer}
-use Rattle.da_commands.proofs.ServingLemmas.{serves_answers, served_answers}
-
--- a request that was read makes a frame of its kind
-some_sample : (o : Option (Cell × Axis)) → IfSome (option_map (λ (s : Cell × Axis). Sample s.0 s.1) o) (λ (v : Frame). IsSome (sample_of v))
-some_sample None = tt
-some_sample (Some s) = refl
-
--- a payload of the kind of requests for samples makes a frame of this kind
-pub sample_kinds : (payload : List ℕ) → IfSome (value_at sample_kind payload) (λ (v : Frame). IsSome (sample_of v))
-unfolding value_at
-sample_kinds payload = some_sample (sample_at payload)
+use Rattle.da_commands.proofs.FormLemmas.{over_each}
+use Rattle.da_commands.proofs.ServingLemmas.{serves_answers}
 
 -- a frame of this kind asks for a sample, and is the frame that does
 pub is_sample_frame : (frame : Frame) → is_among (sample_kind ∷ []) (kind_of frame) ≡ true
@@ -44,7 +32,7 @@ pub is_sample_frame : (frame : Frame) → is_among (sample_kind ∷ []) (kind_of
 is_sample_frame (Sample cell axis) e = ((cell, axis), refl, refl)
 is_sample_frame frame e = absurd cc
 
--- a message of a held square is a sample of it
+-- a sample of the cell and the axis that are asked for, as a held square gives it, is one of the square
 pub is_sample : (held : HeldParts) (square : SquareShares) (asked : Cell × Axis) (m : sent.Message) → Holds held square → m.cell ≡ asked.0 → m.axis ≡ asked.1
     → m.share ≡ share_at (2 * held.k) held.grid asked.0 → IsProved held.header m → IsSample square held.header asked m
 is_sample held square asked m holds cell axis share proved = record {
@@ -56,7 +44,7 @@ is_sample held square asked m holds cell axis share proved = record {
   proved = proved;
 }
 
--- each request of a cell inside allows a frame that has a spelling, by what is known of a held square and of messages
+-- each request of a cell inside allows a frame that has a spelling, by what is known of a held square and of samples
 pub have_samples : (held : HeldParts) (square : SquareShares) → Holds held square
     → ((cell : Cell) (axis : Axis) → is_in_square held.k cell ≡ true → IsProved held.header (message_at held.k held.grid cell axis))
     → ((m : sent.Message) → IsMessage m → IsSome (spelling (Message m)))
@@ -74,5 +62,5 @@ have_samples held square holds proved spelled (asked ∷ requests) inside =
 pub sample_answers : (files : List (List ℕ)) (w : List ℕ) (status : Status) → SampleOf files w status → IsAnswer (kind_of_status status)
 sample_answers files w status h =
     let asked = samples_in (requests_file files) in
-    served_answers (λ square. Serves square (is_asked_inside square) (AllowsSample square) asked)
-    (λ square. serves_answers square (is_asked_inside square) (AllowsSample square) asked) (square_in (square_file files)) w status h
+    over_each (λ square. Serves square (is_asked_inside square) (AllowsSample square) asked) (square_in (square_file files)) w status
+    (IsAnswer (kind_of_status status)) (λ square. serves_answers square (is_asked_inside square) (AllowsSample square) asked w status) h

@@ -1,7 +1,7 @@
 -- What commands that answer requests over a square write, and how they end.
-use Rattle.std.proofs.Common.{◌≡◌, ◌∙◌, ℕ, Bool, List, [], ◌∷◌, ◌++◌, None, Some, IsSome, Result, Ok, Err, inl, inr, refl, sym, ap, ap₂, subst, arith, append_assoc, ◌↔◌, ◌⊎◌}
+use Rattle.std.proofs.Common.{◌≡◌, ◌∙◌, ℕ, Bool, List, [], ◌∷◌, ◌++◌, None, Some, IsSome, inl, inr, refl, sym, ap, subst, arith, append_assoc, ◌↔◌, ◌⊎◌}
 use Rattle.std.specs.declared.option.Option.{Option}
-use Rattle.std.specs.Prelude.{MatchResult, MatchOption}
+use Rattle.std.specs.Prelude.{MatchOption}
 use Rattle.std.specs.List.{AllByRecursion}
 use Rattle.std.specs.Io.KnownBytes.{Appends}
 use Rattle.std.proofs.KnownBytes.{Appends-nil, Appends-trans}
@@ -19,9 +19,8 @@ use Rattle.da_status.specs.declared.status.Asked.TheVariants.{NoHeader, At}
 use Rattle.da_status.specs.Statuses.{kind_of}
 use Rattle.da_commands.specs.Choices.{FramesOf, HasFrame}
 use Rattle.da_status.specs.Outcome.{Relation, Refuses, Outputs, OutputsPart, OutputsFront, Ends}
-use Rattle.da_status.specs.Judging.{Judged}
-use Rattle.da_commands.specs.Frames.{error_of, Writes}
-use Rattle.da_commands.specs.Serving.{failing_from, HasRequest, Gives, Serves}
+use Rattle.da_commands.specs.Frames.{Writes}
+use Rattle.da_commands.specs.Serving.{failing_from, Gives, Serves}
 use Rattle.da_status.proofs.EndLemmas.{IsAnswer, status_answers, ends_in_fault}
 use Rattle.da_commands.proofs.FileLemmas.{some_there}
 use Rattle.da_commands.proofs.SpelledLemmas.{spelling_some}
@@ -46,6 +45,10 @@ proper_on front taken text rest p =
     (more ++ rest, omega (arith, p.1, length-append more rest), split)
 
 -- ---- frames one after another
+
+-- there is a first request
+abbrev pub HasRequest : {A : Type 0} → List A → Type 0
+HasRequest {A} requests = (request : A) × (later : List A) × (requests ≡ request ∷ later)
 
 module _ {A : Type 0} (Allows : A → Frame → Type 0) where
   -- of all requests those in front were answered, and the rest is left
@@ -165,25 +168,3 @@ module _ {A : Type 0} (square : SquareShares) (test : A → Bool) (Allows : Root
   pub serves_answers : (w : List ℕ) (status : Status) → Serves square test Allows requests w status → IsAnswer (kind_of status)
   serves_answers w status (inl h) = under_header (failing_from test 0 requests) h.0 w status h.2
   serves_answers w status (inr h) = status_answers status _ h.1.1 tt
-
--- ---- the two files
-
-module _ (Answer : SquareShares → Relation) where
-  -- the meaning by what SQUARE is and where REQUESTS leaves its form
-  abbrev pub serving_by : Result SquareShares ℕ → Option ℕ → Relation
-  serving_by read bad = Judged (error_of read ∷ bad ∷ []) (λ w status. MatchResult read (λ square. Answer square w status) (λ at. ⊥))
-
-  -- that of a SQUARE that is a square and REQUESTS in their form is the answer over the square
-  pub serving_is : (read : Result SquareShares ℕ) (bad : Option ℕ) (square : SquareShares) → read ≡ Ok square → bad ≡ None → Answer square ≡ serving_by read bad
-  serving_is read bad square is fine = sym (ap₂ serving_by is fine)
-
-  -- that of REQUESTS that aren't in their form
-  pub serving_refuses : (read : Result SquareShares ℕ) (bad : Option ℕ) (square : SquareShares) (at : ℕ) → read ≡ Ok square → bad ≡ Some at
-      → Refuses (BadInput 1 at) ≡ serving_by read bad
-  serving_refuses read bad square at is out = sym (ap₂ serving_by is out)
-
-  -- what is answered to a file that was read is an answer
-  pub served_answers : ((square : SquareShares) (w : List ℕ) (status : Status) → Answer square w status → IsAnswer (kind_of status)) → (read : Result SquareShares ℕ)
-      (w : List ℕ) (status : Status) → MatchResult read (λ square. Answer square w status) (λ at. ⊥) → IsAnswer (kind_of status)
-  served_answers answers (Ok square) w status h = answers square w status h
-  served_answers answers (Err at) w status h = absurd h

@@ -1,22 +1,28 @@
 -- What the commands show and json answer.
-use Rattle.std.proofs.Common.{◌≡◌, ◌∙◌, ℕ, ◌<◌, List, [], ◌∷◌, ◌++◌, length, None, Some, IsSome, Result, cond, Bor, ◌↔◌, refl, sym, ap, subst, inr, arith, append-nil}
+use Rattle.std.proofs.Common.{◌≡◌, ◌∙◌, ℕ, ◌<◌, Bool, true, false, List, [], ◌∷◌, ◌++◌, length, drop, None, Some, IsSome, Result, Ok, Err, OnErr, cond, Bor, ◌↔◌, refl, sym, ap, ap₂, subst, inr, arith, append-nil, eqb-true}
 use Rattle.std.specs.declared.option.Option.{Option}
-use Rattle.std.specs.Option.{option_map_or}
+use Rattle.std.specs.Option.{option_map, option_map_or}
 use Rattle.std.specs.Result.{is_ok}
-use Rattle.std.specs.Prelude.{◌-◌, MatchOption}
-use Rattle.std.proofs.lemmas.List.{length-append}
+use Rattle.std.specs.Prelude.{◌-◌, ◌==◌, ◌&&◌, slice_index, MatchOption}
+use Rattle.std.proofs.Math.Bool.{or-false}
+use Rattle.std.proofs.lemmas.List.{length-append, length-drop}
 use Rattle.da_io.specs.Faults.{CountsFault}
 use Rattle.da_io.specs.Sinks.{WritesAll}
 use Rattle.da_wire.specs.declared.frames.Frame.{Frame}
-use Rattle.da_wire.specs.Reading.{tested_raw}
+use Rattle.da_wire.specs.declared.frames.FrameError.{FrameError}
+use Rattle.da_wire.specs.declared.frames.FrameError.TheVariants.{Truncated, BadKind}
+use Rattle.da_wire.specs.Spelling.{sample_kind}
+use Rattle.da_wire.specs.Reading.{Raw, is_kind, raw_of, value_of, is_among, tested_raw}
+use Rattle.da_wire.specs.Frames.{ok_of}
 use Rattle.da_wire.specs.Walks.{walk_from}
-use Rattle.da_wire.specs.Values.{value_in, values_of, bad_value}
+use Rattle.da_wire.specs.Values.{value_in, value_and_rest, values_of, bad_value}
+use Rattle.da_wire.proofs.WalkLemmas.{walk_on}
 use Rattle.da_status.specs.declared.status.Status.{Status}
 use Rattle.da_status.specs.declared.status.Status.TheVariants.{Done, NoMemory, WriteFault, BadInput}
 use Rattle.da_status.specs.Statuses.{kind_of}
 use Rattle.da_status.specs.Outcome.{Relation, Refuses, Ends}
 use Rattle.da_status.specs.Judging.{Judged}
-use Rattle.da_commands.specs.Show.{all_kinds, line_of, shown_bytes, shown_file, Shows, show_judged}
+use Rattle.da_commands.specs.Show.{all_kinds, line_of, shown_bytes, all_shown, shown_file, Shows, show_judged}
 use Rattle.da_status.proofs.EndLemmas.{IsAnswer, status_answers, ends_output, ends_after}
 use Rattle.da_status.proofs.WriteLemmas.{Written}
 
@@ -83,6 +89,64 @@ unfolding walk_from tested_raw
 shown_found shown kinds [] some = absurd cc
 shown_found shown kinds (byte ∷ rest) some = shown_by shown kinds rest (value_in kinds (byte ∷ rest)) some
 
+-- ---- a request for a sample at the front
+
+-- the kind of requests for samples is one of all
+sample_among : (kind : ℕ) → is_among (sample_kind ∷ []) kind ≡ true → is_among all_kinds kind ≡ true
+sample_among kind e =
+    subst (λ (k : ℕ). is_among all_kinds k ≡ true) (eqb-true sample_kind kind (sym (or-false (sample_kind == kind)) ∙ e)) refl
+
+-- what passes a test passes one that more kinds pass
+wider : (short there narrow wide : Bool) (read : Result Raw FrameError) (e f : FrameError) (x : Frame × ℕ) → (narrow ≡ true → wide ≡ true)
+    → ok_of (value_of 0 (cond short (Err e) (cond (there && narrow) read (Err f)))) ≡ Some x
+    → ok_of (value_of 0 (cond short (Err e) (cond (there && wide) read (Err f)))) ≡ Some x
+wider true there narrow wide read e f x more h = h
+wider false false narrow wide read e f x more h = h
+wider false true false wide read e f x more h = absurd cc
+wider false true true wide read e f x more h =
+    subst (λ (w : Bool). ok_of (value_of 0 (cond w read (Err f))) ≡ Some x) (sym (more refl)) h
+
+-- a request for a sample that is found is found among all kinds
+sample_found : (bytes : List ℕ) (x : Frame × ℕ) → value_in (sample_kind ∷ []) bytes ≡ Some x → value_in all_kinds bytes ≡ Some x
+unfolding tested_raw
+sample_found bytes x h =
+    let kind : ℕ = slice_index bytes 0 in
+    wider (length bytes == 0) (is_kind kind) (is_among (sample_kind ∷ []) kind) (is_among all_kinds kind) (raw_of 0 bytes) (Truncated 0) (BadKind 0) x
+    (sample_among kind) h
+
+-- then it is the first frame, by what is found at the front
+sample_by : (bytes more : List ℕ) (frame : Frame) (o : Option (Frame × ℕ)) → value_in (sample_kind ∷ []) bytes ≡ o
+    → ◌≡◌ {A = Option (Frame × List ℕ)} (option_map (λ (x : Frame × ℕ). (x.0, drop x.1 bytes)) o) (Some (frame, more)) → length more < length bytes
+    → values_of all_kinds bytes ≡ frame ∷ values_of all_kinds more
+sample_by bytes more frame None at e shorter = absurd cc
+sample_by bytes more frame (Some x) at e shorter =
+    let value : x.0 ≡ frame = ap (λ (o : Option (Frame × List ℕ)). option_map_or (λ (y : Frame × List ℕ). y.0) o frame) e in
+    let rest : drop x.1 bytes ≡ more = ap (λ (o : Option (Frame × List ℕ)). option_map_or (λ (y : Frame × List ℕ). y.1) o more) e in
+    let left : length (drop x.1 bytes) ≡ length more = ap (λ (l : List ℕ). length l) rest in
+    let some : 0 < x.1 = omega (arith, length-drop x.1 bytes, left, shorter) in
+    walk_on (value_in all_kinds) bytes x.0 x.1 (sample_found bytes x at) some (omega (arith, shorter))
+    ∙ ap₂ (λ (v : Frame) (l : List ℕ). v ∷ values_of all_kinds l) value rest
+
+-- a request for a sample that stands at the front is the first frame
+pub sample_first : (bytes more : List ℕ) (frame : Frame) → value_and_rest (sample_kind ∷ []) bytes ≡ Some (frame, more) → length more < length bytes
+    → values_of all_kinds bytes ≡ frame ∷ values_of all_kinds more
+sample_first bytes more frame e shorter = sample_by bytes more frame (value_in (sample_kind ∷ []) bytes) refl e shorter
+
+-- ---- the next line
+
+module _ (shown : Frame → List ℕ) (bytes text : List ℕ) (found : Option (Bor (List ℕ))) where
+  -- what is known of the next line
+  abbrev Known : Option (Bor (List ℕ)) → Type 0
+  Known o = MatchOption o (values_of all_kinds bytes ≡ []) (λ (more : Bor (List ℕ)). all_shown shown bytes ≡ text ++ all_shown shown more.now)
+
+  -- where there was none, no frame is left
+  pub no_line : found ≡ None → Known found → values_of all_kinds bytes ≡ []
+  no_line is known = subst Known is known
+
+  -- the line that came is shown first
+  pub line_first : (more : Bor (List ℕ)) → found ≡ Some more → Known found → all_shown shown bytes ≡ text ++ all_shown shown more.now
+  line_first more is known = subst Known is known
+
 -- ---- endings
 
 module _ (shown : Frame → List ℕ) (frames : List Frame) (old new : Option (List ℕ)) (before now : ℕ) (Same : Type 0) where
@@ -114,3 +178,8 @@ module _ (shown : Frame → List ℕ) (frames : List Frame) (old mid new : Optio
       let both : IsSome old ↔ IsSome new = (λ s. also.0 (told.0 s), λ s. told.1 (also.1 s)) in
       ends_after (Shows shown frames) (shown_bytes shown frames) rest held Done old mid new before now later Same wrote status (refl, refl) w counted both taken faults
       (λ v counts. ends v counts both)
+
+-- what holds in any case holds where a call failed
+pub on_err : {T E : Type 0} (r : Result T E) (P : Type 0) → P → OnErr r P
+on_err (Ok x) P p = tt
+on_err (Err e) P p = p

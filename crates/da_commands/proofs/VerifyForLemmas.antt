@@ -1,6 +1,6 @@
 -- What the command verify answers to a request.
-use Rattle.std.proofs.Common.{◌≡◌, ◌∙◌, ℕ, Bool, true, false, List, [], ◌∷◌, Some, None, Result, Ok, Err, refl, sym, ap, ap₂, eqb-true, eq-eqb}
-use Rattle.std.specs.Prelude.{MatchResult, ◌↔◌, ◌&&◌, ◌==◌}
+use Rattle.std.proofs.Common.{◌≡◌, ◌∙◌, ℕ, Bool, true, false, List, [], ◌∷◌, Some, None, Result, Ok, Err, refl, ap, ap₂, eqb-true, eq-eqb}
+use Rattle.std.specs.Prelude.{◌↔◌, ◌&&◌, ◌==◌}
 use Rattle.std.specs.declared.option.Option.{Option}
 use Rattle.std.specs.Option.{option_map}
 use Rattle.std.proofs.lemmas.Bool.{and_parts, and_from}
@@ -29,63 +29,49 @@ use Rattle.blob_commit.specs.Refusals.{commit_refusal, rooted_refusal}
 use Rattle.da_wire.specs.declared.frames.Frame.{Frame}
 use Rattle.da_wire.specs.declared.frames.Frame.TheVariants.{Message, Names, Fraud, Commit, Rooted, Sample, Request}
 use Rattle.da_status.specs.declared.status.Status.{Status}
-use Rattle.da_status.specs.declared.status.Status.TheVariants.{BadInput}
 use Rattle.da_commands.specs.declared.command.Command.TheVariants as command
 use Rattle.da_status.specs.Statuses.{kind_of, output}
-use Rattle.da_status.specs.Outcome.{Relation, Refuses}
-use Rattle.da_status.specs.Judging.{Judged}
+use Rattle.da_status.specs.Judging.{first_bad}
 use Rattle.da_commands.specs.Frames.{header_in, error_of}
+use Rattle.da_commands.specs.Forms.{under_judged, Over}
 use Rattle.da_commands.specs.Verify.{header_file, answer_file, answer_in, check_number, ns_number, fraud_number, commit_number, rooted_number, IsRefusal}
-use Rattle.da_commands.specs.VerifyFor.{request_file, request_in, is_of_cell, is_sample, is_for, is_answer_to, Samples, Tells, IsAnswerTo, IsRefusalFor, VerifiesFor, VerifyForOf}
+use Rattle.da_commands.specs.VerifyFor.{request_file, request_in, is_of_cell, is_sample, is_for, is_answer_to, Samples, Tells, IsAnswerTo, IsRefusalFor, VerifiesFor, verify_for_judged, VerifyForOf}
 use Rattle.da_commands.specs.Meaning.{Meaning}
+use Rattle.da_commands.proofs.FormLemmas.{third_bad, over_is, judged_over, over_each}
 use Rattle.da_commands.proofs.VerifyLemmas.{verdict_kind}
 
 -- ---- the three files
 
--- the answer by what the three files are
-abbrev answer_by : Result Roots ℕ → Result Frame ℕ → Result Frame ℕ → Relation
-answer_by a b d w status =
-    MatchResult a
-    (λ header. MatchResult b (λ answer. MatchResult d (λ request. VerifiesFor header answer request w status) (λ at. ⊥)) (λ at. ⊥))
-    (λ at. ⊥)
+module _ (files : List (List ℕ)) (fine : first_bad 0 (under_judged answer_in files) ≡ None) where
+  -- the first file that isn't in its form, by what the third one is
+  by_third : (read : Result Frame ℕ) → request_in (request_file files) ≡ read → first_bad 0 (verify_for_judged files) ≡ first_bad 2 (error_of read ∷ [])
+  by_third read is =
+      third_bad (error_of (header_in (header_file files))) (error_of (answer_in (answer_file files))) (error_of (request_in (request_file files)) ∷ []) fine
+      ∙ ap (λ (r : Result Frame ℕ). first_bad 2 (error_of r ∷ [])) is
 
--- the meaning by what the three files are
-abbrev verify_by : Result Roots ℕ → Result Frame ℕ → Result Frame ℕ → Relation
-verify_by a b d = Judged (error_of a ∷ error_of b ∷ error_of d ∷ []) (answer_by a b d)
+  -- the third file is no request
+  pub verify_for_asks_none : (at : ℕ) → request_in (request_file files) ≡ Err at → first_bad 0 (verify_for_judged files) ≡ Some (2, at)
+  verify_for_asks_none at bad = by_third (Err at) bad
 
-module _ (files : List (List ℕ)) (header : Roots) (read : header_in (header_file files) ≡ Ok header) where
-  -- the meaning of a second file that is no answer
-  pub verify_for_refuses : (at : ℕ) → answer_in (answer_file files) ≡ Err at → Refuses (BadInput 1 at) ≡ Meaning command.VerifyFor files
-  verify_for_refuses at bad =
-      sym (ap₂ (λ (a : Result Roots ℕ) (b : Result Frame ℕ). verify_by a b (request_in (request_file files))) read bad)
-
-  module _ (answer : Frame) (reads : answer_in (answer_file files) ≡ Ok answer) where
-    -- the meaning by what the third file is
-    by_third : (d : Result Frame ℕ) → request_in (request_file files) ≡ d → verify_by (Ok header) (Ok answer) d ≡ Meaning command.VerifyFor files
-    by_third d third =
-        sym (ap₂ (λ (a : Result Roots ℕ) (b : Result Frame ℕ). verify_by a b (request_in (request_file files))) read reads
-        ∙ ap (verify_by (Ok header) (Ok answer)) third)
-
-    -- the meaning of a third file that is no request
-    pub verify_for_asks_none : (at : ℕ) → request_in (request_file files) ≡ Err at → Refuses (BadInput 2 at) ≡ Meaning command.VerifyFor files
-    verify_for_asks_none at bad = by_third (Err at) bad
-
-    -- the meaning of files that were read
-    pub verify_for_is : (request : Frame) → request_in (request_file files) ≡ Ok request
-        → VerifiesFor header answer request ≡ Meaning command.VerifyFor files
-    verify_for_is request asked = by_third (Ok request) asked
-
--- what verify answers comes with a complete output, by what the files are
-by_files : (a : Result Roots ℕ) (b d : Result Frame ℕ) (w : List ℕ) (status : Status) → answer_by a b d w status → kind_of status ≡ output
-by_files (Ok header) (Ok answer) (Ok request) w status h = ap kind_of h.3 ∙ verdict_kind h.0
-by_files (Ok header) (Ok answer) (Err at) w status h = absurd h
-by_files (Ok header) (Err at) d w status h = absurd h
-by_files (Err at) b d w status h = absurd h
+  -- the meaning of files that were read
+  pub verify_for_is : (header : Roots) (answer request : Frame) → header_in (header_file files) ≡ Ok header → answer_in (answer_file files) ≡ Ok answer
+      → request_in (request_file files) ≡ Ok request → VerifiesFor header answer request ≡ Meaning command.VerifyFor files
+  verify_for_is header answer request read reads asked =
+      over_is (λ (r : Frame). VerifiesFor header answer r) (request_in (request_file files)) request asked
+      ∙ over_is (λ (a : Frame). Over (request_in (request_file files)) (λ (r : Frame). VerifiesFor header a r)) (answer_in (answer_file files)) answer reads
+      ∙ judged_over (λ (h : Roots). Over (answer_in (answer_file files)) (λ (a : Frame). Over (request_in (request_file files)) (λ (r : Frame). VerifiesFor h a r)))
+      (verify_for_judged files) (header_in (header_file files)) header (by_third (Ok request) asked) read
 
 -- what verify answers comes with a complete output
 pub verify_for_last : (files : List (List ℕ)) (w : List ℕ) (status : Status) → VerifyForOf files w status → kind_of status ≡ output
 verify_for_last files w status h =
-    by_files (header_in (header_file files)) (answer_in (answer_file files)) (request_in (request_file files)) w status h
+    let Complete : Type 0 = kind_of status ≡ output in
+    let asked = request_in (request_file files) in
+    over_each (λ header. Over (answer_in (answer_file files)) (λ answer. Over asked (λ request. VerifiesFor header answer request)))
+    (header_in (header_file files)) w status Complete
+    (λ header. over_each (λ answer. Over asked (λ request. VerifiesFor header answer request)) (answer_in (answer_file files)) w status Complete
+    (λ answer. over_each (λ request. VerifiesFor header answer request) asked w status Complete
+    (λ request verdict. ap kind_of verdict.3 ∙ verdict_kind verdict.0))) h
 
 -- ---- what answers to a request
 
@@ -100,7 +86,7 @@ same_axis Col Col = (λ e. refl, λ e. refl)
 abbrev cell_at : ℕ → ℕ → Cell
 cell_at row col = record { row = row; col = col }
 
--- a message is of a cell along an axis just where both are its own
+-- a sample is of a cell along an axis exactly where both are its own
 of_cell : (cell : Cell) (axis : Axis) (m : sent.Message) → (is_of_cell cell axis m ≡ true) ↔ ((m.cell ≡ cell) × (m.axis ≡ axis))
 of_cell cell axis m = (
   λ e.
@@ -115,13 +101,13 @@ of_cell cell axis m = (
       ((same_axis axis m.axis).1 h.1),
 )
 
--- a frame is a sample of a cell along an axis just where it is a message of both, or a root proof with one
+-- a frame is a sample of a cell along an axis exactly where it is one of both by itself, or a root proof with one
 sample_is : (cell : Cell) (axis : Axis) (answer : Frame) → (is_sample cell axis answer ≡ true) ↔ Samples cell axis answer
 sample_is cell axis (Message m) = of_cell cell axis m
 sample_is cell axis (Rooted proof) = of_cell cell axis proof.message
 sample_is cell axis answer = (λ e. absurd cc, λ h. absurd h)
 
--- a frame is an answer for a namespace just where it is a namespace answer with it
+-- a frame is an answer for a namespace exactly where it is a namespace answer with it
 for_is : (name : names.Namespace) (answer : Frame) → (is_for name answer ≡ true) ↔ Tells name answer
 for_is name (Names other answer) = (
   λ e. ap (λ (l : List ℕ). record { 0 = l }) ((bytes_eq-Decides other.0 name.0).0 e),
@@ -129,8 +115,8 @@ for_is name (Names other answer) = (
 )
 for_is name answer = (λ e. absurd cc, λ h. absurd h)
 
--- a frame answers to a request just where it is a sample of the cell along the axis that are asked for, or a namespace
--- answer with the namespace that is asked for
+-- a frame answers to a request exactly where it is a sample of the cell along the axis that are asked for, or a
+-- namespace answer with the namespace that is asked for
 pub answers_to : (request answer : Frame) → (is_answer_to request answer ≡ true) ↔ IsAnswerTo request answer
 answers_to (Sample cell axis) answer = sample_is cell axis answer
 answers_to (Request name) answer = for_is name answer
@@ -138,12 +124,12 @@ answers_to request answer = (λ e. absurd cc, λ h. absurd h)
 
 -- ---- answers that aren't refused, and those that are to another request
 
--- an answer isn't refused just where it is to the request and holds, by whether it is to the request
+-- an answer isn't refused exactly where it is to the request and holds, by whether it is to the request
 none_by : (b : Bool) (header : Roots) (answer : Frame) → IsRefusalFor b header answer None ↔ (IsRefusal header answer None × (b ≡ true))
 none_by true header answer = (λ h. (h, refl), λ h. h.0)
 none_by false header answer = (λ e. absurd cc, λ h. absurd cc)
 
--- an answer isn't refused just where it isn't without the request, and is to it
+-- an answer isn't refused exactly where it isn't without the request, and is to it
 pub asked_holds : (header : Roots) (answer request : Frame)
     → IsRefusalFor (is_answer_to request answer) header answer None ↔ (IsRefusal header answer None × IsAnswerTo request answer)
 asked_holds header answer request =
@@ -151,7 +137,7 @@ asked_holds header answer request =
     let to = answers_to request answer in
     (λ h. ((none.0 h).0, to.0 (none.0 h).1), λ h. none.1 (h.0, to.1 h.1))
 
--- no check of a message has the number 0
+-- no check of a sample has the number 0
 check_some : (why : Option CheckRefusal) → Some 0 ≡ option_map check_number why → ⊥
 check_some None e = cc
 check_some (Some OutOfSquare) e = cc
@@ -198,12 +184,12 @@ never_zero header (Commit proof) h = commit_some (commit_refusal (data_root_of h
 never_zero header (Rooted proof) h = rooted_some (rooted_refusal (data_root_of header) proof) h
 never_zero header frame h = absurd cc
 
--- an answer is refused by the number 0 just where it isn't to the request, by whether it is
+-- an answer is refused by the number 0 exactly where it isn't to the request, by whether it is
 zero_by : (b : Bool) (header : Roots) (answer : Frame) → IsRefusalFor b header answer (Some 0) ↔ (b ≡ false)
 zero_by true header answer = (λ h. absurd (never_zero header answer h), λ e. absurd cc)
 zero_by false header answer = (λ e. refl, λ e. refl)
 
--- an answer is refused by the number 0 just where it isn't to the request
+-- an answer is refused by the number 0 exactly where it isn't to the request
 pub asked_other : (header : Roots) (answer request : Frame)
     → IsRefusalFor (is_answer_to request answer) header answer (Some 0) ↔ (is_answer_to request answer ≡ false)
 asked_other header answer request = zero_by (is_answer_to request answer) header answer

@@ -1,6 +1,6 @@
 -- What the command verify answers.
-use Rattle.std.proofs.Common.{◌≡◌, ◌∙◌, ℕ, List, [], ◌∷◌, Some, None, Result, Ok, Err, refl, sym, ap, ap₂, subst}
-use Rattle.std.specs.Prelude.{MatchResult, ◌↔◌}
+use Rattle.std.proofs.Common.{◌≡◌, ◌∙◌, ℕ, List, [], ◌∷◌, Some, None, refl, ap, subst}
+use Rattle.std.specs.Prelude.{◌↔◌}
 use Rattle.std.specs.declared.option.Option.{Option}
 use Rattle.std.specs.Option.{option_map}
 use Rattle.std.specs.List.{AllByRecursion}
@@ -29,47 +29,24 @@ use Rattle.da_wire.specs.declared.frames.Frame.TheVariants.{Message, Names, Frau
 use Rattle.da_wire.specs.Spelling.{IsFrame}
 use Rattle.da_wire.specs.kinds.Commit.{IsRowSent, IsCommitSent}
 use Rattle.da_status.specs.declared.status.Status.{Status}
-use Rattle.da_status.specs.declared.status.Status.TheVariants.{BadInput}
-use Rattle.da_commands.specs.declared.command.Command.TheVariants as command
 use Rattle.da_status.specs.Statuses.{kind_of, output}
-use Rattle.da_status.specs.Outcome.{Relation, Refuses}
-use Rattle.da_status.specs.Judging.{Judged}
-use Rattle.da_commands.specs.Frames.{header_in, error_of}
+use Rattle.da_commands.specs.Frames.{header_in}
+use Rattle.da_commands.specs.Forms.{Over}
 use Rattle.da_commands.specs.Verify.{header_file, answer_file, check_number, ns_number, fraud_number, commit_number, rooted_number, IsRefusal, verdict_status, answer_in, IsOwnReply, Verifies, VerifyOf}
-use Rattle.da_commands.specs.Meaning.{Meaning}
-
--- the answer by what the two files are
-abbrev answer_by : Result Roots ℕ → Result Frame ℕ → Relation
-answer_by a b w status = MatchResult a (λ header. MatchResult b (λ answer. Verifies header answer w status) (λ at. ⊥)) (λ at. ⊥)
-
--- the meaning of verify by what the two files are
-abbrev verify_by : Result Roots ℕ → Result Frame ℕ → Relation
-verify_by a b = Judged (error_of a ∷ error_of b ∷ []) (answer_by a b)
-
--- the meaning of files that were read
-pub verify_is : (files : List (List ℕ)) (header : Roots) (answer : Frame) → header_in (header_file files) ≡ Ok header → answer_in (answer_file files) ≡ Ok answer
-    → Verifies header answer ≡ Meaning command.Verify files
-verify_is files header answer read reads = sym (ap₂ verify_by read reads)
-
--- the meaning of a second file that is no answer
-pub verify_refuses : (files : List (List ℕ)) (header : Roots) (at : ℕ) → header_in (header_file files) ≡ Ok header → answer_in (answer_file files) ≡ Err at
-    → Refuses (BadInput 1 at) ≡ Meaning command.Verify files
-verify_refuses files header at read bad = sym (ap₂ verify_by read bad)
+use Rattle.da_commands.proofs.FormLemmas.{over_each}
 
 -- a verdict comes with its output
 pub verdict_kind : (refusal : Option ℕ) → kind_of (verdict_status refusal) ≡ output
 verdict_kind None = refl
 verdict_kind (Some number) = refl
 
--- what verify answers comes with a complete output, by what the files are
-by_files : (a : Result Roots ℕ) (b : Result Frame ℕ) (w : List ℕ) (status : Status) → answer_by a b w status → kind_of status ≡ output
-by_files (Ok header) (Ok answer) w status h = ap kind_of h.3 ∙ verdict_kind h.0
-by_files (Ok header) (Err at) w status h = absurd h
-by_files (Err at) b w status h = absurd h
-
 -- what verify answers comes with a complete output
 pub verify_last : (files : List (List ℕ)) (w : List ℕ) (status : Status) → VerifyOf files w status → kind_of status ≡ output
-verify_last files w status h = by_files (header_in (header_file files)) (answer_in (answer_file files)) w status h
+verify_last files w status h =
+    let Complete : Type 0 = kind_of status ≡ output in
+    over_each (λ header. Over (answer_in (answer_file files)) (λ answer. Verifies header answer)) (header_in (header_file files)) w status Complete
+    (λ header. over_each (λ answer. Verifies header answer) (answer_in (answer_file files)) w status Complete
+    (λ answer verdict. ap kind_of verdict.3 ∙ verdict_kind verdict.0)) h
 
 -- ---- answers that aren't refused
 
@@ -83,7 +60,7 @@ none_where : {E : Type 0} (number : E → ℕ) (why : Option E) (Fact : Type 0) 
 none_where number why Fact refusal =
     let numbered = none_numbered number why in (λ e. refusal.0 (numbered.0 e), λ h. numbered.1 (refusal.1 h))
 
--- a message isn't refused exactly where it is proved, by what is known of its refusals
+-- a sample isn't refused exactly where it is proved, by what is known of its refusals
 pub verified_proved : (header : Roots) (m : sent.Message) → (message_refusal header m ≡ None) ↔ IsProved header m
     → IsRefusal header (Message m) None ↔ IsProved header m
 verified_proved header m refusal = none_where check_number (message_refusal header m) (IsProved header m) refusal
@@ -124,7 +101,7 @@ commit_sized : (proof : CommitParts) → IsCommitSent proof → IsCommit proof
 commit_sized proof is = record { commitment = is.commitment; rows = rows_sized proof.rows is.rows }
 
 -- an answer that isn't refused under the header of a square is the square's own, or names a collision, by what is known
--- of messages, of namespace answers, of fraud claims, of commitment proofs and of root proofs
+-- of samples, of namespace answers, of fraud claims, of commitment proofs and of root proofs
 pub verified_own : ((h : Roots) (m : sent.Message) → AreRoots h → IsMessage m → (message_refusal h m ≡ None) ↔ IsProved h m)
     → ((h : Roots) (m : sent.Message) → IsProved h m → IsOwn h m)
     → ((h : Roots) (name : names.Namespace) (a : List NsEntry) → (answer_refusal h name a ≡ None) ↔ IsComplete h name a)

@@ -1,18 +1,14 @@
 -- blobs SHARES: the blobs that the shares of a square, or of a namespace answer, are.
 use Rattle.std.specs.Prelude.{ℕ, List, [], ◌∷◌, ◌||◌, Bool, if◌then◌else◌, Some, None, Result, MatchResult}
-use Rattle.std.specs.declared.option.Option.{Option}
 use Rattle.std.specs.List.{flat_map}
-use Rattle.std.specs.Str.{bytes_eq}
-use Rattle.namespace_id.specs.declared.namespaces.Namespace.{Namespace}
 use Rattle.namespace_id.specs.declared.shares.Share.{Share}
 use Rattle.namespace_id.specs.Names.{transaction, pay_for_blob}
-use Rattle.namespace_id.specs.Shares.{name_in}
 use Rattle.share_split.specs.Blobs.{NamedBytes}
 use Rattle.share_split.specs.Walks.{blobs_of}
 use Rattle.square_layout.specs.Blocks.{BlockParts}
-use Rattle.axis_roots.specs.declared.answers.Found.{Found}
-use Rattle.axis_roots.specs.declared.answers.Found.TheVariants.{Range, Absence}
 use Rattle.axis_roots.specs.declared.answers.NsEntry.{NsEntry}
+use Rattle.square_serve.specs.Shares.{is_named}
+use Rattle.blob_feed.specs.Feeds.{shares_found}
 use Rattle.da_wire.specs.declared.frames.Frame.{Frame}
 use Rattle.da_wire.specs.declared.frames.Frame.TheVariants.{Square, Names, Block}
 use Rattle.da_wire.specs.Spelling.{square_kind, names_kind}
@@ -21,13 +17,10 @@ use Rattle.da_status.specs.declared.status.Asked.TheVariants.{Shares}
 use Rattle.da_status.specs.declared.status.Status.TheVariants.{BadRequest}
 use Rattle.da_status.specs.Outcome.{Relation, Refuses}
 use Rattle.da_commands.specs.Contents.{file_of}
-use Rattle.da_commands.specs.Frames.{single, error_of, Writes}
+use Rattle.da_commands.specs.Frames.{single, Writes}
+use Rattle.da_commands.specs.Forms.{Over}
 
 -- ---- SHARES
-
--- whether a share has this namespace
-abbrev pub is_named : Namespace → Share → Bool
-is_named name share = bytes_eq (name_in share).0 name.0
 
 -- whether a share is compact: of transactions or of payments for blobs (Celestia specifications, "Shares", transaction
 -- shares)
@@ -39,14 +32,9 @@ unfoldable pub behind_compact : List Share → List Share
 behind_compact [] = []
 behind_compact (share ∷ shares) = if is_compact share then behind_compact shares else share ∷ shares
 
--- the shares that are found in a row
-abbrev pub found_shares : Found → List Share
-found_shares (Range start shares nodes) = shares
-found_shares (Absence pos leaf nodes) = []
-
 -- the shares of a namespace answer, entry after entry
 abbrev pub answer_shares : List NsEntry → List Share
-answer_shares entries = flat_map (λ entry. found_shares entry.found) entries
+answer_shares entries = flat_map (λ entry. shares_found entry.found) entries
 
 -- the shares that a frame has for blobs: of a square those behind its compact shares, of a namespace answer all; frames
 -- of other kinds have none, and none comes here
@@ -79,11 +67,6 @@ Joins shares w status =
     MatchResult (blobs_of shares) (λ blobs. Writes (Block (block_with blobs)) w status)
     (λ why. Refuses (BadRequest (Shares why)) w status)
 
--- SHARES is a square or a namespace answer and nothing else
-abbrev pub blobs_judged : List (List ℕ) → List (Option ℕ)
-blobs_judged files = error_of (shares_in (shares_file files)) ∷ []
-
 -- what blobs answers to a SHARES that is a square or a namespace answer
 abbrev pub BlobsOf : List (List ℕ) → Relation
-BlobsOf files w status =
-    MatchResult (shares_in (shares_file files)) (λ frame. Joins (shares_of frame) w status) (λ at. ⊥)
+BlobsOf files = Over (shares_in (shares_file files)) (λ frame. Joins (shares_of frame))

@@ -1,6 +1,5 @@
 -- build BLOCK: the square of a block.
-use Rattle.std.specs.Prelude.{ℕ, List, [], ◌∷◌, MatchResult, MatchOption}
-use Rattle.std.specs.declared.option.Option.{Option}
+use Rattle.std.specs.Prelude.{ℕ, List, MatchOption}
 use Rattle.square_layout.specs.Blocks.{BlockParts}
 use Rattle.square_layout.specs.Layout.{square_of}
 use Rattle.square_layout.specs.Refusals.{layout_refusal}
@@ -8,7 +7,8 @@ use Rattle.da_wire.specs.declared.frames.Frame.TheVariants.{Square}
 use Rattle.da_status.specs.declared.status.Status.TheVariants.{BadBlock}
 use Rattle.da_commands.specs.Contents.{file_of}
 use Rattle.da_status.specs.Outcome.{Relation, Refuses}
-use Rattle.da_commands.specs.Frames.{block_in, error_of, Writes}
+use Rattle.da_commands.specs.Frames.{block_in, Writes}
+use Rattle.da_commands.specs.Forms.{Over}
 
 -- BLOCK, the one file of build
 abbrev pub block_file : List (List ℕ) → List ℕ
@@ -19,11 +19,6 @@ abbrev pub Builds : BlockParts → Relation
 Builds block w status =
     MatchOption (layout_refusal block) (Writes (Square (square_of block)) w status) (λ why. Refuses (BadBlock why) w status)
 
--- BLOCK is a block and nothing else
-abbrev pub build_judged : List (List ℕ) → List (Option ℕ)
-build_judged files = error_of (block_in (block_file files)) ∷ []
-
 -- what build answers to a BLOCK that is a block
 abbrev pub BuildOf : List (List ℕ) → Relation
-BuildOf files w status =
-    MatchResult (block_in (block_file files)) (λ block. Builds block w status) (λ at. ⊥)
+BuildOf files = Over (block_in (block_file files)) Builds

@@ -1,5 +1,5 @@
--- check HEADER MESSAGES: which messages of a list of frames are proved under a header.
-use Rattle.std.specs.Prelude.{◌≡◌, ◌⊎◌, ℕ, List, [], ◌∷◌, codes, Bool, true, false, Option, Some, MatchResult, if◌then◌else◌}
+-- check HEADER MESSAGES: which samples of a list of frames are proved under a header.
+use Rattle.std.specs.Prelude.{◌≡◌, ◌⊎◌, ℕ, List, codes, Bool, true, false, Some, if◌then◌else◌}
 use Rattle.std.specs.List.{flat_map, list_all}
 use Rattle.std.specs.Option.{option_map_or}
 use Rattle.data_header.specs.Headers.{Roots}
@@ -10,13 +10,14 @@ use Rattle.square_layout.specs.Blocks.{SquareShares}
 use Rattle.axis_roots.specs.Openings.{IsProved}
 use Rattle.axis_roots.specs.Own.{ShowsOwn, NamesClash}
 use Rattle.da_wire.specs.Reading.{Raw}
-use Rattle.da_wire.specs.Frames.{frames_of, bad_frame, message_in}
+use Rattle.da_wire.specs.Frames.{frames_of, message_in}
 use Rattle.da_status.specs.declared.status.Status.{Status}
 use Rattle.da_status.specs.declared.status.Status.TheVariants.{Done, Refused}
 use Rattle.da_commands.specs.declared.check.Finding.{Finding}
 use Rattle.da_commands.specs.declared.check.Finding.TheVariants as found
 use Rattle.da_commands.specs.Contents.{file_of}
-use Rattle.da_commands.specs.Frames.{header_in, error_of}
+use Rattle.da_commands.specs.Frames.{header_in}
+use Rattle.da_commands.specs.Forms.{Over}
 use Rattle.da_status.specs.Outcome.{Relation}
 
 -- ---- MESSAGES
@@ -53,11 +54,11 @@ are_ok header frames = list_all (λ frame. is_ok (finding_of header frame)) fram
 abbrev pub status_of_lines : Bool → Status
 status_of_lines all_ok = if all_ok then Done else Refused
 
--- a frame is a message that is proved under the header
+-- a frame is a sample that is proved under the header
 abbrev pub IsProvedFrame : Roots → Raw → Type 0
 IsProvedFrame header frame = (m : sent.Message) × (message_in frame ≡ Some m) × IsProved header m
 
--- a frame is a message that shows the square's own share, or the message and the square name a
+-- a frame is a sample that shows the square's own share, or the sample and the square name a
 -- collision
 abbrev pub IsOwnFrame : Raw → SquareShares → Type 0
 IsOwnFrame frame square =
@@ -73,15 +74,10 @@ header_file files = file_of files 0
 abbrev pub messages_file : List (List ℕ) → List ℕ
 messages_file files = file_of files 1
 
--- HEADER is a header and nothing else, and MESSAGES a list of frames
-abbrev pub check_judged : List (List ℕ) → List (Option ℕ)
-check_judged files = error_of (header_in (header_file files)) ∷ bad_frame (messages_file files) ∷ []
-
 -- a line for each frame; Done where all are proved
 abbrev pub Lists : Roots → List Raw → Relation
 Lists header frames w status = (w ≡ lines_of header frames) × (status ≡ status_of_lines (are_ok header frames))
 
 -- what check answers to a HEADER that is a header: the lines of the frames in MESSAGES under it
 abbrev pub CheckOf : List (List ℕ) → Relation
-CheckOf files w status =
-    MatchResult (header_in (header_file files)) (λ h. Lists h (frames_of (messages_file files)) w status) (λ at. ⊥)
+CheckOf files = Over (header_in (header_file files)) (λ h. Lists h (frames_of (messages_file files)))

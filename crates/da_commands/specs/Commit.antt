@@ -1,6 +1,5 @@
 -- commit BLOCK: the commitments of a block's blobs.
-use Rattle.std.specs.Prelude.{ℕ, List, ◌++◌, codes, MatchOption, MatchResult}
-use Rattle.std.specs.declared.option.Option.{Option}
+use Rattle.std.specs.Prelude.{ℕ, List, ◌++◌, codes, MatchOption}
 use Rattle.std.specs.List.{flat_map}
 use Rattle.hex.specs.Hex.{encode_lower}
 use Rattle.share_split.specs.Blobs.{NamedBytes, blob_shares_of}
@@ -10,7 +9,8 @@ use Rattle.blob_commit.specs.Commitments.{commitment_over}
 use Rattle.da_status.specs.declared.status.Status.TheVariants.{Done, BadBlock}
 use Rattle.da_status.specs.Outcome.{Relation, Refuses}
 use Rattle.da_commands.specs.Frames.{block_in, WritesText}
-use Rattle.da_commands.specs.Build.{block_file, build_judged}
+use Rattle.da_commands.specs.Forms.{Over}
+use Rattle.da_commands.specs.Build.{block_file}
 
 -- the commitment of a blob: that of its shares
 abbrev pub commitment_of : NamedBytes → List ℕ
@@ -30,11 +30,6 @@ Commits block w status =
     MatchOption (layout_refusal block) (WritesText Done (commitment_lines block.blobs) w status)
     (λ why. Refuses (BadBlock why) w status)
 
--- BLOCK is a block and nothing else
-abbrev pub commit_judged : List (List ℕ) → List (Option ℕ)
-commit_judged files = build_judged files
-
 -- what commit answers to a BLOCK that is a block
 abbrev pub CommitOf : List (List ℕ) → Relation
-CommitOf files w status =
-    MatchResult (block_in (block_file files)) (λ block. Commits block w status) (λ at. ⊥)
+CommitOf files = Over (block_in (block_file files)) Commits

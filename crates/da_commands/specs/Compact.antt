@@ -1,5 +1,5 @@
 -- compact HEADER CLAIM: an accepted fraud claim with one proof of all its cells along the accused axis.
-use Rattle.std.specs.Prelude.{◌≢◌, ℕ, List, [], ◌∷◌, Some, None, Result, MatchResult}
+use Rattle.std.specs.Prelude.{◌≢◌, ℕ, List, [], ◌∷◌, Some, None, Result}
 use Rattle.std.specs.declared.option.Option.{Option}
 use Rattle.data_header.specs.Headers.{Roots}
 use Rattle.square_layout.specs.Blocks.{SquareShares}
@@ -13,11 +13,13 @@ use Rattle.da_wire.specs.declared.frames.Frame.{Frame}
 use Rattle.da_wire.specs.declared.frames.Frame.TheVariants as frames
 use Rattle.da_wire.specs.Spelling.{fraud_kind}
 use Rattle.da_wire.specs.Reading.{only_of}
+use Rattle.da_wire.specs.Single.{claim_of}
 use Rattle.da_status.specs.declared.status.Status.{Status}
 use Rattle.da_status.specs.declared.status.Status.TheVariants.{Done, Clash, Refused}
 use Rattle.da_status.specs.Outcome.{Relation}
 use Rattle.da_commands.specs.Contents.{file_of}
-use Rattle.da_commands.specs.Frames.{header_in, single, error_of, WritesWith, WritesText}
+use Rattle.da_commands.specs.Frames.{header_in, single, WritesWith, WritesText}
+use Rattle.da_commands.specs.Forms.{Over}
 use Rattle.da_commands.specs.Verify.{header_file, fraud_number, verdict_line}
 
 -- ---- CLAIM
@@ -25,11 +27,6 @@ use Rattle.da_commands.specs.Verify.{header_file, fraud_number, verdict_line}
 -- CLAIM, the second file of compact
 abbrev pub claim_file : List (List ℕ) → List ℕ
 claim_file files = file_of files 1
-
--- the claim that a frame is
-abbrev pub claim_of : Frame → Option ClaimParts
-claim_of (frames.Fraud claim) = Some claim
-claim_of frame = None
 
 -- the claim that a file is, or where it stops being a frame of one
 abbrev pub claim_in : List ℕ → Result ClaimParts ℕ
@@ -62,19 +59,13 @@ abbrev pub CompactsJudged : Roots → ClaimParts → Relation
 CompactsJudged header claim w status =
     (why : Option FraudRefusal) × HasCause header claim why × CompactsBy header claim why w status
 
--- under the header of a square: the claim is refused, or a message of it, or its set, and the square name a collision
+-- under the header of a square: the claim is refused, or a sample of it, or its set, and the square name a collision
 abbrev pub CompactsOwn : ClaimParts → SquareShares → Status → Type 0
 CompactsOwn claim square status = status ≢ Refused → ClaimNames claim square
 
 -- ---- the command
 
--- HEADER is a header and nothing else, and CLAIM one fraud claim and nothing else
-abbrev pub compact_judged : List (List ℕ) → List (Option ℕ)
-compact_judged files = error_of (header_in (header_file files)) ∷ error_of (claim_in (claim_file files)) ∷ []
-
 -- what compact answers to a HEADER and a CLAIM in their forms
 abbrev pub CompactOf : List (List ℕ) → Relation
-CompactOf files w status =
-    MatchResult (header_in (header_file files))
-    (λ header. MatchResult (claim_in (claim_file files)) (λ claim. CompactsJudged header claim w status) (λ at. ⊥))
-    (λ at. ⊥)
+CompactOf files =
+    Over (header_in (header_file files)) (λ header. Over (claim_in (claim_file files)) (λ claim. CompactsJudged header claim))

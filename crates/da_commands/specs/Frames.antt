@@ -6,45 +6,17 @@ use Rattle.data_header.specs.Headers.{Roots}
 use Rattle.square_layout.specs.Blocks.{BlockParts, SquareShares}
 use Rattle.da_wire.specs.declared.frames.Frame.{Frame}
 use Rattle.axis_roots.specs.declared.message.messages.Message as sent
-use Rattle.da_wire.specs.declared.frames.Frame.TheVariants.{Header, Square, Message, Block}
 use Rattle.da_wire.specs.declared.frames.FrameError.{FrameError}
 use Rattle.da_wire.specs.declared.frames.FrameError.TheVariants.{Truncated, BadKind, TooLong, BadPayload, Trailing, NoMemory}
 use Rattle.da_wire.specs.Spelling.{spelling, header_kind, square_kind, message_kind, block_kind}
 use Rattle.da_wire.specs.Reading.{only_of}
+use Rattle.da_wire.specs.Streams.{offset_of}
+use Rattle.da_wire.specs.Single.{header_of, square_of, message_of, block_of}
 use Rattle.da_commands.specs.declared.frames.Unread.{Unread}
 use Rattle.da_commands.specs.declared.frames.Unread.TheVariants as unread
 use Rattle.da_status.specs.declared.status.Status.{Status}
 use Rattle.da_status.specs.declared.status.Status.TheVariants.{Done}
 use Rattle.da_status.specs.Outcome.{Relation}
-
--- where a file stops being one frame
-abbrev pub offset_of : FrameError → ℕ
-offset_of (Truncated at) = at
-offset_of (BadKind at) = at
-offset_of (TooLong at) = at
-offset_of (BadPayload at) = at
-offset_of (Trailing at) = at
-offset_of NoMemory = 0
-
--- the header that a frame is
-abbrev pub header_of : Frame → Option Roots
-header_of (Header header) = Some header
-header_of frame = None
-
--- the square that a frame is
-abbrev pub square_of : Frame → Option SquareShares
-square_of (Square square) = Some square
-square_of frame = None
-
--- the message that a frame is
-abbrev pub message_of : Frame → Option sent.Message
-message_of (Message m) = Some m
-message_of frame = None
-
--- the block that a frame is
-abbrev pub block_of : Frame → Option BlockParts
-block_of (Block block) = Some block
-block_of frame = None
 
 -- the value that a file is, or where it stops being one frame of its kind
 abbrev pub single : {A : Type 0} → (Frame → Option A) → Result Frame FrameError → Result A ℕ
@@ -59,7 +31,7 @@ header_in bytes = single header_of (only_of bytes (header_kind ∷ []))
 abbrev pub square_in : List ℕ → Result SquareShares ℕ
 square_in bytes = single square_of (only_of bytes (square_kind ∷ []))
 
--- the message that a file is, or where it stops being a frame of one
+-- the sample that a file is, or where it stops being a frame of one
 abbrev pub message_in : List ℕ → Result sent.Message ℕ
 message_in bytes = single message_of (only_of bytes (message_kind ∷ []))
 

@@ -1,6 +1,5 @@
 -- header SQUARE: the header of a square (a data availability header).
-use Rattle.std.specs.Prelude.{◌⊎◌, ℕ, List, [], ◌∷◌, MatchResult}
-use Rattle.std.specs.declared.option.Option.{Option}
+use Rattle.std.specs.Prelude.{◌⊎◌, ℕ, List}
 use Rattle.data_header.specs.Headers.{Roots}
 use Rattle.square_layout.specs.Blocks.{SquareShares}
 use Rattle.axis_roots.specs.Grids.{IsHeaderOf, HasNoHeader}
@@ -9,7 +8,8 @@ use Rattle.da_status.specs.declared.status.Asked.TheVariants.{NoHeader}
 use Rattle.da_status.specs.declared.status.Status.TheVariants.{BadRequest}
 use Rattle.da_commands.specs.Contents.{file_of}
 use Rattle.da_status.specs.Outcome.{Relation, Refuses}
-use Rattle.da_commands.specs.Frames.{square_in, error_of, Writes}
+use Rattle.da_commands.specs.Frames.{square_in, Writes}
+use Rattle.da_commands.specs.Forms.{Over}
 
 -- SQUARE, the one file of header
 abbrev pub square_file : List (List ℕ) → List ℕ
@@ -21,11 +21,6 @@ Heads square w status =
     ((header : Roots) × IsHeaderOf header square × Writes (Header header) w status)
     ⊎ (HasNoHeader square × Refuses (BadRequest NoHeader) w status)
 
--- SQUARE is a square and nothing else
-abbrev pub header_judged : List (List ℕ) → List (Option ℕ)
-header_judged files = error_of (square_in (square_file files)) ∷ []
-
 -- what header answers to a SQUARE that is a square
 abbrev pub HeaderOf : List (List ℕ) → Relation
-HeaderOf files w status =
-    MatchResult (square_in (square_file files)) (λ square. Heads square w status) (λ at. ⊥)
+HeaderOf files = Over (square_in (square_file files)) Heads

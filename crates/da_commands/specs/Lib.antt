@@ -1,5 +1,6 @@
 pub mod Contents
 pub mod Frames
+pub mod Forms
 pub mod Check
 pub mod Build
 pub mod Commit

@@ -1,5 +1,5 @@
 -- light HEADER MESSAGES KEY COUNT: the verdict of a light node that drew its cells by a key.
-use Rattle.std.specs.Prelude.{◌≡◌, ◌≢◌, ◌⊎◌, ℕ, List, [], ◌∷◌, length, codes, nat_lt, Bool, true, false, MatchResult, Option, Some, ⊤}
+use Rattle.std.specs.Prelude.{◌≡◌, ◌≢◌, ◌⊎◌, ℕ, List, [], ◌∷◌, length, codes, nat_lt, Bool, true, false, Option, Some, ⊤}
 use Rattle.std.specs.Option.{option_map, option_map_or}
 use Rattle.namespace_id.specs.declared.cells.Axis.{Axis}
 use Rattle.namespace_id.specs.declared.cells.Cell.{Cell}
@@ -16,17 +16,17 @@ use Rattle.da_wire.specs.declared.frames.Frame.TheVariants as frames
 use Rattle.da_wire.specs.Spelling.{spelling}
 use Rattle.da_wire.specs.kinds.Fraud.{is_unwritten}
 use Rattle.da_wire.specs.Reading.{Raw}
-use Rattle.da_wire.specs.Frames.{frames_of, bad_frame, message_in, claim_in}
+use Rattle.da_wire.specs.Frames.{frames_of, message_in, claim_in}
 use Rattle.da_status.specs.declared.status.Asked.TheVariants.{Count}
 use Rattle.da_status.specs.declared.status.Status.TheVariants.{Done, BadRequest, Fraud, Waiting}
 use Rattle.da_status.specs.Outcome.{Relation, Refuses}
-use Rattle.da_commands.specs.Frames.{header_in, error_of}
+use Rattle.da_commands.specs.Frames.{header_in}
+use Rattle.da_commands.specs.Forms.{Over}
 use Rattle.da_commands.specs.Check.{header_file, messages_file}
 
 -- ---- MESSAGES
 
--- the event that a frame is: a message of the grammar is a sample, a fraud claim of the grammar a claim, any other
--- frame is none
+-- the event that a frame is: a sample of the grammar or a fraud claim of the grammar; any other frame is none
 abbrev pub event_in : Raw → Option Event
 event_in frame = option_map_or (λ m. Some (Sample m)) (message_in frame) (option_map Claim (claim_in frame))
 
@@ -66,19 +66,14 @@ abbrev pub Lights : List ℕ → ℕ → Roots → List Raw → Relation
 Lights key count header raws =
     Counted (nat_lt (draw_limit header.k) count) (Judges header (drawn_cells key header.k count) raws)
 
--- under the header of a square: no claim is written, or one of which a message and the square name a collision
+-- under the header of a square: no claim is written, or one of which a sample and the square name a collision
 abbrev pub JudgesOwn : SquareShares → Relation
 JudgesOwn square w status = ((axis : Axis) (i : ℕ) → status ≢ Fraud axis i)
     ⊎ ((claim : ClaimParts) × (spelling (frames.Fraud claim) ≡ Some w) × ClaimNames claim square)
 
 -- ---- the command
 
--- HEADER is a header and nothing else, and MESSAGES a list of frames
-abbrev pub light_judged : List (List ℕ) → List (Option ℕ)
-light_judged files = error_of (header_in (header_file files)) ∷ bad_frame (messages_file files) ∷ []
-
 -- what light answers to a HEADER that is a header
 abbrev pub LightOf : List ℕ → ℕ → List (List ℕ) → Relation
-LightOf key count files w status =
-    MatchResult (header_in (header_file files)) (λ h. Lights key count h (frames_of (messages_file files)) w status)
-    (λ at. ⊥)
+LightOf key count files =
+    Over (header_in (header_file files)) (λ h. Lights key count h (frames_of (messages_file files)))

@@ -1,54 +1,57 @@
 -- What each command writes and answers, over the contents of its files.
-use Rattle.std.specs.Prelude.{◌≡◌, ℕ, List, true, ⊤}
+use Rattle.std.specs.Prelude.{◌≡◌, ℕ, List, [], ◌∷◌, true, ⊤}
 use Rattle.std.specs.declared.option.Option.{Option}
 use Rattle.da_commands.specs.declared.command.Command.{Command}
 use Rattle.da_commands.specs.declared.command.Command.TheVariants.{Check, Build, Header, Sample, Namespace, Verify, Compact, Repair, Light, Net, Show, Json, Demo, VerifyFor, Root, RootIs, Wanted, Blobs, Commit, Prove, ProveRange, Follow, Help, Version}
+use Rattle.da_wire.specs.Spelling.{sample_kind, request_kind}
 use Rattle.da_status.specs.Outcome.{Relation}
 use Rattle.da_status.specs.Judging.{Judged}
-use Rattle.da_commands.specs.Check.{check_judged, CheckOf}
-use Rattle.da_commands.specs.Build.{build_judged, BuildOf}
-use Rattle.da_commands.specs.Header.{header_judged, HeaderOf}
-use Rattle.da_commands.specs.Sample.{sample_judged, SampleOf}
-use Rattle.da_commands.specs.Namespace.{namespace_judged, NamespaceOf}
-use Rattle.da_commands.specs.Verify.{verify_judged, VerifyOf}
-use Rattle.da_commands.specs.Compact.{compact_judged, CompactOf}
-use Rattle.da_commands.specs.Repair.{repair_judged, RepairOf}
-use Rattle.da_commands.specs.Light.{light_judged, LightOf}
+use Rattle.da_commands.specs.Frames.{header_in, square_in, block_in}
+use Rattle.da_commands.specs.Forms.{single_judged, under_judged, messages_judged, requests_judged}
+use Rattle.da_commands.specs.Check.{CheckOf}
+use Rattle.da_commands.specs.Build.{BuildOf}
+use Rattle.da_commands.specs.Header.{HeaderOf}
+use Rattle.da_commands.specs.Sample.{SampleOf}
+use Rattle.da_commands.specs.Namespace.{NamespaceOf}
+use Rattle.da_commands.specs.Verify.{answer_in, VerifyOf}
+use Rattle.da_commands.specs.Compact.{claim_in, CompactOf}
+use Rattle.da_commands.specs.Repair.{RepairOf}
+use Rattle.da_commands.specs.Light.{LightOf}
 use Rattle.da_commands.specs.Net.{net_judged, NetOf}
 use Rattle.da_commands.specs.Show.{show_judged, ShowOf, JsonOf}
 use Rattle.da_commands.specs.Demo.{is_trial_width, demo_judged, DemoOf}
 use Rattle.da_commands.specs.VerifyFor.{verify_for_judged, VerifyForOf}
-use Rattle.da_commands.specs.Root.{root_judged, RootOf, RootIsOf}
-use Rattle.da_commands.specs.Wanted.{wanted_judged, WantedOf}
-use Rattle.da_commands.specs.Blobs.{blobs_judged, BlobsOf}
-use Rattle.da_commands.specs.Commit.{commit_judged, CommitOf}
-use Rattle.da_commands.specs.Prove.{prove_judged, ProveOf, prove_range_judged, ProveRangeOf}
+use Rattle.da_commands.specs.Root.{RootOf, RootIsOf}
+use Rattle.da_commands.specs.Wanted.{missing_in, WantedOf}
+use Rattle.da_commands.specs.Blobs.{shares_in, BlobsOf}
+use Rattle.da_commands.specs.Commit.{CommitOf}
+use Rattle.da_commands.specs.Prove.{ProveOf, ProveRangeOf}
 use Rattle.da_commands.specs.Follow.{follow_judged, FollowOf}
 use Rattle.da_commands.specs.Help.{help_judged, HelpOf, VersionOf}
 
 -- of each file where it leaves its form, if it does
 abbrev pub judged_of : Command → List (List ℕ) → List (Option ℕ)
-judged_of Check files = check_judged files
-judged_of Build files = build_judged files
-judged_of Header files = header_judged files
-judged_of Sample files = sample_judged files
-judged_of Namespace files = namespace_judged files
-judged_of Verify files = verify_judged files
-judged_of Compact files = compact_judged files
-judged_of Repair files = repair_judged files
-judged_of (Light key count) files = light_judged files
+judged_of Check files = messages_judged files
+judged_of Build files = single_judged block_in files
+judged_of Header files = single_judged square_in files
+judged_of Sample files = requests_judged (sample_kind ∷ []) files
+judged_of Namespace files = requests_judged (request_kind ∷ []) files
+judged_of Verify files = under_judged answer_in files
+judged_of Compact files = under_judged claim_in files
+judged_of Repair files = messages_judged files
+judged_of (Light key count) files = messages_judged files
 judged_of Net files = net_judged files
 judged_of Show files = show_judged files
 judged_of Json files = show_judged files
 judged_of (Demo number k) files = demo_judged
 judged_of VerifyFor files = verify_for_judged files
-judged_of Root files = root_judged files
-judged_of (RootIs root) files = root_judged files
-judged_of (Wanted axis) files = wanted_judged files
-judged_of Blobs files = blobs_judged files
-judged_of Commit files = commit_judged files
-judged_of Prove files = prove_judged files
-judged_of (ProveRange start count) files = prove_range_judged files
+judged_of Root files = single_judged header_in files
+judged_of (RootIs root) files = single_judged header_in files
+judged_of (Wanted axis) files = single_judged missing_in files
+judged_of Blobs files = single_judged shares_in files
+judged_of Commit files = single_judged block_in files
+judged_of Prove files = requests_judged (sample_kind ∷ []) files
+judged_of (ProveRange start count) files = single_judged square_in files
 judged_of Follow files = follow_judged files
 judged_of Help files = help_judged
 judged_of Version files = help_judged

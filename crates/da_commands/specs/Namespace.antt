@@ -1,5 +1,5 @@
 -- namespace SQUARE REQUESTS: the shares of namespaces in a square, complete.
-use Rattle.std.specs.Prelude.{◌≡◌, ℕ, List, [], ◌∷◌, Bool, not, Some, None, MatchResult}
+use Rattle.std.specs.Prelude.{◌≡◌, ℕ, List, [], ◌∷◌, Bool, not, Some, None}
 use Rattle.std.specs.declared.option.Option.{Option}
 use Rattle.std.specs.List.{filter_map}
 use Rattle.namespace_id.specs.declared.namespaces.Namespace as names
@@ -12,9 +12,10 @@ use Rattle.square_serve.specs.Answers.{shown, IsComplete}
 use Rattle.da_wire.specs.declared.frames.Frame.{Frame}
 use Rattle.da_wire.specs.declared.frames.Frame.TheVariants.{Names, Request}
 use Rattle.da_wire.specs.Spelling.{request_kind}
-use Rattle.da_wire.specs.Values.{values_of, bad_value}
+use Rattle.da_wire.specs.Values.{values_of}
 use Rattle.da_status.specs.Outcome.{Relation}
-use Rattle.da_commands.specs.Frames.{square_in, error_of}
+use Rattle.da_commands.specs.Frames.{square_in}
+use Rattle.da_commands.specs.Forms.{Over}
 use Rattle.da_commands.specs.Serving.{square_file, requests_file, Serves}
 
 -- the namespace that a frame asks for
@@ -30,7 +31,7 @@ namespaces_in bytes = filter_map namespace_of (values_of (request_kind ∷ []) b
 abbrev pub is_other : names.Namespace → Bool
 is_other name = not (is_parity name)
 
--- an answer is complete for a namespace under the header, and shows just the square's shares of it
+-- an answer is complete for a namespace under the header, and shows exactly its shares in the square
 pub record IsAnswer (square : SquareShares) (header : Roots) (name : names.Namespace) (answer : List NsEntry) : Type 0 where
   pub complete : IsComplete header name answer
   pub shares : shown answer ≡ shares_of square name
@@ -40,14 +41,7 @@ abbrev pub AllowsNames : SquareShares → Roots → names.Namespace → Frame �
 AllowsNames square header name frame =
     (answer : List NsEntry) × IsAnswer square header name answer × (frame ≡ Names name answer)
 
--- SQUARE is a square and nothing else, and REQUESTS a list of requests for namespaces
-abbrev pub namespace_judged : List (List ℕ) → List (Option ℕ)
-namespace_judged files =
-    error_of (square_in (square_file files)) ∷ bad_value (request_kind ∷ []) (requests_file files) ∷ []
-
 -- what namespace answers to a SQUARE that is a square: an N frame for each request, in their order
 abbrev pub NamespaceOf : List (List ℕ) → Relation
-NamespaceOf files w status =
-    MatchResult (square_in (square_file files))
-    (λ square. Serves square is_other (AllowsNames square) (namespaces_in (requests_file files)) w status)
-    (λ at. ⊥)
+NamespaceOf files = Over (square_in (square_file files))
+    (λ square. Serves square is_other (AllowsNames square) (namespaces_in (requests_file files)))

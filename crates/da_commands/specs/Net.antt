@@ -1,16 +1,17 @@
 -- net HEADER MESSAGES SCRIPT: what comes of a script of a network.
-use Rattle.std.specs.Prelude.{◌≡◌, ℕ, List, [], ◌∷◌, length, Bool, true, false, MatchResult}
+use Rattle.std.specs.Prelude.{◌≡◌, ℕ, List, [], ◌∷◌, ◌++◌, length, Bool, true, false}
 use Rattle.std.specs.declared.option.Option.{Option}
 use Rattle.data_header.specs.Headers.{Roots}
 use Rattle.da_wire.specs.Reading.{Raw}
-use Rattle.da_wire.specs.Frames.{frames_of, bad_frame}
+use Rattle.da_wire.specs.Frames.{frames_of}
 use Rattle.da_script.specs.Scripts.{moves_of, bad_script}
 use Rattle.da_script.specs.Plays.{items_in, is_refused, first_net, Tells}
 use Rattle.da_status.specs.declared.status.Asked.TheVariants.{Nodes}
 use Rattle.da_status.specs.declared.status.Status.TheVariants.{Done, BadRequest}
 use Rattle.da_status.specs.Outcome.{Relation, Refuses}
 use Rattle.da_commands.specs.Contents.{file_of}
-use Rattle.da_commands.specs.Frames.{header_in, error_of}
+use Rattle.da_commands.specs.Frames.{header_in}
+use Rattle.da_commands.specs.Forms.{messages_judged, Over}
 use Rattle.da_commands.specs.Check.{header_file, messages_file}
 
 -- SCRIPT, the third file of net
@@ -30,11 +31,9 @@ Nets header frames script = Limited (is_refused header.k (moves_of (length (item
 
 -- HEADER is a header and nothing else, MESSAGES a list of frames, and SCRIPT a script over its items
 abbrev pub net_judged : List (List ℕ) → List (Option ℕ)
-net_judged files = error_of (header_in (header_file files)) ∷ bad_frame (messages_file files)
-    ∷ bad_script (length (items_in (frames_of (messages_file files)))) (script_file files) ∷ []
+net_judged files =
+    messages_judged files ++ bad_script (length (items_in (frames_of (messages_file files)))) (script_file files) ∷ []
 
 -- what net answers to a HEADER that is a header
 abbrev pub NetOf : List (List ℕ) → Relation
-NetOf files w status =
-    MatchResult (header_in (header_file files)) (λ h. Nets h (frames_of (messages_file files)) (script_file files) w status)
-    (λ at. ⊥)
+NetOf files = Over (header_in (header_file files)) (λ h. Nets h (frames_of (messages_file files)) (script_file files))

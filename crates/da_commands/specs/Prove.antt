@@ -1,7 +1,6 @@
 -- prove SQUARE REQUESTS, prove SQUARE START COUNT: proofs under the data root of a square, for cells that are asked for and for
 -- the commitment of its shares in a range.
-use Rattle.std.specs.Prelude.{◌≡◌, ◌⊎◌, ◌*◌, ℕ, List, [], ◌∷◌, Bool, true, false, MatchResult}
-use Rattle.std.specs.declared.option.Option.{Option}
+use Rattle.std.specs.Prelude.{◌≡◌, ◌⊎◌, ◌*◌, ℕ, List, Bool, true, false}
 use Rattle.namespace_id.specs.declared.cells.Cell.{Cell}
 use Rattle.namespace_id.specs.declared.cells.Axis.{Axis}
 use Rattle.namespace_id.specs.declared.shares.Share.{Share}
@@ -15,9 +14,10 @@ use Rattle.da_wire.specs.declared.frames.Frame.TheVariants.{Commit, Rooted}
 use Rattle.da_status.specs.declared.status.Asked.TheVariants.{NoHeader, Range}
 use Rattle.da_status.specs.declared.status.Status.TheVariants.{BadRequest}
 use Rattle.da_status.specs.Outcome.{Relation, Refuses}
-use Rattle.da_commands.specs.Frames.{square_in, error_of, Writes}
+use Rattle.da_commands.specs.Frames.{square_in, Writes}
+use Rattle.da_commands.specs.Forms.{Over}
 use Rattle.da_commands.specs.Serving.{square_file, requests_file, Serves}
-use Rattle.da_commands.specs.Sample.{samples_in, is_asked_inside, sample_judged}
+use Rattle.da_commands.specs.Sample.{samples_in, is_asked_inside}
 
 -- ---- prove SQUARE REQUESTS
 
@@ -37,16 +37,10 @@ abbrev pub AllowsRootProof : SquareShares → Roots → Cell × Axis → Frame �
 AllowsRootProof square header asked frame =
     (proof : RootedParts) × IsRootProof square header asked proof × (frame ≡ Rooted proof)
 
--- SQUARE is a square and nothing else, and REQUESTS a list of requests for samples
-abbrev pub prove_judged : List (List ℕ) → List (Option ℕ)
-prove_judged files = sample_judged files
-
 -- what prove answers to a SQUARE that is a square: an R frame for each request, in their order
 abbrev pub ProveOf : List (List ℕ) → Relation
-ProveOf files w status =
-    MatchResult (square_in (square_file files))
-    (λ square. Serves square (is_asked_inside square) (AllowsRootProof square) (samples_in (requests_file files)) w status)
-    (λ at. ⊥)
+ProveOf files = Over (square_in (square_file files))
+    (λ square. Serves square (is_asked_inside square) (AllowsRootProof square) (samples_in (requests_file files)))
 
 -- ---- prove SQUARE START COUNT
 
@@ -71,11 +65,6 @@ ProvesRange square start count w status =
     × ProvesIn (is_range square.k start count) square header start count w status)
     ⊎ (HasNoHeader square × Refuses (BadRequest NoHeader) w status)
 
--- SQUARE is a square and nothing else
-abbrev pub prove_range_judged : List (List ℕ) → List (Option ℕ)
-prove_range_judged files = error_of (square_in (square_file files)) ∷ []
-
 -- what prove answers to a SQUARE that is a square, for this range
 abbrev pub ProveRangeOf : ℕ → ℕ → List (List ℕ) → Relation
-ProveRangeOf start count files w status =
-    MatchResult (square_in (square_file files)) (λ square. ProvesRange square start count w status) (λ at. ⊥)
+ProveRangeOf start count files = Over (square_in (square_file files)) (λ square. ProvesRange square start count)

@@ -1,6 +1,5 @@
--- repair HEADER MESSAGES: what repair answers for a header and the messages in a list of frames.
-use Rattle.std.specs.Prelude.{◌≡◌, ◌⊎◌, ℕ, suc, List, [], ◌∷◌, length, Some, MatchResult, if◌then◌else◌}
-use Rattle.std.specs.declared.option.Option.{Option}
+-- repair HEADER MESSAGES: what repair answers for a header and the samples in a list of frames.
+use Rattle.std.specs.Prelude.{◌≡◌, ◌⊎◌, ℕ, suc, List, [], ◌∷◌, length, Some, if◌then◌else◌}
 use Rattle.std.specs.Option.{option_map_or}
 use Rattle.data_header.specs.Headers.{Roots}
 use Rattle.square_layout.specs.Blocks.{SquareShares}
@@ -11,21 +10,22 @@ use Rattle.da_wire.specs.declared.frames.Frame.{Frame}
 use Rattle.da_wire.specs.declared.frames.Frame.TheVariants as frames
 use Rattle.da_wire.specs.Spelling.{spelling}
 use Rattle.da_wire.specs.Reading.{Raw}
-use Rattle.da_wire.specs.Frames.{frames_of, bad_frame, message_in}
+use Rattle.da_wire.specs.Frames.{frames_of, message_in}
 use Rattle.da_status.specs.declared.status.Status.{Status}
 use Rattle.da_status.specs.declared.status.Status.TheVariants.{Done, Fraud, Missing, Clash}
 use Rattle.da_status.specs.Outcome.{Relation}
-use Rattle.da_commands.specs.Frames.{header_in, error_of}
+use Rattle.da_commands.specs.Frames.{header_in}
+use Rattle.da_commands.specs.Forms.{Over}
 use Rattle.da_commands.specs.Check.{header_file, messages_file, finding_of, is_ok}
 
 -- ---- MESSAGES
 
--- the messages of the grammar among frames, in their order
+-- the samples of the grammar among frames, in their order
 unfoldable pub messages_in : List Raw → List sent.Message
 messages_in [] = []
 messages_in (frame ∷ later) = option_map_or (λ m. m ∷ messages_in later) (message_in frame) (messages_in later)
 
--- how many frames are lies: no message of the grammar that is proved under the header
+-- how many frames are lies: no sample of the grammar that is proved under the header
 unfoldable pub lies_in : Roots → List Raw → ℕ
 lies_in header [] = 0
 lies_in header (frame ∷ later) = if is_ok (finding_of header frame) then lies_in header later else suc (lies_in header later)
@@ -55,7 +55,7 @@ abbrev pub Repairs : Roots → List Raw → Relation
 Repairs header raws w status =
     (verdict : VerdictParts) × IsVerdict header (messages_in raws) verdict × Answers (lies_in header raws) verdict w status
 
--- under the header of the square: the square itself, or the missing cells; or a proved message of the frames and the
+-- under the header of the square: the square itself, or the missing cells; or a proved sample of the frames and the
 -- square name a collision
 abbrev pub RepairsOwn : Roots → List Raw → SquareShares → Relation
 RepairsOwn header raws square w status =
@@ -65,11 +65,6 @@ RepairsOwn header raws square w status =
 
 -- ---- the command
 
--- HEADER is a header and nothing else, and MESSAGES a list of frames
-abbrev pub repair_judged : List (List ℕ) → List (Option ℕ)
-repair_judged files = error_of (header_in (header_file files)) ∷ bad_frame (messages_file files) ∷ []
-
 -- what repair answers to a HEADER that is a header
 abbrev pub RepairOf : List (List ℕ) → Relation
-RepairOf files w status =
-    MatchResult (header_in (header_file files)) (λ h. Repairs h (frames_of (messages_file files)) w status) (λ at. ⊥)
+RepairOf files = Over (header_in (header_file files)) (λ h. Repairs h (frames_of (messages_file files)))

@@ -1,5 +1,5 @@
 -- root HEADER, root HEADER ROOT: the data root of a header, and whether it is a given one.
-use Rattle.std.specs.Prelude.{ℕ, List, [], ◌∷◌, ◌++◌, codes, Some, None, if◌then◌else◌, MatchResult}
+use Rattle.std.specs.Prelude.{ℕ, List, ◌++◌, codes, Some, None, if◌then◌else◌}
 use Rattle.std.specs.declared.option.Option.{Option}
 use Rattle.std.specs.Str.{bytes_eq}
 use Rattle.hex.specs.Hex.{encode_lower}
@@ -8,7 +8,8 @@ use Rattle.data_header.specs.DataRoots.{data_root_of}
 use Rattle.da_status.specs.declared.status.Status.TheVariants.{Done}
 use Rattle.da_status.specs.Outcome.{Relation}
 use Rattle.da_commands.specs.Contents.{file_of}
-use Rattle.da_commands.specs.Frames.{header_in, error_of, WritesText}
+use Rattle.da_commands.specs.Frames.{header_in, WritesText}
+use Rattle.da_commands.specs.Forms.{Over}
 use Rattle.da_commands.specs.Verify.{verdict_line, verdict_status}
 
 -- HEADER, the one file of root
@@ -27,17 +28,10 @@ root_refusal header root = if bytes_eq (data_root_of header) root then None else
 abbrev pub Ties : List ℕ → Roots → Relation
 Ties root header = WritesText (verdict_status (root_refusal header root)) (verdict_line (root_refusal header root))
 
--- HEADER is a header and nothing else
-abbrev pub root_judged : List (List ℕ) → List (Option ℕ)
-root_judged files = error_of (header_in (header_file files)) ∷ []
-
 -- what root answers to a HEADER that is a header: the line of its data root
 abbrev pub RootOf : List (List ℕ) → Relation
-RootOf files w status =
-    MatchResult (header_in (header_file files)) (λ header. WritesText Done (root_line (data_root_of header)) w status)
-    (λ at. ⊥)
+RootOf files = Over (header_in (header_file files)) (λ header. WritesText Done (root_line (data_root_of header)))
 
 -- what root answers to a HEADER that is a header and to a ROOT: whether this is its data root
 abbrev pub RootIsOf : List ℕ → List (List ℕ) → Relation
-RootIsOf root files w status =
-    MatchResult (header_in (header_file files)) (λ header. Ties root header w status) (λ at. ⊥)
+RootIsOf root files = Over (header_in (header_file files)) (Ties root)

@@ -1,5 +1,5 @@
 -- sample SQUARE REQUESTS: the samples of a square that are asked for.
-use Rattle.std.specs.Prelude.{◌≡◌, ◌*◌, ℕ, List, [], ◌∷◌, Bool, MatchResult, Some, None}
+use Rattle.std.specs.Prelude.{◌≡◌, ◌*◌, ℕ, List, [], ◌∷◌, Bool, Some, None}
 use Rattle.std.specs.declared.option.Option.{Option}
 use Rattle.std.specs.List.{filter_map}
 use Rattle.namespace_id.specs.declared.cells.Cell.{Cell}
@@ -14,9 +14,10 @@ use Rattle.axis_roots.specs.Openings.{IsProved}
 use Rattle.da_wire.specs.declared.frames.Frame.{Frame}
 use Rattle.da_wire.specs.declared.frames.Frame.TheVariants.{Message, Sample}
 use Rattle.da_wire.specs.Spelling.{sample_kind}
-use Rattle.da_wire.specs.Values.{values_of, bad_value}
+use Rattle.da_wire.specs.Values.{values_of}
 use Rattle.da_status.specs.Outcome.{Relation}
-use Rattle.da_commands.specs.Frames.{square_in, error_of}
+use Rattle.da_commands.specs.Frames.{square_in}
+use Rattle.da_commands.specs.Forms.{Over}
 use Rattle.da_commands.specs.Serving.{square_file, requests_file, Serves}
 
 -- the sample that a frame asks for
@@ -36,7 +37,7 @@ samples_in bytes = filter_map sample_of (values_of (sample_kind ∷ []) bytes)
 abbrev pub is_asked_inside : SquareShares → Cell × Axis → Bool
 is_asked_inside square asked = is_in_square square.k asked.0
 
--- a message is of the cell and the axis that are asked for, shows the share that the square's extension has at the
+-- a sample is of the cell and the axis that are asked for, shows the share that the square's extension has at the
 -- cell, and is proved under the header
 pub record IsSample (square : SquareShares) (header : Roots) (asked : Cell × Axis) (m : sent.Message) : Type 0 where
   pub cell : m.cell ≡ asked.0
@@ -50,14 +51,7 @@ pub record IsSample (square : SquareShares) (header : Roots) (asked : Cell × Ax
 abbrev pub AllowsSample : SquareShares → Roots → Cell × Axis → Frame → Type 0
 AllowsSample square header asked frame = (m : sent.Message) × IsSample square header asked m × (frame ≡ Message m)
 
--- SQUARE is a square and nothing else, and REQUESTS a list of requests for samples
-abbrev pub sample_judged : List (List ℕ) → List (Option ℕ)
-sample_judged files =
-    error_of (square_in (square_file files)) ∷ bad_value (sample_kind ∷ []) (requests_file files) ∷ []
-
 -- what sample answers to a SQUARE that is a square: an M frame for each request, in their order
 abbrev pub SampleOf : List (List ℕ) → Relation
-SampleOf files w status =
-    MatchResult (square_in (square_file files))
-    (λ square. Serves square (is_asked_inside square) (AllowsSample square) (samples_in (requests_file files)) w status)
-    (λ at. ⊥)
+SampleOf files = Over (square_in (square_file files))
+    (λ square. Serves square (is_asked_inside square) (AllowsSample square) (samples_in (requests_file files)))

@@ -1,13 +1,13 @@
 -- Commands that answer requests over a square: their frames are a choice, and the first request that has no answer is
 -- refused.
 use Rattle.std.specs.Prelude.{◌≡◌, ◌⊎◌, ℕ, ◌+◌, ◌<◌, List, [], ◌∷◌, length, Bool, Option, Some, None, if◌then◌else◌, MatchOption}
+use Rattle.std.specs.Borrow.{Bor}
 use Rattle.data_header.specs.Headers.{Roots}
 use Rattle.square_layout.specs.Blocks.{SquareShares}
 use Rattle.axis_roots.specs.Grids.{IsHeaderOf, HasNoHeader}
 use Rattle.da_wire.specs.declared.frames.Frame.{Frame}
 use Rattle.da_status.specs.declared.status.Asked.TheVariants.{NoHeader, At}
 use Rattle.da_status.specs.declared.status.Status.TheVariants.{Done, BadRequest}
-use Rattle.da_commands.specs.declared.serving.Next.{Next}
 use Rattle.da_commands.specs.Contents.{file_of}
 use Rattle.da_commands.specs.Choices.{FramesOf}
 use Rattle.da_status.specs.Outcome.{Relation, Refuses}
@@ -20,17 +20,11 @@ square_file files = file_of files 0
 abbrev pub requests_file : List (List ℕ) → List ℕ
 requests_file files = file_of files 1
 
--- there is a first request
-abbrev pub HasRequest : {A : Type 0} → List A → Type 0
-HasRequest {A} requests = (request : A) × (later : List A) × (requests ≡ request ∷ later)
-
--- what stands at the front of the requests in bytes: a request and the bytes after it, or that memory ran out in
--- place of a request alone
-abbrev pub IsNext : {A : Type 0} → (List ℕ → List A) → List ℕ → Next A → Type 0
-IsNext requests_in bytes (Next.Request request after) =
-    (requests_in bytes ≡ request ∷ requests_in after.now) × (length after.now < length bytes)
-IsNext requests_in bytes Next.End = requests_in bytes ≡ []
-IsNext requests_in bytes Next.NoMemory = HasRequest (requests_in bytes)
+-- what stands at the front of the requests in bytes: a request and the bytes after it, or none
+abbrev pub IsNext : {A : Type 0} → (List ℕ → List A) → List ℕ → Option (A × Bor (List ℕ)) → Type 0
+IsNext requests_in bytes None = requests_in bytes ≡ []
+IsNext requests_in bytes (Some next) =
+    (requests_in bytes ≡ next.0 ∷ requests_in next.1.now) × (length next.1.now < length bytes)
 
 -- the number of the first request that fails a test; the first one has this number
 unfoldable pub failing_from : {A : Type 0} → (A → Bool) → ℕ → List A → Option ℕ

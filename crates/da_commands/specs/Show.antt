@@ -33,6 +33,10 @@ line_of shown frame = shown frame ++ 10 ∷ []
 abbrev pub shown_bytes : (Frame → List ℕ) → List Frame → List ℕ
 shown_bytes shown frames = flat_map (line_of shown) frames
 
+-- what is shown of each frame of a file
+abbrev pub all_shown : (Frame → List ℕ) → List ℕ → List ℕ
+all_shown shown bytes = shown_bytes shown (values_of all_kinds bytes)
+
 -- ---- the commands
 
 -- FILE, the one file of show and json

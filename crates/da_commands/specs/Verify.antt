@@ -1,5 +1,5 @@
 -- verify HEADER ANSWER: whether one answer holds under a header.
-use Rattle.std.specs.Prelude.{◌≡◌, ◌⊎◌, ℕ, List, [], ◌∷◌, ◌++◌, codes, decimal, Some, None, Result, MatchResult, ⊤}
+use Rattle.std.specs.Prelude.{◌≡◌, ◌⊎◌, ℕ, List, [], ◌∷◌, ◌++◌, codes, decimal, Some, None, Result, ⊤}
 use Rattle.std.specs.declared.option.Option.{Option}
 use Rattle.std.specs.Option.{option_map, option_map_or}
 use Rattle.data_header.specs.Headers.{Roots}
@@ -31,12 +31,13 @@ use Rattle.da_wire.specs.Reading.{only_of}
 use Rattle.da_status.specs.declared.status.Status.{Status}
 use Rattle.da_status.specs.declared.status.Status.TheVariants.{Done, Refused}
 use Rattle.da_commands.specs.Contents.{file_of}
-use Rattle.da_commands.specs.Frames.{header_in, single, error_of}
+use Rattle.da_commands.specs.Frames.{header_in, single}
+use Rattle.da_commands.specs.Forms.{Over}
 use Rattle.da_status.specs.Outcome.{Relation}
 
 -- ---- ANSWER
 
--- the number of the check that refuses a message
+-- the number of the check that refuses a sample
 abbrev pub check_number : CheckRefusal → ℕ
 check_number OutOfSquare = 1
 check_number NodeCount = 2
@@ -82,7 +83,7 @@ IsRefusal header (Rooted proof) refusal =
     refusal ≡ option_map rooted_number (rooted_refusal (data_root_of header) proof)
 IsRefusal header frame refusal = refusal ≡ None
 
--- a message shows the square's own share, a namespace answer just the square's shares of the namespace, a commitment
+-- a sample shows the square's own share, a namespace answer exactly the square's shares of the namespace, a commitment
 -- proof is of the square's width and its commitment that of the square's shares in its range, a root proof is of the
 -- square's width and shows the square's own share; or they and the square name a collision; a fraud claim and the square
 -- name one; nothing is said of other frames
@@ -106,7 +107,8 @@ verdict_status refusal = option_map_or (λ number. Refused) refusal Done
 abbrev pub answer_kinds : List ℕ
 answer_kinds = message_kind ∷ names_kind ∷ fraud_kind ∷ commit_kind ∷ rooted_kind ∷ []
 
--- the answer that a file is, or where it stops being one
+-- the answer that a file is, or where it stops being one message, one namespace answer, one fraud claim, one commitment
+-- proof or one root proof and nothing else
 abbrev pub answer_in : List ℕ → Result Frame ℕ
 answer_in bytes = single Some (only_of bytes answer_kinds)
 
@@ -120,11 +122,6 @@ header_file files = file_of files 0
 abbrev pub answer_file : List (List ℕ) → List ℕ
 answer_file files = file_of files 1
 
--- HEADER is a header and nothing else, and ANSWER one message, one namespace answer, one fraud claim, one commitment
--- proof or one root proof and nothing else
-abbrev pub verify_judged : List (List ℕ) → List (Option ℕ)
-verify_judged files = error_of (header_in (header_file files)) ∷ error_of (answer_in (answer_file files)) ∷ []
-
 -- the line and the status of an answer under a header
 abbrev pub Verifies : Roots → Frame → Relation
 Verifies header answer w status =
@@ -132,7 +129,5 @@ Verifies header answer w status =
 
 -- what verify answers to a HEADER and an ANSWER in their forms
 abbrev pub VerifyOf : List (List ℕ) → Relation
-VerifyOf files w status =
-    MatchResult (header_in (header_file files))
-    (λ header. MatchResult (answer_in (answer_file files)) (λ answer. Verifies header answer w status) (λ at. ⊥))
-    (λ at. ⊥)
+VerifyOf files =
+    Over (header_in (header_file files)) (λ header. Over (answer_in (answer_file files)) (λ answer. Verifies header answer))

@@ -1,5 +1,5 @@
 -- verify HEADER ANSWER REQUEST: whether one answer is to a request, and holds under a header.
-use Rattle.std.specs.Prelude.{◌≡◌, ◌==◌, ◌&&◌, ℕ, List, [], ◌∷◌, Bool, true, false, Some, Result, MatchResult}
+use Rattle.std.specs.Prelude.{◌≡◌, ◌==◌, ◌&&◌, ℕ, List, [], ◌∷◌, ◌++◌, Bool, true, false, Some, Result}
 use Rattle.std.specs.declared.option.Option.{Option}
 use Rattle.std.specs.Str.{bytes_eq}
 use Rattle.namespace_id.specs.declared.cells.Axis.{Axis}
@@ -15,6 +15,7 @@ use Rattle.da_wire.specs.Reading.{only_of}
 use Rattle.da_status.specs.Outcome.{Relation}
 use Rattle.da_commands.specs.Contents.{file_of}
 use Rattle.da_commands.specs.Frames.{header_in, single, error_of}
+use Rattle.da_commands.specs.Forms.{under_judged, Over}
 use Rattle.da_commands.specs.Verify.{header_file, answer_file, answer_in, IsRefusal, verdict_line, verdict_status}
 
 -- ---- REQUEST
@@ -27,7 +28,7 @@ request_kinds = sample_kind ∷ request_kind ∷ []
 abbrev pub request_in : List ℕ → Result Frame ℕ
 request_in bytes = single Some (only_of bytes request_kinds)
 
--- whether a message is of a cell, along an axis
+-- whether a sample is of a cell, along an axis
 abbrev pub is_of_cell : Cell → Axis → sent.Message → Bool
 is_of_cell cell axis m = (m.cell.row == cell.row) && (m.cell.col == cell.col) && is_along axis m
 
@@ -42,14 +43,14 @@ abbrev pub is_for : Namespace → Frame → Bool
 is_for name (Names other answer) = bytes_eq other.0 name.0
 is_for name frame = false
 
--- whether to a request a frame is the answer, before any proof is looked at: to one for a sample a message or a root
--- proof with its cell and its axis, to one for a namespace a namespace answer with this namespace
+-- whether to a request a frame is the answer, before any proof is looked at: to one for a sample this is a sample or a
+-- root proof with its cell and its axis, to one for a namespace a namespace answer with this namespace
 abbrev pub is_answer_to : Frame → Frame → Bool
 is_answer_to (Sample cell axis) answer = is_sample cell axis answer
 is_answer_to (Request name) answer = is_for name answer
 is_answer_to request answer = false
 
--- a message, or that of a root proof, is of this cell and this axis, and other frames are no samples
+-- a sample, by itself or in a root proof, is of this cell and this axis, and other frames are no samples
 abbrev pub Samples : Cell → Axis → Frame → Type 0
 Samples cell axis (Message m) = (m.cell ≡ cell) × (m.axis ≡ axis)
 Samples cell axis (Rooted proof) = (proof.message.cell ≡ cell) × (proof.message.axis ≡ axis)
@@ -60,8 +61,8 @@ abbrev pub Tells : Namespace → Frame → Type 0
 Tells name (Names other answer) = other ≡ name
 Tells name frame = ⊥
 
--- the same in plain equations: to a request for a sample a message or a root proof with its cell and its axis, to one for
--- a namespace a namespace answer with this namespace
+-- the same in plain equations: to a request for a sample this is a sample or a root proof with its cell and its axis, to
+-- one for a namespace a namespace answer with this namespace
 abbrev pub IsAnswerTo : Frame → Frame → Type 0
 IsAnswerTo (Sample cell axis) answer = Samples cell axis answer
 IsAnswerTo (Request name) answer = Tells name answer
@@ -78,12 +79,10 @@ abbrev pub IsRefusalFor : Bool → Roots → Frame → Option ℕ → Type 0
 IsRefusalFor true header answer refusal = IsRefusal header answer refusal
 IsRefusalFor false header answer refusal = refusal ≡ Some 0
 
--- HEADER is a header and nothing else, ANSWER one message, one namespace answer, one fraud claim, one commitment proof or
+-- HEADER is a header and nothing else, ANSWER one sample, one namespace answer, one fraud claim, one commitment proof or
 -- one root proof and nothing else, and REQUEST one request for a sample or for a namespace and nothing else
 abbrev pub verify_for_judged : List (List ℕ) → List (Option ℕ)
-verify_for_judged files =
-    error_of (header_in (header_file files)) ∷ error_of (answer_in (answer_file files))
-    ∷ error_of (request_in (request_file files)) ∷ []
+verify_for_judged files = under_judged answer_in files ++ error_of (request_in (request_file files)) ∷ []
 
 -- the line and the status of an answer to a request under a header
 abbrev pub VerifiesFor : Roots → Frame → Frame → Relation
@@ -93,9 +92,6 @@ VerifiesFor header answer request w status =
 
 -- what verify answers to a HEADER, an ANSWER and a REQUEST in their forms
 abbrev pub VerifyForOf : List (List ℕ) → Relation
-VerifyForOf files w status =
-    MatchResult (header_in (header_file files))
-    (λ header. MatchResult (answer_in (answer_file files))
-    (λ answer. MatchResult (request_in (request_file files)) (λ request. VerifiesFor header answer request w status) (λ at. ⊥))
-    (λ at. ⊥))
-    (λ at. ⊥)
+VerifyForOf files =
+    Over (header_in (header_file files)) (λ header. Over (answer_in (answer_file files))
+    (λ answer. Over (request_in (request_file files)) (λ request. VerifiesFor header answer request)))

@@ -1,23 +1,18 @@
 -- wanted MISSING AXIS: the requests for missing cells, along an axis.
-use Rattle.std.specs.Prelude.{ℕ, List, [], ◌∷◌, map, Some, None, Result, MatchResult}
-use Rattle.std.specs.declared.option.Option.{Option}
+use Rattle.std.specs.Prelude.{ℕ, List, [], ◌∷◌, map, Result}
 use Rattle.namespace_id.specs.declared.cells.Axis.{Axis}
 use Rattle.namespace_id.specs.declared.cells.Cell.{Cell}
 use Rattle.namespace_id.specs.Cells.{CellList}
-use Rattle.da_wire.specs.declared.frames.Frame.{Frame}
-use Rattle.da_wire.specs.declared.frames.Frame.TheVariants.{Missing, Sample}
+use Rattle.da_wire.specs.declared.frames.Frame.TheVariants.{Sample}
 use Rattle.da_wire.specs.Spelling.{missing_kind}
 use Rattle.da_wire.specs.Reading.{only_of}
+use Rattle.da_wire.specs.Single.{missing_of}
 use Rattle.da_wire.specs.Values.{values_bytes}
 use Rattle.da_status.specs.declared.status.Status.TheVariants.{Done}
 use Rattle.da_status.specs.Outcome.{Relation}
 use Rattle.da_commands.specs.Contents.{file_of}
-use Rattle.da_commands.specs.Frames.{single, error_of, WritesText}
-
--- the missing cells that a frame is
-abbrev pub missing_of : Frame → Option CellList
-missing_of (Missing cells) = Some cells
-missing_of frame = None
+use Rattle.da_commands.specs.Frames.{single, WritesText}
+use Rattle.da_commands.specs.Forms.{Over}
 
 -- the missing cells that a file is, or where it stops being a frame of them
 abbrev pub missing_in : List ℕ → Result CellList ℕ
@@ -31,12 +26,6 @@ requests_bytes axis cells = values_bytes (map (λ cell. Sample cell axis) cells)
 abbrev pub missing_file : List (List ℕ) → List ℕ
 missing_file files = file_of files 0
 
--- MISSING is missing cells and nothing else
-abbrev pub wanted_judged : List (List ℕ) → List (Option ℕ)
-wanted_judged files = error_of (missing_in (missing_file files)) ∷ []
-
 -- what wanted answers to a MISSING that is missing cells
 abbrev pub WantedOf : Axis → List (List ℕ) → Relation
-WantedOf axis files w status =
-    MatchResult (missing_in (missing_file files)) (λ cells. WritesText Done (requests_bytes axis cells.list) w status)
-    (λ at. ⊥)
+WantedOf axis files = Over (missing_in (missing_file files)) (λ cells. WritesText Done (requests_bytes axis cells.list))

@@ -2,13 +2,14 @@
 
 ghost use Rattle.std.specs.Prelude.{◌≡◌, ◌≤◌, ◌*◌, ◌++◌, length, IfOk, OnOk, IsSome};
 ghost use Rattle.std.specs.List.{flat_map};
+ghost use Rattle.blob_feed.specs.Feeds.{shares_found};
 ghost use Rattle.da_wire.specs.declared.frames.Frame.TheVariants as FrameOf;
 ghost use Rattle.da_wire.specs.Spelling.{spelling};
 ghost use Rattle.da_wire.specs.kinds.Block.{blob_bytes};
 ghost use Rattle.da_commands.specs.declared.command.Command.TheVariants as CommandOf;
 ghost use Rattle.da_commands.specs.Contents.{contents_of};
 ghost use Rattle.da_commands.specs.Frames.{ReadsSingle};
-ghost use Rattle.da_commands.specs.Blobs.{is_compact, behind_compact, found_shares, answer_shares, shares_of, shares_in, block_with, Joins};
+ghost use Rattle.da_commands.specs.Blobs.{is_compact, behind_compact, answer_shares, shares_of, shares_in, block_with, Joins};
 ghost use Rattle.da_commands.specs.Meaning.{Meaning};
 ghost use Rattle.da_status.specs.Outcome.{EndsAtOnce};
 
@@ -50,7 +51,7 @@ fn behind_compact(shares: &[Share]) -> &[Share]
 
 /// Appends the shares that are found in a row.
 fn put_found(found: &Found, shares: &mut Vec<Share>) -> Result<(), NoMemory>
-    ensures { OnOk result (shares.new.items ≡ shares.old.items ++ found_shares found.now) }
+    ensures { OnOk result (shares.new.items ≡ shares.old.items ++ shares_found found.now) }
 {
     match found {
         Found::Range { shares: found, .. } => match shares.extend_from_slice(&found.list) {
@@ -127,7 +128,7 @@ fn give_of<O: Sink>(alloc: Global, frame: &Frame, out: &mut O) -> Status
             Ok(shares) => give_blobs(alloc, &shares, out),
             Err(_) => Status::NoMemory,
         },
-        // Never taken: the kind was asked for. The type of a frame has the other kinds too.
+        // A frame of another kind has no shares for blobs.
         _ => give_blobs(alloc, &[], out),
     }
 }

@@ -7,15 +7,12 @@ ghost use Rattle.da_commands.specs.Build.{Builds};
 ghost use Rattle.da_commands.specs.Meaning.{Meaning};
 ghost use Rattle.da_status.specs.Outcome.{EndsAtOnce};
 
-use crate::contents::file;
-use crate::frames::{Unread, block_in, give, square_frame};
+use crate::forms::one_block;
+use crate::frames::{give, square_frame};
 use da_io::Sink;
 use da_status::Status;
 use square_layout::{Block, LayError, lay};
 use std::alloc::Global;
-
-/// The place of the file among the words that name files.
-const BLOCK: u32 = 0;
 
 /// Writes the square of a block. All memory is taken before the write.
 fn build_square<O: Sink>(alloc: Global, block: &Block, out: &mut O) -> Status
@@ -34,9 +31,8 @@ pub(crate) fn execute<O: Sink>(alloc: Global, files: &[Vec<u8>], out: &mut O) ->
     ensures { EndsAtOnce (Meaning CommandOf.Build (contents_of files.now)) (O.taken out.old)
         (O.taken out.new) (O.faults out.old) (O.faults out.new) (out.new ≡ out.old) result }
 {
-    match block_in(alloc, file(files, BLOCK)) {
+    match one_block(alloc, files) {
         Ok(block) => build_square(alloc, &block, out),
-        Err(Unread::BadForm(at)) => Status::BadInput(BLOCK, at),
-        Err(Unread::NoMemory) => Status::NoMemory,
+        Err(status) => status,
     }
 }

@@ -1,4 +1,4 @@
-//! check HEADER MESSAGES: which messages of a list of frames are proved under a header.
+//! check HEADER MESSAGES: which samples of a list of frames are proved under a header.
 
 ghost use Rattle.std.specs.Prelude.{◌≡◌, IfSome};
 ghost use Rattle.da_wire.specs.Reading.{raw_seen};
@@ -9,28 +9,23 @@ ghost use Rattle.da_commands.specs.Check.{finding_of, line_of, is_ok, Lists};
 ghost use Rattle.da_commands.specs.Meaning.{Meaning};
 ghost use Rattle.da_status.specs.Outcome.{Ends};
 
-use crate::contents::file;
-use crate::frames::{Unread, header_in, is_long};
+use crate::forms::header_and_messages;
+use crate::frames::is_long;
 use axis_roots::{CheckRefusal, PartialTrees, opens_by};
 use da_io::{LineRoom, Sink};
 use da_status::Status;
-use da_wire::{RawFrame, bad_frame, message, next_frame};
+use da_wire::{RawFrame, message, next_frame};
 use data_header::Header;
 use std::alloc::Global;
-
-/// The places of the files among the words that name files.
-const HEADER: u32 = 0;
-
-const MESSAGES: u32 = 1;
 
 /// What `check` finds of a frame.
 #[derive(Clone, Copy)]
 pub enum Finding {
-    /// It is a message that is proved.
+    /// It is a sample that is proved.
     Proved,
-    /// It is no message of the grammar.
+    /// It is no sample of the grammar.
     NoMessage,
-    /// It is a message that the first check which fails refuses.
+    /// It is a sample that the first check which fails refuses.
     Refused(CheckRefusal),
 }
 
@@ -101,20 +96,15 @@ fn list<O: Sink>(
     }
 }
 
-/// Answers to the messages in MESSAGES under the header in HEADER.
+/// Answers to the samples in MESSAGES under the header in HEADER.
 pub(crate) fn execute<O: Sink>(alloc: Global, files: &[Vec<u8>], out: &mut O) -> Status
     ensures { Ends (Meaning Check (contents_of files.now)) (O.taken out.old) (O.taken out.new)
         (O.faults out.old) (O.faults out.new) (out.new ≡ out.old) result }
 {
-    let header = match header_in(alloc, file(files, HEADER)) {
-        Ok(header) => header,
-        Err(Unread::BadForm(at)) => return Status::BadInput(HEADER, at),
-        Err(Unread::NoMemory) => return Status::NoMemory,
+    let (header, messages) = match header_and_messages(alloc, files) {
+        Ok(read) => read,
+        Err(status) => return status,
     };
-    let messages = file(files, MESSAGES);
-    if let Some(at) = bad_frame(messages) {
-        return Status::BadInput(MESSAGES, at);
-    }
     let mut trees = None;
     if is_long(&header, messages) {
         let Ok(kept) = PartialTrees::new(alloc, &header) else {

@@ -73,7 +73,7 @@ pub enum Command {
 /// `repair` isn't one of these: its second file is streamed.
 ///
 /// The files are judged in their order, then what they ask for; then comes the output. A file that isn't
-/// there is as one that is empty. Want of memory may be answered at any step.
+/// there is as one that is empty. Out of memory may be answered at any step.
 pub fn execute<O: Sink>(alloc: Global, command: Command, files: &[Vec<u8>], out: &mut O) -> Status
     requires runnable { IsRunnable command }
     requires gathered { command ≢ CommandOf.Repair }

@@ -12,8 +12,8 @@ ghost use Rattle.da_commands.specs.Meaning.{Meaning};
 ghost use Rattle.da_status.specs.declared.status.Status.TheVariants as StatusOf;
 ghost use Rattle.da_status.specs.Outcome.{EndsAtOnce};
 
-use crate::contents::file;
-use crate::frames::{Unread, block_in, put};
+use crate::forms::one_block;
+use crate::frames::put;
 use crate::root::hash_line;
 use blob_commit::{CommitError, commitment_of, range_laws};
 use da_io::Sink;
@@ -22,9 +22,6 @@ use namespace_id::NoMemory;
 use share_split::Blob;
 use square_layout::{Block, LayError, lay, order_laws, size_laws};
 use std::alloc::Global;
-
-/// The place of the file among the words that name files.
-const BLOCK: u32 = 0;
 
 /// The commitment of a blob that has bytes, and no more shares than the greatest square.
 fn commitment_in(alloc: Global, blob: &Blob) -> Result<[u8; 32], NoMemory>
@@ -112,9 +109,8 @@ pub(crate) fn execute<O: Sink>(alloc: Global, files: &[Vec<u8>], out: &mut O) ->
     ensures { EndsAtOnce (Meaning CommandOf.Commit (contents_of files.now)) (O.taken out.old)
         (O.taken out.new) (O.faults out.old) (O.faults out.new) (out.new ≡ out.old) result }
 {
-    match block_in(alloc, file(files, BLOCK)) {
+    match one_block(alloc, files) {
         Ok(block) => commit(alloc, &block, out),
-        Err(Unread::BadForm(at)) => Status::BadInput(BLOCK, at),
-        Err(Unread::NoMemory) => Status::NoMemory,
+        Err(status) => status,
     }
 }

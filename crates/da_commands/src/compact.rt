@@ -13,29 +13,26 @@ ghost use Rattle.da_status.specs.Statuses.{kind_of, output};
 ghost use Rattle.da_status.specs.Outcome.{EndsAtOnce};
 
 use crate::contents::file;
-use crate::frames::{Unread, claim_frame, clash_frame, give_with, header_in, put, reason};
+use crate::forms::one_header;
+use crate::frames::{Unread, claim_frame, clash_frame, give_with, put, reason};
 use crate::verify::{fraud_number, verdict_line};
 use axis_roots::FraudClaim;
 use befp_verify::{Compacted, Upheld, VerifyRoom, verify};
 use da_io::Sink;
 use da_status::Status;
-use da_wire::{Frame, read_only};
+use da_wire::{Frame, read_claim};
 use data_header::Header;
 use std::alloc::Global;
 
-/// The places of the files among the words that name files.
-const HEADER: u32 = 0;
-
+/// The place of the last file among the words that name files.
 const CLAIM: u32 = 1;
 
 /// The claim that a file is.
 fn claim_in(alloc: Global, bytes: &[u8]) -> Result<FraudClaim, Unread>
     ensures { ReadsSingle result (claim_in bytes.now) }
 {
-    match read_only(alloc, bytes, b"B") {
-        Ok(Frame::Fraud(claim)) => Ok(claim),
-        // Never taken: the kind was asked for. The type of a frame has the other kinds too.
-        Ok(_) => Err(Unread::BadForm(0)),
+    match read_claim(alloc, bytes) {
+        Ok(claim) => Ok(claim),
         Err(error) => Err(reason(error)),
     }
 }
@@ -109,10 +106,9 @@ pub(crate) fn execute<O: Sink>(alloc: Global, files: &[Vec<u8>], out: &mut O) ->
     ensures { EndsAtOnce (Meaning CommandOf.Compact (contents_of files.now)) (O.taken out.old)
         (O.taken out.new) (O.faults out.old) (O.faults out.new) (out.new ≡ out.old) result }
 {
-    let header = match header_in(alloc, file(files, HEADER)) {
+    let header = match one_header(alloc, files) {
         Ok(header) => header,
-        Err(Unread::BadForm(at)) => return Status::BadInput(HEADER, at),
-        Err(Unread::NoMemory) => return Status::NoMemory,
+        Err(status) => return status,
     };
     match claim_in(alloc, file(files, CLAIM)) {
         Ok(claim) => judge(alloc, &header, claim, out),

@@ -21,11 +21,10 @@ ghost use Rattle.da_commands.specs.Namespace.{namespaces_in};
 ghost use Rattle.da_commands.specs.Follow.{is_followed, each_once, item_of, items_in, bad_feed, IsLed, IsTimely, Feed, places_from, IsToldOf, feed_status, Follows, FollowsAsked};
 ghost use Rattle.da_commands.specs.Meaning.{Meaning};
 
-use crate::contents::file;
 use crate::feed_lines::{Told, lines};
+use crate::forms::wanted_and_answers;
 use crate::frames::put;
 use crate::namespace::next_name;
-use crate::serving::Next;
 use blob_feed::{Filter, FollowError, Follower, feed_laws};
 use da_io::Sink;
 use da_status::{Asked, Status};
@@ -34,11 +33,6 @@ use namespace_id::{Namespace, NoMemory};
 use std::alloc::Global;
 use std::collections::BTreeSet;
 use std::marker::Model;
-
-/// The places of the files among the words that name files.
-const WANTED: u32 = 0;
-
-const ANSWERS: u32 = 1;
 
 /// The kinds of the frames of ANSWERS.
 const KINDS: &[u8] = b"HN";
@@ -69,23 +63,19 @@ impl Filter for Listed {
 }
 
 /// The number of the first namespace that is asked for and isn't one of a blob.
-fn first_other(alloc: Global, wanted: &[u8]) -> Result<Option<u64>, NoMemory>
-    ensures { IfOk result (λ found. found ≡ failing_from is_followed 0 (namespaces_in wanted.now)) }
+fn first_other(wanted: &[u8]) -> Option<u64>
+    ensures { result ≡ failing_from is_followed 0 (namespaces_in wanted.now) }
 {
     let mut rest = wanted;
     let mut number = 0;
-    loop {
-        let (name, after) = match next_name(alloc, rest) {
-            Next::Request(name, after) => (name, after),
-            Next::End => return Ok(None),
-            Next::NoMemory => return Err(NoMemory),
-        };
+    while let Some((name, after)) = next_name(rest) {
         if Namespace::blob(&name.0).is_err() {
-            return Ok(Some(number));
+            return Some(number);
         }
         number += 1;
         rest = after;
     }
+    None
 }
 
 /// The set of the namespaces that are asked for.
@@ -94,17 +84,13 @@ fn wanted_set(alloc: Global, wanted: &[u8]) -> Result<BTreeSet<Namespace>, NoMem
 {
     let mut names = BTreeSet::new(alloc);
     let mut rest = wanted;
-    loop {
-        let (name, after) = match next_name(alloc, rest) {
-            Next::Request(name, after) => (name, after),
-            Next::End => return Ok(names),
-            Next::NoMemory => return Err(NoMemory),
-        };
+    while let Some((name, after)) = next_name(rest) {
         if names.insert(name).is_err() {
             return Err(NoMemory);
         }
         rest = after;
     }
+    Ok(names)
 }
 
 /// The namespaces of a set, ascending.
@@ -118,7 +104,7 @@ fn in_order(alloc: Global, names: &BTreeSet<Namespace>) -> Result<Vec<Namespace>
 }
 
 /// Where bytes aren't a list of headers and answers that begins with a header.
-fn bad_feed(bytes: &[u8]) -> Option<u64>
+pub(crate) fn bad_feed(bytes: &[u8]) -> Option<u64>
     ensures { result ≡ bad_feed bytes.now }
 {
     if bytes.first() == Some(&b'N') {
@@ -265,10 +251,9 @@ fn answer<O: Sink>(alloc: Global, wanted: &[u8], answers: &[u8], out: &mut O) ->
         (O.taken out.old) (O.taken out.new) (O.faults out.old) (O.faults out.new)
         (out.new ≡ out.old) result }
 {
-    match first_other(alloc, wanted) {
-        Ok(None) => give(alloc, wanted, answers, out),
-        Ok(Some(number)) => Status::BadRequest(Asked::At(number)),
-        Err(_) => Status::NoMemory,
+    match first_other(wanted) {
+        Some(number) => Status::BadRequest(Asked::At(number)),
+        None => give(alloc, wanted, answers, out),
     }
 }
 
@@ -278,13 +263,9 @@ pub(crate) fn execute<O: Sink>(alloc: Global, files: &[Vec<u8>], out: &mut O) ->
     ensures { EndsAtOnce (Meaning CommandOf.Follow (contents_of files.now)) (O.taken out.old)
         (O.taken out.new) (O.faults out.old) (O.faults out.new) (out.new ≡ out.old) result }
 {
-    let wanted = file(files, WANTED);
-    if let Some(at) = bad_value(wanted, b"P") {
-        return Status::BadInput(WANTED, at);
-    }
-    let answers = file(files, ANSWERS);
-    if let Some(at) = bad_feed(answers) {
-        return Status::BadInput(ANSWERS, at);
-    }
+    let (wanted, answers) = match wanted_and_answers(files) {
+        Ok(read) => read,
+        Err(status) => return status,
+    };
     answer(alloc, wanted, answers, out)
 }

@@ -12,7 +12,10 @@ ghost use Rattle.da_status.specs.Outcome.{EndsAtOnce};
 use axis_roots::{FraudClaim, Message, claim_law};
 use da_io::{Sink, write_all};
 use da_status::Status;
-use da_wire::{Frame, FrameError, SpellError, read_only, value_laws, wire_laws, write_frame};
+use da_wire::{
+    Frame, FrameError, SpellError, read_block, read_header, read_message, read_square, value_laws,
+    wire_laws, write_frame,
+};
 use data_header::Header;
 use hash_clash::Clash;
 use namespace_id::{Cells, shares_law};
@@ -45,10 +48,8 @@ pub(crate) fn reason(error: FrameError) -> Unread
 pub fn header_in(alloc: Global, bytes: &[u8]) -> Result<Header, Unread>
     ensures { ReadsSingle result (header_in bytes.now) }
 {
-    match read_only(alloc, bytes, b"H") {
-        Ok(Frame::Header(header)) => Ok(header),
-        // Never taken: the kind was asked for. The type of a frame has the other kinds too.
-        Ok(_) => Err(Unread::BadForm(0)),
+    match read_header(alloc, bytes) {
+        Ok(header) => Ok(header),
         Err(error) => Err(reason(error)),
     }
 }
@@ -64,22 +65,18 @@ pub(crate) fn is_long(header: &Header, messages: &[u8]) -> bool {
 pub fn square_in(alloc: Global, bytes: &[u8]) -> Result<Square, Unread>
     ensures { ReadsSingle result (square_in bytes.now) }
 {
-    match read_only(alloc, bytes, b"S") {
-        Ok(Frame::Square(square)) => Ok(square),
-        // Never taken: the kind was asked for. The type of a frame has the other kinds too.
-        Ok(_) => Err(Unread::BadForm(0)),
+    match read_square(alloc, bytes) {
+        Ok(square) => Ok(square),
         Err(error) => Err(reason(error)),
     }
 }
 
-/// The message that a file is.
-pub fn message_in(alloc: Global, bytes: &[u8]) -> Result<Message, Unread>
+/// The sample that a file is. It takes no memory.
+pub fn message_in(bytes: &[u8]) -> Result<Message, Unread>
     ensures { ReadsSingle result (message_in bytes.now) }
 {
-    match read_only(alloc, bytes, b"M") {
-        Ok(Frame::Message(message)) => Ok(message),
-        // Never taken: the kind was asked for. The type of a frame has the other kinds too.
-        Ok(_other) => Err(Unread::BadForm(0)),
+    match read_message(bytes) {
+        Ok(message) => Ok(message),
         Err(error) => Err(reason(error)),
     }
 }
@@ -88,10 +85,8 @@ pub fn message_in(alloc: Global, bytes: &[u8]) -> Result<Message, Unread>
 pub(crate) fn block_in(alloc: Global, bytes: &[u8]) -> Result<Block, Unread>
     ensures { ReadsSingle result (block_in bytes.now) }
 {
-    match read_only(alloc, bytes, b"V") {
-        Ok(Frame::Block(block)) => Ok(block),
-        // Never taken: the kind was asked for. The type of a frame has the other kinds too.
-        Ok(_) => Err(Unread::BadForm(0)),
+    match read_block(alloc, bytes) {
+        Ok(block) => Ok(block),
         Err(error) => Err(reason(error)),
     }
 }

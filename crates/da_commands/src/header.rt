@@ -9,8 +9,8 @@ ghost use Rattle.da_commands.specs.Header.{Heads};
 ghost use Rattle.da_commands.specs.Meaning.{Meaning};
 ghost use Rattle.da_status.specs.Outcome.{EndsAtOnce};
 
-use crate::contents::file;
-use crate::frames::{Unread, give, square_in};
+use crate::forms::one_square;
+use crate::frames::give;
 use axis_roots::{Grid, grid_laws, header_of};
 use da_io::Sink;
 use da_status::{Asked, Status};
@@ -19,9 +19,6 @@ use data_header::Header;
 use namespace_id::digests_law;
 use square_layout::Square;
 use std::alloc::Global;
-
-/// The place of the file among the words that name files.
-const SQUARE: u32 = 0;
 
 /// The frame of a header. It has a spelling, of 7 bytes and 360 for each k.
 pub fn header_frame(header: Header) -> Frame
@@ -59,9 +56,8 @@ pub(crate) fn execute<O: Sink>(alloc: Global, files: &[Vec<u8>], out: &mut O) ->
     ensures { EndsAtOnce (Meaning CommandOf.Header (contents_of files.now)) (O.taken out.old)
         (O.taken out.new) (O.faults out.old) (O.faults out.new) (out.new ≡ out.old) result }
 {
-    match square_in(alloc, file(files, SQUARE)) {
+    match one_square(alloc, files) {
         Ok(square) => give_header(alloc, &square, out),
-        Err(Unread::BadForm(at)) => Status::BadInput(SQUARE, at),
-        Err(Unread::NoMemory) => Status::NoMemory,
+        Err(status) => status,
     }
 }

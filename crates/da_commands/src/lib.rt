@@ -1,8 +1,9 @@
 //! The commands of `da` over the contents of their files: an output and a status.
 //!
 //! A command is a file of its own here and in `specs/`, a case of `Command`, of `Meaning` and of
-//! `execute`. `frames` has what several share: files and outputs that are one frame. `repair` has
-//! what is written for a verdict, since its second file is read by the crate above.
+//! `execute`. `forms` has the shapes of files, by which they are judged, `frames` what several share:
+//! files and outputs that are one frame. `repair` has what is written for a verdict, since its second
+//! file is read by the crate above.
 #![tactic(auto)]
 
 mod blobs;
@@ -15,6 +16,7 @@ mod contents;
 mod demo;
 mod feed_lines;
 mod follow;
+mod forms;
 mod frames;
 mod header;
 mod help;
@@ -25,7 +27,6 @@ mod prove;
 mod repair;
 mod root;
 mod sample;
-mod serving;
 mod show;
 mod verify;
 mod verify_for;

@@ -19,22 +19,17 @@ ghost use Rattle.da_commands.specs.Light.{event_in, events_in, Answers, HasOutpu
 ghost use Rattle.da_commands.specs.Meaning.{Meaning};
 ghost use Rattle.da_status.specs.Outcome.{EndsAtOnce};
 
-use crate::contents::file;
-use crate::frames::{Unread, claim_frame, give_with, header_in, is_long, missing_frame, put};
+use crate::forms::header_and_messages;
+use crate::frames::{claim_frame, give_with, is_long, missing_frame, put};
 use befp_verify::Upheld;
 use da_io::Sink;
 use da_status::{Asked, Status};
-use da_wire::{RawFrame, bad_frame, claim, message, next_frame};
+use da_wire::{RawFrame, claim, message, next_frame};
 use data_header::Header;
 use light_node::{Event, Light, LightNode, Picker};
 use namespace_id::{Cell, CellRoom, Cells, NoMemory};
 use sampling::{DrawError, cells};
 use std::alloc::Global;
-
-/// The places of the files among the words that name files.
-const HEADER: u32 = 0;
-
-const MESSAGES: u32 = 1;
 
 /// The sample or the claim that a frame is; none where it is neither.
 fn event_in(alloc: Global, frame: RawFrame<'_>) -> Result<Option<Event>, NoMemory>
@@ -82,7 +77,7 @@ fn remember_many<F: Picker>(
     Ok(())
 }
 
-/// The verdict under a header on messages, where the picker's cells for the first `count` numbers are
+/// The verdict under a header on samples, where the picker's cells for the first `count` numbers are
 /// planned.
 fn judge<F: Picker>(
     alloc: Global,
@@ -104,7 +99,7 @@ fn judge<F: Picker>(
     Ok(node.finish(room))
 }
 
-/// The verdict under a header on messages, where these cells are planned.
+/// The verdict under a header on samples, where these cells are planned.
 fn verdict(
     alloc: Global,
     header: &Header,
@@ -168,7 +163,7 @@ fn give_verdict<O: Sink>(alloc: Global, light: Light, out: &mut O) -> Status
     }
 }
 
-/// Answers the verdict under a header on messages, where so many cells are drawn by the key.
+/// Answers the verdict under a header on samples, where so many cells are drawn by the key.
 fn light<O: Sink>(
     alloc: Global,
     header: &Header,
@@ -191,7 +186,7 @@ fn light<O: Sink>(
     }
 }
 
-/// Answers what a light node that draws so many cells by the key comes to by the messages in MESSAGES
+/// Answers what a light node that draws so many cells by the key comes to by the samples in MESSAGES
 /// under the header in HEADER.
 pub(crate) fn execute<O: Sink>(
     alloc: Global,
@@ -204,14 +199,9 @@ pub(crate) fn execute<O: Sink>(
         (O.taken out.old) (O.taken out.new) (O.faults out.old) (O.faults out.new)
         (out.new ≡ out.old) result }
 {
-    let header = match header_in(alloc, file(files, HEADER)) {
-        Ok(header) => header,
-        Err(Unread::BadForm(at)) => return Status::BadInput(HEADER, at),
-        Err(Unread::NoMemory) => return Status::NoMemory,
+    let (header, messages) = match header_and_messages(alloc, files) {
+        Ok(read) => read,
+        Err(status) => return status,
     };
-    let messages = file(files, MESSAGES);
-    if let Some(at) = bad_frame(messages) {
-        return Status::BadInput(MESSAGES, at);
-    }
     light(alloc, &header, messages, key, count, out)
 }

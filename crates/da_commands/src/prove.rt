@@ -19,24 +19,18 @@ ghost use Rattle.da_commands.specs.Prove.{AllowsRootProof, ProvesIn, ProvesRange
 ghost use Rattle.da_commands.specs.Meaning.{Meaning};
 ghost use Rattle.da_status.specs.Outcome.{Ends, EndsAtOnce};
 
-use crate::contents::file;
-use crate::frames::{Unread, give, square_in};
+use crate::forms::{one_square, square_and_requests};
+use crate::frames::give;
 use crate::sample::{first_outside, next_sample};
-use crate::serving::Next;
 use axis_roots::{Grid, Message, grid_laws, header_of, index};
 use blob_commit::{CommitProof, ProveError, RootedMessage, prove_commit, row_trees, sample_laws};
 use da_io::Sink;
 use da_status::{Asked, Status};
-use da_wire::{Frame, bad_value, frame_law, wire_laws};
+use da_wire::{Frame, frame_law, wire_laws};
 use data_header::{Header, make_root_proof};
 use square_layout::Square;
 use square_serve::{Held, HeldError, serve_laws};
 use std::alloc::Global;
-
-/// The places of the files among the words that name files.
-const SQUARE: u32 = 0;
-
-const REQUESTS: u32 = 1;
 
 /// The root proof of a sample that is proved under a header.
 fn root_proof(header: &Header, message: Message) -> RootedMessage
@@ -83,12 +77,7 @@ fn give_proofs<O: Sink>(alloc: Global, held: &mut Held, requests: &[u8], out: &m
     };
     let mut text = Vec::new(alloc);
     let mut rest = requests;
-    loop {
-        let (asked, after) = match next_sample(alloc, rest) {
-            Next::Request(asked, after) => (asked, after),
-            Next::End => return Status::Done,
-            Next::NoMemory => return Status::NoMemory,
-        };
+    while let Some((asked, after)) = next_sample(rest) {
         let Ok(message) = held.sample(asked.0, asked.1) else {
             // Never taken: the cells were judged. The call refuses cells outside.
             unreachable!()
@@ -100,6 +89,7 @@ fn give_proofs<O: Sink>(alloc: Global, held: &mut Held, requests: &[u8], out: &m
             failed => return failed,
         }
     }
+    Status::Done
 }
 
 /// Answers to the requests over a square.
@@ -115,10 +105,9 @@ fn answer<O: Sink>(alloc: Global, square: Square, requests: &[u8], out: &mut O) 
         Err(HeldError::NoHeader) => return Status::BadRequest(Asked::NoHeader),
         Err(HeldError::NoMemory) => return Status::NoMemory,
     };
-    match first_outside(alloc, k, requests) {
-        Ok(None) => give_proofs(alloc, &mut held, requests, out),
-        Ok(Some(number)) => Status::BadRequest(Asked::At(number)),
-        Err(_) => Status::NoMemory,
+    match first_outside(k, requests) {
+        Some(number) => Status::BadRequest(Asked::At(number)),
+        None => give_proofs(alloc, &mut held, requests, out),
     }
 }
 
@@ -127,15 +116,10 @@ pub(crate) fn execute<O: Sink>(alloc: Global, files: &[Vec<u8>], out: &mut O) ->
     ensures { Ends (Meaning CommandOf.Prove (contents_of files.now)) (O.taken out.old)
         (O.taken out.new) (O.faults out.old) (O.faults out.new) (out.new ≡ out.old) result }
 {
-    let square = match square_in(alloc, file(files, SQUARE)) {
-        Ok(square) => square,
-        Err(Unread::BadForm(at)) => return Status::BadInput(SQUARE, at),
-        Err(Unread::NoMemory) => return Status::NoMemory,
+    let (square, requests) = match square_and_requests(alloc, files, b"Q") {
+        Ok(read) => read,
+        Err(status) => return status,
     };
-    let requests = file(files, REQUESTS);
-    if let Some(at) = bad_value(requests, b"Q") {
-        return Status::BadInput(REQUESTS, at);
-    }
     answer(alloc, square, requests, out)
 }
 
@@ -229,9 +213,8 @@ pub(crate) fn range<O: Sink>(
         (O.taken out.old) (O.taken out.new) (O.faults out.old) (O.faults out.new)
         (out.new ≡ out.old) result }
 {
-    match square_in(alloc, file(files, SQUARE)) {
+    match one_square(alloc, files) {
         Ok(square) => prove_range(alloc, &square, start, count, out),
-        Err(Unread::BadForm(at)) => Status::BadInput(SQUARE, at),
-        Err(Unread::NoMemory) => Status::NoMemory,
+        Err(status) => status,
     }
 }

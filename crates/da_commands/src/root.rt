@@ -10,16 +10,13 @@ ghost use Rattle.da_commands.specs.Meaning.{Meaning};
 ghost use Rattle.da_status.specs.declared.status.Status.TheVariants as StatusOf;
 ghost use Rattle.da_status.specs.Outcome.{EndsAtOnce};
 
-use crate::contents::file;
-use crate::frames::{Unread, header_in, put};
+use crate::forms::one_header;
+use crate::frames::put;
 use crate::verify::give_line;
 use da_io::Sink;
 use da_status::{Line, Status};
 use data_header::{Header, data_root};
 use std::alloc::Global;
-
-/// The place of the file among the words that name files.
-const HEADER: u32 = 0;
 
 /// The line of a hash, as a data root is one, in hexadecimal digits.
 pub(crate) fn hash_line(hash: &[u8; 32]) -> Line
@@ -58,10 +55,9 @@ pub(crate) fn root<O: Sink>(alloc: Global, files: &[Vec<u8>], out: &mut O) -> St
     ensures { EndsAtOnce (Meaning CommandOf.Root (contents_of files.now)) (O.taken out.old)
         (O.taken out.new) (O.faults out.old) (O.faults out.new) (out.new ≡ out.old) result }
 {
-    match header_in(alloc, file(files, HEADER)) {
+    match one_header(alloc, files) {
         Ok(header) => give_root(&header, out),
-        Err(Unread::BadForm(at)) => Status::BadInput(HEADER, at),
-        Err(Unread::NoMemory) => Status::NoMemory,
+        Err(status) => status,
     }
 }
 
@@ -76,9 +72,8 @@ pub(crate) fn root_is<O: Sink>(
         (O.taken out.old) (O.taken out.new) (O.faults out.old) (O.faults out.new)
         (out.new ≡ out.old) result }
 {
-    match header_in(alloc, file(files, HEADER)) {
+    match one_header(alloc, files) {
         Ok(header) => give_line(root_refusal(&header, root), out),
-        Err(Unread::BadForm(at)) => Status::BadInput(HEADER, at),
-        Err(Unread::NoMemory) => Status::NoMemory,
+        Err(status) => status,
     }
 }

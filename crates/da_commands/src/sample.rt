@@ -1,6 +1,6 @@
 //! sample SQUARE REQUESTS: the samples of a square that are asked for.
 
-ghost use Rattle.std.specs.Prelude.{◌≡◌, None, IfOk, IsTrue, IsSome};
+ghost use Rattle.std.specs.Prelude.{◌≡◌, None, IsTrue, IsSome};
 ghost use Rattle.namespace_id.specs.Cells.{is_width, is_in_square};
 ghost use Rattle.square_layout.specs.Blocks.{SquareShares};
 ghost use Rattle.square_serve.specs.Serving.{Holds};
@@ -9,77 +9,46 @@ ghost use Rattle.da_wire.specs.Spelling.{spelling};
 ghost use Rattle.da_commands.specs.declared.command.Command.TheVariants as CommandOf;
 ghost use Rattle.da_commands.specs.Contents.{contents_of};
 ghost use Rattle.da_commands.specs.Serving.{failing_from, IsNext, Gives, Serves};
-ghost use Rattle.da_commands.specs.Sample.{sample_of, samples_in, is_asked_inside, AllowsSample};
+ghost use Rattle.da_commands.specs.Sample.{samples_in, is_asked_inside, AllowsSample};
 ghost use Rattle.da_commands.specs.Meaning.{Meaning};
 ghost use Rattle.da_status.specs.Outcome.{Ends};
 
-use crate::contents::file;
-use crate::frames::{Unread, give, square_in};
-use crate::serving::Next;
+use crate::forms::square_and_requests;
+use crate::frames::give;
 use axis_roots::{Message, message_law};
 use da_io::Sink;
 use da_status::{Asked, Status};
-use da_wire::{Frame, bad_value, next_value, wire_laws};
-use namespace_id::{Axis, Cell, NoMemory, is_in_square};
+use da_wire::{Frame, wire_laws};
+use namespace_id::{Axis, Cell, is_in_square};
 use square_layout::Square;
 use square_serve::{Held, HeldError, serve_laws};
 use std::alloc::Global;
 
-/// The places of the files among the words that name files.
-const SQUARE: u32 = 0;
-
-const REQUESTS: u32 = 1;
-
-/// The sample that a frame asks for.
-fn sample_of(frame: &Frame) -> Option<(Cell, Axis)>
-    ensures { result ≡ sample_of frame.now }
-{
-    match frame {
-        Frame::Sample(cell, axis) => Some((*cell, *axis)),
-        _ => None,
-    }
-}
-
-/// The request at the front of a list of requests for samples.
-pub(crate) fn next_sample(alloc: Global, bytes: &[u8]) -> Next<'_, (Cell, Axis)>
+/// The request at the front of a list of requests for samples, and the bytes after it.
+pub(crate) fn next_sample(bytes: &[u8]) -> Option<((Cell, Axis), &[u8])>
     ensures { IsNext samples_in bytes.now result }
 {
-    let Ok(found) = next_value(alloc, bytes, b"Q") else {
-        return Next::NoMemory;
-    };
-    let Some((frame, after)) = found else {
-        return Next::End;
-    };
-    match sample_of(&frame) {
-        Some(asked) => Next::Request(asked, after),
-        // Never taken: the kind was asked for. The type of a frame has the other kinds too.
-        None => unreachable!(),
-    }
+    da_wire::next_sample(bytes)
 }
 
 /// The number of the first request of a cell that a square of width `k` doesn't have.
-pub(crate) fn first_outside(alloc: Global, k: u16, requests: &[u8]) -> Result<Option<u64>, NoMemory>
+pub(crate) fn first_outside(k: u16, requests: &[u8]) -> Option<u64>
     requires { IsTrue (is_width k) }
-    ensures { IfOk result (λ found.
-        found ≡ failing_from (λ asked. is_in_square k asked.0) 0 (samples_in requests.now)) }
+    ensures { result ≡ failing_from (λ asked. is_in_square k asked.0) 0 (samples_in requests.now) }
 {
     let mut rest = requests;
     let mut number = 0;
-    loop {
-        let (asked, after) = match next_sample(alloc, rest) {
-            Next::Request(asked, after) => (asked, after),
-            Next::End => return Ok(None),
-            Next::NoMemory => return Err(NoMemory),
-        };
+    while let Some((asked, after)) = next_sample(rest) {
         if !is_in_square(k, asked.0) {
-            return Ok(Some(number));
+            return Some(number);
         }
         number += 1;
         rest = after;
     }
+    None
 }
 
-/// The frame of a message.
+/// The frame of a sample.
 fn message_frame(message: Message) -> Frame
     ensures value { result ≡ FrameOf.Message message }
     ensures spelled { IsSome (spelling result) }
@@ -102,12 +71,7 @@ fn give_samples<O: Sink>(alloc: Global, held: &mut Held, requests: &[u8], out: &
     held.held_law();
     let mut text = Vec::new(alloc);
     let mut rest = requests;
-    loop {
-        let (asked, after) = match next_sample(alloc, rest) {
-            Next::Request(asked, after) => (asked, after),
-            Next::End => return Status::Done,
-            Next::NoMemory => return Status::NoMemory,
-        };
+    while let Some((asked, after)) = next_sample(rest) {
         let Ok(message) = held.sample(asked.0, asked.1) else {
             // Never taken: the cells were judged. The call refuses cells outside.
             unreachable!()
@@ -118,6 +82,7 @@ fn give_samples<O: Sink>(alloc: Global, held: &mut Held, requests: &[u8], out: &
             failed => return failed,
         }
     }
+    Status::Done
 }
 
 /// Answers to the requests over a square.
@@ -133,10 +98,9 @@ fn answer<O: Sink>(alloc: Global, square: Square, requests: &[u8], out: &mut O) 
         Err(HeldError::NoHeader) => return Status::BadRequest(Asked::NoHeader),
         Err(HeldError::NoMemory) => return Status::NoMemory,
     };
-    match first_outside(alloc, k, requests) {
-        Ok(None) => give_samples(alloc, &mut held, requests, out),
-        Ok(Some(number)) => Status::BadRequest(Asked::At(number)),
-        Err(_) => Status::NoMemory,
+    match first_outside(k, requests) {
+        Some(number) => Status::BadRequest(Asked::At(number)),
+        None => give_samples(alloc, &mut held, requests, out),
     }
 }
 
@@ -145,14 +109,9 @@ pub(crate) fn execute<O: Sink>(alloc: Global, files: &[Vec<u8>], out: &mut O) ->
     ensures { Ends (Meaning CommandOf.Sample (contents_of files.now)) (O.taken out.old)
         (O.taken out.new) (O.faults out.old) (O.faults out.new) (out.new ≡ out.old) result }
 {
-    let square = match square_in(alloc, file(files, SQUARE)) {
-        Ok(square) => square,
-        Err(Unread::BadForm(at)) => return Status::BadInput(SQUARE, at),
-        Err(Unread::NoMemory) => return Status::NoMemory,
+    let (square, requests) = match square_and_requests(alloc, files, b"Q") {
+        Ok(read) => read,
+        Err(status) => return status,
     };
-    let requests = file(files, REQUESTS);
-    if let Some(at) = bad_value(requests, b"Q") {
-        return Status::BadInput(REQUESTS, at);
-    }
     answer(alloc, square, requests, out)
 }

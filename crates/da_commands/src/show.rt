@@ -1,11 +1,12 @@
 //! show FILE, json FILE: the frames of a file as text, or as JSON.
 
-ghost use Rattle.std.specs.Prelude.{◌≡◌, IfOk, if◌then◌else◌};
+ghost use Rattle.std.specs.Prelude.{◌≡◌, ◌<◌, [], ◌++◌, length, IfOk, OnOk, OnErr, IfSome, MatchOption, if◌then◌else◌};
 ghost use Rattle.std.specs.Result.{is_ok};
 ghost use Rattle.std.specs.String.{string_bytes};
+ghost use Rattle.da_wire.specs.declared.frames.Frame.TheVariants.{Sample};
 ghost use Rattle.da_wire.specs.Values.{values_of};
 ghost use Rattle.da_commands.specs.Contents.{contents_of};
-ghost use Rattle.da_commands.specs.Show.{all_kinds, shown_as, line_of, Shows, show_judged, shown_file, ShowOf, JsonOf};
+ghost use Rattle.da_commands.specs.Show.{all_kinds, shown_as, line_of, all_shown, Shows, show_judged, shown_file, ShowOf, JsonOf};
 ghost use Rattle.da_status.specs.declared.status.Status.TheVariants.{WriteFault};
 ghost use Rattle.da_status.specs.Judging.{Judged};
 ghost use Rattle.da_status.specs.Outcome.{Ends};
@@ -13,8 +14,8 @@ ghost use Rattle.da_status.specs.Outcome.{Ends};
 use crate::contents::file;
 use da_io::{LineRoom, Sink, WriteFailed};
 use da_status::Status;
-use da_wire::{Frame, bad_value, next_value};
-use namespace_id::NoMemory;
+use da_wire::{Frame, bad_value, next_sample, next_value};
+use namespace_id::{Axis, Cell, NoMemory};
 use std::alloc::Global;
 
 /// The place of the file among the words that name files.
@@ -51,6 +52,84 @@ fn line(alloc: Global, form: Form, frame: &Frame) -> Result<String, NoMemory>
     }
 }
 
+/// Appends what is shown of a request for a sample.
+fn put_shown(form: Form, text: &mut String, cell: Cell, axis: Axis) -> Result<(), NoMemory>
+    ensures { OnOk result (string_bytes text.new
+        ≡ string_bytes text.old ++ shown_as form (Sample cell axis)) }
+{
+    match form {
+        Form::Text => da_show::put_sample(text, cell, axis),
+        Form::Json => da_show::put_sample_json(text, cell, axis),
+    }
+}
+
+/// Appends what is shown of a request for a sample, ended by a line feed.
+fn put_line(form: Form, text: &mut String, cell: Cell, axis: Axis) -> Result<(), NoMemory>
+    ensures { OnOk result (string_bytes text.new
+        ≡ string_bytes text.old ++ line_of (shown_as form) (Sample cell axis)) }
+{
+    put_shown(form, text, cell, axis)?;
+    match text.push('\n') {
+        Ok(()) => Ok(()),
+        Err(_) => Err(NoMemory),
+    }
+}
+
+/// Makes the text that of the line of the frame at the front of bytes, whose value is made for it,
+/// and gives the bytes after the frame; none where no frame is left.
+fn made_line<'a>(
+    alloc: Global,
+    form: Form,
+    bytes: &'a [u8],
+    text: &mut String,
+) -> Result<Option<&'a [u8]>, NoMemory>
+    ensures line { IfOk result (λ found. MatchOption found (values_of all_kinds bytes.now ≡ [])
+        (λ more. all_shown (shown_as form) bytes.now
+        ≡ string_bytes text.new ++ all_shown (shown_as form) more.now)) }
+    ensures memory { OnErr result (0 < length (all_shown (shown_as form) bytes.now)) }
+    ensures shorter { IfOk result (λ found.
+        IfSome found (λ more. length more.now < length bytes.now)) }
+{
+    *text = String::new(alloc);
+    let Ok(found) = next_value(alloc, bytes, KINDS) else {
+        return Err(NoMemory);
+    };
+    let Some((frame, more)) = found else {
+        return Ok(None);
+    };
+    let Ok(shown) = line(alloc, form, &frame) else {
+        return Err(NoMemory);
+    };
+    *text = shown;
+    Ok(Some(more))
+}
+
+/// Makes the text that of the line of the frame at the front of bytes, and gives the bytes after the
+/// frame; none where no frame is left. A request for a sample is shown from its bytes, and the memory
+/// of the text serves again.
+fn next_line<'a>(
+    alloc: Global,
+    form: Form,
+    bytes: &'a [u8],
+    text: &mut String,
+) -> Result<Option<&'a [u8]>, NoMemory>
+    ensures line { IfOk result (λ found. MatchOption found (values_of all_kinds bytes.now ≡ [])
+        (λ more. all_shown (shown_as form) bytes.now
+        ≡ string_bytes text.new ++ all_shown (shown_as form) more.now)) }
+    ensures memory { OnErr result (0 < length (all_shown (shown_as form) bytes.now)) }
+    ensures shorter { IfOk result (λ found.
+        IfSome found (λ more. length more.now < length bytes.now)) }
+{
+    match next_sample(bytes) {
+        Some((asked, more)) => {
+            text.clear();
+            put_line(form, text, asked.0, asked.1)?;
+            Ok(Some(more))
+        }
+        None => made_line(alloc, form, bytes, text),
+    }
+}
+
 /// The status of a run that ends with the last writes: this one where they did not fail.
 fn after(wrote: Result<(), WriteFailed>, status: Status) -> Status
     ensures { result ≡ if is_ok wrote then status else WriteFault }
@@ -68,18 +147,14 @@ fn list<O: Sink>(alloc: Global, form: Form, frames: &[u8], out: &mut O) -> Statu
         (O.taken out.new) (O.faults out.old) (O.faults out.new) (out.new ≡ out.old) result }
 {
     let mut room = LineRoom::new();
+    let mut text = String::new(alloc);
     let mut rest = frames;
     loop {
-        let Ok(found) = next_value(alloc, rest, KINDS) else {
+        let Ok(found) = next_line(alloc, form, rest, &mut text) else {
             return after(room.flush(out), Status::NoMemory);
         };
-        let Some((frame, more)) = found else {
+        let Some(more) = found else {
             return after(room.flush(out), Status::Done);
-        };
-        let shown = line(alloc, form, &frame);
-        drop(frame);
-        let Ok(text) = shown else {
-            return after(room.flush(out), Status::NoMemory);
         };
         let Ok(()) = room.add(text.as_bytes(), out) else {
             return Status::WriteFault;

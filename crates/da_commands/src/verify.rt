@@ -13,8 +13,8 @@ ghost use Rattle.da_commands.specs.Meaning.{Meaning};
 ghost use Rattle.da_status.specs.Outcome.{Ends, EndsAtOnce};
 ghost use Rattle.da_status.specs.Statuses.{kind_of, output};
 
-use crate::contents::file;
-use crate::frames::{Unread, header_in, put, reason};
+use crate::forms::header_and_answer;
+use crate::frames::{Unread, put, reason};
 use axis_roots::{CheckRefusal, FraudClaim, opens};
 use befp_verify::{FraudRefusal, VerifyRoom};
 use blob_commit::{CommitProof, CommitRefusal, RootedMessage, RootedRefusal, check_commit, rooted};
@@ -26,11 +26,6 @@ use namespace_id::NoMemory;
 use square_serve::{NsRefusal, check_namespace};
 use std::alloc::Global;
 
-/// The places of the files among the words that name files.
-const HEADER: u32 = 0;
-
-const ANSWER: u32 = 1;
-
 /// The answer that a file is.
 pub fn answer_in(alloc: Global, bytes: &[u8]) -> Result<Frame, Unread>
     ensures { ReadsSingle result (answer_in bytes.now) }
@@ -41,7 +36,7 @@ pub fn answer_in(alloc: Global, bytes: &[u8]) -> Result<Frame, Unread>
     }
 }
 
-/// The number of the check that refuses a message.
+/// The number of the check that refuses a sample.
 pub fn check_number(why: CheckRefusal) -> u64
     ensures { result ≡ check_number why }
 {
@@ -156,7 +151,7 @@ pub fn refusal_of(alloc: Global, header: &Header, answer: Frame) -> Result<Optio
         Frame::Fraud(claim) => refuse_claim(alloc, header, claim),
         Frame::Commit(proof) => Ok(refuse_commit(header, &proof)),
         Frame::Rooted(proof) => Ok(refuse_rooted(header, &proof)),
-        // Never taken: the kind was asked for. The type of a frame has the other kinds too.
+        // No check is of a frame of another kind.
         _ => Ok(None),
     }
 }
@@ -212,15 +207,9 @@ pub(crate) fn execute<O: Sink>(alloc: Global, files: &[Vec<u8>], out: &mut O) ->
     ensures { Ends (Meaning CommandOf.Verify (contents_of files.now)) (O.taken out.old)
         (O.taken out.new) (O.faults out.old) (O.faults out.new) (out.new ≡ out.old) result }
 {
-    let header = match header_in(alloc, file(files, HEADER)) {
-        Ok(header) => header,
-        Err(Unread::BadForm(at)) => return Status::BadInput(HEADER, at),
-        Err(Unread::NoMemory) => return Status::NoMemory,
-    };
-    let answer = match answer_in(alloc, file(files, ANSWER)) {
-        Ok(answer) => answer,
-        Err(Unread::BadForm(at)) => return Status::BadInput(ANSWER, at),
-        Err(Unread::NoMemory) => return Status::NoMemory,
+    let (header, answer) = match header_and_answer(alloc, files) {
+        Ok(read) => read,
+        Err(status) => return status,
     };
     verify(alloc, &header, answer, out)
 }

@@ -9,8 +9,9 @@ ghost use Rattle.da_commands.specs.Meaning.{Meaning};
 ghost use Rattle.da_status.specs.Outcome.{EndsAtOnce};
 
 use crate::contents::file;
-use crate::frames::{Unread, header_in, reason};
-use crate::verify::{answer_in, give_line, refusal_of};
+use crate::forms::header_and_answer;
+use crate::frames::{Unread, reason};
+use crate::verify::{give_line, refusal_of};
 use axis_roots::{Message, is_along};
 use da_io::Sink;
 use da_status::Status;
@@ -19,11 +20,7 @@ use data_header::Header;
 use namespace_id::{Axis, Cell, Namespace, NoMemory};
 use std::alloc::Global;
 
-/// The places of the files among the words that name files.
-const HEADER: u32 = 0;
-
-const ANSWER: u32 = 1;
-
+/// The place of the last file among the words that name files.
 const REQUEST: u32 = 2;
 
 /// The request that a file is.
@@ -36,7 +33,7 @@ pub fn request_in(alloc: Global, bytes: &[u8]) -> Result<Frame, Unread>
     }
 }
 
-/// Whether a message is of a cell, along an axis.
+/// Whether a sample is of a cell, along an axis.
 fn is_of_cell(cell: Cell, axis: Axis, message: &Message) -> bool
     ensures { result ≡ is_of_cell cell axis message.now }
 {
@@ -115,20 +112,13 @@ pub(crate) fn execute<O: Sink>(alloc: Global, files: &[Vec<u8>], out: &mut O) ->
     ensures { EndsAtOnce (Meaning CommandOf.VerifyFor (contents_of files.now)) (O.taken out.old)
         (O.taken out.new) (O.faults out.old) (O.faults out.new) (out.new ≡ out.old) result }
 {
-    let header = match header_in(alloc, file(files, HEADER)) {
-        Ok(header) => header,
-        Err(Unread::BadForm(at)) => return Status::BadInput(HEADER, at),
-        Err(Unread::NoMemory) => return Status::NoMemory,
+    let (header, answer) = match header_and_answer(alloc, files) {
+        Ok(read) => read,
+        Err(status) => return status,
     };
-    let answer = match answer_in(alloc, file(files, ANSWER)) {
-        Ok(answer) => answer,
-        Err(Unread::BadForm(at)) => return Status::BadInput(ANSWER, at),
-        Err(Unread::NoMemory) => return Status::NoMemory,
-    };
-    let request = match request_in(alloc, file(files, REQUEST)) {
-        Ok(request) => request,
-        Err(Unread::BadForm(at)) => return Status::BadInput(REQUEST, at),
-        Err(Unread::NoMemory) => return Status::NoMemory,
-    };
-    verify_for(alloc, &header, answer, &request, out)
+    match request_in(alloc, file(files, REQUEST)) {
+        Ok(request) => verify_for(alloc, &header, answer, &request, out),
+        Err(Unread::BadForm(at)) => Status::BadInput(REQUEST, at),
+        Err(Unread::NoMemory) => Status::NoMemory,
+    }
 }

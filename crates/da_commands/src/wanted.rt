@@ -15,7 +15,7 @@ use crate::contents::file;
 use crate::frames::{Unread, put, reason};
 use da_io::Sink;
 use da_status::Status;
-use da_wire::{Frame, SpellError, read_only, wire_laws, write_frame};
+use da_wire::{Frame, SpellError, read_missing, wire_laws, write_frame};
 use namespace_id::{Axis, Cell, Cells, NoMemory};
 use std::alloc::Global;
 
@@ -26,10 +26,8 @@ const MISSING: u32 = 0;
 fn missing_in(alloc: Global, bytes: &[u8]) -> Result<Cells, Unread>
     ensures { ReadsSingle result (missing_in bytes.now) }
 {
-    match read_only(alloc, bytes, b"K") {
-        Ok(Frame::Missing(cells)) => Ok(cells),
-        // Never taken: the kind was asked for. The type of a frame has the other kinds too.
-        Ok(_) => Err(Unread::BadForm(0)),
+    match read_missing(alloc, bytes) {
+        Ok(cells) => Ok(cells),
         Err(error) => Err(reason(error)),
     }
 }

@@ -1,8 +1,8 @@
 -- How many nodes, items and events a script has.
-use Rattle.std.proofs.Common.{◌≡◌, ◌∙◌, ℕ, ◌+◌, ◌≤◌, Bool, true, false, ◌||◌, List, map, drop, replicate, length, Some, refl, sym, ap, ap₂, true≢false}
+use Rattle.std.proofs.Common.{◌≡◌, ◌∙◌, ℕ, ◌+◌, ◌≤◌, Bool, true, false, ◌||◌, List, map, drop, replicate, length, Some, sym, ap, ap₂, true≢false}
 use Rattle.std.specs.Prelude.{nat_lt}
 use Rattle.std.specs.List.{list_any}
-use Rattle.std.proofs.lemmas.Bool.{ltb-false, le-ltb}
+use Rattle.std.proofs.lemmas.Bool.{ltb-false, le-ltb, or_parts}
 use Rattle.std.proofs.lemmas.List.{length-map, length-append, length-replicate}
 use Rattle.data_header.specs.Headers.{Roots}
 use Rattle.da_wire.specs.declared.frames.RawFrame.{RawFrame}
@@ -17,11 +17,6 @@ use Rattle.da_script.specs.Plays.{item_in, light_of, pooling, is_refused, first_
 use Rattle.da_script.specs.Parts.{AreItems, AreCounts, is_wide, is_refused_by}
 use Rattle.da_script.proofs.DrawLemmas.{length-draws_at}
 
--- neither of two tests holds
-pub neither : (a b : Bool) → (a || b) ≡ false → (a ≡ false) × (b ≡ false)
-neither true b h = absurd cc
-neither false b h = (refl, h)
-
 -- what isn't too many is few
 pub record AreFew (fulls lights items steps : ℕ) : Type 0 where
   pub fulls_are : fulls ≤ 8
@@ -31,9 +26,9 @@ pub record AreFew (fulls lights items steps : ℕ) : Type 0 where
 
 pub are_few : (fulls lights items steps : ℕ) → is_too_many fulls lights items steps ≡ false → AreFew fulls lights items steps
 are_few fulls lights items steps not =
-    let three = neither (nat_lt 8 fulls || nat_lt 64 lights || nat_lt 65536 items) (nat_lt 1048576 steps) not in
-    let two = neither (nat_lt 8 fulls || nat_lt 64 lights) (nat_lt 65536 items) three.0 in
-    let one = neither (nat_lt 8 fulls) (nat_lt 64 lights) two.0 in
+    let three = or_parts (nat_lt 8 fulls || nat_lt 64 lights || nat_lt 65536 items) (nat_lt 1048576 steps) not in
+    let two = or_parts (nat_lt 8 fulls || nat_lt 64 lights) (nat_lt 65536 items) three.0 in
+    let one = or_parts (nat_lt 8 fulls) (nat_lt 64 lights) two.0 in
     record {
       fulls_are = ltb-false 8 fulls one.0;
       lights_are = ltb-false 64 lights one.1;
@@ -66,12 +61,12 @@ pub few_of : (k : ℕ) (counts : Counts) (script : List ℕ) → is_refused_by k
     → AreFew (full_count script) (light_count script) counts.pooling counts.moves
 few_of k counts script not =
     are_few (full_count script) (light_count script) counts.pooling counts.moves
-    (neither (is_too_many (full_count script) (light_count script) counts.pooling counts.moves) (list_any (is_wide k) (draws_of script)) not).0
+    (or_parts (is_too_many (full_count script) (light_count script) counts.pooling counts.moves) (list_any (is_wide k) (draws_of script)) not).0
 
 -- and no key that draws too many cells
 pub narrow_of : (k : ℕ) (counts : Counts) (script : List ℕ) → is_refused_by k counts script ≡ false → list_any (is_wide k) (draws_of script) ≡ false
 narrow_of k counts script not =
-    (neither (is_too_many (full_count script) (light_count script) counts.pooling counts.moves) (list_any (is_wide k) (draws_of script)) not).1
+    (or_parts (is_too_many (full_count script) (light_count script) counts.pooling counts.moves) (list_any (is_wide k) (draws_of script)) not).1
 
 -- few are not too many
 pub few_not : (fulls lights items steps : ℕ) → AreFew fulls lights items steps → is_too_many fulls lights items steps ≡ true → ⊥

@@ -1,21 +1,17 @@
 -- Plans of cells that are apart.
-use Rattle.std.proofs.Common.{◌≡◌, ◌∙◌, ℕ, zero, suc, ◌<◌, Bool, true, false, ◌&&◌, List, [], ◌∷◌, ◌++◌, append-nil, length, Option, Some, slice_get, refl, sym, ap, ap₂, subst, inl, inr, arith}
+use Rattle.std.proofs.Common.{◌≡◌, ◌∙◌, ℕ, zero, suc, Bool, true, List, [], ◌∷◌, ◌++◌, append-nil, length, Option, Some, slice_get, refl, sym, ap, ap₂, subst, inl, inr, arith}
 use Rattle.std.specs.List.{Contains, list_all}
 use Rattle.std.proofs.Math.Seq.{append_snoc}
 use Rattle.std.proofs.lemmas.Option.{slice_get_read}
+use Rattle.std.proofs.lemmas.Bool.{and_parts}
 use Rattle.namespace_id.specs.declared.cells.Cell.{Cell}
 use Rattle.sampling.specs.Draws.{AreApart}
 use Rattle.light_node.specs.Nodes.{distinct}
 use Rattle.light_node.proofs.DistinctLemmas.{added, all_added, added_cases, found_listed}
+use Rattle.light_node.proofs.ListLemmas.{place_front}
 
 module _ {A : Type 0} where
-  -- a list followed by another one has its elements in front
-  slice_get-append_left : (xs ys : List A) (i : ℕ) → i < length xs → slice_get (xs ++ ys) i ≡ slice_get xs i
-  slice_get-append_left [] ys i below = absurd (omega arith)
-  slice_get-append_left (x ∷ xs) ys zero below = refl
-  slice_get-append_left (x ∷ xs) ys (suc i) below = slice_get-append_left xs ys i (omega arith)
-
-  -- and behind them the other's first
+  -- behind the elements of a list stands the first of one that follows it
   slice_get-append_seam : (xs : List A) (x : A) (ys : List A) → slice_get (xs ++ x ∷ ys) (length xs) ≡ Some x
   slice_get-append_seam [] x ys = refl
   slice_get-append_seam (y ∷ xs) x ys = slice_get-append_seam xs x ys
@@ -30,16 +26,11 @@ module _ {A : Type 0} where
       let head : x ≡ y = cc in
       ap₂ (λ (a : A) (l : List A). a ∷ l) head (same_list xs ys (omega (arith, count)) (λ i z e. same (suc i) z e))
 
--- two tests hold
-both_true : (a b : Bool) → (a && b) ≡ true → (a ≡ true) × (b ≡ true)
-both_true true b h = (refl, h)
-both_true false b h = absurd cc
-
 -- what a test says of all entries it says of each
 pub each_there : {A : Type 0} (test : A → Bool) (xs : List A) (i : ℕ) (x : A) → list_all test xs ≡ true → slice_get xs i ≡ Some x → test x ≡ true
 each_there test [] i x all e = absurd cc
-each_there test (y ∷ xs) zero x all e = let same : y ≡ x = cc in subst (λ z. test z ≡ true) same (both_true (test y) (list_all test xs) all).0
-each_there test (y ∷ xs) (suc i) x all e = each_there test xs i x (both_true (test y) (list_all test xs) all).1 e
+each_there test (y ∷ xs) zero x all e = let same : y ≡ x = cc in subst (λ z. test z ≡ true) same (and_parts (test y) (list_all test xs) all).0
+each_there test (y ∷ xs) (suc i) x all e = each_there test xs i x (and_parts (test y) (list_all test xs) all).1 e
 
 -- ---- cells that are apart
 
@@ -54,7 +45,7 @@ added_apart cells cell not = elim (added_cases cells cell) [
 apart_before : (cells more : List Cell) (cell : Cell) → AreApart (cells ++ cell ∷ more) → Contains cells cell → ⊥
 apart_before cells more cell apart (i, below, e) =
     let there : slice_get (cells ++ cell ∷ more) i ≡ Some cell =
-    slice_get-append_left cells (cell ∷ more) i below ∙ slice_get_read cells (length cells) i cell refl below (sym e) in
+    place_front cells (cell ∷ more) i below ∙ slice_get_read cells (length cells) i cell refl below (sym e) in
     let same : i ≡ length cells = apart i (length cells) cell there (slice_get-append_seam cells cell more) in
     omega (arith, same, below)
 

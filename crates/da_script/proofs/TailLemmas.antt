@@ -1,31 +1,14 @@
 -- What the line of a node has behind its state.
-use Rattle.std.proofs.Common.{◌≡◌, ◌∙◌, ℕ, List, [], ◌++◌, length, Option, Some, None, refl, sym, ap, inl}
+use Rattle.std.proofs.Common.{◌≡◌, ◌∙◌, ℕ, List, [], ◌++◌, length, refl, ap}
 use Rattle.std.specs.Prelude.{codes, decimal}
 use Rattle.namespace_id.specs.declared.cells.Axis.{Axis}
 use Rattle.namespace_id.specs.declared.cells.Axis.TheVariants.{Row, Col}
-use Rattle.axis_roots.specs.Claims.{ClaimParts}
 use Rattle.da_status.specs.Notes.{axis_note}
 use Rattle.da_net.specs.declared.items.NodeState.{NodeState}
 use Rattle.da_net.specs.declared.items.NodeState.TheVariants as state
-use Rattle.da_net.specs.Networks.{Standing, settled, clashing, waiting, available, rejecting}
-use Rattle.da_net.specs.Nets.{NetParts, Fits, state_of, claim_in, alarm_at}
+use Rattle.da_net.specs.Networks.{Standing}
+use Rattle.da_net.specs.Nets.{state_of}
 use Rattle.da_script.specs.Plays.{state_word}
-
--- ---- a node that rejects
-
--- who rejects by a claim was alarmed by it
-fits_claim : (alarm : Option Standing) (claim : ClaimParts) → Fits alarm (rejecting claim) → claim_in alarm ≡ Some claim
-fits_claim None claim fits = absurd (fits (inl tt))
-fits_claim (Some one) claim fits = ap (λ (s : Standing). claim_in (Some s)) (sym fits)
-
--- in state Rejected a node has a claim
-claim_there : (net : NetParts) (node : ℕ) (standing : Standing) → Fits (alarm_at net node) standing → state.Rejected ≡ state_of standing
-    → (claim : ClaimParts) × (claim_in (alarm_at net node) ≡ Some claim)
-claim_there net node settled fits e = absurd cc
-claim_there net node (clashing left right) fits e = absurd cc
-claim_there net node waiting fits e = absurd cc
-claim_there net node available fits e = absurd cc
-claim_there net node (rejecting claim) fits e = (claim, fits_claim (alarm_at net node) claim fits)
 
 -- the word of an axis is short
 pub axis_few : (axis : Axis) → length (axis_note axis) ≡ 4

@@ -29,7 +29,7 @@ use Rattle.da_script.specs.Scripts.{Draw, full_count, draws_of, moves_of, bad_sc
 
 -- ---- items
 
--- the item that a frame is: a message of the grammar, or a fraud claim of it; any other frame is none
+-- the item that a frame is: a sample of the grammar, or a fraud claim of it; any other frame is none
 abbrev pub item_in : Raw → Option Item
 item_in frame = option_map_or (λ m. Some (Message m)) (message_in frame) (option_map Claim (claim_in frame))
 

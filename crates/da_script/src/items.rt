@@ -13,7 +13,7 @@ use da_wire::{RawFrame, claim, message, next_frame};
 use namespace_id::NoMemory;
 use std::alloc::Global;
 
-/// The item that a frame is; none where it is neither a message nor a claim.
+/// The item that a frame is; none where it is neither a sample nor a claim.
 fn item_in(alloc: Global, frame: RawFrame<'_>) -> Result<Option<Item>, NoMemory>
     ensures { IfOk result (λ found. found ≡ item_in (raw_seen frame.entry)) }
 {

@@ -140,7 +140,7 @@ pub once_refused : (i at : ℕ) (old : Option (List ℕ)) (before : ℕ) (Same :
     → EndsAtOnce (Refuses (BadInput i at)) old old before before Same (BadInput i at)
 once_refused i at old before Same same = record { ends = ends_refused i at old before Same same; late = λ e. same }
 
--- a failed write is no want of memory
+-- a failed write isn't out of memory
 fault_memory : WriteFault ≡ NoMemory → ⊥
 fault_memory e = cc
 
@@ -149,7 +149,7 @@ pub once_fault : (M : Relation) (old new : Option (List ℕ)) (before now : ℕ)
     → EndsAtOnce M old new before now Same WriteFault
 once_fault M old new before now Same ends = record { ends = ends; late = λ e. absurd (fault_memory e) }
 
--- want of memory is no complete output
+-- out of memory is no complete output
 memory_output : memory ≡ output → ⊥
 memory_output e = cc
 

@@ -23,7 +23,7 @@ number_of Refused = 13
 number_of (Waiting cells) = 14
 
 -- the kinds of statuses, by the step of a run that decides: the words, a failed pick or read, an excess of
--- length, a file's form, what the files ask for, want of memory, a failed write, the complete output
+-- length, a file's form, what the files ask for, out of memory, a failed write, the complete output
 pub data Kind : Type 0 where
   usage : Kind
   fault : Kind

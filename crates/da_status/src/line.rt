@@ -32,7 +32,7 @@ impl Line {
         }
     }
 
-    /// Puts a text, for which the line has room.
+    /// Puts a text that fits in the line.
     pub fn put(&mut self, text: &[u8])
         requires { length self.old + length text.now ≤ 96 }
         ensures { self.new ≡ self.old ++ text.now }
@@ -41,7 +41,7 @@ impl Line {
         self.len += text.len();
     }
 
-    /// Puts a number in decimal digits, for which the line has room.
+    /// Puts a number in decimal digits, which fit in the line.
     #[tactic(auto, using(crate::proofs::DigitLemmas::digits_room, std::proofs::lemmas::Fmt::decimal_step, std::proofs::lemmas::Fmt::decimal_digit))]
     pub fn put_number(&mut self, number: u64)
         requires { length self.old + length (decimal number) ≤ 96 }

@@ -10,7 +10,7 @@ use namespace_id::{Axis, NsError};
 use share_split::JoinError;
 use square_layout::LayError;
 
-/// Puts a number, in decimal digits, between two texts. The line needs room for both texts and
+/// Puts a number, in decimal digits, between two texts. The line needs capacity for both texts and
 /// for 20 digits, as many as a `u64` may have.
 #[tactic(auto, using(crate::proofs::DigitLemmas::digits_fit))]
 pub fn around(line: &mut Line, front: &[u8], number: u64, back: &[u8])

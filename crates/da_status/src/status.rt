@@ -20,7 +20,7 @@ pub enum Asked {
     Nodes,
     /// The range has no share, goes past the square, or doesn't begin at a multiple of the width of its subtrees.
     Range,
-    /// The shares are no blobs. No run has `JoinError::NoMemory` here: want of memory is a status of its own.
+    /// The shares are no blobs. No run has `JoinError::NoMemory` here: out of memory is a status of its own.
     Shares(JoinError),
 }
 
@@ -44,14 +44,14 @@ pub enum Status {
     BadInput(u32, u64),
     /// This file has more bytes than `FILE_LIMIT`.
     TooLong(u32),
-    /// The block can't be laid out as a square. No run has `LayError::NoMemory` here: want of
+    /// The block can't be laid out as a square. No run has `LayError::NoMemory` here: out of
     /// memory is a status of its own.
     BadBlock(LayError),
     /// What the files ask for can't be answered.
     BadRequest(Asked),
     /// The output is a fraud proof against this axis, the row or column of this index.
     Fraud(Axis, u16),
-    /// The output is so many missing cells, and so many frames were no proved message.
+    /// The output is so many missing cells, and so many frames were no proved sample.
     Missing(u32, u64),
     /// The output is a SHA-256 collision.
     Clash,

@@ -1,14 +1,17 @@
 use Rattle.std.proofs.Common.{◌∙◌, sym, ap}
+use Rattle.da_wire.specs.declared.frames.Frame.{Frame}
 use Rattle.da_commands.specs.declared.command.Command.TheVariants.{Blobs}
 use Rattle.da_commands.specs.Contents.{contents_of}
-use Rattle.da_commands.specs.Blobs.{shares_of, shares_in, Joins}
+use Rattle.da_commands.specs.Blobs.{shares_of, shares_in, shares_file, Joins}
 use Rattle.da_commands.specs.Meaning.{Meaning}
 use Rattle.da_status.proofs.EndLemmas.{once_as}
-use Rattle.da_commands.proofs.BlobsLemmas.{blobs_is}
+use Rattle.da_commands.proofs.FormLemmas.{single_is}
 use Rattle.da_commands.proofs.blobs.execute.Goals as goal
 
 -- the file is the square or the answer that was read
 pub returns-in-Ok : goal.returns-in-Ok
 returns-in-Ok g c =
-    once_as (Joins (shares_of c.in-Ok.frame)) (Meaning Blobs (contents_of c.args.files.now)) _ _ _ _ _ _
-    (blobs_is (contents_of c.args.files.now) c.in-Ok.frame (ap shares_in (sym c.file.ensures) ∙ c.in-Ok.ensures.read)) c.give_of.ensures
+    let files = contents_of c.args.files.now in
+    once_as (Joins (shares_of c.in-Ok.frame)) (Meaning Blobs files) _ _ _ _ _ _
+    (single_is (λ (frame : Frame). Joins (shares_of frame)) (shares_in (shares_file files)) c.in-Ok.frame
+    (ap shares_in (sym c.file.ensures) ∙ c.in-Ok.ensures.read)) c.give_of.ensures

@@ -9,10 +9,10 @@ use Rattle.da_commands.proofs.blobs.shares_in.Goals as goal
 -- what was read is a spelling
 pub returns-in-Ok-clause-spelled : goal.returns-in-Ok-clause-spelled
 returns-in-Ok-clause-spelled c =
-    read_spelled c.wire_laws.ensures.only c.args.bytes.now c.in-Ok.frame c.bytes_law.ensures c.in-Ok.ensures
+    read_spelled c.wire_laws.ensures.only c.args.bytes.now c.in-Ok.frame c.bytes_law.ensures c.in-Ok.ensures.read
 
 -- memory ran out in place of a value alone
 pub returns-in-Err-clause-read : goal.returns-in-Err-clause-read
 returns-in-Err-clause-read c =
     subst (λ (why : Unread). ReadsSingle (Err why) (shares_in c.args.bytes.now)) (sym c.reason.ensures)
-    (kinds_unread share_kinds c.args.bytes.now c.in-Err.error c.in-Err.ensures)
+    (kinds_unread share_kinds c.args.bytes.now c.in-Err.error c.in-Err.ensures.read)

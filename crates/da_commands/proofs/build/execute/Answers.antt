@@ -1,15 +1,22 @@
-use Rattle.std.proofs.Common.{◌∙◌, sym, ap}
+use Rattle.std.proofs.Common.{refl}
+use Rattle.da_commands.specs.Build.{Builds, BuildOf}
 use Rattle.da_commands.specs.declared.command.Command.TheVariants.{Build}
-use Rattle.da_commands.specs.Contents.{contents_of}
+use Rattle.da_commands.specs.Contents.{contents_of, file_of}
 use Rattle.da_commands.specs.Frames.{block_in}
-use Rattle.da_commands.specs.Build.{Builds}
+use Rattle.da_commands.specs.Forms.{single_judged}
 use Rattle.da_commands.specs.Meaning.{Meaning}
 use Rattle.da_status.proofs.EndLemmas.{once_as}
-use Rattle.da_commands.proofs.BuildLemmas.{build_is}
+use Rattle.da_commands.proofs.FormLemmas.{refused_once, single_is}
 use Rattle.da_commands.proofs.build.execute.Goals as goal
+
+pub returns-in-Err : goal.returns-in-Err
+returns-in-Err g c =
+    let files = contents_of c.args.files.now in
+    refused_once (single_judged block_in files) (BuildOf files) _ _ _ _ c.in-Err.ensures.judged refl
 
 -- the file is the block that was read
 pub returns-in-Ok : goal.returns-in-Ok
 returns-in-Ok g c =
-    once_as (Builds c.in-Ok.block) (Meaning Build (contents_of c.args.files.now)) _ _ _ _ _ _
-    (build_is (contents_of c.args.files.now) c.in-Ok.block (ap block_in (sym c.file.ensures) ∙ c.in-Ok.ensures)) c.build_square.ensures
+    let files = contents_of c.args.files.now in
+    once_as _ (Meaning Build files) _ _ _ _ _ _
+    (single_is Builds (block_in (file_of files 0)) c.in-Ok.block c.in-Ok.ensures.block) c.build_square.ensures

@@ -1,23 +1,25 @@
-use Rattle.std.proofs.Common.{◌∙◌, List, ℕ, refl, sym, ap}
-use Rattle.da_wire.specs.Frames.{frames_of, bad_frame}
-use Rattle.da_commands.specs.Contents.{contents_of}
+use Rattle.std.proofs.Common.{List, ℕ, refl}
+use Rattle.data_header.specs.Headers.{Roots}
+use Rattle.da_wire.specs.Frames.{frames_of}
+use Rattle.da_commands.specs.Contents.{contents_of, file_of}
 use Rattle.da_commands.specs.Frames.{header_in}
-use Rattle.da_commands.specs.Check.{Lists}
+use Rattle.da_commands.specs.Forms.{messages_judged}
+use Rattle.da_commands.specs.Check.{Lists, CheckOf}
 use Rattle.da_commands.specs.declared.command.Command.TheVariants.{Check}
 use Rattle.da_commands.specs.Meaning.{Meaning}
-use Rattle.da_status.proofs.EndLemmas.{ends_as, ends_refused}
-use Rattle.da_commands.proofs.CheckLemmas.{check_is, check_refuses}
+use Rattle.da_status.proofs.EndLemmas.{ends_as}
+use Rattle.da_commands.proofs.FormLemmas.{refused_ends, judged_with}
 use Rattle.da_commands.proofs.check.execute.Goals as goal
 
-pub returns-in-Some : goal.returns-in-Some
-returns-in-Some g c =
-    let same = check_refuses (contents_of c.args.files.now) c.in-Ok.header c.in-Some.at (ap header_in (sym c.file.ensures) ∙ c.in-Ok.ensures)
-    (ap bad_frame (sym c.file-messages.ensures) ∙ sym c.in-Some.ensures) in
-    ends_as _ (Meaning Check (contents_of c.args.files.now)) _ _ _ _ _ _ same (ends_refused 1 c.in-Some.at _ _ _ refl)
+pub returns-in-Err : goal.returns-in-Err
+returns-in-Err g c =
+    let files = contents_of c.args.files.now in
+    refused_ends (messages_judged files) (CheckOf files) _ _ _ _ c.in-Err.ensures.judged refl
 
+-- the files are the header and the frames that were read
 pub returns : goal.returns
 returns g c =
-    let same = ap (λ (bytes : List ℕ). Lists c.in-Ok.header (frames_of bytes)) c.file-messages.ensures
-    ∙ check_is (contents_of c.args.files.now) c.in-Ok.header (ap header_in (sym c.file.ensures) ∙ c.in-Ok.ensures)
-    (ap bad_frame (sym c.file-messages.ensures) ∙ sym c.in_default.ensures) in
-    ends_as _ (Meaning Check (contents_of c.args.files.now)) _ _ _ _ _ _ same c.list.ensures
+    let files = contents_of c.args.files.now in
+    let same = judged_with (λ (h : Roots) (bytes : List ℕ). Lists h (frames_of bytes)) (messages_judged files) (header_in (file_of files 0))
+    c.in-Ok.read.0 c.in-Ok.read.1.now (file_of files 1) c.in-Ok.ensures.judged c.in-Ok.ensures.header c.in-Ok.ensures.messages in
+    ends_as _ (Meaning Check files) _ _ _ _ _ _ same c.list.ensures

@@ -1,15 +1,22 @@
-use Rattle.std.proofs.Common.{◌∙◌, sym, ap}
+use Rattle.std.proofs.Common.{refl}
+use Rattle.da_commands.specs.Commit.{Commits, CommitOf}
 use Rattle.da_commands.specs.declared.command.Command.TheVariants.{Commit}
-use Rattle.da_commands.specs.Contents.{contents_of}
+use Rattle.da_commands.specs.Contents.{contents_of, file_of}
 use Rattle.da_commands.specs.Frames.{block_in}
-use Rattle.da_commands.specs.Commit.{Commits}
+use Rattle.da_commands.specs.Forms.{single_judged}
 use Rattle.da_commands.specs.Meaning.{Meaning}
 use Rattle.da_status.proofs.EndLemmas.{once_as}
-use Rattle.da_commands.proofs.CommitLemmas.{commit_is}
+use Rattle.da_commands.proofs.FormLemmas.{refused_once, single_is}
 use Rattle.da_commands.proofs.commit.execute.Goals as goal
+
+pub returns-in-Err : goal.returns-in-Err
+returns-in-Err g c =
+    let files = contents_of c.args.files.now in
+    refused_once (single_judged block_in files) (CommitOf files) _ _ _ _ c.in-Err.ensures.judged refl
 
 -- the file is the block that was read
 pub returns-in-Ok : goal.returns-in-Ok
 returns-in-Ok g c =
-    once_as (Commits c.in-Ok.block) (Meaning Commit (contents_of c.args.files.now)) _ _ _ _ _ _
-    (commit_is (contents_of c.args.files.now) c.in-Ok.block (ap block_in (sym c.file.ensures) ∙ c.in-Ok.ensures)) c.commit.ensures
+    let files = contents_of c.args.files.now in
+    once_as _ (Meaning Commit files) _ _ _ _ _ _
+    (single_is Commits (block_in (file_of files 0)) c.in-Ok.block c.in-Ok.ensures.block) c.commit.ensures

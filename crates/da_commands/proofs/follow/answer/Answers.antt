@@ -13,17 +13,17 @@ pub give-requires : goal.give-requires
 give-requires g c = led c.args.answers.now c.requires
 
 -- all namespaces can be followed
-pub returns-in-Ok-None : goal.returns-in-Ok-None
-returns-in-Ok-None g c =
+pub returns-in-None : goal.returns-in-None
+returns-in-None g c =
     let wanted = namespaces_in c.args.wanted.now in
     let items = items_in c.args.answers.now in
     once_within (Follows wanted items) (FollowsAsked wanted items) _ _ _ _ _ _
-    (asked_follows wanted items (sym c.in-Ok-None.ensures ∙ c.in-Ok-None.field-0-is)) c.give.ensures
+    (asked_follows wanted items (sym c.first_other.ensures ∙ c.in-None.is)) c.give.ensures
 
 -- one can't
-pub returns-in-Ok-Some : goal.returns-in-Ok-Some
-returns-in-Ok-Some g c =
+pub returns-in-Some : goal.returns-in-Some
+returns-in-Some g c =
     let wanted = namespaces_in c.args.wanted.now in
     let items = items_in c.args.answers.now in
-    once_request (FollowsAsked wanted items) _ _ _ (BadRequest (At c.in-Ok-Some.number)) refl
-    (asked_refuses wanted items c.in-Ok-Some.number (sym c.in-Ok-Some.ensures ∙ c.in-Ok-Some.field-0-is)) refl
+    once_request (FollowsAsked wanted items) _ _ _ (BadRequest (At c.in-Some.number)) refl
+    (asked_refuses wanted items c.in-Some.number (sym c.first_other.ensures ∙ c.in-Some.is)) refl

@@ -7,7 +7,7 @@ use Rattle.da_commands.proofs.NodeLemmas.{ok_within}
 use Rattle.da_commands.proofs.EachOnceLemmas.{wanted_as}
 use Rattle.da_commands.proofs.follow.told.Goals as goal
 
--- the filter wants just the namespaces that are asked for
+-- the filter wants exactly the namespaces that are asked for
 pub returns : goal.returns
 returns c =
     let wanted = namespaces_in c.args.wanted.now in

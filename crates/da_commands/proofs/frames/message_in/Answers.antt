@@ -1,11 +1,18 @@
-use Rattle.std.proofs.Common.{subst, sym, Err}
+use Rattle.std.proofs.Common.{inr, subst, sym, Err, [], ◌∷◌}
+use Rattle.da_wire.specs.Spelling.{message_kind}
+use Rattle.da_wire.specs.Reading.{only_of}
+use Rattle.da_wire.specs.Single.{message_of}
 use Rattle.da_commands.specs.declared.frames.Unread.{Unread}
 use Rattle.da_commands.specs.Frames.{message_in, ReadsSingle}
-use Rattle.da_commands.proofs.FrameLemmas.{message_unread}
+use Rattle.da_commands.proofs.FrameLemmas.{is_read, is_unread}
 use Rattle.da_commands.proofs.frames.message_in.Goals as goal
+
+-- what was read is what the file is
+pub returns-in-Ok : goal.returns-in-Ok
+returns-in-Ok c = is_read message_of (only_of c.args.bytes.now (message_kind ∷ [])) c.in-Ok.message c.in-Ok.ensures
 
 -- memory ran out in place of a value alone
 pub returns-in-Err : goal.returns-in-Err
 returns-in-Err c =
     subst (λ (why : Unread). ReadsSingle (Err why) (message_in c.args.bytes.now)) (sym c.reason.ensures)
-    (message_unread c.args.bytes.now c.in-Err.error c.in-Err.ensures)
+    (is_unread message_of c.args.bytes.now (message_kind ∷ []) c.in-Err.error (inr c.in-Err.ensures))

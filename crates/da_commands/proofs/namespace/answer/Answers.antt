@@ -13,20 +13,20 @@ returns-in-Err-NoHeader g c =
     (serves_none square is_other (AllowsNames square) asked (c.in-Err-NoHeader.ensures.no_header (ap Err c.in-Err-NoHeader.field-0-is))) refl
 
 -- a request of PARITY is refused
-pub returns-in-Ok-Some : goal.returns-in-Ok-Some
-returns-in-Ok-Some g c =
+pub returns-in-Some : goal.returns-in-Some
+returns-in-Some g c =
     let square = c.args.square in
     let asked = namespaces_in c.args.requests.now in
     ends_request (Serves square is_other (AllowsNames square) asked) _ _ _ _ refl
-    (serves_at square is_other (AllowsNames square) asked c.in-Ok.held.header c.in-Ok-Some.number
-    (c.serve_laws.ensures.header c.in-Ok.held square c.in-Ok.ensures.held) (sym c.in-Ok-Some.ensures ∙ c.in-Ok-Some.field-0-is)) refl
+    (serves_at square is_other (AllowsNames square) asked c.in-Ok.held.header c.in-Some.number
+    (c.serve_laws.ensures.header c.in-Ok.held square c.in-Ok.ensures.held) (sym c.first_parity.ensures ∙ c.in-Some.is)) refl
 
 -- what is written are the frames of all requests
-pub returns-in-Ok-None : goal.returns-in-Ok-None
-returns-in-Ok-None g c =
+pub returns : goal.returns
+returns g c =
     let square = c.args.square in
     let asked = namespaces_in c.args.requests.now in
     let holds = c.in-Ok.ensures.held in
     ends_within (Gives (AllowsNames square c.in-Ok.held.header) asked) (Serves square is_other (AllowsNames square) asked) _ _ _ _ _ _
     (serves_gives square is_other (AllowsNames square) asked c.in-Ok.held.header (c.serve_laws.ensures.header c.in-Ok.held square holds)
-    (sym c.in-Ok-None.ensures ∙ c.in-Ok-None.field-0-is)) (c.give_answers.ensures square holds)
+    (sym c.first_parity.ensures ∙ c.in-None.is)) (c.give_answers.ensures square holds)

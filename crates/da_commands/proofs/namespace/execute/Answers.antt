@@ -1,32 +1,27 @@
-use Rattle.std.proofs.Common.{◌∙◌, ◌∷◌, [], List, ℕ, refl, sym, ap}
+use Rattle.std.proofs.Common.{◌∷◌, [], List, ℕ, refl}
 use Rattle.square_layout.specs.Blocks.{SquareShares}
 use Rattle.da_wire.specs.Spelling.{request_kind}
-use Rattle.da_wire.specs.Values.{bad_value}
-use Rattle.da_commands.specs.Contents.{contents_of}
-use Rattle.da_status.specs.Outcome.{Relation}
+use Rattle.da_commands.specs.Contents.{contents_of, file_of}
 use Rattle.da_commands.specs.Frames.{square_in}
-use Rattle.da_commands.specs.Serving.{square_file, requests_file, Serves}
-use Rattle.da_commands.specs.Namespace.{namespaces_in, is_other, AllowsNames}
+use Rattle.da_commands.specs.Forms.{requests_judged}
+use Rattle.da_commands.specs.Serving.{Serves}
+use Rattle.da_commands.specs.Namespace.{namespaces_in, is_other, AllowsNames, NamespaceOf}
 use Rattle.da_commands.specs.declared.command.Command.TheVariants.{Namespace}
 use Rattle.da_commands.specs.Meaning.{Meaning}
-use Rattle.da_status.proofs.EndLemmas.{ends_as, ends_refused}
-use Rattle.da_commands.proofs.ServingLemmas.{serving_is, serving_refuses}
+use Rattle.da_status.proofs.EndLemmas.{ends_as}
+use Rattle.da_commands.proofs.FormLemmas.{refused_ends, judged_with}
 use Rattle.da_commands.proofs.namespace.execute.Goals as goal
 
-pub returns-in-Some : goal.returns-in-Some
-returns-in-Some g c =
+pub returns-in-Err : goal.returns-in-Err
+returns-in-Err g c =
     let files = contents_of c.args.files.now in
-    let answer : SquareShares → Relation = λ square. Serves square is_other (AllowsNames square) (namespaces_in (requests_file files)) in
-    let same = serving_refuses answer (square_in (square_file files)) (bad_value (request_kind ∷ []) (requests_file files)) c.in-Ok.square c.in-Some.at
-    (ap square_in (sym c.file.ensures) ∙ c.in-Ok.ensures) (ap (bad_value (request_kind ∷ [])) (sym c.file-requests.ensures) ∙ sym c.in-Some.ensures) in
-    ends_as _ (Meaning Namespace files) _ _ _ _ _ _ same (ends_refused 1 c.in-Some.at _ _ _ refl)
+    refused_ends (requests_judged (request_kind ∷ []) files) (NamespaceOf files) _ _ _ _ c.in-Err.ensures.judged refl
 
+-- the files are the square and the requests that were read
 pub returns : goal.returns
 returns g c =
     let files = contents_of c.args.files.now in
-    let square = c.in-Ok.square in
-    let answer : SquareShares → Relation = λ square. Serves square is_other (AllowsNames square) (namespaces_in (requests_file files)) in
-    let same = ap (λ (bytes : List ℕ). Serves square is_other (AllowsNames square) (namespaces_in bytes)) c.file-requests.ensures
-    ∙ serving_is answer (square_in (square_file files)) (bad_value (request_kind ∷ []) (requests_file files)) square
-    (ap square_in (sym c.file.ensures) ∙ c.in-Ok.ensures) (ap (bad_value (request_kind ∷ [])) (sym c.file-requests.ensures) ∙ sym c.in_default.ensures) in
+    let same = judged_with (λ (square : SquareShares) (bytes : List ℕ). Serves square is_other (AllowsNames square) (namespaces_in bytes))
+    (requests_judged (request_kind ∷ []) files) (square_in (file_of files 0)) c.in-Ok.read.0 c.in-Ok.read.1.now (file_of files 1)
+    c.in-Ok.ensures.judged c.in-Ok.ensures.square c.in-Ok.ensures.requests in
     ends_as _ (Meaning Namespace files) _ _ _ _ _ _ same c.answer.ensures

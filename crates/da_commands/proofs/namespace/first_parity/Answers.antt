@@ -4,17 +4,17 @@ use Rattle.da_commands.specs.Namespace.{is_other}
 use Rattle.da_commands.proofs.RequestLemmas.{failing_none, failing_here, failing_later}
 use Rattle.da_commands.proofs.namespace.first_parity.Goals as goal
 
-pub returns-in-End : goal.returns-in-End
-returns-in-End c = sym (c.loop-name.invariant.first ∙ failing_none is_other c.loop-name.number _ c.in-End.ensures)
-
 pub returns-then-is_parity : goal.returns-then-is_parity
 returns-then-is_parity c =
     sym (c.loop-name.invariant.first
-    ∙ failing_here is_other c.loop-name.number _ _ _ c.in-Request.ensures.0 (ap not (sym c.is_parity.ensures ∙ c.if-is_parity.true)))
+    ∙ failing_here is_other c.loop-name.number _ _ _ c.in-Some.ensures.0 (ap not (sym c.is_parity.ensures ∙ c.if-is_parity.true)))
 
 pub loop-name-preserved : goal.loop-name-preserved
 loop-name-preserved c = record {
   first = c.loop-name.invariant.first
-      ∙ failing_later is_other c.loop-name.number _ _ _ c.in-Request.ensures.0 (ap not (sym c.is_parity.ensures ∙ c.if-is_parity.false));
-  few = omega (arith, c.loop-name.invariant.few, c.in-Request.ensures.1);
+      ∙ failing_later is_other c.loop-name.number _ _ _ c.in-Some.ensures.0 (ap not (sym c.is_parity.ensures ∙ c.if-is_parity.false));
+  few = omega (arith, c.loop-name.invariant.few, c.in-Some.ensures.1);
 }
+
+pub returns : goal.returns
+returns c = sym (c.loop-name.invariant.first ∙ failing_none is_other c.loop-name.number _ c.in_default.ensures)

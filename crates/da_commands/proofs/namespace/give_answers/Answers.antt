@@ -21,24 +21,13 @@ loop-name-init g c = record {
   faults = refl;
 }
 
--- the requests to come have answers
-pub returns-in-NoMemory : goal.returns-in-NoMemory
-returns-in-NoMemory g c = λ square holds.
-    let held = c.args.held.now in
-    let is = c.held_law.ensures.held in
-    served_memory (AllowsNames square held.header) _ _ _ _ _ _ _ (c.loop-name.invariant.served square holds) c.in-NoMemory.ensures
-    (have_names held square holds (λ name. c.serve_laws.ensures.complete held name is) (λ name. c.serve_laws.ensures.shares held square name is holds)
-    (λ name named other. c.wire_laws.ensures.names name (answer_for held name) named (c.serve_laws.ensures.entries held name is named)
-    (complete_short held name (answer_for held name) is (c.serve_laws.ensures.complete held name is named other))) _ c.loop-name.invariant.named c.loop-name.invariant.others)
-    c.loop-name.invariant.faults c.loop-name.invariant.told
-
--- so has the next one, for whose answer there was no memory
+-- the requests to come have answers, and the next one, for whose answer there was no memory
 pub returns-in-Err-NoMemory : goal.returns-in-Err-NoMemory
 returns-in-Err-NoMemory g c = λ square holds.
     let held = c.args.held.now in
     let is = c.held_law.ensures.held in
     served_memory (AllowsNames square held.header) _ _ _ _ _ _ _ (c.loop-name.invariant.served square holds)
-    (c.in-Request.name, namespaces_in c.in-Request.after.now, c.in-Request.ensures.0)
+    (c.in-Some.name, namespaces_in c.in-Some.after.now, c.in-Some.ensures.0)
     (have_names held square holds (λ name. c.serve_laws.ensures.complete held name is) (λ name. c.serve_laws.ensures.shares held square name is holds)
     (λ name named other. c.wire_laws.ensures.names name (answer_for held name) named (c.serve_laws.ensures.entries held name is named)
     (complete_short held name (answer_for held name) is (c.serve_laws.ensures.complete held name is named other))) _ c.loop-name.invariant.named c.loop-name.invariant.others)
@@ -47,14 +36,14 @@ returns-in-Err-NoMemory g c = λ square holds.
 pub loop-name-preserved : goal.loop-name-preserved
 loop-name-preserved g c =
     let held = c.args.held.now in
-    let name = c.in-Request.name in
+    let name = c.in-Some.name in
     let complete : IsComplete held.header name c.in-Ok.found = subst (λ (h : HeldParts). IsComplete h.header name c.in-Ok.found) c.loop-name.invariant.kept c.in-Ok.ensures.complete in
-    let named : AllByRecursion IsNamespace (name ∷ namespaces_in c.in-Request.after.now) = subst (AllByRecursion IsNamespace) c.in-Request.ensures.0 c.loop-name.invariant.named in
-    let others : AllByRecursion (λ (n : Namespace). is_other n ≡ true) (name ∷ namespaces_in c.in-Request.after.now) =
-    subst (AllByRecursion (λ (n : Namespace). is_other n ≡ true)) c.in-Request.ensures.0 c.loop-name.invariant.others in
+    let named : AllByRecursion IsNamespace (name ∷ namespaces_in c.in-Some.after.now) = subst (AllByRecursion IsNamespace) c.in-Some.ensures.0 c.loop-name.invariant.named in
+    let others : AllByRecursion (λ (n : Namespace). is_other n ≡ true) (name ∷ namespaces_in c.in-Some.after.now) =
+    subst (AllByRecursion (λ (n : Namespace). is_other n ≡ true)) c.in-Some.ensures.0 c.loop-name.invariant.others in
     record {
       served = λ square holds.
-          served_on (AllowsNames square held.header) _ _ _ _ _ _ name c.answer_frame.result (c.loop-name.invariant.served square holds) c.in-Request.ensures.0
+          served_on (AllowsNames square held.header) _ _ _ _ _ _ name c.answer_frame.result (c.loop-name.invariant.served square holds) c.in-Some.ensures.0
           (c.in-Ok.found, record { complete = complete; shares = c.in-Ok.ensures.shares square (subst (λ (h : HeldParts). Holds h square) (sym c.loop-name.invariant.kept) holds) }, c.answer_frame.ensures.value)
           c.in-Done.ensures.ends.leaves;
       named = named.1;
@@ -64,25 +53,25 @@ loop-name-preserved g c =
       faults = c.in-Done.ensures.ends.faults ∙ c.loop-name.invariant.faults;
     }
 
-pub returns-in_default : goal.returns-in_default
-returns-in_default g c = λ square holds.
+pub returns-in_default-status : goal.returns-in_default-status
+returns-in_default-status g c = λ square holds.
     let held = c.args.held.now in
     let is = c.held_law.ensures.held in
-    let name = c.in-Request.name in
+    let name = c.in-Some.name in
     let complete : IsComplete held.header name c.in-Ok.found = subst (λ (h : HeldParts). IsComplete h.header name c.in-Ok.found) c.loop-name.invariant.kept c.in-Ok.ensures.complete in
-    let named : AllByRecursion IsNamespace (name ∷ namespaces_in c.in-Request.after.now) = subst (AllByRecursion IsNamespace) c.in-Request.ensures.0 c.loop-name.invariant.named in
-    let others : AllByRecursion (λ (n : Namespace). is_other n ≡ true) (name ∷ namespaces_in c.in-Request.after.now) =
-    subst (AllByRecursion (λ (n : Namespace). is_other n ≡ true)) c.in-Request.ensures.0 c.loop-name.invariant.others in
-    served_stopped (AllowsNames square held.header) _ _ _ _ _ _ name c.answer_frame.result _ _ _ (c.loop-name.invariant.served square holds) c.in-Request.ensures.0
+    let named : AllByRecursion IsNamespace (name ∷ namespaces_in c.in-Some.after.now) = subst (AllByRecursion IsNamespace) c.in-Some.ensures.0 c.loop-name.invariant.named in
+    let others : AllByRecursion (λ (n : Namespace). is_other n ≡ true) (name ∷ namespaces_in c.in-Some.after.now) =
+    subst (AllByRecursion (λ (n : Namespace). is_other n ≡ true)) c.in-Some.ensures.0 c.loop-name.invariant.others in
+    served_stopped (AllowsNames square held.header) _ _ _ _ _ _ name c.answer_frame.result _ _ _ (c.loop-name.invariant.served square holds) c.in-Some.ensures.0
     (c.in-Ok.found, record { complete = complete; shares = c.in-Ok.ensures.shares square (subst (λ (h : HeldParts). Holds h square) (sym c.loop-name.invariant.kept) holds) }, c.answer_frame.ensures.value)
     (have_names held square holds (λ n. c.serve_laws.ensures.complete held n is) (λ n. c.serve_laws.ensures.shares held square n is holds)
     (λ n is_named other. c.wire_laws.ensures.names n (answer_for held n) is_named (c.serve_laws.ensures.entries held n is is_named)
     (complete_short held n (answer_for held n) is (c.serve_laws.ensures.complete held n is is_named other))) _ named.1 others.1)
     (λ s. c.give-status.ensures.ends.told.0 (c.loop-name.invariant.told.0 s), λ s. c.loop-name.invariant.told.1 (c.give-status.ensures.ends.told.1 s))
-    _ c.loop-name.invariant.faults c.answer_frame.ensures.spelled _ c.give-status.result c.in_default.not-Done c.give-status.ensures.ends
+    _ c.loop-name.invariant.faults c.answer_frame.ensures.spelled _ c.give-status.result c.in_default-status.not-Done c.give-status.ensures.ends
 
 -- a complete answer is short enough to be written
 pub answer_frame-requires : goal.answer_frame-requires
 answer_frame-requires g c =
-    complete_short c.args.held.now c.in-Request.name c.in-Ok.found c.held_law.ensures.held
-    (subst (λ (h : HeldParts). IsComplete h.header c.in-Request.name c.in-Ok.found) c.loop-name.invariant.kept c.in-Ok.ensures.complete)
+    complete_short c.args.held.now c.in-Some.name c.in-Ok.found c.held_law.ensures.held
+    (subst (λ (h : HeldParts). IsComplete h.header c.in-Some.name c.in-Ok.found) c.loop-name.invariant.kept c.in-Ok.ensures.complete)

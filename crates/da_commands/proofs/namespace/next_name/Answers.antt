@@ -1,16 +1,10 @@
-use Rattle.std.proofs.Common.{◌∙◌, sym}
+use Rattle.std.proofs.Common.{[], ◌∷◌, refl}
 use Rattle.da_wire.specs.Spelling.{request_kind}
+use Rattle.da_wire.specs.declared.frames.Frame.TheVariants.{Request}
 use Rattle.da_commands.specs.Namespace.{namespace_of}
-use Rattle.da_commands.proofs.RequestLemmas.{has_request, is_request}
-use Rattle.da_commands.proofs.NamespaceLemmas.{name_kinds}
+use Rattle.da_commands.proofs.RequestLemmas.{is_next}
 use Rattle.da_commands.proofs.namespace.next_name.Goals as goal
 
--- memory runs out in place of a request alone
-pub returns-in_default : goal.returns-in_default
-returns-in_default c = has_request namespace_of request_kind name_kinds c.args.bytes.now c.in_default.ensures.memory
-
--- a value of the kind is a request
-pub unreachable-requires : goal.unreachable-requires
-unreachable-requires c =
-    is_request namespace_of request_kind name_kinds c.args.bytes.now c.in-Ok.found c.in-Some.frame c.in-Some.after c.in-Some.is c.in-Ok.ensures.after
-    (sym c.namespace_of.ensures ∙ c.in-None.is)
+-- the first request of the file, and those after it
+pub returns : goal.returns
+returns c = is_next namespace_of Request (λ asked. refl) (request_kind ∷ []) c.args.bytes.now c.next_request.result c.next_request.ensures.values c.next_request.ensures.shorter

@@ -12,7 +12,7 @@ use Rattle.square_serve.specs.Serving.{HeldParts}
 use Rattle.da_commands.specs.Sample.{samples_in}
 use Rattle.da_commands.specs.Prove.{AllowsRootProof}
 use Rattle.da_commands.proofs.RequestLemmas.{all_pass}
-use Rattle.da_commands.proofs.ServingLemmas.{served_none, served_on, served_stopped, served_memory}
+use Rattle.da_commands.proofs.ServingLemmas.{served_none, served_on, served_stopped}
 use Rattle.da_commands.proofs.ProveLemmas.{is_root_proof, have_proofs}
 use Rattle.da_commands.proofs.prove.give_proofs.Goals as goal
 
@@ -25,30 +25,20 @@ loop-asked-init g c = record {
   faults = refl;
 }
 
--- the requests to come have answers
-pub returns-in-NoMemory : goal.returns-in-NoMemory
-returns-in-NoMemory g c = λ square holds.
-    let held = c.args.held.now in
-    served_memory (AllowsRootProof square held.header) _ _ _ _ _ _ _ (c.loop-asked.invariant.served square holds) c.in-NoMemory.ensures
-    (have_proofs held square holds
-    (λ cell axis inside. c.sample_laws.ensures held.header square (message_at held.k held.grid cell axis) (c.serve_laws.ensures.header held square holds)
-    (c.serve_laws.ensures.sample held cell axis c.held_law.ensures.held inside))
-    c.wire_laws.ensures.rooted _ c.loop-asked.invariant.inside) c.loop-asked.invariant.faults c.loop-asked.invariant.told
-
 pub loop-asked-preserved : goal.loop-asked-preserved
 loop-asked-preserved g c =
     let held = c.args.held.now in
-    let asked = c.in-Request.asked in
+    let asked = c.in-Some.asked in
     let m = c.in-Ok-sample.message in
     let share = c.in-Ok-sample.ensures.share ∙ ap (λ (h : HeldParts). share_at (2 * h.k) h.grid asked.0) c.loop-asked.invariant.kept in
     let proof = c.root_proof-proof.result in
     let width = c.root_proof-proof.ensures.width ∙ ap (λ (h : Roots). h.k) c.in-Ok.ensures.value in
     let root = subst (λ (h : Roots). RootedHolds (data_root_of h) proof) c.in-Ok.ensures.value c.root_proof-proof.ensures.holds in
-    let inside : AllByRecursion (λ (a : Cell × Axis). is_in_square held.k a.0 ≡ true) (asked ∷ samples_in c.in-Request.after.now) =
-    subst (AllByRecursion (λ (a : Cell × Axis). is_in_square held.k a.0 ≡ true)) c.in-Request.ensures.0 c.loop-asked.invariant.inside in
+    let inside : AllByRecursion (λ (a : Cell × Axis). is_in_square held.k a.0 ≡ true) (asked ∷ samples_in c.in-Some.after.now) =
+    subst (AllByRecursion (λ (a : Cell × Axis). is_in_square held.k a.0 ≡ true)) c.in-Some.ensures.0 c.loop-asked.invariant.inside in
     record {
       served = λ square holds.
-          served_on (AllowsRootProof square held.header) _ _ _ _ _ _ asked c.rooted_frame.result (c.loop-asked.invariant.served square holds) c.in-Request.ensures.0 (
+          served_on (AllowsRootProof square held.header) _ _ _ _ _ _ asked c.rooted_frame.result (c.loop-asked.invariant.served square holds) c.in-Some.ensures.0 (
             proof,
             is_root_proof held square asked m proof holds c.in-Ok-sample.ensures.cell c.in-Ok-sample.ensures.axis share width
                 c.root_proof-proof.ensures.message root,
@@ -64,15 +54,15 @@ loop-asked-preserved g c =
 pub returns-in_default-status : goal.returns-in_default-status
 returns-in_default-status g c = λ square holds.
     let held = c.args.held.now in
-    let asked = c.in-Request.asked in
+    let asked = c.in-Some.asked in
     let m = c.in-Ok-sample.message in
     let share = c.in-Ok-sample.ensures.share ∙ ap (λ (h : HeldParts). share_at (2 * h.k) h.grid asked.0) c.loop-asked.invariant.kept in
     let proof = c.root_proof-proof.result in
     let width = c.root_proof-proof.ensures.width ∙ ap (λ (h : Roots). h.k) c.in-Ok.ensures.value in
     let root = subst (λ (h : Roots). RootedHolds (data_root_of h) proof) c.in-Ok.ensures.value c.root_proof-proof.ensures.holds in
-    let inside : AllByRecursion (λ (a : Cell × Axis). is_in_square held.k a.0 ≡ true) (asked ∷ samples_in c.in-Request.after.now) =
-    subst (AllByRecursion (λ (a : Cell × Axis). is_in_square held.k a.0 ≡ true)) c.in-Request.ensures.0 c.loop-asked.invariant.inside in
-    served_stopped (AllowsRootProof square held.header) _ _ _ _ _ _ asked c.rooted_frame.result _ _ _ (c.loop-asked.invariant.served square holds) c.in-Request.ensures.0 (
+    let inside : AllByRecursion (λ (a : Cell × Axis). is_in_square held.k a.0 ≡ true) (asked ∷ samples_in c.in-Some.after.now) =
+    subst (AllByRecursion (λ (a : Cell × Axis). is_in_square held.k a.0 ≡ true)) c.in-Some.ensures.0 c.loop-asked.invariant.inside in
+    served_stopped (AllowsRootProof square held.header) _ _ _ _ _ _ asked c.rooted_frame.result _ _ _ (c.loop-asked.invariant.served square holds) c.in-Some.ensures.0 (
       proof,
       is_root_proof held square asked m proof holds c.in-Ok-sample.ensures.cell c.in-Ok-sample.ensures.axis share width
           c.root_proof-proof.ensures.message root,

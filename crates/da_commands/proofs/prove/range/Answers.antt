@@ -1,17 +1,27 @@
-use Rattle.std.proofs.Common.{◌∙◌, sym, ap}
+use Rattle.std.proofs.Common.{refl}
+use Rattle.square_layout.specs.Blocks.{SquareShares}
+use Rattle.da_commands.specs.Prove.{ProvesRange, ProveRangeOf}
 use Rattle.da_commands.specs.declared.command.Command.TheVariants.{ProveRange}
-use Rattle.da_commands.specs.Contents.{contents_of}
+use Rattle.da_commands.specs.Contents.{contents_of, file_of}
 use Rattle.da_commands.specs.Frames.{square_in}
-use Rattle.da_commands.specs.Prove.{ProvesRange}
+use Rattle.da_commands.specs.Forms.{single_judged}
 use Rattle.da_commands.specs.Meaning.{Meaning}
 use Rattle.da_status.proofs.EndLemmas.{once_as}
-use Rattle.da_commands.proofs.ProveLemmas.{prove_range_is}
+use Rattle.da_commands.proofs.FormLemmas.{refused_once, single_is}
 use Rattle.da_commands.proofs.prove.range.Goals as goal
+
+pub returns-in-Err : goal.returns-in-Err
+returns-in-Err g c =
+    let files = contents_of c.args.files.now in
+    let start = c.args.start in
+    let count = c.args.count in
+    refused_once (single_judged square_in files) (ProveRangeOf start count files) _ _ _ _ c.in-Err.ensures.judged refl
 
 -- the file is the square that was read
 pub returns-in-Ok : goal.returns-in-Ok
 returns-in-Ok g c =
+    let files = contents_of c.args.files.now in
     let start = c.args.start in
     let count = c.args.count in
-    once_as (ProvesRange c.in-Ok.square start count) (Meaning (ProveRange start count) (contents_of c.args.files.now)) _ _ _ _ _ _
-    (prove_range_is start count (contents_of c.args.files.now) c.in-Ok.square (ap square_in (sym c.file.ensures) ∙ c.in-Ok.ensures)) c.prove_range.ensures
+    once_as _ (Meaning (ProveRange start count) files) _ _ _ _ _ _
+    (single_is (λ (square : SquareShares). ProvesRange square start count) (square_in (file_of files 0)) c.in-Ok.square c.in-Ok.ensures.square) c.prove_range.ensures

@@ -1,14 +1,23 @@
-use Rattle.std.proofs.Common.{◌∙◌, sym, ap}
+use Rattle.std.proofs.Common.{refl}
+use Rattle.da_commands.specs.Root.{RootOf}
+use Rattle.da_commands.proofs.RootLemmas.{Tells}
 use Rattle.da_commands.specs.declared.command.Command.TheVariants.{Root}
-use Rattle.da_commands.specs.Contents.{contents_of}
+use Rattle.da_commands.specs.Contents.{contents_of, file_of}
 use Rattle.da_commands.specs.Frames.{header_in}
+use Rattle.da_commands.specs.Forms.{single_judged}
 use Rattle.da_commands.specs.Meaning.{Meaning}
 use Rattle.da_status.proofs.EndLemmas.{once_as}
-use Rattle.da_commands.proofs.RootLemmas.{Tells, root_is}
+use Rattle.da_commands.proofs.FormLemmas.{refused_once, single_is}
 use Rattle.da_commands.proofs.root.root.Goals as goal
+
+pub returns-in-Err : goal.returns-in-Err
+returns-in-Err g c =
+    let files = contents_of c.args.files.now in
+    refused_once (single_judged header_in files) (RootOf files) _ _ _ _ c.in-Err.ensures.judged refl
 
 -- the file is the header that was read
 pub returns-in-Ok : goal.returns-in-Ok
 returns-in-Ok g c =
-    once_as (Tells c.in-Ok.header) (Meaning Root (contents_of c.args.files.now)) _ _ _ _ _ _
-    (root_is (contents_of c.args.files.now) c.in-Ok.header (ap header_in (sym c.file.ensures) ∙ c.in-Ok.ensures)) c.give_root.ensures
+    let files = contents_of c.args.files.now in
+    once_as _ (Meaning Root files) _ _ _ _ _ _
+    (single_is Tells (header_in (file_of files 0)) c.in-Ok.header c.in-Ok.ensures.header) c.give_root.ensures

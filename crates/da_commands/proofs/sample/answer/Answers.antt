@@ -17,27 +17,27 @@ returns-in-Err-NoHeader g c =
     (serves_none square (is_asked_inside square) (AllowsSample square) asked (c.in-Err-NoHeader.ensures.no_header (ap Err c.in-Err-NoHeader.field-0-is))) refl
 
 -- a request outside is refused
-pub returns-in-Ok-Some : goal.returns-in-Ok-Some
-returns-in-Ok-Some g c =
+pub returns-in-Some : goal.returns-in-Some
+returns-in-Some g c =
     let square = c.args.square in
     let asked = samples_in c.args.requests.now in
     let holds = c.in-Ok.ensures.held in
     let same : c.square.inside.k ≡ square.k = ap (λ (s : SquareShares). s.k) c.square.view_is in
-    let some : failing_from (is_asked_inside square) 0 asked ≡ Some c.in-Ok-Some.number =
-    ap (λ (k : ℕ). failing_from (λ (a : Cell × Axis). is_in_square k a.0) 0 asked) (sym same) ∙ sym c.in-Ok-Some.ensures ∙ c.in-Ok-Some.field-0-is in
+    let some : failing_from (is_asked_inside square) 0 asked ≡ Some c.in-Some.number =
+    ap (λ (k : ℕ). failing_from (λ (a : Cell × Axis). is_in_square k a.0) 0 asked) (sym same) ∙ sym c.first_outside.ensures ∙ c.in-Some.is in
     ends_request (Serves square (is_asked_inside square) (AllowsSample square) asked) _ _ _ _ refl
-    (serves_at square (is_asked_inside square) (AllowsSample square) asked c.in-Ok.held.header c.in-Ok-Some.number
+    (serves_at square (is_asked_inside square) (AllowsSample square) asked c.in-Ok.held.header c.in-Some.number
     (c.serve_laws.ensures.header c.in-Ok.held square holds) some) refl
 
 -- what is written are the frames of all requests
-pub returns-in-Ok-None : goal.returns-in-Ok-None
-returns-in-Ok-None g c =
+pub returns : goal.returns
+returns g c =
     let square = c.args.square in
     let asked = samples_in c.args.requests.now in
     let holds = c.in-Ok.ensures.held in
     let same : c.square.inside.k ≡ square.k = ap (λ (s : SquareShares). s.k) c.square.view_is in
     let none : failing_from (is_asked_inside square) 0 asked ≡ None =
-    ap (λ (k : ℕ). failing_from (λ (a : Cell × Axis). is_in_square k a.0) 0 asked) (sym same) ∙ sym c.in-Ok-None.ensures ∙ c.in-Ok-None.field-0-is in
+    ap (λ (k : ℕ). failing_from (λ (a : Cell × Axis). is_in_square k a.0) 0 asked) (sym same) ∙ sym c.first_outside.ensures ∙ c.in-None.is in
     ends_within (Gives (AllowsSample square c.in-Ok.held.header) asked) (Serves square (is_asked_inside square) (AllowsSample square) asked) _ _ _ _ _ _
     (serves_gives square (is_asked_inside square) (AllowsSample square) asked c.in-Ok.held.header (c.serve_laws.ensures.header c.in-Ok.held square holds) none)
     (c.give_samples.ensures square holds)

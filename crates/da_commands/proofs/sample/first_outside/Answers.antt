@@ -3,18 +3,18 @@ use Rattle.namespace_id.specs.Cells.{is_in_square}
 use Rattle.da_commands.proofs.RequestLemmas.{failing_none, failing_here, failing_later}
 use Rattle.da_commands.proofs.sample.first_outside.Goals as goal
 
-pub returns-in-End : goal.returns-in-End
-returns-in-End c =
-    sym (c.loop-asked.invariant.first ∙ failing_none (λ asked. is_in_square c.args.k asked.0) c.loop-asked.number _ c.in-End.ensures)
-
 pub returns-then-not-is_in_square : goal.returns-then-not-is_in_square
 returns-then-not-is_in_square c =
     sym (c.loop-asked.invariant.first
-    ∙ failing_here (λ asked. is_in_square c.args.k asked.0) c.loop-asked.number _ _ _ c.in-Request.ensures.0 (sym c.is_in_square.ensures ∙ c.if-not-is_in_square.true))
+    ∙ failing_here (λ asked. is_in_square c.args.k asked.0) c.loop-asked.number _ _ _ c.in-Some.ensures.0 (sym c.is_in_square.ensures ∙ c.if-not-is_in_square.true))
 
 pub loop-asked-preserved : goal.loop-asked-preserved
 loop-asked-preserved c = record {
   first = c.loop-asked.invariant.first
-      ∙ failing_later (λ asked. is_in_square c.args.k asked.0) c.loop-asked.number _ _ _ c.in-Request.ensures.0 (sym c.is_in_square.ensures ∙ c.if-not-is_in_square.false);
-  few = omega (arith, c.loop-asked.invariant.few, c.in-Request.ensures.1);
+      ∙ failing_later (λ asked. is_in_square c.args.k asked.0) c.loop-asked.number _ _ _ c.in-Some.ensures.0 (sym c.is_in_square.ensures ∙ c.if-not-is_in_square.false);
+  few = omega (arith, c.loop-asked.invariant.few, c.in-Some.ensures.1);
 }
+
+pub returns : goal.returns
+returns c =
+    sym (c.loop-asked.invariant.first ∙ failing_none (λ asked. is_in_square c.args.k asked.0) c.loop-asked.number _ c.in_default.ensures)

@@ -8,7 +8,7 @@ use Rattle.axis_roots.specs.Openings.{IsProved}
 use Rattle.square_serve.specs.Serving.{HeldParts}
 use Rattle.da_commands.specs.Sample.{samples_in, AllowsSample}
 use Rattle.da_commands.proofs.RequestLemmas.{all_pass}
-use Rattle.da_commands.proofs.ServingLemmas.{served_none, served_on, served_stopped, served_memory}
+use Rattle.da_commands.proofs.ServingLemmas.{served_none, served_on, served_stopped}
 use Rattle.da_commands.proofs.SampleLemmas.{is_sample, have_samples}
 use Rattle.da_commands.proofs.sample.give_samples.Goals as goal
 
@@ -21,23 +21,16 @@ loop-asked-init g c = record {
   faults = refl;
 }
 
--- the requests to come have answers
-pub returns-in-NoMemory : goal.returns-in-NoMemory
-returns-in-NoMemory g c = λ square holds.
-    served_memory (AllowsSample square c.args.held.now.header) _ _ _ _ _ _ _ (c.loop-asked.invariant.served square holds) c.in-NoMemory.ensures
-    (have_samples c.args.held.now square holds (λ cell axis. c.serve_laws.ensures.sample c.args.held.now cell axis c.held_law.ensures.held) c.wire_laws.ensures.messages _
-    c.loop-asked.invariant.inside) c.loop-asked.invariant.faults c.loop-asked.invariant.told
-
 pub loop-asked-preserved : goal.loop-asked-preserved
 loop-asked-preserved g c =
     let held = c.args.held.now in
-    let asked = c.in-Request.asked in
+    let asked = c.in-Some.asked in
     let m = c.in-Ok.message in
-    let inside : AllByRecursion (λ (a : Cell × Axis). is_in_square held.k a.0 ≡ true) (asked ∷ samples_in c.in-Request.after.now) =
-    subst (AllByRecursion (λ (a : Cell × Axis). is_in_square held.k a.0 ≡ true)) c.in-Request.ensures.0 c.loop-asked.invariant.inside in
+    let inside : AllByRecursion (λ (a : Cell × Axis). is_in_square held.k a.0 ≡ true) (asked ∷ samples_in c.in-Some.after.now) =
+    subst (AllByRecursion (λ (a : Cell × Axis). is_in_square held.k a.0 ≡ true)) c.in-Some.ensures.0 c.loop-asked.invariant.inside in
     record {
       served = λ square holds.
-          served_on (AllowsSample square held.header) _ _ _ _ _ _ asked c.message_frame.result (c.loop-asked.invariant.served square holds) c.in-Request.ensures.0
+          served_on (AllowsSample square held.header) _ _ _ _ _ _ asked c.message_frame.result (c.loop-asked.invariant.served square holds) c.in-Some.ensures.0
           (m, is_sample held square asked m holds c.in-Ok.ensures.cell c.in-Ok.ensures.axis (c.in-Ok.ensures.share ∙ ap (λ (h : HeldParts). share_at (2 * h.k) h.grid asked.0) c.loop-asked.invariant.kept) (subst (λ (h : HeldParts). IsProved h.header m) c.loop-asked.invariant.kept c.in-Ok.ensures.proved), c.message_frame.ensures.value)
           c.in-Done.ensures.ends.leaves;
       inside = inside.1;
@@ -49,11 +42,11 @@ loop-asked-preserved g c =
 pub returns-in_default-status : goal.returns-in_default-status
 returns-in_default-status g c = λ square holds.
     let held = c.args.held.now in
-    let asked = c.in-Request.asked in
+    let asked = c.in-Some.asked in
     let m = c.in-Ok.message in
-    let inside : AllByRecursion (λ (a : Cell × Axis). is_in_square held.k a.0 ≡ true) (asked ∷ samples_in c.in-Request.after.now) =
-    subst (AllByRecursion (λ (a : Cell × Axis). is_in_square held.k a.0 ≡ true)) c.in-Request.ensures.0 c.loop-asked.invariant.inside in
-    served_stopped (AllowsSample square held.header) _ _ _ _ _ _ asked c.message_frame.result _ _ _ (c.loop-asked.invariant.served square holds) c.in-Request.ensures.0
+    let inside : AllByRecursion (λ (a : Cell × Axis). is_in_square held.k a.0 ≡ true) (asked ∷ samples_in c.in-Some.after.now) =
+    subst (AllByRecursion (λ (a : Cell × Axis). is_in_square held.k a.0 ≡ true)) c.in-Some.ensures.0 c.loop-asked.invariant.inside in
+    served_stopped (AllowsSample square held.header) _ _ _ _ _ _ asked c.message_frame.result _ _ _ (c.loop-asked.invariant.served square holds) c.in-Some.ensures.0
     (m, is_sample held square asked m holds c.in-Ok.ensures.cell c.in-Ok.ensures.axis (c.in-Ok.ensures.share ∙ ap (λ (h : HeldParts). share_at (2 * h.k) h.grid asked.0) c.loop-asked.invariant.kept) (subst (λ (h : HeldParts). IsProved h.header m) c.loop-asked.invariant.kept c.in-Ok.ensures.proved), c.message_frame.ensures.value)
     (have_samples held square holds (λ cell axis. c.serve_laws.ensures.sample held cell axis c.held_law.ensures.held) c.wire_laws.ensures.messages _ inside.1)
     (λ s. c.give-status.ensures.ends.told.0 (c.loop-asked.invariant.told.0 s), λ s. c.loop-asked.invariant.told.1 (c.give-status.ensures.ends.told.1 s))

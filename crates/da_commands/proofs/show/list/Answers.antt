@@ -1,11 +1,11 @@
-use Rattle.std.proofs.Common.{◌∙◌, ℕ, refl, ap}
+use Rattle.std.proofs.Common.{◌∙◌, ◌++◌, ℕ, List, refl, sym, ap}
 use Rattle.da_io.specs.Faults.{count_on}
 use Rattle.da_wire.specs.Values.{values_of}
-use Rattle.da_commands.specs.Show.{all_kinds, shown_as, shown_bytes, Shows}
+use Rattle.da_commands.specs.Show.{all_kinds, shown_as, all_shown, Shows}
 use Rattle.da_status.specs.declared.status.Status.TheVariants.{Done, NoMemory}
 use Rattle.da_status.proofs.WriteLemmas.{gathered_on, gathered_part}
 use Rattle.da_status.proofs.EndLemmas.{ends_in_fault}
-use Rattle.da_commands.proofs.ShowLemmas.{first_is, none_is, next_shown, shown-first, shown_found, shows_done, shows_memory, shows_after}
+use Rattle.da_commands.proofs.ShowLemmas.{no_line, line_first, shows_done, shows_memory, shows_after}
 use Rattle.da_commands.proofs.show.list.Goals as goal
 
 -- no frame is left
@@ -13,44 +13,29 @@ pub returns-in_default-found : goal.returns-in_default-found
 returns-in_default-found g c =
     let shown = shown_as c.args.form in
     let frames = values_of all_kinds c.args.frames.now in
-    let rest = values_of all_kinds c.loop-found.rest.now in
-    let none = none_is all_kinds c.loop-found.rest.now c.in-Ok.found c.in_default-found.is c.in-Ok.ensures.values in
-    rw c.after-in_default-found.ensures (shows_after shown frames _ _ _ _ _ _ _ c.loop-found.room (shown_bytes shown rest) c.flush-in_default-found.result Done
+    let rest = c.loop-found.rest.now in
+    let none = no_line shown rest _ c.in-Ok.found c.in_default-found.is c.in-Ok.ensures.line in
+    rw c.after-in_default-found.ensures (shows_after shown frames _ _ _ _ _ _ _ c.loop-found.room (all_shown shown rest) c.flush-in_default-found.result Done
     c.loop-found.invariant.shown c.loop-found.invariant.faults c.loop-found.invariant.told
     c.flush-in_default-found.ensures.told c.flush-in_default-found.ensures.taken c.flush-in_default-found.ensures.faults
-    (λ w counted told. shows_done shown frames _ _ _ _ _ rest w none counted told))
+    (λ w counted told. shows_done shown frames _ _ _ _ _ (values_of all_kinds rest) w none counted told))
 
--- memory runs out in place of a frame alone
+-- memory runs out in place of a frame, or for its line
 pub returns-in_default : goal.returns-in_default
 returns-in_default g c =
     let shown = shown_as c.args.form in
     let frames = values_of all_kinds c.args.frames.now in
-    let rest = shown_bytes shown (values_of all_kinds c.loop-found.rest.now) in
-    let more = shown_found shown all_kinds c.loop-found.rest.now c.in_default.ensures.memory in
+    let rest = all_shown shown c.loop-found.rest.now in
     rw c.after.ensures (shows_after shown frames _ _ _ _ _ _ _ c.loop-found.room rest c.flush.result NoMemory
     c.loop-found.invariant.shown c.loop-found.invariant.faults c.loop-found.invariant.told c.flush.ensures.told c.flush.ensures.taken c.flush.ensures.faults
-    (λ w counted told. shows_memory shown frames _ _ _ _ _ rest w more counted told))
-
--- memory runs out for the line of a frame
-pub returns-in_default-shown : goal.returns-in_default-shown
-returns-in_default-shown g c =
-    let shown = shown_as c.args.form in
-    let frames = values_of all_kinds c.args.frames.now in
-    let rest = values_of all_kinds c.loop-found.rest.now in
-    let first = first_is all_kinds c.loop-found.rest.now c.in-Ok.found c.in-Some.frame c.in-Some.more c.in-Some.is c.in-Ok.ensures.values in
-    let more = shown-first shown rest (values_of all_kinds c.in-Some.more.now) c.in-Some.frame first in
-    rw c.after-in_default-shown.ensures (shows_after shown frames _ _ _ _ _ _ _ c.loop-found.room (shown_bytes shown rest) c.flush-in_default-shown.result NoMemory
-    c.loop-found.invariant.shown c.loop-found.invariant.faults c.loop-found.invariant.told
-    c.flush-in_default-shown.ensures.told c.flush-in_default-shown.ensures.taken c.flush-in_default-shown.ensures.faults
-    (λ w counted told. shows_memory shown frames _ _ _ _ _ (shown_bytes shown rest) w more counted told))
+    (λ w counted told. shows_memory shown frames _ _ _ _ _ rest w c.in_default.ensures.memory counted told))
 
 -- a part of what was held, with the next frame's line behind it, was taken
 pub returns-in_default-add : goal.returns-in_default-add
 returns-in_default-add g c =
     let shown = shown_as c.args.form in
-    let first = first_is all_kinds c.loop-found.rest.now c.in-Ok.found c.in-Some.frame c.in-Some.more c.in-Some.is c.in-Ok.ensures.values in
-    let next = next_shown shown _ (values_of all_kinds c.in-Some.more.now) c.in-Some.frame c.as_bytes.result.now first
-    (c.as_bytes.ensures.value ∙ c.in-Ok-shown.ensures) in
+    let first = line_first shown c.loop-found.rest.now _ c.in-Ok.found c.in-Some.more c.in-Some.is c.in-Ok.ensures.line in
+    let next = first ∙ ap (λ (l : List ℕ). l ++ all_shown shown c.in-Some.more.now) (sym c.as_bytes.ensures.value) in
     ends_in_fault (Shows shown (values_of all_kinds c.args.frames.now)) _ _ _ _ _ _ _ (refl, refl)
     (gathered_part _ _ _ _ _ _ _ _ c.loop-found.invariant.shown next c.in_default-add.ensures.taken)
     (c.in_default-add.ensures.faults ∙ ap (λ (n : ℕ). count_on n 1) c.loop-found.invariant.faults)
@@ -59,9 +44,8 @@ returns-in_default-add g c =
 pub loop-found-preserved : goal.loop-found-preserved
 loop-found-preserved g c =
     let shown = shown_as c.args.form in
-    let first = first_is all_kinds c.loop-found.rest.now c.in-Ok.found c.in-Some.frame c.in-Some.more c.in-Some.is c.in-Ok.ensures.values in
-    let next = next_shown shown _ (values_of all_kinds c.in-Some.more.now) c.in-Some.frame c.as_bytes.result.now first
-    (c.as_bytes.ensures.value ∙ c.in-Ok-shown.ensures) in
+    let first = line_first shown c.loop-found.rest.now _ c.in-Ok.found c.in-Some.more c.in-Some.is c.in-Ok.ensures.line in
+    let next = first ∙ ap (λ (l : List ℕ). l ++ all_shown shown c.in-Some.more.now) (sym c.as_bytes.ensures.value) in
     record {
       shown = gathered_on _ _ _ _ _ _ _ _ _ c.loop-found.invariant.shown next c.in-Ok-add.ensures.taken;
       told = (λ s. c.in-Ok-add.ensures.told.0 (c.loop-found.invariant.told.0 s), λ s. c.loop-found.invariant.told.1 (c.in-Ok-add.ensures.told.1 s));

@@ -1,41 +1,37 @@
-use Rattle.std.proofs.Common.{◌∙◌, Err, refl, sym, ap, subst}
+use Rattle.std.proofs.Common.{◌∙◌, ◌∷◌, [], Err, refl, sym, ap, subst}
 use Rattle.da_wire.specs.declared.frames.Frame.{Frame}
 use Rattle.da_commands.specs.declared.frames.Unread.{Unread}
 use Rattle.da_commands.specs.Contents.{contents_of}
-use Rattle.da_commands.specs.Frames.{header_in, ReadsSingle}
+use Rattle.da_commands.specs.Frames.{error_of, ReadsSingle}
+use Rattle.da_commands.specs.Forms.{under_judged}
 use Rattle.da_commands.specs.Verify.{answer_in}
-use Rattle.da_commands.specs.VerifyFor.{request_in, VerifiesFor}
+use Rattle.da_commands.specs.VerifyFor.{request_in, request_file, verify_for_judged, VerifiesFor, VerifyForOf}
 use Rattle.da_commands.specs.declared.command.Command.TheVariants.{VerifyFor}
 use Rattle.da_commands.specs.Meaning.{Meaning}
-use Rattle.da_status.proofs.EndLemmas.{once_as, once_refused}
-use Rattle.da_commands.proofs.VerifyForLemmas.{verify_for_refuses, verify_for_asks_none, verify_for_is}
+use Rattle.da_status.proofs.EndLemmas.{once_as}
+use Rattle.da_commands.proofs.FormLemmas.{refused_once, refused_more}
+use Rattle.da_commands.proofs.VerifyForLemmas.{verify_for_asks_none, verify_for_is}
 use Rattle.da_commands.proofs.verify_for.execute.Goals as goal
 
-pub returns-in-Err-BadForm-answer_in : goal.returns-in-Err-BadForm-answer_in
-returns-in-Err-BadForm-answer_in g c =
+pub returns-in-Err : goal.returns-in-Err
+returns-in-Err g c =
     let files = contents_of c.args.files.now in
-    let read = subst (λ (why : Unread). ReadsSingle {A = Frame} (Err why) (answer_in c.file-2.result.now)) c.in-Err-BadForm-answer_in.field-0-is
-    c.in-Err-BadForm-answer_in.ensures in
-    let same = verify_for_refuses files c.in-Ok.header (ap header_in (sym c.file.ensures) ∙ c.in-Ok.ensures) _
-    (ap answer_in (sym c.file-2.ensures) ∙ read ∙ ap Err (sym c.in-Err-BadForm-answer_in.at-is)) in
-    once_as _ (Meaning VerifyFor files) _ _ _ _ _ _ same (once_refused 1 _ _ _ _ refl)
+    refused_once (verify_for_judged files) (VerifyForOf files) _ _ _ _
+    (refused_more (under_judged answer_in files) (error_of (request_in (request_file files)) ∷ []) _ c.in-Err.ensures.judged) refl
 
-pub returns-in-Err-BadForm-request_in : goal.returns-in-Err-BadForm-request_in
-returns-in-Err-BadForm-request_in g c =
+pub returns-in-Err-BadForm : goal.returns-in-Err-BadForm
+returns-in-Err-BadForm g c =
     let files = contents_of c.args.files.now in
-    let read = subst (λ (why : Unread). ReadsSingle {A = Frame} (Err why) (request_in c.file-3.result.now)) c.in-Err-BadForm-request_in.field-0-is
-    c.in-Err-BadForm-request_in.ensures in
-    let same = verify_for_asks_none files c.in-Ok.header (ap header_in (sym c.file.ensures) ∙ c.in-Ok.ensures) c.in-Ok-answer_in.answer
-    (ap answer_in (sym c.file-2.ensures) ∙ c.in-Ok-answer_in.ensures) _
-    (ap request_in (sym c.file-3.ensures) ∙ read ∙ ap Err (sym c.in-Err-BadForm-request_in.at-is)) in
-    once_as _ (Meaning VerifyFor files) _ _ _ _ _ _ same (once_refused 2 _ _ _ _ refl)
+    let read = subst (λ (why : Unread). ReadsSingle {A = Frame} (Err why) (request_in c.file.result.now)) c.in-Err-BadForm.field-0-is
+    c.in-Err-BadForm.ensures in
+    refused_once (verify_for_judged files) (VerifyForOf files) _ _ _ _
+    (verify_for_asks_none files c.in-Ok.ensures.judged _ (ap request_in (sym c.file.ensures) ∙ read ∙ ap Err (sym c.in-Err-BadForm.at-is))) refl
 
 -- the files are those that were read
-pub returns : goal.returns
-returns g c =
+pub returns-in-Ok-request_in : goal.returns-in-Ok-request_in
+returns-in-Ok-request_in g c =
     let files = contents_of c.args.files.now in
-    let same = verify_for_is files c.in-Ok.header (ap header_in (sym c.file.ensures) ∙ c.in-Ok.ensures) c.in-Ok-answer_in.answer
-    (ap answer_in (sym c.file-2.ensures) ∙ c.in-Ok-answer_in.ensures) c.in-Ok-request_in.request
-    (ap request_in (sym c.file-3.ensures) ∙ c.in-Ok-request_in.ensures) in
-    once_as (VerifiesFor c.in-Ok.header c.in-Ok-answer_in.answer c.in-Ok-request_in.request) (Meaning VerifyFor files) _ _ _ _ _ _ same
-    c.verify_for.ensures
+    let read = c.in-Ok.read in
+    let same = verify_for_is files c.in-Ok.ensures.judged read.0 read.1 c.in-Ok-request_in.request c.in-Ok.ensures.header c.in-Ok.ensures.answer
+    (ap request_in (sym c.file.ensures) ∙ c.in-Ok-request_in.ensures) in
+    once_as (VerifiesFor read.0 read.1 c.in-Ok-request_in.request) (Meaning VerifyFor files) _ _ _ _ _ _ same c.verify_for.ensures

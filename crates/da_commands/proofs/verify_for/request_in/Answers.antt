@@ -9,4 +9,4 @@ use Rattle.da_commands.proofs.verify_for.request_in.Goals as goal
 pub returns-in-Err : goal.returns-in-Err
 returns-in-Err c =
     subst (λ (why : Unread). ReadsSingle (Err why) (request_in c.args.bytes.now)) (sym c.reason.ensures)
-    (kinds_unread request_kinds c.args.bytes.now c.in-Err.error c.in-Err.ensures)
+    (kinds_unread request_kinds c.args.bytes.now c.in-Err.error c.in-Err.ensures.read)

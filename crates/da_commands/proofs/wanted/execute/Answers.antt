@@ -5,10 +5,11 @@ use Rattle.da_status.specs.declared.status.Status.TheVariants.{Done}
 use Rattle.da_commands.specs.declared.command.Command.TheVariants.{Wanted}
 use Rattle.da_commands.specs.Contents.{contents_of}
 use Rattle.da_commands.specs.Frames.{WritesText}
-use Rattle.da_commands.specs.Wanted.{missing_in, requests_bytes}
+use Rattle.da_commands.specs.Wanted.{missing_in, missing_file, requests_bytes}
 use Rattle.da_commands.specs.Meaning.{Meaning}
 use Rattle.da_status.proofs.EndLemmas.{once_as}
-use Rattle.da_commands.proofs.WantedLemmas.{wanted_is}
+use Rattle.da_commands.proofs.FormLemmas.{single_is}
+use Rattle.da_commands.proofs.WantedLemmas.{Asks}
 use Rattle.da_commands.proofs.wanted.execute.Goals as goal
 
 -- the file is the missing cells that were read
@@ -19,4 +20,4 @@ returns-in-Ok g c =
     let list = c.deref.ensures.value ∙ ap (λ (cells : CellList). cells.list) c.cells.view_is in
     once_as _ (Meaning (Wanted axis) files) _ _ _ _ _ _
     (ap (λ (l : List Cell). WritesText Done (requests_bytes axis l)) list
-    ∙ wanted_is axis files c.in-Ok.cells (ap missing_in (sym c.file.ensures) ∙ c.in-Ok.ensures)) c.give_requests.ensures
+    ∙ single_is (Asks axis) (missing_in (missing_file files)) c.in-Ok.cells (ap missing_in (sym c.file.ensures) ∙ c.in-Ok.ensures)) c.give_requests.ensures
