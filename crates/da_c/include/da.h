@@ -54,7 +54,7 @@ struct da_detail {
 enum { DA_ROOT_SIZE = 32, DA_HEADER_MAX = 46087 };
 
 /*
- * Whether a message (kind M) is proved under a header (kind H): DA_DONE exactly where it is, unless memory runs out.
+ * Whether a sample (kind M) is proved under a header (kind H): DA_DONE exactly where it is, unless memory runs out.
  * Otherwise DA_REFUSED, with the number that `da check` gives.
  */
 uint32_t da_check(const uint8_t *header, size_t header_size, const uint8_t *message, size_t message_size,

@@ -21,22 +21,22 @@ use Rattle.da_c.specs.Replies.{Replies, Outputs, Reads, Takes, Refuses, Fits, ve
 
 -- ---- judging
 
--- da_check: whether a message is proved under a header
+-- da_check: whether a sample is proved under a header
 abbrev pub Checks : List ℕ → List ℕ → Replies
 Checks header message =
     Reads 0 (header_in header) (λ h. Reads 1 (message_in message)
     (λ m reply. reply ≡ verdict (option_map check_number (message_refusal h m))))
 
--- a header and a message are read of the bytes, and this is so of them
+-- a header and a sample are read of the bytes, and this is so of them
 abbrev pub IsOfBoth : (headers.Roots → sent.Message → Type 0) → List ℕ → List ℕ → Type 0
 IsOfBoth Fact header message =
     MatchResult (header_in header) (λ h. MatchResult (message_in message) (λ m. Fact h m) (λ at. ⊥)) (λ at. ⊥)
 
--- the bytes are a header and a message that is proved under it
+-- the bytes are a header and a sample that is proved under it
 abbrev pub IsProvedUnder : List ℕ → List ℕ → Type 0
 IsProvedUnder header message = IsOfBoth IsProved header message
 
--- the bytes are a header and a message, and if it is a square's header, the message shows the square's own share, or they
+-- the bytes are a header and a sample, and if it is a square's header, the sample shows the square's own share, or they
 -- name a collision
 abbrev pub IsOwnUnder : List ℕ → List ℕ → Type 0
 IsOwnUnder header message = IsOfBoth IsOwn header message

@@ -57,7 +57,7 @@ Reads argument read M reply = MatchResult read (λ x. M x reply ⊎ (reply ≡ N
 abbrev pub Answers : Replies → ℕ → Detail → Type 0
 Answers M number detail = (reply : Reply) × M reply × Seen number detail reply
 
--- but for want of memory, 0 is answered exactly where this is so
+-- unless memory ran out, 0 is answered exactly where this is so
 abbrev pub IsExact : Type 0 → ℕ → Type 0
 IsExact Fact number = (number ≡ 5 → ⊥) → (number ≡ 0) ↔ Fact
 
@@ -79,7 +79,7 @@ OrFull M w reply = M w reply ⊎ Refuses NoMemory w reply
 abbrev pub Takes : {A : Type 0} → ℕ → Result A ℕ → (A → Outputs) → Outputs
 Takes argument read M w reply = MatchResult read (λ x. OrFull (M x) w reply) (λ at. Refuses (BadForm argument at) w reply)
 
--- a text is written whole where there is room for it, and else not at all
+-- a text is written whole where it fits in the buffer, and else not at all
 abbrev pub Fits : List ℕ → ℕ → Outputs
 Fits text room w reply =
     ((length text ≤ room) × (w ≡ text) × (reply ≡ Done (length text)))

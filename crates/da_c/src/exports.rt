@@ -12,14 +12,14 @@ use crate::replies::{Detail, tell};
 use crate::writing::{header, root};
 use std::alloc::Global;
 
-/// Answers whether a message (kind M) is proved under a header (kind H): 0 where it is, and otherwise 13
+/// Answers whether a sample (kind M) is proved under a header (kind H): 0 where it is, and otherwise 13
 /// with the number of the first check that fails. 6 comes where an argument isn't in its form, and names
-/// the first that isn't. 5, want of memory, comes only where the header is in its form.
+/// the first that isn't. 5, out of memory, comes only where the header is in its form.
 #[unsafe(no_mangle)]
 pub extern "C" fn da_check(alloc: Global, header: &[u8], message: &[u8], detail: &mut Detail) -> u32
     ensures answers { Answers (Checks header.now message.now) result detail.new }
 
-    // But for want of memory 0 comes exactly for a message that is proved, and then, under the header of a
+    // Unless memory runs out 0 comes exactly for a sample that is proved, and then, under the header of a
     // square, it shows the square's own share, or they name a collision.
     ensures proved { IsExact (IsProvedUnder header.now message.now) result }
     ensures own { result ≡ 0 → IsOwnUnder header.now message.now }
@@ -80,7 +80,7 @@ pub extern "C" fn da_header(
     ensures writes { Writes (HeaderOf square.now (length buffer.old)) buffer.old buffer.new result
         detail.new }
 
-    // A buffer for the frame of the header of width 128 has room for each.
+    // In a buffer for the frame of the header of width 128 each fits.
     ensures room { most_header ≤ length buffer.old → result ≢ 15 }
 {
     tell(header(alloc, square, buffer), detail)

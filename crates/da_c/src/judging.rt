@@ -18,7 +18,7 @@ const ANSWER: u32 = 1;
 
 const REQUEST: u32 = 2;
 
-/// Whether a message is proved under a header.
+/// Whether a sample is proved under a header.
 pub(crate) fn check(alloc: Global, header: &[u8], message: &[u8]) -> Reply
     ensures reply { Checks header.now message.now result }
     ensures proved { IsExact (IsProvedUnder header.now message.now) (status_of result) }
@@ -28,7 +28,7 @@ pub(crate) fn check(alloc: Global, header: &[u8], message: &[u8]) -> Reply
         Ok(header) => header,
         Err(why) => return unread_reply(HEADER, why),
     };
-    let message = match message_in(alloc, message) {
+    let message = match message_in(message) {
         Ok(message) => message,
         Err(why) => return unread_reply(ANSWER, why),
     };

@@ -17,7 +17,7 @@ use std::alloc::Global;
 /// The place of the argument.
 const SQUARE: u32 = 0;
 
-/// Writes a text to the front of a buffer, where it has room for it.
+/// Writes a text to the front of a buffer, where it fits there.
 fn put(text: &[u8], buffer: &mut [u8]) -> Reply
     ensures leaves { Leaves (Fits text.now (length buffer.old)) buffer.old buffer.new result }
     ensures room { length text.now ≤ length buffer.old → status_of result ≢ 15 }

@@ -1,6 +1,6 @@
 /*
  * Tests of the calls of da.h that the examples don't make: what a buffer holds, what goes with a status, each request
- * for memory failing in turn, and calls of two threads with little stack. The words are files: a header, a message, an
+ * for memory failing in turn, and calls of two threads with little stack. The words are files: a header, a sample, an
  * answer, a request for it, a square, the square's header, a square without one. Its last line is 'N passed, M failed'.
  *
  * It is linked with --wrap for malloc, realloc and free.

@@ -1,4 +1,4 @@
--- What a session is fed with of a file has the file's proved messages, and its lies are counted.
+-- What a session is fed with of a file has the file's proved samples, and its lies are counted.
 use Rattle.std.proofs.Common.{◌≡◌, ◌∙◌, ℕ, suc, ◌+◌, cond, List, [], ◌∷◌, ◌++◌, Some, None, refl, sym, subst, arith, ⊎_elim}
 use Rattle.std.specs.declared.option.Option.{Option}
 use Rattle.std.specs.Option.{option_map_or}
@@ -22,7 +22,7 @@ use Rattle.da_cli.proofs.FeedingLemmas.{accepted_by}
 
 -- ---- lies
 
--- what a message adds, by what refuses it
+-- what a sample adds, by what refuses it
 lie_of : (why : Option CheckRefusal) (later : ℕ) → option_map_or (λ e. 1) why 0 + later ≡ cond (is_ok (option_map_or Refused why Proved)) later (suc later)
 lie_of None later = omega arith
 lie_of (Some e) later = omega arith
@@ -43,9 +43,9 @@ lies_same header (frame ∷ later) =
     let all : lies_among header (frame ∷ later) ≡ lies_by header (message_in frame) + lies_in header later = omega (arith, parts, lies_same header later) in
     all ∙ lie_here header (message_in frame) (lies_in header later)
 
--- ---- proved messages
+-- ---- proved samples
 
--- a proved message is fed
+-- a proved sample is fed
 fed_front : (header : Roots) → ((m : sent.Message) → IsProved header m → message_refusal header m ≡ None) → (o : Option sent.Message) (later more : List sent.Message) (m : sent.Message)
     → IsProved header m → Contains (option_map_or (λ n. n ∷ later) o later) m → (Contains later m → Contains more m) → Contains (proved_by header o ++ more) m
 fed_front header accepted None later more m proved at on = on at
@@ -57,12 +57,12 @@ fed_front header accepted (Some l) later more m proved at on =
     (λ (behind : Contains later m). Contains-append_right (proved_by header (Some l)) more m (on behind))
     (contains_cons l m later at)
 
--- a message that was fed by what refuses it
+-- a sample that was fed by what refuses it
 fed_is : (why : Option CheckRefusal) (l m : sent.Message) → Contains (option_map_or (λ e. []) why (l ∷ [])) m → l ≡ m
 fed_is None l m at = ⊎_elim (λ (same : l ≡ m). same) (λ (behind : Contains [] m). absurd (contains_none m behind)) (contains_cons l m [] at)
 fed_is (Some e) l m at = absurd (contains_none m at)
 
--- what is fed is a message of the grammar
+-- what is fed is a sample of the grammar
 fed_back : (header : Roots) (o : Option sent.Message) (later more : List sent.Message) (m : sent.Message)
     → Contains (proved_by header o ++ more) m → (Contains more m → Contains later m) → Contains (option_map_or (λ n. n ∷ later) o later) m
 fed_back header None later more m at on = on at
@@ -72,7 +72,7 @@ fed_back header (Some l) later more m at on =
     (λ (behind : Contains more m). contains_tail l m later (on behind))
     (Contains-append_cases (proved_by header (Some l)) more m at)
 
--- the proved messages of the grammar are fed
+-- the proved samples of the grammar are fed
 pub proved_fed : (header : Roots) → ((m : sent.Message) → IsProved header m → message_refusal header m ≡ None) → (frames : List Raw)
     → Covers header (messages_in frames) (proved_among header frames)
 unfolding messages_in

@@ -23,9 +23,9 @@ use Rattle.da_cli.specs.declared.feeding.FeedFault.{FeedFault}
 use Rattle.da_cli.specs.declared.feeding.FeedFault.TheVariants.{ReadFailed, TooLong, Bad}
 use Rattle.da_cli.specs.Feeding.{proved_by, lies_by, proved_among, lies_among, HasGone, AnswersFed, Feeds, FeedsTold, EndsFed, Judges}
 
--- ---- one message
+-- ---- one sample
 
--- a message that isn't proved is not fed, and is a lie
+-- a sample that isn't proved is not fed, and is a lie
 pub refused_by : (header : Roots) (m : Message) (why : CheckRefusal) → Some why ≡ message_refusal header m → (proved_by header (Some m) ≡ []) × (lies_by header (Some m) ≡ 1)
 refused_by header m why e = (
   ap (λ (o : Option CheckRefusal). option_map_or (λ why. []) o (m ∷ [])) (sym e),
@@ -67,7 +67,7 @@ more_lies header before after frame m e f =
     ap (sum_by count) e ∙ sum_by-append count before (frame ∷ []) in
     omega (arith, all, ap (lies_by header) f)
 
--- a push that ended a frame, whose message was fed where it is proved
+-- a push that ended a frame, whose sample was fed where it is proved
 pub gone_frame : (old new : StreamParts) (Had Has : List Message → Type 0) (header : Roots) (bytes : List ℕ) (m : Option Message)
     → ((before : List ℕ) → StandsFor old before → StandsFor new (before ++ bytes))
     → ((before : List ℕ) → StandsFor old before → EndsFrame (frames_of before) (frames_of (before ++ bytes)) (pushed.Frame m))

@@ -93,18 +93,18 @@ run_in_form : (files : Files) (words : List (List ℕ)) (call : Call) (contents 
 run_in_form files words call contents e read fine =
     run_of_call words call files (whole contents) e read ∙ judged_is (judged_of call.command contents) (AnswerOf call.command contents) None fine
 
--- over files in their forms just the command's answer belongs to the run
+-- over files in their forms exactly the command's answer belongs to the run
 pub form_law : FormLaw
 form_law files words call contents w status e read fine =
     as_one (RunOf files words) (AnswerOf call.command contents) w status (run_in_form files words call contents e read fine)
 
--- where a file isn't in its form just `BadInput` belongs to the run
+-- where a file isn't in its form exactly `BadInput` belongs to the run
 pub bad_input_law : BadInputLaw
 bad_input_law files words call contents i at w status e read bad =
     as_one (RunOf files words) (Refuses (BadInput i at)) w status
     (run_of_call words call files (whole contents) e read ∙ judged_is (judged_of call.command contents) (AnswerOf call.command contents) (Some (i, at)) bad)
 
--- where a file is too long just `TooLong` belongs to the run
+-- where a file is too long exactly `TooLong` belongs to the run
 pub excess_law : ExcessLaw
 excess_law files words call i w status e read =
     as_one (RunOf files words) (Refuses (TooLong i)) w status (run_of_call words call files (long i) e read)
@@ -140,7 +140,7 @@ by_call : (o : Option Call) (files : Files) (words : List (List ℕ)) (w : List 
 by_call None files words w status h = decided status usage (ap kind_of h.1) tt
 by_call (Some call) files words w status h = by_gathered (gathered files (file_words call.files words)) call.command w status h
 
--- no failure and no want of memory belongs to a run
+-- neither a failure nor out of memory belongs to a run
 pub failure_law : FailureLaw
 failure_law files words w status h = by_call (call_of words) files words w status h
 

@@ -1,28 +1,13 @@
 -- A file that was picked and then read on.
-use Rattle.std.proofs.Common.{◌≡◌, ◌∙◌, ℕ, ◌+◌, ◌≤◌, List, ◌++◌, length, take, length-append, length-take-le, Some, None, Ok, sym, ap, arith}
-use Rattle.std.specs.declared.option.Option.{Option}
-use Rattle.std.specs.Io.KnownBytes.{Consumes, IsAtEnd}
+use Rattle.std.proofs.Common.{◌≡◌, ◌∙◌, ℕ, ◌+◌, ◌≤◌, List, ◌++◌, length, take, length-append, length-take-le, Some, Ok, sym, ap, arith}
+use Rattle.std.specs.Io.KnownBytes.{Consumes}
 use Rattle.std.proofs.KnownBytes.{Consumes-trans}
 use Rattle.da_io.specs.declared.inputs.Inputs as inputs
 use Rattle.da_io.specs.declared.inputs.Ended.{Ended}
 use Rattle.da_io.specs.declared.inputs.Ended.TheVariants as ended
 use Rattle.da_io.specs.declared.inputs.PickFailed.{PickFailed}
 use Rattle.da_io.specs.Faults.{max_count, count_on}
-use Rattle.da_io.specs.Files.{Files, Picks}
-use Rattle.da_cli.specs.declared.gathering.Stop.TheVariants as stop
-use Rattle.da_cli.specs.Limits.{file_limit}
-use Rattle.da_cli.specs.Gathered.{ReadsFile}
-use Rattle.da_cli.proofs.FeedingLemmas.{all_left}
-
--- ---- what is read of a name
-
--- a file that was read to its end
-read_end : (told : Option Files) (name : List ℕ) (mid new : Option (List ℕ)) (bytes : List ℕ) → Picks {E = PickFailed} told name mid (Ok tt) → Consumes mid new bytes → IsAtEnd new
-    → length bytes ≤ file_limit → ReadsFile told name (Ok bytes)
-read_end None name mid new bytes picked moved end few = tt
-read_end (Some files) name mid new bytes picked moved end few =
-    let all : bytes ≡ picked.0 = all_left mid new bytes picked.0 picked.2 moved end in
-    (picked.1 ∙ ap (λ (l : List ℕ). Some l) (sym all), few)
+use Rattle.da_io.specs.Files.{Picks}
 
 module _ {I : Type 0} (i : inputs.Ghosts I) where
   -- a name was picked

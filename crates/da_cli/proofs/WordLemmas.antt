@@ -1,13 +1,21 @@
--- Words that are numbers, and the words of light.
-use Rattle.std.proofs.Common.{◌≡◌, ◌∙◌, ℕ, ◌+◌, ◌-◌, ◌*◌, ◌<◌, ◌≤◌, Bool, true, false, cond, ◌&&◌, List, [], ◌∷◌, length, get_or, String, Global, Some, None, IfSome, refl, sym, ap, arith, eqb-true}
+-- Words that are numbers, the words of light, and the table of commands.
+use Rattle.std.proofs.Common.{◌≡◌, ◌∙◌, ℕ, ◌+◌, ◌-◌, ◌*◌, ◌<◌, ◌≤◌, Bool, true, false, cond, ◌&&◌, List, [], ◌∷◌, length, get_or, String, Global, Some, None, IfSome, refl, sym, ap, ap₂, arith, eqb-true}
 use Rattle.std.specs.Prelude.{nat_le, codes, ◌==◌}
 use Rattle.std.specs.String.{string_bytes}
 use Rattle.std.specs.Str.{bytes_eq}
 use Rattle.std.proofs.lemmas.List.{length-map, get_or-map}
 use Rattle.std.specs.declared.option.Option.{Option}
-use Rattle.std.specs.List.{fold, list_all}
+use Rattle.std.specs.List.{fold, list_all, AllByRecursion}
+use Rattle.std.proofs.lemmas.Bool.{and_parts, ltb-true}
 use Rattle.std.proofs.lemmas.Bool.Decides.{nat_tests}
-use Rattle.da_cli.specs.Words.{words_of, is_command, is_digit, light_call, demo_call, root_call, wanted_call, prove_call, blob_call, client_call, call_of}
+use Rattle.std.proofs.Math.Bool.{and-false}
+use Rattle.std.proofs.Math.Dec.{ltb}
+use Rattle.da_commands.specs.declared.command.Command.{Command}
+use Rattle.da_commands.specs.declared.command.Command.TheVariants.{Repair, Demo}
+use Rattle.da_commands.specs.Meaning.{IsRunnable}
+use Rattle.da_commands.specs.Demo.{is_trial_width}
+use Rattle.da_cli.specs.declared.words.Call.{Call}
+use Rattle.da_cli.specs.Words.{words_of, is_command, is_digit, light_call, value_call, call_in, file_commands, HasFiles}
 
 -- the number with one digit more
 abbrev with_digit : ℕ → ℕ → ℕ
@@ -27,19 +35,9 @@ value_grows : (digits : List ℕ) (value : ℕ) → value ≤ fold with_digit va
 value_grows [] value = omega arith
 value_grows (digit ∷ digits) value = omega (arith, value_grows digits (with_digit value digit))
 
--- a test or nothing is nothing
-and_false : (b : Bool) → (b && false) ≡ false
-and_false true = refl
-and_false false = refl
-
 -- a number is above another
 not_within : (a b : ℕ) → b < a → nat_le a b ≡ false
 not_within a b h = grind (arith, nat_tests)
-
--- the second of two tests that hold
-second_true : (a b : Bool) → (a && b) ≡ true → b ≡ true
-second_true true b h = h
-second_true false b h = absurd cc
 
 -- what is above the greatest number stays so
 pub too_large : (most value : ℕ) (digits : List ℕ) → most < value → digits_from most value digits ≡ None
@@ -47,7 +45,7 @@ too_large most value digits above =
     let over : nat_le (fold with_digit value digits) most ≡ false =
     not_within (fold with_digit value digits) most (omega (arith, above, value_grows digits value)) in
     ap (λ (b : Bool). is_tested (list_all is_digit digits && b) (fold with_digit value digits)) over
-    ∙ ap (λ (b : Bool). is_tested b (fold with_digit value digits)) (and_false (list_all is_digit digits))
+    ∙ ap (λ (b : Bool). is_tested b (fold with_digit value digits)) (and-false (list_all is_digit digits))
 
 -- the number by whether the next byte is a digit
 abbrev by_first : Bool → ℕ → ℕ → ℕ → List ℕ → Option ℕ
@@ -76,79 +74,84 @@ pub command_count : (words : List (String Global)) (name : List ℕ) (count : �
 command_count [] name count is = absurd cc
 command_count (word ∷ words) name count is =
     let rest : length (words_of words) ≡ count = eqb-true (length (words_of words)) count
-    (second_true (bytes_eq (string_bytes word) name) (length (words_of words) == count) is) in
+    (and_parts (bytes_eq (string_bytes word) name) (length (words_of words) == count) is).1 in
     omega (arith, rest, length-map words string_bytes)
-
--- another test is made
-past : {A : Type 0} (b : Bool) (x y z : A) → b ≡ false → y ≡ z → cond b x y ≡ z
-past b x y z fails same = ap (λ (t : Bool). cond t x y) fails ∙ same
 
 -- this test is made
 here : {A : Type 0} (b : Bool) (x y : A) → b ≡ true → cond b x y ≡ x
 here b x y holds = ap (λ (t : Bool). cond t x y) holds
 
--- the call of the words of light, which are no other command's
-pub light_words : (words : List (List ℕ)) → is_command words (codes "check") 2 ≡ false
-    → is_command words (codes "build") 1 ≡ false → is_command words (codes "header") 1 ≡ false
-    → is_command words (codes "sample") 2 ≡ false → is_command words (codes "namespace") 2 ≡ false
-    → is_command words (codes "verify") 2 ≡ false → is_command words (codes "compact") 2 ≡ false
-    → is_command words (codes "repair") 2 ≡ false → is_command words (codes "light") 4 ≡ true
-    → call_of words ≡ light_call (get_or words 3 []) (get_or words 4 [])
-light_words words check build header sample namespace verify compact repair light =
-    past _ _ _ _ check
-    (past _ _ _ _ build
-    (past _ _ _ _ header
-    (past _ _ _ _ sample
-    (past _ _ _ _ namespace
-    (past _ _ _ _ verify
-    (past _ _ _ _ compact
-    (past _ _ _ _ repair
-    (here (is_command words (codes "light") 4) (light_call (get_or words 3 []) (get_or words 4 [])) _ light))))))))
+-- the call of the words of light: the third and the fourth behind its own are its key and its count
+pub light_words : (words rest : List (String Global)) (word key count : String Global) → words ≡ word ∷ rest → string_bytes word ≡ codes "light" → length rest ≡ 4
+    → key ≡ get_or rest 2 key → count ≡ get_or rest 3 count → value_call (words_of words) ≡ light_call (string_bytes key) (string_bytes count)
+light_words words rest word key count split name four key_is count_is =
+    let front : bytes_eq (string_bytes word) (codes "light") ≡ true = ap (λ (n : List ℕ). bytes_eq n (codes "light")) name in
+    let size : (length (words_of rest) == 4) ≡ true = ap (λ (n : ℕ). n == 4) (length-map rest string_bytes ∙ four) in
+    let is : is_command (words_of (word ∷ rest)) (codes "light") 4 ≡ true = ap₂ (λ (x y : Bool). x && y) front size in
+    let found : value_call (words_of (word ∷ rest)) ≡ light_call (get_or (words_of rest) 2 []) (get_or (words_of rest) 3 []) =
+    here (is_command (words_of (word ∷ rest)) (codes "light") 4) (light_call (get_or (words_of rest) 2 []) (get_or (words_of rest) 3 [])) _ is in
+    ap (λ (l : List (String Global)). value_call (words_of l)) split ∙ found
+    ∙ ap₂ light_call (word_at rest 2 key (omega (arith, four)) key_is) (word_at rest 3 count (omega (arith, four)) count_is)
 
--- the call of the words of demo, which are no other command's
-pub demo_words : (words : List (List ℕ)) → is_command words (codes "check") 2 ≡ false
-    → is_command words (codes "build") 1 ≡ false → is_command words (codes "header") 1 ≡ false
-    → is_command words (codes "sample") 2 ≡ false → is_command words (codes "namespace") 2 ≡ false
-    → is_command words (codes "verify") 2 ≡ false → is_command words (codes "compact") 2 ≡ false
-    → is_command words (codes "repair") 2 ≡ false → is_command words (codes "light") 4 ≡ false
-    → is_command words (codes "show") 1 ≡ false → is_command words (codes "json") 1 ≡ false
-    → is_command words (codes "demo") 2 ≡ true
-    → call_of words ≡ demo_call (get_or words 1 []) (get_or words 2 [])
-demo_words words check build header sample namespace verify compact repair light show json demo =
-    past _ _ _ _ check
-    (past _ _ _ _ build
-    (past _ _ _ _ header
-    (past _ _ _ _ sample
-    (past _ _ _ _ namespace
-    (past _ _ _ _ verify
-    (past _ _ _ _ compact
-    (past _ _ _ _ repair
-    (past _ _ _ _ light
-    (past _ _ _ _ show
-    (past _ _ _ _ json
-    (here (is_command words (codes "demo") 2) (demo_call (get_or words 1 []) (get_or words 2 [])) _ demo)))))))))))
+-- ---- the table
 
--- the call of the words of root with a ROOT
-pub root_words : (words : List (List ℕ)) → is_command words (codes "root") 2 ≡ true → client_call words ≡ root_call (get_or words 2 [])
-root_words words root = here (is_command words (codes "root") 2) (root_call (get_or words 2 [])) _ root
+-- a fact of the call of one row, and of what is found in the others
+by_row : (P : Call → Type 0) (b : Bool) (call : Call) (later : Option Call) → (b ≡ true → P call) → IfSome later P → IfSome (cond b (Some call) later) P
+by_row P true call later here after = here refl
+by_row P false call later here after = after
 
--- the call of the words of wanted, which are no other command's
-pub wanted_words : (words : List (List ℕ)) → is_command words (codes "root") 2 ≡ false → is_command words (codes "wanted") 2 ≡ true
-    → client_call words ≡ wanted_call (get_or words 2 [])
-wanted_words words root wanted =
-    past _ _ _ _ root (here (is_command words (codes "wanted") 2) (wanted_call (get_or words 2 [])) _ wanted)
+-- what holds of each row holds of the one that is found
+pub row_is : (P : Call → Type 0) (rows : List (List ℕ × ℕ × Command)) (words : List (List ℕ))
+    → AllByRecursion (λ (row : List ℕ × ℕ × Command). P (record { command = row.2; files = row.1 })) rows → IfSome (call_in rows words) P
+row_is P [] words all = tt
+row_is P ((word, count, command) ∷ rows) words all =
+    by_row P (is_command words word count) (record { command = command; files = count }) (call_in rows words) (λ is. all.0) (row_is P rows words all.1)
 
--- the call of the words of prove with a range, which are no other command's
-pub prove_words : (words : List (List ℕ)) → is_command words (codes "blobs") 1 ≡ false → is_command words (codes "commit") 1 ≡ false
-    → is_command words (codes "prove") 2 ≡ false → is_command words (codes "prove") 3 ≡ true
-    → blob_call words ≡ prove_call (get_or words 2 []) (get_or words 3 [])
-prove_words words blobs commit prove range =
-    past _ _ _ _ blobs
-    (past _ _ _ _ commit
-    (past _ _ _ _ prove
-    (here (is_command words (codes "prove") 3) (prove_call (get_or words 2 []) (get_or words 3 [])) _ range)))
+-- the words that a row is of are its own and its files
+pub row_files : (rows : List (List ℕ × ℕ × Command)) (words : List (String Global)) → IfSome (call_in rows (words_of words)) (λ (call : Call). call.files < length words)
+row_files [] words = tt
+row_files ((word, count, command) ∷ rows) words =
+    by_row (λ (call : Call). call.files < length words) (is_command (words_of words) word count) (record { command = command; files = count })
+    (call_in rows (words_of words))
+    (λ (is : is_command (words_of words) word count ≡ true).
+    let all : length words ≡ count + 1 = command_count words word count is in
+    let fewer : count < length words = omega (arith, all) in
+    fewer)
+    (row_files rows words)
 
--- a fact of what is there is a weaker one
-pub some_within : {A : Type 0} (P Q : A → Type 0) (o : Option A) → ((x : A) → P x → Q x) → IfSome o P → IfSome o Q
-some_within P Q (Some x) weaker p = weaker x p
-some_within P Q None weaker p = tt
+-- what a test says of each element
+all_say : {X : Type 0} (p : X → Bool) (P : X → Type 0) → ((x : X) → p x ≡ true → P x) → (xs : List X) → list_all p xs ≡ true → AllByRecursion P xs
+all_say p P says [] all = tt
+all_say p P says (x ∷ xs) all = let both = and_parts (p x) (list_all p xs) all in (says x both.0, all_say p P says xs both.1)
+
+-- a test that a command can be run
+abbrev can_run : Command → Bool
+can_run (Demo number k) = is_trial_width k
+can_run command = true
+
+-- what it says
+runs : (command : Command) → can_run command ≡ true → IsRunnable command
+runs (Demo number k) is = is
+runs command is = tt
+
+-- a test that repair has two files
+abbrev has_own : Command → ℕ → Bool
+has_own Repair count = count == 2
+has_own command count = true
+
+-- what it says
+owns : (command : Command) (count : ℕ) → has_own command count ≡ true → HasFiles command count
+owns Repair count is = eqb-true count 2 is
+owns command count is = tt
+
+-- each row of the table has few files
+pub rows_few : AllByRecursion (λ (row : List ℕ × ℕ × Command). row.1 < 16) file_commands
+rows_few = all_say (λ (row : List ℕ × ℕ × Command). ltb row.1 16) (λ (row : List ℕ × ℕ × Command). row.1 < 16) (λ row is. ltb-true row.1 16 is) file_commands refl
+
+-- each has a command that can be run
+pub rows_run : AllByRecursion (λ (row : List ℕ × ℕ × Command). IsRunnable row.2) file_commands
+rows_run = all_say (λ (row : List ℕ × ℕ × Command). can_run row.2) (λ (row : List ℕ × ℕ × Command). IsRunnable row.2) (λ row is. runs row.2 is) file_commands refl
+
+-- and two files where it is repair
+pub rows_own : AllByRecursion (λ (row : List ℕ × ℕ × Command). HasFiles row.2 row.1) file_commands
+rows_own = all_say (λ (row : List ℕ × ℕ × Command). has_own row.2 row.1) (λ (row : List ℕ × ℕ × Command). HasFiles row.2 row.1) (λ row is. owns row.2 row.1 is) file_commands refl

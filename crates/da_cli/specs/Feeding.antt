@@ -19,17 +19,17 @@ use Rattle.da_cli.specs.declared.feeding.FeedFault.TheVariants.{ReadFailed, TooL
 
 -- ---- frames
 
--- the message of a frame, in a list, where it is one that is proved under the header
+-- the sample of a frame, in a list, where it is one that is proved under the header
 abbrev pub proved_by : Roots → Option Message → List Message
 proved_by header None = []
 proved_by header (Some m) = option_map_or (λ why. []) (message_refusal header m) (m ∷ [])
 
--- how many lies a frame is: none where its message is proved, else one
+-- how many lies a frame is: none where its sample is proved, else one
 abbrev pub lies_by : Roots → Option Message → ℕ
 lies_by header None = 1
 lies_by header (Some m) = option_map_or (λ why. 1) (message_refusal header m) 0
 
--- the proved messages among frames, in their order
+-- the proved samples among frames, in their order
 abbrev pub proved_among : Roots → List Raw → List Message
 proved_among header frames = flat_map (λ frame. proved_by header (message_in frame)) frames
 
@@ -39,7 +39,7 @@ lies_among header frames = sum_by (λ frame. lies_by header (message_in frame)) 
 
 -- ---- streams
 
--- what a stream and a session stand for after bytes: the bytes too, and the proved messages of the frames
+-- what a stream and a session stand for after bytes: the bytes too, and the proved samples of the frames
 -- that ended with them, of which so many are lies
 pub record HasGone (old new : StreamParts) (Had Has : List Message → Type 0) (header : Roots) (bytes : List ℕ) (lies : ℕ) : Type 0 where
   pub stands : (before : List ℕ) → StandsFor old before → StandsFor new (before ++ bytes)
@@ -65,7 +65,7 @@ Judges bytes lies (Err ReadFailed) = ⊥
 Judges bytes lies (Err (TooLong n)) = ⊥
 Judges bytes lies (Err (Bad at)) = bad_frame bytes ≡ Some at
 
--- what a session was fed with of them: the proved messages of all frames, after a refusal of the first of them
+-- what a session was fed with of them: the proved samples of all frames, after a refusal of the first of them
 abbrev pub IsFed : Roots → List ℕ → (List Message → Type 0) → Result ℕ FeedFault → Type 0
 IsFed header bytes Grows (Ok lies) = Grows (proved_among header (frames_of bytes))
 IsFed header bytes Grows (Err why) =

@@ -12,21 +12,21 @@ use Rattle.da_status.specs.Judging.{first_bad}
 use Rattle.da_commands.specs.Meaning.{judged_of, AnswerOf}
 use Rattle.da_cli.specs.Run.{RunOf}
 
--- over files in their forms, just the command's answer belongs to the run
+-- over files in their forms, exactly the command's answer belongs to the run
 abbrev pub FormLaw : Type 0
 FormLaw = (files : Files) (words : List (List ℕ)) (call : Call) (contents : List (List ℕ)) (w : List ℕ) (status : Status)
     → call_of words ≡ Some call → gathered files (file_words call.files words) ≡ whole contents
     → first_bad 0 (judged_of call.command contents) ≡ None
     → RunOf files words w status ↔ AnswerOf call.command contents w status
 
--- where file i is the first that isn't in its form, just `BadInput` with no output does
+-- where file i is the first that isn't in its form, exactly `BadInput` with no output does
 abbrev pub BadInputLaw : Type 0
 BadInputLaw = (files : Files) (words : List (List ℕ)) (call : Call) (contents : List (List ℕ)) (i at : ℕ) (w : List ℕ) (status : Status)
     → call_of words ≡ Some call → gathered files (file_words call.files words) ≡ whole contents
     → first_bad 0 (judged_of call.command contents) ≡ Some (i, at)
     → RunOf files words w status ↔ Refuses (BadInput i at) w status
 
--- where file i is the first that is too long, just `TooLong` with no output does
+-- where file i is the first that is too long, exactly `TooLong` with no output does
 abbrev pub ExcessLaw : Type 0
 ExcessLaw = (files : Files) (words : List (List ℕ)) (call : Call) (i : ℕ) (w : List ℕ) (status : Status)
     → call_of words ≡ Some call → gathered files (file_words call.files words) ≡ long i
@@ -38,6 +38,6 @@ AbsentLaw = (files : Files) (words : List (List ℕ)) (call : Call) (i : ℕ) (w
     → call_of words ≡ Some call → gathered files (file_words call.files words) ≡ absent i
     → RunOf files words w status → ⊥
 
--- failures and want of memory belong to no run
+-- failures and out of memory belong to no run
 abbrev pub FailureLaw : Type 0
 FailureLaw = (files : Files) (words : List (List ℕ)) (w : List ℕ) (status : Status) → RunOf files words w status → IsDecided (kind_of status)

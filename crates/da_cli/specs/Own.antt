@@ -27,7 +27,7 @@ use Rattle.da_commands.specs.Follow.{wanted_file, answers_file, items_in, Feed}
 use Rattle.da_commands.specs.Verify.{answer_file, answer_in, IsRefusal, verdict_line, IsOwnReply}
 use Rattle.da_commands.specs.VerifyFor.{request_file, request_in, is_answer_to, IsAnswerTo, IsRefusalFor}
 
--- over the files of `check`, where the header in HEADER is that of a square: a frame of MESSAGES whose line is `ok` is a message that shows the square's own share, or they name a collision
+-- over the files of `check`, where the header in HEADER is that of a square: a frame of MESSAGES whose line is `ok` is a sample that shows the square's own share, or they name a collision
 abbrev pub AreOwnLines : Files → List (List ℕ) → Type 0
 AreOwnLines files words = (contents : List (List ℕ)) (header : Roots) (square : SquareShares) (i : ℕ) (frame : Raw)
     → is_command words (codes "check") 2 ≡ true → gathered files (names_of words) ≡ whole contents
@@ -43,7 +43,7 @@ IsOwnLine files words = (contents : List (List ℕ)) (header : Roots) (square : 
     → AreBytes (answer_file contents) → answer_in (answer_file contents) ≡ Ok answer
     → IsRefusal header answer refusal → verdict_line refusal ≡ codes "ok\n" → IsOwnReply answer square
 
--- over the files of `compact`, where the header in HEADER is that of a square: the claim is refused, or a message of it, or its set, and the square name a collision
+-- over the files of `compact`, where the header in HEADER is that of a square: the claim is refused, or a sample of it, or its set, and the square name a collision
 abbrev pub IsOwnCompact : Files → List (List ℕ) → Type 0
 IsOwnCompact files words = (contents : List (List ℕ)) (header : Roots) (square : SquareShares) (claim : ClaimParts) (w : List ℕ) (status : Status)
     → is_command words (codes "compact") 2 ≡ true → gathered files (names_of words) ≡ whole contents
@@ -60,7 +60,7 @@ IsOwnLineFor files words = (contents : List (List ℕ)) (header : Roots) (square
     → IsRefusalFor (is_answer_to request answer) header answer refusal → verdict_line refusal ≡ codes "ok\n"
     → IsAnswerTo request answer × IsOwnReply answer square
 
--- over the files of `repair`, where the header in HEADER is that of a square: what is written and answered is that square or the missing cells, or a proved message of MESSAGES and the square name a collision
+-- over the files of `repair`, where the header in HEADER is that of a square: what is written and answered is that square or the missing cells, or a proved sample of MESSAGES and the square name a collision
 abbrev pub IsOwnRepair : Files → List (List ℕ) → Type 0
 IsOwnRepair files words = (contents : List (List ℕ)) (header : Roots) (square : SquareShares) (w : List ℕ) (status : Status)
     → is_command words (codes "repair") 2 ≡ true → gathered files (names_of words) ≡ whole contents

@@ -36,7 +36,7 @@ LeavesTold None words old new status = ⊤
 LeavesTold (Some files) words old new status = Leaves (RunOf files words) old new status
 
 -- how a command ends over files in their forms, by the kind of the status: with its answer, or because of a
--- failure or of want of memory
+-- failure or because memory ran out
 abbrev pub CompletesBy : Kind → Relation → Option (List ℕ) → Option (List ℕ) → Status → Type 0
 CompletesBy kind M old new status = May (row_of kind).in_form (LeavesBy kind M old new status)
 

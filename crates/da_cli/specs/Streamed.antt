@@ -26,7 +26,7 @@ abbrev pub Skims : {I : Type 0} → inputs.Ghosts I → ℕ → List ℕ → I �
 Skims i number name before now (Ok _) = (bytes : List ℕ) × IsRead i number name before now (Ok bytes)
 Skims i number name before now (Err stop) = IsRead i number name before now (Err stop)
 
--- the file was read, and a session was fed with its proved messages, of which the others are lies; or it is no
+-- the file was read, and a session was fed with its proved samples, of which the others are lies; or it is no
 -- list of frames, with the first place at which none stands
 abbrev pub FeedsFile : {I : Type 0} → inputs.Ghosts I → ℕ → List ℕ → I → I → Roots → (List Message → Type 0) → Result (Result ℕ ℕ) Stop → Type 0
 FeedsFile i number name before now header Grows (Ok (Ok lies)) =

@@ -3,7 +3,7 @@ use Rattle.std.specs.Prelude.{◌≡◌, ⊤, ℕ, ◌+◌, ◌-◌, ◌*◌, �
 use Rattle.std.specs.declared.option.Option.{Option}
 use Rattle.std.specs.declared.alloc.Global.{Global}
 use Rattle.std.specs.List.{fold, list_all}
-use Rattle.std.specs.Option.{option_map, option_map_or}
+use Rattle.std.specs.Option.{option_map, option_map_or, option_or}
 use Rattle.std.specs.String.{string_bytes}
 use Rattle.std.specs.Str.{bytes_eq}
 use Rattle.hex.specs.Hex.{decode_sized}
@@ -89,44 +89,51 @@ prove_call start count = option_map_or
     (λ from. option_map (λ n. record { command = ProveRange from n; files = 1 }) (number_in (2 ^ 32 - 1) count))
     (number_in (2 ^ 32 - 1) start) None
 
--- the command of these words among those for blobs and their commitments
-abbrev pub blob_call : List (List ℕ) → Option Call
-blob_call words =
-    if is_command words (codes "blobs") 1 then Some (record { command = Blobs; files = 1 }) else
-    (if is_command words (codes "commit") 1 then Some (record { command = Commit; files = 1 }) else
-    (if is_command words (codes "prove") 2 then Some (record { command = Prove; files = 2 }) else
-    (if is_command words (codes "prove") 3 then prove_call (get_or words 2 []) (get_or words 3 []) else
-    (if is_command words (codes "follow") 2 then Some (record { command = Follow; files = 2 }) else
-    None))))
+-- the commands whose words after their own all name files: the word, how many files, the command
+abbrev pub file_commands : List (List ℕ × ℕ × Command)
+file_commands =
+    (codes "check", 2, Check) ∷
+    (codes "build", 1, Build) ∷
+    (codes "header", 1, Header) ∷
+    (codes "sample", 2, Sample) ∷
+    (codes "namespace", 2, Namespace) ∷
+    (codes "verify", 2, Verify) ∷
+    (codes "verify", 3, VerifyFor) ∷
+    (codes "compact", 2, Compact) ∷
+    (codes "repair", 2, Repair) ∷
+    (codes "net", 3, Net) ∷
+    (codes "show", 1, Show) ∷
+    (codes "json", 1, Json) ∷
+    (codes "root", 1, Root) ∷
+    (codes "blobs", 1, Blobs) ∷
+    (codes "commit", 1, Commit) ∷
+    (codes "prove", 2, Prove) ∷
+    (codes "follow", 2, Follow) ∷
+    (codes "help", 0, Help) ∷
+    (codes "version", 0, Version) ∷ []
 
--- the command of these words among those of one who asks for samples and shares, and those that tell of the program
-abbrev pub client_call : List (List ℕ) → Option Call
-client_call words =
-    if is_command words (codes "root") 2 then root_call (get_or words 2 []) else
+-- the call of the row that these words are
+abbrev pub call_in : List (List ℕ × ℕ × Command) → List (List ℕ) → Option Call
+call_in [] words = None
+call_in ((word, count, command) ∷ rows) words =
+    if is_command words word count then Some (record { command = command; files = count }) else call_in rows words
+
+-- the command of these words among those whose words after their own all name files
+abbrev pub file_call : List (List ℕ) → Option Call
+file_call = call_in file_commands
+
+-- the command of these words among those with values among their words
+abbrev pub value_call : List (List ℕ) → Option Call
+value_call words =
+    if is_command words (codes "light") 4 then light_call (get_or words 3 []) (get_or words 4 []) else
+    (if is_command words (codes "demo") 2 then demo_call (get_or words 1 []) (get_or words 2 []) else
+    (if is_command words (codes "root") 2 then root_call (get_or words 2 []) else
     (if is_command words (codes "wanted") 2 then wanted_call (get_or words 2 []) else
-    (if is_command words (codes "verify") 3 then Some (record { command = VerifyFor; files = 3 }) else
-    (if is_command words (codes "root") 1 then Some (record { command = Root; files = 1 }) else
-    (if is_command words (codes "help") 0 then Some (record { command = Help; files = 0 }) else
-    (if is_command words (codes "version") 0 then Some (record { command = Version; files = 0 }) else
-    blob_call words)))))
+    (if is_command words (codes "prove") 3 then prove_call (get_or words 2 []) (get_or words 3 []) else None))))
 
 -- the command of these words, and how many of them name files
 abbrev pub call_of : List (List ℕ) → Option Call
-call_of words =
-    if is_command words (codes "check") 2 then Some (record { command = Check; files = 2 }) else
-    (if is_command words (codes "build") 1 then Some (record { command = Build; files = 1 }) else
-    (if is_command words (codes "header") 1 then Some (record { command = Header; files = 1 }) else
-    (if is_command words (codes "sample") 2 then Some (record { command = Sample; files = 2 }) else
-    (if is_command words (codes "namespace") 2 then Some (record { command = Namespace; files = 2 }) else
-    (if is_command words (codes "verify") 2 then Some (record { command = Verify; files = 2 }) else
-    (if is_command words (codes "compact") 2 then Some (record { command = Compact; files = 2 }) else
-    (if is_command words (codes "repair") 2 then Some (record { command = Repair; files = 2 }) else
-    (if is_command words (codes "light") 4 then light_call (get_or words 3 []) (get_or words 4 []) else
-    (if is_command words (codes "show") 1 then Some (record { command = Show; files = 1 }) else
-    (if is_command words (codes "json") 1 then Some (record { command = Json; files = 1 }) else
-    (if is_command words (codes "demo") 2 then demo_call (get_or words 1 []) (get_or words 2 []) else
-    (if is_command words (codes "net") 3 then Some (record { command = Net; files = 3 }) else
-    client_call words))))))))))))
+call_of words = option_or (file_call words) (value_call words)
 
 -- repair has two files
 abbrev pub HasFiles : Command → ℕ → Type 0

@@ -15,7 +15,7 @@ ghost use Rattle.da_cli.specs.Feeding.{proved_by, lies_by, proved_among, lies_am
 ghost use Rattle.da_wire.specs.Streams.{StandsFor, offset_of};
 
 use axis_roots::{Message, message_law, message_laws};
-use da_io::Inputs;
+use da_io::{Inputs, PIECE_SIZE};
 use da_wire::{FrameError, FrameStream, Pushed, stream_laws};
 use data_header::Header;
 use repair_queue::Session;
@@ -35,7 +35,7 @@ pub enum FeedFault {
     Bad(u64),
 }
 
-/// Feeds a session with the message of a frame, where it is one that is proved. Answers how many lies the
+/// Feeds a session with the sample of a frame, where it is one that is proved. Answers how many lies the
 /// frame is, none or one.
 fn feed_message(header: &Header, session: &mut Session, message: Option<Message>) -> u64
     requires under { session.old.header ≡ header.now }
@@ -60,7 +60,7 @@ fn feed_message(header: &Header, session: &mut Session, message: Option<Message>
     }
 }
 
-/// Pushes bytes up to the end of a frame, and feeds a session with its message. Answers how many bytes
+/// Pushes bytes up to the end of a frame, and feeds a session with its sample. Answers how many bytes
 /// were taken and how many lies ended with them.
 fn feed_frame(
     header: &Header,
@@ -174,7 +174,7 @@ pub fn feed_all<I: Inputs>(
     let mut stream = FrameStream::new();
     let mut taken = 0;
     let mut lies = 0;
-    let mut buf = [0; 4096];
+    let mut buf = [0; PIECE_SIZE];
     loop {
         let Ok(count) = inputs.read(&mut buf) else {
             return Err(FeedFault::ReadFailed);

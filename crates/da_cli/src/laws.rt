@@ -61,19 +61,19 @@ pub fn run_laws()
     ensures excess { ExcessLaw }
     ensures absent { AbsentLaw }
 
-    // A failed pick, read or write and want of memory belong to no run.
+    // A failed pick, read or write and out of memory belong to no run.
     ensures failure { FailureLaw }
 
-    // `ok` is answered exactly where the frame is a message that is proved.
+    // `ok` is answered exactly where the frame is a sample that is proved.
     ensures proved { (header : Roots) (frame : Raw) → AreRoots header → AreBytes frame.payload →
         (finding_of header frame ≡ Proved) ↔ IsProvedFrame header frame }
 
-    // Under the header of a square `ok` is answered only where the message shows the square's own
+    // Under the header of a square `ok` is answered only where the sample shows the square's own
     // share, or they name a collision.
     ensures own { (header : Roots) (frame : Raw) (square : SquareShares) → AreBytes frame.payload →
         IsHeaderOf header square → finding_of header frame ≡ Proved → IsOwnFrame frame square }
 
-    // An answer is not refused exactly where it is a message that is proved, a namespace answer that is
+    // An answer is not refused exactly where it is a sample that is proved, a namespace answer that is
     // complete, a fraud claim that is accepted, or a commitment proof or a root proof that holds under
     // the header's data root.
     ensures verified { (header : Roots) (message : sent.Message) → AreRoots header →
@@ -105,19 +105,19 @@ pub fn run_laws()
         (root_refusal header root ≡ None) ↔ (data_root_of header ≡ root) }
 
     // Under the header of a square an answer is not refused only where it shows the square's own
-    // share, just the square's shares of the namespace, or the commitment of the square's shares in its
+    // share, exactly the square's shares of the namespace, or the commitment of the square's shares in its
     // range, or they name a collision; a fraud claim only where they name one.
     ensures own_answer { (header : Roots) (answer : Frame) (square : SquareShares) → IsFrame answer →
         IsHeaderOf header square → IsRefusal header answer None → IsOwnReply answer square }
 
-    // Under the header of a square `compact` refuses a claim, or a message of it, or its set, and the
+    // Under the header of a square `compact` refuses a claim, or a sample of it, or its set, and the
     // square name a collision.
     ensures own_compact { (header : Roots) (claim : ClaimParts) (square : SquareShares) (w : List ℕ)
         (status : Status) → IsHeaderOf header square → CompactsJudged header claim w status →
         CompactsOwn claim square status }
 
     // Under the header of a square what a repair writes is this square or the missing cells, or a
-    // proved message of the file and the square name a collision.
+    // proved sample of the file and the square name a collision.
     ensures own_repair { (header : Roots) (frames : List Raw) (square : SquareShares) (w : List ℕ)
         (status : Status) → AllByRecursion (λ raw. AreBytes raw.payload) frames →
         IsHeaderOf header square → Repairs header frames w status →
@@ -129,7 +129,7 @@ pub fn run_laws()
         lies + length (filter (λ frame. is_ok (finding_of header frame))
         (frames_of (messages_file files))) ≡ length (frames_of (messages_file files)) }
 
-    // Under the header of a square `light` writes no claim, or one of which a message and the square
+    // Under the header of a square `light` writes no claim, or one of which a sample and the square
     // name a collision.
     ensures own_light { (header : Roots) (frames : List Raw) (square : SquareShares) (key : List ℕ)
         (count : ℕ) (w : List ℕ) (status : Status) → IsHeaderOf header square →
@@ -164,7 +164,7 @@ pub fn run_laws()
         ↔ (IsFrame answer × (spelling answer ≡ Some bytes)
         × (is_among answer_kinds (kind_of answer) ≡ true)) }
 
-    // A file of requests is just the spellings of the requests that are read of it, in their order.
+    // A file of requests is exactly the spellings of the requests that are read of it, in their order.
     ensures sample_requests { (bytes : List ℕ) → AreBytes bytes →
         bad_value (sample_kind ∷ []) bytes ≡ None →
         values_bytes (map sample_frame (samples_in bytes)) ≡ bytes }

@@ -106,7 +106,7 @@ fn answer<I: Inputs, O: Sink>(
 ///
 /// The words are those after the program's name. `Usage` is decided first; then each file is picked
 /// and read to its end; then the files are judged in their order, and then what they ask for; then
-/// comes the output. What is decided before the output leaves `out` as it was. Want of memory may be
+/// comes the output. What is decided before the output leaves `out` as it was. Out of memory may be
 /// answered at any step after the words.
 pub fn run<I: Inputs, O: Sink, N: Sink>(
     alloc: Global,
@@ -121,8 +121,8 @@ pub fn run<I: Inputs, O: Sink, N: Sink>(
     ensures complete { Completes (I.files inputs.old) (words_of words.now) (O.taken out.old)
         (O.taken out.new) result }
 
-    // Under the header of a square `ok` stands only for messages that show the square's own share and for
-    // namespace answers that show just its shares, each to the request where there is one, a repair answers
+    // Under the header of a square `ok` stands only for samples that show the square's own share and for
+    // namespace answers that show exactly its shares, each to the request where there is one, a repair answers
     // this square or the missing cells, `light` writes no claim, and `follow` tells of the square's shares;
     // or a collision is named, as a fraud claim always does; where the files are told.
     ensures own { AreOwn (I.files inputs.old) (words_of words.now) }

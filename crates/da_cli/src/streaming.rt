@@ -8,7 +8,7 @@ ghost use Rattle.da_cli.specs.Streamed.{FeedsFile, Skims};
 
 use crate::feeding::{FeedFault, feed_all};
 use crate::gathering::{FILE_LIMIT, Stop};
-use da_io::Inputs;
+use da_io::{Inputs, PIECE_SIZE};
 use data_header::Header;
 use repair_queue::Session;
 
@@ -46,7 +46,7 @@ pub(crate) fn skim_file<I: Inputs>(name: String, i: u32, inputs: &mut I) -> Resu
         return Err(Stop::PickFault(i));
     }
     let mut taken = 0;
-    let mut buf = [0; 4096];
+    let mut buf = [0; PIECE_SIZE];
     loop {
         let Ok(count) = inputs.read(&mut buf) else {
             return Err(Stop::ReadFault(i));

@@ -1,9 +1,9 @@
 //! Words, and the command that they are.
 
-ghost use Rattle.std.specs.Prelude.{◌≡◌, ◌<◌, length, IfSome, true};
+ghost use Rattle.std.specs.Prelude.{◌≡◌, ◌<◌, length, map, IfSome, true};
 ghost use Rattle.da_commands.specs.Meaning.{IsRunnable};
 ghost use Rattle.da_commands.specs.Demo.{is_trial_width};
-ghost use Rattle.da_cli.specs.Words.{words_of, is_command, is_digit, digits_in, number_in, key_in, light_call, width_in, demo_call, axis_in, root_call, wanted_call, prove_call, blob_call, client_call, call_of, HasFiles};
+ghost use Rattle.da_cli.specs.Words.{words_of, is_command, is_digit, digits_in, number_in, key_in, light_call, width_in, demo_call, axis_in, root_call, wanted_call, prove_call, call_in, file_call, value_call, call_of, HasFiles};
 
 use da_commands::Command;
 use hex::FromHex;
@@ -165,84 +165,74 @@ fn prove_call(start: &str, count: &str) -> Option<Call>
     })
 }
 
-/// The command of these words, among those for blobs and their commitments.
-fn blob_call(words: &[String]) -> Option<Call>
-    ensures value { result ≡ blob_call (words_of words.now) }
-    ensures files { IfSome result (λ call. call.files < length words.now) }
-    ensures few { IfSome result (λ call. call.files < 16) }
-    ensures runnable { IfSome result (λ call. IsRunnable call.command) }
-    ensures own { IfSome result (λ call. HasFiles call.command call.files) }
+/// The commands whose words after their own all name files: the word of each, how many files it has, and
+/// the command.
+const FILE_COMMANDS: [(&str, usize, Command); 19] = [
+    ("check", 2, Command::Check),
+    ("build", 1, Command::Build),
+    ("header", 1, Command::Header),
+    ("sample", 2, Command::Sample),
+    ("namespace", 2, Command::Namespace),
+    ("verify", 2, Command::Verify),
+    ("verify", 3, Command::VerifyFor),
+    ("compact", 2, Command::Compact),
+    ("repair", 2, Command::Repair),
+    ("net", 3, Command::Net),
+    ("show", 1, Command::Show),
+    ("json", 1, Command::Json),
+    ("root", 1, Command::Root),
+    ("blobs", 1, Command::Blobs),
+    ("commit", 1, Command::Commit),
+    ("prove", 2, Command::Prove),
+    ("follow", 2, Command::Follow),
+    ("help", 0, Command::Help),
+    ("version", 0, Command::Version),
+];
+
+/// The call of the row that these words are.
+fn call_in(rows: &[(&str, usize, Command)], words: &[String]) -> Option<Call>
+    ensures { result ≡ call_in (map (λ row. (row.0.now, row.1, row.2)) rows.now)
+        (words_of words.now) }
 {
-    if is_command(words, "blobs", 1) {
-        return Some(Call {
-            command: Command::Blobs,
-            files: 1,
-        });
-    }
-    if is_command(words, "commit", 1) {
-        return Some(Call {
-            command: Command::Commit,
-            files: 1,
-        });
-    }
-    if is_command(words, "prove", 2) {
-        return Some(Call {
-            command: Command::Prove,
-            files: 2,
-        });
-    }
-    if is_command(words, "prove", 3) {
-        return prove_call(words[2].as_str(), words[3].as_str());
-    }
-    if is_command(words, "follow", 2) {
-        return Some(Call {
-            command: Command::Follow,
-            files: 2,
-        });
+    for row in rows {
+        if is_command(words, row.0, row.1) {
+            return Some(Call {
+                command: row.2,
+                files: row.1,
+            });
+        }
     }
     None
 }
 
-/// The command of these words, among those that one who asks for samples and shares has, and those
-/// that tell of the program.
-fn client_call(words: &[String]) -> Option<Call>
-    ensures value { result ≡ client_call (words_of words.now) }
+/// The command of these words, among those whose words after their own all name files.
+fn file_call(words: &[String]) -> Option<Call>
+    ensures value { result ≡ file_call (words_of words.now) }
     ensures files { IfSome result (λ call. call.files < length words.now) }
     ensures few { IfSome result (λ call. call.files < 16) }
     ensures runnable { IfSome result (λ call. IsRunnable call.command) }
     ensures own { IfSome result (λ call. HasFiles call.command call.files) }
 {
-    if is_command(words, "root", 2) {
-        return root_call(words[2].as_str());
+    call_in(&FILE_COMMANDS, words)
+}
+
+/// The command of these words, among those with values among their words.
+fn value_call(words: &[String]) -> Option<Call>
+    ensures value { result ≡ value_call (words_of words.now) }
+    ensures files { IfSome result (λ call. call.files < length words.now) }
+    ensures few { IfSome result (λ call. call.files < 16) }
+    ensures runnable { IfSome result (λ call. IsRunnable call.command) }
+    ensures own { IfSome result (λ call. HasFiles call.command call.files) }
+{
+    let (word, rest) = words.split_first()?;
+    match (word.as_str(), rest) {
+        ("light", [_, _, key, count]) => light_call(key, count),
+        ("demo", [number, width]) => demo_call(number, width),
+        ("root", [_, root]) => root_call(root),
+        ("wanted", [_, axis]) => wanted_call(axis),
+        ("prove", [_, start, count]) => prove_call(start, count),
+        _ => None,
     }
-    if is_command(words, "wanted", 2) {
-        return wanted_call(words[2].as_str());
-    }
-    if is_command(words, "verify", 3) {
-        return Some(Call {
-            command: Command::VerifyFor,
-            files: 3,
-        });
-    }
-    if is_command(words, "root", 1) {
-        return Some(Call {
-            command: Command::Root,
-            files: 1,
-        });
-    }
-    if is_command(words, "help", 0) {
-        return Some(Call {
-            command: Command::Help,
-            files: 0,
-        });
-    }
-    if is_command(words, "version", 0) {
-        return Some(Call {
-            command: Command::Version,
-            files: 0,
-        });
-    }
-    blob_call(words)
 }
 
 /// The command of these words.
@@ -253,77 +243,8 @@ pub(crate) fn call_of(words: &[String]) -> Option<Call>
     ensures runnable { IfSome result (λ call. IsRunnable call.command) }
     ensures own { IfSome result (λ call. HasFiles call.command call.files) }
 {
-    if is_command(words, "check", 2) {
-        return Some(Call {
-            command: Command::Check,
-            files: 2,
-        });
+    match file_call(words) {
+        Some(call) => Some(call),
+        None => value_call(words),
     }
-    if is_command(words, "build", 1) {
-        return Some(Call {
-            command: Command::Build,
-            files: 1,
-        });
-    }
-    if is_command(words, "header", 1) {
-        return Some(Call {
-            command: Command::Header,
-            files: 1,
-        });
-    }
-    if is_command(words, "sample", 2) {
-        return Some(Call {
-            command: Command::Sample,
-            files: 2,
-        });
-    }
-    if is_command(words, "namespace", 2) {
-        return Some(Call {
-            command: Command::Namespace,
-            files: 2,
-        });
-    }
-    if is_command(words, "verify", 2) {
-        return Some(Call {
-            command: Command::Verify,
-            files: 2,
-        });
-    }
-    if is_command(words, "compact", 2) {
-        return Some(Call {
-            command: Command::Compact,
-            files: 2,
-        });
-    }
-    if is_command(words, "repair", 2) {
-        return Some(Call {
-            command: Command::Repair,
-            files: 2,
-        });
-    }
-    if is_command(words, "light", 4) {
-        return light_call(words[3].as_str(), words[4].as_str());
-    }
-    if is_command(words, "show", 1) {
-        return Some(Call {
-            command: Command::Show,
-            files: 1,
-        });
-    }
-    if is_command(words, "json", 1) {
-        return Some(Call {
-            command: Command::Json,
-            files: 1,
-        });
-    }
-    if is_command(words, "demo", 2) {
-        return demo_call(words[1].as_str(), words[2].as_str());
-    }
-    if is_command(words, "net", 3) {
-        return Some(Call {
-            command: Command::Net,
-            files: 3,
-        });
-    }
-    client_call(words)
 }

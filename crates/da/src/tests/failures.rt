@@ -107,7 +107,7 @@ fn requests(alloc: Global, cells: &[(u8, u8)]) -> Result<Vec<u8>, Fail> {
     Ok(bytes)
 }
 
-/// A proved message; then one with another share, one without its second node, one of row 4, one with another node; and a
+/// A proved sample; then one with another share, one without its second node, one of row 4, one with another node; and a
 /// frame of another kind.
 fn refused(alloc: Global, one: &[u8; 703]) -> Result<Vec<u8>, Fail> {
     let mut bytes = Vec::from_slice(alloc, one)?;
@@ -128,8 +128,8 @@ fn refused(alloc: Global, one: &[u8; 703]) -> Result<Vec<u8>, Fail> {
     Ok(bytes)
 }
 
-/// A block, requests, a script that puts a message and hands it to a full node, a claim of no cells, and what the program
-/// makes of the first two: the square "s", its header "h", messages and missing cells.
+/// A block, requests, a script that puts a sample and hands it to a full node, a claim of no cells, and what the program
+/// makes of the first two: the square "s", its header "h", samples and missing cells.
 pub(super) fn files(alloc: Global) -> Result<Vec<File>, Fail> {
     let mut files = Vec::new(alloc);
     add(alloc, &mut files, "block", &block(alloc)?)?;

@@ -54,7 +54,7 @@ fn are(bytes: &[u8], text: &str) -> bool {
     digits.len() == bytes.len().wrapping_mul(2)
 }
 
-/// What is answered of these messages, and the state of the session then. The call with the number `fail` fails; the pick
+/// What is answered of these samples, and the state of the session then. The call with the number `fail` fails; the pick
 /// is call 0.
 fn answered(
     alloc: Global,

@@ -7,7 +7,7 @@ use Rattle.da_cli.specs.Feeding.{HasGone}
 use Rattle.da_cli.proofs.FeedingLemmas.{gone_frame}
 use Rattle.da_cli.proofs.feeding.feed_frame.Goals as goal
 
--- one frame more ended, and its message was fed where it is proved
+-- one frame more ended, and its sample was fed where it is proved
 pub returns-in-Frame-clause-gone : goal.returns-in-Frame-clause-gone
 returns-in-Frame-clause-gone c =
     let bytes = take c.push-count.result.0 c.args.piece.now in

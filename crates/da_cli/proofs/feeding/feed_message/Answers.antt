@@ -8,7 +8,7 @@ use Rattle.da_cli.specs.Feeding.{proved_by}
 use Rattle.da_cli.proofs.FeedingLemmas.{accepted_by, refused_by}
 use Rattle.da_cli.proofs.feeding.feed_message.Goals as goal
 
--- the message is proved, and it is what was fed
+-- the sample is proved, and it is what was fed
 pub returns-in-Ok-clause-fed : goal.returns-in-Ok-clause-fed
 returns-in-Ok-clause-fed c = λ ms held.
     let header = c.args.header.now in

@@ -19,7 +19,7 @@ use Rattle.da_status.proofs.EndLemmas.{once_within}
 use Rattle.da_commands.proofs.RepairLemmas.{repairs}
 use Rattle.da_cli.proofs.streamed.repair_file.Goals as goal
 
--- the verdict is one over the proved messages of the file
+-- the verdict is one over the proved samples of the file
 pub give_verdict-requires : goal.give_verdict-requires
 give_verdict-requires g c =
     let header = c.args.header.now in
@@ -28,7 +28,7 @@ give_verdict-requires g c =
     let ms : List Message = proved_among header (frames_of file.0) in
     (ms, subst (λ (h : Roots). IsVerdict h ms (parts_of c.finish.result)) c.in-Ok.ensures.header (c.finish.ensures.verdict ms (file.4 [] c.requires.none)))
 
--- these are the proved messages of its frames
+-- these are the proved samples of its frames
 pub returns-in-Ok-fed : goal.returns-in-Ok-fed
 returns-in-Ok-fed g c =
     let header = c.args.header.now in
