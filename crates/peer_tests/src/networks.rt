@@ -7,7 +7,7 @@ use namespace_id::{Axis, Cell};
 use std::alloc::Global;
 use std::test::Fail;
 
-/// Whether a message that is put into a network of one full node and no items comes back.
+/// Whether a sample that is put into a network of one full node and no items comes back.
 fn comes_back<F: Picker>(alloc: Global, _pick: F) -> Result<bool, Fail> {
     let grid = bad_grid(alloc)?;
     let nobody: Vec<LightNode<F>> = Vec::new(alloc);

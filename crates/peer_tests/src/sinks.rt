@@ -33,7 +33,7 @@ fn give_lines(out: &mut MemSink) -> Result<(), WriteFailed> {
     room.flush(out)
 }
 
-/// Lines are held until the next one has no room beside them, and one that is longer than the room is given on whole.
+/// Lines are held until the next one doesn't fit beside them, and one that is longer than the room is given on whole.
 /// Each row has the number of the write that fails, and how many bytes are taken.
 #[test]
 fn held_lines(rt: HostRuntime) -> Result<(), Fail> {

@@ -1,5 +1,5 @@
 //! The extended squares of width 2 of the tests: one of three blobs, and the same with one byte changed, in
-//! which row 3 and column 3 are no codewords. Their headers and messages.
+//! which row 3 and column 3 are no codewords. Their headers and samples.
 
 ghost use Rattle.std.specs.Prelude.{◌≡◌, IfOk};
 
@@ -11,8 +11,7 @@ use square_layout::Square;
 use std::alloc::Global;
 use std::test::Fail;
 
-/// The data root of the square of three blobs, from another program (docs/TESTING.md, "An independent
-/// program").
+/// The data root of the square of three blobs, by tools/values.py.
 pub(crate) const DATA_ROOT: [u8; 32] = [
     0x9b, 0x7a, 0x22, 0xfb, 0xa6, 0xa0, 0x9d, 0xc8, 0x0b, 0x53, 0x41, 0xf1, 0x8f, 0x53, 0x86, 0x78,
     0x96, 0x36, 0xb1, 0xf4, 0x84, 0xdc, 0xbf, 0xda, 0xb7, 0xfa, 0x71, 0x6c, 0x01, 0x33, 0x99, 0x3d,
@@ -74,7 +73,7 @@ pub(crate) fn header(alloc: Global, grid: &Grid) -> Result<Header, Fail>
     Ok(header)
 }
 
-/// The message of a cell of an extended square of width 2.
+/// The sample of a cell of an extended square of width 2.
 pub(crate) fn message(alloc: Global, grid: &Grid, cell: Cell, axis: Axis) -> Result<Message, Fail> {
     if grid.width() != 2 || !is_in_square(2, cell) {
         return Err(Fail::new("no such cell"));

@@ -6,7 +6,7 @@ use crate::runs::joined;
 use da_wire::{FrameError, FrameStream, Pushed};
 use std::test::Fail;
 
-/// An answer without its message: of a frame, whether it is a message; an error where it is `Bad`.
+/// An answer without its sample: of a frame, whether it is a sample; an error where it is `Bad`.
 fn told(answer: Pushed) -> Result<Option<bool>, u64> {
     match answer {
         Pushed::More => Ok(None),
@@ -41,7 +41,7 @@ fn a_frame_cut_off(rt: HostRuntime) {
     assert_eq!(rt; stream.end(), Some(FrameError::Truncated(0)));
 }
 
-/// How many frames bytes in pieces of a size have, how many of them are messages, and why the bytes are no
+/// How many frames bytes in pieces of a size have, how many of them are samples, and why the bytes are no
 /// list of frames.
 fn counted(bytes: &[u8], size: usize) -> (u64, u64, Option<FrameError>)
     requires { 0 < size }
@@ -65,7 +65,7 @@ fn counted(bytes: &[u8], size: usize) -> (u64, u64, Option<FrameError>)
     (frames, messages, stream.end())
 }
 
-// Five messages of one node and a request, in pieces that cut heads and payloads.
+// Five samples of one node and a request, in pieces that cut heads and payloads.
 #[test]
 fn frames_in_any_cutting(rt: HostRuntime) -> Result<(), Fail> {
     let alloc = rt.alloc();
@@ -81,7 +81,7 @@ fn frames_in_any_cutting(rt: HostRuntime) -> Result<(), Fail> {
     Ok(())
 }
 
-// The longest payload of a message has 1,238 bytes.
+// The longest payload of a sample has 1,238 bytes.
 #[test]
 fn longest_messages(rt: HostRuntime) -> Result<(), Fail> {
     let alloc = rt.alloc();

@@ -48,7 +48,7 @@ fn one_node() -> Path {
     path
 }
 
-/// A message of a cell.
+/// A sample of a cell.
 fn message(row: u16, col: u16, axis: Axis, path: Path) -> Message {
     Message {
         cell: Cell { row, col },

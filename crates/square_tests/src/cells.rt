@@ -58,7 +58,7 @@ fn draws(rt: &impl Abort, alloc: Global, key: &[u8; 32], want: &Drawn) -> bool {
         && begins(&most[4095..], &[want.last])
 }
 
-/// The cells by a program in another language, whose block function gives the vector of RFC 8439, 2.3.2.
+/// The cells by tools/values.py, whose block function gives the vector of RFC 8439, 2.3.2.
 #[test]
 fn drawn_cells(rt: HostRuntime) {
     let counting = Drawn {

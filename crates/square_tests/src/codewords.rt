@@ -1,4 +1,4 @@
-//! Codewords of shares. Expected bytes: by a Python program with products of polynomials modulo 0x11D.
+//! Codewords of shares. Expected bytes: by tools/values.py.
 
 use crate::inputs::share;
 use leopard_code::{Room, are_positions, extend, rebuild};

@@ -1,5 +1,4 @@
-//! Products, inverses and powers in the byte field. Expected bytes: by a program in Python that
-//! multiplies binary polynomials.
+//! Products, inverses and powers in the byte field. Expected bytes: by tools/values.py.
 
 use gf_cantor::{exp, inv, log, mul, mul_row};
 

@@ -33,8 +33,7 @@ fn are_blobs(blobs: &[Blob], want: &[Shape]) -> bool {
     blobs.len() == want.len()
 }
 
-/// The blocks by a program of thirty lines in another language, whose block function gives the
-/// vector of RFC 8439, 2.3.2.
+/// The blocks by tools/values.py, whose block function gives the vector of RFC 8439, 2.3.2.
 #[test]
 fn blocks(rt: HostRuntime) {
     let unit = Shape(322, [0x65, 0x42, 0x98, 0x44], [0x3b, 0x32]);

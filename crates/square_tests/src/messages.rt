@@ -1,4 +1,4 @@
-//! Messages of cells, and certificates of those that are proved.
+//! Samples of cells, and certificates of those that are proved.
 
 ghost use Rattle.std.specs.Prelude.{◌≡◌, ◌*◌, IsTrue, Some};
 ghost use Rattle.namespace_id.specs.Cells.{is_in_square};
@@ -50,7 +50,7 @@ fn messages_of_an_empty_block(rt: HostRuntime) {
     }
 }
 
-/// Whether the nodes of the message by stored trees are those by a tree that is filled.
+/// Whether the nodes of the sample by stored trees are those by a tree that is filled.
 fn same_nodes(grid: &Grid, trees: &Trees, cell: Cell, axis: Axis, tree: &mut Tree) -> bool
     requires cell { IsTrue (is_in_square grid.now.k cell) }
     requires trees { trees_of_grid grid.now.k grid.now.shares ≡ Some trees.now }

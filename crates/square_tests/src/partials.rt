@@ -21,14 +21,14 @@ fn other_path(path: &Path, at: usize) -> Path {
     other
 }
 
-/// Whether a message leads to another root.
+/// Whether a sample leads to another root.
 fn is_other_root(trees: &mut PartialTrees, message: &Message) -> bool
     ensures { trees.new ≡ trees.old }
 {
     trees.opens(message) == Err(CheckRefusal::OtherRoot)
 }
 
-/// Whether a message opens, and one with another share and one with another node at either end are
+/// Whether a sample opens, and one with another share and one with another node at either end are
 /// refused.
 fn judges(trees: &mut PartialTrees, mut message: Message) -> bool
     ensures { trees.new ≡ trees.old }

@@ -1,5 +1,4 @@
-//! Transforms and derivatives of four shares. Expected bytes: by a Python program with products of
-//! polynomials modulo 0x11D.
+//! Transforms and derivatives of four shares. Expected bytes: by tools/values.py.
 
 use crate::inputs::share;
 use lch_fft::{derive, forward, inverse};
