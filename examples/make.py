@@ -158,7 +158,7 @@ class Grid:
         return frame("H", u16(self.k) + b"".join(self.roots()))
 
     def rooted(self, row, col, axis=ROW):
-        """A message with the root of its axis, and the hashes that lead from that to the data root."""
+        """A sample with the root of its axis, and the hashes that lead from that to the data root."""
         roots, place = self.roots(), row if axis == ROW else 2 * self.k + col
         return frame("R", u16(self.k) + self.cell(row, col, axis) + roots[place] + digests(plain_path(roots, place)))
 
@@ -179,7 +179,7 @@ class Grid:
         return frame("C", numbers + plain_root(shown) + u16(len(rows)) + b"".join(rows))
 
     def cell(self, row, col, axis):
-        """The payload of a cell's message."""
+        """The payload of a cell's sample."""
         index, pos = (row, col) if axis == ROW else (col, row)
         path = nodes(self.leaves(axis, index), [pos])
         return u16(row) + u16(col) + bytes([axis]) + self.rows[row][col] + digests(path)

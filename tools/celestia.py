@@ -69,7 +69,7 @@ class Value:
         return found
 
     def bytes(self, size=None):
-        """Bytes in base64, maybe just so many; null is none, as Go writes it."""
+        """Bytes in base64, of a given number where one is told; null is none, as Go writes it."""
         data = b"" if self.value is None else base64_bytes(self.typed(str, "a text"))
         if data is None:
             raise self.bad(f"{short(self.value)} isn't base64", "BadBase64")
@@ -190,7 +190,7 @@ def spell_answer(namespace, header, value):
 
 
 def signer_of(value):
-    """The signer of a blob, just where its share version is 1."""
+    """The signer of a blob, exactly where its share version is 1."""
     version = value.needed("share_version")
     if version.number(0, 127) > 1:
         raise version.bad(f"{version.value}, and the blobs of a frame have 0 or 1", "Unsupported")

@@ -10,11 +10,11 @@
     frames.py samples LIST                  requests for samples (kind Q)
     frames.py namespaces LIST               requests for namespaces (kind P)
     frames.py script FULL LIST              a script of a network of so many full nodes
-    frames.py messages FILE..               files of messages and fraud claims as one list, each frame checked
+    frames.py messages FILE..               files of samples and fraud claims as one list, each frame checked
     frames.py raw KIND HEX                  a frame of any kind byte and payload
 
 Statuses and notes are those of docs/COMMANDS.md: 1 for words that are no command or no such value, 2 and 3 for a file
-that can't be opened or read, 4 where the output can't be written, 5 for want of memory, 6 for a file that isn't in its
+that can't be opened or read, 4 where the output can't be written, 5 where memory ran out, 6 for a file that isn't in its
 form, 7 for a file that is too long. Python 3 and its standard library alone. tools/README.md says more.
 """
 
@@ -34,7 +34,7 @@ SHARE_BYTES = 512
 DIGEST_BYTES = 90
 HASH_BYTES = 32
 COMMIT_ROW_BYTES = 94  # a row of a commitment proof without its hashes, subtrees and nodes
-MESSAGE_BYTES = 518  # a message without its nodes
+MESSAGE_BYTES = 518  # a sample without its nodes
 SET_CELL_BYTES = 515  # a cell that a set shows
 FRONT_BYTES = 5  # the kind and the length of a frame
 PAYLOAD_LIMIT = 16_777_216
@@ -753,7 +753,7 @@ def why(args):
 
 
 def idle(data, command):
-    """A line for each frame of MESSAGES that is no message in the grammar, nor, for `light`, such a fraud claim."""
+    """A line for each frame of MESSAGES that is no sample in the grammar, nor, for `light`, such a fraud claim."""
     kinds, what = ("MB", "message and no claim") if command == "light" else ("M", "message")
     lines = []
     for i, (at, _, _) in enumerate(walk(data, MESSAGES)):
@@ -808,7 +808,7 @@ def script(args):
 
 
 def messages(args):
-    """joins files of messages and fraud claims, each frame checked"""
+    """joins files of samples and fraud claims, each frame checked"""
     form = MESSAGES if args.any else Form(0, True, "MB")
     files = [read_file(name, i) for i, name in enumerate(args.files)]
     for i, data in enumerate(files):

@@ -4,10 +4,15 @@
 //	peer extend SQUARE             extends the square, and writes nothing
 //	peer header SQUARE             writes the header of the square
 //	peer repair HEADER MESSAGES    writes the square that the shares of the messages make, if it has this header
+//	peer shares SQUARE MESSAGES    writes the messages with the shares of the square as it extends it in place of theirs
 //
-// Files are frames of docs/FORMATS.md. Notes go to standard error: the time of processor of each step, and the data root.
-// Nodes of messages are passed over: NO SAMPLE IS VERIFIED, so a false share is found only when the roots are compared,
-// and then nothing says which it was.
+// Files are frames of docs/FORMATS.md. Notes go to standard error: the code, the time of processor of each step, and the
+// data root. Nodes of messages are passed over: NO SAMPLE IS VERIFIED, so a false share is found only when the roots are
+// compared, and then nothing says which it was.
+//
+// There are two of it. This one has Celestia's code (leopard.go), and hashes each leaf once for both trees that it is in. With
+// the build tag `matrix` (matrix.go) it has the code of a matrix, which older versions of the library have too, and hashes
+// each leaf in both trees: its parity isn't Celestia's, so its headers are of no use but to itself.
 package main
 
 import (
@@ -56,7 +61,7 @@ type extended struct {
 }
 
 func newExtended(k int) (*extended, error) {
-	code, err := reedsolomon.New(k, k, reedsolomon.WithLeopardGF(true))
+	code, err := newCode(k)
 	if err != nil {
 		return nil, err
 	}
@@ -192,7 +197,7 @@ func join(left, right *digest) error {
 	return nil
 }
 
-// roots hashes the tree of each row and each column, over leaves that are hashed once.
+// roots hashes the tree of each row and each column.
 func (e *extended) roots() (*axes, error) {
 	leaves := e.leaves()
 	nodes := make([]digest, 2*e.k)
@@ -201,6 +206,9 @@ func (e *extended) roots() (*axes, error) {
 		to := found.rows
 		if isCol {
 			to = found.cols
+			if hashesLeavesTwice {
+				leaves = e.leaves()
+			}
 		}
 		for index := range to {
 			for pos := range nodes {
@@ -294,26 +302,33 @@ func readSquare(name string) (*extended, error) {
 	return e, nil
 }
 
-// take puts the share of each message into its cell.
-func (e *extended) take(name string) error {
-	data, err := os.ReadFile(name)
+// each hands over the share of each message of a file, and the place of its cell. It gives the bytes of the file.
+func (e *extended) each(name string, hand func(place int, share []byte)) ([]byte, error) {
+	file, err := os.ReadFile(name)
 	if err != nil {
-		return err
+		return nil, err
 	}
-	for len(data) > 0 {
+	for data := file; len(data) > 0; {
 		var payload []byte
 		if payload, data, err = next('M', data); err != nil || len(payload) < 5+shareSize {
-			return fmt.Errorf("%s: %w", name, errFrame)
+			return nil, fmt.Errorf("%s: %w", name, errFrame)
 		}
 		row, col := int(binary.BigEndian.Uint16(payload)), int(binary.BigEndian.Uint16(payload[2:]))
 		if row >= 2*e.k || col >= 2*e.k {
-			return fmt.Errorf("%s: cell (%d, %d) isn't in the square", name, row, col)
+			return nil, fmt.Errorf("%s: cell (%d, %d) isn't in the square", name, row, col)
 		}
-		place := e.place(false, row, col)
-		copy(e.share(place), payload[5:5+shareSize])
-		e.known[place] = true
+		hand(e.place(false, row, col), payload[5:5+shareSize])
 	}
-	return nil
+	return file, nil
+}
+
+// take puts the share of each message into its cell.
+func (e *extended) take(name string) error {
+	_, err := e.each(name, func(place int, share []byte) {
+		copy(e.share(place), share)
+		e.known[place] = true
+	})
+	return err
 }
 
 // square is the payload of the frame: the width and the upper left quarter.
@@ -401,9 +416,25 @@ func repair(header, messages string) error {
 	return write('S', e.square())
 }
 
+func shares(square, messages string) error {
+	e, err := readSquare(square)
+	if err != nil {
+		return err
+	}
+	if err := e.extend(); err != nil {
+		return err
+	}
+	file, err := e.each(messages, func(place int, share []byte) { copy(share, e.share(place)) })
+	if err != nil {
+		return err
+	}
+	_, err = os.Stdout.Write(file)
+	return err
+}
+
 func main() {
-	fmt.Fprintf(os.Stderr, "%s\n", runtime.Version())
-	err := errors.New("usage: peer extend SQUARE, peer header SQUARE or peer repair HEADER MESSAGES")
+	fmt.Fprintf(os.Stderr, "%s\n%s\n", runtime.Version(), codeNote)
+	err := errors.New("usage: peer extend SQUARE, peer header SQUARE, peer repair HEADER MESSAGES or peer shares SQUARE MESSAGES")
 	switch words := os.Args[1:]; {
 	case len(words) == 2 && words[0] == "extend":
 		err = header(words[1], false)
@@ -411,6 +442,8 @@ func main() {
 		err = header(words[1], true)
 	case len(words) == 3 && words[0] == "repair":
 		err = repair(words[1], words[2])
+	case len(words) == 3 && words[0] == "shares":
+		err = shares(words[1], words[2])
 	}
 	if err != nil {
 		fmt.Fprintf(os.Stderr, "peer: %v\n", err)
