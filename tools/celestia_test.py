@@ -10,7 +10,6 @@ is among the tests.
 
 import base64
 import importlib.util
-import io
 import json
 import os
 import random
@@ -18,7 +17,6 @@ import subprocess
 import sys
 import tempfile
 import unittest
-from unittest import mock
 
 sys.dont_write_bytecode = True
 TOOLS = os.path.dirname(os.path.abspath(__file__))
@@ -26,6 +24,7 @@ EXAMPLES = os.path.join(os.path.dirname(TOOLS), "examples")
 sys.path.insert(0, TOOLS)
 import celestia  # noqa: E402
 import frames  # noqa: E402
+import trying  # noqa: E402
 
 SPEC = importlib.util.spec_from_file_location("make", os.path.join(EXAMPLES, "make.py"))
 make = importlib.util.module_from_spec(SPEC)
@@ -47,15 +46,7 @@ EMPTY_ROOT = "3d96b7d238e7e0456f6af8e7cdf0a67bd6cf9c2089ecb559c659dcaa1f880353"
 BLOB_NAMESPACE = bytes(19) + bytes.fromhex("01020304050607080910")
 BLOB_DATA = b"This is an example of some blob data"
 
-PARSER = celestia.parser()
-
-
-def run(*words):
-    """The status, the output and the note of celestia.py on words."""
-    out, err = io.BytesIO(), io.StringIO()
-    with mock.patch.object(celestia, "parser", lambda: PARSER):
-        status = celestia.main([str(word) for word in words], out, err)
-    return status, out.getvalue(), err.getvalue()
+run = trying.runner(celestia)
 
 
 # The node's forms, written here from frames so that they are tried on JSON that celestia.py didn't make.

@@ -6,7 +6,6 @@
 """
 
 import hashlib
-import io
 import json
 import os
 import random
@@ -22,6 +21,7 @@ TOOLS = os.path.dirname(os.path.abspath(__file__))
 EXAMPLES = os.path.join(os.path.dirname(TOOLS), "examples")
 sys.path.insert(0, TOOLS)
 import frames  # noqa: E402
+import trying  # noqa: E402
 
 DA = os.environ.get("DA")
 PARITY = b"\xff" * 29
@@ -162,17 +162,7 @@ EACH = {
 }
 EACH_FRAME = {kind: frame(kind, payload) for kind, payload in EACH.items()}
 
-
-PARSER = frames.parser()
-
-
-def run(*words):
-    """The status, the output and the note of frames.py on words."""
-    out, err = io.BytesIO(), io.StringIO()
-    # One parser for all runs: it takes longer to make than most files to read.
-    with mock.patch.object(frames, "parser", lambda: PARSER):
-        status = frames.main([str(word) for word in words], out, err)
-    return status, out.getvalue(), err.getvalue()
+run = trying.runner(frames)
 
 
 def example(name):
