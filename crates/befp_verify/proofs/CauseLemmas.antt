@@ -9,7 +9,7 @@ use Rattle.namespace_id.specs.declared.digests.Digest.{Digest}
 use Rattle.namespace_id.specs.Digests.{AreDigests}
 use Rattle.namespace_id.specs.Cells.{is_width}
 use Rattle.nmt_proofs.specs.declared.opening.OpenRefusal.{OpenRefusal}
-use Rattle.nmt_proofs.proofs.CauseLemmas.{opens_where, not_refused_where}
+use Rattle.nmt_proofs.proofs.Parts.CauseLemmas.{opens_where, not_refused_where}
 use Rattle.data_header.specs.Headers.{Roots}
 use Rattle.axis_roots.specs.declared.message.messages.CheckRefusal.{CheckRefusal}
 use Rattle.axis_roots.specs.Messages.{IsMessage}

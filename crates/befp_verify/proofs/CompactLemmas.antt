@@ -12,11 +12,12 @@ use Rattle.namespace_id.specs.Digests.{AreDigests}
 use Rattle.namespace_id.specs.Cells.{is_width, is_in_square, leaf_namespace}
 use Rattle.namespace_id.specs.Lists.{holds_along}
 use Rattle.namespace_id.proofs.ShareLemmas.{name_of-is}
+use Rattle.namespace_id.proofs.PowerLemmas.{double_halvings}
 use Rattle.nmt_tree.specs.Roots.{halvings}
 use Rattle.nmt_proofs.specs.Openings.{one_leaf, leaves_at, Opens}
 use Rattle.nmt_proofs.specs.Places.{AreAscending}
 use Rattle.nmt_proofs.specs.Merging.{merged_nodes, HoldsAlong, AreAlike, IsBranch, AreBranches, places_of, names_of, shares_of}
-use Rattle.nmt_proofs.proofs.MergeLemmas.{merged_opens}
+use Rattle.nmt_proofs.proofs.Agreement.MergeLemmas.{merged_opens}
 use Rattle.leopard_code.specs.Codewords.{HasEntries}
 use Rattle.data_header.specs.Headers.{Roots, root_of}
 use Rattle.axis_roots.specs.declared.message.messages.Message.{Message}
@@ -27,7 +28,6 @@ use Rattle.axis_roots.specs.Claims.{ClaimParts, is_on, positions_of, shares_of a
 use Rattle.axis_roots.proofs.Messages.ClaimLemmas.{Shape, shape_of}
 use Rattle.axis_roots.proofs.Messages.ProofLemmas.{plain_accepted}
 use Rattle.axis_roots.proofs.Messages.SetLemmas.{set_ascending, some_along, each_by}
-use Rattle.axis_roots.proofs.Grids.LineLemmas.{leaf_count}
 use Rattle.befp_verify.specs.Compacting.{bare, bare_all, with_set, branch_of, branches_of}
 
 -- ---- samples without their paths
@@ -177,7 +177,7 @@ branch_places k axis cells width inside up =
     ∙ sym (maps_once (λ b. b.pos) (branch_of k axis) (along_in axis cells)) in
     let rising : holds_along nat_lt (map (λ m. position axis m.cell) (bare_all axis cells)) ≡ true =
     ap (holds_along nat_lt) (maps_once (λ m. position axis m.cell) (bare axis) cells) ∙ up in
-    subst (λ (n : ℕ). AreAscending 0 n (places_of (branches_of k axis cells))) (leaf_count k width)
+    subst (λ (n : ℕ). AreAscending 0 n (places_of (branches_of k axis cells))) (sym (double_halvings k width))
     (subst (AreAscending 0 (2 * k)) places (set_ascending k axis (bare_all axis cells) rising (all_bare k axis cells inside)))
 
 -- what is known of a claim's openings along its axis

@@ -7,12 +7,13 @@ use Rattle.std.proofs.lemmas.Bool.{cases_Bool}
 use Rattle.namespace_id.specs.declared.cells.Axis.{Axis}
 use Rattle.namespace_id.specs.declared.digests.Digest.{Digest}
 use Rattle.namespace_id.specs.Cells.{is_width, is_in_square, leaf_namespace}
+use Rattle.namespace_id.proofs.PowerLemmas.{double_halvings}
 use Rattle.nmt_tree.specs.Roots.{halvings}
 use Rattle.nmt_proofs.specs.Openings.{opened, one_leaf}
 use Rattle.nmt_proofs.specs.Clashes.{clash_at}
 use Rattle.nmt_proofs.specs.Places.{AreAscending}
 use Rattle.nmt_proofs.specs.Merging.{Branch, branch_tree, IsBranch, places_of}
-use Rattle.nmt_proofs.proofs.TwinLemmas.{length-nodes}
+use Rattle.nmt_proofs.proofs.Agreement.TwinLemmas.{length-nodes}
 use Rattle.hash_clash.specs.Collisions.{Strings}
 use Rattle.data_header.specs.Headers.{Roots}
 use Rattle.axis_roots.specs.declared.message.messages.Message.{Message}
@@ -24,7 +25,6 @@ use Rattle.axis_roots.specs.Claims.{ClaimParts, ShowsBad, claimed_root, Accepts}
 use Rattle.axis_roots.proofs.Messages.ClaimLemmas.{shape_of}
 use Rattle.axis_roots.proofs.Messages.ProofLemmas.{plain_accepted}
 use Rattle.axis_roots.proofs.Messages.SetLemmas.{each_by}
-use Rattle.axis_roots.proofs.Grids.LineLemmas.{leaf_count}
 use Rattle.befp_verify.specs.declared.compacting.Placed.{Placed}
 use Rattle.befp_verify.specs.Placed.{placed, HasNodes, AreUnderOne, NamesTwoOf}
 use Rattle.befp_verify.specs.Compacting.{is_compact, branch_of, branches_of, NamesTwo}
@@ -73,7 +73,7 @@ ready header claim ps width accepts wide is =
     let branches : AllByRecursion (IsBranch (halvings (2 * k)) root) (placed ps) =
     subst (AllByRecursion (IsBranch (halvings (2 * k)) root)) (sym is) (are_branches header claim.axis claim.index claim.cells both.0 shape.on) in
     let places : AreAscending 0 (2 * k) (places_of (placed ps)) =
-    subst (λ (n : ℕ). AreAscending 0 n (places_of (placed ps))) (sym (leaf_count k width))
+    subst (λ (n : ℕ). AreAscending 0 n (places_of (placed ps))) (sym (sym (double_halvings k width)))
     (subst (λ (bs : List Branch). AreAscending 0 (2 ^ halvings (2 * k)) (places_of bs)) (sym is)
     (branch_places k claim.axis claim.cells width (wide_inside header claim accepts wide) shape.rising)) in
     record {

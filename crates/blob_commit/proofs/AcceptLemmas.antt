@@ -11,7 +11,7 @@ use Rattle.namespace_id.specs.Answers.{refusal_in}
 use Rattle.namespace_id.proofs.RefusalLemmas.{both_none, none_both}
 use Rattle.nmt_tree.specs.Roots.{halvings}
 use Rattle.nmt_proofs.specs.declared.opening.OpenRefusal.{OpenRefusal}
-use Rattle.nmt_proofs.proofs.CauseLemmas.{opens_where, not_refused_where}
+use Rattle.nmt_proofs.proofs.Parts.CauseLemmas.{opens_where, not_refused_where}
 use Rattle.blob_commit.specs.Cuts.{levels_of}
 use Rattle.blob_commit.specs.Commitments.{root_of_digests}
 use Rattle.blob_commit.specs.Proofs.{RowParts, CommitParts, part_of_row, shown_in, has_commit_shape, RowsLead, RowsOpen, subtrees_of, CommitHolds}

@@ -12,7 +12,7 @@ use Rattle.share_split.specs.BlobLaws.{BlobSharesAreCounted}
 use Rattle.square_layout.specs.Blocks.{BlockParts, IsSquare}
 use Rattle.square_layout.specs.Refusals.{layout_refusal}
 use Rattle.square_layout.specs.Layout.{in_order, share_count_of, start_after, end_of, compact_end, laid, width_for, square_of}
-use Rattle.nmt_proofs.proofs.MadeLemmas.{and_true}
+use Rattle.nmt_proofs.proofs.Agreement.MadeLemmas.{and_true}
 use Rattle.blob_commit.specs.Proofs.{is_range}
 
 -- a part that is found whole behind a place ends in the list

@@ -2,7 +2,6 @@
 use Rattle.std.proofs.Common.{◌≡◌, ◌⊎◌, ◌∙◌, ℕ, suc, ◌+◌, ◌-◌, ◌*◌, ◌/◌, ◌%◌, ◌^◌, ◌<◌, ◌≤◌, ◌==◌, ◌&&◌, nat_lt, nat_le, min, List, [], ◌∷◌, ◌++◌, length, drop, take, map, true, refl, sym, ap, ap₂, subst, inl, inr, arith, length-drop}
 use Rattle.std.specs.List.{AllByRecursion}
 use Rattle.std.proofs.lemmas.Bool.{cases_lt, eqb-true, and_parts, ltb-true, leb-true}
-use Rattle.std.proofs.lemmas.Bool.Decides.{nat_tests}
 use Rattle.std.proofs.lemmas.List.{drop-drop, drop-take, take-take, length-take-le}
 use Rattle.std.proofs.lemmas.Nat.{div-add-mod', pow_pos}
 use Rattle.std.proofs.lemmas.Slice.Eq.{bytes_eq-Decides}
@@ -14,6 +13,7 @@ use Rattle.namespace_id.specs.declared.digests.Digest.{Digest}
 use Rattle.namespace_id.specs.Shares.{name_in}
 use Rattle.namespace_id.specs.Digests.{AreDigests}
 use Rattle.namespace_id.specs.Cells.{is_width}
+use Rattle.namespace_id.proofs.PowerLemmas.{halvings-le, double_halvings}
 use Rattle.nmt_tree.specs.Roots.{halvings, root}
 use Rattle.nmt_tree.proofs.CountLemmas.{power_halvings}
 use Rattle.share_split.specs.Widths.{subtree_width_of}
@@ -21,14 +21,13 @@ use Rattle.nmt_proofs.specs.Parts.{Part, digest_of}
 use Rattle.nmt_proofs.specs.Openings.{intervals_from}
 use Rattle.nmt_proofs.specs.Clashes.{IsOpening, AreShown}
 use Rattle.nmt_proofs.specs.Places.{AreAligned}
-use Rattle.nmt_proofs.proofs.ShownLemmas.{opening-sized, opening-deep}
-use Rattle.nmt_proofs.proofs.PieceLawLemmas.{subtrees_agreed}
+use Rattle.nmt_proofs.proofs.Parts.ShownLemmas.{opening-sized, opening-deep}
+use Rattle.nmt_proofs.proofs.Sets.PieceLawLemmas.{subtrees_agreed}
 use Rattle.data_header.specs.Headers.{Roots}
 use Rattle.data_header.specs.DataRoots.{data_root_of}
 use Rattle.square_layout.specs.Blocks.{SquareShares}
 use Rattle.axis_roots.specs.Grids.{IsHeaderOf, axis_names, axis_shares}
 use Rattle.axis_roots.proofs.Grids.HeaderLemmas.{header_width}
-use Rattle.axis_roots.proofs.Grids.LineLemmas.{leaf_count}
 use Rattle.axis_roots.proofs.Messages.OwnLemmas.{names_or_agrees}
 use Rattle.blob_commit.specs.Cuts.{cut_by, cut, levels_of}
 use Rattle.blob_commit.specs.Commitments.{subtree_roots, root_of_digests}
@@ -42,10 +41,6 @@ use Rattle.blob_commit.proofs.RootedLemmas.{clash_above, clash_inside}
 use Rattle.blob_commit.proofs.OwnRowLemmas.{pieces_inside}
 
 -- ---- numbers
-
--- there are at most eight halvings
-halvings-le : (n : ℕ) → halvings n ≤ 8
-halvings-le n = grind (arith, nat_tests)
 
 pub min_cases : (a b : ℕ) → (min a b ≡ a) ⊎ (min a b ≡ b)
 min_cases a b = elim (cases_lt a b) [
@@ -142,7 +137,7 @@ rows_own header S l (row ∷ rows) index at left own deep sized div within begin
     let n_left : n ≤ left = min-le_left left (k - r) in
     let n_row : n ≤ k - r = min-le_right left (k - r) in
     let begin : r % z ≡ 0 = mod_row at k z some_z b.0 div in
-    let power : 2 * k ≡ 2 ^ d = leaf_count k own.whole.width in
+    let power : 2 * k ≡ 2 ^ d = sym (double_halvings k own.whole.width) in
     let lead_own = root_own header k Row index row.root row.up (header_whole header S own) lead.0 sized.0.root sized.0.up in
     elim lead_own [
       | inr clash ↦ inr (names_head S k (suc l) index at left row rows (clash_above header S k Row index row.root row.up part own clash))

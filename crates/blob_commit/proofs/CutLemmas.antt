@@ -14,7 +14,7 @@ use Rattle.nmt_tree.proofs.CountLemmas.{leaf_count_power, power_halvings, leaf_c
 use Rattle.share_split.specs.Widths.{subtree_width_of}
 use Rattle.blob_commit.proofs.WidthLemmas.{width_count}
 use Rattle.blob_commit.specs.Cuts.{cut_by, cut, levels_of}
-use Rattle.nmt_proofs.proofs.ListLemmas.{each-append}
+use Rattle.nmt_proofs.proofs.Parts.ListLemmas.{each-append}
 
 -- so often fits a number
 fits_often : (n w m : ℕ) → 0 < w → n ≤ m * w → n / w ≤ m

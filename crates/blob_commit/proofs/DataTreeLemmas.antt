@@ -12,8 +12,8 @@ use Rattle.namespace_id.specs.Bytes.{IsString, AreBytes}
 use Rattle.namespace_id.specs.Digests.{IsDigest, AreDigests, no_digest}
 use Rattle.namespace_id.proofs.StringLemmas.{AreBytes-cons, AreBytes-append}
 use Rattle.nmt_proofs.specs.Clashes.{IsClash}
-use Rattle.nmt_proofs.proofs.ListLemmas.{each-take, each-drop}
-use Rattle.nmt_proofs.proofs.DigestLemmas.{append_parts, string-sha256, same_digest}
+use Rattle.nmt_proofs.proofs.Parts.ListLemmas.{each-take, each-drop}
+use Rattle.nmt_proofs.proofs.Parts.DigestLemmas.{append_parts, string-sha256, same_digest}
 use Rattle.data_header.specs.DataRoots.{leaf_hash, inner_hash, merkle_root, led}
 use Rattle.blob_commit.specs.DataTrees.{Plain, known, ending, fork, hash_of, text_of, text_at, climbed, full}
 use Rattle.blob_commit.proofs.RowCutLemmas.{add_times}

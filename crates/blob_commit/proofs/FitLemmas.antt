@@ -4,7 +4,7 @@ use Rattle.std.proofs.lemmas.Bool.{eqb-true, and_parts, ltb-true}
 use Rattle.std.proofs.lemmas.Nat.{div-add-mod', pow_pos}
 use Rattle.std.proofs.Math.Nat.{mod-lt, min-le_left, min-le_right, mul-le-mul_left}
 use Rattle.namespace_id.specs.Cells.{is_width}
-use Rattle.namespace_id.proofs.AllCellsLemmas.{width-ge}
+use Rattle.namespace_id.proofs.WidthLemmas.{is_width-pos}
 use Rattle.nmt_tree.specs.Roots.{halvings}
 use Rattle.share_split.specs.Widths.{subtree_width_of}
 use Rattle.nmt_tree.proofs.CountLemmas.{power_halvings}
@@ -81,7 +81,7 @@ row_places k (suc l) at left n from width some deep div begins from_is n_is =
     let low : suc l - 1 ≡ l = omega arith in
     let d : k % 2 ^ l ≡ 0 = ap (λ (m : ℕ). k % 2 ^ m) (sym low) ∙ div in
     let b : at % 2 ^ l ≡ 0 = ap (λ (m : ℕ). at % 2 ^ m) (sym low) ∙ begins in
-    let r_lt : at % k < k = mod-lt at (width-ge k width) in
+    let r_lt : at % k < k = mod-lt at (is_width-pos k width) in
     let within : n ≤ k - at % k = subst (λ (m : ℕ). m ≤ k - at % k) (sym n_is) (min-le_right left (k - at % k)) in
     subst (λ (f : ℕ). AreAligned f (2 * k) (cut_by (suc l) n)) (sym from_is)
     (aligned-cut l (at % k) n (2 * k) (omega (arith, deep)) (mod_row at k (2 ^ l) (pow_pos l) b d) (omega (arith, within, r_lt)))
@@ -94,10 +94,10 @@ some_sizes (suc l) n h some = let one = some_pieces (cut_by (suc l) n) (omega (a
 -- the next row begins at a multiple
 pub next_begins : (k levels at left n : ℕ) → IsTrue (is_width k) → 1 ≤ levels → k % 2 ^ (levels - 1) ≡ 0 → n ≡ part_of_row k at left → 0 < left - n → (at + n) % 2 ^ (levels - 1) ≡ 0
 next_begins k levels at left n width some div n_is more =
-    let r_lt : at % k < k = mod-lt at (width-ge k width) in
+    let r_lt : at % k < k = mod-lt at (is_width-pos k width) in
     elim (min_cases left (k - at % k)) [
       | inl all ↦ absurd (omega (arith, more, n_is, all))
-      | inr full_row ↦ ap (λ (m : ℕ). (at + m) % 2 ^ (levels - 1)) (n_is ∙ full_row) ∙ (next_row at k (2 ^ (levels - 1)) (pow_pos (levels - 1)) (width-ge k width) (omega (arith, r_lt)) div).0
+      | inr full_row ↦ ap (λ (m : ℕ). (at + m) % 2 ^ (levels - 1)) (n_is ∙ full_row) ∙ (next_row at k (2 ^ (levels - 1)) (pow_pos (levels - 1)) (is_width-pos k width) (omega (arith, r_lt)) div).0
     ]
 
 -- ---- of a whole range
@@ -132,7 +132,7 @@ range_subtrees k start count levels rows width range e fits =
     let some : 1 ≤ count = omega (arith, r.0) in
     let within : count ≤ k * k = omega (arith, r.1) in
     let most : count ≤ 16384 = square_bound k count width within in
-    let all = subtrees_cut k l start count rows (width-ge k width) (ap (λ (m : ℕ). k % 2 ^ m) (sym (levels-less count)) ∙ range_divides k start count (levels_of count) width range refl)
+    let all = subtrees_cut k l start count rows (is_width-pos k width) (ap (λ (m : ℕ). k % 2 ^ m) (sym (levels-less count)) ∙ range_divides k start count (levels_of count) width range refl)
     (λ _. ap (λ (m : ℕ). start % 2 ^ m) (sym (levels-less count)) ∙ range_begins k start count (levels_of count) width range refl)
     (subst (λ (m : ℕ). fits_rows k m start count rows ≡ true) e fits) in
     (omega (arith, all, few-cut count some most), let one = some_pieces (cut count) (omega (arith, total-of count, some)) in omega (arith, all, one))
@@ -142,7 +142,7 @@ pub range_rows : (k start count levels : ℕ) (rows : List RowParts) → IsTrue 
     → (length rows ≤ 16384) × (start / k + length rows ≤ 40000)
 range_rows k start count levels rows width range fits =
     let r = range_parts k start count range in
-    let few = few_rows k levels start count rows (width-ge k width) fits in
+    let few = few_rows k levels start count rows (is_width-pos k width) fits in
     let most : start + count ≤ 16384 = square_bound k (start + count) width r.1 in
-    let less : start / k ≤ start = div_le start k (width-ge k width) in
+    let less : start / k ≤ start = div_le start k (is_width-pos k width) in
     (omega (arith, few, most), omega (arith, few, most, less))

@@ -15,9 +15,9 @@ use Rattle.namespace_id.proofs.AscendingLemmas.{length-ascending}
 use Rattle.namespace_id.proofs.TestLemmas.{passes_below, passes_below-at, where_holds, where_holds-true}
 use Rattle.namespace_id.proofs.WidthLemmas.{is_width-le}
 use Rattle.nmt_tree.specs.Roots.{halvings}
-use Rattle.nmt_proofs.proofs.AgreeLemmas.{digest-sized}
-use Rattle.nmt_proofs.proofs.WholeLemmas.{digest-whole, sized-whole}
-use Rattle.nmt_proofs.proofs.ListLemmas.{each-append}
+use Rattle.nmt_proofs.proofs.Agreement.AgreeLemmas.{digest-sized}
+use Rattle.nmt_proofs.proofs.Parts.WholeLemmas.{digest-whole, sized-whole}
+use Rattle.nmt_proofs.proofs.Parts.ListLemmas.{each-append}
 use Rattle.data_header.specs.Headers.{Roots, root_of}
 use Rattle.data_header.specs.DataRoots.{root_halvings, root_place, data_root_of, OpensRoot}
 use Rattle.square_layout.specs.Blocks.{SquareShares}

@@ -6,7 +6,7 @@ use Rattle.namespace_id.specs.declared.cells.Axis.{Axis}
 use Rattle.namespace_id.specs.declared.digests.Digest.{Digest}
 use Rattle.nmt_proofs.specs.Parts.{Part, given, leaf, join, digest_of}
 use Rattle.nmt_proofs.specs.Clashes.{clash_at, leaf_text, join_text}
-use Rattle.nmt_proofs.proofs.AgreeLemmas.{compared, or_found}
+use Rattle.nmt_proofs.proofs.Agreement.AgreeLemmas.{compared, or_found}
 use Rattle.data_header.specs.Headers.{Roots}
 use Rattle.data_header.specs.DataRoots.{data_root_of, root_halvings, root_place}
 use Rattle.square_layout.specs.Blocks.{SquareShares}

@@ -7,7 +7,7 @@ use Rattle.namespace_id.specs.Answers.{refusal_in}
 use Rattle.namespace_id.specs.Cells.{is_width, is_in_square}
 use Rattle.nmt_tree.specs.Roots.{halvings}
 use Rattle.nmt_proofs.specs.declared.opening.OpenRefusal.{OpenRefusal}
-use Rattle.nmt_proofs.proofs.CauseLemmas.{opens_where, not_refused_where}
+use Rattle.nmt_proofs.proofs.Parts.CauseLemmas.{opens_where, not_refused_where}
 use Rattle.blob_commit.specs.declared.rooting.RootedRefusal.{RootedRefusal}
 use Rattle.blob_commit.specs.declared.rooting.RootedRefusal.TheVariants as V
 use Rattle.axis_roots.specs.Messages.{IsMessage, shown_by, index}

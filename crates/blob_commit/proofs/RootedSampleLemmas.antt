@@ -13,8 +13,8 @@ use Rattle.namespace_id.specs.Cells.{is_width}
 use Rattle.namespace_id.specs.Digests.{IsDigest, no_digest}
 use Rattle.namespace_id.proofs.TestLemmas.{passes_below, passes_below-at}
 use Rattle.namespace_id.proofs.WidthLemmas.{is_width-le}
-use Rattle.nmt_proofs.proofs.DigestLemmas.{string-sha256}
-use Rattle.nmt_proofs.proofs.ListLemmas.{each-append}
+use Rattle.nmt_proofs.proofs.Parts.DigestLemmas.{string-sha256}
+use Rattle.nmt_proofs.proofs.Parts.ListLemmas.{each-append}
 use Rattle.data_header.specs.Headers.{Roots, root_of}
 use Rattle.data_header.specs.DataRoots.{leaf_hash, inner_hash, merkle_root, root_halvings, root_place, led, path_of, data_root_of}
 use Rattle.data_header.proofs.RootLemmas.{path_of-low, path_of-high, length-path_of}

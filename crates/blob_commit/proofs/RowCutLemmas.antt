@@ -10,7 +10,7 @@ use Rattle.namespace_id.specs.Shares.{name_in}
 use Rattle.nmt_tree.specs.Roots.{is_leaf_count, halvings, root}
 use Rattle.nmt_tree.proofs.CountLemmas.{leaf_count_power}
 use Rattle.nmt_proofs.specs.Places.{AreAligned}
-use Rattle.nmt_proofs.proofs.PutLemmas.{left_aligned}
+use Rattle.nmt_proofs.proofs.Agreement.PutLemmas.{left_aligned}
 use Rattle.blob_commit.specs.Cuts.{cut_by}
 use Rattle.blob_commit.specs.Commitments.{subtree_roots}
 use Rattle.blob_commit.proofs.CutLemmas.{total}

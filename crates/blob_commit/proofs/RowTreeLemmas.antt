@@ -7,6 +7,7 @@ use Rattle.namespace_id.specs.declared.namespaces.Namespace.{Namespace}
 use Rattle.namespace_id.specs.declared.shares.Share.{Share}
 use Rattle.namespace_id.specs.declared.digests.Digest.{Digest}
 use Rattle.namespace_id.specs.Cells.{is_width}
+use Rattle.namespace_id.proofs.PowerLemmas.{double_halvings}
 use Rattle.nmt_tree.specs.Roots.{halvings}
 use Rattle.nmt_tree.specs.Levels.{leaf_digests, span}
 use Rattle.nmt_tree.specs.Trees.{StoredTree}
@@ -15,7 +16,7 @@ use Rattle.data_header.specs.Headers.{Roots, root_of}
 use Rattle.axis_roots.specs.Lines.{line_root}
 use Rattle.axis_roots.specs.Grids.{share_at, axis_names, axis_shares, is_ordered_axis, are_ordered_axes, axis_roots, header_of_grid}
 use Rattle.axis_roots.proofs.Grids.AxisLemmas.{length-along}
-use Rattle.axis_roots.proofs.Grids.LineLemmas.{leaf_count, length-line_names}
+use Rattle.axis_roots.proofs.Grids.LineLemmas.{length-line_names}
 use Rattle.axis_roots.proofs.Grids.HeaderLemmas.{ordered_axis, some_if, header_width, header_root}
 use Rattle.blob_commit.specs.Making.{IsRowTree}
 
@@ -26,7 +27,7 @@ unfolding line_root
 row_span k shares header row width e lt =
     let ns : List Namespace = axis_names k shares Row row in
     let ss : List Share = axis_shares k shares Row row in
-    let power : 2 * k ≡ 2 ^ halvings (2 * k) = leaf_count k width in
+    let power : 2 * k ≡ 2 ^ halvings (2 * k) = sym (double_halvings k width) in
     sym (header_root k shares header e Row row lt ∙ root_is_span (halvings (2 * k)) ns ss (length-line_names k Row row ss ∙ power) (length-along k (share_at (2 * k) shares) Row row ∙ power))
 
 -- so a tree over them is the header's tree of the row

@@ -6,8 +6,7 @@ use Rattle.std.proofs.lemmas.List.{length-replicate}
 use Rattle.std.proofs.lemmas.Nat.{div-add-mod', pow_pos}
 use Rattle.std.proofs.Math.Nat.{mod-lt, min-le_left, min-le_right, mul-le-mul_left}
 use Rattle.namespace_id.specs.Cells.{is_width}
-use Rattle.namespace_id.proofs.WidthLemmas.{is_width-le}
-use Rattle.namespace_id.proofs.AllCellsLemmas.{width-ge}
+use Rattle.namespace_id.proofs.WidthLemmas.{is_width-le, is_width-pos}
 use Rattle.blob_commit.specs.Cuts.{cut_by, levels_of}
 use Rattle.blob_commit.specs.Proofs.{RowParts, CommitParts, part_of_row, row_sizes, fits_rows, is_range, has_commit_shape}
 use Rattle.blob_commit.proofs.CommitOwnLemmas.{min_cases, row-lt, next_row, range_parts}
@@ -75,7 +74,7 @@ pub shape_rows : (proof : CommitParts) → has_commit_shape proof ≡ true → l
 shape_rows proof h =
     let parts = shape_parts proof h in
     let range = range_parts proof.k proof.start proof.count parts.1 in
-    let rows = rows-le proof.k (levels_of proof.count) proof.start proof.count proof.rows (width-ge proof.k parts.0) parts.2 range.1 in
+    let rows = rows-le proof.k (levels_of proof.count) proof.start proof.count proof.rows (is_width-pos proof.k parts.0) parts.2 range.1 in
     omega (arith, rows, is_width-le proof.k parts.0)
 
 -- with at most 128 subtrees each

@@ -8,7 +8,8 @@ ghost use Rattle.blob_commit.specs.Commitments.{subtree_root, commitment_over};
 
 use crate::buffers::Hashes;
 use crate::cutting::{cut_by, levels_of};
-use crate::hashing::{leaf_hash, root_over};
+use crate::hashing::root_over;
+use data_header::leaf_hash;
 use namespace_id::{Digest, NAMESPACE_SIZE, Namespace, Share};
 use nmt_tree::plain_root;
 use share_split::{Blob, blob_laws, blob_share_count, blob_shares};

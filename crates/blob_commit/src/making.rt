@@ -4,8 +4,7 @@ ghost use Rattle.std.specs.Prelude.{◌≡◌, ◌↔◌, ◌+◌, ◌-◌, ◌*
 ghost use Rattle.std.specs.Option.{ForSome};
 ghost use Rattle.namespace_id.specs.declared.cells.Axis.TheVariants.{Row};
 ghost use Rattle.namespace_id.specs.Cells.{is_width};
-ghost use Rattle.nmt_tree.specs.Roots.{is_leaf_count, halvings};
-ghost use Rattle.nmt_tree.specs.Levels.{span};
+ghost use Rattle.nmt_tree.specs.Roots.{halvings};
 ghost use Rattle.nmt_proofs.specs.Openings.{intervals_from, Opens};
 ghost use Rattle.nmt_proofs.specs.Places.{AreAligned};
 ghost use Rattle.nmt_proofs.specs.Making.{interval_digests};
@@ -48,17 +47,6 @@ impl From<NoMemory> for ProveError {
     }
 }
 
-/// The digest over the `size` leaves from place `from` on, of a tree that isn't empty.
-fn digest_in(tree: &Tree, from: u16, size: u16) -> Digest
-    requires filled { IsSome tree.now.leaves }
-    requires size { IsTrue (is_leaf_count size) }
-    requires aligned { from % size ≡ 0 }
-    requires within { from + size ≤ tree.now.count }
-    ensures { ForSome tree.now.leaves (λ leaves. result ≡ span leaves from (halvings size)) }
-{
-    tree.digest(from, size).unwrap()
-}
-
 /// Adds the digests of neighboring subtrees of a tree, from a place on.
 fn put_subtrees(
     tree: &Tree,
@@ -75,7 +63,7 @@ fn put_subtrees(
     let Some((size, others)) = sizes.split_first() else {
         return Ok(());
     };
-    let Ok(()) = subtrees.push(digest_in(tree, from, *size)) else {
+    let Ok(()) = subtrees.push(tree.full_digest(from, *size)) else {
         return Err(NoMemory);
     };
     put_subtrees(tree, from + *size, others, subtrees)

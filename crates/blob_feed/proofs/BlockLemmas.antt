@@ -8,18 +8,14 @@ use Rattle.std.proofs.lemmas.List.Elements.{filter-append}
 use Rattle.std.proofs.lemmas.Grind.{flat_map-append}
 use Rattle.namespace_id.specs.declared.namespaces.Namespace.{Namespace}
 use Rattle.namespace_id.specs.declared.shares.Share.{Share}
-use Rattle.namespace_id.specs.Names.{IsNamespace}
+use Rattle.namespace_id.specs.Names.{IsNamespace, named_by}
 use Rattle.namespace_id.specs.Shares.{name_in}
 use Rattle.share_split.specs.Blobs.{NamedBytes, blob_shares_of}
 use Rattle.share_split.specs.Joined.{padding, blob, padding_share, piece_shares, piece_blobs, IsBlob, IsPiece, AreBlobs}
 use Rattle.square_layout.specs.Layout.{has_name, share_count_of, start_after, placed}
 use Rattle.square_layout.specs.ShareNames.{AreNamed, BlobSharesAreNamed, PaddingIsNamed}
 use Rattle.square_serve.specs.Shares.{is_named}
-use Rattle.nmt_proofs.proofs.ListLemmas.{each-append}
-
--- a namespace of these bytes
-abbrev named_by : List ℕ → Namespace
-named_by bytes = record { 0 = bytes }
+use Rattle.nmt_proofs.proofs.Parts.ListLemmas.{each-append}
 
 -- ---- shares of one namespace
 

@@ -3,7 +3,7 @@ mod ZipLemmas
 mod ShownLemmas
 mod CountLemmas
 mod HeightLemmas
-mod NameLemmas
+pub mod NameLemmas
 mod FedLemmas
 mod OnceLemmas
 mod StandLemmas

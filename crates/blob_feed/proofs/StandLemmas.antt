@@ -13,7 +13,7 @@ use Rattle.blob_feed.proofs.HeightLemmas.{heights_headed, heights_answered}
 use Rattle.blob_feed.proofs.ZipLemmas.{last_pushed, zip_split, Split}
 use Rattle.blob_feed.proofs.NameLemmas.{same_refl}
 use Rattle.blob_feed.proofs.FedLemmas.{none_fed}
-use Rattle.nmt_proofs.proofs.ListLemmas.{each-append}
+use Rattle.nmt_proofs.proofs.Parts.ListLemmas.{each-append}
 
 -- the header of the last height
 header_pushed : (heights : List Height) (last : Height) → last_header (heights ++ last ∷ []) ≡ Some last.header

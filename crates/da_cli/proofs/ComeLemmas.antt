@@ -51,16 +51,18 @@ module _ {I : Type 0} (i : inputs.Ghosts I) (names : List (List ℕ)) where
   pub come_file : (n : ℕ) (before mid now : I) (contents : List (List ℕ)) (name bytes : List ℕ) → HasCome i names n before mid (Ok contents)
       → drop n names ≡ name ∷ drop (n + 1) names → IsRead i n name mid now (Ok bytes) → HasCome i names (n + 1) before now (Ok (contents ++ bytes ∷ []))
   come_file n before mid now contents name bytes come here read =
-      let content : ReadsFile (i.files before) name (Ok bytes) = subst (λ (told : Option Files). ReadsFile told name (Ok bytes)) come.files read.content in
+      let content : ReadsFile (i.files before) name (Ok bytes) = subst (λ (told : Option Files). ReadsFile told name (Ok bytes)) come.gathered.files read.content in
       record {
-        contents = come_on (i.files before) names n contents name bytes come.contents here content;
-        stop = tt;
-        faults = read.faults ∙ come.faults;
-        within = λ some. read.within;
-        last = last_on names n name (i.picked now) (i.ended now) here read.picked read.fine;
-        picks = omega (arith, read.picks, come.picks);
-        idle = λ none. absurd (omega arith);
-        files = read.files ∙ come.files;
+        gathered = record {
+          contents = come_on (i.files before) names n contents name bytes come.gathered.contents here content;
+          stop = tt;
+          faults = read.faults ∙ come.gathered.faults;
+          within = λ some. read.within;
+          last = last_on names n name (i.picked now) (i.ended now) here read.picked read.fine;
+          picks = omega (arith, read.picks, come.gathered.picks);
+          idle = λ none. absurd (omega arith);
+          files = read.files ∙ come.gathered.files;
+        };
         all = all_read_on (i.files before) names n name bytes come.all here content;
       }
 
@@ -68,43 +70,49 @@ module _ {I : Type 0} (i : inputs.Ghosts I) (names : List (List ℕ)) where
   pub stop_file : (n count : ℕ) (before mid now : I) (contents : List (List ℕ)) (name : List ℕ) (why : Stop) → n < count → HasCome i names n before mid (Ok contents)
       → drop n names ≡ name ∷ drop (n + 1) names → IsRead i n name mid now (Err why) → HasCome i names count before now (Err why)
   stop_file n count before mid now contents name why few come here read =
-      let content : ReadsFile (i.files before) name (Err why) = subst (λ (told : Option Files). ReadsFile told name (Err why)) come.files read.content in
+      let content : ReadsFile (i.files before) name (Err why) = subst (λ (told : Option Files). ReadsFile told name (Err why)) come.gathered.files read.content in
       record {
-        contents = stop_here (i.files before) names n count contents name (i.ended now) (i.given now) why come.contents here content read.stop;
-        stop = stop_in (i.files before) names n name (i.picked now) (i.ended now) (i.given now) why here come.all read.picked read.stop;
-        faults = read.faults ∙ counts_alike (i.faults before) (i.faults mid) why come.faults;
-        within = λ some. within_or (i.given now) (now ≡ before) why read.within;
-        last = tt;
-        picks = stop_picks n (i.picks before) (i.picks now) count (i.ended now) (i.given now) why few read.stop (omega (arith, read.picks, come.picks));
-        idle = λ none. absurd (omega arith);
-        files = read.files ∙ come.files;
+        gathered = record {
+          contents = stop_here (i.files before) names n count contents name (i.ended now) (i.given now) why come.gathered.contents here content read.stop;
+          stop = stop_in (i.files before) names n name (i.picked now) (i.ended now) (i.given now) why here come.all read.picked read.stop;
+          faults = read.faults ∙ counts_alike (i.faults before) (i.faults mid) why come.gathered.faults;
+          within = λ some. within_or (i.given now) (now ≡ before) why read.within;
+          last = tt;
+          picks = stop_picks n (i.picks before) (i.picks now) count (i.ended now) (i.given now) why few read.stop (omega (arith, read.picks, come.gathered.picks));
+          idle = λ none. absurd (omega arith);
+          files = read.files ∙ come.gathered.files;
+        };
         all = tt;
       }
 
   -- at first no file was read
   pub come_none : (before : I) → i.picks before ≤ max_count → HasCome i names 0 before before (Ok [])
   come_none before few = record {
-    contents = gathers_none (i.files before) names;
-    stop = tt;
-    faults = refl;
-    within = λ some. absurd (omega arith);
-    last = λ some. absurd (omega arith);
-    picks = omega (arith, few);
-    idle = λ none. refl;
-    files = refl;
+    gathered = record {
+      contents = gathers_none (i.files before) names;
+      stop = tt;
+      faults = refl;
+      within = λ some. absurd (omega arith);
+      last = λ some. absurd (omega arith);
+      picks = omega (arith, few);
+      idle = λ none. refl;
+      files = refl;
+    };
     all = all_none (i.files before) names;
   }
 
   -- memory ran out after some files were read
   pub come_memory : (n count : ℕ) (before now : I) (contents : List (List ℕ)) → n ≤ count → 0 < count → HasCome i names n before now (Ok contents) → HasCome i names count before now (Err stop.NoMemory)
   come_memory n count before now contents few some come = record {
-    contents = gathers_memory (i.files before) names count;
-    stop = tt;
-    faults = come.faults;
-    within = λ h. ⊎_elim (λ (k : 0 < n). inr (come.within k)) (λ (k : n ≤ 0). inl (come.idle (omega (arith, k)))) (cases_lt 0 n);
-    last = tt;
-    picks = (n, few, come.picks);
-    idle = λ none. absurd (omega (arith, none, some));
-    files = come.files;
+    gathered = record {
+      contents = gathers_memory (i.files before) names count;
+      stop = tt;
+      faults = come.gathered.faults;
+      within = λ h. ⊎_elim (λ (k : 0 < n). inr (come.gathered.within k)) (λ (k : n ≤ 0). inl (come.gathered.idle (omega (arith, k)))) (cases_lt 0 n);
+      last = tt;
+      picks = (n, few, come.gathered.picks);
+      idle = λ none. absurd (omega (arith, none, some));
+      files = come.gathered.files;
+    };
     all = tt;
   }

@@ -1,7 +1,7 @@
 -- The line `ok`, the answer of a repair, the claim of a light node, and the blobs of a namespace, under the header of a
 -- square.
 use Rattle.std.proofs.Common.{◌≡◌, ◌↔◌, ◌⊎◌, ℕ, zero, suc, ◌+◌, ◌-◌, Bool, true, false, cond, List, [], ◌∷◌, length, take, drop, None, Some, Result, Ok, Err, IfSome, refl, subst, slice_index}
-use Rattle.std.specs.Prelude.{nat_lt, codes, slice_get, MatchResult}
+use Rattle.std.specs.Prelude.{nat_lt, codes, MatchResult}
 use Rattle.std.specs.declared.option.Option.{Option}
 use Rattle.std.specs.Option.{option_map, option_map_or}
 use Rattle.std.specs.List.{AllByRecursion, Contains}
@@ -10,6 +10,7 @@ use Rattle.namespace_id.specs.Bytes.{AreBytes}
 use Rattle.share_split.specs.Walks.{blobs_of}
 use Rattle.blob_feed.specs.Feeds.{header_at, Read, IsFeedOf, shares_in, FirstNames}
 use Rattle.namespace_id.proofs.StringLemmas.{AreBytes-take, AreBytes-drop}
+use Rattle.namespace_id.proofs.ElementLemmas.{all_at}
 use Rattle.data_header.specs.Headers.{Roots}
 use Rattle.square_layout.specs.Blocks.{SquareShares}
 use Rattle.axis_roots.specs.Grids.{IsHeaderOf}
@@ -25,7 +26,7 @@ use Rattle.da_io.specs.Files.{Files}
 use Rattle.da_commands.specs.declared.check.Finding.{Finding}
 use Rattle.da_commands.specs.declared.check.Finding.TheVariants.{Proved, NoMessage, Refused}
 use Rattle.da_status.specs.declared.status.Status.{Status}
-use Rattle.da_commands.specs.Check.{messages_file, finding_of, line_of, IsOwnFrame}
+use Rattle.da_commands.specs.Check.{finding_of, line_of, IsOwnFrame}
 use Rattle.axis_roots.specs.Claims.{ClaimParts}
 use Rattle.da_commands.specs.Compact.{claim_file, claim_in, CompactsJudged, CompactsOwn}
 use Rattle.da_commands.specs.Repair.{Repairs, RepairsOwn}
@@ -34,7 +35,8 @@ use Rattle.da_commands.specs.Namespace.{namespaces_in}
 use Rattle.da_commands.specs.Follow.{wanted_file, answers_file, items_in, Feed}
 use Rattle.da_commands.specs.Verify.{answer_file, answer_kinds, answer_in, IsRefusal, verdict_line, IsOwnReply}
 use Rattle.da_commands.specs.VerifyFor.{is_answer_to, IsRefusalFor}
-use Rattle.da_commands.proofs.VerifyForLemmas.{asked_holds}
+use Rattle.da_commands.specs.Contents.{messages_file}
+use Rattle.da_commands.proofs.Answering.VerifyForLemmas.{asked_holds}
 use Rattle.da_cli.specs.Own.{AreOwn}
 
 -- ---- frames of a byte string have bytes
@@ -73,12 +75,6 @@ unfolding walk_from
 frames_fit [] fits skip = tt
 frames_fit (byte ∷ rest) fits zero = frames_on (raw_in (byte ∷ rest)) rest (front_bytes (byte ∷ rest) fits) (frames_fit rest (λ j. fits (suc j)))
 frames_fit (byte ∷ rest) fits (suc skip) = frames_fit rest (λ j. fits (suc j)) skip
-
--- what holds of all entries holds of each
-all_at : {X : Type 0} (P : X → Type 0) (xs : List X) (i : ℕ) (x : X) → AllByRecursion P xs → slice_get xs i ≡ Some x → P x
-all_at P [] i x all e = absurd cc
-all_at P (y ∷ xs) zero x all e = let same : y ≡ x = cc in subst P same all.0
-all_at P (y ∷ xs) (suc i) x all e = all_at P xs i x all.1 e
 
 -- ---- the line `ok`
 

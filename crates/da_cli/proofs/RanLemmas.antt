@@ -1,5 +1,5 @@
 -- How a run ended, from how its files were read and how its command ended.
-use Rattle.std.proofs.Common.{◌≡◌, ◌∙◌, ℕ, zero, suc, ◌+◌, ◌-◌, ◌<◌, ◌≤◌, List, String, Global, length, take, drop, None, Some, Result, Ok, Err, IfOk, IfErr, refl, sym, ap, subst, arith, inl, inr, ◌⊎◌}
+use Rattle.std.proofs.Common.{◌≡◌, ◌∙◌, ℕ, zero, suc, ◌+◌, ◌-◌, ◌<◌, ◌≤◌, List, String, Global, length, take, drop, None, Some, Ok, Err, refl, sym, ap, subst, arith, inl, inr, ◌⊎◌}
 use Rattle.std.specs.declared.option.Option.{Option}
 use Rattle.da_io.specs.Faults.{count_on}
 use Rattle.da_io.specs.Files.{Files}
@@ -14,25 +14,15 @@ use Rattle.da_cli.specs.declared.words.Call.{Call}
 use Rattle.da_cli.specs.Limits.{file_limit}
 use Rattle.da_cli.specs.Words.{words_of, call_of, names_of}
 use Rattle.da_status.specs.Statuses.{kind_of, Reading, unread, failed, exceeded, begun, finished, row_of, counted_reading, input_count, output_count}
-use Rattle.da_cli.specs.Gathered.{Gathers, IsWord, IsLastOf, PicksIn, StopsIn, WithinLimit, count_after}
+use Rattle.da_cli.specs.Gathered.{IsWord, IsLastOf, PicksIn, StopsIn, WithinLimit, count_after}
 use Rattle.da_cli.specs.Causes.{FaultCause, GivenReading, ExcessCause, IfFinished, LastBy, PicksReading, PickCount}
 use Rattle.da_status.specs.Outcome.{Untouched, IsOwn, IsOwnBy, Ends}
 use Rattle.da_commands.specs.Meaning.{Meaning}
 use Rattle.da_cli.specs.Run.{status_of}
 use Rattle.da_cli.specs.Ran.{Ran}
+use Rattle.da_cli.specs.Streamed.{HasGathered}
 use Rattle.da_cli.proofs.GatheredLemmas.{all_gathered}
 use Rattle.da_cli.proofs.RunLemmas.{command_told, stopped_told, names_same, files_count}
-
--- how reading the files of the first names ended
-pub record HasGathered {I : Type 0} (i : inputs.Ghosts I) (names : List (List ℕ)) (count : ℕ) (before now : I) (result : Result (List (List ℕ)) Stop) : Type 0 where
-  pub contents : Gathers (i.files before) names count result
-  pub stop : IfErr result (StopsIn (i.files before) names (i.picked now) (i.ended now) (i.given now))
-  pub faults : i.faults now ≡ count_after (i.faults before) result
-  pub within : 0 < count → WithinLimit (i.given now) (now ≡ before) result
-  pub last : IfOk result (λ (contents : List (List ℕ)). IsLastOf names count (i.picked now) (i.ended now))
-  pub picks : PicksIn (i.picks before) (i.picks now) count result
-  pub idle : count ≡ 0 → now ≡ before
-  pub files : i.files now ≡ i.files before
 
 -- ---- a command's own status, which comes after all files were read
 

@@ -20,7 +20,7 @@ use Rattle.da_commands.specs.Repair.{Repairs}
 use Rattle.da_cli.specs.StreamedRepair.{RepairsFile, StreamsSecond, Streams}
 use Rattle.da_commands.specs.Meaning.{Meaning}
 use Rattle.da_status.proofs.EndLemmas.{once_as, once_refused}
-use Rattle.da_commands.proofs.RepairLemmas.{repair_is, repair_refuses, repair_header}
+use Rattle.da_commands.proofs.Answering.RepairLemmas.{repair_is, repair_refuses, repair_header}
 use Rattle.da_cli.proofs.ComeLemmas.{come_none, come_file, stop_file, come_memory}
 
 -- the meaning of two files: what repair comes to, or which of them isn't in its form

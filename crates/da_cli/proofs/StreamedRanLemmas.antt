@@ -12,9 +12,9 @@ use Rattle.da_status.specs.Outcome.{Ends}
 use Rattle.da_commands.specs.Meaning.{Meaning}
 use Rattle.da_cli.specs.Run.{status_of, IsEarly}
 use Rattle.da_cli.specs.Ran.{Ran}
-use Rattle.da_cli.specs.Streamed.{HasCome}
+use Rattle.da_cli.specs.Streamed.{HasGathered, HasCome}
 use Rattle.da_cli.specs.StreamedRepair.{Streams}
-use Rattle.da_cli.proofs.RanLemmas.{HasGathered, ran_over, ran_up_to}
+use Rattle.da_cli.proofs.RanLemmas.{ran_over, ran_up_to}
 
 -- the status of files that were read, or that of why they were not
 abbrev pub status_in : Result Status Stop → Status
@@ -22,24 +22,11 @@ status_in (Ok status) = status
 status_in (Err why) = status_of why
 
 module _ {I O : Type 0} (i : inputs.Ghosts I) (o : sink.Ghosts O) where
-  -- files that came were gathered
-  has_gathered : (names : List (List ℕ)) (count : ℕ) (before now : I) (r : Result (List (List ℕ)) Stop) → HasCome i names count before now r → HasGathered i names count before now r
-  has_gathered names count before now r come = record {
-    contents = come.contents;
-    stop = come.stop;
-    faults = come.faults;
-    within = come.within;
-    last = come.last;
-    picks = come.picks;
-    idle = come.idle;
-    files = come.files;
-  }
-
   -- the files of the words behind a command's own, of which there are two
   gathered_two : (words : List (String Global)) (n : ℕ) (before now : I) (r : Result (List (List ℕ)) Stop) → n ≡ 2 → HasCome i (words_of (take 2 (drop 1 words))) 2 before now r
       → HasGathered i (words_of (take (1 + n - 1) (drop 1 words))) n before now r
   gathered_two words n before now r two come =
-      subst (λ (k : ℕ). HasGathered i (words_of (take (1 + k - 1) (drop 1 words))) k before now r) (sym two) (has_gathered (words_of (take 2 (drop 1 words))) 2 before now r come)
+      subst (λ (k : ℕ). HasGathered i (words_of (take (1 + k - 1) (drop 1 words))) k before now r) (sym two) come.gathered
 
   -- repair ended so
   pub ran_streamed : (words : List (String Global)) (call : Call) (before now : I) (old new : O) (r : Result Status Stop)

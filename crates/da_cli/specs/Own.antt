@@ -16,7 +16,7 @@ use Rattle.da_io.specs.Files.{Files}
 use Rattle.da_cli.specs.Words.{is_command, names_of}
 use Rattle.da_cli.specs.Gathered.{gathered, whole}
 use Rattle.da_commands.specs.Frames.{header_in}
-use Rattle.da_commands.specs.Check.{header_file, messages_file, finding_of, line_of, IsOwnFrame}
+use Rattle.da_commands.specs.Check.{finding_of, line_of, IsOwnFrame}
 use Rattle.da_status.specs.declared.status.Status.{Status}
 use Rattle.axis_roots.specs.Claims.{ClaimParts}
 use Rattle.da_commands.specs.Compact.{claim_file, claim_in, CompactOf, CompactsOwn}
@@ -26,6 +26,7 @@ use Rattle.da_commands.specs.Namespace.{namespaces_in}
 use Rattle.da_commands.specs.Follow.{wanted_file, answers_file, items_in, Feed}
 use Rattle.da_commands.specs.Verify.{answer_file, answer_in, IsRefusal, verdict_line, IsOwnReply}
 use Rattle.da_commands.specs.VerifyFor.{request_file, request_in, is_answer_to, IsAnswerTo, IsRefusalFor}
+use Rattle.da_commands.specs.Contents.{header_file, messages_file}
 
 -- over the files of `check`, where the header in HEADER is that of a square: a frame of MESSAGES whose line is `ok` is a sample that shows the square's own share, or they name a collision
 abbrev pub AreOwnLines : Files → List (List ℕ) → Type 0

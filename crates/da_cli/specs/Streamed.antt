@@ -37,7 +37,7 @@ FeedsFile i number name before now header Grows (Ok (Err at)) =
 FeedsFile i number name before now header Grows (Err stop) = IsRead i number name before now (Err stop)
 
 -- how reading the files of the first names ended
-pub record HasCome {I : Type 0} (i : inputs.Ghosts I) (names : List (List ℕ)) (count : ℕ) (before now : I) (result : Result (List (List ℕ)) Stop) : Type 0 where
+pub record HasGathered {I : Type 0} (i : inputs.Ghosts I) (names : List (List ℕ)) (count : ℕ) (before now : I) (result : Result (List (List ℕ)) Stop) : Type 0 where
   pub contents : Gathers (i.files before) names count result
   pub stop : IfErr result (StopsIn (i.files before) names (i.picked now) (i.ended now) (i.given now))
   pub faults : i.faults now ≡ count_after (i.faults before) result
@@ -46,4 +46,8 @@ pub record HasCome {I : Type 0} (i : inputs.Ghosts I) (names : List (List ℕ)) 
   pub picks : PicksIn (i.picks before) (i.picks now) count result
   pub idle : count ≡ 0 → now ≡ before
   pub files : i.files now ≡ i.files before
+
+-- and where it didn't stop, each of them was read
+pub record HasCome {I : Type 0} (i : inputs.Ghosts I) (names : List (List ℕ)) (count : ℕ) (before now : I) (result : Result (List (List ℕ)) Stop) : Type 0 where
+  pub gathered : HasGathered i names count before now result
   pub all : IfOk result (λ (contents : List (List ℕ)). AllRead (i.files before) names count)

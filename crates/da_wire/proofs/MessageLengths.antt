@@ -1,4 +1,4 @@
--- How long the payload of a sample is at most.
+-- How long the payload of a sample is at most, and what spells digests.
 use Rattle.std.proofs.Common.{◌≡◌, ℕ, ◌<◌, ◌≤◌, List, length, Option, None, Some, arith, refl, ap}
 use Rattle.namespace_id.specs.Bytes.{AreBytes}
 use Rattle.axis_roots.specs.declared.message.messages.Message.{Message}
@@ -6,6 +6,7 @@ use Rattle.axis_roots.specs.Messages.{IsMessage}
 use Rattle.da_wire.specs.kinds.Message.{message_payload, message_at}
 use Rattle.da_wire.proofs.kinds.PayloadSizes.{length-message}
 use Rattle.da_wire.proofs.kinds.MessageForm.{message_takes}
+pub use Rattle.da_wire.proofs.codec.Digests.{length-digest_bytes}
 
 -- a sample of eight nodes has the longest payload
 pub length-message_payload : (m : Message) → IsMessage m → length (message_payload m) ≤ 1238

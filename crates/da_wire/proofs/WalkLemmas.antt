@@ -1,6 +1,7 @@
 -- Walking over bytes: a value at the front, none at the front, and no bytes left.
 use Rattle.std.proofs.Common.{◌≡◌, ◌∙◌, ℕ, zero, suc, ◌+◌, ◌-◌, ◌<◌, ◌≤◌, List, [], ◌∷◌, length, drop, Option, Some, None, refl, ap, ap₂, arith}
 use Rattle.std.specs.Option.{option_map_or}
+use Rattle.namespace_id.proofs.StringLemmas.{drop_one}
 use Rattle.da_wire.specs.Walks.{walk_from, stop_from}
 
 -- the bytes of a value before are passed over
@@ -18,12 +19,6 @@ stop_skip one (suc n) at [] = refl
 stop_skip one (suc n) at (b ∷ bytes) =
     let e : suc at + n ≡ at + suc n = omega arith in
     stop_skip one n (suc at) bytes ∙ ap (λ (k : ℕ). stop_from one 0 k (drop n bytes)) e
-
--- leaving out one byte and then n - 1 leaves out n
-drop_one : (n : ℕ) (bytes : List ℕ) → 0 < n → 0 < length bytes → drop (n - 1) (drop 1 bytes) ≡ drop n bytes
-drop_one zero bytes h k = absurd (omega arith)
-drop_one (suc n) [] h k = absurd (omega arith)
-drop_one (suc n) (b ∷ bytes) h k = let e : suc n - 1 ≡ n = omega arith in ap (λ (m : ℕ). drop m bytes) e
 
 -- what stands at the front decides where the first bad place is
 stop_front : {A : Type 0} (one : List ℕ → Option (A × ℕ)) (at : ℕ) (bytes : List ℕ) (o : Option (A × ℕ)) → 0 < length bytes → one bytes ≡ o

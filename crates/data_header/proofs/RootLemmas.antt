@@ -163,4 +163,4 @@ pub path_of-room : (digests : List Digest) (place : ℕ) (path : List (List ℕ)
 path_of-room digests place path count value =
     let hashes : length path ≡ halvings (length digests) =
     ap length (value _ (sym (power_halvings (length digests) count))) ∙ length-path_of _ digests place in
-    omega (arith, hashes, halvings-le (length digests) count)
+    omega (arith, hashes, halvings-le (length digests))

@@ -16,7 +16,7 @@ use sha2::{Digest as _, Sha256};
 ///
 /// RFC 6962, 2.1.
 #[tactic(auto, unfolding(crate::specs::DataRoots::leaf_hash))]
-pub(crate) fn leaf_hash(digest: &Digest) -> [u8; 32]
+pub fn leaf_hash(digest: &Digest) -> [u8; 32]
     ensures { result ≡ leaf_hash digest.now }
 {
     let mut hasher = Sha256::new();
@@ -29,7 +29,7 @@ pub(crate) fn leaf_hash(digest: &Digest) -> [u8; 32]
 ///
 /// RFC 6962, 2.1.
 #[tactic(auto, unfolding(crate::specs::DataRoots::inner_hash))]
-pub(crate) fn inner_hash(left: &[u8; 32], right: &[u8; 32]) -> [u8; 32]
+pub fn inner_hash(left: &[u8; 32], right: &[u8; 32]) -> [u8; 32]
     ensures { result ≡ inner_hash left.now right.now }
 {
     let mut hasher = Sha256::new();

@@ -4,7 +4,8 @@ ghost use Rattle.std.specs.Prelude.{◌≡◌, ◌≢◌, ◌*◌, ◌<◌, ◌�
 ghost use Rattle.namespace_id.specs.Cells.{is_width};
 ghost use Rattle.data_header.specs.Headers.{root_of};
 
-use namespace_id::{Axis, Digest, is_width};
+use namespace_id::{Axis, Digest, NoMemory, is_width};
+use std::alloc::Global;
 use std::marker::Model;
 use thiserror::Error;
 
@@ -69,6 +70,19 @@ impl Header {
             return Err(HeaderError::Count);
         }
         Ok(Header { k, rows, cols })
+    }
+
+    /// A copy. The one refusal is that it is out of memory.
+    pub fn copy(&self, alloc: Global) -> Result<Header, NoMemory>
+        ensures { IfOk result (λ copy. copy ≡ self.now) }
+    {
+        let rows = Vec::from_slice(alloc, &self.rows)?;
+        let cols = Vec::from_slice(alloc, &self.cols)?;
+        Ok(Header {
+            k: self.k,
+            rows,
+            cols,
+        })
     }
 
     /// The root of an axis, the row or column of this index, below 2k.

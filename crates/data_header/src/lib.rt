@@ -7,6 +7,7 @@ mod headers;
 mod paths;
 mod proving;
 
+pub use hashing::{inner_hash, leaf_hash};
 pub use headers::{Header, HeaderError};
 pub use paths::RootPath;
 pub use proving::{data_root, make_root_proof, open_root};

@@ -1,10 +1,10 @@
 -- The laws of the product of labels, at all numbers: a number counts as the label of its lowest 8 bits.
 use Rattle.std.proofs.Common.{◌≡◌, ℕ, zero, suc, true, ◌+◌, ◌-◌, ◌*◌, ◌/◌, ◌%◌, ◌==◌, ◌<◌, zero-add, refl, sym, ap, ap₂, ◌∙◌, get_or, arith}
 use Rattle.std.specs.Prelude.{bit_xor}
-use Rattle.std.proofs.lemmas.Bool.{eqb-true}
+use Rattle.std.proofs.lemmas.Bool.{eqb-true, agree_below, agree_below_at}
 use Rattle.gf_cantor.specs.declared.tables.TheConstants.{LOG}
 use Rattle.gf_cantor.specs.Field.{combine, basis, element, power_labels, label, times_x, shift, power, times_low, times, product}
-use Rattle.gf_cantor.proofs.Computed.{passes_below, passes_below-at, one-times, zero-times, element-label, label-element, log_lt}
+use Rattle.gf_cantor.proofs.Computed.{one-times, zero-times, element-label, label-element, log_lt}
 use Rattle.gf_cantor.proofs.Additive.{times_low-xor, element-xor, label-xor, element-lt, label-lt}
 use Rattle.gf_cantor.proofs.Powers.{power-lt, shift-add, power-times-power, element_log}
 use Rattle.gf_cantor.proofs.Times.{times-lt, element_zero, label_zero, element_one, label_one, times_comm, times_assoc}
@@ -132,10 +132,10 @@ one_inverse a b c hb hc eb ec =
     sym (inverse_takes_back a b c hb ec) ∙ ap (product c) (eb ∙ sym ec) ∙ inverse_takes_back a c c hc ec
 
 -- the square of each label, added to it, is the label at half
-square_test : passes_below 256 (λ a. bit_xor (product a a) a == a / 2) ≡ true
-unfolding passes_below combine basis element power_labels label times_x times_low times product
+square_test : agree_below (λ a. bit_xor (product a a) a == a / 2) (λ x. true) 256 ≡ true
+unfolding combine basis element power_labels label times_x times_low times product
 square_test = refl
 
 -- the square of a label, added to it, is the label at half: the basis is a Cantor basis
 pub square_halves : (a : ℕ) → a < 256 → bit_xor (product a a) a ≡ a / 2
-square_halves a h = eqb-true _ _ (passes_below-at 256 (λ a. bit_xor (product a a) a == a / 2) square_test a h)
+square_halves a h = eqb-true _ _ (agree_below_at (λ a. bit_xor (product a a) a == a / 2) (λ x. true) 256 a square_test h)

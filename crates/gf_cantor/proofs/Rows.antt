@@ -2,9 +2,8 @@
 use Rattle.std.proofs.Common.{◌≡◌, ℕ, ◌*◌, ◌/◌, ◌%◌, ◌<◌, Bool, true, false, cond, eqb, List, [], ◌∷◌, map, get_or, refl, sym, ap, ap₂, ◌∙◌, arith}
 use Rattle.std.specs.Int.Bits.{xor_assoc, xor_zero_r}
 use Rattle.std.specs.Prelude.{bit_xor, ◌==◌}
-use Rattle.std.proofs.lemmas.Bool.{eqb-true}
+use Rattle.std.proofs.lemmas.Bool.{eqb-true, agree_below, agree_below_at}
 use Rattle.gf_cantor.specs.Field.{combine, product}
-use Rattle.gf_cantor.proofs.Computed.{passes_below, passes_below-at}
 use Rattle.gf_cantor.proofs.Laws.{product-xor, product-zero}
 
 -- what a bit picks of a product is the product with what it picks
@@ -21,18 +20,17 @@ product-combine by (b ∷ bs) n =
     ∙ ap₂ bit_xor (product-pick by (eqb (n % 2) 1) b) (product-combine by bs (n / 2))
 
 -- each number below 16 is the sum of 1, 2, 4 and 8 at its set bits
-low_test : passes_below 16 (λ n. combine (1 ∷ 2 ∷ 4 ∷ 8 ∷ []) n == n) ≡ true
-unfolding passes_below combine
+low_test : agree_below (λ n. combine (1 ∷ 2 ∷ 4 ∷ 8 ∷ []) n == n) (λ x. true) 16 ≡ true
+unfolding combine
 low_test = refl
 
 -- 16 times each number below 16 is the sum of 16, 32, 64 and 128 at its set bits
-high_test : passes_below 16 (λ n. combine (16 ∷ 32 ∷ 64 ∷ 128 ∷ []) n == 16 * n) ≡ true
-unfolding passes_below combine
+high_test : agree_below (λ n. combine (16 ∷ 32 ∷ 64 ∷ 128 ∷ []) n == 16 * n) (λ x. true) 16 ≡ true
+unfolding combine
 high_test = refl
 
 -- each byte is the sum of its low four bits and its high four bits
-byte_test : passes_below 256 (λ y. bit_xor (y % 16) (16 * (y / 16)) == y) ≡ true
-unfolding passes_below
+byte_test : agree_below (λ y. bit_xor (y % 16) (16 * (y / 16)) == y) (λ x. true) 256 ≡ true
 byte_test = refl
 
 -- the sums of the products with 1, 2, 4 and 8 are the products with the numbers below 16
@@ -41,7 +39,7 @@ pub low_sum-product : (by a b c d n : ℕ) → n < 16 → a ≡ product by 1 →
 low_sum-product by a b c d n h ea eb ec ed =
     (λ i. combine (ea i ∷ eb i ∷ ec i ∷ ed i ∷ []) n)
     ∙ sym (product-combine by (1 ∷ 2 ∷ 4 ∷ 8 ∷ []) n)
-    ∙ ap (product by) (eqb-true _ _ (passes_below-at 16 (λ n. combine (1 ∷ 2 ∷ 4 ∷ 8 ∷ []) n == n) low_test n h))
+    ∙ ap (product by) (eqb-true _ _ (agree_below_at (λ n. combine (1 ∷ 2 ∷ 4 ∷ 8 ∷ []) n == n) (λ x. true) 16 n low_test h))
 
 -- the sums of the products with 16, 32, 64 and 128 are the products with 16 times those numbers
 pub high_sum-product : (by a b c d n : ℕ) → n < 16 → a ≡ product by 16 → b ≡ product by 32 → c ≡ product by 64 → d ≡ product by 128
@@ -49,13 +47,13 @@ pub high_sum-product : (by a b c d n : ℕ) → n < 16 → a ≡ product by 16 �
 high_sum-product by a b c d n h ea eb ec ed =
     (λ i. combine (ea i ∷ eb i ∷ ec i ∷ ed i ∷ []) n)
     ∙ sym (product-combine by (16 ∷ 32 ∷ 64 ∷ 128 ∷ []) n)
-    ∙ ap (product by) (eqb-true _ _ (passes_below-at 16 (λ n. combine (16 ∷ 32 ∷ 64 ∷ 128 ∷ []) n == 16 * n) high_test n h))
+    ∙ ap (product by) (eqb-true _ _ (agree_below_at (λ n. combine (16 ∷ 32 ∷ 64 ∷ 128 ∷ []) n == 16 * n) (λ x. true) 16 n high_test h))
 
 -- the sum of the products with both halves of a byte is the product with the byte
 halves-product : (by y : ℕ) → y < 256 → bit_xor (product by (y % 16)) (product by (16 * (y / 16))) ≡ product by y
 halves-product by y h =
     sym (product-xor by (y % 16) (16 * (y / 16)))
-    ∙ ap (product by) (eqb-true _ _ (passes_below-at 256 (λ y. bit_xor (y % 16) (16 * (y / 16)) == y) byte_test y h))
+    ∙ ap (product by) (eqb-true _ _ (agree_below_at (λ y. bit_xor (y % 16) (16 * (y / 16)) == y) (λ x. true) 256 y byte_test h))
 
 -- the sum of the entries at both halves of a byte is the product with the byte
 pub entries-product : (by y : ℕ) (low high : List ℕ) → y < 256

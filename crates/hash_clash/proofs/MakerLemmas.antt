@@ -17,10 +17,10 @@ use Rattle.namespace_id.specs.Names.{AreNamespaces}
 use Rattle.nmt_proofs.specs.Parts.{digest_of}
 use Rattle.nmt_proofs.specs.Openings.{one_leaf, opened}
 use Rattle.nmt_proofs.specs.Clashes.{IsClash, clash_at, whole, AreLeaves, IsOpening}
-use Rattle.nmt_proofs.proofs.ListedLemmas.{leaf_law, lists_law}
-use Rattle.nmt_proofs.proofs.AgreeLemmas.{found_is_clash}
-use Rattle.nmt_proofs.proofs.ShownLemmas.{opening-sized}
-use Rattle.nmt_proofs.proofs.TwinLemmas.{length-nodes, twins_law}
+use Rattle.nmt_proofs.proofs.Agreement.ListedLemmas.{leaf_law, lists_law}
+use Rattle.nmt_proofs.proofs.Agreement.AgreeLemmas.{found_is_clash}
+use Rattle.nmt_proofs.proofs.Parts.ShownLemmas.{opening-sized}
+use Rattle.nmt_proofs.proofs.Agreement.TwinLemmas.{length-nodes, twins_law}
 use Rattle.hash_clash.specs.declared.openings.Opening.{Opening}
 use Rattle.hash_clash.specs.Openings.{HasShape, opened_at, is_counted, is_one_name, is_one_share, is_one_digest, is_one_opening, is_leaf_at, is_one_list}
 

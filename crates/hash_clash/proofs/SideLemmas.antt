@@ -10,7 +10,7 @@ use Rattle.nmt_proofs.specs.Parts.{given, leaf, join}
 use Rattle.namespace_id.specs.Digests.{no_digest}
 use Rattle.nmt_proofs.specs.Openings.{opened, one_leaf}
 use Rattle.nmt_proofs.specs.Clashes.{whole}
-use Rattle.nmt_proofs.proofs.SingleLemmas.{opened_left, opened_right}
+use Rattle.nmt_proofs.proofs.Parts.SingleLemmas.{opened_left, opened_right}
 use Rattle.hash_clash.specs.declared.openings.Opening.{Opening}
 use Rattle.hash_clash.specs.declared.sides.Side.{Side}
 use Rattle.hash_clash.specs.declared.sides.Side.TheVariants.{Given, Opened, Listed}

@@ -64,7 +64,7 @@ pub derived : (old new : List Share) → IsTrue (is_count (length old)) → leng
 derived old new h e made =
     let d : ℕ = halvings (length old) in
     let power : 2 ^ halvings (length old) ≡ length old = power_halvings (length old) h in
-    let few : halvings (length old) ≤ 8 = halvings-le (length old) h in
+    let few : halvings (length old) ≤ 8 = halvings-le (length old) in
     let all : halvings (length old) + (8 - halvings (length old)) ≡ 8 = omega arith in
     record {
       count = e;
@@ -81,7 +81,7 @@ pub is_slopes : (old new : List Share) (b : ℕ) → IsTrue (is_count (length ol
 is_slopes old new b h given hb =
     let d : ℕ = halvings (length old) in
     let power : 2 ^ halvings (length old) ≡ length old = power_halvings (length old) h in
-    let few : halvings (length old) ≤ 8 = halvings-le (length old) h in
+    let few : halvings (length old) ≤ 8 = halvings-le (length old) in
     let all : halvings (length old) + (8 - halvings (length old)) ≡ 8 = omega arith in
     let as_many : length (column b old) ≡ 2 ^ halvings (length old) = length-column b old ∙ sym power in
     same_number_lists (column b new) (slopes d (column b old))

@@ -85,7 +85,7 @@ pub formal_derivative : (old new : List Share) (b : ℕ) → IsTrue (is_count (l
 formal_derivative old new b count shares steps hb =
     let d : ℕ = halvings (length old) in
     let ds : List ℕ = column b old in
-    let few : halvings (length old) ≤ 8 = halvings-le (length old) count in
+    let few : halvings (length old) ≤ 8 = halvings-le (length old) in
     let power : 2 ^ halvings (length old) ≡ length old = power_halvings (length old) count in
     let as_many : length (column b old) ≡ 2 ^ halvings (length old) = length-column b old ∙ sym power in
     let bytes : AreCoefficients (column b old) = column_bytes b old shares in record {
@@ -105,7 +105,7 @@ derivatives old middle derived new count shares values steps found b hb =
     let d : ℕ = halvings (length old) in
     let ds : List ℕ = column b middle in
     let long : length middle ≡ length old = sym values.count in
-    let few : halvings (length old) ≤ 8 = halvings-le (length old) count in
+    let few : halvings (length old) ≤ 8 = halvings-le (length old) in
     let wide : length old ≤ 256 = power-le (length old) count in
     let power : 2 ^ halvings (length old) ≡ length old = power_halvings (length old) count in
     let as_many : length (column b middle) ≡ 2 ^ halvings (length old) = length-column b middle ∙ long ∙ sym power in

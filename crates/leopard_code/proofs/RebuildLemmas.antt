@@ -8,8 +8,7 @@ use Rattle.gf_cantor.proofs.Laws.{product_comm, product-zero}
 use Rattle.namespace_id.specs.declared.shares.Share.{Share}
 use Rattle.namespace_id.specs.Shares.{AreShares}
 use Rattle.namespace_id.specs.Cells.{is_width}
-use Rattle.namespace_id.proofs.WidthLemmas.{is_width-le}
-use Rattle.namespace_id.proofs.AllCellsLemmas.{width-ge}
+use Rattle.namespace_id.proofs.WidthLemmas.{is_width-le, is_width-pos}
 use Rattle.byte_polynomial.specs.Polynomial.{value_at, AreCoefficients, ArePoints, PassesThrough}
 use Rattle.byte_polynomial.proofs.Sums.{value_at-lt}
 use Rattle.byte_polynomial.proofs.Through.{through}
@@ -124,7 +123,7 @@ module _ (k : ℕ) (known : List ℕ) (shares : List Share) (values : List ℕ) 
       r.located pos h ∙ ap (λ (l : List ℕ). apart_from l pos) s.parts
       ∙ apart_from-middle s.before s.after pos (subst ArePoints s.parts (points_missing (2 * k) 0 known (omega arith))) in
       sym (found.4 pos (omega (arith, h, r.long)))
-      ∙ missing_value moved found.0 s.before s.after pos (2 * k) (omega arith) (omega (arith, same_length, width-ge k r.width)) (omega (arith, found.1, r.long))
+      ∙ missing_value moved found.0 s.before s.after pos (2 * k) (omega arith) (omega (arith, same_length, is_width-pos k r.width)) (omega (arith, found.1, r.long))
       (omega (arith, same_length, ap length s.parts, lost, r.count)) found.2 agree
       ∙ ap (product (value_at moved pos)) (sym apart)
 

@@ -34,7 +34,7 @@ takes-column b k shift ds vs hb count fits long shares given =
     let power : 2 ^ halvings k ≡ k = power_halvings k count in
     let as_many : length (column b ds) ≡ 2 ^ halvings k = length-column b ds ∙ sym given.count ∙ long ∙ sym power in
     takes-values (coefficients (halvings k) (column b ds)) (column b vs) k shift (length-column b vs ∙ long)
-    (λ i l. value_at-coefficients (halvings k) (column b ds) (shift + i) (halvings-le k count) (omega arith) as_many (column_bytes b ds shares)
+    (λ i l. value_at-coefficients (halvings k) (column b ds) (shift + i) (halvings-le k) (omega arith) as_many (column_bytes b ds shares)
     ∙ sym (given.bytes b i hb (omega arith)))
 
 -- originals, and the values at the first points of the polynomials that take them, are a codeword

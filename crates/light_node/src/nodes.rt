@@ -115,19 +115,6 @@ fn width(header: &Header) -> u16
     header.k
 }
 
-/// A copy of a header.
-fn copy_of(alloc: Global, header: &Header) -> Result<Header, NoMemory>
-    ensures { IfOk result (λ copy. copy ≡ header.now) }
-{
-    let rows = Vec::from_slice(alloc, &header.rows)?;
-    let cols = Vec::from_slice(alloc, &header.cols)?;
-    Ok(Header {
-        k: header.k,
-        rows,
-        cols,
-    })
-}
-
 impl<F: Picker> LightNode<F> {
     /// A node that has planned nothing and was handed nothing. It keeps a copy of the header, and
     /// the picker, which may be asked for each number below `limit` and then names a cell of the
@@ -146,7 +133,7 @@ impl<F: Picker> LightNode<F> {
         ensures picker { IfOk result (λ node. node.pick ≡ pick) }
         ensures stands { IfOk result (λ node. StandsFor F.picks node [] []) }
     {
-        let header = copy_of(alloc, header)?;
+        let header = header.copy(alloc)?;
         let k = width(&header);
         let room = VerifyRoom::new(alloc, k)?;
         let in_row = 2 * k as usize;

@@ -4,7 +4,6 @@ use Rattle.std.specs.Prelude.{◌↔◌}
 use Rattle.std.specs.List.{Contains, list_all}
 use Rattle.std.proofs.Math.Nat.{mod-lt}
 use Rattle.std.proofs.lemmas.Bool.{and_from}
-use Rattle.std.proofs.lemmas.Bool.Decides.{nat_tests}
 use Rattle.std.proofs.lemmas.List.{get_or-map, length-map}
 use Rattle.namespace_id.specs.declared.cells.Cell.{Cell}
 use Rattle.namespace_id.specs.Cells.{is_width, is_in_square, is_before, are_cells, cell_numbered, all_cells}
@@ -13,10 +12,7 @@ use Rattle.namespace_id.proofs.AscendingLemmas.{length-ascending, get_or-ascendi
 use Rattle.namespace_id.proofs.NumberLemmas.{inside, in_square, number-lt, row-lt, cell_numbered-number, numbers_rise}
 use Rattle.namespace_id.proofs.RoomLemmas.{all_each}
 use Rattle.namespace_id.proofs.RowMajorLemmas.{cells_parts, cells_from}
-
--- a width is not 0
-pub width-ge : (k : ℕ) → is_width k ≡ true → 0 < k
-width-ge k h = grind (arith, nat_tests)
+use Rattle.namespace_id.proofs.WidthLemmas.{is_width-pos}
 
 -- the cell with a number below that of all cells is in the square
 pub numbered_inside : (k number : ℕ) → 0 < k → number < 2 * k * (2 * k)
@@ -48,7 +44,7 @@ all_rise in_row first (suc (suc n)) =
 -- all cells of a square are cells of it, row-major
 pub are_all_cells : (k : ℕ) → is_width k ≡ true → are_cells k (all_cells k) ≡ true
 are_all_cells k width =
-    cells_from k (all_cells k) width (all_inside k 0 (2 * k * (2 * k)) (width-ge k width) (omega arith))
+    cells_from k (all_cells k) width (all_inside k 0 (2 * k * (2 * k)) (is_width-pos k width) (omega arith))
     (all_rise (2 * k) 0 (2 * k * (2 * k)))
 
 -- what is known of the number of a cell of a square

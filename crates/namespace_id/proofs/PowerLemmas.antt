@@ -32,8 +32,8 @@ pub halvings_one : (n : ℕ) → IsTrue (is_power n) → n / 2 ≡ 0 → halving
 halvings_one n h one = grind (arith, nat_tests)
 
 -- none is halved more than 8 times
-pub halvings-le : (n : ℕ) → IsTrue (is_power n) → halvings n ≤ 8
-halvings-le n h = grind (arith, nat_tests)
+pub halvings-le : (n : ℕ) → halvings n ≤ 8
+halvings-le n = grind (arith, nat_tests)
 
 -- a test of all powers
 powers_test : passes_below 257 (λ n. where_holds (is_power n) (2 ^ halvings n == n)) ≡ true

@@ -1,5 +1,5 @@
 -- The first of several refusals, and what follows where there is none.
-use Rattle.std.proofs.Common.{◌≡◌, Bool, true, false, cond, Option, Some, None, Result, Ok, Err, refl, sym}
+use Rattle.std.proofs.Common.{◌≡◌, Bool, true, false, cond, Option, Some, None, Result, Ok, Err, IfOk, refl, sym}
 use Rattle.std.specs.Option.{option_map_or}
 use Rattle.std.proofs.lemmas.Option.{none-some}
 
@@ -24,3 +24,8 @@ checked (Some why) r x e = absurd cc
 pub if_none : {E : Type 0} (b : Bool) (why : E) (o : Option E) → cond b (Some why) o ≡ None → (b ≡ false) × (o ≡ None)
 if_none true why o e = absurd (none-some _ (sym e))
 if_none false why o e = (refl, e)
+
+-- what an answer says, where it implies more
+pub ok_within : {A E : Type 0} (P Q : A → Type 0) (r : Result A E) → ((x : A) → P x → Q x) → IfOk r P → IfOk r Q
+ok_within P Q (Ok x) weaker p = weaker x p
+ok_within P Q (Err e) weaker p = tt

@@ -1,5 +1,5 @@
 -- Lemmas on byte strings and their parts.
-use Rattle.std.proofs.Common.{◌≡◌, ◌∙◌, ℕ, zero, suc, ◌+◌, ◌<◌, List, [], ◌∷◌, ◌++◌, length, take, drop, replicate, sym, ap, ap₂, inl, inr, arith}
+use Rattle.std.proofs.Common.{◌≡◌, ◌∙◌, ℕ, zero, suc, ◌+◌, ◌-◌, ◌<◌, List, [], ◌∷◌, ◌++◌, length, take, drop, replicate, sym, ap, ap₂, inl, inr, arith}
 use Rattle.std.proofs.Math.Seq.{take-append_seam, drop-append_seam, drop-append-add}
 use Rattle.std.proofs.lemmas.Bool.{cases_lt}
 use Rattle.std.proofs.lemmas.List.{length-take, get_or-drop, get_or-take, get_or_past}
@@ -51,3 +51,9 @@ pub put_next : (before rest part : List ℕ) → take (length before) (before ++
     ≡ before ++ part ++ drop (length part) rest
 put_next before rest part =
     ap₂ (λ (x y : List ℕ). x ++ part ++ y) (take-append_seam before rest) (drop-append-add before rest (length part))
+
+-- leaving out one byte and then n - 1 leaves out n
+pub drop_one : (n : ℕ) (bytes : List ℕ) → 0 < n → 0 < length bytes → drop (n - 1) (drop 1 bytes) ≡ drop n bytes
+drop_one zero bytes h k = absurd (omega arith)
+drop_one (suc n) [] h k = absurd (omega arith)
+drop_one (suc n) (b ∷ bytes) h k = let e : suc n - 1 ≡ n = omega arith in ap (λ (m : ℕ). drop m bytes) e

@@ -8,10 +8,21 @@ use Rattle.std.specs.List.{list_all}
 use Rattle.namespace_id.specs.Names.{parity}
 use Rattle.namespace_id.specs.Shares.{name_in}
 use Rattle.namespace_id.specs.Lists.{holds_along, ascending}
+use Rattle.namespace_id.specs.declared.cells.Axis.{Axis}
+use Rattle.namespace_id.specs.declared.cells.Axis.TheVariants.{Row, Col}
 
 -- whether a square may have this width: a power of two from 1 to 128 (docs/RULES.md, "Widths")
 abbrev pub is_width : ℕ → Bool
 is_width k = (k == 1) || (k == 2) || (k == 4) || (k == 8) || (k == 16) || (k == 32) || (k == 64) || (k == 128)
+
+-- the crossing kind of axis: that of columns for rows, and that of rows for columns
+abbrev pub crossing : Axis → Axis
+crossing Row = Col
+crossing Col = Row
+
+-- the cell of a row and a column
+abbrev pub cell_in : ℕ → ℕ → Cell
+cell_in row col = record { row = row; col = col }
 
 -- whether the extended square of this width has the cell
 abbrev pub is_in_square : ℕ → Cell → Bool

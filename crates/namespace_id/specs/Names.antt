@@ -11,6 +11,10 @@ use Rattle.namespace_id.specs.Sizes.{namespace_size}
 use Rattle.namespace_id.specs.declared.namespaces.NsError.{NsError}
 use Rattle.namespace_id.specs.declared.namespaces.NsError.TheVariants.{Length, Version, Prefix, Reserved}
 
+-- the namespace that bytes are
+abbrev pub named_by : List ℕ → Namespace
+named_by bytes = record { 0 = bytes }
+
 -- a namespace has 29 bytes
 abbrev pub IsNamespace : Namespace → Type 0
 IsNamespace name = IsString namespace_size name.0

@@ -1,10 +1,14 @@
 -- Shares (Celestia specifications, "Shares").
-use Rattle.std.specs.Prelude.{List, take}
+use Rattle.std.specs.Prelude.{ℕ, List, take}
 use Rattle.std.specs.List.{AllByRecursion}
 use Rattle.namespace_id.specs.declared.namespaces.Namespace.{Namespace}
 use Rattle.namespace_id.specs.declared.shares.Share.{Share}
 use Rattle.namespace_id.specs.Bytes.{IsString}
 use Rattle.namespace_id.specs.Sizes.{namespace_size, share_size}
+
+-- the share that bytes are
+abbrev pub share_of : List ℕ → Share
+share_of bytes = record { 0 = bytes }
 
 -- a share has 512 bytes
 abbrev pub IsShare : Share → Type 0

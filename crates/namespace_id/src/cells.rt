@@ -3,7 +3,7 @@
 ghost use Rattle.std.specs.Prelude.{◌≡◌, ◌↔◌, ◌+◌, ◌*◌, ◌<◌, ◌≤◌, ℕ, List, length, true, IsTrue, IsSome, IfSome};
 ghost use Rattle.std.specs.List.{Contains, list_all};
 ghost use Rattle.namespace_id.specs.declared.cells.Cell.{Cell as Place};
-ghost use Rattle.namespace_id.specs.Cells.{is_width, is_in_square, leaf_namespace, is_before, are_cells, cell_numbered, all_cells};
+ghost use Rattle.namespace_id.specs.Cells.{crossing, is_width, is_in_square, leaf_namespace, is_before, are_cells, cell_numbered, all_cells};
 ghost use Rattle.namespace_id.specs.Lists.{holds_along};
 
 use crate::{Namespace, PARITY, Share};
@@ -23,6 +23,18 @@ pub struct Cell {
 pub enum Axis {
     Row,
     Col,
+}
+
+impl Axis {
+    /// The crossing kind: that of the columns for a row, and that of the rows for a column.
+    pub fn crossing(self) -> Axis
+        ensures { result ≡ crossing self }
+    {
+        match self {
+            Axis::Row => Axis::Col,
+            Axis::Col => Axis::Row,
+        }
+    }
 }
 
 /// Whether a square may have this width k: a power of two from 1 to 128.

@@ -14,14 +14,14 @@ use Rattle.nmt_tree.specs.Digests.{is_ordered_join, node_digest, leaf_digest}
 use Rattle.nmt_tree.specs.Roots.{halvings}
 use Rattle.nmt_proofs.specs.Parts.{given, join, ordered_digest}
 use Rattle.nmt_proofs.specs.Openings.{Shown, opened, one_digest, one_leaf, has_count, has_order, has_root}
-use Rattle.nmt_proofs.proofs.SingleLemmas.{opened_left, opened_right, length-outside-one}
-use Rattle.nmt_proofs.proofs.StepLemmas.{twice_half}
+use Rattle.nmt_proofs.proofs.Parts.SingleLemmas.{opened_left, opened_right, length-outside-one}
+use Rattle.nmt_proofs.proofs.Parts.StepLemmas.{twice_half}
 use Rattle.nmt_proofs.specs.declared.partial.Node.{Node}
 use Rattle.nmt_proofs.specs.Partial.{digest_at, AreHalves, RootedTree, rooted_tree}
 use Rattle.nmt_proofs.specs.declared.opening.OpenRefusal.{OpenRefusal}
 use Rattle.nmt_proofs.specs.Causes.{HasCause}
-use Rattle.nmt_proofs.proofs.PublicLemmas.{same_cause}
-use Rattle.nmt_proofs.proofs.ValueLemmas.{some_ordered}
+use Rattle.nmt_proofs.proofs.Parts.PublicLemmas.{same_cause}
+use Rattle.nmt_proofs.proofs.Parts.ValueLemmas.{some_ordered}
 
 -- twice as many times half as much
 product : (i x : ℕ) → (i + 1) * (x * 2) ≡ (2 * i + 1 + 1) * x

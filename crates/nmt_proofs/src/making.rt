@@ -1,12 +1,12 @@
 //! Openings made from a stored tree, by the recursion on intervals that reads them.
 
-ghost use Rattle.std.specs.Prelude.{◌≡◌, ◌↔◌, ◌+◌, ◌%◌, ◌^◌, ◌≤◌, ◌<◌, ℕ, List, length, replicate, get_or, true, IsTrue, IsSome};
+ghost use Rattle.std.specs.Prelude.{◌≡◌, ◌↔◌, ◌+◌, ◌%◌, ◌^◌, ◌≤◌, ◌<◌, ℕ, List, length, replicate, get_or, true, IsSome};
 ghost use Rattle.std.specs.Option.{ForSome};
 ghost use Rattle.namespace_id.specs.declared.namespaces.Namespace.{Namespace};
 ghost use Rattle.namespace_id.specs.declared.shares.Share.{Share};
 ghost use Rattle.namespace_id.specs.declared.digests.Digest.{Digest};
 ghost use Rattle.namespace_id.specs.Digests.{no_digest};
-ghost use Rattle.nmt_tree.specs.Roots.{is_leaf_count, halvings};
+ghost use Rattle.nmt_tree.specs.Roots.{halvings};
 ghost use Rattle.nmt_tree.specs.Levels.{leaf_digests, span, HasOrderedJoins};
 ghost use Rattle.nmt_proofs.specs.Parts.{is_in_order};
 ghost use Rattle.nmt_proofs.specs.Openings.{Shown, outside, Opens, digests_from, leaves_at, intervals_from};
@@ -21,17 +21,6 @@ use crate::{Absent, Nodes, Path};
 use namespace_id::{BLANK_DIGEST, Digest};
 use nmt_tree::{Tree, halvings, leaf_count};
 
-/// The digest over the `size` leaves from place `from` on, of a tree that isn't empty.
-fn digest_in(tree: &Tree, from: u16, size: u16) -> Digest
-    requires filled { IsSome tree.now.leaves }
-    requires size { IsTrue (is_leaf_count size) }
-    requires aligned { from % size ≡ 0 }
-    requires within { from + size ≤ tree.now.count }
-    ensures { ForSome tree.now.leaves (λ leaves. result ≡ span leaves from (halvings size)) }
-{
-    tree.digest(from, size).unwrap()
-}
-
 /// Writes the digests of the intervals that hold no piece, left to right.
 fn put_nodes(tree: &Tree, depth: u8, start: u16, pieces: &[Piece], nodes: &mut [Digest])
     requires filled { IsSome tree.now.leaves }
@@ -44,7 +33,7 @@ fn put_nodes(tree: &Tree, depth: u8, start: u16, pieces: &[Piece], nodes: &mut [
         nodes.new ≡ spans leaves (outside depth start (shown pieces.now))) }
 {
     if pieces.is_empty() {
-        nodes[0] = digest_in(tree, start, leaf_count(depth));
+        nodes[0] = tree.full_digest(start, leaf_count(depth));
         return;
     }
     if is_piece(depth, &pieces[0]) {
@@ -95,7 +84,7 @@ pub fn make_leaf(tree: &Tree, pos: u16) -> Path
     let pieces = [Piece {
         from: pos,
         size: 1,
-        digest: digest_in(tree, pos, 1),
+        digest: tree.full_digest(pos, 1),
     }];
     let depth = halvings(tree.len() as usize);
     let mut nodes = blank_nodes();
@@ -196,7 +185,7 @@ pub fn make_absent(tree: &Tree, pos: u16) -> Absent
         CompletesAbsence tree.now.count leaves pos result.leaf result.nodes) }
 {
     let depth = halvings(tree.len() as usize);
-    let leaf = digest_in(tree, pos, 1);
+    let leaf = tree.full_digest(pos, 1);
     let pieces = [Piece {
         from: pos,
         size: 1,

@@ -4,7 +4,8 @@
 //! without one, each proof would hash all leaves anew, which for the proofs of a whole axis is 2k
 //! times as much.
 
-ghost use Rattle.std.specs.Prelude.{◌≡◌, ◌≤◌, ◌<◌, ◌+◌, ◌%◌, ◌^◌, ℕ, List, [], length, take, drop, get_or, IsTrue, true, Some, None, IfOk, IfSome, if◌then◌else◌};
+ghost use Rattle.std.specs.Prelude.{◌≡◌, ◌≤◌, ◌<◌, ◌+◌, ◌%◌, ◌^◌, ℕ, List, [], length, take, drop, get_or, IsTrue, true, Some, None, IsSome, IfOk, IfSome, if◌then◌else◌};
+ghost use Rattle.std.specs.Option.{ForSome};
 ghost use Rattle.namespace_id.specs.Digests.{no_digest};
 ghost use Rattle.namespace_id.specs.Names.{AreNamespaces};
 ghost use Rattle.namespace_id.specs.declared.namespaces.Namespace.{Namespace};
@@ -133,6 +134,17 @@ impl Tree {
         } else {
             None
         }
+    }
+
+    /// The digest over the `size` leaves from place `from` on, of a tree that isn't empty.
+    pub fn full_digest(&self, from: u16, size: u16) -> Digest
+        requires filled { IsSome self.now.leaves }
+        requires size { IsTrue (is_leaf_count size) }
+        requires aligned { from % size ≡ 0 }
+        requires within { from + size ≤ self.now.count }
+        ensures { ForSome self.now.leaves (λ leaves. result ≡ span leaves from (halvings size)) }
+    {
+        self.digest(from, size).unwrap()
     }
 
     /// The root, which is the digest over all leaves; none exactly where the tree is empty.

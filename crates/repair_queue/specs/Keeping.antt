@@ -4,11 +4,11 @@ use Rattle.namespace_id.specs.declared.cells.Cell.{Cell}
 use Rattle.namespace_id.specs.declared.cells.Axis.{Axis}
 use Rattle.namespace_id.specs.declared.shares.Share.{Share}
 use Rattle.namespace_id.specs.declared.digests.Digest.{Digest}
-use Rattle.namespace_id.specs.Cells.{is_in_square}
+use Rattle.namespace_id.specs.Cells.{is_in_square, crossing}
 use Rattle.namespace_id.specs.Digests.{no_digest}
 use Rattle.axis_roots.specs.Messages.{index}
 use Rattle.axis_roots.specs.Lines.{cell_on, entry}
-use Rattle.repair_queue.specs.Slots.{Kept, Flags, crossing}
+use Rattle.repair_queue.specs.Slots.{Kept, Flags}
 use Rattle.repair_queue.specs.Counting.{one_if}
 use Rattle.repair_queue.specs.Counts.{Numbers, AreQueued}
 use Rattle.repair_queue.specs.Boards.{Shared, is_found}

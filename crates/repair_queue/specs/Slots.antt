@@ -21,11 +21,6 @@ abbrev pub flags_of : List Bool → List Bool → Flags
 flags_of rows cols Row i = get_or rows i false
 flags_of rows cols Col i = get_or cols i false
 
--- the crossing axis
-abbrev pub crossing : Axis → Axis
-crossing Row = Col
-crossing Col = Row
-
 -- a cell is known: one of its slots is filled
 abbrev pub IsKnown : Kept → Cell → Type 0
 IsKnown slot cell = (axis : Axis) × (kept : Proved) × (slot axis cell ≡ Some kept)

@@ -17,7 +17,6 @@ use crate::ending::Ended;
 use crate::judging::drain;
 use crate::making::read_along;
 use crate::pools::{Pool, held_in, is_other, put_in, take_from};
-use crate::slots::crossing;
 use crate::taking::Taken;
 use crate::tools::Tools;
 use axis_roots::{Proved, index};
@@ -48,7 +47,7 @@ fn keep_new(board: &mut Board, header: &Header, message: Proved)
 {
     let shown = message.message();
     let (own, cell) = (shown.axis, shown.cell);
-    let is_new = held_in(&board.pool, crossing(own), cell).is_none();
+    let is_new = held_in(&board.pool, own.crossing(), cell).is_none();
     put_in(&mut board.pool, message);
     if is_new {
         raise(&mut board.counts, Axis::Row, cell.row);
@@ -70,7 +69,7 @@ fn keep(board: &mut Board, header: &Header, message: Proved)
     let shown = message.message();
     let (own, cell) = (shown.axis, shown.cell);
     if held_in(&board.pool, own, cell).is_some()
-        || shows(&board.pool, crossing(own), cell, &shown.share)
+        || shows(&board.pool, own.crossing(), cell, &shown.share)
     {
         return;
     }

@@ -1,10 +1,7 @@
 //! Keeping the line of a row or a column that was decided.
 
-ghost use Rattle.std.specs.Prelude.{◌≡◌, ◌≢◌, ◌*◌, ◌<◌, List, IsTrue, length, false};
-ghost use Rattle.namespace_id.specs.declared.cells.Cell.{Cell as Place};
-ghost use Rattle.namespace_id.specs.Cells.{is_width, is_in_square};
-ghost use Rattle.axis_roots.specs.Messages.{index as index_of};
-ghost use Rattle.axis_roots.specs.Grids.{share_at, axis_shares};
+ghost use Rattle.std.specs.Prelude.{◌≡◌, ◌*◌, ◌<◌, List, IsTrue, length, false};
+ghost use Rattle.namespace_id.specs.Cells.{is_width};
 ghost use Rattle.axis_roots.specs.declared.message.messages.Message.{Message};
 ghost use Rattle.axis_roots.specs.Trees.{line_leaves};
 ghost use Rattle.befp_maker.specs.Conflicts.{IsLineOf};
@@ -19,8 +16,8 @@ use crate::boards::{Board, is_found};
 use crate::counts::{Counts, raise};
 use crate::marks::{Marks, set_mark};
 use crate::pools::Pool;
-use crate::slots::{crossing, number};
-use axis_roots::{Grid, cell_on};
+use crate::slots::number;
+use axis_roots::{cell_on, write_axis};
 use data_header::Header;
 use namespace_id::{Axis, Digest, Share};
 
@@ -40,27 +37,11 @@ fn count_line(pool: &Pool, marks: &Marks, counts: &mut Counts, axis: Axis, index
     ensures counted { IsCountedIn counts.old.k (slot_in pool.now) (mark_of marks.now) axis index
         (count_of counts.old) (count_of counts.new) (pending counts.old) (pending counts.new) }
 {
-    let cross = crossing(axis);
+    let cross = axis.crossing();
     for pos in 0..2 * counts.k {
         if !is_found(pool, marks, cell_on(axis, index, pos)) {
             raise(counts, cross, pos);
         }
-    }
-}
-
-/// Writes the shares of a line.
-fn write_shares(grid: &mut Grid, axis: Axis, index: u16, line: &[Share])
-    requires index { index < 2 * grid.old.k }
-    requires line { length line.now ≡ 2 * grid.old.k }
-    ensures k { grid.new.k ≡ grid.old.k }
-    ensures line { axis_shares grid.old.k grid.new.shares axis index ≡ line.now }
-    ensures others { (cell : Place) → IsTrue (is_in_square grid.old.k cell) →
-        index_of axis cell ≢ index →
-        share_at (2 * grid.old.k) grid.new.shares cell
-        ≡ share_at (2 * grid.old.k) grid.old.shares cell }
-{
-    for pos in 0..2 * grid.width() {
-        grid.set(cell_on(axis, index, pos), &line[pos as usize]);
     }
 }
 
@@ -101,7 +82,7 @@ pub(crate) fn keep_line(
         HoldsFor header.now ms board.old → HoldsFor header.now ms board.new }
 {
     count_line(&board.pool, &board.marks, &mut board.counts, axis, index);
-    write_shares(&mut board.grid, axis, index, line);
+    write_axis(&mut board.grid, axis, index, line);
     write_leaves(header.k, &mut board.leaves, axis, index, digests);
     set_mark(&mut board.marks, axis, index);
 }

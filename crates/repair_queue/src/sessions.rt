@@ -43,19 +43,6 @@ use namespace_id::{CellRoom, NoMemory, Share, cell_numbered};
 use square_layout::Square;
 use std::alloc::Global;
 
-/// A copy of a header.
-fn copy_of(alloc: Global, header: &Header) -> Result<Header, NoMemory>
-    ensures { IfOk result (λ copy. copy ≡ header.now) }
-{
-    let rows = Vec::from_slice(alloc, &header.rows)?;
-    let cols = Vec::from_slice(alloc, &header.cols)?;
-    Ok(Header {
-        k: header.k,
-        rows,
-        cols,
-    })
-}
-
 /// The width of a header's square.
 fn width(header: &Header) -> u16
     ensures value { result ≡ header.now.k }
@@ -144,7 +131,7 @@ impl Session {
         ensures stands { IfOk result (λ s. StandsFor s []) }
         ensures open { IfOk result (λ s. state_of s ≡ state.Open) }
     {
-        let header = copy_of(alloc, header)?;
+        let header = header.copy(alloc)?;
         let k = width(&header);
         let trees = PartialTrees::new(alloc, &header)?;
         let board = Board::new(alloc, k)?;

@@ -1,10 +1,9 @@
-//! Numbers of cells, and crossing axes.
+//! Numbers of cells.
 
 ghost use Rattle.std.specs.Prelude.{◌≡◌, ◌+◌, ◌*◌, ◌<◌, IsTrue, true};
 ghost use Rattle.namespace_id.specs.Cells.{is_width, is_in_square};
-ghost use Rattle.repair_queue.specs.Slots.{crossing};
 
-use namespace_id::{Axis, Cell};
+use namespace_id::Cell;
 
 /// The number of a cell, row by row.
 pub(crate) fn number(k: u16, cell: Cell) -> usize
@@ -14,14 +13,4 @@ pub(crate) fn number(k: u16, cell: Cell) -> usize
     ensures below { result < 2 * k * (2 * k) }
 {
     cell.row as usize * (2 * k as usize) + cell.col as usize
-}
-
-/// The other axis through a cell.
-pub(crate) fn crossing(axis: Axis) -> Axis
-    ensures { result ≡ crossing axis }
-{
-    match axis {
-        Axis::Row => Axis::Col,
-        Axis::Col => Axis::Row,
-    }
 }

@@ -1,9 +1,10 @@
 -- Lists without repeats, and what is taken out of them.
-use Rattle.std.proofs.Common.{◌≡◌, ◌≢◌, ℕ, zero, suc, ◌<◌, List, [], ◌∷◌, length, get_or, Bool, true, refl, sym, ap, subst, arith}
+use Rattle.std.proofs.Common.{◌≡◌, ◌≢◌, ℕ, zero, suc, ◌<◌, List, [], ◌∷◌, length, get_or, Bool, true, refl, sym, ap, arith}
 use Rattle.std.specs.Prelude.{Some, slice_get, ⊤}
 use Rattle.std.specs.List.{remove, AllByRecursion, list_all}
 use Rattle.std.proofs.lemmas.Bool.{and_parts, and_from}
 use Rattle.std.proofs.lemmas.List.Elements.{All-from_recursion}
+use Rattle.namespace_id.proofs.ElementLemmas.{all_at}
 
 module _ {A : Type 0} where
   -- no element stands again behind itself
@@ -33,21 +34,15 @@ module _ {A : Type 0} where
   once-at (x ∷ xs) (suc i) d once h =
       (λ e. All-from_recursion (λ y. x ≢ y) xs once.0 i d (omega arith) (sym e), once-at xs i d once.1 (omega arith))
 
-  -- what holds of all holds of what stands at a place
-  all-got : (P : A → Type 0) (xs : List A) (i : ℕ) (x : A) → AllByRecursion P xs → slice_get xs i ≡ Some x → P x
-  all-got P [] i x all e = absurd (cc)
-  all-got P (y ∷ xs) zero x all e = let same : y ≡ x = cc in subst P same all.0
-  all-got P (y ∷ xs) (suc i) x all e = all-got P xs i x all.1 e
-
   -- so no element stands at two places
   pub once_apart : (xs : List A) → AreOnce xs → (i j : ℕ) (x : A) → slice_get xs i ≡ Some x → slice_get xs j ≡ Some x
       → i ≡ j
   once_apart [] once i j x at_i at_j = absurd (cc)
   once_apart (y ∷ xs) once zero zero x at_i at_j = refl
   once_apart (y ∷ xs) once zero (suc j) x at_i at_j =
-      let same : y ≡ x = cc in absurd (all-got (λ z. y ≢ z) xs j x once.0 at_j same)
+      let same : y ≡ x = cc in absurd (all_at (λ z. y ≢ z) xs j x once.0 at_j same)
   once_apart (y ∷ xs) once (suc i) zero x at_i at_j =
-      let same : y ≡ x = cc in absurd (all-got (λ z. y ≢ z) xs i x once.0 at_i same)
+      let same : y ≡ x = cc in absurd (all_at (λ z. y ≢ z) xs i x once.0 at_i same)
   once_apart (y ∷ xs) once (suc i) (suc j) x at_i at_j = ap suc (once_apart xs once.1 i j x at_i at_j)
 
   -- a test that passes all elements passes each of them

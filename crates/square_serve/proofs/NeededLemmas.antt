@@ -8,15 +8,12 @@ use Rattle.namespace_id.specs.declared.cells.Axis.{Axis}
 use Rattle.namespace_id.specs.declared.shares.Share.{Share}
 use Rattle.namespace_id.specs.declared.digests.Digest.{Digest}
 use Rattle.namespace_id.specs.Cells.{is_in_square}
+use Rattle.namespace_id.proofs.BelowLemmas.{same_cell}
 use Rattle.nmt_tree.specs.Trees.{StoredTree}
 use Rattle.axis_roots.specs.Grids.{leaf_over}
 use Rattle.axis_roots.specs.Trees.{no_tree}
-use Rattle.axis_roots.proofs.Grids.NumberLemmas.{inside, number-lt, cell_of, cell_of-number}
+use Rattle.axis_roots.proofs.Grids.NumberLemmas.{inside, number-lt}
 use Rattle.square_serve.specs.Needed.{AreNeededLeaves, IsNeededTree, AreNeededTrees, empty_trees}
-
--- cells with one number are one cell
-same_cell : (k : ℕ) (a b : Cell) → IsTrue (is_in_square k a) → IsTrue (is_in_square k b) → a.row * (2 * k) + a.col ≡ b.row * (2 * k) + b.col → a ≡ b
-same_cell k a b in_a in_b e = sym (cell_of-number (2 * k) a (inside k a in_a).1) ∙ ap (cell_of (2 * k)) e ∙ cell_of-number (2 * k) b (inside k b in_b).1
 
 -- one more leaf that was hashed
 pub leaf_put : (k : ℕ) (grid : List Share) (leaves : List (Option Digest)) (place : ℕ) (cell : Cell) (digest : Digest) → IsTrue (is_in_square k cell)
@@ -29,7 +26,7 @@ leaf_put k grid leaves place cell digest in_square at is so_far = record {
       let within : place < length leaves = omega (arith, at, so_far.count, number-lt (2 * k) cell (inside k cell in_square).0 (inside k cell in_square).1) in
       elim (cases_eq number place) [
         | inl here ↦
-            let one : other ≡ cell = same_cell k other cell in_other in_square (here ∙ at) in
+            let one : other ≡ cell = same_cell (2 * k) other cell (inside k other in_other).1 (inside k cell in_square).1 (here ∙ at) in
             subst P (sym (ap (λ (n : ℕ). get_or (set leaves place (Some digest)) n None) here ∙ get_or-set_same leaves place (Some digest) None within))
             (is ∙ ap (leaf_over k grid) (sym one))
         | inr apart ↦ subst P (sym (get_or-set_other leaves place number (Some digest) None apart)) (so_far.digests other in_other)

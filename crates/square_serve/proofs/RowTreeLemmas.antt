@@ -11,6 +11,7 @@ use Rattle.namespace_id.specs.Shares.{AreShares}
 use Rattle.namespace_id.specs.Digests.{least_of, greatest_of}
 use Rattle.namespace_id.specs.Cells.{is_width}
 use Rattle.namespace_id.specs.Lists.{ascending}
+use Rattle.namespace_id.proofs.PowerLemmas.{double_halvings}
 use Rattle.nmt_tree.specs.Roots.{halvings, is_ordered}
 use Rattle.nmt_tree.specs.Levels.{HasOrderedJoins, span}
 use Rattle.nmt_tree.specs.Spans.{name_at, IsOver, IsAbove}
@@ -25,7 +26,7 @@ use Rattle.axis_roots.specs.declared.answers.NsEntry.{NsEntry}
 use Rattle.axis_roots.specs.Grids.{IsHeaderOf, share_at, axis_names, axis_shares, are_ordered_axes, header_of_grid}
 use Rattle.axis_roots.specs.Trees.{axis_leaves}
 use Rattle.axis_roots.proofs.Grids.AxisLemmas.{length-along}
-use Rattle.axis_roots.proofs.Grids.LineLemmas.{line_leaves, leaf_count}
+use Rattle.axis_roots.proofs.Grids.LineLemmas.{line_leaves}
 use Rattle.axis_roots.proofs.Grids.HeaderLemmas.{some_if, ordered_axis, header_width, header_root}
 use Rattle.axis_roots.proofs.Grids.RootingLemmas.{root-leaves}
 use Rattle.axis_roots.proofs.Grids.StoredLemmas.{axis_shares-are}
@@ -93,7 +94,7 @@ module _ (k : ℕ) (grid : List Share) (row : ℕ) (is : IsRow k grid row) where
     wanted_where name i other lt here =
         let names : List Namespace = axis_names k grid Row row in
         let root : Digest = root_of header Row row in
-        let size : 2 * k ≡ 2 ^ halvings (2 * k) = leaf_count k is.width in
+        let size : 2 * k ≡ 2 ^ halvings (2 * k) = sym (double_halvings k is.width) in
         let low : is_at_most (name_at names 0) (name_at names i) ≡ true = ordered_at names 0 i is.ordered (omega arith) (omega (arith, lt, size, is.leaves.name_count)) in
         let high : is_at_most (name_at names i) (greatest_of root) ≡ true = root_above i (omega arith) (omega (arith, lt, size)) (ap is_parity here ∙ other) in
         and_from (is_at_most (least_of root) name) (is_at_most name (greatest_of root))

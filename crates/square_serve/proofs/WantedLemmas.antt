@@ -11,12 +11,12 @@ use Rattle.namespace_id.specs.Shares.{AreShares, name_in}
 use Rattle.namespace_id.specs.Digests.{least_of, greatest_of}
 use Rattle.namespace_id.specs.Cells.{is_width}
 use Rattle.namespace_id.proofs.OrderLemmas.{at_most_trans, at_most_antisym, at_most_parity}
+use Rattle.namespace_id.proofs.PowerLemmas.{double_halvings}
 use Rattle.nmt_tree.specs.Roots.{halvings}
 use Rattle.nmt_tree.specs.Spans.{name_at, IsOver}
 use Rattle.nmt_tree.proofs.NameLemmas.{same_name}
 use Rattle.data_header.specs.Headers.{root_of}
 use Rattle.axis_roots.specs.Grids.{share_at, axis_names, are_ordered_axes, header_of_grid, grid_roots}
-use Rattle.axis_roots.proofs.Grids.LineLemmas.{leaf_count}
 use Rattle.axis_roots.proofs.Grids.StoredLemmas.{axis_shares-are}
 use Rattle.square_serve.specs.Answers.{is_wanted}
 use Rattle.square_serve.specs.Needed.{reaches}
@@ -64,7 +64,7 @@ module _ (k : ℕ) (grid : List Share) (row : ℕ) (width : is_width k ≡ true)
       some_reaches i h reach =
           let both = and_parts (not (is_parity (name_at names i))) (is_at_most name (name_at names i)) reach in
           by_greatest true (at_most_trans name (name_at names i) (greatest_of top) both.1
-          (root_above k grid row is_row (grid_roots k grid) (roots_made k grid ordered) i (omega arith) (omega (arith, h, leaf_count k width)) (not-true (is_parity (name_at names i)) both.0)))
+          (root_above k grid row is_row (grid_roots k grid) (roots_made k grid ordered) i (omega arith) (omega (arith, h, double_halvings k width)) (not-true (is_parity (name_at names i)) both.0)))
 
       -- the greatest isn't PARITY, which only a row of it has
       greatest_other : IsNamespace name → is_parity name ≡ false → is_parity (greatest_of top) ≡ true → ⊥
@@ -79,7 +79,7 @@ module _ (k : ℕ) (grid : List Share) (row : ℕ) (width : is_width k ≡ true)
         | inr above ↦ by_greatest false above
         | inl at_most ↦ absurd (elim (cases_lt over.place k) [
           | inr behind ↦
-              greatest_other named other (ap is_parity (over.greatest ∙ axis_names-parity k grid row over.place within behind (omega (arith, over.high, leaf_count k width))))
+              greatest_other named other (ap is_parity (over.greatest ∙ axis_names-parity k grid row over.place within behind (omega (arith, over.high, double_halvings k width))))
           | inl before ↦ elim (cases_Bool (is_parity (name_at names over.place))) [
             | inl all ↦ greatest_other named other (ap is_parity over.greatest ∙ all)
             | inr apart ↦

@@ -14,7 +14,7 @@ ghost use Rattle.square_serve.specs.Needed.{AreNeededLeaves, AreNeededTrees, Are
 
 use axis_roots::{Grid, cell_on};
 use data_header::Header;
-use namespace_id::{Axis, Cell, Digest, NoMemory, leaf_namespace, shares_law};
+use namespace_id::{Axis, BLANK_DIGEST, Cell, Digest, NoMemory, leaf_namespace, shares_law};
 use nmt_tree::{Tree, leaf};
 use std::alloc::Global;
 
@@ -136,7 +136,7 @@ impl NeededTrees {
         let Ok(leaves) = vec![in alloc; None; number] else {
             return Err(NoMemory);
         };
-        let Ok(line) = vec![in alloc; Digest([0; 90]); side as usize] else {
+        let Ok(line) = vec![in alloc; BLANK_DIGEST; side as usize] else {
             return Err(NoMemory);
         };
         Ok(NeededTrees {

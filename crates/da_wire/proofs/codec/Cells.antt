@@ -6,21 +6,18 @@ use Rattle.std.specs.List.{flat_map, AllByRecursion}
 use Rattle.std.proofs.lemmas.List.{take-append-drop, length-append, length-drop, drop-drop, nil_from_length}
 use Rattle.namespace_id.specs.declared.cells.Cell.{Cell}
 use Rattle.namespace_id.specs.Bytes.{AreBytes}
+use Rattle.namespace_id.specs.Cells.{cell_in}
 use Rattle.namespace_id.proofs.StringLemmas.{AreBytes-take, AreBytes-drop}
 use Rattle.da_wire.specs.codec.Fields.{◌>>=◌, number_at, cells_of, cell_at}
 use Rattle.da_wire.specs.codec.Texts.{cell_bytes, IsCell}
 use Rattle.da_wire.proofs.codec.Readers.{bind_some, bind_again, Takes, Takes-then, Takes-read}
 use Rattle.da_wire.proofs.codec.Numbers.{wide16, number_takes, number_again}
 
--- the cell of this row and column
-abbrev cell : ℕ → ℕ → Cell
-cell row col = record { row = row; col = col }
-
 -- ---- one cell
 
 -- what `cell_at` does after each number
 abbrev after_col : ℕ → ℕ × List ℕ → Option (Cell × List ℕ)
-after_col row col = Some (cell row col.0, col.1)
+after_col row col = Some (cell_in row col.0, col.1)
 
 -- what `cell_at` does after the row
 abbrev after_row : ℕ × List ℕ → Option (Cell × List ℕ)
@@ -35,7 +32,7 @@ cell_takes bytes c rest fits e =
     let b = bind_some (number_at w16 a.0.1) (after_col a.0.0) read a.2 in
     let t = number_takes w16 (2 ^ 16) wide16 bytes a.0.0 a.0.1 fits a.1 in
     let u = number_takes w16 (2 ^ 16) wide16 a.0.1 b.0.0 b.0.1 t.0.rest_fits b.1 in
-    Takes-read cell_bytes IsCell bytes (cell a.0.0 b.0.0) c b.0.1 rest b.2 (record { row = t.1; col = u.1 })
+    Takes-read cell_bytes IsCell bytes (cell_in a.0.0 b.0.0) c b.0.1 rest b.2 (record { row = t.1; col = u.1 })
     (Takes-then bytes (to_be_bytes w16 a.0.0) a.0.1 (to_be_bytes w16 b.0.0) b.0.1 t.0 u.0)
 
 -- a cell that was written is read, whatever follows it
@@ -66,7 +63,7 @@ length-cells_bytes (c ∷ cs) =
 
 -- four bytes are the cell that they spell
 four_bytes : (bytes : List ℕ) → AreBytes bytes → 4 ≤ length bytes
-    → cell_bytes (cell (from_be_bytes w16 (take 2 bytes)) (from_be_bytes w16 (take 2 (drop 2 bytes)))) ++ drop 4 bytes ≡ bytes
+    → cell_bytes (cell_in (from_be_bytes w16 (take 2 bytes)) (from_be_bytes w16 (take 2 (drop 2 bytes)))) ++ drop 4 bytes ≡ bytes
 four_bytes bytes fits long =
     let after : List ℕ = drop 2 bytes in
     let front : length (take 2 bytes) ≡ 2 = length-take-le 2 bytes (omega arith) in
@@ -85,7 +82,7 @@ cells_bytes-of zero bytes fits len =
     let none : length bytes ≡ 0 = omega arith in
     sym (nil_from_length bytes none)
 cells_bytes-of (suc count) bytes fits len =
-    let first : Cell = cell (from_be_bytes w16 (take 2 bytes)) (from_be_bytes w16 (take 2 (drop 2 bytes))) in
+    let first : Cell = cell_in (from_be_bytes w16 (take 2 bytes)) (from_be_bytes w16 (take 2 (drop 2 bytes))) in
     let behind : length (drop 4 bytes) ≡ 4 * count = omega (arith, length-drop 4 bytes) in
     ap (λ (l : List ℕ). cell_bytes first ++ l) (cells_bytes-of count (drop 4 bytes) (AreBytes-drop 4 bytes fits) behind)
     ∙ four_bytes bytes fits (omega arith)
@@ -95,6 +92,6 @@ pub cells_of-bytes : (cells : List Cell) → AllByRecursion IsCell cells → cel
 unfolding cells_of
 cells_of-bytes [] all = refl
 cells_of-bytes (c ∷ cs) all =
-    let first : cell (from_be_bytes w16 (to_be_bytes w16 c.row)) (from_be_bytes w16 (to_be_bytes w16 c.col)) ≡ c =
-    ap₂ (λ (r k : ℕ). cell r k) (wide16.again c.row all.0.row) (wide16.again c.col all.0.col) in
+    let first : cell_in (from_be_bytes w16 (to_be_bytes w16 c.row)) (from_be_bytes w16 (to_be_bytes w16 c.col)) ≡ c =
+    ap₂ (λ (r k : ℕ). cell_in r k) (wide16.again c.row all.0.row) (wide16.again c.col all.0.col) in
     ap₂ (λ (x : Cell) (xs : List Cell). x ∷ xs) first (cells_of-bytes cs all.1)

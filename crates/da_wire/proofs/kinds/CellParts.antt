@@ -9,12 +9,13 @@ use Rattle.namespace_id.specs.declared.cells.Cell.{Cell}
 use Rattle.namespace_id.specs.declared.digests.Digest.{Digest}
 use Rattle.namespace_id.specs.Bytes.{AreBytes}
 use Rattle.namespace_id.specs.Digests.{AreDigests}
+use Rattle.namespace_id.specs.Cells.{crossing}
 use Rattle.axis_roots.specs.Messages.{position, index}
 use Rattle.axis_roots.specs.Lines.{cell_on}
 use Rattle.axis_roots.specs.Sets.{is_one_axis}
 use Rattle.axis_roots.proofs.Grids.AxisLemmas.{cell_on-own}
 use Rattle.da_wire.specs.codec.Texts.{path_bytes, IsCell}
-use Rattle.da_wire.specs.kinds.Fraud.{crossing, tag_at, cell_path_at}
+use Rattle.da_wire.specs.kinds.Fraud.{tag_at, cell_path_at}
 use Rattle.da_wire.proofs.codec.Readers.{Takes}
 use Rattle.da_wire.proofs.codec.Strings.{AreBytes-rest}
 use Rattle.da_wire.proofs.codec.Paths.{path_takes, path_again}

@@ -20,6 +20,7 @@ use Rattle.da_wire.proofs.codec.Numbers.{wide16, number_takes, number_again}
 use Rattle.da_wire.proofs.codec.Strings.{string_takes, string_again}
 use Rattle.da_wire.proofs.codec.Texts.{IsField}
 use Rattle.da_wire.proofs.kinds.CellParts.{tag_byte, tag_takes, tag_again, path_text, is_path, cell_path_takes, cell_path_again, on_cell, position-bytes, cell_there}
+use Rattle.da_wire.proofs.kinds.MessageForm.{message}
 
 -- ---- the cell
 
@@ -30,10 +31,6 @@ is_at axis i m = eqb (index axis m.cell) i && is_path (is_along axis m) m.path
 -- a sample that can be written in a claim with a set
 abbrev pub IsSetCell : Axis → ℕ → Message → Type 0
 IsSetCell axis i m = IsMessage m × (is_at axis i m ≡ true)
-
--- the sample of these fields
-abbrev message : Cell → Axis → List ℕ → List Digest → Message
-message cell axis share path = record { cell = cell; axis = axis; share = record { 0 = share }; path = path }
 
 -- what `set_cell_at` does after each field
 abbrev after_path : Axis → ℕ → ℕ → Axis → List ℕ → List Digest × List ℕ → Option (Message × List ℕ)

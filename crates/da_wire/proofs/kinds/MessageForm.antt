@@ -20,7 +20,7 @@ use Rattle.da_wire.proofs.kinds.Form.{IsForm, never}
 use Rattle.da_wire.proofs.codec.Texts.{IsField}
 
 -- the sample of these fields
-abbrev message : Cell → Axis → List ℕ → List Digest → Message
+abbrev pub message : Cell → Axis → List ℕ → List Digest → Message
 message cell axis share path = record { cell = cell; axis = axis; share = record { 0 = share }; path = path }
 
 -- what `message_front` does after each field

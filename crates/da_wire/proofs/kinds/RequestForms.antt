@@ -5,7 +5,7 @@ use Rattle.namespace_id.specs.declared.cells.Cell.{Cell}
 use Rattle.namespace_id.specs.declared.cells.Axis.{Axis}
 use Rattle.namespace_id.specs.declared.namespaces.Namespace.{Namespace}
 use Rattle.namespace_id.specs.Bytes.{AreBytes}
-use Rattle.namespace_id.specs.Names.{IsNamespace}
+use Rattle.namespace_id.specs.Names.{IsNamespace, named_by}
 use Rattle.da_wire.specs.codec.Fields.{◌>>=◌, cell_at, axis_at}
 use Rattle.da_wire.specs.codec.Texts.{axis_byte, cell_bytes, IsCell}
 use Rattle.da_wire.specs.kinds.Requests.{sample_payload, request_payload, sample_at, request_at}
@@ -50,22 +50,18 @@ sample_again cell axis is =
 
 -- ---- a namespace
 
--- the namespace that bytes are
-abbrev named : List ℕ → Namespace
-named bytes = record { 0 = bytes }
-
 -- a request for a namespace that is read of a payload is what the payload spells
 pub request_takes : (payload : List ℕ) (name : Namespace) → AreBytes payload → request_at payload ≡ Some name → IsNamespace name × (payload ≡ request_payload name)
 unfolding request_at
 request_takes payload name fits e =
-    let g = cond_some (eqb (length payload) 29) (named payload) name e in
+    let g = cond_some (eqb (length payload) 29) (named_by payload) name e in
     subst (λ (x : Namespace). IsNamespace x × (payload ≡ request_payload x)) g.1
     (record { size_is = eqb-true (length payload) 29 g.0; fits = fits }, refl)
 
 -- the payload of a request for a namespace is read as the request
 pub request_again : (name : Namespace) → IsNamespace name → request_at (request_payload name) ≡ Some name
 unfolding request_at
-request_again name is = if_true_again (eqb (length name.0) 29) (Some (named name.0)) name (eq-eqb _ _ is.size_is) refl
+request_again name is = if_true_again (eqb (length name.0) 29) (Some (named_by name.0)) name (eq-eqb _ _ is.size_is) refl
 
 -- the form of this kind
 pub request_form : IsForm kinds.Request frames.Request request_at request_payload never

@@ -5,10 +5,10 @@ use Rattle.std.proofs.lemmas.Bool.{not-false, not_from_true}
 use Rattle.std.proofs.lemmas.Option.{cond_some}
 use Rattle.namespace_id.specs.declared.shares.Share.{Share}
 use Rattle.namespace_id.specs.Bytes.{AreBytes}
-use Rattle.namespace_id.specs.Shares.{AreShares}
+use Rattle.namespace_id.specs.Shares.{AreShares, share_of}
 use Rattle.namespace_id.specs.Cells.{is_width}
 use Rattle.square_layout.specs.Blocks.{SquareShares, IsSquare}
-use Rattle.da_wire.specs.codec.Fields.{number_at, share, shares_of}
+use Rattle.da_wire.specs.codec.Fields.{number_at, shares_of}
 use Rattle.da_wire.specs.codec.Texts.{share_bytes}
 use Rattle.da_wire.specs.kinds.Square.{square_payload, square_at}
 use Rattle.da_wire.proofs.codec.Readers.{bind_some, bind_again, if_false, if_false_again, if_true_again}
@@ -40,10 +40,10 @@ is_square : (k : ℕ) (bytes : List ℕ) → is_width k ≡ true → AreBytes by
 is_square k bytes width fits len =
     let long : 512 * (k * k) ≤ length bytes = omega arith in (
       (
-        record { width = width; count = length-split_into share 512 (k * k) bytes },
-        are_values_of share text texts 512 (k * k) bytes fits long,
+        record { width = width; count = length-split_into share_of 512 (k * k) bytes },
+        are_values_of share_of text texts 512 (k * k) bytes fits long,
       ),
-      ap (λ (l : List ℕ). to_be_bytes w16 k ++ l) (sym (value_bytes-of share text texts 512 (k * k) bytes len)),
+      ap (λ (l : List ℕ). to_be_bytes w16 k ++ l) (sym (value_bytes-of share_of text texts 512 (k * k) bytes len)),
     )
 
 -- a square that is read of a payload is what the payload spells
@@ -69,7 +69,7 @@ unfolding square_at
 square_again s is shares =
     let bytes : List ℕ = share_bytes s.shares in
     let few : s.k ≤ 128 = is_width-le s.k is.width in
-    let same : square_in s.k bytes ≡ s = ap (λ (l : List Share). square s.k l) (split_into-spelled share text texts 512 (s.k * s.k) bytes s.shares shares is.count refl) in
+    let same : square_in s.k bytes ≡ s = ap (λ (l : List Share). square s.k l) (split_into-spelled share_of text texts 512 (s.k * s.k) bytes s.shares shares is.count refl) in
     bind_again (number_at w16 (square_payload s)) after_width (s.k, bytes) s
     (number_again w16 (2 ^ 16) wide16 s.k bytes (omega (arith, few)))
     (if_false_again (not (is_width s.k)) (cond (eqb (length bytes) (512 * (s.k * s.k))) (Some (square_in s.k bytes)) None) s (not_from_true (is_width s.k) is.width)

@@ -9,6 +9,7 @@ use Rattle.namespace_id.specs.declared.shares.Share.{Share}
 use Rattle.namespace_id.specs.declared.cells.Axis.{Axis}
 use Rattle.namespace_id.specs.declared.cells.Axis.TheVariants.{Row, Col}
 use Rattle.namespace_id.specs.Sizes.{share_size, digest_size}
+use Rattle.namespace_id.specs.Shares.{share_of}
 
 -- a reader, and what is read after it; none where the first reads none
 infixl 10 ◌>>=◌
@@ -44,13 +45,9 @@ digest bytes = record { 0 = bytes }
 abbrev pub digests_of : ℕ → List ℕ → List Digest
 digests_of count bytes = split_into digest digest_size count bytes
 
--- the share that bytes are
-abbrev pub share : List ℕ → Share
-share bytes = record { 0 = bytes }
-
 -- so many shares, one after another
 abbrev pub shares_of : ℕ → List ℕ → List Share
-shares_of count bytes = split_into share share_size count bytes
+shares_of count bytes = split_into share_of share_size count bytes
 
 -- so many values of one length at the front, and the bytes after them
 abbrev pub values_at : {A : Type 0} → (List ℕ → A) → ℕ → ℕ → List ℕ → Option (List A × List ℕ)
@@ -64,7 +61,7 @@ digests_at count bytes = values_at digest digest_size count bytes
 
 -- so many shares at the front, and the bytes after them
 abbrev pub shares_at : ℕ → List ℕ → Option (List Share × List ℕ)
-shares_at count bytes = values_at share share_size count bytes
+shares_at count bytes = values_at share_of share_size count bytes
 
 -- so many cells, one after another
 unfoldable pub cells_of : ℕ → List ℕ → List Cell

@@ -5,8 +5,8 @@ use Rattle.std.specs.Int.{w16, to_be_bytes}
 use Rattle.std.specs.List.{list_all, list_any}
 use Rattle.namespace_id.specs.Sizes.{share_size}
 use Rattle.namespace_id.specs.declared.cells.Axis.{Axis}
-use Rattle.namespace_id.specs.declared.cells.Axis.TheVariants.{Row, Col}
 use Rattle.namespace_id.specs.declared.digests.Digest.{Digest}
+use Rattle.namespace_id.specs.Cells.{crossing}
 use Rattle.axis_roots.specs.declared.message.messages.Message.{Message}
 use Rattle.axis_roots.specs.Messages.{position}
 use Rattle.axis_roots.specs.Lines.{cell_on}
@@ -31,11 +31,6 @@ most_cells = 128
 -- the most nodes of a set, as many as open cells of an axis of the greatest square
 abbrev pub most_set_nodes : ℕ
 most_set_nodes = 128
-
--- the other kind of axis
-abbrev pub crossing : Axis → Axis
-crossing Row = Col
-crossing Col = Row
 
 -- ---- what is written
 

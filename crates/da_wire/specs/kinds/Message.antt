@@ -3,7 +3,8 @@ use Rattle.axis_roots.specs.declared.message.messages.Message as sent
 use Rattle.std.specs.Prelude.{ℕ, List, [], ◌∷◌, length, Option, Some, None, if◌then◌else◌, ◌==◌, ◌++◌}
 use Rattle.std.specs.Int.{w16, to_be_bytes}
 use Rattle.namespace_id.specs.Sizes.{share_size}
-use Rattle.da_wire.specs.codec.Fields.{◌>>=◌, string_at, share, axis_at, cell_at, path_at}
+use Rattle.namespace_id.specs.Shares.{share_of}
+use Rattle.da_wire.specs.codec.Fields.{◌>>=◌, string_at, axis_at, cell_at, path_at}
 use Rattle.da_wire.specs.codec.Texts.{digest_bytes, axis_byte}
 
 -- a cell, an axis, a share, and a path behind the number of its nodes
@@ -23,7 +24,7 @@ message_front bytes = do
     record {
       cell = cell.0;
       axis = axis.0;
-      share = record { 0 = share.0 };
+      share = share_of share.0;
       path = path.0;
     },
     path.1,

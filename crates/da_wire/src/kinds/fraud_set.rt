@@ -7,7 +7,7 @@ ghost use Rattle.axis_roots.specs.Sets.{is_one_axis, is_along};
 ghost use Rattle.da_wire.specs.codec.Fields.{many_at, read_items, digests_of};
 ghost use Rattle.da_wire.specs.codec.Texts.{digest_bytes, digest_list};
 ghost use Rattle.da_wire.specs.Reading.{GivesUnlessFull};
-ghost use Rattle.da_wire.specs.kinds.Fraud.{most_cells, crossing, tag_of, cell_payload, set_payload, is_placed, fits_form, tag_at, cell_path_at, set_cell_at, set_cells_at, with_set_at, passed, set_seen};
+ghost use Rattle.da_wire.specs.kinds.Fraud.{most_cells, tag_of, cell_payload, set_payload, is_placed, fits_form, tag_at, cell_path_at, set_cell_at, set_cells_at, with_set_at, passed, set_seen};
 ghost use Rattle.da_wire.specs.Spelling.{max_payload};
 ghost use Rattle.da_wire.specs.Writing.{IsWithin};
 
@@ -48,16 +48,6 @@ pub(crate) struct SetFields<'a> {
     pub nodes: &'a [u8],
 }
 
-/// The other kind of axis.
-fn crossing(axis: Axis) -> Axis
-    ensures { result ≡ crossing axis }
-{
-    match axis {
-        Axis::Row => Axis::Col,
-        Axis::Col => Axis::Row,
-    }
-}
-
 /// Whether two axes are both rows or both columns.
 fn is_one_axis(axis: Axis, other: Axis) -> bool
     ensures { result ≡ is_one_axis axis other }
@@ -76,7 +66,7 @@ fn tag_at(axis: Axis, bytes: &[u8]) -> Option<(Axis, &[u8])>
 {
     let (tag, rest) = u8_at(bytes)?;
     match tag {
-        CROSSING => Some((crossing(axis), rest)),
+        CROSSING => Some((axis.crossing(), rest)),
         ALONG => Some((axis, rest)),
         _ => None,
     }

@@ -4,8 +4,9 @@ use Rattle.std.proofs.lemmas.Bool.{cases_lt, cases_Bool, true≢false}
 use Rattle.namespace_id.specs.declared.cells.Cell.{Cell}
 use Rattle.namespace_id.specs.declared.cells.Axis.{Axis}
 use Rattle.namespace_id.specs.declared.cells.Axis.TheVariants.{Row, Col}
+use Rattle.namespace_id.specs.Cells.{crossing}
 use Rattle.axis_roots.specs.Lines.{cell_on}
-use Rattle.repair_queue.specs.Slots.{Kept, Flags, crossing}
+use Rattle.repair_queue.specs.Slots.{Kept, Flags}
 use Rattle.repair_queue.specs.Counting.{one_if}
 use Rattle.repair_queue.specs.Counts.{Numbers, IsRaised, AreQueued}
 use Rattle.repair_queue.specs.Boards.{is_lined, is_found, found_count, AreCounted}

@@ -5,12 +5,12 @@ use Rattle.std.proofs.lemmas.Bool.{cases_Bool, cases_eq, cases_lt, true≢false}
 use Rattle.namespace_id.specs.declared.cells.Cell.{Cell}
 use Rattle.namespace_id.specs.declared.cells.Axis.{Axis}
 use Rattle.namespace_id.specs.declared.cells.Axis.TheVariants.{Row, Col}
-use Rattle.namespace_id.specs.Cells.{is_in_square}
+use Rattle.namespace_id.specs.Cells.{is_in_square, crossing}
 use Rattle.axis_roots.specs.Messages.{index, position}
 use Rattle.axis_roots.specs.Lines.{cell_on}
 use Rattle.axis_roots.proofs.Grids.AxisLemmas.{index-cell_on, position-cell_on, cell_on-own}
 use Rattle.axis_roots.proofs.Grids.NumberLemmas.{position-lt}
-use Rattle.repair_queue.specs.Slots.{Kept, Flags, IsFlagged, crossing}
+use Rattle.repair_queue.specs.Slots.{Kept, Flags, IsFlagged}
 use Rattle.repair_queue.specs.Counting.{one_if, count_from}
 use Rattle.repair_queue.specs.Counts.{Numbers}
 use Rattle.repair_queue.specs.Boards.{is_lined, is_found, found_count, AreAtRest, AreCounted, AreWaiting}

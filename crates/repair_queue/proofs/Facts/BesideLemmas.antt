@@ -10,8 +10,8 @@ use Rattle.namespace_id.proofs.ShareLemmas.{name_of-is}
 use Rattle.nmt_tree.specs.Roots.{halvings}
 use Rattle.nmt_proofs.specs.Parts.{digest_of}
 use Rattle.nmt_proofs.specs.Clashes.{clash_at, IsOpening}
-use Rattle.nmt_proofs.proofs.AgreeLemmas.{found_is_clash}
-use Rattle.nmt_proofs.proofs.ShownLemmas.{opening-sized}
+use Rattle.nmt_proofs.proofs.Agreement.AgreeLemmas.{found_is_clash}
+use Rattle.nmt_proofs.proofs.Parts.ShownLemmas.{opening-sized}
 use Rattle.data_header.specs.Headers.{Roots, root_of}
 use Rattle.axis_roots.specs.declared.message.messages.Message.{Message}
 use Rattle.axis_roots.specs.Messages.{index, shown_by, root_for}

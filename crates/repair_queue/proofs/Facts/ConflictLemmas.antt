@@ -6,6 +6,7 @@ use Rattle.std.proofs.lemmas.Bool.{cases_eq}
 use Rattle.namespace_id.specs.declared.cells.Cell.{Cell}
 use Rattle.namespace_id.specs.declared.cells.Axis.{Axis}
 use Rattle.namespace_id.specs.declared.shares.Share.{Share}
+use Rattle.namespace_id.proofs.WidthLemmas.{is_width-pos}
 use Rattle.nmt_tree.specs.Roots.{halvings, root, strict_root}
 use Rattle.data_header.specs.Headers.{Roots, root_of}
 use Rattle.axis_roots.specs.declared.message.messages.Message.{Message}
@@ -17,7 +18,7 @@ use Rattle.axis_roots.specs.Lines.{entry, cell_on, is_ordered_line, line_names, 
 use Rattle.axis_roots.specs.Claims.{ProofParts}
 use Rattle.axis_roots.proofs.Grids.AxisLemmas.{cell_on-own}
 use Rattle.axis_roots.proofs.Grids.HeaderLemmas.{some_if}
-use Rattle.axis_roots.proofs.Grids.NumberLemmas.{index-lt, position-lt, width-ge}
+use Rattle.axis_roots.proofs.Grids.NumberLemmas.{index-lt, position-lt}
 use Rattle.befp_maker.specs.Conflicts.{IsLineOf, IsAgainst, positions_with, IsThroughOther, IsMessageOf, IsProofAgainst, IsClashAgainst}
 use Rattle.repair_queue.specs.Lines.{AreFacts}
 use Rattle.repair_queue.specs.Closures.{AreChosen, Fact, rebuilt}
@@ -73,7 +74,7 @@ other_facts header ms axis i line word other against facts fact through pos belo
     let proved : IsProved header (kept_message other) = under_proved header other against.under in
     let within : i < 2 * header.k = subst (λ (j : ℕ). j < 2 * header.k) against.on_axis (index-lt header.k axis cell proved.inside) in
     let are : AreChosen header.k (positions_with header.k place) =
-    with_chosen header.k place (width-ge header.k proved.width) (position-lt header.k axis cell proved.inside) in
+    with_chosen header.k place (is_width-pos header.k proved.width) (position-lt header.k axis cell proved.inside) in
     let own : cell ≡ cell_on axis i place = sym (cell_on-own axis cell) ∙ ap (λ (j : ℕ). cell_on axis j place) against.on_axis in
     rebuilt axis i word (positions_with header.k place) pos within through.codeword are
     (λ p at. elim (cases_eq p place) [

@@ -5,7 +5,8 @@ use Rattle.std.proofs.lemmas.Bool.{lt-ltb, and_from}
 use Rattle.namespace_id.specs.declared.cells.Cell.{Cell}
 use Rattle.namespace_id.specs.declared.cells.Axis.{Axis}
 use Rattle.namespace_id.specs.Cells.{is_width, all_cells}
-use Rattle.namespace_id.proofs.AllCellsLemmas.{are_all_cells, all_member, width-ge}
+use Rattle.namespace_id.proofs.AllCellsLemmas.{are_all_cells, all_member}
+use Rattle.namespace_id.proofs.WidthLemmas.{is_width-pos}
 use Rattle.data_header.specs.Headers.{Roots}
 use Rattle.axis_roots.specs.declared.message.messages.Message.{Message}
 use Rattle.axis_roots.specs.Openings.{IsProved}
@@ -35,7 +36,7 @@ all_missing header ms width lies = record {
   width = refl;
   row_major = are_all_cells header.k width;
   some = λ none.
-      let some : 0 < header.k = width-ge header.k width in
+      let some : 0 < header.k = is_width-pos header.k width in
       let low : nat_lt 0 (2 * header.k) ≡ true = lt-ltb 0 (2 * header.k) (omega (arith, some)) in
       let at = (all_member header.k (record { row = 0; col = 0 }) width).1 (and_from (nat_lt 0 (2 * header.k)) (nat_lt 0 (2 * header.k)) low low) in
       let nowhere = subst (λ (cells : List Cell). Contains cells (record { row = 0; col = 0 })) none at in

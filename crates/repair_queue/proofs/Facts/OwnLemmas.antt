@@ -13,9 +13,9 @@ use Rattle.namespace_id.proofs.ShareLemmas.{name_of-is}
 use Rattle.nmt_tree.specs.Roots.{halvings}
 use Rattle.nmt_proofs.specs.Parts.{Part, given, leaf, join, digest_of}
 use Rattle.nmt_proofs.specs.Clashes.{leaf_text, join_text, apart_or, clash_at, HasDepth}
-use Rattle.nmt_proofs.proofs.WholeLemmas.{depth-whole}
-use Rattle.nmt_proofs.proofs.ShownLemmas.{depth-opened}
-use Rattle.nmt_proofs.proofs.ListedLemmas.{symmetric_law}
+use Rattle.nmt_proofs.proofs.Parts.WholeLemmas.{depth-whole}
+use Rattle.nmt_proofs.proofs.Parts.ShownLemmas.{depth-opened}
+use Rattle.nmt_proofs.proofs.Agreement.ListedLemmas.{symmetric_law}
 use Rattle.leopard_code.specs.Codewords.{IsCodeword}
 use Rattle.data_header.specs.Headers.{Roots, root_of}
 use Rattle.square_layout.specs.Blocks.{SquareShares}

@@ -14,7 +14,7 @@ use Rattle.square_layout.specs.Blocks.{SquareShares}
 use Rattle.axis_roots.specs.declared.message.messages.Message.{Message}
 use Rattle.axis_roots.specs.Lines.{blank, cell_on}
 use Rattle.axis_roots.specs.Grids.{share_at, IsHeaderOf}
-use Rattle.axis_roots.proofs.Grids.NumberLemmas.{inside, in_square, width-ge, same_listed}
+use Rattle.axis_roots.proofs.Grids.NumberLemmas.{inside, in_square, same_listed}
 use Rattle.axis_roots.proofs.Grids.HeaderLemmas.{header_width}
 use Rattle.axis_roots.proofs.Grids.WrittenLemmas.{on_axis_in_square}
 use Rattle.repair_queue.specs.Closures.{Half, Fact, IsDecided}
@@ -24,6 +24,7 @@ use Rattle.namespace_id.proofs.MemberLemmas.{contains_head}
 use Rattle.repair_queue.proofs.Facts.ChosenLemmas.{first_chosen, chosen-lt}
 use Rattle.repair_queue.proofs.Facts.FraudLemmas.{fraud_unsettled}
 use Rattle.namespace_id.proofs.RowMajorLemmas.{row_major_once}
+use Rattle.namespace_id.proofs.WidthLemmas.{is_width-pos}
 
 -- ---- one of the three
 
@@ -75,7 +76,7 @@ own_count header square own = own.whole.count ∙ ap (λ (k : ℕ). k * k) (sym 
 pub one_square : (header : Roots) (ms : List Message) (square other : SquareShares) → IsWhole header ms square → IsWhole header ms other → square ≡ other
 one_square header ms square other ws wo =
     let width : square.k ≡ other.k = sym (own_width header square ws.own) ∙ own_width header other wo.own in
-    let some : 0 < header.k = omega (arith, width-ge square.k ws.own.whole.width, own_width header square ws.own) in
+    let some : 0 < header.k = omega (arith, is_width-pos square.k ws.own.whole.width, own_width header square ws.own) in
     let shares : square.shares ≡ other.shares =
     same_listed header.k blank square.shares other.shares some (own_count header square ws.own) (own_count header other wo.own) (λ cell hr hc.
     let here = original header.k cell hr hc in

@@ -1,7 +1,6 @@
 -- What is known of the answer of a whole repair.
 use Rattle.std.proofs.Common.{◌⊎◌, List, [], ◌∷◌, map}
 use Rattle.std.specs.List.{AllByRecursion}
-use Rattle.std.specs.Prelude.{Result, Ok, Err, IfOk}
 use Rattle.data_header.specs.Headers.{Roots}
 use Rattle.square_layout.specs.Blocks.{SquareShares}
 use Rattle.axis_roots.specs.declared.message.messages.Message.{Message}
@@ -16,11 +15,6 @@ use Rattle.repair_queue.proofs.Places.TakenLemmas.{under_proved}
 use Rattle.repair_queue.proofs.Facts.GrowthLemmas.{same_verdict}
 use Rattle.repair_queue.proofs.Facts.VerdictLemmas.{alike}
 use Rattle.repair_queue.proofs.Facts.OwnLemmas.{own_verdict}
-
--- what follows of an answer that is there
-pub if_ok : {A E : Type 0} {P : A → Type 0} (answer : Result A E) (Q : A → Type 0) → ((x : A) → P x → Q x) → IfOk answer P → IfOk answer Q
-if_ok (Ok x) Q then is = then x is
-if_ok (Err e) Q then is = is
 
 -- samples of certificates are samples
 sized_all : (header : Roots) (messages : List Proved) → AllByRecursion (IsUnder header) messages → AllByRecursion IsMessage (map kept_message messages)

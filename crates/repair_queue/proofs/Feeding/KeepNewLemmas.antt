@@ -8,7 +8,7 @@ use Rattle.namespace_id.specs.declared.shares.Share.{Share}
 use Rattle.namespace_id.specs.declared.cells.Cell.{Cell}
 use Rattle.namespace_id.specs.declared.cells.Axis.{Axis}
 use Rattle.namespace_id.specs.declared.cells.Axis.TheVariants.{Row, Col}
-use Rattle.namespace_id.specs.Cells.{is_in_square}
+use Rattle.namespace_id.specs.Cells.{is_in_square, crossing}
 use Rattle.data_header.specs.Headers.{Roots}
 use Rattle.axis_roots.specs.declared.message.messages.Message.{Message}
 use Rattle.axis_roots.specs.declared.message.proved.Proved.{Proved}
@@ -18,7 +18,7 @@ use Rattle.axis_roots.proofs.Grids.NumberLemmas.{index-lt}
 use Rattle.repair_queue.specs.declared.boards.Board.{Board}
 use Rattle.repair_queue.specs.declared.pools.Pool.{Pool}
 use Rattle.repair_queue.specs.declared.counts.Counts.{Counts}
-use Rattle.repair_queue.specs.Slots.{Kept, Flags, IsPut, crossing, IsAlike}
+use Rattle.repair_queue.specs.Slots.{Kept, Flags, IsPut, IsAlike}
 use Rattle.repair_queue.specs.Repairs.{Shows}
 use Rattle.repair_queue.specs.Pools.{slot_in, IsPool}
 use Rattle.repair_queue.specs.Counts.{Numbers, count_of, pending, AreCounts, IsRaised, AreQueued}

@@ -8,6 +8,7 @@ use Rattle.namespace_id.specs.declared.shares.Share.{Share}
 use Rattle.namespace_id.specs.declared.digests.Digest.{Digest}
 use Rattle.namespace_id.specs.declared.namespaces.Namespace.{Namespace}
 use Rattle.namespace_id.specs.Cells.{is_width}
+use Rattle.namespace_id.proofs.PowerLemmas.{double_halvings}
 use Rattle.nmt_tree.specs.Roots.{halvings, is_ordered, root, strict_root}
 use Rattle.nmt_tree.specs.Levels.{span}
 use Rattle.nmt_tree.proofs.SpanLemmas.{root_is_span}
@@ -18,7 +19,7 @@ use Rattle.axis_roots.specs.Lines.{blank, entry, line_names, line_strict_root}
 use Rattle.axis_roots.specs.Trees.{line_leaves}
 use Rattle.axis_roots.specs.Grids.{share_at, axis_shares}
 use Rattle.axis_roots.proofs.Grids.AxisLemmas.{get_or-along, cell_on-own}
-use Rattle.axis_roots.proofs.Grids.LineLemmas.{length-line_names, leaf_count}
+use Rattle.axis_roots.proofs.Grids.LineLemmas.{length-line_names}
 use Rattle.befp_maker.specs.Rooms.{RoomParts}
 use Rattle.repair_queue.specs.Slots.{Kept, IsApart, IsAlike}
 use Rattle.repair_queue.specs.Closures.{AreChosen}
@@ -64,7 +65,7 @@ pub rises : (k : ℕ) (axis : Axis) (i : ℕ) (line : List Share) (names : List 
     → made ≡ span folded 0 (halvings n) → is_ordered names ≡ true → Some made ≡ line_strict_root k axis i line
 rises k axis i line names digests folded n made width long are is same count eq on =
     let over : root (halvings (2 * k)) (line_names k axis i line) line ≡ span (line_leaves k axis i line) 0 (halvings (2 * k)) =
-    root_is_span (halvings (2 * k)) (line_names k axis i line) line (length-line_names k axis i line ∙ leaf_count k width) (long ∙ leaf_count k width) in
+    root_is_span (halvings (2 * k)) (line_names k axis i line) line (length-line_names k axis i line ∙ sym (double_halvings k width)) (long ∙ sym (double_halvings k width)) in
     ap Some (eq ∙ ap (λ (m : ℕ). span folded 0 (halvings m)) count ∙ ap (λ (l : List Digest). span l 0 (halvings (2 * k))) (same ∙ is) ∙ sym over
     ∙ ap (λ (l : List Namespace). root (halvings (2 * k)) l line) (sym are))
     ∙ sym (strict-by k axis i line names are ∙ ap (λ (b : Bool). cond b (Some (root (halvings (2 * k)) names line)) None) on)

@@ -7,10 +7,11 @@ use Rattle.namespace_id.specs.declared.cells.Axis.{Axis}
 use Rattle.namespace_id.specs.declared.digests.Digest.{Digest}
 use Rattle.namespace_id.specs.Cells.{is_in_square}
 use Rattle.namespace_id.specs.Digests.{no_digest}
+use Rattle.namespace_id.proofs.BelowLemmas.{same_cell}
 use Rattle.axis_roots.specs.Messages.{index, position}
 use Rattle.axis_roots.specs.Lines.{cell_on}
 use Rattle.axis_roots.proofs.Grids.AxisLemmas.{index-cell_on, position-cell_on}
-use Rattle.axis_roots.proofs.Grids.NumberLemmas.{inside, cell_of, cell_of-number}
+use Rattle.axis_roots.proofs.Grids.NumberLemmas.{inside}
 use Rattle.axis_roots.proofs.Grids.WrittenLemmas.{on_axis_in_square}
 use Rattle.repair_queue.specs.Keeping.{AreWrittenLeaves}
 use Rattle.repair_queue.proofs.Places.SlotLemmas.{slot_number-lt}
@@ -18,11 +19,6 @@ use Rattle.repair_queue.proofs.Places.SlotLemmas.{slot_number-lt}
 -- the number of a cell
 abbrev number_of : ℕ → Cell → ℕ
 number_of k cell = cell.row * (2 * k) + cell.col
-
--- two cells of the square with one number are one
-one_number : (k : ℕ) (a b : Cell) → is_in_square k a ≡ true → is_in_square k b ≡ true → number_of k a ≡ number_of k b → a ≡ b
-one_number k a b ha hb e =
-    sym (cell_of-number (2 * k) a (inside k a ha).1) ∙ ap (cell_of (2 * k)) e ∙ cell_of-number (2 * k) b (inside k b hb).1
 
 -- the digests of the first positions are written, and those of other rows and columns stay
 pub record AreWrittenSo (k : ℕ) (old new : List Digest) (axis : Axis) (i : ℕ) (digests : List Digest) (n : ℕ) : Type 0 where
@@ -52,13 +48,13 @@ one_written k old new axis i digests pos at cell d hi hp long count is number so
             let before : p < pos = omega arith in
             let off : number_of k (cell_on axis i p) ≢ at =
             λ e. apart (sym (position-cell_on axis i p)
-            ∙ ap (position axis) (one_number k (cell_on axis i p) (cell_on axis i pos) (on_axis_in_square k axis i p hi (omega arith)) (on_axis_in_square k axis i pos hi hp) (e ∙ place))
+            ∙ ap (position axis) (same_cell (2 * k) (cell_on axis i p) (cell_on axis i pos) (inside k _ (on_axis_in_square k axis i p hi (omega arith))).1 (inside k _ (on_axis_in_square k axis i pos hi hp)).1 (e ∙ place))
             ∙ position-cell_on axis i pos) in
             get_or-set_other new at (number_of k (cell_on axis i p)) (get_or digests pos d) no_digest off ∙ so.here p before
       ];
       elsewhere = λ other within apart.
           let off : number_of k other ≢ at =
-          λ e. apart (ap (index axis) (one_number k other (cell_on axis i pos) within (on_axis_in_square k axis i pos hi hp) (e ∙ place)) ∙ index-cell_on axis i pos) in
+          λ e. apart (ap (index axis) (same_cell (2 * k) other (cell_on axis i pos) (inside k other within).1 (inside k _ (on_axis_in_square k axis i pos hi hp)).1 (e ∙ place)) ∙ index-cell_on axis i pos) in
           get_or-set_other new at (number_of k other) (get_or digests pos d) no_digest off ∙ so.elsewhere other within apart;
     }
 

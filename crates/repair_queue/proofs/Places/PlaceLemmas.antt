@@ -5,7 +5,7 @@ use Rattle.std.proofs.lemmas.Bool.{cases_eq}
 use Rattle.namespace_id.specs.declared.cells.Cell.{Cell}
 use Rattle.namespace_id.specs.declared.cells.Axis.{Axis}
 use Rattle.namespace_id.specs.declared.cells.Axis.TheVariants.{Row, Col}
-use Rattle.repair_queue.specs.Slots.{crossing}
+use Rattle.namespace_id.specs.Cells.{crossing}
 
 -- two axes are of one kind or not
 pub same_axis : (axis other : Axis) → (axis ≡ other) ⊎ (axis ≡ other → ⊥)

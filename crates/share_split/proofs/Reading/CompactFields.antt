@@ -3,7 +3,7 @@ use Rattle.std.proofs.Common.{◌≡◌, ◌∙◌, ℕ, ◌/◌, ◌%◌, ◌<�
 use Rattle.std.proofs.lemmas.List.{drop-drop}
 use Rattle.std.proofs.lemmas.Nat.{from_be_bytes-to_be_bytes_4}
 use Rattle.std.specs.Int.{w32, to_be_bytes, from_be_bytes}
-use Rattle.namespace_id.specs.Shares.{IsShare}
+use Rattle.namespace_id.specs.Shares.{IsShare, share_of}
 use Rattle.namespace_id.specs.declared.namespaces.Namespace.{Namespace}
 use Rattle.namespace_id.specs.declared.shares.Share.{Share}
 use Rattle.share_split.specs.Blobs.{filled, sequence_share}
@@ -12,8 +12,8 @@ use Rattle.share_split.specs.Walks.{version_in, is_start, size_in, fields_in, si
 use Rattle.share_split.proofs.Reading.Cuts.{cut, four, parts, fours, stated, info_is, fields_first, fields_later}
 use Rattle.share_split.proofs.Reading.Signers.{signer_among, unsigned}
 use Rattle.share_split.specs.declared.walking.Form.TheVariants.{Units}
-use Rattle.share_split.proofs.Reading.Fields.{IsFirst, IsLater, named}
-use Rattle.share_split.proofs.Writing.Share.{share_of}
+use Rattle.share_split.proofs.Reading.Fields.{IsFirst, IsLater}
+use Rattle.namespace_id.specs.Names.{named_by}
 
 -- a compact share and the number that its reserved bytes state
 abbrev pub IsCompactFirst : Namespace → ℕ → ℕ → List ℕ → Share → Type 0
@@ -45,7 +45,7 @@ first_compact_is name size reserved text len few small =
       record {
         version_is = version;
         start_is = start;
-        name_is = ap named c.front;
+        name_is = ap named_by c.front;
         signer_is = unsigned_compact share version;
         size_is = ap (from_be_bytes w32) f.0 ∙ from_be_bytes-to_be_bytes_4 size few;
         content_is = ap (drop 4) fields;
@@ -67,7 +67,7 @@ later_compact_is name reserved text len small =
       record {
         version_is = ap (λ (b : ℕ). b / 2) c.byte_is;
         start_is = later;
-        name_is = ap named c.front;
+        name_is = ap named_by c.front;
         content_is = ap (drop 4) fields;
       },
       ap (λ (l : List ℕ). from_be_bytes w32 (take 4 l)) fields ∙ from_be_bytes-to_be_bytes_4 reserved small,

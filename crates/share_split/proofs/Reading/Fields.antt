@@ -5,16 +5,16 @@ use Rattle.std.proofs.lemmas.List.{drop_at}
 use Rattle.std.proofs.lemmas.Nat.{from_be_bytes-to_be_bytes_4}
 use Rattle.std.specs.Int.{w32, to_be_bytes, from_be_bytes}
 use Rattle.namespace_id.specs.Bytes.{IsString}
-use Rattle.namespace_id.specs.Shares.{IsShare, name_in}
+use Rattle.namespace_id.specs.Shares.{IsShare, name_in, share_of}
 use Rattle.namespace_id.specs.declared.namespaces.Namespace.{Namespace}
 use Rattle.namespace_id.specs.declared.shares.Share.{Share}
+use Rattle.namespace_id.specs.Names.{named_by}
 use Rattle.share_split.specs.declared.walking.Form.{Form}
 use Rattle.share_split.specs.declared.walking.Form.TheVariants.{Blobs, Units}
 use Rattle.share_split.specs.Blobs.{signer_size, info, filled, sequence_share, signer_bytes, first_blob_content, later_share}
 use Rattle.share_split.specs.Walks.{version_in, is_start, size_in, fields_in, is_signed, signer_in, bytes_before, content_in}
 use Rattle.share_split.proofs.Reading.Cuts.{cut, four, parts, fours, stated, version_of_info, start_of_info, info_is, fields_first, fields_later, length-fields}
 use Rattle.share_split.proofs.Reading.Signers.{IsLabel, is_signed_by, signer_among, signer_again, signer_parts, length-room}
-use Rattle.share_split.proofs.Writing.Share.{share_of}
 
 -- how much content a first share of a form holds
 abbrev pub first_room : Form → Option (List ℕ) → ℕ
@@ -41,10 +41,6 @@ pub record IsLater (form : Form) (name : Namespace) (version : ℕ) (text : List
   pub start_is : is_start share ≡ false
   pub name_is : name_in share ≡ name
   pub content_is : content_in form share ≡ filled (later_room form) (take (later_room form) text)
-
--- the namespace of these bytes
-abbrev pub named : List ℕ → Namespace
-named bytes = record { 0 = bytes }
 
 -- a later share has no signer
 pub unsigned_later : (share : Share) → is_start share ≡ false → signer_in share ≡ None
@@ -92,7 +88,7 @@ opening_is_first name version signer size text len few label =
     record {
       version_is = version_is;
       start_is = start;
-      name_is = ap named c.front;
+      name_is = ap named_by c.front;
       signer_is = signer_is;
       size_is = size_is;
       content_is = ap₂ (λ (o : Option (List ℕ)) (l : List ℕ). drop (length (signer_bytes o)) l) signer_is fields ∙ drop_at bytes content (length bytes) refl;
@@ -110,7 +106,7 @@ later_share_is_later name version text len =
     record {
       version_is = ap (λ (b : ℕ). b / 2) c.byte_is ∙ version_of_info version false;
       start_is = later;
-      name_is = ap named c.front;
+      name_is = ap named_by c.front;
       content_is = ap₂ (λ (o : Option (List ℕ)) (l : List ℕ). drop (length (signer_bytes o)) l) (unsigned_later share later) (fields_later share later ∙ c.behind);
     }
 

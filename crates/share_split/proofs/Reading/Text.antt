@@ -1,6 +1,7 @@
 -- Walking over the units of a text.
 use Rattle.std.proofs.Common.{◌≡◌, ◌∙◌, ℕ, zero, suc, ◌+◌, ◌-◌, ◌<◌, ◌≤◌, List, [], ◌∷◌, ◌++◌, length, drop, Option, Some, None, Result, Ok, Err, refl, sym, ap, ap₂, arith, append_assoc, append-nil}
 use Rattle.std.specs.Option.{option_map_or}
+use Rattle.namespace_id.proofs.StringLemmas.{drop_one}
 use Rattle.share_split.specs.Units.{unit_text, starts_from}
 use Rattle.share_split.specs.Walks.{unit_at, with_unit, units_from, share_with}
 use Rattle.share_split.specs.declared.joining.JoinError.TheVariants.{BadVarint}
@@ -23,12 +24,6 @@ pub units_here : (at : ℕ) (bytes : List ℕ) (o : Option (List ℕ × ℕ)) �
 unfolding units_from
 units_here at [] o h e = absurd (omega arith)
 units_here at (b ∷ bytes) o h e = ap (λ (x : Option (List ℕ × ℕ)). option_map_or (λ unit. with_unit unit.0 (units_from (unit.1 - 1) (suc at) bytes)) x (Err at)) e
-
--- one byte, and then the others
-drop_one : (n : ℕ) (bytes : List ℕ) → 0 < n → 0 < length bytes → drop (n - 1) (drop 1 bytes) ≡ drop n bytes
-drop_one zero bytes h k = absurd (omega arith)
-drop_one (suc n) [] h k = absurd (omega arith)
-drop_one (suc n) (b ∷ bytes) h k = let e : suc n - 1 ≡ n = omega arith in ap (λ (m : ℕ). drop m bytes) e
 
 -- a unit stands here, and then the others
 pub units_on : (at : ℕ) (bytes unit : List ℕ) (size : ℕ) → unit_at bytes ≡ Some (unit, size) → 0 < size → 0 < length bytes

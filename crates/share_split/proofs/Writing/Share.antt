@@ -4,16 +4,12 @@ use Rattle.std.proofs.lemmas.List.{drop-replicate, take-replicate, append_assoc}
 use Rattle.std.proofs.Math.Seq.{take-append-add}
 use Rattle.namespace_id.proofs.StringLemmas.{put_next}
 use Rattle.namespace_id.specs.declared.namespaces.Namespace.{Namespace}
-use Rattle.namespace_id.specs.declared.shares.Share.{Share}
+use Rattle.namespace_id.specs.Shares.{share_of}
 use Rattle.share_split.specs.Blobs.{later_content, info, filled, sequence_share}
 
 -- what is written so far, and zeros behind it up to the size of a share
 abbrev pub laid : List ℕ → List ℕ
 laid before = before ++ replicate (512 - length before) 0
-
--- the share of these bytes
-abbrev pub share_of : List ℕ → Share
-share_of bytes = record { 0 = bytes }
 
 -- one part more
 pub laid_more : (before part old new : List ℕ) (at : ℕ) → old ≡ laid before → at ≡ length before

@@ -12,7 +12,7 @@ use Rattle.nmt_proofs.specs.declared.opening.OpenRefusal.{OpenRefusal}
 use Rattle.nmt_proofs.specs.Openings.{has_count, has_order, has_root, leaves_from, one_digest}
 use Rattle.nmt_proofs.specs.Complete.{range_break, absence_break}
 use Rattle.nmt_proofs.specs.Causes.{opening_refusal}
-use Rattle.nmt_proofs.proofs.ListLemmas.{each-then}
+use Rattle.nmt_proofs.proofs.Parts.ListLemmas.{each-then}
 use Rattle.data_header.specs.Headers.{Roots, root_of}
 use Rattle.axis_roots.specs.declared.answers.Found.{Found}
 use Rattle.axis_roots.specs.declared.answers.Found.TheVariants.{Range, Absence}

@@ -12,8 +12,8 @@ use Rattle.nmt_tree.specs.Spans.{name_at}
 use Rattle.nmt_proofs.specs.Parts.{leaf, digest_of}
 use Rattle.nmt_proofs.specs.Openings.{leaves_from}
 use Rattle.nmt_proofs.specs.Clashes.{Agree, AreShown, ArePlaces, AreListed, IsOpening, whole}
-use Rattle.nmt_proofs.proofs.ShownLemmas.{opening-sized, opening-deep}
-use Rattle.nmt_proofs.proofs.DigestLemmas.{same_digest}
+use Rattle.nmt_proofs.proofs.Parts.ShownLemmas.{opening-sized, opening-deep}
+use Rattle.nmt_proofs.proofs.Parts.DigestLemmas.{same_digest}
 use Rattle.data_header.specs.Headers.{Roots, root_of}
 use Rattle.square_layout.specs.Blocks.{SquareShares}
 use Rattle.axis_roots.specs.declared.answers.Found.{Found}

@@ -7,20 +7,20 @@ use Rattle.namespace_id.specs.declared.shares.Share.{Share}
 use Rattle.namespace_id.specs.declared.digests.Digest.{Digest}
 use Rattle.namespace_id.specs.declared.cells.Axis.TheVariants.{Row}
 use Rattle.namespace_id.specs.Names.{is_parity}
+use Rattle.namespace_id.proofs.PowerLemmas.{double_halvings}
 use Rattle.nmt_tree.specs.Roots.{halvings}
 use Rattle.nmt_tree.specs.Levels.{span}
 use Rattle.nmt_proofs.specs.Openings.{leaves_from, one_digest}
 use Rattle.nmt_proofs.specs.Clashes.{Agree}
 use Rattle.nmt_proofs.specs.Complete.{range_break, absence_break, IsNowhereElse}
-use Rattle.nmt_proofs.proofs.ListedLemmas.{agreed}
-use Rattle.nmt_proofs.proofs.WholeLemmas.{whole_is_span}
-use Rattle.nmt_proofs.proofs.OtherLeafLemmas.{range_alone, absence_alone}
+use Rattle.nmt_proofs.proofs.Agreement.ListedLemmas.{agreed}
+use Rattle.nmt_proofs.proofs.Parts.WholeLemmas.{whole_is_span}
+use Rattle.nmt_proofs.proofs.Agreement.OtherLeafLemmas.{range_alone, absence_alone}
 use Rattle.data_header.specs.Headers.{Roots, root_of}
 use Rattle.square_layout.specs.Blocks.{SquareShares}
 use Rattle.axis_roots.specs.declared.answers.Found.{Found}
 use Rattle.axis_roots.specs.declared.answers.Found.TheVariants.{Range, Absence}
 use Rattle.axis_roots.specs.Grids.{IsHeaderOf, axis_names, axis_shares, axis_tree}
-use Rattle.axis_roots.proofs.Grids.LineLemmas.{leaf_count}
 use Rattle.square_serve.specs.Shares.{row_shares}
 use Rattle.square_serve.specs.Answers.{is_placed, shown_found, shown_from, OpensFound}
 use Rattle.square_serve.specs.Own.{opened_by}
@@ -48,7 +48,7 @@ range_shows header name square own row start shares nodes other h placed opens s
     let names : List Namespace = axis_names k own.grid Row row in
     let line : List Share = axis_shares k own.grid Row row in
     let one : IsRow k own.grid row = own_row header square own row h in
-    let size : 2 * k ≡ 2 ^ d = leaf_count k own.whole.width in
+    let size : 2 * k ≡ 2 ^ d = sym (double_halvings k own.whole.width) in
     let within : (0 < length shares) × (start + length shares ≤ k) = placed_range k start (length shares) placed in
     let listed = agreed d 0 names line (leaves_from start name shares) nodes
     (leaves-places 0 (0 + 2 ^ d) start name shares (omega arith) (omega (arith, within.1, size))) (eqb-true _ _ opens.opens.count) same in
@@ -71,7 +71,7 @@ absence_shows header name square own row pos digest nodes other h placed opens s
     let names : List Namespace = axis_names k own.grid Row row in
     let line : List Share = axis_shares k own.grid Row row in
     let one : IsRow k own.grid row = own_row header square own row h in
-    let size : 2 * k ≡ 2 ^ d = leaf_count k own.whole.width in
+    let size : 2 * k ≡ 2 ^ d = sym (double_halvings k own.whole.width) in
     let within : pos < k = placed_absence k pos placed in
     let listed = agreed d 0 names line (one_digest pos digest) nodes (refl, omega arith, omega (arith, within, size), tt) (eqb-true _ _ opens.opens.count) same in
     let alone : IsNowhereElse name names pos pos =

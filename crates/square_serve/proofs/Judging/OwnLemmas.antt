@@ -8,7 +8,7 @@ use Rattle.namespace_id.specs.declared.shares.Share.{Share}
 use Rattle.namespace_id.specs.declared.cells.Axis.TheVariants.{Row}
 use Rattle.namespace_id.specs.Names.{IsNamespace, is_parity}
 use Rattle.nmt_proofs.specs.Clashes.{Agree}
-use Rattle.nmt_proofs.proofs.ListLemmas.{each-then}
+use Rattle.nmt_proofs.proofs.Parts.ListLemmas.{each-then}
 use Rattle.data_header.specs.Headers.{Roots, root_of}
 use Rattle.square_layout.specs.Blocks.{SquareShares, IsSquare}
 use Rattle.axis_roots.specs.declared.answers.NsEntry.{NsEntry}

@@ -9,6 +9,7 @@ use Rattle.namespace_id.specs.declared.digests.Digest.{Digest}
 use Rattle.namespace_id.specs.Names.{IsNamespace, is_at_most, is_below, is_parity, parity}
 use Rattle.namespace_id.specs.Digests.{least_of, greatest_of, no_digest}
 use Rattle.namespace_id.proofs.OrderLemmas.{at_most_parity, at_most_antisym}
+use Rattle.namespace_id.proofs.PowerLemmas.{double_halvings}
 use Rattle.nmt_tree.specs.Roots.{halvings}
 use Rattle.nmt_tree.specs.Spans.{name_at, IsOver}
 use Rattle.nmt_tree.proofs.NameLemmas.{same_name}
@@ -17,7 +18,7 @@ use Rattle.axis_roots.specs.declared.answers.Found.{Found}
 use Rattle.axis_roots.specs.declared.answers.Found.TheVariants.{Range, Absence}
 use Rattle.axis_roots.specs.Grids.{axis_names, axis_shares}
 use Rattle.axis_roots.specs.Trees.{axis_leaves}
-use Rattle.axis_roots.proofs.Grids.LineLemmas.{leaf_count, length-line_names}
+use Rattle.axis_roots.proofs.Grids.LineLemmas.{length-line_names}
 use Rattle.square_serve.specs.Serving.{count_below, count_same, found_at}
 use Rattle.square_serve.proofs.RowLemmas.{axis_names-parity}
 use Rattle.square_serve.proofs.RowTreeLemmas.{IsRow}
@@ -97,7 +98,7 @@ module _ (name : Namespace) (k : ℕ) (grid : List Share) (row : ℕ) (named : I
           (ap (is_at_most name) (sym over.greatest) ∙ high) (stands.under over.place (omega (arith, before, le))))
       | inr behind ↦
           let greatest : greatest_of root ≡ parity =
-          over.greatest ∙ axis_names-parity k grid row over.place is.within behind (omega (arith, over.high, leaf_count k is.width)) in
+          over.greatest ∙ axis_names-parity k grid row over.place is.within behind (omega (arith, over.high, double_halvings k is.width)) in
           let least : least_of root ≡ parity = same_name (least_of root) parity ((bytes_eq-Decides (least_of root).0 parity.0).0 (over.parity (is_its_own (greatest_of root) greatest))) in
           absurd (other_than name other (at_most_antisym name parity (at_most_parity name named) (ap (λ (n : Namespace). is_at_most n name) (sym least) ∙ low)))
     ]

@@ -11,6 +11,7 @@ use Rattle.namespace_id.specs.declared.digests.Digest.{Digest}
 use Rattle.namespace_id.specs.Names.{IsNamespace, AreNamespaces, is_at_most, is_below, is_parity, parity}
 use Rattle.namespace_id.specs.Digests.{least_of, greatest_of, no_digest}
 use Rattle.namespace_id.proofs.OrderLemmas.{at_most_refl, at_most_antisym, at_most_total, at_most_parity}
+use Rattle.namespace_id.proofs.PowerLemmas.{double_halvings}
 use Rattle.nmt_tree.specs.Roots.{halvings, is_ordered}
 use Rattle.nmt_tree.specs.Levels.{span}
 use Rattle.nmt_tree.specs.Spans.{name_at, IsOver}
@@ -20,11 +21,11 @@ use Rattle.nmt_proofs.specs.Openings.{outside, leaves_from, one_digest, digests_
 use Rattle.nmt_proofs.specs.Clashes.{Agree}
 use Rattle.nmt_proofs.specs.Complete.{range_break, absence_break, StandsBetween}
 use Rattle.nmt_proofs.specs.Making.{spans, leaf_nodes, range_nodes}
-use Rattle.nmt_proofs.proofs.ListedLemmas.{agreed}
-use Rattle.nmt_proofs.proofs.WholeLemmas.{whole_is_span}
-use Rattle.nmt_proofs.proofs.OtherLeafLemmas.{range_stands, absence_stands}
-use Rattle.nmt_proofs.proofs.RunLemmas.{run_leaves, run_digests, length-leaves_from, length-digests_from, outside-run}
-use Rattle.nmt_proofs.proofs.ListLemmas.{each-then}
+use Rattle.nmt_proofs.proofs.Agreement.ListedLemmas.{agreed}
+use Rattle.nmt_proofs.proofs.Parts.WholeLemmas.{whole_is_span}
+use Rattle.nmt_proofs.proofs.Agreement.OtherLeafLemmas.{range_stands, absence_stands}
+use Rattle.nmt_proofs.proofs.Neighbors.RunLemmas.{run_leaves, run_digests, length-leaves_from, length-digests_from, outside-run}
+use Rattle.nmt_proofs.proofs.Parts.ListLemmas.{each-then}
 use Rattle.data_header.specs.Headers.{Roots, root_of}
 use Rattle.square_layout.specs.Blocks.{SquareShares}
 use Rattle.axis_roots.specs.declared.answers.Found.{Found}
@@ -35,7 +36,6 @@ use Rattle.axis_roots.specs.Lines.{blank}
 use Rattle.axis_roots.specs.Grids.{IsHeaderOf, axis_names, axis_shares, axis_tree, header_of_grid}
 use Rattle.axis_roots.specs.Trees.{axis_leaves}
 use Rattle.axis_roots.proofs.Grids.HeaderLemmas.{header_width}
-use Rattle.axis_roots.proofs.Grids.LineLemmas.{leaf_count}
 use Rattle.axis_roots.proofs.Grids.StoredLemmas.{length-leaves}
 use Rattle.square_serve.specs.Answers.{is_placed, is_wanted, wanted_rows, OpensFound, IsComplete}
 use Rattle.square_serve.specs.Own.{opened_by, AnswerNames, EntryAgrees, EntryNames}
@@ -172,7 +172,7 @@ module _ (header : Roots) (name : Namespace) (square : SquareShares) (own : IsHe
       let leaves : List Digest = axis_leaves k own.grid Row row in
       let n : ℕ = length shares in
       let one : IsRow k own.grid row = own_row header square own row h in
-      let size : 2 * k ≡ 2 ^ d = leaf_count k own.whole.width in
+      let size : 2 * k ≡ 2 ^ d = sym (double_halvings k own.whole.width) in
       let within : (0 < n) × (start + n ≤ k) = placed_range k start n placed in
       let listed = agreed d 0 names line (leaves_from start name shares) nodes
       (leaves-places 0 (0 + 2 ^ d) start name shares (omega arith) (omega (arith, within.1, size))) (eqb-true _ _ opens.opens.count) agree in
@@ -216,7 +216,7 @@ module _ (header : Roots) (name : Namespace) (square : SquareShares) (own : IsHe
       let leaves : List Digest = axis_leaves k own.grid Row row in
       let root : Digest = root_of header Row row in
       let one : IsRow k own.grid row = own_row header square own row h in
-      let size : 2 * k ≡ 2 ^ d = leaf_count k own.whole.width in
+      let size : 2 * k ≡ 2 ^ d = sym (double_halvings k own.whole.width) in
       let within : pos < k = placed_absence k pos placed in
       let listed = agreed d 0 names line (one_digest pos leaf) nodes (refl, omega arith, omega (arith, within, size), tt) (eqb-true _ _ opens.opens.count) agree in
       let here : leaf ≡ get_or leaves pos no_digest = listed.0.0 ∙ whole_is_span 0 pos names line in

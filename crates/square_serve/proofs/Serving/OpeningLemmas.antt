@@ -8,6 +8,7 @@ use Rattle.namespace_id.specs.declared.shares.Share.{Share}
 use Rattle.namespace_id.specs.declared.digests.Digest.{Digest}
 use Rattle.namespace_id.specs.Names.{IsNamespace, is_at_most, is_parity, parity}
 use Rattle.namespace_id.specs.Digests.{least_of, greatest_of, no_digest}
+use Rattle.namespace_id.proofs.PowerLemmas.{double_halvings}
 use Rattle.nmt_tree.specs.Digests.{leaf_digest}
 use Rattle.nmt_tree.specs.Roots.{halvings}
 use Rattle.nmt_tree.specs.Levels.{leaf_digests}
@@ -18,14 +19,13 @@ use Rattle.nmt_proofs.specs.Openings.{Opens, one_digest, leaves_from}
 use Rattle.nmt_proofs.specs.Complete.{IsBetween}
 use Rattle.nmt_proofs.specs.Causes.{OpensRange, OpensAbsence}
 use Rattle.nmt_proofs.specs.Making.{leaf_nodes, range_nodes}
-use Rattle.nmt_proofs.proofs.MadeLemmas.{one_opens}
-use Rattle.nmt_proofs.proofs.OtherLeafLemmas.{made_absence}
-use Rattle.nmt_proofs.proofs.NeighborLemmas.{range_opens, range_complete}
+use Rattle.nmt_proofs.proofs.Agreement.MadeLemmas.{one_opens}
+use Rattle.nmt_proofs.proofs.Agreement.OtherLeafLemmas.{made_absence}
+use Rattle.nmt_proofs.proofs.Neighbors.NeighborLemmas.{range_opens, range_complete}
 use Rattle.axis_roots.specs.Lines.{blank}
 use Rattle.axis_roots.specs.Grids.{share_at, axis_names, axis_shares, axis_root}
 use Rattle.axis_roots.specs.Trees.{axis_leaves}
 use Rattle.axis_roots.proofs.Grids.AxisLemmas.{length-along}
-use Rattle.axis_roots.proofs.Grids.LineLemmas.{leaf_count}
 use Rattle.axis_roots.proofs.Grids.RootingLemmas.{root-leaves}
 use Rattle.axis_roots.proofs.Grids.StoredLemmas.{length-leaves}
 use Rattle.square_serve.specs.Answers.{is_placed, OpensFound}
@@ -60,7 +60,7 @@ shown_in name k grid row = take (same name k grid row) (drop (below name k grid 
 module _ (name : Namespace) (k : ℕ) (grid : List Share) (row : ℕ) (named : IsNamespace name) (is : IsRow k grid row) where
   -- the leaves of a row: their number
   leaves-long : length (axis_leaves k grid Row row) ≡ 2 ^ halvings (2 * k)
-  leaves-long = length-leaves k grid Row row ∙ leaf_count k is.width
+  leaves-long = length-leaves k grid Row row ∙ sym (double_halvings k is.width)
 
   -- as many as there are leaves of the namespace
   pub length-shown : length (shown_in name k grid row) ≡ same name k grid row
@@ -70,7 +70,7 @@ module _ (name : Namespace) (k : ℕ) (grid : List Share) (row : ℕ) (named : I
 
   -- they are within the row
   shown-within : below name k grid row + same name k grid row ≤ 2 ^ halvings (2 * k)
-  shown-within = omega (arith, (stands name k grid row named is).within, row_names name k grid row named is, leaf_count k is.width)
+  shown-within = omega (arith, (stands name k grid row named is).within, row_names name k grid row named is, double_halvings k is.width)
 
   -- the namespaces beside them are others
   between : IsBetween name (axis_names k grid Row row) (below name k grid row) (below name k grid row + same name k grid row)
@@ -105,7 +105,7 @@ module _ (name : Namespace) (k : ℕ) (grid : List Share) (row : ℕ) (named : I
       let pos : ℕ = below name k grid row in
       let leaf : Digest = get_or leaves pos no_digest in
       let nodes : List Digest = leaf_nodes (2 * k) leaves pos in
-      let within : pos < 2 ^ depth = omega (arith, below-lt name k grid row named is, leaf_count k is.width) in
+      let within : pos < 2 ^ depth = omega (arith, below-lt name k grid row named is, double_halvings k is.width) in
       let end : pos + same name k grid row ≡ pos = omega (arith, none) in
       record {
         opens = subst (λ (root : Digest). Opens depth (one_digest pos leaf) nodes root) (root-leaves k grid Row row is.width)

@@ -1,5 +1,5 @@
 -- The sizes of what is found of a namespace in a row.
-use Rattle.std.proofs.Common.{◌≡◌, ◌∙◌, ℕ, ◌+◌, ◌*◌, ◌^◌, ◌<◌, ◌≤◌, List, [], ◌∷◌, length, take, drop, get_or, refl, arith, length-drop}
+use Rattle.std.proofs.Common.{◌≡◌, ◌∙◌, ℕ, ◌+◌, ◌*◌, ◌^◌, ◌<◌, ◌≤◌, List, [], ◌∷◌, length, take, drop, get_or, refl, sym, arith, length-drop}
 use Rattle.std.specs.List.{AllByRecursion}
 use Rattle.std.proofs.lemmas.List.{length-take-le, length-map}
 use Rattle.std.proofs.lemmas.List.Elements.{All-get_or, All-from_recursion}
@@ -10,19 +10,19 @@ use Rattle.namespace_id.specs.declared.digests.Digest.{Digest}
 use Rattle.namespace_id.specs.Names.{IsNamespace}
 use Rattle.namespace_id.specs.Shares.{IsShare}
 use Rattle.namespace_id.specs.Digests.{IsDigest, AreDigests, no_digest}
+use Rattle.namespace_id.proofs.PowerLemmas.{double_halvings, halvings-le}
 use Rattle.nmt_tree.specs.Roots.{halvings}
 use Rattle.nmt_tree.specs.Levels.{span}
 use Rattle.nmt_proofs.specs.Openings.{Shown, outside, one_digest, digests_from}
 use Rattle.nmt_proofs.specs.Making.{spans}
-use Rattle.nmt_proofs.proofs.ListLemmas.{each-take, each-drop}
-use Rattle.nmt_proofs.proofs.RunLemmas.{IsRun, run_digests, length-digests_from}
-use Rattle.nmt_proofs.proofs.BesideLemmas.{IsBeside, outside_beside, outside_few}
+use Rattle.nmt_proofs.proofs.Parts.ListLemmas.{each-take, each-drop}
+use Rattle.nmt_proofs.proofs.Neighbors.RunLemmas.{IsRun, run_digests, length-digests_from}
+use Rattle.nmt_proofs.proofs.Neighbors.BesideLemmas.{IsBeside, outside_beside, outside_few}
 use Rattle.axis_roots.specs.Answers.{IsFound, IsEntry}
 use Rattle.axis_roots.specs.Grids.{axis_names, axis_shares}
 use Rattle.axis_roots.specs.Trees.{axis_leaves}
-use Rattle.axis_roots.proofs.Grids.LineLemmas.{leaf_count}
 use Rattle.axis_roots.proofs.Grids.StoredLemmas.{length-leaves}
-use Rattle.axis_roots.proofs.Messages.SizeLemmas.{digests-leaves, digest-span, number-lt-two_bytes, halvings-le}
+use Rattle.axis_roots.proofs.Messages.SizeLemmas.{digests-leaves, digest-span, number-lt-two_bytes}
 use Rattle.square_serve.specs.Serving.{entry_in}
 use Rattle.square_serve.proofs.RowTreeLemmas.{IsRow}
 use Rattle.square_serve.proofs.Serving.FoundLemmas.{found_both, below, same, stands, row_names, below-lt}
@@ -56,12 +56,12 @@ entry_sized name k grid row named is =
     let count : ℕ = same name k grid row in
     let counts = stands name k grid row named is in
     let place : from < 2 * k = below-lt name k grid row named is in
-    let size : 2 * k ≡ 2 ^ depth = leaf_count k is.width in
+    let size : 2 * k ≡ 2 ^ depth = sym (double_halvings k is.width) in
     let digests : AreDigests leaves = digests-leaves names shares is.leaves.name_bytes in
     let long : length leaves ≡ 2 * k = length-leaves k grid Row row in
     let nodes_of : (ss : List Shown) → 0 < length ss → from + length ss ≤ 2 ^ depth → IsRun from ss
     → (length (spans leaves (outside depth 0 ss)) ≤ 16) × AreDigests (spans leaves (outside depth 0 ss)) = λ ss.
-    nodes_beside depth from leaves ss digests (long ∙ size) (halvings-le k is.width) in
+    nodes_beside depth from leaves ss digests (long ∙ size) (halvings-le (2 * k)) in
     record {
       row = number-lt-two_bytes k row is.width (omega (arith, is.within));
       found = found_both k grid row from count IsFound (λ none.

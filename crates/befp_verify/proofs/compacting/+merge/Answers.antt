@@ -4,8 +4,8 @@ use Rattle.std.proofs.lemmas.Result.{on_ok_weaker}
 use Rattle.std.proofs.lemmas.List.{get_or_default}
 use Rattle.namespace_id.specs.declared.digests.Digest.{Digest}
 use Rattle.namespace_id.specs.Digests.{no_digest}
-use Rattle.nmt_proofs.proofs.ListLemmas.{each-take, each-drop}
-use Rattle.nmt_proofs.proofs.StepLemmas.{is_none, is_some, twice_half}
+use Rattle.nmt_proofs.proofs.Parts.ListLemmas.{each-take, each-drop}
+use Rattle.nmt_proofs.proofs.Parts.StepLemmas.{is_none, is_some, twice_half}
 use Rattle.befp_verify.specs.declared.compacting.Placed.{Placed}
 use Rattle.befp_verify.specs.Placed.{HasNodes}
 use Rattle.befp_verify.proofs.BranchLemmas.{nodes_none, nodes_one, nodes_halved, have_fewer, first_has, joined_nodes}

@@ -1,6 +1,7 @@
 use Rattle.std.proofs.Common.{◌≡◌, ◌∙◌, ℕ, ◌+◌, ◌-◌, ◌*◌, ◌/◌, ◌%◌, ◌^◌, ◌<◌, ◌≤◌, List, length, refl, sym, ap, subst, arith}
 use Rattle.std.proofs.Math.Nat.{min-le_left}
 use Rattle.std.proofs.lemmas.Result.{on_ok_weaker}
+use Rattle.namespace_id.proofs.WidthLemmas.{is_width-pos}
 use Rattle.nmt_proofs.specs.Places.{AreAligned}
 use Rattle.data_header.specs.Headers.{Roots}
 use Rattle.data_header.specs.DataRoots.{data_root_of}
@@ -13,7 +14,6 @@ use Rattle.blob_commit.proofs.CommitOwnLemmas.{row-lt}
 use Rattle.blob_commit.proofs.FitLemmas.{part-pos, some_sizes, row_places, next_begins}
 use Rattle.blob_commit.proofs.MakingLemmas.{adds_none, adds_more, row_holds, at_place}
 use Rattle.blob_commit.proofs.making.+add_rows.Goals as goal
-use Rattle.namespace_id.proofs.AllCellsLemmas.{width-ge}
 
 pub returns-then-rest-eq0 : goal.returns-then-rest-eq0
 returns-then-rest-eq0 t c = adds_none (data_root_of c.args.header.now) c.args.header.now.k c.args.levels c.args.rest.at c.args.rest.left c.args.rows.now.items c.if-rest-eq0.true
@@ -33,7 +33,7 @@ make_row-requires-clause-tree t c =
 
 pub make_row-requires-clause-some : goal.make_row-requires-clause-some
 make_row-requires-clause-some t c =
-    let part = part-pos c.header.inside.k c.args.rest.at c.args.rest.left (width-ge c.header.inside.k c.header.invariant.width) (omega (arith, c.if-rest-eq0.false)) in
+    let part = part-pos c.header.inside.k c.args.rest.at c.args.rest.left (is_width-pos c.header.inside.k c.header.invariant.width) (omega (arith, c.if-rest-eq0.false)) in
     let some = some_sizes c.args.levels c.part_of_row-part.result c.requires.levels (omega (arith, part, c.part_of_row-part.ensures)) in
     omega (arith, some, ap length (c.sizes.ensures.value ∙ c.cut_by-sizes.ensures))
 
@@ -51,7 +51,7 @@ pub add_rows-requires : goal.add_rows-requires
 add_rows-requires t c =
     let same : c.header.inside.k ≡ c.args.header.now.k = ap (λ (r : Roots). r.k) c.header.view_is in
     let divides : c.header.inside.k % 2 ^ (c.args.levels - 1) ≡ 0 = ap (λ (m : ℕ). m % 2 ^ (c.args.levels - 1)) same ∙ c.requires.divides in
-    let part = part-pos c.header.inside.k c.args.rest.at c.args.rest.left (width-ge c.header.inside.k c.header.invariant.width) (omega (arith, c.if-rest-eq0.false)) in
+    let part = part-pos c.header.inside.k c.args.rest.at c.args.rest.left (is_width-pos c.header.inside.k c.header.invariant.width) (omega (arith, c.if-rest-eq0.false)) in
     let le = min-le_left c.args.rest.left (c.header.inside.k - c.args.rest.at % c.header.inside.k) in (
       omega (arith, c.decreases, part, le, c.part_of_row-part.ensures),
       (
@@ -80,7 +80,7 @@ returns t c =
     let root : List ℕ = data_root_of c.args.header.now in
     let k : ℕ = c.args.header.now.k in
     let same : c.header.inside.k ≡ k = ap (λ (r : Roots). r.k) c.header.view_is in
-    let some_k : 0 < k = omega (arith, same, width-ge c.header.inside.k c.header.invariant.width) in
+    let some_k : 0 < k = omega (arith, same, is_width-pos c.header.inside.k c.header.invariant.width) in
     let part : c.part_of_row-part.result ≡ part_of_row k c.args.rest.at c.args.rest.left = c.part_of_row-part.ensures ∙ ap (λ (m : ℕ). part_of_row m c.args.rest.at c.args.rest.left) same in
     let first =
     row_holds root k c.args.levels c.args.rest.at c.args.rest.left (c.args.rest.at / c.header.inside.k) (c.args.rest.at % c.header.inside.k) c.sizes.result.now c.in_ok-row.row

@@ -2,7 +2,7 @@ use Rattle.std.proofs.Common.{◌∙◌, ◌++◌, List, length, ap, arith}
 use Rattle.namespace_id.specs.declared.digests.Digest.{Digest}
 use Rattle.namespace_id.proofs.WidthLemmas.{is_width-le}
 use Rattle.nmt_proofs.specs.Making.{interval_digests}
-use Rattle.nmt_proofs.proofs.TileCountLemmas.{length-interval_digests}
+use Rattle.nmt_proofs.proofs.Sets.TileCountLemmas.{length-interval_digests}
 use Rattle.blob_commit.proofs.MakingLemmas.{row_tree-filled}
 use Rattle.blob_commit.proofs.making.make_row.Goals as goal
 

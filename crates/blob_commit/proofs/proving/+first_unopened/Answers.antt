@@ -1,5 +1,6 @@
 use Rattle.std.proofs.Common.{◌∙◌, ◌+◌, ◌-◌, ◌*◌, ◌%◌, ℕ, List, length, Some, None, refl, ap, sym, arith, subst}
 use Rattle.std.proofs.Math.Nat.{min-le_left}
+use Rattle.namespace_id.proofs.WidthLemmas.{is_width-pos}
 use Rattle.nmt_proofs.specs.Places.{AreAligned}
 use Rattle.blob_commit.specs.Cuts.{cut_by}
 use Rattle.blob_commit.specs.Proofs.{RowParts, fits_rows}
@@ -8,7 +9,6 @@ use Rattle.blob_commit.proofs.WalkLemmas.{unopened-none, unopened-here, unopened
 use Rattle.blob_commit.proofs.CutLemmas.{few_in_row}
 use Rattle.blob_commit.proofs.FitLemmas.{fits-parts, part-pos, some_sizes, row_places, next_begins}
 use Rattle.blob_commit.proofs.proving.+first_unopened.Goals as goal
-use Rattle.namespace_id.proofs.AllCellsLemmas.{width-ge}
 
 pub returns-in_default : goal.returns-in_default
 returns-in_default t c = unopened-none c.args.k c.args.levels c.args.at c.args.left c.args.number c.args.rows.now c.in_default.ensures.cases
@@ -19,7 +19,7 @@ cut_by-sizes-requires-clause-room t c = few_in_row c.args.k c.args.levels c.args
 pub open_nodes-opened-requires-clause-some : goal.open_nodes-opened-requires-clause-some
 open_nodes-opened-requires-clause-some t c =
     let parts = fits-parts c.args.k c.args.levels c.args.at c.args.left c.args.rows.now c.in-Some.others.now c.in-Some.row.now c.in-Some.ensures.cases.0 c.requires.fits in
-    let some = some_sizes c.args.levels c.part_of_row-part.result c.requires.levels (omega (arith, part-pos c.args.k c.args.at c.args.left (width-ge c.args.k c.requires.width) parts.0, c.part_of_row-part.ensures)) in
+    let some = some_sizes c.args.levels c.part_of_row-part.result c.requires.levels (omega (arith, part-pos c.args.k c.args.at c.args.left (is_width-pos c.args.k c.requires.width) parts.0, c.part_of_row-part.ensures)) in
     omega (arith, some, ap length (c.sizes.ensures.value ∙ c.cut_by-sizes.ensures))
 
 pub open_nodes-opened-requires-clause-places : goal.open_nodes-opened-requires-clause-places

@@ -16,7 +16,7 @@ use Rattle.da_commands.specs.Repair.{Repairs}
 use Rattle.da_cli.specs.Feeding.{proved_among}
 use Rattle.da_cli.specs.Streamed.{FeedsFile}
 use Rattle.da_status.proofs.EndLemmas.{once_within}
-use Rattle.da_commands.proofs.RepairLemmas.{repairs}
+use Rattle.da_commands.proofs.Answering.RepairLemmas.{repairs}
 use Rattle.da_cli.proofs.streamed.repair_file.Goals as goal
 
 -- the verdict is one over the proved samples of the file

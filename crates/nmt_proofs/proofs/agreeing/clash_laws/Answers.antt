@@ -1,12 +1,12 @@
 use Rattle.std.proofs.Common.{sym}
-use Rattle.nmt_proofs.proofs.HashedLemmas.{first_apart-clash_at}
-use Rattle.nmt_proofs.proofs.AgreeLemmas.{found_is_clash, none_found}
-use Rattle.nmt_proofs.proofs.WholeLemmas.{digest-whole, depth-whole, sized-whole}
-use Rattle.nmt_proofs.proofs.ShownLemmas.{opening-sized, opening-deep}
-use Rattle.nmt_proofs.proofs.ListedLemmas.{opening_law, places_law, leaf_law, lists_law, symmetric_law}
-use Rattle.nmt_proofs.proofs.SetLawLemmas.{set_law}
-use Rattle.nmt_proofs.proofs.PieceLawLemmas.{subtrees_law}
-use Rattle.nmt_proofs.proofs.TwinLemmas.{twins_law}
+use Rattle.nmt_proofs.proofs.Parts.HashedLemmas.{first_apart-clash_at}
+use Rattle.nmt_proofs.proofs.Agreement.AgreeLemmas.{found_is_clash, none_found}
+use Rattle.nmt_proofs.proofs.Parts.WholeLemmas.{digest-whole, depth-whole, sized-whole}
+use Rattle.nmt_proofs.proofs.Parts.ShownLemmas.{opening-sized, opening-deep}
+use Rattle.nmt_proofs.proofs.Agreement.ListedLemmas.{opening_law, places_law, leaf_law, lists_law, symmetric_law}
+use Rattle.nmt_proofs.proofs.Sets.SetLawLemmas.{set_law}
+use Rattle.nmt_proofs.proofs.Sets.PieceLawLemmas.{subtrees_law}
+use Rattle.nmt_proofs.proofs.Agreement.TwinLemmas.{twins_law}
 use Rattle.nmt_proofs.proofs.agreeing.clash_laws.Goals as goal
 
 pub returns-clause-found : goal.returns-clause-found

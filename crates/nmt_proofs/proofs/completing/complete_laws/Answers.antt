@@ -1,4 +1,4 @@
-use Rattle.nmt_proofs.proofs.OtherLeafLemmas.{made_range, made_absence, range_stands, absence_stands, range_alone, absence_alone}
+use Rattle.nmt_proofs.proofs.Agreement.OtherLeafLemmas.{made_range, made_absence, range_stands, absence_stands, range_alone, absence_alone}
 use Rattle.nmt_proofs.proofs.completing.complete_laws.Goals as goal
 
 pub returns-clause-made_range : goal.returns-clause-made_range

@@ -1,5 +1,5 @@
 use Rattle.std.proofs.Common.{◌∙◌, ap, ap₂, sym, length, ◌+◌, length-append}
-use Rattle.nmt_proofs.proofs.StepLemmas.{outside_none, outside_shown, halved, is_none, is_some}
+use Rattle.nmt_proofs.proofs.Parts.StepLemmas.{outside_none, outside_shown, halved, is_none, is_some}
 use Rattle.nmt_proofs.proofs.joining.+count_outside.Goals as goal
 
 pub returns-then-is_empty-clause-count : goal.returns-then-is_empty-clause-count

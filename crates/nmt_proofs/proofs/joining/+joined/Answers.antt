@@ -1,8 +1,8 @@
 use Rattle.std.proofs.Common.{◌≡◌, ◌∙◌, ap, sym, length, arith}
 use Rattle.nmt_proofs.specs.Openings.{outside}
 use Rattle.nmt_proofs.specs.Pieces.{shown}
-use Rattle.nmt_proofs.proofs.StepLemmas.{outside_none, halved, opened_none, opened_shown, is_none, is_some, left_count, right_count}
-use Rattle.nmt_proofs.proofs.ValueLemmas.{value_given, left_unordered, right_unordered, both_ordered}
+use Rattle.nmt_proofs.proofs.Parts.StepLemmas.{outside_none, halved, opened_none, opened_shown, is_none, is_some, left_count, right_count}
+use Rattle.nmt_proofs.proofs.Parts.ValueLemmas.{value_given, left_unordered, right_unordered, both_ordered}
 use Rattle.nmt_proofs.proofs.joining.+joined.Goals as goal
 
 pub bounds-nodes-0 : goal.bounds-nodes-0

@@ -1,4 +1,4 @@
-use Rattle.nmt_proofs.proofs.BegunLemmas.{begun_more, begun_end, begun_past}
+use Rattle.nmt_proofs.proofs.Parts.BegunLemmas.{begun_more, begun_end, begun_past}
 use Rattle.nmt_proofs.proofs.joining.count_begun.Goals as goal
 
 -- the piece at this place doesn't begin before the middle

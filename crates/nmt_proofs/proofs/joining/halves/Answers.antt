@@ -1,6 +1,6 @@
 use Rattle.std.proofs.Common.{arith}
 use Rattle.nmt_proofs.specs.Pieces.{shown}
-use Rattle.nmt_proofs.proofs.StepLemmas.{deep, outside_halves, opened_halves, twice_half}
+use Rattle.nmt_proofs.proofs.Parts.StepLemmas.{deep, outside_halves, opened_halves, twice_half}
 use Rattle.nmt_proofs.proofs.joining.halves.Goals as goal
 
 pub overflow_sub-depth : goal.overflow_sub-depth

@@ -1,6 +1,6 @@
 use Rattle.std.proofs.Common.{◌∙◌, ap, ◌==◌}
 use Rattle.nmt_proofs.specs.Pieces.{shown_of}
-use Rattle.nmt_proofs.proofs.StepLemmas.{shown_zero, shown_size}
+use Rattle.nmt_proofs.proofs.Parts.StepLemmas.{shown_zero, shown_size}
 use Rattle.nmt_proofs.proofs.joining.is_piece.Goals as goal
 
 pub returns-then-depth-eq0-clause-shown : goal.returns-then-depth-eq0-clause-shown

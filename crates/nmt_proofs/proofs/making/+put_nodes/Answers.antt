@@ -4,12 +4,12 @@ use Rattle.nmt_tree.specs.Levels.{span}
 use Rattle.nmt_tree.proofs.CountLemmas.{leaf_count_power}
 use Rattle.nmt_proofs.specs.Openings.{outside}
 use Rattle.nmt_proofs.specs.Pieces.{shown}
-use Rattle.nmt_proofs.proofs.StepLemmas.{outside_none, outside_shown, halved, is_none, is_some, left_count, right_count}
-use Rattle.nmt_proofs.proofs.PutLemmas.{halved_nodes, one_node, no_node, left_aligned, right_aligned}
+use Rattle.nmt_proofs.proofs.Parts.StepLemmas.{outside_none, outside_shown, halved, is_none, is_some, left_count, right_count}
+use Rattle.nmt_proofs.proofs.Agreement.PutLemmas.{halved_nodes, one_node, no_node, left_aligned, right_aligned}
 use Rattle.nmt_proofs.proofs.making.+put_nodes.Goals as goal
 
-pub digest_in-requires-clause-size : goal.digest_in-requires-clause-size
-digest_in-requires-clause-size t c =
+pub full_digest-requires-clause-size : goal.full_digest-requires-clause-size
+full_digest-requires-clause-size t c =
     subst (λ (k : ℕ). IsTrue (is_leaf_count k)) (sym c.leaf_count.ensures) (leaf_count_power c.args.depth c.requires.depth).0
 
 pub bounds-nodes-0 : goal.bounds-nodes-0
@@ -22,8 +22,8 @@ pub returns-then-is_empty : goal.returns-then-is_empty
 returns-then-is_empty t c = λ leaves e.
     let none = outside_none c.args.depth c.args.start c.args.pieces.now (is_none _ _ c.is_empty.ensures c.if-is_empty.true) in
     let depth : halvings c.leaf_count.result ≡ c.args.depth = ap (λ (k : ℕ). halvings k) c.leaf_count.ensures ∙ (leaf_count_power c.args.depth c.requires.depth).1 in
-    one_node leaves _ c.args.start c.args.depth c.args.nodes.now c.digest_in.result none (c.requires.count ∙ ap length none)
-    (c.digest_in.ensures leaves e ∙ ap (λ (k : ℕ). span leaves c.args.start k) depth)
+    one_node leaves _ c.args.start c.args.depth c.args.nodes.now c.full_digest.result none (c.requires.count ∙ ap length none)
+    (c.full_digest.ensures leaves e ∙ ap (λ (k : ℕ). span leaves c.args.start k) depth)
 
 pub returns-then-is_piece : goal.returns-then-is_piece
 returns-then-is_piece t c = λ leaves e.

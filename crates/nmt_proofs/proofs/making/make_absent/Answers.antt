@@ -10,25 +10,25 @@ use Rattle.nmt_proofs.specs.Parts.{given}
 use Rattle.nmt_proofs.specs.Openings.{outside, one_digest}
 use Rattle.nmt_proofs.specs.Complete.{absence_break}
 use Rattle.nmt_proofs.specs.Making.{spans, leaf_nodes}
-use Rattle.nmt_proofs.proofs.SingleLemmas.{length-outside-one}
-use Rattle.nmt_proofs.proofs.MadeLemmas.{one_opens}
-use Rattle.nmt_proofs.proofs.OtherLeafLemmas.{made_absence}
+use Rattle.nmt_proofs.proofs.Parts.SingleLemmas.{length-outside-one}
+use Rattle.nmt_proofs.proofs.Agreement.MadeLemmas.{one_opens}
+use Rattle.nmt_proofs.proofs.Agreement.OtherLeafLemmas.{made_absence}
 use Rattle.nmt_proofs.proofs.making.make_absent.Goals as goal
 
 pub nodes_beside-requires-clause-few : goal.nodes_beside-requires-clause-few
-nodes_beside-requires-clause-few c = omega (arith, length-outside-one c.halvings-depth.result 0 c.args.pos (given c.digest_in-leaf.result), c.halvings-depth.ensures.bound)
+nodes_beside-requires-clause-few c = omega (arith, length-outside-one c.halvings-depth.result 0 c.args.pos (given c.full_digest-leaf.result), c.halvings-depth.ensures.bound)
 
 -- the digest is that of the leaf at the place
-leaf : (c : goal.After-nodes_beside) (leaves : List Digest) → c.args.tree.now.leaves ≡ Some leaves → c.digest_in-leaf.result ≡ get_or leaves c.args.pos no_digest
+leaf : (c : goal.After-nodes_beside) (leaves : List Digest) → c.args.tree.now.leaves ≡ Some leaves → c.full_digest-leaf.result ≡ get_or leaves c.args.pos no_digest
 unfolding span
-leaf c = c.digest_in-leaf.ensures
+leaf c = c.full_digest-leaf.ensures
 
 -- the list has the nodes beside that digest
 beside : (c : goal.After-nodes_beside) (leaves : List Digest) → c.args.tree.now.leaves ≡ Some leaves
-    → c.nodes_beside.result ≡ spans leaves (outside (halvings c.args.tree.now.count) 0 (one_digest c.args.pos c.digest_in-leaf.result))
+    → c.nodes_beside.result ≡ spans leaves (outside (halvings c.args.tree.now.count) 0 (one_digest c.args.pos c.full_digest-leaf.result))
 beside c leaves e =
     let depth : c.halvings-depth.result ≡ halvings c.args.tree.now.count = c.halvings-depth.ensures.value ∙ ap (λ (k : ℕ). halvings k) c.len.ensures.value in
-    c.nodes_beside.ensures leaves e ∙ ap (λ (k : ℕ). spans leaves (outside k 0 (one_digest c.args.pos c.digest_in-leaf.result))) depth
+    c.nodes_beside.ensures leaves e ∙ ap (λ (k : ℕ). spans leaves (outside k 0 (one_digest c.args.pos c.full_digest-leaf.result))) depth
 
 -- so it has those of the leaf
 nodes : (c : goal.After-nodes_beside) (leaves : List Digest) → c.args.tree.now.leaves ≡ Some leaves → c.nodes_beside.result ≡ leaf_nodes c.args.tree.now.count leaves c.args.pos
@@ -56,7 +56,7 @@ returns-clause-opens c = λ leaves e.
 pub returns-clause-complete : goal.returns-clause-complete
 returns-clause-complete c = λ leaves e name names shares of el between.
     let h : ℕ = halvings c.args.tree.now.count in
-    ap (absence_break h c.args.pos name c.digest_in-leaf.result)
-    (beside c leaves e ∙ ap (λ (l : List Digest). spans l (outside h 0 (one_digest c.args.pos c.digest_in-leaf.result))) el)
-    ∙ made_absence h c.args.pos name names shares c.digest_in-leaf.result of (place c) between
+    ap (absence_break h c.args.pos name c.full_digest-leaf.result)
+    (beside c leaves e ∙ ap (λ (l : List Digest). spans l (outside h 0 (one_digest c.args.pos c.full_digest-leaf.result))) el)
+    ∙ made_absence h c.args.pos name names shares c.full_digest-leaf.result of (place c) between
     (leaf c leaves e ∙ ap (λ (l : List Digest). get_or l c.args.pos no_digest) el)

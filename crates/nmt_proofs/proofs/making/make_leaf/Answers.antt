@@ -10,16 +10,16 @@ use Rattle.nmt_proofs.specs.Parts.{given, leaf}
 use Rattle.namespace_id.specs.Digests.{no_digest}
 use Rattle.nmt_proofs.specs.Openings.{outside, one_digest}
 use Rattle.nmt_proofs.specs.Making.{spans, leaf_nodes}
-use Rattle.nmt_proofs.proofs.SingleLemmas.{length-outside-one}
-use Rattle.nmt_proofs.proofs.ShadowLemmas.{outside-parts}
-use Rattle.nmt_proofs.proofs.MadeLemmas.{one_opens}
+use Rattle.nmt_proofs.proofs.Parts.SingleLemmas.{length-outside-one}
+use Rattle.nmt_proofs.proofs.Parts.ShadowLemmas.{outside-parts}
+use Rattle.nmt_proofs.proofs.Agreement.MadeLemmas.{one_opens}
 use Rattle.nmt_proofs.proofs.making.make_leaf.Goals as goal
 
 pub put_nodes-requires-clause-count : goal.put_nodes-requires-clause-count
 put_nodes-requires-clause-count c =
     let depth : c.halvings-depth.result ≡ halvings c.args.tree.now.count = c.halvings-depth.ensures.value ∙ ap (λ (k : ℕ). halvings k) c.len.ensures.value in
     let power : 2 ^ c.halvings-depth.result ≡ c.args.tree.now.count = ap (λ (k : ℕ). 2 ^ k) depth ∙ power_halvings c.args.tree.now.count c.len.ensures.count in
-    length-take-le _ _ (omega arith) ∙ sym (length-outside-one c.halvings-depth.result 0 c.args.pos (given c.digest_in.result))
+    length-take-le _ _ (omega arith) ∙ sym (length-outside-one c.halvings-depth.result 0 c.args.pos (given c.full_digest.result))
 
 -- the path has the nodes outside of the place
 nodes : (c : goal.After-path_of) (leaves : List Digest) → c.args.tree.now.leaves ≡ Some leaves → c.path_of.result ≡ leaf_nodes c.args.tree.now.count leaves c.args.pos
@@ -28,8 +28,8 @@ nodes c leaves e =
     let len : length c.put_nodes.new.nodes ≡ c.halvings-depth.result = c.put_nodes.auto.nodes ∙ length-take-le _ _ (omega arith) in
     c.path_of.ensures ∙ front c.put_nodes.new.nodes _ c.halvings-depth.result len
     ∙ c.put_nodes.ensures leaves e
-    ∙ ap (λ (k : ℕ). spans leaves (outside k 0 (one_digest c.args.pos c.digest_in.result))) depth
-    ∙ ap (λ (l : List (ℕ × ℕ)). spans leaves l) (outside-parts (λ x. given c.digest_in.result) (halvings c.args.tree.now.count) 0 (one_digest c.args.pos (get_or leaves c.args.pos no_digest)))
+    ∙ ap (λ (k : ℕ). spans leaves (outside k 0 (one_digest c.args.pos c.full_digest.result))) depth
+    ∙ ap (λ (l : List (ℕ × ℕ)). spans leaves l) (outside-parts (λ x. given c.full_digest.result) (halvings c.args.tree.now.count) 0 (one_digest c.args.pos (get_or leaves c.args.pos no_digest)))
 
 -- the place is below the number of leaves
 place : (c : goal.After-path_of) → c.args.pos < 2 ^ halvings c.args.tree.now.count

@@ -10,9 +10,9 @@ use Rattle.nmt_proofs.specs.Openings.{outside, Opens}
 use Rattle.nmt_proofs.specs.Places.{AreAligned}
 use Rattle.nmt_proofs.specs.Making.{spans, interval_digests, subtrees, subtree_nodes}
 use Rattle.nmt_proofs.specs.Pieces.{shown}
-use Rattle.nmt_proofs.proofs.SetLemmas.{aligned_few, aligned_within}
-use Rattle.nmt_proofs.proofs.TileLemmas.{intervals_open}
-use Rattle.nmt_proofs.proofs.TileCountLemmas.{intervals_few, outside_intervals, length-interval_digests}
+use Rattle.nmt_proofs.proofs.Sets.SetLemmas.{aligned_few, aligned_within}
+use Rattle.nmt_proofs.proofs.Sets.TileLemmas.{intervals_open}
+use Rattle.nmt_proofs.proofs.Sets.TileCountLemmas.{intervals_few, outside_intervals, length-interval_digests}
 use Rattle.nmt_proofs.proofs.making.make_nodes.Goals as goal
 
 -- there is capacity for each subtree

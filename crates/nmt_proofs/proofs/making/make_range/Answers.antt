@@ -7,7 +7,7 @@ use Rattle.nmt_tree.proofs.CountLemmas.{leaf_count-le, power_halvings}
 use Rattle.nmt_proofs.specs.Openings.{outside}
 use Rattle.nmt_proofs.specs.Making.{spans, range_nodes}
 use Rattle.nmt_proofs.specs.Pieces.{shown}
-use Rattle.nmt_proofs.proofs.NeighborLemmas.{few_beside, outside_places, range_opens, range_complete}
+use Rattle.nmt_proofs.proofs.Neighbors.NeighborLemmas.{few_beside, outside_places, range_opens, range_complete}
 use Rattle.nmt_proofs.proofs.making.make_range.Goals as goal
 
 pub nodes_beside-requires-clause-few : goal.nodes_beside-requires-clause-few

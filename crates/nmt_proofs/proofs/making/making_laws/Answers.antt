@@ -1,11 +1,11 @@
-use Rattle.nmt_proofs.proofs.MadeLemmas.{made_opens}
-use Rattle.nmt_proofs.proofs.OrderLemmas.{joins_in_order, order_of_joins}
+use Rattle.nmt_proofs.proofs.Agreement.MadeLemmas.{made_opens}
+use Rattle.nmt_proofs.proofs.Parts.OrderLemmas.{joins_in_order, order_of_joins}
 use Rattle.std.proofs.Common.{◌≡◌, ◌+◌, ◌^◌, ◌≤◌, ℕ, suc, length, subst, arith, sym}
 use Rattle.nmt_proofs.specs.Openings.{outside, leaves_at}
 use Rattle.nmt_proofs.specs.Places.{AreAscending}
-use Rattle.nmt_proofs.proofs.FewLemmas.{set_few}
-use Rattle.nmt_proofs.proofs.MergeLemmas.{merged_opens}
-use Rattle.nmt_proofs.proofs.TileLemmas.{intervals_open}
+use Rattle.nmt_proofs.proofs.Sets.FewLemmas.{set_few}
+use Rattle.nmt_proofs.proofs.Agreement.MergeLemmas.{merged_opens}
+use Rattle.nmt_proofs.proofs.Sets.TileLemmas.{intervals_open}
 use Rattle.nmt_proofs.proofs.making.making_laws.Goals as goal
 
 pub returns-clause-opens : goal.returns-clause-opens

@@ -2,7 +2,7 @@ use Rattle.std.proofs.Common.{◌∙◌, ◌<◌, ap, refl, arith, length, take,
 use Rattle.std.proofs.lemmas.List.{take_more_set, length-replicate, replicate_more}
 use Rattle.namespace_id.specs.declared.digests.Digest.{Digest}
 use Rattle.nmt_proofs.specs.Openings.{digests_from}
-use Rattle.nmt_proofs.proofs.NeighborLemmas.{place_more}
+use Rattle.nmt_proofs.proofs.Neighbors.NeighborLemmas.{place_more}
 use Rattle.nmt_proofs.proofs.making.put_places.Goals as goal
 
 pub loop-i-init : goal.loop-i-init

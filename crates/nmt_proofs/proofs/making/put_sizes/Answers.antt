@@ -2,7 +2,7 @@ use Rattle.std.proofs.Common.{◌≡◌, ◌∙◌, ◌+◌, ◌<◌, ℕ, ap, a
 use Rattle.std.proofs.lemmas.List.{take_more, take_more_set, length-take-le, length-replicate, replicate_more, take_all}
 use Rattle.nmt_proofs.specs.Openings.{intervals_from}
 use Rattle.nmt_proofs.specs.Pieces.{shown}
-use Rattle.nmt_proofs.proofs.SetLemmas.{interval_more, next_end, aligned_end}
+use Rattle.nmt_proofs.proofs.Sets.SetLemmas.{interval_more, next_end, aligned_end}
 use Rattle.nmt_proofs.proofs.making.put_sizes.Goals as goal
 
 pub loop-i-init : goal.loop-i-init

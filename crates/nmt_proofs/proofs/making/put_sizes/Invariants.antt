@@ -1,7 +1,7 @@
 use Rattle.std.proofs.Common.{◌≡◌, take, replicate}
 use Rattle.nmt_proofs.specs.Openings.{intervals_from}
 use Rattle.nmt_proofs.specs.Pieces.{shown}
-use Rattle.nmt_proofs.proofs.SetLemmas.{end_of}
+use Rattle.nmt_proofs.proofs.Sets.SetLemmas.{end_of}
 use Rattle.nmt_proofs.proofs.making.put_sizes.Given as goal
 
 -- the intervals so far, and where they end

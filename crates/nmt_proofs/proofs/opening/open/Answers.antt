@@ -5,7 +5,7 @@ use Rattle.nmt_tree.specs.Roots.{halvings}
 use Rattle.nmt_proofs.specs.Openings.{outside, opened, has_order}
 use Rattle.nmt_proofs.specs.Pieces.{shown}
 use Rattle.nmt_proofs.specs.Parts.{digest_of}
-use Rattle.nmt_proofs.proofs.ValueLemmas.{none_unordered, some_ordered}
+use Rattle.nmt_proofs.proofs.Parts.ValueLemmas.{none_unordered, some_ordered}
 use Rattle.nmt_proofs.proofs.opening.open.Goals as goal
 
 pub returns-then-nodes-count_outside : goal.returns-then-nodes-count_outside

@@ -5,9 +5,9 @@ use Rattle.nmt_proofs.specs.declared.opening.OpenRefusal.{OpenRefusal}
 use Rattle.nmt_proofs.specs.declared.opening.OpenRefusal.TheVariants.{Incomplete}
 use Rattle.nmt_proofs.specs.Openings.{one_digest}
 use Rattle.nmt_proofs.specs.Complete.{absence_break}
-use Rattle.nmt_proofs.proofs.PublicLemmas.{opens_absence, breaks_with}
-use Rattle.nmt_proofs.proofs.CauseLemmas.{first_refusal}
-use Rattle.nmt_proofs.proofs.AbsenceLemmas.{IsAnswer, absence_refused, absence_by_leaf}
+use Rattle.nmt_proofs.proofs.Parts.PublicLemmas.{opens_absence, breaks_with}
+use Rattle.nmt_proofs.proofs.Parts.CauseLemmas.{first_refusal}
+use Rattle.nmt_proofs.proofs.Neighbors.AbsenceLemmas.{IsAnswer, absence_refused, absence_by_leaf}
 use Rattle.nmt_proofs.proofs.opening.open_absent.Goals as goal
 use Rattle.nmt_proofs.proofs.opening.open_absent.Goals.{After-from_residual, Then-excludes, Else-excludes}
 

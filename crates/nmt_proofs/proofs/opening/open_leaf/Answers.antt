@@ -4,8 +4,8 @@ use Rattle.nmt_tree.specs.Roots.{halvings}
 use Rattle.nmt_proofs.specs.Parts.{given}
 use Rattle.nmt_proofs.specs.Openings.{Shown, one_leaf, has_count, has_order, has_root}
 use Rattle.nmt_proofs.specs.Causes.{HasCause}
-use Rattle.nmt_proofs.proofs.PublicLemmas.{same_cause, opens}
-use Rattle.nmt_proofs.proofs.CauseLemmas.{node_count, unordered, other_root, never_incomplete}
+use Rattle.nmt_proofs.proofs.Parts.PublicLemmas.{same_cause, opens}
+use Rattle.nmt_proofs.proofs.Parts.CauseLemmas.{node_count, unordered, other_root, never_incomplete}
 use Rattle.nmt_proofs.proofs.opening.open_leaf.Goals as goal
 
 -- the answer's cause, in terms of the leaf

@@ -4,9 +4,9 @@ use Rattle.nmt_tree.specs.Roots.{halvings}
 use Rattle.nmt_tree.proofs.CountLemmas.{leaf_count-le}
 use Rattle.nmt_proofs.specs.Openings.{Shown, intervals_from, has_count, has_order, has_root}
 use Rattle.nmt_proofs.specs.Causes.{HasCause}
-use Rattle.nmt_proofs.proofs.SetLemmas.{aligned_few, aligned_within}
-use Rattle.nmt_proofs.proofs.PublicLemmas.{opens}
-use Rattle.nmt_proofs.proofs.CauseLemmas.{node_count, unordered, other_root, first_refusal, never_incomplete}
+use Rattle.nmt_proofs.proofs.Sets.SetLemmas.{aligned_few, aligned_within}
+use Rattle.nmt_proofs.proofs.Parts.PublicLemmas.{opens}
+use Rattle.nmt_proofs.proofs.Parts.CauseLemmas.{node_count, unordered, other_root, first_refusal, never_incomplete}
 use Rattle.nmt_proofs.proofs.opening.open_nodes.Goals as goal
 
 -- the intervals are within 256 places

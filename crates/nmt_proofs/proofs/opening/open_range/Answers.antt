@@ -3,9 +3,9 @@ use Rattle.nmt_tree.specs.Roots.{halvings}
 use Rattle.nmt_proofs.specs.Openings.{leaves_from, has_count, has_order, has_root}
 use Rattle.nmt_proofs.specs.Complete.{range_break}
 use Rattle.nmt_proofs.specs.Causes.{HasCause}
-use Rattle.nmt_proofs.proofs.RangeLemmas.{range_cause}
-use Rattle.nmt_proofs.proofs.PublicLemmas.{opens_range, breaks_with}
-use Rattle.nmt_proofs.proofs.CauseLemmas.{node_count, unordered, other_root, first_refusal}
+use Rattle.nmt_proofs.proofs.Neighbors.RangeLemmas.{range_cause}
+use Rattle.nmt_proofs.proofs.Parts.PublicLemmas.{opens_range, breaks_with}
+use Rattle.nmt_proofs.proofs.Parts.CauseLemmas.{node_count, unordered, other_root, first_refusal}
 use Rattle.nmt_proofs.proofs.opening.open_range.Goals as goal
 
 -- the answer's cause, in terms of the leaves

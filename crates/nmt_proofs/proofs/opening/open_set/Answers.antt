@@ -4,9 +4,9 @@ use Rattle.nmt_tree.specs.Roots.{halvings}
 use Rattle.nmt_tree.proofs.CountLemmas.{leaf_count-le}
 use Rattle.nmt_proofs.specs.Openings.{Shown, leaves_at, has_count, has_order, has_root}
 use Rattle.nmt_proofs.specs.Causes.{HasCause}
-use Rattle.nmt_proofs.proofs.SetLemmas.{ascending_few, set_in_order}
-use Rattle.nmt_proofs.proofs.PublicLemmas.{same_cause, opens}
-use Rattle.nmt_proofs.proofs.CauseLemmas.{node_count, unordered, other_root, first_refusal, never_incomplete}
+use Rattle.nmt_proofs.proofs.Sets.SetLemmas.{ascending_few, set_in_order}
+use Rattle.nmt_proofs.proofs.Parts.PublicLemmas.{same_cause, opens}
+use Rattle.nmt_proofs.proofs.Parts.CauseLemmas.{node_count, unordered, other_root, first_refusal, never_incomplete}
 use Rattle.nmt_proofs.proofs.opening.open_set.Goals as goal
 
 -- there is capacity for every place

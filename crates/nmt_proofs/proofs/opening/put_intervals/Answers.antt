@@ -3,7 +3,7 @@ use Rattle.std.proofs.lemmas.List.{take_more, take_more_set, length-take-le, tak
 use Rattle.namespace_id.specs.Digests.{no_digest}
 use Rattle.nmt_proofs.specs.Openings.{intervals_from}
 use Rattle.nmt_proofs.specs.Pieces.{shown}
-use Rattle.nmt_proofs.proofs.SetLemmas.{interval_more, next_end, aligned_end}
+use Rattle.nmt_proofs.proofs.Sets.SetLemmas.{interval_more, next_end, aligned_end}
 use Rattle.nmt_proofs.proofs.opening.put_intervals.Goals as goal
 
 pub loop-i-init : goal.loop-i-init

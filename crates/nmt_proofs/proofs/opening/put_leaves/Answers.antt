@@ -3,7 +3,7 @@ use Rattle.std.proofs.lemmas.List.{take_more, take_more_set, length-take-le, tak
 use Rattle.namespace_id.specs.declared.shares.Share.{Share}
 use Rattle.nmt_proofs.specs.Openings.{shadow, leaves_from}
 use Rattle.nmt_proofs.specs.Pieces.{shown}
-use Rattle.nmt_proofs.proofs.RangeLemmas.{leaf_more}
+use Rattle.nmt_proofs.proofs.Neighbors.RangeLemmas.{leaf_more}
 use Rattle.nmt_proofs.proofs.opening.put_leaves.Goals as goal
 
 pub loop-i-init : goal.loop-i-init

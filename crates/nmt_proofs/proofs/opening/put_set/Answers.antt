@@ -4,7 +4,7 @@ use Rattle.namespace_id.specs.declared.namespaces.Namespace.{Namespace}
 use Rattle.namespace_id.specs.declared.shares.Share.{Share}
 use Rattle.nmt_proofs.specs.Openings.{shadow, leaves_at}
 use Rattle.nmt_proofs.specs.Pieces.{shown}
-use Rattle.nmt_proofs.proofs.SetLemmas.{set_more}
+use Rattle.nmt_proofs.proofs.Sets.SetLemmas.{set_more}
 use Rattle.nmt_proofs.proofs.opening.put_set.Goals as goal
 
 pub loop-i-init : goal.loop-i-init

@@ -1,6 +1,6 @@
 use Rattle.std.proofs.Common.{◌<◌, ◌*◌, ◌∙◌, length, refl, arith, sym}
 use Rattle.nmt_proofs.proofs.PartialLemmas.{left_bound, right_bound, right_index, leaf_value, left_half, right_half, half_interval, length-front, length-back}
-use Rattle.nmt_proofs.proofs.ValueLemmas.{value_given, left_unordered, right_unordered, both_ordered}
+use Rattle.nmt_proofs.proofs.Parts.ValueLemmas.{value_given, left_unordered, right_unordered, both_ordered}
 use Rattle.nmt_proofs.proofs.partial.+fold.Goals as goal
 
 -- a leaf has the digest that is shown

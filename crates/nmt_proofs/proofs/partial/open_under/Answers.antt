@@ -4,8 +4,8 @@ use Rattle.nmt_tree.specs.Roots.{halvings}
 use Rattle.nmt_proofs.specs.Parts.{given}
 use Rattle.nmt_proofs.specs.Openings.{opened, one_digest, has_order}
 use Rattle.nmt_proofs.specs.Partial.{digest_at}
-use Rattle.nmt_proofs.proofs.SingleLemmas.{length-outside-one}
-use Rattle.nmt_proofs.proofs.ValueLemmas.{none_unordered}
+use Rattle.nmt_proofs.proofs.Parts.SingleLemmas.{length-outside-one}
+use Rattle.nmt_proofs.proofs.Parts.ValueLemmas.{none_unordered}
 use Rattle.nmt_proofs.proofs.PartialLemmas.{single_count, single_folded}
 use Rattle.nmt_proofs.proofs.partial.open_under.Goals as goal
 

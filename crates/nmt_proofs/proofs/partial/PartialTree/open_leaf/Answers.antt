@@ -2,8 +2,8 @@ use Rattle.std.proofs.Common.{None}
 use Rattle.nmt_tree.specs.Roots.{halvings}
 use Rattle.nmt_proofs.specs.Openings.{one_leaf}
 use Rattle.nmt_proofs.proofs.PartialLemmas.{tree_cause}
-use Rattle.nmt_proofs.proofs.PublicLemmas.{opens}
-use Rattle.nmt_proofs.proofs.CauseLemmas.{node_count, unordered, other_root, never_incomplete}
+use Rattle.nmt_proofs.proofs.Parts.PublicLemmas.{opens}
+use Rattle.nmt_proofs.proofs.Parts.CauseLemmas.{node_count, unordered, other_root, never_incomplete}
 use Rattle.nmt_proofs.proofs.partial.PartialTree.open_leaf.Goals as goal
 
 -- each clause by the cause of the answer, in terms of the leaf and of what contracts see

@@ -1,6 +1,6 @@
 use Rattle.std.proofs.Common.{rules, ◌≡◌, ◌∙◌, ℕ, ◌*◌, ◌<◌, length, sym, subst}
 use Rattle.std.proofs.lemmas.Bool.{true≢false}
-use Rattle.axis_roots.proofs.Grids.NumberLemmas.{width-ge}
+use Rattle.namespace_id.proofs.WidthLemmas.{is_width-pos}
 use Rattle.repair_queue.proofs.Feeding.StandLemmas.{nothing_sound}
 use Rattle.repair_queue.proofs.Counting.CountedLemmas.{nothing_lined, nothing_counted, nothing_waiting}
 use Rattle.repair_queue.proofs.boards.Board.new.Goals as goal
@@ -21,5 +21,5 @@ returns-clause-good c header width = record {
   sound = nothing_sound header _ _ _ c.in_ok-pool.ensures.empty c.in_ok-marks.ensures.undecided;
   leaves = λ cell within on. absurd (true≢false (sym on ∙ nothing_lined _ c.in_ok-marks.ensures.undecided cell));
   counted = nothing_counted header.k _ _ _ c.in_ok-pool.ensures.empty c.in_ok-marks.ensures.undecided c.in_ok-counts.ensures.none;
-  queued = nothing_waiting header.k _ _ _ (subst (λ (k : ℕ). 0 < k) (sym width) (width-ge c.args.k c.requires.width)) c.in_ok-counts.ensures.none;
+  queued = nothing_waiting header.k _ _ _ (subst (λ (k : ℕ). 0 < k) (sym width) (is_width-pos c.args.k c.requires.width)) c.in_ok-counts.ensures.none;
 }

@@ -1,6 +1,6 @@
 use Rattle.std.proofs.Common.{rules, ◌∙◌, ℕ, ◌*◌, ◌<◌, ◌≤◌, [], sym, subst, arith}
 use Rattle.std.specs.Prelude.{None, vec_capacity}
-use Rattle.axis_roots.proofs.Grids.NumberLemmas.{width-ge}
+use Rattle.namespace_id.proofs.WidthLemmas.{is_width-pos}
 use Rattle.repair_queue.specs.Boards.{given_of, decided_of, share_of}
 use Rattle.repair_queue.specs.Tools.{AreTools}
 use Rattle.repair_queue.proofs.Feeding.StandLemmas.{nothing_stands}
@@ -16,7 +16,7 @@ invariant_of-result c = record {
     c.in_ok-board.ensures.good c.in_ok-header.header (sym c.width-k.ensures.value),
     subst (λ (k : ℕ). AreTools k c.in_ok-tools.tools) c.width-k.ensures.value c.in_ok-tools.ensures,
     nothing_rests c.in_ok-header.header.k (given_of c.in_ok-board.board) (decided_of c.in_ok-board.board)
-        (subst (λ (k : ℕ). 0 < k) c.width-k.ensures.value (width-ge c.width-k.result c.width-k.ensures.width)) c.in_ok-board.ensures.empty c.in_ok-board.ensures.undecided,
+        (subst (λ (k : ℕ). 0 < k) c.width-k.ensures.value (is_width-pos c.width-k.result c.width-k.ensures.width)) c.in_ok-board.ensures.empty c.in_ok-board.ensures.undecided,
   );
   empty = search rules;
   space = subst (λ (k : ℕ). k * k ≤ vec_capacity c.in_ok-shares.shares) c.width-k.ensures.value (omega (arith, c.in_ok-shares.ensures.capacity));

@@ -11,7 +11,7 @@ use Rattle.nmt_proofs.specs.Parts.{given, leaf}
 use Rattle.nmt_proofs.specs.Openings.{Shown, leaves_at, intervals_from, shadow, shadow_of}
 use Rattle.nmt_proofs.specs.Places.{AreAscending, AreAligned}
 use Rattle.nmt_proofs.specs.Pieces.{shown, shown_of}
-use Rattle.nmt_proofs.proofs.ShadowLemmas.{AreInOrder}
+use Rattle.nmt_proofs.proofs.Parts.ShadowLemmas.{AreInOrder}
 
 -- one more place gives one more leaf
 leaves_at-append : (places : List ℕ) (names : List Namespace) (shares : List Share) (pos : ℕ) (n : Namespace) (s : Share) → length names ≡ length places → length shares ≡ length places

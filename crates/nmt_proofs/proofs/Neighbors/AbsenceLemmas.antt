@@ -9,8 +9,8 @@ use Rattle.nmt_proofs.specs.declared.opening.OpenRefusal.{OpenRefusal}
 use Rattle.nmt_proofs.specs.Openings.{outside, has_count, has_order, has_root, one_digest}
 use Rattle.nmt_proofs.specs.Complete.{excludes, first_break, absence_break}
 use Rattle.nmt_proofs.specs.Causes.{HasCause}
-use Rattle.nmt_proofs.proofs.BreakLemmas.{first_break-append, first_break-one}
-use Rattle.nmt_proofs.proofs.CauseLemmas.{still_refused}
+use Rattle.nmt_proofs.proofs.Agreement.BreakLemmas.{first_break-append, first_break-one}
+use Rattle.nmt_proofs.proofs.Parts.CauseLemmas.{still_refused}
 
 -- the first break of an absence's nodes alone
 abbrev pub nodes_break : ℕ → ℕ → Namespace → Digest → List Digest → Option ℕ

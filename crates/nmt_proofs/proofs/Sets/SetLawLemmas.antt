@@ -11,7 +11,7 @@ use Rattle.nmt_proofs.specs.Openings.{outside, opened, leaves_at}
 use Rattle.nmt_proofs.specs.Clashes.{Agree, ClashOr, whole, AreLeaves, IsOpening, ArePlaces, AreListed, AreLeavesOf}
 use Rattle.nmt_proofs.specs.Making.{spans}
 use Rattle.nmt_proofs.specs.Places.{AreAscending}
-use Rattle.nmt_proofs.proofs.ListedLemmas.{agreed, leaf_listed, listed_or}
+use Rattle.nmt_proofs.proofs.Agreement.ListedLemmas.{agreed, leaf_listed, listed_or}
 
 -- the leaves of a set are at single places
 pub set_places : (low high : ℕ) (places : List ℕ) (names : List Namespace) (shares : List Share) → AreAscending low high places → ArePlaces low high (leaves_at places names shares)

@@ -14,10 +14,10 @@ use Rattle.nmt_proofs.specs.Clashes.{AreLeaves}
 use Rattle.nmt_proofs.specs.Complete.{first_break, range_break, absence_break, IsBetween, StandsBetween, IsNowhereElse}
 use Rattle.nmt_proofs.specs.Making.{spans}
 use Rattle.nmt_proofs.specs.Openings.{Shown, outside, leaves_from, one_digest}
-use Rattle.nmt_proofs.proofs.ListLemmas.{each-append, each-split}
-use Rattle.nmt_proofs.proofs.RunLemmas.{IsRun, run_leaves, length-leaves_from}
-use Rattle.nmt_proofs.proofs.BesideLemmas.{IsBeside, outside_beside, outside_holds, IsFound}
-use Rattle.nmt_proofs.proofs.CompleteLemmas.{IsClear, break_none, none_breaks, each_excluded, each_clear, leaf_on_left, leaf_on_right, stands_alone}
+use Rattle.nmt_proofs.proofs.Parts.ListLemmas.{each-append, each-split}
+use Rattle.nmt_proofs.proofs.Neighbors.RunLemmas.{IsRun, run_leaves, length-leaves_from}
+use Rattle.nmt_proofs.proofs.Neighbors.BesideLemmas.{IsBeside, outside_beside, outside_holds, IsFound}
+use Rattle.nmt_proofs.proofs.Neighbors.CompleteLemmas.{IsClear, break_none, none_breaks, each_excluded, each_clear, leaf_on_left, leaf_on_right, stands_alone}
 
 -- the intervals outside of a run in a tree are beside it
 beside_run : (depth from : ℕ) (ss : List Shown) → IsRun from ss → 0 < length ss → from + length ss ≤ 2 ^ depth

@@ -8,8 +8,8 @@ use Rattle.nmt_tree.specs.Digests.{is_ordered_join}
 use Rattle.nmt_tree.specs.Levels.{leaf_digests, HasOrderedJoins}
 use Rattle.nmt_proofs.specs.Parts.{Part, digest_of, is_in_order}
 use Rattle.nmt_proofs.specs.Clashes.{whole}
-use Rattle.nmt_proofs.proofs.WholeLemmas.{whole-halved, whole_is_span}
-use Rattle.nmt_proofs.proofs.MadeLemmas.{and_true}
+use Rattle.nmt_proofs.proofs.Parts.WholeLemmas.{whole-halved, whole_is_span}
+use Rattle.nmt_proofs.proofs.Agreement.MadeLemmas.{and_true}
 
 -- the part of one place has no joins
 one_in_order : (ns : List Namespace) (ss : List Share) → is_in_order (whole 0 ns ss) ≡ true

@@ -4,9 +4,9 @@ use Rattle.std.specs.List.{AllByRecursion}
 use Rattle.std.proofs.lemmas.Bool.{cases_lt}
 use Rattle.std.proofs.lemmas.Nat.{pow_pos}
 use Rattle.nmt_proofs.specs.Openings.{Shown, begun, outside}
-use Rattle.nmt_proofs.proofs.ListLemmas.{each-append, each-split}
-use Rattle.nmt_proofs.proofs.SingleLemmas.{outside_empty}
-use Rattle.nmt_proofs.proofs.RunLemmas.{IsRun, AreHalves, run-halves, outside_one}
+use Rattle.nmt_proofs.proofs.Parts.ListLemmas.{each-append, each-split}
+use Rattle.nmt_proofs.proofs.Parts.SingleLemmas.{outside_empty}
+use Rattle.nmt_proofs.proofs.Neighbors.RunLemmas.{IsRun, AreHalves, run-halves, outside_one}
 
 -- an interval within the first `last` places that ends at or before `low`, or begins at or behind `high`
 pub record IsBeside (low high last : ℕ) (x : ℕ × ℕ) : Type 0 where

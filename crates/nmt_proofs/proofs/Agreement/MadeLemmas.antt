@@ -14,10 +14,10 @@ use Rattle.namespace_id.specs.Digests.{no_digest}
 use Rattle.nmt_proofs.specs.Openings.{Shown, begun, is_interval, outside, opened, Opens}
 use Rattle.nmt_proofs.specs.Making.{spans, AreAtLeaves}
 use Rattle.nmt_proofs.specs.Clashes.{ArePlaces}
-use Rattle.nmt_proofs.proofs.ListLemmas.{each-take, each-drop}
-use Rattle.nmt_proofs.proofs.BegunLemmas.{places-halves}
-use Rattle.nmt_proofs.proofs.SingleLemmas.{one_place, single}
-use Rattle.nmt_proofs.proofs.ShadowLemmas.{outside-parts}
+use Rattle.nmt_proofs.proofs.Parts.ListLemmas.{each-take, each-drop}
+use Rattle.nmt_proofs.proofs.Parts.BegunLemmas.{places-halves}
+use Rattle.nmt_proofs.proofs.Parts.SingleLemmas.{one_place, single}
+use Rattle.nmt_proofs.proofs.Parts.ShadowLemmas.{outside-parts}
 
 -- what is shown has the digest of the leaf at its place, and is in order
 abbrev pub IsAtLeaf : List Digest → Shown → Type 0

@@ -11,7 +11,7 @@ use Rattle.namespace_id.specs.Bytes.{AreBytes}
 use Rattle.namespace_id.specs.Digests.{IsDigest}
 use Rattle.nmt_proofs.specs.Parts.{Part, given, leaf, join, digest_of}
 use Rattle.nmt_proofs.specs.Clashes.{IsClash, leaf_text, join_text, apart_or, clash_at, ClashOr, IsSized, HasDepth, Agree}
-use Rattle.nmt_proofs.proofs.DigestLemmas.{digest-leaf, digest-node, bytes-leaf, bytes-join, leaf_hash, join_hash, leaf_parts, join_parts}
+use Rattle.nmt_proofs.proofs.Parts.DigestLemmas.{digest-leaf, digest-node, bytes-leaf, bytes-join, leaf_hash, join_hash, leaf_parts, join_parts}
 
 -- the digest of a sized part
 pub digest-sized : (p : Part) → IsSized p → IsDigest (digest_of p)

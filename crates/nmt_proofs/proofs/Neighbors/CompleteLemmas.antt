@@ -19,7 +19,7 @@ use Rattle.nmt_tree.proofs.AboveLemmas.{above_span}
 use Rattle.nmt_proofs.specs.Clashes.{AreLeaves}
 use Rattle.nmt_proofs.specs.Complete.{excludes, first_break, IsBetween, StandsBetween, IsNowhereElse}
 use Rattle.nmt_proofs.specs.Making.{spans}
-use Rattle.nmt_proofs.proofs.BesideLemmas.{IsBeside, IsFound}
+use Rattle.nmt_proofs.proofs.Neighbors.BesideLemmas.{IsBeside, IsFound}
 
 -- the digest over an interval excludes a namespace
 abbrev pub IsExcluded : Namespace → ℕ → List Digest → ℕ × ℕ → Type 0

@@ -8,8 +8,8 @@ use Rattle.namespace_id.specs.declared.shares.Share.{Share}
 use Rattle.namespace_id.specs.declared.digests.Digest.{Digest}
 use Rattle.nmt_proofs.specs.Parts.{Part}
 use Rattle.nmt_proofs.specs.Openings.{Shown, begun, outside, leaves_from, digests_from}
-use Rattle.nmt_proofs.proofs.SingleLemmas.{single}
-use Rattle.nmt_proofs.proofs.ShadowLemmas.{with_part, outside-parts}
+use Rattle.nmt_proofs.proofs.Parts.SingleLemmas.{single}
+use Rattle.nmt_proofs.proofs.Parts.ShadowLemmas.{with_part, outside-parts}
 
 -- single places, each behind the one before it
 abbrev pub IsRun : ℕ → List Shown → Type 0

@@ -9,10 +9,10 @@ use Rattle.namespace_id.specs.declared.shares.Share.{Share}
 use Rattle.nmt_proofs.specs.Openings.{Shown, begun, is_interval, outside, leaves_at}
 use Rattle.nmt_proofs.specs.Clashes.{ArePlaces}
 use Rattle.nmt_proofs.specs.Places.{AreAscending}
-use Rattle.nmt_proofs.proofs.BegunLemmas.{places-halves}
-use Rattle.nmt_proofs.proofs.SingleLemmas.{single, outside_empty}
-use Rattle.nmt_proofs.proofs.RunLemmas.{outside_one}
-use Rattle.nmt_proofs.proofs.SetLawLemmas.{set_places}
+use Rattle.nmt_proofs.proofs.Parts.BegunLemmas.{places-halves}
+use Rattle.nmt_proofs.proofs.Parts.SingleLemmas.{single, outside_empty}
+use Rattle.nmt_proofs.proofs.Neighbors.RunLemmas.{outside_one}
+use Rattle.nmt_proofs.proofs.Sets.SetLawLemmas.{set_places}
 
 -- an interval of one place leaves itself out, where it isn't shown
 flat : (st : ℕ) (ys : List Shown) → (0 < length ys → length (outside 0 st ys) ≡ 0) × (length (outside 0 st ys) ≤ 1)

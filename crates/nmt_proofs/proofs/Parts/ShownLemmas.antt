@@ -7,8 +7,8 @@ use Rattle.namespace_id.specs.Digests.{IsDigest, AreDigests, no_digest}
 use Rattle.nmt_proofs.specs.Parts.{Part, given, leaf, join}
 use Rattle.nmt_proofs.specs.Openings.{Shown, begun, is_interval, outside, opened}
 use Rattle.nmt_proofs.specs.Clashes.{IsSized, HasDepth, IsShown, AreShown, IsOpening}
-use Rattle.nmt_proofs.proofs.ListLemmas.{each-take, each-drop}
-use Rattle.nmt_proofs.proofs.SingleLemmas.{single}
+use Rattle.nmt_proofs.proofs.Parts.ListLemmas.{each-take, each-drop}
+use Rattle.nmt_proofs.proofs.Parts.SingleLemmas.{single}
 
 -- what may be shown is sized
 pub shown-sized : (size : ℕ) (p : Part) → IsShown size p → IsSized p

@@ -12,8 +12,8 @@ use Rattle.nmt_tree.specs.Levels.{leaf_digests, span}
 use Rattle.nmt_proofs.specs.Parts.{join, digest_of}
 use Rattle.namespace_id.specs.Digests.{no_digest}
 use Rattle.nmt_proofs.specs.Clashes.{whole, AreLeaves, IsSized, HasDepth, Agree}
-use Rattle.nmt_proofs.proofs.ListLemmas.{each-take, each-drop, same_halves, same_one}
-use Rattle.nmt_proofs.proofs.AgreeLemmas.{IsFull}
+use Rattle.nmt_proofs.proofs.Parts.ListLemmas.{each-take, each-drop, same_halves, same_one}
+use Rattle.nmt_proofs.proofs.Agreement.AgreeLemmas.{IsFull}
 
 -- the digest of the part is the root of the list
 pub digest-whole : (d : ℕ) (ns : List Namespace) (ss : List Share) → digest_of (whole d ns ss) ≡ root d ns ss

@@ -12,8 +12,8 @@ use Rattle.nmt_proofs.specs.Openings.{Shown, outside, has_count, has_order, has_
 use Rattle.nmt_proofs.specs.Complete.{first_break, range_break}
 use Rattle.nmt_proofs.specs.Causes.{HasCause}
 use Rattle.nmt_proofs.specs.Pieces.{shown, shown_of}
-use Rattle.nmt_proofs.proofs.ShadowLemmas.{AreInOrder, given_alone, outside-parts}
-use Rattle.nmt_proofs.proofs.PublicLemmas.{same_cause}
+use Rattle.nmt_proofs.proofs.Parts.ShadowLemmas.{AreInOrder, given_alone, outside-parts}
+use Rattle.nmt_proofs.proofs.Parts.PublicLemmas.{same_cause}
 
 -- one more share gives one more leaf
 leaves_from-append : (from : ℕ) (name : Namespace) (shares : List Share) (s : Share)

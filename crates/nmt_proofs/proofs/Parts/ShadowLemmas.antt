@@ -6,7 +6,7 @@ use Rattle.namespace_id.specs.declared.digests.Digest.{Digest}
 use Rattle.nmt_tree.specs.Digests.{node_digest, is_ordered_join}
 use Rattle.nmt_proofs.specs.Parts.{Part, given, join, digest_of, is_in_order}
 use Rattle.nmt_proofs.specs.Openings.{Shown, begun, is_interval, outside, opened, shadow, shadow_of}
-use Rattle.nmt_proofs.proofs.ListLemmas.{each-take, each-drop}
+use Rattle.nmt_proofs.proofs.Parts.ListLemmas.{each-take, each-drop}
 
 -- every shown part is in order
 abbrev pub AreInOrder : List Shown → Type 0

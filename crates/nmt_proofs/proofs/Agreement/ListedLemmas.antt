@@ -14,13 +14,13 @@ use Rattle.namespace_id.specs.Digests.{no_digest}
 use Rattle.nmt_proofs.specs.Openings.{Shown, begun, is_interval, outside, opened, one_leaf}
 use Rattle.nmt_proofs.specs.Clashes.{Agree, HasDepth, ClashOr, clash_at, whole, AreLeaves, IsOpening, ArePlaces, AreListed}
 use Rattle.nmt_proofs.specs.Making.{spans}
-use Rattle.nmt_proofs.proofs.ListLemmas.{each-append, same_one}
-use Rattle.nmt_proofs.proofs.BegunLemmas.{places-halves}
-use Rattle.nmt_proofs.proofs.SingleLemmas.{single}
-use Rattle.nmt_proofs.proofs.AgreeLemmas.{agree_or, fit_together}
-use Rattle.nmt_proofs.proofs.WholeLemmas.{digest-whole, depth-whole, sized-whole, full-whole, whole-halved, whole_is_span, one_list}
-use Rattle.nmt_proofs.proofs.ShownLemmas.{half_counts, opening-sized, opening-deep}
-use Rattle.nmt_proofs.proofs.PutLemmas.{halved_nodes, no_node}
+use Rattle.nmt_proofs.proofs.Parts.ListLemmas.{each-append, same_one}
+use Rattle.nmt_proofs.proofs.Parts.BegunLemmas.{places-halves}
+use Rattle.nmt_proofs.proofs.Parts.SingleLemmas.{single}
+use Rattle.nmt_proofs.proofs.Agreement.AgreeLemmas.{agree_or, fit_together}
+use Rattle.nmt_proofs.proofs.Parts.WholeLemmas.{digest-whole, depth-whole, sized-whole, full-whole, whole-halved, whole_is_span, one_list}
+use Rattle.nmt_proofs.proofs.Parts.ShownLemmas.{half_counts, opening-sized, opening-deep}
+use Rattle.nmt_proofs.proofs.Agreement.PutLemmas.{halved_nodes, no_node}
 
 -- where there is no place, none is shown
 no_more : (low high : ℕ) (xs : List Shown) → high ≤ low → ArePlaces low high xs → xs ≡ []

@@ -9,7 +9,7 @@ use Rattle.nmt_proofs.specs.Parts.{Part, given, join}
 use Rattle.namespace_id.specs.Digests.{no_digest}
 use Rattle.nmt_proofs.specs.Openings.{Shown, begun, is_interval, is_halved, outside, opened}
 use Rattle.nmt_proofs.specs.Pieces.{shown, shown_of}
-use Rattle.nmt_proofs.proofs.SingleLemmas.{outside_empty, opened_empty}
+use Rattle.nmt_proofs.proofs.Parts.SingleLemmas.{outside_empty, opened_empty}
 
 -- how many of the shown parts begin before the middle of an interval
 abbrev pub in_left : ℕ → ℕ → List Shown → ℕ

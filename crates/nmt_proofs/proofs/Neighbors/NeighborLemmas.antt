@@ -14,10 +14,10 @@ use Rattle.nmt_proofs.specs.Making.{spans, AreAtLeaves}
 use Rattle.nmt_proofs.specs.Clashes.{AreLeaves}
 use Rattle.nmt_proofs.specs.Complete.{range_break, IsBetween}
 use Rattle.nmt_proofs.specs.Pieces.{shown, shown_of}
-use Rattle.nmt_proofs.proofs.RunLemmas.{run_leaves, length-leaves_from, run_digests, length-digests_from, outside-run}
-use Rattle.nmt_proofs.proofs.BesideLemmas.{outside_few}
-use Rattle.nmt_proofs.proofs.MadeLemmas.{made_opens}
-use Rattle.nmt_proofs.proofs.OtherLeafLemmas.{made_range}
+use Rattle.nmt_proofs.proofs.Neighbors.RunLemmas.{run_leaves, length-leaves_from, run_digests, length-digests_from, outside-run}
+use Rattle.nmt_proofs.proofs.Neighbors.BesideLemmas.{outside_few}
+use Rattle.nmt_proofs.proofs.Agreement.MadeLemmas.{made_opens}
+use Rattle.nmt_proofs.proofs.Agreement.OtherLeafLemmas.{made_range}
 
 -- one more digest at the place behind the others
 digests_from-append : (from : ℕ) (ds : List Digest) (d : Digest)

@@ -9,10 +9,10 @@ use Rattle.nmt_proofs.specs.Parts.{Part, leaf, digest_of}
 use Rattle.namespace_id.specs.Digests.{no_digest}
 use Rattle.nmt_proofs.specs.Openings.{opened, one_leaf, has_count}
 use Rattle.nmt_proofs.specs.Clashes.{Agree, ClashOr, IsOpening}
-use Rattle.nmt_proofs.proofs.ListLemmas.{same_halves, same_one}
-use Rattle.nmt_proofs.proofs.SingleLemmas.{one_place, length-outside-one, opened_left, opened_right}
-use Rattle.nmt_proofs.proofs.AgreeLemmas.{agree_or}
-use Rattle.nmt_proofs.proofs.ShownLemmas.{opening-sized, opening-deep}
+use Rattle.nmt_proofs.proofs.Parts.ListLemmas.{same_halves, same_one}
+use Rattle.nmt_proofs.proofs.Parts.SingleLemmas.{one_place, length-outside-one, opened_left, opened_right}
+use Rattle.nmt_proofs.proofs.Agreement.AgreeLemmas.{agree_or}
+use Rattle.nmt_proofs.proofs.Parts.ShownLemmas.{opening-sized, opening-deep}
 
 -- two openings of one place that agree show one part, and have the same nodes
 pub one_opening : (d st pos : ℕ) (p q : Part) (ns ms : List Digest) → length ns ≡ d → length ms ≡ d → Agree (opened d st (one_place pos p) ns) (opened d st (one_place pos q) ms)

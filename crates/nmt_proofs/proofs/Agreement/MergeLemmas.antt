@@ -15,13 +15,13 @@ use Rattle.nmt_proofs.specs.Openings.{Shown, begun, is_interval, outside, opened
 use Rattle.nmt_proofs.specs.Clashes.{clash_at, join_text, IsSized, ArePlaces}
 use Rattle.nmt_proofs.specs.Places.{AreAscending}
 use Rattle.nmt_proofs.specs.Merging.{Branch, shown_of, leaves_of, merged_nodes, branch_tree, HoldsFrom, HoldsAlong, AreAlike, IsBranch, AreBranches}
-use Rattle.nmt_proofs.proofs.ListLemmas.{each-take, each-drop, each-then, each-both}
-use Rattle.nmt_proofs.proofs.BegunLemmas.{places-halves}
-use Rattle.nmt_proofs.proofs.SingleLemmas.{single, opened_left, opened_right}
-use Rattle.nmt_proofs.proofs.DigestLemmas.{join_parts}
-use Rattle.nmt_proofs.proofs.AgreeLemmas.{digest-sized, none_where, or_none}
-use Rattle.nmt_proofs.proofs.ShownLemmas.{opening-sized}
-use Rattle.nmt_proofs.proofs.MadeLemmas.{and_true}
+use Rattle.nmt_proofs.proofs.Parts.ListLemmas.{each-take, each-drop, each-then, each-both}
+use Rattle.nmt_proofs.proofs.Parts.BegunLemmas.{places-halves}
+use Rattle.nmt_proofs.proofs.Parts.SingleLemmas.{single, opened_left, opened_right}
+use Rattle.nmt_proofs.proofs.Parts.DigestLemmas.{join_parts}
+use Rattle.nmt_proofs.proofs.Agreement.AgreeLemmas.{digest-sized, none_where, or_none}
+use Rattle.nmt_proofs.proofs.Parts.ShownLemmas.{opening-sized}
+use Rattle.nmt_proofs.proofs.Agreement.MadeLemmas.{and_true}
 
 -- ---- lists
 

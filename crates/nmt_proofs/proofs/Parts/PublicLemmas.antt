@@ -12,8 +12,8 @@ use Rattle.nmt_proofs.specs.Openings.{Shown, has_count, has_order, has_root, Ope
 use Rattle.nmt_proofs.specs.Pieces.{shown}
 use Rattle.nmt_proofs.specs.Causes.{HasCause, OpensRange, OpensAbsence}
 use Rattle.nmt_proofs.specs.Complete.{range_break, absence_break}
-use Rattle.nmt_proofs.proofs.ShadowLemmas.{AreInOrder, given_alone, outside-parts, alike-shadow}
-use Rattle.nmt_proofs.proofs.CauseLemmas.{accepts, incomplete}
+use Rattle.nmt_proofs.proofs.Parts.ShadowLemmas.{AreInOrder, given_alone, outside-parts, alike-shadow}
+use Rattle.nmt_proofs.proofs.Parts.CauseLemmas.{accepts, incomplete}
 
 -- the checks see the same where pieces have the digests of what is shown
 pub same_cause : (d : ℕ) (ps : List Piece) (ss : List Shown) (ns : List Digest) (root : Digest) (b : Option ℕ) (r : Result (Unit {0}) OpenRefusal)

@@ -16,12 +16,12 @@ use Rattle.nmt_proofs.specs.Openings.{Shown, begun, is_interval, outside, opened
 use Rattle.nmt_proofs.specs.Clashes.{Agree, ClashOr, whole, AreLeaves, IsOpening}
 use Rattle.nmt_proofs.specs.Places.{AreAligned}
 use Rattle.nmt_proofs.specs.Making.{spans, interval_digests}
-use Rattle.nmt_proofs.proofs.ListLemmas.{each-append, same_one}
-use Rattle.nmt_proofs.proofs.WholeLemmas.{whole-halved, whole_is_span}
-use Rattle.nmt_proofs.proofs.ShownLemmas.{half_counts}
-use Rattle.nmt_proofs.proofs.PutLemmas.{halved_nodes, no_node, left_aligned, right_aligned}
-use Rattle.nmt_proofs.proofs.ListedLemmas.{listed_or}
-use Rattle.nmt_proofs.proofs.TileLemmas.{IsTiled, IsTiledIn, TiledHalves, tiled-le, tiled-halves, IsOf, whole_size, zero_mod}
+use Rattle.nmt_proofs.proofs.Parts.ListLemmas.{each-append, same_one}
+use Rattle.nmt_proofs.proofs.Parts.WholeLemmas.{whole-halved, whole_is_span}
+use Rattle.nmt_proofs.proofs.Parts.ShownLemmas.{half_counts}
+use Rattle.nmt_proofs.proofs.Agreement.PutLemmas.{halved_nodes, no_node, left_aligned, right_aligned}
+use Rattle.nmt_proofs.proofs.Agreement.ListedLemmas.{listed_or}
+use Rattle.nmt_proofs.proofs.Sets.TileLemmas.{IsTiled, IsTiledIn, TiledHalves, tiled-le, tiled-halves, IsOf, whole_size, zero_mod}
 
 -- parts that agree have one digest
 pub agree-digest : (p q : Part) → Agree p q → digest_of p ≡ digest_of q

@@ -16,8 +16,8 @@ use Rattle.nmt_proofs.specs.Parts.{Part, join, digest_of, is_in_order}
 use Rattle.nmt_proofs.specs.Openings.{Shown, begun, is_interval, outside, opened, intervals_from, Opens}
 use Rattle.nmt_proofs.specs.Places.{AreAligned}
 use Rattle.nmt_proofs.specs.Making.{spans, interval_digests}
-use Rattle.nmt_proofs.proofs.PutLemmas.{left_aligned, right_aligned}
-use Rattle.nmt_proofs.proofs.MadeLemmas.{IsMade, and_true}
+use Rattle.nmt_proofs.proofs.Agreement.PutLemmas.{left_aligned, right_aligned}
+use Rattle.nmt_proofs.proofs.Agreement.MadeLemmas.{IsMade, and_true}
 
 -- ---- multiples
 

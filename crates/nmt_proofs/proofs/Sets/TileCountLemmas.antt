@@ -11,11 +11,11 @@ use Rattle.nmt_proofs.specs.Parts.{Part, given}
 use Rattle.nmt_proofs.specs.Making.{interval_digests}
 use Rattle.nmt_proofs.specs.Openings.{Shown, begun, is_interval, outside, intervals_from}
 use Rattle.nmt_proofs.specs.Places.{AreAligned}
-use Rattle.nmt_proofs.proofs.ShadowLemmas.{with_part, outside-parts}
-use Rattle.nmt_proofs.proofs.PutLemmas.{left_aligned, right_aligned}
-use Rattle.nmt_proofs.proofs.SingleLemmas.{outside_empty}
-use Rattle.nmt_proofs.proofs.SetLemmas.{end_of}
-use Rattle.nmt_proofs.proofs.TileLemmas.{ends_in_half, zero_mod}
+use Rattle.nmt_proofs.proofs.Parts.ShadowLemmas.{with_part, outside-parts}
+use Rattle.nmt_proofs.proofs.Agreement.PutLemmas.{left_aligned, right_aligned}
+use Rattle.nmt_proofs.proofs.Parts.SingleLemmas.{outside_empty}
+use Rattle.nmt_proofs.proofs.Sets.SetLemmas.{end_of}
+use Rattle.nmt_proofs.proofs.Sets.TileLemmas.{ends_in_half, zero_mod}
 
 -- subtrees side by side, from one place on to another
 abbrev pub IsRow : ℕ → ℕ → List Shown → Type 0

@@ -9,7 +9,7 @@ use Rattle.std.proofs.Math.Nat.{pow-suc}
 use Rattle.nmt_proofs.specs.Parts.{Part, given, leaf, join, digest_of}
 use Rattle.nmt_proofs.specs.Clashes.{HasDepth, leaf_text, join_text, apart_or, clash_at}
 use Rattle.nmt_proofs.specs.Hashed.{Text, hashed, is_one_interval, text_for, first_apart}
-use Rattle.nmt_proofs.proofs.ListLemmas.{each-append, each-then}
+use Rattle.nmt_proofs.proofs.Parts.ListLemmas.{each-append, each-then}
 
 -- what comes after two strings may come in two parts
 apart_seq : (a b : List ℕ) (o p : Option (List ℕ × List ℕ)) → apart_or a b (option_or o p) ≡ option_or (apart_or a b o) p
