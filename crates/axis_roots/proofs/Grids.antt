@@ -13,3 +13,4 @@ pub mod FilledLemmas
 pub mod RootingLemmas
 pub mod MadeLemmas
 pub mod StoredLemmas
+pub mod QuarterLemmas

@@ -3,6 +3,7 @@ pub mod Openings
 pub mod Proved
 pub mod Lines
 pub mod Grids
+pub mod Quarters
 pub mod Own
 pub mod Answers
 pub mod Trees

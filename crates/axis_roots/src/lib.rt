@@ -1,11 +1,11 @@
 //! Extended data squares (EDS) with their data availability headers, samples, and whether these are
 //! proved under a header.
 //!
-//! `Grid::extend` makes the extension of a square and `header_of` the header of a grid;
-//! `message_of` makes a sample, one share with its inclusion proof along a row or a column. `opens`
-//! judges one, and `Proved` is the certificate of one that it accepts: only `check` makes it.
-//! `PartialTrees` has both calls for many samples under one header, and remembers the digests that
-//! these have shown.
+//! `Grid::extend` makes the extension of a square, `header_of` the header of a grid, and
+//! `header_of_square` that of a square without its extension in memory; `message_of` makes a sample,
+//! one share with its inclusion proof along a row or a column. `opens` judges one, and `Proved` is the
+//! certificate of one that it accepts: only `check` makes it. `PartialTrees` has both calls for many
+//! samples under one header, and remembers the digests that these have shown.
 //!
 //! The two are folders: `square` stands on the code and the layout of squares, `message` on
 //! inclusion proofs and headers.
@@ -22,4 +22,7 @@ pub use message::{
     CheckRefusal, Message, PartialTrees, Proved, RefusedMessage, check, index, made_laws,
     message_from, message_law, message_laws, message_of, opens, opens_by, own_laws, position,
 };
-pub use square::{Grid, Trees, cell_on, grid_laws, header_of, line_strict_root, name_leaves};
+pub use square::{
+    Grid, Trees, cell_on, grid_laws, header_of, header_of_square, line_strict_root, name_leaves,
+    write_axis,
+};

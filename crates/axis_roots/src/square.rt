@@ -6,12 +6,14 @@ mod grids;
 mod laws;
 mod leaves;
 mod lines;
+mod quarters;
 mod rooting;
 mod trees;
 
 pub(crate) use filling::fill_axis;
 pub use grids::Grid;
 pub use laws::grid_laws;
-pub use lines::{cell_on, line_strict_root, name_leaves};
+pub use lines::{cell_on, line_strict_root, name_leaves, write_axis};
+pub use quarters::header_of_square;
 pub use rooting::header_of;
 pub use trees::Trees;

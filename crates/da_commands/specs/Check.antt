@@ -15,7 +15,7 @@ use Rattle.da_status.specs.declared.status.Status.{Status}
 use Rattle.da_status.specs.declared.status.Status.TheVariants.{Done, Refused}
 use Rattle.da_commands.specs.declared.check.Finding.{Finding}
 use Rattle.da_commands.specs.declared.check.Finding.TheVariants as found
-use Rattle.da_commands.specs.Contents.{file_of}
+use Rattle.da_commands.specs.Contents.{header_file, messages_file}
 use Rattle.da_commands.specs.Frames.{header_in}
 use Rattle.da_commands.specs.Forms.{Over}
 use Rattle.da_status.specs.Outcome.{Relation}
@@ -65,14 +65,6 @@ IsOwnFrame frame square =
     (m : sent.Message) × (message_in frame ≡ Some m) × (ShowsOwn m square ⊎ NamesClash m square)
 
 -- ---- the command
-
--- HEADER, the first file of check
-abbrev pub header_file : List (List ℕ) → List ℕ
-header_file files = file_of files 0
-
--- MESSAGES, the second file of check
-abbrev pub messages_file : List (List ℕ) → List ℕ
-messages_file files = file_of files 1
 
 -- a line for each frame; Done where all are proved
 abbrev pub Lists : Roots → List Raw → Relation

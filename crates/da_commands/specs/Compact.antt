@@ -17,10 +17,10 @@ use Rattle.da_wire.specs.Single.{claim_of}
 use Rattle.da_status.specs.declared.status.Status.{Status}
 use Rattle.da_status.specs.declared.status.Status.TheVariants.{Done, Clash, Refused}
 use Rattle.da_status.specs.Outcome.{Relation}
-use Rattle.da_commands.specs.Contents.{file_of}
+use Rattle.da_commands.specs.Contents.{file_of, header_file}
 use Rattle.da_commands.specs.Frames.{header_in, single, WritesWith, WritesText}
 use Rattle.da_commands.specs.Forms.{Over}
-use Rattle.da_commands.specs.Verify.{header_file, fraud_number, verdict_line}
+use Rattle.da_commands.specs.Verify.{fraud_number, verdict_line}
 
 -- ---- CLAIM
 

@@ -6,14 +6,10 @@ use Rattle.axis_roots.specs.Grids.{IsHeaderOf, HasNoHeader}
 use Rattle.da_wire.specs.declared.frames.Frame.TheVariants.{Header}
 use Rattle.da_status.specs.declared.status.Asked.TheVariants.{NoHeader}
 use Rattle.da_status.specs.declared.status.Status.TheVariants.{BadRequest}
-use Rattle.da_commands.specs.Contents.{file_of}
+use Rattle.da_commands.specs.Contents.{square_file}
 use Rattle.da_status.specs.Outcome.{Relation, Refuses}
 use Rattle.da_commands.specs.Frames.{square_in, Writes}
 use Rattle.da_commands.specs.Forms.{Over}
-
--- SQUARE, the one file of header
-abbrev pub square_file : List (List ℕ) → List ℕ
-square_file files = file_of files 0
 
 -- what header answers to a square: the frame of its header, or the refusal of a square that has none
 abbrev pub Heads : SquareShares → Relation

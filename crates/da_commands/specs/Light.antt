@@ -22,7 +22,7 @@ use Rattle.da_status.specs.declared.status.Status.TheVariants.{Done, BadRequest,
 use Rattle.da_status.specs.Outcome.{Relation, Refuses}
 use Rattle.da_commands.specs.Frames.{header_in}
 use Rattle.da_commands.specs.Forms.{Over}
-use Rattle.da_commands.specs.Check.{header_file, messages_file}
+use Rattle.da_commands.specs.Contents.{header_file, messages_file}
 
 -- ---- MESSAGES
 

@@ -9,10 +9,9 @@ use Rattle.da_script.specs.Plays.{items_in, is_refused, first_net, Tells}
 use Rattle.da_status.specs.declared.status.Asked.TheVariants.{Nodes}
 use Rattle.da_status.specs.declared.status.Status.TheVariants.{Done, BadRequest}
 use Rattle.da_status.specs.Outcome.{Relation, Refuses}
-use Rattle.da_commands.specs.Contents.{file_of}
+use Rattle.da_commands.specs.Contents.{file_of, header_file, messages_file}
 use Rattle.da_commands.specs.Frames.{header_in}
 use Rattle.da_commands.specs.Forms.{messages_judged, Over}
-use Rattle.da_commands.specs.Check.{header_file, messages_file}
 
 -- SCRIPT, the third file of net
 abbrev pub script_file : List (List ℕ) → List ℕ

@@ -16,8 +16,9 @@ use Rattle.da_status.specs.declared.status.Status.TheVariants.{BadRequest}
 use Rattle.da_status.specs.Outcome.{Relation, Refuses}
 use Rattle.da_commands.specs.Frames.{square_in, Writes}
 use Rattle.da_commands.specs.Forms.{Over}
-use Rattle.da_commands.specs.Serving.{square_file, requests_file, Serves}
+use Rattle.da_commands.specs.Serving.{requests_file, Serves}
 use Rattle.da_commands.specs.Sample.{samples_in, is_asked_inside}
+use Rattle.da_commands.specs.Contents.{square_file}
 
 -- ---- prove SQUARE REQUESTS
 

@@ -16,7 +16,8 @@ use Rattle.da_status.specs.declared.status.Status.TheVariants.{Done, Fraud, Miss
 use Rattle.da_status.specs.Outcome.{Relation}
 use Rattle.da_commands.specs.Frames.{header_in}
 use Rattle.da_commands.specs.Forms.{Over}
-use Rattle.da_commands.specs.Check.{header_file, messages_file, finding_of, is_ok}
+use Rattle.da_commands.specs.Check.{finding_of, is_ok}
+use Rattle.da_commands.specs.Contents.{header_file, messages_file}
 
 -- ---- MESSAGES
 

@@ -7,14 +7,10 @@ use Rattle.data_header.specs.Headers.{Roots}
 use Rattle.data_header.specs.DataRoots.{data_root_of}
 use Rattle.da_status.specs.declared.status.Status.TheVariants.{Done}
 use Rattle.da_status.specs.Outcome.{Relation}
-use Rattle.da_commands.specs.Contents.{file_of}
+use Rattle.da_commands.specs.Contents.{header_file}
 use Rattle.da_commands.specs.Frames.{header_in, WritesText}
 use Rattle.da_commands.specs.Forms.{Over}
 use Rattle.da_commands.specs.Verify.{verdict_line, verdict_status}
-
--- HEADER, the one file of root
-abbrev pub header_file : List (List ℕ) → List ℕ
-header_file files = file_of files 0
 
 -- the line of a data root: its 32 bytes in 64 lower-case hexadecimal digits
 abbrev pub root_line : List ℕ → List ℕ

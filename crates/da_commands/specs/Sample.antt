@@ -18,7 +18,8 @@ use Rattle.da_wire.specs.Values.{values_of}
 use Rattle.da_status.specs.Outcome.{Relation}
 use Rattle.da_commands.specs.Frames.{square_in}
 use Rattle.da_commands.specs.Forms.{Over}
-use Rattle.da_commands.specs.Serving.{square_file, requests_file, Serves}
+use Rattle.da_commands.specs.Serving.{requests_file, Serves}
+use Rattle.da_commands.specs.Contents.{square_file}
 
 -- the sample that a frame asks for
 abbrev pub sample_of : Frame → Option (Cell × Axis)

@@ -12,10 +12,6 @@ use Rattle.da_commands.specs.Contents.{file_of}
 use Rattle.da_commands.specs.Choices.{FramesOf}
 use Rattle.da_status.specs.Outcome.{Relation, Refuses}
 
--- SQUARE, the first file of sample and of namespace
-abbrev pub square_file : List (List ℕ) → List ℕ
-square_file files = file_of files 0
-
 -- REQUESTS, the second one
 abbrev pub requests_file : List (List ℕ) → List ℕ
 requests_file files = file_of files 1

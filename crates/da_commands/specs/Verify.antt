@@ -30,7 +30,7 @@ use Rattle.da_wire.specs.Spelling.{message_kind, names_kind, fraud_kind, commit_
 use Rattle.da_wire.specs.Reading.{only_of}
 use Rattle.da_status.specs.declared.status.Status.{Status}
 use Rattle.da_status.specs.declared.status.Status.TheVariants.{Done, Refused}
-use Rattle.da_commands.specs.Contents.{file_of}
+use Rattle.da_commands.specs.Contents.{file_of, header_file}
 use Rattle.da_commands.specs.Frames.{header_in, single}
 use Rattle.da_commands.specs.Forms.{Over}
 use Rattle.da_status.specs.Outcome.{Relation}
@@ -113,10 +113,6 @@ abbrev pub answer_in : List ℕ → Result Frame ℕ
 answer_in bytes = single Some (only_of bytes answer_kinds)
 
 -- ---- the command
-
--- HEADER, the first file of verify
-abbrev pub header_file : List (List ℕ) → List ℕ
-header_file files = file_of files 0
 
 -- ANSWER, the second file of verify
 abbrev pub answer_file : List (List ℕ) → List ℕ

@@ -13,10 +13,10 @@ use Rattle.da_wire.specs.declared.frames.Frame.TheVariants.{Message, Names, Root
 use Rattle.da_wire.specs.Spelling.{sample_kind, request_kind}
 use Rattle.da_wire.specs.Reading.{only_of}
 use Rattle.da_status.specs.Outcome.{Relation}
-use Rattle.da_commands.specs.Contents.{file_of}
+use Rattle.da_commands.specs.Contents.{file_of, header_file}
 use Rattle.da_commands.specs.Frames.{header_in, single, error_of}
 use Rattle.da_commands.specs.Forms.{under_judged, Over}
-use Rattle.da_commands.specs.Verify.{header_file, answer_file, answer_in, IsRefusal, verdict_line, verdict_status}
+use Rattle.da_commands.specs.Verify.{answer_file, answer_in, IsRefusal, verdict_line, verdict_status}
 
 -- ---- REQUEST
 

@@ -11,7 +11,7 @@ ghost use Rattle.da_status.specs.Outcome.{EndsAtOnce};
 
 use crate::forms::one_square;
 use crate::frames::give;
-use axis_roots::{Grid, grid_laws, header_of};
+use axis_roots::header_of_square;
 use da_io::Sink;
 use da_status::{Asked, Status};
 use da_wire::{Frame, wire_laws};
@@ -39,12 +39,7 @@ fn give_header<O: Sink>(alloc: Global, square: &Square, out: &mut O) -> Status
     ensures { EndsAtOnce (Heads square.now) (O.taken out.old) (O.taken out.new) (O.faults out.old)
         (O.faults out.new) (out.new ≡ out.old) result }
 {
-    grid_laws();
-    let _k = square.k;
-    let Ok(grid) = Grid::extend(alloc, square) else {
-        return Status::NoMemory;
-    };
-    match header_of(alloc, &grid) {
+    match header_of_square(alloc, square) {
         Ok(Some(header)) => give(&header_frame(header), &mut Vec::new(alloc), out),
         Ok(None) => Status::BadRequest(Asked::NoHeader),
         Err(_) => Status::NoMemory,

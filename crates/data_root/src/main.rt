@@ -9,7 +9,7 @@ ghost use Rattle.square_layout.specs.Layout.{square_of};
 ghost use Rattle.square_layout.specs.Refusals.{layout_refusal, Answers};
 ghost use Rattle.axis_roots.specs.Grids.{IsHeaderOf, HasNoHeader};
 
-use axis_roots::{Grid, grid_laws, header_of};
+use axis_roots::header_of_square;
 use da_wire::{FrameError, read_block};
 use data_header::data_root;
 use square_layout::{Block, LayError, lay};
@@ -43,12 +43,8 @@ fn root_of(alloc: Global, block: &Block) -> Result<Option<[u8; 32]>, LayError>
         IsHeaderOf header (square_of block.now) × (root ≡ data_root_of header))) }
     ensures none { IfOk result (λ found. IsNone found → HasNoHeader (square_of block.now)) }
 {
-    grid_laws();
     let square = lay(alloc, block)?;
-    let Ok(grid) = Grid::extend(alloc, &square) else {
-        return Err(LayError::NoMemory);
-    };
-    match header_of(alloc, &grid) {
+    match header_of_square(alloc, &square) {
         Ok(Some(header)) => Ok(Some(data_root(&header))),
         Ok(None) => Ok(None),
         Err(_) => Err(LayError::NoMemory),

@@ -1,7 +1,7 @@
 //! Extended squares, their headers and their stored trees.
 
-use crate::inputs::{grid_of_one, named_share, share, square_of, version_0};
-use axis_roots::{Grid, Trees, header_of, line_strict_root};
+use crate::inputs::{grid_of_one, named_share, share, square_of, square_of_one, version_0};
+use axis_roots::{Grid, Trees, header_of, header_of_square, line_strict_root};
 use namespace_id::{Axis, PARITY};
 use nmt_tree::{leaf, node};
 
@@ -26,6 +26,20 @@ fn header_of_one_share(rt: HostRuntime) {
     assert!(rt; stored.cols == header.cols, "by stored trees");
 }
 
+/// By docs/RULES.md, "Trees" and "The code", as above.
+#[test]
+fn header_of_a_square_of_one_share(rt: HostRuntime) {
+    let original = named_share(0x0102);
+    let square = square_of_one(&rt, rt.alloc(), original);
+    let header = header_of_square(rt.alloc(), &square).expect(&rt, "there is memory");
+    let header = header.expect(&rt, "the namespaces do not fall");
+    let parity = leaf(&PARITY, &original);
+    let upper = node(&leaf(&version_0(0x0102), &original), &parity);
+    let roots = [upper, node(&parity, &parity)];
+    assert!(rt; header.rows.as_slice() == roots.as_slice());
+    assert!(rt; header.cols.as_slice() == roots.as_slice());
+}
+
 /// Each axis of a grid has the root of its header.
 #[test]
 fn strict_roots_of_a_grid(rt: HostRuntime) {
@@ -47,6 +61,13 @@ fn no_header_of_falling_namespaces(rt: HostRuntime) {
     let square = square_of(&rt, rt.alloc(), [0x0102, 0x0101, 0x0103, 0x0104]);
     let grid = Grid::extend(rt.alloc(), &square).expect(&rt, "there is memory");
     let header = header_of(rt.alloc(), &grid).expect(&rt, "there is memory");
+    assert!(rt; header.is_none());
+}
+
+#[test]
+fn no_header_of_a_square_of_falling_namespaces(rt: HostRuntime) {
+    let square = square_of(&rt, rt.alloc(), [0x0102, 0x0101, 0x0103, 0x0104]);
+    let header = header_of_square(rt.alloc(), &square).expect(&rt, "there is memory");
     assert!(rt; header.is_none());
 }
 

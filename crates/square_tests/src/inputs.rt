@@ -86,10 +86,18 @@ pub(crate) fn square_of(rt: &impl Abort, alloc: Global, names: [u16; 4]) -> Squa
     Square { k: 2, shares }
 }
 
-/// The extension of the square of one share.
-pub(crate) fn grid_of_one(rt: &impl Abort, alloc: Global, share: Share) -> Grid
+/// The square of one share.
+pub(crate) fn square_of_one(rt: &impl Abort, alloc: Global, share: Share) -> Square
     ensures { result.k ≡ 1 }
 {
     let shares = vec![in alloc; share; 1].expect(rt, "there is memory");
-    Grid::extend(alloc, &Square { k: 1, shares }).expect(rt, "there is memory")
+    Square { k: 1, shares }
+}
+
+/// The extension of that square.
+pub(crate) fn grid_of_one(rt: &impl Abort, alloc: Global, share: Share) -> Grid
+    ensures { result.k ≡ 1 }
+{
+    let square = square_of_one(rt, alloc, share);
+    Grid::extend(alloc, &square).expect(rt, "there is memory")
 }

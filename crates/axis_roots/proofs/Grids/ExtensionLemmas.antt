@@ -10,6 +10,7 @@ use Rattle.namespace_id.specs.Shares.{IsShare, AreShares}
 use Rattle.namespace_id.specs.Cells.{is_width}
 use Rattle.namespace_id.specs.Lists.{ascending}
 use Rattle.namespace_id.proofs.AscendingLemmas.{length-ascending}
+use Rattle.namespace_id.proofs.WidthLemmas.{is_width-pos}
 use Rattle.leopard_code.specs.Codewords.{column, IsCodeword, HasEntries, weighted}
 use Rattle.leopard_code.proofs.PointLemmas.{length-column}
 use Rattle.leopard_code.proofs.EntryLemmas.{get_or-column_at, byte_of_entry, same_shares}
@@ -17,7 +18,7 @@ use Rattle.leopard_code.proofs.LawLemmas.{generated}
 use Rattle.square_layout.specs.Blocks.{SquareShares, IsSquare}
 use Rattle.axis_roots.specs.Lines.{blank, cell_on}
 use Rattle.axis_roots.specs.Grids.{share_at, axis_cells, axis_shares, Extends}
-use Rattle.axis_roots.proofs.Grids.NumberLemmas.{width-ge, listed, length-listed, get_or-listed, same_listed}
+use Rattle.axis_roots.proofs.Grids.NumberLemmas.{listed, length-listed, get_or-listed, same_listed}
 use Rattle.axis_roots.proofs.Grids.AxisLemmas.{length-along, get_or-along, is_along}
 use Rattle.axis_roots.proofs.Grids.WordLemmas.{share_in, shares_each, share_anywhere, first_positions, has_first, one_word, word_through}
 use Rattle.axis_roots.proofs.Grids.SumLemmas.{words_sum, codeword-words_sum, byte-words_sum}
@@ -97,7 +98,7 @@ module _ (k : ℕ) (w : Cell → Share) (lines : Lines k w) where
 all_rows : (k : ℕ) (w : Cell → Share) → IsTrue (is_width k) → Lines k w → (row : ℕ) → row < 2 * k → IsCodeword k (map w (axis_cells k Row row))
 all_rows k w width lines row hr =
     let made = generated k (ascending 0 k) row width (length-ascending k 0) (first_positions k) hr in
-    crossed k w lines (width-ge k width) row hr made.0 made.1 made.3
+    crossed k w lines (is_width-pos k width) row hr made.0 made.1 made.3
 
 -- a grid that has the square, and codewords as its upper rows and as its columns, extends the square
 pub extends_by_lines : (k : ℕ) (square grid : List Share) → IsTrue (is_width k) → length grid ≡ 2 * k * (2 * k)
@@ -148,6 +149,6 @@ extension_once k square one other width e f =
     ∙ get_or-along k w axis i pos blank l in
     let upper : (r c : ℕ) → r < k → c < 2 * k → v (cell_on Row r c) ≡ w (cell_on Row r c) =
     λ r c hr hc. same_axis Row r (omega arith) (λ q hq. e.quarter (cell_on Row r q) hr hq ∙ sym (f.quarter (cell_on Row r q) hr hq)) c hc in
-    let some : 0 < k = width-ge k width in
+    let some : 0 < k = is_width-pos k width in
     same_listed (2 * k) blank one other (omega arith) e.size f.size
     (λ cell hr hc. same_axis Col cell.col hc (λ q hq. upper q cell.col hq hc) cell.row hr)

@@ -1,7 +1,7 @@
 -- Cells that stay while axes become codewords.
-use Rattle.std.proofs.Common.{◌≡◌, ◌≢◌, ◌⊎◌, ◌∙◌, ℕ, ◌+◌, ◌*◌, ◌<◌, ◌≤◌, List, ◌++◌, length, get_or, sym, ap, subst, inl, inr, arith, below_more, IsTrue}
-use Rattle.std.proofs.lemmas.Bool.{cases_eq}
-use Rattle.std.proofs.lemmas.List.{get_or_append_left}
+use Rattle.std.proofs.Common.{◌≡◌, ◌≢◌, ◌⊎◌, ◌∙◌, ℕ, ◌+◌, ◌-◌, ◌*◌, ◌<◌, ◌≤◌, List, ◌++◌, length, get_or, take, length-append, sym, ap, subst, inl, inr, arith, below_more, IsTrue}
+use Rattle.std.proofs.lemmas.Bool.{cases_lt}
+use Rattle.std.proofs.lemmas.List.{get_or_append_left, get_or-append-add, get_or-take, get_or_default, length-take-le, ext_get_or}
 use Rattle.namespace_id.specs.declared.cells.Cell.{Cell}
 use Rattle.namespace_id.specs.declared.cells.Axis.{Axis}
 use Rattle.namespace_id.specs.declared.shares.Share.{Share}
@@ -10,8 +10,8 @@ use Rattle.leopard_code.specs.Codewords.{IsCodeword}
 use Rattle.axis_roots.specs.Messages.{position, index}
 use Rattle.axis_roots.specs.Lines.{blank, cell_on}
 use Rattle.axis_roots.specs.Grids.{share_at, axis_shares}
-use Rattle.axis_roots.proofs.Grids.AxisLemmas.{index-cell_on, cell_on-own, get_or-along, same_along}
-use Rattle.axis_roots.proofs.Grids.WrittenLemmas.{on_axis_in_square}
+use Rattle.axis_roots.proofs.Grids.AxisLemmas.{index-cell_on, position-cell_on, length-along, get_or-along, is_along, same_along}
+use Rattle.axis_roots.proofs.Grids.WrittenLemmas.{on_axis_in_square, other_axis, other_place}
 
 -- the cells of other axes are as they were, and so are the first k of this one
 abbrev pub AxisKept : ℕ → Axis → ℕ → List Share → List Share → Type 0
@@ -25,30 +25,67 @@ AxesKept k axis count old new =
     (cell : Cell) → IsTrue (is_in_square k cell) → (count ≤ index axis cell) ⊎ (position axis cell < k)
     → share_at (2 * k) new cell ≡ share_at (2 * k) old cell
 
--- the first places of an axis whose lists have the same front
-front_kept : (k : ℕ) (old new front later back : List Share) (axis : Axis) (i pos : ℕ) → length front ≡ k
-    → axis_shares k old axis i ≡ front ++ later → axis_shares k new axis i ≡ front ++ back → pos < k
-    → share_at (2 * k) new (cell_on axis i pos) ≡ share_at (2 * k) old (cell_on axis i pos)
-front_kept k old new front later back axis i pos long was is h =
-    sym (get_or-along k (share_at (2 * k) new) axis i pos blank (omega arith))
-    ∙ ap (λ (line : List Share). get_or line pos blank) is
-    ∙ get_or_append_left front back blank pos (omega arith)
-    ∙ sym (get_or_append_left front later blank pos (omega arith))
-    ∙ ap (λ (line : List Share). get_or line pos blank) (sym was)
-    ∙ get_or-along k (share_at (2 * k) old) axis i pos blank (omega arith)
+-- a list that has the first k shares of an axis
+pub is_front : (k : ℕ) (shares line : List Share) (axis : Axis) (i : ℕ) → length line ≡ k
+    → ((pos : ℕ) → pos < k → get_or line pos blank ≡ share_at (2 * k) shares (cell_on axis i pos)) → line ≡ take k (axis_shares k shares axis i)
+is_front k shares line axis i long each =
+    let word : List Share = axis_shares k shares axis i in
+    let fits : k ≤ length word = omega (arith, length-along k (share_at (2 * k) shares) axis i) in
+    ext_get_or blank line (take k word) (long ∙ sym (length-take-le k word fits)) (λ pos h.
+    let within : pos < k = omega arith in
+    each pos within ∙ sym (get_or-take k word pos blank within ∙ get_or-along k (share_at (2 * k) shares) axis i pos blank (omega arith)))
 
--- what stays when the 2k shares of an axis are written and their first k are those that were there
-pub axis_kept : (k : ℕ) (old new front later back : List Share) (axis : Axis) (i : ℕ) → length front ≡ k
-    → axis_shares k old axis i ≡ front ++ later → axis_shares k new axis i ≡ front ++ back
-    → ((cell : Cell) → IsTrue (is_in_square k cell) → index axis cell ≢ i → share_at (2 * k) new cell ≡ share_at (2 * k) old cell)
-    → AxisKept k axis i old new
-axis_kept k old new front later back axis i long was is others cell within (inl apart) = others cell within apart
-axis_kept k old new front later back axis i long was is others cell within (inr low) = elim (cases_eq (index axis cell) i) [
-  | inl same ↦
-      let own : cell_on axis i (position axis cell) ≡ cell = ap (λ (j : ℕ). cell_on axis j (position axis cell)) (sym same) ∙ cell_on-own axis cell in
-      subst (λ (c : Cell). share_at (2 * k) new c ≡ share_at (2 * k) old c) own (front_kept k old new front later back axis i (position axis cell) long was is low)
-  | inr apart ↦ others cell within apart
-]
+-- the shares behind the first k of an axis, after one more was put into its cell
+pub back_next : (k m : ℕ) (now new line : List Share) (axis : Axis) (i pos : ℕ) (cell : Cell) (d : Share)
+    → m ≡ k → cell ≡ cell_on axis i (k + pos) → i < 2 * k → pos < k → length line ≡ k
+    → share_at (2 * m) new cell ≡ get_or line pos d
+    → ((other : Cell) → IsTrue (is_in_square m other) → other ≢ cell → share_at (2 * m) new other ≡ share_at (2 * m) now other)
+    → ((place : ℕ) → place < pos → share_at (2 * k) now (cell_on axis i (k + place)) ≡ get_or line place blank)
+    → (place : ℕ) → place < pos + 1 → share_at (2 * k) new (cell_on axis i (k + place)) ≡ get_or line place blank
+back_next k m now new line axis i pos cell d same on hi hp long here others before =
+    below_more _ _
+    (λ place h.
+    let own : Cell = cell_on axis i (k + place) in
+    subst (λ (n : ℕ). share_at (2 * n) new own ≡ share_at (2 * n) now own) same
+    (others own (subst (λ (n : ℕ). IsTrue (is_in_square n own)) (sym same) (on_axis_in_square k axis i (k + place) hi (omega arith)))
+    (other_place axis i (k + pos) (k + place) cell on (omega arith)))
+    ∙ before place h)
+    (ap (share_at (2 * k) new) (sym on) ∙ subst (λ (n : ℕ). share_at (2 * n) new cell ≡ get_or line pos d) same here ∙ get_or_default line pos d blank (omega arith))
+
+-- the cells of other axes and the first k of this one, after that
+pub back_kept : (k m : ℕ) (old now new : List Share) (axis : Axis) (i pos : ℕ) (cell : Cell)
+    → m ≡ k → cell ≡ cell_on axis i (k + pos)
+    → ((other : Cell) → IsTrue (is_in_square m other) → other ≢ cell → share_at (2 * m) new other ≡ share_at (2 * m) now other)
+    → AxisKept k axis i old now → AxisKept k axis i old new
+back_kept k m old now new axis i pos cell same on others before other within apart =
+    subst (λ (n : ℕ). share_at (2 * n) new other ≡ share_at (2 * n) now other) same
+    (others other (subst (λ (n : ℕ). IsTrue (is_in_square n other)) (sym same) within) (elim apart [
+      | inl elsewhere ↦ other_axis axis i (k + pos) cell other on elsewhere
+      | inr low ↦ λ e. let place : position axis other ≡ k + pos = ap (position axis) (e ∙ on) ∙ position-cell_on axis i (k + pos) in absurd (omega (arith, low, place))
+    ]))
+    ∙ before other within apart
+
+-- the first k shares of an axis, and those that were put behind them
+pub backed : (k : ℕ) (old new line : List Share) (axis : Axis) (i : ℕ) → i < 2 * k → length line ≡ k
+    → ((place : ℕ) → place < k → share_at (2 * k) new (cell_on axis i (k + place)) ≡ get_or line place blank)
+    → AxisKept k axis i old new → axis_shares k new axis i ≡ take k (axis_shares k old axis i) ++ line
+backed k old new line axis i hi long written kept =
+    let word : List Share = axis_shares k old axis i in
+    let front : List Share = take k word in
+    let count : length front ≡ k = length-take-le k word (omega (arith, length-along k (share_at (2 * k) old) axis i)) in
+    sym (is_along k (share_at (2 * k) new) axis i blank (front ++ line) (omega (arith, length-append front line, count, long)) (λ pos h. elim (cases_lt pos k) [
+      | inl low ↦
+          let stays : position axis (cell_on axis i pos) < k = omega (arith, low, position-cell_on axis i pos) in
+          get_or_append_left front line blank pos (omega (arith, count)) ∙ get_or-take k word pos blank low ∙ get_or-along k (share_at (2 * k) old) axis i pos blank h
+          ∙ sym (kept (cell_on axis i pos) (on_axis_in_square k axis i pos hi h) (inr stays))
+      | inr high ↦
+          let at : k + (pos - k) ≡ pos = omega arith in
+          ap (λ (n : ℕ). get_or (front ++ line) n blank) (sym at)
+          ∙ ap (λ (n : ℕ). get_or (front ++ line) (n + (pos - k)) blank) (sym count)
+          ∙ get_or-append-add front line (pos - k) blank
+          ∙ sym (written (pos - k) (omega arith))
+          ∙ ap (λ (n : ℕ). share_at (2 * k) new (cell_on axis i n)) at
+    ]))
 
 -- the codewords so far, after the next axis became one
 pub codewords_next : (k m : ℕ) (now new : List Share) (axis : Axis) (i : ℕ) → m ≡ k → i < 2 * k

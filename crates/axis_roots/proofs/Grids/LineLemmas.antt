@@ -1,7 +1,6 @@
 -- The leaf namespaces of lines, and those of the rows and columns of a grid.
-use Rattle.std.proofs.Common.{◌≡◌, ◌∙◌, ℕ, zero, suc, ◌+◌, ◌*◌, ◌^◌, ◌<◌, List, [], ◌∷◌, length, get_or, map, true, refl, sym, ap, arith}
+use Rattle.std.proofs.Common.{◌≡◌, ◌∙◌, ℕ, zero, suc, ◌+◌, ◌*◌, ◌<◌, List, [], ◌∷◌, length, get_or, map, true, refl, sym, ap, arith}
 use Rattle.std.proofs.lemmas.List.{get_or-map, length-map}
-use Rattle.std.proofs.lemmas.Bool.Decides.{nat_tests}
 use Rattle.namespace_id.specs.declared.cells.Cell.{Cell}
 use Rattle.namespace_id.specs.declared.cells.Axis.{Axis}
 use Rattle.namespace_id.specs.declared.namespaces.Namespace.{Namespace}
@@ -13,6 +12,7 @@ use Rattle.namespace_id.specs.Cells.{is_width, leaf_namespace}
 use Rattle.namespace_id.specs.Lists.{ascending}
 use Rattle.namespace_id.proofs.ShareLemmas.{name_of-is}
 use Rattle.namespace_id.proofs.AscendingLemmas.{length-ascending, get_or-ascending}
+use Rattle.namespace_id.proofs.PowerLemmas.{double_halvings}
 use Rattle.nmt_tree.specs.Digests.{leaf_digest}
 use Rattle.nmt_tree.specs.Roots.{halvings}
 use Rattle.nmt_tree.specs.Levels.{leaf_digests}
@@ -51,16 +51,12 @@ pub line_names-are : (k : ℕ) (axis : Axis) (i : ℕ) (line : List Share) → A
 unfolding line_names
 line_names-are k axis i line are = names_from k axis i line are (2 * k) 0
 
--- a row or a column of a square has a power of two of leaves
-pub leaf_count : (k : ℕ) → is_width k ≡ true → 2 * k ≡ 2 ^ halvings (2 * k)
-leaf_count k w = grind (arith, nat_tests)
-
 -- the leaves over a line of 2k shares
 pub line_leaves : (k : ℕ) (axis : Axis) (i : ℕ) (line : List Share) → is_width k ≡ true → length line ≡ 2 * k → AreShares line
     → AreLeaves (halvings (2 * k)) (line_names k axis i line) line
 line_leaves k axis i line width long are = record {
-  name_count = length-line_names k axis i line ∙ leaf_count k width;
-  share_count = long ∙ leaf_count k width;
+  name_count = length-line_names k axis i line ∙ sym (double_halvings k width);
+  share_count = long ∙ sym (double_halvings k width);
   name_bytes = line_names-are k axis i line are;
   share_bytes = are;
 }

@@ -11,7 +11,6 @@ use Rattle.namespace_id.proofs.AscendingLemmas.{length-ascending, get_or-ascendi
 use Rattle.axis_roots.specs.Messages.{position, index}
 pub use Rattle.namespace_id.specs.Cells.{cell_numbered as cell_of}
 pub use Rattle.namespace_id.proofs.NumberLemmas.{inside, in_square, number-lt, row-lt, cell_numbered-number as cell_of-number}
-pub use Rattle.namespace_id.proofs.WidthLemmas.{is_width-pos as width-ge}
 
 -- the place of a cell of the square on its axis
 pub position-lt : (k : ℕ) (axis : Axis) (cell : Cell) → IsTrue (is_in_square k cell) → position axis cell < 2 * k

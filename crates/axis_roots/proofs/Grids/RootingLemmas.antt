@@ -1,9 +1,8 @@
 -- Roots of axes, from the digests of the leaves over all cells.
-use Rattle.std.proofs.Common.{◌≡◌, ◌∙◌, ℕ, ◌+◌, ◌-◌, ◌*◌, ◌^◌, ◌<◌, ◌≤◌, List, length, get_or, set, map, Bool, true, false, cond, refl, sym, ap, ap₂, arith, below_more, IsTrue}
+use Rattle.std.proofs.Common.{◌≡◌, ◌∙◌, ℕ, ◌+◌, ◌-◌, ◌*◌, ◌^◌, ◌<◌, ◌≤◌, List, length, get_or, set, map, Bool, true, false, cond, refl, sym, ap, ap₂, subst, arith, below_more, IsTrue}
 use Rattle.std.specs.Prelude.{Some, None}
 use Rattle.std.specs.List.{list_all}
 use Rattle.std.proofs.lemmas.Bool.{false_from_ne_true}
-use Rattle.std.proofs.lemmas.Bool.Decides.{nat_tests}
 use Rattle.std.proofs.lemmas.List.{get_or-map, length-map, get_or-set_same, get_or-set_other, ext_get_or}
 use Rattle.namespace_id.specs.declared.cells.Cell.{Cell}
 use Rattle.namespace_id.specs.declared.cells.Axis.{Axis}
@@ -15,13 +14,14 @@ use Rattle.namespace_id.specs.Names.{is_at_most, parity}
 use Rattle.namespace_id.specs.Digests.{least_of, no_digest}
 use Rattle.namespace_id.specs.Cells.{is_width, leaf_namespace}
 use Rattle.namespace_id.proofs.ShareLemmas.{name_of-is}
-use Rattle.nmt_tree.specs.Roots.{is_leaf_count, halvings, is_ordered, strict_root}
+use Rattle.nmt_tree.specs.Roots.{halvings, is_ordered, strict_root}
 use Rattle.nmt_tree.specs.Levels.{span}
 use Rattle.nmt_tree.proofs.CountLemmas.{power_halvings}
 use Rattle.nmt_tree.proofs.NameLemmas.{least-leaf}
 use Rattle.nmt_tree.proofs.SpanLemmas.{root_is_span}
 use Rattle.namespace_id.specs.Lists.{ascending}
 use Rattle.namespace_id.proofs.AscendingLemmas.{length-ascending}
+use Rattle.namespace_id.proofs.PowerLemmas.{double_power}
 use Rattle.axis_roots.specs.Lines.{cell_on, line_root, line_strict_root}
 use Rattle.axis_roots.specs.Grids.{share_at, axis_cells, axis_names, axis_shares, axis_root, axis_roots, leaf_over, AreLeafDigests, is_ordered_axis}
 use Rattle.axis_roots.specs.Trees.{axis_leaves}
@@ -44,6 +44,12 @@ read_next k shares leaves line axis i pos place cell are hi hp long on at before
     (get_or-set_same line pos (get_or leaves place no_digest) no_digest (omega arith)
     ∙ ap (λ (n : ℕ). get_or leaves n no_digest) (at ∙ ap (λ (c : Cell). c.row * (2 * k) + c.col) on)
     ∙ are.digests (cell_on axis i pos) (on_axis_in_square k axis i pos hi hp))
+
+-- the digests that were read along an axis are its leaves, where the width that was told is the grid's
+pub read_at : (k m : ℕ) (shares : List Share) (leaves line : List Digest) (axis : Axis) (i : ℕ) → m ≡ k → AreLeafDigests k shares leaves
+    → ((of : List Share) → AreLeafDigests m of leaves → line ≡ axis_leaves m of axis i) → line ≡ axis_leaves k shares axis i
+read_at k m shares leaves line axis i same are read =
+    subst (λ (n : ℕ). AreLeafDigests n shares leaves → line ≡ axis_leaves n shares axis i) same (read shares) are
 
 -- the least namespaces of the leaves along an axis are their names
 names_along : (k : ℕ) (shares : List Share) (axis : Axis) (i : ℕ) → AreShares shares → map least_of (axis_leaves k shares axis i) ≡ axis_names k shares axis i
@@ -77,16 +83,12 @@ ordered-leaves k shares axis i line b are is known = ap is_ordered (sym (ap (map
 
 -- ---- strict roots
 
--- a tree may have 2k leaves
-pub leaf_count-double : (k : ℕ) → IsTrue (is_width k) → IsTrue (is_leaf_count (2 * k))
-leaf_count-double k h = grind (arith, nat_tests)
-
 -- the root of an axis is the digest over the leaves along it
 pub root-leaves : (k : ℕ) (shares : List Share) (axis : Axis) (i : ℕ) → IsTrue (is_width k)
     → span (axis_leaves k shares axis i) 0 (halvings (2 * k)) ≡ axis_root k shares axis i
 unfolding line_root
 root-leaves k shares axis i width =
-    let power : 2 ^ halvings (2 * k) ≡ 2 * k = power_halvings (2 * k) (leaf_count-double k width) in
+    let power : 2 ^ halvings (2 * k) ≡ 2 * k = power_halvings (2 * k) (double_power k width) in
     sym (root_is_span (halvings (2 * k)) (axis_names k shares axis i) (axis_shares k shares axis i)
     (length-line_names k axis i (axis_shares k shares axis i) ∙ sym power) (length-along k (share_at (2 * k) shares) axis i ∙ sym power))
 

@@ -16,11 +16,12 @@ use Rattle.nmt_tree.specs.Levels.{HasOrderedJoins}
 use Rattle.nmt_tree.specs.Trees.{StoredTree}
 use Rattle.nmt_tree.proofs.JoinLemmas.{joins_ordered}
 use Rattle.namespace_id.proofs.AscendingLemmas.{length-ascending}
+use Rattle.namespace_id.proofs.PowerLemmas.{double_halvings}
 use Rattle.axis_roots.specs.Grids.{share_at, axis_cells, leaf_over, axis_names, axis_shares, axis_roots, is_ordered_axis, are_ordered_axes, header_of_grid}
 use Rattle.axis_roots.specs.Trees.{AxisTrees, AreTrees, AreFilled, axis_leaves, axis_stored, stored_along, stored_root, trees_of_grid, no_tree, tree_at}
 use Rattle.axis_roots.proofs.Grids.AxisLemmas.{get_or-mapped, length-along}
 use Rattle.axis_roots.proofs.Grids.WordLemmas.{each-map, share_anywhere}
-use Rattle.axis_roots.proofs.Grids.LineLemmas.{leaf_count, line_names-are, length-line_names, axis_leaves-cells}
+use Rattle.axis_roots.proofs.Grids.LineLemmas.{line_names-are, length-line_names, axis_leaves-cells}
 use Rattle.axis_roots.proofs.Grids.HeaderLemmas.{some_if, none_if, ordered_axis}
 use Rattle.axis_roots.proofs.Grids.RootingLemmas.{root-leaves, one_falls, all_ordered}
 
@@ -42,7 +43,7 @@ axis_joins k shares axis i width are ordered =
     let line : List Share = axis_shares k shares axis i in
     let long : length (axis_names k shares axis i) ≡ 2 * k = length-line_names k axis i line in
     joins_ordered (halvings (2 * k)) 0 (axis_names k shares axis i) line (line_names-are k axis i line (axis_shares-are k shares axis i are))
-    (length-along k (share_at (2 * k) shares) axis i ∙ sym long) ordered (omega (arith, long, leaf_count k width))
+    (length-along k (share_at (2 * k) shares) axis i ∙ sym long) ordered (omega (arith, long, double_halvings k width))
 
 -- the same of a line and a count that are those
 pub line_joins : (k n : ℕ) (shares : List Share) (axis : Axis) (i : ℕ) (line : List Digest) → IsTrue (is_width k) → AreShares shares → is_ordered_axis k shares axis i ≡ true

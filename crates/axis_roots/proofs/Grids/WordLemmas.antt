@@ -91,7 +91,7 @@ one_word k word other width first second same =
     ∙ ap (slice_get other) (sym place))
 
 -- k shares, one for each of these
-length-mapped : (k : ℕ) (f : ℕ → Share) → length (map f (ascending 0 k)) ≡ k
+pub length-mapped : (k : ℕ) (f : ℕ → Share) → length (map f (ascending 0 k)) ≡ k
 length-mapped k f = length-map (ascending 0 k) f ∙ length-ascending k 0
 
 -- a codeword begins with any k shares

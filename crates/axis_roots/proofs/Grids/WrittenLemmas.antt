@@ -22,7 +22,7 @@ pub other_axis : (axis : Axis) (i pos : ℕ) (cell other : Cell) → cell ≡ ce
 other_axis axis i pos cell other on apart same = apart (ap (index axis) (same ∙ on) ∙ index-cell_on axis i pos)
 
 -- a cell before a place of an axis is not the one there
-other_place : (axis : Axis) (i pos place : ℕ) (cell : Cell) → cell ≡ cell_on axis i pos → place < pos → cell_on axis i place ≢ cell
+pub other_place : (axis : Axis) (i pos place : ℕ) (cell : Cell) → cell ≡ cell_on axis i pos → place < pos → cell_on axis i place ≢ cell
 other_place axis i pos place cell on before same =
     let e : place ≡ pos = sym (position-cell_on axis i place) ∙ ap (position axis) (same ∙ on) ∙ position-cell_on axis i pos in absurd (omega arith)
 

@@ -12,12 +12,13 @@ use Rattle.namespace_id.specs.declared.shares.Share.{Share}
 use Rattle.namespace_id.specs.declared.digests.Digest.{Digest}
 use Rattle.namespace_id.specs.Cells.{is_in_square}
 use Rattle.namespace_id.specs.Lists.{holds_along}
+use Rattle.namespace_id.proofs.PowerLemmas.{double_halvings}
 use Rattle.nmt_tree.specs.Roots.{halvings}
 use Rattle.nmt_proofs.specs.Parts.{Part, digest_of}
 use Rattle.nmt_proofs.specs.Clashes.{Agree}
 use Rattle.nmt_proofs.specs.Places.{AreAscending}
-use Rattle.nmt_proofs.proofs.ShownLemmas.{opening-sized, opening-deep}
-use Rattle.nmt_proofs.proofs.SetLawLemmas.{set_agreed}
+use Rattle.nmt_proofs.proofs.Parts.ShownLemmas.{opening-sized, opening-deep}
+use Rattle.nmt_proofs.proofs.Sets.SetLawLemmas.{set_agreed}
 use Rattle.leopard_code.specs.Codewords.{HasEntries}
 use Rattle.data_header.specs.Headers.{Roots}
 use Rattle.square_layout.specs.Blocks.{SquareShares}
@@ -31,7 +32,6 @@ use Rattle.axis_roots.specs.Sets.{is_along, is_shown, along_in, names_in, set_of
 use Rattle.axis_roots.specs.Claims.{ClaimParts, IsThrough, ShowsBad, claimed_root, is_set_cell, AreProved, Accepts, SetNames, IsFalseClaim}
 use Rattle.axis_roots.proofs.Grids.AxisLemmas.{cell_on-own, length-along, get_or-along}
 use Rattle.axis_roots.proofs.Grids.NumberLemmas.{position-lt}
-use Rattle.axis_roots.proofs.Grids.LineLemmas.{leaf_count}
 use Rattle.axis_roots.proofs.Grids.ExtensionLemmas.{extension_once}
 use Rattle.axis_roots.proofs.Grids.HeaderLemmas.{header_width, header_strict}
 use Rattle.axis_roots.proofs.Messages.OwnLemmas.{leaves_are, names_or_agrees, share_on, accepted_own}
@@ -104,7 +104,7 @@ set_shows_own k square grid axis i cells nodes root opens extends below on up ba
     let names : List Namespace = axis_names k grid axis i in
     let shares : List Share = axis_shares k grid axis i in
     let places : AreAscending 0 (2 ^ halvings (2 * k)) (map (λ m. position axis m.cell) ms) =
-    subst (λ (n : ℕ). AreAscending 0 n (map (λ m. position axis m.cell) ms)) (leaf_count k opens.width) (set_ascending k axis cells up bare) in
+    subst (λ (n : ℕ). AreAscending 0 n (map (λ m. position axis m.cell) ms)) (sym (double_halvings k opens.width)) (set_ascending k axis cells up bare) in
     let listed = set_agreed (halvings (2 * k)) (map (λ m. position axis m.cell) ms) (names_in k ms) (map (λ m. m.share) ms) nodes names shares
     (set_opening k axis cells nodes root opens) places (leaves_are k square grid axis i opens.width extends below) same in
     own_along k grid axis i cells on (bare_inside k axis cells bare)

@@ -12,13 +12,14 @@ use Rattle.namespace_id.specs.declared.namespaces.Namespace.{Namespace}
 use Rattle.namespace_id.specs.Digests.{no_digest}
 use Rattle.namespace_id.specs.Names.{parity}
 use Rattle.namespace_id.specs.Shares.{AreShares}
+use Rattle.namespace_id.proofs.PowerLemmas.{double_halvings}
 use Rattle.nmt_tree.specs.Levels.{span, HasOrderedJoins}
 use Rattle.nmt_tree.proofs.SpanLemmas.{leaf_digests-at, root_is_span}
 use Rattle.nmt_tree.proofs.JoinLemmas.{joins_ordered}
 use Rattle.nmt_proofs.specs.Parts.{given, leaf}
 use Rattle.nmt_proofs.specs.Openings.{Opens, one_leaf}
 use Rattle.nmt_proofs.specs.Making.{leaf_nodes, OpensLeaf}
-use Rattle.nmt_proofs.proofs.MadeLemmas.{one_opens}
+use Rattle.nmt_proofs.proofs.Agreement.MadeLemmas.{one_opens}
 use Rattle.axis_roots.specs.declared.message.messages.Message.{Message}
 use Rattle.axis_roots.specs.Messages.{IsMessage, position, index, shown_by}
 use Rattle.axis_roots.specs.Openings.{OpensAt}
@@ -28,7 +29,7 @@ use Rattle.axis_roots.specs.Trees.{axis_leaves, line_leaves, line_message, messa
 use Rattle.axis_roots.proofs.Grids.NumberLemmas.{position-lt, index-lt}
 use Rattle.axis_roots.proofs.Grids.AxisLemmas.{get_or-along, length-along, position-cell_on, cell_on-own}
 use Rattle.axis_roots.proofs.Grids.RootingLemmas.{root-leaves}
-use Rattle.axis_roots.proofs.Grids.LineLemmas.{axis_leaves-cells, leaf_count, length-line_names, get_or-line_names, line_names-are}
+use Rattle.axis_roots.proofs.Grids.LineLemmas.{axis_leaves-cells, length-line_names, get_or-line_names, line_names-are}
 use Rattle.axis_roots.proofs.Grids.WrittenLemmas.{on_axis_in_square}
 use Rattle.axis_roots.proofs.Grids.StoredLemmas.{axis_shares-are}
 use Rattle.axis_roots.proofs.Messages.SizeLemmas.{sizes-line_message}
@@ -76,7 +77,7 @@ line_root-span : (k : ℕ) (axis : Axis) (i : ℕ) (line : List Share) → IsTru
     → line_root k axis i line ≡ span (line_leaves k axis i line) 0 (halvings (2 * k))
 unfolding line_root
 line_root-span k axis i line width long =
-    root_is_span (halvings (2 * k)) (line_names k axis i line) line (length-line_names k axis i line ∙ leaf_count k width) (long ∙ leaf_count k width)
+    root_is_span (halvings (2 * k)) (line_names k axis i line) line (length-line_names k axis i line ∙ sym (double_halvings k width)) (long ∙ sym (double_halvings k width))
 
 -- every join over the leaves of an ordered line is ordered
 line_joins_ordered : (k : ℕ) (axis : Axis) (i : ℕ) (line : List Share) → IsTrue (is_width k) → length line ≡ 2 * k → AreShares line
@@ -84,7 +85,7 @@ line_joins_ordered : (k : ℕ) (axis : Axis) (i : ℕ) (line : List Share) → I
 line_joins_ordered k axis i line width long are ordered =
     let named : length (line_names k axis i line) ≡ 2 * k = length-line_names k axis i line in
     joins_ordered (halvings (2 * k)) 0 (line_names k axis i line) line (line_names-are k axis i line are) (long ∙ sym named) ordered
-    (omega (arith, named, leaf_count k width))
+    (omega (arith, named, double_halvings k width))
 
 -- the sample of a position of an ordered line opens
 pub line_opens : (k : ℕ) (axis : Axis) (i pos : ℕ) (line : List Share) → is_width k ≡ true → i < 2 * k → pos < 2 * k → length line ≡ 2 * k
@@ -96,7 +97,7 @@ line_opens k axis i pos line width hi hp long are ordered = record {
   opened =
       let m : Message = line_message k axis i line pos in
       let leaves : List Digest = line_leaves k axis i line in
-      let below : pos < 2 ^ halvings (2 * k) = omega (arith, leaf_count k width) in
+      let below : pos < 2 ^ halvings (2 * k) = omega (arith, double_halvings k width) in
       let name : Namespace = leaf_namespace k (cell_on axis i pos) (entry line pos) in
       subst (λ (p : ℕ). Opens (halvings (2 * k)) (one_leaf p name (entry line pos)) m.path (line_root k axis i line)) (sym (position-cell_on axis i pos))
       (subst (Opens (halvings (2 * k)) (one_leaf pos name (entry line pos)) m.path) (sym (line_root-span k axis i line width long))

@@ -12,13 +12,14 @@ use Rattle.namespace_id.specs.declared.shares.Share.{Share}
 use Rattle.namespace_id.specs.declared.digests.Digest.{Digest}
 use Rattle.namespace_id.specs.Cells.{is_width, leaf_namespace}
 use Rattle.namespace_id.proofs.ShareLemmas.{name_of-is}
+use Rattle.namespace_id.proofs.PowerLemmas.{double_halvings}
 use Rattle.nmt_tree.specs.Roots.{halvings}
 use Rattle.nmt_proofs.specs.Parts.{Part, digest_of}
 use Rattle.nmt_proofs.specs.Clashes.{IsClash, clash_at, IsSized, HasDepth, Agree, AreLeaves, IsOpening}
-use Rattle.nmt_proofs.proofs.AgreeLemmas.{agree_or}
-use Rattle.nmt_proofs.proofs.WholeLemmas.{digest-whole, depth-whole, sized-whole}
-use Rattle.nmt_proofs.proofs.ShownLemmas.{opening-sized, opening-deep}
-use Rattle.nmt_proofs.proofs.ListedLemmas.{leaf_agreed}
+use Rattle.nmt_proofs.proofs.Agreement.AgreeLemmas.{agree_or}
+use Rattle.nmt_proofs.proofs.Parts.WholeLemmas.{digest-whole, depth-whole, sized-whole}
+use Rattle.nmt_proofs.proofs.Parts.ShownLemmas.{opening-sized, opening-deep}
+use Rattle.nmt_proofs.proofs.Agreement.ListedLemmas.{leaf_agreed}
 use Rattle.data_header.specs.Headers.{Roots, root_of}
 use Rattle.square_layout.specs.Blocks.{SquareShares, IsSquare}
 use Rattle.axis_roots.specs.declared.message.messages.Message.{Message}
@@ -29,7 +30,7 @@ use Rattle.axis_roots.specs.Grids.{share_at, axis_shares, axis_names, axis_tree,
 use Rattle.axis_roots.specs.Own.{opened_by, NamesAt, AgreesAt, ShowsOwn, NamesClash, IsOwn}
 use Rattle.axis_roots.proofs.Grids.AxisLemmas.{cell_on-own, length-along, get_or-along}
 use Rattle.axis_roots.proofs.Grids.NumberLemmas.{position-lt, index-lt}
-use Rattle.axis_roots.proofs.Grids.LineLemmas.{leaf_count, line_leaves}
+use Rattle.axis_roots.proofs.Grids.LineLemmas.{line_leaves}
 use Rattle.axis_roots.proofs.Grids.ExtensionLemmas.{extension_once}
 use Rattle.axis_roots.proofs.Grids.HeaderLemmas.{header_width, header_root}
 
@@ -106,7 +107,7 @@ shows_own k m square grid root opens extends same =
     let below : pos < 2 * k = position-lt k m.axis m.cell opens.inside in
     let leaves = leaves_are k square grid m.axis i opens.width extends (index-lt k m.axis m.cell opens.inside) in
     let listed = leaf_agreed (halvings (2 * k)) pos (leaf_namespace k m.cell m.share) m.share m.path (axis_names k grid m.axis i) (axis_shares k grid m.axis i)
-    (opening_of k m root opens) (subst (λ (n : ℕ). pos < n) (leaf_count k opens.width) below) leaves same in
+    (opening_of k m root opens) (subst (λ (n : ℕ). pos < n) (sym (double_halvings k opens.width)) below) leaves same in
     share_on k grid m.axis m.cell m.share below listed.1
 
 -- under the header of a square a sample shows the square's own share, or they name a collision

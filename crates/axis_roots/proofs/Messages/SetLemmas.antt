@@ -9,21 +9,21 @@ use Rattle.namespace_id.specs.declared.cells.Axis.{Axis}
 use Rattle.namespace_id.specs.declared.namespaces.Namespace.{Namespace}
 use Rattle.namespace_id.specs.declared.shares.Share.{Share}
 use Rattle.namespace_id.specs.declared.digests.Digest.{Digest}
-use Rattle.namespace_id.specs.Cells.{is_width, is_in_square}
+use Rattle.namespace_id.specs.Cells.{is_in_square}
 use Rattle.namespace_id.specs.Lists.{holds_along}
 use Rattle.namespace_id.proofs.ShareLemmas.{name_of-is}
+use Rattle.namespace_id.proofs.PowerLemmas.{halvings_double, power_halvings, width_power, double_halvings}
 use Rattle.nmt_tree.specs.Roots.{halvings}
 use Rattle.nmt_proofs.specs.Openings.{outside, leaves_at}
 use Rattle.nmt_proofs.specs.Clashes.{AreShown, IsOpening, AreLeavesOf}
 use Rattle.nmt_proofs.specs.Places.{AreAscending}
-use Rattle.nmt_proofs.proofs.FewLemmas.{set_few}
+use Rattle.nmt_proofs.proofs.Sets.FewLemmas.{set_few}
 use Rattle.data_header.specs.Headers.{Roots}
 use Rattle.axis_roots.specs.declared.message.messages.Message.{Message}
 use Rattle.axis_roots.specs.Messages.{IsMessage, position}
 use Rattle.axis_roots.specs.Sets.{is_along, is_shown, along_in, names_in, set_of, is_bare, fits_set, OpensSet}
 use Rattle.axis_roots.specs.Claims.{ClaimParts, is_set_cell, has_set_shape, AreProved, Accepts}
 use Rattle.axis_roots.proofs.Messages.ClaimLemmas.{are_inside, shape_of}
-use Rattle.axis_roots.proofs.Grids.LineLemmas.{leaf_count}
 use Rattle.axis_roots.proofs.Grids.NumberLemmas.{position-lt}
 
 -- ---- the samples along an axis
@@ -175,13 +175,6 @@ listed_shares k axis (m ∷ ms) ns ss h = (h.1, listed_shares k axis ms ns ss h.
 
 -- ---- how many nodes it has
 
--- an axis has one halving more than its half
-halvings-double : (k : ℕ) → is_width k ≡ true → halvings (2 * k) ≡ suc (halvings k)
-halvings-double k w = grind (arith, nat_tests)
-
-width_is : (k : ℕ) → is_width k ≡ true → k ≡ 2 ^ halvings k
-width_is k w = grind (arith, nat_tests)
-
 -- a set that opens has at most k nodes
 opened_few : (k : ℕ) (axis : Axis) (cells : List Message) (nodes : List Digest) (root : Digest) → OpensSet k axis cells nodes root
     → holds_along nat_lt (map (λ m. position axis m.cell) cells) ≡ true → fits_set k axis cells (Some nodes) ≡ true → length nodes ≤ k
@@ -192,16 +185,16 @@ opened_few k axis cells nodes root opens up fits =
     let placed : length places ≡ length ms = length-map ms (λ m. position axis m.cell) in
     let named : length (names_in k ms) ≡ length places = length-map ms _ ∙ sym placed in
     let shared : length (map (λ m. m.share) ms) ≡ length places = length-map ms _ ∙ sym placed in
-    let double : halvings (2 * k) ≡ suc (halvings k) = halvings-double k opens.width in
+    let double : halvings (2 * k) ≡ suc (halvings k) = halvings_double k opens.width in
     let ascend : AreAscending 0 (2 ^ suc (halvings k)) places =
-    subst (λ (n : ℕ). AreAscending 0 n places) (leaf_count k opens.width ∙ ap (λ (h : ℕ). 2 ^ h) double) (set_ascending k axis cells up tests.1) in
+    subst (λ (n : ℕ). AreAscending 0 n places) (sym (double_halvings k opens.width) ∙ ap (λ (h : ℕ). 2 ^ h) double) (set_ascending k axis cells up tests.1) in
     let some : 0 < length places = omega (arith, some_along axis cells tests.0, placed) in
     let few : length (outside (suc (halvings k)) 0 (set_of k axis cells)) ≤ 2 ^ halvings k =
     set_few (halvings k) places (names_in k ms) (map (λ m. m.share) ms) some named shared ascend in
     let count : length nodes ≡ length (outside (halvings (2 * k)) 0 (set_of k axis cells)) = eqb-true _ _ opens.opens.count in
     let sized : length nodes ≡ length (outside (suc (halvings k)) 0 (set_of k axis cells)) =
     count ∙ ap (λ (h : ℕ). length (outside h 0 (set_of k axis cells))) double in
-    omega (arith, sized, few, width_is k opens.width)
+    omega (arith, sized, few, power_halvings k (width_power k opens.width))
 
 few_by : (k : ℕ) (axis : Axis) (cells : List Message) (set : Option (List Digest)) (root : Digest) → IfSome set (λ nodes. OpensSet k axis cells nodes root)
     → holds_along nat_lt (map (λ m. position axis m.cell) cells) ≡ true → fits_set k axis cells set ≡ true → IfSome set (λ nodes. length nodes ≤ k)

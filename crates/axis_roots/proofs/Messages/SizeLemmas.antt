@@ -14,20 +14,21 @@ use Rattle.namespace_id.specs.Names.{AreNamespaces}
 use Rattle.namespace_id.specs.Shares.{AreShares}
 use Rattle.namespace_id.specs.Digests.{IsDigest, AreDigests, no_digest}
 use Rattle.namespace_id.specs.Cells.{is_width}
+use Rattle.namespace_id.proofs.PowerLemmas.{double_halvings, halvings-le}
 use Rattle.nmt_tree.specs.Roots.{halvings}
 use Rattle.nmt_tree.specs.Levels.{leaf_digests, span}
 use Rattle.nmt_proofs.specs.Parts.{Part, given}
 use Rattle.nmt_proofs.specs.Openings.{outside}
 use Rattle.nmt_proofs.specs.Making.{spans}
-use Rattle.nmt_proofs.proofs.ListLemmas.{each-append}
-use Rattle.nmt_proofs.proofs.SingleLemmas.{one_place, outside_left, outside_right, length-outside-one}
-use Rattle.nmt_proofs.proofs.DigestLemmas.{digest-leaf, digest-node}
+use Rattle.nmt_proofs.proofs.Parts.ListLemmas.{each-append}
+use Rattle.nmt_proofs.proofs.Parts.SingleLemmas.{one_place, outside_left, outside_right, length-outside-one}
+use Rattle.nmt_proofs.proofs.Parts.DigestLemmas.{digest-leaf, digest-node}
 use Rattle.nmt_tree.proofs.SpanLemmas.{length-leaf_digests}
 use Rattle.axis_roots.specs.Messages.{IsMessage}
 use Rattle.axis_roots.specs.Lines.{cell_on, line_names}
 use Rattle.axis_roots.specs.Trees.{line_leaves, line_message}
 use Rattle.axis_roots.proofs.Grids.WordLemmas.{share_anywhere}
-use Rattle.axis_roots.proofs.Grids.LineLemmas.{leaf_count, line_names-are, length-line_names}
+use Rattle.axis_roots.proofs.Grids.LineLemmas.{line_names-are, length-line_names}
 
 -- the digests of leaves are digests
 pub digests-leaves : (names : List Namespace) (shares : List Share) → AreNamespaces names → AreDigests (leaf_digests names shares)
@@ -72,10 +73,6 @@ digests-outside (suc depth) start pos part leaves are within =
 pub number-lt-two_bytes : (k x : ℕ) → IsTrue (is_width k) → x < 2 * k → x < 2 ^ 16
 number-lt-two_bytes k x width h = grind (arith, nat_tests)
 
--- an axis has at most 8 halvings
-pub halvings-le : (k : ℕ) → IsTrue (is_width k) → halvings (2 * k) ≤ 8
-halvings-le k width = grind (arith, nat_tests)
-
 -- a cell on an axis has numbers of two bytes
 cell_bytes : (k : ℕ) (axis : Axis) (i pos : ℕ) → IsTrue (is_width k) → i < 2 * k → pos < 2 * k
     → ((cell_on axis i pos).row < 2 ^ 16) × ((cell_on axis i pos).col < 2 ^ 16)
@@ -104,7 +101,7 @@ sizes-line_message k axis i pos line width hi hp long are =
         arith,
         length-map (outside (halvings (2 * k)) 0 (one_place pos part)) (λ (x : ℕ × ℕ). span leaves x.0 x.1),
         length-outside-one (halvings (2 * k)) 0 pos part,
-        halvings-le k width,
+        halvings-le (2 * k),
       );
-      nodes = digests-outside (halvings (2 * k)) 0 pos part leaves digests (omega (arith, leaf_count k width, length-line_leaves k axis i line long));
+      nodes = digests-outside (halvings (2 * k)) 0 pos part leaves digests (omega (arith, double_halvings k width, length-line_leaves k axis i line long));
     }

@@ -1,8 +1,8 @@
 //! The extension of a square: the two-dimensional Reed-Solomon code.
 //!
 //! The square is copied into the upper left quarter, then the first k rows are extended, and then
-//! all 2k columns. The k lower rows are codewords then too, since the code is linear. Each axis is
-//! copied into one line, extended there by `leopard_code`, and written back.
+//! all 2k columns. The k lower rows are codewords then too, since the code is linear. The first half of each
+//! axis is copied into a line, the other half is made there by `leopard_code`, and written behind it.
 
 ghost use Rattle.std.specs.Prelude.{◌≡◌, ◌≢◌, ◌*◌, ◌<◌, ◌≤◌, ◌⊎◌, ℕ, IsTrue, IfOk, length, take, map};
 ghost use Rattle.namespace_id.specs.declared.cells.Cell.{Cell as Place};
@@ -11,7 +11,7 @@ ghost use Rattle.leopard_code.specs.Codewords.{IsCodeword};
 ghost use Rattle.axis_roots.specs.Messages.{position, index as index_of};
 ghost use Rattle.axis_roots.specs.Grids.{share_at, axis_shares, Extends};
 
-use super::lines::{read_axis, write_axis};
+use super::lines::{read_front, write_back};
 use crate::Grid;
 use leopard_code::{Room, extend};
 use namespace_id::{Axis, Cell, NoMemory, Share};
@@ -34,10 +34,10 @@ fn extend_axis(room: &mut Room, grid: &mut Grid, axis: Axis, index: u16, line: &
         share_at (2 * grid.old.k) grid.new.shares cell
         ≡ share_at (2 * grid.old.k) grid.old.shares cell }
 {
-    read_axis(grid, axis, index, line);
     let (originals, recovery) = line.split_at_mut(grid.k as usize);
+    read_front(grid, axis, index, originals);
     extend(room, originals, recovery);
-    write_axis(grid, axis, index, line);
+    write_back(grid, axis, index, recovery);
 }
 
 /// Makes the first `count` rows or columns codewords, one after another.

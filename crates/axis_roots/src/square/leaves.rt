@@ -3,8 +3,9 @@
 //! Each cell is a leaf of its row's tree and of its column's, under one namespace, so all leaves
 //! are hashed once, into a table of 4k^2 digests, from which each axis copies its line of 2k.
 
-ghost use Rattle.std.specs.Prelude.{◌≡◌, ◌*◌, ◌<◌, IsTrue, IfOk, length, map};
-ghost use Rattle.namespace_id.specs.Cells.{is_in_square};
+ghost use Rattle.std.specs.Prelude.{◌≡◌, ◌*◌, ◌<◌, List, IsTrue, IfOk, length, map};
+ghost use Rattle.namespace_id.specs.declared.shares.Share.{Share as ShareOf};
+ghost use Rattle.namespace_id.specs.Cells.{is_width, is_in_square};
 ghost use Rattle.namespace_id.specs.Digests.{least_of};
 ghost use Rattle.nmt_tree.specs.Roots.{is_ordered};
 ghost use Rattle.axis_roots.specs.Trees.{axis_leaves};
@@ -51,20 +52,15 @@ pub(super) fn leaves_of(alloc: Global, grid: &Grid) -> Result<Vec<Digest>, NoMem
     Ok(leaves)
 }
 
-/// Copies the digests of the leaves over an axis.
-pub(super) fn read_leaves(
-    grid: &Grid,
-    leaves: &[Digest],
-    axis: Axis,
-    index: u16,
-    line: &mut [Digest],
-)
-    requires leaves { AreLeafDigests grid.now.k grid.now.shares leaves.now }
-    requires index { index < 2 * grid.now.k }
-    requires line { length line.old ≡ 2 * grid.now.k }
-    ensures { line.new ≡ axis_leaves grid.now.k grid.now.shares axis index }
+/// Copies the digests of the leaves over an axis from those over all cells.
+pub(super) fn read_leaves(k: u16, leaves: &[Digest], axis: Axis, index: u16, line: &mut [Digest])
+    requires width { IsTrue (is_width k) }
+    requires leaves { length leaves.now ≡ 2 * k * (2 * k) }
+    requires index { index < 2 * k }
+    requires line { length line.old ≡ 2 * k }
+    ensures { (shares : List ShareOf) → AreLeafDigests k shares leaves.now →
+        line.new ≡ axis_leaves k shares axis index }
 {
-    let k = grid.width();
     for pos in 0..2 * k {
         line[pos as usize] = leaves[place(k, cell_on(axis, index, pos))];
     }

@@ -1,10 +1,10 @@
 //! The lines of a grid, its rows and columns: which cells one has, and the shares and leaf
 //! namespaces along it.
 
-ghost use Rattle.std.specs.Prelude.{◌≡◌, ◌≢◌, ◌*◌, ◌<◌, IsTrue, length};
+ghost use Rattle.std.specs.Prelude.{◌≡◌, ◌≢◌, ◌*◌, ◌<◌, ◌⊎◌, ◌++◌, IsTrue, length, take};
 ghost use Rattle.namespace_id.specs.declared.cells.Cell.{Cell as Place};
 ghost use Rattle.namespace_id.specs.Cells.{is_width, is_in_square};
-ghost use Rattle.axis_roots.specs.Messages.{index as index_of};
+ghost use Rattle.axis_roots.specs.Messages.{position, index as index_of};
 ghost use Rattle.axis_roots.specs.Lines.{cell_on, line_names, line_strict_root};
 ghost use Rattle.axis_roots.specs.Grids.{share_at, axis_names, axis_shares};
 
@@ -41,8 +41,40 @@ pub(crate) fn read_axis(grid: &Grid, axis: Axis, index: u16, line: &mut [Share])
     }
 }
 
-/// Puts 2k shares into the cells of an axis.
-pub(crate) fn write_axis(grid: &mut Grid, axis: Axis, index: u16, line: &[Share])
+/// Copies the first k shares of an axis.
+pub(super) fn read_front(grid: &Grid, axis: Axis, index: u16, line: &mut [Share])
+    requires index { index < 2 * grid.now.k }
+    requires line { length line.old ≡ grid.now.k }
+    ensures { line.new ≡
+        take grid.now.k (axis_shares grid.now.k grid.now.shares axis index) }
+{
+    for pos in 0..grid.width() {
+        line[pos as usize] = *grid.cell(cell_on(axis, index, pos));
+    }
+}
+
+/// Puts k shares behind the first k of an axis.
+pub(super) fn write_back(grid: &mut Grid, axis: Axis, index: u16, line: &[Share])
+    requires index { index < 2 * grid.old.k }
+    requires line { length line.now ≡ grid.old.k }
+    ensures k { grid.new.k ≡ grid.old.k }
+    ensures line { axis_shares grid.old.k grid.new.shares axis index
+        ≡ take grid.old.k (axis_shares grid.old.k grid.old.shares axis index) ++ line.now }
+
+    // Every cell of another axis is as it was, and so are the first k of this one.
+    ensures kept { (cell : Place) → IsTrue (is_in_square grid.old.k cell) →
+        (index_of axis cell ≢ index) ⊎ (position axis cell < grid.old.k) →
+        share_at (2 * grid.old.k) grid.new.shares cell
+        ≡ share_at (2 * grid.old.k) grid.old.shares cell }
+{
+    let k = grid.width();
+    for pos in 0..k {
+        grid.set(cell_on(axis, index, k + pos), &line[pos as usize]);
+    }
+}
+
+/// Puts 2k shares into the cells of an axis. Every other cell stays as it was.
+pub fn write_axis(grid: &mut Grid, axis: Axis, index: u16, line: &[Share])
     requires index { index < 2 * grid.old.k }
     requires line { length line.now ≡ 2 * grid.old.k }
     ensures k { grid.new.k ≡ grid.old.k }

@@ -58,11 +58,12 @@ fn tree_along(
         (if is_ordered_axis grid.now.k grid.now.shares axis index
         then Some (axis_stored grid.now.k grid.now.shares axis index) else None)) }
 {
-    read_leaves(grid, leaves, axis, index, line);
+    let k = grid.width();
+    read_leaves(k, leaves, axis, index, line);
     if !are_ordered(line) {
         return Ok(None);
     }
-    let mut tree = Tree::new(alloc, 2 * grid.width())?;
+    let mut tree = Tree::new(alloc, 2 * k)?;
     tree.put(line);
     Ok(Some(tree))
 }

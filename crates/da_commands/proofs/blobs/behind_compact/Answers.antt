@@ -1,6 +1,6 @@
 use Rattle.std.proofs.Common.{◌∙◌, sym}
 use Rattle.std.proofs.lemmas.List.{nil_from_length}
-use Rattle.da_commands.proofs.BlobsLemmas.{behind_next, behind_here, behind_none}
+use Rattle.da_commands.proofs.Answering.BlobsLemmas.{behind_next, behind_here, behind_none}
 use Rattle.da_commands.proofs.blobs.behind_compact.Goals as goal
 
 -- the first share that isn't compact

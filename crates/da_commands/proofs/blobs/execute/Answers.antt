@@ -5,7 +5,7 @@ use Rattle.da_commands.specs.Contents.{contents_of}
 use Rattle.da_commands.specs.Blobs.{shares_of, shares_in, shares_file, Joins}
 use Rattle.da_commands.specs.Meaning.{Meaning}
 use Rattle.da_status.proofs.EndLemmas.{once_as}
-use Rattle.da_commands.proofs.FormLemmas.{single_is}
+use Rattle.da_commands.proofs.Files.FormLemmas.{single_is}
 use Rattle.da_commands.proofs.blobs.execute.Goals as goal
 
 -- the file is the square or the answer that was read

@@ -2,7 +2,7 @@ use Rattle.std.proofs.Common.{arith}
 use Rattle.da_commands.specs.Frames.{Writes}
 use Rattle.da_commands.specs.Blobs.{Joins}
 use Rattle.da_status.proofs.EndLemmas.{once_within}
-use Rattle.da_commands.proofs.BlobsLemmas.{blobs_fit, joins_blobs}
+use Rattle.da_commands.proofs.Answering.BlobsLemmas.{blobs_fit, joins_blobs}
 use Rattle.da_commands.proofs.blobs.give_blobs.Goals as goal
 
 -- what is written of the blobs fits into their shares

@@ -3,7 +3,7 @@ use Rattle.square_layout.specs.Blocks.{SquareShares}
 use Rattle.da_wire.specs.declared.frames.Frame.{Frame}
 use Rattle.da_wire.specs.Spelling.{spelling}
 use Rattle.da_commands.specs.Blobs.{behind_compact}
-use Rattle.da_commands.proofs.BlobsLemmas.{square_few, answer_few}
+use Rattle.da_commands.proofs.Answering.BlobsLemmas.{square_few, answer_few}
 use Rattle.da_commands.proofs.blobs.give_of.Goals as goal
 
 -- a square has few shares

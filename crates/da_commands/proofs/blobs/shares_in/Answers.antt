@@ -2,8 +2,8 @@ use Rattle.std.proofs.Common.{subst, sym, Err}
 use Rattle.da_commands.specs.declared.frames.Unread.{Unread}
 use Rattle.da_commands.specs.Frames.{ReadsSingle}
 use Rattle.da_commands.specs.Blobs.{share_kinds, shares_in}
-use Rattle.da_commands.proofs.FrameLemmas.{kinds_unread}
-use Rattle.da_commands.proofs.BlobsLemmas.{read_spelled}
+use Rattle.da_commands.proofs.Files.FrameLemmas.{kinds_unread}
+use Rattle.da_commands.proofs.Answering.BlobsLemmas.{read_spelled}
 use Rattle.da_commands.proofs.blobs.shares_in.Goals as goal
 
 -- what was read is a spelling

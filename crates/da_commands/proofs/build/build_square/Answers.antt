@@ -2,7 +2,7 @@ use Rattle.std.proofs.Common.{refl, rules}
 use Rattle.da_commands.specs.Frames.{Writes}
 use Rattle.da_commands.specs.Build.{Builds}
 use Rattle.da_status.proofs.EndLemmas.{once_within}
-use Rattle.da_commands.proofs.BuildLemmas.{builds_square}
+use Rattle.da_commands.proofs.Answering.BuildLemmas.{builds_square}
 use Rattle.da_commands.proofs.build.build_square.Goals as goal
 
 -- what is written is the frame of the block's square

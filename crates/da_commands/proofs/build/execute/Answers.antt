@@ -6,7 +6,7 @@ use Rattle.da_commands.specs.Frames.{block_in}
 use Rattle.da_commands.specs.Forms.{single_judged}
 use Rattle.da_commands.specs.Meaning.{Meaning}
 use Rattle.da_status.proofs.EndLemmas.{once_as}
-use Rattle.da_commands.proofs.FormLemmas.{refused_once, single_is}
+use Rattle.da_commands.proofs.Files.FormLemmas.{refused_once, single_is}
 use Rattle.da_commands.proofs.build.execute.Goals as goal
 
 pub returns-in-Err : goal.returns-in-Err

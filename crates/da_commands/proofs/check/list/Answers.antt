@@ -5,7 +5,7 @@ use Rattle.da_wire.specs.Frames.{frames_of}
 use Rattle.da_commands.specs.Check.{Lists, lines_of}
 use Rattle.da_status.proofs.WriteLemmas.{written_part, gathered_on, gathered_part}
 use Rattle.da_status.proofs.EndLemmas.{ends_in_fault}
-use Rattle.da_commands.proofs.CheckLemmas.{next_line, next_ok}
+use Rattle.da_commands.proofs.Answering.CheckLemmas.{next_line, next_ok}
 use Rattle.da_commands.proofs.check.list.Goals as goal
 
 pub returns-in_default-add : goal.returns-in_default-add

@@ -3,7 +3,7 @@ use Rattle.da_status.specs.declared.status.Status.TheVariants.{Done}
 use Rattle.da_commands.specs.Frames.{WritesText}
 use Rattle.da_commands.specs.Commit.{commitment_lines, Commits}
 use Rattle.da_status.proofs.EndLemmas.{once_within}
-use Rattle.da_commands.proofs.CommitLemmas.{commits_lines}
+use Rattle.da_commands.proofs.Answering.CommitLemmas.{commits_lines}
 use Rattle.da_commands.proofs.commit.commit.Goals as goal
 
 -- what is written are the lines of the block's blobs

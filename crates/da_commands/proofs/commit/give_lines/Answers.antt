@@ -5,7 +5,7 @@ use Rattle.da_status.specs.declared.status.Status.TheVariants.{Done}
 use Rattle.da_commands.specs.Frames.{WritesText}
 use Rattle.da_commands.specs.Commit.{commitment_lines}
 use Rattle.da_status.proofs.EndLemmas.{once_within}
-use Rattle.da_commands.proofs.CommitLemmas.{IsLaid, laid_blobs}
+use Rattle.da_commands.proofs.Answering.CommitLemmas.{IsLaid, laid_blobs}
 use Rattle.da_commands.proofs.commit.give_lines.Goals as goal
 
 -- the blobs of a block that isn't refused

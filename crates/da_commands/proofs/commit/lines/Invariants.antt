@@ -1,7 +1,7 @@
 use Rattle.std.proofs.Common.{◌≡◌, ◌++◌, length}
 use Rattle.std.specs.List.{AllByRecursion}
 use Rattle.da_commands.specs.Commit.{commitment_lines}
-use Rattle.da_commands.proofs.CommitLemmas.{IsLaid}
+use Rattle.da_commands.proofs.Answering.CommitLemmas.{IsLaid}
 use Rattle.da_commands.proofs.commit.lines.Given as goal
 
 -- the lines of the blobs before were appended, and those to come are such blobs

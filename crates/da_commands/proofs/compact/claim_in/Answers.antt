@@ -5,7 +5,7 @@ use Rattle.da_wire.specs.Single.{claim_of}
 use Rattle.da_commands.specs.declared.frames.Unread.{Unread}
 use Rattle.da_commands.specs.Frames.{ReadsSingle}
 use Rattle.da_commands.specs.Compact.{claim_in}
-use Rattle.da_commands.proofs.FrameLemmas.{is_read, is_unread}
+use Rattle.da_commands.proofs.Files.FrameLemmas.{is_read, is_unread}
 use Rattle.da_commands.proofs.compact.claim_in.Goals as goal
 
 -- what was read is what the file is

@@ -8,8 +8,8 @@ use Rattle.da_commands.specs.Compact.{claim_in, claim_file, CompactsJudged, Comp
 use Rattle.da_commands.specs.declared.command.Command.TheVariants.{Compact}
 use Rattle.da_commands.specs.Meaning.{Meaning}
 use Rattle.da_status.proofs.EndLemmas.{once_as}
-use Rattle.da_commands.proofs.FormLemmas.{refused_once, refused_more}
-use Rattle.da_commands.proofs.CompactLemmas.{compact_is, compact_no_claim}
+use Rattle.da_commands.proofs.Files.FormLemmas.{refused_once, refused_more}
+use Rattle.da_commands.proofs.Answering.CompactLemmas.{compact_is, compact_no_claim}
 use Rattle.da_commands.proofs.compact.execute.Goals as goal
 
 pub returns-in-Err : goal.returns-in-Err

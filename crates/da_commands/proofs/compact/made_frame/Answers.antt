@@ -1,6 +1,6 @@
 use Rattle.std.proofs.Common.{subst}
 use Rattle.befp_verify.specs.Compacting.{IsCompacted}
-use Rattle.da_commands.proofs.CompactLemmas.{made_short, made_full}
+use Rattle.da_commands.proofs.Answering.CompactLemmas.{made_short, made_full}
 use Rattle.da_commands.proofs.compact.made_frame.Goals as goal
 
 -- what is accepted can be written

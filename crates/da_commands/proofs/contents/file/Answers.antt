@@ -1,5 +1,5 @@
 use Rattle.std.proofs.Common.{arith, ◌∙◌}
-use Rattle.da_commands.proofs.ContentsLemmas.{file_some, file_none}
+use Rattle.da_commands.proofs.Files.ContentsLemmas.{file_some, file_none}
 use Rattle.da_commands.proofs.contents.file.Goals as goal
 
 pub returns-in-Some : goal.returns-in-Some

@@ -3,7 +3,7 @@ use Rattle.da_io.specs.Faults.{count_on}
 use Rattle.da_commands.specs.Demo.{Tells}
 use Rattle.da_status.proofs.WriteLemmas.{written_on, written_part}
 use Rattle.da_status.proofs.EndLemmas.{ends_in_fault, once_fault, once_output}
-use Rattle.da_commands.proofs.DemoLemmas.{line_next, tells_done}
+use Rattle.da_commands.proofs.Answering.DemoLemmas.{line_next, tells_done}
 use Rattle.da_commands.proofs.demo.tell.Goals as goal
 
 -- a part of the next line was taken

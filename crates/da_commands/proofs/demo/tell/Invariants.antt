@@ -1,7 +1,7 @@
 use Rattle.std.proofs.Common.{◌≡◌, IsSome, ◌↔◌}
 use Rattle.da_commands.specs.Demo.{trial_bytes}
 use Rattle.da_status.proofs.WriteLemmas.{Written}
-use Rattle.da_commands.proofs.DemoLemmas.{bytes_from}
+use Rattle.da_commands.proofs.Answering.DemoLemmas.{bytes_from}
 use Rattle.da_commands.proofs.demo.tell.Given as goal
 
 -- the lines before number i were written, and no write failed

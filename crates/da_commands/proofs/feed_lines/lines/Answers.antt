@@ -1,7 +1,7 @@
 use Rattle.std.proofs.Common.{◌<◌, ◌+◌, ◌-◌, ℕ, refl, subst, arith}
 use Rattle.blob_feed.specs.Followers.{count_of}
 use Rattle.da_commands.specs.Follow.{places_at, places_from, feed_of}
-use Rattle.da_commands.proofs.FeedLineLemmas.{left_less, places_next, told_end}
+use Rattle.da_commands.proofs.Following.FeedLineLemmas.{left_less, places_next, told_end}
 use Rattle.da_commands.proofs.feed_lines.lines.Goals as goal
 
 -- one height more was told

@@ -1,7 +1,7 @@
 use Rattle.std.proofs.Common.{◌≤◌, ◌-◌, length}
 use Rattle.blob_feed.specs.Followers.{count_of}
 use Rattle.da_commands.specs.Follow.{places_from, feed_of}
-use Rattle.da_commands.proofs.FeedLineLemmas.{IsLeft}
+use Rattle.da_commands.proofs.Following.FeedLineLemmas.{IsLeft}
 use Rattle.da_commands.proofs.feed_lines.lines.Given as goal
 
 -- the heights before were told

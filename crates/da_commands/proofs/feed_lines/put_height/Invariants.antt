@@ -1,6 +1,6 @@
 use Rattle.std.proofs.Common.{◌≤◌, length}
 use Rattle.da_commands.specs.Follow.{places_at, feed_of}
-use Rattle.da_commands.proofs.FeedLineLemmas.{IsLeft}
+use Rattle.da_commands.proofs.Following.FeedLineLemmas.{IsLeft}
 use Rattle.da_commands.proofs.feed_lines.put_height.Given as goal
 
 -- the namespaces before were told

@@ -4,8 +4,8 @@ use Rattle.da_status.specs.declared.status.Status.TheVariants.{BadRequest}
 use Rattle.da_commands.specs.Namespace.{namespaces_in}
 use Rattle.da_commands.specs.Follow.{items_in, Follows, FollowsAsked}
 use Rattle.da_status.proofs.EndLemmas.{once_within, once_request}
-use Rattle.da_commands.proofs.FeedItemLemmas.{led}
-use Rattle.da_commands.proofs.FollowLemmas.{asked_follows, asked_refuses}
+use Rattle.da_commands.proofs.Following.FeedItemLemmas.{led}
+use Rattle.da_commands.proofs.Following.FollowLemmas.{asked_follows, asked_refuses}
 use Rattle.da_commands.proofs.follow.answer.Goals as goal
 
 -- a file in its form leads with a header

@@ -5,7 +5,7 @@ use Rattle.da_commands.specs.Namespace.{namespaces_in}
 use Rattle.da_commands.specs.Follow.{items_in, FollowsAsked, follow_judged, FollowOf}
 use Rattle.da_commands.specs.Meaning.{Meaning}
 use Rattle.da_status.proofs.EndLemmas.{once_as}
-use Rattle.da_commands.proofs.FormLemmas.{refused_once, judged_is}
+use Rattle.da_commands.proofs.Files.FormLemmas.{refused_once, judged_is}
 use Rattle.da_commands.proofs.follow.execute.Goals as goal
 
 pub returns-in-Err : goal.returns-in-Err

@@ -1,8 +1,8 @@
 use Rattle.std.proofs.Common.{◌∙◌, sym, arith}
 use Rattle.namespace_id.specs.Names.{is_blob_namespace}
 use Rattle.da_commands.specs.Follow.{is_followed}
-use Rattle.da_commands.proofs.RequestLemmas.{failing_none, failing_here, failing_later}
-use Rattle.da_commands.proofs.EachOnceLemmas.{fails_by, passes_by}
+use Rattle.da_commands.proofs.Files.RequestLemmas.{failing_none, failing_here, failing_later}
+use Rattle.da_commands.proofs.Following.EachOnceLemmas.{fails_by, passes_by}
 use Rattle.da_commands.proofs.follow.first_other.Goals as goal
 
 pub returns-then-is_err : goal.returns-then-is_err

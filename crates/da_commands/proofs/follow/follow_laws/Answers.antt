@@ -1,9 +1,9 @@
 use Rattle.std.proofs.Common.{subst}
 use Rattle.blob_feed.specs.Feeds.{FeedsAt}
 use Rattle.da_commands.specs.Follow.{each_once, items_in}
-use Rattle.da_commands.proofs.EachOnceLemmas.{wanted_by_list}
-use Rattle.da_commands.proofs.FeedOnceLemmas.{follows_once}
-use Rattle.da_commands.proofs.FeedItemLemmas.{items_fit}
+use Rattle.da_commands.proofs.Following.EachOnceLemmas.{wanted_by_list}
+use Rattle.da_commands.proofs.Following.FeedOnceLemmas.{follows_once}
+use Rattle.da_commands.proofs.Following.FeedItemLemmas.{items_fit}
 use Rattle.da_commands.proofs.follow.follow_laws.Goals as goal
 
 -- there is one feed

@@ -2,8 +2,8 @@ use Rattle.std.proofs.Common.{◌≡◌, ◌∙◌, ap, subst}
 use Rattle.std.specs.List.{cons_option, filter_map}
 use Rattle.blob_feed.specs.Followers.{count_of}
 use Rattle.da_commands.specs.Follow.{feed_kinds, item_of, items_in, IsLed}
-use Rattle.da_commands.proofs.ShowLemmas.{first_is}
-use Rattle.da_commands.proofs.FeedItemLemmas.{timely, handed_on}
+use Rattle.da_commands.proofs.Answering.ShowLemmas.{first_is}
+use Rattle.da_commands.proofs.Following.FeedItemLemmas.{timely, handed_on}
 use Rattle.da_commands.proofs.follow.hand_over.Goals as goal
 
 -- no answer comes in front of the first header

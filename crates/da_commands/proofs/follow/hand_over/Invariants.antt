@@ -1,7 +1,7 @@
 use Rattle.std.proofs.Common.{◌≡◌, length}
 use Rattle.blob_feed.specs.Followers.{count_of}
 use Rattle.da_commands.specs.Follow.{items_in, IsLed}
-use Rattle.da_commands.proofs.FeedItemLemmas.{Handed}
+use Rattle.da_commands.proofs.Following.FeedItemLemmas.{Handed}
 use Rattle.da_commands.proofs.follow.hand_over.Given as goal
 
 -- the follower stands for the headers and answers before

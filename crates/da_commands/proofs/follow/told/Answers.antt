@@ -1,10 +1,10 @@
 use Rattle.std.proofs.Common.{◌≡◌, ◌∙◌, List, length, subst}
 use Rattle.namespace_id.specs.declared.namespaces.Namespace.{Namespace}
+use Rattle.namespace_id.proofs.RefusalLemmas.{ok_within}
 use Rattle.blob_feed.specs.Feeds.{heights_of}
 use Rattle.da_commands.specs.Namespace.{namespaces_in}
 use Rattle.da_commands.specs.Follow.{each_once, items_in, places_from, IsToldOf}
-use Rattle.da_commands.proofs.NodeLemmas.{ok_within}
-use Rattle.da_commands.proofs.EachOnceLemmas.{wanted_as}
+use Rattle.da_commands.proofs.Following.EachOnceLemmas.{wanted_as}
 use Rattle.da_commands.proofs.follow.told.Goals as goal
 
 -- the filter wants exactly the namespaces that are asked for

@@ -1,10 +1,10 @@
 use Rattle.std.proofs.Common.{◌≡◌, ◌∙◌, ℕ, length, sym, subst}
+use Rattle.namespace_id.proofs.RefusalLemmas.{ok_within}
 use Rattle.blob_feed.specs.Feeds.{heights_of, IsFeedOf}
 use Rattle.blob_feed.specs.Filters.{wanted_by}
 use Rattle.blob_feed.specs.Followers.{StandsFor, count_of}
 use Rattle.da_commands.specs.Follow.{items_in, feed_of, places_from, IsToldOf}
-use Rattle.da_commands.proofs.NodeLemmas.{ok_within}
-use Rattle.da_commands.proofs.FeedItemLemmas.{heights_counted}
+use Rattle.da_commands.proofs.Following.FeedItemLemmas.{heights_counted}
 use Rattle.da_commands.proofs.follow.told_by.Goals as goal
 
 -- the follower stands for all headers and answers, so what it has is their feed

@@ -1,6 +1,6 @@
 use Rattle.da_commands.specs.Frames.{WritesText, WritesWith}
 use Rattle.da_status.proofs.EndLemmas.{once_within}
-use Rattle.da_commands.proofs.SpelledLemmas.{writes_frame}
+use Rattle.da_commands.proofs.Files.SpelledLemmas.{writes_frame}
 use Rattle.da_commands.proofs.frames.give_with.Goals as goal
 
 -- what is written is the frame's spelling

@@ -4,7 +4,7 @@ use Rattle.da_wire.specs.Reading.{only_of}
 use Rattle.da_wire.specs.Single.{square_of}
 use Rattle.da_commands.specs.declared.frames.Unread.{Unread}
 use Rattle.da_commands.specs.Frames.{square_in, ReadsSingle}
-use Rattle.da_commands.proofs.FrameLemmas.{is_read, is_unread}
+use Rattle.da_commands.proofs.Files.FrameLemmas.{is_read, is_unread}
 use Rattle.da_commands.proofs.frames.square_in.Goals as goal
 
 -- what was read is what the file is

@@ -1,7 +1,7 @@
 use Rattle.std.proofs.Common.{List, subst}
 use Rattle.namespace_id.specs.declared.digests.Digest.{Digest}
 use Rattle.namespace_id.specs.Digests.{AreDigests}
-use Rattle.da_commands.proofs.HeaderLemmas.{sized_header}
+use Rattle.da_commands.proofs.Answering.HeaderLemmas.{sized_header}
 use Rattle.da_commands.proofs.header.header_frame.Goals as goal
 
 -- its roots are digests

@@ -8,7 +8,7 @@ use Rattle.da_commands.specs.Light.{Lights, LightOf}
 use Rattle.da_commands.specs.declared.command.Command.TheVariants.{Light}
 use Rattle.da_commands.specs.Meaning.{Meaning}
 use Rattle.da_status.proofs.EndLemmas.{once_as}
-use Rattle.da_commands.proofs.FormLemmas.{refused_once, judged_with}
+use Rattle.da_commands.proofs.Files.FormLemmas.{refused_once, judged_with}
 use Rattle.da_commands.proofs.light.execute.Goals as goal
 
 pub returns-in-Err : goal.returns-in-Err

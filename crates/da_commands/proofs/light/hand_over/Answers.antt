@@ -1,7 +1,7 @@
 use Rattle.std.proofs.Common.{◌∙◌, sym}
 use Rattle.da_wire.specs.Reading.{raw_seen}
 use Rattle.da_wire.specs.Frames.{frames_of}
-use Rattle.da_commands.proofs.NodeLemmas.{handed_on, handed_past, handed_all, same_on}
+use Rattle.da_commands.proofs.Answering.NodeLemmas.{handed_on, handed_past, handed_all, same_on}
 use Rattle.da_commands.proofs.light.hand_over.Goals as goal
 
 -- the frame is an event

@@ -1,7 +1,7 @@
 use Rattle.std.proofs.Common.{length}
 use Rattle.light_node.specs.Nodes.{IsSame}
 use Rattle.da_wire.specs.Frames.{frames_of}
-use Rattle.da_commands.proofs.NodeLemmas.{Handed}
+use Rattle.da_commands.proofs.Answering.NodeLemmas.{Handed}
 use Rattle.da_commands.proofs.light.hand_over.Given as goal
 
 -- the node was handed the events of the frames before

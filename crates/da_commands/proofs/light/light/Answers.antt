@@ -5,7 +5,7 @@ use Rattle.sampling.specs.Draws.{draw_limit, drawn_cells}
 use Rattle.da_wire.specs.Frames.{frames_of}
 use Rattle.da_commands.specs.Light.{Answers, Lights}
 use Rattle.da_status.proofs.EndLemmas.{once_within}
-use Rattle.da_commands.proofs.LightLemmas.{verdict_output, lights_verdict}
+use Rattle.da_commands.proofs.Answering.LightLemmas.{verdict_output, lights_verdict}
 use Rattle.da_commands.proofs.light.light.Goals as goal
 
 pub give_verdict-requires : goal.give_verdict-requires

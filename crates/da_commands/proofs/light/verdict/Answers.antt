@@ -1,11 +1,11 @@
 use Rattle.std.proofs.Common.{◌≡◌, List, subst, arith}
 use Rattle.namespace_id.specs.declared.cells.Cell.{Cell}
 use Rattle.namespace_id.specs.Cells.{is_in_square}
+use Rattle.namespace_id.proofs.RefusalLemmas.{ok_within}
 use Rattle.light_node.specs.Events.{IsLight}
 use Rattle.da_wire.specs.Frames.{frames_of}
 use Rattle.da_script.proofs.PlanLemmas.{same_list, each_there}
 use Rattle.da_commands.specs.Light.{events_in}
-use Rattle.da_commands.proofs.NodeLemmas.{ok_within}
 use Rattle.da_commands.proofs.light.verdict.Goals as goal
 
 -- each number has a cell, which is one of the square

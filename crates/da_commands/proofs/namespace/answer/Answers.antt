@@ -2,7 +2,7 @@ use Rattle.std.proofs.Common.{◌∙◌, refl, sym, ap, Err}
 use Rattle.da_commands.specs.Serving.{Gives, Serves}
 use Rattle.da_commands.specs.Namespace.{namespaces_in, is_other, AllowsNames}
 use Rattle.da_status.proofs.EndLemmas.{ends_within, ends_request}
-use Rattle.da_commands.proofs.ServingLemmas.{serves_gives, serves_at, serves_none}
+use Rattle.da_commands.proofs.Answering.ServingLemmas.{serves_gives, serves_at, serves_none}
 use Rattle.da_commands.proofs.namespace.answer.Goals as goal
 
 pub returns-in-Err-NoHeader : goal.returns-in-Err-NoHeader

@@ -9,7 +9,7 @@ use Rattle.da_commands.specs.Namespace.{namespaces_in, is_other, AllowsNames, Na
 use Rattle.da_commands.specs.declared.command.Command.TheVariants.{Namespace}
 use Rattle.da_commands.specs.Meaning.{Meaning}
 use Rattle.da_status.proofs.EndLemmas.{ends_as}
-use Rattle.da_commands.proofs.FormLemmas.{refused_ends, judged_with}
+use Rattle.da_commands.proofs.Files.FormLemmas.{refused_ends, judged_with}
 use Rattle.da_commands.proofs.namespace.execute.Goals as goal
 
 pub returns-in-Err : goal.returns-in-Err

@@ -1,7 +1,7 @@
 use Rattle.std.proofs.Common.{◌∙◌, sym, ap, arith}
 use Rattle.std.specs.Prelude.{not}
 use Rattle.da_commands.specs.Namespace.{is_other}
-use Rattle.da_commands.proofs.RequestLemmas.{failing_none, failing_here, failing_later}
+use Rattle.da_commands.proofs.Files.RequestLemmas.{failing_none, failing_here, failing_later}
 use Rattle.da_commands.proofs.namespace.first_parity.Goals as goal
 
 pub returns-then-is_parity : goal.returns-then-is_parity

@@ -5,10 +5,10 @@ use Rattle.namespace_id.specs.Names.{IsNamespace}
 use Rattle.da_commands.specs.Namespace.{namespaces_in, AllowsNames, is_other}
 use Rattle.square_serve.specs.Answers.{IsComplete}
 use Rattle.square_serve.specs.Serving.{HeldParts, Holds, answer_for}
-use Rattle.da_commands.proofs.AnswerLemmas.{complete_short}
-use Rattle.da_commands.proofs.RequestLemmas.{all_pass}
-use Rattle.da_commands.proofs.ServingLemmas.{served_none, served_on, served_stopped, served_memory}
-use Rattle.da_commands.proofs.NamespaceLemmas.{are_named, have_names}
+use Rattle.da_commands.proofs.Answering.AnswerLemmas.{complete_short}
+use Rattle.da_commands.proofs.Files.RequestLemmas.{all_pass}
+use Rattle.da_commands.proofs.Answering.ServingLemmas.{served_none, served_on, served_stopped, served_memory}
+use Rattle.da_commands.proofs.Answering.NamespaceLemmas.{are_named, have_names}
 use Rattle.da_commands.proofs.namespace.give_answers.Goals as goal
 
 pub loop-name-init : goal.loop-name-init

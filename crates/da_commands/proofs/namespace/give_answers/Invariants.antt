@@ -4,7 +4,7 @@ use Rattle.namespace_id.specs.Names.{IsNamespace}
 use Rattle.square_layout.specs.Blocks.{SquareShares}
 use Rattle.square_serve.specs.Serving.{Holds}
 use Rattle.da_commands.specs.Namespace.{namespaces_in, is_other, AllowsNames}
-use Rattle.da_commands.proofs.ServingLemmas.{Served}
+use Rattle.da_commands.proofs.Answering.ServingLemmas.{Served}
 use Rattle.da_commands.proofs.namespace.give_answers.Given as goal
 
 -- the requests before were answered, no write failed, and those to come are for other namespaces than PARITY

@@ -2,7 +2,7 @@ use Rattle.std.proofs.Common.{[], ◌∷◌, refl}
 use Rattle.da_wire.specs.Spelling.{request_kind}
 use Rattle.da_wire.specs.declared.frames.Frame.TheVariants.{Request}
 use Rattle.da_commands.specs.Namespace.{namespace_of}
-use Rattle.da_commands.proofs.RequestLemmas.{is_next}
+use Rattle.da_commands.proofs.Files.RequestLemmas.{is_next}
 use Rattle.da_commands.proofs.namespace.next_name.Goals as goal
 
 -- the first request of the file, and those after it

@@ -7,7 +7,7 @@ use Rattle.da_commands.specs.Serving.{failing_from, Gives, Serves}
 use Rattle.da_commands.specs.Sample.{samples_in, is_asked_inside}
 use Rattle.da_commands.specs.Prove.{AllowsRootProof}
 use Rattle.da_status.proofs.EndLemmas.{ends_within, ends_request}
-use Rattle.da_commands.proofs.ServingLemmas.{serves_gives, serves_at, serves_none}
+use Rattle.da_commands.proofs.Answering.ServingLemmas.{serves_gives, serves_at, serves_none}
 use Rattle.da_commands.proofs.prove.answer.Goals as goal
 
 pub returns-in-Err-NoHeader : goal.returns-in-Err-NoHeader

@@ -10,7 +10,7 @@ use Rattle.da_commands.specs.Prove.{AllowsRootProof, ProveOf}
 use Rattle.da_commands.specs.declared.command.Command.TheVariants.{Prove}
 use Rattle.da_commands.specs.Meaning.{Meaning}
 use Rattle.da_status.proofs.EndLemmas.{ends_as}
-use Rattle.da_commands.proofs.FormLemmas.{refused_ends, judged_with}
+use Rattle.da_commands.proofs.Files.FormLemmas.{refused_ends, judged_with}
 use Rattle.da_commands.proofs.prove.execute.Goals as goal
 
 pub returns-in-Err : goal.returns-in-Err

@@ -11,9 +11,9 @@ use Rattle.blob_commit.specs.Proofs.{RootedHolds}
 use Rattle.square_serve.specs.Serving.{HeldParts}
 use Rattle.da_commands.specs.Sample.{samples_in}
 use Rattle.da_commands.specs.Prove.{AllowsRootProof}
-use Rattle.da_commands.proofs.RequestLemmas.{all_pass}
-use Rattle.da_commands.proofs.ServingLemmas.{served_none, served_on, served_stopped}
-use Rattle.da_commands.proofs.ProveLemmas.{is_root_proof, have_proofs}
+use Rattle.da_commands.proofs.Files.RequestLemmas.{all_pass}
+use Rattle.da_commands.proofs.Answering.ServingLemmas.{served_none, served_on, served_stopped}
+use Rattle.da_commands.proofs.Answering.ProveLemmas.{is_root_proof, have_proofs}
 use Rattle.da_commands.proofs.prove.give_proofs.Goals as goal
 
 pub loop-asked-init : goal.loop-asked-init

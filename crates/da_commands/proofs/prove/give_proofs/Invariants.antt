@@ -5,7 +5,7 @@ use Rattle.square_layout.specs.Blocks.{SquareShares}
 use Rattle.square_serve.specs.Serving.{Holds}
 use Rattle.da_commands.specs.Sample.{samples_in}
 use Rattle.da_commands.specs.Prove.{AllowsRootProof}
-use Rattle.da_commands.proofs.ServingLemmas.{Served}
+use Rattle.da_commands.proofs.Answering.ServingLemmas.{Served}
 use Rattle.da_commands.proofs.prove.give_proofs.Given as goal
 
 -- the requests before were answered, no write failed, and those to come are of cells inside

@@ -3,7 +3,7 @@ use Rattle.blob_commit.specs.Proofs.{is_range}
 use Rattle.da_commands.specs.Frames.{Writes}
 use Rattle.da_commands.specs.Prove.{ProvesIn}
 use Rattle.da_status.proofs.EndLemmas.{once_within, once_request}
-use Rattle.da_commands.proofs.ProveLemmas.{proves_range, proves_none}
+use Rattle.da_commands.proofs.Answering.ProveLemmas.{proves_range, proves_none}
 use Rattle.da_commands.proofs.prove.give_range.Goals as goal
 
 -- what is written is the frame of the proof

@@ -4,8 +4,8 @@ use Rattle.axis_roots.proofs.Grids.HeaderLemmas.{header_width}
 use Rattle.blob_commit.specs.Proofs.{is_range}
 use Rattle.da_commands.specs.Prove.{ProvesIn, ProvesRange}
 use Rattle.da_status.proofs.EndLemmas.{once_within, once_request}
-use Rattle.da_commands.proofs.HeaderLemmas.{own_header}
-use Rattle.da_commands.proofs.ProveLemmas.{proves_under, proves_nothing}
+use Rattle.da_commands.proofs.Answering.HeaderLemmas.{own_header}
+use Rattle.da_commands.proofs.Answering.ProveLemmas.{proves_under, proves_nothing}
 use Rattle.da_commands.proofs.prove.prove_range.Goals as goal
 
 -- the header is the grid's

@@ -1,6 +1,6 @@
 use Rattle.std.proofs.Common.{ap}
 use Rattle.data_header.specs.Headers.{Roots}
-use Rattle.da_commands.proofs.ProveLemmas.{index_inside, holds_rooted}
+use Rattle.da_commands.proofs.Answering.ProveLemmas.{index_inside, holds_rooted}
 use Rattle.da_commands.proofs.prove.root_proof.Goals as goal
 
 -- the axis through the cell is one of the header's

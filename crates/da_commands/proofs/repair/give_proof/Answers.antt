@@ -5,7 +5,7 @@ use Rattle.da_wire.specs.declared.frames.Frame.TheVariants.{Fraud}
 use Rattle.da_status.specs.declared.status.Status.TheVariants as status
 use Rattle.da_commands.specs.Repair.{Answers}
 use Rattle.da_status.proofs.EndLemmas.{once_within}
-use Rattle.da_commands.proofs.SpelledLemmas.{writes_frame}
+use Rattle.da_commands.proofs.Files.SpelledLemmas.{writes_frame}
 use Rattle.da_commands.proofs.repair.give_proof.Goals as goal
 
 -- what is written is the spelling of the proof's claim

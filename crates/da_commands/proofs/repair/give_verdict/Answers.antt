@@ -4,7 +4,7 @@ use Rattle.repair_queue.specs.Verdicts.{VerdictParts, whole, missing, fraud, cla
 use Rattle.da_wire.specs.Spelling.{spelling}
 use Rattle.da_commands.specs.Repair.{Answers}
 use Rattle.da_status.proofs.EndLemmas.{once_within, once_as}
-use Rattle.da_commands.proofs.RepairLemmas.{verdict_full, verdict_some}
+use Rattle.da_commands.proofs.Answering.RepairLemmas.{verdict_full, verdict_some}
 use Rattle.da_commands.proofs.repair.give_verdict.Goals as goal
 
 pub clash_frame-requires : goal.clash_frame-requires

@@ -1,13 +1,13 @@
 use Rattle.std.proofs.Common.{refl}
 use Rattle.da_commands.specs.Root.{RootOf}
-use Rattle.da_commands.proofs.RootLemmas.{Tells}
+use Rattle.da_commands.proofs.Answering.RootLemmas.{Tells}
 use Rattle.da_commands.specs.declared.command.Command.TheVariants.{Root}
 use Rattle.da_commands.specs.Contents.{contents_of, file_of}
 use Rattle.da_commands.specs.Frames.{header_in}
 use Rattle.da_commands.specs.Forms.{single_judged}
 use Rattle.da_commands.specs.Meaning.{Meaning}
 use Rattle.da_status.proofs.EndLemmas.{once_as}
-use Rattle.da_commands.proofs.FormLemmas.{refused_once, single_is}
+use Rattle.da_commands.proofs.Files.FormLemmas.{refused_once, single_is}
 use Rattle.da_commands.proofs.root.root.Goals as goal
 
 pub returns-in-Err : goal.returns-in-Err

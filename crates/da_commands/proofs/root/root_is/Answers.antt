@@ -8,7 +8,7 @@ use Rattle.da_commands.specs.Verify.{verdict_line, verdict_status}
 use Rattle.da_commands.specs.Root.{Ties, RootIsOf}
 use Rattle.da_commands.specs.Meaning.{Meaning}
 use Rattle.da_status.proofs.EndLemmas.{once_as, once_within}
-use Rattle.da_commands.proofs.FormLemmas.{refused_once, single_is}
+use Rattle.da_commands.proofs.Files.FormLemmas.{refused_once, single_is}
 use Rattle.da_commands.proofs.root.root_is.Goals as goal
 
 pub returns-in-Err : goal.returns-in-Err

@@ -9,7 +9,7 @@ use Rattle.da_commands.specs.Sample.{samples_in, is_asked_inside, AllowsSample, 
 use Rattle.da_commands.specs.declared.command.Command.TheVariants.{Sample}
 use Rattle.da_commands.specs.Meaning.{Meaning}
 use Rattle.da_status.proofs.EndLemmas.{ends_as}
-use Rattle.da_commands.proofs.FormLemmas.{refused_ends, judged_with}
+use Rattle.da_commands.proofs.Files.FormLemmas.{refused_ends, judged_with}
 use Rattle.da_commands.proofs.sample.execute.Goals as goal
 
 pub returns-in-Err : goal.returns-in-Err

@@ -1,6 +1,6 @@
 use Rattle.std.proofs.Common.{◌∙◌, sym, arith}
 use Rattle.namespace_id.specs.Cells.{is_in_square}
-use Rattle.da_commands.proofs.RequestLemmas.{failing_none, failing_here, failing_later}
+use Rattle.da_commands.proofs.Files.RequestLemmas.{failing_none, failing_here, failing_later}
 use Rattle.da_commands.proofs.sample.first_outside.Goals as goal
 
 pub returns-then-not-is_in_square : goal.returns-then-not-is_in_square

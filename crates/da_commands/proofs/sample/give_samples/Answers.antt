@@ -7,9 +7,9 @@ use Rattle.axis_roots.specs.Grids.{share_at}
 use Rattle.axis_roots.specs.Openings.{IsProved}
 use Rattle.square_serve.specs.Serving.{HeldParts}
 use Rattle.da_commands.specs.Sample.{samples_in, AllowsSample}
-use Rattle.da_commands.proofs.RequestLemmas.{all_pass}
-use Rattle.da_commands.proofs.ServingLemmas.{served_none, served_on, served_stopped}
-use Rattle.da_commands.proofs.SampleLemmas.{is_sample, have_samples}
+use Rattle.da_commands.proofs.Files.RequestLemmas.{all_pass}
+use Rattle.da_commands.proofs.Answering.ServingLemmas.{served_none, served_on, served_stopped}
+use Rattle.da_commands.proofs.Answering.SampleLemmas.{is_sample, have_samples}
 use Rattle.da_commands.proofs.sample.give_samples.Goals as goal
 
 pub loop-asked-init : goal.loop-asked-init

@@ -4,7 +4,7 @@ use Rattle.namespace_id.specs.Cells.{is_in_square}
 use Rattle.square_layout.specs.Blocks.{SquareShares}
 use Rattle.square_serve.specs.Serving.{Holds}
 use Rattle.da_commands.specs.Sample.{samples_in, AllowsSample}
-use Rattle.da_commands.proofs.ServingLemmas.{Served}
+use Rattle.da_commands.proofs.Answering.ServingLemmas.{Served}
 use Rattle.da_commands.proofs.sample.give_samples.Given as goal
 
 -- the requests before were answered, no write failed, and those to come are of cells inside

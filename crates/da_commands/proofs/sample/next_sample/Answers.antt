@@ -1,7 +1,7 @@
 use Rattle.std.proofs.Common.{[], ◌∷◌, refl}
 use Rattle.da_wire.specs.Spelling.{sample_kind}
 use Rattle.da_commands.specs.Sample.{sample_of, sample_frame}
-use Rattle.da_commands.proofs.RequestLemmas.{is_next}
+use Rattle.da_commands.proofs.Files.RequestLemmas.{is_next}
 use Rattle.da_commands.proofs.sample.next_sample.Goals as goal
 
 -- the first request of the file, and those after it

@@ -4,7 +4,7 @@ use Rattle.da_commands.specs.Contents.{contents_of}
 use Rattle.da_status.specs.Judging.{Judged}
 use Rattle.da_commands.specs.Show.{all_kinds, shown_as, shown_file, Shows, show_judged}
 use Rattle.da_status.proofs.EndLemmas.{ends_as, ends_refused}
-use Rattle.da_commands.proofs.ShowLemmas.{show_refuses, show_is}
+use Rattle.da_commands.proofs.Answering.ShowLemmas.{show_refuses, show_is}
 use Rattle.da_commands.proofs.show.judge.Goals as goal
 
 pub returns-in-Some : goal.returns-in-Some

@@ -5,7 +5,7 @@ use Rattle.da_commands.specs.Show.{all_kinds, shown_as, all_shown, Shows}
 use Rattle.da_status.specs.declared.status.Status.TheVariants.{Done, NoMemory}
 use Rattle.da_status.proofs.WriteLemmas.{gathered_on, gathered_part}
 use Rattle.da_status.proofs.EndLemmas.{ends_in_fault}
-use Rattle.da_commands.proofs.ShowLemmas.{no_line, line_first, shows_done, shows_memory, shows_after}
+use Rattle.da_commands.proofs.Answering.ShowLemmas.{no_line, line_first, shows_done, shows_memory, shows_after}
 use Rattle.da_commands.proofs.show.list.Goals as goal
 
 -- no frame is left

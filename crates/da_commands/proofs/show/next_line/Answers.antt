@@ -2,7 +2,7 @@ use Rattle.std.proofs.Common.{◌∙◌, ◌++◌, ℕ, List, ap}
 use Rattle.da_wire.specs.declared.frames.Frame.TheVariants.{Sample}
 use Rattle.da_wire.specs.Values.{values_of}
 use Rattle.da_commands.specs.Show.{all_kinds, shown_as, line_of}
-use Rattle.da_commands.proofs.ShowLemmas.{sample_first, next_shown, shown-first, on_err}
+use Rattle.da_commands.proofs.Answering.ShowLemmas.{sample_first, next_shown, shown-first, on_err}
 use Rattle.da_commands.proofs.show.next_line.Goals as goal
 
 -- memory runs out for the line of a request for a sample

@@ -2,7 +2,7 @@ use Rattle.std.proofs.Common.{subst, sym, Err}
 use Rattle.da_commands.specs.declared.frames.Unread.{Unread}
 use Rattle.da_commands.specs.Frames.{ReadsSingle}
 use Rattle.da_commands.specs.Verify.{answer_kinds, answer_in}
-use Rattle.da_commands.proofs.FrameLemmas.{kinds_unread}
+use Rattle.da_commands.proofs.Files.FrameLemmas.{kinds_unread}
 use Rattle.da_commands.proofs.verify.answer_in.Goals as goal
 
 -- memory ran out in place of a value alone

@@ -1,14 +1,14 @@
 use Rattle.std.proofs.Common.{◌∙◌, refl}
 use Rattle.data_header.specs.Headers.{Roots}
 use Rattle.da_wire.specs.declared.frames.Frame.{Frame}
-use Rattle.da_commands.specs.Contents.{contents_of}
+use Rattle.da_commands.specs.Contents.{contents_of, header_file}
 use Rattle.da_commands.specs.Frames.{header_in}
 use Rattle.da_commands.specs.Forms.{under_judged, Over}
-use Rattle.da_commands.specs.Verify.{header_file, answer_file, answer_in, Verifies, VerifyOf}
+use Rattle.da_commands.specs.Verify.{answer_file, answer_in, Verifies, VerifyOf}
 use Rattle.da_commands.specs.declared.command.Command.TheVariants.{Verify}
 use Rattle.da_commands.specs.Meaning.{Meaning}
 use Rattle.da_status.proofs.EndLemmas.{ends_as}
-use Rattle.da_commands.proofs.FormLemmas.{refused_ends, over_is, judged_over}
+use Rattle.da_commands.proofs.Files.FormLemmas.{refused_ends, over_is, judged_over}
 use Rattle.da_commands.proofs.verify.execute.Goals as goal
 
 pub returns-in-Err : goal.returns-in-Err

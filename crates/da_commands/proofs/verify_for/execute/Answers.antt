@@ -9,8 +9,8 @@ use Rattle.da_commands.specs.VerifyFor.{request_in, request_file, verify_for_jud
 use Rattle.da_commands.specs.declared.command.Command.TheVariants.{VerifyFor}
 use Rattle.da_commands.specs.Meaning.{Meaning}
 use Rattle.da_status.proofs.EndLemmas.{once_as}
-use Rattle.da_commands.proofs.FormLemmas.{refused_once, refused_more}
-use Rattle.da_commands.proofs.VerifyForLemmas.{verify_for_asks_none, verify_for_is}
+use Rattle.da_commands.proofs.Files.FormLemmas.{refused_once, refused_more}
+use Rattle.da_commands.proofs.Answering.VerifyForLemmas.{verify_for_asks_none, verify_for_is}
 use Rattle.da_commands.proofs.verify_for.execute.Goals as goal
 
 pub returns-in-Err : goal.returns-in-Err

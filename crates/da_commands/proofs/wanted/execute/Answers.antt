@@ -8,8 +8,8 @@ use Rattle.da_commands.specs.Frames.{WritesText}
 use Rattle.da_commands.specs.Wanted.{missing_in, missing_file, requests_bytes}
 use Rattle.da_commands.specs.Meaning.{Meaning}
 use Rattle.da_status.proofs.EndLemmas.{once_as}
-use Rattle.da_commands.proofs.FormLemmas.{single_is}
-use Rattle.da_commands.proofs.WantedLemmas.{Asks}
+use Rattle.da_commands.proofs.Files.FormLemmas.{single_is}
+use Rattle.da_commands.proofs.Answering.WantedLemmas.{Asks}
 use Rattle.da_commands.proofs.wanted.execute.Goals as goal
 
 -- the file is the missing cells that were read

@@ -5,7 +5,7 @@ use Rattle.da_wire.specs.Single.{missing_of}
 use Rattle.da_commands.specs.declared.frames.Unread.{Unread}
 use Rattle.da_commands.specs.Frames.{ReadsSingle}
 use Rattle.da_commands.specs.Wanted.{missing_in}
-use Rattle.da_commands.proofs.FrameLemmas.{is_read, is_unread}
+use Rattle.da_commands.proofs.Files.FrameLemmas.{is_read, is_unread}
 use Rattle.da_commands.proofs.wanted.missing_in.Goals as goal
 
 -- what was read is what the file is

@@ -1,5 +1,5 @@
 use Rattle.da_wire.specs.declared.frames.Frame.TheVariants.{Sample}
-use Rattle.da_commands.proofs.WantedLemmas.{text_appended}
+use Rattle.da_commands.proofs.Answering.WantedLemmas.{text_appended}
 use Rattle.da_commands.proofs.wanted.put_request.Goals as goal
 
 -- the request's spelling was appended

@@ -1,0 +1,6 @@
+-- The feed that follows blocks: what is wanted, told and left to tell.
+pub mod FeedLineLemmas
+pub mod EachOnceLemmas
+pub mod FeedOnceLemmas
+pub mod FeedItemLemmas
+pub mod FollowLemmas
