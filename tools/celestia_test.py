@@ -15,7 +15,6 @@ import os
 import random
 import subprocess
 import sys
-import tempfile
 import unittest
 
 sys.dont_write_bytecode = True
@@ -113,26 +112,10 @@ def padded_square():
     return shares, make.block(blobs, units, pays, width=4), make.block(blobs)
 
 
-class Case(unittest.TestCase):
-    """A test with a folder of its own for files."""
+class Case(trying.Case):
+    """A test of the tool, with a folder of its own for files."""
 
-    def setUp(self):
-        folder = tempfile.TemporaryDirectory()
-        self.addCleanup(folder.cleanup)
-        self.folder = folder.name
-
-    def file(self, data, name="f"):
-        """A file of these bytes, or of this value as JSON."""
-        path = os.path.join(self.folder, name)
-        with open(path, "wb") as file:
-            file.write(data if isinstance(data, bytes) else json.dumps(data).encode())
-        return path
-
-    def made(self, *words):
-        """What a command writes, with status 0 and no note."""
-        status, out, note = run(*words)
-        self.assertEqual((status, note), (0, ""))
-        return out
+    run_tool = staticmethod(run)
 
     def same_header(self, header):
         """A header comes back through its `dah` and through an extended header, and stands under its data hash."""

@@ -12,7 +12,6 @@ import random
 import re
 import subprocess
 import sys
-import tempfile
 import unittest
 from unittest import mock
 
@@ -171,26 +170,10 @@ def example(name):
         return file.read()
 
 
-class Case(unittest.TestCase):
-    """A test with a folder of its own for files."""
+class Case(trying.Case):
+    """A test of the tool, with a folder of its own for files."""
 
-    def setUp(self):
-        folder = tempfile.TemporaryDirectory()
-        self.addCleanup(folder.cleanup)
-        self.folder = folder.name
-
-    def file(self, data, name="f"):
-        """A file of these bytes."""
-        path = os.path.join(self.folder, name)
-        with open(path, "wb") as file:
-            file.write(data)
-        return path
-
-    def made(self, *words):
-        """What a maker writes, with status 0 and no note."""
-        status, out, note = run(*words)
-        self.assertEqual((status, note), (0, ""))
-        return out
+    run_tool = staticmethod(run)
 
     def why(self, data, *form):
         """The line of `why` behind the file's name."""
