@@ -12,7 +12,7 @@ use std::alloc::Global;
 use std::process::Abort;
 
 /// A share of one byte throughout.
-fn share(byte: u8) -> Share {
+pub(crate) fn share(byte: u8) -> Share {
     Share([byte; SHARE_SIZE])
 }
 

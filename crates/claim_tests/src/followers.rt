@@ -19,8 +19,7 @@ use std::test::Fail;
 /// Version 0, 26 zero bytes, 1 and this byte: the namespace of a blob.
 fn name(last: u8) -> Namespace {
     let mut bytes = [0; NAMESPACE_SIZE];
-    bytes[27] = 1;
-    bytes[28] = last;
+    bytes[27..].copy_from_slice(&[1, last]);
     Namespace(bytes)
 }
 
@@ -61,44 +60,61 @@ fn tell<F: Filter>(
     assert!(rt; follower.answer(&namespace, answer) == want, "{name}");
 }
 
+/// What a follower of the namespace that ends in 2 answers at its last height: to this whole answer, and to one without an
+/// entry.
+fn tell_all<F: Filter>(
+    rt: &impl Abort,
+    follower: &mut Follower<F>,
+    whole: &NsAnswer,
+    empty: &NsAnswer,
+)
+    requires { 1 ≤ count_of follower.old }
+    ensures { count_of follower.new ≡ count_of follower.old }
+{
+    let no_blob = Err(FollowError::NotBlob(NsError::Version));
+    tell(rt, follower, PARITY, whole, no_blob, "parity");
+    let unwanted = Err(FollowError::Unwanted);
+    tell(rt, follower, name(3), whole, unwanted, "another");
+    let refused = Err(FollowError::Refused(NsRefusal::Rows(0)));
+    tell(rt, follower, name(2), empty, refused, "no entry");
+    let taken = Ok(Taken::Blobs(1));
+    tell(rt, follower, name(2), whole, taken, "a blob");
+    let twice = Err(FollowError::Twice);
+    tell(rt, follower, name(2), whole, twice, "again");
+}
+
+/// Whether the bytes of `abc` are the one blob of a height.
+fn has_entered<F: Filter>(follower: &Follower<F>, height: u32) -> bool {
+    let Some(Entry::Blobs(blobs)) = follower.entry(height, &name(2)) else {
+        return false;
+    };
+    let [blob] = blobs.as_slice() else {
+        return false;
+    };
+    blob.bytes.as_slice() == b"abc".as_slice()
+}
+
+/// The whole answer for the namespace that ends in 2, and one without an entry.
+fn answers(alloc: Global) -> Result<(NsAnswer, NsAnswer), Fail> {
+    let mut held = Held::of(alloc, square(alloc)?)?;
+    let whole = held.namespace(alloc, &name(2))?;
+    let entries = Vec::new(alloc);
+    Ok((whole, NsAnswer { entries }))
+}
+
 /// How a follower fares that wants the namespace that ends in 2, and not the one that ends in 3.
 fn follows<F: Filter>(rt: &impl Abort, alloc: Global, filter: F) -> Result<(), Fail>
     requires { IsFilter F.can_ask F.answers filter }
 {
-    let mut held = Held::of(alloc, square(alloc)?)?;
-    let full = held.namespace(alloc, &name(2))?;
-    let empty = NsAnswer {
-        entries: Vec::new(alloc),
-    };
+    let (whole, empty) = answers(alloc)?;
     let mut follower = Follower::new(alloc, filter);
     assert!(rt; follower.entry(0, &name(2)).is_none(), "no height");
     follower.header(header(rt, alloc)?)?;
-    let no_blob = Err(FollowError::NotBlob(NsError::Version));
-    let unwanted = Err(FollowError::Unwanted);
-    let refused = Err(FollowError::Refused(NsRefusal::Rows(0)));
-    tell(rt, &mut follower, PARITY, &full, no_blob, "parity");
-    tell(rt, &mut follower, name(3), &full, unwanted, "another");
-    tell(rt, &mut follower, name(2), &empty, refused, "no entry");
-    tell(
-        rt,
-        &mut follower,
-        name(2),
-        &full,
-        Ok(Taken::Blobs(1)),
-        "a blob",
-    );
-    let twice = Err(FollowError::Twice);
-    tell(rt, &mut follower, name(2), &full, twice, "again");
+    tell_all(rt, &mut follower, &whole, &empty);
     follower.header(header(rt, alloc)?)?;
     assert!(rt; follower.heights() == 2, "two heights");
     assert!(rt; follower.entry(1, &name(2)).is_none(), "nothing yet");
-    let Some(Entry::Blobs(blobs)) = follower.entry(0, &name(2)) else {
-        return Err(Fail::new("no blobs"));
-    };
-    let [blob] = blobs.as_slice() else {
-        return Err(Fail::new("not one blob"));
-    };
-    assert!(rt; blob.bytes.as_slice() == b"abc".as_slice(), "the blob");
+    assert!(rt; has_entered(&follower, 0), "the blob");
     Ok(())
 }
 

@@ -1,4 +1,4 @@
-//! What of fields, codes, trees, proofs, squares, samples and fraud proofs no proof can show: values
+//! What of fields, codes, trees, proofs, squares, samples and fraud claims no proof can show: values
 //! that other programs give, and calls that succeed with ample memory.
 #![tactic(auto)]
 
@@ -14,8 +14,6 @@ mod codewords;
 mod fields;
 #[cfg(test)]
 mod fraud_claims;
-#[cfg(test)]
-mod fraud_proofs;
 #[cfg(test)]
 mod generated;
 #[cfg(test)]

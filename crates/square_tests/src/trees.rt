@@ -31,40 +31,52 @@ fn ordered_joins(rt: HostRuntime) {
     }
 }
 
+/// Two leaves.
+fn two_leaves() -> [Digest; 2] {
+    let first = leaf(&version_0(1), &share(7));
+    [first, leaf(&version_0(2), &share(9))]
+}
+
 #[test]
 fn roots_of_two_leaves(rt: HostRuntime) {
     let names = [version_0(1), version_0(2)];
     let shares = [share(7), share(9)];
-    let left = leaf(&names[0], &shares[0]);
-    let right = leaf(&names[1], &shares[1]);
-    let parity = leaf(&PARITY, &shares[1]);
+    let [left, right] = two_leaves();
     let both = node(&left, &right);
     assert!(rt; plain_root(&names, &shares) == both);
     assert!(rt; strict_root(&names, &shares) == Some(both));
     assert!(rt; strict_root(&[names[1], names[0]], &shares) == None);
+}
+
+#[test]
+fn joins_of_two_leaves(rt: HostRuntime) {
+    let [left, right] = two_leaves();
+    let both = node(&left, &right);
     assert!(rt; join(&left, &right) == Ok(both));
     assert!(rt; join(&right, &left) == Err(Unordered));
-    assert!(rt; both.greatest() == names[1]);
-    assert!(rt;
-        node(&left, &parity).greatest() == names[0],
-        "parity is left out"
-    );
+    assert!(rt; both.greatest() == version_0(2));
+    let parity = leaf(&PARITY, &share(9));
+    let one = node(&left, &parity);
+    assert!(rt; one.greatest() == version_0(1), "parity is left out");
     assert!(rt; node(&parity, &parity).greatest() == PARITY);
+}
+
+#[test]
+fn root_of_four_leaves(rt: HostRuntime) {
+    let root = plain_root(&four_names(), &four_shares());
+    assert!(rt; fold_root(&mut four_leaves()) == root);
 }
 
 #[test]
 fn tree_of_four_leaves(rt: HostRuntime) {
     let names = four_names();
     let shares = four_shares();
-    let mut leaves = four_leaves();
-    let last = node(&leaves[2], &leaves[3]);
-    let root = Some(fold_root(&mut leaves));
-    assert!(rt; Some(plain_root(&names, &shares)) == root);
+    let [_, _, third, last] = four_leaves();
     let mut tree = Tree::new(rt.alloc(), 4).expect(&rt, "there is memory");
     assert!(rt; tree.root() == None, "empty");
     assert!(rt; tree.fill(&names, &shares));
-    assert!(rt; tree.root() == root);
-    assert!(rt; tree.digest(2, 2) == Some(last));
+    assert!(rt; tree.root() == Some(plain_root(&names, &shares)));
+    assert!(rt; tree.digest(2, 2) == Some(node(&third, &last)));
     let falling = [names[3], names[0], names[1], names[2]];
     assert!(rt; !tree.fill(&falling, &shares), "falling names");
     assert!(rt; tree.root() == None, "falling names");

@@ -8,7 +8,7 @@ ghost use Rattle.axis_roots.specs.Proved.{IsUnder, kept_message};
 ghost use Rattle.befp_maker.specs.Halves.{AreHalf};
 ghost use Rattle.befp_maker.specs.Conflicts.{IsLineOf};
 
-use crate::inputs::share;
+use crate::claims::share;
 use axis_roots::{FraudProof, Grid, Proved, check, header_of, message_of};
 use befp_maker::{AxisRoom, Decided, from_conflict, from_half};
 use data_header::Header;
