@@ -38,9 +38,7 @@ pub(crate) fn joined(alloc: Global, runs: &[Run]) -> Result<Vec<u8>, Fail> {
     let mut all = Vec::new(alloc);
     for (bytes, count, byte) in runs {
         all.extend_from_slice(bytes)?;
-        for _ in 0..*count {
-            all.push(*byte)?;
-        }
+        all.extend_from_slice(&vec![in alloc; *byte; *count]?)?;
     }
     Ok(all)
 }

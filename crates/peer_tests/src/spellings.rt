@@ -3,6 +3,7 @@
 
 use crate::runs::{ANSWER, CLAIM, Run, SET_CLAIM, joined, written};
 use da_wire::read_only;
+use std::alloc::Global;
 use std::test::Fail;
 
 /// Frames of each kind but X, as no collision of SHA-256 is known.
@@ -93,13 +94,18 @@ const FRAMES: [(&str, &[Run]); 30] = [
     ),
 ];
 
+/// What the value of these bytes is written as.
+fn written_again(alloc: Global, bytes: &[u8]) -> Result<Vec<u8>, Fail> {
+    let value = read_only(alloc, bytes, b"HSMNBKQPV")?;
+    written(alloc, &value)
+}
+
 #[test]
 fn bytes_of_values(rt: HostRuntime) -> Result<(), Fail> {
     let alloc = rt.alloc();
     for (name, runs) in FRAMES {
         let bytes = joined(alloc, runs)?;
-        let value = read_only(alloc, &bytes, b"HSMNBKQPV")?;
-        let again = written(alloc, &value)?;
+        let again = written_again(alloc, &bytes)?;
         assert!(rt; again.as_slice() == bytes.as_slice(), "{name}");
     }
     Ok(())

@@ -20,10 +20,9 @@ pub(crate) const DATA_ROOT: [u8; 32] = [
 /// A share of the namespace that ends in 01 and this byte: these bytes behind its name, and zeros.
 fn share(end: u8, front: &[u8]) -> Share {
     let mut bytes = [0; 512];
-    bytes[27] = 1;
-    bytes[28] = end;
-    for (place, byte) in bytes[29..].iter_mut().zip(front.iter()) {
-        *place = *byte;
+    bytes[27..29].copy_from_slice(&[1, end]);
+    if let Some(place) = bytes[29..].get_mut(..front.len()) {
+        place.copy_from_slice(front);
     }
     Share(bytes)
 }
@@ -56,9 +55,9 @@ pub(crate) fn bad_grid(alloc: Global) -> Result<Grid, Fail>
     ensures { IfOk result (λ grid. grid.k ≡ 2) }
 {
     let mut grid = grid(alloc)?;
-    let mut share = grid.shares[15];
-    share.0[511] ^= 1;
-    grid.set(Cell { row: 3, col: 3 }, &share);
+    if let Some(byte) = grid.shares[15].0.last_mut() {
+        *byte ^= 1;
+    }
     Ok(grid)
 }
 

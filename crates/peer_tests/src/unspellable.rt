@@ -6,6 +6,7 @@ use namespace_id::{Axis, Cell, Cells, Digest, Namespace, Share};
 use nmt_proofs::{Nodes, Path};
 use square_layout::Block;
 use std::alloc::Global;
+use std::process::Abort;
 use std::test::Fail;
 
 /// No cells, of the square of width 1.
@@ -91,53 +92,48 @@ fn shown(alloc: Global, nodes: usize, more: Message) -> Result<Frame, Fail> {
     }))
 }
 
-/// What `write_frame` refuses a value with, and what it leaves of one byte.
-fn refused(alloc: Global, value: Frame) -> Result<(Option<SpellError>, usize), Fail> {
+/// `write_frame` refuses a value, and leaves one byte as it was.
+fn is_refused(rt: &impl Abort, alloc: Global, name: &str, value: Frame) -> Result<(), Fail> {
     let mut out = Vec::from_slice(alloc, &[3])?;
     let refused = write_frame(&value, &mut out).err();
-    Ok((refused, out.len()))
+    assert_eq!(rt;
+        (refused, out.len()),
+        (Some(SpellError::Unspellable), 1),
+        "{name}"
+    );
+    Ok(())
 }
 
 #[test]
 fn values_without_spelling(rt: HostRuntime) -> Result<(), Fail> {
     let alloc = rt.alloc();
+    is_refused(&rt, alloc, "no cells", no_cells(alloc)?)?;
+    is_refused(&rt, alloc, "width 0", narrow_block(alloc))?;
+    is_refused(&rt, alloc, "129 entries", answer(alloc, 129, 0)?)?;
+    is_refused(&rt, alloc, "129 shares", answer(alloc, 1, 129)?)
+}
+
+#[test]
+fn claims_without_spelling(rt: HostRuntime) -> Result<(), Fail> {
+    let alloc = rt.alloc();
+    is_refused(&rt, alloc, "129 cells", claim(alloc, 129, None)?)?;
+    let shows_no_cell = claim(alloc, 1, set(alloc, 0)?)?;
+    is_refused(&rt, alloc, "a set that shows no cell", shows_no_cell)?;
     let cases = [
-        ("no cells", refused(alloc, no_cells(alloc)?)?),
-        ("width 0", refused(alloc, narrow_block(alloc))?),
-        (
-            "129 claimed cells",
-            refused(alloc, claim(alloc, 129, None)?)?,
-        ),
-        (
-            "a set that shows no cell",
-            refused(alloc, claim(alloc, 1, set(alloc, 0)?)?)?,
-        ),
-        (
-            "129 nodes",
-            refused(
-                alloc,
-                shown(alloc, 129, message(1, 3, Axis::Col, Path::new()))?,
-            )?,
-        ),
+        ("129 nodes", 129, message(1, 3, Axis::Col, Path::new())),
         (
             "a shown cell's path",
-            refused(
-                alloc,
-                shown(alloc, 1, message(1, 3, Axis::Col, one_node()))?,
-            )?,
+            1,
+            message(1, 3, Axis::Col, one_node()),
         ),
         (
             "a cell off the axis",
-            refused(
-                alloc,
-                shown(alloc, 1, message(1, 2, Axis::Row, Path::new()))?,
-            )?,
+            1,
+            message(1, 2, Axis::Row, Path::new()),
         ),
-        ("129 entries", refused(alloc, answer(alloc, 129, 0)?)?),
-        ("129 shares", refused(alloc, answer(alloc, 1, 129)?)?),
     ];
-    for (name, got) in cases {
-        assert_eq!(rt; got, (Some(SpellError::Unspellable), 1), "{name}");
+    for (name, nodes, more) in cases {
+        is_refused(&rt, alloc, name, shown(alloc, nodes, more)?)?;
     }
     Ok(())
 }
