@@ -5,6 +5,7 @@ use da_cli::Status::{Done, Missing, PickFault, ReadFault, Refused, Waiting, Writ
 use da_cli::{Status, run};
 use da_io::{MemInputs, MemSink};
 use std::alloc::Global;
+use std::process::Abort;
 use std::test::Fail;
 
 /// The number of a call that no run makes.
@@ -74,7 +75,12 @@ fn run_failing(
 }
 
 /// Adds a file.
-fn add(alloc: Global, files: &mut Vec<File>, name: &str, content: &[u8]) -> Result<(), Fail> {
+pub(super) fn add(
+    alloc: Global,
+    files: &mut Vec<File>,
+    name: &str,
+    content: &[u8],
+) -> Result<(), Fail> {
     let name = String::from_str(alloc, name)?;
     let content = Vec::from_slice(alloc, content)?;
     files.push(File { name, content })?;
@@ -102,7 +108,8 @@ fn block(alloc: Global) -> Result<Vec<u8>, Fail> {
 fn requests(alloc: Global, cells: &[(u8, u8)]) -> Result<Vec<u8>, Fail> {
     let mut bytes = Vec::new(alloc);
     for &(row, col) in cells {
-        bytes.extend_from_slice(&[b'Q', 0, 0, 0, 5, 0, row, 0, col, 0])?;
+        bytes.extend_from_slice(b"Q\0\0\0\x05")?;
+        bytes.extend_from_slice(&[0, row, 0, col, 0])?;
     }
     Ok(bytes)
 }
@@ -165,103 +172,126 @@ pub(super) fn files(alloc: Global) -> Result<Vec<File>, Fail> {
     Ok(files)
 }
 
-/// Each row has words, and how many bytes a sink takes at a time; then a kind of calls, and the numbers of those of which
-/// each fails in a run of its own, from the first up to the last and without it; then how these runs end, how many bytes
-/// the output takes in the first of them, and how many more in each later one.
-#[test]
-fn failed_calls(rt: HostRuntime) -> Result<(), Fail> {
-    let alloc = rt.alloc();
+/// Words, and how many bytes a sink takes at a time; then a kind of calls, and the numbers of those of which each fails in a
+/// run of its own, from the first up to the last and without it; then how these runs end, how many bytes the output takes in
+/// the first of them, and how many more in each later one.
+type Runs = (
+    &'static str,
+    usize,
+    &'static str,
+    u64,
+    u64,
+    Status,
+    usize,
+    usize,
+);
+
+/// The numbers of the calls that fail: a pick or a read, a write of the output, a write of the note.
+fn failing(kind: &str, number: u64) -> (u64, u64, u64) {
+    match kind {
+        "input" => (number, NEVER, NEVER),
+        "write" => (NEVER, number, NEVER),
+        _ => (NEVER, NEVER, number),
+    }
+}
+
+/// These runs end as told.
+fn end_so(rt: &impl Abort, alloc: Global, files: &[File], runs: Runs) -> Result<(), Fail> {
+    let (words, piece, kind, from, end, want, taken, more) = runs;
+    let whole = run_failing(alloc, words, files, piece, (NEVER, NEVER, NEVER))?;
+    let mut size = taken;
+    for number in from..end {
+        let ran = run_failing(alloc, words, files, piece, failing(kind, number))?;
+        assert_eq!(rt; ran.status, want, "{words}: {kind} {number}");
+        assert_eq!(rt; ran.out.bytes.len(), size, "{words}: {kind} {number}");
+        let front = whole.out.bytes.starts_with(&ran.out.bytes);
+        assert!(rt; front, "{words}: {kind} {number}");
+        size = size.wrapping_add(more);
+    }
+    Ok(())
+}
+
+/// The files, and "six", a proved sample and five frames that are none.
+fn files_and_six(alloc: Global) -> Result<Vec<File>, Fail> {
     let mut files = files(alloc)?;
     let Some(file) = files.last() else {
-        panic!(rt; "no file");
+        return Err(Fail::new("no file"));
     };
     let Some(one) = file.content.first_chunk::<703>() else {
-        panic!(rt; "{} bytes", file.content.len());
+        return Err(Fail::new("no sample"));
     };
     let six = refused(alloc, one)?;
     add(alloc, &mut files, "six", &six)?;
-    let cases = [
+    Ok(files)
+}
+
+/// Failed picks and reads, failed writes of notes, and writes of `demo`, which aren't of one size.
+#[test]
+fn failed_calls(rt: HostRuntime) -> Result<(), Fail> {
+    let alloc = rt.alloc();
+    let files = files_and_six(alloc)?;
+    let cases: [Runs; 14] = [
         ("check h six", 100, "input", 0, 1, PickFault(0), 0, 0),
         ("check h six", 100, "input", 1, 3, ReadFault(0), 0, 0),
         ("check h six", 100, "input", 3, 4, PickFault(1), 0, 0),
         ("check h six", 100, "input", 4, 9, ReadFault(1), 0, 0),
         ("check h six", 100, "input", 9, 10, Refused, 53, 0),
-        ("check h six", 100, "write", 0, 1, WriteFault, 0, 0),
-        ("check h six", 100, "write", 1, 2, Refused, 53, 0),
-        ("check h six", 10, "write", 0, 6, WriteFault, 0, 10),
-        ("check h six", 10, "write", 6, 7, Refused, 53, 0),
         ("repair h four", 100, "input", 0, 1, PickFault(0), 0, 0),
         ("repair h four", 100, "input", 1, 3, ReadFault(0), 0, 0),
         ("repair h four", 100, "input", 3, 4, PickFault(1), 0, 0),
         ("repair h four", 100, "input", 4, 8, ReadFault(1), 0, 0),
         ("repair h four", 100, "input", 8, 9, Done, 2055, 0),
-        ("repair h four", 100, "write", 0, 21, WriteFault, 0, 100),
-        ("repair h four", 100, "write", 21, 22, Done, 2055, 0),
         ("repair h three", 100, "note", 0, 2, Missing(13, 0), 63, 0),
         ("repair h three", 4, "note", 0, 8, Missing(13, 0), 63, 0),
-        ("build block", 4096, "write", 0, 1, WriteFault, 0, 0),
-        ("build block", 4096, "write", 1, 2, Done, 2055, 0),
-        ("header s", 4096, "write", 0, 1, WriteFault, 0, 0),
-        ("header s", 4096, "write", 1, 2, Done, 727, 0),
-        ("sample s cells", 4096, "write", 0, 4, WriteFault, 0, 703),
-        ("sample s cells", 4096, "write", 4, 5, Done, 2812, 0),
-        ("namespace s name", 4096, "write", 0, 1, WriteFault, 0, 0),
-        ("namespace s name", 4096, "write", 1, 2, Done, 1436, 0),
-        ("verify h one", 4096, "write", 0, 1, WriteFault, 0, 0),
-        ("verify h one", 4096, "write", 1, 2, Done, 3, 0),
-        (LIGHT, 4096, "write", 0, 1, WriteFault, 0, 0),
-        (LIGHT, 4096, "write", 1, 2, Done, 10, 0),
-        ("net h one script", 4096, "write", 0, 1, WriteFault, 0, 0),
-        ("net h one script", 4096, "write", 1, 2, Done, 44, 0),
-        ("show cells", 4096, "write", 0, 1, WriteFault, 0, 0),
-        ("show cells", 28, "write", 0, 4, WriteFault, 0, 28),
-        ("show cells", 28, "write", 4, 5, Done, 112, 0),
-        ("json cells", 4096, "write", 0, 1, WriteFault, 0, 0),
-        ("json cells", 47, "write", 0, 4, WriteFault, 0, 47),
-        ("json cells", 47, "write", 4, 5, Done, 188, 0),
         ("demo 7 2", 4096, "write", 0, 2, WriteFault, 0, 8),
         ("demo 7 2", 4096, "write", 2, 3, WriteFault, 17, 0),
-        ("compact h claim", 4096, "write", 0, 1, WriteFault, 0, 0),
-        ("compact h claim", 4096, "write", 1, 2, Refused, 10, 0),
-        ("verify h one corner", 4096, "write", 0, 1, WriteFault, 0, 0),
-        ("verify h one corner", 4096, "write", 1, 2, Done, 3, 0),
-        ("root h", 4096, "write", 0, 1, WriteFault, 0, 0),
-        ("root h", 4096, "write", 1, 2, Done, 65, 0),
-        (OTHER_ROOT, 4096, "write", 0, 1, WriteFault, 0, 0),
-        (OTHER_ROOT, 4096, "write", 1, 2, Refused, 10, 0),
-        ("wanted missing row", 4096, "write", 0, 1, WriteFault, 0, 0),
-        ("wanted missing row", 4096, "write", 1, 2, Done, 130, 0),
-        ("blobs s", 4096, "write", 0, 1, WriteFault, 0, 0),
-        ("blobs s", 4096, "write", 1, 2, Done, 602, 0),
-        ("commit block", 4096, "write", 0, 1, WriteFault, 0, 0),
-        ("commit block", 4096, "write", 1, 2, Done, 195, 0),
-        ("prove s cells", 4096, "write", 0, 4, WriteFault, 0, 892),
-        ("prove s cells", 4096, "write", 4, 5, Done, 3568, 0),
-        ("prove s 1 2", 4096, "write", 0, 1, WriteFault, 0, 0),
-        ("prove s 1 2", 4096, "write", 1, 2, Done, 969, 0),
-        ("follow name h", 4096, "write", 0, 1, WriteFault, 0, 0),
-        ("follow name h", 4096, "write", 1, 2, Waiting(1), 86, 0),
-        ("help", 4096, "write", 0, 1, WriteFault, 0, 0),
-        ("help", 4096, "write", 1, 2, Done, 517, 0),
-        ("version", 4096, "write", 0, 1, WriteFault, 0, 0),
-        ("version", 4096, "write", 1, 2, Done, 9, 0),
     ];
-    for (words, piece, kind, from, end, want, taken, more) in cases {
-        let whole = run_failing(alloc, words, &files, piece, (NEVER, NEVER, NEVER))?;
-        let mut size: usize = taken;
-        for number in from..end {
-            let fail = match kind {
-                "input" => (number, NEVER, NEVER),
-                "write" => (NEVER, number, NEVER),
-                _ => (NEVER, NEVER, number),
-            };
-            let ran = run_failing(alloc, words, &files, piece, fail)?;
-            assert_eq!(rt; ran.status, want, "{words}: {kind} {number}");
-            assert_eq!(rt; ran.out.bytes.len(), size, "{words}: {kind} {number}");
-            let front = whole.out.bytes.starts_with(&ran.out.bytes);
-            assert!(rt; front, "{words}: {kind} {number}");
-            size = size.wrapping_add(more);
-        }
+    for runs in cases {
+        end_so(&rt, alloc, &files, runs)?;
+    }
+    Ok(())
+}
+
+/// Each row has words, how many bytes the sink takes at a time, how many writes there are and how many bytes each has but the
+/// last; then how the run ends, and the bytes of its output. Each write fails in a run of its own.
+#[test]
+fn failed_writes(rt: HostRuntime) -> Result<(), Fail> {
+    let alloc = rt.alloc();
+    let files = files_and_six(alloc)?;
+    let cases = [
+        ("check h six", 100, 1, 0, Refused, 53),
+        ("check h six", 10, 6, 10, Refused, 53),
+        ("repair h four", 100, 21, 100, Done, 2055),
+        ("build block", 4096, 1, 0, Done, 2055),
+        ("header s", 4096, 1, 0, Done, 727),
+        ("sample s cells", 4096, 4, 703, Done, 2812),
+        ("namespace s name", 4096, 1, 0, Done, 1436),
+        ("verify h one", 4096, 1, 0, Done, 3),
+        (LIGHT, 4096, 1, 0, Done, 10),
+        ("net h one script", 4096, 1, 0, Done, 44),
+        ("show cells", 4096, 1, 0, Done, 112),
+        ("show cells", 28, 4, 28, Done, 112),
+        ("json cells", 4096, 1, 0, Done, 188),
+        ("json cells", 47, 4, 47, Done, 188),
+        ("compact h claim", 4096, 1, 0, Refused, 10),
+        ("verify h one corner", 4096, 1, 0, Done, 3),
+        ("root h", 4096, 1, 0, Done, 65),
+        (OTHER_ROOT, 4096, 1, 0, Refused, 10),
+        ("wanted missing row", 4096, 1, 0, Done, 130),
+        ("blobs s", 4096, 1, 0, Done, 602),
+        ("commit block", 4096, 1, 0, Done, 195),
+        ("prove s cells", 4096, 4, 892, Done, 3568),
+        ("prove s 1 2", 4096, 1, 0, Done, 969),
+        ("follow name h", 4096, 1, 0, Waiting(1), 86),
+        ("help", 4096, 1, 0, Done, 517),
+        ("version", 4096, 1, 0, Done, 9),
+    ];
+    for (words, piece, count, more, ended, taken) in cases {
+        let fails = (words, piece, "write", 0, count, WriteFault, 0, more);
+        end_so(&rt, alloc, &files, fails)?;
+        let behind = count.saturating_add(1);
+        let ends = (words, piece, "write", count, behind, ended, taken, 0);
+        end_so(&rt, alloc, &files, ends)?;
     }
     Ok(())
 }

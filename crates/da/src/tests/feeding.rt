@@ -1,6 +1,6 @@
 //! A session that is fed from a file.
 
-use super::failures::{File, files, inputs};
+use super::failures::{File, add, files, inputs};
 use da_cli::{FILE_LIMIT, FeedFault, feed_all};
 use da_io::{Inputs, MemInputs};
 use da_wire::{Frame, read_only};
@@ -54,6 +54,17 @@ fn are(bytes: &[u8], text: &str) -> bool {
     digits.len() == bytes.len().wrapping_mul(2)
 }
 
+/// A file of these bytes, picked. The call with the number `fail` fails; the pick is call 0.
+fn picked(alloc: Global, content: &[u8], fail: u64) -> Result<MemInputs, Fail> {
+    let mut files = Vec::new(alloc);
+    add(alloc, &mut files, "m", content)?;
+    let mut inputs = inputs(alloc, &files, fail)?;
+    match inputs.pick(String::from_str(alloc, "m")?) {
+        Ok(()) => Ok(inputs),
+        Err(_) => Err(Fail::new("no file")),
+    }
+}
+
 /// What is answered of these samples, and the state of the session then. The call with the number `fail` fails; the pick
 /// is call 0.
 fn answered(
@@ -63,17 +74,7 @@ fn answered(
     limit: u64,
     fail: u64,
 ) -> Result<(Result<u64, FeedFault>, SessionState), Fail> {
-    let name = String::from_str(alloc, "m")?;
-    let content = Vec::from_slice(alloc, messages)?;
-    let file = File {
-        name: name.clone()?,
-        content,
-    };
-    let files = vec![in alloc; file]?;
-    let mut inputs = inputs(alloc, &files, fail)?;
-    if inputs.pick(name).is_err() {
-        return Err(Fail::new("no file"));
-    }
+    let mut inputs = picked(alloc, messages, fail)?;
     let Ok(mut session) = Session::new(alloc, header) else {
         return Err(Fail::new("no memory"));
     };
