@@ -34,7 +34,8 @@ use Rattle.da_commands.specs.Light.{Lights, JudgesOwn}
 use Rattle.da_commands.specs.Namespace.{namespaces_in}
 use Rattle.da_commands.specs.Follow.{wanted_file, answers_file, items_in, Feed}
 use Rattle.da_commands.specs.Verify.{answer_file, answer_kinds, answer_in, IsRefusal, verdict_line, IsOwnReply}
-use Rattle.da_commands.specs.VerifyFor.{is_answer_to, IsRefusalFor}
+use Rattle.da_wire.specs.Answering.{is_answer_to}
+use Rattle.da_commands.specs.VerifyFor.{IsRefusalFor}
 use Rattle.da_commands.specs.Contents.{messages_file}
 use Rattle.da_commands.proofs.Answering.VerifyForLemmas.{asked_holds}
 use Rattle.da_cli.specs.Own.{AreOwn}

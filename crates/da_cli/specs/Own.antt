@@ -25,7 +25,8 @@ use Rattle.da_commands.specs.Light.{LightOf, JudgesOwn}
 use Rattle.da_commands.specs.Namespace.{namespaces_in}
 use Rattle.da_commands.specs.Follow.{wanted_file, answers_file, items_in, Feed}
 use Rattle.da_commands.specs.Verify.{answer_file, answer_in, IsRefusal, verdict_line, IsOwnReply}
-use Rattle.da_commands.specs.VerifyFor.{request_file, request_in, is_answer_to, IsAnswerTo, IsRefusalFor}
+use Rattle.da_wire.specs.Answering.{is_answer_to, IsAnswerTo}
+use Rattle.da_commands.specs.VerifyFor.{request_file, request_in, IsRefusalFor}
 use Rattle.da_commands.specs.Contents.{header_file, messages_file}
 
 -- over the files of `check`, where the header in HEADER is that of a square: a frame of MESSAGES whose line is `ok` is a sample that shows the square's own share, or they name a collision

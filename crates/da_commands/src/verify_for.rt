@@ -1,10 +1,11 @@
 //! verify HEADER ANSWER REQUEST: whether one answer is to a request, and holds under a header.
 
 ghost use Rattle.std.specs.Prelude.{◌≡◌, IfOk};
+ghost use Rattle.da_wire.specs.Answering.{is_answer_to};
 ghost use Rattle.da_commands.specs.declared.command.Command.TheVariants as CommandOf;
 ghost use Rattle.da_commands.specs.Contents.{contents_of};
 ghost use Rattle.da_commands.specs.Frames.{ReadsSingle};
-ghost use Rattle.da_commands.specs.VerifyFor.{request_in, is_of_cell, is_sample, is_for, is_answer_to, IsRefusalFor, VerifiesFor};
+ghost use Rattle.da_commands.specs.VerifyFor.{request_in, IsRefusalFor, VerifiesFor};
 ghost use Rattle.da_commands.specs.Meaning.{Meaning};
 ghost use Rattle.da_status.specs.Outcome.{EndsAtOnce};
 
@@ -12,12 +13,11 @@ use crate::contents::file;
 use crate::forms::header_and_answer;
 use crate::frames::{Unread, reason};
 use crate::verify::{give_line, refusal_of};
-use axis_roots::{Message, is_along};
 use da_io::Sink;
 use da_status::Status;
-use da_wire::{Frame, read_only};
+use da_wire::{Frame, is_answer_to, read_only};
 use data_header::Header;
-use namespace_id::{Axis, Cell, Namespace, NoMemory};
+use namespace_id::NoMemory;
 use std::alloc::Global;
 
 /// The place of the last file among the words that name files.
@@ -30,45 +30,6 @@ pub fn request_in(alloc: Global, bytes: &[u8]) -> Result<Frame, Unread>
     match read_only(alloc, bytes, b"QP") {
         Ok(frame) => Ok(frame),
         Err(error) => Err(reason(error)),
-    }
-}
-
-/// Whether a sample is of a cell, along an axis.
-fn is_of_cell(cell: Cell, axis: Axis, message: &Message) -> bool
-    ensures { result ≡ is_of_cell cell axis message.now }
-{
-    message.cell.row == cell.row && message.cell.col == cell.col && is_along(axis, message)
-}
-
-/// Whether a frame is a sample of a cell along an axis, by itself or in a root proof.
-fn is_sample(cell: Cell, axis: Axis, frame: &Frame) -> bool
-    ensures { result ≡ is_sample cell axis frame.now }
-{
-    match frame {
-        Frame::Message(message) => is_of_cell(cell, axis, message),
-        Frame::Rooted(proof) => is_of_cell(cell, axis, &proof.message),
-        _ => false,
-    }
-}
-
-/// Whether a frame is a namespace answer for a namespace.
-fn is_for(name: &Namespace, frame: &Frame) -> bool
-    ensures { result ≡ is_for name.now frame.now }
-{
-    match frame {
-        Frame::Names(other, _) => other.0 == name.0,
-        _ => false,
-    }
-}
-
-/// Whether to a request a frame is the answer, before any proof is looked at.
-fn is_answer_to(request: &Frame, answer: &Frame) -> bool
-    ensures { result ≡ is_answer_to request.now answer.now }
-{
-    match request {
-        Frame::Sample(cell, axis) => is_sample(*cell, *axis, answer),
-        Frame::Request(name) => is_for(name, answer),
-        _ => false,
     }
 }
 

@@ -14,4 +14,5 @@ pub mod StreamLemmas
 pub mod PushLemmas
 pub mod CuttingLemmas
 pub mod AcceptedClaims
+pub mod AnsweringLemmas
 pub mod Examples

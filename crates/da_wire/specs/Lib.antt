@@ -10,3 +10,4 @@ pub mod Values
 pub mod Single
 pub mod StreamParts
 pub mod Streams
+pub mod Answering

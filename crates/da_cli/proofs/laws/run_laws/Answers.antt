@@ -17,7 +17,8 @@ use Rattle.da_commands.proofs.Answering.RepairLemmas.{repairs_own}
 use Rattle.da_cli.proofs.CountedLies.{lies_counted}
 use Rattle.da_commands.proofs.Answering.LightLemmas.{lights_own}
 use Rattle.da_commands.proofs.Answering.VerifyLemmas.{verified_proved, verified_complete, verified_accepted, verified_committed, verified_rooted, verified_own}
-use Rattle.da_commands.proofs.Answering.VerifyForLemmas.{asked_holds, asked_other, answers_to}
+use Rattle.da_wire.proofs.AnsweringLemmas.{answers_to}
+use Rattle.da_commands.proofs.Answering.VerifyForLemmas.{asked_holds, asked_other}
 use Rattle.da_commands.proofs.Answering.RootLemmas.{tied}
 use Rattle.da_cli.proofs.laws.run_laws.Goals as goal
 
