@@ -32,9 +32,9 @@ fn spare(alloc: Global, k: u16) -> Result<Option<ClaimRoom>, NoMemory>
 fn full_seat<F: Picker>(alloc: Global, header: &Header) -> Result<Seat<F>, NoMemory>
     ensures { IfOk result (IsFreshSeat F.picks header.now full) }
 {
-    let session = Session::new(alloc, header)?;
     let kept = spare(alloc, header.k)?;
     let published = spare(alloc, header.k)?;
+    let session = Session::new(alloc, header)?;
     let node = Node::Full(FullNode {
         session: Some(session),
         end: None,

@@ -131,13 +131,13 @@ impl Session {
         ensures stands { IfOk result (λ s. StandsFor s []) }
         ensures open { IfOk result (λ s. state_of s ≡ state.Open) }
     {
+        let k = width(header);
+        let shares = Vec::with_capacity(alloc, k as usize * k as usize)?;
+        let room = CellRoom::new(alloc, k)?;
         let header = header.copy(alloc)?;
-        let k = width(&header);
         let trees = PartialTrees::new(alloc, &header)?;
         let board = Board::new(alloc, k)?;
         let tools = Tools::new(alloc, k)?;
-        let shares = Vec::with_capacity(alloc, k as usize * k as usize)?;
-        let room = CellRoom::new(alloc, k)?;
         Ok(Session {
             header,
             trees,

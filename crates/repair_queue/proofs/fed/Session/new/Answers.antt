@@ -1,5 +1,6 @@
-use Rattle.std.proofs.Common.{rules, ◌∙◌, ℕ, ◌*◌, ◌<◌, ◌≤◌, [], sym, subst, arith}
+use Rattle.std.proofs.Common.{rules, ◌≡◌, ◌∙◌, ℕ, ◌*◌, ◌<◌, ◌≤◌, [], sym, ap, subst, arith}
 use Rattle.std.specs.Prelude.{None, vec_capacity}
+use Rattle.data_header.specs.Headers.{Roots}
 use Rattle.namespace_id.proofs.WidthLemmas.{is_width-pos}
 use Rattle.repair_queue.specs.Boards.{given_of, decided_of, share_of}
 use Rattle.repair_queue.specs.Tools.{AreTools}
@@ -10,18 +11,20 @@ use Rattle.repair_queue.proofs.fed.Session.new.Goals as goal
 
 -- nothing is known of any cell
 pub invariant_of-result : goal.invariant_of-result
-invariant_of-result c = record {
-  partial = c.in_ok-trees.ensures;
-  open_board = (
-    c.in_ok-board.ensures.good c.in_ok-header.header (sym c.width-k.ensures.value),
-    subst (λ (k : ℕ). AreTools k c.in_ok-tools.tools) c.width-k.ensures.value c.in_ok-tools.ensures,
-    nothing_rests c.in_ok-header.header.k (given_of c.in_ok-board.board) (decided_of c.in_ok-board.board)
-        (subst (λ (k : ℕ). 0 < k) c.width-k.ensures.value (is_width-pos c.width-k.result c.width-k.ensures.width)) c.in_ok-board.ensures.empty c.in_ok-board.ensures.undecided,
-  );
-  empty = search rules;
-  space = subst (λ (k : ℕ). k * k ≤ vec_capacity c.in_ok-shares.shares) c.width-k.ensures.value (omega (arith, c.in_ok-shares.ensures.capacity));
-  cells = c.in_ok-room.ensures.k ∙ c.width-k.ensures.value;
-}
+invariant_of-result c =
+    let width : c.width-k.result ≡ c.in_ok-header.header.k =
+    c.width-k.ensures.value ∙ ap (λ (h : Roots). h.k) (sym c.in_ok-header.ensures) in record {
+      partial = c.in_ok-trees.ensures;
+      open_board = (
+        c.in_ok-board.ensures.good c.in_ok-header.header (sym width),
+        subst (λ (k : ℕ). AreTools k c.in_ok-tools.tools) width c.in_ok-tools.ensures,
+        nothing_rests c.in_ok-header.header.k (given_of c.in_ok-board.board) (decided_of c.in_ok-board.board)
+            (subst (λ (k : ℕ). 0 < k) width (is_width-pos c.width-k.result c.width-k.ensures.width)) c.in_ok-board.ensures.empty c.in_ok-board.ensures.undecided,
+      );
+      empty = search rules;
+      space = subst (λ (k : ℕ). k * k ≤ vec_capacity c.in_ok-shares.shares) width (omega (arith, c.in_ok-shares.ensures.capacity));
+      cells = c.in_ok-room.ensures.k ∙ width;
+    }
 
 -- so it stands for no sample
 pub returns-clause-stands : goal.returns-clause-stands

@@ -1,16 +1,16 @@
-use Rattle.std.proofs.Common.{rules, refl, arith}
+use Rattle.std.proofs.Common.{refl}
 use Rattle.repair_queue.proofs.tools.Tools.new.Goals as goal
 
--- each buffer has its length
+-- each buffer is the one that was made
 pub returns : goal.returns
 returns c = record {
-  buffers = search rules;
-  code = search rules;
-  known = omega (arith, c.in_ok-known.ensures.capacity);
-  given = omega (arith, c.in_ok-given.ensures.capacity);
-  names = search rules;
-  digests = search rules;
-  folded = search rules;
-  across = search rules;
-  spare = (c.in_ok-spare.spare, refl, search rules);
+  buffers = c.in_ok-buffers.ensures;
+  code = c.in_ok-code.ensures;
+  known = c.in_ok-known.ensures.known;
+  given = c.in_ok-known.ensures.given;
+  names = c.in_ok-names.ensures.names;
+  digests = c.in_ok-names.ensures.digests;
+  folded = c.in_ok-names.ensures.folded;
+  across = c.in_ok-names.ensures.across;
+  spare = (c.in_ok-known.spare, refl, c.in_ok-known.ensures.spare);
 }
