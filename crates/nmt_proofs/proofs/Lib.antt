@@ -3,3 +3,4 @@ pub mod Agreement
 pub mod Neighbors
 pub mod Sets
 pub mod PartialLemmas
+pub mod WriteLemmas

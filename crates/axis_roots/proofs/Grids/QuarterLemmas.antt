@@ -1,10 +1,10 @@
 -- Quarters of extended squares, and the leaves over the rows of an extension.
-use Rattle.std.proofs.Common.{◌≡◌, ◌≢◌, ◌⊎◌, ◌∙◌, ℕ, ◌+◌, ◌-◌, ◌*◌, ◌/◌, ◌%◌, ◌<◌, ◌≤◌, List, ◌++◌, length, get_or, set, drop, cond, Bool, true, false, sym, ap, subst, inl, inr, arith, below_more, true≢false, IsTrue}
+use Rattle.std.proofs.Common.{◌≡◌, ◌≢◌, ◌⊎◌, ◌∙◌, ℕ, ◌+◌, ◌-◌, ◌*◌, ◌/◌, ◌%◌, ◌<◌, ◌≤◌, List, ◌++◌, length, get_or, set, take, drop, cond, Bool, true, false, sym, ap, ap₂, subst, inl, inr, arith, below_more, true≢false, IsTrue, length-drop}
 use Rattle.std.specs.Prelude.{nat_lt, Option, Some, None, IfSome, IsNone}
 use Rattle.std.proofs.lemmas.Nat.{div-add-mod'}
 use Rattle.std.proofs.lemmas.Bool.{cases_lt}
 use Rattle.std.proofs.lemmas.Bool.Decides.{nat_tests}
-use Rattle.std.proofs.lemmas.List.{get_or-take, get_or-drop, get_or_append_left, get_or-append-add, get_or-set_same, get_or-set_other, ext_get_or}
+use Rattle.std.proofs.lemmas.List.{get_or-take, get_or-drop, get_or_append_left, get_or-append-add, get_or-set_same, get_or-set_other, ext_get_or, length-take-le}
 use Rattle.namespace_id.specs.declared.cells.Cell.{Cell}
 use Rattle.namespace_id.specs.declared.cells.Axis.TheVariants.{Row, Col}
 use Rattle.namespace_id.specs.declared.namespaces.Namespace.{Namespace}
@@ -44,6 +44,18 @@ is_quarter_column k quarter line col long each =
     ext_get_or blank line (quarter_column k quarter col) (long ∙ sym (length-quarter_column k quarter col)) (λ row h.
     let within : row < k = omega arith in
     each row within ∙ sym (get_or-quarter_column k quarter col row within))
+
+-- one more share of a column that is read
+pub column_next : (k : ℕ) (square line : List Share) (col row : ℕ) (share : Share) → row < length line
+    → share ≡ share_at k square (cell_in row col)
+    → ((r : ℕ) → r < row → get_or line r blank ≡ share_at k square (cell_in r col))
+    → (r : ℕ) → r < row + 1 → get_or (set line row share) r blank ≡ share_at k square (cell_in r col)
+column_next k square line col row share within is before =
+    below_more _ _
+    (λ r h.
+    let apart : r ≢ row = λ (e : r ≡ row). absurd (omega arith) in
+    get_or-set_other line row r share blank apart ∙ before r h)
+    (get_or-set_same line row share blank within ∙ is)
 
 -- another column is as it was, where the cells of other columns are
 pub same_column : (k : ℕ) (old new : List Share) (col other : ℕ) → other < k → other ≢ col
@@ -110,6 +122,37 @@ left_share k square quarter grid width lower extended row pos hr hp = elim (case
       ∙ lower_share k square quarter grid width lower extended (row - k) pos (omega arith) hp
       ∙ ap (λ (r : ℕ). share_at (2 * k) grid (cell_in r pos)) whole
 ]
+
+-- the shares of a row, cut out of a list of m rows
+pub row_cut : (m row : ℕ) (shares : List Share)
+    → take ((row + 1) * m - row * m) (drop (row * m) shares) ≡ quarter_row m shares row
+row_cut m row shares =
+    let span : (row + 1) * m - row * m ≡ m = omega arith in
+    ap (λ (n : ℕ). take n (drop (row * m) shares)) span
+
+-- they are m
+pub length-quarter_row : (m row : ℕ) (shares : List Share) → row < m → length shares ≡ m * m
+    → length (quarter_row m shares row) ≡ m
+length-quarter_row m row shares h count =
+    length-take-le m (drop (row * m) shares) (omega (arith, length-drop (row * m) shares, row_before row m m h))
+
+-- the left half of a row above the quarter is a row of the square
+pub upper_half : (k m row : ℕ) (square quarter shares : List Share) → m ≡ k → shares ≡ square → row < m
+    → quarter_row m shares row ≡ left_half k square quarter row
+upper_half k m row square quarter shares wide is h =
+    let below : row < k = omega arith in
+    let test : nat_lt row k ≡ true = grind (arith, nat_tests) in
+    ap₂ (λ (n : ℕ) (l : List Share). quarter_row n l row) wide is
+    ∙ sym (ap (λ (b : Bool). cond b (quarter_row k square row) (quarter_row k quarter (row - k))) test)
+
+-- and further down one of the quarter
+pub lower_half : (k m row : ℕ) (square quarter : List Share) → m ≡ k → m ≤ row
+    → quarter_row m quarter (row - m) ≡ left_half k square quarter row
+lower_half k m row square quarter wide h =
+    let above : k ≤ row = omega arith in
+    let test : nat_lt row k ≡ false = grind (arith, nat_tests) in
+    ap (λ (n : ℕ). quarter_row n quarter (row - n)) wide
+    ∙ sym (ap (λ (b : Bool). cond b (quarter_row k square row) (quarter_row k quarter (row - k))) test)
 
 -- a row of the extension is its left half, followed by the recovery shares of that
 row_word : (k : ℕ) (square quarter grid left right : List Share) (row : ℕ) → IsTrue (is_width k) → IsLowerLeft k square quarter → Extends k square grid → row < 2 * k

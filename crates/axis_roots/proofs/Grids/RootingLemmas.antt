@@ -1,8 +1,8 @@
 -- Roots of axes, from the digests of the leaves over all cells.
-use Rattle.std.proofs.Common.{◌≡◌, ◌∙◌, ℕ, ◌+◌, ◌-◌, ◌*◌, ◌^◌, ◌<◌, ◌≤◌, List, length, get_or, set, map, Bool, true, false, cond, refl, sym, ap, ap₂, subst, arith, below_more, IsTrue}
+use Rattle.std.proofs.Common.{◌≡◌, ◌∙◌, ℕ, ◌+◌, ◌-◌, ◌*◌, ◌^◌, ◌<◌, ◌≤◌, List, length, get_or, set, map, Bool, true, false, cond, refl, sym, ap, ap₂, subst, inl, inr, arith, below_more, IsTrue}
 use Rattle.std.specs.Prelude.{Some, None}
 use Rattle.std.specs.List.{list_all}
-use Rattle.std.proofs.lemmas.Bool.{false_from_ne_true}
+use Rattle.std.proofs.lemmas.Bool.{cases_eq, false_from_ne_true}
 use Rattle.std.proofs.lemmas.List.{get_or-map, length-map, get_or-set_same, get_or-set_other, ext_get_or}
 use Rattle.namespace_id.specs.declared.cells.Cell.{Cell}
 use Rattle.namespace_id.specs.declared.cells.Axis.{Axis}
@@ -12,7 +12,7 @@ use Rattle.namespace_id.specs.declared.digests.Digest.{Digest}
 use Rattle.namespace_id.specs.Shares.{AreShares}
 use Rattle.namespace_id.specs.Names.{is_at_most, parity}
 use Rattle.namespace_id.specs.Digests.{least_of, no_digest}
-use Rattle.namespace_id.specs.Cells.{is_width, leaf_namespace}
+use Rattle.namespace_id.specs.Cells.{is_width, is_in_square, leaf_namespace}
 use Rattle.namespace_id.proofs.ShareLemmas.{name_of-is}
 use Rattle.nmt_tree.specs.Roots.{halvings, is_ordered, strict_root}
 use Rattle.nmt_tree.specs.Levels.{span}
@@ -25,6 +25,7 @@ use Rattle.namespace_id.proofs.PowerLemmas.{double_power}
 use Rattle.axis_roots.specs.Lines.{cell_on, line_root, line_strict_root}
 use Rattle.axis_roots.specs.Grids.{share_at, axis_cells, axis_names, axis_shares, axis_root, axis_roots, leaf_over, AreLeafDigests, is_ordered_axis}
 use Rattle.axis_roots.specs.Trees.{axis_leaves}
+use Rattle.axis_roots.proofs.Grids.NumberLemmas.{inside, cell_of, cell_of-number}
 use Rattle.axis_roots.proofs.Grids.AxisLemmas.{get_or-mapped, length-along, get_or-along, is_along}
 use Rattle.axis_roots.proofs.Grids.WordLemmas.{share_anywhere}
 use Rattle.axis_roots.proofs.Grids.LineLemmas.{length-line_names, axis_names-cells, axis_leaves-cells}
@@ -44,6 +45,24 @@ read_next k shares leaves line axis i pos place cell are hi hp long on at before
     (get_or-set_same line pos (get_or leaves place no_digest) no_digest (omega arith)
     ∙ ap (λ (n : ℕ). get_or leaves n no_digest) (at ∙ ap (λ (c : Cell). c.row * (2 * k) + c.col) on)
     ∙ are.digests (cell_on axis i pos) (on_axis_in_square k axis i pos hi hp))
+
+-- one more leaf of the table of all
+pub fill_next : (k m : ℕ) (shares : List Share) (leaves : List Digest) (number : ℕ) (made : Digest) → m ≡ k
+    → number < length leaves → made ≡ leaf_over k shares (cell_of (2 * m) number)
+    → ((cell : Cell) → IsTrue (is_in_square k cell) → cell.row * (2 * k) + cell.col < number
+    → get_or leaves (cell.row * (2 * k) + cell.col) no_digest ≡ leaf_over k shares cell)
+    → (cell : Cell) → IsTrue (is_in_square k cell) → cell.row * (2 * k) + cell.col < number + 1
+    → get_or (set leaves number made) (cell.row * (2 * k) + cell.col) no_digest ≡ leaf_over k shares cell
+fill_next k m shares leaves number made wide within is before cell in_it h =
+    elim (cases_eq (cell.row * (2 * k) + cell.col) number) [
+      | inl last ↦
+          ap (λ (n : ℕ). get_or (set leaves number made) n no_digest) last
+          ∙ get_or-set_same leaves number made no_digest within ∙ is
+          ∙ ap₂ (λ (n x : ℕ). leaf_over k shares (cell_of (2 * n) x)) wide (sym last)
+          ∙ ap (leaf_over k shares) (cell_of-number (2 * k) cell (inside k cell in_it).1)
+      | inr apart ↦
+          get_or-set_other leaves number (cell.row * (2 * k) + cell.col) made no_digest apart ∙ before cell in_it (omega arith)
+    ]
 
 -- the digests that were read along an axis are its leaves, where the width that was told is the grid's
 pub read_at : (k m : ℕ) (shares : List Share) (leaves line : List Digest) (axis : Axis) (i : ℕ) → m ≡ k → AreLeafDigests k shares leaves

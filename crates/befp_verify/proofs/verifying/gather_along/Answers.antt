@@ -1,3 +1,4 @@
+use Rattle.std.proofs.lemmas.List.{take_all}
 use Rattle.std.proofs.Common.{◌≡◌, ◌∙◌, ◌+◌, ◌<◌, ℕ, List, [], ◌∷◌, ◌++◌, refl, sym, ap, ap₂, arith, length, length-append, map, take}
 use Rattle.namespace_id.specs.declared.cells.Axis.{Axis}
 use Rattle.namespace_id.specs.declared.namespaces.Namespace.{Namespace}
@@ -66,3 +67,27 @@ loop-at-preserved c =
             copies = ap₂ (λ (x : ℕ) (y : List Share). take x y) w.count-is w.shares-is ∙ c.loop-at.invariant.copies ∙ sym (ap (map (λ x. x.share)) same);
           }
     ]
+
+-- behind the last cell, those so far are all
+pub returns-clause-count : goal.returns-clause-count
+returns-clause-count c =
+    c.loop-at.invariant.number
+    ∙ ap (λ (ms : List Message). length (along_in c.args.axis ms)) (take_all c.loop-at.at c.args.cells.now (omega arith))
+
+pub returns-clause-known : goal.returns-clause-known
+returns-clause-known c =
+    c.loop-at.invariant.positions
+    ∙ ap (λ (ms : List Message). map (λ m. position c.args.axis m.cell) (along_in c.args.axis ms))
+    (take_all c.loop-at.at c.args.cells.now (omega arith))
+
+pub returns-clause-names : goal.returns-clause-names
+returns-clause-names c =
+    c.loop-at.invariant.leaf_names
+    ∙ ap (λ (ms : List Message). names_in c.args.k (along_in c.args.axis ms))
+    (take_all c.loop-at.at c.args.cells.now (omega arith))
+
+pub returns-clause-shares : goal.returns-clause-shares
+returns-clause-shares c =
+    c.loop-at.invariant.copies
+    ∙ ap (λ (ms : List Message). map (λ m. m.share) (along_in c.args.axis ms))
+    (take_all c.loop-at.at c.args.cells.now (omega arith))

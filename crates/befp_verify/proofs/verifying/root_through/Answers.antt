@@ -1,4 +1,4 @@
-use Rattle.std.proofs.Common.{◌≡◌, ◌∙◌, ℕ, List, map, IsTrue, sym, ap, ap₂, subst, arith}
+use Rattle.std.proofs.Common.{◌≡◌, ◌∙◌, ℕ, List, map, IsTrue, sym, ap, ap₂, subst}
 use Rattle.namespace_id.specs.declared.shares.Share.{Share}
 use Rattle.namespace_id.proofs.StringLemmas.{front}
 use Rattle.leopard_code.specs.Codewords.{are_positions}
@@ -15,7 +15,8 @@ use Rattle.befp_verify.proofs.verifying.root_through.Goals as goal
 pub rebuild-requires-clause-positions : goal.rebuild-requires-clause-positions
 rebuild-requires-clause-positions c =
     let known : c.deref-2.result.now ≡ positions_of c.args.claim.now =
-    c.deref-2.ensures.value ∙ front c.gather.new.known _ _ (omega arith) ∙ c.gather.ensures.known
+    c.deref-2.ensures.value ∙ front c.gather.new.known _ _ (c.gather.auto.known ∙ c.deref_mut.ensures.len)
+    ∙ c.gather.ensures.known
     ∙ ap (λ (ms : List Message). map (λ m. position c.claim.inside.axis m.cell) ms) c.deref.ensures.value
     ∙ ap positions_of c.claim.view_is in
     let width : c.room.inside.code ≡ c.args.room.now = c.room.invariant.coded ∙ c.room.view_is in
@@ -30,11 +31,13 @@ returns-clause-root c =
     subst (λ (p : ClaimParts). IsRootThrough c.args.room.now p c.line_strict_root.result) c.claim.view_is
     (line_through c.args.room.now c.room.inside.code parts c.deref-2.result.now c.deref-3.result.now c.rebuild.new.all c.line_strict_root.result
     (c.room.invariant.coded ∙ c.room.view_is)
-    (c.deref-2.ensures.value ∙ front c.gather.new.known _ _ (omega arith) ∙ c.gather.ensures.known
+    (c.deref-2.ensures.value ∙ front c.gather.new.known _ _ (c.gather.auto.known ∙ c.deref_mut.ensures.len)
+    ∙ c.gather.ensures.known
     ∙ ap (λ (ms : List Message). map (λ m. position c.claim.inside.axis m.cell) ms) c.deref.ensures.value)
-    (c.deref-3.ensures.value ∙ front c.gather.new.shares _ _ (omega arith) ∙ c.gather.ensures.shares
+    (c.deref-3.ensures.value ∙ front c.gather.new.shares _ _ (c.gather.auto.shares ∙ c.deref_mut-2.ensures.len)
+    ∙ c.gather.ensures.shares
     ∙ ap (λ (ms : List Message). map (λ m. m.share) ms) c.deref.ensures.value)
     c.rebuild.ensures.codeword c.rebuild.ensures.known
     (c.line_strict_root.ensures
     ∙ ap₂ (λ (k : ℕ) (line : List Share). line_strict_root k c.claim.inside.axis c.claim.inside.index line) c.room.view_is
-    (c.deref-4.ensures.value ∙ front c.rebuild.new.all _ _ (omega arith))))
+    (c.deref-4.ensures.value ∙ front c.rebuild.new.all _ _ (c.rebuild.auto.all ∙ c.deref_mut-3.ensures.len))))

@@ -1,7 +1,26 @@
-use Rattle.std.proofs.Common.{◌∙◌, ℕ, ◌*◌, sym, ap, true, false}
+use Rattle.std.proofs.Common.{◌∙◌, ℕ, ◌*◌, sym, ap, subst, true, false, IsTrue}
+use Rattle.namespace_id.specs.Cells.{is_width}
 use Rattle.axis_roots.proofs.Grids.RootingLemmas.{read_at, ordered-leaves}
 use Rattle.axis_roots.proofs.Grids.StoredLemmas.{line_joins, stored_there, stored_missing}
 use Rattle.axis_roots.proofs.square.trees.tree_along.Goals as goal
+
+-- the width that was told is the grid's
+pub read_leaves-requires-clause-width : goal.read_leaves-requires-clause-width
+read_leaves-requires-clause-width c =
+    subst (λ (k : ℕ). IsTrue (is_width k)) (sym c.width-k.ensures.value) c.width-k.ensures.grid.width
+
+pub read_leaves-requires-clause-leaves : goal.read_leaves-requires-clause-leaves
+read_leaves-requires-clause-leaves c =
+    c.requires.leaves.count ∙ ap (λ (k : ℕ). 2 * k * (2 * k)) (sym c.width-k.ensures.value)
+
+pub read_leaves-requires-clause-line : goal.read_leaves-requires-clause-line
+read_leaves-requires-clause-line c = c.requires.line ∙ ap (λ (k : ℕ). 2 * k) (sym c.width-k.ensures.value)
+
+-- so the tree has as many leaves as the line
+pub put-requires-clause-number : goal.put-requires-clause-number
+put-requires-clause-number c =
+    c.read_leaves.auto.line ∙ c.requires.line
+    ∙ sym (c.in_ok-tree.ensures.count ∙ ap (λ (k : ℕ). 2 * k) c.width-k.ensures.value)
 
 pub returns-then-not-are_ordered : goal.returns-then-not-are_ordered
 returns-then-not-are_ordered c =

@@ -1,4 +1,4 @@
-use Rattle.std.proofs.Common.{◌∙◌, ◌++◌, ◌∷◌, [], sym, subst, true≢false}
+use Rattle.std.proofs.Common.{◌∙◌, ◌++◌, ◌∷◌, [], refl, sym, subst, true≢false}
 use Rattle.axis_roots.specs.declared.message.messages.Message.{Message}
 use Rattle.da_net.specs.declared.full.Fed.TheVariants.{On, Ended}
 use Rattle.da_net.specs.Networks.{messages_of}
@@ -12,6 +12,16 @@ feed-requires-clause-fed c =
     let items = c.requires.node.0 in
     let both = session_of c.args.header.now items c.args.self.now c.in-Some.session (sym c.is_some.ensures ∙ c.if-is_some.false) (sym c.in-Some.ensures.value) c.requires.node.1 in
     (messages_of items, both.0.stands)
+
+-- and is the header's
+pub feed-requires-clause-header : goal.feed-requires-clause-header
+feed-requires-clause-header c =
+    (session_of c.args.header.now c.requires.node.0 c.args.self.now c.in-Some.session (sym c.is_some.ensures ∙ c.if-is_some.false)
+    (sym c.in-Some.ensures.value) c.requires.node.1).0.header_is
+
+-- an open node has a room
+pub feed-requires-clause-room : goal.feed-requires-clause-room
+feed-requires-clause-room c = c.requires.room (none_rejects c.args.self.now.end (sym c.is_some.ensures ∙ c.if-is_some.false))
 
 -- it ended before
 pub returns-then-is_some-clause-stands : goal.returns-then-is_some-clause-stands
@@ -55,3 +65,15 @@ returns-in-Ended-clause-room c =
     (λ fed stands. subst (λ (m : Message). IsFed c.args.header.now (fed ++ m ∷ []) c.args.room.now c.feed.new.room (Ended c.in-Ended.end)) c.in-Ok.ensures.message
     (c.in-Ended.ensures.fed fed stands))
     (c.requires.room (none_rejects c.args.self.now.end (sym c.is_some.ensures ∙ c.if-is_some.false)))
+
+-- an open session ends nothing
+pub returns-in-On-clause-keeps : goal.returns-in-On-clause-keeps
+returns-in-On-clause-keeps c = λ rejects. refl
+
+pub returns-in-On-clause-clashes : goal.returns-in-On-clause-clashes
+returns-in-On-clause-clashes c = λ clashes. refl
+
+-- nothing had ended it before
+pub returns-in-Ended-clause-keeps : goal.returns-in-Ended-clause-keeps
+returns-in-Ended-clause-keeps c = λ rejects.
+    absurd (none_rejects c.args.self.now.end (sym c.is_some.ensures ∙ c.if-is_some.false) rejects)

@@ -26,7 +26,28 @@ returns-then-len-node-clause-refusal g c =
     (subst (λ (n : NetParts). length n.nodes ≤ c.args.node) c.self.view_is
     (omega (arith, c.if-len-node.true, c.len-2.ensures, seats.ok.0, length-map seats.items (λ (s : Seat _). kind_of s.node))))
 
--- both are
+-- else it is
+pub hand-requires-clause-item : goal.hand-requires-clause-item
+hand-requires-clause-item g c =
+    let pool = c.self.inside.pool in
+    subst (λ (n : NetParts). c.args.item < length n.pool) c.self.view_is
+    (omega (arith, c.if-len-item.false, c.len.ensures, pool.ok.0, length-map pool.items (λ (e : Entry). e.item)))
+
+-- and so is the node
+pub hand-requires-clause-node : goal.hand-requires-clause-node
+hand-requires-clause-node g c =
+    let seats = c.self.inside.seats in
+    subst (λ (n : NetParts). c.args.node < length n.nodes) c.self.view_is
+    (omega (arith, c.if-len-node.false, c.len-2.ensures, seats.ok.0, length-map seats.items (λ (s : Seat _). kind_of s.node)))
+
+-- where both are, handing does it
+pub returns-clause-kept : goal.returns-clause-kept
+returns-clause-kept g c = c.hand.ensures.kept
+
+pub returns-clause-happened : goal.returns-clause-happened
+returns-clause-happened g c = c.hand.ensures.handed
+
+-- and nothing refuses it
 pub returns-clause-refusal : goal.returns-clause-refusal
 returns-clause-refusal g c =
     let pool = c.self.inside.pool in

@@ -14,6 +14,19 @@ returns-then-len-by-clause-refusal g c =
     (subst (λ (n : NetParts). length n.nodes ≤ c.args.by) c.self.view_is
     (omega (arith, c.if-len-by.true, c.len.ensures, seats.ok.0, length-map seats.items (λ (s : Seat _). kind_of s.node))))
 
+-- else it is there
+pub is_rejecting-requires : goal.is_rejecting-requires
+is_rejecting-requires g c =
+    let seats = c.self.inside.seats in
+    subst (λ (n : NetParts). c.args.by < length n.nodes) c.self.view_is
+    (omega (arith, c.if-len-by.false, c.len.ensures, seats.ok.0, length-map seats.items (λ (s : Seat _). kind_of s.node)))
+
+pub has_published-requires : goal.has_published-requires
+has_published-requires g c =
+    let seats = c.self.inside.seats in
+    subst (λ (n : NetParts). c.args.by < length n.nodes) c.self.view_is
+    (omega (arith, c.if-len-by.false, c.len.ensures, seats.ok.0, length-map seats.items (λ (s : Seat _). kind_of s.node)))
+
 -- it doesn't reject
 pub returns-then-not-is_rejecting-clause-refusal : goal.returns-then-not-is_rejecting-clause-refusal
 returns-then-not-is_rejecting-clause-refusal g c =
@@ -32,6 +45,25 @@ returns-then-has_published-clause-refusal g c =
     (omega (arith, c.if-len-by.false, c.len.ensures, seats.ok.0, length-map seats.items (λ (s : Seat _). kind_of s.node))))
     (sym c.is_rejecting.ensures ∙ c.if-not-is_rejecting.false)
     (sym c.has_published.ensures ∙ c.if-has_published.true)
+
+-- else nothing keeps it from publishing
+pub publish-requires-clause-node : goal.publish-requires-clause-node
+publish-requires-clause-node g c =
+    let seats = c.self.inside.seats in
+    subst (λ (n : NetParts). c.args.by < length n.nodes) c.self.view_is
+    (omega (arith, c.if-len-by.false, c.len.ensures, seats.ok.0, length-map seats.items (λ (s : Seat _). kind_of s.node)))
+
+pub publish-requires-clause-room : goal.publish-requires-clause-room
+publish-requires-clause-room g c = c.requires.room
+
+pub publish-requires-clause-first : goal.publish-requires-clause-first
+publish-requires-clause-first g c = sym c.has_published.ensures ∙ c.if-has_published.false
+
+pub returns-clause-kept : goal.returns-clause-kept
+returns-clause-kept g c = c.publish.ensures.kept
+
+pub returns-clause-happened : goal.returns-clause-happened
+returns-clause-happened g c = c.publish.ensures.published
 
 -- it publishes it now
 pub returns-clause-refusal : goal.returns-clause-refusal
