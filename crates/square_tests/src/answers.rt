@@ -34,23 +34,27 @@ fn answers_for_one_row(rt: HostRuntime) {
     let outside = answer(&rt, rt.alloc(), absence(1));
     let held = Namespace([7; 29]);
     let other = Namespace([8; 29]);
-    let cases = [
-        ("parity", PARITY, &empty, Err(NsRefusal::Parity)),
-        ("no entry", held, &empty, Err(NsRefusal::Rows(0))),
-        ("column 1", held, &outside, Err(NsRefusal::Rows(0))),
-        ("row not wanted", other, &inside, Err(NsRefusal::Rows(0))),
-        (
-            "no nodes",
-            held,
-            &inside,
-            Err(NsRefusal::Proof(0, OpenRefusal::NodeCount)),
-        ),
-        ("no row wanted", other, &empty, Ok(())),
-    ];
-    for (name, namespace, answer, want) in cases {
-        let got = check_namespace(&header, &namespace, answer);
-        assert!(rt; got == want, "{name}");
-    }
+    let rows = Err(NsRefusal::Rows(0));
+    let nodes = Err(NsRefusal::Proof(0, OpenRefusal::NodeCount));
+    let got = check_namespace(&header, &PARITY, &empty);
+    assert!(rt; got == Err(NsRefusal::Parity), "parity");
+    assert!(rt; check_namespace(&header, &held, &empty) == rows, "no entry");
+    assert!(rt;
+        check_namespace(&header, &held, &outside) == rows,
+        "column 1"
+    );
+    assert!(rt;
+        check_namespace(&header, &other, &inside) == rows,
+        "row not wanted"
+    );
+    assert!(rt;
+        check_namespace(&header, &held, &inside) == nodes,
+        "no nodes"
+    );
+    assert!(rt;
+        check_namespace(&header, &other, &empty) == Ok(()),
+        "no row wanted"
+    );
 }
 
 /// The square of these namespaces, held.

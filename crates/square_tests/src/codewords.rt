@@ -1,5 +1,7 @@
 //! Codewords of shares. Expected bytes: by tools/values.py.
 
+ghost use Rattle.std.specs.Prelude.{◌<◌};
+
 use crate::inputs::share;
 use leopard_code::{Room, are_positions, extend, rebuild};
 use namespace_id::{SHARE_SIZE, Share, is_width};
@@ -76,14 +78,29 @@ fn each_four_of_eight(rt: HostRuntime) {
     }
 }
 
-#[test]
-fn greatest_width(rt: HostRuntime) {
+/// The original share of this number.
+fn original(i: usize) -> Share
+    requires { i < 128 }
+{
+    let mut bytes = [0; SHARE_SIZE];
+    for b in 0..SHARE_SIZE {
+        bytes[b] = ((i * b + 7 * i + b) % 256) as u8;
+    }
+    Share(bytes)
+}
+
+/// 128 originals.
+fn originals() -> [Share; 128] {
     let mut originals = [share(0); 128];
     for i in 0..128 {
-        for b in 0..SHARE_SIZE {
-            originals[i].0[b] = ((i * b + 7 * i + b) % 256) as u8;
-        }
+        originals[i] = original(i);
     }
+    originals
+}
+
+#[test]
+fn greatest_width(rt: HostRuntime) {
+    let originals = originals();
     let mut recovery = [share(0); 128];
     extended(&rt, rt.alloc(), &originals, &mut recovery);
     let mut known = [0; 128];

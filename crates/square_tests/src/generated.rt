@@ -33,22 +33,30 @@ fn are_blobs(blobs: &[Blob], want: &[Shape]) -> bool {
     blobs.len() == want.len()
 }
 
-/// The blocks by tools/values.py, whose block function gives the vector of RFC 8439, 2.3.2.
+/// The unit of the blocks, by tools/values.py, whose block function gives the vector of RFC 8439, 2.3.2. So
+/// are the other shapes here.
+const UNIT: Shape = Shape(322, [0x65, 0x42, 0x98, 0x44], [0x3b, 0x32]);
+
+/// Their first blob.
+const FIRST: Shape = Shape(390, [0x8f, 0xc3, 0xab, 0x5f], [0xe0, 0x7b]);
+
 #[test]
-fn blocks(rt: HostRuntime) {
-    let unit = Shape(322, [0x65, 0x42, 0x98, 0x44], [0x3b, 0x32]);
+fn block_of_width_2(rt: HostRuntime) {
     let pay_unit = Shape(338, [0x91, 0x67, 0xe8, 0xcb], [0x1c, 0x4f]);
-    let one = Shape(390, [0x8f, 0xc3, 0xab, 0x5f], [0xe0, 0x7b]);
-    let other = Shape(754, [0xd6, 0x9a, 0xfa, 0x11], [0x8e, 0x98]);
     let two = block(rt.alloc(), 7, 2).expect(&rt, "there is memory");
     assert!(rt; two.width == Some(2));
-    assert!(rt; is_only(&two.units, &unit));
+    assert!(rt; is_only(&two.units, &UNIT));
     assert!(rt; is_only(&two.pay_units, &pay_unit));
-    assert!(rt; are_blobs(&two.blobs, &[one]));
+    assert!(rt; are_blobs(&two.blobs, &[FIRST]));
+}
+
+#[test]
+fn block_of_width_4(rt: HostRuntime) {
+    let other = Shape(754, [0xd6, 0x9a, 0xfa, 0x11], [0x8e, 0x98]);
     let four = block(rt.alloc(), 7, 4).expect(&rt, "there is memory");
-    assert!(rt; is_only(&four.units, &unit));
+    assert!(rt; is_only(&four.units, &UNIT));
     assert!(rt; four.blobs.len() == 2);
-    assert!(rt; are_blobs(&four.blobs, &[one, other]));
+    assert!(rt; are_blobs(&four.blobs, &[FIRST, other]));
     let second = &four.blobs[1];
     assert!(rt; second.namespace.0[26..] == [0, 0, 10]);
 }

@@ -1,5 +1,7 @@
 //! Headers, data roots and root proofs.
 
+ghost use Rattle.std.specs.Prelude.{◌≡◌, ◌<◌};
+
 use data_header::{Header, HeaderError, RootPath, data_root, make_root_proof, open_root};
 use namespace_id::{Axis, Digest};
 use std::alloc::Global;
@@ -34,7 +36,7 @@ const ROOT: [u8; 32] = [
 ];
 
 #[test]
-fn headers_and_root_paths(rt: HostRuntime) {
+fn headers(rt: HostRuntime) {
     let alloc = rt.alloc();
     let odd = Header::of(3, digests(&rt, alloc, 1, 2), digests(&rt, alloc, 2, 3));
     assert!(rt; odd.err() == Some(HeaderError::Width));
@@ -43,20 +45,33 @@ fn headers_and_root_paths(rt: HostRuntime) {
     let least = Header::of(1, digests(&rt, alloc, 1, 3), digests(&rt, alloc, 3, 5));
     let least = least.expect(&rt, "there are two roots each");
     assert!(rt; data_root(&least) == ROOT);
+}
+
+/// The path of a root of a header of width 2 opens with that root, at its place and whole.
+fn opens_alone(rt: &impl Abort, header: &Header, axis: Axis, index: u16)
+    requires width { header.now.k ≡ 2 }
+    requires index { index < 4 }
+{
+    let root = data_root(header);
+    let digest = header.root_of(axis, index);
+    let other = Digest([9; 90]);
+    let path = make_root_proof(header, axis, index);
+    let short = shortened(&path);
+    assert!(rt; short.hashes().len() == 2);
+    assert!(rt; open_root(&root, 2, axis, index, &digest, &path));
+    assert!(rt; !open_root(&root, 2, axis, 3 - index, &digest, &path));
+    assert!(rt; !open_root(&root, 2, axis, index, &other, &path));
+    assert!(rt; !open_root(&root, 2, axis, index, &digest, &short));
+}
+
+#[test]
+fn root_paths(rt: HostRuntime) {
+    let alloc = rt.alloc();
     let header = Header::of(2, digests(&rt, alloc, 1, 5), digests(&rt, alloc, 5, 9));
     let header = header.expect(&rt, "there are four roots each");
-    let root = data_root(&header);
-    let other = Digest([9; 90]);
     for axis in [Axis::Row, Axis::Col] {
         for index in 0..4 {
-            let digest = header.root_of(axis, index);
-            let path = make_root_proof(&header, axis, index);
-            let short = shortened(&path);
-            assert!(rt; short.hashes().len() == 2);
-            assert!(rt; open_root(&root, 2, axis, index, &digest, &path));
-            assert!(rt; !open_root(&root, 2, axis, 3 - index, &digest, &path));
-            assert!(rt; !open_root(&root, 2, axis, index, &other, &path));
-            assert!(rt; !open_root(&root, 2, axis, index, &digest, &short));
+            opens_alone(&rt, &header, axis, index);
         }
     }
 }

@@ -3,7 +3,7 @@
 use crate::inputs::{units_of, version_0};
 use namespace_id::{NAMESPACE_SIZE, NsError, Share};
 use share_split::Blob;
-use square_layout::{Block, LayError, lay};
+use square_layout::{Block, LayError, Square, lay};
 use std::alloc::Global;
 use std::process::Abort;
 
@@ -12,14 +12,18 @@ use std::process::Abort;
 type Run = (u16, bool, usize);
 
 /// A block by lengths: of its units and its payments for blobs, and of its blobs behind the last two
-/// bytes of their namespaces; the width that it asks for, and its square.
+/// bytes of their namespaces; the width that it asks for, and the width and the shares of its square.
 type Row<'a> = (
     &'a str,
     [&'a [usize]; 2],
     &'a [(u16, usize)],
     Option<u16>,
-    Result<(u16, &'a [Run]), LayError>,
+    u16,
+    &'a [Run],
 );
+
+/// Three blobs, whose square has width 4.
+const FOUR: &[(u16, usize)] = &[(0x0101, 1), (0x0102, 479), (0x0104, 1)];
 
 /// The last two bytes of two namespaces of padding.
 const TAIL: u16 = 0xfffe;
@@ -60,106 +64,114 @@ fn are_runs(shares: &[Share], runs: &[Run]) -> bool {
     next == shares.len()
 }
 
+/// What such a block comes to.
+fn laid(
+    rt: &impl Abort,
+    alloc: Global,
+    units: [&[usize]; 2],
+    blobs: &[(u16, usize)],
+    width: Option<u16>,
+) -> Result<Square, LayError> {
+    let block = Block {
+        units: units_of(rt, alloc, units[0]),
+        pay_units: units_of(rt, alloc, units[1]),
+        blobs: blobs_of(rt, alloc, blobs),
+        width,
+    };
+    lay(alloc, &block)
+}
+
 /// By docs/RULES.md, "From a block to its square".
 #[test]
 fn squares(rt: HostRuntime) {
     let none: [&[usize]; 2] = [&[], &[]];
-    let four: &[(u16, usize)] = &[(0x0101, 1), (0x0102, 479), (0x0104, 1)];
     let in_four: &[Run] = &[
         (0x0101, false, 1),
         (0x0102, false, 2),
         (0x0104, false, 1),
         (TAIL, true, 12),
     ];
-    let rows: [Row; 10] = [
-        (
-            "an empty block",
-            none,
-            &[],
-            None,
-            Ok((1, &[(TAIL, true, 1)])),
-        ),
+    let rows: [Row; 5] = [
+        ("an empty block", none, &[], None, 1, &[(TAIL, true, 1)]),
         (
             "by namespace, at multiples of their widths",
             none,
             &[(0x0102, 30_845), (0x0102, 1), (0x0101, 1)],
             None,
-            Ok((
-                16,
-                &[
-                    (0x0101, false, 1),
-                    (0x0101, true, 1),
-                    (0x0102, false, 66),
-                    (TAIL, true, 188),
-                ],
-            )),
+            16,
+            &[
+                (0x0101, false, 1),
+                (0x0101, true, 1),
+                (0x0102, false, 66),
+                (TAIL, true, 188),
+            ],
         ),
         (
             "behind units",
             [&[472, 10], &[10]],
             &[(0x0102, 30_845)],
             None,
-            Ok((
-                16,
-                &[
-                    (1, false, 2),
-                    (4, false, 1),
-                    (RESERVED, true, 1),
-                    (0x0102, false, 65),
-                    (TAIL, true, 187),
-                ],
-            )),
+            16,
+            &[
+                (1, false, 2),
+                (4, false, 1),
+                (RESERVED, true, 1),
+                (0x0102, false, 65),
+                (TAIL, true, 187),
+            ],
         ),
         (
             "the greatest square",
             none,
             &[(0x0102, 7_897_084)],
             None,
-            Ok((128, &[(0x0102, false, 16_384)])),
+            128,
+            &[(0x0102, false, 16_384)],
         ),
+        ("a width", none, FOUR, Some(4), 4, in_four),
+    ];
+    for (name, units, blobs, width, k, runs) in rows {
+        let got = match laid(&rt, rt.alloc(), units, blobs, width) {
+            Ok(square) => square.k == k && are_runs(&square.shares, runs),
+            Err(_) => false,
+        };
+        assert!(rt; got, "{name}");
+    }
+}
+
+/// By docs/RULES.md, "From a block to its square".
+#[test]
+fn blocks_without_square(rt: HostRuntime) {
+    let reserved = LayError::BadBlob(1, NsError::Reserved);
+    let rows: [(&str, &[(u16, usize)], Option<u16>, LayError); 5] = [
         (
-            "one byte more",
-            none,
+            "a byte more than the greatest square has",
             &[(0x0102, 7_897_085)],
             None,
-            Err(LayError::TooLarge(16_385)),
+            LayError::TooLarge(16_385),
         ),
         (
             "a reserved namespace behind an empty blob",
-            none,
             &[(0x0101, 0), (0x00ff, 1)],
             None,
-            Err(LayError::BadBlob(1, NsError::Reserved)),
+            reserved,
         ),
         (
             "an empty blob",
-            none,
             &[(0x0101, 0)],
             None,
-            Err(LayError::EmptyBlob(0)),
+            LayError::EmptyBlob(0),
         ),
         (
             "a width that is too small",
-            none,
-            four,
+            FOUR,
             Some(1),
-            Err(LayError::WidthTooSmall(4)),
+            LayError::WidthTooSmall(4),
         ),
-        ("no width", none, four, Some(3), Err(LayError::BadWidth)),
-        ("a width", none, four, Some(4), Ok((4, in_four))),
+        ("no width", FOUR, Some(3), LayError::BadWidth),
     ];
-    for (name, units, blobs, width, want) in rows {
-        let block = Block {
-            units: units_of(&rt, rt.alloc(), units[0]),
-            pay_units: units_of(&rt, rt.alloc(), units[1]),
-            blobs: blobs_of(&rt, rt.alloc(), blobs),
-            width,
-        };
-        let got = match (lay(rt.alloc(), &block), want) {
-            (Ok(square), Ok((k, runs))) => square.k == k && are_runs(&square.shares, runs),
-            (Err(e), Err(want)) => e == want,
-            _ => false,
-        };
-        assert!(rt; got, "{name}");
+    for (name, blobs, width, want) in rows {
+        let got = laid(&rt, rt.alloc(), [&[], &[]], blobs, width);
+        assert!(rt; got.err() == Some(want), "{name}");
     }
 }

@@ -10,10 +10,25 @@ use axis_roots::{
     message_of,
 };
 use data_header::Header;
-use namespace_id::{Axis, Cell, Digest, PARITY, TAIL_PADDING};
+use namespace_id::{Axis, Cell, Digest, PARITY, Share, TAIL_PADDING};
 use nmt_proofs::Path;
 use nmt_tree::{Tree, leaf, node};
 use share_split::padding_share;
+
+/// Why a sample of a cell is refused, if it is; and the cell of the sample that comes back.
+fn judged(header: &Header, cell: Cell, share: Share, path: Path) -> (Option<CheckRefusal>, Cell) {
+    let axis = Axis::Row;
+    let message = Message {
+        cell,
+        axis,
+        share,
+        path,
+    };
+    match check(header, message) {
+        Ok(proved) => (None, proved.into_message().cell),
+        Err(refused) => (Some(refused.why), refused.message.cell),
+    }
+}
 
 #[test]
 fn messages_of_an_empty_block(rt: HostRuntime) {
@@ -35,18 +50,8 @@ fn messages_of_an_empty_block(rt: HostRuntime) {
             path.push(parity);
         }
         let cell = Cell { row, col: 0 };
-        let axis = Axis::Row;
-        let message = Message {
-            cell,
-            axis,
-            share,
-            path,
-        };
-        let (why, back) = match check(&header, message) {
-            Ok(proved) => (None, proved.into_message()),
-            Err(refused) => (Some(refused.why), refused.message),
-        };
-        assert!(rt; why == want && back.cell == cell, "{name}");
+        let got = judged(&header, cell, share, path);
+        assert!(rt; got == (want, cell), "{name}");
     }
 }
 

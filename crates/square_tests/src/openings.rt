@@ -1,97 +1,81 @@
 //! Openings of a leaf, of a range and of an absence.
 
+ghost use Rattle.std.specs.Prelude.{◌<◌, ◌≤◌, ◌+◌, length};
+
 use crate::inputs::{four_leaves, four_names, four_shares, share, version_0};
-use namespace_id::Digest;
+use namespace_id::{Digest, Share};
 use nmt_proofs::{
     OpenRefusal, make_absent, make_leaf, make_range, open_absent, open_leaf, open_range,
 };
 use nmt_tree::{Tree, leaf, node};
 
+/// The root of the four leaves.
+fn root_of_four() -> Digest {
+    let [first, second, third, last] = four_leaves();
+    node(&node(&first, &second), &node(&third, &last))
+}
+
+/// Why a share of this byte isn't the second of the four, by these nodes.
+fn leaf_refusal(byte: u8, nodes: &[Digest]) -> Option<OpenRefusal> {
+    open_leaf(4, 1, &version_0(3), &share(byte), nodes, &root_of_four()).err()
+}
+
 #[test]
 fn openings_of_four_leaves(rt: HostRuntime) {
-    let name = version_0(3);
-    let [first, second, third, last] = four_leaves();
+    let [first, _, third, last] = four_leaves();
     let right = node(&third, &last);
-    let root = node(&node(&first, &second), &right);
-    let cases: [(&str, u8, &[Digest], Option<OpenRefusal>); 6] = [
-        ("opened", 8, &[first, right], None),
-        ("a node too few", 8, &[first], Some(OpenRefusal::NodeCount)),
-        (
-            "a node too many",
-            8,
-            &[first, right, last],
-            Some(OpenRefusal::NodeCount),
-        ),
-        (
-            "nodes exchanged",
-            8,
-            &[right, first],
-            Some(OpenRefusal::Unordered),
-        ),
-        (
-            "another node",
-            8,
-            &[first, last],
-            Some(OpenRefusal::OtherRoot),
-        ),
-        (
-            "another share",
-            9,
-            &[first, right],
-            Some(OpenRefusal::OtherRoot),
-        ),
-    ];
-    for (case, byte, nodes, want) in cases {
-        let got = open_leaf(4, 1, &name, &share(byte), nodes, &root);
-        assert!(rt; got.err() == want, "{case}");
-    }
+    let node_count = Some(OpenRefusal::NodeCount);
+    let unordered = Some(OpenRefusal::Unordered);
+    let other_root = Some(OpenRefusal::OtherRoot);
+    assert!(rt; leaf_refusal(8, &[first, right]) == None, "opened");
+    assert!(rt; leaf_refusal(8, &[first]) == node_count, "a node too few");
+    assert!(rt;
+        leaf_refusal(8, &[first, right, last]) == node_count,
+        "a node too many"
+    );
+    assert!(rt;
+        leaf_refusal(8, &[right, first]) == unordered,
+        "nodes exchanged"
+    );
+    assert!(rt;
+        leaf_refusal(8, &[first, last]) == other_root,
+        "another node"
+    );
+    assert!(rt;
+        leaf_refusal(9, &[first, right]) == other_root,
+        "another share"
+    );
+}
+
+/// Why these shares aren't those of their namespace among the four, from this place on, by these nodes.
+fn range_refusal(from: u16, shares: &[Share], nodes: &[Digest]) -> Option<OpenRefusal>
+    requires some { 0 < length shares.now }
+    requires places { from + length shares.now ≤ 4 }
+{
+    open_range(4, from, &version_0(3), shares, nodes, &root_of_four()).err()
 }
 
 #[test]
 fn range_of_four_leaves(rt: HostRuntime) {
-    let name = version_0(3);
-    let shares = [share(8), share(9)];
+    let both = [share(8), share(9)];
     let [first, second, third, last] = four_leaves();
     let left = node(&first, &second);
     let right = node(&third, &last);
-    let root = node(&left, &right);
-    let cases: [(&str, u16, u16, &[Digest], Option<OpenRefusal>); 5] = [
-        ("opened", 1, 3, &[first, last], None),
-        (
-            "a node too few",
-            1,
-            3,
-            &[first],
-            Some(OpenRefusal::NodeCount),
-        ),
-        (
-            "nodes exchanged",
-            1,
-            3,
-            &[last, first],
-            Some(OpenRefusal::Unordered),
-        ),
-        (
-            "one on its left",
-            2,
-            3,
-            &[left, last],
-            Some(OpenRefusal::Incomplete(0)),
-        ),
-        (
-            "one on its right",
-            1,
-            2,
-            &[first, right],
-            Some(OpenRefusal::Incomplete(1)),
-        ),
-    ];
-    for (case, from, to, nodes, want) in cases {
-        assert!(rt; 1 <= from && from < to && to <= 3);
-        let shown = &shares[from as usize - 1..to as usize - 1];
-        let got = open_range(4, from, &name, shown, nodes, &root);
-        assert!(rt; got.err() == want, "{case}");
-    }
+    let node_count = Some(OpenRefusal::NodeCount);
+    let unordered = Some(OpenRefusal::Unordered);
+    assert!(rt; range_refusal(1, &both, &[first, last]) == None, "opened");
+    assert!(rt;
+        range_refusal(1, &both, &[first]) == node_count,
+        "a node too few"
+    );
+    assert!(rt;
+        range_refusal(1, &both, &[last, first]) == unordered,
+        "nodes exchanged"
+    );
+    let got = range_refusal(2, &[share(9)], &[left, last]);
+    assert!(rt; got == Some(OpenRefusal::Incomplete(0)), "one on its left");
+    let got = range_refusal(1, &[share(8)], &[first, right]);
+    assert!(rt; got == Some(OpenRefusal::Incomplete(1)), "one on its right");
 }
 
 #[test]
