@@ -12,7 +12,6 @@ use namespace_id::{Axis, Cell, CellRoom, Share};
 use nmt_proofs::Path;
 use std::alloc::Global;
 use std::process::Abort;
-use std::test::Fail;
 
 /// The cells that a picker of the diagonal names.
 const DIAGONAL: [Cell; 4] = [
@@ -23,8 +22,8 @@ const DIAGONAL: [Cell; 4] = [
 ];
 
 /// The sample of a cell, along its row.
-fn sample(alloc: Global, grid: &Grid, cell: Cell) -> Result<Event, Fail> {
-    Ok(Event::Sample(message(alloc, grid, cell, Axis::Row)?))
+fn sample(rt: &impl Abort, alloc: Global, grid: &Grid, cell: Cell) -> Event {
+    Event::Sample(message(rt, alloc, grid, cell, Axis::Row))
 }
 
 /// A sample of a cell without any nodes.
@@ -38,17 +37,24 @@ fn unproved(cell: Cell) -> Event {
 }
 
 /// The claim on row 3 with its cells of two columns, each proved along its column.
-fn claim(alloc: Global, grid: &Grid, first: u16, second: u16) -> Result<Event, Fail> {
-    let mut cells = Vec::new(alloc);
-    for col in [first, second] {
-        cells.push(message(alloc, grid, Cell { row: 3, col }, Axis::Col)?)?;
-    }
-    Ok(Event::Claim(FraudClaim {
+fn claim(rt: &impl Abort, alloc: Global, grid: &Grid, first: u16, second: u16) -> Event {
+    let one = message(rt, alloc, grid, Cell { row: 3, col: first }, Axis::Col);
+    let two = message(
+        rt,
+        alloc,
+        grid,
+        Cell {
+            row: 3,
+            col: second,
+        },
+        Axis::Col,
+    );
+    Event::Claim(FraudClaim {
         axis: Axis::Row,
         index: 3,
-        cells,
+        cells: vec![in alloc; one, two].expect(rt, "there is memory"),
         set: None,
-    }))
+    })
 }
 
 /// A node has this state after an event.
@@ -67,16 +73,16 @@ fn tell<F: Picker>(
 }
 
 /// How a node of limit 4 that picks the diagonal fares.
-fn follows_the_diagonal<F: Picker>(rt: &impl Abort, alloc: Global, pick: F) -> Result<(), Fail>
+fn follows_the_diagonal<F: Picker>(rt: &impl Abort, alloc: Global, pick: F)
     requires { PicksInside F.can_pick F.picks pick 4 2 }
 {
-    let grid = grid(alloc)?;
-    let header = header(alloc, &grid)?;
+    let grid = grid(rt, alloc);
+    let header = header(rt, alloc, &grid);
     assert_eq!(rt; data_root(&header), DATA_ROOT);
-    let mut node = LightNode::new(alloc, &header, 4, pick)?;
-    node.more(2)?;
+    let mut node = LightNode::new(alloc, &header, 4, pick).expect(rt, "there is memory");
+    node.more(2).expect(rt, "there is memory");
     assert!(rt; node.next_wanted() == Some(DIAGONAL[0]), "the first cell");
-    let first = sample(alloc, &grid, DIAGONAL[0])?;
+    let first = sample(rt, alloc, &grid, DIAGONAL[0]);
     tell(rt, &mut node, first, LightState::Waiting, "one shown");
     assert!(rt; node.next_wanted() == Some(DIAGONAL[1]), "the second cell");
     tell(
@@ -86,39 +92,51 @@ fn follows_the_diagonal<F: Picker>(rt: &impl Abort, alloc: Global, pick: F) -> R
         LightState::Waiting,
         "not proved",
     );
-    let second = sample(alloc, &grid, DIAGONAL[1])?;
+    let second = sample(rt, alloc, &grid, DIAGONAL[1]);
     tell(rt, &mut node, second, LightState::Available, "both shown");
-    node.more(2)?;
-    let mut room = CellRoom::new(alloc, 2)?;
+    node.more(2).expect(rt, "there is memory");
+    let mut room = CellRoom::new(alloc, 2).expect(rt, "there is memory");
     node.waiting(&mut room);
     assert!(rt; room.cells() == &DIAGONAL[2..], "two more");
-    Ok(())
 }
 
 /// How many cells a node waits for at its end that picked three times.
-fn waits_for<F: Picker>(alloc: Global, pick: F) -> Result<usize, Fail>
+fn waits_for<F: Picker>(rt: &impl Abort, alloc: Global, pick: F) -> usize
     requires { PicksInside F.can_pick F.picks pick 3 2 }
 {
-    let header = header(alloc, &grid(alloc)?)?;
-    let mut node = LightNode::new(alloc, &header, 3, pick)?;
-    node.more(3)?;
-    match node.finish(CellRoom::new(alloc, 2)?) {
-        Light::Waiting(cells) => Ok(cells.list.len()),
-        Light::Available => Ok(0),
+    let header = header(rt, alloc, &grid(rt, alloc));
+    let room = CellRoom::new(alloc, 2).expect(rt, "there is memory");
+    let mut node = LightNode::new(alloc, &header, 3, pick).expect(rt, "there is memory");
+    node.more(3).expect(rt, "there is memory");
+    match node.finish(room) {
+        Light::Waiting(cells) => cells.list.len(),
+        Light::Available => 0,
         Light::Rejected(upheld) => {
             let _claim = upheld.into_claim();
-            Err(Fail::new("a claim was accepted"))
+            panic!(rt; "a claim was accepted")
         }
     }
 }
 
+/// A claim is the one by the cells of the first two columns.
+fn is_first(rt: &impl Abort, claim: FraudClaim) {
+    assert_eq!(rt; (claim.axis, claim.index), (Axis::Row, 3));
+    let [one, two] = claim.cells.as_slice() else {
+        panic!(rt; "not the first claim");
+    };
+    assert_eq!(rt; one.cell, Cell { row: 3, col: 0 });
+    assert_eq!(rt; two.cell, Cell { row: 3, col: 1 });
+}
+
 /// How a node that draws nothing fares on the header of the square with a changed byte: the first
 /// accepted claim stays, whatever comes behind it.
-fn keeps_the_first_claim<F: Picker>(rt: &impl Abort, alloc: Global, pick: F) -> Result<(), Fail>
+fn keeps_the_first_claim<F: Picker>(rt: &impl Abort, alloc: Global, pick: F)
     requires { PicksInside F.can_pick F.picks pick 0 2 }
 {
-    let grid = bad_grid(alloc)?;
-    let mut node = LightNode::new(alloc, &header(alloc, &grid)?, 0, pick)?;
+    let grid = bad_grid(rt, alloc);
+    let header = header(rt, alloc, &grid);
+    let room = CellRoom::new(alloc, 2).expect(rt, "there is memory");
+    let mut node = LightNode::new(alloc, &header, 0, pick).expect(rt, "there is memory");
     let available = LightState::Available;
     let rejected = LightState::Rejected;
     tell(
@@ -128,7 +146,7 @@ fn keeps_the_first_claim<F: Picker>(rt: &impl Abort, alloc: Global, pick: F) -> 
         available,
         "not proved",
     );
-    let falling = claim(alloc, &grid, 1, 0)?;
+    let falling = claim(rt, alloc, &grid, 1, 0);
     tell(
         rt,
         &mut node,
@@ -136,29 +154,20 @@ fn keeps_the_first_claim<F: Picker>(rt: &impl Abort, alloc: Global, pick: F) -> 
         available,
         "a claim whose cells fall",
     );
-    let first = claim(alloc, &grid, 0, 1)?;
+    let first = claim(rt, alloc, &grid, 0, 1);
     tell(rt, &mut node, first, rejected, "an accepted claim");
-    let later = claim(alloc, &grid, 0, 2)?;
+    let later = claim(rt, alloc, &grid, 0, 2);
     tell(rt, &mut node, later, rejected, "a later claim");
-    let shown = sample(alloc, &grid, DIAGONAL[0])?;
+    let shown = sample(rt, alloc, &grid, DIAGONAL[0]);
     tell(rt, &mut node, shown, rejected, "a later sample");
-    match node.finish(CellRoom::new(alloc, 2)?) {
-        Light::Waiting(_) | Light::Available => Err(Fail::new("no claim was accepted")),
-        Light::Rejected(upheld) => {
-            let kept = upheld.into_claim();
-            assert_eq!(rt; (kept.axis, kept.index), (Axis::Row, 3));
-            let [one, two] = kept.cells.as_slice() else {
-                return Err(Fail::new("not the first claim"));
-            };
-            assert_eq!(rt; one.cell, Cell { row: 3, col: 0 });
-            assert_eq!(rt; two.cell, Cell { row: 3, col: 1 });
-            Ok(())
-        }
+    match node.finish(room) {
+        Light::Waiting(_) | Light::Available => panic!(rt; "no claim was accepted"),
+        Light::Rejected(upheld) => is_first(rt, upheld.into_claim()),
     }
 }
 
 #[test]
-fn diagonal(rt: HostRuntime) -> Result<(), Fail> {
+fn diagonal(rt: HostRuntime) {
     follows_the_diagonal(
         &rt,
         rt.alloc(),
@@ -171,28 +180,28 @@ fn diagonal(rt: HostRuntime) -> Result<(), Fail> {
                 col: number as u16,
             }
         },
-    )
+    );
 }
 
 #[test]
-fn one_cell_again_and_again(rt: HostRuntime) -> Result<(), Fail> {
+fn one_cell_again_and_again(rt: HostRuntime) {
     let found = waits_for(
+        &rt,
         rt.alloc(),
         |_number: u32| -> Cell
             ensures { is_in_square 2 result ≡ true }
         { Cell { row: 1, col: 2 } },
-    )?;
+    );
     assert_eq!(rt; found, 1);
-    Ok(())
 }
 
 #[test]
-fn first_claim(rt: HostRuntime) -> Result<(), Fail> {
+fn first_claim(rt: HostRuntime) {
     keeps_the_first_claim(
         &rt,
         rt.alloc(),
         |_number: u32| -> Cell
             ensures { is_in_square 2 result ≡ true }
         { Cell { row: 0, col: 0 } },
-    )
+    );
 }

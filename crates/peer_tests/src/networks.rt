@@ -5,25 +5,23 @@ use da_net::{Item, Net, NetEvent, StepRefusal};
 use light_node::{LightNode, Picker};
 use namespace_id::{Axis, Cell};
 use std::alloc::Global;
-use std::test::Fail;
+use std::process::Abort;
 
 /// Whether a sample that is put into a network of one full node and no items comes back.
-fn comes_back<F: Picker>(alloc: Global, _pick: F) -> Result<bool, Fail> {
-    let grid = bad_grid(alloc)?;
+fn comes_back<F: Picker>(rt: &impl Abort, alloc: Global, _pick: F) -> bool {
+    let grid = bad_grid(rt, alloc);
     let nobody: Vec<LightNode<F>> = Vec::new(alloc);
-    let message = message(alloc, &grid, Cell { row: 3, col: 0 }, Axis::Col)?;
-    let Ok(mut net) = Net::new(alloc, header(alloc, &grid)?, 1, nobody, 0, 1) else {
-        return Err(Fail::new("no network"));
-    };
-    match net.step(NetEvent::Put(Item::Message(message))) {
-        Err(StepRefusal::Full(NetEvent::Put(Item::Message(_)))) => Ok(true),
-        _ => Ok(false),
-    }
+    let message = message(rt, alloc, &grid, Cell { row: 3, col: 0 }, Axis::Col);
+    let header = header(rt, alloc, &grid);
+    let mut net = Net::new(alloc, header, 1, nobody, 0, 1).expect(rt, "there is memory");
+    matches!(
+        net.step(NetEvent::Put(Item::Message(message))),
+        Err(StepRefusal::Full(NetEvent::Put(Item::Message(_))))
+    )
 }
 
 #[test]
-fn a_put_without_room(rt: HostRuntime) -> Result<(), Fail> {
+fn a_put_without_room(rt: HostRuntime) {
     let pick = |_number: u32| -> Cell { Cell { row: 0, col: 0 } };
-    assert!(rt; comes_back(rt.alloc(), pick)?);
-    Ok(())
+    assert!(rt; comes_back(&rt, rt.alloc(), pick));
 }

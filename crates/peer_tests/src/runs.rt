@@ -2,7 +2,7 @@
 
 use da_wire::{Frame, write_frame};
 use std::alloc::Global;
-use std::test::Fail;
+use std::process::Abort;
 
 /// Some bytes, and then so many of one value.
 pub(crate) type Run = (&'static [u8], usize, u8);
@@ -34,18 +34,19 @@ pub(crate) const ANSWER: [Run; 5] = [
 ];
 
 /// The bytes that runs are.
-pub(crate) fn joined(alloc: Global, runs: &[Run]) -> Result<Vec<u8>, Fail> {
+pub(crate) fn joined(rt: &impl Abort, alloc: Global, runs: &[Run]) -> Vec<u8> {
     let mut all = Vec::new(alloc);
     for (bytes, count, byte) in runs {
-        all.extend_from_slice(bytes)?;
-        all.extend_from_slice(&vec![in alloc; *byte; *count]?)?;
+        all.extend_from_slice(bytes).expect(rt, "there is memory");
+        let more = vec![in alloc; *byte; *count].expect(rt, "there is memory");
+        all.extend_from_slice(&more).expect(rt, "there is memory");
     }
-    Ok(all)
+    all
 }
 
 /// The bytes that a value is written as.
-pub(crate) fn written(alloc: Global, value: &Frame) -> Result<Vec<u8>, Fail> {
+pub(crate) fn written(rt: &impl Abort, alloc: Global, value: &Frame) -> Vec<u8> {
     let mut out = Vec::new(alloc);
-    write_frame(value, &mut out)?;
-    Ok(out)
+    write_frame(value, &mut out).expect(rt, "the value has a spelling");
+    out
 }

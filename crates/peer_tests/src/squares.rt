@@ -1,7 +1,7 @@
 //! The extended squares of width 2 of the tests: one of three blobs, and the same with one byte changed, in
 //! which row 3 and column 3 are no codewords. Their headers and samples.
 
-ghost use Rattle.std.specs.Prelude.{◌≡◌, IfOk};
+ghost use Rattle.std.specs.Prelude.{◌≡◌};
 
 use axis_roots::{Grid, Message, header_of, message_of};
 use data_header::Header;
@@ -9,7 +9,7 @@ use namespace_id::{Axis, Cell, Share, is_in_square};
 use nmt_tree::Tree;
 use square_layout::Square;
 use std::alloc::Global;
-use std::test::Fail;
+use std::process::Abort;
 
 /// The data root of the square of three blobs, by tools/values.py.
 pub(crate) const DATA_ROOT: [u8; 32] = [
@@ -40,46 +40,48 @@ fn full_share() -> Share {
 }
 
 /// The extended square of a blob of one byte, the long one, and another of one byte.
-pub(crate) fn grid(alloc: Global) -> Result<Grid, Fail>
-    ensures { IfOk result (λ grid. grid.k ≡ 2) }
+pub(crate) fn grid(rt: &impl Abort, alloc: Global) -> Grid
+    ensures { result.k ≡ 2 }
 {
-    let mut shares = vec![in alloc; full_share(); 4]?;
+    let mut shares = vec![in alloc; full_share(); 4].expect(rt, "there is memory");
     shares[0] = share(1, &[1, 0, 0, 0, 1, 32]);
     shares[2] = share(2, &[0, 95]);
     shares[3] = share(4, &[1, 0, 0, 0, 1, 94]);
-    Ok(Grid::extend(alloc, &Square { k: 2, shares })?)
+    Grid::extend(alloc, &Square { k: 2, shares }).expect(rt, "there is memory")
 }
 
 /// The same with another last byte of its last share.
-pub(crate) fn bad_grid(alloc: Global) -> Result<Grid, Fail>
-    ensures { IfOk result (λ grid. grid.k ≡ 2) }
+pub(crate) fn bad_grid(rt: &impl Abort, alloc: Global) -> Grid
+    ensures { result.k ≡ 2 }
 {
-    let mut grid = grid(alloc)?;
+    let mut grid = grid(rt, alloc);
     if let Some(byte) = grid.shares[15].0.last_mut() {
         *byte ^= 1;
     }
-    Ok(grid)
+    grid
 }
 
 /// The header of an extended square of width 2.
-pub(crate) fn header(alloc: Global, grid: &Grid) -> Result<Header, Fail>
+pub(crate) fn header(rt: &impl Abort, alloc: Global, grid: &Grid) -> Header
     requires { grid.now.k ≡ 2 }
-    ensures { IfOk result (λ header. header.k ≡ 2) }
+    ensures { result.k ≡ 2 }
 {
-    let Some(header) = header_of(alloc, grid)? else {
-        return Err(Fail::new("namespaces fall"));
-    };
-    Ok(header)
+    let header = header_of(alloc, grid).expect(rt, "there is memory");
+    header.expect(rt, "namespaces do not fall")
 }
 
 /// The sample of a cell of an extended square of width 2.
-pub(crate) fn message(alloc: Global, grid: &Grid, cell: Cell, axis: Axis) -> Result<Message, Fail> {
-    if grid.width() != 2 || !is_in_square(2, cell) {
-        return Err(Fail::new("no such cell"));
-    }
-    let mut tree = Tree::new(alloc, 4)?;
-    let Some(message) = message_of(grid, cell, axis, &mut tree) else {
-        return Err(Fail::new("namespaces fall"));
-    };
-    Ok(message)
+pub(crate) fn message(
+    rt: &impl Abort,
+    alloc: Global,
+    grid: &Grid,
+    cell: Cell,
+    axis: Axis,
+) -> Message {
+    assert!(rt;
+        grid.width() == 2 && is_in_square(2, cell),
+        "there is such a cell"
+    );
+    let mut tree = Tree::new(alloc, 4).expect(rt, "there is memory");
+    message_of(grid, cell, axis, &mut tree).expect(rt, "namespaces do not fall")
 }

@@ -4,7 +4,6 @@ ghost use Rattle.std.specs.Prelude.{◌<◌};
 
 use crate::runs::joined;
 use da_wire::{FrameError, FrameStream, Pushed};
-use std::test::Fail;
 
 /// An answer without its sample: of a frame, whether it is a sample; an error where it is `Bad`.
 fn told(answer: Pushed) -> Result<Option<bool>, u64> {
@@ -67,27 +66,29 @@ fn counted(bytes: &[u8], size: usize) -> (u64, u64, Option<FrameError>)
 
 // Five samples of one node and a request, in pieces that cut heads and payloads.
 #[test]
-fn frames_in_any_cutting(rt: HostRuntime) -> Result<(), Fail> {
+fn frames_in_any_cutting(rt: HostRuntime) {
     let alloc = rt.alloc();
-    let message = joined(alloc, &[(b"M\0\0\x02\x60", 517, 0), (b"\x01", 90, 6)])?;
+    let message = joined(&rt, alloc, &[(b"M\0\0\x02\x60", 517, 0), (b"\x01", 90, 6)]);
     let mut bytes = Vec::new(alloc);
     for _ in 0..5 {
-        bytes.extend_from_slice(&message)?;
+        bytes
+            .extend_from_slice(&message)
+            .expect(&rt, "there is memory");
     }
-    bytes.extend_from_slice(b"Q\0\0\0\x05\0\x01\0\x02\x01")?;
+    bytes
+        .extend_from_slice(b"Q\0\0\0\x05\0\x01\0\x02\x01")
+        .expect(&rt, "there is memory");
     for size in [1, 7, 1_000] {
         assert_eq!(rt; counted(&bytes, size), (6, 5, None), "pieces of {size}");
     }
-    Ok(())
 }
 
 // The longest payload of a sample has 1,238 bytes.
 #[test]
-fn longest_messages(rt: HostRuntime) -> Result<(), Fail> {
+fn longest_messages(rt: HostRuntime) {
     let alloc = rt.alloc();
-    let longest = joined(alloc, &[(b"M\0\0\x04\xd6", 517, 0), (b"\x08", 720, 0)])?;
+    let longest = joined(&rt, alloc, &[(b"M\0\0\x04\xd6", 517, 0), (b"\x08", 720, 0)]);
     assert_eq!(rt; counted(&longest, 100), (1, 1, None), "1,238 bytes");
-    let longer = joined(alloc, &[(b"M\0\0\x04\xd7", 517, 0), (b"\x08", 721, 0)])?;
+    let longer = joined(&rt, alloc, &[(b"M\0\0\x04\xd7", 517, 0), (b"\x08", 721, 0)]);
     assert_eq!(rt; counted(&longer, 100), (1, 0, None), "1,239 bytes");
-    Ok(())
 }

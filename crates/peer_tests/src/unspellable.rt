@@ -7,14 +7,10 @@ use nmt_proofs::{Nodes, Path};
 use square_layout::Block;
 use std::alloc::Global;
 use std::process::Abort;
-use std::test::Fail;
 
 /// No cells, of the square of width 1.
-fn no_cells(alloc: Global) -> Result<Frame, Fail> {
-    match Cells::of(1, Vec::new(alloc)) {
-        Some(cells) => Ok(Frame::Missing(cells)),
-        None => Err(Fail::new("no list of cells")),
-    }
+fn no_cells(rt: &impl Abort, alloc: Global) -> Frame {
+    Frame::Missing(Cells::of(1, Vec::new(alloc)).expect(rt, "it is a list of cells"))
 }
 
 /// The block of nothing that asks for the width 0.
@@ -28,18 +24,20 @@ fn narrow_block(alloc: Global) -> Frame {
 }
 
 /// The answer of so many ranges of as many shares.
-fn answer(alloc: Global, ranges: u16, shares: usize) -> Result<Frame, Fail> {
+fn answer(rt: &impl Abort, alloc: Global, ranges: u16, shares: usize) -> Frame {
     let mut entries = Vec::new(alloc);
     for row in 0..ranges {
-        let list = vec![in alloc; Share([5; 512]); shares]?;
+        let list = vec![in alloc; Share([5; 512]); shares].expect(rt, "there is memory");
         let found = Found::Range {
             start: 1,
             shares: ShareList { list },
             nodes: Nodes::new(),
         };
-        entries.push(NsEntry { row, found })?;
+        entries
+            .push(NsEntry { row, found })
+            .expect(rt, "there is memory");
     }
-    Ok(Frame::Names(Namespace([9; 29]), NsAnswer { entries }))
+    Frame::Names(Namespace([9; 29]), NsAnswer { entries })
 }
 
 /// A path of one node.
@@ -60,65 +58,65 @@ fn message(row: u16, col: u16, axis: Axis, path: Path) -> Message {
 }
 
 /// The claim against column 3 by so many cells, each on its row, with such a set.
-fn claim(alloc: Global, count: u16, set: Option<SetNodes>) -> Result<Frame, Fail> {
+fn claim(rt: &impl Abort, alloc: Global, count: u16, set: Option<SetNodes>) -> Frame {
     let mut cells = Vec::new(alloc);
     for row in 0..count {
-        cells.push(message(row, 3, Axis::Row, Path::new()))?;
+        cells
+            .push(message(row, 3, Axis::Row, Path::new()))
+            .expect(rt, "there is memory");
     }
-    Ok(Frame::Fraud(FraudClaim {
+    Frame::Fraud(FraudClaim {
         axis: Axis::Col,
         index: 3,
         cells,
         set,
-    }))
+    })
 }
 
 /// The set of so many nodes.
-fn set(alloc: Global, nodes: usize) -> Result<Option<SetNodes>, Fail> {
-    let nodes = vec![in alloc; Digest([6; 90]); nodes]?;
-    Ok(Some(SetNodes { nodes }))
+fn set(rt: &impl Abort, alloc: Global, nodes: usize) -> Option<SetNodes> {
+    let nodes = vec![in alloc; Digest([6; 90]); nodes].expect(rt, "there is memory");
+    Some(SetNodes { nodes })
 }
 
 /// The claim against column 3 by a cell that a set of so many nodes shows, and by one more cell.
-fn shown(alloc: Global, nodes: usize, more: Message) -> Result<Frame, Fail> {
-    let mut cells = Vec::new(alloc);
-    cells.push(message(0, 3, Axis::Col, Path::new()))?;
-    cells.push(more)?;
-    Ok(Frame::Fraud(FraudClaim {
+fn shown(rt: &impl Abort, alloc: Global, nodes: usize, more: Message) -> Frame {
+    let first = message(0, 3, Axis::Col, Path::new());
+    let cells = vec![in alloc; first, more].expect(rt, "there is memory");
+    Frame::Fraud(FraudClaim {
         axis: Axis::Col,
         index: 3,
         cells,
-        set: set(alloc, nodes)?,
-    }))
+        set: set(rt, alloc, nodes),
+    })
 }
 
 /// `write_frame` refuses a value, and leaves one byte as it was.
-fn is_refused(rt: &impl Abort, alloc: Global, name: &str, value: Frame) -> Result<(), Fail> {
-    let mut out = Vec::from_slice(alloc, &[3])?;
+fn is_refused(rt: &impl Abort, alloc: Global, name: &str, value: Frame) {
+    let mut out = Vec::from_slice(alloc, &[3]).expect(rt, "there is memory");
     let refused = write_frame(&value, &mut out).err();
     assert_eq!(rt;
         (refused, out.len()),
         (Some(SpellError::Unspellable), 1),
         "{name}"
     );
-    Ok(())
 }
 
 #[test]
-fn values_without_spelling(rt: HostRuntime) -> Result<(), Fail> {
+fn values_without_spelling(rt: HostRuntime) {
     let alloc = rt.alloc();
-    is_refused(&rt, alloc, "no cells", no_cells(alloc)?)?;
-    is_refused(&rt, alloc, "width 0", narrow_block(alloc))?;
-    is_refused(&rt, alloc, "129 entries", answer(alloc, 129, 0)?)?;
-    is_refused(&rt, alloc, "129 shares", answer(alloc, 1, 129)?)
+    is_refused(&rt, alloc, "no cells", no_cells(&rt, alloc));
+    is_refused(&rt, alloc, "width 0", narrow_block(alloc));
+    is_refused(&rt, alloc, "129 entries", answer(&rt, alloc, 129, 0));
+    is_refused(&rt, alloc, "129 shares", answer(&rt, alloc, 1, 129));
 }
 
 #[test]
-fn claims_without_spelling(rt: HostRuntime) -> Result<(), Fail> {
+fn claims_without_spelling(rt: HostRuntime) {
     let alloc = rt.alloc();
-    is_refused(&rt, alloc, "129 cells", claim(alloc, 129, None)?)?;
-    let shows_no_cell = claim(alloc, 1, set(alloc, 0)?)?;
-    is_refused(&rt, alloc, "a set that shows no cell", shows_no_cell)?;
+    is_refused(&rt, alloc, "129 cells", claim(&rt, alloc, 129, None));
+    let shows_no_cell = claim(&rt, alloc, 1, set(&rt, alloc, 0));
+    is_refused(&rt, alloc, "a set that shows no cell", shows_no_cell);
     let cases = [
         ("129 nodes", 129, message(1, 3, Axis::Col, Path::new())),
         (
@@ -133,7 +131,6 @@ fn claims_without_spelling(rt: HostRuntime) -> Result<(), Fail> {
         ),
     ];
     for (name, nodes, more) in cases {
-        is_refused(&rt, alloc, name, shown(alloc, nodes, more)?)?;
+        is_refused(&rt, alloc, name, shown(&rt, alloc, nodes, more));
     }
-    Ok(())
 }
