@@ -1,6 +1,8 @@
 //! Commitments of blobs that other programs give, and commitment proofs that succeed with ample
 //! memory.
 
+ghost use Rattle.std.specs.Prelude.{◌≡◌};
+
 use axis_roots::{Grid, header_of, message_of};
 use blob_commit::{
     CommitError, CommitRefusal, ProveError, RootedMessage, RootedRefusal, check_commit, commitment,
@@ -12,7 +14,8 @@ use nmt_proofs::{Nodes, OpenRefusal};
 use nmt_tree::Tree;
 use share_split::Blob;
 use square_layout::Square;
-use std::test::Fail;
+use std::alloc::Global;
+use std::process::Abort;
 
 /// The commitment that go-square publishes (inclusion, `TestCreateCommitment`), of 1,536 bytes 0xff.
 const BY_GO_SQUARE: [u8; 32] = [
@@ -62,24 +65,27 @@ fn blob(id: [u8; 10], bytes: Vec<u8>, signer: Option<[u8; 20]>) -> Blob {
 }
 
 #[test]
-fn commitments_of_blobs(rt: HostRuntime) -> Result<(), Fail> {
+fn commitments_of_blobs(rt: HostRuntime) {
     let alloc = rt.alloc();
-    let ones = blob([1; 10], vec![in alloc; 0xff; 1536]?, None);
+    let bytes = vec![in alloc; 0xff; 1536].expect(&rt, "there is memory");
+    let ones = blob([1; 10], bytes, None);
     assert!(rt; commitment_of(alloc, &ones) == Ok(BY_GO_SQUARE));
     let id = [1, 2, 3, 4, 5, 6, 7, 8, 9, 0x10];
-    let text = Vec::from_slice(alloc, b"This is an example of some blob data")?;
+    let text = Vec::from_slice(alloc, b"This is an example of some blob data").expect(
+        &rt,
+        "there is memory",
+    );
     assert!(rt; commitment_of(alloc, &blob(id, text, None)) == Ok(BY_CELESTIA_NODE));
     let empty = blob(id, Vec::new(alloc), None);
     assert!(rt; commitment_of(alloc, &empty) == Err(CommitError::Empty));
-    Ok(())
 }
 
 #[test]
-fn a_signed_blob(rt: HostRuntime) -> Result<(), Fail> {
+fn a_signed_blob(rt: HostRuntime) {
     let alloc = rt.alloc();
-    let ones = blob([1; 10], vec![in alloc; 0xff; 1536]?, Some([1; 20]));
+    let bytes = vec![in alloc; 0xff; 1536].expect(&rt, "there is memory");
+    let ones = blob([1; 10], bytes, Some([1; 20]));
     assert!(rt; commitment_of(alloc, &ones) == Ok(OF_SIGNED));
-    Ok(())
 }
 
 /// The share of a number: four of each namespace, one behind another.
@@ -88,6 +94,15 @@ fn share(number: u8) -> Share {
     bytes[28] = number / 4 + 1;
     bytes[100] = number;
     Share(bytes)
+}
+
+/// The extended square of four shares.
+fn grid(rt: &impl Abort, alloc: Global) -> Grid
+    ensures { result.k ≡ 2 }
+{
+    let shares = vec![in alloc; share(0), share(1), share(2), share(3)];
+    let shares = shares.expect(rt, "there is memory");
+    Grid::extend(alloc, &Square { k: 2, shares }).expect(rt, "there is memory")
 }
 
 #[test]
@@ -99,32 +114,39 @@ fn commitments_of_cuts(rt: HostRuntime) {
 }
 
 #[test]
-fn proofs_of_three_shares(rt: HostRuntime) -> Result<(), Fail> {
+fn proofs_of_three_shares(rt: HostRuntime) {
     let alloc = rt.alloc();
-    let shares = vec![in alloc; share(0), share(1), share(2), share(3)]?;
-    let grid = Grid::extend(alloc, &Square { k: 2, shares })?;
-    let header = header_of(alloc, &grid)?.expect(&rt, "the namespaces do not fall");
+    let grid = grid(&rt, alloc);
+    let header = header_of(alloc, &grid)
+        .expect(&rt, "there is memory")
+        .expect(&rt, "the namespaces do not fall");
     let root = data_root(&header);
-    let trees = row_trees(alloc, &grid, &header)?;
-    let mut proof = prove_commit(alloc, &header, &trees, 1, 3)?;
+    let trees = row_trees(alloc, &grid, &header).expect(&rt, "there is memory");
+    let mut proof = prove_commit(alloc, &header, &trees, 1, 3).expect(
+        &rt,
+        "the range is one of the square",
+    );
     assert!(rt; check_commit(&root, &proof) == Ok(()));
     assert!(rt; commitment(&[share(1), share(2), share(3)]) == proof.commitment);
     proof.commitment[3] ^= 1;
     assert!(rt; check_commit(&root, &proof) == Err(CommitRefusal::Commitment));
     let refused = prove_commit(alloc, &header, &trees, 3, 2);
     assert!(rt; refused.err() == Some(ProveError::Range));
-    Ok(())
 }
 
 #[test]
-fn refused_proofs(rt: HostRuntime) -> Result<(), Fail> {
+fn refused_proofs(rt: HostRuntime) {
     let alloc = rt.alloc();
-    let shares = vec![in alloc; share(0), share(1), share(2), share(3)]?;
-    let grid = Grid::extend(alloc, &Square { k: 2, shares })?;
-    let header = header_of(alloc, &grid)?.expect(&rt, "the namespaces do not fall");
+    let grid = grid(&rt, alloc);
+    let header = header_of(alloc, &grid)
+        .expect(&rt, "there is memory")
+        .expect(&rt, "the namespaces do not fall");
     let root = data_root(&header);
-    let trees = row_trees(alloc, &grid, &header)?;
-    let mut proof = prove_commit(alloc, &header, &trees, 1, 3)?;
+    let trees = row_trees(alloc, &grid, &header).expect(&rt, "there is memory");
+    let mut proof = prove_commit(alloc, &header, &trees, 1, 3).expect(
+        &rt,
+        "the range is one of the square",
+    );
     if let Some(second) = proof.rows.get_mut(1) {
         second.nodes = Nodes::new();
     }
@@ -137,17 +159,17 @@ fn refused_proofs(rt: HostRuntime) -> Result<(), Fail> {
     assert!(rt; check_commit(&root, &proof) == Err(why));
     proof.start = 2;
     assert!(rt; check_commit(&root, &proof) == Err(CommitRefusal::Shape));
-    Ok(())
 }
 
 #[test]
-fn a_rooted_sample(rt: HostRuntime) -> Result<(), Fail> {
+fn a_rooted_sample(rt: HostRuntime) {
     let alloc = rt.alloc();
-    let shares = vec![in alloc; share(0), share(1), share(2), share(3)]?;
-    let grid = Grid::extend(alloc, &Square { k: 2, shares })?;
-    let header = header_of(alloc, &grid)?.expect(&rt, "the namespaces do not fall");
+    let grid = grid(&rt, alloc);
+    let header = header_of(alloc, &grid)
+        .expect(&rt, "there is memory")
+        .expect(&rt, "the namespaces do not fall");
     let root = data_root(&header);
-    let mut tree = Tree::new(alloc, 4)?;
+    let mut tree = Tree::new(alloc, 4).expect(&rt, "there is memory");
     let cell = Cell { row: 3, col: 1 };
     let message = message_of(&grid, cell, Axis::Col, &mut tree).expect(&rt, "ordered");
     let mut proof = RootedMessage {
@@ -162,5 +184,4 @@ fn a_rooted_sample(rt: HostRuntime) -> Result<(), Fail> {
     proof.k = 2;
     proof.root = header.root_of(Axis::Col, 0);
     assert!(rt; rooted(&root, &proof) == Err(RootedRefusal::Root));
-    Ok(())
 }

@@ -14,7 +14,6 @@ use square_layout::{Block, Square, lay};
 use square_serve::{Held, NsRefusal};
 use std::alloc::Global;
 use std::process::Abort;
-use std::test::Fail;
 
 /// Version 0, 26 zero bytes, 1 and this byte: the namespace of a blob.
 fn name(last: u8) -> Namespace {
@@ -24,25 +23,26 @@ fn name(last: u8) -> Namespace {
 }
 
 /// The square of a block of one blob, the bytes of `abc` under the namespace that ends in 2.
-fn square(alloc: Global) -> Result<Square, Fail> {
+fn square(rt: &impl Abort, alloc: Global) -> Square {
     let blob = Blob {
         namespace: name(2),
-        bytes: Vec::from_slice(alloc, b"abc")?,
+        bytes: Vec::from_slice(alloc, b"abc").expect(rt, "there is memory"),
         signer: None,
     };
     let block = Block {
         units: Vec::new(alloc),
         pay_units: Vec::new(alloc),
-        blobs: vec![in alloc; blob]?,
+        blobs: vec![in alloc; blob].expect(rt, "there is memory"),
         width: None,
     };
-    Ok(lay(alloc, &block)?)
+    lay(alloc, &block).expect(rt, "the block fits")
 }
 
 /// The header of this square.
-fn header(rt: &impl Abort, alloc: Global) -> Result<Header, Fail> {
-    let grid = Grid::extend(alloc, &square(alloc)?)?;
-    Ok(header_of(alloc, &grid)?.expect(rt, "the namespaces do not fall"))
+fn header(rt: &impl Abort, alloc: Global) -> Header {
+    let grid = Grid::extend(alloc, &square(rt, alloc)).expect(rt, "there is memory");
+    let header = header_of(alloc, &grid).expect(rt, "there is memory");
+    header.expect(rt, "the namespaces do not fall")
 }
 
 /// What a follower answers to an answer at its last height.
@@ -95,36 +95,39 @@ fn has_entered<F: Filter>(follower: &Follower<F>, height: u32) -> bool {
 }
 
 /// The whole answer for the namespace that ends in 2, and one without an entry.
-fn answers(alloc: Global) -> Result<(NsAnswer, NsAnswer), Fail> {
-    let mut held = Held::of(alloc, square(alloc)?)?;
-    let whole = held.namespace(alloc, &name(2))?;
+fn answers(rt: &impl Abort, alloc: Global) -> (NsAnswer, NsAnswer) {
+    let mut held = Held::of(alloc, square(rt, alloc)).expect(rt, "there is memory");
+    let whole = held.namespace(alloc, &name(2));
     let entries = Vec::new(alloc);
-    Ok((whole, NsAnswer { entries }))
+    (whole.expect(rt, "there is memory"), NsAnswer { entries })
 }
 
 /// How a follower fares that wants the namespace that ends in 2, and not the one that ends in 3.
-fn follows<F: Filter>(rt: &impl Abort, alloc: Global, filter: F) -> Result<(), Fail>
+fn follows<F: Filter>(rt: &impl Abort, alloc: Global, filter: F)
     requires { IsFilter F.can_ask F.answers filter }
 {
-    let (whole, empty) = answers(alloc)?;
+    let (whole, empty) = answers(rt, alloc);
     let mut follower = Follower::new(alloc, filter);
     assert!(rt; follower.entry(0, &name(2)).is_none(), "no height");
-    follower.header(header(rt, alloc)?)?;
+    follower
+        .header(header(rt, alloc))
+        .expect(rt, "there is memory");
     tell_all(rt, &mut follower, &whole, &empty);
-    follower.header(header(rt, alloc)?)?;
+    follower
+        .header(header(rt, alloc))
+        .expect(rt, "there is memory");
     assert!(rt; follower.heights() == 2, "two heights");
     assert!(rt; follower.entry(1, &name(2)).is_none(), "nothing yet");
     assert!(rt; has_entered(&follower, 0), "the blob");
-    Ok(())
 }
 
 #[test]
-fn one_namespace(rt: HostRuntime) -> Result<(), Fail> {
+fn one_namespace(rt: HostRuntime) {
     follows(
         &rt,
         rt.alloc(),
         |namespace: &Namespace| -> bool
             ensures { result ≡ (slice_index namespace.now.0 28 == 2) }
         { namespace.0[28] == 2 },
-    )
+    );
 }
