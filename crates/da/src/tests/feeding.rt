@@ -7,7 +7,7 @@ use da_wire::{Frame, read_only};
 use data_header::Header;
 use repair_queue::{Session, SessionState};
 use std::alloc::Global;
-use std::test::Fail;
+use std::process::Abort;
 
 /// The header's frame of the square of blobs of 1, 479 and 1 bytes, as it came out of two programs in other languages.
 const HEADER: &str = "\
@@ -55,53 +55,51 @@ fn are(bytes: &[u8], text: &str) -> bool {
 }
 
 /// A file of these bytes, picked. The call with the number `fail` fails; the pick is call 0.
-fn picked(alloc: Global, content: &[u8], fail: u64) -> Result<MemInputs, Fail> {
+fn picked(rt: &impl Abort, alloc: Global, content: &[u8], fail: u64) -> MemInputs {
     let mut files = Vec::new(alloc);
-    add(alloc, &mut files, "m", content)?;
-    let mut inputs = inputs(alloc, &files, fail)?;
-    match inputs.pick(String::from_str(alloc, "m")?) {
-        Ok(()) => Ok(inputs),
-        Err(_) => Err(Fail::new("no file")),
-    }
+    add(rt, alloc, &mut files, "m", content);
+    let mut inputs = inputs(rt, alloc, &files, fail);
+    let name = String::from_str(alloc, "m").expect(rt, "there is memory");
+    inputs.pick(name).expect(rt, "the file is there");
+    inputs
 }
 
 /// What is answered of these samples, and the state of the session then. The call with the number `fail` fails; the pick
 /// is call 0.
 fn answered(
+    rt: &impl Abort,
     alloc: Global,
     header: &Header,
     messages: &[u8],
     limit: u64,
     fail: u64,
-) -> Result<(Result<u64, FeedFault>, SessionState), Fail> {
-    let mut inputs = picked(alloc, messages, fail)?;
-    let Ok(mut session) = Session::new(alloc, header) else {
-        return Err(Fail::new("no memory"));
-    };
+) -> (Result<u64, FeedFault>, SessionState) {
+    let mut inputs = picked(rt, alloc, messages, fail);
+    let mut session = Session::new(alloc, header).expect(rt, "there is memory");
     let answer = feed_all(header, &mut session, &mut inputs, limit.min(FILE_LIMIT));
-    Ok((answer, session.state()))
+    (answer, session.state())
 }
 
 /// The content of a file.
-fn content<'a>(files: &'a [File], name: &str) -> Result<&'a [u8], Fail> {
+fn content<'a>(rt: &impl Abort, files: &'a [File], name: &str) -> &'a [u8] {
     for file in files {
         if file.name.as_str() == name {
-            return Ok(&file.content);
+            return &file.content;
         }
     }
-    Err(Fail::new("no such file"))
+    panic!(rt; "no file {name}")
 }
 
 #[test]
-fn messages_that_are_fed(rt: HostRuntime) -> Result<(), Fail> {
+fn messages_that_are_fed(rt: HostRuntime) {
     let alloc = rt.alloc();
-    let files = files(alloc)?;
-    let frame = content(&files, "h")?;
+    let files = files(&rt, alloc);
+    let frame = content(&rt, &files, "h");
     assert!(rt; are(frame, HEADER));
     let Ok(Frame::Header(header)) = read_only(alloc, frame, b"H") else {
-        return Err(Fail::new("no header"));
+        panic!(rt; "no header");
     };
-    let four = content(&files, "four")?;
+    let four = content(&rt, &files, "four");
     let cut = b"Z\0\0\0\0M\0\0\x02";
     let open = SessionState::Open;
     let cases: [(&[u8], u64, u64, Result<u64, FeedFault>); 7] = [
@@ -114,8 +112,7 @@ fn messages_that_are_fed(rt: HostRuntime) -> Result<(), Fail> {
         (&cut[..5], 9, 99, Ok(1)),
     ];
     for (messages, limit, fail, want) in cases {
-        let got = answered(alloc, &header, messages, limit, fail)?;
+        let got = answered(&rt, alloc, &header, messages, limit, fail);
         assert_eq!(rt; got, (want, open), "{limit} {fail}");
     }
-    Ok(())
 }

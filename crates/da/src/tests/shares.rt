@@ -5,7 +5,8 @@ use namespace_id::{Namespace, NsError, Share, TRANSACTION};
 use share_split::{
     JoinError, MAX_SEQUENCE_LENGTH, SplitError, Unit, blob_shares, join_blobs, unit_shares,
 };
-use std::test::Fail;
+use std::alloc::Global;
+use std::process::Abort;
 
 /// The namespace of version 0 whose id ends so.
 fn name(end: u16) -> Namespace {
@@ -52,77 +53,104 @@ fn padding() -> Share {
     share
 }
 
-#[test]
-fn sequences(rt: HostRuntime) -> Result<(), Fail> {
-    let alloc = rt.alloc();
+/// A padding share with another byte at this place.
+fn other_padding(place: usize, byte: u8) -> Share {
+    let mut share = padding();
+    if let Some(there) = share.0.get_mut(place) {
+        *there = byte;
+    }
+    share
+}
+
+/// The two shares of a blob.
+fn blob(rt: &impl Abort, alloc: Global) -> [Share; 2] {
     let mut shares = Vec::new(alloc);
+    blob_shares(&name(0x0101), &[7; 479], None, &mut shares).expect(rt, "there is memory");
+    let [first, later] = shares.as_slice() else {
+        panic!(rt; "{} shares", shares.len());
+    };
+    [*first, *later]
+}
+
+#[test]
+fn no_bytes(rt: HostRuntime) {
+    let mut shares = Vec::new(rt.alloc());
     assert_eq!(rt;
         blob_shares(&name(0x0101), &[], None, &mut shares),
         Err(SplitError::Empty)
     );
-    blob_shares(&name(0x0101), &[7; 479], None, &mut shares)?;
-    let [first, later] = shares.as_slice() else {
-        panic!(rt; "{} shares", shares.len());
-    };
-    let mut version = padding();
-    version.0[29] = 255;
-    let mut filled_first = padding();
-    filled_first.0[34] = 1;
-    let mut filled_last = padding();
-    filled_last.0[511] = 1;
+    assert!(rt; shares.is_empty());
+}
+
+#[test]
+fn sequences(rt: HostRuntime) {
+    let alloc = rt.alloc();
+    let [first, later] = blob(&rt, alloc);
     let cases = [
         (
             "a later share alone",
-            [*first, *later, *later],
+            [first, later, later],
             JoinError::NoStart(2),
         ),
         (
             "a second blob cut",
-            [*first, *later, *first],
+            [first, later, first],
             JoinError::Short(2),
         ),
         (
             "padding in a blob",
-            [*first, padding(), *later],
+            [first, padding(), later],
             JoinError::MixedNamespace(1),
         ),
+    ];
+    for (name, three, want) in cases {
+        assert_eq!(rt; join_blobs(alloc, &three).err(), Some(want), "{name}");
+    }
+}
+
+#[test]
+fn paddings(rt: HostRuntime) {
+    let alloc = rt.alloc();
+    let [first, later] = blob(&rt, alloc);
+    let cases = [
         (
             "greatest version",
-            [version, *first, *later],
+            [other_padding(29, 255), first, later],
             JoinError::BadVersion(0),
         ),
         (
             "first byte of padding",
-            [filled_first, *first, *later],
+            [other_padding(34, 1), first, later],
             JoinError::NonZeroFill(0),
         ),
         (
             "last byte of padding",
-            [*first, *later, filled_last],
+            [first, later, other_padding(511, 1)],
             JoinError::NonZeroFill(2),
         ),
     ];
     for (name, three, want) in cases {
         assert_eq!(rt; join_blobs(alloc, &three).err(), Some(want), "{name}");
     }
-    Ok(())
 }
 
 /// One byte more than a sequence may have: in a blob, in one unit with its length of five bytes, and by
 /// a last unit, whose length of one byte is too much. The test takes 4 GiB, once.
 #[test]
-fn too_long(rt: HostRuntime) -> Result<(), Fail> {
+fn too_long(rt: HostRuntime) {
     let alloc = rt.alloc();
     let too_long = Err(SplitError::TooLong);
     let mut out = Vec::new(alloc);
     let mut bytes = Vec::new(alloc);
-    bytes.resize(MAX_SEQUENCE_LENGTH + 1, 7)?;
+    bytes
+        .resize(MAX_SEQUENCE_LENGTH + 1, 7)
+        .expect(&rt, "there is memory");
     assert_eq!(rt;
         blob_shares(&name(0x0101), &bytes, None, &mut out),
         too_long
     );
     bytes.truncate(MAX_SEQUENCE_LENGTH - 4);
-    let mut units = vec![in alloc; Unit { bytes }]?;
+    let mut units = vec![in alloc; Unit { bytes }].expect(&rt, "there is memory");
     assert_eq!(rt;
         unit_shares(alloc, &TRANSACTION, &units, &mut out),
         too_long
@@ -130,13 +158,14 @@ fn too_long(rt: HostRuntime) -> Result<(), Fail> {
     for unit in &mut units {
         unit.bytes.truncate(MAX_SEQUENCE_LENGTH - 5);
     }
-    units.push(Unit {
-        bytes: Vec::new(alloc),
-    })?;
+    units
+        .push(Unit {
+            bytes: Vec::new(alloc),
+        })
+        .expect(&rt, "there is memory");
     assert_eq!(rt;
         unit_shares(alloc, &TRANSACTION, &units, &mut out),
         too_long
     );
     assert!(rt; out.is_empty());
-    Ok(())
 }
