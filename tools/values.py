@@ -224,7 +224,9 @@ def draws_and_blocks(values):
         return f"Shape({len(data)}, [{some(data[:4])}], [{some(data[-2:])}])"
 
     units, pays, blobs = generated(7, 4)
-    for what, data in (("unit", units[0]), ("pay_unit", pays[0]), ("one", blobs[0][1]), ("other", blobs[1][1])):
+    for what, data in (("const UNIT: Shape", units[0]), ("const FIRST: Shape", blobs[0][1])):
+        values.stands(path, what, f"{what} = {shape(data)};")
+    for what, data in (("pay_unit", pays[0]), ("other", blobs[1][1])):
         values.stands(path, what, f"let {what} = {shape(data)};")
     values.stands(path, "a namespace", f"second.namespace.0[26..] == {list(blobs[1][0][26:])}")
     (name, data), = generated(7, 1)[2]
