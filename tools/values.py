@@ -125,6 +125,10 @@ class Values:
         with open(os.path.join(self.top, path), encoding="utf-8") as file:
             return file.read()
 
+    def bytes_of(self, path):
+        with open(os.path.join(self.top, path), "rb") as file:
+            return file.read()
+
     def same(self, what, found, want):
         if found == want:
             self.passed += 1
@@ -134,8 +138,7 @@ class Values:
 
     def file(self, path, want):
         """A file of bytes."""
-        with open(os.path.join(self.top, path), "rb") as file:
-            self.same(path, file.read().hex(), want.hex())
+        self.same(path, self.bytes_of(path).hex(), want.hex())
 
     def constant(self, path, name, want):
         """A constant array of bytes, or a text of their hexadecimal digits."""
@@ -187,6 +190,71 @@ def signed_rows(values):
     values.file("rows/commit-signed-blobs/stdout", "".join(f"{it}\n" for it in commitments).encode())
 
 
+def block_of(data):
+    """The width, the units, the payments and the blobs of a block's frame (docs/FORMATS.md, "Payloads")."""
+    at = 5
+
+    def number(size):
+        nonlocal at
+        at += size
+        return int.from_bytes(data[at - size:at], "big")
+
+    def text(size):
+        nonlocal at
+        at += size
+        return data[at - size:at]
+
+    width, lists = number(2), []
+    for _ in range(2):
+        lists.append([text(number(4)) for _ in range(number(4))])
+    blobs = []
+    for _ in range(number(4)):
+        namespace = text(29)
+        signer = text(20) if number(1) else b""
+        blobs.append((namespace, text(number(4)), signer))
+    return width, *lists, blobs
+
+
+def squares_of_rows(values):
+    """The square of each row of `build` that gives one, but of those with a gap, which make.py doesn't lay out; and the header
+    of each row of `header` up to width 4."""
+    rows = os.path.join(values.top, "rows")
+    for row in sorted(os.listdir(rows)):
+        if not row.startswith(("build-", "header-")) or values.read(f"rows/{row}/status").strip() != "0":
+            continue
+        file = os.path.normpath(os.path.join("rows", row, values.read(f"rows/{row}/args").splitlines()[1]))
+        if not os.path.exists(os.path.join(values.top, file)) or not os.path.exists(os.path.join(rows, row, "stdout")):
+            continue
+        data = values.bytes_of(file)
+        if row.startswith("header-"):
+            k = int.from_bytes(data[5:7], "big")
+            if k <= 4:
+                shares = [data[7 + 512 * i:][:512] for i in range(k * k)]
+                values.file(f"rows/{row}/stdout", make.Grid(k, make.extend(k, shares)).header())
+            continue
+        width, units, pays, blobs = block_of(data)
+        if all(len(make.blob_shares(*blob)) <= 64 for blob in blobs):
+            count = len(make.square_of(0, blobs, units, pays))
+            k = width or next(1 << i for i in range(8) if 1 << 2 * i >= max(count, 1))
+            values.file(f"rows/{row}/stdout", make.square(k, make.square_of(k, blobs, units, pays)))
+
+
+def commitments_of_rows(values):
+    """What `commit` tells of each blob of some rows."""
+    for row in ("of-the-squares-test", "the-documentations-blob", "the-same-bytes-by-each-signer", "blobs-of-many-subtrees"):
+        lines = [f"{commitment_of(blob).hex()}\n" for blob in block_of(values.bytes_of(f"rows/commit-{row}/block"))[3]]
+        values.file(f"rows/commit-{row}/stdout", "".join(lines).encode())
+
+
+def commitment_of(blob):
+    """The commitment of a blob, over its subtrees (docs/RULES.md, "Subtrees")."""
+    shares, subtrees = make.blob_shares(*blob), []
+    for size in make.cut(len(shares), make.subtree_width(len(shares))):
+        subtrees.append(make.root([make.leaf(share[:29], share) for share in shares[:size]]))
+        shares = shares[size:]
+    return make.plain_root(subtrees)
+
+
 def three_blobs():
     """The extension of the square of the tests: blobs of 1, 479 and 1 bytes."""
     long, byte = b"", 63
@@ -218,22 +286,20 @@ def draws_and_blocks(values):
         text = f"least: [{cells(least)}], some: [{cells(some)}], most: [{cells(most[:3])}], last: {cells(most[-1:])},"
         values.stands(path, name, f"let {name} = Drawn {{ {text} }};")
     path = "crates/square_tests/src/generated.rt"
-
-    def shape(data):
-        some = lambda part: ", ".join(f"0x{byte:02x}" for byte in part)
-        return f"Shape({len(data)}, [{some(data[:4])}], [{some(data[-2:])}])"
-
-    units, pays, blobs = generated(7, 4)
-    for what, data in (("const UNIT: Shape", units[0]), ("const FIRST: Shape", blobs[0][1])):
-        values.stands(path, what, f"{what} = {shape(data)};")
-    for what, data in (("pay_unit", pays[0]), ("other", blobs[1][1])):
-        values.stands(path, what, f"let {what} = {shape(data)};")
-    values.stands(path, "a namespace", f"second.namespace.0[26..] == {list(blobs[1][0][26:])}")
     (name, data), = generated(7, 1)[2]
-    values.stands(path, "the least block", f"let shape = {shape(data)};")
+    some = lambda part: ", ".join(f"0x{byte:02x}" for byte in part)
+    values.stands(path, "the length of the least block's blob", f"blob.bytes.len() == {len(data)}")
+    values.stands(path, "its front", f"blob.bytes.starts_with(&[{some(data[:4])}])")
+    values.stands(path, "its end", f"blob.bytes.ends_with(&[{some(data[-2:])}])")
     values.stands(path, "its namespace", f"blob.namespace.0[18..] == {list(name[18:])}")
 
-    for number, k, places in ((7, 2, ("README.md", "docs/TUTORIAL.md", "docs/da.1")), (3, 16, ("docs/TUTORIAL.md",))):
+    rows = lambda name: f"rows/demo-{name}/stdout"
+    for number, k, places in (
+        (7, 2, ("README.md", "docs/TUTORIAL.md", "docs/da.1", rows("7-in-width-2"))),
+        (2**64 - 1, 2, (rows("of-the-greatest-number"),)),
+        (3, 4, (rows("3-in-width-4"),)),
+        (3, 16, ("docs/TUTORIAL.md", rows("3-in-width-16"))),
+    ):
         units, pays, blobs = generated(number, k)
         grid = make.Grid(k, make.extend(k, make.square_of(k, blobs, units, pays)))
         for path in places:
@@ -274,6 +340,8 @@ def main(words_given):
     digests_of_tests(values)
     digests_of_rows(values)
     signed_rows(values)
+    squares_of_rows(values)
+    commitments_of_rows(values)
     draws_and_blocks(values)
     code_of_tests(values)
     print(f"{values.passed} passed, {values.failed} failed")

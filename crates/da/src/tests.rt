@@ -3,4 +3,3 @@
 
 mod failures;
 mod feeding;
-mod shares;

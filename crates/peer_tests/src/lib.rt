@@ -1,5 +1,6 @@
 //! Tests of what no proof can show of frames, streams, files, light nodes and networks: the bytes of the format, reads and
-//! writes that fail, and calls that succeed where memory is ample.
+//! writes that fail, and calls that succeed where memory is ample. What the program tells of them over files is shown by the
+//! rows of rows/ at the repository's top.
 #![tactic(auto)]
 
 #[cfg(test)]
@@ -8,8 +9,6 @@ mod files;
 mod light_nodes;
 #[cfg(test)]
 mod networks;
-#[cfg(test)]
-mod payloads;
 #[cfg(test)]
 mod runs;
 #[cfg(test)]

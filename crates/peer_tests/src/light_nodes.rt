@@ -1,13 +1,14 @@
-//! Light nodes on the headers of the two squares.
+//! A light node whose picker is a closure, and which is told to pick more. What comes of claims is shown by rows of the
+//! command `light`.
 
 ghost use Rattle.std.specs.Prelude.{◌≡◌, ℕ, ◌<◌, true};
 ghost use Rattle.namespace_id.specs.Cells.{is_in_square};
 ghost use Rattle.light_node.specs.Plans.{PicksInside};
 
-use crate::squares::{DATA_ROOT, bad_grid, grid, header, message};
-use axis_roots::{FraudClaim, Grid, Message};
+use crate::squares::{DATA_ROOT, grid, header, message};
+use axis_roots::{Grid, Message};
 use data_header::data_root;
-use light_node::{Event, Light, LightNode, LightState, Picker};
+use light_node::{Event, LightNode, LightState, Picker};
 use namespace_id::{Axis, Cell, CellRoom, Share};
 use nmt_proofs::Path;
 use std::alloc::Global;
@@ -33,27 +34,6 @@ fn unproved(cell: Cell) -> Event {
         axis: Axis::Row,
         share: Share([5; 512]),
         path: Path::new(),
-    })
-}
-
-/// The claim on row 3 with its cells of two columns, each proved along its column.
-fn claim(rt: &impl Abort, alloc: Global, grid: &Grid, first: u16, second: u16) -> Event {
-    let one = message(rt, alloc, grid, Cell { row: 3, col: first }, Axis::Col);
-    let two = message(
-        rt,
-        alloc,
-        grid,
-        Cell {
-            row: 3,
-            col: second,
-        },
-        Axis::Col,
-    );
-    Event::Claim(FraudClaim {
-        axis: Axis::Row,
-        index: 3,
-        cells: vec![in alloc; one, two].expect(rt, "there is memory"),
-        set: None,
     })
 }
 
@@ -100,72 +80,6 @@ fn follows_the_diagonal<F: Picker>(rt: &impl Abort, alloc: Global, pick: F)
     assert!(rt; room.cells() == &DIAGONAL[2..], "two more");
 }
 
-/// How many cells a node waits for at its end that picked three times.
-fn waits_for<F: Picker>(rt: &impl Abort, alloc: Global, pick: F) -> usize
-    requires { PicksInside F.can_pick F.picks pick 3 2 }
-{
-    let header = header(rt, alloc, &grid(rt, alloc));
-    let room = CellRoom::new(alloc, 2).expect(rt, "there is memory");
-    let mut node = LightNode::new(alloc, &header, 3, pick).expect(rt, "there is memory");
-    node.more(3).expect(rt, "there is memory");
-    match node.finish(room) {
-        Light::Waiting(cells) => cells.list.len(),
-        Light::Available => 0,
-        Light::Rejected(upheld) => {
-            let _claim = upheld.into_claim();
-            panic!(rt; "a claim was accepted")
-        }
-    }
-}
-
-/// A claim is the one by the cells of the first two columns.
-fn is_first(rt: &impl Abort, claim: FraudClaim) {
-    assert_eq!(rt; (claim.axis, claim.index), (Axis::Row, 3));
-    let [one, two] = claim.cells.as_slice() else {
-        panic!(rt; "not the first claim");
-    };
-    assert_eq!(rt; one.cell, Cell { row: 3, col: 0 });
-    assert_eq!(rt; two.cell, Cell { row: 3, col: 1 });
-}
-
-/// How a node that draws nothing fares on the header of the square with a changed byte: the first
-/// accepted claim stays, whatever comes behind it.
-fn keeps_the_first_claim<F: Picker>(rt: &impl Abort, alloc: Global, pick: F)
-    requires { PicksInside F.can_pick F.picks pick 0 2 }
-{
-    let grid = bad_grid(rt, alloc);
-    let header = header(rt, alloc, &grid);
-    let room = CellRoom::new(alloc, 2).expect(rt, "there is memory");
-    let mut node = LightNode::new(alloc, &header, 0, pick).expect(rt, "there is memory");
-    let available = LightState::Available;
-    let rejected = LightState::Rejected;
-    tell(
-        rt,
-        &mut node,
-        unproved(DIAGONAL[0]),
-        available,
-        "not proved",
-    );
-    let falling = claim(rt, alloc, &grid, 1, 0);
-    tell(
-        rt,
-        &mut node,
-        falling,
-        available,
-        "a claim whose cells fall",
-    );
-    let first = claim(rt, alloc, &grid, 0, 1);
-    tell(rt, &mut node, first, rejected, "an accepted claim");
-    let later = claim(rt, alloc, &grid, 0, 2);
-    tell(rt, &mut node, later, rejected, "a later claim");
-    let shown = sample(rt, alloc, &grid, DIAGONAL[0]);
-    tell(rt, &mut node, shown, rejected, "a later sample");
-    match node.finish(room) {
-        Light::Waiting(_) | Light::Available => panic!(rt; "no claim was accepted"),
-        Light::Rejected(upheld) => is_first(rt, upheld.into_claim()),
-    }
-}
-
 #[test]
 fn diagonal(rt: HostRuntime) {
     follows_the_diagonal(
@@ -180,28 +94,5 @@ fn diagonal(rt: HostRuntime) {
                 col: number as u16,
             }
         },
-    );
-}
-
-#[test]
-fn one_cell_again_and_again(rt: HostRuntime) {
-    let found = waits_for(
-        &rt,
-        rt.alloc(),
-        |_number: u32| -> Cell
-            ensures { is_in_square 2 result ≡ true }
-        { Cell { row: 1, col: 2 } },
-    );
-    assert_eq!(rt; found, 1);
-}
-
-#[test]
-fn first_claim(rt: HostRuntime) {
-    keeps_the_first_claim(
-        &rt,
-        rt.alloc(),
-        |_number: u32| -> Cell
-            ensures { is_in_square 2 result ≡ true }
-        { Cell { row: 0, col: 0 } },
     );
 }

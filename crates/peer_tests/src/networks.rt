@@ -1,6 +1,6 @@
 //! A network that was made for no items. What other steps come to is shown by rows of the command `net`.
 
-use crate::squares::{bad_grid, header, message};
+use crate::squares::{grid, header, message};
 use da_net::{Item, Net, NetEvent, StepRefusal};
 use light_node::{LightNode, Picker};
 use namespace_id::{Axis, Cell};
@@ -9,7 +9,7 @@ use std::process::Abort;
 
 /// Whether a sample that is put into a network of one full node and no items comes back.
 fn comes_back<F: Picker>(rt: &impl Abort, alloc: Global, _pick: F) -> bool {
-    let grid = bad_grid(rt, alloc);
+    let grid = grid(rt, alloc);
     let nobody: Vec<LightNode<F>> = Vec::new(alloc);
     let message = message(rt, alloc, &grid, Cell { row: 3, col: 0 }, Axis::Col);
     let header = header(rt, alloc, &grid);

@@ -1,11 +1,11 @@
 //! Answers to requests for a namespace.
 
-use crate::inputs::{header_of_sevens, named_share, square_of, version_0};
-use axis_roots::{Found, NsAnswer, NsEntry, ShareList};
-use namespace_id::{Axis, Cell, Digest, Namespace, PARITY};
+use crate::inputs::{named_share, square_of, version_0};
+use axis_roots::{Found, NsAnswer, NsEntry};
+use namespace_id::{Axis, Cell};
 use nmt_proofs::{Nodes, OpenRefusal};
 use nmt_tree::leaf;
-use square_serve::{Held, HeldError, NsRefusal, check_namespace};
+use square_serve::{Held, NsRefusal, check_namespace};
 use std::alloc::Global;
 use std::process::Abort;
 
@@ -13,48 +13,6 @@ use std::process::Abort;
 fn answer(rt: &impl Abort, alloc: Global, found: Found) -> NsAnswer {
     let entries = vec![in alloc; NsEntry { row: 0, found }].expect(rt, "there is memory");
     NsAnswer { entries }
-}
-
-/// An absence at this column without nodes.
-fn absence(pos: u16) -> Found {
-    Found::Absence {
-        pos,
-        leaf: Digest([7; 90]),
-        nodes: Nodes::new(),
-    }
-}
-
-#[test]
-fn answers_for_one_row(rt: HostRuntime) {
-    let header = header_of_sevens(&rt, rt.alloc());
-    let empty = NsAnswer {
-        entries: Vec::new(rt.alloc()),
-    };
-    let inside = answer(&rt, rt.alloc(), absence(0));
-    let outside = answer(&rt, rt.alloc(), absence(1));
-    let held = Namespace([7; 29]);
-    let other = Namespace([8; 29]);
-    let rows = Err(NsRefusal::Rows(0));
-    let nodes = Err(NsRefusal::Proof(0, OpenRefusal::NodeCount));
-    let got = check_namespace(&header, &PARITY, &empty);
-    assert!(rt; got == Err(NsRefusal::Parity), "parity");
-    assert!(rt; check_namespace(&header, &held, &empty) == rows, "no entry");
-    assert!(rt;
-        check_namespace(&header, &held, &outside) == rows,
-        "column 1"
-    );
-    assert!(rt;
-        check_namespace(&header, &other, &inside) == rows,
-        "row not wanted"
-    );
-    assert!(rt;
-        check_namespace(&header, &held, &inside) == nodes,
-        "no nodes"
-    );
-    assert!(rt;
-        check_namespace(&header, &other, &empty) == Ok(()),
-        "no row wanted"
-    );
 }
 
 /// The square of these namespaces, held.
@@ -117,25 +75,6 @@ fn refusal(rt: &impl Abort, alloc: Global, held: &mut Held, found: Found) -> Opt
 }
 
 #[test]
-fn one_of_two_shares(rt: HostRuntime) {
-    let alloc = rt.alloc();
-    let mut held = held(&rt, alloc, [3, 3, 5, 7]);
-    for col in 0..2 {
-        let list = vec![in alloc; named_share(3)].expect(&rt, "there is memory");
-        let found = Found::Range {
-            start: col,
-            shares: ShareList { list },
-            nodes: nodes_beside(&rt, &mut held, col, true),
-        };
-        let want = Some(NsRefusal::Proof(0, OpenRefusal::Incomplete(0)));
-        assert!(rt;
-            refusal(&rt, alloc, &mut held, found) == want,
-            "column {col}"
-        );
-    }
-}
-
-#[test]
 fn absences_at_other_places(rt: HostRuntime) {
     let alloc = rt.alloc();
     let mut held = held(&rt, alloc, [1, 4, 5, 7]);
@@ -154,10 +93,4 @@ fn absences_at_other_places(rt: HostRuntime) {
         };
         assert!(rt; refusal(&rt, alloc, &mut held, found) == want, "{name}");
     }
-}
-
-#[test]
-fn falling_namespaces_are_not_held(rt: HostRuntime) {
-    let falling = square_of(&rt, rt.alloc(), [3, 1, 3, 7]);
-    assert!(rt; Held::of(rt.alloc(), falling).err() == Some(HeldError::NoHeader));
 }

@@ -1,5 +1,6 @@
-//! What of fields, codes, trees, proofs, squares, samples and fraud claims no proof can show: values
-//! that other programs give, and calls that succeed with ample memory.
+//! What of fields, codes, units, proofs, samples and generated blocks no proof can show: values that
+//! other programs give, and calls that succeed with ample memory. What the program tells of them over
+//! files is shown by the rows of rows/ at the repository's top.
 #![tactic(auto)]
 
 #[cfg(test)]
@@ -13,30 +14,16 @@ mod codewords;
 #[cfg(test)]
 mod fields;
 #[cfg(test)]
-mod fraud_claims;
-#[cfg(test)]
 mod generated;
-#[cfg(test)]
-mod grids;
 #[cfg(test)]
 mod headers;
 #[cfg(test)]
 mod inputs;
 #[cfg(test)]
-mod joining;
-#[cfg(test)]
-mod layouts;
-#[cfg(test)]
-mod messages;
-#[cfg(test)]
 mod namespaces;
 #[cfg(test)]
-mod openings;
-#[cfg(test)]
-mod partials;
-#[cfg(test)]
-mod splitting;
+mod sequences;
 #[cfg(test)]
 mod transforms;
 #[cfg(test)]
-mod trees;
+mod units;
