@@ -14,8 +14,9 @@ use crate::frames::is_long;
 use axis_roots::{CheckRefusal, PartialTrees, opens_by};
 use da_io::{LineRoom, Sink};
 use da_status::Status;
-use da_wire::{RawFrame, message, next_frame};
+use da_wire::{RawFrame, next_frame};
 use data_header::Header;
+use frame_fields::message;
 use std::alloc::Global;
 
 /// What `check` finds of a frame.

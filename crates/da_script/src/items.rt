@@ -9,7 +9,8 @@ ghost use Rattle.da_script.specs.Parts.{AreItems, IsPuttable};
 
 use crate::reading::Move;
 use da_net::{Item, NetEvent};
-use da_wire::{RawFrame, claim, message, next_frame};
+use da_wire::{RawFrame, claim, next_frame};
+use frame_fields::message;
 use namespace_id::NoMemory;
 use std::alloc::Global;
 

@@ -3,7 +3,8 @@ use Rattle.std.proofs.Common.{◌≡◌, ℕ, ◌<◌, ◌≤◌, List, length, 
 use Rattle.namespace_id.specs.Bytes.{AreBytes}
 use Rattle.axis_roots.specs.declared.message.messages.Message.{Message}
 use Rattle.axis_roots.specs.Messages.{IsMessage}
-use Rattle.da_wire.specs.kinds.Message.{message_payload, message_at}
+use Rattle.frame_fields.specs.Messages.{message_at}
+use Rattle.da_wire.specs.kinds.Message.{message_payload}
 use Rattle.da_wire.proofs.kinds.PayloadSizes.{length-message}
 use Rattle.da_wire.proofs.kinds.MessageForm.{message_takes}
 pub use Rattle.da_wire.proofs.codec.Digests.{length-digest_bytes}

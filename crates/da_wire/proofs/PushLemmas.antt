@@ -12,7 +12,7 @@ use Rattle.da_wire.specs.declared.streams.Pushed.TheVariants as pushed
 use Rattle.da_wire.specs.Spelling.{message_kind}
 use Rattle.da_wire.specs.Reading.{Raw, promised}
 use Rattle.da_wire.specs.Frames.{frames_of, message_in}
-use Rattle.da_wire.specs.kinds.Message.{message_at}
+use Rattle.frame_fields.specs.Messages.{message_at}
 use Rattle.da_wire.specs.StreamParts.{StreamParts, front_size, under_way, is_long, front_message, IsStream, IsUnfinished, Keeps, IsTaken}
 use Rattle.da_wire.specs.Streams.{StandsFor, IsPush, first_refusal}
 use Rattle.da_wire.proofs.RawLemmas.{frame_at}

@@ -16,7 +16,7 @@ use Rattle.da_wire.specs.Values.{value_in, value_and_rest, values_of}
 use Rattle.da_wire.specs.Single.{single, of_payload, header_of, square_of, message_of, claim_of, missing_of, block_of}
 use Rattle.da_wire.specs.kinds.Header.{header_at}
 use Rattle.da_wire.specs.kinds.Square.{square_at}
-use Rattle.da_wire.specs.kinds.Message.{message_at}
+use Rattle.frame_fields.specs.Messages.{message_at}
 use Rattle.da_wire.specs.kinds.Fraud.{fraud_at}
 use Rattle.da_wire.specs.kinds.Missing.{missing_at}
 use Rattle.da_wire.specs.kinds.Requests.{sample_at, request_at}

@@ -1,4 +1,3 @@
-pub mod SplitLoops
 pub mod Readers
 pub mod Numbers
 pub mod Strings

@@ -7,7 +7,7 @@ use Rattle.std.specs.List.{list_any}
 use Rattle.da_wire.specs.declared.frames.Frame.{Frame}
 use Rattle.da_wire.specs.declared.kinds.Kind.{Kind}
 use Rattle.da_wire.specs.declared.kinds.Kind.TheVariants as kinds
-use Rattle.da_wire.specs.codec.Fields.{◌>>=◌}
+use Rattle.frame_fields.specs.Fields.{◌>>=◌}
 use Rattle.da_wire.specs.declared.frames.Frame.TheVariants.{Header, Square, Message, Names, Fraud, Missing, Clash, Sample, Request, Block, Commit, Rooted}
 use Rattle.da_wire.specs.declared.frames.RawFrame.{RawFrame}
 use Rattle.da_wire.specs.declared.frames.FrameError.{FrameError}
@@ -15,7 +15,7 @@ use Rattle.da_wire.specs.declared.frames.FrameError.TheVariants.{Truncated, BadK
 use Rattle.da_wire.specs.Spelling.{max_payload, header_kind, square_kind, message_kind, names_kind, fraud_kind, missing_kind, clash_kind, sample_kind, request_kind, block_kind, commit_kind, rooted_kind}
 use Rattle.da_wire.specs.kinds.Header.{header_at}
 use Rattle.da_wire.specs.kinds.Square.{square_at}
-use Rattle.da_wire.specs.kinds.Message.{message_at}
+use Rattle.frame_fields.specs.Messages.{message_at}
 use Rattle.da_wire.specs.kinds.Names.{names_at}
 use Rattle.da_wire.specs.kinds.Fraud.{fraud_at}
 use Rattle.da_wire.specs.kinds.Missing.{missing_at}

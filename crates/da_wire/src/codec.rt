@@ -1,5 +1,4 @@
-//! Fields of a payload: read, measured, appended.
+//! Fields of a payload: measured, appended.
 
 pub(crate) mod appending;
-pub(crate) mod fields;
 pub(crate) mod sizes;

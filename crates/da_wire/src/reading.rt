@@ -25,13 +25,13 @@ use crate::kinds::clash::clash;
 use crate::kinds::commit::{commit, commit_parts};
 use crate::kinds::fraud::{fraud, is_fraud};
 use crate::kinds::header::{header, header_parts};
-use crate::kinds::message::message;
 use crate::kinds::missing::{missing, missing_parts};
 use crate::kinds::names::{names, names_parts};
 use crate::kinds::requests::{request, sample};
 use crate::kinds::rooted::rooted;
 use crate::kinds::square::{square, square_parts};
 use crate::{Frame, FrameError, RawFrame};
+use frame_fields::message;
 use std::alloc::{AllocError, Global};
 
 /// The greatest payload of a frame, 16 MiB.

@@ -12,9 +12,9 @@ ghost use Rattle.da_wire.specs.Streams.{StandsFor, IsPush, first_refusal, offset
 ghost use Rattle.da_wire.specs.Frames.{bad_frame};
 
 use crate::codec::sizes::HEAD_SIZE;
-use crate::kinds::message::message;
 use crate::{FrameError, MAX_PAYLOAD};
 use axis_roots::Message;
+use frame_fields::message;
 use namespace_id::{bytes_law, write_at};
 use std::marker::Model;
 

@@ -13,7 +13,7 @@ use Rattle.axis_roots.specs.Own.{IsOwn}
 use Rattle.axis_roots.specs.Openings.{IsProved}
 use Rattle.da_wire.specs.Spelling.{message_kind}
 use Rattle.da_wire.specs.Reading.{Raw}
-use Rattle.da_wire.specs.kinds.Message.{message_at}
+use Rattle.frame_fields.specs.Messages.{message_at}
 use Rattle.da_wire.specs.Laws.{MessageIsSpelled}
 use Rattle.std.specs.declared.option.Option.{Option}
 use Rattle.data_header.specs.Headers.{Roots, AreRoots}

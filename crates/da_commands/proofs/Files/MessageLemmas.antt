@@ -10,7 +10,7 @@ use Rattle.axis_roots.specs.Messages.{IsMessage}
 use Rattle.da_wire.specs.Reading.{Raw}
 use Rattle.da_wire.specs.Spelling.{message_kind}
 use Rattle.da_wire.specs.Frames.{message_in}
-use Rattle.da_wire.specs.kinds.Message.{message_at}
+use Rattle.frame_fields.specs.Messages.{message_at}
 use Rattle.da_wire.specs.Laws.{MessageIsSpelled}
 use Rattle.da_commands.specs.Repair.{messages_in}
 use Rattle.da_commands.proofs.Answering.CheckLemmas.{in_grammar}

@@ -8,7 +8,7 @@ use Rattle.namespace_id.specs.declared.cells.Cell.{Cell}
 use Rattle.namespace_id.specs.Bytes.{AreBytes}
 use Rattle.namespace_id.specs.Cells.{cell_in}
 use Rattle.namespace_id.proofs.StringLemmas.{AreBytes-take, AreBytes-drop}
-use Rattle.da_wire.specs.codec.Fields.{◌>>=◌, number_at, cells_of, cell_at}
+use Rattle.frame_fields.specs.Fields.{◌>>=◌, number_at, cells_of, cell_at}
 use Rattle.da_wire.specs.codec.Texts.{cell_bytes, IsCell}
 use Rattle.da_wire.proofs.codec.Readers.{bind_some, bind_again, Takes, Takes-then, Takes-read}
 use Rattle.da_wire.proofs.codec.Numbers.{wide16, number_takes, number_again}

@@ -4,7 +4,7 @@ use Rattle.std.specs.Int.{w16, to_be_bytes}
 use Rattle.namespace_id.specs.declared.digests.Digest.{Digest}
 use Rattle.namespace_id.specs.Bytes.{AreBytes}
 use Rattle.namespace_id.specs.Digests.{AreDigests}
-use Rattle.da_wire.specs.codec.Fields.{◌>>=◌, count_at, digests_at, digest_list_at}
+use Rattle.frame_fields.specs.Fields.{◌>>=◌, count_at, digests_at, digest_list_at}
 use Rattle.da_wire.specs.codec.Texts.{digest_bytes, digest_list}
 use Rattle.da_wire.proofs.codec.Readers.{bind_some, bind_again, Takes, Takes-then}
 use Rattle.da_wire.proofs.codec.Numbers.{wide16, count_takes, count_again}

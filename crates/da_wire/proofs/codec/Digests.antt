@@ -3,7 +3,7 @@ use Rattle.std.proofs.Common.{◌≡◌, ℕ, ◌*◌, ◌≤◌, List, ◌++◌
 use Rattle.namespace_id.specs.declared.digests.Digest.{Digest}
 use Rattle.namespace_id.specs.Bytes.{AreBytes}
 use Rattle.namespace_id.specs.Digests.{AreDigests}
-use Rattle.da_wire.specs.codec.Fields.{digest, digests_of, digests_at}
+use Rattle.frame_fields.specs.Fields.{digest, digests_of, digests_at}
 use Rattle.da_wire.specs.codec.Texts.{digest_bytes}
 use Rattle.da_wire.proofs.codec.Readers.{Takes}
 use Rattle.da_wire.proofs.codec.Split.{AreTexts, length-split_into, are_values_of, value_bytes-of, length-value_bytes, split_into-spelled, values_take, values_again}

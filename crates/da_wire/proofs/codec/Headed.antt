@@ -1,7 +1,7 @@
 -- A field, and then a list that ends the bytes: what is made of both, and where nothing is.
 use Rattle.std.proofs.Common.{◌≡◌, ◌∙◌, ℕ, Bool, eqb, cond, List, length, Option, None, Some, ap, eqb-true}
 use Rattle.std.proofs.lemmas.Option.{cond_some}
-use Rattle.da_wire.specs.codec.Fields.{◌>>=◌, read_items, read_rest}
+use Rattle.frame_fields.specs.Fields.{◌>>=◌, read_items, read_rest}
 use Rattle.da_wire.proofs.codec.Readers.{bind_some}
 use Rattle.da_wire.proofs.codec.Many.{made, not_made, by_rest}
 

@@ -5,7 +5,7 @@ use Rattle.std.specs.List.{flat_map, AllByRecursion}
 use Rattle.std.proofs.lemmas.List.{length-append}
 use Rattle.std.proofs.lemmas.Option.{some_pair_parts}
 use Rattle.namespace_id.specs.Bytes.{AreBytes}
-use Rattle.da_wire.specs.codec.Fields.{◌>>=◌, count_at, many_at, list_at}
+use Rattle.frame_fields.specs.Fields.{◌>>=◌, count_at, many_at, list_at}
 use Rattle.da_wire.specs.codec.Texts.{list_bytes}
 use Rattle.da_wire.proofs.codec.Readers.{bind_some, bind_again, Takes, Takes-is, Takes-then}
 use Rattle.da_wire.proofs.codec.Numbers.{IsWide, count_takes, count_again}

@@ -3,7 +3,7 @@
 use Rattle.std.proofs.Common.{◌≡◌, ◌∙◌, ℕ, suc, ◌+◌, ◌-◌, ◌<◌, ◌≤◌, Bool, eqb, cond, List, [], ◌∷◌, ◌++◌, length, Option, Some, None, IsSome, refl, sym, ap, subst, arith, append_assoc, append-nil}
 use Rattle.std.proofs.lemmas.Option.{same_Some}
 use Rattle.namespace_id.specs.Answers.{Gives}
-use Rattle.da_wire.specs.codec.Fields.{◌>>=◌, many_at, read_items, read_rest}
+use Rattle.frame_fields.specs.Fields.{◌>>=◌, many_at, read_items, read_rest}
 
 -- a reader's values with one more before them
 abbrev pub after_first : {A : Type 0} → A → Option (List A × List ℕ) → Option (List A × List ℕ)

@@ -4,7 +4,7 @@ use Rattle.std.specs.Int.{Width, w16, w32, byte_len, from_be_bytes, to_be_bytes}
 use Rattle.std.proofs.lemmas.Nat.{be_bytes_2, be_bytes_4, from_be_bytes-to_be_bytes_2, from_be_bytes-to_be_bytes_4}
 use Rattle.namespace_id.specs.Bytes.{AreBytes}
 use Rattle.std.proofs.lemmas.Option.{some_pair_parts}
-use Rattle.da_wire.specs.codec.Fields.{number_at, count_at}
+use Rattle.frame_fields.specs.Fields.{number_at, count_at}
 use Rattle.da_wire.proofs.codec.Readers.{bind_some, bind_again, if_false, if_false_again, Takes, Takes-is, front_takes, front_again}
 
 -- numbers below a limit are strings of one length, and back

@@ -7,7 +7,7 @@ use Rattle.namespace_id.specs.declared.cells.Axis.TheVariants.{Row, Col}
 use Rattle.namespace_id.specs.declared.digests.Digest.{Digest}
 use Rattle.namespace_id.specs.Bytes.{AreBytes}
 use Rattle.namespace_id.specs.Digests.{AreDigests}
-use Rattle.da_wire.specs.codec.Fields.{byte_at, digests_at, axis_at, path_at}
+use Rattle.frame_fields.specs.Fields.{byte_at, digests_at, axis_at, path_at}
 use Rattle.da_wire.specs.codec.Texts.{digest_bytes, axis_byte}
 use Rattle.da_wire.proofs.codec.Readers.{bind_some, if_false, if_false_again, Takes, Takes-then}
 use Rattle.da_wire.proofs.codec.Strings.{AreBytes-rest, byte_takes}

@@ -6,7 +6,7 @@ use Rattle.std.specs.Option.{option_map, option_map_or}
 use Rattle.std.proofs.lemmas.Option.{some_pair_parts, same_Some}
 use Rattle.namespace_id.specs.Bytes.{AreBytes, IsString}
 use Rattle.namespace_id.proofs.StringLemmas.{AreBytes-take, AreBytes-drop}
-use Rattle.da_wire.specs.codec.Fields.{◌>>=◌}
+use Rattle.frame_fields.specs.Fields.{◌>>=◌}
 use Rattle.da_wire.specs.Frames.{ok_of}
 
 -- ---- steps

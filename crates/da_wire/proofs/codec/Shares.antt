@@ -3,7 +3,7 @@ use Rattle.std.proofs.Common.{◌≡◌, ◌*◌, ℕ, List, ◌++◌, length, S
 use Rattle.namespace_id.specs.declared.shares.Share.{Share}
 use Rattle.namespace_id.specs.Bytes.{AreBytes}
 use Rattle.namespace_id.specs.Shares.{AreShares, share_of}
-use Rattle.da_wire.specs.codec.Fields.{shares_at}
+use Rattle.frame_fields.specs.Fields.{shares_at}
 use Rattle.da_wire.specs.codec.Texts.{share_bytes}
 use Rattle.da_wire.proofs.codec.Readers.{Takes}
 use Rattle.da_wire.proofs.codec.Split.{AreTexts, length-value_bytes, values_take, values_again}

@@ -4,7 +4,7 @@ use Rattle.std.specs.List.{flat_map, AllByRecursion}
 use Rattle.std.proofs.lemmas.List.{take_at, drop_at, take-append-drop, length-append, length-drop, nil_from_length}
 use Rattle.namespace_id.specs.Bytes.{AreBytes, IsString}
 use Rattle.namespace_id.proofs.StringLemmas.{AreBytes-take, AreBytes-drop}
-use Rattle.da_wire.specs.codec.Fields.{split_into, values_at}
+use Rattle.frame_fields.specs.Fields.{split_into, values_at}
 use Rattle.da_wire.proofs.codec.Readers.{Takes, Takes-is, front_takes, front_again}
 
 -- values that are strings, and the strings that they are

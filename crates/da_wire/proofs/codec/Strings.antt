@@ -2,7 +2,7 @@
 use Rattle.std.proofs.Common.{◌≡◌, ℕ, suc, ◌<◌, List, [], ◌∷◌, ◌++◌, length, take, Some, refl, ap₂, subst}
 use Rattle.std.proofs.lemmas.Option.{some_pair_parts}
 use Rattle.namespace_id.specs.Bytes.{AreBytes, IsString}
-use Rattle.da_wire.specs.codec.Fields.{byte_at, string_at}
+use Rattle.frame_fields.specs.Fields.{byte_at, string_at}
 use Rattle.da_wire.proofs.codec.Readers.{Takes, Takes-is, front_takes, front_again}
 
 -- the bytes after the first are bytes

@@ -3,7 +3,7 @@
 use Rattle.std.proofs.Common.{◌≡◌, ℕ, ◌^◌, ◌<◌, ◌≤◌, List, ◌++◌, length, Option, Some, refl, sym, subst, append_assoc}
 use Rattle.std.specs.Int.{Width, to_be_bytes}
 use Rattle.namespace_id.specs.Bytes.{AreBytes}
-use Rattle.da_wire.specs.codec.Fields.{◌>>=◌, count_at, string_at, text_at}
+use Rattle.frame_fields.specs.Fields.{◌>>=◌, count_at, string_at, text_at}
 use Rattle.da_wire.specs.codec.Texts.{text_bytes}
 use Rattle.da_wire.proofs.codec.Readers.{bind_some, bind_again, Takes, Takes-then}
 use Rattle.da_wire.proofs.codec.Numbers.{IsWide, count_takes, count_again}

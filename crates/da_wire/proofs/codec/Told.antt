@@ -4,7 +4,7 @@ use Rattle.std.proofs.Common.{◌≡◌, ◌∙◌, ℕ, ◌+◌, ◌-◌, ◌<�
 use Rattle.std.specs.List.{list_any}
 use Rattle.std.specs.Option.{option_map}
 use Rattle.std.proofs.Math.Bool.{or-false}
-use Rattle.da_wire.specs.codec.Fields.{many_at}
+use Rattle.frame_fields.specs.Fields.{many_at}
 use Rattle.da_wire.proofs.codec.Many.{after_first, many_left, many_none, many_done}
 
 -- whether a value before these or one of them passes the test, and the bytes after them

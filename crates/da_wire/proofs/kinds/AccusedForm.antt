@@ -3,7 +3,7 @@ use Rattle.std.proofs.Common.{◌≡◌, ℕ, ◌^◌, ◌<◌, Bool, false, eqb
 use Rattle.std.specs.Int.{w16, to_be_bytes}
 use Rattle.namespace_id.specs.declared.cells.Axis.{Axis}
 use Rattle.namespace_id.specs.Bytes.{AreBytes}
-use Rattle.da_wire.specs.codec.Fields.{◌>>=◌, number_at, byte_at, axis_at}
+use Rattle.frame_fields.specs.Fields.{◌>>=◌, number_at, byte_at, axis_at}
 use Rattle.da_wire.specs.codec.Texts.{axis_byte}
 use Rattle.da_wire.specs.kinds.Fraud.{accused_bytes, accused_at}
 use Rattle.da_wire.proofs.codec.Readers.{bind_some, bind_again, if_true, if_true_again, Takes, Takes-then, Takes-read}

@@ -5,7 +5,7 @@ use Rattle.std.proofs.lemmas.List.{length-append}
 use Rattle.std.proofs.lemmas.Bool.Decides.{nat_tests}
 use Rattle.namespace_id.specs.Bytes.{AreBytes, IsString}
 use Rattle.share_split.specs.Blobs.{NamedBytes, IsNamed, signer_size, version_of, signer_bytes}
-use Rattle.da_wire.specs.codec.Fields.{◌>>=◌, string_at}
+use Rattle.frame_fields.specs.Fields.{◌>>=◌, string_at}
 use Rattle.da_wire.specs.kinds.Block.{most, unit_at, unit_bytes, signer_at, blob_at, blob_bytes}
 use Rattle.da_wire.proofs.codec.Readers.{bind_some, bind_again, Takes, Takes-then, Takes-read}
 use Rattle.da_wire.proofs.codec.Numbers.{wide32}

@@ -7,7 +7,7 @@ use Rattle.std.proofs.lemmas.Option.{cond_some}
 use Rattle.namespace_id.specs.Bytes.{AreBytes}
 use Rattle.share_split.specs.Blobs.{NamedBytes, IsNamed}
 use Rattle.square_layout.specs.Blocks.{BlockParts, IsBlock}
-use Rattle.da_wire.specs.codec.Fields.{◌>>=◌, number_at}
+use Rattle.frame_fields.specs.Fields.{◌>>=◌, number_at}
 use Rattle.da_wire.specs.kinds.Block.{most, blob_bytes, width_number, asks_for_zero, block_payload, blob_at, asked_width, block_at, unit_at, counted_at, unit_bytes, counted_bytes}
 use Rattle.da_wire.proofs.codec.Readers.{bind_some, bind_again, Takes-then, Takes-all}
 use Rattle.da_wire.proofs.codec.Numbers.{wide16, wide32, number_takes, number_again}

@@ -1,7 +1,7 @@
 -- The payload of a block, part by part: where a part can't be read there is no block.
 use Rattle.std.proofs.Common.{◌≡◌, ◌∙◌, ℕ, Bool, eqb, cond, List, length, Option, None, Some, ap}
 use Rattle.std.specs.Int.{w16}
-use Rattle.da_wire.specs.codec.Fields.{◌>>=◌, number_at, read_items, read_rest}
+use Rattle.frame_fields.specs.Fields.{◌>>=◌, number_at, read_items, read_rest}
 use Rattle.da_wire.specs.kinds.Block.{blob_at, block_at, unit_at, counted_at}
 use Rattle.da_wire.proofs.codec.Many.{made, by_rest}
 use Rattle.da_wire.proofs.kinds.BlockForm.{block, after_width, after_units, after_pay_units, after_blobs}

@@ -6,7 +6,7 @@ use Rattle.std.proofs.lemmas.Bool.{and_parts, and_right}
 use Rattle.namespace_id.specs.declared.cells.Cell.{Cell}
 use Rattle.namespace_id.specs.Cells.{is_width, is_in_square, is_before, are_cells}
 use Rattle.namespace_id.specs.Lists.{holds_along}
-use Rattle.da_wire.specs.codec.Fields.{cells_of}
+use Rattle.frame_fields.specs.Fields.{cells_of}
 use Rattle.da_wire.specs.kinds.Missing.{is_next, are_next}
 
 -- reading one more cell reads the first, and then the others

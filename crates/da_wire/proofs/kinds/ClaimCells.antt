@@ -12,7 +12,7 @@ use Rattle.axis_roots.specs.Messages.{IsMessage, position, index}
 use Rattle.axis_roots.specs.Lines.{cell_on}
 use Rattle.axis_roots.specs.Sets.{is_one_axis, is_along}
 use Rattle.axis_roots.proofs.Grids.AxisLemmas.{index-cell_on, position-cell_on}
-use Rattle.da_wire.specs.codec.Fields.{◌>>=◌, number_at, string_at}
+use Rattle.frame_fields.specs.Fields.{◌>>=◌, number_at, string_at}
 use Rattle.da_wire.specs.codec.Texts.{IsCell}
 use Rattle.da_wire.specs.kinds.Fraud.{cell_payload, tag_at, cell_path_at, set_cell_at}
 use Rattle.da_wire.proofs.codec.Readers.{bind_some, bind_again, Takes, Takes-then, Takes-read}

@@ -10,7 +10,7 @@ use Rattle.namespace_id.specs.Bytes.{AreBytes}
 use Rattle.nmt_proofs.specs.Clashes.{IsClash}
 use Rattle.hash_clash.specs.Preimages.{longest}
 use Rattle.hash_clash.specs.Collisions.{Strings}
-use Rattle.da_wire.specs.codec.Fields.{◌>>=◌, text_at}
+use Rattle.frame_fields.specs.Fields.{◌>>=◌, text_at}
 use Rattle.da_wire.specs.codec.Texts.{text_bytes}
 use Rattle.da_wire.specs.kinds.Clash.{AreStrings, has_empty, clash_payload, side_at, is_collision, clash_at}
 use Rattle.da_wire.specs.declared.kinds.Kind.TheVariants as kinds

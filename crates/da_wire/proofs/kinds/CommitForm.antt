@@ -7,7 +7,7 @@ use Rattle.std.proofs.lemmas.List.{length-append}
 use Rattle.std.proofs.lemmas.Option.{cond_some}
 use Rattle.namespace_id.specs.Bytes.{AreBytes}
 use Rattle.blob_commit.specs.Proofs.{RowParts, CommitParts}
-use Rattle.da_wire.specs.codec.Fields.{◌>>=◌, number_at, string_at, read_items, read_rest}
+use Rattle.frame_fields.specs.Fields.{◌>>=◌, number_at, string_at, read_items, read_rest}
 use Rattle.da_wire.specs.codec.Texts.{list_bytes}
 use Rattle.da_wire.specs.kinds.Commit.{IsRowSent, IsCommitSent, is_long_row, is_long_commit, row_bytes, commit_payload, row_at, rows_at, commit_at}
 use Rattle.da_wire.specs.declared.kinds.Kind.TheVariants as kinds

@@ -5,7 +5,7 @@ use Rattle.namespace_id.specs.Bytes.{AreBytes}
 use Rattle.axis_roots.specs.declared.answers.Found.{Found}
 use Rattle.axis_roots.specs.declared.answers.NsEntry.{NsEntry}
 use Rattle.axis_roots.specs.Answers.{IsEntry}
-use Rattle.da_wire.specs.codec.Fields.{◌>>=◌, number_at}
+use Rattle.frame_fields.specs.Fields.{◌>>=◌, number_at}
 use Rattle.da_wire.specs.kinds.Names.{is_long_entry, found_bytes, entry_bytes, found_at, entry_at}
 use Rattle.da_wire.proofs.codec.Readers.{bind_some, bind_again, Takes, Takes-then, Takes-read}
 use Rattle.da_wire.proofs.codec.Numbers.{wide16, number_takes, number_again}

@@ -5,7 +5,7 @@ use Rattle.std.proofs.lemmas.Option.{same_Some}
 use Rattle.namespace_id.specs.Bytes.{AreBytes}
 use Rattle.da_wire.specs.declared.frames.Frame.{Frame}
 use Rattle.da_wire.specs.declared.kinds.Kind.{Kind}
-use Rattle.da_wire.specs.codec.Fields.{◌>>=◌}
+use Rattle.frame_fields.specs.Fields.{◌>>=◌}
 use Rattle.da_wire.specs.Spelling.{max_payload, kind_byte, frame, spelled, spelling, IsFrame}
 use Rattle.da_wire.specs.Reading.{kind_at, is_kind, value_of_kind, value_at}
 use Rattle.da_wire.proofs.codec.Readers.{map_some, if_false}

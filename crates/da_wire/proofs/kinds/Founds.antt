@@ -5,7 +5,7 @@ use Rattle.namespace_id.specs.declared.digests.Digest.{Digest}
 use Rattle.namespace_id.specs.Bytes.{AreBytes}
 use Rattle.axis_roots.specs.declared.answers.Found.{Found}
 use Rattle.axis_roots.specs.declared.answers.Found.TheVariants.{Range, Absence}
-use Rattle.da_wire.specs.codec.Fields.{◌>>=◌, number_at, byte_at, string_at, path_at, digest}
+use Rattle.frame_fields.specs.Fields.{◌>>=◌, number_at, byte_at, string_at, path_at, digest}
 use Rattle.da_wire.specs.codec.Texts.{path_bytes}
 use Rattle.da_wire.specs.kinds.Names.{found_bytes, range_at, absence_at, found_at}
 use Rattle.da_wire.proofs.codec.Readers.{bind_some, bind_again, Takes, Takes-then, Takes-read}

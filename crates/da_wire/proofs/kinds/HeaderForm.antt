@@ -10,7 +10,7 @@ use Rattle.namespace_id.specs.Cells.{is_width}
 use Rattle.namespace_id.proofs.StringLemmas.{AreBytes-take, AreBytes-drop}
 use Rattle.namespace_id.proofs.WidthLemmas.{is_width-le}
 use Rattle.data_header.specs.Headers.{Roots, IsHeader}
-use Rattle.da_wire.specs.codec.Fields.{number_at, digests_of}
+use Rattle.frame_fields.specs.Fields.{number_at, digests_of}
 use Rattle.da_wire.specs.codec.Texts.{digest_bytes}
 use Rattle.da_wire.specs.kinds.Header.{header_payload, header_at}
 use Rattle.da_wire.proofs.codec.Readers.{bind_some, bind_again, if_false, if_false_again, if_true_again}

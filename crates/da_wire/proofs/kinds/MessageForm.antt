@@ -7,9 +7,10 @@ use Rattle.namespace_id.specs.declared.digests.Digest.{Digest}
 use Rattle.namespace_id.specs.Bytes.{AreBytes}
 use Rattle.axis_roots.specs.declared.message.messages.Message.{Message}
 use Rattle.axis_roots.specs.Messages.{IsMessage}
-use Rattle.da_wire.specs.codec.Fields.{◌>>=◌, string_at, cell_at, axis_at, path_at}
+use Rattle.frame_fields.specs.Fields.{◌>>=◌, string_at, cell_at, axis_at, path_at}
 use Rattle.da_wire.specs.codec.Texts.{digest_bytes, axis_byte, cell_bytes, IsCell}
-use Rattle.da_wire.specs.kinds.Message.{message_payload, message_front, message_at}
+use Rattle.frame_fields.specs.Messages.{message_front, message_at}
+use Rattle.da_wire.specs.kinds.Message.{message_payload}
 use Rattle.da_wire.proofs.codec.Readers.{bind_some, bind_again, Takes, Takes-then, Takes-read, Takes-all}
 use Rattle.da_wire.proofs.codec.Strings.{string_takes, string_again}
 use Rattle.da_wire.proofs.codec.Cells.{cell_takes, cell_again}

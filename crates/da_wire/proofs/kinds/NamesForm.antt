@@ -10,7 +10,7 @@ use Rattle.namespace_id.specs.Bytes.{AreBytes}
 use Rattle.namespace_id.specs.Names.{IsNamespace}
 use Rattle.axis_roots.specs.declared.answers.NsEntry.{NsEntry}
 use Rattle.axis_roots.specs.Answers.{IsEntry, AreEntries}
-use Rattle.da_wire.specs.codec.Fields.{string_at}
+use Rattle.frame_fields.specs.Fields.{string_at}
 use Rattle.da_wire.specs.codec.Texts.{list_bytes}
 use Rattle.da_wire.specs.kinds.Names.{is_long_entry, is_long_answer, entry_bytes, names_payload, entry_at, entries_at, names_at}
 use Rattle.da_wire.specs.declared.kinds.Kind.TheVariants as kinds

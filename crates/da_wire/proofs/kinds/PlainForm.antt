@@ -7,7 +7,8 @@ use Rattle.axis_roots.specs.declared.message.messages.Message.{Message}
 use Rattle.axis_roots.specs.Messages.{IsMessage}
 use Rattle.axis_roots.specs.Claims.{ClaimParts, IsClaim}
 use Rattle.da_wire.specs.codec.Texts.{list_bytes}
-use Rattle.da_wire.specs.kinds.Message.{message_payload, message_front}
+use Rattle.frame_fields.specs.Messages.{message_front}
+use Rattle.da_wire.specs.kinds.Message.{message_payload}
 use Rattle.da_wire.specs.kinds.Fraud.{plain_payload, accused_at, claim_cells_at, plain_at}
 use Rattle.da_wire.proofs.codec.Readers.{bind_again, Takes-then, Takes-all}
 use Rattle.da_wire.proofs.codec.Numbers.{wide16}

@@ -9,7 +9,7 @@ use Rattle.namespace_id.specs.Shares.{AreShares}
 use Rattle.axis_roots.specs.declared.answers.Found.{Found}
 use Rattle.axis_roots.specs.declared.answers.Found.TheVariants.{Range}
 use Rattle.axis_roots.specs.Answers.{IsFound}
-use Rattle.da_wire.specs.codec.Fields.{◌>>=◌, number_at, count_at, path_at, shares_at}
+use Rattle.frame_fields.specs.Fields.{◌>>=◌, number_at, count_at, path_at, shares_at}
 use Rattle.da_wire.specs.codec.Texts.{path_bytes, share_bytes}
 use Rattle.da_wire.specs.kinds.Names.{is_long_found, share_list_bytes, found_bytes, share_list_at, range_at}
 use Rattle.da_wire.proofs.codec.Readers.{bind_some, bind_again, Takes, Takes-then, Takes-read}

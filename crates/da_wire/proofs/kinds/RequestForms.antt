@@ -6,7 +6,7 @@ use Rattle.namespace_id.specs.declared.cells.Axis.{Axis}
 use Rattle.namespace_id.specs.declared.namespaces.Namespace.{Namespace}
 use Rattle.namespace_id.specs.Bytes.{AreBytes}
 use Rattle.namespace_id.specs.Names.{IsNamespace, named_by}
-use Rattle.da_wire.specs.codec.Fields.{◌>>=◌, cell_at, axis_at}
+use Rattle.frame_fields.specs.Fields.{◌>>=◌, cell_at, axis_at}
 use Rattle.da_wire.specs.codec.Texts.{axis_byte, cell_bytes, IsCell}
 use Rattle.da_wire.specs.kinds.Requests.{sample_payload, request_payload, sample_at, request_at}
 use Rattle.da_wire.proofs.codec.Readers.{bind_some, bind_again, if_true_again, Takes-then, Takes-all}

@@ -5,9 +5,10 @@ use Rattle.std.proofs.lemmas.Option.{cond_some}
 use Rattle.namespace_id.specs.Bytes.{AreBytes}
 use Rattle.axis_roots.specs.declared.message.messages.Message.{Message}
 use Rattle.blob_commit.specs.Proofs.{RootedParts}
-use Rattle.da_wire.specs.codec.Fields.{◌>>=◌, number_at, string_at, digest}
-use Rattle.da_wire.specs.kinds.Message.{message_payload, message_front}
-use Rattle.da_wire.specs.kinds.Commit.{hash_bytes, hashes_at}
+use Rattle.frame_fields.specs.Fields.{◌>>=◌, number_at, string_at, digest, hashes_at}
+use Rattle.frame_fields.specs.Messages.{message_front}
+use Rattle.da_wire.specs.kinds.Message.{message_payload}
+use Rattle.da_wire.specs.kinds.Commit.{hash_bytes}
 use Rattle.da_wire.specs.kinds.Rooted.{IsRootedSent, rooted_payload, rooted_at}
 use Rattle.da_wire.specs.declared.kinds.Kind.TheVariants as kinds
 use Rattle.da_wire.specs.declared.frames.Frame.TheVariants as frames

@@ -3,9 +3,9 @@ use Rattle.std.proofs.Common.{◌≡◌, ◌∙◌, ℕ, ◌≤◌, false, List,
 use Rattle.namespace_id.specs.declared.digests.Digest.{Digest}
 use Rattle.namespace_id.specs.Bytes.{AreBytes}
 use Rattle.blob_commit.specs.Proofs.{RowParts}
-use Rattle.da_wire.specs.codec.Fields.{◌>>=◌, string_at, path_at, digest, digest_list_at}
+use Rattle.frame_fields.specs.Fields.{◌>>=◌, string_at, path_at, digest, digest_list_at, hashes_at}
 use Rattle.da_wire.specs.codec.Texts.{path_bytes, digest_list}
-use Rattle.da_wire.specs.kinds.Commit.{IsRowSent, is_long_row, hash_bytes, row_bytes, hashes_at, row_at}
+use Rattle.da_wire.specs.kinds.Commit.{IsRowSent, is_long_row, hash_bytes, row_bytes, row_at}
 use Rattle.da_wire.proofs.codec.Readers.{bind_some, bind_again, Takes, Takes-then, Takes-read}
 use Rattle.da_wire.proofs.codec.Strings.{string_takes, string_again}
 use Rattle.da_wire.proofs.codec.Paths.{path_takes, path_again}

@@ -10,7 +10,7 @@ use Rattle.namespace_id.specs.Bytes.{AreBytes}
 use Rattle.axis_roots.specs.declared.message.messages.Message.{Message}
 use Rattle.axis_roots.specs.Sets.{is_along}
 use Rattle.axis_roots.specs.Claims.{ClaimParts, IsClaim}
-use Rattle.da_wire.specs.codec.Fields.{◌>>=◌, digest_list_at}
+use Rattle.frame_fields.specs.Fields.{◌>>=◌, digest_list_at}
 use Rattle.da_wire.specs.codec.Texts.{list_bytes, digest_list}
 use Rattle.da_wire.specs.kinds.Fraud.{cell_payload, set_payload, accused_at, set_cell_at, set_cells_at, with_set_at}
 use Rattle.da_wire.proofs.codec.Readers.{bind_some, bind_again, if_true_again, Takes-then, Takes-all}

@@ -8,7 +8,7 @@ use Rattle.namespace_id.specs.declared.digests.Digest.{Digest}
 use Rattle.axis_roots.specs.declared.message.messages.Message.{Message}
 use Rattle.axis_roots.specs.Sets.{is_along}
 use Rattle.axis_roots.specs.Claims.{ClaimParts}
-use Rattle.da_wire.specs.codec.Fields.{◌>>=◌, digest_list_at, read_items}
+use Rattle.frame_fields.specs.Fields.{◌>>=◌, digest_list_at, read_items}
 use Rattle.da_wire.specs.kinds.Fraud.{accused_at, set_cells_at, with_set_at, passed}
 use Rattle.da_wire.proofs.kinds.AccusedForm.{Accused}
 use Rattle.da_wire.proofs.kinds.SetForm.{claim, after_nodes, after_cells, after_accused, with_set_is}

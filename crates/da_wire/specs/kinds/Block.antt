@@ -5,7 +5,7 @@ use Rattle.std.specs.Int.{w16, w32, to_be_bytes}
 use Rattle.namespace_id.specs.Sizes.{namespace_size}
 use Rattle.square_layout.specs.Blocks.{BlockParts}
 use Rattle.share_split.specs.Blobs.{NamedBytes, signer_size, version_of, signer_bytes}
-use Rattle.da_wire.specs.codec.Fields.{◌>>=◌, number_at, byte_at, string_at, text_at, list_at}
+use Rattle.frame_fields.specs.Fields.{◌>>=◌, number_at, byte_at, string_at, text_at, list_at}
 use Rattle.da_wire.specs.codec.Texts.{text_bytes, list_bytes}
 
 -- ---- units, blobs, and lists of them

@@ -6,7 +6,7 @@ use Rattle.sha2.specs.Sha256.{sha256}
 use Rattle.nmt_proofs.specs.Clashes.{IsClash}
 use Rattle.hash_clash.specs.Preimages.{longest}
 use Rattle.hash_clash.specs.Collisions.{Strings}
-use Rattle.da_wire.specs.codec.Fields.{◌>>=◌, text_at}
+use Rattle.frame_fields.specs.Fields.{◌>>=◌, text_at}
 use Rattle.da_wire.specs.codec.Texts.{text_bytes}
 
 -- two strings of up to 542 bytes that are a collision

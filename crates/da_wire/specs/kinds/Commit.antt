@@ -5,13 +5,9 @@ use Rattle.std.specs.List.{AllByRecursion, flat_map, list_any}
 use Rattle.namespace_id.specs.Sizes.{hash_size, digest_size}
 use Rattle.namespace_id.specs.Bytes.{IsString}
 use Rattle.blob_commit.specs.Proofs.{RowParts, CommitParts, IsRow}
-use Rattle.da_wire.specs.codec.Fields.{◌>>=◌, byte_at, string_at, number_at, digest, digest_list_at, path_at, values_at, list_at}
+use Rattle.frame_fields.specs.Fields.{◌>>=◌, most_hashes, string_at, number_at, digest, digest_list_at, path_at, hashes_at, list_at}
 use Rattle.da_wire.specs.codec.Texts.{path_bytes, list_bytes, digest_list}
 use Rattle.da_wire.specs.kinds.Names.{most_nodes}
-
--- the most hashes that lead from an axis root to a data root
-abbrev pub most_hashes : ℕ
-most_hashes = 9
 
 -- the most rows of a commitment proof, as many as the greatest square has
 abbrev pub most_rows : ℕ
@@ -64,12 +60,6 @@ abbrev pub is_long_commit : CommitParts → Bool
 is_long_commit proof = nat_lt most_rows (length proof.rows) || list_any is_long_row proof.rows
 
 -- ---- what is read
-
--- hashes behind their count
-unfoldable pub hashes_at : List ℕ → Option (List (List ℕ) × List ℕ)
-hashes_at bytes = do
-  count ← byte_at bytes
-  if nat_lt most_hashes count.0 then None else values_at (λ hash. hash) hash_size count.0 count.1
 
 -- a row
 unfoldable pub row_at : List ℕ → Option (RowParts × List ℕ)

@@ -13,9 +13,10 @@ use Rattle.axis_roots.specs.Lines.{cell_on}
 use Rattle.axis_roots.specs.Sets.{is_one_axis, is_along}
 use Rattle.axis_roots.specs.Claims.{ClaimParts, is_on}
 use Rattle.da_wire.specs.declared.kinds.fraud_set.SetFields.{SetFields}
-use Rattle.da_wire.specs.codec.Fields.{◌>>=◌, number_at, byte_at, string_at, axis_at, path_at, digest_list_at, digests_of, list_at, read_items}
+use Rattle.frame_fields.specs.Fields.{◌>>=◌, number_at, byte_at, string_at, axis_at, path_at, digest_list_at, digests_of, list_at, read_items}
 use Rattle.da_wire.specs.codec.Texts.{axis_byte, path_bytes, list_bytes, digest_list}
-use Rattle.da_wire.specs.kinds.Message.{message_payload, message_front}
+use Rattle.frame_fields.specs.Messages.{message_front}
+use Rattle.da_wire.specs.kinds.Message.{message_payload}
 
 -- the forms of a claim, the byte in front of it: without a set, and with one
 abbrev pub plain_form : ℕ

@@ -3,7 +3,7 @@ use Rattle.std.specs.Prelude.{ℕ, ◌*◌, List, length, take, drop, Option, So
 use Rattle.std.specs.Int.{w16, to_be_bytes}
 use Rattle.namespace_id.specs.Cells.{is_width}
 use Rattle.data_header.specs.Headers.{Roots}
-use Rattle.da_wire.specs.codec.Fields.{◌>>=◌, number_at, digests_of}
+use Rattle.frame_fields.specs.Fields.{◌>>=◌, number_at, digests_of}
 use Rattle.da_wire.specs.codec.Texts.{digest_bytes}
 
 -- a width, the roots of the rows, the roots of the columns

@@ -4,7 +4,7 @@ use Rattle.std.specs.Int.{w16, w32, to_be_bytes}
 use Rattle.namespace_id.specs.declared.cells.Cell.{Cell}
 use Rattle.std.specs.List.{flat_map, list_all}
 use Rattle.namespace_id.specs.Cells.{are_cells, CellList, is_in_square, is_before}
-use Rattle.da_wire.specs.codec.Fields.{◌>>=◌, number_at, cells_of}
+use Rattle.frame_fields.specs.Fields.{◌>>=◌, number_at, cells_of}
 use Rattle.namespace_id.specs.Lists.{holds_along}
 use Rattle.da_wire.specs.codec.Texts.{cell_bytes}
 

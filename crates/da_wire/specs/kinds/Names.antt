@@ -10,7 +10,7 @@ use Rattle.axis_roots.specs.declared.answers.Found.TheVariants.{Range, Absence}
 use Rattle.axis_roots.specs.declared.answers.NsEntry.{NsEntry}
 use Rattle.da_wire.specs.declared.kinds.names.FoundFields.{FoundFields}
 use Rattle.da_wire.specs.declared.kinds.names.FoundFields.TheVariants as fields
-use Rattle.da_wire.specs.codec.Fields.{◌>>=◌, number_at, byte_at, string_at, count_at, list_at, path_at, shares_at, shares_of, digest}
+use Rattle.frame_fields.specs.Fields.{◌>>=◌, number_at, byte_at, string_at, count_at, list_at, path_at, shares_at, shares_of, digest}
 use Rattle.da_wire.specs.codec.Texts.{path_bytes, list_bytes}
 
 -- ---- limits

@@ -5,7 +5,7 @@ use Rattle.namespace_id.specs.declared.cells.Cell.{Cell}
 use Rattle.namespace_id.specs.declared.cells.Axis.{Axis}
 use Rattle.namespace_id.specs.declared.namespaces.Namespace.{Namespace}
 use Rattle.namespace_id.specs.Sizes.{namespace_size}
-use Rattle.da_wire.specs.codec.Fields.{◌>>=◌, axis_at, cell_at}
+use Rattle.frame_fields.specs.Fields.{◌>>=◌, axis_at, cell_at}
 use Rattle.da_wire.specs.codec.Texts.{axis_byte, cell_bytes}
 
 -- a cell and an axis

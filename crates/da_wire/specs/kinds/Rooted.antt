@@ -3,9 +3,10 @@ use Rattle.std.specs.Prelude.{◌≤◌, ◌<◌, ◌^◌, ℕ, List, length, Op
 use Rattle.std.specs.Int.{w16, to_be_bytes}
 use Rattle.namespace_id.specs.Sizes.{digest_size}
 use Rattle.blob_commit.specs.Proofs.{RootedParts, IsRooted}
-use Rattle.da_wire.specs.codec.Fields.{◌>>=◌, string_at, number_at, digest}
-use Rattle.da_wire.specs.kinds.Message.{message_payload, message_front}
-use Rattle.da_wire.specs.kinds.Commit.{most_hashes, hash_bytes, hashes_at}
+use Rattle.frame_fields.specs.Fields.{◌>>=◌, string_at, number_at, digest, most_hashes, hashes_at}
+use Rattle.frame_fields.specs.Messages.{message_front}
+use Rattle.da_wire.specs.kinds.Message.{message_payload}
+use Rattle.da_wire.specs.kinds.Commit.{hash_bytes}
 
 -- a root proof has a width of two bytes, a sample, a digest and hashes, and no more hashes than its type holds
 pub record IsRootedSent (proof : RootedParts) : Type 0 where

@@ -4,7 +4,7 @@ use Rattle.std.specs.Int.{w16, to_be_bytes}
 use Rattle.namespace_id.specs.Cells.{is_width}
 use Rattle.namespace_id.specs.Sizes.{share_size}
 use Rattle.square_layout.specs.Blocks.{SquareShares}
-use Rattle.da_wire.specs.codec.Fields.{◌>>=◌, number_at, shares_of}
+use Rattle.frame_fields.specs.Fields.{◌>>=◌, number_at, shares_of}
 use Rattle.da_wire.specs.codec.Texts.{share_bytes}
 
 -- a width, and its shares, row-major

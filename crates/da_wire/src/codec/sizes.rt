@@ -12,15 +12,6 @@ pub(crate) use namespace_id::{DIGEST_SIZE, NAMESPACE_SIZE, SHARE_SIZE};
 /// The bytes in front of a payload: its kind, and its length.
 pub(crate) const HEAD_SIZE: usize = 5;
 
-/// The most nodes of a path.
-pub(crate) const PATH_LIMIT: u8 = 8;
-
-/// The most nodes of a range proof or an absence proof.
-pub(crate) const NODES_LIMIT: u8 = 16;
-
-/// The most hashes that lead from an axis root to a data root.
-pub(crate) const HASHES_LIMIT: u8 = 9;
-
 /// The bytes of a hash.
 pub(crate) const HASH_SIZE: usize = 32;
 

@@ -6,7 +6,7 @@ ghost use Rattle.namespace_id.specs.Answers.{Gives, HasRoom};
 ghost use Rattle.da_wire.specs.kinds.Fraud.{most_cells, accused_bytes, accused_at};
 
 use crate::codec::appending::axis_byte;
-use crate::codec::fields::{axis_at, u8_at, u16_at};
+use frame_fields::{axis_at, u8_at, u16_at};
 use namespace_id::{Axis, append};
 
 /// The most cells of a claim, as many as recover an axis of the greatest square.

@@ -3,7 +3,7 @@
 ghost use Rattle.std.specs.Prelude.{◌≡◌, ◌≤◌, length, vec_len, None, Some, IfOk, IfSome, MatchOption, ◌+◌, ◌++◌, vec_capacity, IsSome};
 ghost use Rattle.namespace_id.specs.Answers.{Gives, HasRoom};
 ghost use Rattle.share_split.specs.Blobs.{version_of, signer_bytes};
-ghost use Rattle.da_wire.specs.codec.Fields.{many_at, read_items, read_rest};
+ghost use Rattle.frame_fields.specs.Fields.{many_at, read_items, read_rest};
 ghost use Rattle.da_wire.specs.Reading.{GivesUnlessFull};
 ghost use Rattle.da_wire.specs.kinds.Block.{signed_at, signer_at, blob_at, asked_width, block_at, blob_bytes, width_number, block_payload, unit_at, counted_at, unit_bytes, counted_bytes};
 ghost use Rattle.da_wire.specs.Spelling.{max_payload};
@@ -11,8 +11,8 @@ ghost use Rattle.da_wire.specs.Writing.{HasSize, IsShort, IsWithin};
 ghost use Rattle.da_wire.specs.declared.frames.Frame.TheVariants as FrameOf;
 
 use crate::codec::appending::put_text;
-use crate::codec::fields::{count_at, name_at, text_at, u8_at, u16_at};
 use crate::codec::sizes::{COUNT_SIZE, WIDTH_SIZE, longer, with_bytes, with_text};
+use frame_fields::{count_at, name_at, text_at, u8_at, u16_at};
 use namespace_id::{Namespace, append};
 use share_split::{Blob, SIGNER_SIZE, Unit};
 use square_layout::Block;
@@ -115,7 +115,7 @@ fn after_units(count: u32, bytes: &[u8]) -> Option<&[u8]>
 }
 
 /// The bytes after a list of units.
-#[tactic(auto, unfolding(crate::specs::codec::Fields::list_at))]
+#[tactic(auto, unfolding(frame_fields::specs::Fields::list_at))]
 fn after_unit_list(bytes: &[u8]) -> Option<&[u8]>
     ensures { Gives (λ x. x.now) result (read_rest (counted_at unit_at bytes.now)) }
 {
@@ -136,7 +136,7 @@ fn after_blobs(count: u32, bytes: &[u8]) -> Option<&[u8]>
 }
 
 /// The bytes after a list of blobs.
-#[tactic(auto, unfolding(crate::specs::codec::Fields::list_at))]
+#[tactic(auto, unfolding(frame_fields::specs::Fields::list_at))]
 fn after_blob_list(bytes: &[u8]) -> Option<&[u8]>
     ensures { Gives (λ x. x.now) result (read_rest (counted_at blob_at bytes.now)) }
 {
@@ -189,7 +189,7 @@ fn units_of(alloc: Global, count: u32, bytes: &[u8]) -> Result<Vec<Unit>, AllocE
 }
 
 /// A list of units.
-#[tactic(auto, unfolding(crate::specs::codec::Fields::list_at))]
+#[tactic(auto, unfolding(frame_fields::specs::Fields::list_at))]
 fn unit_list(alloc: Global, bytes: &[u8]) -> Result<Vec<Unit>, AllocError>
     requires { IsSome (counted_at unit_at bytes.now) }
     ensures { IfOk result (λ units. units.items ≡ read_items (counted_at unit_at bytes.now)) }
@@ -219,7 +219,7 @@ fn blobs_of(alloc: Global, count: u32, bytes: &[u8]) -> Result<Vec<Blob>, AllocE
 }
 
 /// A list of blobs.
-#[tactic(auto, unfolding(crate::specs::codec::Fields::list_at))]
+#[tactic(auto, unfolding(frame_fields::specs::Fields::list_at))]
 fn blob_list(alloc: Global, bytes: &[u8]) -> Result<Vec<Blob>, AllocError>
     requires { IsSome (counted_at blob_at bytes.now) }
     ensures { IfOk result (λ blobs. blobs.items ≡ read_items (counted_at blob_at bytes.now)) }

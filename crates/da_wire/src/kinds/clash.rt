@@ -9,7 +9,7 @@ ghost use Rattle.da_wire.specs.Writing.{HasSize};
 ghost use Rattle.da_wire.specs.declared.frames.Frame.TheVariants as FrameOf;
 
 use crate::codec::appending::put_text16;
-use crate::codec::fields::text16_at;
+use frame_fields::text16_at;
 use hash_clash::{Clash, Preimage};
 use namespace_id::bytes_law;
 

@@ -5,7 +5,7 @@ ghost use Rattle.std.specs.Int.{w16, w32, to_be_bytes};
 ghost use Rattle.std.specs.List.{flat_map, list_any};
 ghost use Rattle.std.specs.Option.{option_map_or};
 ghost use Rattle.namespace_id.specs.Answers.{Gives, HasRoom};
-ghost use Rattle.da_wire.specs.codec.Fields.{many_at, read_items, read_rest, digests_of};
+ghost use Rattle.frame_fields.specs.Fields.{many_at, read_items, read_rest, digests_of};
 ghost use Rattle.da_wire.specs.codec.Texts.{digest_list};
 ghost use Rattle.da_wire.specs.Reading.{GivesUnlessFull};
 ghost use Rattle.da_wire.specs.kinds.Commit.{is_long_row, is_long_commit, row_bytes, commit_payload, row_at, rows_at, commit_at};
@@ -15,12 +15,12 @@ ghost use Rattle.da_wire.specs.declared.frames.Frame.TheVariants as FrameOf;
 
 use crate::bounds::hash_law;
 use crate::codec::appending::{put_digests, put_hashes, put_path};
-use crate::codec::fields::{
-    count16_at, digest_at, digest_list_at, digests_of, hash_at, hashes_at, nodes_at, u16_at, u32_at,
-};
 use crate::codec::sizes::{DIGEST_SIZE, HASH_SIZE, longer};
 use blob_commit::{CommitProof, CommitRow, row_law};
 use data_header::RootPath;
+use frame_fields::{
+    count16_at, digest_at, digest_list_at, digests_of, hash_at, hashes_at, nodes_at, u16_at, u32_at,
+};
 use namespace_id::{Digest, append};
 use nmt_proofs::Nodes;
 use std::alloc::{AllocError, Global};
@@ -101,7 +101,7 @@ fn after_rows(count: u16, bytes: &[u8]) -> Option<&[u8]>
 }
 
 /// The bytes after a list of rows.
-#[tactic(auto, unfolding(crate::specs::codec::Fields::list_at))]
+#[tactic(auto, unfolding(frame_fields::specs::Fields::list_at))]
 fn after_row_list(bytes: &[u8]) -> Option<&[u8]>
     ensures { Gives (λ x. x.now) result (read_rest (rows_at bytes.now)) }
 {
@@ -198,7 +198,7 @@ fn rows_of(alloc: Global, count: u16, bytes: &[u8]) -> Result<Vec<CommitRow>, Al
 }
 
 /// A list of rows.
-#[tactic(auto, unfolding(crate::specs::codec::Fields::list_at))]
+#[tactic(auto, unfolding(frame_fields::specs::Fields::list_at))]
 fn row_list(alloc: Global, bytes: &[u8]) -> Result<Vec<CommitRow>, AllocError>
     requires { IsSome (rows_at bytes.now) }
     ensures { IfOk result (λ rows. rows.items ≡ read_items (rows_at bytes.now)) }

@@ -5,21 +5,22 @@ ghost use Rattle.std.specs.Prelude.{◌≡◌, ◌≤◌, length, map, vec_len, 
 ghost use Rattle.std.specs.List.{flat_map};
 ghost use Rattle.namespace_id.specs.Answers.{Gives, HasRoom};
 ghost use Rattle.axis_roots.specs.Proved.{kept_message};
-ghost use Rattle.da_wire.specs.codec.Fields.{many_at, read_items, read_rest};
+ghost use Rattle.frame_fields.specs.Fields.{many_at, read_items, read_rest};
 ghost use Rattle.da_wire.specs.Reading.{GivesUnlessFull};
-ghost use Rattle.da_wire.specs.kinds.Message.{message_front, message_payload};
+ghost use Rattle.frame_fields.specs.Messages.{message_front};
+ghost use Rattle.da_wire.specs.kinds.Message.{message_payload};
 ghost use Rattle.da_wire.specs.kinds.Fraud.{is_unwritten, plain_payload, fraud_payload, claim_cells_at, plain_at, fraud_at};
 ghost use Rattle.da_wire.specs.Spelling.{max_payload};
 ghost use Rattle.da_wire.specs.Writing.{HasSize, IsWithin};
 ghost use Rattle.da_wire.specs.declared.frames.Frame.TheVariants as FrameOf;
 
 use crate::bounds::proof_law;
-use crate::codec::fields::count16_at;
 use crate::codec::sizes::longer;
 use crate::kinds::accused::{ACCUSED_SIZE, MOST_CELLS, NUMBER_SIZE, accused_at, put_accused};
 use crate::kinds::fraud_set::{fits_form, put_with_set, set_fields, set_size, with_set};
-use crate::kinds::message::{message_front, message_size, put_message};
+use crate::kinds::message::{message_size, put_message};
 use axis_roots::{FraudClaim, FraudProof, Message, Proved};
+use frame_fields::{count16_at, message_front};
 use namespace_id::{Axis, NoMemory};
 use std::alloc::{AllocError, Global};
 
@@ -39,7 +40,7 @@ fn after_cells(count: u16, bytes: &[u8]) -> Option<&[u8]>
 }
 
 /// The bytes after a list of samples.
-#[tactic(auto, unfolding(crate::specs::codec::Fields::list_at))]
+#[tactic(auto, unfolding(frame_fields::specs::Fields::list_at))]
 fn after_cell_list(bytes: &[u8]) -> Option<&[u8]>
     ensures { Gives (λ x. x.now) result (read_rest (claim_cells_at bytes.now)) }
 {
@@ -91,7 +92,7 @@ fn cells_of(alloc: Global, count: u16, bytes: &[u8]) -> Result<Vec<Message>, All
 }
 
 /// A list of samples.
-#[tactic(auto, unfolding(crate::specs::codec::Fields::list_at))]
+#[tactic(auto, unfolding(frame_fields::specs::Fields::list_at))]
 fn cell_list(alloc: Global, bytes: &[u8]) -> Result<Vec<Message>, AllocError>
     requires { IsSome (claim_cells_at bytes.now) }
     ensures { IfOk result (λ cells. cells.items ≡ read_items (claim_cells_at bytes.now)) }

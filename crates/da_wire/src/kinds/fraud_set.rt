@@ -4,7 +4,7 @@ ghost use Rattle.std.specs.Prelude.{◌≡◌, ◌≤◌, ◌*◌, length, vec_l
 ghost use Rattle.std.specs.List.{flat_map, list_all, list_any};
 ghost use Rattle.namespace_id.specs.Answers.{Gives, HasRoom};
 ghost use Rattle.axis_roots.specs.Sets.{is_one_axis, is_along};
-ghost use Rattle.da_wire.specs.codec.Fields.{many_at, read_items, digests_of};
+ghost use Rattle.frame_fields.specs.Fields.{many_at, read_items, digests_of};
 ghost use Rattle.da_wire.specs.codec.Texts.{digest_bytes, digest_list};
 ghost use Rattle.da_wire.specs.Reading.{GivesUnlessFull};
 ghost use Rattle.da_wire.specs.kinds.Fraud.{most_cells, tag_of, cell_payload, set_payload, is_placed, fits_form, tag_at, cell_path_at, set_cell_at, set_cells_at, with_set_at, passed, set_seen};
@@ -12,12 +12,10 @@ ghost use Rattle.da_wire.specs.Spelling.{max_payload};
 ghost use Rattle.da_wire.specs.Writing.{IsWithin};
 
 use crate::codec::appending::{put_digests, put_path};
-use crate::codec::fields::{
-    count16_at, digest_list_at, digests_of, path_at, share_at, u8_at, u16_at,
-};
 use crate::codec::sizes::{DIGEST_SIZE, SHARE_SIZE, longer};
 use crate::kinds::accused::{ACCUSED_SIZE, MOST_CELLS, NUMBER_SIZE, accused_at, put_accused};
 use axis_roots::{FraudClaim, Message, SetNodes, cell_on, index, is_along, position};
+use frame_fields::{count16_at, digest_list_at, digests_of, path_at, share_at, u8_at, u16_at};
 use namespace_id::{Axis, Digest, append, digests_law, share_law};
 use nmt_proofs::Path;
 use std::alloc::{AllocError, Global};
@@ -116,7 +114,7 @@ fn after_cells(axis: Axis, index: u16, count: u16, bytes: &[u8]) -> Option<(bool
 }
 
 /// Whether the set shows one of a list of cells, and the bytes after them.
-#[tactic(auto, unfolding(crate::specs::codec::Fields::list_at))]
+#[tactic(auto, unfolding(frame_fields::specs::Fields::list_at))]
 fn after_cell_list(axis: Axis, index: u16, bytes: &[u8]) -> Option<(bool, &[u8])>
     ensures { Gives (λ x. (x.0, x.1.now)) result (passed axis (set_cells_at axis index bytes.now)) }
 {
@@ -168,7 +166,7 @@ fn cells_of(
 }
 
 /// A list of cells.
-#[tactic(auto, unfolding(crate::specs::codec::Fields::list_at))]
+#[tactic(auto, unfolding(frame_fields::specs::Fields::list_at))]
 fn cell_list(
     alloc: Global,
     axis: Axis,

@@ -9,9 +9,9 @@ ghost use Rattle.da_wire.specs.Writing.{HasSize};
 ghost use Rattle.da_wire.specs.declared.frames.Frame.TheVariants as FrameOf;
 
 use crate::codec::appending::put_digests;
-use crate::codec::fields::{digests_of, u16_at};
 use crate::codec::sizes::{DIGEST_SIZE, WIDTH_SIZE};
 use data_header::Header;
+use frame_fields::{digests_of, u16_at};
 use namespace_id::{append, digests_law, is_width};
 use std::alloc::{AllocError, Global};
 

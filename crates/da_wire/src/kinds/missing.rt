@@ -4,7 +4,7 @@ ghost use Rattle.std.specs.Prelude.{◌≡◌, ◌≤◌, ◌<◌, ◌*◌, leng
 ghost use Rattle.std.specs.Int.{w16, from_be_bytes};
 ghost use Rattle.namespace_id.specs.Cells.{is_width, are_cells};
 ghost use Rattle.namespace_id.specs.Answers.{HasRoom};
-ghost use Rattle.da_wire.specs.codec.Fields.{cells_of};
+ghost use Rattle.frame_fields.specs.Fields.{cells_of};
 ghost use Rattle.da_wire.specs.kinds.Missing.{is_next, are_next, missing_at, missing_payload};
 ghost use Rattle.da_wire.specs.Reading.{GivesUnlessFull};
 ghost use Rattle.da_wire.specs.codec.Texts.{cell_bytes};
@@ -14,8 +14,8 @@ ghost use Rattle.da_wire.specs.declared.frames.Frame.TheVariants as FrameOf;
 
 use crate::MAX_PAYLOAD;
 use crate::codec::appending::put_cell;
-use crate::codec::fields::{u16_at, u32_at};
 use crate::codec::sizes::{CELL_SIZE, COUNT_SIZE, WIDTH_SIZE};
+use frame_fields::{u16_at, u32_at};
 use namespace_id::{Cell, Cells, append, is_before, is_in_square, is_width};
 use std::alloc::{AllocError, Global};
 

@@ -3,7 +3,7 @@
 ghost use Rattle.std.specs.Prelude.{◌≡◌, ◌≤◌, length, vec_len, None, Some, IfOk, IfSome, MatchOption, ◌+◌, ◌++◌, vec_capacity, IsSome, ◌*◌, false};
 ghost use Rattle.std.specs.List.{flat_map, list_any};
 ghost use Rattle.namespace_id.specs.Answers.{Gives, HasRoom};
-ghost use Rattle.da_wire.specs.codec.Fields.{many_at, read_items, read_rest, shares_of};
+ghost use Rattle.frame_fields.specs.Fields.{many_at, read_items, read_rest, shares_of};
 ghost use Rattle.da_wire.specs.codec.Texts.{path_bytes};
 ghost use Rattle.da_wire.specs.Reading.{GivesUnlessFull};
 ghost use Rattle.da_wire.specs.kinds.Names.{is_long_found, is_long_entry, is_long_answer, share_list_bytes, found_bytes, entry_bytes, names_payload, share_list_at, range_at, absence_at, found_at, entry_at, entries_at, names_at, found_seen, HasShares};
@@ -12,11 +12,9 @@ ghost use Rattle.da_wire.specs.Writing.{HasSize, IsWithin};
 ghost use Rattle.da_wire.specs.declared.frames.Frame.TheVariants as FrameOf;
 
 use crate::codec::appending::{put_path, put_shares};
-use crate::codec::fields::{
-    count16_at, digest_at, name_at, nodes_at, shares_at, shares_of, u8_at, u16_at,
-};
 use crate::codec::sizes::{DIGEST_SIZE, NAMESPACE_SIZE, SHARE_SIZE, longer};
 use axis_roots::{Found, NsAnswer, NsEntry, ShareList};
+use frame_fields::{count16_at, digest_at, name_at, nodes_at, shares_at, shares_of, u8_at, u16_at};
 use namespace_id::{
     Digest, Namespace, Share, append, digest_law, digests_law, namespace_law, shares_law,
 };
@@ -135,7 +133,7 @@ fn after_entries(count: u16, bytes: &[u8]) -> Option<&[u8]>
 }
 
 /// The bytes after a list of entries.
-#[tactic(auto, unfolding(crate::specs::codec::Fields::list_at))]
+#[tactic(auto, unfolding(frame_fields::specs::Fields::list_at))]
 fn after_entry_list(bytes: &[u8]) -> Option<&[u8]>
     ensures { Gives (λ x. x.now) result (read_rest (entries_at bytes.now)) }
 {
@@ -200,7 +198,7 @@ fn entries_of(alloc: Global, count: u16, bytes: &[u8]) -> Result<Vec<NsEntry>, A
 }
 
 /// A list of entries.
-#[tactic(auto, unfolding(crate::specs::codec::Fields::list_at))]
+#[tactic(auto, unfolding(frame_fields::specs::Fields::list_at))]
 fn entry_list(alloc: Global, bytes: &[u8]) -> Result<Vec<NsEntry>, AllocError>
     requires { IsSome (entries_at bytes.now) }
     ensures { IfOk result (λ entries. entries.items ≡ read_items (entries_at bytes.now)) }

@@ -7,8 +7,8 @@ ghost use Rattle.da_wire.specs.Writing.{HasSize};
 ghost use Rattle.da_wire.specs.declared.frames.Frame.TheVariants as FrameOf;
 
 use crate::codec::appending::{axis_byte, put_cell};
-use crate::codec::fields::{axis_at, cell_at, name_of};
 use crate::codec::sizes::{CELL_SIZE, NAMESPACE_SIZE};
+use frame_fields::{axis_at, cell_at, name_of};
 use namespace_id::{Axis, Cell, Namespace, append, namespace_law};
 
 /// The bytes of a request for a sample: its cell and its axis.

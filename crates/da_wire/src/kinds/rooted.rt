@@ -7,10 +7,10 @@ ghost use Rattle.da_wire.specs.Writing.{HasSize};
 ghost use Rattle.da_wire.specs.declared.frames.Frame.TheVariants as FrameOf;
 
 use crate::codec::appending::put_hashes;
-use crate::codec::fields::{digest_at, hashes_at, u16_at};
 use crate::codec::sizes::{DIGEST_SIZE, HASH_SIZE, WIDTH_SIZE};
-use crate::kinds::message::{BARE_SIZE as MESSAGE_SIZE, message_front, put_message};
+use crate::kinds::message::{BARE_SIZE as MESSAGE_SIZE, put_message};
 use blob_commit::{RootedMessage, rooted_law};
+use frame_fields::{digest_at, hashes_at, message_front, u16_at};
 use namespace_id::append;
 
 /// The bytes of a root proof whose sample has no nodes and that has no hashes: its width, its sample,

@@ -3,7 +3,7 @@
 ghost use Rattle.std.specs.Prelude.{◌≡◌, ◌*◌, length, vec_len, None, Some, IfOk, IfSome, IsTrue, MatchOption, ◌+◌, ◌++◌};
 ghost use Rattle.namespace_id.specs.Cells.{is_width};
 ghost use Rattle.namespace_id.specs.Answers.{HasRoom};
-ghost use Rattle.da_wire.specs.codec.Fields.{shares_of};
+ghost use Rattle.frame_fields.specs.Fields.{shares_of};
 ghost use Rattle.da_wire.specs.kinds.Square.{square_at, square_payload};
 ghost use Rattle.da_wire.specs.Reading.{GivesUnlessFull};
 ghost use Rattle.da_wire.specs.codec.Texts.{share_bytes};
@@ -11,8 +11,8 @@ ghost use Rattle.da_wire.specs.Writing.{HasSize};
 ghost use Rattle.da_wire.specs.declared.frames.Frame.TheVariants as FrameOf;
 
 use crate::codec::appending::put_shares;
-use crate::codec::fields::{shares_of, u16_at};
 use crate::codec::sizes::{SHARE_SIZE, WIDTH_SIZE};
+use frame_fields::{shares_of, u16_at};
 use namespace_id::{append, is_width, shares_law};
 use square_layout::Square;
 use std::alloc::{AllocError, Global};

@@ -6,7 +6,7 @@ use Rattle.da_wire.specs.declared.frames.Frame.TheVariants.{Message}
 use Rattle.da_wire.specs.declared.frames.FrameError.TheVariants.{BadPayload}
 use Rattle.da_wire.specs.Spelling.{message_kind}
 use Rattle.da_wire.specs.Single.{message_of}
-use Rattle.da_wire.specs.kinds.Message.{message_at}
+use Rattle.frame_fields.specs.Messages.{message_at}
 use Rattle.da_wire.proofs.SingleLemmas.{message_value, single_at}
 use Rattle.da_wire.proofs.single.read_message.Goals as goal
 

@@ -1,5 +1,5 @@
 use Rattle.std.proofs.Common.{◌≡◌, ◌-◌}
-use Rattle.da_wire.specs.codec.Fields.{many_at, read_rest}
+use Rattle.frame_fields.specs.Fields.{many_at, read_rest}
 use Rattle.da_wire.specs.kinds.Block.{unit_at}
 use Rattle.da_wire.proofs.kinds.block.after_units.Given as goal
 

@@ -1,5 +1,5 @@
 use Rattle.std.proofs.Common.{◌≡◌, ◌-◌}
-use Rattle.da_wire.specs.codec.Fields.{many_at}
+use Rattle.frame_fields.specs.Fields.{many_at}
 use Rattle.da_wire.specs.kinds.Block.{blob_at}
 use Rattle.da_wire.proofs.codec.Many.{after_some}
 use Rattle.da_wire.proofs.kinds.block.blobs_of.Given as goal

@@ -1,4 +1,4 @@
-use Rattle.da_wire.specs.kinds.Message.{message_front}
+use Rattle.frame_fields.specs.Messages.{message_front}
 use Rattle.da_wire.proofs.codec.Many.{passed_more, passed_none, passed_end}
 use Rattle.da_wire.proofs.kinds.fraud.after_cells.Goals as goal
 

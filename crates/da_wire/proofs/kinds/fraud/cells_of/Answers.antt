@@ -1,4 +1,4 @@
-use Rattle.da_wire.specs.kinds.Message.{message_front}
+use Rattle.frame_fields.specs.Messages.{message_front}
 use Rattle.da_wire.proofs.codec.Many.{gives_some, gives_value, kept_more, kept_end, next_some}
 use Rattle.da_wire.proofs.kinds.fraud.cells_of.Goals as goal
 

@@ -1,6 +1,6 @@
 use Rattle.std.proofs.Common.{◌≡◌, ◌-◌}
-use Rattle.da_wire.specs.codec.Fields.{many_at}
-use Rattle.da_wire.specs.kinds.Message.{message_front}
+use Rattle.frame_fields.specs.Fields.{many_at}
+use Rattle.frame_fields.specs.Messages.{message_front}
 use Rattle.da_wire.proofs.codec.Many.{after_some}
 use Rattle.da_wire.proofs.kinds.fraud.cells_of.Given as goal
 

@@ -1,6 +1,6 @@
 use Rattle.std.proofs.Common.{◌≡◌, ◌∙◌, ◌+◌, ◌-◌, Bool, ◌||◌, sym, ap, subst}
 use Rattle.axis_roots.specs.Sets.{is_along}
-use Rattle.da_wire.specs.codec.Fields.{many_at}
+use Rattle.frame_fields.specs.Fields.{many_at}
 use Rattle.da_wire.specs.kinds.Fraud.{set_cell_at, passed}
 use Rattle.da_wire.proofs.codec.Told.{told, told_more, told_none, told_end}
 use Rattle.da_wire.proofs.kinds.fraud_set.after_cells.Goals.{then-shown, else-shown}

@@ -1,5 +1,5 @@
 use Rattle.std.proofs.Common.{◌≡◌, ◌-◌, ◌*◌, length}
-use Rattle.da_wire.specs.codec.Fields.{cells_of}
+use Rattle.frame_fields.specs.Fields.{cells_of}
 use Rattle.da_wire.specs.kinds.Missing.{are_next}
 use Rattle.da_wire.proofs.kinds.missing.are_next.Given as goal
 

@@ -1,5 +1,5 @@
 use Rattle.std.proofs.Common.{◌≡◌, ◌-◌, ◌*◌, ◌++◌, length}
-use Rattle.da_wire.specs.codec.Fields.{cells_of}
+use Rattle.frame_fields.specs.Fields.{cells_of}
 use Rattle.da_wire.proofs.kinds.missing.cells_of.Given as goal
 
 -- the cells so far and those of the rest are all

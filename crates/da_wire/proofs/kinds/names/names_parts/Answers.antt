@@ -1,5 +1,5 @@
 use Rattle.std.proofs.Common.{◌∙◌, sym, true, false}
-use Rattle.da_wire.specs.codec.Fields.{string_at}
+use Rattle.frame_fields.specs.Fields.{string_at}
 use Rattle.da_wire.specs.kinds.Names.{entries_at}
 use Rattle.da_wire.proofs.codec.Headed.{no_head, no_list, from_rest}
 use Rattle.da_wire.proofs.kinds.NamesForm.{named, names_is}

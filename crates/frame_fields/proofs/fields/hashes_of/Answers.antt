@@ -1,6 +1,6 @@
 use Rattle.std.proofs.Common.{ℕ, List, arith, length-append, [], ◌∷◌}
-use Rattle.da_wire.proofs.codec.SplitLoops.{values_more, values_end}
-use Rattle.da_wire.proofs.codec.fields.hashes_of.Goals as goal
+use Rattle.frame_fields.proofs.SplitLoops.{values_more, values_end}
+use Rattle.frame_fields.proofs.fields.hashes_of.Goals as goal
 
 pub loop-preserved : goal.loop-preserved
 loop-preserved c = record {

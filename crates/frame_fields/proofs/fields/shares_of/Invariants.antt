@@ -1,6 +1,6 @@
 use Rattle.std.proofs.Common.{◌≡◌, ◌-◌, ◌*◌, ◌++◌, length, vec_len}
-use Rattle.da_wire.specs.codec.Fields.{shares_of}
-use Rattle.da_wire.proofs.codec.fields.shares_of.Given as goal
+use Rattle.frame_fields.specs.Fields.{shares_of}
+use Rattle.frame_fields.proofs.fields.shares_of.Given as goal
 
 -- the shares so far and those of the rest are all
 abbrev pub invariant-loop : goal.invariant-loop

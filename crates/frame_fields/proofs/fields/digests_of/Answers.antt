@@ -1,7 +1,7 @@
 use Rattle.std.proofs.Common.{ap, arith}
-use Rattle.da_wire.specs.codec.Fields.{digest}
-use Rattle.da_wire.proofs.codec.SplitLoops.{values_more, values_end}
-use Rattle.da_wire.proofs.codec.fields.digests_of.Goals as goal
+use Rattle.frame_fields.specs.Fields.{digest}
+use Rattle.frame_fields.proofs.SplitLoops.{values_more, values_end}
+use Rattle.frame_fields.proofs.fields.digests_of.Goals as goal
 
 pub loop-preserved : goal.loop-preserved
 loop-preserved c = record {

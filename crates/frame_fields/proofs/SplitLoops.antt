@@ -1,6 +1,6 @@
 -- A loop that reads values of one length, one after another: what is read and what is left are all.
 use Rattle.std.proofs.Common.{◌≡◌, ◌∙◌, ℕ, suc, ◌+◌, ◌-◌, ◌<◌, ◌≤◌, List, [], ◌∷◌, ◌++◌, take, drop, refl, sym, ap, ap₂, arith, append_assoc, append-nil}
-use Rattle.da_wire.specs.codec.Fields.{split_into}
+use Rattle.frame_fields.specs.Fields.{split_into}
 
 -- reading one more value reads the first, and then the others
 values_suc : {A : Type 0} (value : List ℕ → A) (size n : ℕ) (bytes : List ℕ) → split_into value size (suc n) bytes ≡ value (take size bytes) ∷ split_into value size n (drop size bytes)

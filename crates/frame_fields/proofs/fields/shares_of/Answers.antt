@@ -1,7 +1,7 @@
 use Rattle.std.proofs.Common.{ap, arith}
 use Rattle.namespace_id.specs.Shares.{share_of}
-use Rattle.da_wire.proofs.codec.SplitLoops.{values_more, values_end}
-use Rattle.da_wire.proofs.codec.fields.shares_of.Goals as goal
+use Rattle.frame_fields.proofs.SplitLoops.{values_more, values_end}
+use Rattle.frame_fields.proofs.fields.shares_of.Goals as goal
 
 pub loop-preserved : goal.loop-preserved
 loop-preserved c = record {

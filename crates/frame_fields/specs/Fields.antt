@@ -8,7 +8,7 @@ use Rattle.namespace_id.specs.declared.digests.Digest.{Digest}
 use Rattle.namespace_id.specs.declared.shares.Share.{Share}
 use Rattle.namespace_id.specs.declared.cells.Axis.{Axis}
 use Rattle.namespace_id.specs.declared.cells.Axis.TheVariants.{Row, Col}
-use Rattle.namespace_id.specs.Sizes.{share_size, digest_size}
+use Rattle.namespace_id.specs.Sizes.{share_size, digest_size, hash_size}
 use Rattle.namespace_id.specs.Shares.{share_of}
 
 -- a reader, and what is read after it; none where the first reads none
@@ -89,6 +89,16 @@ unfoldable pub path_at : ℕ → List ℕ → Option (List Digest × List ℕ)
 path_at limit bytes = do
   count ← byte_at bytes
   if nat_lt limit count.0 then None else digests_at count.0 count.1
+
+-- the most hashes that lead from an axis root to a data root
+abbrev pub most_hashes : ℕ
+most_hashes = 9
+
+-- a count in one byte, and so many hashes
+unfoldable pub hashes_at : List ℕ → Option (List (List ℕ) × List ℕ)
+hashes_at bytes = do
+  count ← byte_at bytes
+  if nat_lt most_hashes count.0 then None else values_at (λ hash. hash) hash_size count.0 count.1
 
 -- ---- values whose lengths differ
 

@@ -1,6 +1,6 @@
 use Rattle.std.proofs.Common.{◌≡◌, ◌-◌, ◌*◌, ◌++◌, length}
-use Rattle.da_wire.specs.codec.Fields.{digests_of}
-use Rattle.da_wire.proofs.codec.fields.path_of.Given as goal
+use Rattle.frame_fields.specs.Fields.{digests_of}
+use Rattle.frame_fields.proofs.fields.path_of.Given as goal
 
 -- the digests so far and those of the rest are all
 abbrev pub invariant-loop : goal.invariant-loop

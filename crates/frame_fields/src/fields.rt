@@ -3,19 +3,27 @@
 ghost use Rattle.std.specs.Prelude.{◌≡◌, ◌≤◌, ◌*◌, length, vec_len, IfOk, IfSome};
 ghost use Rattle.std.specs.Int.{w16, w32};
 ghost use Rattle.namespace_id.specs.Answers.{Gives};
-ghost use Rattle.da_wire.specs.codec.Fields.{split_into, digests_of, shares_of, shares_at, text_at, count_at, number_at, byte_at, string_at, axis_at, path_at, cell_at, digest_list_at};
-ghost use Rattle.da_wire.specs.kinds.Commit.{hashes_at};
+ghost use Rattle.frame_fields.specs.Fields.{hashes_at, split_into, digests_of, shares_of, shares_at, text_at, count_at, number_at, byte_at, string_at, axis_at, path_at, cell_at, digest_list_at};
 
-use crate::codec::sizes::{
-    DIGEST_SIZE, HASH_SIZE, HASHES_LIMIT, NAMESPACE_SIZE, NODES_LIMIT, PATH_LIMIT, SHARE_SIZE,
-};
 use data_header::RootPath;
-use namespace_id::{Axis, Cell, Digest, Namespace, Share};
+use namespace_id::{Axis, Cell, DIGEST_SIZE, Digest, NAMESPACE_SIZE, Namespace, SHARE_SIZE, Share};
 use nmt_proofs::{Nodes, Path};
 use std::alloc::{AllocError, Global};
 
+/// The most nodes of a path.
+const PATH_LIMIT: u8 = 8;
+
+/// The most nodes of a range proof or an absence proof.
+const NODES_LIMIT: u8 = 16;
+
+/// The most hashes that lead from an axis root to a data root.
+const HASHES_LIMIT: u8 = 9;
+
+/// The bytes of a hash.
+const HASH_SIZE: usize = 32;
+
 /// A number of two bytes, the higher first, and the bytes after it.
-pub(crate) fn u16_at(bytes: &[u8]) -> Option<(u16, &[u8])>
+pub fn u16_at(bytes: &[u8]) -> Option<(u16, &[u8])>
     ensures { Gives (λ x. (x.0, x.1.now)) result (number_at w16 bytes.now) }
 {
     if bytes.len() < 2 {
@@ -26,7 +34,7 @@ pub(crate) fn u16_at(bytes: &[u8]) -> Option<(u16, &[u8])>
 }
 
 /// A number of four bytes, the highest first, and the bytes after it.
-pub(crate) fn u32_at(bytes: &[u8]) -> Option<(u32, &[u8])>
+pub fn u32_at(bytes: &[u8]) -> Option<(u32, &[u8])>
     ensures { Gives (λ x. (x.0, x.1.now)) result (number_at w32 bytes.now) }
 {
     if bytes.len() < 4 {
@@ -38,7 +46,7 @@ pub(crate) fn u32_at(bytes: &[u8]) -> Option<(u32, &[u8])>
 }
 
 /// A byte, and the bytes after it.
-pub(crate) fn u8_at(bytes: &[u8]) -> Option<(u8, &[u8])>
+pub fn u8_at(bytes: &[u8]) -> Option<(u8, &[u8])>
     ensures { Gives (λ x. (x.0, x.1.now)) result (byte_at bytes.now) }
 {
     match bytes {
@@ -48,7 +56,7 @@ pub(crate) fn u8_at(bytes: &[u8]) -> Option<(u8, &[u8])>
 }
 
 /// The share that 512 bytes are.
-pub(crate) fn share_of(bytes: &[u8]) -> Share
+fn share_of(bytes: &[u8]) -> Share
     requires { length bytes.now ≡ 512 }
     ensures { result.0 ≡ bytes.now }
 {
@@ -58,7 +66,7 @@ pub(crate) fn share_of(bytes: &[u8]) -> Share
 }
 
 /// The namespace that 29 bytes are.
-pub(crate) fn name_of(bytes: &[u8]) -> Namespace
+pub fn name_of(bytes: &[u8]) -> Namespace
     requires { length bytes.now ≡ 29 }
     ensures { result.0 ≡ bytes.now }
 {
@@ -68,7 +76,7 @@ pub(crate) fn name_of(bytes: &[u8]) -> Namespace
 }
 
 /// The digest that 90 bytes are.
-pub(crate) fn digest_of(bytes: &[u8]) -> Digest
+fn digest_of(bytes: &[u8]) -> Digest
     requires { length bytes.now ≡ 90 }
     ensures { result.0 ≡ bytes.now }
 {
@@ -88,7 +96,7 @@ fn hash_of(bytes: &[u8]) -> [u8; 32]
 }
 
 /// A share, and the bytes after it.
-pub(crate) fn share_at(bytes: &[u8]) -> Option<(Share, &[u8])>
+pub fn share_at(bytes: &[u8]) -> Option<(Share, &[u8])>
     ensures { Gives (λ x. (x.0.0, x.1.now)) result (string_at 512 bytes.now) }
 {
     if bytes.len() < SHARE_SIZE {
@@ -99,7 +107,7 @@ pub(crate) fn share_at(bytes: &[u8]) -> Option<(Share, &[u8])>
 }
 
 /// A namespace, and the bytes after it.
-pub(crate) fn name_at(bytes: &[u8]) -> Option<(Namespace, &[u8])>
+pub fn name_at(bytes: &[u8]) -> Option<(Namespace, &[u8])>
     ensures { Gives (λ x. (x.0.0, x.1.now)) result (string_at 29 bytes.now) }
 {
     if bytes.len() < NAMESPACE_SIZE {
@@ -110,7 +118,7 @@ pub(crate) fn name_at(bytes: &[u8]) -> Option<(Namespace, &[u8])>
 }
 
 /// A digest, and the bytes after it.
-pub(crate) fn digest_at(bytes: &[u8]) -> Option<(Digest, &[u8])>
+pub fn digest_at(bytes: &[u8]) -> Option<(Digest, &[u8])>
     ensures { Gives (λ x. (x.0.0, x.1.now)) result (string_at 90 bytes.now) }
 {
     if bytes.len() < DIGEST_SIZE {
@@ -121,7 +129,7 @@ pub(crate) fn digest_at(bytes: &[u8]) -> Option<(Digest, &[u8])>
 }
 
 /// A hash, and the bytes after it.
-pub(crate) fn hash_at(bytes: &[u8]) -> Option<([u8; 32], &[u8])>
+pub fn hash_at(bytes: &[u8]) -> Option<([u8; 32], &[u8])>
     ensures { Gives (λ x. (x.0, x.1.now)) result (string_at 32 bytes.now) }
 {
     if bytes.len() < HASH_SIZE {
@@ -132,8 +140,8 @@ pub(crate) fn hash_at(bytes: &[u8]) -> Option<([u8; 32], &[u8])>
 }
 
 /// A count of two bytes, at most the limit, and the bytes after it.
-#[tactic(auto, unfolding(crate::specs::codec::Fields::count_at))]
-pub(crate) fn count16_at(bytes: &[u8], limit: u16) -> Option<(u16, &[u8])>
+#[tactic(auto, unfolding(crate::specs::Fields::count_at))]
+pub fn count16_at(bytes: &[u8], limit: u16) -> Option<(u16, &[u8])>
     ensures value { Gives (λ x. (x.0, x.1.now)) result (count_at w16 limit bytes.now) }
     ensures few { IfSome result (λ x. x.0 ≤ limit) }
 {
@@ -145,8 +153,8 @@ pub(crate) fn count16_at(bytes: &[u8], limit: u16) -> Option<(u16, &[u8])>
 }
 
 /// A count of two bytes, at most the limit, the bytes of so many digests, and the bytes after them.
-#[tactic(auto, unfolding(crate::specs::codec::Fields::digest_list_at))]
-pub(crate) fn digest_list_at(bytes: &[u8], limit: u16) -> Option<(u16, &[u8], &[u8])>
+#[tactic(auto, unfolding(crate::specs::Fields::digest_list_at))]
+pub fn digest_list_at(bytes: &[u8], limit: u16) -> Option<(u16, &[u8], &[u8])>
     ensures value { Gives (λ x. (digests_of x.0 x.1.now, x.2.now))
         result (digest_list_at limit bytes.now) }
     ensures all { IfSome result (λ x. length x.1.now ≡ 90 * x.0) }
@@ -160,8 +168,8 @@ pub(crate) fn digest_list_at(bytes: &[u8], limit: u16) -> Option<(u16, &[u8], &[
 }
 
 /// A count or a length of four bytes, at most the limit, and the bytes after it.
-#[tactic(auto, unfolding(crate::specs::codec::Fields::count_at))]
-pub(crate) fn count_at(bytes: &[u8], limit: u32) -> Option<(u32, &[u8])>
+#[tactic(auto, unfolding(crate::specs::Fields::count_at))]
+pub fn count_at(bytes: &[u8], limit: u32) -> Option<(u32, &[u8])>
     ensures { Gives (λ x. (x.0, x.1.now)) result (count_at w32 limit bytes.now) }
 {
     let (count, rest) = u32_at(bytes)?;
@@ -172,8 +180,8 @@ pub(crate) fn count_at(bytes: &[u8], limit: u32) -> Option<(u32, &[u8])>
 }
 
 /// A byte string behind its length of four bytes, at most the limit, and the bytes after it.
-#[tactic(auto, unfolding(crate::specs::codec::Fields::text_at))]
-pub(crate) fn text_at(bytes: &[u8], limit: u32) -> Option<(&[u8], &[u8])>
+#[tactic(auto, unfolding(crate::specs::Fields::text_at))]
+pub fn text_at(bytes: &[u8], limit: u32) -> Option<(&[u8], &[u8])>
     ensures { Gives (λ x. (x.0.now, x.1.now)) result (text_at w32 limit bytes.now) }
 {
     let (size, rest) = count_at(bytes, limit)?;
@@ -184,8 +192,8 @@ pub(crate) fn text_at(bytes: &[u8], limit: u32) -> Option<(&[u8], &[u8])>
 }
 
 /// A byte string behind its length of two bytes, at most the limit, and the bytes after it.
-#[tactic(auto, unfolding(crate::specs::codec::Fields::text_at))]
-pub(crate) fn text16_at(bytes: &[u8], limit: u16) -> Option<(&[u8], &[u8])>
+#[tactic(auto, unfolding(crate::specs::Fields::text_at))]
+pub fn text16_at(bytes: &[u8], limit: u16) -> Option<(&[u8], &[u8])>
     ensures value { Gives (λ x. (x.0.now, x.1.now)) result (text_at w16 limit bytes.now) }
     ensures few { IfSome result (λ x. length x.0.now ≤ limit) }
 {
@@ -197,8 +205,8 @@ pub(crate) fn text16_at(bytes: &[u8], limit: u16) -> Option<(&[u8], &[u8])>
 }
 
 /// The axis that a byte is, 0 for a row and 1 for a column, and the bytes after it.
-#[tactic(auto, unfolding(crate::specs::codec::Fields::axis_at))]
-pub(crate) fn axis_at(bytes: &[u8]) -> Option<(Axis, &[u8])>
+#[tactic(auto, unfolding(crate::specs::Fields::axis_at))]
+pub fn axis_at(bytes: &[u8]) -> Option<(Axis, &[u8])>
     ensures { Gives (λ x. (x.0, x.1.now)) result (axis_at bytes.now) }
 {
     let (byte, rest) = u8_at(bytes)?;
@@ -210,8 +218,8 @@ pub(crate) fn axis_at(bytes: &[u8]) -> Option<(Axis, &[u8])>
 }
 
 /// A cell, its row first, and the bytes after it.
-#[tactic(auto, unfolding(crate::specs::codec::Fields::cell_at))]
-pub(crate) fn cell_at(bytes: &[u8]) -> Option<(Cell, &[u8])>
+#[tactic(auto, unfolding(crate::specs::Fields::cell_at))]
+pub fn cell_at(bytes: &[u8]) -> Option<(Cell, &[u8])>
     ensures { Gives (λ x. (x.0, x.1.now)) result (cell_at bytes.now) }
 {
     let (row, rest) = u16_at(bytes)?;
@@ -220,7 +228,7 @@ pub(crate) fn cell_at(bytes: &[u8]) -> Option<(Cell, &[u8])>
 }
 
 /// The bytes of so many shares, and the bytes after them.
-pub(crate) fn shares_at(count: u16, bytes: &[u8]) -> Option<(&[u8], &[u8])>
+pub fn shares_at(count: u16, bytes: &[u8]) -> Option<(&[u8], &[u8])>
     ensures value { Gives (λ x. (shares_of count x.0.now, x.1.now))
         result (shares_at count bytes.now) }
     ensures all { IfSome result (λ x. length x.0.now ≡ 512 * count) }
@@ -232,7 +240,7 @@ pub(crate) fn shares_at(count: u16, bytes: &[u8]) -> Option<(&[u8], &[u8])>
 }
 
 /// So many shares, one after another, which are all of the bytes.
-pub(crate) fn shares_of(alloc: Global, count: usize, bytes: &[u8]) -> Result<Vec<Share>, AllocError>
+pub fn shares_of(alloc: Global, count: usize, bytes: &[u8]) -> Result<Vec<Share>, AllocError>
     requires { length bytes.now ≡ 512 * count }
     ensures value { IfOk result (λ shares. shares.items ≡ shares_of count bytes.now) }
     ensures len { IfOk result (λ shares. vec_len shares ≡ count) }
@@ -248,11 +256,7 @@ pub(crate) fn shares_of(alloc: Global, count: usize, bytes: &[u8]) -> Result<Vec
 }
 
 /// So many digests, one after another, which are all of the bytes.
-pub(crate) fn digests_of(
-    alloc: Global,
-    count: usize,
-    bytes: &[u8],
-) -> Result<Vec<Digest>, AllocError>
+pub fn digests_of(alloc: Global, count: usize, bytes: &[u8]) -> Result<Vec<Digest>, AllocError>
     requires { length bytes.now ≡ 90 * count }
     ensures value { IfOk result (λ digests. digests.items ≡ digests_of count bytes.now) }
     ensures len { IfOk result (λ digests. vec_len digests ≡ count) }
@@ -300,7 +304,7 @@ fn nodes_of(count: u8, bytes: &[u8]) -> Nodes
 }
 
 /// A count of at most the limit, the bytes of so many digests, and the bytes after them.
-#[tactic(auto, unfolding(crate::specs::codec::Fields::path_at))]
+#[tactic(auto, unfolding(crate::specs::Fields::path_at))]
 fn digests_at(bytes: &[u8], limit: u8) -> Option<(u8, &[u8], &[u8])>
     ensures value { Gives (λ x. (digests_of x.0 x.1.now, x.2.now))
         result (path_at limit bytes.now) }
@@ -319,7 +323,7 @@ fn digests_at(bytes: &[u8], limit: u8) -> Option<(u8, &[u8], &[u8])>
 }
 
 /// A count of at most 8, so many digests, and the bytes after them.
-pub(crate) fn path_at(bytes: &[u8]) -> Option<(Path, &[u8])>
+pub fn path_at(bytes: &[u8]) -> Option<(Path, &[u8])>
     ensures { Gives (λ x. (x.0, x.1.now)) result (path_at 8 bytes.now) }
 {
     let (count, digests, rest) = digests_at(bytes, PATH_LIMIT)?;
@@ -327,7 +331,7 @@ pub(crate) fn path_at(bytes: &[u8]) -> Option<(Path, &[u8])>
 }
 
 /// A count of at most 16, so many digests, and the bytes after them.
-pub(crate) fn nodes_at(bytes: &[u8]) -> Option<(Nodes, &[u8])>
+pub fn nodes_at(bytes: &[u8]) -> Option<(Nodes, &[u8])>
     ensures { Gives (λ x. (x.0, x.1.now)) result (path_at 16 bytes.now) }
 {
     let (count, digests, rest) = digests_at(bytes, NODES_LIMIT)?;
@@ -351,7 +355,7 @@ fn hashes_of(count: u8, bytes: &[u8]) -> RootPath
 }
 
 /// A count of at most 9, the bytes of so many hashes, and the bytes after them.
-#[tactic(auto, unfolding(crate::specs::kinds::Commit::hashes_at))]
+#[tactic(auto, unfolding(crate::specs::Fields::hashes_at))]
 fn hash_list_at(bytes: &[u8]) -> Option<(u8, &[u8], &[u8])>
     ensures value { Gives (λ x. (split_into (λ hash. hash) 32 x.0 x.1.now, x.2.now))
         result (hashes_at bytes.now) }
@@ -370,7 +374,7 @@ fn hash_list_at(bytes: &[u8]) -> Option<(u8, &[u8], &[u8])>
 }
 
 /// A count of at most 9, so many hashes, and the bytes after them.
-pub(crate) fn hashes_at(bytes: &[u8]) -> Option<(RootPath, &[u8])>
+pub fn hashes_at(bytes: &[u8]) -> Option<(RootPath, &[u8])>
     ensures { Gives (λ x. (x.0, x.1.now)) result (hashes_at bytes.now) }
 {
     let (count, hashes, rest) = hash_list_at(bytes)?;

@@ -1,6 +1,6 @@
 use Rattle.std.proofs.Common.{◌≡◌, ◌-◌, ◌*◌, ◌++◌, length}
-use Rattle.da_wire.specs.codec.Fields.{split_into}
-use Rattle.da_wire.proofs.codec.fields.hashes_of.Given as goal
+use Rattle.frame_fields.specs.Fields.{split_into}
+use Rattle.frame_fields.proofs.fields.hashes_of.Given as goal
 
 -- the hashes so far and those of the rest are all
 abbrev pub invariant-loop : goal.invariant-loop
