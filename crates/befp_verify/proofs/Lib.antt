@@ -6,3 +6,4 @@ mod BranchLemmas
 mod CompactLemmas
 mod NeighborLemmas
 mod ReadyLemmas
+mod SetLemmas

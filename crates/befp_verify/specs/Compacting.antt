@@ -50,10 +50,10 @@ pub record NamesTwo (k : ℕ) (claim : ClaimParts) (clash : Strings) : Type 0 wh
   pub right_in : Contains (along_in claim.axis claim.cells) right
   pub found : clash_at (opened_by k left) (opened_by k right) ≡ Some (clash.left, clash.right)
 
--- what a claim is made into: itself, where it is compact; else an accepted claim with a set, or a collision that two
--- of its cells along the axis name
+-- what a claim is made into: itself, and nothing else, where it is compact; else an accepted claim with a set, or a
+-- collision that two of its cells along the axis name
 abbrev pub IsCompacted : Roots → ClaimParts → Compacted → Type 0
 IsCompacted header claim (Claim made) =
     ((is_compact claim ≡ true) × (made ≡ claim))
     ⊎ ((is_compact claim ≡ false) × ((nodes : List Digest) × (made ≡ with_set claim nodes)) × Accepts header made)
-IsCompacted header claim (Clash clash) = NamesTwo header.k claim clash
+IsCompacted header claim (Clash clash) = (is_compact claim ≡ false) × NamesTwo header.k claim clash

@@ -1,12 +1,15 @@
 //! Fraud claims with one proof of all samples along the accused axis, in place of one for each.
 
 ghost use Rattle.std.specs.Prelude.{◌≡◌, ◌+◌, ◌^◌, ◌*◌, ◌≤◌, ◌<◌, ◌++◌, length, map, IsTrue, IfOk, OnOk, MatchOption, true, false};
+ghost use Rattle.std.specs.Option.{is_some};
+ghost use Rattle.befp_verify.specs.declared.compacting.Compacted.TheVariants.{Claim as Made};
 ghost use Rattle.std.specs.List.{AllByRecursion, list_any};
 ghost use Rattle.namespace_id.specs.Cells.{is_width, is_in_square};
 ghost use Rattle.nmt_proofs.specs.Openings.{begun};
 ghost use Rattle.nmt_proofs.specs.Merging.{leaves_of, merged_nodes, HoldsAlong, AreAlike};
 ghost use Rattle.nmt_tree.specs.Roots.{is_leaf_count, halvings};
 ghost use Rattle.axis_roots.specs.Sets.{is_along, along_in};
+ghost use Rattle.data_header.specs.Headers.{Roots};
 ghost use Rattle.axis_roots.specs.Claims.{ClaimParts, Accepts};
 ghost use Rattle.befp_verify.specs.Compacting.{bare, bare_all, is_compact, branch_of, branches_of, IsCompacted};
 ghost use Rattle.befp_verify.specs.Placed.{placed_of, placed, HasNodes, AreUnderOne, NamesTwoOf};
@@ -288,3 +291,10 @@ pub fn compact(alloc: Global, header: &Header, upheld: &Upheld) -> Result<Compac
     }
     make_set(alloc, header, claim)
 }
+
+/// What is proved of a claim that is made into another. It does nothing.
+pub fn compact_laws()
+    // A claim with a cell along its axis is made into one with a set.
+    ensures set { (header : Roots) (claim made : ClaimParts) → IsCompacted header claim (Made made) →
+        list_any (is_along claim.axis) claim.cells ≡ true → is_some made.set ≡ true }
+{}

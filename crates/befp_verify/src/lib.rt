@@ -9,6 +9,6 @@ mod compacting;
 mod upheld;
 mod verifying;
 
-pub use compacting::{Compacted, compact};
+pub use compacting::{Compacted, compact, compact_laws};
 pub use upheld::Upheld;
 pub use verifying::{FraudRefusal, FraudRefused, VerifyRoom, verify};

@@ -18,3 +18,6 @@ pub mod BlobRangeLemmas
 pub mod ShapeLemmas
 pub mod RowTreeLemmas
 pub mod Examples
+pub mod GreatestLemmas
+pub mod PlaceLemmas
+mod UnledLemmas

@@ -1,5 +1,6 @@
 -- The commitment of shares (Celestia specifications, "Data Square Layout", blob share commitment rules; RFC 6962, 2.1).
-use Rattle.std.specs.Prelude.{ℕ, zero, suc, ◌^◌, nat_le, List, [], ◌∷◌, length, map, take, drop, get_or, if◌then◌else◌}
+use Rattle.std.specs.Prelude.{◌<◌, ◌≤◌, ℕ, zero, suc, ◌+◌, ◌^◌, nat_le, List, [], ◌∷◌, ◌++◌, length, map, take, drop, get_or, if◌then◌else◌}
+use Rattle.std.specs.Int.{IsPowerOfTwo}
 use Rattle.namespace_id.specs.declared.shares.Share.{Share}
 use Rattle.namespace_id.specs.declared.digests.Digest.{Digest}
 use Rattle.namespace_id.specs.Shares.{name_in}
@@ -36,3 +37,18 @@ subtree_roots (size ∷ sizes) shares =
 -- the commitment of shares: the plain Merkle root over the roots of the subtrees into which they are cut
 abbrev pub commitment_over : List Share → List ℕ
 commitment_over shares = root_of_digests (subtree_roots (cut (length shares)) shares)
+
+-- ---- the rule of the plain root in its own words
+
+-- the greatest power of two below a number
+pub record IsSplit (count size : ℕ) : Type 0 where
+  pub power : IsPowerOfTwo size
+  pub below : size < count
+  pub greatest : (other : ℕ) → IsPowerOfTwo other → other < count → other ≤ size
+
+-- the plain Merkle root over hashes of leaves (RFC 6962, 2.1): of one the hash; of more the hash of a node over the roots of
+-- two parts, of which the first has the greatest power of two below their number
+pub data IsPlainRoot : List (List ℕ) → List ℕ → Type 0 where
+  one : (hash : List ℕ) → IsPlainRoot (hash ∷ []) hash
+  more : (left right : List (List ℕ)) (l r : List ℕ) → IsSplit (length left + length right) (length left)
+      → IsPlainRoot left l → IsPlainRoot right r → IsPlainRoot (left ++ right) (inner_hash l r)

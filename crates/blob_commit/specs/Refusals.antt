@@ -1,5 +1,5 @@
 -- Why commitment proofs and root proofs are refused (docs/RULES.md, "Commitment proofs").
-use Rattle.std.specs.Prelude.{ℕ, suc, ◌+◌, ◌-◌, ◌*◌, ◌/◌, ◌==◌, ◌&&◌, nat_lt, List, [], ◌∷◌, length, Bool, Option, Some, None, if◌then◌else◌}
+use Rattle.std.specs.Prelude.{◌≡◌, ◌++◌, false, ℕ, suc, ◌+◌, ◌-◌, ◌*◌, ◌/◌, ◌==◌, ◌&&◌, nat_lt, List, [], ◌∷◌, length, Bool, Option, Some, None, if◌then◌else◌}
 use Rattle.std.specs.Option.{option_map_or}
 use Rattle.std.specs.Str.{bytes_eq}
 use Rattle.namespace_id.specs.declared.cells.Axis.{Axis}
@@ -13,7 +13,7 @@ use Rattle.data_header.specs.DataRoots.{root_halvings, root_place, leaf_hash, le
 use Rattle.axis_roots.specs.Messages.{shown_by, index}
 use Rattle.blob_commit.specs.Commitments.{root_of_digests}
 use Rattle.blob_commit.specs.Cuts.{levels_of}
-use Rattle.blob_commit.specs.Proofs.{RowParts, CommitParts, RootedParts, part_of_row, shown_in, subtrees_of, has_commit_shape}
+use Rattle.blob_commit.specs.Proofs.{RowParts, CommitParts, RootedParts, part_of_row, shown_in, subtrees_of, has_commit_shape, RowsLead}
 use Rattle.blob_commit.specs.declared.proving.CommitRefusal.{CommitRefusal}
 use Rattle.blob_commit.specs.declared.proving.CommitRefusal.TheVariants.{Shape, Root, Nodes, Commitment}
 use Rattle.blob_commit.specs.declared.rooting.RootedRefusal.{RootedRefusal}
@@ -85,3 +85,13 @@ rooted_refusal root proof =
     (if is_rooted_led root proof then option_map_or (λ why. Some (V.Path why)) (sample_refusal proof) None
     else Some V.Root)
     else Some V.Shape
+
+-- the first of some rows whose hashes don't lead to the data root, counted from 0: those of all before it do
+pub record IsFirstUnled (root : List ℕ) (k index : ℕ) (rows : List RowParts) (i : ℕ) : Type 0 where
+  pub before : List RowParts
+  pub row : RowParts
+  pub after : List RowParts
+  pub parts : rows ≡ before ++ row ∷ after
+  pub number : i ≡ length before
+  pub lead : RowsLead root k index before
+  pub unled : is_led root k Row (index + length before) row.root row.up ≡ false

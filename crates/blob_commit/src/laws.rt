@@ -1,20 +1,25 @@
 //! What proofs under the data root of a square's header say of the square.
 
-ghost use Rattle.std.specs.Prelude.{◌≡◌, ◌↔◌, ◌≤◌, ◌++◌, ◌∷◌, ℕ, List, length, take, drop, true, None};
+ghost use Rattle.std.specs.Prelude.{◌/◌, ◌≡◌, ◌↔◌, ◌<◌, ◌≤◌, ◌*◌, ◌++◌, ◌∷◌, ℕ, List, length, take, drop, true, Some, None};
+ghost use Rattle.namespace_id.specs.declared.cells.Axis.{Axis};
+ghost use Rattle.share_split.specs.Widths.{subtree_width_of};
+ghost use Rattle.blob_commit.specs.Cuts.{cut, IsCut};
+ghost use Rattle.blob_commit.specs.Commitments.{root_over, IsPlainRoot};
 ghost use Rattle.std.specs.List.{AllByRecursion};
 ghost use Rattle.share_split.specs.Blobs.{NamedBytes, blob_shares_of};
 ghost use Rattle.square_layout.specs.Blocks.{BlockParts, SquareShares};
 ghost use Rattle.square_layout.specs.Refusals.{layout_refusal};
 ghost use Rattle.square_layout.specs.Layout.{in_order, share_count_of, start_after, end_of, compact_end, square_of};
-ghost use Rattle.data_header.specs.Headers.{Roots};
-ghost use Rattle.data_header.specs.DataRoots.{data_root_of};
+ghost use Rattle.data_header.specs.Headers.{Roots, AreRoots, root_of};
+ghost use Rattle.data_header.specs.DataRoots.{data_root_of, root_halvings};
+ghost use Rattle.blob_commit.specs.DataTrees.{full, text_at};
 ghost use Rattle.axis_roots.specs.declared.message.messages.Message.{Message};
 ghost use Rattle.axis_roots.specs.Messages.{IsMessage};
 ghost use Rattle.axis_roots.specs.Openings.{IsProved};
 ghost use Rattle.axis_roots.specs.Grids.{IsHeaderOf};
-ghost use Rattle.blob_commit.specs.Refusals.{commit_refusal, rooted_refusal};
+ghost use Rattle.blob_commit.specs.Refusals.{commit_refusal, rooted_refusal, unled_row, IsFirstUnled};
 ghost use Rattle.blob_commit.specs.Proofs.{CommitParts, CommitHolds, IsCommit, RootedParts, RootedHolds, IsRooted, has_commit_shape, is_range};
-ghost use Rattle.blob_commit.specs.Places.{IsOwnCommit, IsOwnRooted};
+ghost use Rattle.blob_commit.specs.Places.{IsOwnCommit, IsOwnRooted, turns_for};
 
 use share_split::blob_laws;
 use square_layout::{size_laws, start_laws};
@@ -30,6 +35,30 @@ pub fn commit_laws()
     // collision at some place.
     ensures rooted { (header : Roots) (proof : RootedParts) → IsRooted proof →
         RootedHolds (data_root_of header) proof → IsOwnRooted header proof }
+{}
+
+/// What is proved of the subtrees of a commitment and of the root over them, in the words of the rules.
+pub fn commitment_laws()
+    // The subtrees over 1 to 16,384 shares are each the greatest, up to the width of their subtrees, that fits into the
+    // shares that are left, and there is one such cut.
+    ensures cut { (count : ℕ) → 1 ≤ count → count ≤ 16384 →
+        IsCut (subtree_width_of count) count (cut count) }
+    ensures one_cut { (width count : ℕ) (sizes others : List ℕ) → IsCut width count sizes →
+        IsCut width count others → sizes ≡ others }
+
+    // The root over 1 to 256 hashes is the plain one: of more than one the left part has the greatest power of two below
+    // their number.
+    ensures root { (hashes : List (List ℕ)) → 1 ≤ length hashes → length hashes ≤ 256 →
+        IsPlainRoot hashes (root_over 8 hashes) }
+{}
+
+/// What is proved of the places of strings.
+pub fn place_laws()
+    // At the end of the turns for an axis the data tree of a header has the leaf over the root of this axis.
+    ensures axis { (header : Roots) → AreRoots header → (axis : Axis) (index : ℕ) →
+        index < 2 * header.k → text_at (turns_for header.k axis index)
+        (full (root_halvings header.k) (header.rows ++ header.cols))
+        ≡ Some (0 ∷ (root_of header axis index).0) }
 {}
 
 /// What is proved of the range of each blob in the square of a block that isn't refused.
@@ -67,6 +96,10 @@ pub fn refusal_laws()
         (commit_refusal root proof ≡ None) ↔ CommitHolds root proof }
     ensures rooted { (root : List ℕ) (proof : RootedParts) → IsMessage proof.message →
         (rooted_refusal root proof ≡ None) ↔ RootedHolds root proof }
+
+    // The row that a refusal names, counted from 0, is the first whose hashes don't lead to the data root.
+    ensures unled { (root : List ℕ) (proof : CommitParts) (i : ℕ) → unled_row root proof ≡ Some i →
+        IsFirstUnled root proof.k (proof.start / proof.k) proof.rows i }
 {}
 
 /// What is proved of samples under the data root of a square's header.

@@ -15,7 +15,9 @@ mod sizes;
 mod trees;
 
 pub use committing::{CommitError, commitment, commitment_of};
-pub use laws::{commit_laws, range_laws, refusal_laws, sample_laws, shape_laws};
+pub use laws::{
+    commit_laws, commitment_laws, place_laws, range_laws, refusal_laws, sample_laws, shape_laws,
+};
 pub use making::{ProveError, prove_commit};
 pub use proofs::{CommitProof, CommitRow, RootedMessage};
 pub use proving::{CommitRefusal, check_commit};

@@ -11,3 +11,4 @@ mod OwnLemmas
 mod RowLemmas
 mod BlockLemmas
 mod SquareLemmas
+mod StayLemmas

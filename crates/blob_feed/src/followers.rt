@@ -1,6 +1,6 @@
 //! Followers of namespaces.
 
-ghost use Rattle.std.specs.Prelude.{◌≡◌, ◌↔◌, true, ◌+◌, ◌-◌, ◌<◌, ◌≤◌, ◌^◌, ◌++◌, ◌∷◌, [], List, Some, None, IsOk, IsErrOf, IfOk, OnOk, OnErr, option_copied};
+ghost use Rattle.std.specs.Prelude.{◌≡◌, ◌↔◌, true, false, ◌+◌, ◌-◌, ◌<◌, ◌≤◌, ◌^◌, ◌++◌, ◌∷◌, [], List, Some, None, IsOk, IsErrOf, IfOk, OnOk, OnErr, option_copied};
 ghost use Rattle.std.specs.Option.{option_map};
 ghost use Rattle.namespace_id.specs.Answers.{HasRoom};
 ghost use Rattle.namespace_id.specs.Cells.{is_width};
@@ -9,7 +9,9 @@ ghost use Rattle.blob_feed.specs.declared.entries.FollowError.{FollowError as Re
 ghost use Rattle.blob_feed.specs.Filters.{IsFilter, wanted_by};
 ghost use Rattle.blob_feed.specs.Feeds.{Item, Height, headed, answered, with_answer, FeedsAt, read_of, taken_of, shares_shown, IsCounted};
 ghost use Rattle.blob_feed.specs.Followers.{FollowerParts, StandsFor, AreFed, count_of, kept_at, IsNew, IsEntered, IsLastEntry, IsRefusedFor, HadMemory};
-ghost use Rattle.blob_feed.specs.declared.entries.FollowError.TheVariants.{NoMemory as Full};
+ghost use Rattle.blob_feed.specs.declared.entries.FollowError.TheVariants.{NotBlob, Unwanted, NoMemory as Full};
+ghost use Rattle.namespace_id.specs.declared.namespaces.NsError.{NsError as NameRefusal};
+ghost use Rattle.namespace_id.specs.Names.{namespace_refusal};
 ghost use Rattle.blob_feed.specs.declared.followers.Last.{Last as LastParts};
 
 use crate::feeds::Feed;
@@ -250,6 +252,14 @@ impl<F: Filter> Follower<F> {
             (why : Refusal) → (why ≡ Full → ⊥) → IsErrOf result why ↔
             IsRefusedFor (F.answers self.old.filter namespace.now) last namespace.now
             answer.now why }
+
+        // The first two one by one: a namespace that isn't one of a blob, then one that the filter doesn't want,
+        // whatever the answer is.
+        ensures not_blob { (why : NameRefusal) → IsErrOf result (NotBlob why) ↔
+            (namespace_refusal namespace.now.0 ≡ Some why) }
+        ensures unwanted { IsErrOf result Unwanted ↔
+            (namespace_refusal namespace.now.0 ≡ None)
+            × F.answers self.old.filter namespace.now false }
 
         // It stands for the answer too, refused or not, unless memory ran out.
         ensures stands { HadMemory result → (items : List Item) →

@@ -1,6 +1,6 @@
 //! What a feed is, and what it says of a square and of a block.
 
-ghost use Rattle.std.specs.Prelude.{◌≡◌, ◌⊎◌, ℕ, List, true, Option, Some, None, Ok};
+ghost use Rattle.std.specs.Prelude.{◌≡◌, ◌⊎◌, ◌++◌, ℕ, List, true, Option, Some, None, Ok};
 ghost use Rattle.std.specs.List.{filter};
 ghost use Rattle.std.specs.Option.{option_map};
 ghost use Rattle.namespace_id.specs.declared.namespaces.Namespace.{Namespace};
@@ -34,6 +34,11 @@ pub fn feed_laws<F: Filter>()
         (one other : Option Read) →
         FeedsAt (wanted_by F.answers rule) items number name one →
         FeedsAt (wanted_by F.answers rule) items number name other → one ≡ other }
+
+    // What a height has of a namespace stays, whatever is handed later.
+    ensures stays { (rule : F) (items later : List Item) (number : ℕ) (name : Namespace)
+        (read : Read) → FeedsAt (wanted_by F.answers rule) items number name (Some read) →
+        FeedsAt (wanted_by F.answers rule) (items ++ later) number name (Some read) }
 
     // At a height whose header is that of a square, it is what the square's shares of the namespace
     // are read as, or the first complete answer and the square name a collision.

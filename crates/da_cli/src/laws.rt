@@ -1,6 +1,6 @@
 //! What the relation of a run says of each kind of words and files.
 
-ghost use Rattle.std.specs.Prelude.{◌≡◌, ◌↔◌, ◌⊎◌, ℕ, ◌+◌, true, false, List, [], ◌∷◌, length, map, Ok, Some, None};
+ghost use Rattle.std.specs.Prelude.{◌*◌, ◌≡◌, ◌↔◌, ◌⊎◌, ℕ, ◌+◌, true, false, List, [], ◌∷◌, length, map, Ok, Some, None};
 ghost use Rattle.std.specs.List.{AllByRecursion, filter, Contains};
 ghost use Rattle.namespace_id.specs.Bytes.{AreBytes};
 ghost use Rattle.namespace_id.specs.Shares.{AreShares};
@@ -181,6 +181,7 @@ pub fn run_laws()
     ensures headed { (block : BlockParts) → IsBlock block → layout_refusal block ≡ None →
         (header : Roots) × IsHeaderOf header (square_of block) }
     ensures limit { FILE_LIMIT ≡ file_limit }
+    ensures size { FILE_LIMIT ≡ 512 * (1024 * 1024) }
 {
     message_laws();
     claim_laws();

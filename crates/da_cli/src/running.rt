@@ -135,8 +135,8 @@ pub fn run<I: Inputs, O: Sink, N: Sink>(
     // What is decided before the output leaves it as it was.
     ensures untouched { Untouched (out.new ≡ out.old) result }
 
-    // All commands but `check`, `sample`, `namespace`, `verify` without a request, `show` and `json` take
-    // all of their memory before they write.
+    // All commands but `check`, `sample`, `namespace`, `prove` of requests, `verify` without a request,
+    // `show` and `json` take all of their memory before they write.
     ensures late { IsEarly (call_of (words_of words.now)) (out.new ≡ out.old) result }
 
     // A failed pick or read, an excess of length: of which file, and after which others.

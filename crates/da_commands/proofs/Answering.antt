@@ -22,3 +22,4 @@ pub mod CommitLemmas
 pub mod ProveLemmas
 pub mod ShowLemmas
 pub mod DemoLemmas
+pub mod BackLemmas

@@ -1,7 +1,11 @@
 //! blobs SHARES: the blobs that the shares of a square, or of a namespace answer, are.
 
-ghost use Rattle.std.specs.Prelude.{◌≡◌, ◌≤◌, ◌*◌, ◌++◌, length, IfOk, OnOk, IsSome};
+ghost use Rattle.std.specs.Prelude.{◌≡◌, ◌≤◌, ◌*◌, ◌++◌, length, IfOk, OnOk, IsSome, None, Ok};
 ghost use Rattle.std.specs.List.{flat_map};
+ghost use Rattle.share_split.specs.Walks.{blobs_of};
+ghost use Rattle.square_layout.specs.Blocks.{BlockParts, IsBlock};
+ghost use Rattle.square_layout.specs.Layout.{in_order, square_of};
+ghost use Rattle.square_layout.specs.Refusals.{layout_refusal};
 ghost use Rattle.blob_feed.specs.Feeds.{shares_found};
 ghost use Rattle.da_wire.specs.declared.frames.Frame.TheVariants as FrameOf;
 ghost use Rattle.da_wire.specs.Spelling.{spelling};
@@ -20,8 +24,8 @@ use da_io::Sink;
 use da_status::{Asked, Status};
 use da_wire::{Frame, read_only, wire_laws};
 use namespace_id::{NoMemory, PAY_FOR_BLOB, Share, TRANSACTION, bytes_law};
-use share_split::{Blob, JoinError, join_blobs};
-use square_layout::Block;
+use share_split::{Blob, JoinError, join_blobs, join_laws};
+use square_layout::{Block, name_laws, share_laws, size_laws};
 use std::alloc::Global;
 
 /// The place of the file among the words that name files.
@@ -143,4 +147,15 @@ pub(crate) fn execute<O: Sink>(alloc: Global, files: &[Vec<u8>], out: &mut O) ->
         Err(Unread::BadForm(at)) => Status::BadInput(SHARES, at),
         Err(Unread::NoMemory) => Status::NoMemory,
     }
+}
+
+/// What is read of the square of a block that isn't refused: exactly its blobs, with their signers, by ascending namespace.
+pub fn blobs_laws()
+    ensures back { (block : BlockParts) → layout_refusal block ≡ None → IsBlock block →
+        blobs_of (behind_compact (square_of block).shares) ≡ Ok (in_order block.blobs) }
+{
+    join_laws();
+    name_laws();
+    share_laws();
+    size_laws();
 }

@@ -32,6 +32,7 @@ mod verify;
 mod verify_for;
 mod wanted;
 
+pub use blobs::blobs_laws;
 pub use check::Finding;
 pub use command::{Command, execute};
 pub use follow::follow_laws;

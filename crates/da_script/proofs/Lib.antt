@@ -6,3 +6,4 @@ pub mod TailLemmas
 pub mod PlayLemmas
 pub mod CountLemmas
 pub mod OutcomeLemmas
+pub mod RoomLemmas

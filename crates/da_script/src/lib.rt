@@ -5,9 +5,11 @@
 #![tactic(auto)]
 
 mod items;
+mod laws;
 mod lines;
 mod nodes;
 mod playing;
 mod reading;
 
+pub use laws::script_laws;
 pub use playing::{PlayError, play};

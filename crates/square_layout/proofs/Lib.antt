@@ -14,3 +14,4 @@ pub mod LeastWidthLemmas
 pub mod OrderLawLemmas
 pub mod SquareLemmas
 pub mod BlobLemmas
+pub mod ReadBackLemmas

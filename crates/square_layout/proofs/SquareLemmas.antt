@@ -100,14 +100,14 @@ AreShares-replicate zero share h = tt
 AreShares-replicate (suc n) share h = (h, AreShares-replicate n share h)
 
 -- the namespaces of padding and of units
-low_is_namespace : (byte : ℕ) → byte < 256 → IsNamespace (record { 0 = replicate 28 0 ++ byte ∷ [] })
+pub low_is_namespace : (byte : ℕ) → byte < 256 → IsNamespace (record { 0 = replicate 28 0 ++ byte ∷ [] })
 low_is_namespace byte h = record {
   size_is = refl;
   fits = AreBytes-append (replicate 28 0) (replicate 1 byte) (AreBytes-replicate 28 0 (omega arith)) (AreBytes-replicate 1 byte h);
 }
 
 -- the namespace of tail padding is one
-tail_is_namespace : IsNamespace tail_padding
+pub tail_is_namespace : IsNamespace tail_padding
 tail_is_namespace = record {
   size_is = refl;
   fits = AreBytes-append (replicate 28 0xFF) (replicate 1 0xFE) (AreBytes-replicate 28 0xFF (omega arith)) (AreBytes-replicate 1 0xFE (omega arith));

@@ -9,7 +9,7 @@ ghost use Rattle.namespace_id.specs.Names.{is_at_most, is_blob_namespace, namesp
 ghost use Rattle.namespace_id.specs.Shares.{AreShares, name_in};
 ghost use Rattle.share_split.specs.Widths.{subtree_width_of};
 ghost use Rattle.share_split.specs.Blobs.{NamedBytes, blob_shares_of};
-ghost use Rattle.share_split.specs.Joined.{padding_share, IsBlob};
+ghost use Rattle.share_split.specs.Joined.{padding_share, IsBlob, AreBlobs};
 ghost use Rattle.square_layout.specs.Blocks.{BlockParts, IsBlock, IsSquare};
 ghost use Rattle.square_layout.specs.Layout.{has_name, in_order, share_count_of, start_after, end_of, padding_name, compact_part, compact_end, laid, needed, holding_from, width_for, square_of};
 ghost use Rattle.square_layout.specs.Refusals.{max_shares, layout_refusal};
@@ -94,6 +94,11 @@ pub fn share_laws()
     ensures padding { PaddingIsNamed }
     ensures ordered { (block : BlockParts) → layout_refusal block ≡ None → IsBlock block →
         AllByRecursion IsBlob (in_order block.blobs) }
+
+    // Behind its compact shares the square of a block is exactly its blobs, in their order, with padding
+    // before, between and behind them.
+    ensures behind { (block : BlockParts) → layout_refusal block ≡ None → IsBlock block →
+        AreBlobs (drop (compact_end block) (square_of block).shares) (in_order block.blobs) }
 {
     blob_laws();
 }

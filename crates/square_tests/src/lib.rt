@@ -12,7 +12,11 @@ mod clashes;
 #[cfg(test)]
 mod codewords;
 #[cfg(test)]
+mod empties;
+#[cfg(test)]
 mod fields;
+#[cfg(test)]
+mod followers;
 #[cfg(test)]
 mod generated;
 #[cfg(test)]

@@ -7,6 +7,7 @@ use Rattle.blob_feed.specs.Feeds.{heights_of}
 use Rattle.blob_feed.specs.Followers.{feeds_of}
 use Rattle.blob_feed.proofs.FedLemmas.{fed_at}
 use Rattle.blob_feed.proofs.OnceLemmas.{fed_once}
+use Rattle.blob_feed.proofs.StayLemmas.{fed_stays}
 use Rattle.blob_feed.proofs.OwnLemmas.{own_at, blobs_at}
 use Rattle.blob_feed.proofs.SquareLemmas.{block_read}
 use Rattle.blob_feed.proofs.laws.feed_laws.Goals as goal
@@ -20,6 +21,11 @@ returns-clause-feed g c = λ follower items stands number name.
 pub returns-clause-once : goal.returns-clause-once
 returns-clause-once g c = λ rule items number name one other.
     fed_once (wanted_by g.F.Filter.answers rule) (slice_get (heights_of items) number) name one other
+
+-- it stays the first
+pub returns-clause-stays : goal.returns-clause-stays
+returns-clause-stays g c = λ rule items later number name read.
+    fed_stays (wanted_by g.F.Filter.answers rule) items later number name read
 
 -- it shows exactly the square's shares, or names a collision
 pub returns-clause-own : goal.returns-clause-own

@@ -12,4 +12,4 @@ claim_frame-requires c =
 -- and so can the collision
 pub clash_frame-requires : goal.clash_frame-requires
 clash_frame-requires c =
-    made_full c.args.header.now c.requires.made.0 c.in-Clash.clash (subst (IsCompacted c.args.header.now c.requires.made.0) c.in-Clash.is c.requires.made.2)
+    made_full c.args.header.now c.requires.made.0 c.in-Clash.clash (subst (IsCompacted c.args.header.now c.requires.made.0) c.in-Clash.is c.requires.made.2).1

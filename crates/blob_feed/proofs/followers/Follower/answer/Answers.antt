@@ -1,5 +1,7 @@
-use Rattle.std.proofs.Common.{◌≡◌, ◌∙◌, ◌↔◌, ◌∷◌, [], ◌++◌, Option, Some, IsErrOf, sym, subst, ap}
+use Rattle.std.proofs.Common.{◌≡◌, ◌∙◌, ◌↔◌, None, false, ◌∷◌, [], ◌++◌, Option, Some, IsErrOf, sym, subst, ap}
 use Rattle.std.proofs.lemmas.Result.{on_ok_weaker}
+use Rattle.namespace_id.specs.Names.{namespace_refusal}
+use Rattle.blob_feed.specs.declared.entries.FollowError.TheVariants.{NotBlob, Unwanted, NoMemory}
 use Rattle.blob_feed.specs.declared.followers.Last.{Last}
 use Rattle.blob_feed.specs.Filters.{wanted_by}
 use Rattle.blob_feed.specs.Feeds.{answered}
@@ -24,6 +26,16 @@ returns-clause-refused g c = λ last is why other.
     (subst (λ (l : Last). IsErrOf c.take.result why
     ↔ IsRefusedFor (g.F.Filter.answers c.self.inside.filter c.args.namespace.now) l c.args.namespace.now
     c.args.answer.now why) here (c.take.ensures.refused why other))
+
+-- the first two, whatever the answer is
+pub returns-clause-not_blob : goal.returns-clause-not_blob
+returns-clause-not_blob g c = λ why. c.take.ensures.refused (NotBlob why) (λ (e : NotBlob why ≡ NoMemory). cc)
+
+pub returns-clause-unwanted : goal.returns-clause-unwanted
+returns-clause-unwanted g c =
+    subst (λ (n : FollowerParts g.row.F.Denot). IsErrOf c.take.result Unwanted
+    ↔ ((namespace_refusal c.args.namespace.now.0 ≡ None) × g.F.Filter.answers n.filter c.args.namespace.now false))
+    c.self.view_is (c.take.ensures.refused Unwanted (λ (e : Unwanted ≡ NoMemory). cc))
 
 -- the follower stands for one more answer
 pub returns-clause-stands : goal.returns-clause-stands

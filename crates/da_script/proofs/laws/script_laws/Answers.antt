@@ -1,0 +1,5 @@
+use Rattle.da_script.proofs.RoomLemmas.{has_room}
+use Rattle.da_script.proofs.laws.script_laws.Goals as goal
+
+pub returns : goal.returns
+returns c = record { room = has_room }
