@@ -39,7 +39,10 @@ fn repair_file<I: Inputs, O: Sink>(
     let mut session = session;
     let fed = match feed_file(header, &mut session, name, MESSAGES, inputs) {
         Ok(fed) => fed,
-        Err(stop) => return Err(stop),
+        Err(stop) => {
+            drop(session);
+            return Err(stop);
+        }
     };
     match fed {
         Ok(lies) => {
@@ -49,7 +52,10 @@ fn repair_file<I: Inputs, O: Sink>(
             let _k = header.k;
             Ok(give_verdict(alloc, header, session.finish(), lies, out))
         }
-        Err(at) => Ok(Status::BadInput(MESSAGES, at)),
+        Err(at) => {
+            drop(session);
+            Ok(Status::BadInput(MESSAGES, at))
+        }
     }
 }
 

@@ -114,7 +114,7 @@ fn give_blobs<O: Sink>(alloc: Global, shares: &[Share], out: &mut O) -> Status
         (O.faults out.new) (out.new ≡ out.old) result }
 {
     match join_blobs(alloc, shares) {
-        Ok(blobs) => give(&block_frame(alloc, blobs), &mut Vec::new(alloc), out),
+        Ok(blobs) => give(block_frame(alloc, blobs), &mut Vec::new(alloc), out),
         Err(JoinError::NoMemory) => Status::NoMemory,
         Err(why) => Status::BadRequest(Asked::Shares(why)),
     }

@@ -20,7 +20,7 @@ fn build_square<O: Sink>(alloc: Global, block: &Block, out: &mut O) -> Status
         (O.faults out.new) (out.new ≡ out.old) result }
 {
     match lay(alloc, block) {
-        Ok(square) => give(&square_frame(square), &mut Vec::new(alloc), out),
+        Ok(square) => give(square_frame(square), &mut Vec::new(alloc), out),
         Err(LayError::NoMemory) => Status::NoMemory,
         Err(why) => Status::BadBlock(why),
     }

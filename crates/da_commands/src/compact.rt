@@ -67,7 +67,7 @@ fn give_made<O: Sink>(alloc: Global, header: &Header, made: Compacted, out: &mut
         (O.taken out.new) (O.faults out.old) (O.faults out.new) (out.new ≡ out.old) result }
 {
     let status = made_status(&made);
-    give_with(&made_frame(header, made), status, &mut Vec::new(alloc), out)
+    give_with(made_frame(header, made), status, &mut Vec::new(alloc), out)
 }
 
 /// Writes what an accepted claim is made into. All memory is taken before the write.

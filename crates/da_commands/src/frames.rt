@@ -151,18 +151,20 @@ pub(crate) fn put<O: Sink>(text: &[u8], status: Status, out: &mut O) -> Status
 /// Writes one frame, as one piece, and answers a status of a complete output. The text of the frame
 /// takes the place of what `text` holds.
 pub(crate) fn give_with<O: Sink>(
-    frame: &Frame,
+    frame: Frame,
     status: Status,
     text: &mut Vec<u8>,
     out: &mut O,
 ) -> Status
-    requires spelled { IsSome (spelling frame.now) }
+    requires spelled { IsSome (spelling frame) }
     requires status { kind_of status ≡ output }
-    ensures { EndsAtOnce (WritesWith status frame.now) (O.taken out.old) (O.taken out.new)
+    ensures { EndsAtOnce (WritesWith status frame) (O.taken out.old) (O.taken out.new)
         (O.faults out.old) (O.faults out.new) (out.new ≡ out.old) result }
 {
     text.clear();
-    match write_frame(frame, text) {
+    let written = write_frame(&frame, text);
+    drop(frame);
+    match written {
         Ok(()) => put(text, status, out),
         // Never taken: the frame has a spelling. The type of the error has this variant too.
         Err(SpellError::Unspellable) => unreachable!(),
@@ -171,9 +173,9 @@ pub(crate) fn give_with<O: Sink>(
 }
 
 /// Writes one frame, as one piece. The text of the frame takes the place of what `text` holds.
-pub(crate) fn give<O: Sink>(frame: &Frame, text: &mut Vec<u8>, out: &mut O) -> Status
-    requires { IsSome (spelling frame.now) }
-    ensures { EndsAtOnce (Writes frame.now) (O.taken out.old) (O.taken out.new) (O.faults out.old)
+pub(crate) fn give<O: Sink>(frame: Frame, text: &mut Vec<u8>, out: &mut O) -> Status
+    requires { IsSome (spelling frame) }
+    ensures { EndsAtOnce (Writes frame) (O.taken out.old) (O.taken out.new) (O.faults out.old)
         (O.faults out.new) (out.new ≡ out.old) result }
 {
     give_with(frame, Status::Done, text, out)

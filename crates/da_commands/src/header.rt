@@ -40,7 +40,7 @@ fn give_header<O: Sink>(alloc: Global, square: &Square, out: &mut O) -> Status
         (O.faults out.new) (out.new ≡ out.old) result }
 {
     match header_of_square(alloc, square) {
-        Ok(Some(header)) => give(&header_frame(header), &mut Vec::new(alloc), out),
+        Ok(Some(header)) => give(header_frame(header), &mut Vec::new(alloc), out),
         Ok(None) => Status::BadRequest(Asked::NoHeader),
         Err(_) => Status::NoMemory,
     }

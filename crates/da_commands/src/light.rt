@@ -134,7 +134,7 @@ fn give_claim<O: Sink>(alloc: Global, upheld: Upheld, out: &mut O) -> Status
     let claim = upheld.claim();
     let status = Status::Fraud(claim.axis, claim.index);
     give_with(
-        &claim_frame(upheld.into_claim()),
+        claim_frame(upheld.into_claim()),
         status,
         &mut Vec::new(alloc),
         out,
@@ -148,7 +148,7 @@ fn give_waiting<O: Sink>(alloc: Global, cells: Cells, out: &mut O) -> Status
         (O.faults out.old) (O.faults out.new) (out.new ≡ out.old) result }
 {
     let status = Status::Waiting(cells.list.len() as u64);
-    give_with(&missing_frame(cells), status, &mut Vec::new(alloc), out)
+    give_with(missing_frame(cells), status, &mut Vec::new(alloc), out)
 }
 
 /// Writes a verdict. All memory is taken before the write.

@@ -82,7 +82,7 @@ fn give_answers<O: Sink>(alloc: Global, held: &mut Held, requests: &[u8], out: &
             // Never taken: the requests were judged. The call refuses `PARITY`.
             Err(ServeError::Parity) => unreachable!(),
         };
-        let status = give(&answer_frame(name, found), &mut text, out);
+        let status = give(answer_frame(name, found), &mut text, out);
         match status {
             Status::Done => rest = after,
             failed => return failed,

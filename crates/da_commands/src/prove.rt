@@ -83,7 +83,7 @@ fn give_proofs<O: Sink>(alloc: Global, held: &mut Held, requests: &[u8], out: &m
             unreachable!()
         };
         let proof = root_proof(&header, message);
-        let status = give(&rooted_frame(proof), &mut text, out);
+        let status = give(rooted_frame(proof), &mut text, out);
         match status {
             Status::Done => rest = after,
             failed => return failed,
@@ -171,7 +171,7 @@ fn give_range<O: Sink>(
         (out.new ≡ out.old) result }
 {
     match range_proof(alloc, grid, header, start, count) {
-        Ok(proof) => give(&commit_frame(proof), &mut Vec::new(alloc), out),
+        Ok(proof) => give(commit_frame(proof), &mut Vec::new(alloc), out),
         Err(ProveError::Range) => Status::BadRequest(Asked::Range),
         Err(ProveError::NoMemory) => Status::NoMemory,
     }

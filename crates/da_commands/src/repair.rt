@@ -28,7 +28,7 @@ fn give_missing<O: Sink>(alloc: Global, cells: Cells, lies: u64, out: &mut O) ->
 {
     value_laws();
     let status = Status::Missing(cells.list.len() as u32, lies);
-    give_with(&missing_frame(cells), status, &mut Vec::new(alloc), out)
+    give_with(missing_frame(cells), status, &mut Vec::new(alloc), out)
 }
 
 /// Writes the claim of a fraud proof. How many frames were lies plays no part.
@@ -58,16 +58,11 @@ pub fn give_verdict<O: Sink>(
 {
     let _k = header.k;
     match verdict {
-        Verdict::Whole(square) => give(&square_frame(square), &mut Vec::new(alloc), out),
+        Verdict::Whole(square) => give(square_frame(square), &mut Vec::new(alloc), out),
         Verdict::Missing(cells) => give_missing(alloc, cells, lies, out),
         Verdict::Fraud(proof) => give_proof(alloc, &proof, out),
         Verdict::Clash(clash) => {
-            give_with(
-                &clash_frame(clash),
-                Status::Clash,
-                &mut Vec::new(alloc),
-                out,
-            )
+            give_with(clash_frame(clash), Status::Clash, &mut Vec::new(alloc), out)
         }
     }
 }

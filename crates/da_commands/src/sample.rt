@@ -76,7 +76,7 @@ fn give_samples<O: Sink>(alloc: Global, held: &mut Held, requests: &[u8], out: &
             // Never taken: the cells were judged. The call refuses cells outside.
             unreachable!()
         };
-        let status = give(&message_frame(message), &mut text, out);
+        let status = give(message_frame(message), &mut text, out);
         match status {
             Status::Done => rest = after,
             failed => return failed,

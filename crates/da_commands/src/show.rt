@@ -97,7 +97,9 @@ fn made_line<'a>(
     let Some((frame, more)) = found else {
         return Ok(None);
     };
-    let Ok(shown) = line(alloc, form, &frame) else {
+    let line = line(alloc, form, &frame);
+    drop(frame);
+    let Ok(shown) = line else {
         return Err(NoMemory);
     };
     *text = shown;

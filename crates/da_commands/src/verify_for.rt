@@ -78,8 +78,21 @@ pub(crate) fn execute<O: Sink>(alloc: Global, files: &[Vec<u8>], out: &mut O) ->
         Err(status) => return status,
     };
     match request_in(alloc, file(files, REQUEST)) {
-        Ok(request) => verify_for(alloc, &header, answer, &request, out),
-        Err(Unread::BadForm(at)) => Status::BadInput(REQUEST, at),
-        Err(Unread::NoMemory) => Status::NoMemory,
+        Ok(request) => {
+            let status = verify_for(alloc, &header, answer, &request, out);
+            drop(request);
+            drop(header);
+            status
+        }
+        Err(Unread::BadForm(at)) => {
+            drop(answer);
+            drop(header);
+            Status::BadInput(REQUEST, at)
+        }
+        Err(Unread::NoMemory) => {
+            drop(answer);
+            drop(header);
+            Status::NoMemory
+        }
     }
 }

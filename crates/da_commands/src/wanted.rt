@@ -38,7 +38,10 @@ fn put_request(cell: Cell, axis: Axis, text: &mut Vec<u8>) -> Result<(), NoMemor
         (text.new.items ≡ text.old.items ++ text_of (FrameOf.Sample cell axis)) }
 {
     wire_laws();
-    match write_frame(&Frame::Sample(cell, axis), text) {
+    let frame = Frame::Sample(cell, axis);
+    let written = write_frame(&frame, text);
+    drop(frame);
+    match written {
         Ok(()) => Ok(()),
         // Never taken: a request has a spelling. The type of the error has this variant too.
         Err(SpellError::Unspellable) => unreachable!(),

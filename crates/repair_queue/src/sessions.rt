@@ -213,13 +213,15 @@ impl Session {
     {
         let Session {
             header,
-            trees: _,
+            trees,
             board,
-            tools: _,
+            tools,
             ended,
             shares,
             room,
         } = self;
+        drop(trees);
+        drop(tools);
         match ended {
             Some(ended) => answer_ended(ended),
             None => answer_open(&board, &header, shares, room),

@@ -6,5 +6,5 @@ use Rattle.da_commands.proofs.frames.give_with.Goals as goal
 -- what is written is the frame's spelling
 pub returns-in-Ok : goal.returns-in-Ok
 returns-in-Ok g c =
-    once_within (WritesText c.args.status c.deref.result.now) (WritesWith c.args.status c.args.frame.now) _ _ _ _ _ _
-    (writes_frame c.args.frame.now c.args.status _ _ c.deref.result.now c.clear.ensures.items c.in-Ok.ensures.written c.deref.ensures.value) c.put.ensures
+    once_within (WritesText c.args.status c.deref.result.now) (WritesWith c.args.status c.args.frame) _ _ _ _ _ _
+    (writes_frame c.args.frame c.args.status _ _ c.deref.result.now c.clear.ensures.items c.in-Ok.ensures.written c.deref.ensures.value) c.put.ensures

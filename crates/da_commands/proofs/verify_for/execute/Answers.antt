@@ -34,4 +34,4 @@ returns-in-Ok-request_in g c =
     let read = c.in-Ok.read in
     let same = verify_for_is files c.in-Ok.ensures.judged read.0 read.1 c.in-Ok-request_in.request c.in-Ok.ensures.header c.in-Ok.ensures.answer
     (ap request_in (sym c.file.ensures) ∙ c.in-Ok-request_in.ensures) in
-    once_as (VerifiesFor read.0 read.1 c.in-Ok-request_in.request) (Meaning VerifyFor files) _ _ _ _ _ _ same c.verify_for.ensures
+    once_as (VerifiesFor read.0 read.1 c.in-Ok-request_in.request) (Meaning VerifyFor files) _ _ _ _ _ _ same c.verify_for-status.ensures
