@@ -14,3 +14,4 @@ pub mod RootingLemmas
 pub mod MadeLemmas
 pub mod StoredLemmas
 pub mod QuarterLemmas
+pub mod BatchLemmas

@@ -1,3 +1,4 @@
+pub mod BatchLemmas
 pub mod PartLemmas
 pub mod RootLemmas
 pub mod CountLemmas

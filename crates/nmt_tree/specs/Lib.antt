@@ -1,3 +1,4 @@
+pub mod Batches
 pub mod Digests
 pub mod Roots
 pub mod Levels

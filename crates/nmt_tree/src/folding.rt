@@ -8,6 +8,7 @@ ghost use Rattle.std.specs.Prelude.{◌≡◌, ◌/◌, ◌*◌, ◌^◌, ℕ, l
 ghost use Rattle.nmt_tree.specs.Roots.{is_leaf_count, halvings};
 ghost use Rattle.nmt_tree.specs.Levels.{span, pairs};
 
+use crate::batches::{BATCH, NODE_MESSAGES, eight_nodes};
 use crate::node;
 use namespace_id::Digest;
 
@@ -15,7 +16,15 @@ use namespace_id::Digest;
 fn join_pairs(digests: &mut [Digest])
     ensures { take (length digests.old / 2) digests.new ≡ pairs digests.old }
 {
-    for i in 0..digests.len() / 2 {
+    let count = digests.len() / 2;
+    let eights = count / BATCH;
+    let mut messages = NODE_MESSAGES;
+    'eights: for eight in 0..eights {
+        let at = BATCH * eight;
+        let made = eight_nodes(&mut messages, &digests[2 * at..2 * at + 2 * BATCH]);
+        digests[at..at + BATCH].copy_from_slice(&made);
+    }
+    'rest: for i in BATCH * eights..count {
         digests[i] = node(&digests[2 * i], &digests[2 * i + 1]);
     }
 }

@@ -14,7 +14,7 @@ use thiserror::Error;
 pub struct Unordered;
 
 /// A digest from its three parts.
-fn digest_of(least: &Namespace, greatest: &Namespace, hash: &[u8; 32]) -> Digest
+pub(crate) fn digest_of(least: &Namespace, greatest: &Namespace, hash: &[u8; 32]) -> Digest
     ensures { result.0 ≡ least.now.0 ++ greatest.now.0 ++ hash.now }
 {
     let mut bytes = [0; DIGEST_SIZE];
@@ -41,7 +41,7 @@ pub fn leaf(name: &Namespace, share: &Share) -> Digest
 
 /// The greatest namespace of the node over two digests.
 #[tactic(auto, unfolding(crate::specs::Digests::joined_greatest))]
-fn greatest(left: &Digest, right: &Digest) -> Namespace
+pub(crate) fn greatest(left: &Digest, right: &Digest) -> Namespace
     ensures { result ≡ joined_greatest left.now right.now }
 {
     if left.least().is_parity() {

@@ -10,16 +10,31 @@ ghost use Rattle.namespace_id.specs.declared.digests.Digest.{Digest};
 ghost use Rattle.nmt_tree.specs.Roots.{is_leaf_count, halvings};
 ghost use Rattle.nmt_tree.specs.Levels.{leaf_digests, levels, pairs, span};
 
+use crate::batches::{BATCH, LEAF_MESSAGES, NODE_MESSAGES, eight_leaves, eight_nodes};
 use crate::{leaf, node};
 use namespace_id::{Digest, Namespace, Share};
 
-/// Writes the digests of leaves.
-fn put_leaves(names: &[Namespace], shares: &[Share], leaves: &mut [Digest])
+/// Writes the digests of leaves, given as two slices of one length. They are hashed eight at a time,
+/// side by side.
+///
+/// Celestia specifications, "Data Structures", namespaced Merkle trees.
+pub fn put_leaves(names: &[Namespace], shares: &[Share], leaves: &mut [Digest])
     requires names { length names.now ≡ length leaves.old }
     requires shares { length shares.now ≡ length leaves.old }
     ensures { leaves.new ≡ leaf_digests names.now shares.now }
 {
-    for i in 0..leaves.len() {
+    let eights = leaves.len() / BATCH;
+    let mut messages = LEAF_MESSAGES;
+    'eights: for eight in 0..eights {
+        let at = BATCH * eight;
+        let made = eight_leaves(
+            &mut messages,
+            &names[at..at + BATCH],
+            &shares[at..at + BATCH],
+        );
+        leaves[at..at + BATCH].copy_from_slice(&made);
+    }
+    'rest: for i in BATCH * eights..leaves.len() {
         leaves[i] = leaf(&names[i], &shares[i]);
     }
 }
@@ -29,7 +44,14 @@ fn put_pairs(level: &[Digest], above: &mut [Digest])
     requires { length above.old + length above.old ≡ length level.now }
     ensures { above.new ≡ pairs level.now }
 {
-    for i in 0..above.len() {
+    let eights = above.len() / BATCH;
+    let mut messages = NODE_MESSAGES;
+    'eights: for eight in 0..eights {
+        let at = BATCH * eight;
+        let made = eight_nodes(&mut messages, &level[2 * at..2 * at + 2 * BATCH]);
+        above[at..at + BATCH].copy_from_slice(&made);
+    }
+    'rest: for i in BATCH * eights..above.len() {
         above[i] = node(&level[2 * i], &level[2 * i + 1]);
     }
 }

@@ -6,6 +6,7 @@
 //! `fold_root` joins digests of leaves in place.
 #![tactic(auto)]
 
+mod batches;
 mod folding;
 mod hashing;
 mod levels;
@@ -14,5 +15,6 @@ mod trees;
 
 pub use folding::fold_root;
 pub use hashing::{Unordered, join, leaf, node};
+pub use levels::put_leaves;
 pub use roots::{are_ordered, halvings, is_leaf_count, leaf_count, plain_root, strict_root};
 pub use trees::{Tree, span_laws, tree_laws};

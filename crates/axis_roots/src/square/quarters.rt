@@ -9,6 +9,7 @@ ghost use Rattle.std.specs.Prelude.{◌≡◌, ◌≢◌, ◌⊎◌, ◌+◌, �
 ghost use Rattle.namespace_id.specs.declared.shares.Share.{Share as ShareOf};
 ghost use Rattle.namespace_id.specs.Cells.{is_width, cell_in, leaf_namespace};
 ghost use Rattle.namespace_id.specs.Digests.{no_digest};
+ghost use Rattle.namespace_id.specs.Names.{parity};
 ghost use Rattle.nmt_tree.specs.Digests.{leaf_digest};
 ghost use Rattle.axis_roots.specs.Lines.{blank};
 ghost use Rattle.axis_roots.specs.Grids.{Extends, AreLeafDigests, IsHeaderOf, HasNoHeader};
@@ -17,8 +18,9 @@ ghost use Rattle.axis_roots.specs.Quarters.{quarter_column, IsLowerLeft, left_ha
 use super::rooting::header_over;
 use data_header::Header;
 use leopard_code::{Room, extend};
-use namespace_id::{BLANK_DIGEST, Cell, Digest, NoMemory, Share, leaf_namespace, shares_law};
-use nmt_tree::leaf;
+use namespace_id::{
+    BLANK_DIGEST, Cell, Digest, Namespace, NoMemory, PARITY, Share, leaf_namespace, shares_law,
+};
 use square_layout::Square;
 use std::alloc::Global;
 
@@ -82,12 +84,40 @@ fn left_half<'a>(square: &'a Square, quarter: &'a [Share], row: u16) -> &'a [Sha
     }
 }
 
-/// Hashes the leaves over k cells of a row beside each other, from this column on.
-fn put_leaves(k: u16, row: u16, col: u16, shares: &[Share], leaves: &mut [Digest])
+/// Writes the namespaces of the leaves over k cells of a row beside each other, from this column on.
+fn name_cells(k: u16, row: u16, col: u16, shares: &[Share], names: &mut [Namespace])
     requires width { IsTrue (is_width k) }
     requires row { row < 2 * k }
     requires col { col ≤ k }
     requires shares { length shares.now ≡ k }
+    requires names { length names.old ≡ k }
+    ensures { (pos : ℕ) → pos < k → get_or names.new pos parity
+        ≡ leaf_namespace k (cell_in row (col + pos)) (get_or shares.now pos blank) }
+{
+    for pos in 0..k {
+        let cell = Cell {
+            row,
+            col: col + pos,
+        };
+        names[pos as usize] = leaf_namespace(k, cell, &shares[pos as usize]);
+    }
+}
+
+/// Hashes the leaves over k cells of a row beside each other, from this column on, by way of a line of
+/// k namespaces.
+fn put_leaves(
+    k: u16,
+    row: u16,
+    col: u16,
+    shares: &[Share],
+    names: &mut [Namespace],
+    leaves: &mut [Digest],
+)
+    requires width { IsTrue (is_width k) }
+    requires row { row < 2 * k }
+    requires col { col ≤ k }
+    requires shares { length shares.now ≡ k }
+    requires names { length names.old ≡ k }
     requires leaves { length leaves.old ≡ 2 * k * (2 * k) }
     ensures leaves { (pos : ℕ) → pos < k →
         get_or leaves.new (row * (2 * k) + (col + pos)) no_digest
@@ -99,28 +129,25 @@ fn put_leaves(k: u16, row: u16, col: u16, shares: &[Share], leaves: &mut [Digest
         (number < row * (2 * k) + col) ⊎ (row * (2 * k) + (col + k) ≤ number) →
         get_or leaves.new number no_digest ≡ get_or leaves.old number no_digest }
 {
+    name_cells(k, row, col, shares, names);
     let first = row as usize * (2 * k as usize) + col as usize;
-    for pos in 0..k {
-        let share = &shares[pos as usize];
-        let cell = Cell {
-            row,
-            col: col + pos,
-        };
-        leaves[first + pos as usize] = leaf(&leaf_namespace(k, cell, share), share);
-    }
+    nmt_tree::put_leaves(names, shares, &mut leaves[first..first + k as usize]);
 }
 
-/// Hashes the leaves over all cells of the extension, row by row, by way of a line of k shares.
+/// Hashes the leaves over all cells of the extension, row by row, by way of a line of k shares and one
+/// of k namespaces.
 fn fill_rows(
     room: &mut Room,
     square: &Square,
     quarter: &[Share],
     line: &mut [Share],
+    names: &mut [Namespace],
     leaves: &mut [Digest],
 )
     requires room { room.old ≡ square.now.k }
     requires quarter { IsLowerLeft square.now.k square.now.shares quarter.now }
     requires line { length line.old ≡ square.now.k }
+    requires names { length names.old ≡ square.now.k }
     requires leaves { length leaves.old ≡ 2 * square.now.k * (2 * square.now.k) }
     ensures room { room.new ≡ room.old }
     ensures leaves { (grid : List ShareOf) → Extends square.now.k square.now.shares grid →
@@ -129,8 +156,8 @@ fn fill_rows(
     for row in 0..2 * square.k {
         let left = left_half(square, quarter, row);
         extend(room, left, line);
-        put_leaves(square.k, row, 0, left, leaves);
-        put_leaves(square.k, row, square.k, line, leaves);
+        put_leaves(square.k, row, 0, left, names, leaves);
+        put_leaves(square.k, row, square.k, line, names, leaves);
     }
 }
 
@@ -145,8 +172,16 @@ fn square_leaves(alloc: Global, square: &Square) -> Result<Vec<Digest>, NoMemory
     let mut leaves = vec![in alloc; BLANK_DIGEST; 2 * k * (2 * k)]?;
     let mut quarter = vec![in alloc; Share([0; 512]); k * k]?;
     let mut line = vec![in alloc; Share([0; 512]); 2 * k]?;
+    let mut names = vec![in alloc; PARITY; k]?;
     fill_quarter(&mut room, square, &mut line, &mut quarter);
-    fill_rows(&mut room, square, &quarter, &mut line[..k], &mut leaves);
+    fill_rows(
+        &mut room,
+        square,
+        &quarter,
+        &mut line[..k],
+        &mut names,
+        &mut leaves,
+    );
     Ok(leaves)
 }
 
@@ -154,8 +189,8 @@ fn square_leaves(alloc: Global, square: &Square) -> Result<Vec<Digest>, NoMemory
 /// of a row or a column fall. Each leaf is hashed once, for its row and its column, and the extension is
 /// never whole in memory.
 ///
-/// It takes memory for k * k shares and for 4 * k * k digests of leaves, besides 2k shares to work in, 6k
-/// digests and what a room for the code needs. The one refusal is that it is out of memory.
+/// It takes memory for k * k shares and for 4 * k * k digests of leaves, besides 2k shares and k namespaces
+/// to work in, 6k digests and what a room for the code needs. The one refusal is that it is out of memory.
 ///
 /// Celestia specifications, "Data Structures", available data header.
 pub fn header_of_square(alloc: Global, square: &Square) -> Result<Option<Header>, NoMemory>

@@ -53,19 +53,19 @@ fill_rows-requires-clause-quarter c =
 -- the table has a leaf for each cell
 pub fill_rows-requires-clause-leaves : goal.fill_rows-requires-clause-leaves
 fill_rows-requires-clause-leaves c =
-    c.deref_mut-4.ensures.len ∙ c.in_ok-leaves.ensures.len ∙ ap (λ (s : SquareShares). 2 * s.k * (2 * s.k)) c.square.view_is
+    c.deref_mut-5.ensures.len ∙ c.in_ok-leaves.ensures.len ∙ ap (λ (s : SquareShares). 2 * s.k * (2 * s.k)) c.square.view_is
 
 -- and holds what was written into it
 pub returns-clause-leaves : goal.returns-clause-leaves
 returns-clause-leaves c = λ grid extends.
     subst (AreLeafDigests c.args.square.now.k grid)
     (sym (lent _ c.fill_rows.new.leaves c.in_ok-leaves.leaves.items
-    (sym (c.fill_rows.auto.leaves ∙ c.deref_mut-4.ensures.len))))
+    (sym (c.fill_rows.auto.leaves ∙ c.deref_mut-5.ensures.len))))
     (c.fill_rows.ensures.leaves grid extends)
 
 pub returns-clause-count : goal.returns-clause-count
 returns-clause-count c =
     ap length (lent _ c.fill_rows.new.leaves c.in_ok-leaves.leaves.items
-    (sym (c.fill_rows.auto.leaves ∙ c.deref_mut-4.ensures.len)))
-    ∙ c.fill_rows.auto.leaves ∙ c.deref_mut-4.ensures.len ∙ c.in_ok-leaves.ensures.len
+    (sym (c.fill_rows.auto.leaves ∙ c.deref_mut-5.ensures.len)))
+    ∙ c.fill_rows.auto.leaves ∙ c.deref_mut-5.ensures.len ∙ c.in_ok-leaves.ensures.len
     ∙ ap (λ (s : SquareShares). 2 * s.k * (2 * s.k)) c.square.view_is

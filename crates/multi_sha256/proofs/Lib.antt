@@ -1,0 +1,3 @@
+mod DigestLemmas
+mod LaneLemmas
+mod PaddingLemmas

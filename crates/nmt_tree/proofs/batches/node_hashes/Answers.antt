@@ -1,0 +1,18 @@
+use Rattle.std.proofs.Common.{◌∙◌, ap, arith}
+use Rattle.std.proofs.lemmas.List.{length-set}
+use Rattle.sha2.specs.Sha256.{sha256}
+use Rattle.nmt_tree.specs.Batches.{node_bytes}
+use Rattle.nmt_tree.proofs.BatchLemmas.{message_more}
+use Rattle.nmt_tree.proofs.batches.node_hashes.Goals as goal
+
+pub messages-init : goal.messages-init
+messages-init c = record { count = omega arith; done = λ j h. absurd (omega arith) }
+
+pub messages-preserved : goal.messages-preserved
+messages-preserved c = record {
+  count = length-set c.messages.messages c.messages.j c.write_node.new.message ∙ c.messages.invariant.count;
+  done = message_more 181 c.messages.messages (node_bytes c.args.level.now) c.messages.j c.write_node.new.message (omega arith) c.write_node.ensures c.messages.invariant.done;
+}
+
+pub returns : goal.returns
+returns c j h = c.digests.ensures j h ∙ ap sha256 (c.messages.invariant.done j (omega arith))

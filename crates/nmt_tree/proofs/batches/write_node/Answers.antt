@@ -1,0 +1,8 @@
+use Rattle.std.proofs.Common.{arith}
+use Rattle.nmt_tree.proofs.BatchLemmas.{byte_and_two}
+use Rattle.nmt_tree.proofs.batches.write_node.Goals as goal
+
+pub returns : goal.returns
+returns c =
+    byte_and_two 1 c.args.message.now c.args.left.now.0 c.args.right.now.0 c.write_at.new.bytes c.write_at-2.new.bytes 91 181
+    (omega arith) (omega arith) (omega arith) c.write_at.ensures c.write_at-2.ensures
