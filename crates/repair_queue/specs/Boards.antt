@@ -91,6 +91,10 @@ pub record IsSound (header : Roots) (slot : Kept) (flag : Flags) (shares : Share
   pub slotted : (axis : Axis) (cell : Cell) (kept : Proved) → slot axis cell ≡ Some kept → IsSlotted header axis cell kept
   pub lines : (axis : Axis) (i : ℕ) → i < 2 * header.k → flag axis i ≡ true → IsLineOf header axis i (along header.k shares axis i)
 
+-- the first so many digests are those of these leaves
+abbrev pub AreLeavesTo : List Digest → ℕ → List Digest → Type 0
+AreLeavesTo leaves n digests = (pos : ℕ) → pos < n → get_or digests pos no_digest ≡ get_or leaves pos no_digest
+
 -- the digests of the leaves over the cells of decided rows and columns
 abbrev pub AreLeavesOf : ℕ → Flags → List Share → List Digest → Type 0
 AreLeavesOf k flag shares leaves = (cell : Cell) → is_in_square k cell ≡ true → is_lined flag cell ≡ true

@@ -1,5 +1,8 @@
 -- The digests of the leaves over a line, one after another.
-use Rattle.std.proofs.Common.{◌≡◌, ◌∙◌, ℕ, ◌+◌, ◌*◌, ◌<◌, ◌≤◌, List, length, get_or, set, sym, ap, ap₂, inl, inr, arith}
+use Rattle.std.proofs.Common.{◌≡◌, ◌∙◌, ℕ, ◌+◌, ◌-◌, ◌*◌, ◌<◌, ◌≤◌, List, length, get_or, set, take, drop, sym, ap, ap₂, inl, inr, arith}
+use Rattle.std.proofs.lemmas.Bool.{cases_lt}
+use Rattle.std.proofs.lemmas.List.{get_or-take, get_or-drop, length-drop, length-take-le}
+use borrow.Rule.Slice.PartMut.{put_mid}
 use Rattle.std.proofs.lemmas.Bool.{cases_eq}
 use Rattle.std.proofs.lemmas.List.{get_or-set_same, get_or-set_other, get_or_default, ext_get_or}
 use Rattle.namespace_id.specs.declared.cells.Cell.{Cell}
@@ -10,10 +13,13 @@ use Rattle.namespace_id.specs.declared.namespaces.Namespace.{Namespace}
 use Rattle.namespace_id.specs.Cells.{leaf_namespace}
 use Rattle.namespace_id.specs.Digests.{no_digest}
 use Rattle.nmt_tree.specs.Digests.{leaf_digest}
+use Rattle.nmt_tree.specs.Levels.{leaf_digests}
 use Rattle.nmt_tree.proofs.SpanLemmas.{length-leaf_digests, leaf_digests-at}
 use Rattle.axis_roots.specs.Lines.{blank, cell_on, line_names}
 use Rattle.axis_roots.specs.Trees.{line_leaves}
 use Rattle.axis_roots.proofs.Grids.LineLemmas.{length-line_names, get_or-line_names}
+use Rattle.axis_roots.proofs.Grids.BatchLemmas.{written_at, kept_at}
+use Rattle.repair_queue.specs.Boards.{AreLeavesTo}
 
 -- the namespace of the leaf at a position
 pub name_at : (k : ℕ) (axis : Axis) (i : ℕ) (line : List Share) (names : List Namespace) (pos : ℕ) (cell : Cell) (d : Namespace) (e : Share) → names ≡ line_names k axis i line
@@ -52,3 +58,34 @@ leaf_at k axis i line pos long below =
     leaf_digests-at (line_names k axis i line) line pos (leaf_namespace k (cell_on axis i pos) (get_or line pos blank)) blank (length-line_names k axis i line ∙ sym long)
     (omega (arith, length-line_names k axis i line))
     ∙ ap (λ (n : Namespace). leaf_digest n (get_or line pos blank)) (get_or-line_names k axis i line pos (leaf_namespace k (cell_on axis i pos) (get_or line pos blank)) below)
+
+-- the digest of a leaf among some is that at its place among all
+part_at : (names : List Namespace) (line : List Share) (from n i : ℕ) (d : Namespace) (e : Share) → length names ≡ length line → from + n ≤ length names → i < n
+    → get_or (leaf_digests (take n (drop from names)) (take n (drop from line))) i no_digest ≡ get_or (leaf_digests names line) (from + i) no_digest
+part_at names line from n i d e same fits below =
+    let names_long : length (take n (drop from names)) ≡ n = length-take-le n (drop from names) (omega (arith, length-drop from names)) in
+    let line_long : length (take n (drop from line)) ≡ n = length-take-le n (drop from line) (omega (arith, length-drop from line)) in
+    leaf_digests-at (take n (drop from names)) (take n (drop from line)) i d e (names_long ∙ sym line_long) (omega (arith, names_long))
+    ∙ ap₂ leaf_digest (get_or-take n (drop from names) i d below ∙ get_or-drop from names i d) (get_or-take n (drop from line) i e below ∙ get_or-drop from line i e)
+    ∙ sym (leaf_digests-at names line (from + i) d e same (omega arith))
+
+-- some digests more, written all at once
+pub run_digests : (names : List Namespace) (line : List Share) (digests made : List Digest) (from end n : ℕ) (d : Namespace) (e : Share) → length names ≡ length digests
+    → length line ≡ length digests → end ≡ from + n → end ≤ length digests → made ≡ leaf_digests (take n (drop from names)) (take n (drop from line))
+    → AreLeavesTo (leaf_digests names line) from digests → AreLeavesTo (leaf_digests names line) end (put_mid from n digests made)
+run_digests names line digests made from end n d e named lined ends fits is so pos below =
+    let same : length names ≡ length line = named ∙ sym lined in
+    let names_long : length (take n (drop from names)) ≡ n = length-take-le n (drop from names) (omega (arith, length-drop from names)) in
+    let line_long : length (take n (drop from line)) ≡ n = length-take-le n (drop from line) (omega (arith, length-drop from line)) in
+    let long : length made ≡ n =
+    ap length is ∙ length-leaf_digests (take n (drop from names)) (take n (drop from line)) (names_long ∙ sym line_long) ∙ names_long in
+    elim (cases_lt pos from) [
+      | inl low ↦ kept_at from n digests made pos (omega arith) long (inl low) ∙ so pos low
+      | inr high ↦
+          let at : from + (pos - from) ≡ pos = omega arith in
+          ap (λ (q : ℕ). get_or (put_mid from n digests made) q no_digest) (sym at)
+          ∙ written_at from n digests made (pos - from) (omega arith) (omega arith)
+          ∙ ap (λ (l : List Digest). get_or l (pos - from) no_digest) is
+          ∙ part_at names line from n (pos - from) d e same (omega arith) (omega arith)
+          ∙ ap (λ (q : ℕ). get_or (leaf_digests names line) q no_digest) at
+    ]
