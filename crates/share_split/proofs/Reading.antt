@@ -44,3 +44,7 @@ pub mod SequenceTold
 pub mod UnitTold
 -- shares are read as what they are the shares of, and as nothing else
 pub mod JoinLaws
+-- why a share of an open sequence is refused
+pub mod Causes
+-- which share a refusal names
+pub mod Named

@@ -7,3 +7,4 @@ pub mod Texts
 pub mod UnitLaws
 pub mod BlobLaws
 pub mod Steps
+pub mod JoinRefusals

@@ -1,10 +1,18 @@
-//! The sizes of shares, and the laws of the shares of blobs.
+//! The sizes of shares, the laws of the shares of blobs, and why shares that are read back are refused.
 
-ghost use Rattle.std.specs.Prelude.{◌≡◌, ◌+◌, ◌^◌};
+ghost use Rattle.std.specs.Prelude.{◌≡◌, ◌≤◌, ◌+◌, ◌^◌, ◌↔◌, ℕ, List, true, false, Option, Some, None, Err};
+ghost use Rattle.namespace_id.specs.declared.shares.Share.{Share as AShare};
+ghost use Rattle.namespace_id.specs.Shares.{name_in};
 ghost use Rattle.namespace_id.specs.Sizes.{share_size, namespace_size};
 ghost use Rattle.share_split.specs.Blobs.{length_place, first_content, signer_size, first_signed_content, later_content, max_sequence_length};
 ghost use Rattle.share_split.specs.Units.{first_compact_content, later_compact_content};
 ghost use Rattle.share_split.specs.Widths.{subtree_root_threshold};
+ghost use Rattle.share_split.specs.declared.joining.JoinError.{JoinError};
+ghost use Rattle.share_split.specs.declared.joining.JoinError.TheVariants.{NoStart, Short, BadVersion, NonZeroFill, MixedNamespace};
+ghost use Rattle.share_split.specs.declared.walking.Form.{Form};
+ghost use Rattle.share_split.specs.declared.walking.Form.TheVariants.{Blobs, Units};
+ghost use Rattle.share_split.specs.Walks.{version_in, is_start, size_in, Sequence, missing, is_complete, is_version, is_filled, first_refusal, later_refusal, unit_refusal, blobs_of, units_of, sequence_from};
+ghost use Rattle.share_split.specs.JoinRefusals.{IsRefusedFor};
 ghost use Rattle.share_split.specs.BlobLaws.{BlobSharesAreCounted, BlobSharesAreShares, PaddingIsShare, FewSharesHoldASequence};
 
 use crate::{
@@ -40,4 +48,63 @@ pub fn blob_laws()
     ensures shares { BlobSharesAreShares }
     ensures padding { PaddingIsShare }
     ensures few { FewSharesHoldASequence }
+{}
+
+/// Why shares that are read back are refused, and which share a refusal names. It changes nothing.
+///
+/// docs/RULES.md, "Reading shares".
+pub fn refusal_laws()
+    // The versions that a form may have.
+    ensures blob_version { (version : ℕ) → (is_version Blobs version ≡ true) ↔ (version ≤ 1) }
+    ensures unit_version { (version : ℕ) → (is_version Units version ≡ true) ↔ (version ≡ 0) }
+
+    // Where no sequence is open: each cause where those before it aren't there.
+    ensures first_version { (form : Form) (i : ℕ) (share : AShare) →
+        (first_refusal form i share ≡ Some (BadVersion i))
+        ↔ (is_version form (version_in share) ≡ false) }
+    ensures first_start { (form : Form) (i : ℕ) (share : AShare) →
+        (first_refusal form i share ≡ Some (NoStart i))
+        ↔ ((is_version form (version_in share) ≡ true) × (is_start share ≡ false)) }
+    ensures first_fill { (form : Form) (i : ℕ) (share : AShare) →
+        (first_refusal form i share ≡ Some (NonZeroFill i))
+        ↔ ((is_version form (version_in share) ≡ true) × (is_start share ≡ true)
+        × (is_filled form (size_in share) share ≡ false)) }
+    ensures first_none { (form : Form) (i : ℕ) (share : AShare) →
+        (first_refusal form i share ≡ None)
+        ↔ ((is_version form (version_in share) ≡ true) × (is_start share ≡ true)
+        × (is_filled form (size_in share) share ≡ true)) }
+
+    // Where one is open.
+    ensures later_version { (form : Form) (i : ℕ) (s : Sequence) (share : AShare) →
+        (later_refusal form i s share ≡ Some (BadVersion i)) ↔ (version_in share ≡ s.version → ⊥) }
+    ensures later_name { (form : Form) (i : ℕ) (s : Sequence) (share : AShare) →
+        (later_refusal form i s share ≡ Some (MixedNamespace i))
+        ↔ ((version_in share ≡ s.version) × (name_in share ≡ s.name → ⊥)) }
+    ensures later_start { (form : Form) (i : ℕ) (s : Sequence) (share : AShare) →
+        (later_refusal form i s share ≡ Some (Short s.first))
+        ↔ ((version_in share ≡ s.version) × (name_in share ≡ s.name)
+        × (is_start share ≡ true)) }
+    ensures later_fill { (form : Form) (i : ℕ) (s : Sequence) (share : AShare) →
+        (later_refusal form i s share ≡ Some (NonZeroFill i))
+        ↔ ((version_in share ≡ s.version) × (name_in share ≡ s.name) × (is_start share ≡ false)
+        × (is_filled form (missing s) share ≡ false)) }
+    ensures later_none { (form : Form) (i : ℕ) (s : Sequence) (share : AShare) →
+        (later_refusal form i s share ≡ None)
+        ↔ ((version_in share ≡ s.version) × (name_in share ≡ s.name) × (is_start share ≡ false)
+        × (is_filled form (missing s) share ≡ true)) }
+
+    // Behind the one sequence of units, where it is complete.
+    ensures surplus_version { (i : ℕ) (s : Sequence) (share : AShare) → is_complete s ≡ true →
+        (unit_refusal i (Some s) share ≡ Some (BadVersion i)) ↔ (version_in share ≡ 0 → ⊥) }
+    ensures surplus_start { (i : ℕ) (s : Sequence) (share : AShare) → is_complete s ≡ true →
+        (unit_refusal i (Some s) share ≡ Some (NoStart i)) ↔ (version_in share ≡ 0) }
+
+    // The share that is named: the first one that is refused, numbered from 0; or the first share
+    // of a sequence that is open where the list ends.
+    ensures blobs { (shares : List AShare) (why : JoinError) →
+        (blobs_of shares ≡ Err why) ↔ IsRefusedFor Blobs shares why }
+    ensures sequence { (shares : List AShare) (why : JoinError) →
+        (sequence_from 0 None shares ≡ Err why) ↔ IsRefusedFor Units shares why }
+    ensures units { (shares : List AShare) (why : JoinError) → IsRefusedFor Units shares why →
+        units_of shares ≡ Err why }
 {}

@@ -26,7 +26,7 @@ pub use blobs::{
     SIGNER_SIZE, SplitError, blob_share_count, blob_shares, padding_share,
 };
 pub use joining::{JoinError, join_blobs, join_laws, join_units};
-pub use laws::{blob_laws, size_laws};
+pub use laws::{blob_laws, refusal_laws, size_laws};
 pub use units::{
     FIRST_COMPACT_CONTENT, LATER_COMPACT_CONTENT, Unit, unit_laws, unit_share_count, unit_shares,
 };
