@@ -10,3 +10,4 @@ pub mod Making
 pub mod Hashed
 pub mod Merging
 pub mod Partial
+pub mod Laws

@@ -1,18 +1,12 @@
 //! Which nodes leave a place for a namespace, and what a complete opening leaves no place for.
 
-ghost use Rattle.std.specs.Prelude.{◌≡◌, ◌+◌, ◌^◌, ◌<◌, ◌≤◌, ℕ, List, length, get_or, None, true, false};
+ghost use Rattle.std.specs.Prelude.{◌≡◌, ◌+◌, ◌^◌, ◌<◌, ◌≤◌, length, None};
 ghost use Rattle.namespace_id.specs.declared.namespaces.Namespace.{Namespace};
-ghost use Rattle.namespace_id.specs.declared.shares.Share.{Share};
 ghost use Rattle.namespace_id.specs.declared.digests.Digest.{Digest};
-ghost use Rattle.namespace_id.specs.Names.{IsNamespace, is_parity};
-ghost use Rattle.namespace_id.specs.Digests.{no_digest};
-ghost use Rattle.nmt_tree.specs.Roots.{is_ordered};
-ghost use Rattle.nmt_tree.specs.Levels.{leaf_digests};
-ghost use Rattle.nmt_proofs.specs.Openings.{outside, leaves_from, one_digest};
-ghost use Rattle.nmt_proofs.specs.Clashes.{AreLeaves};
-ghost use Rattle.nmt_proofs.specs.Making.{spans};
-ghost use Rattle.nmt_proofs.specs.Complete.{excludes, first_break, range_break, absence_break, IsBetween, StandsBetween, IsNowhereElse};
+ghost use Rattle.nmt_proofs.specs.Openings.{outside};
+ghost use Rattle.nmt_proofs.specs.Complete.{excludes, first_break};
 ghost use Rattle.nmt_proofs.specs.Pieces.{shown};
+ghost use Rattle.nmt_proofs.specs.Laws.{RangeLeavesNoPlace, AbsenceLeavesNoPlace, RangeStandsBetween, AbsenceStandsBetween, RangeIsWhole, AbsenceIsTrue};
 
 use crate::joining::{Piece, count_outside, halves, is_piece};
 use namespace_id::{Digest, Namespace};
@@ -72,46 +66,15 @@ pub(crate) fn first_break(
 pub fn complete_laws()
     // They leave no place where the namespaces before what is opened are below one, and those
     // behind are above it.
-    ensures made_range { (depth from : ℕ) (name : Namespace) (names : List Namespace)
-        (shares shown : List Share) → AreLeaves depth names shares → 0 < length shown →
-        from + length shown ≤ 2 ^ depth → IsBetween name names from (from + length shown) →
-        range_break depth from name shown
-        (spans (leaf_digests names shares) (outside depth 0 (leaves_from from name shown))) ≡ None }
-    ensures made_absence { (depth pos : ℕ) (name : Namespace) (names : List Namespace)
-        (shares : List Share) (leaf : Digest) → AreLeaves depth names shares → pos < 2 ^ depth →
-        IsBetween name names pos pos → leaf ≡ get_or (leaf_digests names shares) pos no_digest →
-        absence_break depth pos name leaf
-        (spans (leaf_digests names shares) (outside depth 0 (one_digest pos leaf))) ≡ None }
+    ensures made_range { RangeLeavesNoPlace }
+    ensures made_absence { AbsenceLeavesNoPlace }
 
     // Where namespaces never fall and they leave no place, it is exactly so, but that PARITY may
     // stand before what is opened.
-    ensures range_between { (depth from : ℕ) (name : Namespace) (names : List Namespace)
-        (shares shown : List Share) → IsNamespace name → AreLeaves depth names shares →
-        is_ordered names ≡ true → 0 < length shown → from + length shown ≤ 2 ^ depth →
-        range_break depth from name shown
-        (spans (leaf_digests names shares) (outside depth 0 (leaves_from from name shown))) ≡ None →
-        StandsBetween name names from (from + length shown) }
-    ensures absence_between { (depth pos : ℕ) (name : Namespace) (names : List Namespace)
-        (shares : List Share) (leaf : Digest) → IsNamespace name → AreLeaves depth names shares →
-        is_ordered names ≡ true → pos < 2 ^ depth →
-        leaf ≡ get_or (leaf_digests names shares) pos no_digest →
-        absence_break depth pos name leaf
-        (spans (leaf_digests names shares) (outside depth 0 (one_digest pos leaf))) ≡ None →
-        StandsBetween name names pos pos }
+    ensures range_between { RangeStandsBetween }
+    ensures absence_between { AbsenceStandsBetween }
 
     // So no other leaf has the namespace, which isn't PARITY.
-    ensures range { (depth from : ℕ) (name : Namespace) (names : List Namespace)
-        (shares shown : List Share) → IsNamespace name → is_parity name ≡ false →
-        AreLeaves depth names shares → is_ordered names ≡ true → 0 < length shown →
-        from + length shown ≤ 2 ^ depth →
-        range_break depth from name shown
-        (spans (leaf_digests names shares) (outside depth 0 (leaves_from from name shown))) ≡ None →
-        IsNowhereElse name names from (from + length shown) }
-    ensures absence { (depth pos : ℕ) (name : Namespace) (names : List Namespace)
-        (shares : List Share) (leaf : Digest) → IsNamespace name → is_parity name ≡ false →
-        AreLeaves depth names shares → is_ordered names ≡ true → pos < 2 ^ depth →
-        leaf ≡ get_or (leaf_digests names shares) pos no_digest →
-        absence_break depth pos name leaf
-        (spans (leaf_digests names shares) (outside depth 0 (one_digest pos leaf))) ≡ None →
-        IsNowhereElse name names pos pos }
+    ensures range { RangeIsWhole }
+    ensures absence { AbsenceIsTrue }
 {}
