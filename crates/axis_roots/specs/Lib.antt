@@ -10,3 +10,4 @@ pub mod Trees
 pub mod Sets
 pub mod Claims
 pub mod Partials
+pub mod Laws

@@ -1,11 +1,9 @@
 //! What certificates and refusals say, and what a square's own header opens.
 
-ghost use Rattle.std.specs.Prelude.{◌≡◌, ◌<◌, ◌*◌, ◌↔◌, ◌⊎◌, ℕ, None};
+ghost use Rattle.std.specs.Prelude.{◌≡◌, ◌↔◌, ℕ, None};
 ghost use Rattle.namespace_id.specs.declared.cells.Axis.{Axis};
-ghost use Rattle.nmt_tree.specs.Roots.{halvings};
-ghost use Rattle.nmt_proofs.specs.Parts.{Part, digest_of};
-ghost use Rattle.nmt_proofs.specs.Clashes.{HasDepth, IsSized};
-ghost use Rattle.data_header.specs.Headers.{Roots, AreRoots, root_of};
+ghost use Rattle.nmt_proofs.specs.Parts.{Part};
+ghost use Rattle.data_header.specs.Headers.{Roots, AreRoots};
 ghost use Rattle.square_layout.specs.Blocks.{SquareShares, IsSquare};
 ghost use Rattle.axis_roots.specs.declared.message.messages.Message.{Message as Sent};
 ghost use Rattle.axis_roots.specs.declared.message.proved.Proved.{Proved as Certificate};
@@ -13,7 +11,7 @@ ghost use Rattle.axis_roots.specs.Messages.{message_refusal, IsMessage};
 ghost use Rattle.axis_roots.specs.Openings.{IsProved};
 ghost use Rattle.axis_roots.specs.Own.{AgreesAt, NamesAt, ShowsOwn, NamesClash, IsOwn};
 ghost use Rattle.axis_roots.specs.Proved.{IsUnder, kept_message};
-ghost use Rattle.axis_roots.specs.Grids.{IsHeaderOf};
+ghost use Rattle.axis_roots.specs.Laws.{OwnOrNamed};
 
 /// What is proved of a sample under a header.
 pub fn message_laws()
@@ -35,11 +33,7 @@ pub fn message_laws()
 pub fn own_laws()
     // It and the square's tree of that axis agree, or they name a collision: the first two strings
     // in which they differ.
-    ensures names { (header : Roots) (square : SquareShares) (axis : Axis) (index : ℕ)
-        (part : Part) → IsHeaderOf header square → index < 2 * square.k →
-        HasDepth (halvings (2 * square.k)) part → IsSized part →
-        digest_of part ≡ root_of header axis index →
-        AgreesAt part square axis index ⊎ NamesAt part square axis index }
+    ensures names { OwnOrNamed }
 
     // Never both; and of a sample that shows the square's own share none is named either.
     ensures parts_apart { (square : SquareShares) (axis : Axis) (index : ℕ) (part : Part) →

@@ -1,18 +1,18 @@
 //! Samples that are made from a grid: from the stored tree of an axis, or by a tree that is filled
 //! for the one sample.
 
-ghost use Rattle.std.specs.Prelude.{◌≡◌, ◌*◌, ◌<◌, ◌↔◌, ℕ, List, IsTrue, IfSome, IsNone, IfOk, length, Some, true, false};
+ghost use Rattle.std.specs.Prelude.{◌≡◌, ◌*◌, ◌<◌, ◌↔◌, ℕ, List, IsTrue, IfSome, IsNone, length, Some, true, false};
 ghost use Rattle.namespace_id.specs.Cells.{is_width, is_in_square};
 ghost use Rattle.nmt_tree.specs.Levels.{leaf_digests};
 ghost use Rattle.axis_roots.specs.Messages.{index as index_of};
 ghost use Rattle.axis_roots.specs.Openings.{OpensAt};
 ghost use Rattle.namespace_id.specs.declared.cells.Axis.{Axis as Along};
-ghost use Rattle.namespace_id.specs.declared.cells.Cell.{Cell as Place};
 ghost use Rattle.namespace_id.specs.declared.shares.Share.{Share};
 ghost use Rattle.namespace_id.specs.Shares.{AreShares};
 ghost use Rattle.axis_roots.specs.Lines.{is_ordered_line, line_root};
-ghost use Rattle.axis_roots.specs.Trees.{axis_stored, trees_of_grid, message_at, line_message};
-ghost use Rattle.axis_roots.specs.Grids.{IsGrid, share_at, axis_names, axis_shares, axis_root, is_ordered_axis};
+ghost use Rattle.axis_roots.specs.Trees.{axis_stored, message_at, line_message};
+ghost use Rattle.axis_roots.specs.Grids.{share_at, axis_names, axis_shares, axis_root, is_ordered_axis};
+ghost use Rattle.axis_roots.specs.Laws.{MadeOpens};
 
 use super::messages::{Message, index, message_law, position};
 use crate::square::{Grid, fill_axis};
@@ -84,10 +84,7 @@ pub fn message_of(grid: &Grid, cell: Cell, axis: Axis, tree: &mut Tree) -> Optio
 /// Along an axis whose namespaces never fall, the sample of each cell opens under the root.
 pub fn made_laws()
     // Of a grid, and of a line of 2k shares that stands in none.
-    ensures opens { (k : ℕ) (shares : List Share) (cell : Place) (axis : Along) →
-        IsGrid (record { k = k; shares = shares }) → AreShares shares →
-        is_in_square k cell ≡ true → is_ordered_axis k shares axis (index_of axis cell) ≡ true →
-        OpensAt k (message_at k shares cell axis) (axis_root k shares axis (index_of axis cell)) }
+    ensures opens { MadeOpens }
     ensures line { (k : ℕ) (axis : Along) (index pos : ℕ) (line : List Share) →
         is_width k ≡ true → index < 2 * k → pos < 2 * k → length line ≡ 2 * k →
         AreShares line → is_ordered_line k axis index line ≡ true →
