@@ -19,3 +19,4 @@ pub mod Sessions
 pub mod OpenBoards
 pub mod SessionParts
 pub mod Views
+pub mod Laws

@@ -1,29 +1,28 @@
 //! What is proved of the cells and shares that follow from proved samples, of what settles them,
 //! and of what repair may answer.
 
-ghost use Rattle.std.specs.Prelude.{◌≡◌, ◌<◌, ◌*◌, ◌↔◌, ◌⊎◌, ℕ, List, Bool, true};
+ghost use Rattle.std.specs.Prelude.{◌≡◌, ◌↔◌, ◌⊎◌, ℕ, List, true};
 ghost use Rattle.std.specs.List.{AllByRecursion, Contains};
 ghost use Rattle.namespace_id.specs.declared.cells.Cell.{Cell};
 ghost use Rattle.namespace_id.specs.declared.cells.Axis.{Axis};
 ghost use Rattle.namespace_id.specs.declared.shares.Share.{Share};
-ghost use Rattle.namespace_id.specs.Cells.{is_width, is_in_square, is_original, all_cells, CellList};
-ghost use Rattle.leopard_code.specs.Codewords.{IsCodeword};
+ghost use Rattle.namespace_id.specs.Cells.{is_width, is_in_square, all_cells, CellList};
 ghost use Rattle.data_header.specs.Headers.{Roots, AreRoots};
-ghost use Rattle.square_layout.specs.Blocks.{SquareShares, IsSquare};
+ghost use Rattle.square_layout.specs.Blocks.{SquareShares};
 ghost use Rattle.axis_roots.specs.declared.message.messages.Message.{Message};
 ghost use Rattle.axis_roots.specs.Messages.{IsMessage};
 ghost use Rattle.axis_roots.specs.Openings.{IsProved};
-ghost use Rattle.axis_roots.specs.Lines.{cell_on, entry};
-ghost use Rattle.axis_roots.specs.Grids.{share_at, IsHeaderOf};
+ghost use Rattle.axis_roots.specs.Grids.{IsHeaderOf};
 ghost use Rattle.axis_roots.specs.Own.{NamesClash};
 ghost use Rattle.axis_roots.specs.Claims.{ClaimParts};
-ghost use Rattle.repair_queue.specs.Closures.{AreChosen, Half, Fact, IsDecided, Covers};
+ghost use Rattle.repair_queue.specs.Closures.{Half, Fact, IsDecided, Covers};
 ghost use Rattle.repair_queue.specs.Derivations.{IsListed, IsSeen, IsFilled, IsShownPair, IsRebuiltPair};
 ghost use Rattle.repair_queue.specs.Settled.{IsSettled, Lines, Fits, along, CellsFit};
 ghost use Rattle.repair_queue.specs.Verdicts.{VerdictParts, whole, missing, fraud, clash, IsVerdict, IsOwnVerdict, AreAlike};
 ghost use Rattle.repair_queue.specs.SessionParts.{SessionParts, accused, collided, is_known, StandsFor};
 ghost use Rattle.repair_queue.specs.Sessions.{state_of};
 ghost use Rattle.repair_queue.specs.declared.fed.SessionState.TheVariants as state;
+ghost use Rattle.repair_queue.specs.Laws.{HalfIsLeast, FactIsLeast, LinesAreFacts, FactsAreWhole, OwnUnlessNamed};
 
 /// What is proved of the cells that are recoverable and of the facts, for any header and any list
 /// of samples.
@@ -34,38 +33,13 @@ pub fn closure_laws()
     ensures cells { (header : Roots) (ms : List Message) (cell : Cell) →
         Half header ms cell ↔ ((share : Share) × Fact header ms cell share) }
 
-    // The recoverable cells are a set that holds the cells of proved samples and, with k cells of
-    // a row or a column, all of it; every such set that a test tells holds them.
-    ensures half_given { (header : Roots) (ms : List Message) (m : Message) → Contains ms m →
-        IsProved header m → Half header ms m.cell }
-    ensures half_closed { (header : Roots) (ms : List Message) (axis : Axis) (index : ℕ)
-        (chosen : List ℕ) (pos : ℕ) → index < 2 * header.k → AreChosen header.k chosen →
-        ((p : ℕ) → Contains chosen p → Half header ms (cell_on axis index p)) →
-        pos < 2 * header.k → Half header ms (cell_on axis index pos) }
-    ensures half_least { (header : Roots) (ms : List Message) (set : Cell → Bool) →
-        ((m : Message) → Contains ms m → IsProved header m → set m.cell ≡ true) →
-        ((axis : Axis) (index : ℕ) (chosen : List ℕ) (pos : ℕ) → index < 2 * header.k →
-        AreChosen header.k chosen →
-        ((p : ℕ) → Contains chosen p → set (cell_on axis index p) ≡ true) →
-        pos < 2 * header.k → set (cell_on axis index pos) ≡ true) →
-        (cell : Cell) → Half header ms cell → set cell ≡ true }
+    // Every set that a test tells and that holds the cells of proved samples and, with k cells of a
+    // row or a column, all of it, holds the recoverable cells.
+    ensures half_least { HalfIsLeast }
 
-    // The facts are a set that holds the cells and shares of proved samples and, with k shares of
-    // a codeword along a row or a column, all of it; every such set that a test tells holds them.
-    ensures fact_given { (header : Roots) (ms : List Message) (m : Message) → Contains ms m →
-        IsProved header m → Fact header ms m.cell m.share }
-    ensures fact_closed { (header : Roots) (ms : List Message) (axis : Axis) (index : ℕ)
-        (word : List Share) (chosen : List ℕ) (pos : ℕ) → index < 2 * header.k →
-        IsCodeword header.k word → AreChosen header.k chosen →
-        ((p : ℕ) → Contains chosen p → Fact header ms (cell_on axis index p) (entry word p)) →
-        pos < 2 * header.k → Fact header ms (cell_on axis index pos) (entry word pos) }
-    ensures fact_least { (header : Roots) (ms : List Message) (set : Cell → Share → Bool) →
-        ((m : Message) → Contains ms m → IsProved header m → set m.cell m.share ≡ true) →
-        ((axis : Axis) (index : ℕ) (word : List Share) (chosen : List ℕ) (pos : ℕ) →
-        index < 2 * header.k → IsCodeword header.k word → AreChosen header.k chosen →
-        ((p : ℕ) → Contains chosen p → set (cell_on axis index p) (entry word p) ≡ true) →
-        pos < 2 * header.k → set (cell_on axis index pos) (entry word pos) ≡ true) →
-        (cell : Cell) (share : Share) → Fact header ms cell share → set cell share ≡ true }
+    // Every set that a test tells and that holds the cells and shares of proved samples and, with k
+    // shares of a codeword along a row or a column, all of it, holds the facts.
+    ensures fact_least { FactIsLeast }
 
     // Both grow with the proved samples; so their order and repeats play no part.
     ensures grows { (header : Roots) (ms others : List Message) → Covers header ms others →
@@ -96,10 +70,7 @@ pub fn settled_laws()
     ensures one { (header : Roots) (ms : List Message) (lines others : Lines header ms) →
         Fits header ms lines → Fits header ms others → (axis : Axis) (index : ℕ)
         (d e : IsDecided header ms axis index) → lines axis index d ≡ others axis index e }
-    ensures facts { (header : Roots) (ms : List Message) (lines : Lines header ms) →
-        Fits header ms lines → (axis : Axis) (index pos : ℕ) (d : IsDecided header ms axis index) →
-        pos < 2 * header.k → (share : Share) →
-        Fact header ms (cell_on axis index pos) share ↔ (share ≡ entry (lines axis index d) pos) }
+    ensures facts { LinesAreFacts }
 
     // Where a share for each cell fits, those along the decided rows and columns do.
     ensures cells { (header : Roots) (ms : List Message) (shares : Cell → Share) →
@@ -116,24 +87,6 @@ pub fn settled_laws()
 ///
 /// docs/RULES.md, "Closures and verdicts".
 pub fn verdict_laws()
-    // A whole square, missing cells and a fraud exclude one another.
-    ensures whole_missing { (header : Roots) (ms : List Message) (square : SquareShares)
-        (cells : CellList) → IsVerdict header ms (whole square) →
-        IsVerdict header ms (missing cells) → ⊥ }
-    ensures whole_fraud { (header : Roots) (ms : List Message) (square : SquareShares)
-        (claim : ClaimParts) → IsVerdict header ms (whole square) →
-        IsVerdict header ms (fraud claim) → ⊥ }
-    ensures missing_fraud { (header : Roots) (ms : List Message) (cells : CellList)
-        (claim : ClaimParts) → IsVerdict header ms (missing cells) →
-        IsVerdict header ms (fraud claim) → ⊥ }
-
-    // There is at most one whole square, and at most one list of missing cells.
-    ensures one_square { (header : Roots) (ms : List Message) (square other : SquareShares) →
-        IsVerdict header ms (whole square) → IsVerdict header ms (whole other) → square ≡ other }
-    ensures one_missing { (header : Roots) (ms : List Message) (cells others : CellList) →
-        IsVerdict header ms (missing cells) → IsVerdict header ms (missing others) →
-        cells ≡ others }
-
     // Each cell of the square that isn't recoverable is listed among the missing ones.
     ensures listed { (header : Roots) (ms : List Message) (cells : CellList) (cell : Cell) →
         IsVerdict header ms (missing cells) → is_in_square header.k cell ≡ true →
@@ -149,12 +102,7 @@ pub fn verdict_laws()
     ensures some_square { (header : Roots) (ms : List Message) → AreRoots header →
         ((cell : Cell) → is_in_square header.k cell ≡ true → Half header ms cell) →
         IsSettled header ms → (square : SquareShares) × IsVerdict header ms (whole square) }
-    ensures header { (header : Roots) (ms : List Message) (square : SquareShares) →
-        AreRoots header → IsSquare square → square.k ≡ header.k →
-        ((cell : Cell) → is_in_square header.k cell ≡ true → Half header ms cell) →
-        IsSettled header ms → ((cell : Cell) → is_original header.k cell ≡ true →
-        Fact header ms cell (share_at header.k square.shares cell)) →
-        IsVerdict header ms (whole square) }
+    ensures header { FactsAreWhole }
 
     // A fraud or a collision stays one when samples are added.
     ensures fraud_stays { (header : Roots) (ms others : List Message) (claim : ClaimParts) →
@@ -165,7 +113,8 @@ pub fn verdict_laws()
         IsVerdict header others (clash left right) }
 
     // Only the proved samples count, not their order or repeats: another list with the same ones
-    // has the same answers, and what two such lists are answered is alike.
+    // has the same answers, and what two such lists are answered is alike. So of one list, whole
+    // square, missing cells and fraud exclude one another, and square and missing cells are one.
     ensures same_proved { (header : Roots) (ms others : List Message) →
         Covers header ms others → Covers header others ms → (verdict : VerdictParts) →
         IsVerdict header ms verdict → IsVerdict header others verdict }
@@ -183,13 +132,7 @@ pub fn verdict_laws()
     // Where no proved sample and the square name one, the list is settled; with all cells
     // recoverable the square is an answer; and each answer is the square or missing cells. Nothing
     // is asked of samples that aren't proved.
-    ensures own_unnamed { (header : Roots) (square : SquareShares) (ms : List Message) →
-        IsHeaderOf header square →
-        ((m : Message) → Contains ms m → IsProved header m → NamesClash m square → ⊥) →
-        IsSettled header ms
-        × (((cell : Cell) → is_in_square header.k cell ≡ true → Half header ms cell) →
-        IsVerdict header ms (whole square))
-        × ((verdict : VerdictParts) → IsVerdict header ms verdict → IsOwnVerdict square verdict) }
+    ensures own_unnamed { OwnUnlessNamed }
 {}
 
 /// What is proved of the lists of samples for which a session stands.

@@ -1,5 +1,4 @@
 use Rattle.std.proofs.Common.{◌≡◌, true}
-use Rattle.repair_queue.specs.Closures.{seen, filled, shown, rebuilt}
 use Rattle.repair_queue.proofs.Facts.ClosureLemmas.{half_least, fact_least, half_fact, fact_half, half_grows, fact_grows}
 use Rattle.repair_queue.proofs.Facts.DerivationLemmas.{half_listed, listed_half, fact_listed, listed_fact}
 use Rattle.repair_queue.proofs.laws.closure_laws.Goals as goal
@@ -7,20 +6,8 @@ use Rattle.repair_queue.proofs.laws.closure_laws.Goals as goal
 pub returns-clause-cells : goal.returns-clause-cells
 returns-clause-cells c = λ header ms cell. (half_fact header ms cell, λ f. fact_half header ms cell f.0 f.1)
 
-pub returns-clause-half_given : goal.returns-clause-half_given
-returns-clause-half_given c = λ header ms m at proved. seen m at proved
-
-pub returns-clause-half_closed : goal.returns-clause-half_closed
-returns-clause-half_closed c = λ header ms axis i chosen pos within are halves below. filled axis i chosen pos within are halves below
-
 pub returns-clause-half_least : goal.returns-clause-half_least
 returns-clause-half_least c = λ header ms set. half_least header ms (λ cell. set cell ≡ true)
-
-pub returns-clause-fact_given : goal.returns-clause-fact_given
-returns-clause-fact_given c = λ header ms m at proved. shown m at proved
-
-pub returns-clause-fact_closed : goal.returns-clause-fact_closed
-returns-clause-fact_closed c = λ header ms axis i word chosen pos within code are facts below. rebuilt axis i word chosen pos within code are facts below
 
 pub returns-clause-fact_least : goal.returns-clause-fact_least
 returns-clause-fact_least c = λ header ms set. fact_least header ms (λ cell share. set cell share ≡ true)

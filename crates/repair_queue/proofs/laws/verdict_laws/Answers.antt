@@ -1,25 +1,9 @@
-use Rattle.repair_queue.proofs.Facts.FraudLemmas.{fraud_unsettled}
-use Rattle.repair_queue.proofs.Facts.VerdictLemmas.{whole_missing, one_square, one_missing, alike}
+use Rattle.repair_queue.proofs.Facts.VerdictLemmas.{alike}
 use Rattle.repair_queue.proofs.Facts.GrowthLemmas.{fraud_grows, clash_grows, same_verdict}
 use Rattle.repair_queue.proofs.Facts.WholeLemmas.{whole_there, whole_square}
 use Rattle.repair_queue.proofs.Facts.OwnLemmas.{own_verdict, own_unnamed}
 use Rattle.repair_queue.proofs.Facts.NothingLemmas.{all_missing}
 use Rattle.repair_queue.proofs.laws.verdict_laws.Goals as goal
-
-pub returns-clause-whole_missing : goal.returns-clause-whole_missing
-returns-clause-whole_missing c = whole_missing
-
-pub returns-clause-whole_fraud : goal.returns-clause-whole_fraud
-returns-clause-whole_fraud c = λ header ms square claim w f. fraud_unsettled header ms claim f w.settled
-
-pub returns-clause-missing_fraud : goal.returns-clause-missing_fraud
-returns-clause-missing_fraud c = λ header ms cells claim m f. fraud_unsettled header ms claim f m.settled
-
-pub returns-clause-one_square : goal.returns-clause-one_square
-returns-clause-one_square c = one_square
-
-pub returns-clause-one_missing : goal.returns-clause-one_missing
-returns-clause-one_missing c = one_missing
 
 pub returns-clause-listed : goal.returns-clause-listed
 returns-clause-listed c = λ header ms cells cell m inside out. (m.missing cell).1 (inside, out)
