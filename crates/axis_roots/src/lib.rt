@@ -23,6 +23,6 @@ pub use message::{
     message_from, message_law, message_laws, message_of, opens, opens_by, own_laws, position,
 };
 pub use square::{
-    Grid, Trees, cell_on, grid_laws, header_of, header_of_square, line_strict_root, name_leaves,
-    write_axis,
+    Grid, Trees, cell_on, grid_laws, header_of, header_of_square, is_root, line_strict_root,
+    name_leaves, write_axis,
 };

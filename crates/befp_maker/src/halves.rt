@@ -1,13 +1,13 @@
 //! Deciding a row or a column by k of its cells.
 
-ghost use Rattle.std.specs.Prelude.{◌≡◌, ◌↔◌, IsTrue, Some, true};
+ghost use Rattle.std.specs.Prelude.{◌≡◌, ◌↔◌, true};
 ghost use Rattle.axis_roots.specs.Claims.{claim_with, Accepts, IsThrough};
 ghost use Rattle.befp_maker.specs.Halves.{AreHalf, is_bad, IsDecision};
 
 use crate::AxisRoom;
-use axis_roots::{FraudProof, Proved, claim_laws, message_laws};
+use axis_roots::{FraudProof, Proved, claim_laws, is_root, message_laws};
 use data_header::Header;
-use namespace_id::{Axis, Digest};
+use namespace_id::Axis;
 
 /// What k cells say of their axis.
 #[derive(Drop)]
@@ -16,13 +16,6 @@ pub enum Decided {
     Matches(Vec<Proved>),
     /// It has another, or none.
     Bad(FraudProof),
-}
-
-/// Whether there is a root, and it is this one.
-fn is_root(found: Option<Digest>, root: &Digest) -> bool
-    ensures { IsTrue result ↔ (found ≡ Some root.now) }
-{
-    found == Some(*root)
 }
 
 /// Decides an axis by k proved samples of it, ascending, which are of cells of that axis and proved along it or along

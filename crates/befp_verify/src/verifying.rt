@@ -16,8 +16,8 @@ ghost use Rattle.befp_verify.specs.Lines.{IsRootThrough};
 
 use crate::Upheld;
 use axis_roots::{
-    CheckRefusal, FraudClaim, Message, claim_law, claim_laws, index, is_along, line_strict_root,
-    message_laws, opens, position,
+    CheckRefusal, FraudClaim, Message, claim_law, claim_laws, index, is_along, is_root,
+    line_strict_root, message_laws, opens, position,
 };
 use data_header::Header;
 use leopard_code::{Room, rebuild};
@@ -334,13 +334,6 @@ fn root_through(room: &mut VerifyRoom, claim: &FraudClaim) -> Option<Digest>
     gather(claim.axis, &claim.cells, &mut room.known, &mut room.shares);
     rebuild(&mut room.code, &room.known, &room.shares, &mut room.all);
     line_strict_root(room.k, claim.axis, claim.index, &room.all, &mut room.names)
-}
-
-/// Whether there is a root, and it is this one.
-fn is_root(found: Option<Digest>, root: &Digest) -> bool
-    ensures { IsTrue result ↔ (found ≡ Some root.now) }
-{
-    found == Some(*root)
 }
 
 /// The four checks in their order.

@@ -33,10 +33,10 @@ use crate::marks::is_marked;
 use crate::pools::is_other;
 use crate::rooting::root_of_line;
 use crate::tools::Tools;
-use axis_roots::{Proved, cell_on};
+use axis_roots::{Proved, cell_on, is_root};
 use befp_maker::{AxisRoom, Decided, from_half};
 use data_header::Header;
-use namespace_id::{Axis, Cell, Digest, Share};
+use namespace_id::{Axis, Cell, Share};
 
 /// Whether another share than this one is known of a cell.
 fn is_apart(board: &Board, cell: Cell, share: &Share) -> bool
@@ -266,13 +266,6 @@ fn settle(
             None
         }
     }
-}
-
-/// Whether there is a root, and it is this one.
-fn is_root(found: Option<Digest>, root: &Digest) -> bool
-    ensures { IsTrue result ↔ (found ≡ Some root.now) }
-{
-    found == Some(*root)
 }
 
 /// Fills the tools with the line of a row or a column through k of its known cells.

@@ -1,7 +1,7 @@
 //! The lines of a grid, its rows and columns: which cells one has, and the shares and leaf
 //! namespaces along it.
 
-ghost use Rattle.std.specs.Prelude.{◌≡◌, ◌≢◌, ◌*◌, ◌<◌, ◌⊎◌, ◌++◌, IsTrue, length, take};
+ghost use Rattle.std.specs.Prelude.{◌≡◌, ◌≢◌, ◌*◌, ◌<◌, ◌⊎◌, ◌++◌, ◌↔◌, IsTrue, Some, length, take};
 ghost use Rattle.namespace_id.specs.declared.cells.Cell.{Cell as Place};
 ghost use Rattle.namespace_id.specs.Cells.{is_width, is_in_square};
 ghost use Rattle.axis_roots.specs.Messages.{position, index as index_of};
@@ -141,4 +141,11 @@ pub fn line_strict_root(
 {
     name_leaves(k, axis, index, line, names);
     strict_root(names, line)
+}
+
+/// Whether there is a strict root, and it is this one.
+pub fn is_root(found: Option<Digest>, root: &Digest) -> bool
+    ensures { IsTrue result ↔ (found ≡ Some root.now) }
+{
+    found == Some(*root)
 }
