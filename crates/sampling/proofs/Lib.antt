@@ -4,3 +4,4 @@ pub mod WordLemmas
 pub mod BlobLemmas
 pub mod FittingLemmas
 pub mod LayLemmas
+mod LimitLemmas

@@ -1,6 +1,6 @@
 //! Drawn cells.
 
-ghost use Rattle.std.specs.Prelude.{◌≡◌, ◌↔◌, ◌<◌, ◌+◌, ◌*◌, ◌%◌, ◌^◌, ℕ, List, IsTrue, IsErrOf, IfOk, length, get_or, true};
+ghost use Rattle.std.specs.Prelude.{◌≡◌, ◌↔◌, ◌<◌, ◌≤◌, ◌+◌, ◌*◌, ◌%◌, ◌^◌, ℕ, List, [], ◌∷◌, map, IsTrue, IsErrOf, IfOk, length, get_or, true};
 ghost use Rattle.std.specs.List.{list_all, remove};
 ghost use Rattle.namespace_id.specs.Cells.{is_width, is_in_square, all_cells, cell_numbered};
 ghost use Rattle.sampling.specs.Words.{words_at};
@@ -94,3 +94,11 @@ pub fn cells(alloc: Global, key: &[u8; 32], k: u16, count: u32) -> Result<Vec<Ce
     }
     Ok(drawn)
 }
+
+/// How many cells are drawn at most.
+pub fn draw_laws()
+    // As many as the square has, and no more than 4,096: for the widths from 1 to 128 these.
+    ensures limit { (k count : ℕ) → (count ≤ draw_limit k) ↔ (count ≤ 4 * k * k) × (count ≤ 4096) }
+    ensures widths { map draw_limit (1 ∷ 2 ∷ 4 ∷ 8 ∷ 16 ∷ 32 ∷ 64 ∷ 128 ∷ []) ≡
+        4 ∷ 16 ∷ 64 ∷ 256 ∷ 1024 ∷ 4096 ∷ 4096 ∷ 4096 ∷ [] }
+{}

@@ -9,5 +9,5 @@ mod draws;
 mod generating;
 mod words;
 
-pub use draws::{DrawError, cells};
+pub use draws::{DrawError, cells, draw_laws};
 pub use generating::block;
