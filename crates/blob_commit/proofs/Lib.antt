@@ -21,3 +21,4 @@ pub mod Examples
 pub mod GreatestLemmas
 pub mod PlaceLemmas
 mod UnledLemmas
+mod UnopenedLemmas

@@ -23,32 +23,32 @@ unfolding first_unled
 found_from root k index number [] i e = absurd (none-some i e)
 found_from root k index number (row ∷ rows) i e = elim (cases_Bool (is_led root k Row index row.root row.up)) [
   | inl t ↦
-    let rest = found_from root k (suc index) (suc number) rows i
-    (sym (ap (λ (b : Bool). cond b (first_unled root k (suc index) (suc number) rows) (Some number)) t) ∙ e) in
-    let up : suc index + length rest.before ≡ index + suc (length rest.before) = omega arith in
-    record {
-      before = row ∷ rest.before;
-      row = rest.row;
-      after = rest.after;
-      parts = ap (λ (l : List RowParts). row ∷ l) rest.parts;
-      number_is = omega (arith, rest.number_is);
-      lead = (led-opens root k Row index row.root row.up t, rest.lead);
-      unled = subst (λ (n : ℕ). is_led root k Row n rest.row.root rest.row.up ≡ false) up rest.unled;
-    }
+      let rest = found_from root k (suc index) (suc number) rows i
+      (sym (ap (λ (b : Bool). cond b (first_unled root k (suc index) (suc number) rows) (Some number)) t) ∙ e) in
+      let up : suc index + length rest.before ≡ index + suc (length rest.before) = omega arith in
+      record {
+        before = row ∷ rest.before;
+        row = rest.row;
+        after = rest.after;
+        parts = ap (λ (l : List RowParts). row ∷ l) rest.parts;
+        number_is = omega (arith, rest.number_is);
+        lead = (led-opens root k Row index row.root row.up t, rest.lead);
+        unled = subst (λ (n : ℕ). is_led root k Row n rest.row.root rest.row.up ≡ false) up rest.unled;
+      }
   | inr f ↦
-    let same : Some number ≡ Some i =
-    sym (ap (λ (b : Bool). cond b (first_unled root k (suc index) (suc number) rows) (Some number)) f) ∙ e in
-    let one : number ≡ i = cc in
-    let up : index ≡ index + 0 = omega arith in
-    record {
-      before = [];
-      row = row;
-      after = rows;
-      parts = refl;
-      number_is = omega (arith, one);
-      lead = tt;
-      unled = subst (λ (n : ℕ). is_led root k Row n row.root row.up ≡ false) up f;
-    }
+      let same : Some number ≡ Some i =
+      sym (ap (λ (b : Bool). cond b (first_unled root k (suc index) (suc number) rows) (Some number)) f) ∙ e in
+      let one : number ≡ i = cc in
+      let up : index ≡ index + 0 = omega arith in
+      record {
+        before = [];
+        row = row;
+        after = rows;
+        parts = refl;
+        number_is = omega (arith, one);
+        lead = tt;
+        unled = subst (λ (n : ℕ). is_led root k Row n row.root row.up ≡ false) up f;
+      }
 ]
 
 -- the one that a refusal names

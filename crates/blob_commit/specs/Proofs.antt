@@ -68,6 +68,11 @@ is_range k start count = nat_lt 0 count && nat_le (start + count) (k * k) && (st
 abbrev pub part_of_row : ℕ → ℕ → ℕ → ℕ
 part_of_row k at left = min left (k - at % k)
 
+-- the index of the first share and the number of shares that are left behind rows
+abbrev pub rest_behind : ℕ → ℕ → ℕ → List RowParts → ℕ × ℕ
+rest_behind k at left [] = (at, left)
+rest_behind k at left (row ∷ rows) = rest_behind k (at + part_of_row k at left) (left - part_of_row k at left) rows
+
 -- the sizes of the subtrees in that row
 abbrev pub row_sizes : ℕ → ℕ → ℕ → ℕ → List ℕ
 row_sizes k levels at left = cut_by levels (part_of_row k at left)

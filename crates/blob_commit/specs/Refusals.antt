@@ -13,7 +13,7 @@ use Rattle.data_header.specs.DataRoots.{root_halvings, root_place, leaf_hash, le
 use Rattle.axis_roots.specs.Messages.{shown_by, index}
 use Rattle.blob_commit.specs.Commitments.{root_of_digests}
 use Rattle.blob_commit.specs.Cuts.{levels_of}
-use Rattle.blob_commit.specs.Proofs.{RowParts, CommitParts, RootedParts, part_of_row, shown_in, subtrees_of, has_commit_shape, RowsLead}
+use Rattle.blob_commit.specs.Proofs.{RowParts, CommitParts, RootedParts, part_of_row, shown_in, subtrees_of, has_commit_shape, RowsLead, RowsOpen, rest_behind}
 use Rattle.blob_commit.specs.declared.proving.CommitRefusal.{CommitRefusal}
 use Rattle.blob_commit.specs.declared.proving.CommitRefusal.TheVariants.{Shape, Root, Nodes, Commitment}
 use Rattle.blob_commit.specs.declared.rooting.RootedRefusal.{RootedRefusal}
@@ -95,3 +95,13 @@ pub record IsFirstUnled (root : List ℕ) (k index : ℕ) (rows : List RowParts)
   pub number : i ≡ length before
   pub lead : RowsLead root k index before
   pub unled : is_led root k Row (index + length before) row.root row.up ≡ false
+
+-- the first of some rows whose subtrees don't open, counted from 0, and why: those of all before it do
+pub record IsFirstUnopened (k levels start count : ℕ) (rows : List RowParts) (i : ℕ) (why : OpenRefusal) : Type 0 where
+  pub before : List RowParts
+  pub row : RowParts
+  pub after : List RowParts
+  pub parts : rows ≡ before ++ row ∷ after
+  pub number : i ≡ length before
+  pub opens : RowsOpen k levels start count before
+  pub refused : row_refusal k levels (rest_behind k start count before).0 (rest_behind k start count before).1 row ≡ Some why

@@ -3,7 +3,8 @@
 ghost use Rattle.std.specs.Prelude.{◌/◌, ◌≡◌, ◌↔◌, ◌<◌, ◌≤◌, ◌*◌, ◌++◌, ◌∷◌, ℕ, List, length, take, drop, true, Some, None};
 ghost use Rattle.namespace_id.specs.declared.cells.Axis.{Axis};
 ghost use Rattle.share_split.specs.Widths.{subtree_width_of};
-ghost use Rattle.blob_commit.specs.Cuts.{cut, IsCut};
+ghost use Rattle.nmt_proofs.specs.declared.opening.OpenRefusal.{OpenRefusal as Refusal};
+ghost use Rattle.blob_commit.specs.Cuts.{levels_of, cut, IsCut};
 ghost use Rattle.blob_commit.specs.Commitments.{root_over, IsPlainRoot};
 ghost use Rattle.std.specs.List.{AllByRecursion};
 ghost use Rattle.share_split.specs.Blobs.{NamedBytes, blob_shares_of};
@@ -17,7 +18,7 @@ ghost use Rattle.axis_roots.specs.declared.message.messages.Message.{Message};
 ghost use Rattle.axis_roots.specs.Messages.{IsMessage};
 ghost use Rattle.axis_roots.specs.Openings.{IsProved};
 ghost use Rattle.axis_roots.specs.Grids.{IsHeaderOf};
-ghost use Rattle.blob_commit.specs.Refusals.{commit_refusal, rooted_refusal, unled_row, IsFirstUnled};
+ghost use Rattle.blob_commit.specs.Refusals.{commit_refusal, rooted_refusal, unled_row, unopened_row, IsFirstUnled, IsFirstUnopened};
 ghost use Rattle.blob_commit.specs.Proofs.{CommitParts, CommitHolds, IsCommit, RootedParts, RootedHolds, IsRooted, has_commit_shape, is_range};
 ghost use Rattle.blob_commit.specs.Places.{IsOwnCommit, IsOwnRooted, turns_for};
 
@@ -100,6 +101,10 @@ pub fn refusal_laws()
     // The row that a refusal names, counted from 0, is the first whose hashes don't lead to the data root.
     ensures unled { (root : List ℕ) (proof : CommitParts) (i : ℕ) → unled_row root proof ≡ Some i →
         IsFirstUnled root proof.k (proof.start / proof.k) proof.rows i }
+
+    // So is the row whose subtrees don't open, and its opening is refused for the reason that is named.
+    ensures unopened { (proof : CommitParts) (i : ℕ) (why : Refusal) → unopened_row proof ≡ Some (i, why) →
+        IsFirstUnopened proof.k (levels_of proof.count) proof.start proof.count proof.rows i why }
 {}
 
 /// What is proved of samples under the data root of a square's header.
