@@ -12,6 +12,7 @@ record MoreAhead (items later : List Item) : Type 0 where
   extra : List NamedAnswer
   is : answers_ahead (items ++ later) ≡ answers_ahead items ++ extra
 
+-- those that are handed later come behind those that are there
 more_ahead : (items later : List Item) → MoreAhead items later
 unfolding answers_ahead
 more_ahead [] later = record { extra = answers_ahead later; is = refl }
@@ -24,7 +25,7 @@ more_ahead (answered given ∷ items) later =
 abbrev with_more : Height → List NamedAnswer → Height
 with_more height extra = record { header = height.header; answers = height.answers ++ extra }
 
--- so a height stays, with more answers
+-- a height that stays, with more answers
 record SameHeight (items later : List Item) (number : ℕ) (height : Height) : Type 0 where
   extra : List NamedAnswer
   is : slice_get (heights_of (items ++ later)) number ≡ Some (with_more height extra)
@@ -33,6 +34,7 @@ record SameHeight (items later : List Item) (number : ℕ) (height : Height) : T
 abbrev begun : Roots → List NamedAnswer → Height
 begun header answers = record { header = header; answers = answers }
 
+-- so each height stays
 same_height : (items later : List Item) (number : ℕ) (height : Height) → slice_get (heights_of items) number ≡ Some height
     → SameHeight items later number height
 unfolding heights_of
@@ -63,6 +65,7 @@ first_stays header name answers extra answer first = record {
 }
 
 module _ (wants : Namespace → Type 0) (items later : List Item) (number : ℕ) (name : Namespace) (read : Read) where
+  -- what a height has stays, by that height
   stays_at : (height : Option Height) → slice_get (heights_of items) number ≡ height → IsFedIn wants height name (Some read)
       → FeedsAt wants (items ++ later) number name (Some read)
   stays_at None e fed = absurd cc
