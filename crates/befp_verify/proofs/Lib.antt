@@ -7,3 +7,4 @@ mod CompactLemmas
 mod NeighborLemmas
 mod ReadyLemmas
 mod SetLemmas
+mod FirstCellLemmas

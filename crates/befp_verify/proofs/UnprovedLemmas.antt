@@ -47,7 +47,7 @@ refused_none refusal cells i h = sym (at_drop_all (refused_from refusal i) cells
 -- ---- all cells
 
 -- a cell that isn't the set's is proved where it isn't refused
-cell_proved : (header : Roots) (claim : ClaimParts) (m : Message) → (message_refusal header m ≡ None) ↔ IsProved header m → cell_refusal header claim m ≡ None
+pub cell_proved : (header : Roots) (claim : ClaimParts) (m : Message) → (message_refusal header m ≡ None) ↔ IsProved header m → cell_refusal header claim m ≡ None
     → is_set_cell claim m ≡ false → IsProved header m
 cell_proved header claim m law e f = law.0 (sym (ap (λ (b : Bool). cond b None (message_refusal header m)) f) ∙ e)
 

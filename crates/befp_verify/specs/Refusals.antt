@@ -1,5 +1,5 @@
 -- Why a fraud claim is refused (docs/RULES.md, "Fraud claims").
-use Rattle.std.specs.Prelude.{◌≡◌, ℕ, suc, ◌*◌, ◌&&◌, List, [], ◌∷◌, Bool, true, false, Option, Some, None, Result, Ok, Err, if◌then◌else◌}
+use Rattle.std.specs.Prelude.{◌≡◌, ℕ, suc, ◌*◌, ◌&&◌, List, [], ◌∷◌, ◌++◌, length, Bool, true, false, Option, Some, None, Result, Ok, Err, if◌then◌else◌}
 use Rattle.std.specs.Option.{option_map_or}
 use Rattle.namespace_id.specs.declared.digests.Digest.{Digest}
 use Rattle.nmt_tree.specs.Roots.{halvings}
@@ -10,7 +10,7 @@ use Rattle.axis_roots.specs.declared.message.messages.Message.{Message}
 use Rattle.axis_roots.specs.declared.message.messages.CheckRefusal.{CheckRefusal}
 use Rattle.axis_roots.specs.Messages.{message_refusal}
 use Rattle.axis_roots.specs.Sets.{set_of}
-use Rattle.axis_roots.specs.Claims.{ClaimParts, is_set_cell, has_shape, has_set_shape, claimed_root, FitsRoot, Accepts}
+use Rattle.axis_roots.specs.Claims.{ClaimParts, is_set_cell, has_shape, has_set_shape, claimed_root, FitsRoot, AreProved, Accepts}
 use Rattle.befp_verify.specs.declared.verifying.FraudRefusal.{FraudRefusal}
 use Rattle.befp_verify.specs.declared.verifying.FraudRefusal.TheVariants.{Shape, Cell, Set, AxisMatches}
 use Rattle.befp_verify.specs.declared.verifying.FraudRefused.{FraudRefused}
@@ -32,6 +32,18 @@ refused_from refusal number (m ∷ cells) =
 -- that of a claim
 abbrev pub first_unproved : Roots → ClaimParts → Option (ℕ × CheckRefusal)
 first_unproved header claim = refused_from (cell_refusal header claim) 0 claim.cells
+
+-- the first cell of a claim that isn't proved, counted from 0, and why: all cells before it are, and the claim's set
+-- doesn't show it
+pub record IsFirstUnproved (header : Roots) (claim : ClaimParts) (i : ℕ) (why : CheckRefusal) : Type 0 where
+  pub before : List Message
+  pub cell : Message
+  pub after : List Message
+  pub parts : claim.cells ≡ before ++ cell ∷ after
+  pub number : i ≡ length before
+  pub proved : AreProved header claim before
+  pub own : is_set_cell claim cell ≡ false
+  pub refused : message_refusal header cell ≡ Some why
 
 -- why these nodes don't open what a set shows of these cells
 abbrev pub nodes_refusal : Roots → ClaimParts → Option (List Digest) → Option OpenRefusal

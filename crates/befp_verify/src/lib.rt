@@ -6,9 +6,11 @@
 #![tactic(auto)]
 
 mod compacting;
+mod laws;
 mod upheld;
 mod verifying;
 
 pub use compacting::{Compacted, compact, compact_laws};
+pub use laws::refusal_laws;
 pub use upheld::Upheld;
 pub use verifying::{FraudRefusal, FraudRefused, VerifyRoom, verify};

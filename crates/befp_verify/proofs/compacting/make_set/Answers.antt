@@ -46,9 +46,11 @@ returns-in-Some c =
     let cells : c.deref.result.now ≡ c.args.claim.now.cells = c.deref.ensures.value ∙ ap (λ (p : ClaimParts). p.cells) c.claim.view_is in
     let made : placed c.in_ok-branches.branches.items ≡ branches_of c.args.header.now.k c.args.claim.now.axis c.args.claim.now.cells =
     c.in_ok-branches.ensures
-    ∙ (λ i. branches_of (width i) (ap (λ (p : ClaimParts). p.axis) c.claim.view_is i) (cells i)) in
-    (c.requires.wide, two_named c.args.header.now.k c.args.claim.now (placed c.deref-2.result.now) c.in-Some.clash (ap placed c.deref-2.ensures.value ∙ made)
-    (subst (λ (k : ℕ). NamesTwoOf (halvings (2 * k)) (placed c.deref-2.result.now) c.in-Some.clash) width c.in-Some.ensures))
+    ∙ (λ i. branches_of (width i) (ap (λ (p : ClaimParts). p.axis) c.claim.view_is i) (cells i)) in (
+      c.requires.wide,
+      two_named c.args.header.now.k c.args.claim.now (placed c.deref-2.result.now) c.in-Some.clash (ap placed c.deref-2.ensures.value ∙ made)
+          (subst (λ (k : ℕ). NamesTwoOf (halvings (2 * k)) (placed c.deref-2.result.now) c.in-Some.clash) width c.in-Some.ensures),
+    )
 
 pub merge-requires-clause-paths : goal.merge-requires-clause-paths
 merge-requires-clause-paths c =
