@@ -10,7 +10,6 @@ use Rattle.axis_roots.proofs.Messages.SetLemmas.{accepted_few}
 use Rattle.repair_queue.specs.Closures.{Covers}
 use Rattle.repair_queue.specs.Settled.{IsSettled}
 use Rattle.repair_queue.specs.Verdicts.{IsFraud, IsFoundClash}
-use Rattle.repair_queue.specs.declared.verdict.Verdict.TheVariants as verdict
 use Rattle.repair_queue.specs.SessionParts.{SessionParts, StandsFor as SessionStands}
 use Rattle.repair_queue.proofs.Facts.GrowthLemmas.{fraud_grows, clash_grows, settled_same}
 use Rattle.repair_queue.proofs.Facts.SessionLawLemmas.{session_settled, session_same}
@@ -23,7 +22,6 @@ use Rattle.da_net.specs.declared.full.FullNode.{FullNode}
 use Rattle.da_net.specs.Networks.{messages_of, events_of, full, settled, clashing, rejecting, Stands, IsRejecting}
 use Rattle.da_net.specs.Nodes.{HasSpare, standing_by, IsSession, HasSession, IsFullNode, EndsSo, SpareAfter, IsFed}
 use Rattle.da_net.specs.declared.full.Fed.TheVariants.{On, Ended as Stopped}
-use Rattle.repair_queue.specs.declared.fed.SessionState.TheVariants as state
 use Rattle.axis_roots.proofs.Messages.ClaimLemmas.{Shape, shape_of}
 use Rattle.da_net.specs.declared.copies.ClaimRoom.{ClaimRoom}
 use Rattle.repair_queue.specs.Verdicts.{VerdictParts, IsVerdict}

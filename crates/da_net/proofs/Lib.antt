@@ -9,3 +9,5 @@ pub mod MissingLemmas
 pub mod StateLemmas
 pub mod MakingLemmas
 pub mod RefusalLemmas
+mod StepRefusalLemmas
+mod LimitLemmas

@@ -13,7 +13,6 @@ use Rattle.light_node.specs.Events.{IsState, IsFirstAccepted, IsLight}
 use Rattle.light_node.specs.Nodes.{NodeParts, StandsFor}
 use Rattle.da_net.specs.declared.items.Item.{Item}
 use Rattle.da_net.specs.declared.items.Item.TheVariants as item
-use Rattle.da_net.specs.declared.full.End.TheVariants as end
 use Rattle.da_net.specs.declared.seats.Node.{Node}
 use Rattle.da_net.specs.declared.seats.Node.TheVariants.{Full, Light}
 use Rattle.da_net.specs.declared.seats.Seat.{Seat}

@@ -3,3 +3,4 @@ pub mod Promises
 pub mod Nodes
 pub mod Nets
 pub mod Seats
+pub mod StepRefusals

@@ -15,4 +15,4 @@ mod seats;
 
 pub use items::{Item, Kept, NetError, NetEvent, NodeState, StepRefusal, Stepped};
 pub use laws::{agreement_laws, delivery_laws, joint_laws, rejection_laws};
-pub use nets::Net;
+pub use nets::{Net, limit_laws};

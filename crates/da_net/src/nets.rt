@@ -1,6 +1,6 @@
 //! Networks.
 
-ghost use Rattle.std.specs.Prelude.{◌≡◌, ◌<◌, true, false, length, map, slice_get, vec_len, ◌↔◌, ◌⊎◌, IsSome, IfSome, IfOk, OnErr, IsErrOf, MatchOption, Some, None, option_copied};
+ghost use Rattle.std.specs.Prelude.{◌≡◌, ◌<◌, ◌≤◌, ℕ, true, false, length, map, slice_get, vec_len, ◌↔◌, ◌⊎◌, IsSome, IfSome, IfOk, OnErr, IsErrOf, MatchOption, Some, None, option_copied};
 ghost use Rattle.std.specs.List.{Contains, list_any, AllByRecursion};
 ghost use Rattle.namespace_id.specs.Answers.{refusal_in};
 ghost use Rattle.square_layout.specs.Blocks.{SquareShares};
@@ -14,6 +14,7 @@ ghost use Rattle.da_net.specs.Networks.{Kind, light, messages_of, handed, IsRun}
 ghost use Rattle.da_net.specs.Promises.{PoolNames};
 ghost use Rattle.da_net.specs.Nodes.{IsFresh};
 ghost use Rattle.da_net.specs.Nets.{fresh, is_too_many, clash_in, AreMissed, network_of, has_claim, why_not, why_not_hand, why_not_publish, HasHappened, HasState, alarm_at, claim_in, is_publishing, is_pooling, is_full, IsSame, IsPooled, IsHanded, IsPublished};
+ghost use Rattle.da_net.specs.StepRefusals.{IsFull, LacksItem, LacksNode, LacksClaim, PublishesAgain};
 
 use crate::items::{Item, Kept, NetError, NetEvent, NodeState, StepRefusal, Stepped};
 use crate::making::make_seats;
@@ -197,16 +198,8 @@ impl<F: Picker> Net<F> {
         let _most = self.most_items;
     }
 
-    /// Takes one step: the adversary puts an item into the pool, an item of the pool is handed to a node, or a node that
-    /// rejects publishes its claim. An item stays in the pool. A node that was handed an accepted claim rejects from then
-    /// on, and keeps the claim that it first held.
-    ///
-    /// Refuses a step for which there is no capacity, and hands the event back; then an item that isn't in the pool;
-    /// then a node that isn't there; then the publishing of a node that doesn't reject, and of one that has published.
-    /// A refusal changes nothing. It takes no memory.
-    ///
-    /// docs/RULES.md, "Networks".
-    pub fn step(&mut self, event: NetEvent) -> Result<Stepped, StepRefusal>
+    /// Takes one step, or refuses it for the first test that fails.
+    fn try_step(&mut self, event: NetEvent) -> Result<Stepped, StepRefusal>
         ensures refusal { refusal_in result ≡ why_not self.old event }
         ensures happened { IfOk result (HasHappened self.old event self.new) }
         ensures unchanged { OnErr result (self.new ≡ self.old) }
@@ -220,6 +213,34 @@ impl<F: Picker> Net<F> {
             NetEvent::Hand { item, node } => self.try_hand(item, node),
             NetEvent::Publish { node } => self.try_publish(node),
         }
+    }
+
+    /// Takes one step: the adversary puts an item into the pool, an item of the pool is handed to a node, or a node that
+    /// rejects publishes its claim. An item stays in the pool. A node that was handed an accepted claim rejects from then
+    /// on, and keeps the claim that it first held.
+    ///
+    /// Refuses a step for which there is no capacity, and hands the event back; then an item that isn't in the pool;
+    /// then a node that isn't there; then the publishing of a node that doesn't reject, and of one that has published.
+    /// A refusal changes nothing. It takes no memory.
+    ///
+    /// docs/RULES.md, "Networks".
+    pub fn step(&mut self, event: NetEvent) -> Result<Stepped, StepRefusal>
+        // Each refusal comes exactly where its test is the first that fails.
+        ensures full { IsErrOf result (StepRefusal.Full event) ↔ IsFull self.old event }
+        ensures no_item { IsErrOf result StepRefusal.NoItem ↔ LacksItem self.old event }
+        ensures no_node { IsErrOf result StepRefusal.NoNode ↔ LacksNode self.old event }
+        ensures not_rejecting { IsErrOf result StepRefusal.NotRejecting ↔ LacksClaim self.old event }
+        ensures published { IsErrOf result StepRefusal.Published ↔ PublishesAgain self.old event }
+
+        // All of these at once.
+        ensures refusal { refusal_in result ≡ why_not self.old event }
+
+        // What a step did; a refusal changes nothing.
+        ensures happened { IfOk result (HasHappened self.old event self.new) }
+        ensures unchanged { OnErr result (self.new ≡ self.old) }
+        ensures kept { IsSame self.old self.new }
+    {
+        self.try_step(event)
     }
 
     /// The state of a node. It takes no memory.
@@ -325,3 +346,10 @@ impl<F: Picker> Net<F> {
         })
     }
 }
+
+/// For how many nodes, items and steps a network is made.
+pub fn limit_laws()
+    // For up to 8 full nodes, 64 light nodes, 65,536 items and 1,048,576 steps, and for no more.
+    ensures most { (fulls lights items steps : ℕ) → (is_too_many fulls lights items steps ≡ false) ↔
+        (fulls ≤ 8) × (lights ≤ 64) × (items ≤ 65536) × (steps ≤ 1048576) }
+{}

@@ -1,7 +1,6 @@
-use Rattle.std.proofs.Common.{◌++◌, List, map, replicate}
-use Rattle.std.specs.List.{AllZip}
+use Rattle.std.proofs.Common.{replicate}
 use Rattle.std.proofs.lemmas.Result.{IfOk-weaker}
-use Rattle.da_net.specs.Networks.{Kind, full}
+use Rattle.da_net.specs.Networks.{full}
 use Rattle.da_net.proofs.making.make_seats.Goals as goal
 
 -- the seats of light nodes stand behind those of full ones
