@@ -46,6 +46,7 @@ pooled_grows old new one step place is = record {
   steps = ap length is.steps ∙ length-append old.steps (step ∷ []);
 }
 
+-- an event that has happened
 happened_grows : (old new : NetParts) (given : NetEvent) (did : Stepped) → HasHappened old given new did → Grows old new (nets.is_pooling given)
 happened_grows old new (event.Put one) (stepped.Pooled place) is = pooled_grows old new one kept.Put place is
 happened_grows old new (event.Put one) (stepped.Handed state) is = absurd is
@@ -70,6 +71,7 @@ pooling-one (move.Put a) = refl
 pooling-one (move.Hand a b) = refl
 pooling-one (move.Publish b) = refl
 
+-- the events of two lists that put items
 pooling-append : (before later : List Move) → pooling (before ++ later) ≡ pooling before + pooling later
 pooling-append before later =
     ap length (filter-append is_pooling before later) ∙ length-append (filter is_pooling before) (filter is_pooling later)
@@ -99,6 +101,7 @@ goes_spent items first old new moves one line spent (refused given why is becaus
       kept = omega (arith, longer, now.kept);
     }
 
+-- so do all events that went by
 spent_by : (items : List Item) (first net : NetParts) (moves : List Move) (lines : List ℕ) → length first.pool ≡ 0 → length first.steps ≡ 0
     → GoOn items first moves net lines → Spent first net moves
 spent_by items first _ _ _ no_items no_steps start =
@@ -110,17 +113,17 @@ spent_by items first _ _ _ no_items no_steps (next moves old lines one new line 
 roomy : (net : NetParts) (given : NetEvent) → length net.steps < net.most_steps
     → (nets.is_pooling given ≡ true → length net.pool < net.most_items) → is_full net given ≡ false
 roomy net given steps pool = by_kind (nets.is_pooling given) pool
-    where
-      left : nat_le net.most_steps (length net.steps) ≡ false
-      left = grind (arith, nat_tests)
+  where
+    left : nat_le net.most_steps (length net.steps) ≡ false
+    left = grind (arith, nat_tests)
 
-      by_kind : (b : Bool) → (b ≡ true → length net.pool < net.most_items)
-          → cond (nat_le net.most_steps (length net.steps)) true (b && nat_le net.most_items (length net.pool)) ≡ false
-      by_kind true some =
-          let there : length net.pool < net.most_items = some refl in
-          let more : nat_le net.most_items (length net.pool) ≡ false = grind (arith, nat_tests) in
-          ap₂ (λ (x y : Bool). cond x true y) left more
-      by_kind false some = ap (λ (x : Bool). cond x true false) left
+    by_kind : (b : Bool) → (b ≡ true → length net.pool < net.most_items)
+        → cond (nat_le net.most_steps (length net.steps)) true (b && nat_le net.most_items (length net.pool)) ≡ false
+    by_kind true some =
+        let there : length net.pool < net.most_items = some refl in
+        let more : nat_le net.most_items (length net.pool) ≡ false = grind (arith, nat_tests) in
+        ap₂ (λ (x y : Bool). cond x true y) left more
+    by_kind false some = ap (λ (x : Bool). cond x true false) left
 
 -- the network of a script has room for each of its events, when all before have happened or were refused
 pub has_room : (items : List Item) (header : Roots) (script : List ℕ) (before after : List Move) (one : Move) (net : NetParts) (lines : List ℕ)
