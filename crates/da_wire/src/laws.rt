@@ -16,12 +16,13 @@ ghost use Rattle.axis_roots.specs.Claims.{ClaimParts, IsClaim, Accepts};
 ghost use Rattle.square_layout.specs.Blocks.{SquareShares, IsSquare};
 ghost use Rattle.hash_clash.specs.Collisions.{Strings};
 ghost use Rattle.blob_commit.specs.Proofs.{CommitParts, RootedParts, has_commit_shape};
+ghost use Rattle.frame_fields.specs.Fields.{most_hashes};
 ghost use Rattle.da_wire.specs.declared.frames.Frame.TheVariants.{Header, Square, Message, Names, Fraud, Missing, Clash, Sample, Request, Commit, Rooted};
 ghost use Rattle.da_wire.specs.Spelling.{max_payload, spelling};
-ghost use Rattle.da_wire.specs.kinds.Names.{is_long_answer};
-ghost use Rattle.da_wire.specs.kinds.Fraud.{is_unwritten};
+ghost use Rattle.da_wire.specs.kinds.Names.{most_entries, most_shares, most_nodes, is_long_answer};
+ghost use Rattle.da_wire.specs.kinds.Fraud.{most_cells, most_set_nodes, is_unwritten};
 ghost use Rattle.da_wire.specs.kinds.Clash.{AreStrings, has_empty};
-ghost use Rattle.da_wire.specs.kinds.Commit.{IsCommitSent, is_long_commit};
+ghost use Rattle.da_wire.specs.kinds.Commit.{most_rows, most_subtrees, IsCommitSent, is_long_commit};
 ghost use Rattle.da_wire.specs.kinds.Rooted.{IsRootedSent};
 ghost use Rattle.da_wire.specs.Laws.{SpelledIsRead, ReadIsSpelled, OneSpelling, OnlyIsSpelled, SpelledIsOnly, MessageIsRead, MessageIsSpelled, RawIsFrame, FramesAreTheFile, FilesAreFrames, BadFrameIsFirst, ValuesAreTheFile, FilesAreValues, BadValueIsFirst};
 ghost use Rattle.da_wire.specs.Streams.{EveryCutting, FramesStay};
@@ -97,4 +98,24 @@ pub fn value_laws()
 pub fn stream_laws()
     ensures cutting { EveryCutting }
     ensures stay { FramesStay }
+{}
+
+/// The limits of payloads, as numbers.
+pub fn limit_laws()
+    // A payload has at most 16 MiB.
+    ensures payload { max_payload ≡ 16 * (1024 * 1024) }
+
+    // A namespace answer has at most 128 entries, each of at most 128 shares and 16 nodes.
+    ensures entries { most_entries ≡ 128 }
+    ensures shares { most_shares ≡ 128 }
+    ensures nodes { most_nodes ≡ 16 }
+
+    // A fraud claim has at most 128 cells, and its set at most 128 nodes.
+    ensures claim_cells { most_cells ≡ 128 }
+    ensures set_nodes { most_set_nodes ≡ 128 }
+
+    // A commitment proof has at most 128 rows, each of at most 128 subtrees and 9 hashes.
+    ensures rows { most_rows ≡ 128 }
+    ensures subtrees { most_subtrees ≡ 128 }
+    ensures hashes { most_hashes ≡ 9 }
 {}

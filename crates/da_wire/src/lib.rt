@@ -19,7 +19,7 @@ pub use answering::is_answer_to;
 pub use bounds::frame_law;
 pub use frames::{Frame, FrameError, RawFrame, SpellError};
 pub use kinds::fraud::claim;
-pub use laws::{stream_laws, value_laws, wire_laws};
+pub use laws::{limit_laws, stream_laws, value_laws, wire_laws};
 pub use reading::{
     MAX_PAYLOAD, bad_frame, bad_value, next_frame, next_value, raw, read_frame, read_only,
 };
