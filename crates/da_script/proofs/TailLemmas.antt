@@ -5,7 +5,6 @@ use Rattle.namespace_id.specs.declared.cells.Axis.{Axis}
 use Rattle.namespace_id.specs.declared.cells.Axis.TheVariants.{Row, Col}
 use Rattle.da_status.specs.Notes.{axis_note}
 use Rattle.da_net.specs.declared.items.NodeState.{NodeState}
-use Rattle.da_net.specs.declared.items.NodeState.TheVariants as state
 use Rattle.da_net.specs.Networks.{Standing}
 use Rattle.da_net.specs.Nets.{state_of}
 use Rattle.da_script.specs.Plays.{state_word}
