@@ -15,7 +15,6 @@ library alone. tools/README.md says more.
 import argparse
 import base64
 import json
-import os
 import re
 import sys
 
@@ -245,7 +244,7 @@ def header(args):
     """the header of an extended header, whose data hash has to be its data root, or of a `dah` alone"""
     value = answered(args.json)
     made = header_of(dah_of(value))
-    if value.member("header").value is not None:
+    if "header" in value.value:
         told, found = data_hash(value), made.data_root()
         if told.digits(HASH_BYTES) != found:
             raise frames.Note(13, f"refused: {told.path}: the data root of the dah is {found.hex()} (OtherRoot)")
@@ -315,7 +314,4 @@ def main(words, out, err):
 
 
 if __name__ == "__main__":
-    result = main(sys.argv[1:], sys.stdout.buffer, sys.stderr)
-    if result == 4:
-        os.dup2(os.open(os.devnull, os.O_WRONLY), sys.stdout.fileno())
-    sys.exit(result)
+    frames.end(main)

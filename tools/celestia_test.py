@@ -115,7 +115,7 @@ def padded_square():
 class Case(trying.Case):
     """A test of the tool, with a folder of its own for files."""
 
-    run_tool = staticmethod(run)
+    run_tool, tool = staticmethod(run), celestia.__file__
 
     def same_header(self, header):
         """A header comes back through its `dah` and through an extended header, and stands under its data hash."""
@@ -302,6 +302,9 @@ class Refused(Case):
         note = f"refused: header.data_hash: the data root of the dah is {root} (OtherRoot)"
         self.refused(["header", found], note, 13)
         self.assertEqual(run("root", found), (13, f"data_hash {EMPTY_ROOT}\ndata_root {root}\n".encode(), ""))
+        # A `header` that is null is none; without the key there is nothing to compare.
+        self.refused(["header", self.file(dict(whole, header=None))], "bad input: header: it isn't there (Missing)")
+        self.assertEqual(self.made("header", self.file({"dah": whole["dah"]})), two)
         self.refused(["root", self.file(whole["dah"])], "bad input: header: it isn't there (Missing)")
 
     def test_answer(self):
@@ -414,6 +417,10 @@ class Refused(Case):
         self.refused(["header", self.folder], f"cannot read {self.folder!r}", 3)
         for words in ([], ["headers", "{}"], ["header"], ["answer", "00", "1"]):
             self.assertEqual(run(*words)[:2], (1, b""))
+
+    def test_streams(self):
+        self.loses("header", HEADER)
+        self.loses("root", HEADER)
 
 
 @unittest.skipUnless(DA, "the environment variable DA names no built da")

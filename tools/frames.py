@@ -20,6 +20,7 @@ form, 7 for a file that is too long. Python 3 and its standard library alone. to
 
 import argparse
 import hashlib
+import io
 import json
 import os
 import re
@@ -548,8 +549,8 @@ def walk(data, form):
 
 
 def read_file(name, number=None):
-    """All bytes of a file, which a note calls by its number where it has one."""
-    called = f"file {number}" if number is not None else repr(name)
+    """All bytes of a file, which a note calls by its number where it has one. The name 0 is standard input."""
+    called = f"file {number}" if number is not None else "standard input" if name == 0 else repr(name)
     try:
         stream = open(name, "rb")
     except IsADirectoryError:
@@ -593,6 +594,14 @@ def hex_bytes(text, what):
     return bytes.fromhex(text)
 
 
+def utf8(text, what):
+    """The UTF-8 of a text, which one with a lone surrogate doesn't have."""
+    try:
+        return text.encode()
+    except UnicodeEncodeError as error:
+        raise Note(1, f"{what}: {text[error.start]!r} is a lone surrogate, of which there is no UTF-8") from None
+
+
 def whole(value, what, most):
     """A JSON number from 0 to `most`, without a fraction."""
     if type(value) is not int or not 0 <= value <= most:
@@ -625,7 +634,7 @@ def json_bytes(value, what):
         raise Note(1, f'{what}: {value!r} has not just one text of "hex", "text" and "file"')
     key, source = parts.popitem()
     if key == "text":
-        data = source.encode(errors="surrogatepass")
+        data = utf8(source, what)
     else:
         data = hex_bytes(source, what) if key == "hex" else read_file(source)
     if len(data) * times > PAYLOAD_LIMIT:
@@ -651,7 +660,7 @@ def no_doubles(pairs):
 def json_word(word):
     """The value of a word that is JSON text itself, `-` for that on standard input, or the name of a file of it."""
     is_text = word.lstrip()[:1] in ("{", "[")
-    text = word if is_text else sys.stdin.buffer.read() if word == "-" else read_file(word)
+    text = word if is_text else read_file(0 if word == "-" else word)
     try:
         return json.loads(text, object_pairs_hook=no_doubles)
     except (ValueError, RecursionError) as error:
@@ -871,6 +880,16 @@ def write(pieces, out):
     out.flush()
 
 
+def tell(err, note):
+    """Writes a note, and answers its status, where it can't be written too."""
+    try:
+        err.write(note.text + "\n")
+        err.flush()
+    except OSError:
+        pass
+    return note.status
+
+
 def main(words, out, err):
     """Runs the command of the words on two streams, of bytes and of text; answers its status."""
     try:
@@ -883,18 +902,33 @@ def main(words, out, err):
                 write(pieces, file)
         return status
     except Note as note:
-        err.write(note.text + "\n")
-        return note.status
+        return tell(err, note)
     except OSError:  # of the output: those of the input are notes
-        err.write("cannot write\n")
-        return 4
+        return tell(err, Note(4, "cannot write"))
     except MemoryError:
-        err.write("out of memory\n")
-        return 5
+        return tell(err, Note(5, "out of memory"))
+
+
+class Closed:
+    """The standard output of a process that has none: nothing can be written to it."""
+
+    def write(self, _=b""):
+        """Fails, where nothing is to be written too, as it does in `da`."""
+        raise OSError("standard output is closed")
+
+    flush = write
+
+
+def end(run):
+    """Runs a tool on the words and streams of this process, and ends with its status. A closed stream is None here."""
+    status = run(sys.argv[1:], sys.stdout.buffer if sys.stdout else Closed(), sys.stderr or io.StringIO())
+    for stream in filter(None, (sys.stdout, sys.stderr)):
+        try:
+            stream.flush()
+        except OSError:  # the status says so; what is left in the stream would fail once more
+            os.dup2(os.open(os.devnull, os.O_WRONLY), stream.fileno())
+    sys.exit(status)
 
 
 if __name__ == "__main__":
-    result = main(sys.argv[1:], sys.stdout.buffer, sys.stderr)
-    if result == 4:
-        os.dup2(os.open(os.devnull, os.O_WRONLY), sys.stdout.fileno())
-    sys.exit(result)
+    end(main)

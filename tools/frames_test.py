@@ -173,7 +173,7 @@ def example(name):
 class Case(trying.Case):
     """A test of the tool, with a folder of its own for files."""
 
-    run_tool = staticmethod(run)
+    run_tool, tool = staticmethod(run), frames.__file__
 
     def why(self, data, *form):
         """The line of `why` behind the file's name."""
@@ -622,6 +622,13 @@ class Why(Case):
         self.assertEqual(run("show")[0], 1)
         self.assertEqual(run("raw", "Q", "00", "-o", self.folder)[::2], (4, "cannot write\n"))
 
+    def test_streams(self):
+        self.loses("samples", "1,2,row")
+        self.assertEqual(self.ends(">&-", "samples", "[]"), (4, b"", "cannot write\n"))
+        self.assertEqual(self.ends(f">&- -o {self.folder}/out", "samples", "1,2,row"), (0, b"", ""))
+        self.assertEqual(self.ends("<&-", "block", "-"), (2, b"", "cannot open standard input\n"))
+        self.assertEqual(self.ends("<<'E'\n{}\nE", "block", "-"), (0, frame("V", bytes(14)), ""))
+
 
 class Making(Case):
     """The makers, and what they refuse."""
@@ -671,6 +678,8 @@ class Making(Case):
             with self.subTest(text):
                 status, out, _ = run("block", text)
                 self.assertEqual((status, out), (1, b""))
+        note = "units 0: '\\ud800' is a lone surrogate, of which there is no UTF-8\n"
+        self.assertEqual(run("block", '{"units": [{"text": "a\\ud800"}]}'), (1, b"", note))
         self.assertEqual(run("block", os.path.join(self.folder, "none"))[0], 2)
         self.assertEqual(run("block", '{"pay": [{"file": "%s/none"}]}' % self.folder)[0], 2)
 

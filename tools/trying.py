@@ -3,6 +3,8 @@
 import io
 import json
 import os
+import subprocess
+import sys
 import tempfile
 import unittest
 from unittest import mock
@@ -25,8 +27,8 @@ def runner(tool):
 class Case(unittest.TestCase):
     """A test with a folder of its own for files."""
 
-    # What runs the tool that is tested.
-    run_tool = None
+    # What runs the tool that is tested, and its file.
+    run_tool = tool = None
 
     def setUp(self):
         folder = tempfile.TemporaryDirectory()
@@ -45,3 +47,18 @@ class Case(unittest.TestCase):
         status, out, note = type(self).run_tool(*words)
         self.assertEqual((status, note), (0, ""))
         return out
+
+    def ends(self, streams, *words):
+        """The status, the output and the note of a process of the tool; a shell redirects its streams."""
+        done = subprocess.run(["sh", "-c", f'"$@" {streams}', "sh", sys.executable, type(self).tool, *words],
+                              stdout=subprocess.PIPE, stderr=subprocess.PIPE, check=False)
+        return done.returncode, done.stdout, done.stderr.decode()
+
+    def loses(self, *words):
+        """What a process of the tool writes on words is lost, and it says so; where its note is lost the status stays."""
+        for streams in (">/dev/full", ">&-"):
+            self.assertEqual(self.ends(streams, *words), (4, b"", "cannot write\n"), streams)
+        for streams in (">&- 2>&-", ">/dev/full 2>/dev/full"):
+            self.assertEqual(self.ends(streams, *words), (4, b"", ""), streams)
+        for streams in ("2>&-", "2>/dev/full"):
+            self.assertEqual(self.ends(streams, "none"), (1, b"", ""), streams)
