@@ -11,6 +11,7 @@
     frames.py namespaces LIST               requests for namespaces (kind P)
     frames.py script FULL LIST              a script of a network of so many full nodes
     frames.py messages FILE..               files of samples and fraud claims as one list, each frame checked
+    frames.py ok FILE LINES                 the frames of FILE of which LINES, what `da check` wrote of it, say `ok`
     frames.py raw KIND HEX                  a frame of any kind byte and payload
 
 Statuses and notes are those of docs/COMMANDS.md: 1 for words that are no command or no such value, 2 and 3 for a file
@@ -825,6 +826,15 @@ def messages(args):
     return files, 0
 
 
+def ok(args):
+    """the frames of a file whose lines of `da check` are `ok`"""
+    found = list(judged(read_file(args.file, 0), MESSAGES))
+    lines = read_file(args.lines, 1).splitlines()
+    if len(lines) != len(found):
+        raise Note(6, f"bad input: file 1: {len(lines)} lines, and file 0 has {len(found)} frames")
+    return [frame(kind, payload) for line, (_, kind, payload) in zip(lines, found) if line == b"ok"], 0
+
+
 def raw(args):
     """makes a frame of any kind byte, as an ASCII character or two hexadecimal digits, and payload"""
     is_char = len(args.kind) == 1 and args.kind.isascii()
@@ -869,6 +879,7 @@ def parser():
     joined = add("messages", messages, makes=True)
     joined.add_argument("files", nargs="+", metavar="FILE")
     joined.add_argument("--any", action="store_true", help="take frames of any kind and payload")
+    add("ok", ok, "file", "lines", makes=True)
     add("raw", raw, "kind", "hex", makes=True)
     return top
 

@@ -726,6 +726,18 @@ class Making(Case):
         cut = self.file(EACH_FRAME["M"][:-1], "4")
         self.assertEqual(run("messages", "--any", bad, cut), (6, b"", "bad input: file 1 at 0\n"))
 
+    def test_ok(self):
+        some = [EACH_FRAME["M"], EACH_FRAME["B"], b"Z" + bytes(4), frame("M", message(1))]
+        heard, lines = self.file(b"".join(some), "heard"), self.file(b"ok\nrefused 0\nrefused 0\nok\n", "lines")
+        self.assertEqual(self.made("ok", heard, lines), some[0] + some[3])
+        self.assertEqual(self.made("ok", self.file(b"", "none"), self.file(b"", "no lines")), b"")
+        for text, count in ((b"ok\n" * 3, 3), (b"ok\n" * 5, 5), (b"", 0)):
+            note = f"bad input: file 1: {count} lines, and file 0 has 4 frames\n"
+            self.assertEqual(run("ok", heard, self.file(text)), (6, b"", note))
+        cut = self.file(some[0] + some[1][:-1], "cut")
+        self.assertEqual(run("ok", cut, lines), (6, b"", "bad input: file 0 at 703\n"))
+        self.assertEqual(run("ok", heard, os.path.join(self.folder, "absent")), (2, b"", "cannot open file 1\n"))
+
 
 def places(data):
     """The places of a file of frames at which a frame or a field of one begins."""
@@ -912,6 +924,15 @@ class Program(Case):
                     self.same_place(other, command, words, word)
             for more in (b"\x00", data[:5], data):
                 self.same_place(data + more, command, words, word)
+
+    def test_ok(self):
+        # What `check` says `ok` to, and no other frame.
+        header_2, heard = os.path.join(EXAMPLES, "kinds", "header"), example("refused/sample-other-share")
+        sample = example("kinds/sample")
+        path = self.file(heard + sample + b"A" + bytes(4) + sample, "heard")
+        status, lines, _ = self.da("check", header_2, path)
+        self.assertEqual(status, 13)
+        self.assertEqual(self.made("ok", path, self.file(lines, "lines")), sample * 2)
 
     def test_makers(self):
         value = {"width": 8, "units": [{"text": "abc"}], "pay": [{"hex": "00", "times": 500}],
