@@ -4,11 +4,17 @@
  */
 #include "da.h"
 
+#include <signal.h>
 #include <stdio.h>
 #include <stdlib.h>
 #include <string.h>
 
-enum { FILES = 3 };
+/* The statuses of da that no call answers. */
+enum { USAGE = 1, CANNOT_OPEN = 2, CANNOT_READ = 3, CANNOT_WRITE = 4, TOO_LONG = 7 };
+
+enum { FILES = 3, FILE_LIMIT = 512 * 1024 * 1024 };
+
+enum call { NONE, HEADER, ROOT, CHECK, HOLDS, VERIFY };
 
 /* The contents of a file. */
 struct bytes {
@@ -16,97 +22,143 @@ struct bytes {
     size_t size;
 };
 
-/* Reads a file whole; false where it can't be read. There is a byte more than needed, so no pointer is null. */
+/* The call of a command of so many files. */
+static enum call call_of(const char *command, int files)
+{
+    if (!strcmp(command, "header") && files == 1)
+        return HEADER;
+    if (!strcmp(command, "root") && files == 1)
+        return ROOT;
+    if (!strcmp(command, "check") && files == 2)
+        return CHECK;
+    if (!strcmp(command, "verify") && files == 2)
+        return HOLDS;
+    return !strcmp(command, "verify") && files == 3 ? VERIFY : NONE;
+}
+
+/* Reads a file whole; the status says why not. There is a byte more than needed, so no pointer is null. */
 static int read_file(const char *name, struct bytes *file)
 {
     FILE *in = fopen(name, "rb");
     size_t room = 0;
+    int status = DA_DONE;
     file->at = NULL;
     file->size = 0;
     if (!in)
-        return 0;
-    for (;;) {
+        return CANNOT_OPEN;
+    while (!status && !feof(in)) {
         if (file->size + 1 >= room) {
             uint8_t *more = realloc(file->at, room = 2 * room + 4096);
-            if (!more)
+            if (!more) {
+                status = DA_NO_MEMORY;
                 break;
+            }
             file->at = more;
         }
-        size_t count = fread(file->at + file->size, 1, room - file->size - 1, in);
-        file->size += count;
-        if (!count)
-            break;
+        file->size += fread(file->at + file->size, 1, room - file->size - 1, in);
+        if (ferror(in))
+            status = CANNOT_READ;
+        else if (file->size > FILE_LIMIT)
+            status = TOO_LONG;
     }
-    int whole = file->at && feof(in) && !ferror(in);
     fclose(in);
-    return whole;
+    return status;
 }
 
-/* Prints what goes with a status, as da does, and gives the status. */
-static int tell(uint32_t status, const struct da_detail *detail)
-{
-    switch (status) {
-    case DA_NO_MEMORY:
-        fprintf(stderr, "out of memory\n");
-        break;
-    case DA_BAD_INPUT:
-        fprintf(stderr, "bad input: file %llu at %llu\n", (unsigned long long)detail->argument,
-                (unsigned long long)detail->at);
-        break;
-    case DA_NO_HEADER:
-        fprintf(stderr, "bad request: no header\n");
-        break;
-    }
-    return (int)status;
-}
-
-/* Prints the line of a verdict too. */
+/* Prints the line of a verdict, and gives its status. */
 static int judged(uint32_t status, const struct da_detail *detail)
 {
     if (status == DA_DONE)
         printf("ok\n");
-    if (status == DA_REFUSED) {
+    if (status == DA_REFUSED)
         printf("refused %llu\n", (unsigned long long)detail->refusal);
-        fprintf(stderr, "refused\n");
-    }
-    return tell(status, detail);
+    return (int)status;
 }
 
-int main(int count, char **words)
+/* Runs a command: what it prints may still stand in a buffer. Of a file that isn't read the detail has the number. */
+static int run(const char *command, int files, char **names, struct da_detail *detail)
 {
     static uint8_t header[DA_HEADER_MAX];
     uint8_t root[DA_ROOT_SIZE];
     struct bytes f[FILES];
-    struct da_detail detail;
-    const char *command = count > 1 ? words[1] : "";
-    int files = count - 2;
+    enum call call = call_of(command, files);
+    uint32_t status;
 
-    if (files < 1 || files > FILES)
-        goto usage;
-    for (int i = 0; i < files; i++)
-        if (!read_file(words[2 + i], &f[i])) {
-            fprintf(stderr, "cannot read file %d\n", i);
-            return 3;
+    for (int i = 0; call != NONE && i < files; i++) {
+        int fault = read_file(names[i], &f[i]);
+        if (fault) {
+            detail->argument = (uint64_t)i;
+            return fault;
         }
-    if (!strcmp(command, "header") && files == 1) {
-        uint32_t status = da_header(f[0].at, f[0].size, header, sizeof header, &detail);
-        if (status == DA_DONE)
-            fwrite(header, 1, detail.size, stdout);
-        return tell(status, &detail);
     }
-    if (!strcmp(command, "root") && files == 1) {
-        uint32_t status = da_data_root(f[0].at, f[0].size, root, sizeof root, &detail);
+    switch (call) {
+    case HEADER:
+        status = da_header(f[0].at, f[0].size, header, sizeof header, detail);
+        if (status == DA_DONE)
+            fwrite(header, 1, detail->size, stdout);
+        return (int)status;
+    case ROOT:
+        status = da_data_root(f[0].at, f[0].size, root, sizeof root, detail);
         for (size_t i = 0; status == DA_DONE && i < sizeof root; i++)
             printf(i + 1 < sizeof root ? "%02x" : "%02x\n", root[i]);
-        return tell(status, &detail);
+        return (int)status;
+    case CHECK:
+        return judged(da_check(f[0].at, f[0].size, f[1].at, f[1].size, detail), detail);
+    case HOLDS:
+        return judged(da_holds(f[0].at, f[0].size, f[1].at, f[1].size, detail), detail);
+    case VERIFY:
+        return judged(da_verify(f[0].at, f[0].size, f[1].at, f[1].size, f[2].at, f[2].size, detail), detail);
+    case NONE:
+        break;
     }
-    if (!strcmp(command, "check") && files == 2)
-        return judged(da_check(f[0].at, f[0].size, f[1].at, f[1].size, &detail), &detail);
-    if (!strcmp(command, "verify") && files == 2)
-        return judged(da_holds(f[0].at, f[0].size, f[1].at, f[1].size, &detail), &detail);
-    if (!strcmp(command, "verify") && files == 3)
-        return judged(da_verify(f[0].at, f[0].size, f[1].at, f[1].size, f[2].at, f[2].size, &detail), &detail);
-usage:
-    fprintf(stderr, "usage: da COMMAND WORDS\n");
-    return 1;
+    return USAGE;
+}
+
+/* Prints the note that goes with a status. */
+static void note(int status, const struct da_detail *detail)
+{
+    unsigned long long file = detail->argument;
+    switch (status) {
+    case USAGE:
+        fprintf(stderr, "usage: da COMMAND WORDS\n");
+        break;
+    case CANNOT_OPEN:
+        fprintf(stderr, "cannot open file %llu\n", file);
+        break;
+    case CANNOT_READ:
+        fprintf(stderr, "cannot read file %llu\n", file);
+        break;
+    case CANNOT_WRITE:
+        fprintf(stderr, "cannot write\n");
+        break;
+    case DA_NO_MEMORY:
+        fprintf(stderr, "out of memory\n");
+        break;
+    case DA_BAD_INPUT:
+        fprintf(stderr, "bad input: file %llu at %llu\n", file, (unsigned long long)detail->at);
+        break;
+    case TOO_LONG:
+        fprintf(stderr, "too long: file %llu\n", file);
+        break;
+    case DA_NO_HEADER:
+        fprintf(stderr, "bad request: no header\n");
+        break;
+    case DA_REFUSED:
+        fprintf(stderr, "refused\n");
+        break;
+    }
+}
+
+int main(int count, char **words)
+{
+    struct da_detail detail = {0};
+    /* A reader that went away is an error of a write, and no signal. */
+    signal(SIGPIPE, SIG_IGN);
+    int status = run(count > 1 ? words[1] : "", count - 2, words + 2, &detail);
+    /* A write that failed is kept as an error of the stream; what a buffer still holds goes out here. */
+    int lost = ferror(stdout);
+    if (fclose(stdout) || lost)
+        status = CANNOT_WRITE;
+    note(status, &detail);
+    return status;
 }

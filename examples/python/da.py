@@ -2,7 +2,7 @@
 """Some commands of da, from Python: header SQUARE, root HEADER, check HEADER MESSAGE, verify HEADER ANSWER [REQUEST].
 
 They print what da prints, and end with its statuses. MESSAGE is one frame. The library is the file that DA_LIBRARY
-names, or dist/c/libda_c.so at the top of the repository.
+names, or dist/c/libda_c.so at the top of the repository; where it can't be loaded the status is 70.
 """
 
 import ctypes
@@ -11,7 +11,8 @@ import sys
 from pathlib import Path
 
 DONE, NO_MEMORY, BAD_INPUT, NO_HEADER, REFUSED, SHORT = 0, 5, 6, 9, 13, 15
-ROOT_SIZE, HEADER_MAX = 32, 46087
+USAGE, CANNOT_OPEN, CANNOT_READ, CANNOT_WRITE, TOO_LONG = 1, 2, 3, 4, 7  # of da, and of no call
+ROOT_SIZE, HEADER_MAX, FILE_LIMIT = 32, 46087, 512 * 1024 * 1024
 
 
 class Detail(ctypes.Structure):
@@ -47,27 +48,59 @@ class Library:
         return status, detail, buffer.raw[: detail.size] if status == DONE else b""
 
 
+class Fault(Exception):
+    """A status that no call answers, and the number of the file, if it is of one."""
+
+    def __init__(self, status, argument=0):
+        super().__init__(status)
+        self.status, self.detail = status, Detail(argument=argument)
+
+
 def note(status, detail):
     """The line that goes with a status."""
     return {
+        USAGE: "usage: da COMMAND WORDS\n",
+        CANNOT_OPEN: f"cannot open file {detail.argument}\n",
+        CANNOT_READ: f"cannot read file {detail.argument}\n",
+        CANNOT_WRITE: "cannot write\n",
         NO_MEMORY: "out of memory\n",
         BAD_INPUT: f"bad input: file {detail.argument} at {detail.at}\n",
+        TOO_LONG: f"too long: file {detail.argument}\n",
         NO_HEADER: "bad request: no header\n",
         REFUSED: "refused\n",
     }.get(status, "")
 
 
-def run(library, command, files):
-    """The status, the output and the note of a command."""
+def read_file(i, name):
+    """The contents of file i."""
+    try:
+        file = open(name, "rb")
+    except IsADirectoryError:
+        raise Fault(CANNOT_READ, i) from None
+    except (OSError, ValueError):
+        raise Fault(CANNOT_OPEN, i) from None
+    with file:
+        try:
+            data = file.read(FILE_LIMIT + 1)
+        except OSError:
+            raise Fault(CANNOT_READ, i) from None
+    if len(data) > FILE_LIMIT:
+        raise Fault(TOO_LONG, i)
+    return data
+
+
+def run(library, words):
+    """The status, the output and the detail of a command."""
     call = {
         ("header", 1): "da_header",
         ("root", 1): "da_data_root",
         ("check", 2): "da_check",
         ("verify", 2): "da_holds",
         ("verify", 3): "da_verify",
-    }.get((command, len(files)))
+    }.get(("".join(words[:1]), len(words) - 1))
     if not call:
-        return 1, b"", "usage: da COMMAND WORDS\n"
+        raise Fault(USAGE)
+    files = [read_file(i, name) for i, name in enumerate(words[1:])]
     if call == "da_header":
         status, detail, output = library.write(call, files[0], HEADER_MAX)
     elif call == "da_data_root":
@@ -76,24 +109,40 @@ def run(library, command, files):
     else:
         status, detail = library.judge(call, *files)
         output = {DONE: b"ok\n", REFUSED: b"refused %d\n" % detail.refusal}.get(status, b"")
-    return status, output, note(status, detail)
+    return status, output, detail
+
+
+def put(stream, data):
+    """Writes all bytes to a standard stream, which is None where it is closed; false where they are lost."""
+    try:
+        if stream is not None:
+            stream.buffer.write(data)
+            stream.flush()
+        return stream is not None
+    except OSError:
+        # At its end Python would write what is left once more.
+        os.dup2(os.open(os.devnull, os.O_WRONLY), stream.fileno())
+        return False
 
 
 def main(words):
-    files = []
-    for i, name in enumerate(words[2:]):
-        try:
-            files.append(Path(name).read_bytes())
-        except OSError:
-            print(f"cannot read file {i}", file=sys.stderr)
-            return 3
     top = Path(__file__).resolve().parents[2]
-    library = Library(os.environ.get("DA_LIBRARY") or top / "dist" / "c" / "libda_c.so")
-    status, output, said = run(library, words[1] if len(words) > 1 else "", files)
-    sys.stdout.buffer.write(output)
-    sys.stderr.write(said)
+    try:
+        library = Library(os.environ.get("DA_LIBRARY") or top / "dist" / "c" / "libda_c.so")
+    except OSError as error:
+        put(sys.stderr, f"da.py: {error}\n".encode(errors="backslashreplace"))
+        return 70
+    try:
+        status, output, detail = run(library, words)
+    except Fault as fault:
+        status, output, detail = fault.status, b"", fault.detail
+    except MemoryError:
+        status, output, detail = NO_MEMORY, b"", Detail()
+    if not put(sys.stdout, output):
+        status = CANNOT_WRITE
+    put(sys.stderr, note(status, detail).encode())
     return status
 
 
 if __name__ == "__main__":
-    sys.exit(main(sys.argv))
+    sys.exit(main(sys.argv[1:]))
