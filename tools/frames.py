@@ -467,8 +467,7 @@ KINDS = {kind.letter: kind for kind in ALL}
 ALL_KINDS = "".join(KINDS)
 
 # The form of a file: its number among the files of its command, whether it is a list, and the kinds of its frames, None
-# where only the framing is judged; and those of its first frame where they are fewer (docs/FORMATS.md, "Files of
-# commands").
+# where only the framing is judged; and those of its first frame where they are fewer (docs/COMMANDS.md, "Files").
 Form = namedtuple("Form", "number is_list kinds first", defaults=(None,))
 BLOCK = Form(0, False, "V")
 HEADER = Form(0, False, "H")

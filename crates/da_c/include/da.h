@@ -5,6 +5,8 @@
  * Each frame is a pointer and a length, and its bytes are all of the argument. A call answers a status, and fills in
  * a struct da_detail. It keeps no pointer and no memory, and neither ends the process nor waits for anything.
  *
+ * By reading, calls of several threads may run at once, each with a buffer and a detail of its own.
+ *
  * What follows is proved of each call that the caller makes as it has to. Nothing checks that it does:
  *
  *  - No pointer is null, where its length is 0 too. A length is at most PTRDIFF_MAX.
@@ -16,8 +18,6 @@
  *    size.
  *  - A call is not made from a signal handler, or in the forked child of a process with threads. There is enough
  *    stack: the tests have 128 KiB.
- *
- * Calls of several threads may run at once, each with a buffer and a detail of its own.
  */
 #ifndef DA_H
 #define DA_H

@@ -1,4 +1,4 @@
--- What comes of a script under a header (docs/RULES.md, "Networks", and docs/COMMANDS.md, "net").
+-- What comes of a script under a header (docs/RULES.md, "Networks", and docs/COMMANDS.md, "Output").
 use Rattle.std.specs.Prelude.{◌≡◌, ℕ, suc, ◌++◌, ◌||◌, nat_lt, Bool, true, false, List, [], ◌∷◌, length, map, slice_get, codes, decimal, Option, Some, None, Result, Ok, Err, ⊤, Vec}
 use Rattle.std.specs.declared.alloc.Global.{Global}
 use Rattle.std.specs.List.{filter, list_any}

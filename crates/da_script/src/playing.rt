@@ -234,7 +234,7 @@ fn play_with<F: Listed>(
 /// ends before its events begin); then one with more nodes, items or events than a network may have, or with a light
 /// node that draws more cells than may be drawn.
 ///
-/// docs/FORMATS.md, "Scripts"; docs/COMMANDS.md, "net".
+/// docs/FORMATS.md, "Scripts"; docs/COMMANDS.md, "Output".
 pub fn play(
     alloc: Global,
     header: Header,
