@@ -4,3 +4,4 @@ pub mod Nodes
 pub mod Nets
 pub mod Seats
 pub mod StepRefusals
+pub mod Laws

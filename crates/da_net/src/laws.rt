@@ -1,9 +1,8 @@
 //! What a network promises, whatever is put, handed and published in which order ever.
 
-ghost use Rattle.std.specs.Prelude.{◌≡◌, ◌↔◌, ◌⊎◌, ◌++◌, ◌<◌, ℕ, List, slice_get, true, Some};
+ghost use Rattle.std.specs.Prelude.{◌≡◌, ◌↔◌, ◌⊎◌, ◌++◌, ℕ, List};
 ghost use Rattle.std.specs.List.{Contains};
 ghost use Rattle.namespace_id.specs.declared.cells.Cell.{Cell as Place};
-ghost use Rattle.namespace_id.specs.Cells.{is_in_square};
 ghost use Rattle.data_header.specs.Headers.{Roots, AreRoots};
 ghost use Rattle.square_layout.specs.Blocks.{SquareShares};
 ghost use Rattle.axis_roots.specs.declared.message.messages.Message.{Message as Sent};
@@ -17,7 +16,8 @@ ghost use Rattle.da_net.specs.declared.items.Item.{Item as Handed};
 ghost use Rattle.da_net.specs.declared.items.Item.TheVariants as item;
 ghost use Rattle.da_net.specs.declared.items.Kept.{Kept as Step};
 ghost use Rattle.da_net.specs.Networks.{messages_of, Kind, full, Network, Standing, settled, rejecting, Stands, IsRejecting, IsClashing, handed, IsRun};
-ghost use Rattle.da_net.specs.Promises.{WasHanded, IsAlarmed, PoolNames, AllRecoverable, IsComplete, Reached, AreAvailable, IsPlanned, WereHandedTo};
+ghost use Rattle.da_net.specs.Promises.{WasHanded, IsComplete, Reached};
+ghost use Rattle.da_net.specs.Laws.{ClaimsReject, AlarmsAreNamed, OtherAlarmsAreNamed, OneSquare, PlannedAreRecoverable, AllAreRecoverable};
 
 /// What is proved of the items that nodes are handed.
 ///
@@ -49,11 +49,7 @@ pub fn rejection_laws()
         Stands header kind items (rejecting claim) → Accepts header claim }
 
     // Who was handed an accepted claim rejects from then on, whatever comes later.
-    ensures rejects { (net : Network) (pool later : List Handed) (steps more : List Step)
-        (node : ℕ) (kind : Kind) (claim : ClaimParts) (standing : Standing) →
-        Contains (handed pool steps node) (item.Claim claim) → Accepts net.header claim →
-        Stands net.header kind (handed (pool ++ later) (steps ++ more) node) standing →
-        IsRejecting standing }
+    ensures rejects { ClaimsReject }
 
     // A full node that neither rejects nor shows a collision is settled.
     ensures settled { (header : Roots) (items : List Handed) (standing : Standing) →
@@ -62,10 +58,7 @@ pub fn rejection_laws()
 
     // Under the header of a square a node rejects or has a collision only where a sample in the pool,
     // by itself or in a claim, or the set of a claim, and the square name a collision.
-    ensures own { (net : Network) (pool : List Handed) (steps : List Step) (node : ℕ) (kind : Kind)
-        (standing : Standing) (square : SquareShares) → IsRun net pool steps →
-        IsHeaderOf net.header square → Stands net.header kind (handed pool steps node) standing →
-        IsAlarmed standing → PoolNames pool square }
+    ensures own { AlarmsAreNamed }
 {}
 
 /// What is proved of full nodes that are settled and to which all cells are recoverable.
@@ -81,16 +74,8 @@ pub fn agreement_laws()
 
     // Then another node rejects or has a collision only where a sample in the pool, by itself or in a
     // claim, or the set of a claim, and this square name a collision; and another such node has this square, or they do.
-    ensures others { (net : Network) (pool : List Handed) (steps : List Step) (node other : ℕ)
-        (kind : Kind) (standing : Standing) (square : SquareShares) → IsRun net pool steps →
-        IsVerdict net.header (messages_of (handed pool steps node)) (whole square) →
-        Stands net.header kind (handed pool steps other) standing →
-        IsAlarmed standing → PoolNames pool square }
-    ensures same { (net : Network) (pool : List Handed) (steps : List Step) (node other : ℕ)
-        (square another : SquareShares) → IsRun net pool steps →
-        IsVerdict net.header (messages_of (handed pool steps node)) (whole square) →
-        IsVerdict net.header (messages_of (handed pool steps other)) (whole another) →
-        (another ≡ square) ⊎ PoolNames pool square }
+    ensures others { OtherAlarmsAreNamed }
+    ensures same { OneSquare }
 {}
 
 /// What is proved of a full node that was handed all that light nodes were handed.
@@ -99,22 +84,10 @@ pub fn agreement_laws()
 pub fn joint_laws()
     // It rejects, or has a collision, or all cells that available light nodes planned are recoverable
     // to it: none of them is missing.
-    ensures planned { (net : Network) (pool : List Handed) (steps : List Step) (nodes : List ℕ)
-        (to : ℕ) (standing : Standing) → AreAvailable net pool steps nodes →
-        WereHandedTo pool steps nodes to →
-        Stands net.header full (handed pool steps to) standing →
-        IsRejecting standing ⊎ (IsClashing standing ⊎ ((standing ≡ settled)
-        × ((cell : Place) → IsPlanned net nodes cell →
-        Half net.header (messages_of (handed pool steps to)) cell))) }
+    ensures planned { PlannedAreRecoverable }
 
     // Where the closure by halves of these cells is the whole square, all cells are recoverable to it.
-    ensures all { (net : Network) (pool : List Handed) (steps : List Step) (nodes : List ℕ)
-        (to : ℕ) (cells : List Place) → AreAvailable net pool steps nodes →
-        WereHandedTo pool steps nodes to →
-        ((cell : Place) → Contains cells cell → IsPlanned net nodes cell) →
-        ((cell : Place) → is_in_square net.header.k cell ≡ true →
-        Reached net.header.k cells cell) →
-        AllRecoverable net.header (messages_of (handed pool steps to)) }
+    ensures all { AllAreRecoverable }
 
     // The cells that are recoverable from samples are the closure by halves of the cells of those
     // that are proved.
