@@ -17,6 +17,7 @@ ghost use Rattle.namespace_id.specs.Sizes.{share_size};
 ghost use Rattle.namespace_id.specs.declared.shares.Share.{Share as ShareValue};
 ghost use Rattle.lch_fft.specs.Transforms.{column, subspace, is_count, Evaluates};
 ghost use Rattle.lch_fft.specs.Butterflies.{spread, gather, halvings};
+ghost use Rattle.lch_fft.specs.Laws.{OneListOfCoefficients};
 
 use crate::butterflies::{gather_stage, spread_stage};
 use namespace_id::{SHARE_SIZE, Share, shares_law};
@@ -94,9 +95,5 @@ pub fn transform_laws()
     ensures only_values { (shift : ℕ) (coefficients values others : List ShareValue) →
         AreShares values → AreShares others → Evaluates shift coefficients values →
         Evaluates shift coefficients others → values ≡ others }
-    ensures only_coefficients { (shift : ℕ) (coefficients others values : List ShareValue) →
-        IsTrue (is_count (length values)) → shift % length values ≡ 0 →
-        shift + length values ≤ 256 → AreShares coefficients → AreShares others →
-        Evaluates shift coefficients values → Evaluates shift others values →
-        coefficients ≡ others }
+    ensures only_coefficients { OneListOfCoefficients }
 {}

@@ -1,15 +1,15 @@
 //! The laws of the code.
 
-ghost use Rattle.std.specs.Prelude.{◌≡◌, ◌<◌, ◌*◌, ℕ, List, IsTrue, IfSome, length, slice_get, slice_index};
+ghost use Rattle.std.specs.Prelude.{◌≡◌, ◌<◌, ℕ, List, IsTrue, length, slice_get, slice_index};
 ghost use Rattle.namespace_id.specs.declared.shares.Share.{Share};
 ghost use Rattle.namespace_id.specs.Shares.{AreShares};
 ghost use Rattle.namespace_id.specs.Sizes.{share_size};
 ghost use Rattle.namespace_id.specs.Cells.{is_width};
-ghost use Rattle.byte_polynomial.specs.Polynomial.{AreCoefficients};
 ghost use Rattle.lch_fft.specs.Transforms.{is_count};
 ghost use Rattle.lch_fft.specs.Derivatives.{IsDerived};
 ghost use Rattle.leopard_code.specs.Locators.{IsFormalDerivative};
-ghost use Rattle.leopard_code.specs.Codewords.{column, are_positions, IsCodeword, HasEntries, shares_sum, shares_multiple, weighted};
+ghost use Rattle.leopard_code.specs.Codewords.{are_positions, IsCodeword, HasEntries, shares_sum, shares_multiple};
+ghost use Rattle.leopard_code.specs.Laws.{EntriesAreWeightedSums};
 
 /// The laws of codewords. It changes nothing.
 pub fn code_laws()
@@ -34,13 +34,7 @@ pub fn code_laws()
         IsCodeword k word → IsCodeword k (shares_multiple c word) }
 
     // Each entry is the same weighted sum of the known ones in every codeword.
-    ensures generator { (k : ℕ) (known : List ℕ) (pos : ℕ) →
-        IsTrue (is_width k) → length known ≡ k → IsTrue (are_positions k known) → pos < 2 * k →
-        (ws : List ℕ) × (length ws ≡ k) × AreCoefficients ws × ((word shares : List Share) →
-        IsCodeword k word → length shares ≡ k → HasEntries known shares word →
-        (b : ℕ) → b < share_size →
-        IfSome (slice_get word pos)
-        (λ share. slice_index share.0 b ≡ weighted ws (column b shares))) }
+    ensures generator { EntriesAreWeightedSums }
 
     // What `derive` of the transforms makes of coefficients of the X_j are those of the formal
     // derivative.

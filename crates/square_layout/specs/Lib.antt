@@ -2,3 +2,4 @@ pub mod Blocks
 pub mod Layout
 pub mod Refusals
 pub mod ShareNames
+pub mod Laws

@@ -11,9 +11,10 @@ ghost use Rattle.share_split.specs.Widths.{subtree_width_of};
 ghost use Rattle.share_split.specs.Blobs.{NamedBytes, blob_shares_of};
 ghost use Rattle.share_split.specs.Joined.{padding_share, IsBlob, AreBlobs};
 ghost use Rattle.square_layout.specs.Blocks.{BlockParts, IsBlock, IsSquare};
-ghost use Rattle.square_layout.specs.Layout.{has_name, in_order, share_count_of, start_after, end_of, padding_name, compact_part, compact_end, laid, needed, holding_from, width_for, square_of};
+ghost use Rattle.square_layout.specs.Layout.{has_name, in_order, share_count_of, start_after, end_of, compact_part, compact_end, laid, needed, holding_from, width_for, square_of};
 ghost use Rattle.square_layout.specs.Refusals.{max_shares, layout_refusal};
 ghost use Rattle.square_layout.specs.ShareNames.{BlobSharesAreNamed, UnitSharesAreNamed, PaddingIsNamed};
+ghost use Rattle.square_layout.specs.Laws.{GapsArePadding};
 
 use crate::MAX_SHARES;
 use share_split::blob_laws;
@@ -44,12 +45,7 @@ pub fn start_laws()
     // The compact shares stand in front, and padding everywhere else.
     ensures front { (block : BlockParts) →
         take (compact_end block) (laid block) ≡ compact_part block }
-    ensures gap { (block : BlockParts) (before after : List NamedBytes) (blob : NamedBytes)
-        (i : ℕ) →
-        in_order block.blobs ≡ before ++ blob ∷ after →
-        end_of (compact_end block) before ≤ i →
-        i < start_after (end_of (compact_end block) before) blob →
-        slice_get (laid block) i ≡ Some (padding_share (padding_name before)) }
+    ensures gap { GapsArePadding }
     ensures tail { (block : BlockParts) (i : ℕ) → length (laid block) ≤ i →
         i < width_for block * width_for block →
         slice_get (square_of block).shares i ≡ Some (padding_share tail_padding) }

@@ -1,0 +1,12 @@
+-- What transforms are determined by.
+use Rattle.std.specs.Prelude.{◌≡◌, ◌+◌, ◌%◌, ◌≤◌, ℕ, List, IsTrue, length}
+use Rattle.namespace_id.specs.Shares.{AreShares}
+use Rattle.namespace_id.specs.declared.shares.Share.{Share}
+use Rattle.lch_fft.specs.Transforms.{is_count, Evaluates}
+
+-- values at the points of an aligned subspace come from one list of coefficients
+abbrev pub OneListOfCoefficients : Type 0
+OneListOfCoefficients = (shift : ℕ) (coefficients others values : List Share)
+    → IsTrue (is_count (length values)) → shift % length values ≡ 0 → shift + length values ≤ 256
+    → AreShares coefficients → AreShares others → Evaluates shift coefficients values
+    → Evaluates shift others values → coefficients ≡ others
