@@ -1,7 +1,7 @@
 pub mod Networks
 pub mod Promises
+pub mod Laws
 pub mod Nodes
 pub mod Nets
-pub mod Seats
 pub mod StepRefusals
-pub mod Laws
+pub mod Seats
