@@ -1,3 +1,4 @@
 pub mod Filters
 pub mod Feeds
+pub mod Laws
 pub mod Followers

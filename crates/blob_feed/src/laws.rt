@@ -1,18 +1,17 @@
 //! What a feed is, and what it says of a square and of a block.
 
-ghost use Rattle.std.specs.Prelude.{◌≡◌, ◌⊎◌, ◌++◌, ℕ, List, true, Option, Some, None, Ok};
+ghost use Rattle.std.specs.Prelude.{◌≡◌, ◌++◌, ℕ, List, true, Option, Some, None, Ok};
 ghost use Rattle.std.specs.List.{filter};
 ghost use Rattle.std.specs.Option.{option_map};
 ghost use Rattle.namespace_id.specs.declared.namespaces.Namespace.{Namespace};
 ghost use Rattle.namespace_id.specs.Names.{is_blob_namespace};
 ghost use Rattle.share_split.specs.Walks.{blobs_of};
-ghost use Rattle.data_header.specs.Headers.{Roots};
-ghost use Rattle.square_layout.specs.Blocks.{BlockParts, SquareShares, IsBlock};
+ghost use Rattle.square_layout.specs.Blocks.{BlockParts, IsBlock};
 ghost use Rattle.square_layout.specs.Layout.{has_name, square_of};
 ghost use Rattle.square_layout.specs.Refusals.{layout_refusal};
-ghost use Rattle.axis_roots.specs.Grids.{IsHeaderOf};
 ghost use Rattle.blob_feed.specs.Filters.{wanted_by};
-ghost use Rattle.blob_feed.specs.Feeds.{Item, AreItems, header_at, Read, read_of, FeedsAt, IsFeedOf, shares_in, FirstNames};
+ghost use Rattle.blob_feed.specs.Feeds.{Item, Read, read_of, FeedsAt, IsFeedOf, shares_in};
+ghost use Rattle.blob_feed.specs.Laws.{FeedsOfSquare, FeedsOfBlock};
 ghost use Rattle.blob_feed.specs.Followers.{FollowerParts, StandsFor, kept_at};
 
 use crate::Filter;
@@ -42,11 +41,7 @@ pub fn feed_laws<F: Filter>()
 
     // At a height whose header is that of a square, it is what the square's shares of the namespace
     // are read as, or the first complete answer and the square name a collision.
-    ensures own { (rule : F) (items : List Item) (number : ℕ) (name : Namespace) (read : Read)
-        (header : Roots) (square : SquareShares) → AreItems items →
-        FeedsAt (wanted_by F.answers rule) items number name (Some read) →
-        header_at items number ≡ Some header → IsHeaderOf header square →
-        (read ≡ blobs_of (shares_in square name)) ⊎ FirstNames items number name square }
+    ensures own { (rule : F) → FeedsOfSquare (wanted_by F.answers rule) }
 
     // In the square of a block, the shares of a namespace of a blob are read as the block's blobs
     // of it, with their signers, in the block's order.
@@ -55,13 +50,7 @@ pub fn feed_laws<F: Filter>()
         blobs_of (shares_in (square_of block) name) ≡ Ok (filter (has_name name) block.blobs) }
 
     // So it is exactly these where the header is that of the square of a block.
-    ensures block { (rule : F) (items : List Item) (number : ℕ) (name : Namespace) (read : Read)
-        (header : Roots) (block : BlockParts) → AreItems items →
-        FeedsAt (wanted_by F.answers rule) items number name (Some read) →
-        header_at items number ≡ Some header → IsHeaderOf header (square_of block) →
-        layout_refusal block ≡ None → IsBlock block →
-        (read ≡ Ok (filter (has_name name) block.blobs))
-        ⊎ FirstNames items number name (square_of block) }
+    ensures block { (rule : F) → FeedsOfBlock (wanted_by F.answers rule) }
 {
     answer_laws();
     join_laws();
