@@ -48,3 +48,5 @@ pub mod JoinLaws
 pub mod Causes
 -- which share a refusal names
 pub mod Named
+-- the first share whose reserved bytes are wrong
+pub mod Misstated

@@ -1,11 +1,13 @@
 -- Which share a refusal names when shares are read back (docs/RULES.md, "Reading shares").
-use Rattle.std.specs.Prelude.{◌≡◌, ◌⊎◌, ℕ, List, [], ◌∷◌, ◌++◌, length, false, Option, Some, None}
+use Rattle.std.specs.Prelude.{◌≡◌, ◌≢◌, ◌⊎◌, ℕ, List, [], ◌∷◌, ◌++◌, length, false, Option, Some, None}
+use Rattle.std.specs.List.{slice_get}
 use Rattle.namespace_id.specs.declared.shares.Share.{Share}
 use Rattle.share_split.specs.declared.joining.JoinError.{JoinError}
 use Rattle.share_split.specs.declared.joining.JoinError.TheVariants.{Short}
 use Rattle.share_split.specs.declared.walking.Form.{Form}
 use Rattle.share_split.specs.declared.walking.Form.TheVariants.{Blobs, Units}
-use Rattle.share_split.specs.Walks.{Sequence, is_complete, blob_refusal, unit_refusal, taken_by}
+use Rattle.share_split.specs.Walks.{Sequence, is_complete, blob_refusal, unit_refusal, taken_by, reserved_in}
+use Rattle.share_split.specs.Units.{starts_from, reserved_of}
 use Rattle.share_split.specs.Steps.{open_after}
 
 -- why share i of this form is refused, where a sequence may be open before it
@@ -45,3 +47,15 @@ pub record IsCutShort (form : Form) (shares : List Share) (why : JoinError) : Ty
 -- what a refusal of shares of this form says
 abbrev pub IsRefusedFor : Form → List Share → JoinError → Type 0
 IsRefusedFor form shares why = IsFirstRefused form shares why ⊎ IsCutShort form shares why
+
+-- ---- the units of a sequence
+
+-- the first share whose reserved bytes don't state where its first unit starts, counted from 0
+pub record IsFirstMisstated (units : List (List ℕ)) (shares : List Share) (i : ℕ) : Type 0 where
+  pub before : List Share
+  pub share : Share
+  pub after : List Share
+  pub parts : shares ≡ before ++ share ∷ after
+  pub number : i ≡ length before
+  pub stated : (j : ℕ) (one : Share) → slice_get before j ≡ Some one → reserved_in one ≡ reserved_of j (starts_from 0 units)
+  pub misstated : reserved_in share ≢ reserved_of i (starts_from 0 units)

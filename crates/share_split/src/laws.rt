@@ -1,6 +1,6 @@
 //! The sizes of shares, the laws of the shares of blobs, and why shares that are read back are refused.
 
-ghost use Rattle.std.specs.Prelude.{◌≡◌, ◌≤◌, ◌+◌, ◌^◌, ◌↔◌, ℕ, List, true, false, Option, Some, None, Err};
+ghost use Rattle.std.specs.Prelude.{◌≡◌, ◌<◌, ◌≤◌, ◌+◌, ◌*◌, ◌^◌, ◌↔◌, ℕ, List, true, false, Some, None, Ok, Err};
 ghost use Rattle.namespace_id.specs.declared.shares.Share.{Share as AShare};
 ghost use Rattle.namespace_id.specs.Shares.{name_in};
 ghost use Rattle.namespace_id.specs.Sizes.{share_size, namespace_size};
@@ -8,11 +8,11 @@ ghost use Rattle.share_split.specs.Blobs.{length_place, first_content, signer_si
 ghost use Rattle.share_split.specs.Units.{first_compact_content, later_compact_content};
 ghost use Rattle.share_split.specs.Widths.{subtree_root_threshold};
 ghost use Rattle.share_split.specs.declared.joining.JoinError.{JoinError};
-ghost use Rattle.share_split.specs.declared.joining.JoinError.TheVariants.{NoStart, Short, BadVersion, NonZeroFill, MixedNamespace};
+ghost use Rattle.share_split.specs.declared.joining.JoinError.TheVariants.{NoStart, Short, BadVersion, NonZeroFill, BadVarint, BadReserved, MixedNamespace};
 ghost use Rattle.share_split.specs.declared.walking.Form.{Form};
 ghost use Rattle.share_split.specs.declared.walking.Form.TheVariants.{Blobs, Units};
-ghost use Rattle.share_split.specs.Walks.{version_in, is_start, size_in, Sequence, missing, is_complete, is_version, is_filled, first_refusal, later_refusal, unit_refusal, blobs_of, units_of, sequence_from};
-ghost use Rattle.share_split.specs.JoinRefusals.{IsRefusedFor};
+ghost use Rattle.share_split.specs.Walks.{version_in, is_start, size_in, Sequence, missing, is_complete, is_version, is_filled, first_refusal, later_refusal, unit_refusal, blobs_of, units_of, sequence_from, units_from, share_with};
+ghost use Rattle.share_split.specs.JoinRefusals.{IsRefusedFor, IsFirstMisstated};
 ghost use Rattle.share_split.specs.BlobLaws.{BlobSharesAreCounted, BlobSharesAreShares, PaddingIsShare, FewSharesHoldASequence};
 
 use crate::{
@@ -107,4 +107,17 @@ pub fn refusal_laws()
         (sequence_from 0 None shares ≡ Err why) ↔ IsRefusedFor Units shares why }
     ensures units { (shares : List AShare) (why : JoinError) → IsRefusedFor Units shares why →
         units_of shares ≡ Err why }
+
+    // Then, of the text of a sequence that was read: the share in which the first bad length begins;
+    // then the first share whose reserved bytes don't state where its first unit starts.
+    ensures varint { (shares : List AShare) (s : Sequence) (at : ℕ) →
+        sequence_from 0 None shares ≡ Ok (Some s) → units_from 0 0 s.content ≡ Err at →
+        units_of shares ≡ Err (BadVarint (share_with at)) }
+    ensures in_first { (at : ℕ) → (share_with at ≡ 0) ↔ (at < first_compact_content) }
+    ensures in_later { (at i : ℕ) → (share_with at ≡ i + 1)
+        ↔ ((first_compact_content + i * later_compact_content ≤ at)
+        × (at < first_compact_content + (i + 1) * later_compact_content)) }
+    ensures reserved { (shares : List AShare) (s : Sequence) (units : List (List ℕ)) (i : ℕ) →
+        sequence_from 0 None shares ≡ Ok (Some s) → units_from 0 0 s.content ≡ Ok units →
+        units_of shares ≡ Err (BadReserved i) → IsFirstMisstated units shares i }
 {}

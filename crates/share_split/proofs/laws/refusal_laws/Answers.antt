@@ -1,12 +1,13 @@
-use Rattle.std.proofs.Common.{◌≡◌, List, ℕ, ap}
+use Rattle.std.proofs.Common.{◌≡◌, ◌∙◌, List, ℕ, sym, ap}
 use Rattle.std.specs.Bool.{Decides}
 use Rattle.std.specs.Str.{bytes_eq}
 use Rattle.std.proofs.lemmas.Bool.Decides.{Decides-eqb}
 use Rattle.std.proofs.lemmas.Slice.Eq.{bytes_eq-Decides}
 use Rattle.namespace_id.specs.declared.namespaces.Namespace.{Namespace}
-use Rattle.share_split.specs.Walks.{units_in}
+use Rattle.share_split.specs.Walks.{units_in, reserved_units}
 use Rattle.share_split.proofs.Reading.Causes.{version_first, name_first, start_first, fill_first, no_check}
 use Rattle.share_split.proofs.Reading.Named.{blobs_refused, units_refused}
+use Rattle.share_split.proofs.Reading.Misstated.{first_misstated}
 use Rattle.share_split.proofs.laws.refusal_laws.Goals as goal
 
 -- namespaces are compared by their bytes
@@ -41,3 +42,11 @@ returns-clause-sequence c = units_refused
 
 pub returns-clause-units : goal.returns-clause-units
 returns-clause-units c shares why refused = ap (units_in shares) ((units_refused shares why).1 refused)
+
+-- the text is read, and then the reserved bytes
+pub returns-clause-varint : goal.returns-clause-varint
+returns-clause-varint c shares s at read bad = ap (units_in shares) read ∙ ap (reserved_units shares) bad
+
+pub returns-clause-reserved : goal.returns-clause-reserved
+returns-clause-reserved c shares s units i read good e =
+    first_misstated units shares i (sym (ap (units_in shares) read ∙ ap (reserved_units shares) good) ∙ e)
