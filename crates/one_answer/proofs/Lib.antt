@@ -1,0 +1,6 @@
+pub mod CellLemmas
+pub mod FollowLemmas
+pub mod HeldLemmas
+pub mod LightLemmas
+pub mod NetLemmas
+pub mod WordLemmas

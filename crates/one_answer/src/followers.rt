@@ -1,0 +1,56 @@
+//! Of followers.
+
+ghost use Rattle.std.specs.Prelude.{◌≡◌, ◌<◌, ◌≤◌, ◌^◌, ◌-◌, ℕ, List, Result, Some, true};
+ghost use Rattle.std.specs.Option.{option_map};
+ghost use Rattle.namespace_id.specs.declared.namespaces.Namespace.{Namespace as Name};
+ghost use Rattle.blob_feed.specs.declared.entries.FollowError.TheVariants as follow;
+ghost use Rattle.blob_feed.specs.declared.followers.Last.{Last as LastParts};
+ghost use Rattle.blob_feed.specs.Filters.{wanted_by};
+ghost use Rattle.blob_feed.specs.Feeds.{Item, read_of};
+ghost use Rattle.blob_feed.specs.Followers.{count_of, kept_at, StandsFor};
+ghost use Rattle.one_answer.specs.Ones.{AreOne};
+
+use axis_roots::NsAnswer;
+use blob_feed::{Filter, FollowError, Follower, Taken, feed_laws};
+use data_header::Header;
+use namespace_id::{Namespace, NoMemory};
+
+/// A follower answers one thing to an answer.
+pub fn answer_twice<F: Filter>(
+    one: &mut Follower<F>,
+    other: &mut Follower<F>,
+    namespace: &Namespace,
+    answer: &NsAnswer,
+) -> (Result<Taken, FollowError>, Result<Taken, FollowError>)
+    requires height { 1 ≤ count_of one.old }
+    requires same { other.old ≡ one.old }
+    ensures { (last : LastParts) → one.old.last ≡ Some last → AreOne (λ x. x) follow.NoMemory result.0 result.1 }
+{
+    let first = one.answer(namespace, answer);
+    let second = other.answer(namespace, answer);
+    (first, second)
+}
+
+/// After a header it has one entry of each namespace at each height, or none.
+pub fn header_twice<F: Filter>(
+    one: &mut Follower<F>,
+    other: &mut Follower<F>,
+    header: Header,
+    copy: Header,
+) -> bool
+    requires few { count_of one.old < 2 ^ 32 - 1 }
+    requires same { other.old ≡ one.old }
+    requires copy { copy ≡ header }
+    ensures { (items : List Item) → StandsFor (wanted_by F.answers one.old.filter) one.old items →
+        result ≡ true → (n : ℕ) (name : Name) →
+        option_map read_of (kept_at one.new n name) ≡ option_map read_of (kept_at other.new n name) }
+{
+    feed_laws::<F>();
+    let Ok(()) = one.header(header) else {
+        return false;
+    };
+    let Ok(()) = other.header(copy) else {
+        return false;
+    };
+    true
+}

@@ -1,0 +1,49 @@
+//! Of namespaces and their shares.
+
+ghost use Rattle.std.specs.Prelude.{◌≡◌, ◌<◌, Result};
+ghost use Rattle.square_serve.specs.declared.held.ServeError.TheVariants.{NoMemory as Full};
+ghost use Rattle.one_answer.specs.Ones.{AreOne};
+
+use axis_roots::NsAnswer;
+use data_header::Header;
+use namespace_id::{Namespace, NsError};
+use square_serve::{Held, NsRefusal, ServeError, check_namespace};
+use std::alloc::Global;
+
+/// Bytes are one namespace of a blob, or refused for one reason.
+pub fn blob_twice(bytes: &[u8]) -> (Result<Namespace, NsError>, Result<Namespace, NsError>)
+    ensures { result.0 ≡ result.1 }
+{
+    let first = Namespace::blob(bytes);
+    let second = Namespace::blob(bytes);
+    (first, second)
+}
+
+/// A square that is held has one answer for a namespace.
+pub fn namespace_twice(
+    alloc: Global,
+    one: &mut Held,
+    other: &mut Held,
+    namespace: &Namespace,
+) -> (Result<NsAnswer, ServeError>, Result<NsAnswer, ServeError>)
+    requires same { one.old ≡ other.old }
+    ensures answer { AreOne (λ x. x) Full result.0 result.1 }
+    ensures state { one.new ≡ other.new }
+{
+    let first = one.namespace(alloc, namespace);
+    let second = other.namespace(alloc, namespace);
+    (first, second)
+}
+
+/// An answer has one judgement.
+pub fn check_namespace_twice(
+    header: &Header,
+    namespace: &Namespace,
+    answer: &NsAnswer,
+) -> (Result<(), NsRefusal>, Result<(), NsRefusal>)
+    ensures { result.0 ≡ result.1 }
+{
+    let first = check_namespace(header, namespace, answer);
+    let second = check_namespace(header, namespace, answer);
+    (first, second)
+}
