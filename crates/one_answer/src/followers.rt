@@ -31,7 +31,18 @@ pub fn answer_twice<F: Filter>(
     (first, second)
 }
 
-/// After a header it has one entry of each namespace at each height, or none.
+/// Two followers that stand for the same headers and answers have one entry of each namespace at each height, or
+/// none.
+pub fn entries_twice<F: Filter>(one: &Follower<F>, other: &Follower<F>)
+    requires filter { other.now.filter ≡ one.now.filter }
+    ensures { (items : List Item) → StandsFor (wanted_by F.answers one.now.filter) one.now items →
+        StandsFor (wanted_by F.answers one.now.filter) other.now items → (n : ℕ) (name : Name) →
+        option_map read_of (kept_at one.now n name) ≡ option_map read_of (kept_at other.now n name) }
+{
+    feed_laws::<F>();
+}
+
+/// So have they after one header more.
 pub fn header_twice<F: Filter>(
     one: &mut Follower<F>,
     other: &mut Follower<F>,
@@ -45,12 +56,35 @@ pub fn header_twice<F: Filter>(
         result ≡ true → (n : ℕ) (name : Name) →
         option_map read_of (kept_at one.new n name) ≡ option_map read_of (kept_at other.new n name) }
 {
-    feed_laws::<F>();
     let Ok(()) = one.header(header) else {
         return false;
     };
     let Ok(()) = other.header(copy) else {
         return false;
     };
+    entries_twice(one, other);
+    true
+}
+
+/// So have they after one answer more that both take.
+pub fn answered_twice<F: Filter>(
+    one: &mut Follower<F>,
+    other: &mut Follower<F>,
+    namespace: &Namespace,
+    answer: &NsAnswer,
+) -> bool
+    requires height { 1 ≤ count_of one.old }
+    requires same { other.old ≡ one.old }
+    ensures { (items : List Item) → StandsFor (wanted_by F.answers one.old.filter) one.old items →
+        result ≡ true → (n : ℕ) (name : Name) →
+        option_map read_of (kept_at one.new n name) ≡ option_map read_of (kept_at other.new n name) }
+{
+    let Ok(_taken) = one.answer(namespace, answer) else {
+        return false;
+    };
+    let Ok(_again) = other.answer(namespace, answer) else {
+        return false;
+    };
+    entries_twice(one, other);
     true
 }
