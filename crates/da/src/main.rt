@@ -1,12 +1,18 @@
 //! `da COMMAND WORDS`: runs one command over files, with its output on standard output and a note on
 //! standard error, and ends with its status.
+//!
+//! A request for memory can be refused, and is told by a status. A stack that can't grow ends a program by a signal. So the
+//! stack that the deepest command takes is asked for as memory first, given back, and touched before the command begins.
 #![tactic(auto)]
+
+ghost use Rattle.std.specs.Prelude.{◌≤◌, ◌<◌};
 
 #[cfg(test)]
 mod tests;
 
 use da_cli::{Status, run};
 use da_io::{FileInputs, OutSink};
+use std::alloc::Global;
 use std::env;
 use std::io::ErrorKind;
 use std::process::ExitCode;
@@ -20,6 +26,40 @@ fn status_of(error: ErrorKind) -> Status {
     }
 }
 
+/// The bytes of stack that are touched, more than the deepest command takes.
+const STACK: usize = 640 * 1024;
+
+/// Touches the stack down to its depth. A place of the room that the caller alone knows is written and another is read, so
+/// that the room is there; what is read says nothing.
+#[inline(never)]
+fn touch_stack(at: usize) -> u8
+    requires low { 1 ≤ at }
+    requires high { at < STACK }
+{
+    let mut room = [0u8; STACK];
+    room[at] = 1;
+    room[STACK - at]
+}
+
+/// Touches the stack, where there is so much memory; whether there is.
+fn has_stack(alloc: Global, words: usize) -> bool {
+    let Ok(room) = vec![in alloc; 0u8; STACK] else {
+        return false;
+    };
+    drop(room);
+    touch_stack(1 + words % (STACK - 1)) <= 1
+}
+
+/// Runs the words over real files and streams. It is a call of its own, so that what its frame takes isn't taken before the
+/// stack was touched.
+#[inline(never)]
+fn answer(rt: &HostRuntime, words: &[String]) -> Status {
+    let mut inputs = FileInputs::new(rt);
+    let mut out = OutSink::new(rt.stdout());
+    let mut notes = OutSink::new(rt.stderr());
+    run(rt.alloc(), words, &mut inputs, &mut out, &mut notes)
+}
+
 fn main(rt: HostRuntime) -> ExitCode {
     let words = match env::args(&rt) {
         Ok(words) => words,
@@ -28,9 +68,8 @@ fn main(rt: HostRuntime) -> ExitCode {
     let Ok(words) = words.skip(1).collect::<Vec<String>>(rt.alloc()) else {
         return ExitCode::from(Status::NoMemory.number());
     };
-    let mut inputs = FileInputs::new(&rt);
-    let mut out = OutSink::new(rt.stdout());
-    let mut notes = OutSink::new(rt.stderr());
-    let status = run(rt.alloc(), &words, &mut inputs, &mut out, &mut notes);
-    ExitCode::from(status.number())
+    if !has_stack(rt.alloc(), words.len()) {
+        return ExitCode::from(Status::NoMemory.number());
+    }
+    ExitCode::from(answer(&rt, &words).number())
 }
