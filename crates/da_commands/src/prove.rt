@@ -72,7 +72,7 @@ fn give_proofs<O: Sink>(alloc: Global, held: &mut Held, requests: &[u8], out: &m
     serve_laws();
     sample_laws();
     held.held_law();
-    let Ok(header) = held.header(alloc) else {
+    let Ok(header) = held.header().copy(alloc) else {
         return Status::NoMemory;
     };
     let mut text = Vec::new(alloc);

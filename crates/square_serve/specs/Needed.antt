@@ -10,7 +10,8 @@ use Rattle.namespace_id.specs.Names.{is_at_most, is_parity}
 use Rattle.namespace_id.specs.Shares.{AreShares}
 use Rattle.namespace_id.specs.Cells.{is_in_square}
 use Rattle.nmt_tree.specs.Trees.{StoredTree}
-use Rattle.axis_roots.specs.Grids.{leaf_over, are_ordered_axes}
+use Rattle.data_header.specs.Headers.{Roots}
+use Rattle.axis_roots.specs.Grids.{leaf_over, are_ordered_axes, grid_roots}
 use Rattle.axis_roots.specs.Trees.{axis_leaves, no_tree}
 use Rattle.square_serve.specs.declared.needed.NeededTrees.{NeededTrees}
 
@@ -47,7 +48,12 @@ needed_along trees Col = trees.cols.items
 abbrev pub needed_at : NeededTrees → Axis → ℕ → StoredTree
 needed_at trees axis index = get_or (needed_along trees axis) index no_tree
 
--- those of the rows and the columns of a grid along which no namespaces fall, with a line for 2k digests
+-- a header of the width of a grid: the grid's, where its roots were put
+pub record IsNeededHeader (k : ℕ) (grid : List Share) (rooted : Bool) (header : Roots) : Type 0 where
+  pub width : header.k ≡ k
+  pub roots : rooted ≡ true → header ≡ grid_roots k grid
+
+-- those of the rows and the columns of a grid along which no namespaces fall, with a line for 2k digests and a header
 pub record AreNeeded (k : ℕ) (grid : List Share) (trees : NeededTrees) : Type 0 where
   pub shares : AreShares grid
   pub ordered : are_ordered_axes k grid ≡ true
@@ -55,3 +61,4 @@ pub record AreNeeded (k : ℕ) (grid : List Share) (trees : NeededTrees) : Type 
   pub rows : AreNeededTrees k grid Row trees.rows.items
   pub cols : AreNeededTrees k grid Col trees.cols.items
   pub line : length trees.line.items ≡ 2 * k
+  pub header : IsNeededHeader k grid trees.rooted trees.header

@@ -216,11 +216,15 @@ fn entries_of(
 }
 
 impl Held {
+    ghost use Rattle.std.specs.Borrow.{sem};
+    ghost use Rattle.std.specs.Io.BufRead.{Rests};
+    ghost use Rattle.square_serve.specs.contracts.held.Held.{the_row};
+
     /// Extends a square, and sees that it has a header. Nothing is hashed yet.
     ///
     /// Refuses a square without a header, which drops it. It takes all memory but that of namespace
-    /// answers and of headers: for 4 * k * k shares, as many digests of leaves, 4k trees of 4k - 1
-    /// digests each, and for what it works with besides.
+    /// answers: for 4 * k * k shares, as many digests of leaves, 4k trees of 4k - 1 digests each, a
+    /// header, and for what it works with besides.
     ///
     /// Celestia specifications, "Data Structures", available data header.
     pub fn of(alloc: Global, square: Square) -> Result<Held, HeldError>
@@ -243,17 +247,17 @@ impl Held {
         let _k = self.grid.width();
     }
 
-    /// The data availability header (DAH) of the square. The trees that weren't needed yet are made:
-    /// each leaf is hashed once, for its row and its column, and each node once.
-    ///
-    /// The one refusal is that there is no memory for 4k roots.
+    /// The data availability header (DAH) of the square, which is kept. Where it is first asked for, the
+    /// trees that weren't needed yet are made: each leaf is hashed once, for its row and its column, and
+    /// each node once. It takes no memory.
     ///
     /// Celestia specifications, "Data Structures", available data header.
-    pub fn header(&mut self, alloc: Global) -> Result<Header, NoMemory>
-        ensures value { IfOk result (λ h. h ≡ self.old.header) }
-        ensures kept { self.new ≡ self.old }
+    pub fn header(&mut self) -> &Header
+        ensures value { result.now ≡ self.old.header }
+        ensures* kept { sem 𝓛 (Rests the_row self.entry (λ new. new ≡ self.old)) }
     {
-        self.trees.header(alloc, &self.grid)
+        self.trees.make_header(&self.grid);
+        self.trees.header()
     }
 
     /// The sample of a cell: its share with the inclusion proof along an axis. It takes no memory, and

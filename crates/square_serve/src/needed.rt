@@ -28,6 +28,9 @@ pub(crate) struct NeededTrees {
     cols: Vec<Tree>,
     // 2k digests to work in
     line: Vec<Digest>,
+    // the roots of all axes, blank until the header is asked for
+    header: Header,
+    rooted: bool,
 }
 
 /// The digest of the leaf over a cell. It's hashed where the table has none yet.
@@ -113,6 +116,26 @@ fn empty_trees(alloc: Global, count: u16) -> Result<Vec<Tree>, NoMemory>
     Ok(trees)
 }
 
+/// The roots of axes of no tree yet.
+fn blank_roots(alloc: Global, count: u16) -> Result<Vec<Digest>, NoMemory>
+    ensures { IfOk result (λ roots. length roots.items ≡ count) }
+{
+    match vec![in alloc; BLANK_DIGEST; count as usize] {
+        Ok(roots) => Ok(roots),
+        Err(_) => Err(NoMemory),
+    }
+}
+
+/// A header for the roots of a grid, which are blank yet.
+fn blank_header(alloc: Global, grid: &Grid) -> Result<Header, NoMemory>
+    ensures { IfOk result (λ header. header.k ≡ grid.now.k) }
+{
+    let k = grid.width();
+    let rows = blank_roots(alloc, 2 * k)?;
+    let cols = blank_roots(alloc, 2 * k)?;
+    Ok(Header { k, rows, cols })
+}
+
 /// The root of a tree that is not empty.
 fn root_in(tree: &Tree) -> Digest
     requires { IsSome tree.now.leaves }
@@ -121,11 +144,36 @@ fn root_in(tree: &Tree) -> Digest
     tree.root().unwrap()
 }
 
+/// Puts the roots of all axes of one kind. Trees that are empty are made.
+fn put_roots(
+    grid: &Grid,
+    leaves: &mut [Option<Digest>],
+    axis: Axis,
+    line: &mut [Digest],
+    trees: &mut [Tree],
+    roots: &mut [Digest],
+)
+    requires shares { AreShares grid.now.shares }
+    requires ordered { are_ordered_axes grid.now.k grid.now.shares ≡ true }
+    requires leaves { AreNeededLeaves grid.now.k grid.now.shares leaves.old }
+    requires line { length line.old ≡ 2 * grid.now.k }
+    requires trees { AreNeededTrees grid.now.k grid.now.shares axis trees.old }
+    requires roots { length roots.old ≡ 2 * grid.now.k }
+    ensures leaves { AreNeededLeaves grid.now.k grid.now.shares leaves.new }
+    ensures trees { AreNeededTrees grid.now.k grid.now.shares axis trees.new }
+    ensures roots { roots.new ≡ axis_roots grid.now.k grid.now.shares axis }
+{
+    for index in 0..2 * grid.width() {
+        make_tree(grid, leaves, axis, index, line, trees);
+        roots[index as usize] = root_in(&trees[index as usize]);
+    }
+}
+
 impl NeededTrees {
     /// Empty trees for a grid along whose rows and columns no namespaces fall.
     ///
-    /// It takes memory for 4k trees of 4k - 1 digests each, for 4 * k * k digests of leaves, and for
-    /// 2k digests besides. The one refusal is that it is out of memory.
+    /// It takes memory for 4k trees of 4k - 1 digests each, for 4 * k * k digests of leaves, for 4k roots,
+    /// and for 2k digests besides. The one refusal is that it is out of memory.
     pub(crate) fn of(alloc: Global, grid: &Grid) -> Result<NeededTrees, NoMemory>
         requires { are_ordered_axes grid.now.k grid.now.shares ≡ true }
         ensures { IfOk result (AreNeeded grid.now.k grid.now.shares) }
@@ -144,6 +192,8 @@ impl NeededTrees {
             rows: empty_trees(alloc, side)?,
             cols: empty_trees(alloc, side)?,
             line,
+            header: blank_header(alloc, grid)?,
+            rooted: false,
         })
     }
 
@@ -174,41 +224,49 @@ impl NeededTrees {
         }
     }
 
-    /// The roots of all axes of one kind. Trees that are empty are made.
-    fn roots(&mut self, alloc: Global, grid: &Grid, axis: Axis) -> Result<Vec<Digest>, NoMemory>
+    /// Puts the roots of all axes into the header.
+    fn put_header(&mut self, grid: &Grid)
         requires { AreNeeded grid.now.k grid.now.shares self.old }
         ensures needed { AreNeeded grid.now.k grid.now.shares self.new }
-        ensures roots { IfOk result (λ roots.
-            roots.items ≡ axis_roots grid.now.k grid.now.shares axis) }
+        ensures header { self.new.header ≡ grid_roots grid.now.k grid.now.shares }
     {
-        let count = 2 * grid.width();
-        let Ok(mut roots) = Vec::with_capacity(alloc, count as usize) else {
-            return Err(NoMemory);
-        };
-        for index in 0..count {
-            self.make(grid, axis, index);
-            let Ok(()) = roots.push(root_in(self.tree(axis, index))) else {
-                return Err(NoMemory);
-            };
-        }
-        Ok(roots)
+        let leaves = &mut self.leaves;
+        let line = &mut self.line;
+        put_roots(
+            grid,
+            leaves,
+            Axis::Row,
+            line,
+            &mut self.rows,
+            &mut self.header.rows,
+        );
+        put_roots(
+            grid,
+            leaves,
+            Axis::Col,
+            line,
+            &mut self.cols,
+            &mut self.header.cols,
+        );
+        self.rooted = true;
     }
 
-    /// The data availability header (DAH) of the grid: the roots of all axes. Trees that are empty are
-    /// made.
-    ///
-    /// It takes memory for 4k roots, and refuses only where there is none.
-    pub(crate) fn header(&mut self, alloc: Global, grid: &Grid) -> Result<Header, NoMemory>
+    /// Makes the data availability header (DAH) of the grid, the roots of all axes, if it wasn't asked for
+    /// yet. Trees that are empty are made. It takes no memory.
+    pub(crate) fn make_header(&mut self, grid: &Grid)
         requires { AreNeeded grid.now.k grid.now.shares self.old }
         ensures needed { AreNeeded grid.now.k grid.now.shares self.new }
-        ensures header { IfOk result (λ header. header ≡ grid_roots grid.now.k grid.now.shares) }
+        ensures header { self.new.header ≡ grid_roots grid.now.k grid.now.shares }
     {
-        let rows = self.roots(alloc, grid, Axis::Row)?;
-        let cols = self.roots(alloc, grid, Axis::Col)?;
-        Ok(Header {
-            k: grid.k,
-            rows,
-            cols,
-        })
+        if !self.rooted {
+            self.put_header(grid);
+        }
+    }
+
+    /// The header that was made.
+    pub(crate) fn header(&self) -> &Header
+        ensures { result.now ≡ self.now.header }
+    {
+        &self.header
     }
 }

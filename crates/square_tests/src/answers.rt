@@ -70,8 +70,7 @@ fn nodes_beside(rt: &impl Abort, held: &mut Held, col: u16, both: bool) -> Nodes
 /// Why an answer for namespace 3 of what is found in row 0 alone isn't complete.
 fn refusal(rt: &impl Abort, alloc: Global, held: &mut Held, found: Found) -> Option<NsRefusal> {
     let answer = answer(rt, alloc, found);
-    let header = held.header(alloc).expect(rt, "there is memory");
-    check_namespace(&header, &version_0(3), &answer).err()
+    check_namespace(held.header(), &version_0(3), &answer).err()
 }
 
 #[test]

@@ -1,4 +1,4 @@
-use Rattle.std.proofs.Common.{◌∙◌, ℕ, ◌*◌, ap, subst, arith}
+use Rattle.std.proofs.Common.{◌∙◌, ℕ, ◌*◌, ap, sym, subst, arith, true≢false}
 use Rattle.namespace_id.specs.Shares.{AreShares}
 use Rattle.namespace_id.specs.declared.cells.Axis.TheVariants.{Row, Col}
 use Rattle.square_serve.proofs.NeededLemmas.{none_alone, no_leaves, no_trees}
@@ -14,4 +14,5 @@ returns c = record {
   rows = no_trees c.args.grid.now.k _ c.args.grid.now.shares Row c.in_ok-empty_trees.field-0.items c.in_ok-empty_trees.ensures (ap (λ (k : ℕ). 2 * k) c.width-side.ensures.value);
   cols = no_trees c.args.grid.now.k _ c.args.grid.now.shares Col c.in_ok-empty_trees-2.field-0.items c.in_ok-empty_trees-2.ensures (ap (λ (k : ℕ). 2 * k) c.width-side.ensures.value);
   line = omega (arith, c.in-Ok-vec.ensures.len, c.width-side.ensures.value);
+  header = record { width = c.in_ok-blank_header.ensures; roots = λ put. absurd (true≢false (sym put)) };
 }
