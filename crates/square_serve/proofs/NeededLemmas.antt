@@ -2,18 +2,19 @@
 use Rattle.std.proofs.Common.{◌≡◌, ◌∙◌, ℕ, ◌+◌, ◌*◌, ◌<◌, List, length, get_or, map, set, replicate, IsTrue, Some, None, inl, inr, refl, sym, ap, subst, arith}
 use Rattle.std.specs.Prelude.{Option, IfSome}
 use Rattle.std.proofs.lemmas.Bool.{cases_eq}
-use Rattle.std.proofs.lemmas.List.{get_or-set_same, get_or-set_other, length-set, length-replicate, get_or-replicate, ext_get_or, get_or-map, length-map}
+use Rattle.std.proofs.lemmas.List.{get_or-set_same, get_or-set_other, length-set, length-replicate, get_or-replicate, ext_get_or, length-map}
 use Rattle.namespace_id.specs.declared.cells.Cell.{Cell}
 use Rattle.namespace_id.specs.declared.cells.Axis.{Axis}
 use Rattle.namespace_id.specs.declared.shares.Share.{Share}
 use Rattle.namespace_id.specs.declared.digests.Digest.{Digest}
 use Rattle.namespace_id.specs.Cells.{is_in_square}
 use Rattle.namespace_id.specs.Lists.{ascending}
-use Rattle.namespace_id.proofs.AscendingLemmas.{length-ascending, get_or-ascending}
+use Rattle.namespace_id.proofs.AscendingLemmas.{length-ascending}
 use Rattle.namespace_id.proofs.BelowLemmas.{same_cell}
 use Rattle.nmt_tree.specs.Trees.{StoredTree}
 use Rattle.axis_roots.specs.Grids.{leaf_over}
 use Rattle.axis_roots.specs.Trees.{no_tree}
+use Rattle.axis_roots.proofs.Grids.AxisLemmas.{get_or-mapped}
 use Rattle.axis_roots.proofs.Grids.NumberLemmas.{inside, number-lt}
 use Rattle.square_serve.specs.Needed.{AreNeededLeaves, IsNeededTree, AreNeededTrees, empty_trees}
 
@@ -67,5 +68,4 @@ pub mapped_all : {A : Type 0} (f : ℕ → A) (n : ℕ) (d : A) (xs : List A) �
 mapped_all f n d xs long each =
     ext_get_or d xs (map f (ascending 0 n)) (long ∙ sym (length-map (ascending 0 n) f ∙ length-ascending n 0)) (λ i h.
     let within : i < n = omega (arith, h, long) in
-    let start : 0 + i ≡ i = omega arith in
-    each i within ∙ sym (get_or-map f (ascending 0 n) i 0 d (omega (arith, within, length-ascending n 0)) ∙ ap f (get_or-ascending n 0 i within ∙ start)))
+    each i within ∙ sym (get_or-mapped f n i d within))

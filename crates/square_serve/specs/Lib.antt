@@ -3,4 +3,5 @@ pub mod Answers
 pub mod Placed
 pub mod Own
 pub mod Needed
+pub mod RowNames
 pub mod Serving

@@ -1,12 +1,10 @@
 -- The trees of a grid that are made when they are asked for.
-use Rattle.std.specs.Prelude.{◌≡◌, ℕ, ◌+◌, ◌*◌, ◌<◌, ◌&&◌, not, List, length, get_or, replicate, Bool, true, IsTrue, Option, None, IfSome}
+use Rattle.std.specs.Prelude.{◌≡◌, ℕ, ◌+◌, ◌*◌, ◌<◌, List, length, get_or, replicate, Bool, true, IsTrue, Option, None, IfSome}
 use Rattle.namespace_id.specs.declared.cells.Cell.{Cell}
 use Rattle.namespace_id.specs.declared.cells.Axis.{Axis}
 use Rattle.namespace_id.specs.declared.cells.Axis.TheVariants.{Row, Col}
-use Rattle.namespace_id.specs.declared.namespaces.Namespace.{Namespace}
 use Rattle.namespace_id.specs.declared.shares.Share.{Share}
 use Rattle.namespace_id.specs.declared.digests.Digest.{Digest}
-use Rattle.namespace_id.specs.Names.{is_at_most, is_parity}
 use Rattle.namespace_id.specs.Shares.{AreShares}
 use Rattle.namespace_id.specs.Cells.{is_in_square}
 use Rattle.nmt_tree.specs.Trees.{StoredTree}
@@ -14,10 +12,8 @@ use Rattle.data_header.specs.Headers.{Roots}
 use Rattle.axis_roots.specs.Grids.{leaf_over, are_ordered_axes, grid_roots}
 use Rattle.axis_roots.specs.Trees.{axis_leaves, no_tree}
 use Rattle.square_serve.specs.declared.needed.NeededTrees.{NeededTrees}
-
--- whether the namespace of a leaf, which isn't PARITY, is at least this one
-abbrev pub reaches : Namespace → Namespace → Bool
-reaches name leaf = not (is_parity leaf) && is_at_most name leaf
+use Rattle.square_serve.specs.declared.rows.RowNames.{RowNames}
+use Rattle.square_serve.specs.RowNames.{row_names}
 
 -- of the leaves over all cells, row-major, each one that was hashed has its digest
 pub record AreNeededLeaves (k : ℕ) (grid : List Share) (leaves : List (Option Digest)) : Type 0 where
@@ -62,3 +58,8 @@ pub record AreNeeded (k : ℕ) (grid : List Share) (trees : NeededTrees) : Type 
   pub cols : AreNeededTrees k grid Col trees.cols.items
   pub line : length trees.line.items ≡ 2 * k
   pub header : IsNeededHeader k grid trees.rooted trees.header
+
+-- what is kept beside a grid: the namespaces of its rows' roots, and trees
+pub record AreKept (k : ℕ) (grid : List Share) (told : List RowNames) (made : NeededTrees) : Type 0 where
+  pub names : told ≡ row_names k grid
+  pub trees : AreNeeded k grid made

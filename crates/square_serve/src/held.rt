@@ -11,11 +11,12 @@ ghost use Rattle.axis_roots.specs.Trees.{axis_stored, message_at};
 ghost use Rattle.square_serve.specs.Shares.{shares_of};
 ghost use Rattle.square_serve.specs.Answers.{shown, wanted_rows, IsComplete};
 ghost use Rattle.square_serve.specs.Needed.{AreNeeded};
+ghost use Rattle.square_serve.specs.RowNames.{row_names};
 ghost use Rattle.square_serve.specs.Serving.{IsHeld, Holds, count_below, count_same, found_at, found_in, entry_in, answer_for};
 
 use crate::needed::NeededTrees;
 use crate::ordering::are_ordered_axes;
-use crate::rows::may_hold;
+use crate::rows::{RowNames, row_names};
 use crate::serve_laws;
 use axis_roots::{Found, Grid, Message, NsAnswer, NsEntry, ShareList, index, message_from};
 use data_header::Header;
@@ -81,19 +82,21 @@ impl From<AllocError> for ServeError {
 #[derive(Drop)]
 pub struct Held {
     grid: Grid,
+    // one for each row of the original square
+    names: Vec<RowNames>,
     trees: NeededTrees,
 }
 
 impl Model for Held {
     ghost use Rattle.axis_roots.specs.Grids.{grid_roots};
-    ghost use Rattle.square_serve.specs.Needed.{AreNeeded};
+    ghost use Rattle.square_serve.specs.Needed.{AreKept};
     ghost use Rattle.square_serve.specs.Serving.{HeldParts};
 
     ghost Value = { HeldParts };
 
     ghost view = { λ h. record { k = h.grid.k; grid = h.grid.shares; header = grid_roots h.grid.k h.grid.shares } };
 
-    ghost invariant = { λ h. AreNeeded h.grid.k h.grid.shares h.trees };
+    ghost invariant = { λ h. AreKept h.grid.k h.grid.shares h.names.items h.trees };
 }
 
 /// The columns of a namespace in a row whose namespaces never fall: the first one, before which all are
@@ -194,9 +197,11 @@ fn found_in(
 fn entries_of(
     alloc: Global,
     grid: &Grid,
+    names: &[RowNames],
     trees: &mut NeededTrees,
     namespace: &Namespace,
 ) -> Result<Vec<NsEntry>, AllocError>
+    requires names { names.now ≡ row_names grid.now.k grid.now.shares }
     requires trees { AreNeeded grid.now.k grid.now.shares trees.old }
     requires other { is_parity namespace.now ≡ false }
     ensures trees { AreNeeded grid.now.k grid.now.shares trees.new }
@@ -206,7 +211,7 @@ fn entries_of(
 {
     let mut entries = Vec::new(alloc);
     for row in 0..grid.width() {
-        if may_hold(grid, namespace, row) {
+        if names[row as usize].may_hold(namespace) {
             trees.make(grid, Axis::Row, row);
             let found = found_in(alloc, grid, trees.tree(Axis::Row, row), namespace, row)?;
             entries.push(NsEntry { row, found })?;
@@ -224,7 +229,7 @@ impl Held {
     ///
     /// Refuses a square without a header, which drops it. It takes all memory but that of namespace
     /// answers: for 4 * k * k shares, as many digests of leaves, 4k trees of 4k - 1 digests each, a
-    /// header, and for what it works with besides.
+    /// header, 2k namespaces, and for what it works with besides.
     ///
     /// Celestia specifications, "Data Structures", available data header.
     pub fn of(alloc: Global, square: Square) -> Result<Held, HeldError>
@@ -235,8 +240,9 @@ impl Held {
         if !are_ordered_axes(&grid) {
             return Err(HeldError::NoHeader);
         }
+        let names = row_names(alloc, &grid)?;
         let trees = NeededTrees::of(alloc, &grid)?;
-        Ok(Held { grid, trees })
+        Ok(Held { grid, names, trees })
     }
 
     /// Says what is true of every held square. It changes nothing.
@@ -315,7 +321,7 @@ impl Held {
             return Err(ServeError::Parity);
         }
         self.held_law();
-        let entries = entries_of(alloc, &self.grid, &mut self.trees, namespace)?;
+        let entries = entries_of(alloc, &self.grid, &self.names, &mut self.trees, namespace)?;
         // These tell that the answer is complete, and what it shows.
         namespace_law(namespace);
         serve_laws();

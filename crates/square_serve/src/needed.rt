@@ -1,8 +1,8 @@
 //! The trees over the rows and columns of a grid, each made when it is first asked for.
 //!
 //! One sample needs one tree, and a namespace answer needs those of the rows that may hold the
-//! namespace. All memory is taken at the start: until it is asked for a tree is empty. Each leaf is
-//! hashed at most once, for its row and its column.
+//! namespace. All memory is taken at the start: until it is asked for a tree is empty, and the header is
+//! blank. Each leaf is hashed at most once, for its row and its column.
 
 ghost use Rattle.std.specs.Prelude.{◌≡◌, ◌*◌, ◌<◌, IsTrue, IfOk, IsSome, length, get_or, true};
 ghost use Rattle.namespace_id.specs.Cells.{is_in_square};
@@ -116,7 +116,7 @@ fn empty_trees(alloc: Global, count: u16) -> Result<Vec<Tree>, NoMemory>
     Ok(trees)
 }
 
-/// The roots of axes of no tree yet.
+/// So many roots, which are blank yet.
 fn blank_roots(alloc: Global, count: u16) -> Result<Vec<Digest>, NoMemory>
     ensures { IfOk result (λ roots. length roots.items ≡ count) }
 {

@@ -1,17 +1,15 @@
 //! Rows of a square, and whether one may hold a namespace.
 
-ghost use Rattle.std.specs.Prelude.{◌≡◌, ◌*◌, ◌<◌, ℕ, true, false};
-ghost use Rattle.namespace_id.specs.declared.cells.Axis.TheVariants.{Row};
-ghost use Rattle.namespace_id.specs.Names.{is_parity};
+ghost use Rattle.std.specs.Prelude.{◌≡◌, ◌*◌, ◌<◌, IfOk, true};
 ghost use Rattle.namespace_id.specs.Shares.{AreShares};
-ghost use Rattle.nmt_tree.specs.Spans.{name_at};
-ghost use Rattle.axis_roots.specs.Grids.{axis_names, are_ordered_axes, grid_roots};
+ghost use Rattle.axis_roots.specs.Grids.{are_ordered_axes};
 ghost use Rattle.square_serve.specs.Answers.{is_wanted};
-ghost use Rattle.square_serve.specs.Needed.{reaches};
+ghost use Rattle.square_serve.specs.RowNames.{names_of, row_names, lies_between};
 
 use axis_roots::Grid;
 use data_header::Header;
-use namespace_id::{Axis, Cell, Namespace, namespace_law};
+use namespace_id::{Axis, Cell, Namespace, NoMemory, shares_law};
+use std::alloc::Global;
 
 /// Whether a row may hold a namespace: it lies between the namespaces of the row's root.
 ///
@@ -24,38 +22,59 @@ pub(crate) fn is_wanted(header: &Header, namespace: &Namespace, row: u16) -> boo
     root.least().is_at_most(namespace) && namespace.is_at_most(&root.greatest())
 }
 
-/// Whether some leaf of a row of the original square, not one of `PARITY`, has at least this namespace.
-fn has_at_least(grid: &Grid, namespace: &Namespace, row: u16) -> bool
-    requires { row < grid.now.k }
-    ensures some { result ≡ true → (i : ℕ) × (i < grid.now.k) ×
-        (reaches namespace.now (name_at (axis_names grid.now.k grid.now.shares Row row) i) ≡ true) }
-    ensures none { result ≡ false → (i : ℕ) → i < grid.now.k →
-        reaches namespace.now (name_at (axis_names grid.now.k grid.now.shares Row row) i) ≡ false }
-{
-    for col in 0..grid.width() {
-        let name = grid.cell(Cell { row, col }).namespace();
-        if !name.is_parity() && namespace.is_at_most(&name) {
-            return true;
-        }
-    }
-    false
+/// The least and the greatest namespace of a row's root.
+#[derive(Clone, Copy)]
+pub(crate) struct RowNames {
+    least: Namespace,
+    greatest: Namespace,
 }
 
-/// Whether a row of the original square may hold a namespace, told without the row's root: the root's
-/// least namespace is that of the first leaf, its greatest that of the greatest leaf below `PARITY`.
-///
-/// docs/RULES.md, "Namespace answers".
-pub(crate) fn may_hold(grid: &Grid, namespace: &Namespace, row: u16) -> bool
+impl RowNames {
+    /// Whether the row may hold a namespace.
+    ///
+    /// docs/RULES.md, "Namespace answers".
+    pub(crate) fn may_hold(&self, namespace: &Namespace) -> bool
+        ensures { result ≡ lies_between self.now namespace.now }
+    {
+        self.least.is_at_most(namespace) && namespace.is_at_most(&self.greatest)
+    }
+}
+
+/// The namespaces of the root of a row of the original square, told without the root: the least is that of
+/// the first leaf, the greatest that of the last leaf that isn't `PARITY`, and `PARITY` where all are.
+fn names_of(grid: &Grid, row: u16) -> RowNames
     requires row { row < grid.now.k }
     requires shares { AreShares grid.now.shares }
     requires ordered { are_ordered_axes grid.now.k grid.now.shares ≡ true }
-    requires other { is_parity namespace.now ≡ false }
-    ensures { result ≡
-        is_wanted (grid_roots grid.now.k grid.now.shares) namespace.now row }
+    ensures { result ≡ names_of grid.now.k grid.now.shares row }
 {
-    namespace_law(namespace);
-    // The width of a grid is told with what is true of every grid.
-    let _k = grid.width();
-    let first = grid.cell(Cell { row, col: 0 }).namespace();
-    first.is_at_most(namespace) && has_at_least(grid, namespace, row)
+    let least = grid.cell(Cell { row, col: 0 }).namespace();
+    let mut greatest = least;
+    for col in 1..grid.width() {
+        let name = grid.cell(Cell { row, col }).namespace();
+        if !name.is_parity() {
+            greatest = name;
+        }
+    }
+    RowNames { least, greatest }
+}
+
+/// Those of the rows of the original square, from the first down.
+///
+/// It takes memory for them. The one refusal is that it is out of memory.
+pub(crate) fn row_names(alloc: Global, grid: &Grid) -> Result<Vec<RowNames>, NoMemory>
+    requires { are_ordered_axes grid.now.k grid.now.shares ≡ true }
+    ensures { IfOk result (λ names. names.items ≡ row_names grid.now.k grid.now.shares) }
+{
+    shares_law(&grid.shares);
+    let k = grid.width();
+    let Ok(mut names) = Vec::with_capacity(alloc, k as usize) else {
+        return Err(NoMemory);
+    };
+    for row in 0..k {
+        let Ok(()) = names.push(names_of(grid, row)) else {
+            return Err(NoMemory);
+        };
+    }
+    Ok(names)
 }

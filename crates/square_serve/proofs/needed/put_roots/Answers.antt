@@ -1,4 +1,4 @@
-use Rattle.std.proofs.Common.{◌≡◌, ◌≢◌, ◌∙◌, ◌<◌, ◌*◌, ℕ, ap, sym, arith, below_more, length-set}
+use Rattle.std.proofs.Common.{◌≢◌, ◌∙◌, ◌<◌, ◌*◌, ℕ, ap, arith, below_more, length-set}
 use Rattle.std.proofs.lemmas.List.{get_or-set_same, get_or-set_other, get_or_default}
 use Rattle.namespace_id.specs.Digests.{no_digest}
 use Rattle.axis_roots.specs.Grids.{axis_root}

@@ -13,4 +13,4 @@ returns-clause-proved c =
     ap (λ (n : ℕ). is_in_square n c.args.cell) (sym c.width.ensures.value) ∙ sym c.if-not-is_in_square.ensures in
     subst (λ (held : HeldParts). IsProved held.header c.message_from.result) c.self.view_is
     (message_proved c.self.inside.grid.k c.self.inside.grid.shares (grid_roots c.self.inside.grid.k c.self.inside.grid.shares) c.args.cell c.args.axis c.message_from.result
-    (roots_made c.self.inside.grid.k c.self.inside.grid.shares c.self.invariant.ordered) inside c.message_from.ensures.value c.message_from.ensures.opens)
+    (roots_made c.self.inside.grid.k c.self.inside.grid.shares c.self.invariant.trees.ordered) inside c.message_from.ensures.value c.message_from.ensures.opens)
