@@ -1,3 +1,4 @@
 pub mod RootLemmas
 pub mod LedLemmas
 pub mod OpenLemmas
+pub mod HashTreeLemmas

@@ -3,6 +3,8 @@ use Rattle.std.proofs.Common.{◌≡◌, ℕ, suc, ◌+◌, ◌*◌, ◌^◌, �
 use Rattle.std.specs.Str.{bytes_eq}
 use Rattle.std.proofs.lemmas.Bool.Decides.{nat_tests}
 use Rattle.std.proofs.lemmas.Slice.Eq.{bytes_eq-Decides}
+use Rattle.std.proofs.lemmas.List.{get_or_append_left, get_or-append-add}
+use Rattle.std.proofs.Math.Nat.{pow-suc}
 use Rattle.namespace_id.specs.declared.cells.Axis.{Axis}
 use Rattle.namespace_id.specs.declared.cells.Axis.TheVariants.{Row, Col}
 use Rattle.namespace_id.specs.declared.digests.Digest.{Digest}
@@ -14,6 +16,8 @@ use Rattle.std.proofs.Math.Seq.{take-append_seam, drop-append_seam}
 use Rattle.namespace_id.specs.Powers.{halvings}
 use Rattle.namespace_id.proofs.PowerLemmas.{double_halvings}
 use Rattle.data_header.proofs.RootLemmas.{IsRootOf, IsPathOf, merkle_root-suc, length-path_of}
+use Rattle.data_header.specs.HashTrees.{siblings, AreTreeHashes}
+use Rattle.data_header.proofs.HashTreeLemmas.{length-siblings, leaf_led}
 use Rattle.data_header.proofs.LedLemmas.{led-left-power, led-right-power, led-path_of}
 
 -- the root over two lists of 2 ^ depth digests
@@ -114,3 +118,41 @@ pub opened : (root top : List ℕ) (k : ℕ) (axis : Axis) (index : ℕ) (digest
 opened root top k axis index digest path e width place count leads test =
     let same = same-hash e top root test in
     (λ yes. record { width = width; place = place; count = count; leads = sym leads ∙ same.0 yes }, λ opens. same.1 (leads ∙ opens.leads))
+
+-- the root of an axis is the one at its place among all
+placed_root : (header : Roots) (axis : Axis) (index : ℕ) → AreRoots header → index < 2 * header.k
+    → get_or (header.rows ++ header.cols) (root_place header.k axis index) no_digest ≡ root_of header axis index
+placed_root header Row index h place = get_or_append_left header.rows header.cols no_digest index (omega (arith, h.rows, place))
+placed_root header Col index h place =
+    ap (λ (n : ℕ). get_or (header.rows ++ header.cols) (n + index) no_digest) (sym h.rows) ∙ get_or-append-add header.rows header.cols index no_digest
+
+-- its place is one of all
+place-lt : (k : ℕ) (axis : Axis) (index : ℕ) → index < 2 * k → root_place k axis index < 4 * k
+place-lt k Row index h = omega (arith, h)
+place-lt k Col index h = omega (arith, h)
+
+-- there are 4k of them
+all_roots : (header : Roots) → AreRoots header → length (header.rows ++ header.cols) ≡ 4 * header.k
+all_roots header h = omega (arith, length-append header.rows header.cols, h.rows, h.cols)
+
+-- the hashes beside the way of a leaf, in the tree over all roots of a header, lead to the data root
+pub opens-siblings : (header : Roots) (hashes path : List (List ℕ)) (axis : Axis) (index place levels : ℕ) → AreRoots header
+    → AreTreeHashes (header.rows ++ header.cols) hashes → index < 2 * header.k → place ≡ 4 * header.k + root_place header.k axis index
+    → levels ≡ root_halvings header.k → path ≡ siblings levels hashes place
+    → OpensRoot (data_root_of header) header.k axis index (root_of header axis index) path
+opens-siblings header hashes path axis index place levels h are within at depth is =
+    let digests : List Digest = header.rows ++ header.cols in
+    let number : ℕ = root_place header.k axis index in
+    let count : length digests ≡ 4 * header.k = all_roots header h in
+    let long : 2 ^ root_halvings header.k ≡ 2 ^ halvings (2 * header.k) * 2 = pow-suc 2 (halvings (2 * header.k)) in
+    let power : length digests ≡ 2 ^ root_halvings header.k = omega (arith, count, long, double_halvings header.k h.width) in
+    let same : path ≡ siblings (root_halvings header.k) hashes (length digests + number) =
+    is ∙ ap₂ (λ (n p : ℕ). siblings n hashes p) depth (at ∙ ap (λ (n : ℕ). n + number) (sym count)) in
+    record {
+      width = h.width;
+      place = within;
+      count = ap length same ∙ length-siblings (root_halvings header.k) hashes (length digests + number);
+      leads =
+          ap₂ (λ (d : Digest) (p : List (List ℕ)). led number (leaf_hash d) p) (sym (placed_root header axis index h within)) same
+          ∙ leaf_led digests hashes are (root_halvings header.k) number power (omega (arith, count, place-lt header.k axis index within));
+    }

@@ -1,3 +1,4 @@
 pub mod Headers
 pub mod Paths
 pub mod DataRoots
+pub mod HashTrees

@@ -2,7 +2,8 @@
 //! a node.
 //!
 //! Roots and paths are recursions on halves that keep nothing and hash anew each time. A header has
-//! at most 512 axis roots, so a proof costs about a thousand hashes and no memory.
+//! at most 512 axis roots, so a proof costs about a thousand hashes and no memory. `trees` keeps the
+//! hashes, for many proofs.
 
 ghost use Rattle.std.specs.Prelude.{◌≡◌, ◌^◌, ◌<◌, ℕ, length, IsTrue};
 ghost use Rattle.namespace_id.specs.Powers.{is_power};

@@ -42,7 +42,7 @@ pub fn make_root_proof(header: &Header, axis: Axis, index: u16) -> RootPath
 }
 
 /// How often the 4k axis roots of a header can be halved.
-fn root_halvings(k: u16) -> usize
+pub(crate) fn root_halvings(k: u16) -> usize
     requires { IsTrue (is_width k) }
     ensures value { result ≡ root_halvings k }
     ensures power { 2 ^ result ≡ 4 * k }
@@ -60,7 +60,7 @@ fn root_halvings(k: u16) -> usize
 }
 
 /// The place of an axis root among the 4k.
-fn root_place(k: u16, axis: Axis, index: u16) -> usize
+pub(crate) fn root_place(k: u16, axis: Axis, index: u16) -> usize
     ensures { result ≡ root_place k axis index }
 {
     match axis {

@@ -1,0 +1,13 @@
+use Rattle.std.proofs.Common.{◌≡◌, ◌<◌, ◌+◌, ℕ, length, get_or}
+use Rattle.namespace_id.specs.Digests.{no_digest}
+use Rattle.data_header.specs.DataRoots.{leaf_hash}
+use Rattle.data_header.specs.HashTrees.{hash_at}
+use Rattle.data_header.proofs.trees.put_leaves.Given as goal
+
+-- the leaves so far are put, and what is before them stays
+abbrev pub invariant-loop-i : goal.invariant-loop-i
+invariant-loop-i l = record {
+  count : length l.hashes ≡ length l.fn.hashes;
+  put : (i : ℕ) → i < l.i → hash_at l.hashes (l.at + i) ≡ leaf_hash (get_or l.digests i no_digest);
+  kept : (i : ℕ) → i < l.at → hash_at l.hashes i ≡ hash_at l.fn.hashes i;
+}
