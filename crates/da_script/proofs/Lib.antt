@@ -7,3 +7,6 @@ pub mod PlayLemmas
 pub mod CountLemmas
 pub mod OutcomeLemmas
 pub mod RoomLemmas
+pub mod LetterLemmas
+pub mod StepLemmas
+pub mod AlarmLemmas

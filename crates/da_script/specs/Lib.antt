@@ -1,3 +1,4 @@
 pub mod Scripts
 pub mod Plays
 pub mod Parts
+pub mod Alarms

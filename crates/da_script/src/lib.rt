@@ -11,5 +11,5 @@ mod nodes;
 mod playing;
 mod reading;
 
-pub use laws::script_laws;
+pub use laws::{alarm_laws, script_laws};
 pub use playing::{PlayError, play};
