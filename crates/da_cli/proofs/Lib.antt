@@ -9,4 +9,5 @@ pub mod WordLemmas
 pub mod RunLemmas
 pub mod RanLemmas
 pub mod StreamedRanLemmas
+pub mod NetLemmas
 pub mod OwnLemmas

@@ -38,6 +38,9 @@ use Rattle.da_wire.specs.Answering.{is_answer_to}
 use Rattle.da_commands.specs.VerifyFor.{IsRefusalFor}
 use Rattle.da_commands.specs.Contents.{messages_file}
 use Rattle.da_commands.proofs.Answering.VerifyForLemmas.{asked_holds}
+use Rattle.da_commands.specs.Net.{script_file, Nets}
+use Rattle.da_script.specs.Plays as plays
+use Rattle.da_script.specs.Alarms.{TellsOwn}
 use Rattle.da_cli.specs.Own.{AreOwn}
 
 -- ---- frames of a byte string have bytes
@@ -112,9 +115,11 @@ pub are_own : (told : Option Files) (words : List (List ℕ))
     → AreBytes answers → IsFeedOf (Contains wanted) (items_in answers) feed → feed number name ≡ Some read
     → header_at (items_in answers) number ≡ Some header → IsHeaderOf header square
     → (read ≡ blobs_of (shares_in square name)) ⊎ FirstNames (items_in answers) number name square)
+    → ((header : Roots) (frames : List Raw) (script : List ℕ) (square : SquareShares) (w : List ℕ) (status : Status)
+    → IsHeaderOf header square → Nets header frames script w status → TellsOwn (plays.items_in frames) square w)
     → AreOwn told words
-are_own None words found verified file repaired lit compacted followed = tt
-are_own (Some files) words found verified file repaired lit compacted followed = record {
+are_own None words found verified file repaired lit compacted followed netted = tt
+are_own (Some files) words found verified file repaired lit compacted followed netted = record {
   check = λ contents header square i frame command read first own fits here ok.
       found header frame square (all_at HasBytes _ i frame (frames_fit _ fits 0) here) own (ok_is_proved (finding_of header frame) ok);
   verify = λ contents header square answer refusal command read first own fits second refused ok.
@@ -135,4 +140,7 @@ are_own (Some files) words found verified file repaired lit compacted followed =
       (subst (λ (a : Result Roots ℕ). MatchResult a (λ h. Lights key count h (frames_of (messages_file contents)) w status) (λ at. ⊥)) first answers);
   follow = λ contents header square feed number name read command gather fits headed own is has.
       followed (namespaces_in (wanted_file contents)) (answers_file contents) feed number name read header square fits is has headed own;
+  net = λ contents header square w status command read first own answers.
+      netted header (frames_of (messages_file contents)) (script_file contents) square w status own
+      (subst (λ (a : Result Roots ℕ). MatchResult a (λ h. Nets h (frames_of (messages_file contents)) (script_file contents) w status) (λ at. ⊥)) first answers);
 }

@@ -9,6 +9,7 @@ use Rattle.blob_feed.specs.Feeds.{header_at, Read, IsFeedOf, shares_in, FirstNam
 use Rattle.data_header.specs.Headers.{Roots}
 use Rattle.square_layout.specs.Blocks.{SquareShares}
 use Rattle.axis_roots.specs.Grids.{IsHeaderOf}
+use Rattle.da_script.specs.Alarms.{TellsOwn}
 use Rattle.da_wire.specs.Reading.{Raw}
 use Rattle.da_wire.specs.declared.frames.Frame.{Frame}
 use Rattle.da_wire.specs.Frames.{frames_of}
@@ -27,7 +28,9 @@ use Rattle.da_commands.specs.Follow.{wanted_file, answers_file, items_in, Feed}
 use Rattle.da_commands.specs.Verify.{answer_file, answer_in, IsRefusal, verdict_line, IsOwnReply}
 use Rattle.da_wire.specs.Answering.{is_answer_to, IsAnswerTo}
 use Rattle.da_commands.specs.VerifyFor.{request_file, request_in, IsRefusalFor}
+use Rattle.da_commands.specs.Net.{NetOf}
 use Rattle.da_commands.specs.Contents.{header_file, messages_file}
+use Rattle.da_script.specs.Plays as plays
 
 -- over the files of `check`, where the header in HEADER is that of a square: a frame of MESSAGES whose line is `ok` is a sample that shows the square's own share, or they name a collision
 abbrev pub AreOwnLines : Files → List (List ℕ) → Type 0
@@ -85,9 +88,16 @@ IsOwnFollow files words = (contents : List (List ℕ)) (header : Roots) (square 
     → IsFeedOf (Contains (namespaces_in (wanted_file contents))) (items_in (answers_file contents)) feed → feed number name ≡ Some read
     → (read ≡ blobs_of (shares_in square name)) ⊎ FirstNames (items_in (answers_file contents)) number name square
 
+-- over the files of `net`, where the header in HEADER is that of a square: `rejected` or `clash` is written only where a sample of MESSAGES, by itself or in a claim, or the set of a claim, and the square name a collision
+abbrev pub IsOwnNet : Files → List (List ℕ) → Type 0
+IsOwnNet files words = (contents : List (List ℕ)) (header : Roots) (square : SquareShares) (w : List ℕ) (status : Status)
+    → is_command words (codes "net") 3 ≡ true → gathered files (names_of words) ≡ whole contents
+    → header_in (header_file contents) ≡ Ok header → IsHeaderOf header square → NetOf contents w status
+    → TellsOwn (plays.items_in (frames_of (messages_file contents))) square w
+
 -- under the header of a square the line `ok` stands only for the square's own shares, and for an answer to the request where
--- there is one, a repair answers this square or
--- the missing cells, `light` writes no claim, and `follow` tells of the square's shares, or a collision is named
+-- there is one, a claim is refused, a repair answers this square or the missing cells, `light` writes no claim, `follow`
+-- tells of the square's shares, and no node of `net` rejects or has a collision; or a collision is named
 pub record HasOwn (files : Files) (words : List (List ℕ)) : Type 0 where
   pub check : AreOwnLines files words
   pub verify : IsOwnLine files words
@@ -96,6 +106,7 @@ pub record HasOwn (files : Files) (words : List (List ℕ)) : Type 0 where
   pub repair : IsOwnRepair files words
   pub light : IsOwnLight files words
   pub follow : IsOwnFollow files words
+  pub net : IsOwnNet files words
 
 -- that, where the files are told
 abbrev pub AreOwn : Option Files → List (List ℕ) → Type 0

@@ -35,6 +35,9 @@ ghost use Rattle.da_commands.specs.Check.{finding_of, is_ok, IsProvedFrame, IsOw
 ghost use Rattle.da_commands.specs.Compact.{CompactsJudged, CompactsOwn};
 ghost use Rattle.da_commands.specs.Repair.{Repairs, RepairsOwn, RepairOf};
 ghost use Rattle.da_commands.specs.Light.{Lights, JudgesOwn};
+ghost use Rattle.da_script.specs.Plays as plays;
+ghost use Rattle.da_script.specs.Alarms.{TellsOwn};
+ghost use Rattle.da_commands.specs.Net.{Nets};
 ghost use Rattle.da_commands.specs.Sample.{sample_frame, samples_in};
 ghost use Rattle.da_commands.specs.Namespace.{namespaces_in};
 ghost use Rattle.da_commands.specs.Verify.{IsRefusal, answer_kinds, answer_in, IsOwnReply};
@@ -50,6 +53,7 @@ use crate::gathering::FILE_LIMIT;
 use axis_roots::{claim_laws, grid_laws, message_laws};
 use blob_commit::{commit_laws, refusal_laws};
 use da_commands::follow_laws;
+use da_script::alarm_laws;
 use da_wire::{value_laws, wire_laws};
 use repair_queue::verdict_laws;
 use square_layout::{name_laws, size_laws};
@@ -137,6 +141,12 @@ pub fn run_laws()
         (count : ℕ) (w : List ℕ) (status : Status) → IsHeaderOf header square →
         Lights key count header frames w status → JudgesOwn square w status }
 
+    // Under the header of a square `net` writes `rejected` or `clash` only where a sample among the
+    // frames, by itself or in a claim, or the set of a claim, and the square name a collision.
+    ensures own_net { (header : Roots) (frames : List Raw) (script : List ℕ) (square : SquareShares)
+        (w : List ℕ) (status : Status) → IsHeaderOf header square →
+        Nets header frames script w status → TellsOwn (plays.items_in frames) square w }
+
     // For wanted namespaces, headers and answers `follow` has one output and one status.
     ensures one_follow { (wanted : List names.Namespace) (items : List Item) (w v : List ℕ)
         (one other : Status) → Follows wanted items w one → Follows wanted items v other →
@@ -195,4 +205,5 @@ pub fn run_laws()
     commit_laws();
     refusal_laws();
     follow_laws();
+    alarm_laws();
 }

@@ -1,4 +1,4 @@
-use Rattle.std.proofs.Common.{[], ◌∷◌}
+use Rattle.std.proofs.Common.{[], ◌∷◌, length}
 use Rattle.da_wire.specs.declared.frames.Frame.TheVariants.{Request}
 use Rattle.da_wire.specs.Spelling.{sample_kind, request_kind}
 use Rattle.da_commands.specs.Sample.{sample_of, sample_frame}
@@ -15,6 +15,9 @@ use Rattle.da_commands.proofs.Answering.CheckLemmas.{finding_proved, finding_own
 use Rattle.da_commands.proofs.Answering.CompactLemmas.{compacts_own}
 use Rattle.da_commands.proofs.Answering.RepairLemmas.{repairs_own}
 use Rattle.da_cli.proofs.CountedLies.{lies_counted}
+use Rattle.da_script.specs.Scripts.{moves_of}
+use Rattle.da_script.specs.Plays as plays
+use Rattle.da_cli.proofs.NetLemmas.{nets_own}
 use Rattle.da_commands.proofs.Answering.LightLemmas.{lights_own}
 use Rattle.da_commands.proofs.Answering.VerifyLemmas.{verified_proved, verified_complete, verified_accepted, verified_committed, verified_rooted, verified_own}
 use Rattle.da_wire.proofs.AnsweringLemmas.{answers_to}
@@ -66,6 +69,11 @@ returns-clause-lies c = lies_counted
 
 pub returns-clause-own_light : goal.returns-clause-own_light
 returns-clause-own_light c = lights_own c.claim_laws.ensures.own
+
+pub returns-clause-own_net : goal.returns-clause-own_net
+returns-clause-own_net c = λ header frames script square w status own.
+    nets_own header frames script square w status
+    (c.alarm_laws.ensures.own (plays.items_in frames) header (moves_of (length (plays.items_in frames)) script) script w square own)
 
 pub returns-clause-complete : goal.returns-clause-complete
 returns-clause-complete c = λ header name answer. verified_complete header name answer (c.answer_laws.ensures.refusal header name answer)
