@@ -42,6 +42,7 @@ use Rattle.da_commands.specs.Net.{script_file, Nets}
 use Rattle.da_script.specs.Plays as plays
 use Rattle.da_script.specs.Alarms.{TellsOwn}
 use Rattle.da_cli.specs.Own.{AreOwn}
+use Rattle.da_cli.proofs.AskedLemmas.{shows_asked}
 
 -- ---- frames of a byte string have bytes
 
@@ -131,7 +132,8 @@ are_own (Some files) words found verified file repaired lit compacted followed n
       (subst (λ (a : Result Roots ℕ). MatchResult a (λ h. MatchResult (claim_in (claim_file contents)) (λ c. CompactsJudged h c w status) (λ at. ⊥)) (λ at. ⊥)) first answers));
   verify_for = λ contents header square answer request refusal command read first own fits second third refused ok.
       let holds = (asked_holds header answer request).0 (subst (IsRefusalFor (is_answer_to request answer) header answer) (ok_has_none refusal ok) refused) in
-      (holds.1, verified header answer square ((file (answer_file contents) answer fits).0 second).0 own holds.0);
+      let reply = verified header answer square ((file (answer_file contents) answer fits).0 second).0 own holds.0 in
+      (holds.1, reply, shows_asked request answer square holds.1 reply);
   repair = λ contents header square w status command read first own fits answers.
       repaired header (frames_of (messages_file contents)) square w status (frames_fit _ fits 0) own
       (subst (λ (a : Result Roots ℕ). MatchResult a (λ h. Repairs h (frames_of (messages_file contents)) w status) (λ at. ⊥)) first answers);

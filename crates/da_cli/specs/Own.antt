@@ -1,17 +1,26 @@
 -- What the line `ok`, and the answer of a repair, say under the header of a square.
-use Rattle.std.specs.Prelude.{◌≡◌, ◌⊎◌, ℕ, List, codes, true, slice_get, ⊤, Some, None, Ok}
+use Rattle.std.specs.Prelude.{◌≡◌, ◌⊎◌, ◌*◌, ℕ, List, codes, true, slice_get, ⊤, Some, None, Ok}
 use Rattle.std.specs.declared.option.Option.{Option}
 use Rattle.std.specs.List.{Contains}
 use Rattle.namespace_id.specs.declared.namespaces.Namespace as names
+use Rattle.namespace_id.specs.declared.cells.Cell.{Cell}
+use Rattle.namespace_id.specs.declared.shares.Share.{Share}
 use Rattle.namespace_id.specs.Bytes.{AreBytes}
 use Rattle.share_split.specs.Walks.{blobs_of}
 use Rattle.blob_feed.specs.Feeds.{header_at, Read, IsFeedOf, shares_in, FirstNames}
 use Rattle.data_header.specs.Headers.{Roots}
 use Rattle.square_layout.specs.Blocks.{SquareShares}
-use Rattle.axis_roots.specs.Grids.{IsHeaderOf}
+use Rattle.axis_roots.specs.Grids.{Extends, IsHeaderOf, share_at}
+use Rattle.axis_roots.specs.Own.{NamesClash}
+use Rattle.square_serve.specs.Answers.{shown}
+use Rattle.square_serve.specs.Shares.{shares_of}
+use Rattle.square_serve.specs.Own.{AnswerNames}
+use Rattle.blob_commit.specs.Places.{RootedText}
+use Rattle.blob_commit.specs.Places as places
 use Rattle.da_script.specs.Alarms.{TellsOwn}
 use Rattle.da_wire.specs.Reading.{Raw}
 use Rattle.da_wire.specs.declared.frames.Frame.{Frame}
+use Rattle.da_wire.specs.declared.frames.Frame.TheVariants.{Message, Names, Rooted, Sample, Request}
 use Rattle.da_wire.specs.Frames.{frames_of}
 use Rattle.da_io.specs.Files.{Files}
 use Rattle.da_cli.specs.Words.{is_command, names_of}
@@ -55,7 +64,18 @@ IsOwnCompact files words = (contents : List (List ℕ)) (header : Roots) (square
     → header_in (header_file contents) ≡ Ok header → IsHeaderOf header square
     → claim_in (claim_file contents) ≡ Ok claim → CompactOf contents w status → CompactsOwn claim square status
 
--- over the files of `verify` with a REQUEST, where the header in HEADER is that of a square and the line is `ok`: ANSWER is to the request, and shows the square's own shares, or they name a collision
+-- the square's extension has this share at the cell
+abbrev pub IsShareAt : SquareShares → Cell → Share → Type 0
+IsShareAt square cell share = (grid : List Share) × Extends square.k square.shares grid × (share ≡ share_at (2 * square.k) grid cell)
+
+-- to a request for a sample an answer shows the extension's share at the cell that is asked for, to one for a namespace exactly the square's shares of it; or it and the square name a collision
+abbrev pub ShowsAsked : Frame → Frame → SquareShares → Type 0
+ShowsAsked (Sample cell axis) (Message m) square = IsShareAt square cell m.share ⊎ NamesClash m square
+ShowsAsked (Sample cell axis) (Rooted proof) square = IsShareAt square cell proof.message.share ⊎ places.NamesClash (RootedText proof) square
+ShowsAsked (Request name) (Names other answer) square = (shown answer ≡ shares_of square name) ⊎ AnswerNames name square answer
+ShowsAsked request answer square = ⊥
+
+-- over the files of `verify` with a REQUEST, where the header in HEADER is that of a square and the line is `ok`: ANSWER is to the request, and shows the square's own shares that are asked for, or they name a collision
 abbrev pub IsOwnLineFor : Files → List (List ℕ) → Type 0
 IsOwnLineFor files words = (contents : List (List ℕ)) (header : Roots) (square : SquareShares) (answer request : Frame) (refusal : Option ℕ)
     → is_command words (codes "verify") 3 ≡ true → gathered files (names_of words) ≡ whole contents
@@ -63,7 +83,7 @@ IsOwnLineFor files words = (contents : List (List ℕ)) (header : Roots) (square
     → AreBytes (answer_file contents) → answer_in (answer_file contents) ≡ Ok answer
     → request_in (request_file contents) ≡ Ok request
     → IsRefusalFor (is_answer_to request answer) header answer refusal → verdict_line refusal ≡ codes "ok\n"
-    → IsAnswerTo request answer × IsOwnReply answer square
+    → IsAnswerTo request answer × IsOwnReply answer square × ShowsAsked request answer square
 
 -- over the files of `repair`, where the header in HEADER is that of a square: what is written and answered is that square or the missing cells, or a proved sample of MESSAGES and the square name a collision
 abbrev pub IsOwnRepair : Files → List (List ℕ) → Type 0
