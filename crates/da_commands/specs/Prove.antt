@@ -8,7 +8,7 @@ use Rattle.data_header.specs.Headers.{Roots}
 use Rattle.data_header.specs.DataRoots.{data_root_of}
 use Rattle.square_layout.specs.Blocks.{SquareShares}
 use Rattle.axis_roots.specs.Grids.{Extends, IsHeaderOf, HasNoHeader, share_at}
-use Rattle.blob_commit.specs.Proofs.{CommitParts, CommitHolds, RootedParts, RootedHolds, is_range}
+use Rattle.blob_commit.specs.Proofs.{CommitParts, IsCommit, CommitHolds, RootedParts, RootedHolds, is_range}
 use Rattle.da_wire.specs.declared.frames.Frame.{Frame}
 use Rattle.da_wire.specs.declared.frames.Frame.TheVariants.{Commit, Rooted}
 use Rattle.da_status.specs.declared.status.Asked.TheVariants.{NoHeader, Range}
@@ -45,11 +45,13 @@ ProveOf files = Over (square_in (square_file files))
 
 -- ---- prove SQUARE START COUNT
 
--- a commitment proof is of the square's width and of this range, and holds under the data root of the header
+-- a commitment proof is of the square's width and of this range, its digests and hashes have their lengths, and it holds under
+-- the data root of the header
 pub record IsRangeProof (square : SquareShares) (header : Roots) (first number : ℕ) (proof : CommitParts) : Type 0 where
   pub width : proof.k ≡ square.k
   pub start : proof.start ≡ first
   pub count : proof.count ≡ number
+  pub lengths : IsCommit proof
   pub holds : CommitHolds (data_root_of header) proof
 
 -- what is answered to a range under the header of the square: the frame of a proof of it, where it is a range of the square

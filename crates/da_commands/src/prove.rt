@@ -23,7 +23,9 @@ use crate::forms::{one_square, square_and_requests};
 use crate::frames::give;
 use crate::sample::{first_outside, next_sample};
 use axis_roots::{Grid, Message, grid_laws, header_of, index};
-use blob_commit::{CommitProof, ProveError, RootedMessage, prove_commit, row_trees, sample_laws};
+use blob_commit::{
+    CommitProof, ProveError, RootedMessage, commit_law, prove_commit, row_trees, sample_laws,
+};
 use da_io::Sink;
 use da_status::{Asked, Status};
 use da_wire::{Frame, frame_law, wire_laws};
@@ -171,7 +173,10 @@ fn give_range<O: Sink>(
         (out.new ≡ out.old) result }
 {
     match range_proof(alloc, grid, header, start, count) {
-        Ok(proof) => give(commit_frame(proof), &mut Vec::new(alloc), out),
+        Ok(proof) => {
+            commit_law(&proof);
+            give(commit_frame(proof), &mut Vec::new(alloc), out)
+        }
         Err(ProveError::Range) => Status::BadRequest(Asked::Range),
         Err(ProveError::NoMemory) => Status::NoMemory,
     }

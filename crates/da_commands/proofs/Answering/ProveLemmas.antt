@@ -16,7 +16,7 @@ use Rattle.axis_roots.specs.Messages.{index, root_for}
 use Rattle.axis_roots.specs.Openings.{OpensAt, IsProved}
 use Rattle.axis_roots.specs.Trees.{message_at}
 use Rattle.axis_roots.proofs.Grids.HeaderLemmas.{header_width}
-use Rattle.blob_commit.specs.Proofs.{CommitParts, CommitHolds, RootedParts, RootedHolds, IsRooted, is_range}
+use Rattle.blob_commit.specs.Proofs.{CommitParts, IsCommit, CommitHolds, RootedParts, RootedHolds, IsRooted, is_range}
 use Rattle.blob_commit.proofs.ShapeLemmas.{shape_parts}
 use Rattle.axis_roots.proofs.Grids.NumberLemmas.{index-lt}
 use Rattle.square_serve.specs.Serving.{HeldParts, Holds}
@@ -119,14 +119,14 @@ holds_range root proof h = (shape_parts proof h.shape).1
 module _ (square : SquareShares) (header : Roots) (start count : ℕ) (same : header.k ≡ square.k) where
   -- the frame of a proof of the range is the answer
   pub proves_range : (proof : CommitParts) (frame : Frame) → proof.k ≡ header.k → proof.start ≡ start → proof.count ≡ count
-      → CommitHolds (data_root_of header) proof → frame ≡ Commit proof → (w : List ℕ) (status : Status) → Writes frame w status
+      → IsCommit proof → CommitHolds (data_root_of header) proof → frame ≡ Commit proof → (w : List ℕ) (status : Status) → Writes frame w status
       → ProvesIn (is_range square.k start count) square header start count w status
-  proves_range proof frame k from n holds is w status gives =
+  proves_range proof frame k from n lengths holds is w status gives =
       let here : is_range proof.k proof.start proof.count ≡ is_range square.k start count =
       ap (λ (x : ℕ). is_range x proof.start proof.count) (k ∙ same) ∙ ap₂ (λ (x y : ℕ). is_range square.k x y) from n in
       let range : is_range square.k start count ≡ true = sym here ∙ holds_range (data_root_of header) proof holds in
       subst (λ (b : Bool). ProvesIn b square header start count w status) (sym range)
-      (proof, record { width = k ∙ same; start = from; count = n; holds = holds }, (ap spelling (sym is) ∙ gives.0, gives.1))
+      (proof, record { width = k ∙ same; start = from; count = n; lengths = lengths; holds = holds }, (ap spelling (sym is) ∙ gives.0, gives.1))
 
   -- what is no range of the square is refused
   pub proves_none : is_range header.k start count ≡ false → ProvesIn (is_range square.k start count) square header start count [] (BadRequest Range)

@@ -14,7 +14,7 @@ returns-in-Ok g c = λ square same.
     let count = c.args.count in
     once_within (Writes c.commit_frame.result) (ProvesIn (is_range square.k start count) square header start count) _ _ _ _ _ _
     (proves_range square header start count same c.in-Ok.proof c.commit_frame.result c.in-Ok.ensures.k c.in-Ok.ensures.start c.in-Ok.ensures.count
-    c.in-Ok.ensures.holds c.commit_frame.ensures.value) c.give.ensures
+    c.commit_law.ensures c.in-Ok.ensures.holds c.commit_frame.ensures.value) c.give.ensures
 
 -- the range is none of the square's
 pub returns-in-Err-Range : goal.returns-in-Err-Range
