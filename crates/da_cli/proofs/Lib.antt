@@ -11,4 +11,5 @@ pub mod RanLemmas
 pub mod StreamedRanLemmas
 pub mod NetLemmas
 pub mod AskedLemmas
+pub mod RangeLemmas
 pub mod OwnLemmas

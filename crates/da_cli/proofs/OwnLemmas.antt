@@ -26,6 +26,7 @@ use Rattle.da_io.specs.Files.{Files}
 use Rattle.da_commands.specs.declared.check.Finding.{Finding}
 use Rattle.da_commands.specs.declared.check.Finding.TheVariants.{Proved, NoMessage, Refused}
 use Rattle.da_status.specs.declared.status.Status.{Status}
+use Rattle.da_status.specs.declared.status.Status.TheVariants.{Done}
 use Rattle.da_commands.specs.Check.{finding_of, line_of, IsOwnFrame}
 use Rattle.axis_roots.specs.Claims.{ClaimParts}
 use Rattle.da_commands.specs.Compact.{claim_file, claim_in, CompactsJudged, CompactsOwn}
@@ -41,7 +42,8 @@ use Rattle.da_commands.proofs.Answering.VerifyForLemmas.{asked_holds}
 use Rattle.da_commands.specs.Net.{script_file, Nets}
 use Rattle.da_script.specs.Plays as plays
 use Rattle.da_script.specs.Alarms.{TellsOwn}
-use Rattle.da_cli.specs.Own.{AreOwn}
+use Rattle.da_commands.specs.Prove.{ProvesRange}
+use Rattle.da_cli.specs.Own.{ProvesOwn, AreOwn}
 use Rattle.da_cli.proofs.AskedLemmas.{shows_asked}
 
 -- ---- frames of a byte string have bytes
@@ -118,9 +120,10 @@ pub are_own : (told : Option Files) (words : List (List ℕ))
     → (read ≡ blobs_of (shares_in square name)) ⊎ FirstNames (items_in answers) number name square)
     → ((header : Roots) (frames : List Raw) (script : List ℕ) (square : SquareShares) (w : List ℕ) (status : Status)
     → IsHeaderOf header square → Nets header frames script w status → TellsOwn (plays.items_in frames) square w)
+    → ((square : SquareShares) (start count : ℕ) (w : List ℕ) → ProvesRange square start count w Done → ProvesOwn square start count w)
     → AreOwn told words
-are_own None words found verified file repaired lit compacted followed netted = tt
-are_own (Some files) words found verified file repaired lit compacted followed netted = record {
+are_own None words found verified file repaired lit compacted followed netted proved = tt
+are_own (Some files) words found verified file repaired lit compacted followed netted proved = record {
   check = λ contents header square i frame command read first own fits here ok.
       found header frame square (all_at HasBytes _ i frame (frames_fit _ fits 0) here) own (ok_is_proved (finding_of header frame) ok);
   verify = λ contents header square answer refusal command read first own fits second refused ok.
@@ -145,4 +148,6 @@ are_own (Some files) words found verified file repaired lit compacted followed n
   net = λ contents header square w status command read first own answers.
       netted header (frames_of (messages_file contents)) (script_file contents) square w status own
       (subst (λ (a : Result Roots ℕ). MatchResult a (λ h. Nets h (frames_of (messages_file contents)) (script_file contents) w status) (λ at. ⊥)) first answers);
+  prove = λ contents square start count w command read first answers.
+      proved square start count w (subst (λ (a : Result SquareShares ℕ). MatchResult a (λ s. ProvesRange s start count w Done) (λ at. ⊥)) first answers);
 }

@@ -15,19 +15,22 @@ use Rattle.axis_roots.specs.Own.{NamesClash}
 use Rattle.square_serve.specs.Answers.{shown}
 use Rattle.square_serve.specs.Shares.{shares_of}
 use Rattle.square_serve.specs.Own.{AnswerNames}
-use Rattle.blob_commit.specs.Places.{RootedText}
+use Rattle.blob_commit.specs.Proofs.{CommitParts}
+use Rattle.blob_commit.specs.Places.{CommitsOwn, CommitText, RootedText}
 use Rattle.blob_commit.specs.Places as places
 use Rattle.da_script.specs.Alarms.{TellsOwn}
 use Rattle.da_wire.specs.Reading.{Raw}
 use Rattle.da_wire.specs.declared.frames.Frame.{Frame}
-use Rattle.da_wire.specs.declared.frames.Frame.TheVariants.{Message, Names, Rooted, Sample, Request}
+use Rattle.da_wire.specs.declared.frames.Frame.TheVariants.{Message, Names, Commit, Rooted, Sample, Request}
+use Rattle.da_wire.specs.Spelling.{spelling}
 use Rattle.da_wire.specs.Frames.{frames_of}
 use Rattle.da_io.specs.Files.{Files}
 use Rattle.da_cli.specs.Words.{is_command, names_of}
 use Rattle.da_cli.specs.Gathered.{gathered, whole}
-use Rattle.da_commands.specs.Frames.{header_in}
+use Rattle.da_commands.specs.Frames.{header_in, square_in}
 use Rattle.da_commands.specs.Check.{finding_of, line_of, IsOwnFrame}
 use Rattle.da_status.specs.declared.status.Status.{Status}
+use Rattle.da_status.specs.declared.status.Status.TheVariants.{Done}
 use Rattle.axis_roots.specs.Claims.{ClaimParts}
 use Rattle.da_commands.specs.Compact.{claim_file, claim_in, CompactOf, CompactsOwn}
 use Rattle.da_commands.specs.Repair.{RepairOf, RepairsOwn}
@@ -38,7 +41,8 @@ use Rattle.da_commands.specs.Verify.{answer_file, answer_in, IsRefusal, verdict_
 use Rattle.da_wire.specs.Answering.{is_answer_to, IsAnswerTo}
 use Rattle.da_commands.specs.VerifyFor.{request_file, request_in, IsRefusalFor}
 use Rattle.da_commands.specs.Net.{NetOf}
-use Rattle.da_commands.specs.Contents.{header_file, messages_file}
+use Rattle.da_commands.specs.Prove.{ProveRangeOf}
+use Rattle.da_commands.specs.Contents.{header_file, messages_file, square_file}
 use Rattle.da_script.specs.Plays as plays
 
 -- over the files of `check`, where the header in HEADER is that of a square: a frame of MESSAGES whose line is `ok` is a sample that shows the square's own share, or they name a collision
@@ -115,9 +119,22 @@ IsOwnNet files words = (contents : List (List ℕ)) (header : Roots) (square : S
     → header_in (header_file contents) ≡ Ok header → IsHeaderOf header square → NetOf contents w status
     → TellsOwn (plays.items_in (frames_of (messages_file contents))) square w
 
+-- what is written is a commitment proof of the square's width and this range, whose commitment is that of the square's shares in the range, or it and the square name a collision
+abbrev pub ProvesOwn : SquareShares → ℕ → ℕ → List ℕ → Type 0
+ProvesOwn square start count w = (proof : CommitParts) × (spelling (Commit proof) ≡ Some w) × (proof.k ≡ square.k)
+    × (proof.start ≡ start) × (proof.count ≡ count) × (CommitsOwn proof square ⊎ places.NamesClash (CommitText proof) square)
+
+-- over the file of `prove` with a range: what is answered with `Done` is such a proof, of the square in SQUARE
+abbrev pub IsOwnProve : Files → List (List ℕ) → Type 0
+IsOwnProve files words = (contents : List (List ℕ)) (square : SquareShares) (start count : ℕ) (w : List ℕ)
+    → is_command words (codes "prove") 3 ≡ true → gathered files (names_of words) ≡ whole contents
+    → square_in (square_file contents) ≡ Ok square → ProveRangeOf start count contents w Done
+    → ProvesOwn square start count w
+
 -- under the header of a square the line `ok` stands only for the square's own shares, and for an answer to the request where
 -- there is one, a claim is refused, a repair answers this square or the missing cells, `light` writes no claim, `follow`
--- tells of the square's shares, and no node of `net` rejects or has a collision; or a collision is named
+-- tells of the square's shares, no node of `net` rejects or has a collision, and `prove` of a range writes a proof of the
+-- square's shares in it; or a collision is named
 pub record HasOwn (files : Files) (words : List (List ℕ)) : Type 0 where
   pub check : AreOwnLines files words
   pub verify : IsOwnLine files words
@@ -127,6 +144,7 @@ pub record HasOwn (files : Files) (words : List (List ℕ)) : Type 0 where
   pub light : IsOwnLight files words
   pub follow : IsOwnFollow files words
   pub net : IsOwnNet files words
+  pub prove : IsOwnProve files words
 
 -- that, where the files are told
 abbrev pub AreOwn : Option Files → List (List ℕ) → Type 0

@@ -28,7 +28,7 @@ ghost use Rattle.da_wire.specs.Frames.{frames_of};
 ghost use Rattle.da_commands.specs.Contents.{header_file, messages_file};
 ghost use Rattle.da_commands.specs.declared.check.Finding.TheVariants.{Proved};
 ghost use Rattle.da_status.specs.declared.status.Status.{Status};
-ghost use Rattle.da_status.specs.declared.status.Status.TheVariants.{Missing};
+ghost use Rattle.da_status.specs.declared.status.Status.TheVariants.{Done, Missing};
 ghost use Rattle.da_cli.specs.Limits.{file_limit};
 ghost use Rattle.da_commands.specs.Frames.{header_in, square_in, block_in};
 ghost use Rattle.da_commands.specs.Check.{finding_of, is_ok, IsProvedFrame, IsOwnFrame};
@@ -38,6 +38,7 @@ ghost use Rattle.da_commands.specs.Light.{Lights, JudgesOwn};
 ghost use Rattle.da_script.specs.Plays as plays;
 ghost use Rattle.da_script.specs.Alarms.{TellsOwn};
 ghost use Rattle.da_commands.specs.Net.{Nets};
+ghost use Rattle.da_commands.specs.Prove.{ProvesRange};
 ghost use Rattle.da_commands.specs.Sample.{sample_frame, samples_in};
 ghost use Rattle.da_commands.specs.Namespace.{namespaces_in};
 ghost use Rattle.da_commands.specs.Verify.{IsRefusal, answer_kinds, answer_in, IsOwnReply};
@@ -47,7 +48,7 @@ ghost use Rattle.da_commands.specs.Root.{root_refusal};
 ghost use Rattle.da_commands.specs.Follow.{items_in, Feed, Follows};
 ghost use Rattle.data_header.specs.DataRoots.{data_root_of};
 ghost use Rattle.blob_commit.specs.Proofs.{CommitParts, CommitHolds, RootedParts, RootedHolds};
-ghost use Rattle.da_cli.specs.Own.{ShowsAsked};
+ghost use Rattle.da_cli.specs.Own.{ShowsAsked, ProvesOwn};
 ghost use Rattle.da_cli.specs.Laws.{FormLaw, BadInputLaw, ExcessLaw, AbsentLaw, FailureLaw};
 
 use crate::gathering::FILE_LIMIT;
@@ -154,6 +155,11 @@ pub fn run_laws()
     ensures own_net { (header : Roots) (frames : List Raw) (script : List ℕ) (square : SquareShares)
         (w : List ℕ) (status : Status) → IsHeaderOf header square →
         Nets header frames script w status → TellsOwn (plays.items_in frames) square w }
+
+    // What is answered with `Done` to a range of a square is a commitment proof of its width and this
+    // range, whose commitment is that of the square's shares in it, or they name a collision.
+    ensures own_prove { (square : SquareShares) (start count : ℕ) (w : List ℕ) →
+        ProvesRange square start count w Done → ProvesOwn square start count w }
 
     // For wanted namespaces, headers and answers `follow` has one output and one status.
     ensures one_follow { (wanted : List names.Namespace) (items : List Item) (w v : List ℕ)

@@ -19,6 +19,7 @@ use Rattle.da_script.specs.Scripts.{moves_of}
 use Rattle.da_script.specs.Plays as plays
 use Rattle.da_cli.proofs.NetLemmas.{nets_own}
 use Rattle.da_cli.proofs.AskedLemmas.{asked_own}
+use Rattle.da_cli.proofs.RangeLemmas.{proves_own}
 use Rattle.da_commands.proofs.Answering.LightLemmas.{lights_own}
 use Rattle.da_commands.proofs.Answering.VerifyLemmas.{verified_proved, verified_complete, verified_accepted, verified_committed, verified_rooted, verified_own}
 use Rattle.da_wire.proofs.AnsweringLemmas.{answers_to}
@@ -75,6 +76,9 @@ pub returns-clause-own_net : goal.returns-clause-own_net
 returns-clause-own_net c = λ header frames script square w status own.
     nets_own header frames script square w status
     (c.alarm_laws.ensures.own (plays.items_in frames) header (moves_of (length (plays.items_in frames)) script) script w square own)
+
+pub returns-clause-own_prove : goal.returns-clause-own_prove
+returns-clause-own_prove c = proves_own c.commit_laws.ensures.commit
 
 pub returns-clause-complete : goal.returns-clause-complete
 returns-clause-complete c = λ header name answer. verified_complete header name answer (c.answer_laws.ensures.refusal header name answer)

@@ -7,4 +7,4 @@ returns-clause-complete g c = completes _ _ _ _ _ c.answer-status.ensures.ran.me
 
 pub returns-clause-own : goal.returns-clause-own
 returns-clause-own g c = are_own _ _ c.run_laws.ensures.own c.run_laws.ensures.own_answer c.run_laws.ensures.answer_file c.run_laws.ensures.own_repair c.run_laws.ensures.own_light c.run_laws.ensures.own_compact
-    c.run_laws.ensures.own_follow c.run_laws.ensures.own_net
+    c.run_laws.ensures.own_follow c.run_laws.ensures.own_net c.run_laws.ensures.own_prove
