@@ -121,10 +121,13 @@ pub fn run<I: Inputs, O: Sink, N: Sink>(
     ensures complete { Completes (I.files inputs.old) (words_of words.now) (O.taken out.old)
         (O.taken out.new) result }
 
-    // Under the header of a square `ok` stands only for samples that show the square's own share and for
-    // namespace answers that show exactly its shares, each to the request where there is one, a repair answers
-    // this square or the missing cells, `light` writes no claim, and `follow` tells of the square's shares;
-    // or a collision is named, as a fraud claim always does; where the files are told.
+    // Under the header of a square `ok` stands only for samples that show the square's own share, namespace
+    // answers that show exactly its shares, proofs of the commitment of its shares in a range and root proofs
+    // of its own share, each to the request where there is one; `compact` refuses a claim; a repair answers
+    // this square or the missing cells; `light` writes no claim; `follow` tells of the square's shares; no
+    // node of `net` rejects or has a collision; and what `prove` writes of a range is a proof of the
+    // commitment of the square's shares in it. Or a collision is named, as a fraud claim always does. All
+    // where the files are told.
     ensures own { AreOwn (I.files inputs.old) (words_of words.now) }
 
     // `Usage` comes exactly where the words are no command. Where no word names a file, nothing is
@@ -135,8 +138,8 @@ pub fn run<I: Inputs, O: Sink, N: Sink>(
     // What is decided before the output leaves it as it was.
     ensures untouched { Untouched (out.new ≡ out.old) result }
 
-    // All commands but `check`, `sample`, `namespace`, `prove` of requests, `verify` without a request,
-    // `show` and `json` take all of their memory before they write.
+    // All commands but `sample`, `namespace`, `prove` of requests, `show` and `json` take all of their memory
+    // before they write.
     ensures late { IsEarly (call_of (words_of words.now)) (out.new ≡ out.old) result }
 
     // A failed pick or read, an excess of length: of which file, and after which others.
@@ -149,7 +152,9 @@ pub fn run<I: Inputs, O: Sink, N: Sink>(
     ensures input_faults { I.faults inputs.new ≡ input_count (kind_of result) (I.faults inputs.old) }
     ensures output_faults { O.faults out.new ≡ output_count (kind_of result) (O.faults out.old) }
 
-    // Each word that names a file is picked once, and the last one last.
+    // As many picks are made as words name files, or up to the one that a status of reading names; none
+    // with `Usage`, and perhaps fewer where memory ran out. Where all files were read, the last call on
+    // the inputs was of the last one, and did not fail.
     ensures picks { PickCount (length (names_of (words_of words.now))) (I.picks inputs.old)
         (I.picks inputs.new) result }
     ensures last { LastBy (kind_of result) (IsLast (names_of (words_of words.now))
