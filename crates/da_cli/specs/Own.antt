@@ -1,4 +1,4 @@
--- What the line `ok`, and the answer of a repair, say under the header of a square.
+-- What the outputs of commands say under the header of a square.
 use Rattle.std.specs.Prelude.{◌≡◌, ◌⊎◌, ◌*◌, ℕ, List, codes, true, slice_get, ⊤, Some, None, Ok}
 use Rattle.std.specs.declared.option.Option.{Option}
 use Rattle.std.specs.List.{Contains}
