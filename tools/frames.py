@@ -919,19 +919,11 @@ def main(words, out, err):
         return tell(err, Note(5, "out of memory"))
 
 
-class Closed:
-    """The standard output of a process that has none: nothing can be written to it."""
-
-    def write(self, _=b""):
-        """Fails, where nothing is to be written too, as it does in `da`."""
-        raise OSError("standard output is closed")
-
-    flush = write
-
-
 def end(run):
-    """Runs a tool on the words and streams of this process, and ends with its status. A closed stream is None here."""
-    status = run(sys.argv[1:], sys.stdout.buffer if sys.stdout else Closed(), sys.stderr or io.StringIO())
+    """Runs a tool on the words and streams of this process, and ends with its status."""
+    # A closed stream is None. For the output stands a file then to which nothing can be written.
+    out = sys.stdout.buffer if sys.stdout else open(os.devnull, "rb")
+    status = run(sys.argv[1:], out, sys.stderr or io.StringIO())
     for stream in filter(None, (sys.stdout, sys.stderr)):
         try:
             stream.flush()

@@ -4,6 +4,7 @@
  */
 #include "da.h"
 
+#include <errno.h>
 #include <signal.h>
 #include <stdio.h>
 #include <stdlib.h>
@@ -155,9 +156,10 @@ int main(int count, char **words)
     /* A reader that went away is an error of a write, and no signal. */
     signal(SIGPIPE, SIG_IGN);
     int status = run(count > 1 ? words[1] : "", count - 2, words + 2, &detail);
-    /* A write that failed is kept as an error of the stream; what a buffer still holds goes out here. */
-    int lost = ferror(stdout);
-    if (fclose(stdout) || lost)
+    /* What a buffer still holds goes out here, and a write that failed before has left its mark. */
+    int lost = fflush(stdout) || ferror(stdout);
+    /* A disk may tell only now that it is full. Where the stream was closed before, nothing was to be written. */
+    if (lost || (fclose(stdout) && errno != EBADF))
         status = CANNOT_WRITE;
     note(status, &detail);
     return status;

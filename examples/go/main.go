@@ -159,8 +159,10 @@ func main() {
 	// A reader that went away is an error of a write, and no signal.
 	signal.Ignore(syscall.SIGPIPE)
 	status, output, detail := run(os.Args[1:])
-	if _, err := os.Stdout.Write(output); err != nil || C.output_is_closed() != 0 {
-		status = cannotWrite
+	if len(output) > 0 {
+		if _, err := os.Stdout.Write(output); err != nil || C.output_is_closed() != 0 {
+			status = cannotWrite
+		}
 	}
 	os.Stderr.WriteString(note(status, detail))
 	os.Exit(int(status))

@@ -114,11 +114,12 @@ def run(library, words):
 
 def put(stream, data):
     """Writes all bytes to a standard stream, which is None where it is closed; false where they are lost."""
+    if not data or stream is None:
+        return not data
     try:
-        if stream is not None:
-            stream.buffer.write(data)
-            stream.flush()
-        return stream is not None
+        stream.buffer.write(data)
+        stream.flush()
+        return True
     except OSError:
         # At its end Python would write what is left once more.
         os.dup2(os.open(os.devnull, os.O_WRONLY), stream.fileno())
