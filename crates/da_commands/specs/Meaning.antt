@@ -94,8 +94,10 @@ IsRunnable command = ⊤
 
 -- commands that take all of their memory before they write
 abbrev pub TakesFirst : Command → Type 0
+TakesFirst Check = ⊤
 TakesFirst Build = ⊤
 TakesFirst Header = ⊤
+TakesFirst Verify = ⊤
 TakesFirst Compact = ⊤
 TakesFirst Repair = ⊤
 TakesFirst (Light key count) = ⊤

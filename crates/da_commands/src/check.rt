@@ -7,7 +7,7 @@ ghost use Rattle.da_commands.specs.declared.command.Command.TheVariants.{Check};
 ghost use Rattle.da_commands.specs.Contents.{contents_of};
 ghost use Rattle.da_commands.specs.Check.{finding_of, line_of, is_ok, Lists};
 ghost use Rattle.da_commands.specs.Meaning.{Meaning};
-ghost use Rattle.da_status.specs.Outcome.{Ends};
+ghost use Rattle.da_status.specs.Outcome.{EndsAtOnce};
 
 use crate::forms::header_and_messages;
 use crate::frames::is_long;
@@ -76,8 +76,8 @@ fn list<O: Sink>(
     out: &mut O,
 ) -> Status
     requires under { IfSome trees.old (λ kept. kept ≡ header.now) }
-    ensures { Ends (Lists header.now (frames_of messages.now)) (O.taken out.old) (O.taken out.new)
-        (O.faults out.old) (O.faults out.new) (out.new ≡ out.old) result }
+    ensures { EndsAtOnce (Lists header.now (frames_of messages.now)) (O.taken out.old)
+        (O.taken out.new) (O.faults out.old) (O.faults out.new) (out.new ≡ out.old) result }
 {
     let mut room = LineRoom::new();
     let mut rest = messages;
@@ -97,9 +97,10 @@ fn list<O: Sink>(
     }
 }
 
-/// Answers to the samples in MESSAGES under the header in HEADER.
+/// Answers to the samples in MESSAGES under the header in HEADER. All memory is taken before the first
+/// write.
 pub(crate) fn execute<O: Sink>(alloc: Global, files: &[Vec<u8>], out: &mut O) -> Status
-    ensures { Ends (Meaning Check (contents_of files.now)) (O.taken out.old) (O.taken out.new)
+    ensures { EndsAtOnce (Meaning Check (contents_of files.now)) (O.taken out.old) (O.taken out.new)
         (O.faults out.old) (O.faults out.new) (out.new ≡ out.old) result }
 {
     let (header, messages) = match header_and_messages(alloc, files) {

@@ -10,7 +10,7 @@ ghost use Rattle.da_commands.specs.Contents.{contents_of};
 ghost use Rattle.da_commands.specs.Frames.{ReadsSingle, WritesText};
 ghost use Rattle.da_commands.specs.Verify.{check_number, ns_number, fraud_number, commit_number, rooted_number, IsRefusal, verdict_line, verdict_status, answer_in, Verifies};
 ghost use Rattle.da_commands.specs.Meaning.{Meaning};
-ghost use Rattle.da_status.specs.Outcome.{Ends, EndsAtOnce};
+ghost use Rattle.da_status.specs.Outcome.{EndsAtOnce};
 ghost use Rattle.da_status.specs.Statuses.{kind_of, output};
 
 use crate::forms::header_and_answer;
@@ -193,7 +193,7 @@ pub(crate) fn give_line<O: Sink>(refusal: Option<u64>, out: &mut O) -> Status
 /// Writes the line for an answer under a header. Where there is no memory for a fraud claim nothing
 /// is written.
 fn verify<O: Sink>(alloc: Global, header: &Header, answer: Frame, out: &mut O) -> Status
-    ensures { Ends (Verifies header.now answer) (O.taken out.old) (O.taken out.new)
+    ensures { EndsAtOnce (Verifies header.now answer) (O.taken out.old) (O.taken out.new)
         (O.faults out.old) (O.faults out.new) (out.new ≡ out.old) result }
 {
     let Ok(refusal) = refusal_of(alloc, header, answer) else {
@@ -202,9 +202,10 @@ fn verify<O: Sink>(alloc: Global, header: &Header, answer: Frame, out: &mut O) -
     give_line(refusal, out)
 }
 
-/// Answers whether the answer in ANSWER holds under the header in HEADER.
+/// Answers whether the answer in ANSWER holds under the header in HEADER. All memory is taken before the
+/// write.
 pub(crate) fn execute<O: Sink>(alloc: Global, files: &[Vec<u8>], out: &mut O) -> Status
-    ensures { Ends (Meaning CommandOf.Verify (contents_of files.now)) (O.taken out.old)
+    ensures { EndsAtOnce (Meaning CommandOf.Verify (contents_of files.now)) (O.taken out.old)
         (O.taken out.new) (O.faults out.old) (O.faults out.new) (out.new ≡ out.old) result }
 {
     let (header, answer) = match header_and_answer(alloc, files) {

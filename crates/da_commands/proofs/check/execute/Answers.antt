@@ -7,14 +7,14 @@ use Rattle.da_commands.specs.Forms.{messages_judged}
 use Rattle.da_commands.specs.Check.{Lists, CheckOf}
 use Rattle.da_commands.specs.declared.command.Command.TheVariants.{Check}
 use Rattle.da_commands.specs.Meaning.{Meaning}
-use Rattle.da_status.proofs.EndLemmas.{ends_as}
-use Rattle.da_commands.proofs.Files.FormLemmas.{refused_ends, judged_with}
+use Rattle.da_status.proofs.EndLemmas.{once_as}
+use Rattle.da_commands.proofs.Files.FormLemmas.{refused_once, judged_with}
 use Rattle.da_commands.proofs.check.execute.Goals as goal
 
 pub returns-in-Err : goal.returns-in-Err
 returns-in-Err g c =
     let files = contents_of c.args.files.now in
-    refused_ends (messages_judged files) (CheckOf files) _ _ _ _ c.in-Err.ensures.judged refl
+    refused_once (messages_judged files) (CheckOf files) _ _ _ _ c.in-Err.ensures.judged refl
 
 -- the files are the header and the frames that were read
 pub returns : goal.returns
@@ -22,4 +22,4 @@ returns g c =
     let files = contents_of c.args.files.now in
     let same = judged_with (λ (h : Roots) (bytes : List ℕ). Lists h (frames_of bytes)) (messages_judged files) (header_in (file_of files 0))
     c.in-Ok.read.0 c.in-Ok.read.1.now (file_of files 1) c.in-Ok.ensures.judged c.in-Ok.ensures.header c.in-Ok.ensures.messages in
-    ends_as _ (Meaning Check files) _ _ _ _ _ _ same c.list.ensures
+    once_as _ (Meaning Check files) _ _ _ _ _ _ same c.list.ensures

@@ -4,7 +4,7 @@ use Rattle.da_wire.specs.Reading.{raw_seen}
 use Rattle.da_wire.specs.Frames.{frames_of}
 use Rattle.da_commands.specs.Check.{Lists, lines_of}
 use Rattle.da_status.proofs.WriteLemmas.{written_part, gathered_on, gathered_part}
-use Rattle.da_status.proofs.EndLemmas.{ends_in_fault}
+use Rattle.da_status.proofs.EndLemmas.{ends_in_fault, once_fault}
 use Rattle.da_commands.proofs.Answering.CheckLemmas.{next_line, next_ok}
 use Rattle.da_commands.proofs.check.list.Goals as goal
 
@@ -12,10 +12,11 @@ pub returns-in_default-add : goal.returns-in_default-add
 returns-in_default-add g c =
     let next = next_line c.args.header.now c.loop-frame.rest.now c.in-Some.after.now c.line_of.result.now (raw_seen c.in-Some.frame) c.finding_of-finding.result
     c.in-Some.ensures.frames c.finding_of-finding.ensures.value c.line_of.ensures in
-    ends_in_fault (Lists c.args.header.now (frames_of c.args.messages.now)) _ _ _ _ _ _ _ (refl, refl)
+    once_fault (Lists c.args.header.now (frames_of c.args.messages.now)) _ _ _ _ _
+    (ends_in_fault (Lists c.args.header.now (frames_of c.args.messages.now)) _ _ _ _ _ _ _ (refl, refl)
     (gathered_part _ _ _ _ _ _ _ _ c.loop-frame.invariant.lines next c.in_default-add.ensures.taken)
     (c.in_default-add.ensures.faults ∙ ap (λ (n : ℕ). count_on n 1) c.loop-frame.invariant.faults)
-    (λ s. c.in_default-add.ensures.told.0 (c.loop-frame.invariant.told.0 s), λ s. c.loop-frame.invariant.told.1 (c.in_default-add.ensures.told.1 s))
+    (λ s. c.in_default-add.ensures.told.0 (c.loop-frame.invariant.told.0 s), λ s. c.loop-frame.invariant.told.1 (c.in_default-add.ensures.told.1 s)))
 
 pub loop-frame-preserved : goal.loop-frame-preserved
 loop-frame-preserved g c =
@@ -34,7 +35,8 @@ loop-frame-preserved g c =
 -- a part of what was held was taken
 pub returns-in-Err : goal.returns-in-Err
 returns-in-Err g c =
-    ends_in_fault (Lists c.args.header.now (frames_of c.args.messages.now)) _ _ _ _ _ _ _ (refl, refl)
+    once_fault (Lists c.args.header.now (frames_of c.args.messages.now)) _ _ _ _ _
+    (ends_in_fault (Lists c.args.header.now (frames_of c.args.messages.now)) _ _ _ _ _ _ _ (refl, refl)
     (written_part _ _ _ _ _ c.loop-frame.room (lines_of c.args.header.now (frames_of c.loop-frame.rest.now)) c.loop-frame.invariant.lines refl c.in-Err.ensures.taken)
     (c.in-Err.ensures.faults ∙ ap (λ (n : ℕ). count_on n 1) c.loop-frame.invariant.faults)
-    (λ s. c.in-Err.ensures.told.0 (c.loop-frame.invariant.told.0 s), λ s. c.loop-frame.invariant.told.1 (c.in-Err.ensures.told.1 s))
+    (λ s. c.in-Err.ensures.told.0 (c.loop-frame.invariant.told.0 s), λ s. c.loop-frame.invariant.told.1 (c.in-Err.ensures.told.1 s)))

@@ -7,14 +7,14 @@ use Rattle.da_commands.specs.Forms.{under_judged, Over}
 use Rattle.da_commands.specs.Verify.{answer_file, answer_in, Verifies, VerifyOf}
 use Rattle.da_commands.specs.declared.command.Command.TheVariants.{Verify}
 use Rattle.da_commands.specs.Meaning.{Meaning}
-use Rattle.da_status.proofs.EndLemmas.{ends_as}
-use Rattle.da_commands.proofs.Files.FormLemmas.{refused_ends, over_is, judged_over}
+use Rattle.da_status.proofs.EndLemmas.{once_as}
+use Rattle.da_commands.proofs.Files.FormLemmas.{refused_once, over_is, judged_over}
 use Rattle.da_commands.proofs.verify.execute.Goals as goal
 
 pub returns-in-Err : goal.returns-in-Err
 returns-in-Err g c =
     let files = contents_of c.args.files.now in
-    refused_ends (under_judged answer_in files) (VerifyOf files) _ _ _ _ c.in-Err.ensures.judged refl
+    refused_once (under_judged answer_in files) (VerifyOf files) _ _ _ _ c.in-Err.ensures.judged refl
 
 -- the files are the header and the answer that were read
 pub returns : goal.returns
@@ -24,4 +24,4 @@ returns g c =
     let same = over_is (λ (answer : Frame). Verifies read.0 answer) (answer_in (answer_file files)) read.1 c.in-Ok.ensures.answer
     ∙ judged_over (λ (header : Roots). Over (answer_in (answer_file files)) (λ (answer : Frame). Verifies header answer)) (under_judged answer_in files)
     (header_in (header_file files)) read.0 c.in-Ok.ensures.judged c.in-Ok.ensures.header in
-    ends_as _ (Meaning Verify files) _ _ _ _ _ _ same c.verify.ensures
+    once_as _ (Meaning Verify files) _ _ _ _ _ _ same c.verify.ensures
