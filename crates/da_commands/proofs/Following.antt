@@ -4,3 +4,4 @@ pub mod EachOnceLemmas
 pub mod FeedOnceLemmas
 pub mod FeedItemLemmas
 pub mod FollowLemmas
+pub mod FeedStatusLemmas

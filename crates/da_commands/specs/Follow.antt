@@ -1,5 +1,5 @@
 -- follow WANTED ANSWERS: the blobs of namespaces from height to height, complete.
-use Rattle.std.specs.Prelude.{◌≡◌, ℕ, ◌+◌, ◌≤◌, ◌==◌, List, [], ◌∷◌, ◌++◌, length, map, codes, decimal, slice_index, Bool, not, Option, Some, None, is_some, Ok, Err, if◌then◌else◌, MatchOption, ⊤}
+use Rattle.std.specs.Prelude.{◌≡◌, ℕ, ◌+◌, ◌<◌, ◌≤◌, ◌==◌, List, [], ◌∷◌, ◌++◌, length, map, codes, decimal, slice_index, Bool, not, Option, Some, None, is_some, IsSome, Ok, Err, if◌then◌else◌, MatchOption, ⊤}
 use Rattle.std.specs.List.{fold, filter, filter_map, flat_map, range_with_len, Contains}
 use Rattle.std.specs.Option.{option_map}
 use Rattle.std.specs.BTreeSet.{insert_key}
@@ -149,6 +149,15 @@ pub record IsToldMore (feed : Feed) (places : List Place) (old new : Told) : Typ
 
 -- ---- the command
 
+-- the places of a run: each height with each of the wanted namespaces once, ascending
+abbrev pub places_of : List names.Namespace → List Item → List Place
+places_of wanted items = places_from (each_once wanted) 0 (length (heights_of items))
+
+-- at each of so many heights something is had of each wanted namespace
+abbrev pub HasAll : Feed → List names.Namespace → ℕ → Type 0
+HasAll feed wanted count =
+    (number : ℕ) (name : names.Namespace) → number < count → Contains wanted name → IsSome (feed number name)
+
 -- the status of lines of which so many say that there is nothing
 abbrev pub feed_status : ℕ → Status
 feed_status missing = if missing == 0 then Done else Waiting missing
@@ -157,8 +166,7 @@ feed_status missing = if missing == 0 then Done else Waiting missing
 -- namespaces once, ascending, the lines of what the feed of the wanted namespaces has there
 abbrev pub Follows : List names.Namespace → List Item → Relation
 Follows wanted items w status = (feed : Feed) × IsFeedOf (Contains wanted) items feed
-    × (w ≡ feed_lines feed (places_from (each_once wanted) 0 (length (heights_of items))))
-    × (status ≡ feed_status (missing_count feed (places_from (each_once wanted) 0 (length (heights_of items)))))
+    × (w ≡ feed_lines feed (places_of wanted items)) × (status ≡ feed_status (missing_count feed (places_of wanted items)))
 
 -- what is answered: where all wanted namespaces can be followed, what is written; else the first that can't is refused
 abbrev pub FollowsAsked : List names.Namespace → List Item → Relation

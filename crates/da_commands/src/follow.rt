@@ -1,6 +1,6 @@
 //! follow WANTED ANSWERS: the blobs of namespaces from height to height, complete.
 
-ghost use Rattle.std.specs.Prelude.{◌≡◌, ◌⊎◌, ◌++◌, ⊤, ℕ, List, Some, None, OnOk, IfOk, [], length};
+ghost use Rattle.std.specs.Prelude.{◌≡◌, ◌⊎◌, ◌↔◌, ◌≤◌, ◌++◌, ⊤, ℕ, List, Some, None, OnOk, IfOk, [], length};
 ghost use Rattle.std.specs.List.{list_any, cons_option, Contains};
 ghost use Rattle.namespace_id.specs.declared.namespaces.Namespace.{Namespace as Name};
 ghost use Rattle.namespace_id.specs.Bytes.{AreBytes};
@@ -12,13 +12,14 @@ ghost use Rattle.blob_feed.specs.Feeds.{Item, heights_of, header_at, Read, IsFee
 ghost use Rattle.blob_feed.specs.Filters.{IsFilter, wanted_by};
 ghost use Rattle.blob_feed.specs.Followers.{StandsFor, count_of, is_name};
 ghost use Rattle.da_status.specs.declared.status.Status.{Status as Ended};
+ghost use Rattle.da_status.specs.declared.status.Status.TheVariants.{Done, Waiting};
 ghost use Rattle.da_status.specs.Statuses.{kind_of, output};
 ghost use Rattle.da_status.specs.Outcome.{EndsAtOnce};
 ghost use Rattle.da_commands.specs.declared.command.Command.TheVariants as CommandOf;
 ghost use Rattle.da_commands.specs.Contents.{contents_of};
 ghost use Rattle.da_commands.specs.Serving.{failing_from};
 ghost use Rattle.da_commands.specs.Namespace.{namespaces_in};
-ghost use Rattle.da_commands.specs.Follow.{is_followed, each_once, item_of, items_in, bad_feed, IsLed, IsTimely, Feed, places_from, IsToldOf, feed_status, Follows, FollowsAsked};
+ghost use Rattle.da_commands.specs.Follow.{is_followed, each_once, item_of, items_in, bad_feed, IsLed, IsTimely, Feed, places_from, IsToldOf, places_of, missing_count, HasAll, feed_status, Follows, FollowsAsked};
 ghost use Rattle.da_commands.specs.Meaning.{Meaning};
 
 use crate::feed_lines::{Told, lines};
@@ -182,6 +183,16 @@ pub fn follow_laws()
         header_at (items_in answers) number ≡ Some header → IsHeaderOf header square →
         (read ≡ blobs_of (shares_in square name))
         ⊎ FirstNames (items_in answers) number name square }
+
+    // A run is done exactly where something is had of each wanted namespace at each height. It waits
+    // exactly where at places, one at least, nothing is had, and for as many.
+    ensures done { (wanted : List Name) (items : List Item) (feed : Feed) (w : List ℕ)
+        (status : Ended) → IsFeedOf (Contains wanted) items feed → Follows wanted items w status →
+        (status ≡ Done) ↔ HasAll feed wanted (length (heights_of items)) }
+    ensures waits { (wanted : List Name) (items : List Item) (feed : Feed) (w : List ℕ)
+        (status : Ended) → IsFeedOf (Contains wanted) items feed → Follows wanted items w status →
+        (n : ℕ) → (status ≡ Waiting n)
+        ↔ ((1 ≤ n) × (missing_count feed (places_of wanted items) ≡ n)) }
 {
     value_laws();
     feed_laws::<Listed>();
@@ -211,8 +222,7 @@ fn told(alloc: Global, wanted: &[u8], answers: &[u8]) -> Result<Told, NoMemory>
     requires { IsLed (items_in answers.now) }
     ensures { IfOk result (λ told. (feed : Feed)
         × IsFeedOf (Contains (namespaces_in wanted.now)) (items_in answers.now) feed
-        × IsToldOf feed (places_from (each_once (namespaces_in wanted.now)) 0
-        (length (heights_of (items_in answers.now)))) told) }
+        × IsToldOf feed (places_of (namespaces_in wanted.now) (items_in answers.now)) told) }
 {
     let names = wanted_set(alloc, wanted)?;
     let ascending = in_order(alloc, &names)?;

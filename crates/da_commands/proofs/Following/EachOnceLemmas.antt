@@ -61,12 +61,12 @@ module _ (name : Namespace) where
       or_right (is_name name first) (list_any (is_name name) wanted) (found_there wanted k (omega (arith, below)) is)
 
   -- a namespace that is found among those that are wanted, each once, is wanted
-  wanted_there : (wanted : List Namespace) → list_any (is_name name) (each_once wanted) ≡ true → Contains wanted name
+  pub wanted_there : (wanted : List Namespace) → list_any (is_name name) (each_once wanted) ≡ true → Contains wanted name
   wanted_there wanted found =
       Contains-from_any same_name name wanted (sym (inserted_all [] wanted) ∙ found)
 
   -- and the other way
-  wanted_found : (wanted : List Namespace) → Contains wanted name → list_any (is_name name) (each_once wanted) ≡ true
+  pub wanted_found : (wanted : List Namespace) → Contains wanted name → list_any (is_name name) (each_once wanted) ≡ true
   wanted_found wanted (k, below, is) = inserted_all [] wanted ∙ found_there wanted k below is
 
 module _ (wants other : Namespace → Type 0) (there : (name : Namespace) → wants name → other name)
