@@ -1,20 +1,19 @@
 -- The blobs of a block are read back from its square.
-use Rattle.std.proofs.Common.{◌≡◌, ◌∙◌, ◌↔◌, ℕ, zero, suc, ◌+◌, ◌-◌, ◌*◌, ◌||◌, List, [], ◌∷◌, ◌++◌, length, drop, replicate, Bool, true, false, cond, true≢false, None, Ok, refl, sym, ap, ap₂, subst, inl, inr}
+use Rattle.std.proofs.Common.{◌≡◌, ◌∙◌, ◌↔◌, ℕ, zero, suc, ◌+◌, ◌-◌, ◌*◌, ◌||◌, List, [], ◌∷◌, ◌++◌, length, drop, replicate, Bool, true, false, cond, true≢false, Ok, refl, sym, ap, ap₂, subst, inl, inr}
 use Rattle.std.specs.List.{AllByRecursion}
 use Rattle.std.specs.Str.{bytes_eq}
 use Rattle.std.proofs.lemmas.Bool.{cases_Bool}
 use Rattle.std.proofs.lemmas.Slice.Eq.{bytes_eq-Decides}
 use Rattle.namespace_id.specs.declared.namespaces.Namespace.{Namespace}
 use Rattle.namespace_id.specs.declared.shares.Share.{Share}
-use Rattle.namespace_id.specs.Names.{IsNamespace, is_blob_namespace, transaction, pay_for_blob, primary_reserved_padding, tail_padding}
+use Rattle.namespace_id.specs.Names.{is_blob_namespace, transaction, pay_for_blob, primary_reserved_padding, tail_padding}
 use Rattle.namespace_id.specs.Shares.{name_in, AreShares}
 use Rattle.share_split.specs.Blobs.{NamedBytes, blob_shares_of}
 use Rattle.share_split.specs.Units.{unit_shares_of}
 use Rattle.share_split.specs.Joined.{padding_share, IsBlob, AreBlobs}
 use Rattle.share_split.specs.Walks.{blobs_of}
-use Rattle.square_layout.specs.Blocks.{BlockParts, IsBlock}
+use Rattle.square_layout.specs.Blocks.{BlockParts}
 use Rattle.square_layout.specs.Layout.{share_count_of, start_after, placed, in_order, compact_part, compact_end, laid, width_for, square_of}
-use Rattle.square_layout.specs.Refusals.{layout_refusal}
 use Rattle.square_layout.specs.ShareNames.{AreNamed, BlobSharesAreNamed, UnitSharesAreNamed, PaddingIsNamed}
 use Rattle.square_layout.proofs.BlobOrderLemmas.{All-in_order}
 use Rattle.square_serve.specs.Shares.{is_named}
@@ -78,7 +77,7 @@ others : (name : Namespace) (shares : List Share) → IsOther name → AreNamed 
 others name [] other named = tt
 others name (share ∷ shares) other named = (
   ap₂ (λ (a b : Bool). a || b) (named_other transaction name share named.0 other.transactions)
-  (named_other pay_for_blob name share named.0 other.payments),
+      (named_other pay_for_blob name share named.0 other.payments),
   others name shares other named.1,
 )
 
