@@ -15,7 +15,7 @@ use Rattle.da_wire.specs.declared.frames.Frame.TheVariants.{Header}
 use Rattle.da_wire.specs.Spelling.{spelling}
 use Rattle.da_commands.specs.Frames.{header_in, message_in, square_in}
 use Rattle.da_commands.specs.Verify.{answer_in, check_number, IsRefusal}
-use Rattle.da_wire.specs.Answering.{is_answer_to}
+use Rattle.da_commands.specs.Answers.{is_answer_to}
 use Rattle.da_commands.specs.VerifyFor.{request_in, IsRefusalFor}
 use Rattle.da_c.specs.declared.replies.Reply.TheVariants.{NoHeader}
 use Rattle.da_c.specs.Replies.{Replies, Outputs, Reads, Takes, Refuses, Fits, verdict}

@@ -10,6 +10,7 @@ pub mod HeaderLemmas
 pub mod ChoiceLemmas
 pub mod ServingLemmas
 pub mod SampleLemmas
+pub mod AskedLemmas
 pub mod AnswerLemmas
 pub mod NamespaceLemmas
 pub mod VerifyLemmas

@@ -10,6 +10,7 @@ pub mod Serving
 pub mod Sample
 pub mod Prove
 pub mod Namespace
+pub mod Answers
 pub mod Verify
 pub mod Compact
 pub mod VerifyFor

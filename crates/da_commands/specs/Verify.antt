@@ -1,5 +1,5 @@
 -- verify HEADER ANSWER: whether one answer holds under a header.
-use Rattle.std.specs.Prelude.{◌≡◌, ◌⊎◌, ℕ, List, [], ◌∷◌, ◌++◌, codes, decimal, Some, None, Result, ⊤}
+use Rattle.std.specs.Prelude.{◌≡◌, ◌⊎◌, ℕ, List, [], ◌∷◌, ◌++◌, codes, decimal, Result}
 use Rattle.std.specs.declared.option.Option.{Option}
 use Rattle.std.specs.Option.{option_map, option_map_or}
 use Rattle.data_header.specs.Headers.{Roots}
@@ -24,12 +24,13 @@ use Rattle.blob_commit.specs.declared.rooting.RootedRefusal.TheVariants as roote
 use Rattle.blob_commit.specs.Refusals.{commit_refusal, rooted_refusal}
 use Rattle.blob_commit.specs.Places.{CommitsOwn, RootedOwn, CommitText, RootedText}
 use Rattle.blob_commit.specs.Places as places
-use Rattle.da_wire.specs.declared.frames.Frame.{Frame}
-use Rattle.da_wire.specs.declared.frames.Frame.TheVariants.{Message, Names, Fraud, Commit, Rooted}
 use Rattle.da_wire.specs.Spelling.{message_kind, names_kind, fraud_kind, commit_kind, rooted_kind}
 use Rattle.da_wire.specs.Reading.{only_of}
 use Rattle.da_status.specs.declared.status.Status.{Status}
 use Rattle.da_status.specs.declared.status.Status.TheVariants.{Done, Refused}
+use Rattle.da_commands.specs.declared.answers.Answer.{Answer}
+use Rattle.da_commands.specs.declared.answers.Answer.TheVariants.{Message, Names, Fraud, Commit, Rooted}
+use Rattle.da_commands.specs.Answers.{answer_of}
 use Rattle.da_commands.specs.Contents.{file_of, header_file}
 use Rattle.da_commands.specs.Frames.{header_in, single}
 use Rattle.da_commands.specs.Forms.{Over}
@@ -70,9 +71,8 @@ rooted_number rooted.Shape = 1
 rooted_number rooted.Root = 2
 rooted_number (rooted.Path why) = 3
 
--- an answer is refused by the check of this number, or by none where it holds; frames of other kinds are no answers, and
--- none comes here
-abbrev pub IsRefusal : Roots → Frame → Option ℕ → Type 0
+-- an answer is refused by the check of this number, or by none where it holds
+abbrev pub IsRefusal : Roots → Answer → Option ℕ → Type 0
 IsRefusal header (Message m) refusal = refusal ≡ option_map check_number (message_refusal header m)
 IsRefusal header (Names name answer) refusal = refusal ≡ option_map ns_number (answer_refusal header name answer)
 IsRefusal header (Fraud claim) refusal =
@@ -81,19 +81,17 @@ IsRefusal header (Commit proof) refusal =
     refusal ≡ option_map commit_number (commit_refusal (data_root_of header) proof)
 IsRefusal header (Rooted proof) refusal =
     refusal ≡ option_map rooted_number (rooted_refusal (data_root_of header) proof)
-IsRefusal header frame refusal = refusal ≡ None
 
 -- a sample shows the square's own share, a namespace answer exactly the square's shares of the namespace, a commitment
 -- proof is of the square's width and its commitment that of the square's shares in its range, a root proof is of the
 -- square's width and shows the square's own share; or they and the square name a collision; a fraud claim and the square
--- name one; nothing is said of other frames
-abbrev pub IsOwnReply : Frame → SquareShares → Type 0
+-- name one
+abbrev pub IsOwnReply : Answer → SquareShares → Type 0
 IsOwnReply (Message m) square = ShowsOwn m square ⊎ NamesClash m square
 IsOwnReply (Names name answer) square = ShowsAll name square answer ⊎ AnswerNames name square answer
 IsOwnReply (Fraud claim) square = ClaimNames claim square
 IsOwnReply (Commit proof) square = CommitsOwn proof square ⊎ places.NamesClash (CommitText proof) square
 IsOwnReply (Rooted proof) square = RootedOwn proof square ⊎ places.NamesClash (RootedText proof) square
-IsOwnReply frame square = ⊤
 
 -- the line for an answer, by the number of its refusal
 abbrev pub verdict_line : Option ℕ → List ℕ
@@ -109,8 +107,8 @@ answer_kinds = message_kind ∷ names_kind ∷ fraud_kind ∷ commit_kind ∷ ro
 
 -- the answer that a file is, or where it stops being one message, one namespace answer, one fraud claim, one commitment
 -- proof or one root proof and nothing else
-abbrev pub answer_in : List ℕ → Result Frame ℕ
-answer_in bytes = single Some (only_of bytes answer_kinds)
+abbrev pub answer_in : List ℕ → Result Answer ℕ
+answer_in bytes = single answer_of (only_of bytes answer_kinds)
 
 -- ---- the command
 
@@ -119,7 +117,7 @@ abbrev pub answer_file : List (List ℕ) → List ℕ
 answer_file files = file_of files 1
 
 -- the line and the status of an answer under a header
-abbrev pub Verifies : Roots → Frame → Relation
+abbrev pub Verifies : Roots → Answer → Relation
 Verifies header answer w status =
     (refusal : Option ℕ) × IsRefusal header answer refusal × (w ≡ verdict_line refusal) × (status ≡ verdict_status refusal)
 

@@ -2,11 +2,12 @@
 use Rattle.std.specs.Prelude.{◌≡◌, ℕ, List, [], ◌∷◌, ◌++◌, Bool, true, false, Some, Result}
 use Rattle.std.specs.declared.option.Option.{Option}
 use Rattle.data_header.specs.Headers.{Roots}
-use Rattle.da_wire.specs.declared.frames.Frame.{Frame}
 use Rattle.da_wire.specs.Spelling.{sample_kind, request_kind}
 use Rattle.da_wire.specs.Reading.{only_of}
-use Rattle.da_wire.specs.Answering.{is_answer_to}
 use Rattle.da_status.specs.Outcome.{Relation}
+use Rattle.da_commands.specs.declared.answers.Answer.{Answer}
+use Rattle.da_commands.specs.declared.answers.Request.{Request}
+use Rattle.da_commands.specs.Answers.{request_of, is_answer_to}
 use Rattle.da_commands.specs.Contents.{file_of, header_file}
 use Rattle.da_commands.specs.Frames.{header_in, single, error_of}
 use Rattle.da_commands.specs.Forms.{under_judged, Over}
@@ -19,8 +20,8 @@ abbrev pub request_kinds : List ℕ
 request_kinds = sample_kind ∷ request_kind ∷ []
 
 -- the request that a file is, or where it stops being one
-abbrev pub request_in : List ℕ → Result Frame ℕ
-request_in bytes = single Some (only_of bytes request_kinds)
+abbrev pub request_in : List ℕ → Result Request ℕ
+request_in bytes = single request_of (only_of bytes request_kinds)
 
 -- ---- the command
 
@@ -29,7 +30,7 @@ abbrev pub request_file : List (List ℕ) → List ℕ
 request_file files = file_of files 2
 
 -- an answer that is to the request is refused by the check that refuses it without one, any other by the number 0
-abbrev pub IsRefusalFor : Bool → Roots → Frame → Option ℕ → Type 0
+abbrev pub IsRefusalFor : Bool → Roots → Answer → Option ℕ → Type 0
 IsRefusalFor true header answer refusal = IsRefusal header answer refusal
 IsRefusalFor false header answer refusal = refusal ≡ Some 0
 
@@ -39,7 +40,7 @@ abbrev pub verify_for_judged : List (List ℕ) → List (Option ℕ)
 verify_for_judged files = under_judged answer_in files ++ error_of (request_in (request_file files)) ∷ []
 
 -- the line and the status of an answer to a request under a header
-abbrev pub VerifiesFor : Roots → Frame → Frame → Relation
+abbrev pub VerifiesFor : Roots → Answer → Request → Relation
 VerifiesFor header answer request w status =
     (refusal : Option ℕ) × IsRefusalFor (is_answer_to request answer) header answer refusal
     × (w ≡ verdict_line refusal) × (status ≡ verdict_status refusal)

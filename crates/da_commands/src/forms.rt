@@ -8,12 +8,13 @@ ghost use Rattle.da_commands.specs.Forms.{single_judged, under_judged, messages_
 ghost use Rattle.da_commands.specs.Verify.{answer_in};
 ghost use Rattle.da_commands.specs.Follow.{bad_feed, follow_judged};
 
+use crate::answers::Answer;
 use crate::contents::file;
 use crate::follow::bad_feed;
 use crate::frames::{Unread, block_in, header_in, square_in};
 use crate::verify::answer_in;
 use da_status::Status;
-use da_wire::{Frame, bad_frame, bad_value};
+use da_wire::{bad_frame, bad_value};
 use data_header::Header;
 use square_layout::{Block, Square};
 use std::alloc::Global;
@@ -81,7 +82,10 @@ pub(crate) fn header_and_messages(
 }
 
 /// HEADER and ANSWER: a header, and an answer.
-pub(crate) fn header_and_answer(alloc: Global, files: &[Vec<u8>]) -> Result<(Header, Frame), Status>
+pub(crate) fn header_and_answer(
+    alloc: Global,
+    files: &[Vec<u8>],
+) -> Result<(Header, Answer), Status>
     ensures judged { IsJudged (under_judged answer_in (contents_of files.now)) result }
     ensures header { IfOk result (λ read.
         header_in (file_of (contents_of files.now) 0) ≡ Ok read.0) }

@@ -6,6 +6,7 @@
 //! file is read by the crate above.
 #![tactic(auto)]
 
+mod answers;
 mod blobs;
 mod build;
 mod check;
@@ -32,6 +33,7 @@ mod verify;
 mod verify_for;
 mod wanted;
 
+pub use answers::{Answer, Request, is_answer_to};
 pub use blobs::blobs_laws;
 pub use check::Finding;
 pub use command::{Command, execute};

@@ -4,8 +4,8 @@ ghost use Rattle.std.specs.Prelude.{◌≡◌, IfOk};
 ghost use Rattle.std.specs.Option.{option_map};
 ghost use Rattle.data_header.specs.DataRoots.{data_root_of};
 ghost use Rattle.blob_commit.specs.Refusals.{commit_refusal, rooted_refusal};
-ghost use Rattle.da_wire.specs.declared.frames.Frame.TheVariants as FrameOf;
 ghost use Rattle.da_commands.specs.declared.command.Command.TheVariants as CommandOf;
+ghost use Rattle.da_commands.specs.declared.answers.Answer.TheVariants as AnswerOf;
 ghost use Rattle.da_commands.specs.Contents.{contents_of};
 ghost use Rattle.da_commands.specs.Frames.{ReadsSingle, WritesText};
 ghost use Rattle.da_commands.specs.Verify.{check_number, ns_number, fraud_number, commit_number, rooted_number, IsRefusal, verdict_line, verdict_status, answer_in, Verifies};
@@ -13,6 +13,7 @@ ghost use Rattle.da_commands.specs.Meaning.{Meaning};
 ghost use Rattle.da_status.specs.Outcome.{EndsAtOnce};
 ghost use Rattle.da_status.specs.Statuses.{kind_of, output};
 
+use crate::answers::{Answer, answer_of};
 use crate::forms::header_and_answer;
 use crate::frames::{Unread, put, reason};
 use axis_roots::{CheckRefusal, FraudClaim, opens};
@@ -20,18 +21,23 @@ use befp_verify::{FraudRefusal, VerifyRoom};
 use blob_commit::{CommitProof, CommitRefusal, RootedMessage, RootedRefusal, check_commit, rooted};
 use da_io::Sink;
 use da_status::{Line, Status, around};
-use da_wire::{Frame, read_only};
+use da_wire::{read_only, wire_laws};
 use data_header::{Header, data_root};
-use namespace_id::NoMemory;
+use namespace_id::{NoMemory, bytes_law};
 use square_serve::{NsRefusal, check_namespace};
 use std::alloc::Global;
 
 /// The answer that a file is.
-pub fn answer_in(alloc: Global, bytes: &[u8]) -> Result<Frame, Unread>
+pub fn answer_in(alloc: Global, bytes: &[u8]) -> Result<Answer, Unread>
     ensures { ReadsSingle result (answer_in bytes.now) }
 {
+    wire_laws();
+    bytes_law(bytes);
     match read_only(alloc, bytes, b"MNBCR") {
-        Ok(frame) => Ok(frame),
+        Ok(frame) => match answer_of(frame) {
+            Some(answer) => Ok(answer),
+            None => Err(Unread::BadForm(0)),
+        },
         Err(error) => Err(reason(error)),
     }
 }
@@ -97,7 +103,7 @@ fn rooted_number(why: RootedRefusal) -> u64
 /// The number of the check that refuses a fraud claim, none of one that is accepted. It takes the
 /// memory that verifying needs.
 fn refuse_claim(alloc: Global, header: &Header, claim: FraudClaim) -> Result<Option<u64>, NoMemory>
-    ensures { IfOk result (λ refusal. IsRefusal header.now (FrameOf.Fraud claim) refusal) }
+    ensures { IfOk result (λ refusal. IsRefusal header.now (AnswerOf.Fraud claim) refusal) }
 {
     let mut room = VerifyRoom::new(alloc, header.k)?;
     match befp_verify::verify(&mut room, header, claim) {
@@ -133,26 +139,23 @@ fn refuse_rooted(header: &Header, proof: &RootedMessage) -> Option<u64>
     }
 }
 
-/// The number of the check that refuses an answer, none of one that holds. No check is of a frame of
-/// another kind, so none refuses it: `answer_in` reads answers alone. It takes memory for a fraud
+/// The number of the check that refuses an answer, none of one that holds. It takes memory for a fraud
 /// claim alone.
-pub fn refusal_of(alloc: Global, header: &Header, answer: Frame) -> Result<Option<u64>, NoMemory>
+pub fn refusal_of(alloc: Global, header: &Header, answer: Answer) -> Result<Option<u64>, NoMemory>
     ensures { IfOk result (λ refusal. IsRefusal header.now answer refusal) }
 {
     match answer {
-        Frame::Message(message) => match opens(header, &message) {
+        Answer::Message(message) => match opens(header, &message) {
             Ok(()) => Ok(None),
             Err(why) => Ok(Some(check_number(why))),
         },
-        Frame::Names(name, answer) => match check_namespace(header, &name, &answer) {
+        Answer::Names(name, answer) => match check_namespace(header, &name, &answer) {
             Ok(()) => Ok(None),
             Err(why) => Ok(Some(ns_number(why))),
         },
-        Frame::Fraud(claim) => refuse_claim(alloc, header, claim),
-        Frame::Commit(proof) => Ok(refuse_commit(header, &proof)),
-        Frame::Rooted(proof) => Ok(refuse_rooted(header, &proof)),
-        // No check is of a frame of another kind.
-        _ => Ok(None),
+        Answer::Fraud(claim) => refuse_claim(alloc, header, claim),
+        Answer::Commit(proof) => Ok(refuse_commit(header, &proof)),
+        Answer::Rooted(proof) => Ok(refuse_rooted(header, &proof)),
     }
 }
 
@@ -192,7 +195,7 @@ pub(crate) fn give_line<O: Sink>(refusal: Option<u64>, out: &mut O) -> Status
 
 /// Writes the line for an answer under a header. Where there is no memory for a fraud claim nothing
 /// is written.
-fn verify<O: Sink>(alloc: Global, header: &Header, answer: Frame, out: &mut O) -> Status
+fn verify<O: Sink>(alloc: Global, header: &Header, answer: Answer, out: &mut O) -> Status
     ensures { EndsAtOnce (Verifies header.now answer) (O.taken out.old) (O.taken out.new)
         (O.faults out.old) (O.faults out.new) (out.new ≡ out.old) result }
 {

@@ -1,34 +1,40 @@
 //! verify HEADER ANSWER REQUEST: whether one answer is to a request, and holds under a header.
 
 ghost use Rattle.std.specs.Prelude.{◌≡◌, IfOk};
-ghost use Rattle.da_wire.specs.Answering.{is_answer_to};
 ghost use Rattle.da_commands.specs.declared.command.Command.TheVariants as CommandOf;
+ghost use Rattle.da_commands.specs.Answers.{is_answer_to};
 ghost use Rattle.da_commands.specs.Contents.{contents_of};
 ghost use Rattle.da_commands.specs.Frames.{ReadsSingle};
 ghost use Rattle.da_commands.specs.VerifyFor.{request_in, IsRefusalFor, VerifiesFor};
 ghost use Rattle.da_commands.specs.Meaning.{Meaning};
 ghost use Rattle.da_status.specs.Outcome.{EndsAtOnce};
 
+use crate::answers::{Answer, Request, is_answer_to, request_of};
 use crate::contents::file;
 use crate::forms::header_and_answer;
 use crate::frames::{Unread, reason};
 use crate::verify::{give_line, refusal_of};
 use da_io::Sink;
 use da_status::Status;
-use da_wire::{Frame, is_answer_to, read_only};
+use da_wire::{read_only, wire_laws};
 use data_header::Header;
-use namespace_id::NoMemory;
+use namespace_id::{NoMemory, bytes_law};
 use std::alloc::Global;
 
 /// The place of the last file among the words that name files.
 const REQUEST: u32 = 2;
 
 /// The request that a file is.
-pub fn request_in(alloc: Global, bytes: &[u8]) -> Result<Frame, Unread>
+pub fn request_in(alloc: Global, bytes: &[u8]) -> Result<Request, Unread>
     ensures { ReadsSingle result (request_in bytes.now) }
 {
+    wire_laws();
+    bytes_law(bytes);
     match read_only(alloc, bytes, b"QP") {
-        Ok(frame) => Ok(frame),
+        Ok(frame) => match request_of(frame) {
+            Some(request) => Ok(request),
+            None => Err(Unread::BadForm(0)),
+        },
         Err(error) => Err(reason(error)),
     }
 }
@@ -38,8 +44,8 @@ pub fn request_in(alloc: Global, bytes: &[u8]) -> Result<Frame, Unread>
 pub fn refusal_for(
     alloc: Global,
     header: &Header,
-    answer: Frame,
-    request: &Frame,
+    answer: Answer,
+    request: &Request,
 ) -> Result<Option<u64>, NoMemory>
     ensures { IfOk result (λ refusal.
         IsRefusalFor (is_answer_to request.now answer) header.now answer refusal) }
@@ -54,8 +60,8 @@ pub fn refusal_for(
 fn verify_for<O: Sink>(
     alloc: Global,
     header: &Header,
-    answer: Frame,
-    request: &Frame,
+    answer: Answer,
+    request: &Request,
     out: &mut O,
 ) -> Status
     ensures { EndsAtOnce (VerifiesFor header.now answer request.now) (O.taken out.old)
@@ -80,7 +86,6 @@ pub(crate) fn execute<O: Sink>(alloc: Global, files: &[Vec<u8>], out: &mut O) ->
     match request_in(alloc, file(files, REQUEST)) {
         Ok(request) => {
             let status = verify_for(alloc, &header, answer, &request, out);
-            drop(request);
             drop(header);
             status
         }

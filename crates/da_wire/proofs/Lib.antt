@@ -14,5 +14,4 @@ pub mod StreamLemmas
 pub mod PushLemmas
 pub mod CuttingLemmas
 pub mod AcceptedClaims
-pub mod AnsweringLemmas
 pub mod Examples

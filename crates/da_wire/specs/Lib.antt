@@ -10,4 +10,3 @@ pub mod Values
 pub mod Single
 pub mod StreamParts
 pub mod Streams
-pub mod Answering

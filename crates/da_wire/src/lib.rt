@@ -4,7 +4,6 @@
 //! refusal of the stated order. A writer appends the one spelling.
 #![tactic(auto)]
 
-mod answering;
 mod bounds;
 mod codec;
 mod frames;
@@ -15,7 +14,6 @@ mod single;
 mod streams;
 mod writing;
 
-pub use answering::is_answer_to;
 pub use bounds::frame_law;
 pub use frames::{Frame, FrameError, RawFrame, SpellError};
 pub use kinds::fraud::claim;

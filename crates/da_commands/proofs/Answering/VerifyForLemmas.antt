@@ -18,14 +18,14 @@ use Rattle.blob_commit.specs.declared.proving.CommitRefusal.TheVariants as commi
 use Rattle.blob_commit.specs.declared.rooting.RootedRefusal.{RootedRefusal}
 use Rattle.blob_commit.specs.declared.rooting.RootedRefusal.TheVariants as rooted
 use Rattle.blob_commit.specs.Refusals.{commit_refusal, rooted_refusal}
-use Rattle.da_wire.specs.declared.frames.Frame.{Frame}
-use Rattle.da_wire.specs.declared.frames.Frame.TheVariants.{Message, Names, Fraud, Commit, Rooted}
-use Rattle.da_wire.specs.Answering.{is_answer_to, IsAnswerTo}
-use Rattle.da_wire.proofs.AnsweringLemmas.{answers_to}
 use Rattle.da_status.specs.declared.status.Status.{Status}
 use Rattle.da_commands.specs.declared.command.Command.TheVariants as command
 use Rattle.da_status.specs.Statuses.{kind_of, output}
 use Rattle.da_status.specs.Judging.{first_bad}
+use Rattle.da_commands.specs.declared.answers.Answer.{Answer}
+use Rattle.da_commands.specs.declared.answers.Answer.TheVariants.{Message, Names, Fraud, Commit, Rooted}
+use Rattle.da_commands.specs.declared.answers.Request.{Request}
+use Rattle.da_commands.specs.Answers.{is_answer_to, IsAnswerTo}
 use Rattle.da_commands.specs.Frames.{header_in, error_of}
 use Rattle.da_commands.specs.Forms.{under_judged, Over}
 use Rattle.da_commands.specs.Verify.{answer_file, answer_in, check_number, ns_number, fraud_number, commit_number, rooted_number, IsRefusal}
@@ -33,28 +33,29 @@ use Rattle.da_commands.specs.VerifyFor.{request_file, request_in, IsRefusalFor, 
 use Rattle.da_commands.specs.Meaning.{Meaning}
 use Rattle.da_commands.specs.Contents.{header_file}
 use Rattle.da_commands.proofs.Files.FormLemmas.{third_bad, over_is, judged_over, over_each}
+use Rattle.da_commands.proofs.Answering.AskedLemmas.{answers_to}
 use Rattle.da_commands.proofs.Answering.VerifyLemmas.{verdict_kind}
 
 -- ---- the three files
 
 module _ (files : List (List ℕ)) (fine : first_bad 0 (under_judged answer_in files) ≡ None) where
   -- the first file that isn't in its form, by what the third one is
-  by_third : (read : Result Frame ℕ) → request_in (request_file files) ≡ read → first_bad 0 (verify_for_judged files) ≡ first_bad 2 (error_of read ∷ [])
+  by_third : (read : Result Request ℕ) → request_in (request_file files) ≡ read → first_bad 0 (verify_for_judged files) ≡ first_bad 2 (error_of read ∷ [])
   by_third read is =
       third_bad (error_of (header_in (header_file files))) (error_of (answer_in (answer_file files))) (error_of (request_in (request_file files)) ∷ []) fine
-      ∙ ap (λ (r : Result Frame ℕ). first_bad 2 (error_of r ∷ [])) is
+      ∙ ap (λ (r : Result Request ℕ). first_bad 2 (error_of r ∷ [])) is
 
   -- the third file is no request
   pub verify_for_asks_none : (at : ℕ) → request_in (request_file files) ≡ Err at → first_bad 0 (verify_for_judged files) ≡ Some (2, at)
   verify_for_asks_none at bad = by_third (Err at) bad
 
   -- the meaning of files that were read
-  pub verify_for_is : (header : Roots) (answer request : Frame) → header_in (header_file files) ≡ Ok header → answer_in (answer_file files) ≡ Ok answer
+  pub verify_for_is : (header : Roots) (answer : Answer) (request : Request) → header_in (header_file files) ≡ Ok header → answer_in (answer_file files) ≡ Ok answer
       → request_in (request_file files) ≡ Ok request → VerifiesFor header answer request ≡ Meaning command.VerifyFor files
   verify_for_is header answer request read reads asked =
-      over_is (λ (r : Frame). VerifiesFor header answer r) (request_in (request_file files)) request asked
-      ∙ over_is (λ (a : Frame). Over (request_in (request_file files)) (λ (r : Frame). VerifiesFor header a r)) (answer_in (answer_file files)) answer reads
-      ∙ judged_over (λ (h : Roots). Over (answer_in (answer_file files)) (λ (a : Frame). Over (request_in (request_file files)) (λ (r : Frame). VerifiesFor h a r)))
+      over_is (λ (r : Request). VerifiesFor header answer r) (request_in (request_file files)) request asked
+      ∙ over_is (λ (a : Answer). Over (request_in (request_file files)) (λ (r : Request). VerifiesFor header a r)) (answer_in (answer_file files)) answer reads
+      ∙ judged_over (λ (h : Roots). Over (answer_in (answer_file files)) (λ (a : Answer). Over (request_in (request_file files)) (λ (r : Request). VerifiesFor h a r)))
       (verify_for_judged files) (header_in (header_file files)) header (by_third (Ok request) asked) read
 
 -- what verify answers comes with a complete output
@@ -71,12 +72,12 @@ verify_for_last files w status h =
 -- ---- answers that aren't refused, and those that are to another request
 
 -- an answer isn't refused exactly where it is to the request and holds, by whether it is to the request
-none_by : (b : Bool) (header : Roots) (answer : Frame) → IsRefusalFor b header answer None ↔ (IsRefusal header answer None × (b ≡ true))
+none_by : (b : Bool) (header : Roots) (answer : Answer) → IsRefusalFor b header answer None ↔ (IsRefusal header answer None × (b ≡ true))
 none_by true header answer = (λ h. (h, refl), λ h. h.0)
 none_by false header answer = (λ e. absurd cc, λ h. absurd cc)
 
 -- an answer isn't refused exactly where it isn't without the request, and is to it
-pub asked_holds : (header : Roots) (answer request : Frame)
+pub asked_holds : (header : Roots) (answer : Answer) (request : Request)
     → IsRefusalFor (is_answer_to request answer) header answer None ↔ (IsRefusal header answer None × IsAnswerTo request answer)
 asked_holds header answer request =
     let none = none_by (is_answer_to request answer) header answer in
@@ -122,20 +123,19 @@ rooted_some (Some rooted.Root) e = cc
 rooted_some (Some (rooted.Path why)) e = cc
 
 -- no answer is refused by the number 0
-never_zero : (header : Roots) (answer : Frame) → IsRefusal header answer (Some 0) → ⊥
+never_zero : (header : Roots) (answer : Answer) → IsRefusal header answer (Some 0) → ⊥
 never_zero header (Message m) h = check_some (message_refusal header m) h
 never_zero header (Names name answer) h = ns_some (answer_refusal header name answer) h
 never_zero header (Fraud claim) h = fraud_some h.0 h.2
 never_zero header (Commit proof) h = commit_some (commit_refusal (data_root_of header) proof) h
 never_zero header (Rooted proof) h = rooted_some (rooted_refusal (data_root_of header) proof) h
-never_zero header frame h = absurd cc
 
 -- an answer is refused by the number 0 exactly where it isn't to the request, by whether it is
-zero_by : (b : Bool) (header : Roots) (answer : Frame) → IsRefusalFor b header answer (Some 0) ↔ (b ≡ false)
+zero_by : (b : Bool) (header : Roots) (answer : Answer) → IsRefusalFor b header answer (Some 0) ↔ (b ≡ false)
 zero_by true header answer = (λ h. absurd (never_zero header answer h), λ e. absurd cc)
 zero_by false header answer = (λ e. refl, λ e. refl)
 
 -- an answer is refused by the number 0 exactly where it isn't to the request
-pub asked_other : (header : Roots) (answer request : Frame)
+pub asked_other : (header : Roots) (answer : Answer) (request : Request)
     → IsRefusalFor (is_answer_to request answer) header answer (Some 0) ↔ (is_answer_to request answer ≡ false)
 asked_other header answer request = zero_by (is_answer_to request answer) header answer

@@ -24,12 +24,13 @@ use Rattle.data_header.specs.DataRoots.{data_root_of}
 use Rattle.blob_commit.specs.Proofs.{RowParts, CommitParts, RootedParts, IsRow, IsCommit, IsRooted, CommitHolds, RootedHolds}
 use Rattle.blob_commit.specs.Refusals.{commit_refusal, rooted_refusal}
 use Rattle.blob_commit.specs.Places.{IsOwnCommit, IsOwnRooted}
-use Rattle.da_wire.specs.declared.frames.Frame.{Frame}
-use Rattle.da_wire.specs.declared.frames.Frame.TheVariants.{Message, Names, Fraud, Commit, Rooted}
 use Rattle.da_wire.specs.Spelling.{IsFrame}
 use Rattle.da_wire.specs.kinds.Commit.{IsRowSent, IsCommitSent}
 use Rattle.da_status.specs.declared.status.Status.{Status}
 use Rattle.da_status.specs.Statuses.{kind_of, output}
+use Rattle.da_commands.specs.declared.answers.Answer.{Answer}
+use Rattle.da_commands.specs.declared.answers.Answer.TheVariants.{Message, Names, Fraud, Commit, Rooted}
+use Rattle.da_commands.specs.Answers.{answer_frame}
 use Rattle.da_commands.specs.Frames.{header_in}
 use Rattle.da_commands.specs.Forms.{Over}
 use Rattle.da_commands.specs.Verify.{answer_file, check_number, ns_number, fraud_number, commit_number, rooted_number, IsRefusal, verdict_status, answer_in, IsOwnReply, Verifies, VerifyOf}
@@ -112,7 +113,7 @@ pub verified_own : ((h : Roots) (m : sent.Message) → AreRoots h → IsMessage 
     → ((h : Roots) (proof : CommitParts) → IsCommit proof → CommitHolds (data_root_of h) proof → IsOwnCommit h proof)
     → ((root : List ℕ) (proof : RootedParts) → IsMessage proof.message → (rooted_refusal root proof ≡ None) ↔ RootedHolds root proof)
     → ((h : Roots) (proof : RootedParts) → IsRooted proof → RootedHolds (data_root_of h) proof → IsOwnRooted h proof)
-    → (header : Roots) (answer : Frame) (square : SquareShares) → IsFrame answer → IsHeaderOf header square → IsRefusal header answer None
+    → (header : Roots) (answer : Answer) (square : SquareShares) → IsFrame (answer_frame answer) → IsHeaderOf header square → IsRefusal header answer None
     → IsOwnReply answer square
 verified_own refusal own refusals owns accused commits committed rooted shows header (Message m) square is of none =
     own header m ((verified_proved header m (refusal header m (header_roots square header of) is)).0 none) square of
@@ -124,4 +125,3 @@ verified_own refusal own refusals owns accused commits committed rooted shows he
     committed header proof (commit_sized proof is) ((verified_committed header proof (commits (data_root_of header) proof)).0 none) square of
 verified_own refusal own refusals owns accused commits committed rooted shows header (Rooted proof) square is of none =
     shows header proof is.is ((verified_rooted header proof (rooted (data_root_of header) proof is.is.message)).0 none) square of
-verified_own refusal own refusals owns accused commits committed rooted shows header frame square is of none = tt

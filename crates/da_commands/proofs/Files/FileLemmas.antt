@@ -1,5 +1,5 @@
 -- Files that are one value's spelling, and the square of a block.
-use Rattle.std.proofs.Common.{◌≡◌, ◌∙◌, ◌↔◌, ℕ, true, List, [], ◌∷◌, Option, None, Some, IsSome, Result, Ok, Err, refl, ap}
+use Rattle.std.proofs.Common.{◌≡◌, ◌∙◌, ◌↔◌, ℕ, List, [], ◌∷◌, Option, None, Some, IsSome, Result, Ok, Err, refl, ap}
 use Rattle.std.specs.Option.{option_map_or}
 use Rattle.namespace_id.specs.Bytes.{AreBytes}
 use Rattle.namespace_id.specs.Shares.{AreShares}
@@ -9,12 +9,14 @@ use Rattle.da_wire.specs.declared.frames.Frame.{Frame}
 use Rattle.da_wire.specs.declared.frames.Frame.TheVariants.{Header, Square, Block}
 use Rattle.da_wire.specs.declared.frames.FrameError.{FrameError}
 use Rattle.da_wire.specs.Spelling.{spelling, IsFrame, header_kind, square_kind, block_kind}
-use Rattle.da_wire.specs.Writing.{kind_of}
-use Rattle.da_wire.specs.Reading.{is_among, only_of}
+use Rattle.da_wire.specs.Reading.{only_of}
 use Rattle.da_wire.specs.Laws.{OnlyIsSpelled, SpelledIsOnly}
+use Rattle.da_commands.specs.declared.answers.Answer.{Answer}
+use Rattle.da_commands.specs.Answers.{answer_frame, answer_of}
 use Rattle.da_commands.specs.Verify.{answer_kinds, answer_in}
 use Rattle.da_wire.specs.Single.{header_of, square_of, block_of}
 use Rattle.da_commands.specs.Frames.{single, header_in, square_in, block_in}
+use Rattle.da_commands.proofs.Answering.AskedLemmas.{answer_made, answer_again, answer_kind}
 
 -- a frame whose value of a kind is this one is that value's frame
 header_frame : (frame : Frame) (header : Roots) → header_of frame ≡ Some header → frame ≡ Header header
@@ -78,18 +80,14 @@ block_file only bytes block fits =
       λ h. value_single block_of Block block_frame (λ x. refl) read block (law.1 (h.0, h.1, refl)),
     )
 
--- a frame that is read as itself is the frame
-frame_itself : (frame answer : Frame) → ◌≡◌ {A = Option Frame} (Some frame) (Some answer) → frame ≡ answer
-frame_itself frame answer e = cc
-
 -- a file is read as an answer exactly where it is its one spelling
-pub answer_file : OnlyIsSpelled → (bytes : List ℕ) (answer : Frame) → AreBytes bytes
-    → (answer_in bytes ≡ Ok answer) ↔ (IsFrame answer × (spelling answer ≡ Some bytes) × (is_among answer_kinds (kind_of answer) ≡ true))
+pub answer_file : OnlyIsSpelled → (bytes : List ℕ) (answer : Answer) → AreBytes bytes
+    → (answer_in bytes ≡ Ok answer) ↔ (IsFrame (answer_frame answer) × (spelling (answer_frame answer) ≡ Some bytes))
 answer_file only bytes answer fits =
     let read = only_of bytes answer_kinds in
-    let law = only answer bytes answer_kinds fits in (
-      λ h. law.0 (single_value Some (λ frame. frame) frame_itself (λ x. refl) read answer h),
-      λ h. value_single Some (λ frame. frame) frame_itself (λ x. refl) read answer (law.1 h),
+    let law = only (answer_frame answer) bytes answer_kinds fits in (
+      λ h. let is = law.0 (single_value answer_of answer_frame answer_made answer_again read answer h) in (is.0, is.1),
+      λ h. value_single answer_of answer_frame answer_made answer_again read answer (law.1 (h.0, h.1, answer_kind answer)),
     )
 
 -- the value of an option that has one

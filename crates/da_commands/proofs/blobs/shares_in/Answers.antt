@@ -1,8 +1,8 @@
-use Rattle.std.proofs.Common.{subst, sym, Err}
+use Rattle.std.proofs.Common.{Some, subst, sym, refl, Err}
 use Rattle.da_commands.specs.declared.frames.Unread.{Unread}
 use Rattle.da_commands.specs.Frames.{ReadsSingle}
 use Rattle.da_commands.specs.Blobs.{share_kinds, shares_in}
-use Rattle.da_commands.proofs.Files.FrameLemmas.{kinds_unread}
+use Rattle.da_commands.proofs.Files.FrameLemmas.{values_unread}
 use Rattle.da_commands.proofs.Answering.BlobsLemmas.{read_spelled}
 use Rattle.da_commands.proofs.blobs.shares_in.Goals as goal
 
@@ -15,4 +15,4 @@ returns-in-Ok-clause-spelled c =
 pub returns-in-Err-clause-read : goal.returns-in-Err-clause-read
 returns-in-Err-clause-read c =
     subst (λ (why : Unread). ReadsSingle (Err why) (shares_in c.args.bytes.now)) (sym c.reason.ensures)
-    (kinds_unread share_kinds c.args.bytes.now c.in-Err.error c.in-Err.ensures.read)
+    (values_unread Some c.args.bytes.now share_kinds c.in-Err.error (λ frame read. refl) c.in-Err.ensures.read)

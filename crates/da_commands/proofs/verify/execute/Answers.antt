@@ -1,6 +1,6 @@
 use Rattle.std.proofs.Common.{◌∙◌, refl}
 use Rattle.data_header.specs.Headers.{Roots}
-use Rattle.da_wire.specs.declared.frames.Frame.{Frame}
+use Rattle.da_commands.specs.declared.answers.Answer.{Answer}
 use Rattle.da_commands.specs.Contents.{contents_of, header_file}
 use Rattle.da_commands.specs.Frames.{header_in}
 use Rattle.da_commands.specs.Forms.{under_judged, Over}
@@ -21,7 +21,7 @@ pub returns : goal.returns
 returns g c =
     let files = contents_of c.args.files.now in
     let read = c.in-Ok.read in
-    let same = over_is (λ (answer : Frame). Verifies read.0 answer) (answer_in (answer_file files)) read.1 c.in-Ok.ensures.answer
-    ∙ judged_over (λ (header : Roots). Over (answer_in (answer_file files)) (λ (answer : Frame). Verifies header answer)) (under_judged answer_in files)
+    let same = over_is (λ (answer : Answer). Verifies read.0 answer) (answer_in (answer_file files)) read.1 c.in-Ok.ensures.answer
+    ∙ judged_over (λ (header : Roots). Over (answer_in (answer_file files)) (λ (answer : Answer). Verifies header answer)) (under_judged answer_in files)
     (header_in (header_file files)) read.0 c.in-Ok.ensures.judged c.in-Ok.ensures.header in
     once_as _ (Meaning Verify files) _ _ _ _ _ _ same c.verify.ensures

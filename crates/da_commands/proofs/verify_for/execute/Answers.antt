@@ -1,6 +1,6 @@
 use Rattle.std.proofs.Common.{◌∙◌, ◌∷◌, [], Err, refl, sym, ap, subst}
-use Rattle.da_wire.specs.declared.frames.Frame.{Frame}
 use Rattle.da_commands.specs.declared.frames.Unread.{Unread}
+use Rattle.da_commands.specs.declared.answers.Request.{Request}
 use Rattle.da_commands.specs.Contents.{contents_of}
 use Rattle.da_commands.specs.Frames.{error_of, ReadsSingle}
 use Rattle.da_commands.specs.Forms.{under_judged}
@@ -22,7 +22,7 @@ returns-in-Err g c =
 pub returns-in-Err-BadForm : goal.returns-in-Err-BadForm
 returns-in-Err-BadForm g c =
     let files = contents_of c.args.files.now in
-    let read = subst (λ (why : Unread). ReadsSingle {A = Frame} (Err why) (request_in c.file.result.now)) c.in-Err-BadForm.field-0-is
+    let read = subst (λ (why : Unread). ReadsSingle {A = Request} (Err why) (request_in c.file.result.now)) c.in-Err-BadForm.field-0-is
     c.in-Err-BadForm.ensures in
     refused_once (verify_for_judged files) (VerifyForOf files) _ _ _ _
     (verify_for_asks_none files c.in-Ok.ensures.judged _ (ap request_in (sym c.file.ensures) ∙ read ∙ ap Err (sym c.in-Err-BadForm.at-is))) refl
