@@ -16,10 +16,8 @@ use Rattle.square_layout.specs.Blocks.{SquareShares}
 use Rattle.axis_roots.specs.Grids.{IsHeaderOf}
 use Rattle.axis_roots.specs.declared.message.messages.CheckRefusal.TheVariants.{OutOfSquare, NodeCount, Unordered, OtherRoot}
 use Rattle.da_wire.specs.declared.frames.FrameError.TheVariants as wire
-use Rattle.da_wire.specs.declared.frames.Frame.{Frame}
 use Rattle.da_wire.specs.Spelling.{max_payload, spelling, IsFrame}
-use Rattle.da_wire.specs.Writing.{kind_of}
-use Rattle.da_wire.specs.Reading.{Raw, promised, raw_of, is_among}
+use Rattle.da_wire.specs.Reading.{Raw, promised, raw_of}
 use Rattle.da_wire.specs.Frames.{ok_of, raw_in, frames_of}
 use Rattle.da_wire.specs.Walks.{walk_from}
 use Rattle.da_io.specs.Files.{Files}
@@ -34,8 +32,9 @@ use Rattle.da_commands.specs.Repair.{Repairs, RepairsOwn}
 use Rattle.da_commands.specs.Light.{Lights, JudgesOwn}
 use Rattle.da_commands.specs.Namespace.{namespaces_in}
 use Rattle.da_commands.specs.Follow.{wanted_file, answers_file, items_in, Feed}
-use Rattle.da_commands.specs.Verify.{answer_file, answer_kinds, answer_in, IsRefusal, verdict_line, IsOwnReply}
-use Rattle.da_wire.specs.Answering.{is_answer_to}
+use Rattle.da_commands.specs.Verify.{answer_file, answer_in, IsRefusal, verdict_line, IsOwnReply}
+use Rattle.da_commands.specs.declared.answers.Answer.{Answer}
+use Rattle.da_commands.specs.Answers.{answer_frame, is_answer_to}
 use Rattle.da_commands.specs.VerifyFor.{IsRefusalFor}
 use Rattle.da_commands.specs.Contents.{messages_file}
 use Rattle.da_commands.proofs.Answering.VerifyForLemmas.{asked_holds}
@@ -104,10 +103,10 @@ ok_has_none (Some number) e = absurd cc
 pub are_own : (told : Option Files) (words : List (List ℕ))
     → ((header : Roots) (frame : Raw) (square : SquareShares) → AreBytes frame.payload → IsHeaderOf header square
     → finding_of header frame ≡ Proved → IsOwnFrame frame square)
-    → ((header : Roots) (answer : Frame) (square : SquareShares) → IsFrame answer → IsHeaderOf header square → IsRefusal header answer None
+    → ((header : Roots) (answer : Answer) (square : SquareShares) → IsFrame (answer_frame answer) → IsHeaderOf header square → IsRefusal header answer None
     → IsOwnReply answer square)
-    → ((bytes : List ℕ) (answer : Frame) → AreBytes bytes
-    → (answer_in bytes ≡ Ok answer) ↔ (IsFrame answer × (spelling answer ≡ Some bytes) × (is_among answer_kinds (kind_of answer) ≡ true)))
+    → ((bytes : List ℕ) (answer : Answer) → AreBytes bytes
+    → (answer_in bytes ≡ Ok answer) ↔ (IsFrame (answer_frame answer) × (spelling (answer_frame answer) ≡ Some bytes)))
     → ((header : Roots) (frames : List Raw) (square : SquareShares) (w : List ℕ) (status : Status) → AllByRecursion (λ (raw : Raw). AreBytes raw.payload) frames
     → IsHeaderOf header square → Repairs header frames w status → RepairsOwn header frames square w status)
     → ((header : Roots) (frames : List Raw) (square : SquareShares) (key : List ℕ) (count : ℕ) (w : List ℕ) (status : Status)

@@ -10,18 +10,13 @@ use Rattle.share_split.specs.Walks.{blobs_of}
 use Rattle.blob_feed.specs.Feeds.{header_at, Read, IsFeedOf, shares_in, FirstNames}
 use Rattle.data_header.specs.Headers.{Roots}
 use Rattle.square_layout.specs.Blocks.{SquareShares}
-use Rattle.axis_roots.specs.Grids.{Extends, IsHeaderOf, share_at}
-use Rattle.axis_roots.specs.Own.{NamesClash}
-use Rattle.square_serve.specs.Answers.{shown}
-use Rattle.square_serve.specs.Shares.{shares_of}
-use Rattle.square_serve.specs.Own.{AnswerNames}
+use Rattle.axis_roots.specs.Grids.{IsHeaderOf}
 use Rattle.blob_commit.specs.Proofs.{CommitParts}
-use Rattle.blob_commit.specs.Places.{CommitsOwn, CommitText, RootedText}
+use Rattle.blob_commit.specs.Places.{CommitsOwn, CommitText}
 use Rattle.blob_commit.specs.Places as places
 use Rattle.da_script.specs.Alarms.{TellsOwn}
 use Rattle.da_wire.specs.Reading.{Raw}
-use Rattle.da_wire.specs.declared.frames.Frame.{Frame}
-use Rattle.da_wire.specs.declared.frames.Frame.TheVariants.{Message, Names, Commit, Rooted, Sample, Request}
+use Rattle.da_wire.specs.declared.frames.Frame.TheVariants.{Commit}
 use Rattle.da_wire.specs.Spelling.{spelling}
 use Rattle.da_wire.specs.Frames.{frames_of}
 use Rattle.da_io.specs.Files.{Files}
@@ -38,8 +33,10 @@ use Rattle.da_commands.specs.Light.{LightOf, JudgesOwn}
 use Rattle.da_commands.specs.Namespace.{namespaces_in}
 use Rattle.da_commands.specs.Follow.{wanted_file, answers_file, items_in, Feed}
 use Rattle.da_commands.specs.Verify.{answer_file, answer_in, IsRefusal, verdict_line, IsOwnReply}
-use Rattle.da_wire.specs.Answering.{is_answer_to, IsAnswerTo}
-use Rattle.da_commands.specs.VerifyFor.{request_file, request_in, IsRefusalFor}
+use Rattle.da_commands.specs.declared.answers.Answer.{Answer}
+use Rattle.da_commands.specs.declared.answers.Request.{Request}
+use Rattle.da_commands.specs.Answers.{is_answer_to, IsAnswerTo}
+use Rattle.da_commands.specs.VerifyFor.{request_file, request_in, IsRefusalFor, ShowsAsked}
 use Rattle.da_commands.specs.Net.{NetOf}
 use Rattle.da_commands.specs.Prove.{ProveRangeOf}
 use Rattle.da_commands.specs.Contents.{header_file, messages_file, square_file}
@@ -55,7 +52,7 @@ AreOwnLines files words = (contents : List (List ℕ)) (header : Roots) (square 
 
 -- over the files of `verify`, where the header in HEADER is that of a square and the line is `ok`: ANSWER shows the square's own shares, or they name a collision, as a fraud claim always does
 abbrev pub IsOwnLine : Files → List (List ℕ) → Type 0
-IsOwnLine files words = (contents : List (List ℕ)) (header : Roots) (square : SquareShares) (answer : Frame) (refusal : Option ℕ)
+IsOwnLine files words = (contents : List (List ℕ)) (header : Roots) (square : SquareShares) (answer : Answer) (refusal : Option ℕ)
     → is_command words (codes "verify") 2 ≡ true → gathered files (names_of words) ≡ whole contents
     → header_in (header_file contents) ≡ Ok header → IsHeaderOf header square
     → AreBytes (answer_file contents) → answer_in (answer_file contents) ≡ Ok answer
@@ -68,20 +65,9 @@ IsOwnCompact files words = (contents : List (List ℕ)) (header : Roots) (square
     → header_in (header_file contents) ≡ Ok header → IsHeaderOf header square
     → claim_in (claim_file contents) ≡ Ok claim → CompactOf contents w status → CompactsOwn claim square status
 
--- the square's extension has this share at the cell
-abbrev pub IsShareAt : SquareShares → Cell → Share → Type 0
-IsShareAt square cell share = (grid : List Share) × Extends square.k square.shares grid × (share ≡ share_at (2 * square.k) grid cell)
-
--- to a request for a sample an answer shows the extension's share at the cell that is asked for, to one for a namespace exactly the square's shares of it; or it and the square name a collision
-abbrev pub ShowsAsked : Frame → Frame → SquareShares → Type 0
-ShowsAsked (Sample cell axis) (Message m) square = IsShareAt square cell m.share ⊎ NamesClash m square
-ShowsAsked (Sample cell axis) (Rooted proof) square = IsShareAt square cell proof.message.share ⊎ places.NamesClash (RootedText proof) square
-ShowsAsked (Request name) (Names other answer) square = (shown answer ≡ shares_of square name) ⊎ AnswerNames name square answer
-ShowsAsked request answer square = ⊥
-
 -- over the files of `verify` with a REQUEST, where the header in HEADER is that of a square and the line is `ok`: ANSWER is to the request, and shows the square's own shares that are asked for, or they name a collision
 abbrev pub IsOwnLineFor : Files → List (List ℕ) → Type 0
-IsOwnLineFor files words = (contents : List (List ℕ)) (header : Roots) (square : SquareShares) (answer request : Frame) (refusal : Option ℕ)
+IsOwnLineFor files words = (contents : List (List ℕ)) (header : Roots) (square : SquareShares) (answer : Answer) (request : Request) (refusal : Option ℕ)
     → is_command words (codes "verify") 3 ≡ true → gathered files (names_of words) ≡ whole contents
     → header_in (header_file contents) ≡ Ok header → IsHeaderOf header square
     → AreBytes (answer_file contents) → answer_in (answer_file contents) ≡ Ok answer

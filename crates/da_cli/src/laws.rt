@@ -18,12 +18,10 @@ ghost use Rattle.axis_roots.specs.declared.answers.NsEntry.{NsEntry};
 ghost use Rattle.namespace_id.specs.declared.namespaces.Namespace as names;
 ghost use Rattle.square_serve.specs.Answers.{IsComplete};
 ghost use Rattle.data_header.specs.Headers.{Roots, AreRoots, IsHeader};
-ghost use Rattle.da_wire.specs.declared.frames.Frame.{Frame};
-ghost use Rattle.da_wire.specs.declared.frames.Frame.TheVariants.{Header, Square, Message, Names, Fraud, Request, Block, Commit, Rooted};
+ghost use Rattle.da_wire.specs.declared.frames.Frame.TheVariants.{Header, Square, Request, Block};
 ghost use Rattle.da_wire.specs.Spelling.{spelling, IsFrame, sample_kind, request_kind};
 ghost use Rattle.da_wire.specs.Values.{values_bytes, bad_value};
-ghost use Rattle.da_wire.specs.Writing.{kind_of};
-ghost use Rattle.da_wire.specs.Reading.{Raw, is_among};
+ghost use Rattle.da_wire.specs.Reading.{Raw};
 ghost use Rattle.da_wire.specs.Frames.{frames_of};
 ghost use Rattle.da_commands.specs.Contents.{header_file, messages_file};
 ghost use Rattle.da_commands.specs.declared.check.Finding.TheVariants.{Proved};
@@ -41,8 +39,11 @@ ghost use Rattle.da_commands.specs.Net.{Nets};
 ghost use Rattle.da_commands.specs.Prove.{ProvesRange};
 ghost use Rattle.da_commands.specs.Sample.{sample_frame, samples_in};
 ghost use Rattle.da_commands.specs.Namespace.{namespaces_in};
-ghost use Rattle.da_commands.specs.Verify.{IsRefusal, answer_kinds, answer_in, IsOwnReply};
-ghost use Rattle.da_wire.specs.Answering.{is_answer_to, IsAnswerTo};
+ghost use Rattle.da_commands.specs.declared.answers.Answer.{Answer};
+ghost use Rattle.da_commands.specs.declared.answers.Answer.TheVariants.{Message, Names, Fraud, Commit, Rooted};
+ghost use Rattle.da_commands.specs.declared.answers.Request as requests;
+ghost use Rattle.da_commands.specs.Answers.{answer_frame, is_answer_to, IsAnswerTo};
+ghost use Rattle.da_commands.specs.Verify.{IsRefusal, answer_in, IsOwnReply};
 ghost use Rattle.da_commands.specs.VerifyFor.{IsRefusalFor};
 ghost use Rattle.da_commands.specs.Root.{root_refusal};
 ghost use Rattle.da_commands.specs.Follow.{items_in, Feed, Follows};
@@ -99,13 +100,13 @@ pub fn run_laws()
     // a sample, by itself or in a root proof, with the cell and the axis that are asked for, or a
     // namespace answer with the namespace that is. It is refused by the number 0, first of all, exactly
     // where it is to another.
-    ensures asked { (header : Roots) (answer request : Frame) →
+    ensures asked { (header : Roots) (answer : Answer) (request : requests.Request) →
         IsRefusalFor (is_answer_to request answer) header answer None
         ↔ (IsRefusal header answer None × IsAnswerTo request answer) }
-    ensures asked_other { (header : Roots) (answer request : Frame) →
+    ensures asked_other { (header : Roots) (answer : Answer) (request : requests.Request) →
         IsRefusalFor (is_answer_to request answer) header answer (Some 0)
         ↔ (is_answer_to request answer ≡ false) }
-    ensures answers { (request answer : Frame) →
+    ensures answers { (request : requests.Request) (answer : Answer) →
         (is_answer_to request answer ≡ true) ↔ IsAnswerTo request answer }
 
     // A header is not refused exactly where its data root is the one that it is to have.
@@ -115,8 +116,9 @@ pub fn run_laws()
     // Under the header of a square an answer is not refused only where it shows the square's own
     // share, exactly the square's shares of the namespace, or the commitment of the square's shares in its
     // range, or they name a collision; a fraud claim only where they name one.
-    ensures own_answer { (header : Roots) (answer : Frame) (square : SquareShares) → IsFrame answer →
-        IsHeaderOf header square → IsRefusal header answer None → IsOwnReply answer square }
+    ensures own_answer { (header : Roots) (answer : Answer) (square : SquareShares) →
+        IsFrame (answer_frame answer) → IsHeaderOf header square → IsRefusal header answer None →
+        IsOwnReply answer square }
 
     // Such an answer that is not refused with a request shows the extension's share at the cell that is
     // asked for, exactly the square's shares of the namespace that is, or they name a collision.
@@ -185,10 +187,9 @@ pub fn run_laws()
         ↔ (IsSquare square × AreShares square.shares × (spelling (Square square) ≡ Some bytes)) }
     ensures block_file { (bytes : List ℕ) (block : BlockParts) → AreBytes bytes →
         (block_in bytes ≡ Ok block) ↔ (IsBlock block × (spelling (Block block) ≡ Some bytes)) }
-    ensures answer_file { (bytes : List ℕ) (answer : Frame) → AreBytes bytes →
+    ensures answer_file { (bytes : List ℕ) (answer : Answer) → AreBytes bytes →
         (answer_in bytes ≡ Ok answer)
-        ↔ (IsFrame answer × (spelling answer ≡ Some bytes)
-        × (is_among answer_kinds (kind_of answer) ≡ true)) }
+        ↔ (IsFrame (answer_frame answer) × (spelling (answer_frame answer) ≡ Some bytes)) }
 
     // A file of requests is exactly the spellings of the requests that are read of it, in their order.
     ensures sample_requests { (bytes : List ℕ) → AreBytes bytes →

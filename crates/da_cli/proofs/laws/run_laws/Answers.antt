@@ -22,7 +22,7 @@ use Rattle.da_cli.proofs.AskedLemmas.{asked_own}
 use Rattle.da_cli.proofs.RangeLemmas.{proves_own}
 use Rattle.da_commands.proofs.Answering.LightLemmas.{lights_own}
 use Rattle.da_commands.proofs.Answering.VerifyLemmas.{verified_proved, verified_complete, verified_accepted, verified_committed, verified_rooted, verified_own}
-use Rattle.da_wire.proofs.AnsweringLemmas.{answers_to}
+use Rattle.da_commands.proofs.Answering.AskedLemmas.{answers_to}
 use Rattle.da_commands.proofs.Answering.VerifyForLemmas.{asked_holds, asked_other}
 use Rattle.da_commands.proofs.Answering.RootLemmas.{tied}
 use Rattle.da_cli.proofs.laws.run_laws.Goals as goal
