@@ -16,6 +16,7 @@ pub mod NamespaceLemmas
 pub mod VerifyLemmas
 pub mod CompactLemmas
 pub mod VerifyForLemmas
+pub mod AllowedLemmas
 pub mod RootLemmas
 pub mod WantedLemmas
 pub mod BlobsLemmas

@@ -93,3 +93,7 @@ Tells name (Rooted proof) = ⊥
 abbrev pub IsAnswerTo : Request → Answer → Type 0
 IsAnswerTo (asked.Sample cell axis) answer = Samples cell axis answer
 IsAnswerTo (asked.Names name) answer = Tells name answer
+
+-- a frame is that of an answer to a request
+abbrev pub IsFrameTo : Request → Frame → Type 0
+IsFrameTo request frame = (answer : Answer) × (frame ≡ answer_frame answer) × IsAnswerTo request answer

@@ -1,12 +1,22 @@
 -- verify HEADER ANSWER REQUEST: whether one answer is to a request, and holds under a header.
-use Rattle.std.specs.Prelude.{◌≡◌, ℕ, List, [], ◌∷◌, ◌++◌, Bool, true, false, Some, Result}
+use Rattle.std.specs.Prelude.{◌≡◌, ◌⊎◌, ◌*◌, ℕ, List, [], ◌∷◌, ◌++◌, Bool, true, false, Some, Result}
 use Rattle.std.specs.declared.option.Option.{Option}
+use Rattle.namespace_id.specs.declared.cells.Cell.{Cell}
+use Rattle.namespace_id.specs.declared.shares.Share.{Share}
 use Rattle.data_header.specs.Headers.{Roots}
+use Rattle.square_layout.specs.Blocks.{SquareShares}
+use Rattle.axis_roots.specs.Grids.{Extends, share_at}
+use Rattle.axis_roots.specs.Own.{NamesClash}
+use Rattle.square_serve.specs.Own.{ShowsAll, AnswerNames}
+use Rattle.blob_commit.specs.Places.{RootedText}
+use Rattle.blob_commit.specs.Places as places
 use Rattle.da_wire.specs.Spelling.{sample_kind, request_kind}
 use Rattle.da_wire.specs.Reading.{only_of}
 use Rattle.da_status.specs.Outcome.{Relation}
 use Rattle.da_commands.specs.declared.answers.Answer.{Answer}
+use Rattle.da_commands.specs.declared.answers.Answer.TheVariants.{Message, Names, Fraud, Commit, Rooted}
 use Rattle.da_commands.specs.declared.answers.Request.{Request}
+use Rattle.da_commands.specs.declared.answers.Request.TheVariants as asked
 use Rattle.da_commands.specs.Answers.{request_of, is_answer_to}
 use Rattle.da_commands.specs.Contents.{file_of, header_file}
 use Rattle.da_commands.specs.Frames.{header_in, single, error_of}
@@ -33,6 +43,27 @@ request_file files = file_of files 2
 abbrev pub IsRefusalFor : Bool → Roots → Answer → Option ℕ → Type 0
 IsRefusalFor true header answer refusal = IsRefusal header answer refusal
 IsRefusalFor false header answer refusal = refusal ≡ Some 0
+
+-- this is the share that the square's extension has at the cell
+pub record IsShareAt (share : Share) (cell : Cell) (square : SquareShares) : Type 0 where
+  pub grid : List Share
+  pub extends : Extends square.k square.shares grid
+  pub at_cell : share ≡ share_at (2 * square.k) grid cell
+
+-- to a request for a sample this shows the share that the square's extension has at the cell that is asked for, to one for
+-- a namespace exactly the square's shares of it; or it and the square name a collision; no other answer is to a request
+abbrev pub ShowsAsked : Request → Answer → SquareShares → Type 0
+ShowsAsked (asked.Sample cell axis) (Message m) square = IsShareAt m.share cell square ⊎ NamesClash m square
+ShowsAsked (asked.Sample cell axis) (Names name answer) square = ⊥
+ShowsAsked (asked.Sample cell axis) (Fraud claim) square = ⊥
+ShowsAsked (asked.Sample cell axis) (Commit proof) square = ⊥
+ShowsAsked (asked.Sample cell axis) (Rooted proof) square =
+    IsShareAt proof.message.share cell square ⊎ places.NamesClash (RootedText proof) square
+ShowsAsked (asked.Names name) (Message m) square = ⊥
+ShowsAsked (asked.Names name) (Names other answer) square = ShowsAll name square answer ⊎ AnswerNames name square answer
+ShowsAsked (asked.Names name) (Fraud claim) square = ⊥
+ShowsAsked (asked.Names name) (Commit proof) square = ⊥
+ShowsAsked (asked.Names name) (Rooted proof) square = ⊥
 
 -- HEADER is a header and nothing else, ANSWER one sample, one namespace answer, one fraud claim, one commitment proof or
 -- one root proof and nothing else, and REQUEST one request for a sample or for a namespace and nothing else

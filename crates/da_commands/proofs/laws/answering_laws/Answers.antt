@@ -1,0 +1,22 @@
+use Rattle.da_commands.proofs.Answering.VerifyLemmas.{verified_own}
+use Rattle.da_commands.proofs.Answering.VerifyForLemmas.{asked_holds}
+use Rattle.da_commands.proofs.Answering.AllowedLemmas.{sample_allowed, root_proof_allowed, names_allowed, shows_asked}
+use Rattle.da_commands.proofs.laws.answering_laws.Goals as goal
+
+pub returns-clause-sample : goal.returns-clause-sample
+returns-clause-sample c = sample_allowed
+
+pub returns-clause-prove : goal.returns-clause-prove
+returns-clause-prove c = root_proof_allowed
+
+pub returns-clause-namespace : goal.returns-clause-namespace
+returns-clause-namespace c = names_allowed
+
+-- such an answer is to the request, and isn't refused without it
+pub returns-clause-own : goal.returns-clause-own
+returns-clause-own c = λ header request answer square is of none.
+    let holds = (asked_holds header answer request).0 none in
+    shows_asked request answer square holds.1
+    (verified_own c.message_laws.ensures.refusal c.message_laws.ensures.own c.answer_laws.ensures.refusal c.answer_laws.ensures.own
+    c.claim_laws.ensures.own c.refusal_laws.ensures.commit c.commit_laws.ensures.commit c.refusal_laws.ensures.rooted c.commit_laws.ensures.rooted
+    header answer square is of holds.0)
