@@ -10,6 +10,5 @@ pub mod RunLemmas
 pub mod RanLemmas
 pub mod StreamedRanLemmas
 pub mod NetLemmas
-pub mod AskedLemmas
 pub mod RangeLemmas
 pub mod OwnLemmas

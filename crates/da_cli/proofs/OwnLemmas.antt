@@ -43,7 +43,7 @@ use Rattle.da_script.specs.Plays as plays
 use Rattle.da_script.specs.Alarms.{TellsOwn}
 use Rattle.da_commands.specs.Prove.{ProvesRange}
 use Rattle.da_cli.specs.Own.{ProvesOwn, AreOwn}
-use Rattle.da_cli.proofs.AskedLemmas.{shows_asked}
+use Rattle.da_commands.proofs.Answering.AllowedLemmas.{shows_asked}
 
 -- ---- frames of a byte string have bytes
 

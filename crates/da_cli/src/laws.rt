@@ -49,7 +49,7 @@ ghost use Rattle.da_commands.specs.Root.{root_refusal};
 ghost use Rattle.da_commands.specs.Follow.{items_in, Feed, Follows};
 ghost use Rattle.data_header.specs.DataRoots.{data_root_of};
 ghost use Rattle.blob_commit.specs.Proofs.{CommitParts, CommitHolds, RootedParts, RootedHolds};
-ghost use Rattle.da_cli.specs.Own.{ShowsAsked, ProvesOwn};
+ghost use Rattle.da_cli.specs.Own.{ProvesOwn};
 ghost use Rattle.da_cli.specs.Laws.{FormLaw, BadInputLaw, ExcessLaw, AbsentLaw, FailureLaw};
 
 use crate::gathering::FILE_LIMIT;
@@ -119,13 +119,6 @@ pub fn run_laws()
     ensures own_answer { (header : Roots) (answer : Answer) (square : SquareShares) →
         IsFrame (answer_frame answer) → IsHeaderOf header square → IsRefusal header answer None →
         IsOwnReply answer square }
-
-    // Such an answer that is not refused with a request shows the extension's share at the cell that is
-    // asked for, exactly the square's shares of the namespace that is, or they name a collision.
-    ensures asked_own { (header : Roots) (answer request : Frame) (square : SquareShares) →
-        IsFrame answer → IsHeaderOf header square →
-        IsRefusalFor (is_answer_to request answer) header answer None →
-        ShowsAsked request answer square }
 
     // Under the header of a square `compact` refuses a claim, or a sample of it, or its set, and the
     // square name a collision.

@@ -18,7 +18,6 @@ use Rattle.da_cli.proofs.CountedLies.{lies_counted}
 use Rattle.da_script.specs.Scripts.{moves_of}
 use Rattle.da_script.specs.Plays as plays
 use Rattle.da_cli.proofs.NetLemmas.{nets_own}
-use Rattle.da_cli.proofs.AskedLemmas.{asked_own}
 use Rattle.da_cli.proofs.RangeLemmas.{proves_own}
 use Rattle.da_commands.proofs.Answering.LightLemmas.{lights_own}
 use Rattle.da_commands.proofs.Answering.VerifyLemmas.{verified_proved, verified_complete, verified_accepted, verified_committed, verified_rooted, verified_own}
@@ -129,9 +128,6 @@ returns-clause-headed c = λ block is none.
 
 pub returns-clause-asked : goal.returns-clause-asked
 returns-clause-asked c = asked_holds
-
-pub returns-clause-asked_own : goal.returns-clause-asked_own
-returns-clause-asked_own c = asked_own (returns-clause-own_answer c)
 
 pub returns-clause-asked_other : goal.returns-clause-asked_other
 returns-clause-asked_other c = asked_other
