@@ -1,7 +1,8 @@
 //! The plain Merkle tree over a header's axis roots with the hashes of all its nodes, for many proofs
 //! under one data root.
 
-ghost use Rattle.std.specs.Prelude.{◌≡◌, ◌<◌, ◌≤◌, ◌+◌, ◌*◌, ◌^◌, ◌++◌, ℕ, IfOk, length, get_or};
+ghost use Rattle.std.specs.Prelude.{◌≡◌, ◌<◌, ◌≤◌, ◌+◌, ◌*◌, ◌^◌, ◌++◌, ℕ, IfOk, length, get_or, true};
+ghost use Rattle.namespace_id.specs.Cells.{is_width};
 ghost use Rattle.namespace_id.specs.Digests.{no_digest};
 ghost use Rattle.data_header.specs.Headers.{root_of};
 ghost use Rattle.data_header.specs.DataRoots.{leaf_hash, inner_hash, data_root_of, OpensRoot};
@@ -126,11 +127,20 @@ impl DataTree {
         Ok(DataTree { header, hashes })
     }
 
-    /// The header.
-    pub fn header(&self) -> &Header
-        ensures { result.now ≡ self.now }
+    /// The width of the header.
+    pub fn width(&self) -> u16
+        ensures value { result ≡ self.now.k }
+        ensures width { is_width result ≡ true }
     {
-        &self.header
+        self.header.k
+    }
+
+    /// The root of an axis, the row or column of this index, below 2k.
+    pub fn root_of(&self, axis: Axis, index: u16) -> Digest
+        requires { index < 2 * self.now.k }
+        ensures { result ≡ root_of self.now axis index }
+    {
+        self.header.root_of(axis, index)
     }
 
     /// Makes the Merkle proof of an axis root under the header's data root, as `make_root_proof` does, but
