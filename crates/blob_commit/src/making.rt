@@ -18,7 +18,7 @@ use crate::cutting::{cut_by, levels_of};
 use crate::hashing::root_over;
 use crate::proofs::{CommitProof, CommitRow};
 use crate::proving::{is_range, part_of_row, put_rows};
-use data_header::{Header, make_root_proof};
+use data_header::DataTree;
 use namespace_id::{Axis, Digest, NoMemory};
 use nmt_proofs::make_nodes;
 use nmt_tree::Tree;
@@ -73,28 +73,28 @@ fn put_subtrees(
 /// subtrees of these sizes from a place on.
 fn make_row(
     alloc: Global,
-    header: &Header,
+    roots: &DataTree,
     tree: &Tree,
     index: u16,
     from: u16,
     sizes: &[u16],
 ) -> Result<CommitRow, NoMemory>
-    requires width { IsTrue (is_width header.now.k) }
-    requires index { index < header.now.k }
-    requires tree { IsRowTree header.now index tree.now }
+    requires width { IsTrue (is_width roots.now.k) }
+    requires index { index < roots.now.k }
+    requires tree { IsRowTree roots.now index tree.now }
     requires some { 0 < length sizes.now }
-    requires places { AreAligned from (2 * header.now.k) sizes.now }
+    requires places { AreAligned from (2 * roots.now.k) sizes.now }
     ensures lead { IfOk result (λ row.
-        OpensRoot (data_root_of header.now) header.now.k Row index row.root row.up) }
+        OpensRoot (data_root_of roots.now) roots.now.k Row index row.root row.up) }
     ensures count { IfOk result (λ row. length row.subtrees ≡ length sizes.now) }
-    ensures opens { IfOk result (λ row. Opens (halvings (2 * header.now.k))
+    ensures opens { IfOk result (λ row. Opens (halvings (2 * roots.now.k))
         (intervals_from from sizes.now row.subtrees) row.nodes row.root) }
 {
     let mut subtrees = Vec::new(alloc);
     put_subtrees(tree, from, sizes, &mut subtrees)?;
     Ok(CommitRow {
-        root: header.root_of(Axis::Row, index),
-        up: make_root_proof(header, Axis::Row, index),
+        root: roots.root_of(Axis::Row, index),
+        up: roots.proof(Axis::Row, index),
         subtrees,
         nodes: make_nodes(tree, from, sizes),
     })
@@ -110,32 +110,32 @@ struct Rest {
 /// Adds the rows that what is left of a range touches.
 fn add_rows(
     alloc: Global,
-    header: &Header,
+    roots: &DataTree,
     trees: &[Tree],
     levels: u8,
     rest: Rest,
     rows: &mut Vec<CommitRow>,
 ) -> Result<(), NoMemory>
-    requires number { header.now.k ≤ length trees.now }
-    requires trees { AreRowTrees header.now trees.now }
+    requires number { roots.now.k ≤ length trees.now }
+    requires trees { AreRowTrees roots.now trees.now }
     requires levels { 1 ≤ levels }
     requires bound { levels ≤ 8 }
-    requires within { rest.at + rest.left ≤ header.now.k * header.now.k }
-    requires divides { header.now.k % 2 ^ (levels - 1) ≡ 0 }
+    requires within { rest.at + rest.left ≤ roots.now.k * roots.now.k }
+    requires divides { roots.now.k % 2 ^ (levels - 1) ≡ 0 }
     requires begins { 0 < rest.left → rest.at % 2 ^ (levels - 1) ≡ 0 }
-    ensures { OnOk result (AddsRows (data_root_of header.now) header.now.k levels rest.at rest.left
+    ensures { OnOk result (AddsRows (data_root_of roots.now) roots.now.k levels rest.at rest.left
         rows.old.items rows.new.items) }
 {
     if rest.left == 0 {
         return Ok(());
     }
-    let k = header.k;
+    let k = roots.width();
     let part = part_of_row(k, rest.at, rest.left);
     let sizes = cut_by(levels, part);
     let index = (rest.at / k as u32) as u16;
     let from = (rest.at % k as u32) as u16;
     let tree = &trees[index as usize];
-    let row = make_row(alloc, header, tree, index, from, sizes.sizes())?;
+    let row = make_row(alloc, roots, tree, index, from, sizes.sizes())?;
     let Ok(()) = rows.push(row) else {
         return Err(NoMemory);
     };
@@ -143,22 +143,22 @@ fn add_rows(
         at: rest.at + part,
         left: rest.left - part,
     };
-    add_rows(alloc, header, trees, levels, rest, rows)
+    add_rows(alloc, roots, trees, levels, rest, rows)
 }
 
 /// The rows of a proof of the commitment of the shares in a range of the square.
 fn rows_of(
     alloc: Global,
-    header: &Header,
+    roots: &DataTree,
     trees: &[Tree],
     start: u32,
     count: u32,
 ) -> Result<Vec<CommitRow>, NoMemory>
-    requires width { IsTrue (is_width header.now.k) }
-    requires number { header.now.k ≤ length trees.now }
-    requires trees { AreRowTrees header.now trees.now }
-    requires range { is_range header.now.k start count ≡ true }
-    ensures { IfOk result (λ rows. RowsHold (data_root_of header.now) header.now.k (levels_of count)
+    requires width { IsTrue (is_width roots.now.k) }
+    requires number { roots.now.k ≤ length trees.now }
+    requires trees { AreRowTrees roots.now trees.now }
+    requires range { is_range roots.now.k start count ≡ true }
+    ensures { IfOk result (λ rows. RowsHold (data_root_of roots.now) roots.now.k (levels_of count)
         start count rows.items) }
 {
     let rest = Rest {
@@ -166,14 +166,13 @@ fn rows_of(
         left: count,
     };
     let mut rows = Vec::new(alloc);
-    add_rows(alloc, header, trees, levels_of(count), rest, &mut rows)?;
+    add_rows(alloc, roots, trees, levels_of(count), rest, &mut rows)?;
     Ok(rows)
 }
 
 /// Makes a proof of the commitment of the `count` shares from the row-major index `start` on, under
-/// the data root of a header. `trees` begin with the trees over the leaves of the rows 0 to k - 1,
-/// none of them empty. No digest is hashed anew but for the commitment and the Merkle proofs of the
-/// rows' roots.
+/// the data root of a header, from the tree over its roots. `trees` begin with the trees over the leaves
+/// of the rows 0 to k - 1, none of them empty. No digest is hashed anew but for the commitment.
 ///
 /// Refuses a range that has no share, that goes past the `k * k` shares of the square, or that
 /// doesn't begin at a multiple of the width of its subtrees (`Range`), then out of memory. It
@@ -182,27 +181,27 @@ fn rows_of(
 /// Celestia specifications, "Square Layout"; docs/RULES.md, "Commitment proofs".
 pub fn prove_commit(
     alloc: Global,
-    header: &Header,
+    roots: &DataTree,
     trees: &[Tree],
     start: u32,
     count: u32,
 ) -> Result<CommitProof, ProveError>
-    requires number { header.now.k ≤ length trees.now }
-    requires trees { AreRowTrees header.now trees.now }
+    requires number { roots.now.k ≤ length trees.now }
+    requires trees { AreRowTrees roots.now trees.now }
     ensures range { IsErrOf result ProveError.Range ↔
-        (is_range header.now.k start count ≡ false) }
+        (is_range roots.now.k start count ≡ false) }
 
     // The proof is of this range, and holds under the header's data root.
-    ensures k { IfOk result (λ proof. proof.k ≡ header.now.k) }
+    ensures k { IfOk result (λ proof. proof.k ≡ roots.now.k) }
     ensures start { IfOk result (λ proof. proof.start ≡ start) }
     ensures count { IfOk result (λ proof. proof.count ≡ count) }
-    ensures holds { IfOk result (λ proof. CommitHolds (data_root_of header.now) proof) }
+    ensures holds { IfOk result (λ proof. CommitHolds (data_root_of roots.now) proof) }
 {
-    let k = header.k;
+    let k = roots.width();
     if !is_range(k, start, count) {
         return Err(ProveError::Range);
     }
-    let rows = rows_of(alloc, header, trees, start, count)?;
+    let rows = rows_of(alloc, roots, trees, start, count)?;
     let mut hashes = Hashes::new();
     put_rows(&rows, &mut hashes);
     let commitment = root_over(8, hashes.hashes());

@@ -29,25 +29,34 @@ use blob_commit::{
 use da_io::Sink;
 use da_status::{Asked, Status};
 use da_wire::{Frame, frame_law, wire_laws};
-use data_header::{Header, make_root_proof};
+use data_header::{DataTree, Header};
+use namespace_id::NoMemory;
 use square_layout::Square;
 use square_serve::{Held, HeldError, serve_laws};
 use std::alloc::Global;
 
-/// The root proof of a sample that is proved under a header.
-fn root_proof(header: &Header, message: Message) -> RootedMessage
-    requires { IsProved header.now message }
-    ensures width { result.k ≡ header.now.k }
+/// The tree over the roots of a held square's header.
+fn data_tree(alloc: Global, held: &mut Held) -> Result<DataTree, NoMemory>
+    ensures value { IfOk result (λ roots. roots ≡ held.old.header) }
+    ensures kept { held.new ≡ held.old }
+{
+    DataTree::of(alloc, held.header())
+}
+
+/// The root proof of a sample that is proved under a header, from the tree over the header's roots.
+fn root_proof(roots: &DataTree, message: Message) -> RootedMessage
+    requires { IsProved roots.now message }
+    ensures width { result.k ≡ roots.now.k }
     ensures message { result.message ≡ message }
-    ensures holds { RootedHolds (data_root_of header.now) result }
+    ensures holds { RootedHolds (data_root_of roots.now) result }
 {
     let axis = message.axis;
     let index = index(axis, message.cell);
     RootedMessage {
-        k: header.k,
+        k: roots.width(),
         message,
-        root: header.root_of(axis, index),
-        up: make_root_proof(header, axis, index),
+        root: roots.root_of(axis, index),
+        up: roots.proof(axis, index),
     }
 }
 
@@ -74,7 +83,7 @@ fn give_proofs<O: Sink>(alloc: Global, held: &mut Held, requests: &[u8], out: &m
     serve_laws();
     sample_laws();
     held.held_law();
-    let Ok(header) = held.header().copy(alloc) else {
+    let Ok(roots) = data_tree(alloc, held) else {
         return Status::NoMemory;
     };
     let mut text = Vec::new(alloc);
@@ -84,7 +93,7 @@ fn give_proofs<O: Sink>(alloc: Global, held: &mut Held, requests: &[u8], out: &m
             // Never taken: the cells were judged. The call refuses cells outside.
             unreachable!()
         };
-        let proof = root_proof(&header, message);
+        let proof = root_proof(&roots, message);
         let status = give(rooted_frame(proof), &mut text, out);
         match status {
             Status::Done => rest = after,
@@ -153,7 +162,8 @@ fn range_proof(
     ensures holds { IfOk result (λ proof. CommitHolds (data_root_of header.now) proof) }
 {
     let trees = row_trees(alloc, grid, header)?;
-    prove_commit(alloc, header, &trees, start, count)
+    let roots = DataTree::of(alloc, header)?;
+    prove_commit(alloc, &roots, &trees, start, count)
 }
 
 /// Writes the proof of a range under the header of the square's grid, or refuses what is no range of
