@@ -1,5 +1,5 @@
-//! Tests of what no proof can show of frames, streams, files, light nodes and networks: the bytes of the format, reads and
-//! writes that fail, and calls that succeed where memory is ample. What the program tells of them over files is shown by the
+//! Tests of what no proof can show of frames, streams, files, sessions, light nodes and networks: the bytes of the format, reads
+//! and writes that fail, and calls that succeed where memory is ample. What the program tells of them over files is shown by the
 //! rows of rows/ at the repository's top.
 #![tactic(auto)]
 
@@ -11,6 +11,8 @@ mod light_nodes;
 mod networks;
 #[cfg(test)]
 mod runs;
+#[cfg(test)]
+mod sessions;
 #[cfg(test)]
 mod sinks;
 #[cfg(test)]

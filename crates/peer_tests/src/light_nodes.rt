@@ -1,5 +1,5 @@
-//! A light node whose picker is a closure, and which is told to pick more. What comes of claims is shown by rows of the
-//! command `light`.
+//! Light nodes whose pickers are closures: one that is told to pick more, and one that picks one cell again and again. What
+//! comes of claims is shown by rows of the command `light`.
 
 ghost use Rattle.std.specs.Prelude.{◌≡◌, ℕ, ◌<◌, true};
 ghost use Rattle.namespace_id.specs.Cells.{is_in_square};
@@ -78,6 +78,33 @@ fn follows_the_diagonal<F: Picker>(rt: &impl Abort, alloc: Global, pick: F)
     let mut room = CellRoom::new(alloc, 2).expect(rt, "there is memory");
     node.waiting(&mut room);
     assert!(rt; room.cells() == &DIAGONAL[2..], "two more");
+}
+
+/// How a node of limit 3 fares whose picker names the second cell of the diagonal each time: it plans it once.
+fn plans_once<F: Picker>(rt: &impl Abort, alloc: Global, pick: F)
+    requires { PicksInside F.can_pick F.picks pick 3 2 }
+{
+    let grid = grid(rt, alloc);
+    let header = header(rt, alloc, &grid);
+    let mut node = LightNode::new(alloc, &header, 3, pick).expect(rt, "there is memory");
+    node.more(3).expect(rt, "there is memory");
+    let mut room = CellRoom::new(alloc, 2).expect(rt, "there is memory");
+    node.waiting(&mut room);
+    assert!(rt; room.cells() == &DIAGONAL[1..2], "one cell");
+    let one = sample(rt, alloc, &grid, DIAGONAL[1]);
+    tell(rt, &mut node, one, LightState::Available, "shown");
+    assert!(rt; node.next_wanted().is_none(), "no more");
+}
+
+#[test]
+fn one_cell(rt: HostRuntime) {
+    plans_once(
+        &rt,
+        rt.alloc(),
+        |_number: u32| -> Cell
+            ensures { is_in_square 2 result ≡ true }
+        { Cell { row: 1, col: 1 } },
+    );
 }
 
 #[test]

@@ -1,4 +1,5 @@
-//! The extended square of width 2 of the tests, of three blobs, with its header and its samples.
+//! The extended square of width 2 of the tests, of three blobs, and the same with one byte changed, in which row 3 and column 3
+//! are no codewords; their headers and samples.
 
 ghost use Rattle.std.specs.Prelude.{◌≡◌};
 
@@ -47,6 +48,18 @@ pub(crate) fn grid(rt: &impl Abort, alloc: Global) -> Grid
     shares[2] = share(2, &[0, 95]);
     shares[3] = share(4, &[1, 0, 0, 0, 1, 94]);
     Grid::extend(alloc, &Square { k: 2, shares }).expect(rt, "there is memory")
+}
+
+/// The same with another last byte of its last share.
+pub(crate) fn bad_grid(rt: &impl Abort, alloc: Global) -> Grid
+    ensures { result.k ≡ 2 }
+{
+    let mut grid = grid(rt, alloc);
+    let cell = Cell { row: 3, col: 3 };
+    let mut share = *grid.cell(cell);
+    share.0[511] ^= 1;
+    grid.set(cell, &share);
+    grid
 }
 
 /// The header of an extended square of width 2.

@@ -11,3 +11,8 @@ fn strings_that_are_no_collision(rt: HostRuntime) {
         assert!(rt; Clash::of(left, right).is_none(), "{name}");
     }
 }
+
+#[test]
+fn a_string_of_no_bytes(rt: HostRuntime) {
+    assert!(rt; Preimage::new().bytes().is_empty());
+}

@@ -30,4 +30,6 @@ mod sequences;
 #[cfg(test)]
 mod transforms;
 #[cfg(test)]
+mod trees;
+#[cfg(test)]
 mod units;
