@@ -144,7 +144,8 @@ impl AxisRoom {
         })
     }
 
-    /// The 2k shares that the last call of `from_half` or `from_conflict` rebuilt, zeros before.
+    /// The 2k shares that the last call of `from_half` or `from_conflict` rebuilt, or that `hold` put
+    /// there since; zeros before.
     pub fn shares(&self) -> &[Share]
         ensures value { result.now ≡ self.now.shares }
         ensures count { length result.now ≡ 2 * self.now.k }

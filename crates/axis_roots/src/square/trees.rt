@@ -1,7 +1,7 @@
 //! The stored trees of a grid.
 //!
-//! Who answers many samples and namespace requests of one square keeps them: each leaf and each
-//! node is hashed once, and an answer hashes nothing.
+//! Who makes many samples of one grid keeps them: each leaf and each node is hashed once, and a
+//! sample that is made from them hashes nothing.
 
 ghost use Rattle.std.specs.Prelude.{◌≡◌, ◌*◌, ◌<◌, ℕ, List, IfOk, IsSome, length, map, Some, None, if◌then◌else◌};
 ghost use Rattle.std.specs.List.{list_all};
