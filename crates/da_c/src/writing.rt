@@ -7,7 +7,7 @@ ghost use Rattle.da_c.specs.Calls.{root_size, most_header, RootOf, Spells, Heads
 
 use crate::judging::HEADER;
 use crate::replies::{Reply, unread_reply};
-use axis_roots::{Grid, grid_laws, header_of};
+use axis_roots::header_of_square;
 use da_commands::{header_frame, header_in, square_in};
 use da_wire::{Frame, SpellError, write_frame};
 use data_header::data_root;
@@ -61,12 +61,7 @@ fn put_header(alloc: Global, square: &Square, buffer: &mut [u8]) -> Reply
     ensures leaves { Leaves (OrFull (Heads square.now (length buffer.old))) buffer.old buffer.new result }
     ensures room { most_header ≤ length buffer.old → status_of result ≢ 15 }
 {
-    grid_laws();
-    let _k = square.k;
-    let Ok(grid) = Grid::extend(alloc, square) else {
-        return Reply::NoMemory;
-    };
-    match header_of(alloc, &grid) {
+    match header_of_square(alloc, square) {
         Ok(Some(header)) => put_frame(alloc, &header_frame(header), buffer),
         Ok(None) => Reply::NoHeader,
         Err(_) => Reply::NoMemory,
