@@ -43,7 +43,7 @@ fn touch_stack(at: usize) -> u8
 
 /// Touches the stack, where there is so much memory; whether there is.
 fn has_stack(alloc: Global, words: usize) -> bool {
-    let Ok(room) = vec![in alloc; 0u8; STACK] else {
+    let Ok(room) = Vec::<u8>::with_capacity(alloc, STACK) else {
         return false;
     };
     drop(room);
