@@ -10,6 +10,7 @@ of it is proved. Each is looked up in the source that has it. The last line is '
 import importlib.util
 import os
 import re
+import shlex
 import struct
 import sys
 from hashlib import sha256
@@ -164,14 +165,14 @@ def digests_of_rows(values):
     for name, grid in (("empty", empty), ("2", three), ("falling-zeros", falling)):
         values.file(f"rows/files/header-{name}", grid.header())
     values.file("rows/files/message-1", empty.message(0, 0))
-    values.file("rows/sample-on-a-column/stdout", three.message(1, 2, make.COL))
-    values.file("rows/check-a-falling-row-of-zeros/messages", falling.message(0, 0))
+    values.file("rows/sample/on-a-column/stdout", three.message(1, 2, make.COL))
+    values.file("rows/check/a-falling-row-of-zeros/messages", falling.message(0, 0))
     for row, text in (
-        ("show-a-message", f"share={sha256(empty.rows[0][0]).hexdigest()}"),
-        ("show-the-empty-blocks-header", f"root={data_root(roots_of(empty)).hex()}"),
-        ("show-every-kind", f"root={data_root(roots_of(three)).hex()}"),
+        ("a-message", f"share={sha256(empty.rows[0][0]).hexdigest()}"),
+        ("the-empty-blocks-header", f"root={data_root(roots_of(empty)).hex()}"),
+        ("every-kind", f"root={data_root(roots_of(three)).hex()}"),
     ):
-        values.stands(f"rows/{row}/stdout", text.split("=")[0], text)
+        values.stands(f"rows/show/{row}/stdout", text.split("=")[0], text)
 
 
 def signed_rows(values):
@@ -184,10 +185,10 @@ def signed_rows(values):
     values.file("rows/files/square-signed", make.square(2, square))
     values.file("rows/files/header-signed", grid.header())
     values.file("rows/files/answer-signed", grid.answer(make.name("0101")))
-    values.file("rows/blobs-of-signed-blobs/stdout", make.block(sorted(blobs, key=lambda blob: blob[0])))
-    values.file("rows/prove-a-signed-blob/stdout", grid.commitment(0, 2))
+    values.file("rows/blobs/of-signed-blobs/stdout", make.block(sorted(blobs, key=lambda blob: blob[0])))
+    values.file("rows/prove/a-signed-blob/stdout", grid.commitment(0, 2))
     commitments = [grid.commitment(*shares)[15:47].hex() for shares in ((2, 1), (0, 2), (3, 1))]
-    values.file("rows/commit-signed-blobs/stdout", "".join(f"{it}\n" for it in commitments).encode())
+    values.file("rows/commit/signed-blobs/stdout", "".join(f"{it}\n" for it in commitments).encode())
 
 
 def block_of(data):
@@ -218,32 +219,39 @@ def block_of(data):
 def squares_of_rows(values):
     """The square of each row of `build` that gives one, but of those with a gap, which make.py doesn't lay out; and the header
     of each row of `header` up to width 4."""
-    rows = os.path.join(values.top, "rows")
-    for row in sorted(os.listdir(rows)):
-        if not row.startswith(("build-", "header-")) or values.read(f"rows/{row}/status").strip() != "0":
-            continue
-        file = os.path.normpath(os.path.join("rows", row, values.read(f"rows/{row}/args").splitlines()[1]))
-        if not os.path.exists(os.path.join(values.top, file)) or not os.path.exists(os.path.join(rows, row, "stdout")):
-            continue
-        data = values.bytes_of(file)
-        if row.startswith("header-"):
-            k = int.from_bytes(data[5:7], "big")
-            if k <= 4:
-                shares = [data[7 + 512 * i:][:512] for i in range(k * k)]
-                values.file(f"rows/{row}/stdout", make.Grid(k, make.extend(k, shares)).header())
-            continue
-        width, units, pays, blobs = block_of(data)
-        if all(len(make.blob_shares(*blob)) <= 64 for blob in blobs):
-            count = len(make.square_of(0, blobs, units, pays))
-            k = width or next(1 << i for i in range(8) if 1 << 2 * i >= max(count, 1))
-            values.file(f"rows/{row}/stdout", make.square(k, make.square_of(k, blobs, units, pays)))
+    for command in ("build", "header"):
+        for name in sorted(os.listdir(os.path.join(values.top, "rows", command))):
+            row = f"rows/{command}/{name}"
+            parts = dict(line.split(": ", 1) for line in values.read(f"{row}/row").splitlines())
+            path = os.path.normpath(os.path.join(row, shlex.split(parts["words"])[1]))
+            if parts["status"] != "0" or "judge" in parts or not os.path.exists(os.path.join(values.top, path)):
+                continue
+            if command == "header":
+                header_of_row(values, row, values.bytes_of(path))
+            else:
+                square_of_row(values, row, values.bytes_of(path))
+
+
+def header_of_row(values, row, data):
+    k = int.from_bytes(data[5:7], "big")
+    if k <= 4:
+        shares = [data[7 + 512 * i:][:512] for i in range(k * k)]
+        values.file(f"{row}/stdout", make.Grid(k, make.extend(k, shares)).header())
+
+
+def square_of_row(values, row, data):
+    width, units, pays, blobs = block_of(data)
+    if all(len(make.blob_shares(*blob)) <= 64 for blob in blobs):
+        count = len(make.square_of(0, blobs, units, pays))
+        k = width or next(1 << i for i in range(8) if 1 << 2 * i >= max(count, 1))
+        values.file(f"{row}/stdout", make.square(k, make.square_of(k, blobs, units, pays)))
 
 
 def commitments_of_rows(values):
     """What `commit` tells of each blob of some rows."""
     for row in ("of-the-squares-test", "the-documentations-blob", "the-same-bytes-by-each-signer", "blobs-of-many-subtrees"):
-        lines = [f"{commitment_of(blob).hex()}\n" for blob in block_of(values.bytes_of(f"rows/commit-{row}/block"))[3]]
-        values.file(f"rows/commit-{row}/stdout", "".join(lines).encode())
+        lines = [f"{commitment_of(blob).hex()}\n" for blob in block_of(values.bytes_of(f"rows/commit/{row}/block"))[3]]
+        values.file(f"rows/commit/{row}/stdout", "".join(lines).encode())
 
 
 def commitment_of(blob):
@@ -293,7 +301,7 @@ def draws_and_blocks(values):
     values.stands(path, "its end", f"blob.bytes.ends_with(&[{some(data[-2:])}])")
     values.stands(path, "its namespace", f"blob.namespace.0[18..] == {list(name[18:])}")
 
-    rows = lambda name: f"rows/demo-{name}/stdout"
+    rows = lambda name: f"rows/demo/{name}/stdout"
     for number, k, places in (
         (7, 2, ("README.md", "docs/TUTORIAL.md", "docs/da.1", rows("7-in-width-2"))),
         (2**64 - 1, 2, (rows("of-the-greatest-number"),)),
