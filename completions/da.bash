@@ -1,4 +1,5 @@
 # Completion of `da` in bash, of version 4 or later. In ~/.bashrc: . completions/da.bash
+# tools/manual makes it of docs/COMMANDS.md.
 
 # The words of a command.
 _da_words() {
