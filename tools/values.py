@@ -303,7 +303,7 @@ def draws_and_blocks(values):
 
     rows = lambda name: f"rows/demo/{name}/stdout"
     for number, k, places in (
-        (7, 2, ("README.md", "docs/TUTORIAL.md", "docs/da.1", rows("7-in-width-2"))),
+        (7, 2, ("docs/COMMANDS.md", "docs/TUTORIAL.md", "docs/da.1", rows("7-in-width-2"))),
         (2**64 - 1, 2, (rows("of-the-greatest-number"),)),
         (3, 4, (rows("3-in-width-4"),)),
         (3, 16, ("docs/TUTORIAL.md", rows("3-in-width-16"))),
