@@ -10,7 +10,7 @@
 //! not known.
 
 ghost use Rattle.std.specs.Prelude.{◌≡◌, ◌<◌, ◌≤◌, ◌+◌, ◌*◌, ◌^◌, ◌↔◌, ℕ, length, IsTrue, IsOk, IsErrOf, IfOk, IfSome, Some, None, true, false, if◌then◌else◌};
-ghost use Rattle.nmt_tree.specs.Digests.{is_ordered_join, node_digest};
+ghost use Rattle.nmt_tree.specs.Digests.{is_ordered_join, leaf_digest, node_digest};
 ghost use Rattle.nmt_tree.specs.Roots.{is_leaf_count, halvings};
 ghost use Rattle.nmt_proofs.specs.Parts.{ordered_digest};
 ghost use Rattle.nmt_proofs.specs.Openings.{opened, one_digest, one_leaf, has_count, has_order, has_root, Opens};
@@ -293,6 +293,54 @@ impl PartialTree {
         self.nodes[1].digest
     }
 
+    /// Verifies an NMT inclusion proof of one leaf under the root as the call `open_leaf` of this tree
+    /// does, where the digest of the leaf was hashed before.
+    ///
+    /// Refuses what that refuses, in the same order. It takes no memory, and keeps what the path shows.
+    ///
+    /// Celestia specifications, "Data Structures", namespaced Merkle tree inclusion proofs.
+    pub fn open_hashed(
+        &mut self,
+        pos: u16,
+        name: &Namespace,
+        share: &Share,
+        leaf: &Digest,
+        nodes: &[Digest],
+    ) -> Result<(), OpenRefusal>
+        requires place { pos < self.old.count }
+        requires leaf { leaf.now ≡ leaf_digest name.now share.now }
+        ensures accepts { IsOk result ↔ Opens (halvings self.old.count)
+            (one_leaf pos name.now share.now) nodes.now self.old.root }
+
+        // Each refusal comes exactly where its test is the first that fails.
+        ensures node_count { IsErrOf result OpenRefusal.NodeCount ↔
+            (has_count (halvings self.old.count) (one_leaf pos name.now share.now) nodes.now
+            ≡ false) }
+        ensures unordered { IsErrOf result OpenRefusal.Unordered ↔
+            (has_count (halvings self.old.count) (one_leaf pos name.now share.now) nodes.now ≡ true)
+            × (has_order (halvings self.old.count) (one_leaf pos name.now share.now) nodes.now
+            ≡ false) }
+        ensures other_root { IsErrOf result OpenRefusal.OtherRoot ↔
+            (has_count (halvings self.old.count) (one_leaf pos name.now share.now) nodes.now ≡ true)
+            × (has_order (halvings self.old.count) (one_leaf pos name.now share.now) nodes.now
+            ≡ true)
+            × (has_root (halvings self.old.count) (one_leaf pos name.now share.now) nodes.now
+            self.old.root ≡ false) }
+
+        // One leaf has nothing to be complete for.
+        ensures never { (i : ℕ) → IsErrOf result (OpenRefusal.Incomplete i) → ⊥ }
+
+        // It stays the partial tree under this root.
+        ensures kept { self.new ≡ self.old }
+    {
+        let shown = Piece {
+            from: pos,
+            size: 1,
+            digest: *leaf,
+        };
+        open_under(self.count, &mut self.nodes, &shown, nodes)
+    }
+
     /// Verifies an NMT inclusion proof of one leaf under the root, as `open_leaf` does: whether the
     /// nodes open the leaf over `share`, with namespace `name`, at place `pos`, which is below the
     /// number of leaves. The nodes are the digests of the greatest subtrees that don't hold the
@@ -336,11 +384,6 @@ impl PartialTree {
         // It stays the partial tree under this root.
         ensures kept { self.new ≡ self.old }
     {
-        let shown = Piece {
-            from: pos,
-            size: 1,
-            digest: leaf(name, share),
-        };
-        open_under(self.count, &mut self.nodes, &shown, nodes)
+        self.open_hashed(pos, name, share, &leaf(name, share), nodes)
     }
 }
