@@ -15,7 +15,7 @@ use Rattle.namespace_id.proofs.PowerLemmas.{power-half, halvings_half, power_hal
 use Rattle.nmt_tree.proofs.PairLemmas.{length-pairs, span-pairs}
 
 -- one more leaf gives one more digest
-leaf_digests-append : (ns : List Namespace) (ss : List Share) (n : Namespace) (s : Share) → length ns ≡ length ss
+pub leaf_digests-append : (ns : List Namespace) (ss : List Share) (n : Namespace) (s : Share) → length ns ≡ length ss
     → leaf_digests (ns ++ n ∷ []) (ss ++ s ∷ []) ≡ leaf_digests ns ss ++ leaf_digest n s ∷ []
 unfolding leaf_digests
 leaf_digests-append [] [] n s e = refl

@@ -11,3 +11,4 @@ pub mod OverLemmas
 pub mod JoinLemmas
 pub mod AboveLemmas
 pub mod TreeLemmas
+mod QueueLemmas

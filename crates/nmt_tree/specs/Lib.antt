@@ -1,4 +1,5 @@
 pub mod Batches
+pub mod Queues
 pub mod Digests
 pub mod Roots
 pub mod Levels

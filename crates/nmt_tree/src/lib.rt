@@ -2,19 +2,21 @@
 //! stored trees.
 //!
 //! `leaf`, `node` and `join` make one digest; `plain_root` and `strict_root` are the plain
-//! recursions that say what the root of a list is. A `Tree` keeps the digests of all levels, and
-//! `fold_root` joins digests of leaves in place.
+//! recursions that say what the root of a list is. A `Tree` keeps the digests of all levels,
+//! `fold_root` joins digests of leaves in place, and a `LeafQueue` hashes leaves as they come.
 #![tactic(auto)]
 
 mod batches;
 mod folding;
 mod hashing;
 mod levels;
+mod queues;
 mod roots;
 mod trees;
 
 pub use folding::fold_root;
 pub use hashing::{Unordered, join, leaf, node};
 pub use levels::put_leaves;
+pub use queues::LeafQueue;
 pub use roots::{are_ordered, halvings, is_leaf_count, leaf_count, plain_root, strict_root};
 pub use trees::{Tree, span_laws, tree_laws};
