@@ -4,9 +4,11 @@ use Rattle.namespace_id.specs.declared.cells.Cell.{Cell}
 use Rattle.namespace_id.specs.declared.cells.Axis.{Axis}
 use Rattle.namespace_id.specs.declared.cells.Axis.TheVariants.{Row, Col}
 use Rattle.namespace_id.specs.declared.digests.Digest.{Digest}
+use Rattle.namespace_id.specs.declared.shares.Share.{Share}
 use Rattle.namespace_id.specs.Shares.{IsShare}
 use Rattle.namespace_id.specs.Digests.{AreDigests}
 use Rattle.namespace_id.specs.Cells.{is_in_square, leaf_namespace}
+use Rattle.nmt_tree.specs.Digests.{leaf_digest}
 use Rattle.nmt_tree.specs.Roots.{halvings}
 use Rattle.nmt_proofs.specs.Openings.{Shown, one_leaf, has_count, has_order, has_root}
 use Rattle.data_header.specs.Headers.{Roots, root_of}
@@ -36,6 +38,10 @@ index Col cell = cell.col
 -- namespace of its cell
 abbrev pub shown_by : ℕ → Message → List Shown
 shown_by k m = one_leaf (position m.axis m.cell) (leaf_namespace k m.cell m.share) m.share
+
+-- the digest of the leaf that a share makes at a cell of a square of width k
+abbrev pub shown_leaf : ℕ → Cell → Share → Digest
+shown_leaf k cell share = leaf_digest (leaf_namespace k cell share) share
 
 -- the header's root of the sample's axis through its cell
 abbrev pub root_for : Roots → Message → Digest

@@ -14,5 +14,5 @@ pub use certificates::{RefusedMessage, check};
 pub use laws::{message_laws, own_laws};
 pub use making::{made_laws, message_from, message_of};
 pub use messages::{CheckRefusal, Message, index, message_law, opens, position};
-pub use partials::{PartialTrees, opens_by};
+pub use partials::{PartialTrees, opens_by, opens_hashed_by};
 pub use proved::Proved;

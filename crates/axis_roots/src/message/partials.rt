@@ -7,7 +7,7 @@ ghost use Rattle.namespace_id.specs.Digests.{no_digest};
 ghost use Rattle.nmt_tree.specs.Roots.{halvings, is_leaf_count};
 ghost use Rattle.nmt_proofs.specs.Openings.{Opens, has_count, has_order, has_root};
 ghost use Rattle.data_header.specs.Headers.{root_of};
-ghost use Rattle.axis_roots.specs.Messages.{position, index, shown_by, root_for, is_inside, has_node_count, has_ordered_joins, is_under_root, message_refusal, IsMessage};
+ghost use Rattle.axis_roots.specs.Messages.{position, index, shown_by, shown_leaf, root_for, is_inside, has_node_count, has_ordered_joins, is_under_root, message_refusal, IsMessage};
 ghost use Rattle.axis_roots.specs.Openings.{IsProved};
 ghost use Rattle.axis_roots.specs.Own.{IsOwn};
 ghost use Rattle.axis_roots.specs.Proved.{IsUnder, kept_message};
@@ -19,6 +19,7 @@ use super::proved::Proved;
 use data_header::Header;
 use namespace_id::{Axis, Digest, NoMemory, is_in_square, leaf_namespace};
 use nmt_proofs::{OpenRefusal, PartialTree};
+use nmt_tree::leaf;
 use std::alloc::Global;
 use std::marker::Model;
 
@@ -37,14 +38,30 @@ fn trees_under(alloc: Global, n: u16, roots: &[Digest]) -> Result<Vec<PartialTre
     Ok(trees)
 }
 
-/// Whether the nodes of a sample open its share in the tree of its row or column; these are the
-/// trees of the sample's axis, in a square of width k.
-fn open_in(trees: &mut [PartialTree], k: u16, message: &Message) -> Result<(), OpenRefusal>
+/// The digest of the leaf over the cell of a sample, which is in the square of width k.
+fn shown_leaf(k: u16, message: &Message) -> Digest
+    requires width { IsTrue (is_width k) }
+    requires cell { IsTrue (is_in_square k message.now.cell) }
+    ensures { result ≡ shown_leaf k message.now.cell message.now.share }
+{
+    let name = leaf_namespace(k, message.cell, &message.share);
+    leaf(&name, &message.share)
+}
+
+/// Whether the nodes of a sample open its share, of which the digest of the leaf is given, in the tree
+/// of its row or column; these are the trees of the sample's axis, in a square of width k.
+fn open_in(
+    trees: &mut [PartialTree],
+    k: u16,
+    message: &Message,
+    leaf: &Digest,
+) -> Result<(), OpenRefusal>
     requires width { IsTrue (is_width k) }
     requires cell { IsTrue (is_in_square k message.now.cell) }
     requires leaves { HaveCount (2 * k) trees.old }
     requires index { index message.now.axis message.now.cell < length trees.old }
     requires place { position message.now.axis message.now.cell < 2 * k }
+    requires leaf { leaf.now ≡ shown_leaf k message.now.cell message.now.share }
     ensures accepts { IsOk result ↔ Opens (halvings (2 * k)) (shown_by k message.now) message.now.path
         (get_or (roots_in trees.old) (index message.now.axis message.now.cell) no_digest) }
     ensures node_count { IsErrOf result OpenRefusal.NodeCount ↔
@@ -63,7 +80,7 @@ fn open_in(trees: &mut [PartialTree], k: u16, message: &Message) -> Result<(), O
     let name = leaf_namespace(k, message.cell, &message.share);
     let at = index(message.axis, message.cell) as usize;
     let pos = position(message.axis, message.cell);
-    trees[at].open_leaf(pos, &name, &message.share, message.path.nodes())
+    trees[at].open_hashed(pos, &name, &message.share, leaf, message.path.nodes())
 }
 
 /// The digests that samples have shown under a header: of each row and column, those of its namespaced
@@ -104,9 +121,12 @@ impl PartialTrees {
         })
     }
 
-    /// Whether the nodes of a sample with a cell of the square open its share.
-    fn open(&mut self, message: &Message) -> Result<(), OpenRefusal>
+    /// Whether the nodes of a sample with a cell of the square open its share, of which the digest of
+    /// the leaf is given.
+    fn open(&mut self, message: &Message, leaf: &Digest) -> Result<(), OpenRefusal>
         requires inside { is_inside self.old message.now ≡ true }
+        requires leaf { leaf.now ≡
+            shown_leaf self.old.k message.now.cell message.now.share }
         ensures accepts { IsOk result ↔ Opens (halvings (2 * self.old.k))
             (shown_by self.old.k message.now) message.now.path (root_for self.old message.now) }
         ensures node_count { IsErrOf result OpenRefusal.NodeCount ↔
@@ -122,8 +142,54 @@ impl PartialTrees {
         ensures kept { self.new ≡ self.old }
     {
         match message.axis {
-            Axis::Row => open_in(&mut self.rows, self.k, message),
-            Axis::Col => open_in(&mut self.cols, self.k, message),
+            Axis::Row => open_in(&mut self.rows, self.k, message, leaf),
+            Axis::Col => open_in(&mut self.cols, self.k, message, leaf),
+        }
+    }
+
+    /// Verifies a sample under the header, as the call `opens` of these trees does, where the digest of
+    /// its leaf was hashed before, as in a queue (`LeafQueue`). It takes no memory.
+    ///
+    /// Celestia specifications, "Data Structures", namespaced Merkle tree inclusion proofs;
+    /// docs/RULES.md, "Proved samples".
+    pub fn opens_hashed(&mut self, message: &Message, leaf: &Digest) -> Result<(), CheckRefusal>
+        requires leaf { leaf.now ≡
+            shown_leaf self.old.k message.now.cell message.now.share }
+        ensures accepts { IsOk result ↔ IsProved self.old message.now }
+        ensures out_of_square { IsErrOf result CheckRefusal.OutOfSquare ↔
+            (is_inside self.old message.now ≡ false) }
+        ensures node_count { IsErrOf result CheckRefusal.NodeCount ↔
+            (is_inside self.old message.now ≡ true)
+            × (has_node_count self.old message.now ≡ false) }
+        ensures unordered { IsErrOf result CheckRefusal.Unordered ↔
+            (is_inside self.old message.now ≡ true)
+            × (has_node_count self.old message.now ≡ true)
+            × (has_ordered_joins self.old message.now ≡ false) }
+        ensures other_root { IsErrOf result CheckRefusal.OtherRoot ↔
+            (is_inside self.old message.now ≡ true)
+            × (has_node_count self.old message.now ≡ true)
+            × (has_ordered_joins self.old message.now ≡ true)
+            × (is_under_root self.old message.now ≡ false) }
+
+        // All of these at once.
+        ensures first { refusal_in result ≡ message_refusal self.old message.now }
+
+        // Under the header of a square, what is accepted is the square's own share, or the sample
+        // and the square name a collision.
+        ensures own { IsOk result → IsOwn self.old message.now }
+
+        // They stay the partial trees of this header.
+        ensures kept { self.new ≡ self.old }
+    {
+        message_law(message);
+        if !is_in_square(self.k, message.cell) {
+            return Err(CheckRefusal::OutOfSquare);
+        }
+        match self.open(message, leaf) {
+            Ok(()) => Ok(()),
+            Err(OpenRefusal::NodeCount) => Err(CheckRefusal::NodeCount),
+            Err(OpenRefusal::Unordered) => Err(CheckRefusal::Unordered),
+            Err(_) => Err(CheckRefusal::OtherRoot),
         }
     }
 
@@ -162,16 +228,11 @@ impl PartialTrees {
         // They stay the partial trees of this header.
         ensures kept { self.new ≡ self.old }
     {
-        message_law(message);
         if !is_in_square(self.k, message.cell) {
             return Err(CheckRefusal::OutOfSquare);
         }
-        match self.open(message) {
-            Ok(()) => Ok(()),
-            Err(OpenRefusal::NodeCount) => Err(CheckRefusal::NodeCount),
-            Err(OpenRefusal::Unordered) => Err(CheckRefusal::Unordered),
-            Err(_) => Err(CheckRefusal::OtherRoot),
-        }
+        let leaf = shown_leaf(self.k, message);
+        self.opens_hashed(message, &leaf)
     }
 
     /// The root of an axis, the row or column of this index, below 2k.
@@ -230,6 +291,33 @@ pub fn opens_by(
 {
     match trees {
         Some(kept) => kept.opens(message),
+        None => opens(header, message),
+    }
+}
+
+/// Verifies a sample under a header as `opens_by` does, where the digest of its leaf may have been hashed
+/// before. It takes no memory.
+///
+/// docs/RULES.md, "Proved samples".
+pub fn opens_hashed_by(
+    header: &Header,
+    trees: &mut Option<PartialTrees>,
+    message: &Message,
+    leaf: Option<Digest>,
+) -> Result<(), CheckRefusal>
+    requires under { IfSome trees.old (λ kept. kept ≡ header.now) }
+    requires leaf { IfSome leaf (λ hashed. hashed ≡
+        shown_leaf header.now.k message.now.cell message.now.share) }
+    ensures accepts { IsOk result ↔ IsProved header.now message.now }
+    ensures first { refusal_in result ≡ message_refusal header.now message.now }
+    ensures own { IsOk result → IsOwn header.now message.now }
+    ensures kept { trees.new ≡ trees.old }
+{
+    let Some(hashed) = leaf else {
+        return opens_by(header, trees, message);
+    };
+    match trees {
+        Some(kept) => kept.opens_hashed(message, &hashed),
         None => opens(header, message),
     }
 }
