@@ -1,1 +1,2 @@
 pub mod SplitLoops
+pub mod StepLemmas

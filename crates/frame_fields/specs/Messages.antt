@@ -1,6 +1,8 @@
 -- The sample that a payload is (docs/FORMATS.md, "Payloads").
 use Rattle.axis_roots.specs.declared.message.messages.Message as sent
 use Rattle.std.specs.Prelude.{ℕ, List, length, Option, Some, None, if◌then◌else◌, ◌==◌}
+use Rattle.namespace_id.specs.declared.cells.Cell.{Cell}
+use Rattle.namespace_id.specs.declared.shares.Share.{Share}
 use Rattle.namespace_id.specs.Sizes.{share_size}
 use Rattle.namespace_id.specs.Shares.{share_of}
 use Rattle.frame_fields.specs.Fields.{◌>>=◌, string_at, axis_at, cell_at, path_at}
@@ -27,3 +29,11 @@ unfoldable pub message_at : List ℕ → Option sent.Message
 message_at bytes = do
   front ← message_front bytes
   if length front.1 == 0 then Some front.0 else None
+
+-- the cell and the share of a sample at the front of bytes, of which its nodes aren't read
+unfoldable pub shown_front : List ℕ → Option (Cell × Share)
+shown_front bytes = do
+  cell ← cell_at bytes
+  axis ← axis_at cell.1
+  share ← string_at share_size axis.1
+  Some (cell.0, share_of share.0)

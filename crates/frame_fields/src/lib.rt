@@ -12,4 +12,4 @@ pub use fields::{
     hashes_at, name_at, name_of, nodes_at, path_at, share_at, shares_at, shares_of, text_at,
     text16_at, u8_at, u16_at, u32_at,
 };
-pub use messages::{message, message_front};
+pub use messages::{message, message_front, shown_front};

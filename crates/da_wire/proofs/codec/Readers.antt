@@ -7,18 +7,10 @@ use Rattle.std.proofs.lemmas.Option.{some_pair_parts, same_Some}
 use Rattle.namespace_id.specs.Bytes.{AreBytes, IsString}
 use Rattle.namespace_id.proofs.StringLemmas.{AreBytes-take, AreBytes-drop}
 use Rattle.frame_fields.specs.Fields.{◌>>=◌}
+pub use Rattle.frame_fields.proofs.StepLemmas.{bind_some, bind_again}
 use Rattle.da_wire.specs.Frames.{ok_of}
 
 -- ---- steps
-
--- the value of a first step that did not fail
-pub bind_some : {A B : Type 0} (r : Option A) (f : A → Option B) (y : B) → (r >>= f) ≡ Some y → (x : A) × (r ≡ Some x) × (f x ≡ Some y)
-bind_some None f y e = absurd cc
-bind_some (Some x) f y e = (x, refl, e)
-
--- two steps that are made one after the other are made together
-pub bind_again : {A B : Type 0} (r : Option A) (f : A → Option B) (x : A) (y : B) → r ≡ Some x → f x ≡ Some y → (r >>= f) ≡ Some y
-bind_again r f x y p q = subst (λ (s : Option _). (s >>= f) ≡ Some y) (sym p) q
 
 -- a step that is made of a value, if there is one
 pub bind_or : {A B : Type 0} (r : Option A) (f : A → Option B) → (r >>= f) ≡ option_map_or f r None
