@@ -1,9 +1,10 @@
 -- Partial trees: the halves of a node, and what is opened in them.
-use Rattle.std.proofs.Common.{◌≡◌, ◌∙◌, ℕ, zero, suc, ◌+◌, ◌-◌, ◌*◌, ◌^◌, ◌≤◌, ◌<◌, List, [], ◌∷◌, length, take, drop, get_or, Bool, ltb, true, false, cond, refl, sym, ap, ap₂, subst, arith, Some, None, Result, length-drop}
+use Rattle.std.specs.Vec.{with_items}
+use Rattle.std.proofs.Common.{◌≡◌, ◌∙◌, ℕ, zero, suc, ◌+◌, ◌-◌, ◌*◌, ◌^◌, ◌≤◌, ◌<◌, List, [], ◌∷◌, length, take, drop, get_or, Bool, ltb, true, false, cond, refl, sym, ap, ap₂, subst, arith, Some, None, Result, length-drop, Vec, Global}
 use Rattle.std.proofs.lemmas.Bool.{eq-eqb}
 use Rattle.std.proofs.lemmas.Bool.Decides.{nat_tests}
 use Rattle.std.specs.Str.{bytes_eq}
-use Rattle.std.proofs.lemmas.List.{get_or-drop, take_all, length-take-le}
+use Rattle.std.proofs.lemmas.List.{with_items_is, get_or-drop, take_all, length-take-le}
 use Rattle.std.proofs.lemmas.Nat.{pow_pos}
 use Rattle.std.proofs.Math.Nat.{pow-suc, mul_assoc, mul_comm}
 use Rattle.namespace_id.specs.declared.namespaces.Namespace.{Namespace}
@@ -17,7 +18,7 @@ use Rattle.nmt_proofs.specs.Openings.{Shown, opened, one_digest, one_leaf, has_c
 use Rattle.nmt_proofs.proofs.Parts.SingleLemmas.{opened_left, opened_right, length-outside-one}
 use Rattle.nmt_proofs.proofs.Parts.StepLemmas.{twice_half}
 use Rattle.nmt_proofs.specs.declared.partial.Node.{Node}
-use Rattle.nmt_proofs.specs.Partial.{digest_at, AreHalves, RootedTree, rooted_tree}
+use Rattle.nmt_proofs.specs.Partial.{digest_at, AreHalves, AreJoined, IsPartial, KeepsPartial, RootedTree, rooted_tree}
 use Rattle.nmt_proofs.specs.declared.opening.OpenRefusal.{OpenRefusal}
 use Rattle.nmt_proofs.specs.Causes.{HasCause}
 use Rattle.nmt_proofs.proofs.Parts.PublicLemmas.{same_cause}
@@ -137,13 +138,27 @@ leaf_cause d pos name share leaf root ns r e h =
     same_cause d (record { from = pos; size = 1; digest = leaf } ∷ []) (one_leaf pos name share) ns root None r
     (ap (λ (x : Digest). let s : Shown = record { from = pos; size = 1; part = given x } in s ∷ []) e) (refl, tt) h
 
--- and in terms of what contracts see of the partial tree
-pub tree_cause : (tree : RootedTree) (n : ℕ) (kept nodes : List Node) (pos : ℕ) (name : Namespace) (share : Share) (leaf : Digest) (ns : List Digest) (r : Result (Unit {0}) OpenRefusal)
-    → rooted_tree n kept ≡ tree → nodes ≡ kept → leaf ≡ leaf_digest name share
+-- and in terms of what contracts see of the partial tree, of which nodes may have been written below the root
+pub tree_cause : (tree : RootedTree) (n : ℕ) (kept written nodes : List Node) (pos : ℕ) (name : Namespace) (share : Share) (leaf : Digest) (ns : List Digest) (r : Result (Unit {0}) OpenRefusal)
+    → rooted_tree n kept ≡ tree → nodes ≡ written → digest_at written 1 ≡ digest_at kept 1 → leaf ≡ leaf_digest name share
     → HasCause r (has_count (halvings n) (one_digest pos leaf) ns) (has_order (halvings n) (one_digest pos leaf) ns) (has_root (halvings n) (one_digest pos leaf) ns (digest_at nodes 1)) None
     → HasCause r (has_count (halvings tree.count) (one_leaf pos name share) ns) (has_order (halvings tree.count) (one_leaf pos name share) ns)
     (has_root (halvings tree.count) (one_leaf pos name share) ns tree.root) None
-tree_cause tree n kept nodes pos name share leaf ns r seen same e h =
+tree_cause tree n kept written nodes pos name share leaf ns r seen same root e h =
     let of : RootedTree → Type 0 = λ t. HasCause r (has_count (halvings t.count) (one_leaf pos name share) ns) (has_order (halvings t.count) (one_leaf pos name share) ns)
     (has_root (halvings t.count) (one_leaf pos name share) ns t.root) None in
-    subst of (ap (rooted_tree n) same ∙ seen) (leaf_cause (halvings n) pos name share leaf (digest_at nodes 1) ns r e h)
+    subst of (ap (rooted_tree n) same ∙ ap (λ (d : Digest). let t : RootedTree = record { count = n; root = d } in t) root ∙ seen) (leaf_cause (halvings n) pos name share leaf (digest_at nodes 1) ns r e h)
+
+-- all nodes that were lent come back into their list
+pub keeps_all : (count : ℕ) (kept : Vec Node Global) (nodes : List Node) → KeepsPartial count kept → IsPartial count kept.items → IsPartial count nodes → KeepsPartial count (with_items kept nodes)
+keeps_all count kept nodes keeps before after =
+    let size : length nodes ≡ kept.len = after.room ∙ sym before.room ∙ sym kept.ok.0 in
+    let back : (with_items kept nodes).items ≡ nodes = with_items_is kept nodes size in
+    record {
+      is_count = after.is_count;
+      capacity = keeps.capacity;
+      root = omega (arith, ap length back, after.room, keeps.root, keeps.room);
+      room = omega (arith, ap length back, after.room);
+      unwritten = λ few. absurd (omega (arith, ap length back, after.room, few));
+      joined = subst AreJoined (sym back) after.joined;
+    }

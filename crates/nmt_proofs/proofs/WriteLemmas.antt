@@ -1,14 +1,14 @@
 -- What is written into a partial tree: a node, and that no halves are kept of it, nor of the node over it.
-use Rattle.std.proofs.Common.{◌≡◌, ◌≢◌, ◌∙◌, ℕ, ◌+◌, ◌*◌, ◌/◌, ◌<◌, List, length, set, true, false, sym, ap, ap₂, inl, inr, arith, true≢false}
-use Rattle.std.proofs.lemmas.Bool.{cases_eq}
-use Rattle.std.proofs.lemmas.List.{get_or-set_same, get_or-set_other, length-set}
+use Rattle.std.proofs.Common.{◌≡◌, ◌≢◌, ◌∙◌, ℕ, ◌+◌, ◌-◌, ◌*◌, ◌/◌, ◌<◌, ◌≤◌, List, ◌++◌, length, take, set, replicate, true, false, refl, sym, ap, ap₂, subst, inl, inr, arith, true≢false}
+use Rattle.std.proofs.lemmas.Bool.{cases_eq, cases_lt}
+use Rattle.std.proofs.lemmas.List.{get_or-set_same, get_or-set_other, length-set, get_or_append_left, get_or-append_right, get_or-replicate, get_or_past, length-replicate, length-append, take_all}
 use Rattle.namespace_id.specs.declared.digests.Digest.{Digest}
 use Rattle.nmt_tree.specs.Digests.{is_ordered_join, node_digest}
 use Rattle.nmt_proofs.specs.declared.partial.Node.{Node}
-use Rattle.nmt_proofs.specs.Partial.{no_node, digest_at, is_marked, AreHalves, AreJoined}
+use Rattle.nmt_proofs.specs.Partial.{no_node, digest_at, is_marked, AreHalves, AreJoined, AreUnmarked}
 
 -- a node that is not marked
-abbrev bare : Digest → Node
+abbrev pub bare : Digest → Node
 bare digest = record { digest = digest; is_joined = false }
 
 -- the nodes where a mark is taken away
@@ -78,3 +78,40 @@ joined_still nodes i digest h joined j is =
       ordered = ap₂ is_ordered_join el er ∙ halves.ordered;
       value = ap₂ node_digest el er ∙ halves.value ∙ sym (digest_at-other nodes i digest h j was.0);
     }
+
+-- nodes that aren't marked, one as often as one likes
+unmarked_copies : (n i : ℕ) (digest : Digest) → is_marked (replicate n (bare digest)) i ≡ false
+unmarked_copies n i digest = elim (cases_lt i n) [
+  | inl below ↦ ap (λ (x : Node). x.is_joined) (get_or-replicate n i (bare digest) no_node below)
+  | inr past ↦ ap (λ (x : Node). x.is_joined) (get_or_past (replicate n (bare digest)) i no_node (omega (arith, length-replicate n (bare digest))))
+]
+
+-- behind nodes that aren't marked they leave none marked
+pub unmarked_behind : (nodes : List Node) (n : ℕ) (digest : Digest) → AreUnmarked nodes → AreUnmarked (nodes ++ replicate n (bare digest))
+unmarked_behind nodes n digest none i = elim (cases_lt i (length nodes)) [
+  | inl below ↦ ap (λ (x : Node). x.is_joined) (get_or_append_left nodes (replicate n (bare digest)) no_node i below) ∙ none i
+  | inr past ↦
+      ap (λ (x : Node). x.is_joined) (get_or-append_right nodes (replicate n (bare digest)) (length nodes) i no_node refl past)
+      ∙ unmarked_copies n (i - length nodes) digest
+]
+
+-- where no node is marked all that are marked are joined
+pub unmarked_joined : (nodes : List Node) → AreUnmarked nodes → AreJoined nodes
+unmarked_joined nodes none i mark = absurd (true≢false (sym mark ∙ none i))
+
+-- what is there after nodes that aren't marked were written behind the first ones
+pub record AreFilled (all : ℕ) (before after : List Node) : Type 0 where
+  pub count : length after ≡ all
+  pub unmarked : AreUnmarked after
+  pub root : digest_at after 1 ≡ digest_at before 1
+
+pub filled : (all len : ℕ) (before : List Node) (digest : Digest) → len ≡ length before → 2 ≤ length before → length before ≤ all → AreUnmarked before
+    → AreFilled all before (take all before ++ replicate (all - len) (bare digest))
+filled all len before digest same some few none =
+    let whole : take all before ≡ before = take_all all before few in
+    let row : List Node = replicate (all - len) (bare digest) in
+    subst (λ (front : List Node). AreFilled all before (front ++ row)) (sym whole) (record {
+      count = omega (arith, same, length-append before row, length-replicate (all - len) (bare digest));
+      unmarked = unmarked_behind before (all - len) digest none;
+      root = ap (λ (x : Node). x.digest) (get_or_append_left before row no_node 1 (omega arith));
+    })

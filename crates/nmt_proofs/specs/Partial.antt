@@ -1,6 +1,7 @@
 -- The partial tree that accepted openings showed under one root: what is kept of it. The nodes are
 -- numbered from the root, which is 1; the halves of node i are 2i and 2i + 1.
-use Rattle.std.specs.Prelude.{◌≡◌, ◌+◌, ◌*◌, ◌≤◌, ℕ, List, length, get_or, Bool, true, false, IsTrue}
+use Rattle.std.specs.Prelude.{◌≡◌, ◌+◌, ◌*◌, ◌<◌, ◌≤◌, ℕ, List, length, get_or, Bool, true, false, IsTrue, Vec, vec_capacity}
+use Rattle.std.specs.declared.alloc.Global.{Global}
 use Rattle.namespace_id.specs.declared.digests.Digest.{Digest}
 use Rattle.namespace_id.specs.Digests.{no_digest}
 use Rattle.nmt_tree.specs.Digests.{is_ordered_join, node_digest}
@@ -41,8 +42,21 @@ pub record RootedTree : Type 0 where
 abbrev pub rooted_tree : ℕ → List Node → RootedTree
 rooted_tree count nodes = record { count = count; root = digest_at nodes 1 }
 
--- what a partial tree keeps: capacity for all nodes; each that is marked is joined of its halves
+-- no node is marked
+abbrev pub AreUnmarked : List Node → Type 0
+AreUnmarked nodes = (i : ℕ) → is_marked nodes i ≡ false
+
+-- the nodes of a partial tree, all of them; each that is marked is joined of its halves
 pub record IsPartial (count : ℕ) (nodes : List Node) : Type 0 where
   pub is_count : IsTrue (is_leaf_count count)
   pub room : length nodes ≡ 2 * count
   pub joined : AreJoined nodes
+
+-- what a partial tree keeps: capacity for all nodes, and at least the root; before all are written none is marked
+pub record KeepsPartial (count : ℕ) (nodes : Vec Node Global) : Type 0 where
+  pub is_count : IsTrue (is_leaf_count count)
+  pub capacity : 2 * count ≤ vec_capacity nodes
+  pub root : 2 ≤ length nodes.items
+  pub room : length nodes.items ≤ 2 * count
+  pub unwritten : length nodes.items < 2 * count → AreUnmarked nodes.items
+  pub joined : AreJoined nodes.items

@@ -15,7 +15,7 @@ ghost use Rattle.nmt_tree.specs.Roots.{is_leaf_count, halvings};
 ghost use Rattle.nmt_proofs.specs.Parts.{ordered_digest};
 ghost use Rattle.nmt_proofs.specs.Openings.{opened, one_digest, one_leaf, has_count, has_order, has_root, Opens};
 ghost use Rattle.nmt_proofs.specs.Causes.{HasCause};
-ghost use Rattle.nmt_proofs.specs.Partial.{digest_at, AreHalves, AreJoined, AreKept, IsPartial};
+ghost use Rattle.nmt_proofs.specs.Partial.{digest_at, AreHalves, AreJoined, AreKept, IsPartial, KeepsPartial};
 
 use crate::joining::{Piece, ordered_node};
 use crate::opening::OpenRefusal;
@@ -216,6 +216,23 @@ fn fold(
     }
 }
 
+/// Writes those nodes of a partial tree that weren't written yet. There is capacity for them, which isn't touched before.
+fn write_rest(nodes: &mut Vec<Node>, count: u16)
+    requires { KeepsPartial count nodes.old }
+    ensures keeps { KeepsPartial count nodes.new }
+    ensures partial { IsPartial count nodes.new.items }
+    ensures root { digest_at nodes.new.items 1 ≡ digest_at nodes.old.items 1 }
+{
+    let all = 2 * count as usize;
+    if nodes.len() < all {
+        let blank = Node {
+            digest: nodes[1].digest,
+            is_joined: false,
+        };
+        nodes.resize(all, blank).unwrap();
+    }
+}
+
 /// Whether the path opens the digest of a leaf under the root, and why not.
 fn open_under(
     count: u16,
@@ -256,18 +273,19 @@ fn open_under(
 #[derive(Drop)]
 pub struct PartialTree {
     count: u16,
-    // By their numbers: the root is 1, the halves of i are 2i and 2i + 1, and 0 is not used.
+    // By their numbers: the root is 1, the halves of i are 2i and 2i + 1, and 0 is not used. Those below
+    // the root are written when the first leaf is opened: a tree of which no sample comes has no page for them.
     nodes: Vec<Node>,
 }
 
 impl Model for PartialTree {
-    ghost use Rattle.nmt_proofs.specs.Partial.{RootedTree, IsPartial, rooted_tree};
+    ghost use Rattle.nmt_proofs.specs.Partial.{RootedTree, KeepsPartial, rooted_tree};
 
     ghost Value = { RootedTree };
 
     ghost view = { λ t. rooted_tree t.count t.nodes.items };
 
-    ghost invariant = { λ t. IsPartial t.count t.nodes.items };
+    ghost invariant = { λ t. KeepsPartial t.count t.nodes };
 }
 
 impl PartialTree {
@@ -282,7 +300,8 @@ impl PartialTree {
             digest: *root,
             is_joined: false,
         };
-        let nodes = vec![in alloc; blank; 2 * n as usize]?;
+        let mut nodes = Vec::with_capacity(alloc, 2 * n as usize)?;
+        nodes.resize(2, blank).unwrap();
         Ok(PartialTree { count: n, nodes })
     }
 
@@ -338,6 +357,7 @@ impl PartialTree {
             size: 1,
             digest: *leaf,
         };
+        write_rest(&mut self.nodes, self.count);
         open_under(self.count, &mut self.nodes, &shown, nodes)
     }
 
