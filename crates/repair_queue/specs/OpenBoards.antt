@@ -1,7 +1,5 @@
 -- What holds of the fields of a session.
-use Rattle.std.specs.Prelude.{◌≡◌, ◌*◌, ◌≤◌, List, [], Option, Some, None, Vec, vec_capacity}
-use Rattle.std.specs.declared.alloc.Global.{Global}
-use Rattle.namespace_id.specs.declared.shares.Share.{Share}
+use Rattle.std.specs.Prelude.{◌≡◌, List, Option, Some, None}
 use Rattle.namespace_id.specs.Cells.{CellList}
 use Rattle.data_header.specs.Headers.{Roots}
 use Rattle.axis_roots.specs.declared.message.messages.Message.{Message}
@@ -22,10 +20,8 @@ abbrev pub KeepsFor : Roots → List Message → Board → Option Ended → Type
 KeepsFor header ms b None = HoldsFor header ms b
 KeepsFor header ms b (Some ended) = IsEnd header ms ended
 
--- what holds of every session: its partial trees are under its header, and there is capacity for what it hands out
-pub record IsSession (header trees : Roots) (b : Board) (tools : Tools) (end : Option Ended) (shares : Vec Share Global) (room : CellList) : Type 0 where
+-- what holds of every session: its partial trees and the room of its cells are for its header
+pub record IsSession (header trees : Roots) (b : Board) (tools : Tools) (end : Option Ended) (room : CellList) : Type 0 where
   pub partial : trees ≡ header
   pub open_board : IsOpenBoard header b tools end
-  pub empty : shares.items ≡ []
-  pub space : header.k * header.k ≤ vec_capacity shares
   pub cells : room.k ≡ header.k

@@ -5,7 +5,7 @@ use crate::ending::Ended;
 use crate::tools::Tools;
 use axis_roots::PartialTrees;
 use data_header::Header;
-use namespace_id::{CellRoom, Share};
+use namespace_id::CellRoom;
 use std::marker::Model;
 
 /// Where a session stands.
@@ -34,8 +34,7 @@ pub struct Session {
     pub(crate) board: Board,
     pub(crate) tools: Tools,
     pub(crate) ended: Option<Ended>,
-    // for what `finish` hands out
-    pub(crate) shares: Vec<Share>,
+    // for the missing cells that `finish` hands out
     pub(crate) room: CellRoom,
 }
 
@@ -48,5 +47,5 @@ impl Model for Session {
 
     ghost view = { λ s. parts_by s.header s.board s.ended };
 
-    ghost invariant = { λ s. IsSession s.header s.trees s.board s.tools s.ended s.shares s.room };
+    ghost invariant = { λ s. IsSession s.header s.trees s.board s.tools s.ended s.room };
 }

@@ -16,7 +16,7 @@
 //!
 //! `Session::new` takes all memory, also that of the answer.
 
-ghost use Rattle.std.specs.Prelude.{◌≡◌, ◌≢◌, ◌↔◌, ◌*◌, ◌≤◌, ◌++◌, ◌∷◌, [], List, Some, IsOk, IfOk, IfErr, true, vec_capacity};
+ghost use Rattle.std.specs.Prelude.{◌≡◌, ◌≢◌, ◌↔◌, ◌++◌, ◌∷◌, [], List, Some, IsOk, IfOk, IfErr, true};
 ghost use Rattle.namespace_id.specs.Cells.{is_width};
 ghost use Rattle.axis_roots.specs.declared.message.messages.Message.{Message};
 ghost use Rattle.axis_roots.specs.Messages.{message_refusal};
@@ -36,6 +36,7 @@ use crate::boards::{Board, is_known};
 use crate::ending::Ended;
 use crate::entering::step;
 use crate::fed::{Session, SessionState};
+use crate::slots::number;
 use crate::tools::Tools;
 use axis_roots::{Message as Sample, PartialTrees, Proved, RefusedMessage};
 use data_header::Header;
@@ -70,41 +71,45 @@ fn fill_unknown(board: &Board, room: &mut CellRoom)
     let _cells = room.cells();
 }
 
-/// The shares of the original cells, row-major.
-fn original_shares(board: &Board, shares: Vec<Share>) -> Vec<Share>
-    requires parts { AreParts board.now }
-    requires empty { shares.items ≡ [] }
-    requires room { board.now.grid.k * board.now.grid.k ≤ vec_capacity shares }
-    ensures { AreOriginals board.now result.items }
+/// The shares of the original cells, row-major, in the memory that the board had for those of all cells. Each is
+/// moved towards the front, over one that was moved before or isn't wanted.
+fn original_shares(board: Board) -> Vec<Share>
+    requires parts { AreParts board }
+    ensures { AreOriginals board result.items }
 {
-    let mut shares = shares;
-    let k = board.grid.width();
+    let Board {
+        pool,
+        marks,
+        counts,
+        grid,
+        leaves,
+    } = board;
+    let k = grid.width();
+    let mut shares = grid.shares;
     let count = k as usize * k as usize;
-    for number in 0..count {
-        shares
-            .push(*board.grid.cell(cell_numbered(k, number)))
-            .unwrap();
+    for i in 0..count {
+        shares[i] = shares[number(k, cell_numbered(k, i))];
     }
+    shares.truncate(count);
+    shares.shrink_to_fit();
     shares
 }
 
 /// The square where all cells are known, else the cells that aren't.
-fn answer_open(board: &Board, header: &Header, shares: Vec<Share>, room: CellRoom) -> Verdict
-    requires good { IsGood header.now board.now }
-    requires rest { AreAtRest header.now.k (given_of board.now) (decided_of board.now) }
-    requires empty { shares.items ≡ [] }
-    requires room { header.now.k * header.now.k ≤ vec_capacity shares }
+fn answer_open(board: Board, header: &Header, room: CellRoom) -> Verdict
+    requires good { IsGood header.now board }
+    requires rest { AreAtRest header.now.k (given_of board) (decided_of board) }
     requires cells { room.k ≡ header.now.k }
-    ensures verdict { (ms : List Message) → HoldsFor header.now ms board.now →
+    ensures verdict { (ms : List Message) → HoldsFor header.now ms board →
         IsVerdict header.now ms (parts_of result) }
     ensures state { IsOfState state.Open result }
 {
     let mut room = room;
-    fill_unknown(board, &mut room);
+    fill_unknown(&board, &mut room);
     if !room.cells().is_empty() {
         return Verdict::Missing(room.into_cells());
     }
-    let shares = original_shares(board, shares);
+    let shares = original_shares(board);
     Verdict::Whole(Square {
         k: header.k,
         shares,
@@ -132,7 +137,6 @@ impl Session {
         ensures open { IfOk result (λ s. state_of s ≡ state.Open) }
     {
         let k = width(header);
-        let shares = Vec::with_capacity(alloc, k as usize * k as usize)?;
         let room = CellRoom::new(alloc, k)?;
         let header = header.copy(alloc)?;
         let trees = PartialTrees::new(alloc, &header)?;
@@ -144,7 +148,6 @@ impl Session {
             board,
             tools,
             ended: None,
-            shares,
             room,
         })
     }
@@ -217,14 +220,13 @@ impl Session {
             board,
             tools,
             ended,
-            shares,
             room,
         } = self;
         drop(trees);
         drop(tools);
         match ended {
             Some(ended) => answer_ended(ended),
-            None => answer_open(&board, &header, shares, room),
+            None => answer_open(board, &header, room),
         }
     }
 }

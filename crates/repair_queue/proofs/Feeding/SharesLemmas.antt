@@ -1,7 +1,7 @@
 -- The shares of the original cells, row by row.
-use Rattle.std.proofs.Common.{◌≡◌, ◌∙◌, ℕ, ◌+◌, ◌*◌, ◌<◌, List, [], ◌∷◌, ◌++◌, length, get_or, true, sym, ap, inl, inr, arith}
+use Rattle.std.proofs.Common.{◌≡◌, ◌≢◌, ◌∙◌, ℕ, ◌+◌, ◌*◌, ◌<◌, ◌≤◌, List, [], ◌∷◌, ◌++◌, length, get_or, take, set, true, refl, sym, ap, subst, inl, inr, arith}
 use Rattle.std.proofs.lemmas.Bool.{cases_eq}
-use Rattle.std.proofs.lemmas.List.{get_or_append_left, get_or-append-add, length-append}
+use Rattle.std.proofs.lemmas.List.{get_or_append_left, get_or-append-add, get_or-set_other, get_or_default, take_more_set, length-set, length-append}
 use Rattle.namespace_id.specs.declared.cells.Cell.{Cell}
 use Rattle.namespace_id.specs.declared.shares.Share.{Share}
 use Rattle.namespace_id.specs.Cells.{is_original}
@@ -35,6 +35,30 @@ shares_more k n of_cell shares cell share within number here below = record {
         get_or_append_left shares (share ∷ []) blank (d.row * k + d.col) (omega (arith, below.count)) ∙ below.are d there (omega arith)
   ];
 }
+
+-- the first n of these were moved to the front of those of all cells, and those of later places are as they were
+pub record AreMoved (k n : ℕ) (all shares : List Share) : Type 0 where
+  pub front : AreSharesBelow k n (share_at (2 * k) all) (take n shares)
+  pub rest : (j : ℕ) → n ≤ j → get_or shares j blank ≡ get_or all j blank
+  pub size : length shares ≡ 2 * k * (2 * k)
+
+-- none at first
+pub none_moved : (k : ℕ) (all : List Share) → length all ≡ 2 * k * (2 * k) → AreMoved k 0 all all
+none_moved k all size = record { front = no_shares k (share_at (2 * k) all) (take 0 all) refl; rest = λ j h. refl; size = size }
+
+-- one more, which stood no nearer to the front
+pub one_moved : (k n from : ℕ) (all shares : List Share) (cell : Cell) (share : Share) → cell.col < k → cell.row * k + cell.col ≡ n
+    → from ≡ cell.row * (2 * k) + cell.col → from < length shares → share ≡ get_or shares from share → AreMoved k n all shares
+    → AreMoved k (n + 1) all (set shares n share)
+one_moved k n from all shares cell share within number place below read moved =
+    let later : n ≤ from = omega arith in
+    let here : share ≡ share_at (2 * k) all cell =
+    read ∙ get_or_default shares from share blank below ∙ moved.rest from later ∙ ap (λ (i : ℕ). get_or all i blank) place in record {
+      front = subst (AreSharesBelow k (n + 1) (share_at (2 * k) all)) (sym (take_more_set shares n share (omega arith)))
+          (shares_more k n (share_at (2 * k) all) (take n shares) cell share within number here moved.front);
+      rest = λ j h. let apart : j ≢ n = omega arith in get_or-set_other shares n j share blank apart ∙ moved.rest j (omega arith);
+      size = length-set shares n share ∙ moved.size;
+    }
 
 -- at the end these are of all original cells
 pub all_shares : (k n : ℕ) (of_cell : Shared) (shares : List Share) → n ≡ k * k → AreSharesBelow k n of_cell shares → (cell : Cell)

@@ -15,12 +15,12 @@ returns-clause-verdict c = λ ms stand.
     }) in
     let none : c.fill_unknown.new.room.list ≡ [] = sym c.cells.ensures.list ∙ none_in c.cells.result.now c.is_empty.result c.is_empty.ensures c.if-not-is_empty.false in
     subst (λ (k : ℕ). IsWhole c.args.header.now ms (record { k = k; shares = c.original_shares-shares.result.items })) (sym (ap (λ (h : Roots). h.k) c.header.view_is))
-    (open_whole c.args.header.now c.args.board.now c.requires.good c.requires.rest ms stand c.fill_unknown.new.room c.fill_unknown.ensures none roots
+    (open_whole c.args.header.now c.args.board c.requires.good c.requires.rest ms stand c.fill_unknown.new.room c.fill_unknown.ensures none roots
     c.original_shares-shares.result.items c.original_shares-shares.ensures)
 
 -- else these are missing
 pub returns-then-not-is_empty-clause-verdict : goal.returns-then-not-is_empty-clause-verdict
 returns-then-not-is_empty-clause-verdict c = λ ms stand.
     subst (λ (cells : CellList). IsMissing c.args.header.now ms cells) (sym c.into_cells.ensures.value)
-    (open_missing c.args.header.now c.args.board.now c.requires.good c.requires.rest ms stand c.fill_unknown.new.room c.fill_unknown.ensures
+    (open_missing c.args.header.now c.args.board c.requires.good c.requires.rest ms stand c.fill_unknown.new.room c.fill_unknown.ensures
     (λ e. some_in c.cells.result.now c.is_empty.result c.is_empty.ensures c.if-not-is_empty.true (c.cells.ensures.list ∙ e)))
