@@ -1,25 +1,28 @@
 //! Keeping the line of a row or a column that was decided.
 
-ghost use Rattle.std.specs.Prelude.{◌≡◌, ◌*◌, ◌<◌, List, IsTrue, length, false};
-ghost use Rattle.namespace_id.specs.Cells.{is_width};
+ghost use Rattle.std.specs.Prelude.{◌≡◌, ◌≢◌, ◌*◌, ◌<◌, List, IsTrue, length, true, false};
+ghost use Rattle.namespace_id.specs.declared.cells.Cell.{Cell as Place};
+ghost use Rattle.namespace_id.specs.Cells.{is_width, is_in_square};
 ghost use Rattle.axis_roots.specs.declared.message.messages.Message.{Message};
+ghost use Rattle.axis_roots.specs.Messages.{index as index_of};
+ghost use Rattle.axis_roots.specs.Grids.{share_at, axis_shares};
 ghost use Rattle.axis_roots.specs.Trees.{line_leaves};
 ghost use Rattle.befp_maker.specs.Conflicts.{IsLineOf};
 ghost use Rattle.repair_queue.specs.Lines.{AreFacts};
 ghost use Rattle.repair_queue.specs.Slots.{IsFlagged};
 ghost use Rattle.repair_queue.specs.Counts.{count_of, pending, AreCounts};
 ghost use Rattle.repair_queue.specs.Pools.{slot_in, HasPlaces};
-ghost use Rattle.repair_queue.specs.Boards.{given_of, decided_of, share_of, mark_of, AreMarks, AreCounted, IsGood, HoldsFor};
+ghost use Rattle.repair_queue.specs.Boards.{given_of, decided_of, share_of, mark_of, is_lined, AreAlikeLined, AreMarks, AreCounted, IsGood, HoldsFor};
 ghost use Rattle.repair_queue.specs.Keeping.{IsAlikeAll, IsCountedIn, AreWrittenLeaves};
 
-use crate::boards::{Board, is_found};
+use crate::boards::{Board, is_found, is_on_decided};
 use crate::counts::{Counts, raise};
 use crate::marks::{Marks, set_mark};
 use crate::pools::Pool;
 use crate::slots::number;
-use axis_roots::{cell_on, write_axis};
+use axis_roots::{Grid, cell_on};
 use data_header::Header;
-use namespace_id::{Axis, Digest, Share};
+use namespace_id::{Axis, Cell, Digest, Share};
 
 /// Counts the unknown cells of a row or a column for those that cross it.
 fn count_line(pool: &Pool, marks: &Marks, counts: &mut Counts, axis: Axis, index: u16)
@@ -59,6 +62,47 @@ fn write_leaves(k: u16, leaves: &mut [Digest], axis: Axis, index: u16, digests: 
     }
 }
 
+/// Puts a share into a cell, unless its row or its column is decided: then it stands there.
+fn put_share(marks: &Marks, grid: &mut Grid, cell: Cell, share: &Share)
+    requires marks { AreMarks marks.now }
+    requires width { marks.now.k ≡ grid.old.k }
+    requires cell { is_in_square grid.old.k cell ≡ true }
+    requires alike { is_lined (mark_of marks.now) cell ≡ true →
+        share_at (2 * grid.old.k) grid.old.shares cell ≡ share.now }
+    ensures k { grid.new.k ≡ grid.old.k }
+    ensures cell { share_at (2 * grid.old.k) grid.new.shares cell ≡ share.now }
+    ensures others { (other : Place) → IsTrue (is_in_square grid.old.k other) → other ≢ cell →
+        share_at (2 * grid.old.k) grid.new.shares other
+        ≡ share_at (2 * grid.old.k) grid.old.shares other }
+{
+    if !is_on_decided(marks, cell) {
+        grid.set(cell, share);
+    }
+}
+
+/// Puts the shares of a line into its cells. None is written twice: those of cells on decided rows and
+/// columns stand there.
+fn write_line(marks: &Marks, grid: &mut Grid, axis: Axis, index: u16, line: &[Share])
+    requires marks { AreMarks marks.now }
+    requires width { marks.now.k ≡ grid.old.k }
+    requires index { index < 2 * grid.old.k }
+    requires line { length line.now ≡ 2 * grid.old.k }
+    requires alike { AreAlikeLined grid.old.k (mark_of marks.now)
+        (share_at (2 * grid.old.k) grid.old.shares) axis index line.now }
+    ensures k { grid.new.k ≡ grid.old.k }
+    ensures line { axis_shares grid.old.k grid.new.shares axis index ≡ line.now }
+
+    // Every cell of another axis is as it was.
+    ensures others { (cell : Place) → IsTrue (is_in_square grid.old.k cell) →
+        index_of axis cell ≢ index →
+        share_at (2 * grid.old.k) grid.new.shares cell
+        ≡ share_at (2 * grid.old.k) grid.old.shares cell }
+{
+    for pos in 0..2 * grid.width() {
+        put_share(marks, grid, cell_on(axis, index, pos), &line[pos as usize]);
+    }
+}
+
 /// Keeps the line of a row or a column as decided.
 pub(crate) fn keep_line(
     board: &mut Board,
@@ -82,7 +126,7 @@ pub(crate) fn keep_line(
         HoldsFor header.now ms board.old → HoldsFor header.now ms board.new }
 {
     count_line(&board.pool, &board.marks, &mut board.counts, axis, index);
-    write_axis(&mut board.grid, axis, index, line);
+    write_line(&board.marks, &mut board.grid, axis, index, line);
     write_leaves(header.k, &mut board.leaves, axis, index, digests);
     set_mark(&mut board.marks, axis, index);
 }

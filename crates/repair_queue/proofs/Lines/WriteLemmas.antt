@@ -1,15 +1,17 @@
--- Digests of leaves that are written along a row or a column.
-use Rattle.std.proofs.Common.{◌≡◌, ◌≢◌, ◌∙◌, ℕ, ◌+◌, ◌*◌, ◌<◌, List, length, get_or, set, true, refl, sym, ap, inl, inr, arith}
+-- Digests of leaves and shares that are written along a row or a column.
+use Rattle.std.proofs.Common.{◌≡◌, ◌≢◌, ◌∙◌, ℕ, ◌+◌, ◌*◌, ◌<◌, ◌≤◌, List, length, get_or, set, true, refl, sym, ap, subst, inl, inr, arith, IsTrue}
 use Rattle.std.proofs.lemmas.Bool.{cases_eq}
 use Rattle.std.proofs.lemmas.List.{get_or-set_same, get_or-set_other, get_or_default}
 use Rattle.namespace_id.specs.declared.cells.Cell.{Cell}
 use Rattle.namespace_id.specs.declared.cells.Axis.{Axis}
 use Rattle.namespace_id.specs.declared.digests.Digest.{Digest}
+use Rattle.namespace_id.specs.declared.shares.Share.{Share}
 use Rattle.namespace_id.specs.Cells.{is_in_square}
 use Rattle.namespace_id.specs.Digests.{no_digest}
 use Rattle.namespace_id.proofs.BelowLemmas.{same_cell}
 use Rattle.axis_roots.specs.Messages.{index, position}
 use Rattle.axis_roots.specs.Lines.{cell_on}
+use Rattle.axis_roots.specs.Grids.{share_at}
 use Rattle.axis_roots.proofs.Grids.AxisLemmas.{index-cell_on, position-cell_on}
 use Rattle.axis_roots.proofs.Grids.NumberLemmas.{inside}
 use Rattle.axis_roots.proofs.Grids.WrittenLemmas.{on_axis_in_square}
@@ -62,3 +64,23 @@ one_written k old new axis i digests pos at cell d hi hp long count is number so
 pub all_written : (k : ℕ) (old new : List Digest) (axis : Axis) (i : ℕ) (digests : List Digest) (n : ℕ) → 2 * k ≡ n → AreWrittenSo k old new axis i digests n
     → AreWrittenLeaves k old new axis i digests
 all_written k old new axis i digests n end so = record { here = λ pos h. so.here pos (omega arith); elsewhere = so.elsewhere }
+
+-- ---- shares
+
+-- a cell behind a place of an axis is not the one there
+later_place : (axis : Axis) (i pos place : ℕ) (cell : Cell) → cell ≡ cell_on axis i pos → pos < place → cell_on axis i place ≢ cell
+later_place axis i pos place cell on behind same =
+    let e : place ≡ pos = sym (position-cell_on axis i place) ∙ ap (position axis) (same ∙ on) ∙ position-cell_on axis i pos in absurd (omega arith)
+
+-- the shares of an axis behind a place, after one was put into the cell there
+pub later_next : (k m : ℕ) (old now new : List Share) (axis : Axis) (i pos : ℕ) (cell : Cell)
+    → m ≡ k → cell ≡ cell_on axis i pos → i < 2 * k
+    → ((other : Cell) → IsTrue (is_in_square m other) → other ≢ cell → share_at (2 * m) new other ≡ share_at (2 * m) now other)
+    → ((place : ℕ) → pos ≤ place → place < 2 * k → share_at (2 * k) now (cell_on axis i place) ≡ share_at (2 * k) old (cell_on axis i place))
+    → (place : ℕ) → pos + 1 ≤ place → place < 2 * k → share_at (2 * k) new (cell_on axis i place) ≡ share_at (2 * k) old (cell_on axis i place)
+later_next k m old now new axis i pos cell same on hi others before place behind hp =
+    let here : Cell = cell_on axis i place in
+    subst (λ (n : ℕ). share_at (2 * n) new here ≡ share_at (2 * n) now here) same
+    (others here (subst (λ (n : ℕ). IsTrue (is_in_square n here)) (sym same) (on_axis_in_square k axis i place hi hp))
+    (later_place axis i pos place cell on (omega arith)))
+    ∙ before place (omega arith) hp

@@ -25,7 +25,7 @@ returns-clause-good c =
     let long : length c.write_leaves.new.leaves ≡ c.args.board.now.leaves.len =
     c.write_leaves.ensures.count ∙ ap length c.deref_mut.ensures.value ∙ sym c.args.board.now.leaves.ok.0 in
     let items : c.write_leaves.new.leaves ≡ (with_items c.args.board.now.leaves c.write_leaves.new.leaves).items = sym (front c.write_leaves.new.leaves _ c.args.board.now.leaves.len long) in
-    let x : IsLineKeptOn c.args.header.now c.args.board.now c.args.axis c.args.index c.args.line.now c.count_line.new.counts c.write_axis.new.grid
+    let x : IsLineKeptOn c.args.header.now c.args.board.now c.args.axis c.args.index c.args.line.now c.count_line.new.counts c.write_line.new.grid
     (with_items c.args.board.now.leaves c.write_leaves.new.leaves) c.set_mark.new.marks = record {
       good = c.requires.good;
       within = c.requires.index;
@@ -35,9 +35,9 @@ returns-clause-good c =
       counts_are = c.count_line.ensures.counts;
       counts_width = c.count_line.ensures.width;
       counted = c.count_line.ensures.counted;
-      grid_width = c.write_axis.ensures.k;
-      written = c.write_axis.ensures.line;
-      others = c.write_axis.ensures.others;
+      grid_width = c.write_line.ensures.k;
+      written = c.write_line.ensures.line;
+      others = c.write_line.ensures.others;
       digests = written_as c.header.inside.k c.args.header.now.k c.deref_mut.result.now c.args.board.now.leaves.items c.write_leaves.new.leaves
           (with_items c.args.board.now.leaves c.write_leaves.new.leaves).items c.args.axis c.args.index c.args.digests.now
           (line_leaves c.args.header.now.k c.args.axis c.args.index c.args.line.now) same c.deref_mut.ensures.value items c.requires.digests c.write_leaves.ensures.written;
@@ -46,7 +46,7 @@ returns-clause-good c =
       marks_width = c.set_mark.ensures.width;
       flagged = c.set_mark.ensures.flagged;
     } in
-    kept_good c.args.header.now c.args.board.now c.args.axis c.args.index c.args.line.now c.count_line.new.counts c.write_axis.new.grid
+    kept_good c.args.header.now c.args.board.now c.args.axis c.args.index c.args.line.now c.count_line.new.counts c.write_line.new.grid
     (with_items c.args.board.now.leaves c.write_leaves.new.leaves) c.set_mark.new.marks x
 
 -- and stands for the same samples
@@ -56,7 +56,7 @@ returns-clause-stands c =
     let long : length c.write_leaves.new.leaves ≡ c.args.board.now.leaves.len =
     c.write_leaves.ensures.count ∙ ap length c.deref_mut.ensures.value ∙ sym c.args.board.now.leaves.ok.0 in
     let items : c.write_leaves.new.leaves ≡ (with_items c.args.board.now.leaves c.write_leaves.new.leaves).items = sym (front c.write_leaves.new.leaves _ c.args.board.now.leaves.len long) in
-    let x : IsLineKeptOn c.args.header.now c.args.board.now c.args.axis c.args.index c.args.line.now c.count_line.new.counts c.write_axis.new.grid
+    let x : IsLineKeptOn c.args.header.now c.args.board.now c.args.axis c.args.index c.args.line.now c.count_line.new.counts c.write_line.new.grid
     (with_items c.args.board.now.leaves c.write_leaves.new.leaves) c.set_mark.new.marks = record {
       good = c.requires.good;
       within = c.requires.index;
@@ -66,9 +66,9 @@ returns-clause-stands c =
       counts_are = c.count_line.ensures.counts;
       counts_width = c.count_line.ensures.width;
       counted = c.count_line.ensures.counted;
-      grid_width = c.write_axis.ensures.k;
-      written = c.write_axis.ensures.line;
-      others = c.write_axis.ensures.others;
+      grid_width = c.write_line.ensures.k;
+      written = c.write_line.ensures.line;
+      others = c.write_line.ensures.others;
       digests = written_as c.header.inside.k c.args.header.now.k c.deref_mut.result.now c.args.board.now.leaves.items c.write_leaves.new.leaves
           (with_items c.args.board.now.leaves c.write_leaves.new.leaves).items c.args.axis c.args.index c.args.digests.now
           (line_leaves c.args.header.now.k c.args.axis c.args.index c.args.line.now) same c.deref_mut.ensures.value items c.requires.digests c.write_leaves.ensures.written;
@@ -77,5 +77,5 @@ returns-clause-stands c =
       marks_width = c.set_mark.ensures.width;
       flagged = c.set_mark.ensures.flagged;
     } in
-    kept_stands c.args.header.now c.args.board.now c.args.axis c.args.index c.args.line.now c.count_line.new.counts c.write_axis.new.grid
+    kept_stands c.args.header.now c.args.board.now c.args.axis c.args.index c.args.line.now c.count_line.new.counts c.write_line.new.grid
     (with_items c.args.board.now.leaves c.write_leaves.new.leaves) c.set_mark.new.marks x
