@@ -288,7 +288,7 @@ fn path_of(count: u8, bytes: &[u8]) -> Path
 }
 
 /// So many digests, one after another, which are all of the bytes, as nodes.
-fn nodes_of(count: u8, bytes: &[u8]) -> Nodes
+pub fn nodes_of(count: u8, bytes: &[u8]) -> Nodes
     requires few { count ≤ 16 }
     requires all { length bytes.now ≡ 90 * count }
     ensures { result ≡ digests_of count bytes.now }
@@ -330,11 +330,20 @@ pub fn path_at(bytes: &[u8]) -> Option<(Path, &[u8])>
     Some((path_of(count, digests), rest))
 }
 
+/// A count of at most 16, the bytes of so many digests, and the bytes after them.
+pub fn node_list_at(bytes: &[u8]) -> Option<(u8, &[u8], &[u8])>
+    ensures value { Gives (λ x. (digests_of x.0 x.1.now, x.2.now)) result (path_at 16 bytes.now) }
+    ensures few { IfSome result (λ x. x.0 ≤ 16) }
+    ensures all { IfSome result (λ x. length x.1.now ≡ 90 * x.0) }
+{
+    digests_at(bytes, NODES_LIMIT)
+}
+
 /// A count of at most 16, so many digests, and the bytes after them.
 pub fn nodes_at(bytes: &[u8]) -> Option<(Nodes, &[u8])>
     ensures { Gives (λ x. (x.0, x.1.now)) result (path_at 16 bytes.now) }
 {
-    let (count, digests, rest) = digests_at(bytes, NODES_LIMIT)?;
+    let (count, digests, rest) = node_list_at(bytes)?;
     Some((nodes_of(count, digests), rest))
 }
 
