@@ -1,5 +1,5 @@
 mod EachLemmas
-mod ZipLemmas
+pub mod ZipLemmas
 mod ShownLemmas
 mod CountLemmas
 mod HeightLemmas
@@ -12,3 +12,4 @@ mod RowLemmas
 mod BlockLemmas
 mod SquareLemmas
 mod StayLemmas
+pub mod FirstLemmas

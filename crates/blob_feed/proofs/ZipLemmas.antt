@@ -3,16 +3,16 @@ use Rattle.std.proofs.Common.{◌≡◌, ◌∙◌, ℕ, ◌-◌, List, [], ◌�
 use Rattle.std.specs.List.{AllZip}
 
 -- what stands behind a list
-pub get_behind : {X : Type 0} (xs : List X) (x : X) → slice_get (xs ++ x ∷ []) (length xs) ≡ Some x
-get_behind [] x = refl
-get_behind (y ∷ xs) x = get_behind xs x
+pub get_behind : {X : Type 0} (xs : List X) (x : X) (ys : List X) → slice_get (xs ++ x ∷ ys) (length xs) ≡ Some x
+get_behind [] x ys = refl
+get_behind (y ∷ xs) x ys = get_behind xs x ys
 
 -- the last of a list
 pub last_pushed : {X : Type 0} (xs : List X) (x : X) → slice_get (xs ++ x ∷ []) (length (xs ++ x ∷ []) - 1) ≡ Some x
 last_pushed {X} xs x =
     let long = length-append xs (x ∷ []) in
     let last : length (xs ++ x ∷ []) - 1 ≡ length xs = omega (arith, long) in
-    ap (λ (n : ℕ). slice_get (xs ++ x ∷ []) n) last ∙ get_behind xs x
+    ap (λ (n : ℕ). slice_get (xs ++ x ∷ []) n) last ∙ get_behind xs x []
 
 module _ {A B : Type 0} (R : A → B → Type 0) where
   -- what goes along with a list that ends in something

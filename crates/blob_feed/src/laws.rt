@@ -10,7 +10,8 @@ ghost use Rattle.square_layout.specs.Blocks.{BlockParts, IsBlock};
 ghost use Rattle.square_layout.specs.Layout.{has_name, square_of};
 ghost use Rattle.square_layout.specs.Refusals.{layout_refusal};
 ghost use Rattle.blob_feed.specs.Filters.{wanted_by};
-ghost use Rattle.blob_feed.specs.Feeds.{Item, Read, read_of, FeedsAt, IsFeedOf, shares_in};
+ghost use Rattle.blob_feed.specs.Feeds.{Item, Height, Read, read_of, IsFedAt, FeedsAt, IsFeedOf, shares_in};
+ghost use Rattle.blob_feed.specs.Firsts.{first_read};
 ghost use Rattle.blob_feed.specs.Laws.{FeedsOfSquare, FeedsOfBlock};
 ghost use Rattle.blob_feed.specs.Followers.{FollowerParts, StandsFor, kept_at};
 
@@ -33,6 +34,12 @@ pub fn feed_laws<F: Filter>()
         (one other : Option Read) →
         FeedsAt (wanted_by F.answers rule) items number name one →
         FeedsAt (wanted_by F.answers rule) items number name other → one ≡ other }
+
+    // As a value, it is what the first complete answer of the height is read as.
+    ensures first { (rule : F) (height : Height) (name : Namespace) →
+        wanted_by F.answers rule name → is_blob_namespace name.0 ≡ true →
+        IsFedAt (wanted_by F.answers rule) height name
+        (first_read height.header name height.answers) }
 
     // What a height has of a namespace stays, whatever is handed later.
     ensures stays { (rule : F) (items later : List Item) (number : ℕ) (name : Namespace)

@@ -14,8 +14,10 @@ mod filters;
 mod followers;
 mod gathering;
 mod laws;
+mod reading;
 
 pub use entries::{Entry, FollowError, Taken};
 pub use filters::Filter;
 pub use followers::Follower;
 pub use laws::feed_laws;
+pub use reading::{ReadError, read_answer};

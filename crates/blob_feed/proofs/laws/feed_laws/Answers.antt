@@ -8,6 +8,7 @@ use Rattle.blob_feed.specs.Followers.{feeds_of}
 use Rattle.blob_feed.proofs.FedLemmas.{fed_at}
 use Rattle.blob_feed.proofs.OnceLemmas.{fed_once}
 use Rattle.blob_feed.proofs.StayLemmas.{fed_stays}
+use Rattle.blob_feed.proofs.FirstLemmas.{first_fed}
 use Rattle.blob_feed.proofs.OwnLemmas.{own_at, blobs_at}
 use Rattle.blob_feed.proofs.SquareLemmas.{block_read}
 use Rattle.blob_feed.proofs.laws.feed_laws.Goals as goal
@@ -21,6 +22,11 @@ returns-clause-feed g c = λ follower items stands number name.
 pub returns-clause-once : goal.returns-clause-once
 returns-clause-once g c = λ rule items number name one other.
     fed_once (wanted_by g.F.Filter.answers rule) (slice_get (heights_of items) number) name one other
+
+-- it is found answer by answer
+pub returns-clause-first : goal.returns-clause-first
+returns-clause-first g c = λ rule height name wanted blob.
+    first_fed c.answer_laws.ensures.refusal height.header name (wanted_by g.F.Filter.answers rule) wanted blob height.answers
 
 -- it stays the first
 pub returns-clause-stays : goal.returns-clause-stays
