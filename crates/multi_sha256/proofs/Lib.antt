@@ -1,3 +1,4 @@
 mod DigestLemmas
 mod LaneLemmas
 mod PaddingLemmas
+pub mod MessageLemmas

@@ -1,11 +1,9 @@
 -- Messages of a batch: written part by part, and one after another.
-use Rattle.std.proofs.Common.{◌≡◌, ◌∙◌, ℕ, zero, suc, ◌+◌, ◌*◌, ◌<◌, ◌≤◌, List, [], ◌∷◌, ◌++◌, length, take, drop, slice_index_or, slice_set, refl, sym, ap, ap₂, arith, inl, inr, length-append, length-drop, drop-drop}
-use Rattle.std.proofs.lemmas.List.{get_or-set_same, get_or-set_other, length-take-le}
+use Rattle.std.proofs.Common.{◌≡◌, ◌∙◌, ℕ, zero, suc, ◌+◌, ◌*◌, ◌≤◌, List, [], ◌∷◌, ◌++◌, length, take, drop, refl, sym, ap, ap₂, arith, length-append, length-drop, drop-drop}
+use Rattle.std.proofs.lemmas.List.{length-take-le}
 use Rattle.std.proofs.lemmas.Slice.{take-put_mid, drop-put_mid}
 use Rattle.std.proofs.Math.Seq.{take-add}
 use borrow.Rule.Slice.PartMut.{put_mid}
-use Rattle.std.proofs.lemmas.Bool.{cases_lt}
-use Rattle.namespace_id.proofs.StringLemmas.{front}
 use Rattle.namespace_id.specs.declared.namespaces.Namespace.{Namespace}
 use Rattle.namespace_id.specs.declared.shares.Share.{Share}
 use Rattle.namespace_id.specs.declared.digests.Digest.{Digest}
@@ -13,29 +11,6 @@ use Rattle.namespace_id.specs.Digests.{least_of}
 use Rattle.sha2.specs.Sha256.{sha256}
 use Rattle.nmt_tree.specs.Digests.{leaf_digest, joined_greatest, node_digest}
 use Rattle.nmt_tree.specs.Levels.{leaf_digests, pairs}
-
--- a byte and two parts behind it
-pub byte_and_two : (f : ℕ) (m a b s t : List ℕ) (i n : ℕ) → 0 < length m → i ≡ 1 + length a → n ≡ i + length b
-    → s ≡ take 1 (slice_set m 0 f) ++ a ++ drop (1 + length a) (slice_set m 0 f)
-    → t ≡ take i s ++ b ++ drop (i + length b) s
-    → take n t ≡ f ∷ a ++ b
-byte_and_two f [] a b s t i n hm hi hn es et = absurd (omega arith)
-byte_and_two f (x ∷ z) a b s t i n hm hi hn es et =
-    let first : take i s ≡ f ∷ a = ap (take i) es ∙ front (f ∷ a) (drop (1 + length a) (f ∷ z)) i (omega arith) in
-    let whole : t ≡ f ∷ a ++ b ++ drop (i + length b) s = et ∙ ap (λ (l : List ℕ). l ++ b ++ drop (i + length b) s) first in
-    ap (take n) whole ∙ front (f ∷ a ++ b) (drop (i + length b) s) n (omega (arith, hi, hn, length-append (f ∷ a) b))
-
--- one more message
-pub message_more : (n : ℕ) (messages : List (List ℕ)) (wanted : ℕ → List ℕ) (i : ℕ) (message : List ℕ) → i < length messages
-    → take n message ≡ wanted i
-    → ((j : ℕ) → j < i → take n (slice_index_or messages j []) ≡ wanted j)
-    → (j : ℕ) → j < i + 1 → take n (slice_index_or (slice_set messages i message) j []) ≡ wanted j
-message_more n messages wanted i message fits new before j h = elim (cases_lt j i) [
-  | inl a ↦ ap (take n) (get_or-set_other messages i j message [] (omega arith)) ∙ before j a
-  | inr b ↦
-      let e : i ≡ j = omega arith in
-      rw (← e) (ap (take n) (get_or-set_same messages i message [] fits) ∙ new)
-]
 
 -- a digest is its bytes
 digest_is : (d : Digest) (bytes : List ℕ) → d.0 ≡ bytes → d ≡ record { 0 = bytes }

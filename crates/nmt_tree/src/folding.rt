@@ -5,12 +5,12 @@
 //! proofs.
 
 ghost use Rattle.std.specs.Prelude.{◌≡◌, ◌/◌, ◌*◌, ◌^◌, ℕ, length, take, IsTrue};
-ghost use Rattle.nmt_tree.specs.Roots.{is_leaf_count, halvings};
+ghost use Rattle.nmt_tree.specs.Roots.{is_leaf_count, halvings, root};
 ghost use Rattle.nmt_tree.specs.Levels.{span, pairs};
 
 use crate::batches::{BATCH, NODE_MESSAGES, eight_nodes};
-use crate::node;
-use namespace_id::Digest;
+use crate::{node, put_leaves};
+use namespace_id::{Digest, Namespace, Share};
 
 /// Writes the level above a level over the front of it. What is behind the front is no level.
 fn join_pairs(digests: &mut [Digest])
@@ -53,4 +53,21 @@ pub fn fold_root(digests: &mut [Digest]) -> Digest
     ensures { result ≡ span digests.old 0 (halvings (length digests.old)) }
 {
     fold(digests)
+}
+
+/// The root of leaves, given as two slices of one length, a power of two from 1 to 256: that of
+/// `plain_root`, by way of as many digests, which hold nothing of use afterwards. Leaves and nodes are
+/// hashed eight at a time, side by side.
+///
+/// It takes no memory, and does not look whether the namespaces are in order.
+///
+/// Celestia specifications, "Data Structures", namespaced Merkle trees.
+pub fn fold_leaves(names: &[Namespace], shares: &[Share], digests: &mut [Digest]) -> Digest
+    requires count { IsTrue (is_leaf_count (length names.now)) }
+    requires pairs { length shares.now ≡ length names.now }
+    requires digests { length digests.old ≡ length names.now }
+    ensures { result ≡ root (halvings (length names.now)) names.now shares.now }
+{
+    put_leaves(names, shares, digests);
+    fold_root(digests)
 }

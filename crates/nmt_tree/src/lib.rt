@@ -3,7 +3,9 @@
 //!
 //! `leaf`, `node` and `join` make one digest; `plain_root` and `strict_root` are the plain
 //! recursions that say what the root of a list is. A `Tree` keeps the digests of all levels,
-//! `fold_root` joins digests of leaves in place, and a `LeafQueue` hashes leaves as they come.
+//! recursions that say what the root of a list is. A `Tree` keeps the digests of all levels,
+//! `fold_root` joins digests of leaves in place, `fold_leaves` makes these first, and a
+//! `LeafQueue` hashes leaves as they come.
 #![tactic(auto)]
 
 mod batches;
@@ -14,7 +16,7 @@ mod queues;
 mod roots;
 mod trees;
 
-pub use folding::fold_root;
+pub use folding::{fold_leaves, fold_root};
 pub use hashing::{Unordered, join, leaf, node};
 pub use levels::put_leaves;
 pub use queues::LeafQueue;

@@ -2,7 +2,7 @@ use Rattle.std.proofs.Common.{◌∙◌, ap, arith}
 use Rattle.std.proofs.lemmas.List.{length-set}
 use Rattle.sha2.specs.Sha256.{sha256}
 use Rattle.nmt_tree.specs.Batches.{node_bytes}
-use Rattle.nmt_tree.proofs.BatchLemmas.{message_more}
+use Rattle.multi_sha256.proofs.MessageLemmas.{message_more}
 use Rattle.nmt_tree.proofs.batches.node_hashes.Goals as goal
 
 pub messages-init : goal.messages-init

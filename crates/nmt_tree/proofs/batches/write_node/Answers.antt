@@ -1,5 +1,5 @@
 use Rattle.std.proofs.Common.{arith}
-use Rattle.nmt_tree.proofs.BatchLemmas.{byte_and_two}
+use Rattle.multi_sha256.proofs.MessageLemmas.{byte_and_two}
 use Rattle.nmt_tree.proofs.batches.write_node.Goals as goal
 
 pub returns : goal.returns
