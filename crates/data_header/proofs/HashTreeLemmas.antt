@@ -1,6 +1,6 @@
 -- The hashes of all nodes of a tree: where those beside a way lead, and what the one at place 1 is.
 use Rattle.std.proofs.Common.{◌≡◌, ℕ, zero, suc, ◌+◌, ◌-◌, ◌*◌, ◌/◌, ◌%◌, ◌^◌, ◌<◌, ◌≤◌, ◌==◌, if◌then◌else◌, List, [], ◌∷◌, ◌++◌, refl, sym, ap, ap₂, ◌∙◌, arith, length, take, drop, get_or, inl, inr, append_assoc, append-nil, false, Bool}
-use Rattle.std.proofs.lemmas.Bool.{cases_eq, eq-eqb}
+use Rattle.std.proofs.lemmas.Bool.{cases_eq, cases_lt, eq-eqb}
 use Rattle.std.proofs.lemmas.Bool.Decides.{nat_tests}
 use Rattle.std.proofs.lemmas.Nat.{pow_pos}
 use Rattle.std.proofs.Math.Nat.{pow-suc, le-mul_of_pos_right}
@@ -64,6 +64,45 @@ led-behind (x ∷ hashes) place top =
     ∙ ap₂ (λ (p s : ℕ). led p (if s == 0 then inner_hash top x else inner_hash x top) hashes) halved same_side
     ∙ led-behind hashes (place / 2) (raised place top x)
     ∙ sym (led-cons place top x hashes)
+
+-- one of eight leaves that were hashed side by side
+pub leaf_among : (digests : List Digest) (new made : List (List ℕ)) (at first k i : ℕ) → k ≡ 8 → first ≤ i → i < first + 8
+    → ((j : ℕ) → j < 8 → hash_at new (at + first + j) ≡ hash_at made j)
+    → ((j : ℕ) → j < 8 → hash_at made j ≡ leaf_hash (get_or (take k (drop first digests)) j no_digest))
+    → hash_at new (at + i) ≡ leaf_hash (get_or digests i no_digest)
+leaf_among digests new made at first k i ek low high put is =
+    let j : ℕ = i - first in
+    let here : at + first + j ≡ at + i = omega arith in
+    let own : first + j ≡ i = omega arith in
+    ap (hash_at new) (sym here) ∙ put j (omega arith) ∙ is j (omega arith)
+    ∙ ap leaf_hash (get_or-take k (drop first digests) j no_digest (omega arith) ∙ get_or-drop first digests j no_digest ∙ ap (λ (n : ℕ). get_or digests n no_digest) own)
+
+-- one of sixteen hashes below eight nodes
+below_eight : (now : List (List ℕ)) (from k j i : ℕ) → k ≡ 16 → j < 16 → from + j ≡ i → hash_at (take k (drop from now)) j ≡ hash_at now i
+below_eight now from k j i ek few own =
+    get_or-take k (drop from now) j [] (omega arith) ∙ get_or-drop from now j [] ∙ ap (hash_at now) own
+
+-- a node, after the eight from a place on were hashed side by side over those behind them
+pub node_among : (now new made : List (List ℕ)) (first k i : ℕ) → k ≡ 16 → 8 ≤ first → first ≤ i
+    → ((j : ℕ) → j < 8 → hash_at new (first + j) ≡ hash_at made j)
+    → ((p : ℕ) → first + 8 ≤ p → hash_at new p ≡ hash_at now p)
+    → ((j : ℕ) → j < 8 → hash_at made j ≡ inner_hash (hash_at (take k (drop (2 * first) now)) (2 * j)) (hash_at (take k (drop (2 * first) now)) (2 * j + 1)))
+    → (first + 8 ≤ i → hash_at now i ≡ inner_hash (hash_at now (2 * i)) (hash_at now (2 * i + 1)))
+    → hash_at new i ≡ inner_hash (hash_at new (2 * i)) (hash_at new (2 * i + 1))
+node_among now new made first k i ek high low put kept is before =
+    let left : hash_at new (2 * i) ≡ hash_at now (2 * i) = kept (2 * i) (omega arith) in
+    let right : hash_at new (2 * i + 1) ≡ hash_at now (2 * i + 1) = kept (2 * i + 1) (omega arith) in
+    elim (cases_lt i (first + 8)) [
+      | inl among ↦
+          let j : ℕ = i - first in
+          let own : first + j ≡ i = omega arith in
+          let few : j < 8 = omega arith in
+          ap (hash_at new) (sym own) ∙ put j few ∙ is j few
+          ∙ ap₂ inner_hash
+          (below_eight now (2 * first) k (2 * j) (2 * i) ek (omega arith) (omega arith) ∙ sym left)
+          (below_eight now (2 * first) k (2 * j + 1) (2 * i + 1) ek (omega arith) (omega arith) ∙ sym right)
+      | inr behind ↦ kept i behind ∙ before behind ∙ ap₂ inner_hash (sym left) (sym right)
+    ]
 
 -- twice a number
 doubled : (p : ℕ) → p * 2 ≡ p + p
@@ -150,6 +189,13 @@ module _ (digests : List Digest) (hashes : List (List ℕ)) (are : AreTreeHashes
       ∙ sym (merkle_root-suc depth (take (p + p) (drop start digests)))
       ∙ ap (λ (q : ℕ). merkle_root (suc depth) (take q (drop start digests))) (sym twice)
 
+  -- the hash at place 1 is the root over all digests
+  pub top_root : (depth : ℕ) → length digests ≡ 2 ^ depth → hash_at hashes 1 ≡ merkle_root depth digests
+  top_root depth power =
+      let one : 1 * 2 ^ depth ≡ 2 ^ depth = omega arith in
+      let all : take (2 ^ depth) (drop 0 digests) ≡ digests = ap (λ (n : ℕ). take n digests) (sym power) ∙ take-length digests in
+      node_root depth 1 0 (omega (arith, power, one)) (omega (arith, power)) ∙ ap (merkle_root depth) all
+
   -- a leaf, and what stands beside its way, lead to the root over all digests
   pub leaf_led : (depth place : ℕ) → length digests ≡ 2 ^ depth → place < length digests
       → led place (leaf_hash (get_or digests place no_digest)) (siblings depth hashes (length digests + place)) ≡ merkle_root depth digests
@@ -157,10 +203,7 @@ module _ (digests : List Digest) (hashes : List (List ℕ)) (are : AreTreeHashes
       let twice : 2 ^ suc depth ≡ 2 ^ depth * 2 = pow-suc 2 depth in
       let path : List (List ℕ) = siblings depth hashes (length digests + place) in
       let at : 2 ^ length path + place ≡ length digests + place = ap (λ (n : ℕ). 2 ^ n + place) (length-siblings depth hashes (length digests + place)) ∙ ap (λ (n : ℕ). n + place) (sym power) in
-      let one : 1 * 2 ^ depth ≡ 2 ^ depth = omega arith in
-      let all : take (2 ^ depth) (drop 0 digests) ≡ digests = ap (λ (n : ℕ). take n digests) (sym power) ∙ take-length digests in
       sym (led-behind path place (leaf_hash (get_or digests place no_digest)))
       ∙ ap₂ (λ (p : ℕ) (t : List ℕ). led p t path) at (sym (are.leaves place within))
       ∙ led-siblings depth (length digests + place) (omega (arith, power)) (omega (arith, power, within, twice)) (omega (arith, within))
-      ∙ node_root depth 1 0 (omega (arith, power, one)) (omega (arith, power))
-      ∙ ap (merkle_root depth) all
+      ∙ top_root depth power

@@ -16,8 +16,8 @@ use Rattle.std.proofs.Math.Seq.{take-append_seam, drop-append_seam}
 use Rattle.namespace_id.specs.Powers.{halvings}
 use Rattle.namespace_id.proofs.PowerLemmas.{double_halvings}
 use Rattle.data_header.proofs.RootLemmas.{IsRootOf, IsPathOf, merkle_root-suc, length-path_of}
-use Rattle.data_header.specs.HashTrees.{siblings, AreTreeHashes}
-use Rattle.data_header.proofs.HashTreeLemmas.{length-siblings, leaf_led}
+use Rattle.data_header.specs.HashTrees.{hash_at, siblings, AreTreeHashes}
+use Rattle.data_header.proofs.HashTreeLemmas.{length-siblings, top_root, leaf_led}
 use Rattle.data_header.proofs.LedLemmas.{led-left-power, led-right-power, led-path_of}
 
 -- the root over two lists of 2 ^ depth digests
@@ -34,15 +34,6 @@ pub data_root-axes : (header : Roots) → AreRoots header
     → data_root_of header ≡ inner_hash (merkle_root (halvings (2 * header.k)) header.rows) (merkle_root (halvings (2 * header.k)) header.cols)
 data_root-axes header h =
     merkle_root-append (halvings (2 * header.k)) header.rows header.cols (h.rows ∙ sym (double_halvings header.k h.width))
-
--- the data root is the hash over the roots of rows and of columns, however these were made
-pub data_root-halves : (header : Roots) (rows cols : List ℕ) → AreRoots header
-    → IsRootOf header.rows rows → IsRootOf header.cols cols
-    → inner_hash rows cols ≡ data_root_of header
-data_root-halves header rows cols h row_root col_root =
-    let d : ℕ = halvings (2 * header.k) in
-    let power : 2 * header.k ≡ 2 ^ d = sym (double_halvings header.k h.width) in
-    ap₂ inner_hash (row_root d (h.rows ∙ power)) (col_root d (h.cols ∙ power)) ∙ sym (data_root-axes header h)
 
 -- the hash over what stands along an axis and what stands along the other: rows on the left
 abbrev pub joined : Axis → List ℕ → List ℕ → List ℕ
@@ -135,6 +126,17 @@ place-lt k Col index h = omega (arith, h)
 all_roots : (header : Roots) → AreRoots header → length (header.rows ++ header.cols) ≡ 4 * header.k
 all_roots header h = omega (arith, length-append header.rows header.cols, h.rows, h.cols)
 
+-- the tree over all roots of a header has as many leaves as its halvings say
+tree_power : (header : Roots) → AreRoots header → length (header.rows ++ header.cols) ≡ 2 ^ root_halvings header.k
+tree_power header h =
+    let long : 2 ^ root_halvings header.k ≡ 2 ^ halvings (2 * header.k) * 2 = pow-suc 2 (halvings (2 * header.k)) in
+    omega (arith, all_roots header h, long, double_halvings header.k h.width)
+
+-- the hash at the top of that tree is the data root
+pub top_data_root : (header : Roots) (hashes : List (List ℕ)) → AreRoots header → AreTreeHashes (header.rows ++ header.cols) hashes
+    → hash_at hashes 1 ≡ data_root_of header
+top_data_root header hashes h are = top_root (header.rows ++ header.cols) hashes are (root_halvings header.k) (tree_power header h)
+
 -- the hashes beside the way of a leaf, in the tree over all roots of a header, lead to the data root
 pub opens-siblings : (header : Roots) (hashes path : List (List ℕ)) (axis : Axis) (index place levels : ℕ) → AreRoots header
     → AreTreeHashes (header.rows ++ header.cols) hashes → index < 2 * header.k → place ≡ 4 * header.k + root_place header.k axis index
@@ -144,8 +146,7 @@ opens-siblings header hashes path axis index place levels h are within at depth 
     let digests : List Digest = header.rows ++ header.cols in
     let number : ℕ = root_place header.k axis index in
     let count : length digests ≡ 4 * header.k = all_roots header h in
-    let long : 2 ^ root_halvings header.k ≡ 2 ^ halvings (2 * header.k) * 2 = pow-suc 2 (halvings (2 * header.k)) in
-    let power : length digests ≡ 2 ^ root_halvings header.k = omega (arith, count, long, double_halvings header.k h.width) in
+    let power : length digests ≡ 2 ^ root_halvings header.k = tree_power header h in
     let same : path ≡ siblings (root_halvings header.k) hashes (length digests + number) =
     is ∙ ap₂ (λ (n p : ℕ). siblings n hashes p) depth (at ∙ ap (λ (n : ℕ). n + number) (sym count)) in
     record {

@@ -2,8 +2,8 @@
 //! a node.
 //!
 //! Roots and paths are recursions on halves that keep nothing and hash anew each time. A header has
-//! at most 512 axis roots, so a proof costs about a thousand hashes and no memory. `trees` keeps the
-//! hashes, for many proofs.
+//! at most 512 axis roots, so a proof costs about a thousand hashes and no memory. `trees` has the hashes
+//! of all nodes, for the data root and for many proofs.
 
 ghost use Rattle.std.specs.Prelude.{◌≡◌, ◌^◌, ◌<◌, ℕ, length, IsTrue};
 ghost use Rattle.namespace_id.specs.Powers.{is_power};

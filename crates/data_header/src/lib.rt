@@ -2,6 +2,7 @@
 //! over them, and proofs that an axis root is under a data root, one by one or from a tree that is kept.
 #![tactic(auto)]
 
+mod batches;
 mod hashing;
 mod headers;
 mod paths;

@@ -8,12 +8,26 @@ ghost use Rattle.data_header.specs.Headers.{root_of};
 ghost use Rattle.data_header.specs.DataRoots.{leaf_hash, inner_hash, data_root_of, OpensRoot};
 ghost use Rattle.data_header.specs.HashTrees.{hash_at, beside, siblings, AreTreeHashes};
 
+use crate::batches::{BATCH, MESSAGES, eight_leaves, eight_nodes};
 use crate::hashing::{inner_hash, leaf_hash};
 use crate::proving::{root_halvings, root_place};
 use crate::{Header, RootPath};
 use namespace_id::{Axis, Digest, NoMemory};
 use std::alloc::Global;
 use std::marker::Model;
+
+/// Puts eight hashes, from a place on.
+fn put_eight(hashes: &mut [[u8; 32]], at: usize, made: &[[u8; 32]; BATCH])
+    requires { at + 8 ≤ length hashes.old }
+    ensures count { length hashes.new ≡ length hashes.old }
+    ensures put { (j : ℕ) → j < 8 → hash_at hashes.new (at + j) ≡ hash_at made.now j }
+    ensures before { (i : ℕ) → i < at → hash_at hashes.new i ≡ hash_at hashes.old i }
+    ensures behind { (i : ℕ) → at + 8 ≤ i → hash_at hashes.new i ≡ hash_at hashes.old i }
+{
+    for j in 0..BATCH {
+        hashes[at + j] = made[j];
+    }
+}
 
 /// Puts the hashes of leaves over digests, from a place on.
 fn put_leaves(hashes: &mut [[u8; 32]], at: usize, digests: &[Digest])
@@ -23,7 +37,14 @@ fn put_leaves(hashes: &mut [[u8; 32]], at: usize, digests: &[Digest])
         hash_at hashes.new (at + i) ≡ leaf_hash (get_or digests.now i no_digest) }
     ensures kept { (i : ℕ) → i < at → hash_at hashes.new i ≡ hash_at hashes.old i }
 {
-    for i in 0..digests.len() {
+    let eights = digests.len() / BATCH;
+    let mut messages = MESSAGES;
+    'eights: for eight in 0..eights {
+        let first = BATCH * eight;
+        let made = eight_leaves(&mut messages, &digests[first..first + BATCH]);
+        put_eight(hashes, at + first, &made);
+    }
+    'rest: for i in BATCH * eights..digests.len() {
         hashes[at + i] = leaf_hash(&digests[i]);
     }
 }
@@ -36,14 +57,22 @@ fn put_inner(hashes: &mut [[u8; 32]], count: usize)
     ensures inner { (i : ℕ) → 0 < i → i < count →
         hash_at hashes.new i ≡ inner_hash (hash_at hashes.new (2 * i)) (hash_at hashes.new (2 * i + 1)) }
 {
-    for done in 1..count {
+    // The first eight places are no eight of one level.
+    let eights = (count / BATCH).saturating_sub(1);
+    let mut messages = MESSAGES;
+    'eights: for eight in 0..eights {
+        let first = count - BATCH * (eight + 1);
+        let made = eight_nodes(&mut messages, &hashes[2 * first..2 * first + 2 * BATCH]);
+        put_eight(hashes, first, &made);
+    }
+    'rest: for done in BATCH * eights + 1..count {
         let i = count - done;
         hashes[i] = inner_hash(&hashes[2 * i], &hashes[2 * i + 1]);
     }
 }
 
 /// Puts the hashes of the tree over the axis roots of a header.
-fn put_hashes(header: &Header, hashes: &mut [[u8; 32]])
+pub(crate) fn put_hashes(header: &Header, hashes: &mut [[u8; 32]])
     requires { length hashes.old ≡ 2 * length (header.now.rows ++ header.now.cols) }
     ensures { AreTreeHashes (header.now.rows ++ header.now.cols) hashes.new }
 {
