@@ -1,8 +1,9 @@
 -- The leaf namespaces of lines, and those of the rows and columns of a grid.
-use Rattle.std.proofs.Common.{◌≡◌, ◌∙◌, ℕ, zero, suc, ◌+◌, ◌*◌, ◌<◌, List, [], ◌∷◌, length, get_or, map, true, refl, sym, ap, arith}
-use Rattle.std.proofs.lemmas.List.{get_or-map, length-map}
+use Rattle.std.proofs.Common.{◌≡◌, ◌∙◌, ℕ, zero, suc, ◌+◌, ◌*◌, ◌<◌, List, [], ◌∷◌, length, get_or, take, drop, map, true, refl, sym, ap, arith, length-drop}
+use Rattle.std.proofs.lemmas.List.{get_or-map, get_or-take, get_or-drop, length-map, length-take-le}
 use Rattle.namespace_id.specs.declared.cells.Cell.{Cell}
 use Rattle.namespace_id.specs.declared.cells.Axis.{Axis}
+use Rattle.namespace_id.specs.declared.cells.Axis.TheVariants.{Row}
 use Rattle.namespace_id.specs.declared.namespaces.Namespace.{Namespace}
 use Rattle.namespace_id.specs.declared.shares.Share.{Share}
 use Rattle.namespace_id.specs.declared.digests.Digest.{Digest}
@@ -12,6 +13,7 @@ use Rattle.namespace_id.specs.Cells.{is_width, leaf_namespace}
 use Rattle.namespace_id.specs.Lists.{ascending}
 use Rattle.namespace_id.proofs.ShareLemmas.{name_of-is}
 use Rattle.namespace_id.proofs.AscendingLemmas.{length-ascending, get_or-ascending}
+use Rattle.namespace_id.proofs.NumberLemmas.{row_before}
 use Rattle.namespace_id.proofs.PowerLemmas.{double_halvings}
 use Rattle.nmt_tree.specs.Digests.{leaf_digest}
 use Rattle.nmt_tree.specs.Roots.{halvings}
@@ -90,3 +92,12 @@ pub axis_leaves-cells : (k : ℕ) (shares : List Share) (axis : Axis) (i : ℕ)
 axis_leaves-cells k shares axis i =
     ap (λ (names : List Namespace). leaf_digests names (axis_shares k shares axis i)) (axis_names-cells k shares axis i)
     ∙ sym (mapped_leaves (λ cell. leaf_namespace k cell (share_at (2 * k) shares cell)) (share_at (2 * k) shares) (axis_cells k axis i))
+
+-- the shares of a row are neighbors in a row-major list
+pub row_taken : (k row : ℕ) (shares : List Share) → length shares ≡ 2 * k * (2 * k) → row < 2 * k
+    → take (2 * k) (drop (row * (2 * k)) shares) ≡ axis_shares k shares Row row
+row_taken k row shares size h =
+    let n : ℕ = 2 * k in
+    is_along k (share_at n shares) Row row blank (take n (drop (row * n) shares))
+    (length-take-le n (drop (row * n) shares) (omega (arith, length-drop (row * n) shares, row_before row n n h)))
+    (λ pos lt. get_or-take n (drop (row * n) shares) pos blank lt ∙ get_or-drop (row * n) shares pos blank)

@@ -7,7 +7,6 @@ use Rattle.std.proofs.lemmas.Bool.Decides.{nat_tests}
 use Rattle.std.proofs.lemmas.List.{get_or-take, get_or-drop, get_or_append_left, get_or-append-add, get_or-set_same, get_or-set_other, ext_get_or, length-take-le}
 use Rattle.namespace_id.specs.declared.cells.Cell.{Cell}
 use Rattle.namespace_id.specs.declared.cells.Axis.TheVariants.{Row, Col}
-use Rattle.namespace_id.specs.declared.namespaces.Namespace.{Namespace}
 use Rattle.namespace_id.specs.declared.shares.Share.{Share}
 use Rattle.namespace_id.specs.Shares.{IsShare, AreShares}
 use Rattle.namespace_id.specs.declared.digests.Digest.{Digest}
@@ -177,39 +176,27 @@ abbrev pub HasOthers : ℕ → ℕ → ℕ → List Digest → List Digest → T
 HasOthers k row col old new =
     (number : ℕ) → (number < row * (2 * k) + col) ⊎ (row * (2 * k) + (col + k) ≤ number) → get_or new number no_digest ≡ get_or old number no_digest
 
--- the digest of a leaf over a share of a row
-pub leaf_made : (k : ℕ) (cell : Cell) (shares : List Share) (pos : ℕ) (name : Namespace) (share : Share) (made : Digest)
-    → name ≡ leaf_namespace k cell share → made ≡ leaf_digest name share → share ≡ get_or shares pos blank
-    → made ≡ leaf_digest (leaf_namespace k cell (get_or shares pos blank)) (get_or shares pos blank)
-leaf_made k cell shares pos name share made named is at =
-    is ∙ ap (λ (n : Namespace). leaf_digest n share) named ∙ ap (λ (s : Share). leaf_digest (leaf_namespace k cell s) s) at
-
--- one more leaf of a row
-pub leaves_next : (k : ℕ) (shares : List Share) (leaves : List Digest) (row col pos place : ℕ) (made : Digest)
-    → place ≡ row * (2 * k) + (col + pos) → place < length leaves
-    → made ≡ leaf_digest (leaf_namespace k (cell_in row (col + pos)) (get_or shares pos blank)) (get_or shares pos blank)
-    → HasLeaves k row col shares leaves pos → HasLeaves k row col shares (set leaves place made) (pos + 1)
-leaves_next k shares leaves row col pos place made at within is before =
-    below_more _ _
-    (λ p h.
-    let apart : row * (2 * k) + (col + p) ≢ place = λ (e : row * (2 * k) + (col + p) ≡ place). absurd (omega arith) in
-    get_or-set_other leaves place (row * (2 * k) + (col + p)) made no_digest apart ∙ before p h)
-    (ap (λ (n : ℕ). get_or (set leaves place made) n no_digest) (sym at) ∙ get_or-set_same leaves place made no_digest within ∙ is)
-
--- the other leaves, after it
-pub others_kept : (k : ℕ) (old leaves : List Digest) (row col pos place : ℕ) (made : Digest) → place ≡ row * (2 * k) + (col + pos) → pos < k
-    → HasOthers k row col old leaves → HasOthers k row col old (set leaves place made)
-others_kept k old leaves row col pos place made at h before number (inl low) =
-    let apart : number ≢ place = λ (e : number ≡ place). absurd (omega arith) in
-    get_or-set_other leaves place number made no_digest apart ∙ before number (inl low)
-others_kept k old leaves row col pos place made at h before number (inr high) =
-    let apart : number ≢ place = λ (e : number ≡ place). absurd (omega arith) in
-    get_or-set_other leaves place number made no_digest apart ∙ before number (inr high)
-
 -- the leaves over the cells of a grid in the first rows
 abbrev pub HasRows : ℕ → List Share → List Digest → ℕ → Type 0
 HasRows k grid leaves row =
     (cell : Cell) → IsTrue (is_in_square k cell) → cell.row < row → get_or leaves (cell.row * (2 * k) + cell.col) no_digest ≡ leaf_over k grid cell
+
+-- the rows so far, after the next one was hashed and those before it stayed
+pub row_next : (k : ℕ) (grid : List Share) (was new : List Digest) (row : ℕ)
+    → ((col : ℕ) → col < 2 * k → get_or new (row * (2 * k) + col) no_digest ≡ leaf_over k grid (cell_in row col))
+    → ((number : ℕ) → number < row * (2 * k) → get_or new number no_digest ≡ get_or was number no_digest)
+    → HasRows k grid was row → HasRows k grid new (row + 1)
+row_next k grid was new row made kept before cell within h =
+    elim (cases_lt cell.row row) [
+      | inl above ↦
+          let col : cell.col < 2 * k = (inside k cell within).1 in
+          let low : cell.row * (2 * k) + cell.col < row * (2 * k) = omega (arith, row_before cell.row row (2 * k) above) in
+          kept (cell.row * (2 * k) + cell.col) low ∙ before cell within above
+      | inr last ↦
+          let same : row ≡ cell.row = omega arith in
+          subst (λ (r : ℕ). get_or new (r * (2 * k) + cell.col) no_digest ≡ leaf_over k grid (cell_in r cell.col)) same
+          (made cell.col (inside k cell within).1)
+    ]
 
 -- a leaf over a cell, by its share
 leaf_is : (k : ℕ) (grid : List Share) (cell : Cell) (share : Share) → share ≡ share_at (2 * k) grid cell
@@ -244,25 +231,16 @@ row_leaves k grid left right half new row word long first second kept col hc = e
       ∙ leaf_is k grid (cell_in row col) (get_or right pos blank) share
 ]
 
--- the rows so far, after the next one was hashed
+-- the rows so far, after the next row of an extension was hashed by halves
 rows_next : (k : ℕ) (square quarter grid left right : List Share) (was half new : List Digest) (row : ℕ) → IsTrue (is_width k)
     → IsLowerLeft k square quarter → Extends k square grid → row < 2 * k
     → left ≡ left_half k square quarter row → length left ≡ k → IsCodeword k (left ++ right)
     → HasLeaves k row 0 left half k → HasOthers k row 0 was half → HasLeaves k row k right new k → HasOthers k row k half new
     → HasRows k grid was row → HasRows k grid new (row + 1)
-rows_next k square quarter grid left right was half new row width lower extended hr is long code first kept second others before cell within h =
-    let col : cell.col < 2 * k = (inside k cell within).1 in
-    elim (cases_lt cell.row row) [
-      | inl above ↦
-          let low : cell.row * (2 * k) + cell.col < row * (2 * k) = omega (arith, row_before cell.row row (2 * k) above) in
-          others (cell.row * (2 * k) + cell.col) (inl (omega arith)) ∙ kept (cell.row * (2 * k) + cell.col) (inl (omega arith))
-          ∙ before cell within above
-      | inr last ↦
-          let same : row ≡ cell.row = omega arith in
-          subst (λ (r : ℕ). get_or new (r * (2 * k) + cell.col) no_digest ≡ leaf_over k grid (cell_in r cell.col)) same
-          (row_leaves k grid left right half new row (row_word k square quarter grid left right row width lower extended hr is long code) long
-          first second others cell.col col)
-    ]
+rows_next k square quarter grid left right was half new row width lower extended hr is long code first kept second others =
+    row_next k grid was new row
+    (row_leaves k grid left right half new row (row_word k square quarter grid left right row width lower extended hr is long code) long first second others)
+    (λ number low. others number (inl (omega arith)) ∙ kept number (inl (omega arith)))
 
 -- the same, of every extension of the square, where each step speaks of the width that it was told
 pub every_next : (k m a : ℕ) (square quarter left right : List Share) (was half new : List Digest) (row : ℕ) → m ≡ k → a ≡ k → IsTrue (is_width m)

@@ -46,24 +46,6 @@ read_next k shares leaves line axis i pos place cell are hi hp long on at before
     ∙ ap (λ (n : ℕ). get_or leaves n no_digest) (at ∙ ap (λ (c : Cell). c.row * (2 * k) + c.col) on)
     ∙ are.digests (cell_on axis i pos) (on_axis_in_square k axis i pos hi hp))
 
--- one more leaf of the table of all
-pub fill_next : (k m : ℕ) (shares : List Share) (leaves : List Digest) (number : ℕ) (made : Digest) → m ≡ k
-    → number < length leaves → made ≡ leaf_over k shares (cell_of (2 * m) number)
-    → ((cell : Cell) → IsTrue (is_in_square k cell) → cell.row * (2 * k) + cell.col < number
-    → get_or leaves (cell.row * (2 * k) + cell.col) no_digest ≡ leaf_over k shares cell)
-    → (cell : Cell) → IsTrue (is_in_square k cell) → cell.row * (2 * k) + cell.col < number + 1
-    → get_or (set leaves number made) (cell.row * (2 * k) + cell.col) no_digest ≡ leaf_over k shares cell
-fill_next k m shares leaves number made wide within is before cell in_it h =
-    elim (cases_eq (cell.row * (2 * k) + cell.col) number) [
-      | inl last ↦
-          ap (λ (n : ℕ). get_or (set leaves number made) n no_digest) last
-          ∙ get_or-set_same leaves number made no_digest within ∙ is
-          ∙ ap₂ (λ (n x : ℕ). leaf_over k shares (cell_of (2 * n) x)) wide (sym last)
-          ∙ ap (leaf_over k shares) (cell_of-number (2 * k) cell (inside k cell in_it).1)
-      | inr apart ↦
-          get_or-set_other leaves number (cell.row * (2 * k) + cell.col) made no_digest apart ∙ before cell in_it (omega arith)
-    ]
-
 -- the digests that were read along an axis are its leaves, where the width that was told is the grid's
 pub read_at : (k m : ℕ) (shares : List Share) (leaves line : List Digest) (axis : Axis) (i : ℕ) → m ≡ k → AreLeafDigests k shares leaves
     → ((of : List Share) → AreLeafDigests m of leaves → line ≡ axis_leaves m of axis i) → line ≡ axis_leaves k shares axis i

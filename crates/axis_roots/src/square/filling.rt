@@ -4,13 +4,10 @@ ghost use Rattle.std.specs.Prelude.{◌≡◌, ◌*◌, ◌<◌, length, Some, t
 ghost use Rattle.nmt_tree.specs.Levels.{leaf_digests};
 ghost use Rattle.axis_roots.specs.Grids.{axis_names, axis_shares, is_ordered_axis};
 
-use super::lines::{read_axis, read_names};
+use super::lines::{LONGEST_AXIS, read_axis, read_names};
 use crate::Grid;
 use namespace_id::{Axis, Namespace, PARITY, Share};
 use nmt_tree::{Tree, are_ordered};
-
-/// How many shares the longest axis has: 2k for the greatest width, 128.
-const LONGEST_AXIS: usize = 256;
 
 /// Fills a tree with the leaves along an axis, by way of these lines; false where their namespaces
 /// fall, and the tree is as it was.

@@ -1,44 +1,66 @@
 //! The leaves of a grid.
 //!
 //! Each cell is a leaf of its row's tree and of its column's, under one namespace, so all leaves
-//! are hashed once, into a table of 4k^2 digests, from which each axis copies its line of 2k.
+//! are hashed once, row by row, into a table of 4k^2 digests, from which each axis copies its line of
+//! 2k.
 
-ghost use Rattle.std.specs.Prelude.{◌≡◌, ◌*◌, ◌<◌, List, IsTrue, IfOk, length, map};
+ghost use Rattle.std.specs.Prelude.{◌≡◌, ◌⊎◌, ◌+◌, ◌*◌, ◌<◌, ◌≤◌, ℕ, List, IsTrue, IfOk, length, map, get_or};
+ghost use Rattle.namespace_id.specs.declared.cells.Axis.TheVariants.{Row};
 ghost use Rattle.namespace_id.specs.declared.shares.Share.{Share as ShareOf};
-ghost use Rattle.namespace_id.specs.Cells.{is_width, is_in_square};
-ghost use Rattle.namespace_id.specs.Digests.{least_of};
+ghost use Rattle.namespace_id.specs.Cells.{is_width, cell_in};
+ghost use Rattle.namespace_id.specs.Digests.{least_of, no_digest};
 ghost use Rattle.nmt_tree.specs.Roots.{is_ordered};
 ghost use Rattle.axis_roots.specs.Trees.{axis_leaves};
-ghost use Rattle.axis_roots.specs.Grids.{leaf_over, AreLeafDigests};
+ghost use Rattle.axis_roots.specs.Grids.{axis_shares, leaf_over, AreLeafDigests};
 
 use super::grids::place;
-use super::lines::cell_on;
+use super::lines::{LONGEST_AXIS, cell_on, name_leaves};
 use crate::Grid;
-use namespace_id::{Axis, BLANK_DIGEST, Cell, Digest, NoMemory, leaf_namespace};
-use nmt_tree::leaf;
+use namespace_id::{Axis, BLANK_DIGEST, Digest, Namespace, NoMemory, PARITY, Share};
+use nmt_tree::put_leaves;
 use std::alloc::Global;
 
-/// The digest of the leaf over a cell.
-fn leaf_over(grid: &Grid, cell: Cell) -> Digest
-    requires { IsTrue (is_in_square grid.now.k cell) }
-    ensures { result ≡ leaf_over grid.now.k grid.now.shares cell }
+/// The shares of a row.
+fn row_shares(grid: &Grid, row: u16) -> &[Share]
+    requires { row < 2 * grid.now.k }
+    ensures shares { result.now ≡ axis_shares grid.now.k grid.now.shares Row row }
+    ensures count { length result.now ≡ 2 * grid.now.k }
 {
-    let name = leaf_namespace(grid.width(), cell, grid.cell(cell));
-    leaf(&name, grid.cell(cell))
+    let side = 2 * grid.width() as usize;
+    let first = row as usize * side;
+    &grid.shares[first..first + side]
 }
 
-/// Makes the digests of the leaves over all cells, each of them once.
+/// Hashes the leaves over a row, by way of a line of 2k namespaces.
+fn put_row(grid: &Grid, row: u16, names: &mut [Namespace], leaves: &mut [Digest])
+    requires row { row < 2 * grid.now.k }
+    requires names { length names.old ≡ 2 * grid.now.k }
+    requires leaves { length leaves.old ≡ 2 * grid.now.k * (2 * grid.now.k) }
+    ensures leaves { (col : ℕ) → col < 2 * grid.now.k →
+        get_or leaves.new (row * (2 * grid.now.k) + col) no_digest
+        ≡ leaf_over grid.now.k grid.now.shares (cell_in row col) }
+
+    // Every other leaf is as it was.
+    ensures others { (number : ℕ) →
+        (number < row * (2 * grid.now.k)) ⊎ ((row + 1) * (2 * grid.now.k) ≤ number) →
+        get_or leaves.new number no_digest ≡ get_or leaves.old number no_digest }
+{
+    let k = grid.width();
+    let shares = row_shares(grid, row);
+    name_leaves(k, Axis::Row, row, shares, names);
+    let first = row as usize * (2 * k as usize);
+    put_leaves(names, shares, &mut leaves[first..first + 2 * k as usize]);
+}
+
+/// Makes the digests of the leaves over all cells, each of them once, row by row.
 fn fill_leaves(grid: &Grid, leaves: &mut [Digest])
     requires { length leaves.old ≡ 2 * grid.now.k * (2 * grid.now.k) }
     ensures { AreLeafDigests grid.now.k grid.now.shares leaves.new }
 {
-    let side = 2 * grid.width() as usize;
-    for number in 0..leaves.len() {
-        let cell = Cell {
-            row: (number / side) as u16,
-            col: (number % side) as u16,
-        };
-        leaves[number] = leaf_over(grid, cell);
+    let mut names = [PARITY; LONGEST_AXIS];
+    let names = &mut names[..2 * grid.width() as usize];
+    for row in 0..2 * grid.width() {
+        put_row(grid, row, names, leaves);
     }
 }
 

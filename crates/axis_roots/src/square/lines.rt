@@ -9,8 +9,11 @@ ghost use Rattle.axis_roots.specs.Lines.{cell_on, line_names, line_strict_root};
 ghost use Rattle.axis_roots.specs.Grids.{share_at, axis_names, axis_shares};
 
 use crate::Grid;
-use namespace_id::{Axis, Cell, Digest, Namespace, Share, leaf_namespace};
-use nmt_tree::strict_root;
+use namespace_id::{Axis, BLANK_DIGEST, Cell, Digest, Namespace, Share, leaf_namespace};
+use nmt_tree::{are_ordered, fold_leaves};
+
+/// How many shares the longest axis has: 2k for the greatest width, 128.
+pub(super) const LONGEST_AXIS: usize = 256;
 
 /// The cell at a position of a row or a column of this index.
 ///
@@ -123,9 +126,10 @@ pub fn name_leaves(k: u16, axis: Axis, index: u16, line: &[Share], names: &mut [
 
 /// The strict root of a line of 2k shares, taken as a row or a column of a square of width `k`: the root
 /// over them under the leaf namespaces of their cells, none exactly where these fall. `names` has 2k
-/// entries, which are written. It takes no memory.
+/// entries, which are written. It takes no memory, and hashes leaves and nodes eight at a time.
 ///
 /// Celestia specifications, "Data Structures", available data header.
+#[tactic(auto, unfolding(nmt_tree::specs::Roots::strict_root))]
 pub fn line_strict_root(
     k: u16,
     axis: Axis,
@@ -140,7 +144,11 @@ pub fn line_strict_root(
     ensures { result ≡ line_strict_root k axis index line.now }
 {
     name_leaves(k, axis, index, line, names);
-    strict_root(names, line)
+    if !are_ordered(names) {
+        return None;
+    }
+    let mut leaves = [BLANK_DIGEST; LONGEST_AXIS];
+    Some(fold_leaves(names, line, &mut leaves[..names.len()]))
 }
 
 /// Whether there is a strict root, and it is this one.
