@@ -1,5 +1,5 @@
 -- Leaves that were hashed, and trees that are made of them.
-use Rattle.std.proofs.Common.{◌≡◌, ◌∙◌, ℕ, ◌+◌, ◌*◌, ◌<◌, List, length, get_or, map, set, replicate, IsTrue, Some, None, inl, inr, refl, sym, ap, subst, arith}
+use Rattle.std.proofs.Common.{◌≡◌, ◌≢◌, ◌∙◌, ℕ, ◌+◌, ◌*◌, ◌<◌, List, length, get_or, map, set, replicate, IsTrue, Some, None, inl, inr, refl, sym, ap, subst, arith, below_more}
 use Rattle.std.specs.Prelude.{Option, IfSome}
 use Rattle.std.proofs.lemmas.Bool.{cases_eq}
 use Rattle.std.proofs.lemmas.List.{get_or-set_same, get_or-set_other, length-set, length-replicate, get_or-replicate, ext_get_or, length-map}
@@ -62,6 +62,23 @@ no_trees k side grid axis trees none all =
           subst (IsNeededTree k grid axis index) (sym (ap (λ (l : List StoredTree). get_or l index no_tree) none ∙ get_or-replicate side index empty no_tree (omega (arith, h, all))))
           (record { count = all; leaves = tt });
     }
+
+-- one more value of a list that is written in order
+pub filled_next : {A : Type 0} (f : ℕ → A) (d : A) (xs : List A) (i : ℕ) (x : A) → i < length xs → x ≡ f i
+    → ((j : ℕ) → j < i → get_or xs j d ≡ f j) → (j : ℕ) → j < i + 1 → get_or (set xs i x) j d ≡ f j
+filled_next f d xs i x within is before =
+    below_more _ _
+    (λ j h. let other : j ≢ i = omega (arith, h) in get_or-set_other xs i j x d other ∙ before j h)
+    (get_or-set_same xs i x d within ∙ is)
+
+-- numbers below a bound, with one more of them written
+pub bound_kept : (xs : List ℕ) (n i x bound : ℕ) → i < length xs → x < bound
+    → ((j : ℕ) → j < n → get_or xs j 0 < bound) → (j : ℕ) → j < n → get_or (set xs i x) j 0 < bound
+bound_kept xs n i x bound within low before j h =
+    elim (cases_eq j i) [
+      | inl here ↦ subst (λ (y : ℕ). y < bound) (sym (ap (λ (p : ℕ). get_or (set xs i x) p 0) here ∙ get_or-set_same xs i x 0 within)) low
+      | inr other ↦ subst (λ (y : ℕ). y < bound) (sym (get_or-set_other xs i j x 0 other)) (before j h)
+    ]
 
 -- a list that has the values at all numbers below its length
 pub mapped_all : {A : Type 0} (f : ℕ → A) (n : ℕ) (d : A) (xs : List A) → length xs ≡ n → ((i : ℕ) → i < n → get_or xs i d ≡ f i) → xs ≡ map f (ascending 0 n)

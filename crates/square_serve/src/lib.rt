@@ -8,6 +8,7 @@
 mod checking;
 mod held;
 mod laws;
+mod leaves;
 mod needed;
 mod ordering;
 mod rows;

@@ -5,17 +5,17 @@
 //! blank. Each leaf is hashed at most once, for its row and its column.
 
 ghost use Rattle.std.specs.Prelude.{◌≡◌, ◌*◌, ◌<◌, IsTrue, IfOk, IsSome, length, get_or, true};
-ghost use Rattle.namespace_id.specs.Cells.{is_in_square};
 ghost use Rattle.namespace_id.specs.Shares.{AreShares};
 ghost use Rattle.nmt_tree.specs.Roots.{is_leaf_count};
-ghost use Rattle.axis_roots.specs.Grids.{leaf_over, axis_roots, are_ordered_axes, grid_roots};
-ghost use Rattle.axis_roots.specs.Trees.{axis_leaves, axis_stored, no_tree, stored_root};
+ghost use Rattle.axis_roots.specs.Grids.{axis_roots, are_ordered_axes, grid_roots};
+ghost use Rattle.axis_roots.specs.Trees.{axis_stored, no_tree, stored_root};
 ghost use Rattle.square_serve.specs.Needed.{AreNeededLeaves, AreNeededTrees, AreNeeded, empty_trees, needed_along, needed_at};
 
-use axis_roots::{Grid, cell_on};
+use crate::leaves::read_leaves;
+use axis_roots::Grid;
 use data_header::Header;
-use namespace_id::{Axis, BLANK_DIGEST, Cell, Digest, NoMemory, leaf_namespace, shares_law};
-use nmt_tree::{Tree, leaf};
+use namespace_id::{Axis, BLANK_DIGEST, Digest, NoMemory, shares_law};
+use nmt_tree::Tree;
 use std::alloc::Global;
 
 /// The namespaced Merkle trees (NMT) over all rows and columns of a grid, empty where they weren't
@@ -31,43 +31,6 @@ pub(crate) struct NeededTrees {
     // the roots of all axes, blank until the header is asked for
     header: Header,
     rooted: bool,
-}
-
-/// The digest of the leaf over a cell. It's hashed where the table has none yet.
-fn leaf_over(grid: &Grid, leaves: &mut [Option<Digest>], cell: Cell) -> Digest
-    requires leaves { AreNeededLeaves grid.now.k grid.now.shares leaves.old }
-    requires cell { IsTrue (is_in_square grid.now.k cell) }
-    ensures value { result ≡ leaf_over grid.now.k grid.now.shares cell }
-    ensures leaves { AreNeededLeaves grid.now.k grid.now.shares leaves.new }
-{
-    let k = grid.width();
-    let place = cell.row as usize * (2 * k as usize) + cell.col as usize;
-    if let Some(digest) = leaves[place] {
-        return digest;
-    }
-    let name = leaf_namespace(k, cell, grid.cell(cell));
-    let digest = leaf(&name, grid.cell(cell));
-    leaves[place] = Some(digest);
-    digest
-}
-
-/// Copies the digests of the leaves along an axis.
-fn read_leaves(
-    grid: &Grid,
-    leaves: &mut [Option<Digest>],
-    axis: Axis,
-    index: u16,
-    line: &mut [Digest],
-)
-    requires leaves { AreNeededLeaves grid.now.k grid.now.shares leaves.old }
-    requires index { index < 2 * grid.now.k }
-    requires line { length line.old ≡ 2 * grid.now.k }
-    ensures leaves { AreNeededLeaves grid.now.k grid.now.shares leaves.new }
-    ensures line { line.new ≡ axis_leaves grid.now.k grid.now.shares axis index }
-{
-    for pos in 0..2 * grid.width() {
-        line[pos as usize] = leaf_over(grid, leaves, cell_on(axis, index, pos));
-    }
 }
 
 /// Makes the tree of an axis among those of its kind, if it is empty.

@@ -1,10 +1,10 @@
-use Rattle.std.proofs.Common.{◌≢◌, ◌∙◌, ◌<◌, ◌*◌, ℕ, ap, arith, below_more, length-set}
-use Rattle.std.proofs.lemmas.List.{get_or-set_same, get_or-set_other, get_or_default}
+use Rattle.std.proofs.Common.{◌∙◌, ◌<◌, ◌*◌, ℕ, ap, arith, length-set}
+use Rattle.std.proofs.lemmas.List.{get_or_default}
 use Rattle.namespace_id.specs.Digests.{no_digest}
 use Rattle.axis_roots.specs.Grids.{axis_root}
 use Rattle.axis_roots.specs.Trees.{no_tree, stored_root}
 use Rattle.axis_roots.proofs.Grids.RootingLemmas.{root-leaves}
-use Rattle.square_serve.proofs.NeededLemmas.{mapped_all}
+use Rattle.square_serve.proofs.NeededLemmas.{filled_next, mapped_all}
 use Rattle.square_serve.proofs.needed.put_roots.Goals as goal
 
 -- one root more
@@ -17,11 +17,12 @@ loop-index-preserved c =
       trees = c.make_tree.ensures.trees;
       line = omega (arith, c.loop-index.invariant.line);
       count = length-set c.loop-index.roots index c.root_in.result ∙ c.loop-index.invariant.count;
-      roots = below_more _ _
-          (λ i h. let other : i ≢ index = omega (arith, h) in get_or-set_other c.loop-index.roots index i c.root_in.result no_digest other ∙ c.loop-index.invariant.roots i h)
-          (get_or-set_same c.loop-index.roots index c.root_in.result no_digest (omega (arith, within, c.loop-index.invariant.count)) ∙ c.root_in.ensures
+      roots = filled_next (axis_root c.args.grid.now.k c.args.grid.now.shares c.args.axis) no_digest c.loop-index.roots index c.root_in.result
+          (omega (arith, within, c.loop-index.invariant.count))
+          (c.root_in.ensures
           ∙ ap stored_root (get_or_default c.make_tree.new.trees index c.index-trees-index.result no_tree (omega (arith, within, c.make_tree.ensures.trees.count)) ∙ c.make_tree.ensures.made)
-          ∙ root-leaves c.args.grid.now.k c.args.grid.now.shares c.args.axis index c.width-index-end.ensures.grid.width);
+          ∙ root-leaves c.args.grid.now.k c.args.grid.now.shares c.args.axis index c.width-index-end.ensures.grid.width)
+          c.loop-index.invariant.roots;
     }
 
 -- there is one for each axis

@@ -3,7 +3,7 @@ use Rattle.namespace_id.specs.Digests.{no_digest}
 use Rattle.axis_roots.specs.Lines.{cell_on}
 use Rattle.axis_roots.specs.Grids.{leaf_over}
 use Rattle.square_serve.specs.Needed.{AreNeededLeaves}
-use Rattle.square_serve.proofs.needed.read_leaves.Given as goal
+use Rattle.square_serve.proofs.leaves.read_leaves.Given as goal
 
 -- the digests so far
 abbrev pub invariant-loop-pos : goal.invariant-loop-pos

@@ -3,7 +3,7 @@ use Rattle.namespace_id.specs.Digests.{no_digest}
 use Rattle.axis_roots.specs.Grids.{leaf_over}
 use Rattle.axis_roots.proofs.Grids.AxisLemmas.{is_along}
 use Rattle.axis_roots.proofs.Grids.LineLemmas.{axis_leaves-cells}
-use Rattle.square_serve.proofs.needed.read_leaves.Goals as goal
+use Rattle.square_serve.proofs.leaves.read_leaves.Goals as goal
 
 pub returns-clause-line : goal.returns-clause-line
 returns-clause-line c =
