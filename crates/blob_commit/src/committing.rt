@@ -10,12 +10,18 @@ use crate::buffers::Hashes;
 use crate::cutting::{cut_by, levels_of};
 use crate::hashing::root_over;
 use data_header::leaf_hash;
-use namespace_id::{Digest, NAMESPACE_SIZE, Namespace, Share};
-use nmt_tree::plain_root;
+use namespace_id::{BLANK_DIGEST, Digest, NAMESPACE_SIZE, Namespace, Share};
+use nmt_tree::{fold_leaves, plain_root};
 use share_split::{Blob, blob_laws, blob_share_count, blob_shares};
 use square_layout::MAX_SHARES;
 use std::alloc::Global;
 use thiserror::Error;
+
+/// How many shares the widest subtree has.
+const WIDEST_SUBTREE: usize = 128;
+
+/// How many leaves are hashed side by side.
+const BATCH: usize = 8;
 
 /// Why a blob has no commitment. The variants stand in the order in which they are tested.
 #[derive(Clone, Copy, Debug, PartialEq, Eq, Error)]
@@ -41,16 +47,21 @@ fn put_names(shares: &[Share], names: &mut [Namespace])
     }
 }
 
-/// The root of a subtree over shares, each a leaf under the namespace that it begins with.
+/// The root of a subtree over shares, each a leaf under the namespace that it begins with. Leaves and
+/// nodes are hashed eight at a time where there are as many.
 fn subtree_root(shares: &[Share]) -> Digest
     requires count { IsTrue (is_leaf_count (length shares.now)) }
     requires bound { length shares.now ≤ 128 }
     ensures { result ≡ subtree_root shares.now }
 {
-    let mut names = [Namespace([0; NAMESPACE_SIZE]); 128];
+    let mut names = [Namespace([0; NAMESPACE_SIZE]); WIDEST_SUBTREE];
     let names = &mut names[..shares.len()];
     put_names(shares, names);
-    plain_root(names, shares)
+    if shares.len() < BATCH {
+        return plain_root(names, shares);
+    }
+    let mut digests = [BLANK_DIGEST; WIDEST_SUBTREE];
+    fold_leaves(names, shares, &mut digests[..shares.len()])
 }
 
 /// The commitment of shares, 32 bytes: they are cut into subtrees, and it is the plain SHA-256
