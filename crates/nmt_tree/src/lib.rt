@@ -3,7 +3,6 @@
 //!
 //! `leaf`, `node` and `join` make one digest; `plain_root` and `strict_root` are the plain
 //! recursions that say what the root of a list is. A `Tree` keeps the digests of all levels,
-//! recursions that say what the root of a list is. A `Tree` keeps the digests of all levels,
 //! `fold_root` joins digests of leaves in place, `fold_leaves` makes these first, and a
 //! `LeafQueue` hashes leaves as they come.
 #![tactic(auto)]
