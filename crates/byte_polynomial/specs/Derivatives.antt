@@ -1,9 +1,9 @@
--- Formal derivatives of polynomials over the byte field.
+-- Formal derivatives of polynomials over a field.
 use Rattle.std.specs.Prelude.{ℕ, List, [], ◌∷◌, bit_xor}
-use Rattle.gf_cantor.specs.Field.{product}
+use Rattle.gf_cantor.specs.Field.{Field, product}
 use Rattle.byte_polynomial.specs.Polynomial.{value_at}
 
 -- the value of the formal derivative at a point, where that of c + x p is p + x p'
-unfoldable pub derivative_at : List ℕ → ℕ → ℕ
-derivative_at [] x = 0
-derivative_at (c ∷ cs) x = bit_xor (value_at cs x) (product x (derivative_at cs x))
+unfoldable pub derivative_at : Field → List ℕ → ℕ → ℕ
+derivative_at f [] x = 0
+derivative_at f (c ∷ cs) x = bit_xor (value_at f cs x) (product f x (derivative_at f cs x))

@@ -4,7 +4,7 @@ use Rattle.std.proofs.lemmas.Bool.{cases_lt}
 use Rattle.std.proofs.lemmas.List.{append-nil, take_all, drop_all, get_or_append_left, get_or-take, get_or-drop, length-take-le}
 use Rattle.std.proofs.lemmas.List.FromFn.{get_or-map-range_with_len}
 use Rattle.std.proofs.lemmas.Nat.{and_mask}
-use Rattle.std.proofs.lemmas.Simd.{Each1-get_or, Each1-from_get_or, length-zip2, get_or-zip2, get_or-replicate, get_or-chunk, put_chunk_is, swz_l, SwzOk, SwzOk-from_below, get_or-swz_l_below}
+use Rattle.std.proofs.lemmas.Simd.{Each1-get_or, Each1-from_get_or, length-zip2, get_or-zip2, get_or-replicate, get_or-chunk, length-chunk, put_chunk_is, swz_l, SwzOk, SwzOk-from_below, get_or-swz_l_below}
 use Rattle.std.specs.Simd.Lanes.{zip2, Each1, chunk, put_chunk}
 use Rattle.std.specs.List.{range_with_len}
 
@@ -43,27 +43,30 @@ module _ (js : List ℕ) (f : ℕ → ℕ) (h : HasLanes js f) (small : (k : ℕ
       let long = h.long in
       SwzOk-from_below w8 16 2 32 0 js refl (omega arith) (Each1-from_get_or (λ j. j < 16) js 0 (λ k l. omega (arith, h.each k (omega arith), small k (omega arith))))
 
-  -- what a look-up gives, in a vector that holds the table twice
-  pub looked_up : (twice table : List ℕ) → ((k : ℕ) → k < 32 → get_or twice k 0 ≡ get_or table (k % 16) 0)
-      → (k : ℕ) → k < 32 → get_or (swz_l w8 16 twice 0 js) k 0 ≡ get_or table (f k) 0
-  looked_up twice table copies k l =
+  -- what a look-up gives, in a vector that holds entries twice
+  pub looked_up : (twice : List ℕ) (entry : ℕ → ℕ) → ((k : ℕ) → k < 32 → get_or twice k 0 ≡ entry (k % 16))
+      → (k : ℕ) → k < 32 → get_or (swz_l w8 16 twice 0 js) k 0 ≡ entry (f k)
+  looked_up twice entry copies k l =
       let long = h.long in
       let e = h.each k l in
       let below = small k l in
       get_or-swz_l_below w8 16 twice 0 js k (omega arith) (omega arith)
       ∙ ap (λ j. get_or twice j 0) (omega arith)
       ∙ copies (16 * (k / 16) + f k) (omega arith)
-      ∙ ap (λ j. get_or table j 0) (omega arith)
+      ∙ ap entry (omega arith)
 
--- a table of 16 twice over
-pub doubled : (table : List ℕ) → length table ≡ 16 → (k : ℕ) → k < 32
-    → get_or (map (λ j. get_or (take 16 table ++ take 16 table) (j % 16) 0) (range_with_len 0 32)) k 0 ≡ get_or table (k % 16) 0
-doubled table long k l =
-    let half = take 16 table in
-    let half_long : length half ≡ 16 = length-take-le 16 table (omega arith) in
+-- 16 bytes from a on, twice over
+pub doubled : (a : ℕ) (bytes : List ℕ) → a + 16 ≤ length bytes → (k : ℕ) → k < 32
+    → get_or (map (λ j. get_or (chunk 0 16 (drop a bytes) ++ chunk 0 16 (drop a bytes)) (j % 16) 0) (range_with_len 0 32)) k 0 ≡ get_or bytes (a + k % 16) 0
+doubled a bytes le k l =
+    let part = drop a bytes in
+    let half = chunk 0 16 part in
+    let half_long : length half ≡ 16 = length-chunk 0 16 part (omega (arith, length-drop a bytes)) in
     get_or-map-range_with_len (λ j. get_or (half ++ half) (j % 16) 0) 0 32 k k 0 l (omega arith)
     ∙ get_or_append_left half half 0 (k % 16) (omega arith)
-    ∙ get_or-take 16 table (k % 16) 0 (omega arith)
+    ∙ get_or-chunk 0 16 part (k % 16) 0 (omega arith)
+    ∙ ap (λ j. get_or part j 0) (zero-add (k % 16))
+    ∙ get_or-drop a bytes (k % 16) 0
 
 -- the lane of a load from the bytes from a on
 pub loaded : (a n : ℕ) (xs : List ℕ) (k : ℕ) → a + n ≡ length xs → k < 32 → 32 ≤ n → get_or (chunk 0 32 (take n (drop a xs))) k 0 ≡ get_or xs (a + k) 0

@@ -1,6 +1,6 @@
-//! Vectors of 32 bytes: loads, sums, and look-ups of each byte by its halves.
+//! Vectors of 32 bytes: loads, sums, and look-ups of bytes by their halves.
 
-ghost use Rattle.std.specs.Prelude.{◌≡◌, ◌<◌, ◌≤◌, ◌+◌, ◌/◌, ◌%◌, ℕ, bit_xor, slice_index};
+ghost use Rattle.std.specs.Prelude.{◌≡◌, ◌<◌, ◌≤◌, ◌+◌, ◌/◌, ◌%◌, ℕ, length, bit_xor, slice_index};
 
 use std::simd::{u8x16, u8x32};
 
@@ -26,43 +26,55 @@ pub(crate) fn add(bytes: &mut [u8; 512], at: usize, lanes: u8x32)
     (load(bytes, at) ^ lanes).copy_to_slice(&mut bytes[at..]);
 }
 
-/// A table twice over: a look-up stays within the 16 lanes that a lane stands in. It takes no
-/// memory.
+/// The table of 16 bytes at `at`, twice over: a look-up stays within the 16 lanes that a lane stands
+/// in. It takes no memory.
 #[inline(always)]
-fn twice(table: &[u8; 16]) -> u8x32
-    ensures { (k : ℕ) → k < 32 → slice_index result k ≡ slice_index table.now (k % 16) }
+fn twice(tables: &[u8], at: usize) -> u8x32
+    requires { at + 16 ≤ length tables.now }
+    ensures { (k : ℕ) → k < 32 → slice_index result k ≡ slice_index tables.now (at + k % 16) }
 {
-    u8x16::from_slice(table).swizzle([
+    u8x16::from_slice(&tables[at..]).swizzle([
         0, 1, 2, 3, 4, 5, 6, 7, 8, 9, 10, 11, 12, 13, 14, 15, 0, 1, 2, 3, 4, 5, 6, 7, 8, 9, 10, 11,
         12, 13, 14, 15,
     ])
 }
 
-/// For each lane the entry of a table at the lane's four low bits. It takes no memory.
+/// For each lane the entry of the table at `at` at the lane's four low bits. It takes no memory.
 #[inline(always)]
-pub(crate) fn by_low_half(table: &[u8; 16], lanes: u8x32) -> u8x32
+fn by_low_half(tables: &[u8], at: usize, lanes: u8x32) -> u8x32
+    requires { at + 16 ≤ length tables.now }
     ensures { (k : ℕ) → k < 32 →
-        slice_index result k ≡ slice_index table.now (slice_index lanes k % 16) }
+        slice_index result k ≡ slice_index tables.now (at + slice_index lanes k % 16) }
 {
-    twice(table).swizzle_dyn_within::<16>(lanes & u8x32::splat(15))
+    twice(tables, at).swizzle_dyn_within::<16>(lanes & u8x32::splat(15))
 }
 
-/// For each lane the entry of a table at the lane's four high bits. It takes no memory.
+/// For each lane the entry of the table at `at` at the lane's four high bits. It takes no memory.
 #[inline(always)]
-pub(crate) fn by_high_half(table: &[u8; 16], lanes: u8x32) -> u8x32
+fn by_high_half(tables: &[u8], at: usize, lanes: u8x32) -> u8x32
+    requires { at + 16 ≤ length tables.now }
     ensures { (k : ℕ) → k < 32 →
-        slice_index result k ≡ slice_index table.now (slice_index lanes k / 16) }
+        slice_index result k ≡ slice_index tables.now (at + slice_index lanes k / 16) }
 {
-    twice(table).swizzle_dyn_within::<16>(lanes >> u8x32::splat(4))
+    twice(tables, at).swizzle_dyn_within::<16>(lanes >> u8x32::splat(4))
 }
 
-/// For each lane the sum of both entries at its halves. It takes no memory.
+/// For each lane the sum of two entries at its halves, of the tables at `low_at` and at `high_at`. It
+/// takes no memory.
 #[inline(always)]
-pub(crate) fn by_halves(low: &[u8; 16], high: &[u8; 16], lanes: u8x32) -> u8x32
+pub(crate) fn by_halves(
+    low: &[u8],
+    low_at: usize,
+    high: &[u8],
+    high_at: usize,
+    lanes: u8x32,
+) -> u8x32
+    requires low { low_at + 16 ≤ length low.now }
+    requires high { high_at + 16 ≤ length high.now }
     ensures { (k : ℕ) → k < 32 →
         slice_index result k ≡
-        bit_xor (slice_index low.now (slice_index lanes k % 16))
-        (slice_index high.now (slice_index lanes k / 16)) }
+        bit_xor (slice_index low.now (low_at + slice_index lanes k % 16))
+        (slice_index high.now (high_at + slice_index lanes k / 16)) }
 {
-    by_low_half(low, lanes) ^ by_high_half(high, lanes)
+    by_low_half(low, low_at, lanes) ^ by_high_half(high, high_at, lanes)
 }

@@ -1,16 +1,25 @@
-//! The byte field: the field of 256 elements that codewords are made in. Its elements are the
-//! binary polynomials modulo x^8 + x^4 + x^3 + x^2 + 1; a byte is the label of one in a Cantor
-//! basis. The sum of two labels is their xor, `mul` gives their product, `inv` an inverse, and
-//! `mul_row` adds a multiple of one share's bytes to another's. `log` tells which power of x a
-//! label stands for, and `exp` gives the label of a power: a product of many labels is a sum of
-//! numbers. `field_laws` says that this is a field, and `power_laws` how exponents add.
+//! The fields that codewords are made in: the byte field, of 256 elements, for up to 256 shares in
+//! all, and the word field, of 65,536, for more. Their elements are the binary polynomials modulo
+//! x^8 + x^4 + x^3 + x^2 + 1 and modulo x^16 + x^5 + x^3 + x^2 + 1; a byte, or a number of two
+//! bytes, is the label of one in a Cantor basis. The sum of two labels is their xor. `ByteFactor`
+//! and `WordFactor` are labels with the tables of their products: they add multiples of one
+//! share's labels to another's, and take no memory.
 //!
-//! The definitions are those of docs/RULES.md, "The byte field".
+//! Of bytes `mul` gives a product, `inv` an inverse, `mul_row` adds one multiple. `log` tells which
+//! power of x a label stands for, and `exp` gives the label of a power: a product of many labels is
+//! a sum of numbers. `field_laws` says that these are fields, and `power_laws` how exponents add.
+//!
+//! The definitions are those of docs/RULES.md, "The byte field" and "The word field".
 #![tactic(auto)]
 
+mod bytes;
 mod field;
 mod lanes;
 mod tables;
+mod word_rows;
+mod words;
 
-pub use field::{field_laws, inv, mul, mul_row};
+pub use bytes::{ByteFactor, mul_row};
+pub use field::{field_laws, inv, mul};
 pub use tables::{exp, log, power_laws};
+pub use words::WordFactor;

@@ -1,7 +1,7 @@
 //! Powers of x and their exponents, by table.
 
 ghost use Rattle.std.specs.Prelude.{◌≡◌, ◌<◌, ◌+◌, ◌%◌, ℕ};
-ghost use Rattle.gf_cantor.specs.Field.{element, label, power, product};
+ghost use Rattle.gf_cantor.specs.Field.{element, label, power, product, byte_field};
 
 /// The labels of 1, x, x^2, .., twice over, as x^255 is 1: so the sum of two logarithms is a place in
 /// them.
@@ -54,10 +54,10 @@ const LOG: [u8; 256] = [
 /// takes no memory.
 ///
 /// docs/RULES.md, "The byte field" (profile, in the manner of Leopard's 8-bit field).
-#[tactic(auto, using(crate::proofs::Powers::exp_is))]
+#[tactic(auto, using(crate::proofs::ByteTables::exp_is))]
 pub fn exp(i: usize) -> u8
     requires { i < 510 }
-    ensures { result ≡ label (power i) }
+    ensures { result ≡ label byte_field (power byte_field i) }
 {
     EXP[i]
 }
@@ -66,11 +66,11 @@ pub fn exp(i: usize) -> u8
 /// memory.
 ///
 /// docs/RULES.md, "The byte field" (profile, in the manner of Leopard's 8-bit field).
-#[tactic(auto, using(crate::proofs::Computed::log_lt, crate::proofs::Powers::element_log))]
+#[tactic(auto, using(crate::proofs::ByteTables::log_lt, crate::proofs::ByteTables::element_log))]
 pub fn log(a: u8) -> usize
     requires { 0 < a }
     ensures bound { result < 255 }
-    ensures power { element a ≡ power result }
+    ensures power { element byte_field a ≡ power byte_field result }
 {
     LOG[a as usize] as usize
 }
@@ -80,8 +80,9 @@ pub fn log(a: u8) -> usize
 ///
 /// docs/RULES.md, "The byte field" (profile, in the manner of Leopard's 8-bit field).
 pub fn power_laws()
-    ensures label { (a : ℕ) → a < 256 → label (element a) ≡ a }
+    ensures label { (a : ℕ) → a < 256 → label byte_field (element byte_field a) ≡ a }
     ensures product { (i j : ℕ) →
-        product (label (power i)) (label (power j)) ≡ label (power (i + j)) }
-    ensures period { (i : ℕ) → power (i % 255) ≡ power i }
+        product byte_field (label byte_field (power byte_field i))
+        (label byte_field (power byte_field j)) ≡ label byte_field (power byte_field (i + j)) }
+    ensures period { (i : ℕ) → power byte_field (i % 255) ≡ power byte_field i }
 {}

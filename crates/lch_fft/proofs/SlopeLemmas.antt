@@ -34,7 +34,7 @@ picks_zero true x h = h
 picks_zero false x h = refl
 
 -- the sums of the lower half's raised entries stay in that half
-raised-front : (b i : ℕ) (ds : List ℕ) (m : ℕ) → b ≤ 8 → i ≤ b → m < 2 ^ b → raised i (take (2 ^ b) ds) m ≡ raised i ds m
+raised-front : (b i : ℕ) (ds : List ℕ) (m : ℕ) → b ≤ 10 → i ≤ b → m < 2 ^ b → raised i (take (2 ^ b) ds) m ≡ raised i ds m
 unfolding raised
 raised-front b zero ds m hb hi hm = refl
 raised-front b (suc i) ds m hb hi hm =
@@ -43,7 +43,7 @@ raised-front b (suc i) ds m hb hi hm =
     (λ unset. get_or-take (2 ^ b) ds (m + 2 ^ i) 0 (bit_fits b i m hb (omega arith) hm unset)))
 
 -- and those of the upper half's in that one
-raised-back : (b i : ℕ) (ds : List ℕ) (m : ℕ) → b ≤ 8 → i ≤ b → m < 2 ^ b → raised i (drop (2 ^ b) ds) m ≡ raised i ds (2 ^ b + m)
+raised-back : (b i : ℕ) (ds : List ℕ) (m : ℕ) → b ≤ 10 → i ≤ b → m < 2 ^ b → raised i (drop (2 ^ b) ds) m ≡ raised i ds (2 ^ b + m)
 unfolding raised
 raised-back b zero ds m hb hi hm = refl
 raised-back b (suc i) ds m hb hi hm =
@@ -77,7 +77,7 @@ slopes_one ds zero h = refl
 slopes_one ds (suc m) h = absurd (omega arith)
 
 -- entry m of the derivative by halves
-pub slopes-at : (b : ℕ) (ds : List ℕ) (m : ℕ) → b ≤ 8 → length ds ≡ 2 ^ b → m < 2 ^ b → get_or (slopes b ds) m 0 ≡ raised b ds m
+pub slopes-at : (b : ℕ) (ds : List ℕ) (m : ℕ) → b ≤ 10 → length ds ≡ 2 ^ b → m < 2 ^ b → get_or (slopes b ds) m 0 ≡ raised b ds m
 unfolding slopes
 slopes-at zero ds m hb h hm = slopes_one ds m (omega arith)
 slopes-at (suc b) ds m hb h hm =

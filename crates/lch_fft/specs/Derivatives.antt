@@ -1,7 +1,7 @@
 -- The derivative of a sum of multiples of the X_j.
 use Rattle.std.specs.Prelude.{◌≡◌, ℕ, zero, suc, ◌+◌, ◌/◌, ◌%◌, ◌^◌, ◌<◌, ◌==◌, List, [], ◌∷◌, ◌++◌, take, drop, length, bit_xor, slice_index, if◌then◌else◌}
 use Rattle.namespace_id.specs.declared.shares.Share.{Share}
-use Rattle.namespace_id.specs.Sizes.{share_size}
+use Rattle.lch_fft.specs.Readings.{Reading}
 use Rattle.lch_fft.specs.Transforms.{column}
 use Rattle.lch_fft.specs.Butterflies.{bytes_sum}
 
@@ -11,10 +11,11 @@ unfoldable pub raised : ℕ → List ℕ → ℕ → ℕ
 raised zero ds m = 0
 raised (suc i) ds m = bit_xor (raised i ds m) (if m / 2 ^ i % 2 == 0 then slice_index ds (m + 2 ^ i) else 0)
 
--- in each byte column, entry m is the sum of the entries m + 2^i over all i whose bit isn't set in m
-pub record IsDerived (old new : List Share) : Type 0 where
+-- in each column, entry m is the sum of the entries m + 2^i over all i whose bit isn't set in m
+pub record IsDerived (r : Reading) (old new : List Share) : Type 0 where
   pub count : length new ≡ length old
-  pub bytes : (b m : ℕ) → b < share_size → m < length new → slice_index (column b new) m ≡ raised 8 (column b old) m
+  pub labels : (c m : ℕ) → c < r.columns → m < length new
+      → slice_index (column r c new) m ≡ raised (length new) (column r c old) m
 
 -- the same by halves, of 2^depth coefficients
 unfoldable pub slopes : ℕ → List ℕ → List ℕ

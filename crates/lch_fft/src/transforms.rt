@@ -12,45 +12,48 @@
 //! multiples are taken, where a sum for each point would take n * n.
 
 ghost use Rattle.std.specs.Prelude.{◌≡◌, ◌+◌, ◌/◌, ◌%◌, ◌^◌, ◌<◌, ◌≤◌, ℕ, List, IsTrue, length};
+ghost use Rattle.gf_cantor.specs.Field.{size};
 ghost use Rattle.namespace_id.specs.Shares.{AreShares};
-ghost use Rattle.namespace_id.specs.Sizes.{share_size};
 ghost use Rattle.namespace_id.specs.declared.shares.Share.{Share as ShareValue};
 ghost use Rattle.lch_fft.specs.Transforms.{column, subspace, is_count, Evaluates};
 ghost use Rattle.lch_fft.specs.Butterflies.{spread, gather, halvings};
 ghost use Rattle.lch_fft.specs.Laws.{OneListOfCoefficients};
 
 use crate::butterflies::{gather_stage, spread_stage};
-use namespace_id::{SHARE_SIZE, Share, shares_law};
+use crate::factor::Factor;
+use namespace_id::{Share, shares_law};
 
 /// From coefficients to values, by halves: a stage of butterflies, and then each half apart.
-fn spread_halves(shares: &mut [Share], shift: usize)
+fn spread_halves<M: Factor>(shares: &mut [Share], shift: usize)
     requires count { IsTrue (is_count (length shares.old)) }
-    requires fits { shift + length shares.old ≤ 256 }
-    ensures { (b : ℕ) → b < share_size → column b shares.new ≡
-        spread (halvings (length shares.old)) (column b shares.old) shift }
+    requires fits { shift + length shares.old ≤ size M.reading.field }
+    requires small { shift + length shares.old < 2 ^ 17 }
+    ensures { (c : ℕ) → c < M.reading.columns → column M.reading c shares.new ≡ spread M.reading.field
+        (halvings (length shares.old)) (column M.reading c shares.old) shift }
 {
     let half = shares.len() / 2;
     if half > 0 {
         let (low, high) = shares.split_at_mut(half);
-        spread_stage(low, high, (shift / half) as u8);
-        spread_halves(low, shift);
-        spread_halves(high, shift + half);
+        spread_stage::<M>(low, high, shift / half);
+        spread_halves::<M>(low, shift);
+        spread_halves::<M>(high, shift + half);
     }
 }
 
 /// From values to coefficients, by halves: each half apart, and then the stage undone.
-fn gather_halves(shares: &mut [Share], shift: usize)
+fn gather_halves<M: Factor>(shares: &mut [Share], shift: usize)
     requires count { IsTrue (is_count (length shares.old)) }
-    requires fits { shift + length shares.old ≤ 256 }
-    ensures { (b : ℕ) → b < share_size → column b shares.new ≡
-        gather (halvings (length shares.old)) (column b shares.old) shift }
+    requires fits { shift + length shares.old ≤ size M.reading.field }
+    requires small { shift + length shares.old < 2 ^ 17 }
+    ensures { (c : ℕ) → c < M.reading.columns → column M.reading c shares.new ≡ gather M.reading.field
+        (halvings (length shares.old)) (column M.reading c shares.old) shift }
 {
     let half = shares.len() / 2;
     if half > 0 {
         let (low, high) = shares.split_at_mut(half);
-        gather_halves(low, shift);
-        gather_halves(high, shift + half);
-        gather_stage(low, high, (shift / half) as u8);
+        gather_halves::<M>(low, shift);
+        gather_halves::<M>(high, shift + half);
+        gather_stage::<M>(low, high, shift / half);
     }
 }
 
@@ -59,14 +62,14 @@ fn gather_halves(shares: &mut [Share], shift: usize)
 ///
 /// Lin, Chung, Han (2014), "Novel polynomial basis and its application to Reed-Solomon erasure
 /// codes".
-pub fn forward(shares: &mut [Share], shift: u16)
+pub fn forward<M: Factor>(shares: &mut [Share], shift: u16)
     requires count { IsTrue (is_count (length shares.old)) }
     requires block { shift % length shares.old ≡ 0 }
-    requires fits { shift + length shares.old ≤ 256 }
-    ensures { Evaluates shift shares.old shares.new }
+    requires fits { shift + length shares.old ≤ size M.reading.field }
+    ensures { Evaluates M.reading shift shares.old shares.new }
 {
     shares_law(shares);
-    spread_halves(shares, shift as usize);
+    spread_halves::<M>(shares, shift as usize);
 }
 
 /// Undoes `forward`: entry i held the value at the point `shift + i`, and afterwards entry j holds
@@ -74,26 +77,27 @@ pub fn forward(shares: &mut [Share], shift: u16)
 ///
 /// Lin, Chung, Han (2014), "Novel polynomial basis and its application to Reed-Solomon erasure
 /// codes".
-pub fn inverse(shares: &mut [Share], shift: u16)
+pub fn inverse<M: Factor>(shares: &mut [Share], shift: u16)
     requires count { IsTrue (is_count (length shares.old)) }
     requires block { shift % length shares.old ≡ 0 }
-    requires fits { shift + length shares.old ≤ 256 }
-    ensures evaluates { Evaluates shift shares.new shares.old }
+    requires fits { shift + length shares.old ≤ size M.reading.field }
+    ensures evaluates { Evaluates M.reading shift shares.new shares.old }
     ensures undoes { (coefficients : List ShareValue) → AreShares coefficients →
-        Evaluates shift coefficients shares.old → shares.new ≡ coefficients }
+        Evaluates M.reading shift coefficients shares.old → shares.new ≡ coefficients }
 {
     shares_law(shares);
-    gather_halves(shares, shift as usize);
+    gather_halves::<M>(shares, shift as usize);
     shares_law(shares);
 }
 
 /// What the polynomials of the transforms are: s_i shifts a label right by i places. Coefficients
 /// have one list of values at a block of points, and values one list of coefficients. It does
 /// nothing, and takes no memory.
-pub fn transform_laws()
-    ensures shifts { (i x : ℕ) → x < 256 → subspace i x ≡ x / 2 ^ i }
+pub fn transform_laws<M: Factor>()
+    ensures shifts { (i x : ℕ) → x < size M.reading.field →
+        subspace M.reading.field i x ≡ x / 2 ^ i }
     ensures only_values { (shift : ℕ) (coefficients values others : List ShareValue) →
-        AreShares values → AreShares others → Evaluates shift coefficients values →
-        Evaluates shift coefficients others → values ≡ others }
-    ensures only_coefficients { OneListOfCoefficients }
+        AreShares values → AreShares others → Evaluates M.reading shift coefficients values →
+        Evaluates M.reading shift coefficients others → values ≡ others }
+    ensures only_coefficients { OneListOfCoefficients M.reading }
 {}

@@ -1,4 +1,4 @@
-use Rattle.gf_cantor.proofs.Laws.{product-inverse}
+use Rattle.gf_cantor.proofs.ByteTables.{product-inverse}
 use Rattle.gf_cantor.proofs.field.inv.Goals as goal
 
 -- the logarithms of a label and its inverse add up to 255, and x^255 is 1

@@ -3,4 +3,4 @@ use Rattle.gf_cantor.proofs.LaneLemmas.{doubled}
 use Rattle.gf_cantor.proofs.lanes.twice.Goals as goal
 
 pub returns : goal.returns
-returns c = doubled c.args.table.now (omega arith)
+returns c = doubled c.args.at c.args.tables.now (omega arith)

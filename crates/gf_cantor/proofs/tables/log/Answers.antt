@@ -1,5 +1,5 @@
 use Rattle.std.proofs.Common.{arith}
-use Rattle.gf_cantor.proofs.Computed.{log_lt}
+use Rattle.gf_cantor.proofs.ByteTables.{log_lt}
 use Rattle.gf_cantor.proofs.tables.log.Goals as goal
 
 -- by computing: a label but 0 has its logarithm below 255

@@ -3,4 +3,4 @@ use Rattle.lch_fft.proofs.transforms.+gather_halves.Given as goal
 
 -- a half is shorter
 abbrev pub decreases-gather_halves : goal.decreases-gather_halves
-decreases-gather_halves l = length l.shares.now
+decreases-gather_halves g l = length l.shares.now

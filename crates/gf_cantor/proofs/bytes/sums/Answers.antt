@@ -2,7 +2,7 @@ use Rattle.std.proofs.Common.{[], ◌∷◌, get_or, ap, ◌∙◌, arith}
 use Rattle.std.proofs.lemmas.List.FromFn.{get_or-map-range_with_len}
 use Rattle.gf_cantor.specs.Field.{combine}
 use Rattle.gf_cantor.proofs.Rows.{sums_listed}
-use Rattle.gf_cantor.proofs.field.sums.Goals as goal
+use Rattle.gf_cantor.proofs.bytes.sums.Goals as goal
 
 -- entry by entry
 pub returns : goal.returns

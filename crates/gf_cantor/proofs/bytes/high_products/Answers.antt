@@ -1,6 +1,6 @@
 use Rattle.std.proofs.Common.{◌∙◌}
 use Rattle.gf_cantor.proofs.Rows.{high_sum-product}
-use Rattle.gf_cantor.proofs.field.high_products.Goals as goal
+use Rattle.gf_cantor.proofs.bytes.high_products.Goals as goal
 
 -- a factor is the sum of the worths of its bits, and so is its product
 pub returns : goal.returns
