@@ -9,7 +9,7 @@ use Rattle.byte_polynomial.specs.Polynomial.{value_at}
 use Rattle.byte_polynomial.specs.Derivatives.{derivative_at}
 use Rattle.byte_polynomial.proofs.Sums.{sum, scaled, value_at-sum, value_at-scaled}
 use Rattle.byte_polynomial.proofs.Products.{multiplied, value_at-multiplied}
-use Rattle.gf_cantor.specs.Field.{Field, product, bits, size}
+use Rattle.gf_cantor.specs.Field.{Field, product}
 use Rattle.gf_cantor.specs.Laws.{AreFieldLaws}
 
 module _ (F : Field) (L : AreFieldLaws F) where

@@ -5,7 +5,7 @@ use Rattle.std.specs.Int.Bits.{xor_zero_r}
 use Rattle.gf_cantor.proofs.Laws.{xor-product, product-zero}
 use Rattle.byte_polynomial.specs.Polynomial.{value_at}
 use Rattle.byte_polynomial.proofs.Sums.{sum, scaled, value_at-sum, value_at-scaled, length-sum, length-scaled}
-use Rattle.gf_cantor.specs.Field.{Field, product, bits, size}
+use Rattle.gf_cantor.specs.Field.{Field, product}
 use Rattle.gf_cantor.specs.Laws.{AreFieldLaws}
 
 module _ (F : Field) (L : AreFieldLaws F) where

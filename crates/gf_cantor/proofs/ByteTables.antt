@@ -4,7 +4,7 @@ use Rattle.std.proofs.lemmas.Bool.{agree_below, agree_below_at, and_parts, or_ca
 use Rattle.gf_cantor.specs.declared.tables.TheConstants.{EXP, LOG}
 use Rattle.gf_cantor.specs.Field.{combine, element, label, times_x, shift, power, times, product, byte_field}
 use Rattle.gf_cantor.proofs.Product.{element-label}
-use Rattle.gf_cantor.proofs.PowerLaws.{shift-times_x, power-lt, power-times-power, label-powers, period}
+use Rattle.gf_cantor.proofs.PowerLaws.{shift-times_x, power-lt, power-times-power, period}
 use Rattle.gf_cantor.proofs.Computed.{byte_labels, byte_cantor}
 
 -- whether a list has the labels of p, p x, p x^2, ..
@@ -60,7 +60,7 @@ unfolding product
 product-powers a b i j ea eb = ap (label byte_field) (ap₂ (times byte_field) ea eb ∙ power-times-power byte_field 3 byte_cantor i j)
 
 -- the label of 1 is 1
-label_one : label byte_field 1 ≡ 1
+pub label_one : label byte_field 1 ≡ 1
 unfolding label combine byte_field
 label_one = refl
 

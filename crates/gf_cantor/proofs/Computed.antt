@@ -1,5 +1,5 @@
 -- Both fields, by computing with the powers of 2 alone.
-use Rattle.std.proofs.Common.{◌≡◌, refl, arith}
+use Rattle.std.proofs.Common.{refl, arith}
 use Rattle.gf_cantor.specs.Field.{combine, element, label, times_x, times_low, times, product, byte_field, word_field}
 use Rattle.gf_cantor.proofs.Linear.{powers}
 use Rattle.gf_cantor.proofs.Facts.{AreLabels, IsCantor}

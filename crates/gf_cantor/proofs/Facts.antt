@@ -1,5 +1,5 @@
 -- What is computed of a field: of the basis and of the powers of x alone, and not of each label.
-use Rattle.std.proofs.Common.{◌≡◌, ℕ, suc, ◌*◌, ◌/◌, ◌^◌, ◌<◌, ◌≤◌, true, List, map, ltb}
+use Rattle.std.proofs.Common.{◌≡◌, ℕ, suc, ◌*◌, ◌/◌, ◌^◌, ◌<◌, ◌≤◌, true, map, ltb}
 use Rattle.std.specs.Prelude.{bit_xor}
 use Rattle.std.specs.List.{list_all}
 use Rattle.gf_cantor.specs.Field.{Field, element, label, product}

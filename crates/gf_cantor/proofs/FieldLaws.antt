@@ -1,5 +1,5 @@
 -- Both fields have the laws.
-use Rattle.std.proofs.Common.{◌≡◌, ℕ, suc, ◌^◌, ◌<◌, sym, subst}
+use Rattle.std.proofs.Common.{ℕ, ◌^◌, ◌<◌, sym, subst}
 use Rattle.gf_cantor.specs.Field.{Field, byte_field, word_field}
 use Rattle.gf_cantor.specs.Laws.{AreFieldLaws}
 use Rattle.gf_cantor.proofs.Facts.{IsCantor}

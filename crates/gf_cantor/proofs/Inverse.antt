@@ -1,7 +1,7 @@
 -- Each label but 0 has an inverse. The labels below 2, 4, 16, 256 and 65,536 are fields within each other: the power
 -- 2^(2^t) adds to a label the label shifted by 2^t bits, so it keeps exactly those below 2^(2^t), and it is
 -- multiplicative. An inverse is found from two of the field below.
-use Rattle.std.proofs.Common.{◌≡◌, ℕ, zero, suc, ◌+◌, ◌*◌, ◌/◌, ◌^◌, ◌<◌, ◌≤◌, ◌⊎◌, inl, inr, refl, sym, ap, ap₂, ◌∙◌, subst, arith, zero-add}
+use Rattle.std.proofs.Common.{◌≡◌, ℕ, zero, suc, ◌+◌, ◌*◌, ◌/◌, ◌^◌, ◌<◌, ◌≤◌, inl, inr, refl, sym, ap, ap₂, ◌∙◌, subst, arith}
 use Rattle.std.proofs.lemmas.Bool.{cases_lt}
 use Rattle.std.proofs.lemmas.Nat.{pow_pos, shr_le, shr-shr, xor_comm, xor_shr, xor_lt}
 use Rattle.std.proofs.Math.Pow.{pow_mono, shr_lt}

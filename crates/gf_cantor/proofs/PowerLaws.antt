@@ -1,5 +1,5 @@
 -- Powers of x: products are sums of exponents, and exponents count modulo one less than the number of labels.
-use Rattle.std.proofs.Common.{◌≡◌, ℕ, zero, suc, ◌+◌, ◌-◌, ◌*◌, ◌/◌, ◌%◌, ◌^◌, ◌<◌, ◌≤◌, refl, sym, ap, ap₂, ◌∙◌, arith, zero-add, subst}
+use Rattle.std.proofs.Common.{◌≡◌, ℕ, zero, suc, ◌+◌, ◌-◌, ◌*◌, ◌/◌, ◌%◌, ◌^◌, ◌<◌, refl, sym, ap, ap₂, ◌∙◌, arith, zero-add, subst}
 use Rattle.std.proofs.Math.Nat.{two-pow-succ, div-eq_of_lt, mul_assoc, suc-mul}
 use Rattle.std.proofs.lemmas.Nat.{pow_pos, pow-add, div-add-mod'}
 use Rattle.std.specs.Int.Bits.{xor_zero_r}
@@ -7,7 +7,7 @@ use Rattle.std.specs.Prelude.{bit_xor}
 use Rattle.gf_cantor.specs.Field.{Field, element, label, times_x, shift, power, times, product}
 use Rattle.gf_cantor.proofs.Facts.{IsCantor}
 use Rattle.gf_cantor.proofs.Times.{times_x-lt, times_low-times_x, times_low-one}
-use Rattle.gf_cantor.proofs.Product.{element-label, element-product, label-element, label-lt, product_comm, one-product}
+use Rattle.gf_cantor.proofs.Product.{element-label, label-lt, product_comm, one-product}
 use Rattle.gf_cantor.proofs.Inverse.{conjugate, conjugate_is, product_cancels}
 
 -- x and x^i change places

@@ -1,8 +1,7 @@
 -- Labels and elements tell each other, and the laws of the product of labels, at all numbers: a number counts as the
 -- label of its lowest bits.
-use Rattle.std.proofs.Common.{◌≡◌, ℕ, suc, ◌*◌, ◌/◌, ◌^◌, ◌<◌, refl, sym, ap, ap₂, ◌∙◌, arith}
+use Rattle.std.proofs.Common.{◌≡◌, ℕ, suc, ◌^◌, ◌<◌, sym, ap, ap₂, ◌∙◌, arith}
 use Rattle.std.proofs.lemmas.Nat.{pow_pos}
-use Rattle.std.proofs.Math.Nat.{two-pow-succ}
 use Rattle.std.specs.Prelude.{bit_xor}
 use Rattle.gf_cantor.specs.Field.{Field, combine, element, label, times, product}
 use Rattle.gf_cantor.proofs.Facts.{AreLabels}

@@ -1,5 +1,5 @@
 -- The rows of the tables hold products, by computing.
-use Rattle.std.proofs.Common.{◌≡◌, ℕ, suc, ◌+◌, ◌-◌, ◌*◌, ◌/◌, ◌%◌, ◌^◌, ◌<◌, Bool, true, refl, cond, ltb, ◌==◌, List, [], ◌∷◌, map, get_or}
+use Rattle.std.proofs.Common.{◌≡◌, ℕ, ◌^◌, ◌<◌, true, refl, ◌==◌, [], get_or}
 use Rattle.std.proofs.lemmas.Bool.{agree_below, agree_below_at, eqb-true}
 use Rattle.gf_cantor.specs.declared.word_rows.TheConstants.{ROWS}
 use Rattle.gf_cantor.specs.Field.{combine, element, label, times_x, times_low, times, product, word_field}

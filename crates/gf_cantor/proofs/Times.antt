@@ -1,8 +1,8 @@
 -- The product of two polynomials: additive, and a product with x may be taken out. So factors may be grouped and
 -- ordered as one likes.
-use Rattle.std.proofs.Common.{◌≡◌, ℕ, zero, suc, ◌+◌, ◌-◌, ◌*◌, ◌/◌, ◌%◌, ◌^◌, ◌<◌, ◌≤◌, ◌⊎◌, inl, inr, Bool, true, false, cond, refl, sym, ap, ap₂, ◌∙◌, subst, arith, eqb, ltb}
-use Rattle.std.proofs.lemmas.Nat.{xor_comm, xor_shr, xor_lt, xor_block, pow_pos}
-use Rattle.std.specs.Int.Bits.{xor_assoc, xor_self, xor_zero_r}
+use Rattle.std.proofs.Common.{◌≡◌, ℕ, zero, suc, ◌+◌, ◌-◌, ◌*◌, ◌/◌, ◌%◌, ◌^◌, ◌<◌, ◌≤◌, inl, inr, Bool, true, false, cond, refl, sym, ap, ap₂, ◌∙◌, subst, arith, eqb}
+use Rattle.std.proofs.lemmas.Nat.{xor_shr, xor_lt, xor_block, pow_pos}
+use Rattle.std.specs.Int.Bits.{xor_zero_r}
 use Rattle.std.specs.Prelude.{bit_xor}
 use Rattle.std.proofs.lemmas.Bool.{cases_lt, lt-ltb, le-ltb}
 use Rattle.std.proofs.Math.Pow.{pow_mono}

@@ -7,7 +7,6 @@ use Rattle.namespace_id.specs.declared.shares.Share.{Share}
 use Rattle.lch_fft.proofs.ByteLemmas.{AllLabels}
 use Rattle.namespace_id.specs.Shares.{IsShare, AreShares}
 use Rattle.lch_fft.specs.Transforms.{column}
-use Rattle.gf_cantor.specs.Field.{product, bits, size}
 use Rattle.lch_fft.specs.Readings.{Reading, AreReadingLaws}
 
 -- the label in column b of share i

@@ -8,7 +8,6 @@ use Rattle.lch_fft.specs.Derivatives.{raised, slopes, IsDerived}
 use Rattle.lch_fft.proofs.ColumnLemmas.{length-column, column-append, column-take, column-drop}
 use Rattle.lch_fft.proofs.CountLemmas.{count-pos, count-half, not_one, halvings_half, halvings_one, halvings-most, halvings-lt, power_halvings}
 use Rattle.lch_fft.proofs.SlopeLemmas.{length-slopes, slopes-at, raised-more}
-use Rattle.gf_cantor.specs.Field.{product, bits, size}
 use Rattle.lch_fft.specs.Readings.{Reading, AreReadingLaws}
 
 -- the derivative of one coefficient

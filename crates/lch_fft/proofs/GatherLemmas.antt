@@ -5,7 +5,7 @@ use Rattle.lch_fft.specs.Butterflies.{bytes_sum, multiple, spread, gather}
 use Rattle.lch_fft.proofs.ByteLemmas.{length-bytes_sum, length-multiple, added_twice, added_to_sum}
 use Rattle.lch_fft.proofs.PlaceLemmas.{double, half_front, half_back}
 use Rattle.lch_fft.proofs.SpreadLemmas.{lower, upper, length-lower, length-upper, length-spread}
-use Rattle.gf_cantor.specs.Field.{Field, product, bits, size}
+use Rattle.gf_cantor.specs.Field.{Field}
 use Rattle.gf_cantor.specs.Laws.{AreFieldLaws}
 
 module _ (F : Field) (L : AreFieldLaws F) where

@@ -5,7 +5,6 @@ use Rattle.lch_fft.specs.Transforms.{column, is_count}
 use Rattle.lch_fft.specs.Butterflies.{bytes_sum, multiple, spread, gather, halvings}
 use Rattle.lch_fft.proofs.ColumnLemmas.{column-append, column-take, column-drop}
 use Rattle.lch_fft.proofs.CountLemmas.{count-half, not_one, halvings_half, halvings_one, power_halvings}
-use Rattle.gf_cantor.specs.Field.{product, bits, size}
 use Rattle.lch_fft.specs.Readings.{Reading, AreReadingLaws}
 
 module _ (R : Reading) (L : AreReadingLaws R) where

@@ -10,7 +10,7 @@ use Rattle.lch_fft.proofs.ByteLemmas.{length-bytes_sum, length-multiple, AllLabe
 use Rattle.lch_fft.proofs.ByteLemmas.{AllLabels-take, AllLabels-drop}
 use Rattle.lch_fft.proofs.SumLemmas.{stage_low, stage_high, value_one}
 use Rattle.lch_fft.proofs.PlaceLemmas.{double, half_front, half_back, block, block_first, block_low, block_high, even_one}
-use Rattle.gf_cantor.specs.Field.{Field, product, bits, size}
+use Rattle.gf_cantor.specs.Field.{Field, bits, size}
 use Rattle.gf_cantor.specs.Laws.{AreFieldLaws}
 
 module _ (F : Field) (L : AreFieldLaws F) where

@@ -4,7 +4,7 @@ use Rattle.std.specs.Prelude.{bit_xor, if◌then◌else◌}
 use Rattle.std.proofs.lemmas.Nat.{shr-shr}
 use Rattle.gf_cantor.proofs.Laws.{size-above, product-lt, product_swap, one-product, square_halves}
 use Rattle.lch_fft.specs.Transforms.{subspace, product_over}
-use Rattle.gf_cantor.specs.Field.{Field, product, bits, size}
+use Rattle.gf_cantor.specs.Field.{Field, product, size}
 use Rattle.gf_cantor.specs.Laws.{AreFieldLaws}
 
 -- half of a shifted number is the number shifted by one place more

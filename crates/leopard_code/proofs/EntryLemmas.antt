@@ -1,129 +1,25 @@
--- Entries of a codeword, by the shares at other points.
-use Rattle.std.proofs.Common.{◌≡◌, ◌∙◌, ℕ, zero, suc, ◌*◌, ◌<◌, ◌≤◌, List, [], ◌∷◌, length, get_or, refl, sym, ap, ap₂, subst, arith, IsTrue}
-use Rattle.std.specs.Prelude.{IfSome, Some, None, Option, slice_get, slice_index}
-use Rattle.std.proofs.lemmas.Option.{IfSome_then}
-use Rattle.std.proofs.lemmas.Grind.{same_number_lists}
-use Rattle.std.proofs.lemmas.List.{get_or-map}
+-- Entries of lists of shares, byte by byte.
+use Rattle.std.proofs.Common.{◌≡◌, ℕ, ◌<◌, List, length, get_or}
+use Rattle.std.specs.Prelude.{IfSome, slice_get, slice_index}
 use Rattle.namespace_id.specs.declared.shares.Share.{Share}
-use Rattle.namespace_id.specs.Shares.{IsShare, AreShares}
-use Rattle.namespace_id.specs.Cells.{is_width}
-use Rattle.namespace_id.specs.Sizes.{share_size}
-use Rattle.byte_polynomial.specs.Polynomial.{value_at, AreCoefficients, PassesThrough}
-use Rattle.byte_polynomial.proofs.Through.{through}
-use Rattle.leopard_code.specs.Codewords.{column, points, point, points_at, are_positions, IsCodeword, HasEntries}
-use Rattle.namespace_id.proofs.WidthLemmas.{is_width-le}
-use Rattle.leopard_code.proofs.PointLemmas.{length-column, column_bytes}
-use Rattle.leopard_code.proofs.PositionLemmas.{points_differ, position-lt, takes-at, takes_each, length-points_at, get_or-points, length-points}
-
--- the share has the values at x of the polynomials through the shares at the points
-abbrev pub IsEntry : List ℕ → List Share → ℕ → Share → Type 0
-IsEntry xs shares x share = (b : ℕ) → b < share_size → (cs : List ℕ) → length cs ≡ length xs → AreCoefficients cs
-    → PassesThrough cs xs (column b shares) → slice_index share.0 b ≡ value_at cs x
-
--- the byte of a share that a list may have
-abbrev pub byte_of : ℕ → Option Share → ℕ
-byte_of b None = 0
-byte_of b (Some share) = slice_index share.0 b
-
--- the byte of a column is that of the share at its place
-pub get_or-column : (b : ℕ) (ss : List Share) (i : ℕ) → get_or (column b ss) i 0 ≡ byte_of b (slice_get ss i)
-unfolding column
-get_or-column b [] i = refl
-get_or-column b (s ∷ ss) zero = refl
-get_or-column b (s ∷ ss) (suc i) = get_or-column b ss i
+use Rattle.namespace_id.specs.Shares.{AreShares}
+use Rattle.lch_fft.specs.Readings.{byte_reading}
+use Rattle.lch_fft.specs.ReadingLaws.{byte_reading_laws}
+use Rattle.leopard_code.specs.Codewords.{column}
+use Rattle.leopard_code.proofs.EntryReadingLemmas.{get_or-column_at as get_or-column_over, byte_of_entry as label_of_entry, same_shares as same_labels}
 
 -- the byte of a column at a place that is there
 pub get_or-column_at : (b : ℕ) (ss : List Share) (i : ℕ) (d : Share) → i < length ss → get_or (column b ss) i 0 ≡ get_or (get_or ss i d).0 b 0
-unfolding column
-get_or-column_at b [] i d h = absurd (omega arith)
-get_or-column_at b (s ∷ ss) zero d h = refl
-get_or-column_at b (s ∷ ss) (suc i) d h = get_or-column_at b ss i d (omega arith)
+unfolding byte_reading
+get_or-column_at = get_or-column_over byte_reading byte_reading_laws
 
 -- what a fact of an element says of its byte
 pub byte_of_entry : (b v : ℕ) (ss : List Share) (i : ℕ) → i < length ss → IfSome (slice_get ss i) (λ share. slice_index share.0 b ≡ v) → get_or (column b ss) i 0 ≡ v
-unfolding column
-byte_of_entry b v [] i h e = absurd (omega arith)
-byte_of_entry b v (s ∷ ss) zero h e = e
-byte_of_entry b v (s ∷ ss) (suc i) h e = byte_of_entry b v ss i (omega arith) e
-
--- a column whose bytes are a polynomial's values at the points of all positions
-pub takes_all : (k : ℕ) (cs ys : List ℕ) → length ys ≡ 2 * k → ((pos : ℕ) → pos < 2 * k → get_or ys pos 0 ≡ value_at cs (point k pos)) → PassesThrough cs (points k) ys
-takes_all k cs ys long each =
-    takes_each cs (points k) ys (length-points k ∙ sym long) (λ i h.
-    let within : i < 2 * k = omega (arith, length-points k) in
-    ap (value_at cs) (get_or-points k i within) ∙ sym (each i within))
-
--- entries at all positions are a codeword
-pub codeword_of_entries : (k : ℕ) (known : List ℕ) (shares word : List Share) → k ≤ 128 → length known ≡ k → IsTrue (are_positions k known)
-    → length shares ≡ k → AreShares shares → length word ≡ 2 * k → AreShares word
-    → ((pos : ℕ) → pos < 2 * k → IfSome (slice_get word pos) (λ share. IsEntry (points_at k known) shares (point k pos) share))
-    → IsCodeword k word
-codeword_of_entries k known shares word few count positions same shares_fit long word_fits entries = record {
-  count = long;
-  shares = word_fits;
-  columns = λ b h.
-      let xs : List ℕ = points_at k known in
-      let found = through xs (column b shares) (omega (arith, length-points_at k known, length-column b shares)) (points_differ k known few positions) (column_bytes b shares shares_fit) in (
-        found.0,
-        omega (arith, found.1, length-points_at k known),
-        found.2,
-        takes_all k found.0 (column b word) (length-column b word ∙ long) (λ pos within.
-            byte_of_entry b (value_at found.0 (point k pos)) word pos (omega arith)
-            (IfSome_then (slice_get word pos) (entries pos within) (λ share entry. entry b h found.0 found.1 found.2 found.3))),
-      );
-}
-
--- shares with the same bytes are one
-same_bytes : (s t : Share) → IsShare s → IsShare t → ((b : ℕ) → b < 512 → slice_index s.0 b ≡ slice_index t.0 b) → s ≡ t
-same_bytes s t hs ht each =
-    let e : s.0 ≡ t.0 = same_number_lists s.0 t.0 (hs.size_is ∙ sym ht.size_is) (λ i h. each i (omega (arith, hs.size_is))) in
-    ap (λ (l : List ℕ). record { 0 = l }) e
-
--- two shares of two lists that have the same bytes
-pub same_place : (ss ts : List Share) (i j : ℕ) → i < length ss → j < length ts → AreShares ss → AreShares ts
-    → ((b : ℕ) → b < 512 → get_or (column b ss) i 0 ≡ get_or (column b ts) j 0) → slice_get ss i ≡ slice_get ts j
-unfolding column
-same_place [] ts i j hi hj fs ft each = absurd (omega arith)
-same_place (s ∷ ss) [] i j hi hj fs ft each = absurd (omega arith)
-same_place (s ∷ ss) (t ∷ ts) zero zero hi hj fs ft each = ap Some (same_bytes s t fs.0 ft.0 each)
-same_place (s ∷ ss) (t ∷ ts) zero (suc j) hi hj fs ft each = same_place (s ∷ ss) ts zero j hi (omega arith) fs ft.1 each
-same_place (s ∷ ss) (t ∷ ts) (suc i) j hi hj fs ft each = same_place ss (t ∷ ts) i j (omega arith) hj fs.1 ft each
+unfolding byte_reading
+byte_of_entry = label_of_entry byte_reading byte_reading_laws
 
 -- lists of shares that have the same bytes
 pub same_shares : (ss ts : List Share) → length ss ≡ length ts → AreShares ss → AreShares ts
     → ((b i : ℕ) → b < 512 → i < length ss → get_or (column b ss) i 0 ≡ get_or (column b ts) i 0) → ss ≡ ts
-unfolding column
-same_shares [] [] same fs ft each = refl
-same_shares [] (t ∷ ts) same fs ft each = absurd (omega arith)
-same_shares (s ∷ ss) [] same fs ft each = absurd (omega arith)
-same_shares (s ∷ ss) (t ∷ ts) same fs ft each =
-    ap₂ (λ (x : Share) (xs : List Share). x ∷ xs) (same_bytes s t fs.0 ft.0 (λ b h. each b 0 h (omega arith)))
-    (same_shares ss ts (omega arith) fs.1 ft.1 (λ b i hb hi. each b (suc i) hb (omega arith)))
-
--- the entries at the known positions are the shares
-pub entries_are_known : (k : ℕ) (known : List ℕ) (shares word : List Share) → k ≤ 128 → length known ≡ k → IsTrue (are_positions k known)
-    → length shares ≡ k → AreShares shares → length word ≡ 2 * k → AreShares word
-    → ((pos : ℕ) → pos < 2 * k → IfSome (slice_get word pos) (λ share. IsEntry (points_at k known) shares (point k pos) share))
-    → HasEntries known shares word
-entries_are_known k known shares word few count positions same shares_fit long word_fits entries i h =
-    let pos : ℕ = get_or known i 0 in
-    let within : pos < 2 * k = position-lt k known i h positions in
-    same_place word shares pos i (omega arith) (omega arith) word_fits shares_fit (λ b hb.
-    let xs : List ℕ = points_at k known in
-    let found = through xs (column b shares) (omega (arith, length-points_at k known, length-column b shares)) (points_differ k known few positions) (column_bytes b shares shares_fit) in
-    byte_of_entry b (value_at found.0 (point k pos)) word pos (omega arith)
-    (IfSome_then (slice_get word pos) (entries pos within) (λ share entry. entry b hb found.0 found.1 found.2 found.3))
-    ∙ sym (ap (value_at found.0) (get_or-map (point k) known i 0 0 h))
-    ∙ takes-at found.0 xs (column b shares) i (omega (arith, length-points_at k known)) found.3)
-
--- both, of the points as they were kept
-pub rebuilt : (k n : ℕ) (xs known : List ℕ) (shares word : List Share) → k ≡ n → IsTrue (is_width k) → length known ≡ n → IsTrue (are_positions n known)
-    → length shares ≡ n → AreShares shares → length word ≡ 2 * n → AreShares word → xs ≡ points_at k known
-    → ((pos : ℕ) → pos < 2 * k → IfSome (slice_get word pos) (λ share. IsEntry xs shares (point k pos) share)) → IsCodeword n word × HasEntries known shares word
-rebuilt k n xs known shares word e width count positions same shares_fit long word_fits are entries =
-    let few : n ≤ 128 = omega (arith, e, is_width-le k width) in
-    let by_points : (pos : ℕ) → pos < 2 * k → IfSome (slice_get word pos) (λ share. IsEntry (points_at k known) shares (point k pos) share) =
-    subst (λ (l : List ℕ). (pos : ℕ) → pos < 2 * k → IfSome (slice_get word pos) (λ share. IsEntry l shares (point k pos) share)) are entries in
-    let by_width : (pos : ℕ) → pos < 2 * n → IfSome (slice_get word pos) (λ share. IsEntry (points_at n known) shares (point n pos) share) =
-    subst (λ (m : ℕ). (pos : ℕ) → pos < 2 * m → IfSome (slice_get word pos) (λ share. IsEntry (points_at m known) shares (point m pos) share)) e by_points in
-    (codeword_of_entries n known shares word few count positions same shares_fit long word_fits by_width, entries_are_known n known shares word few count positions same shares_fit long word_fits by_width)
+unfolding byte_reading
+same_shares = same_labels byte_reading byte_reading_laws

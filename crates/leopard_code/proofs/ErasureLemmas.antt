@@ -3,7 +3,6 @@
 use Rattle.std.proofs.Common.{◌≡◌, ◌∙◌, ℕ, ◌+◌, ◌<◌, ◌≤◌, List, [], ◌∷◌, ◌++◌, length, sym, ap, ap₂, arith}
 use Rattle.std.specs.Prelude.{bit_xor}
 use Rattle.std.specs.Int.Bits.{xor_assoc, xor_self, xor_zero_r}
-use Rattle.gf_cantor.specs.Field.{product}
 use Rattle.gf_cantor.proofs.Laws.{zero-product, product-zero, xor-product}
 use Rattle.byte_polynomial.specs.Polynomial.{value_at, AreCoefficients}
 use Rattle.byte_polynomial.specs.Derivatives.{derivative_at}
@@ -14,48 +13,51 @@ use Rattle.byte_polynomial.proofs.Derived.{derivative_at-sum, derivative_at-scal
 use Rattle.leopard_code.proofs.LagrangeLemmas.{away-is}
 use Rattle.leopard_code.proofs.DifferenceLemmas.{away, away-append}
 use Rattle.leopard_code.proofs.ZeroLemmas.{same_derivative}
+use Rattle.gf_cantor.specs.Field.{Field, product, size}
+use Rattle.gf_cantor.specs.Laws.{AreFieldLaws}
 
--- a locator is 0 at each of its points
-pub away-root : (before after : List ℕ) (r : ℕ) → away (before ++ r ∷ after) r ≡ 0
-unfolding away
-away-root before after r =
-    away-append before (r ∷ after) r
-    ∙ ap (λ (z : ℕ). product (away before r) (product z (away after r))) (xor_self r)
-    ∙ ap (product (away before r)) (zero-product (away after r))
-    ∙ product-zero (away before r)
+module _ (F : Field) (L : AreFieldLaws F) where
+  -- a locator is 0 at each of its points
+  pub away-root : (before after : List ℕ) (r : ℕ) → away F L (before ++ r ∷ after) r ≡ 0
+  unfolding away
+  away-root before after r =
+      away-append F L before (r ∷ after) r
+      ∙ ap (λ (z : ℕ). product F (away F L before r) (product F z (away F L after r))) (xor_self r)
+      ∙ ap (product F (away F L before r)) (zero-product F L (away F L after r))
+      ∙ product-zero F L (away F L before r)
 
--- the derivative of (x + r) p is p + (x + r) p'
-derivative_at-locator : (r : ℕ) (rs : List ℕ) (x : ℕ) → derivative_at (vanishing (r ∷ rs)) x ≡ bit_xor (away rs x) (product (bit_xor x r) (derivative_at (vanishing rs) x))
-unfolding vanishing derivative_at
-derivative_at-locator r rs x =
-    derivative_at-sum (0 ∷ vanishing rs) (scaled r (vanishing rs)) x
-    ∙ ap₂ (λ (v w : ℕ). bit_xor (bit_xor v (product x (derivative_at (vanishing rs) x))) w) (away-is rs x) (derivative_at-scaled r (vanishing rs) x)
-    ∙ xor_assoc (away rs x) (product x (derivative_at (vanishing rs) x)) (product r (derivative_at (vanishing rs) x))
-    ∙ ap (bit_xor (away rs x)) (sym (xor-product x r (derivative_at (vanishing rs) x)))
+  -- the derivative of (x + r) p is p + (x + r) p'
+  derivative_at-locator : (r : ℕ) (rs : List ℕ) (x : ℕ) → derivative_at F (vanishing F L (r ∷ rs)) x ≡ bit_xor (away F L rs x) (product F (bit_xor x r) (derivative_at F (vanishing F L rs) x))
+  unfolding vanishing derivative_at
+  derivative_at-locator r rs x =
+      derivative_at-sum F L (0 ∷ vanishing F L rs) (scaled F L r (vanishing F L rs)) x
+      ∙ ap₂ (λ (v w : ℕ). bit_xor (bit_xor v (product F x (derivative_at F (vanishing F L rs) x))) w) (away-is F L rs x) (derivative_at-scaled F L r (vanishing F L rs) x)
+      ∙ xor_assoc (away F L rs x) (product F x (derivative_at F (vanishing F L rs) x)) (product F r (derivative_at F (vanishing F L rs) x))
+      ∙ ap (bit_xor (away F L rs x)) (sym (xor-product F L x r (derivative_at F (vanishing F L rs) x)))
 
--- the locator's derivative at one of its points: the product of the differences of it and all others
-pub derivative_at-vanishing : (before after : List ℕ) (r : ℕ) → derivative_at (vanishing (before ++ r ∷ after)) r ≡ away (before ++ after) r
-unfolding away
-derivative_at-vanishing [] after r =
-    derivative_at-locator r after r
-    ∙ ap (λ (z : ℕ). bit_xor (away after r) (product z (derivative_at (vanishing after) r))) (xor_self r)
-    ∙ ap (bit_xor (away after r)) (zero-product (derivative_at (vanishing after) r))
-    ∙ xor_zero_r (away after r)
-derivative_at-vanishing (p ∷ before) after r =
-    derivative_at-locator p (before ++ r ∷ after) r
-    ∙ ap₂ (λ (v w : ℕ). bit_xor v (product (bit_xor r p) w)) (away-root before after r) (derivative_at-vanishing before after r)
+  -- the locator's derivative at one of its points: the product of the differences of it and all others
+  pub derivative_at-vanishing : (before after : List ℕ) (r : ℕ) → derivative_at F (vanishing F L (before ++ r ∷ after)) r ≡ away F L (before ++ after) r
+  unfolding away
+  derivative_at-vanishing [] after r =
+      derivative_at-locator r after r
+      ∙ ap (λ (z : ℕ). bit_xor (away F L after r) (product F z (derivative_at F (vanishing F L after) r))) (xor_self r)
+      ∙ ap (bit_xor (away F L after r)) (zero-product F L (derivative_at F (vanishing F L after) r))
+      ∙ xor_zero_r (away F L after r)
+  derivative_at-vanishing (p ∷ before) after r =
+      derivative_at-locator p (before ++ r ∷ after) r
+      ∙ ap₂ (λ (v w : ℕ). bit_xor v (product F (bit_xor r p) w)) (away-root before after r) (derivative_at-vanishing before after r)
 
--- what the derivative has at a missing point: the polynomial's value times the locator's derivative
-pub missing_value : (f ps before after : List ℕ) (r n : ℕ) → n ≤ 256 → 0 < length f → length ps ≤ n
-    → length f + length (before ++ r ∷ after) ≤ n → AreCoefficients ps
-    → ((x : ℕ) → x < n → value_at ps x ≡ product (value_at f x) (away (before ++ r ∷ after) x))
-    → derivative_at ps r ≡ product (value_at f r) (away (before ++ after) r)
-missing_value f ps before after r n few some hp long bp same =
-    let rs : List ℕ = before ++ r ∷ after in
-    let v : List ℕ = vanishing (before ++ r ∷ after) in
-    let degree : length (multiplied f v) ≤ n = omega (arith, length-multiplied f v some (omega (arith, length-vanishing rs)), length-vanishing rs) in
-    same_derivative ps (multiplied f v) n hp degree few bp (AreCoefficients-multiplied f v)
-    (λ x l. same x l ∙ ap (product (value_at f x)) (sym (away-is rs x)) ∙ sym (value_at-multiplied f v x)) r
-    ∙ derivative_at-multiplied f v r
-    ∙ ap₂ (λ (y z : ℕ). bit_xor (product (derivative_at f r) y) (product (value_at f r) z)) (away-is rs r ∙ away-root before after r) (derivative_at-vanishing before after r)
-    ∙ ap (λ (z : ℕ). bit_xor z (product (value_at f r) (away (before ++ after) r))) (product-zero (derivative_at f r))
+  -- what the derivative has at a missing point: the polynomial's value times the locator's derivative
+  pub missing_value : (f ps before after : List ℕ) (r n : ℕ) → n ≤ size F → 0 < length f → length ps ≤ n
+      → length f + length (before ++ r ∷ after) ≤ n → AreCoefficients F ps
+      → ((x : ℕ) → x < n → value_at F ps x ≡ product F (value_at F f x) (away F L (before ++ r ∷ after) x))
+      → derivative_at F ps r ≡ product F (value_at F f r) (away F L (before ++ after) r)
+  missing_value f ps before after r n few some hp long bp same =
+      let rs : List ℕ = before ++ r ∷ after in
+      let v : List ℕ = vanishing F L (before ++ r ∷ after) in
+      let degree : length (multiplied F L f v) ≤ n = omega (arith, length-multiplied F L f v some (omega (arith, length-vanishing F L rs)), length-vanishing F L rs) in
+      same_derivative F L ps (multiplied F L f v) n hp degree few bp (AreCoefficients-multiplied F L f v)
+      (λ x l. same x l ∙ ap (product F (value_at F f x)) (sym (away-is F L rs x)) ∙ sym (value_at-multiplied F L f v x)) r
+      ∙ derivative_at-multiplied F L f v r
+      ∙ ap₂ (λ (y z : ℕ). bit_xor (product F (derivative_at F f r) y) (product F (value_at F f r) z)) (away-is F L rs r ∙ away-root before after r) (derivative_at-vanishing before after r)
+      ∙ ap (λ (z : ℕ). bit_xor z (product F (value_at F f r) (away F L (before ++ after) r))) (product-zero F L (derivative_at F f r))

@@ -1,148 +1,53 @@
--- The laws of codewords.
-use Rattle.std.proofs.Common.{◌≡◌, ◌≢◌, ◌∙◌, ℕ, zero, suc, ◌*◌, ◌<◌, ◌≤◌, List, [], ◌∷◌, ◌++◌, length, get_or, refl, sym, ap, subst, arith, append_assoc, IsTrue}
-use Rattle.std.specs.Prelude.{IfSome, slice_get, slice_index}
-use Rattle.std.proofs.lemmas.List.{get_or-map}
-use Rattle.gf_cantor.specs.Field.{product}
-use Rattle.gf_cantor.proofs.Laws.{product-lt, has_inverse}
+-- The laws of codewords over bytes.
+use Rattle.std.proofs.Common.{◌≡◌, ◌∙◌, ℕ, ◌*◌, ◌<◌, List, [], ◌∷◌, length, refl, ap, arith, IsTrue}
+use Rattle.std.specs.Prelude.{bit_xor, IfSome, slice_get, slice_index}
+use Rattle.std.proofs.lemmas.Option.{IfSome_then}
+use Rattle.gf_cantor.specs.Field.{product, byte_field}
 use Rattle.namespace_id.specs.declared.shares.Share.{Share}
-use Rattle.namespace_id.specs.Shares.{IsShare, AreShares}
+use Rattle.namespace_id.specs.Shares.{AreShares}
 use Rattle.namespace_id.specs.Cells.{is_width}
-use Rattle.byte_polynomial.specs.Polynomial.{value_at, AreCoefficients, ArePoints, PassesThrough}
-use Rattle.byte_polynomial.proofs.Sums.{value_at-lt}
-use Rattle.byte_polynomial.proofs.Through.{through, vanishing_elsewhere}
-use Rattle.byte_polynomial.proofs.Roots.{one_polynomial}
-use Rattle.leopard_code.specs.Codewords.{column, points, point, points_at, are_positions, IsCodeword, HasEntries, weighted}
-use Rattle.leopard_code.proofs.ListedLemmas.{listed, length-listed, get_or-listed, listed-lt, AreShares-listed, listed-at}
-use Rattle.leopard_code.proofs.LagrangeLemmas.{AreWeights, lagrange, away-is, points_middle, undone}
-use Rattle.leopard_code.proofs.DifferenceLemmas.{away, away-lt}
 use Rattle.namespace_id.proofs.WidthLemmas.{is_width-le}
-use Rattle.leopard_code.proofs.PointLemmas.{length-column, column_bytes}
-use Rattle.leopard_code.proofs.PositionLemmas.{points_differ, position-lt, takes_each, length-points_at, value_at_position}
-use Rattle.leopard_code.proofs.EntryLemmas.{IsEntry, byte_of, get_or-column, same_shares, rebuilt}
+use Rattle.byte_polynomial.specs.Polynomial.{AreCoefficients}
+use Rattle.lch_fft.specs.Readings.{byte_reading}
+use Rattle.lch_fft.specs.ReadingLaws.{byte_reading_laws}
+use Rattle.lch_fft.proofs.CountLemmas.{double_count}
+use Rattle.leopard_code.specs.Codewords.{column, are_positions, IsCodeword, HasCode, HasEntries, weighted, weighted_over}
+use Rattle.leopard_code.proofs.LawReadingLemmas.{one_codeword as one_over, through_shares as through_over, generated as generated_over}
 
--- a polynomial that takes a column takes the bytes of the known entries at their points
-pub takes_known : (k : ℕ) (known : List ℕ) (cs ys zs : List ℕ) → IsTrue (are_positions k known) → length zs ≡ length known → PassesThrough cs (points k) ys
-    → ((i : ℕ) → i < length known → get_or ys (get_or known i 0) 0 ≡ get_or zs i 0) → PassesThrough cs (points_at k known) zs
-takes_known k known cs ys zs positions long takes same =
-    takes_each cs (points_at k known) zs (length-points_at k known ∙ sym long) (λ i h.
-    let within : i < length known = omega (arith, length-points_at k known) in
-    ap (value_at cs) (get_or-map (point k) known i 0 0 within)
-    ∙ value_at_position k (get_or known i 0) cs ys (position-lt k known i within positions) takes ∙ same i within)
-
--- the bytes of the entries at the positions
-picked : List ℕ → List ℕ → List ℕ
-picked [] ys = []
-picked (p ∷ known) ys = get_or ys p 0 ∷ picked known ys
-
--- as many values are picked as there are places
-length-picked : (known ys : List ℕ) → length (picked known ys) ≡ length known
-unfolding picked
-length-picked [] ys = refl
-length-picked (p ∷ known) ys = ap suc (length-picked known ys)
-
--- a value that is picked is that at its place
-get_or-picked : (known ys : List ℕ) (i : ℕ) → i < length known → get_or (picked known ys) i 0 ≡ get_or ys (get_or known i 0) 0
-unfolding picked
-get_or-picked [] ys i h = absurd (omega arith)
-get_or-picked (p ∷ known) ys zero h = refl
-get_or-picked (p ∷ known) ys (suc i) h = get_or-picked known ys i (omega arith)
-
--- one byte of two codewords with the same entries
-same_byte : (k : ℕ) (known ys zs : List ℕ) (pos : ℕ) (cs ds : List ℕ) → k ≤ 128 → length known ≡ k → IsTrue (are_positions k known) → pos < 2 * k
-    → length cs ≡ k → AreCoefficients cs → PassesThrough cs (points k) ys → length ds ≡ k → AreCoefficients ds → PassesThrough ds (points k) zs
-    → ((i : ℕ) → i < length known → get_or ys (get_or known i 0) 0 ≡ get_or zs (get_or known i 0) 0) → get_or ys pos 0 ≡ get_or zs pos 0
-same_byte k known ys zs pos cs ds few count positions within long_c bytes_c takes_c long_d bytes_d takes_d same =
-    let xs : List ℕ = points_at k known in
-    let there : List ℕ = picked known zs in
-    let long : length xs ≡ k = length-points_at k known ∙ count in
-    let first : PassesThrough cs xs there = takes_known k known cs ys there positions (length-picked known zs) takes_c (λ i h. same i h ∙ sym (get_or-picked known zs i h)) in
-    let second : PassesThrough ds xs there = takes_known k known ds zs there positions (length-picked known zs) takes_d (λ i h. sym (get_or-picked known zs i h)) in
-    sym (value_at_position k pos cs ys within takes_c)
-    ∙ one_polynomial cs ds xs there (omega arith) (omega arith) bytes_c bytes_d (points_differ k known few positions) first second (point k pos)
-    ∙ value_at_position k pos ds zs within takes_d
+-- a width up to 128 has a code over bytes
+pub width_code : (k : ℕ) → IsTrue (is_width k) → HasCode byte_reading.field k
+unfolding byte_reading byte_field
+width_code k width = record { count = double_count k width; fits = omega (arith, is_width-le k width) }
 
 -- two codewords with the same shares at k positions are one
 pub one_codeword : (k : ℕ) (known : List ℕ) (word other : List Share) → IsTrue (is_width k) → length known ≡ k → IsTrue (are_positions k known)
     → IsCodeword k word → IsCodeword k other
     → ((i : ℕ) → i < k → slice_get word (slice_index known i) ≡ slice_get other (slice_index known i)) → word ≡ other
-one_codeword k known word other width count positions cw co same =
-    same_shares word other (cw.count ∙ sym co.count) cw.shares co.shares (λ b pos hb hp.
-    let c = cw.columns b hb in
-    let d = co.columns b hb in
-    same_byte k known (column b word) (column b other) pos c.0 d.0 (is_width-le k width) count positions (omega (arith, cw.count)) c.1 c.2 c.3 d.1 d.2 d.3
-    (λ i h. get_or-column b word (get_or known i 0) ∙ ap (byte_of b) (same i (omega arith)) ∙ sym (get_or-column b other (get_or known i 0))))
+one_codeword k known word other width = one_over byte_reading byte_reading_laws k known word other (width_code k width)
 
 -- through k shares at k positions goes a codeword
 pub through_shares : (k : ℕ) (known : List ℕ) (shares : List Share) → IsTrue (is_width k) → length known ≡ k → IsTrue (are_positions k known)
     → length shares ≡ k → AreShares shares → (word : List Share) × IsCodeword k word × HasEntries known shares word
-through_shares k known shares width count positions same fits =
-    let xs : List ℕ = points_at k known in
-    let apart : ArePoints xs = points_differ k known (is_width-le k width) positions in
-    let found : (b : ℕ) → (cs : List ℕ) × (length cs ≡ length xs) × AreCoefficients cs × PassesThrough cs xs (column b shares) =
-    λ b. through xs (column b shares) (omega (arith, length-points_at k known, length-column b shares)) apart (column_bytes b shares fits) in
-    let byte : ℕ → ℕ → ℕ = λ pos b. value_at (found b).0 (point k pos) in
-    let entry : ℕ → Share = λ pos. record { 0 = listed 512 (byte pos) } in
-    let word : List Share = listed (2 * k) entry in
-    let each : (pos : ℕ) → IsShare (entry pos) = λ pos. record {
-      size_is = length-listed 512 (byte pos);
-      fits = listed-lt 512 (byte pos) (λ b. value_at-lt (found b).0 (point k pos) (found b).2);
-    } in
-    let made : (pos : ℕ) → IsEntry xs shares (point k pos) (entry pos) = λ pos b hb cs long bytes takes.
-    get_or-listed 512 (byte pos) b hb
-    ∙ one_polynomial (found b).0 cs xs (column b shares) (omega (arith, (found b).1)) (omega (arith, long)) (found b).2 bytes apart (found b).3 takes (point k pos) in
-    let both = rebuilt k k xs known shares word refl width count positions same fits (length-listed (2 * k) entry) (AreShares-listed (2 * k) entry each) refl
-    (λ pos h. listed-at (λ share. IsEntry xs shares (point k pos) share) (2 * k) entry pos h (made pos)) in
-    (word, both.0, both.1)
+through_shares k known shares width = through_over byte_reading byte_reading_laws k known shares (width_code k width)
 
--- there are weights at each point
-weights_exist : (before ps : List ℕ) (x : ℕ) → ArePoints (before ++ ps) → (ws : List ℕ) × (length ws ≡ length ps) × AreCoefficients ws × AreWeights before ps x ws
-unfolding AreWeights AreCoefficients
-weights_exist before [] x apart = ([], refl, tt, tt)
-weights_exist before (p ∷ ps) x apart =
-    let middle = points_middle before p ps apart in
-    let d : ℕ = away (before ++ ps) p in
-    let nonzero : d ≢ 0 = λ e. vanishing_elsewhere (before ++ ps) p middle.0 middle.2 middle.1 (away-is (before ++ ps) p ∙ e) in
-    let u = has_inverse d (omega arith) (away-lt (before ++ ps) p) in
-    let rest = weights_exist (before ++ p ∷ []) ps x (subst ArePoints (sym (append_assoc before (p ∷ []) ps)) apart) in (
-      product (away (before ++ ps) x) u.0 ∷ rest.0,
-      ap suc rest.1,
-      (product-lt (away (before ++ ps) x) u.0, rest.2),
-      (undone (away (before ++ ps) x) u.0 d (away-lt (before ++ ps) x) u.2, rest.3),
-    )
-
--- values of a polynomial are bytes
-bytes_taken : (cs xs ys : List ℕ) → AreCoefficients cs → PassesThrough cs xs ys → AreCoefficients ys
-unfolding PassesThrough AreCoefficients
-bytes_taken cs [] [] bytes takes = tt
-bytes_taken cs [] (y ∷ ys) bytes takes = elim takes [ ]
-bytes_taken cs (x ∷ xs) [] bytes takes = tt
-bytes_taken cs (x ∷ xs) (y ∷ ys) bytes takes = (subst (λ (v : ℕ). v < 256) takes.0 (value_at-lt cs x bytes), bytes_taken cs xs ys bytes takes.1)
-
--- the byte of a column is that of the entry
-entry_of_byte : (b v : ℕ) (ss : List Share) (i : ℕ) → i < length ss → get_or (column b ss) i 0 ≡ v → IfSome (slice_get ss i) (λ share. slice_index share.0 b ≡ v)
-unfolding column
-entry_of_byte b v [] i h e = absurd (omega arith)
-entry_of_byte b v (s ∷ ss) zero h e = e
-entry_of_byte b v (s ∷ ss) (suc i) h e = entry_of_byte b v ss i (omega arith) e
+-- weighted sums of bytes are those over their field
+weighted_is : (ws ys : List ℕ) → weighted_over byte_field ws ys ≡ weighted ws ys
+unfolding weighted weighted_over
+weighted_is [] ys = refl
+weighted_is (w ∷ ws) [] = refl
+weighted_is (w ∷ ws) (y ∷ ys) = ap (bit_xor (product byte_field w y)) (weighted_is ws ys)
 
 -- an entry is the same weighted sum of the known ones in each codeword
 pub generated : (k : ℕ) (known : List ℕ) (pos : ℕ) → IsTrue (is_width k) → length known ≡ k → IsTrue (are_positions k known) → pos < 2 * k
-    → (ws : List ℕ) × (length ws ≡ k) × AreCoefficients ws × ((word shares : List Share) → IsCodeword k word → length shares ≡ k → HasEntries known shares word → (b : ℕ) → b < 512
+    → (ws : List ℕ) × (length ws ≡ k) × AreCoefficients byte_field ws
+    × ((word shares : List Share) → IsCodeword k word → length shares ≡ k → HasEntries known shares word → (b : ℕ) → b < 512
     → IfSome (slice_get word pos) (λ share. slice_index share.0 b ≡ weighted ws (column b shares)))
+unfolding byte_reading
 generated k known pos width count positions within =
-    let xs : List ℕ = points_at k known in
-    let apart : ArePoints xs = points_differ k known (is_width-le k width) positions in
-    let long : length xs ≡ k = length-points_at k known ∙ count in
-    let weights = weights_exist [] xs (point k pos) apart in (
-      weights.0,
-      weights.1 ∙ long,
-      weights.2,
-      λ word shares code same entries b hb.
-          let c = code.columns b hb in
-          let ys : List ℕ = column b shares in
-          let takes : PassesThrough c.0 xs ys = takes_known k known c.0 (column b word) ys positions (omega (arith, length-column b shares)) c.3
-          (λ i h. get_or-column b word (get_or known i 0) ∙ ap (byte_of b) (entries i h) ∙ sym (get_or-column b shares i)) in
-          entry_of_byte b (weighted weights.0 ys) word pos (omega (arith, code.count))
-          (sym (value_at_position k pos c.0 (column b word) within c.3)
-          ∙ sym (lagrange c.0 xs ys weights.0 (point k pos) (omega (arith, length-column b shares)) (omega (arith, c.1)) apart c.2 (bytes_taken c.0 xs ys c.2 takes) takes weights.3)),
+    let made = generated_over byte_reading byte_reading_laws k known pos (width_code k width) count positions within in (
+      made.0,
+      made.1,
+      made.2,
+      λ word shares code long entries b hb.
+          IfSome_then (slice_get word pos) (made.3 word shares code long entries b hb) (λ share e. e ∙ weighted_is made.0 (column b shares)),
     )

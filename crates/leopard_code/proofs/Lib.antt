@@ -2,8 +2,10 @@ pub mod DifferenceLemmas
 pub mod LagrangeLemmas
 pub mod PointLemmas
 pub mod PositionLemmas
+pub mod EntryReadingLemmas
 pub mod EntryLemmas
 pub mod ListedLemmas
+pub mod LawReadingLemmas
 pub mod LawLemmas
 pub mod LinearLemmas
 pub mod NovelLemmas

@@ -1,5 +1,5 @@
 -- Lists of the values of a function.
-use Rattle.std.proofs.Common.{◌≡◌, ℕ, zero, suc, ◌<◌, List, [], ◌∷◌, length, get_or, refl, ap, arith}
+use Rattle.std.proofs.Common.{◌≡◌, ℕ, zero, suc, ◌<◌, List, [], ◌∷◌, length, refl, ap, arith}
 use Rattle.std.specs.Prelude.{IfSome, slice_get}
 use Rattle.namespace_id.specs.declared.shares.Share.{Share}
 use Rattle.namespace_id.specs.Shares.{IsShare, AreShares}
@@ -14,20 +14,6 @@ pub length-listed : {A : Type 0} (n : ℕ) (f : ℕ → A) → length (listed n 
 unfolding listed
 length-listed zero f = refl
 length-listed (suc n) f = ap suc (length-listed n (λ i. f (suc i)))
-
--- each is the value at its place
-pub get_or-listed : (n : ℕ) (f : ℕ → ℕ) (i : ℕ) → i < n → get_or (listed n f) i 0 ≡ f i
-unfolding listed
-get_or-listed zero f i h = absurd (omega arith)
-get_or-listed (suc n) f zero h = refl
-get_or-listed (suc n) f (suc i) h = get_or-listed n (λ j. f (suc j)) i (omega arith)
-
--- bytes that are listed are bytes
-pub listed-lt : (n : ℕ) (f : ℕ → ℕ) → ((i : ℕ) → f i < 256) → (i : ℕ) → get_or (listed n f) i 0 < 256
-unfolding listed
-listed-lt zero f h i = omega arith
-listed-lt (suc n) f h zero = h 0
-listed-lt (suc n) f h (suc i) = listed-lt n (λ j. f (suc j)) (λ j. h (suc j)) i
 
 -- shares that are listed are shares
 pub AreShares-listed : (n : ℕ) (f : ℕ → Share) → ((i : ℕ) → IsShare (f i)) → AreShares (listed n f)

@@ -1,6 +1,7 @@
 -- Which positions are missing, and how many.
 use Rattle.std.proofs.Common.{◌≡◌, ◌≢◌, ◌⊎◌, ℕ, zero, suc, ◌+◌, ◌<◌, ◌≤◌, Bool, List, [], ◌∷◌, ◌++◌, length, get_or, if◌then◌else◌, refl, sym, ap, subst, arith, inl, inr}
 use Rattle.std.proofs.lemmas.Bool.{cases_eq, eq-eqb, ne_eqb}
+use Rattle.gf_cantor.specs.Field.{Field, size}
 use Rattle.byte_polynomial.specs.Polynomial.{Avoids, ArePoints}
 use Rattle.leopard_code.specs.Locators.{missing_from}
 
@@ -47,15 +48,15 @@ avoids_missing (suc n) x first (p ∷ rest) h = elim (cases_eq p first) [
 ]
 
 -- the missing positions are different points
-pub points_missing : (n first : ℕ) (known : List ℕ) → first + n ≤ 256 → ArePoints (missing_from first n known)
+pub points_missing : (f : Field) (n first : ℕ) (known : List ℕ) → first + n ≤ size f → ArePoints f (missing_from first n known)
 unfolding missing_from ArePoints
-points_missing zero first known h = tt
-points_missing (suc n) first [] h = (omega arith, avoids_missing n first (suc first) [] (omega arith), points_missing n (suc first) [] (omega arith))
-points_missing (suc n) first (p ∷ rest) h = elim (cases_eq p first) [
-  | inl same ↦ subst ArePoints (sym (missing-known p first n rest same)) (points_missing n (suc first) rest (omega arith))
+points_missing f zero first known h = tt
+points_missing f (suc n) first [] h = (omega arith, avoids_missing n first (suc first) [] (omega arith), points_missing f n (suc first) [] (omega arith))
+points_missing f (suc n) first (p ∷ rest) h = elim (cases_eq p first) [
+  | inl same ↦ subst (ArePoints f) (sym (missing-known p first n rest same)) (points_missing f n (suc first) rest (omega arith))
   | inr other ↦
-      subst ArePoints (sym (missing-other p first n rest other))
-      (omega arith, avoids_missing n first (suc first) (p ∷ rest) (omega arith), points_missing n (suc first) (p ∷ rest) (omega arith))
+      subst (ArePoints f) (sym (missing-other p first n rest other))
+      (omega arith, avoids_missing n first (suc first) (p ∷ rest) (omega arith), points_missing f n (suc first) (p ∷ rest) (omega arith))
 ]
 
 -- a position that is known, and none of the missing ones

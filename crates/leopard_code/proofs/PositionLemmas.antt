@@ -4,18 +4,23 @@ use Rattle.std.specs.Prelude.{nat_lt, bit_xor, ◌==◌}
 use Rattle.std.specs.List.{list_all}
 use Rattle.std.proofs.lemmas.Bool.{and_from, and_parts, ltb-true, eqb-true, cases_lt}
 use Rattle.std.proofs.lemmas.Bool.Decides.{nat_tests}
-use Rattle.namespace_id.specs.Cells.{is_width}
+use Rattle.gf_cantor.specs.Field.{Field, size}
 use Rattle.namespace_id.specs.Lists.{holds_along, ascending}
 use Rattle.namespace_id.proofs.TestLemmas.{passes_below, passes_below-at, where_holds, where_holds-true}
-use Rattle.namespace_id.proofs.WidthLemmas.{is_width-le}
+use Rattle.lch_fft.specs.Transforms.{is_count}
+use Rattle.lch_fft.proofs.CountLemmas.{count-le}
 use Rattle.byte_polynomial.specs.Polynomial.{value_at, Avoids, ArePoints, PassesThrough}
-use Rattle.leopard_code.specs.Codewords.{point, points_at, are_positions, points}
+use Rattle.leopard_code.specs.Codewords.{is_word_width, point, points_at, are_positions, points}
 use Rattle.std.proofs.lemmas.List.{get_or_append_left, get_or-append_right}
 use Rattle.namespace_id.proofs.AscendingLemmas.{length-ascending, get_or-ascending}
 
--- the point of a position is a byte
-pub point-lt : (k pos : ℕ) → k ≤ 128 → pos < 2 * k → point k pos < 256
-point-lt k pos h l = grind (arith, nat_tests)
+-- a width of the code over words is at most 512
+pub word_width-le : (k : ℕ) → IsTrue (is_word_width k) → k ≤ 512
+word_width-le k width = grind (arith, nat_tests)
+
+-- the point of a position is below 2k
+pub point-lt : (k pos : ℕ) → pos < 2 * k → point k pos < 2 * k
+point-lt k pos l = grind (arith, nat_tests)
 
 -- an earlier position has another point
 point_apart : (k p q : ℕ) → p < q → q < 2 * k → point k p ≢ point k q
@@ -53,12 +58,12 @@ avoids_rest k p (q ∷ rest) positions =
     avoids_later k p q rest (next_above k p q rest positions) (positions_parts k p (q ∷ rest) positions).1
 
 -- the points of different positions are different
-pub points_differ : (k : ℕ) (known : List ℕ) → k ≤ 128 → IsTrue (are_positions k known) → ArePoints (points_at k known)
+pub points_differ : (f : Field) (k : ℕ) (known : List ℕ) → 2 * k ≤ size f → IsTrue (are_positions k known) → ArePoints f (points_at k known)
 unfolding ArePoints
-points_differ k [] few positions = tt
-points_differ k (p ∷ rest) few positions =
+points_differ f k [] few positions = tt
+points_differ f k (p ∷ rest) few positions =
     let parts = positions_parts k p rest positions in
-    (point-lt k p few parts.0, avoids_rest k p rest positions, points_differ k rest few parts.1)
+    (omega (arith, point-lt k p parts.0), avoids_rest k p rest positions, points_differ f k rest few parts.1)
 
 -- each position is below 2k
 pub position-lt : (k : ℕ) (known : List ℕ) (i : ℕ) → i < length known → IsTrue (are_positions k known) → get_or known i 0 < 2 * k
@@ -67,33 +72,33 @@ position-lt k (p ∷ rest) zero h positions = (positions_parts k p rest position
 position-lt k (p ∷ rest) (suc i) h positions = position-lt k rest i (omega arith) (positions_parts k p rest positions).1
 
 -- the values that a polynomial takes, place by place
-pub takes-at : (cs xs ys : List ℕ) (i : ℕ) → i < length xs → PassesThrough cs xs ys → value_at cs (get_or xs i 0) ≡ get_or ys i 0
+pub takes-at : (f : Field) (cs xs ys : List ℕ) (i : ℕ) → i < length xs → PassesThrough f cs xs ys → value_at f cs (get_or xs i 0) ≡ get_or ys i 0
 unfolding PassesThrough
-takes-at cs [] ys i h takes = absurd (omega arith)
-takes-at cs (x ∷ xs) [] i h takes = elim takes [ ]
-takes-at cs (x ∷ xs) (y ∷ ys) zero h takes = takes.0
-takes-at cs (x ∷ xs) (y ∷ ys) (suc i) h takes = takes-at cs xs ys i (omega arith) takes.1
+takes-at f cs [] ys i h takes = absurd (omega arith)
+takes-at f cs (x ∷ xs) [] i h takes = elim takes [ ]
+takes-at f cs (x ∷ xs) (y ∷ ys) zero h takes = takes.0
+takes-at f cs (x ∷ xs) (y ∷ ys) (suc i) h takes = takes-at f cs xs ys i (omega arith) takes.1
 
 -- a polynomial that takes each value takes the list
-pub takes_each : (cs xs ys : List ℕ) → length xs ≡ length ys → ((i : ℕ) → i < length xs → value_at cs (get_or xs i 0) ≡ get_or ys i 0) → PassesThrough cs xs ys
+pub takes_each : (f : Field) (cs xs ys : List ℕ) → length xs ≡ length ys → ((i : ℕ) → i < length xs → value_at f cs (get_or xs i 0) ≡ get_or ys i 0) → PassesThrough f cs xs ys
 unfolding PassesThrough
-takes_each cs [] [] same h = tt
-takes_each cs [] (y ∷ ys) same h = absurd (omega arith)
-takes_each cs (x ∷ xs) [] same h = absurd (omega arith)
-takes_each cs (x ∷ xs) (y ∷ ys) same h = (h 0 (omega arith), takes_each cs xs ys (omega arith) (λ i l. h (suc i) (omega arith)))
+takes_each f cs [] [] same h = tt
+takes_each f cs [] (y ∷ ys) same h = absurd (omega arith)
+takes_each f cs (x ∷ xs) [] same h = absurd (omega arith)
+takes_each f cs (x ∷ xs) (y ∷ ys) same h = (h 0 (omega arith), takes_each f cs xs ys (omega arith) (λ i l. h (suc i) (omega arith)))
 
--- a test of all positions of all widths
-moved_test : passes_below 129 (λ k. where_holds (is_width k) (passes_below (2 * k) (λ pos. point k pos == bit_xor pos k))) ≡ true
+-- a test of all positions where twice the width is the length of a transform
+moved_test : passes_below 513 (λ k. where_holds (is_count (2 * k)) (passes_below (2 * k) (λ pos. point k pos == bit_xor pos k))) ≡ true
 unfolding passes_below
 moved_test = refl
 
--- the point of a position is its sum with k
-pub point_moved : (k pos : ℕ) → IsTrue (is_width k) → pos < 2 * k → point k pos ≡ bit_xor pos k
-point_moved k pos width h =
-    let narrow : k ≤ 128 = is_width-le k width in
-    let test = passes_below-at 129 (λ k. where_holds (is_width k) (passes_below (2 * k) (λ pos. point k pos == bit_xor pos k))) moved_test k (omega arith) in
+-- the point of a position is the sum of the position and k
+pub point_moved : (k pos : ℕ) → IsTrue (is_count (2 * k)) → pos < 2 * k → point k pos ≡ bit_xor pos k
+point_moved k pos count h =
+    let test =
+    passes_below-at 513 (λ m. where_holds (is_count (2 * m)) (passes_below (2 * m) (λ pos. point m pos == bit_xor pos m))) moved_test k (omega (arith, count-le (2 * k) count)) in
     eqb-true _ _ (passes_below-at (2 * k) (λ pos. point k pos == bit_xor pos k)
-    (where_holds-true (is_width k) (passes_below (2 * k) (λ pos. point k pos == bit_xor pos k)) test width) pos h)
+    (where_holds-true (is_count (2 * k)) (passes_below (2 * k) (λ pos. point k pos == bit_xor pos k)) test count) pos h)
 
 -- there are as many points as positions
 pub length-points_at : (k : ℕ) (known : List ℕ) → length (points_at k known) ≡ length known
@@ -115,7 +120,7 @@ pub length-points : (k : ℕ) → length (points k) ≡ 2 * k
 unfolding points
 length-points k = omega (arith, length-append (ascending k k) (ascending 0 k), length-ascending k k, length-ascending k 0)
 
--- the value at a position's point is the byte there
-pub value_at_position : (k pos : ℕ) (cs ys : List ℕ) → pos < 2 * k → PassesThrough cs (points k) ys → value_at cs (point k pos) ≡ get_or ys pos 0
-value_at_position k pos cs ys h takes =
-    ap (value_at cs) (sym (get_or-points k pos h)) ∙ takes-at cs (points k) ys pos (omega (arith, length-points k)) takes
+-- the value at a position's point is the label there
+pub value_at_position : (f : Field) (k pos : ℕ) (cs ys : List ℕ) → pos < 2 * k → PassesThrough f cs (points k) ys → value_at f cs (point k pos) ≡ get_or ys pos 0
+value_at_position f k pos cs ys h takes =
+    ap (value_at f cs) (sym (get_or-points k pos h)) ∙ takes-at f cs (points k) ys pos (omega (arith, length-points k)) takes

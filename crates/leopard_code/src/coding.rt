@@ -18,17 +18,36 @@
 //!
 //! Sums by Lagrange's weights would take k * k multiples of shares in place of about k * log k.
 
-ghost use Rattle.std.specs.Prelude.{◌≡◌, ◌++◌, ◌*◌, IsTrue, length};
+ghost use Rattle.std.specs.Prelude.{◌≡◌, ◌++◌, ◌*◌, ◌≤◌, IsTrue, length};
+ghost use Rattle.gf_cantor.specs.Field.{size};
+ghost use Rattle.lch_fft.specs.Readings.{byte_reading, word_reading};
 ghost use Rattle.lch_fft.specs.Transforms.{is_count};
-ghost use Rattle.leopard_code.specs.Codewords.{are_positions, IsCodeword, HasEntries};
+ghost use Rattle.leopard_code.specs.Codewords.{are_positions, is_word_width, IsCodeword, IsCodewordOver, HasEntries};
 ghost use Rattle.leopard_code.specs.Locators.{AreDerivatives};
 
 use crate::Room;
 use crate::locators::locate;
 use crate::places::{clear_all, place};
 use crate::scaling::{add_multiples, divide_missing};
-use lch_fft::{derive, forward, inverse};
+use gf_cantor::{ByteFactor, WordFactor};
+use lch_fft::{Factor, derive, forward, inverse};
 use namespace_id::{Share, shares_law};
+
+/// Makes the k recovery shares of k original ones, over a field. It takes no memory.
+fn extend_over<M: Factor>(k: u16, originals: &[Share], recovery: &mut [Share])
+    requires count { IsTrue (is_count k) }
+    requires fits { 2 * k ≤ size M.reading.field }
+    requires originals { length originals.now ≡ k }
+    requires recovery { length recovery.old ≡ k }
+    ensures { IsCodewordOver M.reading k (originals.now ++ recovery.new) }
+{
+    shares_law(originals);
+    recovery.copy_from_slice(originals);
+    inverse::<M>(recovery, k);
+    shares_law(recovery);
+    forward::<M>(recovery, 0);
+    shares_law(recovery);
+}
 
 /// Reed-Solomon encoding of one axis: makes the k recovery (parity) shares of k original ones. The
 /// originals followed by them are a codeword. It takes no memory.
@@ -41,23 +60,32 @@ pub fn extend(room: &mut Room, originals: &[Share], recovery: &mut [Share])
     ensures codeword { IsCodeword room.old (originals.now ++ recovery.new) }
     ensures kept { room.new ≡ room.old }
 {
-    shares_law(originals);
-    recovery.copy_from_slice(originals);
-    inverse(recovery, room.k);
-    shares_law(recovery);
-    forward(recovery, 0);
-    shares_law(recovery);
+    extend_over::<ByteFactor>(room.k, originals, recovery);
 }
 
-/// From the values of polynomials at 0, 1, .. to those of their formal derivatives.
-fn differentiate(shares: &mut [Share])
-    requires { IsTrue (is_count (length shares.old)) }
-    ensures { AreDerivatives shares.old shares.new }
+/// The same of the widths 256 and 512, whose axes have more shares than there are bytes: the code is
+/// over words. It takes no memory.
+///
+/// docs/RULES.md, "The code".
+pub fn extend_words(originals: &[Share], recovery: &mut [Share])
+    requires width { IsTrue (is_word_width (length originals.now)) }
+    requires recovery { length recovery.old ≡ length originals.now }
+    ensures codeword { IsCodewordOver word_reading (length originals.now)
+        (originals.now ++ recovery.new) }
 {
-    inverse(shares, 0);
+    extend_over::<WordFactor>(originals.len() as u16, originals, recovery);
+}
+
+/// From the values of polynomials at 0, 1, .. to those of their formal derivatives, over a field.
+fn differentiate<M: Factor>(shares: &mut [Share])
+    requires count { IsTrue (is_count (length shares.old)) }
+    requires fits { length shares.old ≤ size M.reading.field }
+    ensures { AreDerivatives M.reading shares.old shares.new }
+{
+    inverse::<M>(shares, 0);
     shares_law(shares);
-    derive(shares);
-    forward(shares, 0);
+    derive::<M>(shares);
+    forward::<M>(shares, 0);
 }
 
 /// Reed-Solomon recovery of one axis: makes all 2k shares of the codeword that has the k shares at the
@@ -80,7 +108,7 @@ pub fn rebuild(room: &mut Room, known: &[u16], shares: &[Share], all: &mut [Shar
     locate(known, &mut room.locator);
     clear_all(all);
     add_multiples(known, shares, &room.locator, all);
-    differentiate(all);
+    differentiate::<ByteFactor>(all);
     divide_missing(known, all, &room.locator);
     place(known, shares, all);
     shares_law(all);

@@ -1,7 +1,7 @@
 //! The locator of the missing positions: the polynomial that is 0 exactly there.
 
 ghost use Rattle.std.specs.Prelude.{◌≡◌, ◌<◌, ◌≤◌, ◌+◌, ◌*◌, ℕ, length, slice_index};
-ghost use Rattle.gf_cantor.specs.Field.{label, power, product};
+ghost use Rattle.gf_cantor.specs.Field.{label, power, product, byte_field};
 ghost use Rattle.leopard_code.specs.Locators.{missing_from, difference, apart_from};
 
 use gf_cantor::{exp, log};
@@ -12,8 +12,10 @@ fn add_logarithms(sums: &mut [u16; 256], count: usize, pos: usize)
     requires count { count ≤ 256 }
     requires pos { pos < 256 }
     requires room { (x : ℕ) → x < count → slice_index sums.old x ≤ 254 * pos }
-    ensures products { (x : ℕ) → x < count → label (power (slice_index sums.new x)) ≡
-        product (label (power (slice_index sums.old x))) (difference x pos) }
+    ensures products { (x : ℕ) → x < count →
+        label byte_field (power byte_field (slice_index sums.new x)) ≡
+        product byte_field (label byte_field (power byte_field (slice_index sums.old x)))
+        (difference x pos) }
     ensures bound { (x : ℕ) → x < count → slice_index sums.new x ≤ 254 * (pos + 1) }
 {
     for x in 0..count {
@@ -27,7 +29,7 @@ fn add_logarithms(sums: &mut [u16; 256], count: usize, pos: usize)
 fn write_powers(sums: &[u16; 256], values: &mut [u8])
     requires { length values.old ≤ 256 }
     ensures { (x : ℕ) → x < length values.old →
-        slice_index values.new x ≡ label (power (slice_index sums.now x)) }
+        slice_index values.new x ≡ label byte_field (power byte_field (slice_index sums.now x)) }
 {
     for x in 0..values.len() {
         values[x] = exp(sums[x] as usize % 255);
@@ -39,7 +41,7 @@ fn write_powers(sums: &[u16; 256], values: &mut [u8])
 pub(crate) fn locate(known: &[u16], values: &mut [u8])
     requires { length values.old ≤ 256 }
     ensures { (x : ℕ) → x < length values.old → slice_index values.new x ≡
-        apart_from (missing_from 0 (length values.old) known.now) x }
+        apart_from byte_field (missing_from 0 (length values.old) known.now) x }
 {
     // a product of labels is a sum of logarithms
     let mut sums = [0; 256];

@@ -1,7 +1,7 @@
 //! Multiples and quotients of shares.
 
 ghost use Rattle.std.specs.Prelude.{◌≡◌, ◌≢◌, ◌<◌, ◌*◌, ℕ, IsTrue, length, bit_xor, slice_index};
-ghost use Rattle.gf_cantor.specs.Field.{product};
+ghost use Rattle.gf_cantor.specs.Field.{product, byte_field};
 ghost use Rattle.namespace_id.specs.Sizes.{share_size};
 ghost use Rattle.leopard_code.specs.Codewords.{column, are_positions};
 
@@ -11,7 +11,7 @@ use namespace_id::{SHARE_SIZE, Share};
 /// Multiplies each byte of a share.
 fn multiply(share: &mut Share, by: u8)
     ensures { (b : ℕ) → b < share_size →
-        slice_index share.new.0 b ≡ product by (slice_index share.old.0 b) }
+        slice_index share.new.0 b ≡ product byte_field by (slice_index share.old.0 b) }
 {
     let mut bytes = [0; SHARE_SIZE];
     mul_row(&mut bytes, &share.0, by);
@@ -22,7 +22,7 @@ fn multiply(share: &mut Share, by: u8)
 fn divide(share: &mut Share, by: u8)
     requires { 0 < by }
     ensures { (b y : ℕ) → b < share_size → y < 256 →
-        slice_index share.old.0 b ≡ product y by → slice_index share.new.0 b ≡ y }
+        slice_index share.old.0 b ≡ product byte_field y by → slice_index share.new.0 b ≡ y }
 {
     multiply(share, inv(by));
 }
@@ -37,7 +37,7 @@ pub(crate) fn add_multiples(known: &[u16], shares: &[Share], by: &[u8], all: &mu
     ensures known { (b i : ℕ) → b < share_size → i < length known.now →
         slice_index (column b all.new) (slice_index known.now i) ≡
         bit_xor (slice_index (column b all.old) (slice_index known.now i))
-        (product (slice_index by.now (slice_index known.now i))
+        (product byte_field (slice_index by.now (slice_index known.now i))
         (slice_index (column b shares.now) i)) }
     ensures others { (b pos : ℕ) → b < share_size → pos < length all.old →
         ((i : ℕ) → i < length known.now → slice_index known.now i ≢ pos) →
@@ -56,7 +56,7 @@ pub(crate) fn divide_missing(known: &[u16], all: &mut [Share], by: &[u8])
     requires nonzero { (i : ℕ) → i < length by.now → 0 < slice_index by.now i }
     ensures { (b pos y : ℕ) → b < share_size → pos < length all.old → y < 256 →
         ((i : ℕ) → i < length known.now → slice_index known.now i ≢ pos) →
-        slice_index (column b all.old) pos ≡ product y (slice_index by.now pos) →
+        slice_index (column b all.old) pos ≡ product byte_field y (slice_index by.now pos) →
         slice_index (column b all.new) pos ≡ y }
 {
     let mut next = 0;

@@ -1,5 +1,4 @@
 use Rattle.gf_cantor.specs.Field.{byte_field}
-use Rattle.gf_cantor.specs.Laws.{AreFieldLaws}
 use Rattle.gf_cantor.proofs.FieldLaws.{byte_laws, word_laws}
 use Rattle.gf_cantor.proofs.Laws.{one_inverse, zero_factor, product_cancels}
 use Rattle.gf_cantor.proofs.field.field_laws.Goals as goal

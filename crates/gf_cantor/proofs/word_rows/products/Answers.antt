@@ -1,4 +1,4 @@
-use Rattle.std.proofs.Common.{◌≡◌, ℕ, List, get_or, ap, ◌∙◌, ◌+◌, ◌/◌, arith, drop}
+use Rattle.std.proofs.Common.{ℕ, List, get_or, ap, ◌∙◌, ◌+◌, ◌/◌, arith, drop}
 use Rattle.std.proofs.lemmas.List.{get_or-replicate}
 use Rattle.std.specs.Prelude.{bit_xor}
 use Rattle.gf_cantor.specs.Field.{combine}

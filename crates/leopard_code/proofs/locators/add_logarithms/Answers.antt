@@ -1,5 +1,5 @@
 use Rattle.std.proofs.Common.{◌≡◌, ◌≢◌, ◌∙◌, ℕ, ◌+◌, List, ap, arith, get_or, get_or-set_other, get_or-set_same, below_more}
-use Rattle.gf_cantor.specs.Field.{label, power}
+use Rattle.gf_cantor.specs.Field.{label, power, byte_field}
 use Rattle.leopard_code.proofs.SumLemmas.{logarithm_added, logarithm_kept, products_more}
 use Rattle.leopard_code.proofs.locators.add_logarithms.Goals as goal
 use Rattle.leopard_code.proofs.locators.add_logarithms.Goals.{then-x-pos, else-x-pos}
@@ -15,7 +15,7 @@ loop-x-preserved c = elim c.if-x-pos.branch [
       ∙ ap (λ (s : ℕ). s + w.log.result) (c.loop-x.invariant.left c.loop-x.x (omega arith)) in
       record {
         done = products_more c.loop-x.sums c.if-x-pos.sums c.args.sums.now c.loop-x.x c.args.pos kept
-            (ap (λ (s : ℕ). label (power s)) here
+            (ap (λ (s : ℕ). label byte_field (power byte_field s)) here
             ∙ logarithm_added c.loop-x.x c.args.pos (get_or c.args.sums.now c.loop-x.x 0) w.log.result
             w.if-x-pos.true (omega arith) (omega arith) w.log.ensures.power)
             c.loop-x.invariant.done;
@@ -30,7 +30,7 @@ loop-x-preserved c = elim c.if-x-pos.branch [
       kept c.loop-x.x ∙ c.loop-x.invariant.left c.loop-x.x (omega arith) in
       record {
         done = products_more c.loop-x.sums c.if-x-pos.sums c.args.sums.now c.loop-x.x c.args.pos (λ y ne. kept y)
-            (ap (λ (s : ℕ). label (power s)) here
+            (ap (λ (s : ℕ). label byte_field (power byte_field s)) here
             ∙ logarithm_kept c.loop-x.x c.args.pos (get_or c.args.sums.now c.loop-x.x 0) w.if-x-pos.false)
             c.loop-x.invariant.done;
         bound = below_more _ _ (λ y h. omega (arith, kept y, c.loop-x.invariant.bound y h))

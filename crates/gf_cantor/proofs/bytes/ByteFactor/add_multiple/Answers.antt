@@ -1,4 +1,4 @@
-use Rattle.std.proofs.Common.{◌≡◌, ℕ, get_or, arith}
+use Rattle.std.proofs.Common.{◌≡◌, get_or, arith}
 use Rattle.gf_cantor.proofs.FieldLaws.{byte_laws}
 use Rattle.gf_cantor.specs.Field.{byte_field}
 use Rattle.gf_cantor.proofs.Laws.{nothing_added}

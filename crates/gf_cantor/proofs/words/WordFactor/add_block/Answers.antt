@@ -1,4 +1,4 @@
-use Rattle.std.proofs.Common.{◌≡◌, ℕ, ◌<◌, ◌+◌, ◌*◌, ◌/◌, ◌%◌, ◌∙◌, ap, ap₂, get_or, subst, arith}
+use Rattle.std.proofs.Common.{ℕ, ◌<◌, ◌+◌, ◌*◌, ◌/◌, ◌%◌, ◌∙◌, ap, ap₂, get_or, subst, arith}
 use Rattle.std.specs.Prelude.{bit_xor}
 use Rattle.gf_cantor.specs.Field.{product, word_field}
 use Rattle.gf_cantor.proofs.WordLemmas.{AreTables, low-looked_up, high-looked_up}

@@ -1,4 +1,4 @@
-use Rattle.std.proofs.Common.{◌≡◌, ℕ, arith}
+use Rattle.std.proofs.Common.{◌≡◌, arith}
 use Rattle.gf_cantor.specs.Field.{word_field}
 use Rattle.gf_cantor.specs.Words.{word}
 use Rattle.gf_cantor.proofs.FieldLaws.{word_laws}

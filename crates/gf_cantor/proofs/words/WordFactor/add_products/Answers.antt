@@ -1,4 +1,4 @@
-use Rattle.std.proofs.Common.{◌≡◌, ℕ, ◌+◌, ◌*◌, ◌∙◌, arith}
+use Rattle.std.proofs.Common.{ℕ, ◌+◌, ◌*◌, ◌∙◌, arith}
 use Rattle.gf_cantor.specs.Words.{place}
 use Rattle.gf_cantor.proofs.WordLemmas.{IsAdded, added_from, added_before, word_gains}
 use Rattle.gf_cantor.proofs.LaneLemmas.{below_more_by}

@@ -1,4 +1,4 @@
-use Rattle.std.proofs.Common.{◌<◌, arith}
+use Rattle.std.proofs.Common.{◌<◌}
 use Rattle.gf_cantor.specs.Field.{byte_field}
 use Rattle.lch_fft.specs.Readings.{byte_reading}
 use Rattle.lch_fft.proofs.factor.ByteFactorFactor.new.Goals as goal

@@ -1,4 +1,4 @@
-use Rattle.std.proofs.Common.{◌<◌, arith}
+use Rattle.std.proofs.Common.{◌<◌}
 use Rattle.gf_cantor.specs.Field.{word_field}
 use Rattle.lch_fft.specs.Readings.{word_reading}
 use Rattle.lch_fft.proofs.factor.WordFactorFactor.new.Goals as goal
