@@ -31,7 +31,7 @@ module _ (F : Field) (L : AreFieldLaws F) where
   length-multiplied (p ∷ r ∷ ps) qs hp hq =
       omega (arith, length-sum F L (scaled F L p qs) (0 ∷ multiplied (r ∷ ps) qs), length-scaled F L p qs, length-multiplied (r ∷ ps) qs (omega arith) hq)
 
-  -- a product has bytes as coefficients
+  -- a product has labels as coefficients
   pub AreCoefficients-multiplied : (ps qs : List ℕ) → AreCoefficients F (multiplied ps qs)
   unfolding multiplied AreCoefficients
   AreCoefficients-multiplied [] qs = tt

@@ -22,7 +22,7 @@ module _ (F : Field) (L : AreFieldLaws F) where
   length-quotient r c (d ∷ cs) =
       omega (arith, length-sum F L (d ∷ cs) (scaled F L r (quotient r (d ∷ cs))), length-scaled F L r (quotient r (d ∷ cs)), length-quotient r d cs)
 
-  -- a quotient has bytes as coefficients
+  -- a quotient has labels as coefficients
   AreCoefficients-quotient : (r c : ℕ) (cs : List ℕ) → AreCoefficients F cs → AreCoefficients F (quotient r (c ∷ cs))
   unfolding quotient
   AreCoefficients-quotient r c cs h = AreCoefficients-sum F L cs (scaled F L r (quotient r cs)) h (AreCoefficients-scaled F L r (quotient r cs))

@@ -13,7 +13,7 @@ use Rattle.gf_cantor.specs.Laws.{AreFieldLaws}
 pub xor_cancel : (a b c : ℕ) → bit_xor (bit_xor a b) (bit_xor a c) ≡ bit_xor b c
 xor_cancel a b c = xor_swap_middle a b a c ∙ ap (λ (x : ℕ). bit_xor x (bit_xor b c)) (xor_self a)
 
--- a byte that is added twice is gone
+-- a number that is added twice is gone
 pub xor_back : (a b : ℕ) → bit_xor a (bit_xor b a) ≡ b
 xor_back a b = ap (bit_xor a) (xor_comm b a) ∙ sym (xor_assoc a a b) ∙ ap (λ (x : ℕ). bit_xor x b) (xor_self a)
 
@@ -65,20 +65,20 @@ module _ (F : Field) (L : AreFieldLaws F) where
   length-sum (p ∷ ps) [] = omega arith
   length-sum (p ∷ ps) (q ∷ qs) = omega (arith, length-sum ps qs)
 
-  -- a sum has bytes as coefficients
+  -- a sum has labels as coefficients
   pub AreCoefficients-sum : (ps qs : List ℕ) → AreCoefficients F ps → AreCoefficients F qs → AreCoefficients F (sum ps qs)
   unfolding sum AreCoefficients
   AreCoefficients-sum [] qs hp hq = hq
   AreCoefficients-sum (p ∷ ps) [] hp hq = hp
   AreCoefficients-sum (p ∷ ps) (q ∷ qs) hp hq = (xor_lt (bits F) p q hp.0 hq.0, AreCoefficients-sum ps qs hp.1 hq.1)
 
-  -- a multiple has bytes as coefficients
+  -- a multiple has labels as coefficients
   pub AreCoefficients-scaled : (c : ℕ) (ps : List ℕ) → AreCoefficients F (scaled c ps)
   unfolding scaled AreCoefficients
   AreCoefficients-scaled c [] = tt
   AreCoefficients-scaled c (p ∷ ps) = (product-lt F L c p, AreCoefficients-scaled c ps)
 
-  -- the value of a polynomial is a byte
+  -- the value of a polynomial is a label
   pub value_at-lt : (ps : List ℕ) (x : ℕ) → AreCoefficients F ps → value_at F ps x < size F
   unfolding value_at AreCoefficients
   value_at-lt [] x h = size-pos F L

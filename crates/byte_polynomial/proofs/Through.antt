@@ -23,7 +23,7 @@ module _ (F : Field) (L : AreFieldLaws F) where
   length-vanishing (r ∷ rs) =
       omega (arith, length-sum F L (0 ∷ vanishing rs) (scaled F L r (vanishing rs)), length-scaled F L r (vanishing rs), length-vanishing rs)
 
-  -- a vanishing polynomial has bytes as coefficients
+  -- a vanishing polynomial has labels as coefficients
   pub AreCoefficients-vanishing : (rs : List ℕ) → AreCoefficients F (vanishing rs)
   unfolding vanishing AreCoefficients
   AreCoefficients-vanishing [] = (size-above F L, tt)
@@ -91,7 +91,7 @@ module _ (F : Field) (L : AreFieldLaws F) where
       ∙ product_comm F L (bit_xor y v) 1 ∙ one-product F L (bit_xor y v) (xor_lt (bits F) y v hy hv))
       ∙ xor_back v y
 
-  -- through n bytes at n points goes a polynomial of n coefficients
+  -- through n labels at n points goes a polynomial of n coefficients
   pub through : (xs ys : List ℕ) → length xs ≡ length ys → ArePoints F xs → AreCoefficients F ys → (cs : List ℕ) × (length cs ≡ length xs) × AreCoefficients F cs × PassesThrough F cs xs ys
   unfolding ArePoints AreCoefficients PassesThrough
   through [] [] same points bytes = ([], refl, tt, tt)

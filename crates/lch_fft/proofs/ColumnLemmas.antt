@@ -1,4 +1,4 @@
--- Byte columns of lists of shares.
+-- Columns of lists of shares.
 use Rattle.std.proofs.Common.{◌≡◌, ◌∙◌, ℕ, zero, suc, ◌<◌, List, [], ◌∷◌, ◌++◌, length, take, drop, get_or, replicate, refl, sym, ap, ap₂, arith}
 use Rattle.std.specs.Prelude.{bit_xor}
 use Rattle.std.specs.Int.Bits.{xor_self}
@@ -26,7 +26,7 @@ module _ (R : Reading) (L : AreReadingLaws R) where
   length-column b [] = refl
   length-column b (share ∷ shares) = ap suc (length-column b shares)
 
-  -- the byte of a column is that of the share at its place
+  -- the label of a column is that of the share at its place
   pub column-at : (b : ℕ) (shares : List Share) (i : ℕ) → i < length shares → get_or (column R b shares) i 0 ≡ byte R shares i b
   unfolding column
   column-at b [] i h = absurd (omega arith)
@@ -53,14 +53,14 @@ module _ (R : Reading) (L : AreReadingLaws R) where
   column-drop b (suc n) [] = refl
   column-drop b (suc n) (s ∷ ss) = column-drop b n ss
 
-  -- the columns of shares are bytes
+  -- the columns of shares are labels
   pub AllLabels-column : (b : ℕ) (ss : List Share) → AreShares ss → AllLabels R.field (column R b ss)
   unfolding column
   AllLabels-column b [] h i = size-pos R.field L.laws
   AllLabels-column b (s ∷ ss) h zero = L.below s h.0 b
   AllLabels-column b (s ∷ ss) h (suc i) = AllLabels-column b ss h.1 i
 
-  -- shares with the same bytes are one share
+  -- shares with the same labels are one share
   same_share : (s t : Share) → IsShare s → IsShare t → ((b : ℕ) → b < R.columns → R.label_at s.0 b ≡ R.label_at t.0 b) → s ≡ t
   same_share s t hs ht same =
       L.told s t hs ht same

@@ -43,13 +43,13 @@ module _ (F : Field) (L : AreFieldLaws F) where
       (length-spread b (upper b d s) (s + 2 ^ b) (length-upper b d s h))
       ∙ sym (double b)
 
-  -- the lower half has bytes as coefficients
+  -- the lower half has labels as coefficients
   AreBytes-lower : (b : ℕ) (d : List ℕ) (s : ℕ) → AllLabels F d → AllLabels F (lower b d s)
   AreBytes-lower b d s k =
       AllLabels-bytes_sum F L (take (2 ^ b) d) (multiple F (s / 2 ^ b) (drop (2 ^ b) d))
       (AllLabels-take F L (2 ^ b) d k) (AllLabels-multiple F L (s / 2 ^ b) (drop (2 ^ b) d))
 
-  -- the upper half has bytes as coefficients
+  -- the upper half has labels as coefficients
   AreBytes-upper : (b : ℕ) (d : List ℕ) (s : ℕ) → AllLabels F d → AllLabels F (upper b d s)
   AreBytes-upper b d s k = AllLabels-bytes_sum F L (lower b d s) (drop (2 ^ b) d) (AreBytes-lower b d s k) (AllLabels-drop F L (2 ^ b) d k)
 

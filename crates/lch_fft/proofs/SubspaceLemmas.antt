@@ -13,7 +13,7 @@ halved_again i x =
     let next : i + 1 ≡ suc i = omega arith in shr-shr x i 1 ∙ ap (λ (k : ℕ). x / 2 ^ k) next
 
 module _ (F : Field) (L : AreFieldLaws F) where
-  -- a shifted byte is a byte
+  -- a shifted label is a label
   shifted-lt : (i x : ℕ) → x < size F → x / 2 ^ i < size F
   shifted-lt zero x h = omega arith
   shifted-lt (suc i) x h = omega (arith, halved_again i x, shifted-lt i x h)
@@ -27,7 +27,7 @@ module _ (F : Field) (L : AreFieldLaws F) where
       ∙ square_halves F L (x / 2 ^ i) (shifted-lt i x h)
       ∙ halved_again i x
 
-  -- a product over bits is a byte
+  -- a product over bits is a label
   pub product_over-lt : (n i j x : ℕ) → product_over F n i j x < size F
   unfolding product_over
   product_over-lt zero i j x = size-above F L

@@ -13,7 +13,7 @@ use Rattle.gf_cantor.specs.Field.{Field, product, bits, size}
 use Rattle.gf_cantor.specs.Laws.{AreFieldLaws}
 
 module _ (F : Field) (L : AreFieldLaws F) where
-  -- a sum is a byte, whatever the coefficients are
+  -- a sum is a label, whatever the coefficients are
   pub sum_from-lt : (j : ℕ) (ds : List ℕ) (x : ℕ) → sum_from F j ds x < size F
   unfolding sum_from
   sum_from-lt j [] x = size-pos F L

@@ -11,7 +11,7 @@ module _ (F : Field) (L : AreFieldLaws F) where
   away [] x = 1
   away (r ∷ rs) x = product F (bit_xor x r) (away rs x)
 
-  -- a product of differences is a byte
+  -- a product of differences is a label
   pub away-lt : (rs : List ℕ) (x : ℕ) → away rs x < size F
   unfolding away
   away-lt [] x = size-above F L

@@ -26,28 +26,28 @@ byte_of r b None = 0
 byte_of r b (Some share) = r.label_at share.0 b
 
 module _ (R : Reading) (L : AreReadingLaws R) where
-  -- the byte of a column is that of the share at its place
+  -- the label of a column is that of the share at its place
   pub get_or-column : (b : ℕ) (ss : List Share) (i : ℕ) → get_or (column R b ss) i 0 ≡ byte_of R b (slice_get ss i)
   unfolding column
   get_or-column b [] i = refl
   get_or-column b (s ∷ ss) zero = refl
   get_or-column b (s ∷ ss) (suc i) = get_or-column b ss i
 
-  -- the byte of a column at a place that is there
+  -- the label of a column at a place that is there
   pub get_or-column_at : (b : ℕ) (ss : List Share) (i : ℕ) (d : Share) → i < length ss → get_or (column R b ss) i 0 ≡ R.label_at (get_or ss i d).0 b
   unfolding column
   get_or-column_at b [] i d h = absurd (omega arith)
   get_or-column_at b (s ∷ ss) zero d h = refl
   get_or-column_at b (s ∷ ss) (suc i) d h = get_or-column_at b ss i d (omega arith)
 
-  -- what a fact of an element says of its byte
+  -- what a fact of an element says of its label
   pub byte_of_entry : (b v : ℕ) (ss : List Share) (i : ℕ) → i < length ss → IfSome (slice_get ss i) (λ share. R.label_at share.0 b ≡ v) → get_or (column R b ss) i 0 ≡ v
   unfolding column
   byte_of_entry b v [] i h e = absurd (omega arith)
   byte_of_entry b v (s ∷ ss) zero h e = e
   byte_of_entry b v (s ∷ ss) (suc i) h e = byte_of_entry b v ss i (omega arith) e
 
-  -- a column whose bytes are a polynomial's values at the points of all positions
+  -- a column whose labels are a polynomial's values at the points of all positions
   pub takes_all : (k : ℕ) (cs ys : List ℕ) → length ys ≡ 2 * k → ((pos : ℕ) → pos < 2 * k → get_or ys pos 0 ≡ value_at R.field cs (point k pos)) → PassesThrough R.field cs (points k) ys
   takes_all k cs ys long each =
       takes_each R.field cs (points k) ys (length-points k ∙ sym long) (λ i h.
@@ -74,12 +74,12 @@ module _ (R : Reading) (L : AreReadingLaws R) where
         );
   }
 
-  -- shares with the same bytes are one
+  -- shares with the same labels are one
   same_bytes : (s t : Share) → IsShare s → IsShare t → ((b : ℕ) → b < R.columns → R.label_at s.0 b ≡ R.label_at t.0 b) → s ≡ t
   same_bytes s t hs ht each =
       L.told s t hs ht each
 
-  -- two shares of two lists that have the same bytes
+  -- two shares of two lists that have the same labels
   pub same_place : (ss ts : List Share) (i j : ℕ) → i < length ss → j < length ts → AreShares ss → AreShares ts
       → ((b : ℕ) → b < R.columns → get_or (column R b ss) i 0 ≡ get_or (column R b ts) j 0) → slice_get ss i ≡ slice_get ts j
   unfolding column
@@ -89,7 +89,7 @@ module _ (R : Reading) (L : AreReadingLaws R) where
   same_place (s ∷ ss) (t ∷ ts) zero (suc j) hi hj fs ft each = same_place (s ∷ ss) ts zero j hi (omega arith) fs ft.1 each
   same_place (s ∷ ss) (t ∷ ts) (suc i) j hi hj fs ft each = same_place ss (t ∷ ts) i j (omega arith) hj fs.1 ft each
 
-  -- lists of shares that have the same bytes
+  -- lists of shares that have the same labels
   pub same_shares : (ss ts : List Share) → length ss ≡ length ts → AreShares ss → AreShares ts
       → ((b i : ℕ) → b < R.columns → i < length ss → get_or (column R b ss) i 0 ≡ get_or (column R b ts) i 0) → ss ≡ ts
   unfolding column

@@ -2,22 +2,28 @@
 use Rattle.std.proofs.Common.{◌≡◌, ◌∙◌, ℕ, ◌*◌, ◌<◌, List, [], ◌∷◌, length, refl, ap, arith, IsTrue}
 use Rattle.std.specs.Prelude.{bit_xor, IfSome, slice_get, slice_index}
 use Rattle.std.proofs.lemmas.Option.{IfSome_then}
-use Rattle.gf_cantor.specs.Field.{product, byte_field}
+use Rattle.gf_cantor.specs.Field.{product, byte_field, word_field}
 use Rattle.namespace_id.specs.declared.shares.Share.{Share}
 use Rattle.namespace_id.specs.Shares.{AreShares}
 use Rattle.namespace_id.specs.Cells.{is_width}
 use Rattle.namespace_id.proofs.WidthLemmas.{is_width-le}
 use Rattle.byte_polynomial.specs.Polynomial.{AreCoefficients}
-use Rattle.lch_fft.specs.Readings.{byte_reading}
+use Rattle.lch_fft.specs.Readings.{byte_reading, word_reading}
 use Rattle.lch_fft.specs.ReadingLaws.{byte_reading_laws}
 use Rattle.lch_fft.proofs.CountLemmas.{double_count}
-use Rattle.leopard_code.specs.Codewords.{column, are_positions, IsCodeword, HasCode, HasEntries, weighted, weighted_over}
+use Rattle.leopard_code.specs.Codewords.{column, are_positions, is_word_width, IsCodeword, HasCode, HasEntries, weighted, weighted_over}
+use Rattle.leopard_code.proofs.PositionLemmas.{word_width-le, word_count}
 use Rattle.leopard_code.proofs.LawReadingLemmas.{one_codeword as one_over, through_shares as through_over, generated as generated_over}
 
 -- a width up to 128 has a code over bytes
 pub width_code : (k : ℕ) → IsTrue (is_width k) → HasCode byte_reading.field k
 unfolding byte_reading byte_field
 width_code k width = record { count = double_count k width; fits = omega (arith, is_width-le k width) }
+
+-- a width of the code over words has one over them
+pub word_code : (k : ℕ) → IsTrue (is_word_width k) → HasCode word_reading.field k
+unfolding word_reading word_field
+word_code k width = record { count = word_count k width; fits = omega (arith, word_width-le k width) }
 
 -- two codewords with the same shares at k positions are one
 pub one_codeword : (k : ℕ) (known : List ℕ) (word other : List Share) → IsTrue (is_width k) → length known ≡ k → IsTrue (are_positions k known)

@@ -22,7 +22,7 @@ use Rattle.gf_cantor.specs.Field.{product, size}
 use Rattle.lch_fft.specs.Readings.{Reading, AreReadingLaws}
 
 module _ (R : Reading) (L : AreReadingLaws R) where
-  -- a polynomial that takes a column takes the bytes of the known entries at their points
+  -- a polynomial that takes a column takes the labels of the known entries at their points
   pub takes_known : (k : ℕ) (known : List ℕ) (cs ys zs : List ℕ) → IsTrue (are_positions k known) → length zs ≡ length known → PassesThrough R.field cs (points k) ys
       → ((i : ℕ) → i < length known → get_or ys (get_or known i 0) 0 ≡ get_or zs i 0) → PassesThrough R.field cs (points_at k known) zs
   takes_known k known cs ys zs positions long takes same =
@@ -31,7 +31,7 @@ module _ (R : Reading) (L : AreReadingLaws R) where
       ap (value_at R.field cs) (get_or-map (point k) known i 0 0 within)
       ∙ value_at_position R.field k (get_or known i 0) cs ys (position-lt k known i within positions) takes ∙ same i within)
 
-  -- the bytes of the entries at the positions
+  -- the labels of the entries at the positions
   picked : List ℕ → List ℕ → List ℕ
   picked [] ys = []
   picked (p ∷ known) ys = get_or ys p 0 ∷ picked known ys
@@ -49,7 +49,7 @@ module _ (R : Reading) (L : AreReadingLaws R) where
   get_or-picked (p ∷ known) ys zero h = refl
   get_or-picked (p ∷ known) ys (suc i) h = get_or-picked known ys i (omega arith)
 
-  -- one byte of two codewords with the same entries
+  -- one label of two codewords with the same entries
   same_byte : (k : ℕ) (known ys zs : List ℕ) (pos : ℕ) (cs ds : List ℕ) → 2 * k ≤ size R.field → length known ≡ k → IsTrue (are_positions k known) → pos < 2 * k
       → length cs ≡ k → AreCoefficients R.field cs → PassesThrough R.field cs (points k) ys → length ds ≡ k → AreCoefficients R.field ds → PassesThrough R.field ds (points k) zs
       → ((i : ℕ) → i < length known → get_or ys (get_or known i 0) 0 ≡ get_or zs (get_or known i 0) 0) → get_or ys pos 0 ≡ get_or zs pos 0
@@ -111,7 +111,7 @@ module _ (R : Reading) (L : AreReadingLaws R) where
         (undone R.field L.laws (away R.field L.laws (before ++ ps) x) u.0 d (away-lt R.field L.laws (before ++ ps) x) u.2, rest.3),
       )
 
-  -- values of a polynomial are bytes
+  -- values of a polynomial are labels
   labels_taken : (cs xs ys : List ℕ) → AreCoefficients R.field cs → PassesThrough R.field cs xs ys → AreCoefficients R.field ys
   unfolding PassesThrough AreCoefficients
   labels_taken cs [] [] bytes takes = tt
@@ -119,7 +119,7 @@ module _ (R : Reading) (L : AreReadingLaws R) where
   labels_taken cs (x ∷ xs) [] bytes takes = tt
   labels_taken cs (x ∷ xs) (y ∷ ys) bytes takes = (subst (λ (v : ℕ). v < size R.field) takes.0 (value_at-lt R.field L.laws cs x bytes), labels_taken cs xs ys bytes takes.1)
 
-  -- the byte of a column is that of the entry
+  -- the label of a column is that of the entry
   entry_of_byte : (b v : ℕ) (ss : List Share) (i : ℕ) → i < length ss → get_or (column R b ss) i 0 ≡ v → IfSome (slice_get ss i) (λ share. R.label_at share.0 b ≡ v)
   unfolding column
   entry_of_byte b v [] i h e = absurd (omega arith)

@@ -52,7 +52,7 @@ slice_get-set_other (s ∷ all) zero (suc q) share h = refl
 slice_get-set_other (s ∷ all) (suc pos) zero share h = refl
 slice_get-set_other (s ∷ all) (suc pos) (suc q) share h = slice_get-set_other all pos q share (λ e. h (ap suc e))
 
--- the bytes of a share that is written
+-- the labels of a share that is written
 pub byte-set_same : (r : Reading) (all : List Share) (pos b : ℕ) (share : Share) → pos < length all
     → byte r (set all pos share) pos b ≡ r.label_at share.0 b
 byte-set_same r all pos b share h =

@@ -22,7 +22,7 @@ pub difference-other : (x r : ℕ) → x ≢ r → difference x r ≡ bit_xor x 
 difference-other x r e = ap (λ (t : Bool). if t then 1 else bit_xor x r) (ne_eqb x r e)
 
 module _ (F : Field) (L : AreFieldLaws F) where
-  -- a product of differences is a byte
+  -- a product of differences is a label
   pub apart_from-lt : (rs : List ℕ) (x : ℕ) → apart_from F rs x < size F
   unfolding apart_from
   apart_from-lt [] x = size-above F L
@@ -69,7 +69,7 @@ module _ (F : Field) (L : AreFieldLaws F) where
   pub inverse_undoes : (d q y : ℕ) → y < size F → product F d q ≡ 1 → product F q (product F y d) ≡ y
   inverse_undoes d q y h e = product_swap F L q y d ∙ ap (product F y) (product_comm F L q d ∙ e) ∙ product_comm F L y 1 ∙ one-product F L y h
 
-  -- a byte times the difference of a point and itself stays
+  -- a label times the difference of a point and itself stays
   pub difference_kept : (x r v : ℕ) → v < size F → x ≡ r → v ≡ product F v (difference x r)
   difference_kept x r v h e = sym (ap (product F v) (difference-same x r e) ∙ product_comm F L v 1 ∙ one-product F L v h)
 

@@ -39,7 +39,7 @@ module _ (F : Field) (L : AreFieldLaws F) where
       ∙ ap (λ (z : ℕ). bit_xor z (value_at F s x)) (value_at-multiplied F L s s x)
       ∙ ap (λ (z : ℕ). bit_xor (product F z z) z) (value_at-subspace i x h)
 
-  -- the first coefficients are bytes
+  -- the first coefficients are labels
   pub AreCoefficients-front : (n : ℕ) (ds : List ℕ) → AreCoefficients F ds → AreCoefficients F (take n ds)
   unfolding AreCoefficients
   AreCoefficients-front zero ds h = tt
@@ -77,7 +77,7 @@ module _ (F : Field) (L : AreFieldLaws F) where
         length-multiplied F L (subspace_polynomial b) high (omega (arith, length-subspace b)) (omega arith),
       )
 
-  -- they are bytes
+  -- they are labels
   pub AreCoefficients-coefficients : (b : ℕ) (ds : List ℕ) → AreCoefficients F ds → AreCoefficients F (coefficients b ds)
   unfolding coefficients
   AreCoefficients-coefficients zero ds h = h

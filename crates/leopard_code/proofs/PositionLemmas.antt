@@ -18,6 +18,10 @@ use Rattle.namespace_id.proofs.AscendingLemmas.{length-ascending, get_or-ascendi
 pub word_width-le : (k : ℕ) → IsTrue (is_word_width k) → k ≤ 512
 word_width-le k width = grind (arith, nat_tests)
 
+-- twice it is the length of a transform
+pub word_count : (k : ℕ) → IsTrue (is_word_width k) → IsTrue (is_count (2 * k))
+word_count k width = grind (arith, nat_tests)
+
 -- the point of a position is below 2k
 pub point-lt : (k pos : ℕ) → pos < 2 * k → point k pos < 2 * k
 point-lt k pos l = grind (arith, nat_tests)

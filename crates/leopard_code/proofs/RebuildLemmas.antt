@@ -51,7 +51,7 @@ module _ (R : Reading) (L : AreReadingLaws R) where
     pub all_bytes : AreShares word
     pub whole : length word ≡ 2 * k
 
-  -- ---- one byte column, of a polynomial that takes the bytes of the known shares
+  -- ---- one column, of a polynomial that takes the labels of the known shares
 
   module _ (k : ℕ) (known : List ℕ) (shares : List Share) (values : List ℕ) (blank multiplied derived divided word : List Share)
       (r : IsRebuilding k known shares values blank multiplied derived divided word)
@@ -72,14 +72,14 @@ module _ (R : Reading) (L : AreReadingLaws R) where
     standing : (pos : ℕ) → pos < 2 * k → Stands pos known ms
     standing pos h = stands (2 * k) 0 (2 * k) known pos (omega arith) (positions_rise k known r.positions) (omega arith) h
 
-    -- the value at a known position is the byte there
+    -- the value at a known position is the label there
     value_known : (pos : ℕ) → pos < 2 * k → (s : IsKnown pos known ms) → value_at R.field moved pos ≡ get_or (column R b shares) s.index 0
     value_known pos h s =
         value_moved pos h
         ∙ ap (value_at R.field cs) (ap (point k) (sym s.here) ∙ sym (get_or-map (point k) known s.index 0 0 s.within))
         ∙ takes-at R.field cs (points_at k known) (column R b shares) s.index (omega (arith, s.within, length-points_at k known)) takes
 
-    -- the byte at a known position
+    -- the label at a known position
     byte_known : (list : List Share) (pos : ℕ) → HasEntries known shares list → (s : IsKnown pos known ms) → get_or (column R b list) pos 0 ≡ get_or (column R b shares) s.index 0
     byte_known list pos entries s =
         get_or-column R L b list pos
@@ -87,7 +87,7 @@ module _ (R : Reading) (L : AreReadingLaws R) where
         ∙ ap (byte_of R b) (entries s.index s.within)
         ∙ sym (get_or-column R L b shares s.index)
 
-    -- the byte at a missing one
+    -- the label at a missing one
     byte_missing : (new old : List Share) (pos : ℕ) → slice_get new pos ≡ slice_get old pos → get_or (column R b new) pos 0 ≡ get_or (column R b old) pos 0
     byte_missing new old pos same = get_or-column R L b new pos ∙ ap (byte_of R b) same ∙ sym (get_or-column R L b old pos)
 
@@ -130,7 +130,7 @@ module _ (R : Reading) (L : AreReadingLaws R) where
         (omega (arith, same_length, ap length s.parts, lost, r.count)) found.2 agree
         ∙ ap (product R.field (value_at R.field moved pos)) (sym apart)
 
-    -- each byte of the word is the value at its point
+    -- each label of the word is the value at its point
     word_value : (pos : ℕ) → pos < 2 * k → Stands pos known ms → get_or (column R b word) pos 0 ≡ value_at R.field cs (point k pos)
     word_value pos h (inl s) = byte_known word pos r.known_again s ∙ sym (value_known pos h s) ∙ value_moved pos h
     word_value pos h (inr s) =
