@@ -2,12 +2,13 @@
 
 ghost use Rattle.std.specs.Prelude.{◌≡◌, ◌<◌, ◌≤◌, ◌+◌, ◌*◌, ◌%◌, ℕ, IsTrue, length, slice_index};
 ghost use Rattle.namespace_id.specs.Cells.{is_width};
-ghost use Rattle.leopard_code.specs.Codewords.{are_positions};
+ghost use Rattle.gf_cantor.specs.Field.{size};
+ghost use Rattle.leopard_code.specs.Codewords.{are_positions, is_word_width};
 ghost use Rattle.lch_fft.specs.Transforms.{is_count};
 
 use gf_cantor::{field_laws, inv, mul_row};
-use lch_fft::{forward, inverse, transform_laws};
-use leopard_code::{Room, code_laws, extend, rebuild};
+use lch_fft::{Factor, forward, inverse, transform_laws};
+use leopard_code::{Room, code_laws, extend, extend_words, rebuild};
 use namespace_id::{Share, shares_law};
 
 /// A label has one inverse.
@@ -64,32 +65,44 @@ pub fn extend_twice(room: &mut Room, originals: &[Share], one: &mut [Share], oth
     extend(room, originals, other);
 }
 
-/// Coefficients have one list of values.
-pub fn forward_twice(one: &mut [Share], other: &mut [Share], shift: u16)
+/// So have those of the widths 256 and 512.
+pub fn extend_words_twice(originals: &[Share], one: &mut [Share], other: &mut [Share])
+    requires width { IsTrue (is_word_width (length originals.now)) }
+    requires one { length one.old ≡ length originals.now }
+    requires other { length other.old ≡ length originals.now }
+    ensures state { one.new ≡ other.new }
+{
+    code_laws();
+    extend_words(originals, one);
+    extend_words(originals, other);
+}
+
+/// Coefficients have one list of values, over each field.
+pub fn forward_twice<M: Factor>(one: &mut [Share], other: &mut [Share], shift: u16)
     requires count { IsTrue (is_count (length one.old)) }
     requires block { shift % length one.old ≡ 0 }
-    requires fits { shift + length one.old ≤ 256 }
+    requires fits { shift + length one.old ≤ size M.reading.field }
     requires same { other.old ≡ one.old }
     ensures state { one.new ≡ other.new }
 {
-    transform_laws();
-    forward(one, shift);
-    forward(other, shift);
+    transform_laws::<M>();
+    forward::<M>(one, shift);
+    forward::<M>(other, shift);
     shares_law(one);
     shares_law(other);
 }
 
-/// Values have one list of coefficients.
-pub fn inverse_twice(one: &mut [Share], other: &mut [Share], shift: u16)
+/// Values have one list of coefficients, over each field.
+pub fn inverse_twice<M: Factor>(one: &mut [Share], other: &mut [Share], shift: u16)
     requires count { IsTrue (is_count (length one.old)) }
     requires block { shift % length one.old ≡ 0 }
-    requires fits { shift + length one.old ≤ 256 }
+    requires fits { shift + length one.old ≤ size M.reading.field }
     requires same { other.old ≡ one.old }
     ensures state { one.new ≡ other.new }
 {
-    transform_laws();
-    inverse(one, shift);
-    inverse(other, shift);
+    transform_laws::<M>();
+    inverse::<M>(one, shift);
+    inverse::<M>(other, shift);
     shares_law(one);
     shares_law(other);
 }

@@ -1,9 +1,10 @@
-//! Codewords of shares. Expected bytes: by tools/values.py.
+//! Codewords of shares. Expected bytes: by tools/values.py, those of widths 256 and 512 by
+//! klauspost/reedsolomon 1.14.1.
 
 ghost use Rattle.std.specs.Prelude.{◌<◌};
 
 use crate::inputs::share;
-use leopard_code::{Room, are_positions, extend, rebuild};
+use leopard_code::{Room, are_positions, extend, extend_words, rebuild};
 use namespace_id::{SHARE_SIZE, Share, is_width};
 use std::alloc::Global;
 use std::process::Abort;
@@ -119,4 +120,40 @@ fn greatest_width(rt: HostRuntime) {
             "{i}"
         );
     }
+}
+
+/// A share whose first word is 1.
+fn unit() -> Share {
+    let mut bytes = [0; SHARE_SIZE];
+    bytes[0] = 1;
+    Share(bytes)
+}
+
+/// The first word of a share.
+fn word(share: &Share) -> u16 {
+    u16::from_le_bytes([share.0[0], share.0[32]])
+}
+
+#[test]
+fn words_of_width_256(rt: HostRuntime) {
+    let mut originals = [share(0); 256];
+    originals[17] = unit();
+    let mut recovery = [share(0); 256];
+    extend_words(&originals, &mut recovery);
+    assert!(rt; word(&recovery[0]) == 8551);
+    assert!(rt; word(&recovery[1]) == 8518);
+    assert!(rt; word(&recovery[2]) == 63600);
+    assert!(rt; word(&recovery[255]) == 33122);
+}
+
+#[test]
+fn words_of_width_512(rt: HostRuntime) {
+    let mut originals = [share(0); 512];
+    originals[511] = unit();
+    let mut recovery = [share(0); 512];
+    extend_words(&originals, &mut recovery);
+    assert!(rt; word(&recovery[0]) == 48763);
+    assert!(rt; word(&recovery[1]) == 33754);
+    assert!(rt; word(&recovery[2]) == 33625);
+    assert!(rt; word(&recovery[511]) == 57670);
 }
