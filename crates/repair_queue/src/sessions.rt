@@ -208,7 +208,8 @@ impl Session {
         fill_unknown(&self.board, room);
     }
 
-    /// Ends the session with the answer over everything that was fed. It takes no memory.
+    /// Ends the session with the answer over everything that was fed. It takes no memory: a square has that of its
+    /// extension, of which the rest is given back.
     pub fn finish(self) -> Verdict
         ensures verdict { (ms : List Message) → StandsFor self ms →
             IsVerdict self.header ms (parts_of result) }

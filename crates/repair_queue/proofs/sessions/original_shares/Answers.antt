@@ -1,4 +1,4 @@
-use Rattle.std.proofs.Common.{◌≡◌, ℕ, ◌+◌, ◌*◌, ◌<◌, length, subst, arith}
+use Rattle.std.proofs.Common.{◌≡◌, ℕ, ◌+◌, ◌*◌, ◌<◌, subst, arith}
 use Rattle.namespace_id.specs.declared.cells.Cell.{Cell}
 use Rattle.repair_queue.proofs.Feeding.SharesLemmas.{one_moved}
 use Rattle.repair_queue.proofs.sessions.original_shares.Goals as goal

@@ -1,5 +1,5 @@
-use Rattle.std.proofs.Common.{rules, ◌≡◌, ◌∙◌, ℕ, ◌*◌, ◌<◌, ◌≤◌, [], sym, ap, subst, arith}
-use Rattle.std.specs.Prelude.{None, vec_capacity}
+use Rattle.std.proofs.Common.{◌≡◌, ◌∙◌, ℕ, ◌<◌, [], sym, ap, subst}
+use Rattle.std.specs.Prelude.{None}
 use Rattle.data_header.specs.Headers.{Roots}
 use Rattle.namespace_id.proofs.WidthLemmas.{is_width-pos}
 use Rattle.repair_queue.specs.Boards.{given_of, decided_of, share_of}
@@ -21,8 +21,6 @@ invariant_of-result c =
         nothing_rests c.in_ok-header.header.k (given_of c.in_ok-board.board) (decided_of c.in_ok-board.board)
             (subst (λ (k : ℕ). 0 < k) width (is_width-pos c.width-k.result c.width-k.ensures.width)) c.in_ok-board.ensures.empty c.in_ok-board.ensures.undecided,
       );
-      empty = search rules;
-      space = subst (λ (k : ℕ). k * k ≤ vec_capacity c.in_ok-shares.shares) width (omega (arith, c.in_ok-shares.ensures.capacity));
       cells = c.in_ok-room.ensures.k ∙ width;
     }
 
