@@ -73,6 +73,14 @@ impl<'a> FileInputs<'a> {
     }
 }
 
+/// The size that the system tells of a file, 0 where it tells none.
+fn told_size(file: &File) -> u64 {
+    match file.metadata() {
+        Ok(found) => found.len(),
+        Err(_) => 0,
+    }
+}
+
 /// Reads once: what a stream gives is what is answered.
 fn read_once<R: Read>(reader: &mut R, buf: &mut [u8]) -> Result<usize, ReadFailed>
     ensures bound { ReadsAtMost result buf.new }
@@ -135,6 +143,14 @@ impl Inputs for FileInputs<'_> {
                 self.faults = self.faults.saturating_add(1);
                 Err(PickFailed)
             }
+        }
+    }
+
+    /// The size that the system tells of the open file; that of a pipe is 0.
+    fn size(&self) -> u64 {
+        match &self.file {
+            Some(file) => told_size(file),
+            None => 0,
         }
     }
 

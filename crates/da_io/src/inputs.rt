@@ -70,6 +70,10 @@ pub trait Inputs {
         ensures rest { Picks (files self.old) (string_bytes name) (rest self.new) result }
         ensures faults { CountsFault (faults self.old) (faults self.new) result };
 
+    /// How many bytes the picked file may have, for whoever takes memory for them. Nothing is said of it: a file may
+    /// have fewer and more, and 0 stands for one that doesn't tell. It is no read, and can't fail.
+    fn size(&self) -> u64;
+
     /// Moves bytes of the picked file to the front of `buf`, and gives their number.
     ///
     /// 0 for a `buf` that isn't empty is the end of the file. A failure gives no bytes.

@@ -197,6 +197,11 @@ impl Inputs for MemInputs {
         Ok(())
     }
 
+    /// How many bytes are left of the picked file.
+    fn size(&self) -> u64 {
+        rest_in(&self.contents, self.file, self.place).len() as u64
+    }
+
     /// Fails exactly where its number is in `fail`, and else gives as many bytes as a piece, the
     /// buffer and what is left allow.
     fn read(&mut self, buf: &mut [u8]) -> Result<usize, ReadFailed>

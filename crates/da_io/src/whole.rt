@@ -1,6 +1,6 @@
 //! A whole file, a whole piece.
 
-ghost use Rattle.std.specs.Prelude.{◌≡◌, IsSome, ◌↔◌, IfOk};
+ghost use Rattle.std.specs.Prelude.{◌≡◌, IsSome, ◌↔◌, IfOk, []};
 ghost use Rattle.std.specs.Io.KnownBytes.{IsAtEnd};
 ghost use Rattle.da_io.specs.Faults.{count_on, CountsFault};
 ghost use Rattle.da_io.specs.Sinks.{WritesAll};
@@ -35,6 +35,20 @@ pub enum InputFault {
     NoMemory,
 }
 
+/// A list with capacity for as many bytes as a file tells, where these are within the limit and there is memory for
+/// them. So one that tells its size takes no memory but that, and its list doesn't grow while it is read.
+fn room(alloc: Global, size: u64, limit: u64) -> Vec<u8>
+    ensures { result.items ≡ [] }
+{
+    if size > limit {
+        return Vec::new(alloc);
+    }
+    match Vec::with_capacity(alloc, size as usize) {
+        Ok(room) => room,
+        Err(_) => Vec::new(alloc),
+    }
+}
+
 /// Reads what is left of the picked file to its end, at most `limit` bytes.
 ///
 /// Fails at the first read that fails; then where more than `limit` bytes came, before any of
@@ -58,7 +72,7 @@ pub fn read_all<I: Inputs>(alloc: Global, inputs: &mut I, limit: u64) -> Result<
     ensures picks { I.picks inputs.new ≡ I.picks inputs.old }
     ensures files { I.files inputs.new ≡ I.files inputs.old }
 {
-    let mut content = Vec::new(alloc);
+    let mut content = room(alloc, inputs.size(), limit);
     let mut buf = [0; PIECE_SIZE];
     loop {
         let Ok(count) = inputs.read(&mut buf) else {
