@@ -1,4 +1,5 @@
 -- What each command answers.
+pub mod AheadLemmas
 pub mod CheckLemmas
 pub mod ClashLemmas
 pub mod RepairLemmas

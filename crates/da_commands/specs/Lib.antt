@@ -1,6 +1,7 @@
 pub mod Contents
 pub mod Frames
 pub mod Forms
+pub mod Ahead
 pub mod Check
 pub mod Build
 pub mod Commit

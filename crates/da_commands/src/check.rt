@@ -5,18 +5,22 @@ ghost use Rattle.da_wire.specs.Reading.{raw_seen};
 ghost use Rattle.da_wire.specs.Frames.{frames_of};
 ghost use Rattle.da_commands.specs.declared.command.Command.TheVariants.{Check};
 ghost use Rattle.da_commands.specs.Contents.{contents_of};
+ghost use Rattle.da_commands.specs.Ahead.{IsShownBy};
 ghost use Rattle.da_commands.specs.Check.{finding_of, line_of, is_ok, Lists};
 ghost use Rattle.da_commands.specs.Meaning.{Meaning};
 ghost use Rattle.da_status.specs.Outcome.{EndsAtOnce};
 
+use crate::ahead::next_leaf;
 use crate::forms::header_and_messages;
 use crate::frames::is_long;
-use axis_roots::{CheckRefusal, PartialTrees, opens_by};
+use axis_roots::{CheckRefusal, PartialTrees, opens_hashed_by};
 use da_io::{LineRoom, Sink};
 use da_status::Status;
 use da_wire::{RawFrame, next_frame};
 use data_header::Header;
 use frame_fields::message;
+use namespace_id::Digest;
+use nmt_tree::LeafQueue;
 use std::alloc::Global;
 
 /// What `check` finds of a frame.
@@ -30,9 +34,16 @@ pub enum Finding {
     Refused(CheckRefusal),
 }
 
-/// What is found of a frame under a header, by the partial trees under it where there are some.
-fn finding_of(header: &Header, trees: &mut Option<PartialTrees>, frame: RawFrame<'_>) -> Finding
+/// What is found of a frame under a header, by the partial trees under it where there are some, and by the
+/// digest of the leaf that the frame shows where it is known.
+fn finding_of(
+    header: &Header,
+    trees: &mut Option<PartialTrees>,
+    frame: RawFrame<'_>,
+    leaf: Option<Digest>,
+) -> Finding
     requires under { IfSome trees.old (λ kept. kept ≡ header.now) }
+    requires leaf { IfSome leaf (λ digest. IsShownBy header.now.k digest (raw_seen frame)) }
     ensures value { result ≡ finding_of header.now (raw_seen frame.entry) }
     ensures kept { trees.new ≡ trees.old }
 {
@@ -42,7 +53,7 @@ fn finding_of(header: &Header, trees: &mut Option<PartialTrees>, frame: RawFrame
     let Some(message) = message(frame.payload) else {
         return Finding::NoMessage;
     };
-    match opens_by(header, trees, &message) {
+    match opens_hashed_by(header, trees, &message, leaf) {
         Ok(()) => Finding::Proved,
         Err(why) => Finding::Refused(why),
     }
@@ -80,10 +91,12 @@ fn list<O: Sink>(
         (O.taken out.new) (O.faults out.old) (O.faults out.new) (out.new ≡ out.old) result }
 {
     let mut room = LineRoom::new();
+    let mut queue = LeafQueue::new();
     let mut rest = messages;
     let mut all_ok = true;
     while let Some((frame, after)) = next_frame(rest) {
-        let finding = finding_of(header, trees, frame);
+        let leaf = next_leaf(trees, &mut queue, header.k, rest);
+        let finding = finding_of(header, trees, frame, leaf);
         let Ok(()) = room.add(line_of(finding), out) else {
             return Status::WriteFault;
         };

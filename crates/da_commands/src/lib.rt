@@ -6,6 +6,7 @@
 //! file is read by the crate above.
 #![tactic(auto)]
 
+mod ahead;
 mod answers;
 mod blobs;
 mod build;
