@@ -15,6 +15,7 @@ ghost use Rattle.std.specs.Prelude.{◌≡◌, ◌+◌, ◌/◌, ◌%◌, ◌^�
 ghost use Rattle.gf_cantor.specs.Field.{size};
 ghost use Rattle.namespace_id.specs.Shares.{AreShares};
 ghost use Rattle.namespace_id.specs.declared.shares.Share.{Share as ShareValue};
+ghost use Rattle.lch_fft.specs.Readings.{AreReadingLaws};
 ghost use Rattle.lch_fft.specs.Transforms.{column, subspace, is_count, Evaluates};
 ghost use Rattle.lch_fft.specs.Butterflies.{spread, gather, halvings};
 ghost use Rattle.lch_fft.specs.Laws.{OneListOfCoefficients};
@@ -91,8 +92,8 @@ pub fn inverse<M: Factor>(shares: &mut [Share], shift: u16)
 }
 
 /// What the polynomials of the transforms are: s_i shifts a label right by i places. Coefficients
-/// have one list of values at a block of points, and values one list of coefficients. It does
-/// nothing, and takes no memory.
+/// have one list of values at a block of points, and values one list of coefficients. Labels are a
+/// field, and a share is told by them. It does nothing, and takes no memory.
 pub fn transform_laws<M: Factor>()
     ensures shifts { (i x : ℕ) → x < size M.reading.field →
         subspace M.reading.field i x ≡ x / 2 ^ i }
@@ -100,4 +101,5 @@ pub fn transform_laws<M: Factor>()
         AreShares values → AreShares others → Evaluates M.reading shift coefficients values →
         Evaluates M.reading shift coefficients others → values ≡ others }
     ensures only_coefficients { OneListOfCoefficients M.reading }
+    ensures laws { AreReadingLaws M.reading }
 {}

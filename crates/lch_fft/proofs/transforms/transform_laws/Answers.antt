@@ -16,3 +16,7 @@ returns-clause-only_values g c = λ s ds vs others. only_values g.M.Factor.readi
 -- the inverse by halves finds them
 pub returns-clause-only_coefficients : goal.returns-clause-only_coefficients
 returns-clause-only_coefficients g c = λ s ds others vs h e f. only_coefficients g.M.Factor.reading g.met.M.Factor.laws ds others vs s (length vs) h e f refl
+
+-- each factor has them
+pub returns-clause-laws : goal.returns-clause-laws
+returns-clause-laws g c = g.met.M.Factor.laws
