@@ -5,3 +5,6 @@ pub mod FeedOnceLemmas
 pub mod FeedItemLemmas
 pub mod FollowLemmas
 pub mod FeedStatusLemmas
+pub mod KeptLemmas
+pub mod WayLemmas
+pub mod FedByLemmas

@@ -1,7 +1,6 @@
 -- follow WANTED ANSWERS: the blobs of namespaces from height to height, complete.
-use Rattle.std.specs.Prelude.{◌≡◌, ℕ, ◌+◌, ◌<◌, ◌≤◌, ◌==◌, List, [], ◌∷◌, ◌++◌, length, map, codes, decimal, slice_index, Bool, not, Option, Some, None, is_some, IsSome, Ok, Err, if◌then◌else◌, MatchOption, ⊤}
+use Rattle.std.specs.Prelude.{◌≡◌, ℕ, ◌+◌, ◌<◌, ◌≤◌, ◌==◌, List, [], ◌∷◌, ◌++◌, length, map, codes, decimal, slice_index, Bool, not, Option, Some, None, is_some, IsSome, Ok, Err, if◌then◌else◌, MatchOption}
 use Rattle.std.specs.List.{fold, filter, filter_map, flat_map, range_with_len, Contains}
-use Rattle.std.specs.Option.{option_map}
 use Rattle.std.specs.BTreeSet.{insert_key}
 use Rattle.hex.specs.Hex.{encode_lower}
 use Rattle.sha2.specs.Sha256.{sha256}
@@ -9,8 +8,7 @@ use Rattle.namespace_id.specs.declared.namespaces.Namespace as names
 use Rattle.namespace_id.specs.Names.{namespace_cmp, is_blob_namespace}
 use Rattle.share_split.specs.declared.joining.JoinError.{JoinError}
 use Rattle.share_split.specs.Blobs.{NamedBytes}
-use Rattle.blob_feed.specs.Feeds.{Item, headed, answered, heights_of, Read, read_of, IsFeedOf}
-use Rattle.blob_feed.specs.Followers.{FollowerParts, kept_at}
+use Rattle.blob_feed.specs.Feeds.{Item, headed, answered, heights_of, Read, IsFeedOf}
 use Rattle.da_wire.specs.declared.frames.Frame.{Frame}
 use Rattle.da_wire.specs.declared.frames.Frame.TheVariants.{Header, Names}
 use Rattle.da_wire.specs.Spelling.{header_kind, names_kind, request_kind}
@@ -68,26 +66,11 @@ begins_with_answer bytes = slice_index bytes 0 == names_kind
 abbrev pub bad_feed : List ℕ → Option ℕ
 bad_feed bytes = if begins_with_answer bytes then Some 0 else bad_value feed_kinds bytes
 
--- no answer stands in front of the first header
-abbrev pub IsLed : List Item → Type 0
-IsLed [] = ⊤
-IsLed (headed header ∷ items) = ⊤
-IsLed (answered given ∷ items) = ⊥
-
--- a frame that is an answer comes where there is a height
-abbrev pub IsTimely : ℕ → Frame → Type 0
-IsTimely count (Names name answer) = 1 ≤ count
-IsTimely count frame = ⊤
-
 -- ---- lines
 
 -- what each height, counted from 0, has of each namespace
 abbrev pub Feed : Type 0
 Feed = ℕ → names.Namespace → Option Read
-
--- what a follower has
-abbrev pub feed_of : {F : Type 0} → FollowerParts F → Feed
-feed_of follower = λ number name. option_map read_of (kept_at follower number name)
 
 -- the line of a blob: how many bytes it has, and their SHA-256 value
 abbrev pub blob_line : NamedBytes → List ℕ

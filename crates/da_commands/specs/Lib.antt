@@ -21,6 +21,7 @@ pub mod Root
 pub mod Wanted
 pub mod Blobs
 pub mod Follow
+pub mod Heights
 pub mod Net
 pub mod Show
 pub mod Demo

@@ -1,15 +1,17 @@
-//! The lines of what a follower has, height by height.
+//! The lines of a namespace at a height.
 
-ghost use Rattle.std.specs.Prelude.{◌≡◌, ◌≤◌, ◌++◌, ◌∷◌, [], length, OnOk, IfOk, option_copied};
+ghost use Rattle.std.specs.Prelude.{◌≡◌, ◌++◌, ◌∷◌, [], OnOk, IfOk};
 ghost use Rattle.std.specs.List.{flat_map};
 ghost use Rattle.std.specs.Option.{option_map};
 ghost use Rattle.sha2.specs.Sha256.{sha256};
 ghost use Rattle.blob_feed.specs.Feeds.{read_of};
-ghost use Rattle.blob_feed.specs.Followers.{count_of};
-ghost use Rattle.da_commands.specs.Follow.{blob_line, place_text, count_text, fault_text, read_text, places_at, places_from, feed_of, IsToldOf, IsToldMore};
+ghost use Rattle.da_commands.specs.Follow.{blob_line, place_text, count_text, fault_text};
+ghost use Rattle.da_commands.specs.Heights.{said, said_by};
 
-use blob_feed::{Entry, Filter, Follower};
+use axis_roots::NsAnswer;
+use blob_feed::{Entry, ReadError, read_answer};
 use da_status::{Line, around, join_number, join_share};
+use data_header::Header;
 use namespace_id::{Namespace, NoMemory};
 use sha2::{Digest as _, Sha256};
 use share_split::{Blob, JoinError};
@@ -23,7 +25,7 @@ pub struct Told {
 }
 
 /// Appends bytes to a text.
-fn append(text: &mut Vec<u8>, part: &[u8]) -> Result<(), NoMemory>
+pub(crate) fn append(text: &mut Vec<u8>, part: &[u8]) -> Result<(), NoMemory>
     ensures { OnOk result (text.new.items ≡ text.old.items ++ part.now) }
 {
     match text.extend_from_slice(part) {
@@ -33,13 +35,13 @@ fn append(text: &mut Vec<u8>, part: &[u8]) -> Result<(), NoMemory>
 }
 
 /// How the lines of a namespace at a height begin.
-fn place_text(number: u32, name: &Namespace) -> Line
+pub(crate) fn place_text(number: u64, name: &Namespace) -> Line
     ensures { result ≡ place_text number name.now }
 {
     let mut digits = [0u8; 58];
     let _written = hex::encode_to_slice(&name.0, &mut digits);
     let mut line = Line::new();
-    around(&mut line, b"height ", u64::from(number), b" namespace ");
+    around(&mut line, b"height ", number, b" namespace ");
     line.put(&digits);
     line
 }
@@ -98,77 +100,35 @@ fn put_blobs(blobs: &[Blob], text: &mut Vec<u8>) -> Result<(), NoMemory>
 }
 
 /// Appends how the lines of a namespace at a height go on, by the entry that there is.
-fn put_entry(entry: Option<&Entry>, text: &mut Vec<u8>) -> Result<(), NoMemory>
-    ensures { OnOk result (text.new.items ≡
-        text.old.items ++ read_text (option_map read_of (option_copied entry.entry))) }
+fn put_entry(entry: &Entry, text: &mut Vec<u8>) -> Result<(), NoMemory>
+    ensures { OnOk result (text.new.items ≡ text.old.items ++ said (read_of entry.now)) }
 {
     match entry {
-        Some(Entry::Blobs(blobs)) => {
+        Entry::Blobs(blobs) => {
             append(text, count_text(blobs.len() as u64).as_bytes())?;
             put_blobs(blobs, text)
         }
-        Some(Entry::Malformed(why)) => append(text, fault_text(*why).as_bytes()),
-        None => append(text, b" missing\n"),
+        Entry::Malformed(why) => append(text, fault_text(*why).as_bytes()),
     }
 }
 
-/// Adds the lines of a namespace at a height. There are no more lines that say that there is nothing
-/// than bytes.
-fn put_place<F: Filter>(
-    follower: &Follower<F>,
-    number: u32,
-    name: &Namespace,
-    told: &mut Told,
-) -> Result<(), NoMemory>
-    requires { told.old.missing ≤ length told.old.text.items }
-    ensures more { OnOk result
-        (IsToldMore (feed_of follower.now) ((number, name.now) ∷ []) told.old told.new) }
-    ensures fits { OnOk result (told.new.missing ≤ length told.new.text.items) }
-{
-    let entry = follower.entry(number, name);
-    append(&mut told.text, place_text(number, name).as_bytes())?;
-    put_entry(entry, &mut told.text)?;
-    if entry.is_none() {
-        told.missing += 1;
-    }
-    Ok(())
-}
-
-/// Adds the lines of namespaces at a height, in their order.
-fn put_height<F: Filter>(
-    follower: &Follower<F>,
-    number: u32,
-    names: &[Namespace],
-    told: &mut Told,
-) -> Result<(), NoMemory>
-    requires { told.old.missing ≤ length told.old.text.items }
-    ensures more { OnOk result
-        (IsToldMore (feed_of follower.now) (places_at names.now number) told.old told.new) }
-    ensures fits { OnOk result (told.new.missing ≤ length told.new.text.items) }
-{
-    let mut rest = names;
-    while let Some((name, after)) = rest.split_first() {
-        put_place(follower, number, name, told)?;
-        rest = after;
-    }
-    Ok(())
-}
-
-/// The lines of what a follower has of namespaces at all of its heights, height by height.
-pub(crate) fn lines<F: Filter>(
+/// How the lines of a namespace at a height go on, by one answer under its header; none where the
+/// answer isn't complete. The blobs are dropped.
+pub(crate) fn text_of(
     alloc: Global,
-    follower: &Follower<F>,
-    names: &[Namespace],
-) -> Result<Told, NoMemory>
-    ensures { IfOk result
-        (IsToldOf (feed_of follower.now) (places_from names.now 0 (count_of follower.now))) }
+    header: &Header,
+    name: &Namespace,
+    answer: &NsAnswer,
+) -> Result<Option<Vec<u8>>, NoMemory>
+    ensures { IfOk result (λ text. option_map (λ t. t.items) text ≡ said_by header.now name.now
+        (record { name = name.now; answer = answer.now } ∷ [])) }
 {
-    let mut told = Told {
-        text: Vec::new(alloc),
-        missing: 0,
+    let entry = match read_answer(alloc, header, name, answer) {
+        Ok(entry) => entry,
+        Err(ReadError::Refused(_)) => return Ok(None),
+        Err(ReadError::NoMemory) => return Err(NoMemory),
     };
-    for number in 0..follower.heights() {
-        put_height(follower, number, names, &mut told)?;
-    }
-    Ok(told)
+    let mut text = Vec::new(alloc);
+    put_entry(&entry, &mut text)?;
+    Ok(Some(text))
 }

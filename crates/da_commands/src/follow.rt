@@ -1,6 +1,6 @@
 //! follow WANTED ANSWERS: the blobs of namespaces from height to height, complete.
 
-ghost use Rattle.std.specs.Prelude.{◌≡◌, ◌⊎◌, ◌↔◌, ◌≤◌, ◌++◌, ⊤, ℕ, List, Some, None, OnOk, IfOk, [], length};
+ghost use Rattle.std.specs.Prelude.{◌≡◌, ◌⊎◌, ◌↔◌, ◌+◌, ◌<◌, ◌≤◌, ◌^◌, ⊤, ℕ, List, Some, None, OnOk, IfOk, [], length};
 ghost use Rattle.std.specs.List.{list_any, cons_option, Contains};
 ghost use Rattle.namespace_id.specs.declared.namespaces.Namespace.{Namespace as Name};
 ghost use Rattle.namespace_id.specs.Bytes.{AreBytes};
@@ -8,9 +8,8 @@ ghost use Rattle.share_split.specs.Walks.{blobs_of};
 ghost use Rattle.data_header.specs.Headers.{Roots};
 ghost use Rattle.square_layout.specs.Blocks.{SquareShares};
 ghost use Rattle.axis_roots.specs.Grids.{IsHeaderOf};
-ghost use Rattle.blob_feed.specs.Feeds.{Item, heights_of, header_at, Read, IsFeedOf, shares_in, FirstNames};
-ghost use Rattle.blob_feed.specs.Filters.{IsFilter, wanted_by};
-ghost use Rattle.blob_feed.specs.Followers.{StandsFor, count_of, is_name};
+ghost use Rattle.blob_feed.specs.Feeds.{Item, Height, heights_of, header_at, Read, IsFeedOf, shares_in, FirstNames};
+ghost use Rattle.blob_feed.specs.Followers.{is_name};
 ghost use Rattle.da_status.specs.declared.status.Status.{Status as Ended};
 ghost use Rattle.da_status.specs.declared.status.Status.TheVariants.{Done, Waiting};
 ghost use Rattle.da_status.specs.Statuses.{kind_of, output};
@@ -19,14 +18,16 @@ ghost use Rattle.da_commands.specs.declared.command.Command.TheVariants as Comma
 ghost use Rattle.da_commands.specs.Contents.{contents_of};
 ghost use Rattle.da_commands.specs.Serving.{failing_from};
 ghost use Rattle.da_commands.specs.Namespace.{namespaces_in};
-ghost use Rattle.da_commands.specs.Follow.{is_followed, each_once, item_of, items_in, bad_feed, IsLed, IsTimely, Feed, places_from, IsToldOf, places_of, missing_count, HasAll, feed_status, Follows, FollowsAsked};
+ghost use Rattle.da_commands.specs.Follow.{is_followed, each_once, item_of, items_in, bad_feed, Feed, places_from, IsToldOf, places_of, missing_count, HasAll, feed_status, Follows, FollowsAsked};
+ghost use Rattle.da_commands.specs.Heights.{fed_by, IsOnWay, begun};
 ghost use Rattle.da_commands.specs.Meaning.{Meaning};
 
-use crate::feed_lines::{Told, lines};
+use crate::feed_lines::Told;
 use crate::forms::wanted_and_answers;
 use crate::frames::put;
+use crate::heights::Way;
 use crate::namespace::next_name;
-use blob_feed::{Filter, FollowError, Follower, feed_laws};
+use blob_feed::{Filter, feed_laws};
 use da_io::Sink;
 use da_status::{Asked, Status};
 use da_wire::{Frame, bad_value, next_value, value_laws};
@@ -115,46 +116,52 @@ pub(crate) fn bad_feed(bytes: &[u8]) -> Option<u64>
     }
 }
 
-/// Hands a follower the header or the answer that a frame is. There is a height where it is an
-/// answer. One that is refused changes nothing.
-fn hand<F: Filter>(frame: Frame, follower: &mut Follower<F>) -> Result<(), NoMemory>
-    requires { IsTimely (count_of follower.old) frame }
-    ensures stands { OnOk result ((items : List Item) →
-        StandsFor (wanted_by F.answers follower.old.filter) follower.old items →
-        StandsFor (wanted_by F.answers follower.old.filter) follower.new
-        (items ++ cons_option (item_of frame) [])) }
-    ensures led { OnOk result ((later : List Item) →
-        (count_of follower.old ≡ 0 → IsLed (cons_option (item_of frame) later)) →
-        count_of follower.new ≡ 0 → IsLed later) }
-    ensures filter { follower.new.filter ≡ follower.old.filter }
+/// Hands the header or the answer that a frame is to the way through a run. An answer for a namespace
+/// that isn't wanted changes nothing.
+fn hand(
+    alloc: Global,
+    frame: Frame,
+    wanted: &Listed,
+    names: &[Namespace],
+    way: &mut Way,
+) -> Result<(), NoMemory>
+    requires names { wanted.now ≡ names.now }
+    requires count { begun way.old < 2 ^ 64 }
+    requires fits { way.old.told.missing ≤ length way.old.told.text.items }
+    ensures way { OnOk result ((all : List Height) (later : List Item) →
+        IsOnWay names.now all way.old (cons_option (item_of frame) later) →
+        IsOnWay names.now all way.new later) }
+    ensures count { OnOk result (begun way.new ≤ begun way.old + 1) }
+    ensures fits { OnOk result (way.new.told.missing ≤ length way.new.told.text.items) }
 {
     match frame {
-        Frame::Header(header) => {
-            // No run has so many: its files are shorter than as many headers.
-            if follower.heights() == u32::MAX {
-                return Err(NoMemory);
+        Frame::Header(header) => way.header(alloc, header, names),
+        Frame::Names(name, answer) => {
+            if wanted.wants(&name) {
+                way.answer(alloc, &name, &answer)
+            } else {
+                Ok(())
             }
-            follower.header(header)
         }
-        Frame::Names(name, answer) => match follower.answer(&name, &answer) {
-            Err(FollowError::NoMemory) => Err(NoMemory),
-            _ => Ok(()),
-        },
         _ => Ok(()),
     }
 }
 
-/// Hands a follower the headers and answers in a file, in their order.
-fn hand_over<F: Filter>(
+/// Hands the headers and answers in a file over, in their order.
+fn hand_over(
     alloc: Global,
+    wanted: &Listed,
+    names: &[Namespace],
     answers: &[u8],
-    follower: &mut Follower<F>,
+    way: &mut Way,
 ) -> Result<(), NoMemory>
-    requires led { IsLed (items_in answers.now) }
-    requires none { StandsFor (wanted_by F.answers follower.old.filter) follower.old [] }
-    ensures stands { OnOk result (StandsFor (wanted_by F.answers follower.old.filter) follower.new
-        (items_in answers.now)) }
-    ensures filter { follower.new.filter ≡ follower.old.filter }
+    requires names { wanted.now ≡ names.now }
+    requires count { begun way.old ≡ 0 }
+    requires fits { way.old.told.missing ≤ length way.old.told.text.items }
+    ensures way { OnOk result ((all : List Height) →
+        IsOnWay names.now all way.old (items_in answers.now) → IsOnWay names.now all way.new []) }
+    ensures count { OnOk result (begun way.new < 2 ^ 64) }
+    ensures fits { OnOk result (way.new.told.missing ≤ length way.new.told.text.items) }
 {
     let mut rest = answers;
     loop {
@@ -164,7 +171,7 @@ fn hand_over<F: Filter>(
         let Some((frame, after)) = found else {
             return Ok(());
         };
-        hand(frame, follower)?;
+        hand(alloc, frame, wanted, names, way)?;
         rest = after;
     }
 }
@@ -198,35 +205,34 @@ pub fn follow_laws()
     feed_laws::<Listed>();
 }
 
-/// The lines of what comes of answers by a filter, of these namespaces.
-fn told_by<F: Filter>(
+/// The lines of what comes of answers, of these namespaces.
+fn told_of(
     alloc: Global,
-    filter: F,
+    wanted: &Listed,
     names: &[Namespace],
     answers: &[u8],
 ) -> Result<Told, NoMemory>
-    requires filter { IsFilter F.can_ask F.answers filter }
-    requires led { IsLed (items_in answers.now) }
-    ensures { IfOk result (λ told. (feed : Feed)
-        × IsFeedOf (wanted_by F.answers filter) (items_in answers.now) feed
-        × IsToldOf feed (places_from names.now 0 (length (heights_of (items_in answers.now)))) told) }
+    requires { wanted.now ≡ names.now }
+    ensures { IfOk result (IsToldOf (fed_by names.now (heights_of (items_in answers.now)))
+        (places_from names.now 0 (length (heights_of (items_in answers.now))))) }
 {
-    feed_laws::<F>();
-    let mut follower = Follower::new(alloc, filter);
-    hand_over(alloc, answers, &mut follower)?;
-    lines(alloc, &follower, names)
+    let mut way = Way::new(alloc);
+    hand_over(alloc, wanted, names, answers, &mut way)?;
+    way.close(names)?;
+    Ok(way.told)
 }
 
-/// The lines of what comes of answers for the namespaces that are asked for.
+/// The lines of what comes of answers for the namespaces that are asked for, which are ones of blobs.
 fn told(alloc: Global, wanted: &[u8], answers: &[u8]) -> Result<Told, NoMemory>
-    requires { IsLed (items_in answers.now) }
+    requires { failing_from is_followed 0 (namespaces_in wanted.now) ≡ None }
     ensures { IfOk result (λ told. (feed : Feed)
         × IsFeedOf (Contains (namespaces_in wanted.now)) (items_in answers.now) feed
         × IsToldOf feed (places_of (namespaces_in wanted.now) (items_in answers.now)) told) }
 {
+    feed_laws::<Listed>();
     let names = wanted_set(alloc, wanted)?;
     let ascending = in_order(alloc, &names)?;
-    told_by(alloc, Listed { names }, &ascending, answers)
+    told_of(alloc, &Listed { names }, &ascending, answers)
 }
 
 /// The status of lines of which so many say that there is nothing.
@@ -241,9 +247,10 @@ fn feed_status(missing: u64) -> Status
     }
 }
 
-/// Writes the lines of what comes of answers for the namespaces that are asked for, as one piece.
+/// Writes the lines of what comes of answers for the namespaces that are asked for, as one piece. These
+/// are ones of blobs.
 fn give<O: Sink>(alloc: Global, wanted: &[u8], answers: &[u8], out: &mut O) -> Status
-    requires { IsLed (items_in answers.now) }
+    requires { failing_from is_followed 0 (namespaces_in wanted.now) ≡ None }
     ensures { EndsAtOnce (Follows (namespaces_in wanted.now) (items_in answers.now))
         (O.taken out.old) (O.taken out.new) (O.faults out.old) (O.faults out.new)
         (out.new ≡ out.old) result }
@@ -256,7 +263,6 @@ fn give<O: Sink>(alloc: Global, wanted: &[u8], answers: &[u8], out: &mut O) -> S
 
 /// Answers what comes of answers for the namespaces that are asked for, if all are ones of blobs.
 fn answer<O: Sink>(alloc: Global, wanted: &[u8], answers: &[u8], out: &mut O) -> Status
-    requires { bad_feed answers.now ≡ None }
     ensures { EndsAtOnce (FollowsAsked (namespaces_in wanted.now) (items_in answers.now))
         (O.taken out.old) (O.taken out.new) (O.faults out.old) (O.faults out.new)
         (out.new ≡ out.old) result }

@@ -21,6 +21,7 @@ mod follow;
 mod forms;
 mod frames;
 mod header;
+mod heights;
 mod help;
 mod laws;
 mod light;

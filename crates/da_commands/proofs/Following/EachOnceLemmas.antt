@@ -60,10 +60,13 @@ module _ (name : Namespace) where
   found_there (first ∷ wanted) (suc k) below is =
       or_right (is_name name first) (list_any (is_name name) wanted) (found_there wanted k (omega (arith, below)) is)
 
-  -- a namespace that is found among those that are wanted, each once, is wanted
+  -- a namespace that is found among those that are wanted, each once, is found among those that are wanted
+  pub wanted_listed : (wanted : List Namespace) → list_any (is_name name) (each_once wanted) ≡ true → list_any (is_name name) wanted ≡ true
+  wanted_listed wanted found = sym (inserted_all [] wanted) ∙ found
+
+  -- so it is wanted
   pub wanted_there : (wanted : List Namespace) → list_any (is_name name) (each_once wanted) ≡ true → Contains wanted name
-  wanted_there wanted found =
-      Contains-from_any same_name name wanted (sym (inserted_all [] wanted) ∙ found)
+  wanted_there wanted found = Contains-from_any same_name name wanted (wanted_listed wanted found)
 
   -- and the other way
   pub wanted_found : (wanted : List Namespace) → Contains wanted name → list_any (is_name name) (each_once wanted) ≡ true

@@ -1,5 +1,5 @@
 -- The lines of a feed: what was told, and what is left to tell.
-use Rattle.std.proofs.Common.{◌≡◌, ◌∙◌, ℕ, suc, ◌+◌, ◌-◌, ◌<◌, ◌≤◌, List, [], ◌++◌, length, sym, ap, arith, append_assoc, append-nil}
+use Rattle.std.proofs.Common.{◌≡◌, ◌∙◌, ℕ, zero, suc, ◌+◌, List, [], ◌++◌, length, sym, ap, arith, append_assoc, append-nil}
 use Rattle.std.specs.List.{filter}
 use Rattle.std.proofs.lemmas.Grind.{flat_map-append}
 use Rattle.std.proofs.lemmas.List.{length-append}
@@ -7,6 +7,17 @@ use Rattle.std.proofs.lemmas.List.Elements.{filter-append}
 use Rattle.namespace_id.specs.declared.namespaces.Namespace.{Namespace}
 use Rattle.da_commands.specs.declared.feed_lines.Told.{Told}
 use Rattle.da_commands.specs.Follow.{Feed, Place, place_text, read_text, places_at, places_from, feed_lines, is_missing, missing_count, IsToldOf, IsToldMore}
+
+-- of heights the last one comes last
+places_last : (wanted : List Namespace) (first count : ℕ)
+    → places_from wanted first (count + 1) ≡ places_from wanted first count ++ places_at wanted (first + count)
+places_last wanted first zero =
+    append-nil (places_at wanted first) ∙ ap (places_at wanted) (let e : first ≡ first + 0 = omega arith in e)
+places_last wanted first (suc count) =
+    let next : first + 1 + count ≡ first + suc count = omega arith in
+    ap (places_from wanted first) (let e : suc count + 1 ≡ suc (count + 1) = omega arith in e)
+    ∙ ap (λ (l : List Place). places_at wanted first ++ l) (places_last wanted (first + 1) count ∙ ap (λ (n : ℕ). places_from wanted (first + 1) count ++ places_at wanted n) next)
+    ∙ sym (append_assoc (places_at wanted first) (places_from wanted (first + 1) count) (places_at wanted (first + suc count)))
 
 module _ (feed : Feed) where
   -- so much is left to tell: what was told and what is left are all
@@ -37,24 +48,19 @@ module _ (feed : Feed) where
         omega (arith, left.missing, both, more.missing);
   }
 
--- of the heights from one on, the first comes first
-pub places_next : (wanted : List Namespace) (number count : ℕ) → number < count
-    → places_from wanted number (count - number)
-    ≡ places_at wanted number ++ places_from wanted (number + 1) (count - (number + 1))
-places_next wanted number count below =
-    let more : count - number ≡ suc (count - (number + 1)) = omega (arith, below) in ap (places_from wanted number) more
+  -- nothing was told
+  pub none_told : (wanted : List Namespace) (told : Told) → told.text.items ≡ [] → told.missing ≡ 0 → IsToldOf feed (places_from wanted 0 0) told
+  none_told wanted told empty none = record { lines = empty; missing = none }
 
--- all heights were told, and before them nothing
-pub told_end : (feed : Feed) (wanted : List Namespace) (number count : ℕ) (start now : Told) → start.text.items ≡ [] → start.missing ≡ 0
-    → IsLeft feed (places_from wanted 0 count) start (places_from wanted number (count - number)) now → count ≤ number
-    → IsToldOf feed (places_from wanted 0 count) now
-told_end feed wanted number count start now empty zero left most =
-    let all = places_from wanted 0 count in
-    let none : count - number ≡ 0 = omega (arith, most) in
-    let rest = ap (places_from wanted number) none in
-    let no = ap (missing_count feed) rest in
-    record {
-      lines = sym (append-nil now.text.items) ∙ ap (λ (l : List Place). now.text.items ++ feed_lines feed l) (sym rest) ∙ sym left.lines
-          ∙ ap (λ (l : List ℕ). l ++ feed_lines feed all) empty;
-      missing = omega (arith, left.missing, no, zero);
-    }
+  -- one height more was told
+  pub told_more : (wanted : List Namespace) (count : ℕ) (old new : Told) → IsToldOf feed (places_from wanted 0 count) old
+      → IsToldMore feed (places_at wanted count) old new → IsToldOf feed (places_from wanted 0 (count + 1)) new
+  told_more wanted count old new told more =
+      let last : places_from wanted 0 (count + 1) ≡ places_from wanted 0 count ++ places_at wanted count =
+      places_last wanted 0 count ∙ ap (λ (n : ℕ). places_from wanted 0 count ++ places_at wanted n) (let e : 0 + count ≡ count = omega arith in e) in
+      record {
+        lines = more.lines ∙ ap (λ (l : List ℕ). l ++ feed_lines feed (places_at wanted count)) told.lines
+            ∙ sym (lines_both (places_from wanted 0 count) (places_at wanted count)) ∙ ap (feed_lines feed) (sym last);
+        missing = more.missing ∙ ap (λ (n : ℕ). n + missing_count feed (places_at wanted count)) told.missing
+            ∙ sym (missing_both (places_from wanted 0 count) (places_at wanted count)) ∙ ap (missing_count feed) (sym last);
+      }

@@ -61,7 +61,7 @@ module _ (P : Place → Type 0) where
       )
 
 -- a fact holds of each of some namespaces exactly where it holds of each that is found among them
-each_name : (Q : Namespace → Type 0) (names : List Namespace) → AllByRecursion Q names
+pub each_name : (Q : Namespace → Type 0) (names : List Namespace) → AllByRecursion Q names
     ↔ ((name : Namespace) → list_any (is_name name) names ≡ true → Q name)
 each_name Q [] = (λ h name found. absurd cc, λ h. tt)
 each_name Q (first ∷ names) =

@@ -10,5 +10,5 @@ put-requires c =
       arith,
       ap length c.new-line.ensures,
       simp length-append at (ap length c.around.ensures),
-      digits_fit c.from.result (omega arith),
+      digits_fit c.args.number (omega arith),
     )

@@ -4,13 +4,12 @@ use Rattle.da_status.specs.declared.status.Status.TheVariants.{BadRequest}
 use Rattle.da_commands.specs.Namespace.{namespaces_in}
 use Rattle.da_commands.specs.Follow.{items_in, Follows, FollowsAsked}
 use Rattle.da_status.proofs.EndLemmas.{once_within, once_request}
-use Rattle.da_commands.proofs.Following.FeedItemLemmas.{led}
 use Rattle.da_commands.proofs.Following.FollowLemmas.{asked_follows, asked_refuses}
 use Rattle.da_commands.proofs.follow.answer.Goals as goal
 
--- a file in its form leads with a header
+-- none of the namespaces fails
 pub give-requires : goal.give-requires
-give-requires g c = led c.args.answers.now c.requires
+give-requires g c = sym c.first_other.ensures ∙ c.in-None.is
 
 -- all namespaces can be followed
 pub returns-in-None : goal.returns-in-None
