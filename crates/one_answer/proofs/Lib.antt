@@ -3,4 +3,5 @@ pub mod FollowLemmas
 pub mod HeldLemmas
 pub mod LightLemmas
 pub mod NetLemmas
+pub mod ReadLemmas
 pub mod WordLemmas

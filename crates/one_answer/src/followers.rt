@@ -4,6 +4,7 @@ ghost use Rattle.std.specs.Prelude.{◌≡◌, ◌<◌, ◌≤◌, ◌^◌, ◌-
 ghost use Rattle.std.specs.Option.{option_map};
 ghost use Rattle.namespace_id.specs.declared.namespaces.Namespace.{Namespace as Name};
 ghost use Rattle.blob_feed.specs.declared.entries.FollowError.TheVariants as follow;
+ghost use Rattle.blob_feed.specs.declared.reading.ReadError.TheVariants as read;
 ghost use Rattle.blob_feed.specs.declared.followers.Last.{Last as LastParts};
 ghost use Rattle.blob_feed.specs.Filters.{wanted_by};
 ghost use Rattle.blob_feed.specs.Feeds.{Item, read_of};
@@ -11,9 +12,24 @@ ghost use Rattle.blob_feed.specs.Followers.{count_of, kept_at, StandsFor};
 ghost use Rattle.one_answer.specs.Ones.{AreOne};
 
 use axis_roots::NsAnswer;
-use blob_feed::{Filter, FollowError, Follower, Taken, feed_laws};
+use blob_feed::{Entry, Filter, FollowError, Follower, ReadError, Taken, feed_laws, read_answer};
 use data_header::Header;
 use namespace_id::{Namespace, NoMemory};
+use std::alloc::Global;
+
+/// One answer under one header is read as one thing.
+pub fn read_twice(
+    alloc: Global,
+    header: &Header,
+    namespace: &Namespace,
+    answer: &NsAnswer,
+) -> (Result<Entry, ReadError>, Result<Entry, ReadError>)
+    ensures { AreOne read_of read.NoMemory result.0 result.1 }
+{
+    let first = read_answer(alloc, header, namespace, answer);
+    let second = read_answer(alloc, header, namespace, answer);
+    (first, second)
+}
 
 /// A follower answers one thing to an answer.
 pub fn answer_twice<F: Filter>(
