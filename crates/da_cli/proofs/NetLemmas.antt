@@ -4,7 +4,7 @@ use Rattle.data_header.specs.Headers.{Roots}
 use Rattle.square_layout.specs.Blocks.{SquareShares}
 use Rattle.da_wire.specs.Reading.{Raw}
 use Rattle.da_script.specs.Scripts.{moves_of}
-use Rattle.da_script.specs.Plays.{items_in, is_refused, first_net, Tells}
+use Rattle.da_script.specs.Plays.{items_in, item_sizes, is_refused, first_net, Tells}
 use Rattle.da_script.specs.Alarms.{TellsOwn}
 use Rattle.da_script.proofs.LetterLemmas.{has_c}
 use Rattle.da_script.proofs.AlarmLemmas.{says_none}
@@ -18,7 +18,7 @@ pub nets_own : (header : Roots) (frames : List Raw) (script : List ℕ) (square 
     → TellsOwn (items_in frames) square w)
     → Nets header frames script w status → TellsOwn (items_in frames) square w
 nets_own header frames script square w status known answers =
-    by (is_refused header.k (moves_of (length (items_in frames)) script) script) answers
+    by (is_refused header.k (item_sizes frames) (moves_of (length (items_in frames)) script) script) answers
   where
     by : (over : Bool) → Limited over
         (λ w status. Tells (items_in frames) (first_net header (moves_of (length (items_in frames)) script) script)

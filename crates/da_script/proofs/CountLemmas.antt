@@ -1,5 +1,5 @@
 -- How many nodes, items and events a script has.
-use Rattle.std.proofs.Common.{◌≡◌, ◌∙◌, ℕ, ◌+◌, ◌≤◌, Bool, true, false, ◌||◌, List, map, drop, replicate, length, Some, sym, ap, ap₂, true≢false}
+use Rattle.std.proofs.Common.{◌≡◌, ◌∙◌, ℕ, ◌+◌, ◌≤◌, Bool, true, false, ◌||◌, ◌↔◌, List, map, drop, replicate, length, Some, sym, ap, ap₂, true≢false}
 use Rattle.std.specs.Prelude.{nat_lt}
 use Rattle.std.specs.List.{list_any}
 use Rattle.std.proofs.lemmas.Bool.{ltb-false, le-ltb, or_parts}
@@ -13,7 +13,7 @@ use Rattle.da_net.specs.Nets.{is_too_many}
 use Rattle.da_script.specs.declared.reading.Counts.{Counts}
 use Rattle.da_script.specs.declared.reading.Move.{Move}
 use Rattle.da_script.specs.Scripts.{full_count, light_count, draws_of}
-use Rattle.da_script.specs.Plays.{item_in, light_of, pooling, is_refused, first_net}
+use Rattle.da_script.specs.Plays.{item_in, light_of, pooling, put_bytes, is_refused, first_net}
 use Rattle.da_script.specs.Parts.{AreItems, AreCounts, is_wide, is_refused_by}
 use Rattle.da_script.proofs.DrawLemmas.{length-draws_at}
 
@@ -37,12 +37,14 @@ are_few fulls lights items steps not =
     }
 
 -- the counts decide whether a script is refused
-pub refused_by : (k : ℕ) (counts : Counts) (moves : List Move) (script : List ℕ) → AreCounts counts moves
-    → is_refused_by k counts script ≡ is_refused k moves script
-refused_by k counts moves script are =
-    ap₂ (λ (items steps : ℕ). is_too_many (full_count script) (light_count script) items steps || list_any (is_wide k) (draws_of script)) are.pooling_are are.moves_are
-    ∙ ap (λ (lights : ℕ). is_too_many (full_count script) lights (pooling moves) (length moves) || list_any (is_wide k) (draws_of script))
-    (sym (length-draws_at (light_count script) (drop 4 script)))
+pub refused_by : (k : ℕ) (sizes : List ℕ) (counts : Counts) (moves : List Move) (script : List ℕ) → AreCounts sizes counts moves
+    → is_refused_by k counts script ≡ is_refused k sizes moves script
+refused_by k sizes counts moves script are =
+    ap₂ (λ (items steps : ℕ). is_too_many (full_count script) (light_count script) items steps || nat_lt 536870912 counts.bytes
+    || list_any (is_wide k) (draws_of script)) are.pooling_are are.moves_are
+    ∙ ap₂ (λ (lights bytes : ℕ). is_too_many (full_count script) lights (pooling moves) (length moves) || nat_lt 536870912 bytes
+    || list_any (is_wide k) (draws_of script))
+    (sym (length-draws_at (light_count script) (drop 4 script))) are.bytes_are
 
 -- the first network has all nodes of the script
 pub first_nodes : (header : Roots) (moves : List Move) (script : List ℕ) → length (first_net header moves script).nodes ≡ full_count script + light_count script
@@ -60,13 +62,15 @@ item_count frames items are =
 pub few_of : (k : ℕ) (counts : Counts) (script : List ℕ) → is_refused_by k counts script ≡ false
     → AreFew (full_count script) (light_count script) counts.pooling counts.moves
 few_of k counts script not =
-    are_few (full_count script) (light_count script) counts.pooling counts.moves
-    (or_parts (is_too_many (full_count script) (light_count script) counts.pooling counts.moves) (list_any (is_wide k) (draws_of script)) not).0
+    let many = is_too_many (full_count script) (light_count script) counts.pooling counts.moves in
+    let narrow = or_parts (many || nat_lt 536870912 counts.bytes) (list_any (is_wide k) (draws_of script)) not in
+    are_few (full_count script) (light_count script) counts.pooling counts.moves (or_parts many (nat_lt 536870912 counts.bytes) narrow.0).0
 
 -- and no key that draws too many cells
 pub narrow_of : (k : ℕ) (counts : Counts) (script : List ℕ) → is_refused_by k counts script ≡ false → list_any (is_wide k) (draws_of script) ≡ false
 narrow_of k counts script not =
-    (or_parts (is_too_many (full_count script) (light_count script) counts.pooling counts.moves) (list_any (is_wide k) (draws_of script)) not).1
+    (or_parts (is_too_many (full_count script) (light_count script) counts.pooling counts.moves || nat_lt 536870912 counts.bytes)
+    (list_any (is_wide k) (draws_of script)) not).1
 
 -- few are not too many
 pub few_not : (fulls lights items steps : ℕ) → AreFew fulls lights items steps → is_too_many fulls lights items steps ≡ true → ⊥
@@ -76,3 +80,27 @@ few_not fulls lights items steps few many = true≢false (sym many ∙ none)
     none =
         ap₂ (λ (a b : Bool). a || b || nat_lt 65536 items || nat_lt 1048576 steps) (le-ltb 8 fulls few.fulls_are) (le-ltb 64 lights few.lights_are)
         ∙ ap₂ (λ (a b : Bool). false || false || a || b) (le-ltb 65536 items few.items_are) (le-ltb 1048576 steps few.steps_are)
+
+-- a script isn't refused exactly where there are few of each, its events put few bytes, and no key draws too many cells
+pub within_bytes : (k : ℕ) (sizes : List ℕ) (moves : List Move) (script : List ℕ) → (is_refused k sizes moves script ≡ false)
+    ↔ ((is_too_many (full_count script) (length (draws_of script)) (pooling moves) (length moves) ≡ false)
+    × (put_bytes sizes moves ≤ 536870912) × (list_any (is_wide k) (draws_of script) ≡ false))
+within_bytes k sizes moves script = (apart, together)
+  where
+    many : Bool
+    many = is_too_many (full_count script) (length (draws_of script)) (pooling moves) (length moves)
+
+    heavy : Bool
+    heavy = nat_lt 536870912 (put_bytes sizes moves)
+
+    wide : Bool
+    wide = list_any (is_wide k) (draws_of script)
+
+    apart : (many || heavy || wide) ≡ false → (many ≡ false) × (put_bytes sizes moves ≤ 536870912) × (wide ≡ false)
+    apart not =
+        let two = or_parts (many || heavy) wide not in
+        let one = or_parts many heavy two.0 in (one.0, ltb-false 536870912 (put_bytes sizes moves) one.1, two.1)
+
+    together : (many ≡ false) × (put_bytes sizes moves ≤ 536870912) × (wide ≡ false) → (many || heavy || wide) ≡ false
+    together (few, light, narrow) =
+        ap₂ (λ (a b : Bool). a || heavy || b) few narrow ∙ ap (λ (a : Bool). false || a || false) (le-ltb 536870912 (put_bytes sizes moves) light)

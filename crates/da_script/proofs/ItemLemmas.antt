@@ -1,13 +1,13 @@
 -- The items among frames.
-use Rattle.std.proofs.Common.{◌≡◌, ◌∙◌, ℕ, true, false, List, [], ◌∷◌, ◌++◌, map, Option, Some, None, slice_get, refl, sym, ap}
+use Rattle.std.proofs.Common.{◌≡◌, ◌∙◌, ℕ, Bool, true, false, cond, List, [], ◌∷◌, ◌++◌, map, length, Option, Some, None, slice_get, refl, sym, ap}
 use Rattle.std.specs.Prelude.{is_some}
 use Rattle.std.specs.Option.{option_map, option_map_or}
 use Rattle.std.proofs.lemmas.Option.{slice_get-map, same_Some, none-some}
 use Rattle.da_wire.specs.declared.frames.RawFrame.{RawFrame}
 use Rattle.da_wire.specs.Reading.{Raw, raw_seen}
 use Rattle.da_net.specs.declared.items.Item.{Item}
-use Rattle.da_script.specs.Plays.{item_in, items_in}
-use Rattle.da_script.specs.Parts.{AreItems}
+use Rattle.da_script.specs.Plays.{item_in, items_in, item_frames, item_sizes}
+use Rattle.da_script.specs.Parts.{AreItems, payload_sizes}
 use Rattle.da_script.proofs.DrawLemmas.{made_more, made_all}
 
 -- the items among frames, by the first frame
@@ -56,6 +56,38 @@ pub sorted_all : (frames : List RawFrame) (rest all : List Raw) → rest ≡ [] 
 unfolding items_in
 sorted_all frames rest all none sorted =
     made_all (λ (f : RawFrame). item_in (raw_seen f)) Some frames (items_in rest) (map Some (items_in all)) (ap items_in none) sorted
+
+-- ---- how many bytes they have
+
+-- the sizes of the frames so far, and those of the items that are left, are all sizes
+abbrev pub Sized : List RawFrame → List Raw → List Raw → Type 0
+Sized frames rest all = payload_sizes frames ++ item_sizes rest ≡ item_sizes all
+
+-- the items that are left, by whether the first frame is one
+frames_by : (rest after : List Raw) (frame : Raw) (is : Bool) → rest ≡ frame ∷ after → is_some (item_in frame) ≡ is
+    → item_frames rest ≡ cond is (frame ∷ item_frames after) (item_frames after)
+frames_by rest after frame is next here =
+    ap item_frames next ∙ ap (λ (b : Bool). cond b (frame ∷ item_frames after) (item_frames after)) here
+
+module _ (frames : List RawFrame) (frame : RawFrame) (rest after all : List Raw) (o : Option Item) (next : rest ≡ raw_seen frame ∷ after)
+    (is : o ≡ item_in (raw_seen frame)) (sized : Sized frames rest all) where
+  -- the next frame is an item
+  pub sized_on : is_some o ≡ true → Sized (frames ++ frame ∷ []) after all
+  sized_on some =
+      let left = frames_by rest after (raw_seen frame) true next (sym (ap (λ (x : Option Item). is_some x) is) ∙ some) in
+      made_more (λ (f : RawFrame). length f.payload.now) (λ (r : Raw). length r.payload) frames frame (raw_seen frame) (item_frames rest) (item_frames after)
+      (item_sizes all) left refl sized
+
+  -- it is none
+  pub sized_past : is_some o ≡ false → Sized frames after all
+  sized_past none =
+      let left = frames_by rest after (raw_seen frame) false next (sym (ap (λ (x : Option Item). is_some x) is) ∙ none) in
+      ap (λ (l : List Raw). payload_sizes frames ++ map (λ r. length r.payload) l) (sym left) ∙ sized
+
+-- no frame is left
+pub sized_all : (frames : List RawFrame) (rest all : List Raw) → rest ≡ [] → Sized frames rest all → payload_sizes frames ≡ item_sizes all
+sized_all frames rest all none sized =
+    made_all (λ (f : RawFrame). length f.payload.now) (λ (r : Raw). length r.payload) frames (item_frames rest) (item_sizes all) (ap item_frames none) sized
 
 -- ---- the item at a place
 

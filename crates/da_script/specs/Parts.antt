@@ -18,11 +18,15 @@ use Rattle.da_script.specs.declared.reading.Move.TheVariants as move
 use Rattle.da_script.specs.declared.playing.PlayError.{PlayError}
 use Rattle.da_script.specs.declared.playing.PlayError.TheVariants.{BadScript, Nodes, NoMemory}
 use Rattle.da_script.specs.Scripts.{Draw, full_count, light_count, draws_at}
-use Rattle.da_script.specs.Plays.{item_in, pooling, is_refused, first_net, HasTail, Tells}
+use Rattle.da_script.specs.Plays.{item_in, pooling, put_bytes, is_refused, first_net, HasTail, Tells}
 
 -- these frames are these items
 abbrev pub AreItems : List RawFrame → List Item → Type 0
 AreItems frames items = map (λ frame. item_in (raw_seen frame)) frames ≡ map Some items
+
+-- how many bytes the payload of each of these frames has
+abbrev pub payload_sizes : List RawFrame → List ℕ
+payload_sizes frames = map (λ frame. length frame.payload.now) frames
 
 -- an event puts one of so many items, or none
 abbrev pub IsPuttable : ℕ → Move → Type 0
@@ -30,10 +34,11 @@ IsPuttable items (move.Put a) = a < items
 IsPuttable items (move.Hand a b) = ⊤
 IsPuttable items (move.Publish b) = ⊤
 
--- these are the counts of events
-pub record AreCounts (counts : Counts) (moves : List Move) : Type 0 where
+-- these are the counts of events over items of these sizes
+pub record AreCounts (sizes : List ℕ) (counts : Counts) (moves : List Move) : Type 0 where
   pub moves_are : counts.moves ≡ length moves
   pub pooling_are : counts.pooling ≡ pooling moves
+  pub bytes_are : counts.bytes ≡ put_bytes sizes moves
 
 -- a key draws more cells than may be drawn of the square of a width
 abbrev pub is_wide : ℕ → Draw → Bool
@@ -42,14 +47,16 @@ is_wide k draw = nat_lt (draw_limit k) draw.count
 -- whether a script with these counts is refused
 abbrev pub is_refused_by : ℕ → Counts → List ℕ → Bool
 is_refused_by k counts script = is_too_many (full_count script) (light_count script) counts.pooling counts.moves
+    || nat_lt 536870912 counts.bytes
     || list_any (is_wide k) (draws_at (light_count script) (drop 4 script))
 
 -- the network of a script, or why there is none
-abbrev pub IsMade : Roots → List Move → List ℕ → Result NetParts PlayError → Type 0
-IsMade header moves script (Ok net) = (is_refused header.k moves script ≡ false) × (net ≡ first_net header moves script)
-IsMade header moves script (Err (BadScript at)) = ⊥
-IsMade header moves script (Err Nodes) = is_refused header.k moves script ≡ true
-IsMade header moves script (Err NoMemory) = ⊤
+abbrev pub IsMade : Roots → List ℕ → List Move → List ℕ → Result NetParts PlayError → Type 0
+IsMade header sizes moves script (Ok net) =
+    (is_refused header.k sizes moves script ≡ false) × (net ≡ first_net header moves script)
+IsMade header sizes moves script (Err (BadScript at)) = ⊥
+IsMade header sizes moves script (Err Nodes) = is_refused header.k sizes moves script ≡ true
+IsMade header sizes moves script (Err NoMemory) = ⊤
 
 -- lines of which this holds were added to a text
 abbrev pub Adds : (List ℕ → Type 0) → List ℕ → List ℕ → Type 0
@@ -64,10 +71,10 @@ abbrev pub IsTailed : NetParts → ℕ → NodeState → List ℕ → List ℕ �
 IsTailed net node one old new = (standing : Standing) (stands : HasStanding net node standing) → one ≡ state_of standing
     → Adds (HasTail net node stands.kind standing) old new
 
--- what a script that is in its form comes to over items
-abbrev pub IsPlayed : Roots → List Item → List Move → List ℕ → Result (Vec ℕ Global) PlayError → Type 0
-IsPlayed header items moves script (Ok text) =
-    (is_refused header.k moves script ≡ false) × Tells items (first_net header moves script) moves text.items
-IsPlayed header items moves script (Err (BadScript at)) = ⊥
-IsPlayed header items moves script (Err Nodes) = is_refused header.k moves script ≡ true
-IsPlayed header items moves script (Err NoMemory) = ⊤
+-- what a script that is in its form comes to over items of these sizes
+abbrev pub IsPlayed : Roots → List ℕ → List Item → List Move → List ℕ → Result (Vec ℕ Global) PlayError → Type 0
+IsPlayed header sizes items moves script (Ok text) =
+    (is_refused header.k sizes moves script ≡ false) × Tells items (first_net header moves script) moves text.items
+IsPlayed header sizes items moves script (Err (BadScript at)) = ⊥
+IsPlayed header sizes items moves script (Err Nodes) = is_refused header.k sizes moves script ≡ true
+IsPlayed header sizes items moves script (Err NoMemory) = ⊤

@@ -1,7 +1,7 @@
 -- What comes of a script under a header (docs/RULES.md, "Networks", and docs/COMMANDS.md, "Output").
-use Rattle.std.specs.Prelude.{◌≡◌, ℕ, suc, ◌++◌, ◌||◌, nat_lt, Bool, true, false, List, [], ◌∷◌, length, map, slice_get, codes, decimal, Option, Some, None, Result, Ok, Err, ⊤, Vec}
+use Rattle.std.specs.Prelude.{◌≡◌, ℕ, suc, ◌++◌, ◌||◌, nat_lt, Bool, true, false, List, [], ◌∷◌, length, map, slice_get, get_or, is_some, codes, decimal, Option, Some, None, Result, Ok, Err, ⊤, Vec}
 use Rattle.std.specs.declared.alloc.Global.{Global}
-use Rattle.std.specs.List.{filter, list_any}
+use Rattle.std.specs.List.{filter, list_any, sum_by}
 use Rattle.std.specs.Option.{option_map, option_map_or}
 use Rattle.namespace_id.specs.Cells.{CellList}
 use Rattle.data_header.specs.Headers.{Roots}
@@ -38,6 +38,14 @@ unfoldable pub items_in : List Raw → List Item
 items_in [] = []
 items_in (frame ∷ later) = option_map_or (λ one. one ∷ items_in later) (item_in frame) (items_in later)
 
+-- the frames that are items, in their order
+abbrev pub item_frames : List Raw → List Raw
+item_frames frames = filter (λ frame. is_some (item_in frame)) frames
+
+-- how many bytes the payload of each item among frames has
+abbrev pub item_sizes : List Raw → List ℕ
+item_sizes frames = map (λ frame. length frame.payload) (item_frames frames)
+
 -- ---- the network
 
 -- a light node that planned what a key draws
@@ -54,9 +62,21 @@ is_pooling (move.Publish b) = true
 abbrev pub pooling : List Move → ℕ
 pooling moves = length (filter is_pooling moves)
 
--- whether there are too many nodes, items or events for a network, or too many cells for a light node
-abbrev pub is_refused : ℕ → List Move → List ℕ → Bool
-is_refused k moves script = is_too_many (full_count script) (length (draws_of script)) (pooling moves) (length moves)
+-- how many bytes of items an event of a script puts into the pool, by the sizes of the items
+abbrev pub put_size : List ℕ → Move → ℕ
+put_size sizes (move.Put a) = get_or sizes a 0
+put_size sizes (move.Hand a b) = 0
+put_size sizes (move.Publish b) = 0
+
+-- how many all its events put, an item as often as it is put
+abbrev pub put_bytes : List ℕ → List Move → ℕ
+put_bytes sizes moves = sum_by (put_size sizes) moves
+
+-- whether there are too many nodes, items or events for a network, too many bytes of items that are put, or too many
+-- cells for a light node
+abbrev pub is_refused : ℕ → List ℕ → List Move → List ℕ → Bool
+is_refused k sizes moves script = is_too_many (full_count script) (length (draws_of script)) (pooling moves) (length moves)
+    || nat_lt 536870912 (put_bytes sizes moves)
     || list_any (λ draw. nat_lt (draw_limit k) draw.count) (draws_of script)
 
 -- the network of a script, in which nothing has happened
@@ -148,11 +168,11 @@ Tells items first moves w = (net : NetParts) × (front back : List ℕ) × GoOn 
 abbrev pub Plays : Roots → List Raw → List ℕ → Result (Vec ℕ Global) PlayError → Type 0
 Plays header frames script (Ok text) =
     (bad_script (length (items_in frames)) script ≡ None)
-    × (is_refused header.k (moves_of (length (items_in frames)) script) script ≡ false)
+    × (is_refused header.k (item_sizes frames) (moves_of (length (items_in frames)) script) script ≡ false)
     × Tells (items_in frames) (first_net header (moves_of (length (items_in frames)) script) script)
     (moves_of (length (items_in frames)) script) text.items
 Plays header frames script (Err (BadScript at)) = bad_script (length (items_in frames)) script ≡ Some at
 Plays header frames script (Err Nodes) =
     (bad_script (length (items_in frames)) script ≡ None)
-    × (is_refused header.k (moves_of (length (items_in frames)) script) script ≡ true)
+    × (is_refused header.k (item_sizes frames) (moves_of (length (items_in frames)) script) script ≡ true)
 Plays header frames script (Err NoMemory) = ⊤

@@ -4,8 +4,8 @@ ghost use Rattle.std.specs.Prelude.{◌≡◌, ◌<◌, List, length, slice_get,
 ghost use Rattle.da_net.specs.declared.items.Item.{Item as Put};
 ghost use Rattle.da_wire.specs.Reading.{raw_seen};
 ghost use Rattle.da_wire.specs.Frames.{frames_of};
-ghost use Rattle.da_script.specs.Plays.{item_in, items_in, event_of};
-ghost use Rattle.da_script.specs.Parts.{AreItems, IsPuttable};
+ghost use Rattle.da_script.specs.Plays.{item_in, items_in, item_sizes, event_of};
+ghost use Rattle.da_script.specs.Parts.{AreItems, IsPuttable, payload_sizes};
 
 use crate::reading::Move;
 use da_net::{Item, NetEvent};
@@ -27,7 +27,10 @@ fn item_in(alloc: Global, frame: RawFrame<'_>) -> Result<Option<Item>, NoMemory>
 
 /// The frames that are items, in their order.
 pub(crate) fn items_in<'a>(alloc: Global, messages: &'a [u8]) -> Result<Vec<RawFrame<'a>>, NoMemory>
-    ensures { IfOk result (λ frames. AreItems frames.items (items_in (frames_of messages.now))) }
+    ensures items { IfOk result (λ frames.
+        AreItems frames.items (items_in (frames_of messages.now))) }
+    ensures sizes { IfOk result (λ frames.
+        payload_sizes frames.items ≡ item_sizes (frames_of messages.now)) }
 {
     let mut frames = Vec::new(alloc);
     let mut rest = messages;

@@ -1,6 +1,6 @@
 //! Playing scripts.
 
-ghost use Rattle.std.specs.Prelude.{◌≡◌, ◌≤◌, ◌++◌, List, length, true, IsTrue, IfOk, OnOk, Some};
+ghost use Rattle.std.specs.Prelude.{◌≡◌, ℕ, ◌≤◌, ◌++◌, List, length, true, IsTrue, IfOk, OnOk, Some};
 ghost use Rattle.namespace_id.specs.Cells.{is_width};
 ghost use Rattle.da_net.specs.declared.items.Item.{Item as Put};
 ghost use Rattle.da_net.specs.Nets.{IsSame, is_too_many};
@@ -10,7 +10,7 @@ ghost use Rattle.da_script.specs.declared.playing.PlayError.TheVariants as error
 ghost use Rattle.da_script.specs.declared.reading.Move.{Move as Played};
 ghost use Rattle.da_script.specs.Scripts.{front_size, move_at, moves_of};
 ghost use Rattle.da_script.specs.Plays.{event_of, Goes, GoOn, AreLines, Tells, Plays};
-ghost use Rattle.da_script.specs.Parts.{AreItems, AreCounts, is_refused_by, IsMade, Adds, IsPlayed};
+ghost use Rattle.da_script.specs.Parts.{AreItems, payload_sizes, AreCounts, is_refused_by, IsMade, Adds, IsPlayed};
 
 use crate::items::{event_of, items_in};
 use crate::lines::{node_line, refused_line, step_line};
@@ -27,14 +27,17 @@ use namespace_id::{CellRoom, NoMemory};
 use std::alloc::Global;
 use thiserror::Error;
 
+/// The most bytes of items that the events of a script put into the pool, an item as often as it is put.
+const MAX_PUT_BYTES: u128 = 536_870_912;
+
 /// Why a script is not played. The variants stand in the order in which they are tested.
 #[derive(Clone, Copy, Debug, PartialEq, Eq, Error)]
 pub enum PlayError {
     /// The script is not in its form from this offset on.
     #[error("there is no event of a script at {0}")]
     BadScript(u64),
-    /// A network has fewer nodes, items or steps, or a light node plans fewer cells.
-    #[error("there are too many nodes, cells, items or events")]
+    /// A network has fewer nodes, items or steps, a light node plans fewer cells, or fewer bytes of items may be put.
+    #[error("there are too many nodes, cells, items, bytes of items or events")]
     Nodes,
     #[error("out of memory")]
     NoMemory,
@@ -149,7 +152,8 @@ fn is_too_many(full: u16, lights: u16, counts: &Counts) -> bool
     full > 8 || lights > 64 || counts.pooling > 65_536 || counts.moves > 1_048_576
 }
 
-/// Whether there are too many nodes, items or events for a network, or too many cells for a light node.
+/// Whether there are too many nodes, items or events for a network, too many bytes of items that are put, or too many
+/// cells for a light node.
 fn is_refused(k: u16, script: &[u8], counts: &Counts) -> bool
     requires width { IsTrue (is_width k) }
     requires size { front_size script.now ≤ length script.now }
@@ -158,7 +162,7 @@ fn is_refused(k: u16, script: &[u8], counts: &Counts) -> bool
     if is_too_many(full_count(script), light_count(script), counts) {
         return true;
     }
-    has_wide(k, light_count(script), draws(script))
+    counts.bytes > MAX_PUT_BYTES || has_wide(k, light_count(script), draws(script))
 }
 
 /// The network of a script that has so many events.
@@ -169,8 +173,8 @@ fn make<F: Listed>(
     counts: &Counts,
 ) -> Result<Net<F>, PlayError>
     requires size { front_size script.now ≤ length script.now }
-    ensures { (moves : List Played) → AreCounts counts.now moves →
-        IsMade header moves script.now result }
+    ensures { (sizes : List ℕ) (moves : List Played) → AreCounts sizes counts.now moves →
+        IsMade header sizes moves script.now result }
 {
     if is_refused(width(&header), script, counts) {
         return Err(PlayError::Nodes);
@@ -195,11 +199,12 @@ fn play_moves<F: Listed>(
     requires items { (items : List Put) × AreItems frames.now items }
     requires size { front_size script.now ≤ length script.now }
     ensures { (items : List Put) → AreItems frames.now items →
-        IsPlayed header items (moves_of (length items) script.now) script.now result }
+        IsPlayed header (payload_sizes frames.now) items (moves_of (length items) script.now)
+        script.now result }
 {
     let k = width(&header);
     let moves = moves(script);
-    let counts = count_moves(frames.len(), moves);
+    let counts = count_moves(frames, moves);
     let net = match make::<F>(alloc, header, script, &counts) {
         Ok(net) => net,
         Err(why) => return Err(why),
@@ -231,7 +236,8 @@ fn play_with<F: Listed>(
 /// first event; a claim takes its own where it is put, and so does the text.
 ///
 /// Refuses a script that isn't in its form, with the offset of the first event that isn't one (0 where the script
-/// ends before its events begin); then one with more nodes, items or events than a network may have, or with a light
+/// ends before its events begin); then one with more nodes, items or events than a network may have, one whose events
+/// put more than 536,870,912 bytes of payloads of items into the pool, an item as often as it is put, or one with a light
 /// node that draws more cells than may be drawn.
 ///
 /// docs/FORMATS.md, "Scripts"; docs/COMMANDS.md, "Output".

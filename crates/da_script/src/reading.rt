@@ -7,8 +7,10 @@ ghost use Rattle.std.specs.Int.{w16, w32, from_be_bytes};
 ghost use Rattle.std.specs.Option.{option_map};
 ghost use Rattle.da_wire.specs.Walks.{walk_from};
 ghost use Rattle.da_script.specs.Scripts.{full_count, light_count, front_size, move_of, move_at, bad_script};
-ghost use Rattle.da_script.specs.Plays.{is_pooling, pooling};
-ghost use Rattle.da_script.specs.Parts.{IsPuttable};
+ghost use Rattle.da_script.specs.Plays.{is_pooling, pooling, put_size, put_bytes};
+ghost use Rattle.da_script.specs.Parts.{IsPuttable, payload_sizes};
+
+use da_wire::RawFrame;
 
 /// The sizes of both counts, of a key, of a key with its count, and of an event.
 const COUNTS_SIZE: usize = 4;
@@ -30,11 +32,12 @@ pub(crate) enum Move {
     Publish(u16),
 }
 
-/// How many events a script has, and how many of them may put an item into the pool.
+/// How many events a script has, how many of them may put an item into the pool, and how many bytes of items they put.
 #[derive(Clone, Copy)]
 pub(crate) struct Counts {
     pub(crate) moves: usize,
     pub(crate) pooling: usize,
+    pub(crate) bytes: u128,
 }
 
 /// The number that the first two bytes are.
@@ -191,21 +194,37 @@ fn is_pooling(one: Move) -> bool
     }
 }
 
-/// How many events there are.
-pub(crate) fn count_moves(items: usize, moves: &[u8]) -> Counts
-    ensures moves { result.moves ≡ length (walk_from (move_at items) 0 moves.now) }
-    ensures pooling { result.pooling ≡ pooling (walk_from (move_at items) 0 moves.now) }
+/// How many bytes of items an event puts into the pool: those of the payload of its frame.
+fn put_size(frames: &[RawFrame<'_>], one: Move) -> usize
+    requires { IsPuttable (length frames.now) one }
+    ensures { result ≡ put_size (payload_sizes frames.now) one }
+{
+    match one {
+        Move::Put(place) => frames[place as usize].payload.len(),
+        Move::Publish(_) | Move::Hand { item: _, node: _ } => 0,
+    }
+}
+
+/// How many events over these items there are, and what they put.
+pub(crate) fn count_moves(frames: &[RawFrame<'_>], moves: &[u8]) -> Counts
+    ensures moves { result.moves ≡ length (walk_from (move_at (length frames.now)) 0 moves.now) }
+    ensures pooling { result.pooling ≡
+        pooling (walk_from (move_at (length frames.now)) 0 moves.now) }
+    ensures bytes { result.bytes ≡ put_bytes (payload_sizes frames.now)
+        (walk_from (move_at (length frames.now)) 0 moves.now) }
 {
     let mut counts = Counts {
         moves: 0,
         pooling: 0,
+        bytes: 0,
     };
     let mut rest = moves;
-    while let Some((one, after)) = next_move(items, rest) {
+    while let Some((one, after)) = next_move(frames.len(), rest) {
         counts.moves += 1;
         if is_pooling(one) {
             counts.pooling += 1;
         }
+        counts.bytes += put_size(frames, one) as u128;
         rest = after;
     }
     counts

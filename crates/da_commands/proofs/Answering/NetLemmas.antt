@@ -5,7 +5,7 @@ use Rattle.data_header.specs.Headers.{Roots}
 use Rattle.da_wire.specs.Reading.{Raw}
 use Rattle.da_wire.specs.Frames.{frames_of, bad_frame}
 use Rattle.da_script.specs.Scripts.{moves_of, bad_script}
-use Rattle.da_script.specs.Plays.{items_in, is_refused, first_net, Tells}
+use Rattle.da_script.specs.Plays.{items_in, item_sizes, is_refused, first_net, Tells}
 use Rattle.da_status.specs.declared.status.Asked.TheVariants.{Nodes}
 use Rattle.da_status.specs.declared.status.Status.{Status}
 use Rattle.da_status.specs.declared.status.Status.TheVariants.{Done, BadRequest}
@@ -57,7 +57,7 @@ lines_by over header raws script = Limited over
 
 -- whether the network of a script is too large
 abbrev pub too_large : Roots → List Raw → List ℕ → Bool
-too_large header raws script = is_refused header.k (moves_of (length (items_in raws)) script) script
+too_large header raws script = is_refused header.k (item_sizes raws) (moves_of (length (items_in raws)) script) script
 
 -- a network that is too large is refused
 pub nets_over : (header : Roots) (raws : List Raw) (script : List ℕ) → too_large header raws script ≡ true

@@ -32,17 +32,17 @@ overflow_cast-counts g c =
 
 -- it is refused
 pub returns-then-is_refused : goal.returns-then-is_refused
-returns-then-is_refused g c = λ moves are.
-    sym (refused_by c.args.header.k c.args.counts.now moves c.args.script.now are)
+returns-then-is_refused g c = λ sizes moves are.
+    sym (refused_by c.args.header.k sizes c.args.counts.now moves c.args.script.now are)
     ∙ ap (λ (k : ℕ). is_refused_by k c.args.counts.now c.args.script.now) (sym c.width.ensures.value) ∙ sym c.is_refused.ensures ∙ c.if-is_refused.true
 
 -- it isn't, and the network is the first one
 pub returns-in-Ok : goal.returns-in-Ok
-returns-in-Ok g c = λ moves are. (
-  sym (refused_by c.args.header.k c.args.counts.now moves c.args.script.now are)
+returns-in-Ok g c = λ sizes moves are. (
+  sym (refused_by c.args.header.k sizes c.args.counts.now moves c.args.script.now are)
       ∙ ap (λ (k : ℕ). is_refused_by k c.args.counts.now c.args.script.now) (sym c.width.ensures.value) ∙ sym c.is_refused.ensures ∙ c.if-is_refused.false,
   c.in-Ok.ensures.made
-      ∙ first_is c.args.header c.args.script.now moves c.args.counts.now c.full_count-full.result _ c.full_count-full.ensures
+      ∙ first_is c.args.header c.args.script.now moves c.args.counts.now sizes c.full_count-full.result _ c.full_count-full.ensures
       (c.in_ok-lights.ensures.kinds
       ∙ ap₂ (λ (n : ℕ) (l : List ℕ). map (light_of c.args.header.k) (draws_at n l)) c.light_count.ensures c.draws.ensures) are,
 )
