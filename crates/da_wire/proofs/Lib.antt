@@ -7,6 +7,7 @@ pub mod FrameListLemmas
 pub mod ValueListLemmas
 pub mod KindLemmas
 pub mod SingleLemmas
+pub mod BriefLemmas
 pub mod MessageLengths
 pub mod StreamWalks
 pub mod TakingLemmas

@@ -8,5 +8,6 @@ pub mod Laws
 pub mod Writing
 pub mod Values
 pub mod Single
+pub mod Briefs
 pub mod StreamParts
 pub mod Streams

@@ -5,6 +5,7 @@
 #![tactic(auto)]
 
 mod bounds;
+mod briefs;
 mod codec;
 mod frames;
 mod kinds;
@@ -15,6 +16,7 @@ mod streams;
 mod writing;
 
 pub use bounds::frame_law;
+pub use briefs::{Brief, EntryPlace, FoundPlace, PlaceList, next_brief};
 pub use frames::{Frame, FrameError, RawFrame, SpellError};
 pub use kinds::fraud::claim;
 pub use laws::{limit_laws, stream_laws, value_laws, wire_laws};

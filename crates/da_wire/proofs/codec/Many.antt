@@ -1,6 +1,7 @@
 -- Values that are read each where the one before ended: a loop that passes over them, and one that keeps
 -- them.
-use Rattle.std.proofs.Common.{◌≡◌, ◌∙◌, ℕ, suc, ◌+◌, ◌-◌, ◌<◌, ◌≤◌, Bool, eqb, cond, List, [], ◌∷◌, ◌++◌, length, Option, Some, None, IsSome, refl, sym, ap, subst, arith, append_assoc, append-nil}
+use Rattle.std.proofs.Common.{◌≡◌, ◌∙◌, ℕ, zero, suc, ◌+◌, ◌-◌, ◌<◌, ◌≤◌, Bool, eqb, cond, List, [], ◌∷◌, ◌++◌, length, map, Option, Some, None, IsSome, refl, sym, ap, subst, arith, append_assoc, append-nil}
+use Rattle.std.specs.Option.{option_map}
 use Rattle.std.proofs.lemmas.Option.{same_Some}
 use Rattle.namespace_id.specs.Answers.{Gives}
 use Rattle.frame_fields.specs.Fields.{◌>>=◌, many_at, read_items, read_rest}
@@ -134,3 +135,48 @@ next_some {A} one count i rest xs all h some done =
     let left : count - i ≡ suc (count - (i + 1)) = omega arith in
     let read : IsSome (many_at one (count - i) rest) = some_read xs (many_at one (count - i) rest) (subst (λ (r : Option (List A × List ℕ)). IsSome r) (sym done) some) in
     one_some one (count - (i + 1)) rest (one rest) refl (subst (λ (n : ℕ). IsSome (many_at one n rest)) left read)
+
+-- ---- values that are turned as they are read
+
+module _ {A B : Type 0} (f : A → B) (one : List ℕ → Option (A × List ℕ)) where
+  -- one of them
+  abbrev pub turned : List ℕ → Option (B × List ℕ)
+  turned bytes = option_map (λ x. (f x.0, x.1)) (one bytes)
+
+  -- all of them
+  abbrev turned_all : Option (List A × List ℕ) → Option (List B × List ℕ)
+  turned_all read = option_map (λ r. (map f r.0, r.1)) read
+
+  -- the first is turned, and so are the others
+  first_turned : (x : A) (read : Option (List A × List ℕ)) → after_first (f x) (turned_all read) ≡ turned_all (after_first x read)
+  first_turned x None = refl
+  first_turned x (Some r) = refl
+
+  -- one more is turned, by what is read first
+  one_turned : (n : ℕ) → ((bytes : List ℕ) → many_at turned n bytes ≡ turned_all (many_at one n bytes)) → (o : Option (A × List ℕ))
+      → (option_map (λ (x : A × List ℕ). (f x.0, x.1)) o >>= (λ first. after_first first.0 (many_at turned n first.1)))
+      ≡ turned_all (o >>= (λ first. after_first first.0 (many_at one n first.1)))
+  one_turned n others None = refl
+  one_turned n others (Some x) = ap (after_first (f x.0)) (others x.1) ∙ first_turned x.0 (many_at one n x.1)
+
+  -- so many are turned
+  many_turned : (n : ℕ) (bytes : List ℕ) → many_at turned n bytes ≡ turned_all (many_at one n bytes)
+  unfolding many_at
+  many_turned zero bytes = refl
+  many_turned (suc n) bytes = one_turned n (many_turned n) (one bytes)
+
+  -- where all can be read, all can be turned
+  some_turned : (read : Option (List A × List ℕ)) → IsSome read → IsSome (turned_all read)
+  some_turned None some = some
+  some_turned (Some r) some = refl
+
+  pub turned_some : (n : ℕ) (bytes : List ℕ) → IsSome (many_at one n bytes) → IsSome (many_at turned n bytes)
+  turned_some n bytes some = subst (λ (r : Option (List B × List ℕ)). IsSome r) (sym (many_turned n bytes)) (some_turned (many_at one n bytes) some)
+
+  -- the values that are turned are those that are read
+  items_turned : (read : Option (List A × List ℕ)) → read_items (turned_all read) ≡ map f (read_items read)
+  items_turned None = refl
+  items_turned (Some r) = refl
+
+  pub turned_items : (n : ℕ) (bytes : List ℕ) → read_items (many_at turned n bytes) ≡ map f (read_items (many_at one n bytes))
+  turned_items n bytes = ap (λ (r : Option (List B × List ℕ)). read_items r) (many_turned n bytes) ∙ items_turned (many_at one n bytes)

@@ -1,7 +1,8 @@
 -- The payload of a namespace answer (docs/FORMATS.md, "Payloads").
-use Rattle.std.specs.Prelude.{◌≡◌, ⊤, ℕ, ◌*◌, List, ◌∷◌, length, nat_lt, Option, Some, None, if◌then◌else◌, ◌==◌, ◌||◌, Bool, false, ◌++◌}
+use Rattle.std.specs.Prelude.{◌≡◌, ◌≤◌, ⊤, ℕ, ◌*◌, List, ◌∷◌, length, map, nat_lt, Option, Some, None, if◌then◌else◌, ◌==◌, ◌||◌, Bool, false, ◌++◌}
 use Rattle.std.specs.Int.{w16, to_be_bytes}
 use Rattle.std.specs.List.{list_any}
+use Rattle.std.specs.Option.{option_map}
 use Rattle.namespace_id.specs.declared.namespaces.Namespace.{Namespace}
 use Rattle.namespace_id.specs.Sizes.{namespace_size, share_size, digest_size}
 use Rattle.namespace_id.specs.declared.shares.Share.{Share}
@@ -10,7 +11,10 @@ use Rattle.axis_roots.specs.declared.answers.Found.TheVariants.{Range, Absence}
 use Rattle.axis_roots.specs.declared.answers.NsEntry.{NsEntry}
 use Rattle.da_wire.specs.declared.kinds.names.FoundFields.{FoundFields}
 use Rattle.da_wire.specs.declared.kinds.names.FoundFields.TheVariants as fields
-use Rattle.frame_fields.specs.Fields.{◌>>=◌, number_at, byte_at, string_at, count_at, list_at, path_at, shares_at, shares_of, digest}
+use Rattle.da_wire.specs.declared.briefs.FoundPlace.{FoundPlace}
+use Rattle.da_wire.specs.declared.briefs.FoundPlace.TheVariants as place
+use Rattle.da_wire.specs.declared.briefs.EntryPlace.{EntryPlace}
+use Rattle.frame_fields.specs.Fields.{◌>>=◌, number_at, byte_at, string_at, count_at, list_at, path_at, shares_at, shares_of, digests_of, digest}
 use Rattle.da_wire.specs.codec.Texts.{path_bytes, list_bytes}
 
 -- ---- limits
@@ -109,14 +113,44 @@ names_at bytes = do
   entries ← entries_at name.1
   if length entries.1 == 0 then Some (record { 0 = name.0 }, entries.0) else None
 
+-- ---- where something is found
+
+-- the place of what is found in a row
+abbrev pub found_place : Found → FoundPlace
+found_place (Range start shares nodes) = place.Range start (length shares)
+found_place (Absence pos leaf nodes) = place.Absence pos
+
+-- the row of an entry, and the place of what is found in it
+abbrev pub entry_place : NsEntry → EntryPlace
+entry_place entry = record { row = entry.row; found = found_place entry.found }
+
+-- a namespace, and the places of the entries that answer for it
+abbrev pub answer_places : Namespace × List NsEntry → Namespace × List EntryPlace
+answer_places names = (names.0, map entry_place names.1)
+
+-- the place of an entry, and the bytes after it
+abbrev pub place_at : List ℕ → Option (EntryPlace × List ℕ)
+place_at bytes = option_map (λ entry. (entry_place entry.0, entry.1)) (entry_at bytes)
+
 -- ---- what was found where it lies
 
--- what is found in a row, of whose shares the bytes are known
+-- what is found in a row, of whose shares and nodes the bytes are known
 abbrev pub found_seen : FoundFields → Found
-found_seen (fields.Range start count shares nodes) = Range start (shares_of count shares.now) nodes
-found_seen (fields.Absence pos leaf nodes) = Absence pos leaf nodes
+found_seen (fields.Range start count shares node_count nodes) =
+    Range start (shares_of count shares.now) (digests_of node_count nodes.now)
+found_seen (fields.Absence pos leaf node_count nodes) = Absence pos leaf (digests_of node_count nodes.now)
 
 -- the bytes of a range's shares are all there
 abbrev pub HasShares : FoundFields → Type 0
-HasShares (fields.Range start count shares nodes) = length shares.now ≡ share_size * count
-HasShares (fields.Absence pos leaf nodes) = ⊤
+HasShares (fields.Range start count shares node_count nodes) = length shares.now ≡ share_size * count
+HasShares (fields.Absence pos leaf node_count nodes) = ⊤
+
+-- there are no more nodes than a proof has
+abbrev pub HasFewNodes : FoundFields → Type 0
+HasFewNodes (fields.Range start count shares node_count nodes) = node_count ≤ most_nodes
+HasFewNodes (fields.Absence pos leaf node_count nodes) = node_count ≤ most_nodes
+
+-- the bytes of the nodes are all there
+abbrev pub HasNodes : FoundFields → Type 0
+HasNodes (fields.Range start count shares node_count nodes) = length nodes.now ≡ digest_size * node_count
+HasNodes (fields.Absence pos leaf node_count nodes) = length nodes.now ≡ digest_size * node_count

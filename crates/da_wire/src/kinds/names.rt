@@ -1,24 +1,27 @@
 //! The payload of a namespace answer: judged where it lies, then read; and written.
 
-ghost use Rattle.std.specs.Prelude.{◌≡◌, ◌≤◌, length, vec_len, None, Some, IfOk, IfSome, MatchOption, ◌+◌, ◌++◌, vec_capacity, IsSome, ◌*◌, false};
+ghost use Rattle.std.specs.Prelude.{◌≡◌, ◌≤◌, length, map, vec_len, None, Some, IfOk, IfSome, MatchOption, ◌+◌, ◌++◌, vec_capacity, IsSome, ◌*◌, false};
 ghost use Rattle.std.specs.List.{flat_map, list_any};
+ghost use Rattle.std.specs.Option.{option_map};
 ghost use Rattle.namespace_id.specs.Answers.{Gives, HasRoom};
 ghost use Rattle.frame_fields.specs.Fields.{many_at, read_items, read_rest, shares_of};
 ghost use Rattle.da_wire.specs.codec.Texts.{path_bytes};
 ghost use Rattle.da_wire.specs.Reading.{GivesUnlessFull};
-ghost use Rattle.da_wire.specs.kinds.Names.{is_long_found, is_long_entry, is_long_answer, share_list_bytes, found_bytes, entry_bytes, names_payload, share_list_at, range_at, absence_at, found_at, entry_at, entries_at, names_at, found_seen, HasShares};
+ghost use Rattle.da_wire.specs.kinds.Names.{is_long_found, is_long_entry, is_long_answer, share_list_bytes, found_bytes, entry_bytes, names_payload, share_list_at, range_at, absence_at, found_at, entry_at, entries_at, names_at, found_place, entry_place, answer_places, place_at, found_seen, HasShares, HasFewNodes, HasNodes};
 ghost use Rattle.da_wire.specs.Spelling.{max_payload};
 ghost use Rattle.da_wire.specs.Writing.{HasSize, IsWithin};
 ghost use Rattle.da_wire.specs.declared.frames.Frame.TheVariants as FrameOf;
 
+use crate::briefs::{EntryPlace, FoundPlace, PlaceList};
 use crate::codec::appending::{put_path, put_shares};
 use crate::codec::sizes::{DIGEST_SIZE, NAMESPACE_SIZE, SHARE_SIZE, longer};
 use axis_roots::{Found, NsAnswer, NsEntry, ShareList};
-use frame_fields::{count16_at, digest_at, name_at, nodes_at, shares_at, shares_of, u8_at, u16_at};
+use frame_fields::{
+    count16_at, digest_at, name_at, node_list_at, nodes_of, shares_at, shares_of, u8_at, u16_at,
+};
 use namespace_id::{
     Digest, Namespace, Share, append, digest_law, digests_law, namespace_law, shares_law,
 };
-use nmt_proofs::Nodes;
 use std::alloc::{AllocError, Global};
 
 /// The most entries of an answer, a row each.
@@ -36,19 +39,21 @@ const ABSENCE: u8 = 1;
 /// The bytes that state a row, a place or a count.
 const NUMBER_SIZE: usize = 2;
 
-/// What is found in a row. The shares of a range are still bytes, behind their count.
-#[derive(Drop)]
+/// What is found in a row. The shares of a range and the nodes are still bytes, behind their counts.
+#[derive(Clone, Copy)]
 pub(crate) enum FoundFields<'a> {
     Range {
         start: u16,
         count: u16,
         shares: &'a [u8],
-        nodes: Nodes,
+        node_count: u8,
+        nodes: &'a [u8],
     },
     Absence {
         pos: u16,
         leaf: Digest,
-        nodes: Nodes,
+        node_count: u8,
+        nodes: &'a [u8],
     },
 }
 
@@ -69,14 +74,17 @@ fn share_list_at(bytes: &[u8]) -> Option<(u16, &[u8], &[u8])>
 fn range_at(bytes: &[u8]) -> Option<(FoundFields<'_>, &[u8])>
     ensures value { Gives (λ x. (found_seen x.0, x.1.now)) result (range_at bytes.now) }
     ensures shares { IfSome result (λ x. HasShares x.0) }
+    ensures few { IfSome result (λ x. HasFewNodes x.0) }
+    ensures nodes { IfSome result (λ x. HasNodes x.0) }
 {
     let (start, rest) = u16_at(bytes)?;
     let (count, shares, rest) = share_list_at(rest)?;
-    let (nodes, rest) = nodes_at(rest)?;
+    let (node_count, nodes, rest) = node_list_at(rest)?;
     let found = FoundFields::Range {
         start,
         count,
         shares,
+        node_count,
         nodes,
     };
     Some((found, rest))
@@ -87,11 +95,19 @@ fn range_at(bytes: &[u8]) -> Option<(FoundFields<'_>, &[u8])>
 fn absence_at(bytes: &[u8]) -> Option<(FoundFields<'_>, &[u8])>
     ensures value { Gives (λ x. (found_seen x.0, x.1.now)) result (absence_at bytes.now) }
     ensures shares { IfSome result (λ x. HasShares x.0) }
+    ensures few { IfSome result (λ x. HasFewNodes x.0) }
+    ensures nodes { IfSome result (λ x. HasNodes x.0) }
 {
     let (pos, rest) = u16_at(bytes)?;
     let (leaf, rest) = digest_at(rest)?;
-    let (nodes, rest) = nodes_at(rest)?;
-    Some((FoundFields::Absence { pos, leaf, nodes }, rest))
+    let (node_count, nodes, rest) = node_list_at(rest)?;
+    let found = FoundFields::Absence {
+        pos,
+        leaf,
+        node_count,
+        nodes,
+    };
+    Some((found, rest))
 }
 
 /// What is found in a row, and the bytes after it.
@@ -99,6 +115,8 @@ fn absence_at(bytes: &[u8]) -> Option<(FoundFields<'_>, &[u8])>
 fn found_at(bytes: &[u8]) -> Option<(FoundFields<'_>, &[u8])>
     ensures value { Gives (λ x. (found_seen x.0, x.1.now)) result (found_at bytes.now) }
     ensures shares { IfSome result (λ x. HasShares x.0) }
+    ensures few { IfSome result (λ x. HasFewNodes x.0) }
+    ensures nodes { IfSome result (λ x. HasNodes x.0) }
 {
     let (tag, rest) = u8_at(bytes)?;
     match tag {
@@ -114,6 +132,8 @@ fn entry_at(bytes: &[u8]) -> Option<(u16, FoundFields<'_>, &[u8])>
     ensures value { Gives (λ x. (record { row = x.0; found = found_seen x.1 }, x.2.now))
         result (entry_at bytes.now) }
     ensures shares { IfSome result (λ x. HasShares x.1) }
+    ensures few { IfSome result (λ x. HasFewNodes x.1) }
+    ensures nodes { IfSome result (λ x. HasNodes x.1) }
 {
     let (row, rest) = u16_at(bytes)?;
     let (found, rest) = found_at(rest)?;
@@ -158,7 +178,9 @@ pub(crate) fn names_parts(payload: &[u8]) -> Option<(Namespace, &[u8])>
 
 /// What is found in a row, with memory for the shares of a range.
 fn found_of(alloc: Global, found: FoundFields<'_>) -> Result<Found, AllocError>
-    requires { HasShares found }
+    requires shares { HasShares found }
+    requires few { HasFewNodes found }
+    requires nodes { HasNodes found }
     ensures { IfOk result (λ made. made ≡ found_seen found.entry) }
 {
     match found {
@@ -166,17 +188,26 @@ fn found_of(alloc: Global, found: FoundFields<'_>) -> Result<Found, AllocError>
             start,
             count,
             shares,
+            node_count,
             nodes,
         } => {
             let list = shares_of(alloc, count as usize, shares)?;
-            let shares = ShareList { list };
             Ok(Found::Range {
                 start,
-                shares,
-                nodes,
+                shares: ShareList { list },
+                nodes: nodes_of(node_count, nodes),
             })
         }
-        FoundFields::Absence { pos, leaf, nodes } => Ok(Found::Absence { pos, leaf, nodes }),
+        FoundFields::Absence {
+            pos,
+            leaf,
+            node_count,
+            nodes,
+        } => Ok(Found::Absence {
+            pos,
+            leaf,
+            nodes: nodes_of(node_count, nodes),
+        }),
     }
 }
 
@@ -220,6 +251,67 @@ pub(crate) fn names(
     };
     let entries = entry_list(alloc, bytes)?;
     Ok(Some((name, NsAnswer { entries })))
+}
+
+/// The place of what is found in a row.
+fn place_of(found: FoundFields<'_>) -> FoundPlace
+    ensures { result ≡ found_place (found_seen found.entry) }
+{
+    match found {
+        FoundFields::Range { start, count, .. } => FoundPlace::Range { start, count },
+        FoundFields::Absence { pos, .. } => FoundPlace::Absence { pos },
+    }
+}
+
+/// The place of an entry, and the bytes after it.
+fn place_at(bytes: &[u8]) -> Option<(EntryPlace, &[u8])>
+    ensures { Gives (λ x. (x.0, x.1.now)) result (place_at bytes.now) }
+{
+    let (row, found, rest) = entry_at(bytes)?;
+    let found = place_of(found);
+    Some((EntryPlace { row, found }, rest))
+}
+
+/// The places of so many entries, one after another.
+fn places_of(alloc: Global, count: u16, bytes: &[u8]) -> Result<Vec<EntryPlace>, AllocError>
+    requires { IsSome (many_at entry_at count bytes.now) }
+    ensures { IfOk result (λ places.
+        places.items ≡ map entry_place (read_items (many_at entry_at count bytes.now))) }
+{
+    let mut places = Vec::with_capacity(alloc, count as usize)?;
+    let mut rest = bytes;
+    for _ in 0..count {
+        let (place, after) = place_at(rest).unwrap();
+        places.push(place)?;
+        rest = after;
+    }
+    Ok(places)
+}
+
+/// The places of a list of entries.
+#[tactic(auto, unfolding(frame_fields::specs::Fields::list_at))]
+fn place_list(alloc: Global, bytes: &[u8]) -> Result<Vec<EntryPlace>, AllocError>
+    requires { IsSome (entries_at bytes.now) }
+    ensures { IfOk result (λ places.
+        places.items ≡ map entry_place (read_items (entries_at bytes.now))) }
+{
+    let (count, rest) = count16_at(bytes, MOST_ENTRIES).unwrap();
+    places_of(alloc, count, rest)
+}
+
+/// The namespace of the answer whose payload the bytes are, and where its entries found something. No memory is
+/// taken before they are known to be one.
+pub(crate) fn places(
+    alloc: Global,
+    payload: &[u8],
+) -> Result<Option<(Namespace, PlaceList)>, AllocError>
+    ensures { GivesUnlessFull result (option_map answer_places (names_at payload.now)) }
+{
+    let Some((name, bytes)) = names_parts(payload) else {
+        return Ok(None);
+    };
+    let list = place_list(alloc, bytes)?;
+    Ok(Some((name, PlaceList { list })))
 }
 
 /// Whether what is found has more shares than can be written.

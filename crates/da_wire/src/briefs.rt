@@ -1,0 +1,121 @@
+//! Values of the kinds whose frames may be short, as far as they are shown.
+//!
+//! An entry of a namespace answer may have eight bytes, and is a value of one and a half kilobytes; a `Frame` is one
+//! as large, whatever its kind. What is shown of such frames is read here in as few bytes as it needs.
+
+ghost use Rattle.std.specs.Prelude.{◌≡◌, ◌<◌, length, IfOk, OnErr, IfSome, IsSome};
+ghost use Rattle.namespace_id.specs.Answers.{Gives};
+ghost use Rattle.da_wire.specs.Reading.{GivesUnlessFull};
+ghost use Rattle.da_wire.specs.Briefs.{brief_of_kind, brief_at, brief_and_rest};
+
+use crate::kinds::Kind;
+use crate::kinds::block::block;
+use crate::kinds::fraud::fraud;
+use crate::kinds::missing::missing;
+use crate::kinds::names::places;
+use crate::kinds::requests::{request, sample};
+use crate::reading::raw_among;
+use axis_roots::FraudClaim;
+use namespace_id::{Axis, Cell, Cells, Namespace};
+use square_layout::Block;
+use std::alloc::{AllocError, Global};
+use std::marker::Model;
+
+/// The kinds of the frames that may be short.
+const KINDS: &[u8] = b"NBKQPV";
+
+/// Where something is found in a row: a range by the column of its first share and the number of its shares,
+/// an absence by the column of its leaf.
+#[derive(Clone, Copy, Debug)]
+pub enum FoundPlace {
+    Range { start: u16, count: u16 },
+    Absence { pos: u16 },
+}
+
+/// The row of an entry of a namespace answer, and where something is found in it.
+#[derive(Clone, Copy, Debug)]
+pub struct EntryPlace {
+    pub row: u16,
+    pub found: FoundPlace,
+}
+
+/// Where the entries of a namespace answer found something.
+///
+/// It is a type of its own so that clauses compare lists.
+#[derive(Debug, Drop)]
+pub struct PlaceList {
+    pub list: Vec<EntryPlace>,
+}
+
+impl Model for PlaceList {
+    ghost use Rattle.std.specs.Prelude.{List};
+    ghost use Rattle.da_wire.specs.declared.briefs.EntryPlace.{EntryPlace};
+
+    ghost Value = { List EntryPlace };
+
+    ghost view = { λ p. p.list.items };
+}
+
+/// The value of a frame that may be short. Of a namespace answer it has no shares, digests or nodes, but where its
+/// entries found something.
+#[derive(Drop)]
+pub enum Brief {
+    /// N: a namespace, and where something is found of it.
+    Names(Namespace, PlaceList),
+    /// B: a fraud claim.
+    Fraud(FraudClaim),
+    /// K: missing cells.
+    Missing(Cells),
+    /// Q: a request for the sample of a cell on an axis.
+    Sample(Cell, Axis),
+    /// P: a request for the shares of a namespace.
+    Request(Namespace),
+    /// V: a block.
+    Block(Block),
+}
+
+/// The brief value of this kind whose payload the bytes are.
+fn brief_of_kind(alloc: Global, kind: Kind, payload: &[u8]) -> Result<Option<Brief>, AllocError>
+    ensures { GivesUnlessFull result (brief_of_kind kind payload.now) }
+{
+    match kind {
+        Kind::Names => Ok(places(alloc, payload)?.map(|(name, list)| Brief::Names(name, list))),
+        Kind::Fraud => Ok(fraud(alloc, payload)?.map(Brief::Fraud)),
+        Kind::Missing => Ok(missing(alloc, payload)?.map(Brief::Missing)),
+        Kind::Sample => Ok(sample(payload).map(|(cell, axis)| Brief::Sample(cell, axis))),
+        Kind::Request => Ok(request(payload).map(Brief::Request)),
+        Kind::Block => Ok(block(alloc, payload)?.map(Brief::Block)),
+        _ => Ok(None),
+    }
+}
+
+/// The brief value of the kind that a byte is, whose payload the bytes are.
+#[tactic(auto, unfolding(crate::specs::Briefs::brief_at))]
+fn brief_at(alloc: Global, kind: u8, payload: &[u8]) -> Result<Option<Brief>, AllocError>
+    ensures { GivesUnlessFull result (brief_at kind payload.now) }
+{
+    match Kind::of(kind) {
+        Some(kind) => brief_of_kind(alloc, kind, payload),
+        None => Ok(None),
+    }
+}
+
+/// The brief value of the frame at the front of bytes, and the bytes after it; none where no frame of N, B,
+/// K, Q, P or V in the grammar stands there. Out of memory comes in place of a value alone.
+///
+/// docs/FORMATS.md, "Lists of frames".
+pub fn next_brief(alloc: Global, bytes: &[u8]) -> Result<Option<(Brief, &[u8])>, AllocError>
+    ensures after { IfOk result (λ found.
+        Gives (λ x. (x.0, x.1.now)) found (brief_and_rest bytes.now)) }
+    ensures memory { OnErr result (IsSome (brief_and_rest bytes.now)) }
+    ensures shorter { IfOk result (λ found.
+        IfSome found (λ x. length x.1.now < length bytes.now)) }
+{
+    let Ok(frame) = raw_among(bytes, KINDS) else {
+        return Ok(None);
+    };
+    match brief_at(alloc, frame.kind, frame.payload)? {
+        Some(value) => Ok(Some((value, &bytes[frame.size as usize..]))),
+        None => Ok(None),
+    }
+}
