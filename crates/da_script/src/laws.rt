@@ -1,17 +1,17 @@
 //! What is proved of the network of a script, and of what its lines say.
 
-ghost use Rattle.std.specs.Prelude.{◌≡◌, ℕ, ◌≤◌, ◌↔◌, List, ◌∷◌, ◌++◌, length, Some, false};
+ghost use Rattle.std.specs.Prelude.{◌≡◌, ℕ, ◌≤◌, ◌↔◌, nat_lt, List, ◌∷◌, ◌++◌, length, Some, false};
 ghost use Rattle.std.specs.List.{list_any};
 ghost use Rattle.data_header.specs.Headers.{Roots};
 ghost use Rattle.square_layout.specs.Blocks.{SquareShares};
 ghost use Rattle.axis_roots.specs.Grids.{IsHeaderOf};
+ghost use Rattle.sampling.specs.Draws.{draw_limit};
 ghost use Rattle.da_net.specs.declared.items.Item.{Item as Put};
 ghost use Rattle.da_net.specs.declared.items.NetEvent.{NetEvent as Given};
 ghost use Rattle.da_net.specs.Nets.{NetParts, is_full, is_too_many};
 ghost use Rattle.da_script.specs.declared.reading.Move.{Move as Played};
 ghost use Rattle.da_script.specs.Scripts.{full_count, draws_of};
 ghost use Rattle.da_script.specs.Plays.{pooling, put_bytes, is_refused, event_of, first_net, GoOn, Tells};
-ghost use Rattle.da_script.specs.Parts.{is_wide};
 ghost use Rattle.da_script.specs.Alarms.{TellsOwn};
 
 use da_net::rejection_laws;
@@ -27,7 +27,7 @@ pub fn script_laws()
         (is_refused k sizes moves script ≡ false) ↔
         (is_too_many (full_count script) (length (draws_of script)) (pooling moves) (length moves) ≡
         false) × (put_bytes sizes moves ≤ 536870912) ×
-        (list_any (is_wide k) (draws_of script) ≡ false) }
+        (list_any (λ draw. nat_lt (draw_limit k) draw.count) (draws_of script) ≡ false) }
 {}
 
 /// Under the header of a square the lines of a script say `rejected` or `clash` only where a sample among the
