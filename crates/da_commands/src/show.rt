@@ -1,9 +1,10 @@
 //! show FILE, json FILE: the frames of a file as text, or as JSON.
 
-ghost use Rattle.std.specs.Prelude.{◌≡◌, ◌<◌, [], ◌++◌, length, IfOk, OnOk, OnErr, IfSome, MatchOption, if◌then◌else◌};
+ghost use Rattle.std.specs.Prelude.{◌≡◌, ◌<◌, [], ◌++◌, length, Some, IfOk, OnOk, OnErr, IfSome, MatchOption, if◌then◌else◌};
 ghost use Rattle.std.specs.Result.{is_ok};
 ghost use Rattle.std.specs.String.{string_bytes};
-ghost use Rattle.da_wire.specs.declared.frames.Frame.TheVariants.{Sample};
+ghost use Rattle.da_wire.specs.declared.frames.Frame.{Frame as FrameOf};
+ghost use Rattle.da_wire.specs.Briefs.{brief_of};
 ghost use Rattle.da_wire.specs.Values.{values_of};
 ghost use Rattle.da_commands.specs.Contents.{contents_of};
 ghost use Rattle.da_commands.specs.Show.{all_kinds, shown_as, line_of, all_shown, Shows, show_judged, shown_file, ShowOf, JsonOf};
@@ -14,8 +15,8 @@ ghost use Rattle.da_status.specs.Outcome.{Ends};
 use crate::contents::file;
 use da_io::{LineRoom, Sink, WriteFailed};
 use da_status::Status;
-use da_wire::{Frame, bad_value, next_sample, next_value};
-use namespace_id::{Axis, Cell, NoMemory};
+use da_wire::{Brief, Frame, bad_value, next_brief, next_value};
+use namespace_id::NoMemory;
 use std::alloc::Global;
 
 /// The place of the file among the words that name files.
@@ -52,23 +53,24 @@ fn line(alloc: Global, form: Form, frame: &Frame) -> Result<String, NoMemory>
     }
 }
 
-/// Appends what is shown of a request for a sample.
-fn put_shown(form: Form, text: &mut String, cell: Cell, axis: Axis) -> Result<(), NoMemory>
-    ensures { OnOk result (string_bytes text.new
-        ≡ string_bytes text.old ++ shown_as form (Sample cell axis)) }
+/// Appends what is shown of the value that this is brief of.
+fn put_shown(alloc: Global, form: Form, text: &mut String, brief: &Brief) -> Result<(), NoMemory>
+    ensures { (value : FrameOf) → brief_of value ≡ Some brief.now →
+        OnOk result (string_bytes text.new ≡ string_bytes text.old ++ shown_as form value) }
 {
     match form {
-        Form::Text => da_show::put_sample(text, cell, axis),
-        Form::Json => da_show::put_sample_json(text, cell, axis),
+        Form::Text => da_show::put_brief(alloc, text, brief),
+        Form::Json => da_show::put_brief_json(alloc, text, brief),
     }
 }
 
-/// Appends what is shown of a request for a sample, ended by a line feed.
-fn put_line(form: Form, text: &mut String, cell: Cell, axis: Axis) -> Result<(), NoMemory>
-    ensures { OnOk result (string_bytes text.new
-        ≡ string_bytes text.old ++ line_of (shown_as form) (Sample cell axis)) }
+/// Appends what is shown of the value that this is brief of, ended by a line feed.
+fn put_line(alloc: Global, form: Form, text: &mut String, brief: &Brief) -> Result<(), NoMemory>
+    ensures { (value : FrameOf) → brief_of value ≡ Some brief.now →
+        OnOk result (string_bytes text.new
+        ≡ string_bytes text.old ++ line_of (shown_as form) value) }
 {
-    put_shown(form, text, cell, axis)?;
+    put_shown(alloc, form, text, brief)?;
     match text.push('\n') {
         Ok(()) => Ok(()),
         Err(_) => Err(NoMemory),
@@ -107,8 +109,8 @@ fn made_line<'a>(
 }
 
 /// Makes the text that of the line of the frame at the front of bytes, and gives the bytes after the
-/// frame; none where no frame is left. A request for a sample is shown from its bytes, and the memory
-/// of the text serves again.
+/// frame; none where no frame is left. Of the kinds whose frames may be short what is shown alone is
+/// read, and the memory of the text serves again.
 fn next_line<'a>(
     alloc: Global,
     form: Form,
@@ -122,14 +124,19 @@ fn next_line<'a>(
     ensures shorter { IfOk result (λ found.
         IfSome found (λ more. length more.now < length bytes.now)) }
 {
-    match next_sample(bytes) {
-        Some((asked, more)) => {
-            text.clear();
-            put_line(form, text, asked.0, asked.1)?;
-            Ok(Some(more))
-        }
-        None => made_line(alloc, form, bytes, text),
-    }
+    let Ok(found) = next_brief(alloc, bytes) else {
+        return Err(NoMemory);
+    };
+    let Some((brief, more)) = found else {
+        return made_line(alloc, form, bytes, text);
+    };
+    text.clear();
+    let put = put_line(alloc, form, text, &brief);
+    drop(brief);
+    let Ok(()) = put else {
+        return Err(NoMemory);
+    };
+    Ok(Some(more))
 }
 
 /// The status of a run that ends with the last writes: this one where they did not fail.

@@ -1,2 +1,5 @@
 pub mod NoFloats
 mod SampleText
+mod BriefText
+mod HexDigits
+mod BriefJson

@@ -1,9 +1,10 @@
 -- The JSON of a frame (docs/FORMATS.md, "JSON of frames").
-use Rattle.std.specs.Prelude.{ℕ, List, [], ◌∷◌, ◌++◌, codes, decimal, length, map, Option, Some, None}
+use Rattle.std.specs.Prelude.{ℕ, List, [], ◌∷◌, ◌++◌, codes, decimal, length, map, Bool, true, false, Option, Some, None}
 use Rattle.hex.specs.Hex.{encode_lower}
 use Rattle.serde_json.specs.Data.{Data, number, string, array, object, Members, no_members, member, unsigned}
 use Rattle.serde_json.specs.View.{items_of}
-use Rattle.serde_json.specs.Written.{compact_text}
+use Rattle.serde_json.specs.Written.{compact_text, comma_if}
+use Rattle.json.specs.Print.{quoted}
 use Rattle.namespace_id.specs.declared.cells.Cell.{Cell}
 use Rattle.namespace_id.specs.declared.cells.Axis.{Axis}
 use Rattle.namespace_id.specs.declared.namespaces.Namespace.{Namespace}
@@ -24,6 +25,11 @@ use Rattle.blob_commit.specs.Proofs.{CommitParts, RootedParts}
 use Rattle.da_wire.specs.kinds.Block.{width_number}
 use Rattle.da_wire.specs.declared.frames.Frame.{Frame}
 use Rattle.da_wire.specs.declared.frames.Frame.TheVariants as frames
+use Rattle.da_wire.specs.declared.briefs.Brief.{Brief}
+use Rattle.da_wire.specs.declared.briefs.Brief.TheVariants as briefs
+use Rattle.da_wire.specs.declared.briefs.EntryPlace.{EntryPlace}
+use Rattle.da_wire.specs.declared.briefs.FoundPlace.{FoundPlace}
+use Rattle.da_wire.specs.declared.briefs.FoundPlace.TheVariants as places
 use Rattle.da_show.specs.Parts.{axis_word, name_word, digest_word, share_name_word, share_hash_word}
 
 -- ---- values
@@ -86,6 +92,16 @@ found_json row (Absence pos leaf nodes) = object_of ((codes "pos", count pos) �
 abbrev pub entry_json : NsEntry → Data
 entry_json entry = found_json entry.row entry.found
 
+-- what is found in this row, by where it is
+abbrev pub found_place_json : ℕ → FoundPlace → Data
+found_place_json row (places.Range start shares) =
+    object_of ((codes "count", count shares) ∷ (codes "row", count row) ∷ (codes "start", count start) ∷ [])
+found_place_json row (places.Absence pos) = object_of ((codes "pos", count pos) ∷ (codes "row", count row) ∷ [])
+
+-- where an entry of a namespace answer found something
+abbrev pub place_json : EntryPlace → Data
+place_json entry = found_place_json entry.row entry.found
+
 -- a namespace answer
 abbrev pub names_json : Namespace → List NsEntry → Data
 names_json name entries = object_of (
@@ -129,6 +145,68 @@ unfoldable pub sample_text : Cell → Axis → List ℕ
 sample_text cell axis =
     codes "{\"axis\":\"" ++ axis_word axis ++ codes "\",\"col\":" ++ decimal cell.col
     ++ codes ",\"kind\":\"sample\",\"row\":" ++ decimal cell.row ++ codes "}"
+
+-- the text of a range, as it is put together
+unfoldable pub range_text : ℕ → ℕ → ℕ → List ℕ
+range_text row start shares =
+    codes "{\"count\":" ++ (decimal shares ++ (codes ",\"row\":" ++ (decimal row
+    ++ (codes ",\"start\":" ++ (decimal start ++ codes "}")))))
+
+-- the text of an absence
+unfoldable pub absence_text : ℕ → ℕ → List ℕ
+absence_text row pos =
+    codes "{\"pos\":" ++ (decimal pos ++ (codes ",\"row\":" ++ (decimal row ++ codes "}")))
+
+-- where something is found in a row
+abbrev pub found_place_text : ℕ → FoundPlace → List ℕ
+found_place_text row (places.Range start shares) = range_text row start shares
+found_place_text row (places.Absence pos) = absence_text row pos
+
+-- where an entry of a namespace answer found something
+abbrev pub place_text : EntryPlace → List ℕ
+place_text entry = found_place_text entry.row entry.found
+
+-- the text of a cell
+unfoldable pub pair_text : ℕ → ℕ → List ℕ
+pair_text row col = codes "[" ++ (decimal row ++ (codes "," ++ (decimal col ++ codes "]")))
+
+-- the text of what is left of a list, with a comma in front where something stands before
+abbrev pub items_from : {A : Type 0} → (A → List ℕ) → Bool → List A → List ℕ
+items_from text_of later [] = codes "]"
+items_from text_of later (x ∷ xs) = comma_if later ++ (text_of x ++ items_from text_of true xs)
+
+-- the text of a list
+abbrev pub list_text : {A : Type 0} → (A → List ℕ) → List A → List ℕ
+list_text text_of xs = codes "[" ++ items_from text_of false xs
+
+-- the text of a cell, and of the cell of a sample
+abbrev pub cell_text : Cell → List ℕ
+cell_text cell = pair_text cell.row cell.col
+
+abbrev pub cell_of_text : Message → List ℕ
+cell_of_text m = cell_text m.cell
+
+-- the text of a fraud claim
+unfoldable pub claim_text : Axis → List Message → ℕ → List ℕ
+claim_text axis cells index =
+    codes "{\"axis\":\"" ++ (axis_word axis ++ (codes "\",\"cells\":" ++ (list_text cell_of_text cells
+    ++ (codes ",\"index\":" ++ (decimal index ++ codes ",\"kind\":\"fraud\"}")))))
+
+-- the text of missing cells
+unfoldable pub missing_text : List Cell → ℕ → List ℕ
+missing_text cells k =
+    codes "{\"cells\":" ++ (list_text cell_text cells ++ (codes ",\"k\":" ++ (decimal k ++ codes ",\"kind\":\"missing\"}")))
+
+-- the text of a namespace answer, by where its entries found something
+unfoldable pub places_text : Namespace → List EntryPlace → List ℕ
+places_text name entries =
+    codes "{\"entries\":" ++ (list_text place_text entries
+    ++ (codes ",\"kind\":\"namespace\",\"namespace\":" ++ (quoted (name_word name) ++ codes "}")))
+
+-- the text of a request for the shares of a namespace
+unfoldable pub request_text : Namespace → List ℕ
+request_text name =
+    codes "{\"kind\":\"request\",\"namespace\":" ++ (quoted (name_word name) ++ codes "}")
 
 -- a request for the shares of a namespace
 abbrev pub request_json : Namespace → Data
@@ -193,3 +271,14 @@ json_of (frames.Rooted proof) = rooted_json proof
 -- the text of it, without a space and on one line
 abbrev pub json_text : Frame → List ℕ
 json_text frame = compact_text (json_of frame)
+
+-- ---- the text of what is brief of a frame
+
+-- the text by its kind
+abbrev pub brief_json : Brief → List ℕ
+brief_json (briefs.Names name found) = places_text name found
+brief_json (briefs.Fraud claim) = claim_text claim.axis claim.cells claim.index
+brief_json (briefs.Missing cells) = missing_text cells.list cells.k
+brief_json (briefs.Sample cell axis) = sample_text cell axis
+brief_json (briefs.Request name) = request_text name
+brief_json (briefs.Block block) = compact_text (block_json block)

@@ -23,6 +23,11 @@ use Rattle.blob_commit.specs.Proofs.{CommitParts, RootedParts}
 use Rattle.da_wire.specs.kinds.Block.{width_number}
 use Rattle.da_wire.specs.declared.frames.Frame.{Frame}
 use Rattle.da_wire.specs.declared.frames.Frame.TheVariants as frames
+use Rattle.da_wire.specs.declared.briefs.Brief.{Brief}
+use Rattle.da_wire.specs.declared.briefs.Brief.TheVariants as briefs
+use Rattle.da_wire.specs.declared.briefs.EntryPlace.{EntryPlace}
+use Rattle.da_wire.specs.declared.briefs.FoundPlace.{FoundPlace}
+use Rattle.da_wire.specs.declared.briefs.FoundPlace.TheVariants as places
 use Rattle.da_show.specs.Parts.{axis_word, name_word, digest_word, share_name_word, share_hash_word}
 
 -- ---- lines
@@ -94,6 +99,24 @@ found_line row found = line (codes "row") (decimal row ∷ found_words found)
 abbrev pub entry_line : NsEntry → List ℕ
 entry_line entry = found_line entry.row entry.found
 
+-- a range by its row, its start and how many shares it has
+unfoldable pub range_line : ℕ → ℕ → ℕ → List ℕ
+range_line row start count =
+    line (codes "row") (decimal row ∷ codes "range" ∷ decimal start ∷ decimal count ∷ [])
+
+-- an absence by its row and its column
+unfoldable pub absence_line : ℕ → ℕ → List ℕ
+absence_line row pos = line (codes "row") (decimal row ∷ codes "absent" ∷ decimal pos ∷ [])
+
+-- where something is found in a row
+abbrev pub found_place_line : ℕ → FoundPlace → List ℕ
+found_place_line row (places.Range start count) = range_line row start count
+found_place_line row (places.Absence pos) = absence_line row pos
+
+-- where an entry of a namespace answer found something
+abbrev pub place_line : EntryPlace → List ℕ
+place_line entry = found_place_line entry.row entry.found
+
 -- the own line of a namespace answer of so many entries
 abbrev pub names_line : Namespace → ℕ → List ℕ
 names_line name count = line (codes "namespace") (name_word name ∷ named (codes "entries") count ∷ [])
@@ -101,6 +124,10 @@ names_line name count = line (codes "namespace") (name_word name ∷ named (code
 -- a namespace answer: its entries
 abbrev pub names_lines : Namespace → List NsEntry → List (List ℕ)
 names_lines name entries = names_line name (length entries) ∷ map entry_line entries
+
+-- a namespace answer: where its entries found something
+abbrev pub places_lines : Namespace → List EntryPlace → List (List ℕ)
+places_lines name entries = names_line name (length entries) ∷ map place_line entries
 
 -- a fraud claim's own line
 abbrev pub claim_line : ClaimParts → List ℕ
@@ -208,6 +235,15 @@ lines_of (frames.Request name) = request_line name ∷ []
 lines_of (frames.Block block) = block_lines block
 lines_of (frames.Commit proof) = commit_line proof ∷ []
 lines_of (frames.Rooted proof) = rooted_lines proof
+
+-- the lines of what is brief of a frame
+abbrev pub brief_lines : Brief → List (List ℕ)
+brief_lines (briefs.Names name found) = places_lines name found
+brief_lines (briefs.Fraud claim) = claim_lines claim
+brief_lines (briefs.Missing cells) = missing_lines cells
+brief_lines (briefs.Sample cell axis) = sample_line cell axis ∷ []
+brief_lines (briefs.Request name) = request_line name ∷ []
+brief_lines (briefs.Block block) = block_lines block
 
 -- lines that come after another, each behind a line feed
 abbrev pub following : List (List ℕ) → List ℕ

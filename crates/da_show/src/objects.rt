@@ -1,16 +1,19 @@
 //! The JSON of frames.
 
-ghost use Rattle.std.specs.Prelude.{◌≡◌, ◌++◌, IfOk, OnOk};
+ghost use Rattle.std.specs.Prelude.{◌≡◌, ◌++◌, Some, IfOk, OnOk};
 ghost use Rattle.std.specs.String.{string_bytes};
 ghost use Rattle.serde_json.specs.View.{view};
+ghost use Rattle.da_wire.specs.declared.frames.Frame.{Frame as FrameOf};
 ghost use Rattle.da_wire.specs.declared.frames.Frame.TheVariants.{Sample};
-ghost use Rattle.da_show.specs.Json.{json_of, json_text, sample_text};
+ghost use Rattle.da_wire.specs.Briefs.{brief_of};
+ghost use Rattle.da_show.specs.Json.{json_of, json_text, sample_text, brief_json};
 
 mod kinds;
 mod lists;
+mod texts;
 
 use crate::words::{axis_word, put_number};
-use da_wire::Frame;
+use da_wire::{Brief, Frame};
 use namespace_id::{Axis, Cell, NoMemory};
 use serde_json::Value;
 use std::alloc::{AllocError, Global};
@@ -82,6 +85,36 @@ pub fn put_sample_json(out: &mut String, cell: Cell, axis: Axis) -> Result<(), N
         ≡ string_bytes out.old ++ json_text (Sample cell axis)) }
 {
     match put_object(out, cell, axis) {
+        Ok(()) => Ok(()),
+        Err(AllocError) => Err(NoMemory),
+    }
+}
+
+/// Appends the text of the object of a brief value.
+fn put_brief_object(alloc: Global, out: &mut String, brief: &Brief) -> Result<(), AllocError>
+    ensures { OnOk result (string_bytes out.new ≡ string_bytes out.old ++ brief_json brief.now) }
+{
+    match brief {
+        Brief::Names(name, found) => texts::put_names(alloc, out, name, &found.list),
+        Brief::Fraud(claim) => texts::put_claim(out, claim.axis, &claim.cells, claim.index),
+        Brief::Missing(cells) => texts::put_missing(out, &cells.list, cells.k),
+        Brief::Sample(cell, axis) => put_object(out, *cell, *axis),
+        Brief::Request(name) => texts::put_request(alloc, out, name),
+        Brief::Block(block) => texts::put_block(alloc, out, block),
+    }
+}
+
+/// Appends what `show_json` gives for the value that this is brief of.
+///
+/// It refuses only where there is no memory.
+///
+/// docs/FORMATS.md, "JSON of frames".
+pub fn put_brief_json(alloc: Global, out: &mut String, brief: &Brief) -> Result<(), NoMemory>
+    ensures object { OnOk result (string_bytes out.new ≡ string_bytes out.old ++ brief_json brief.now) }
+    ensures text { (value : FrameOf) → brief_of value ≡ Some brief.now →
+        OnOk result (string_bytes out.new ≡ string_bytes out.old ++ json_text value) }
+{
+    match put_brief_object(alloc, out, brief) {
         Ok(()) => Ok(()),
         Err(AllocError) => Err(NoMemory),
     }

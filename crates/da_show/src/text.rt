@@ -1,15 +1,17 @@
 //! The text of frames.
 
-ghost use Rattle.std.specs.Prelude.{◌≡◌, ◌++◌, IfOk, OnOk};
+ghost use Rattle.std.specs.Prelude.{◌≡◌, ◌++◌, Some, IfOk, OnOk};
 ghost use Rattle.std.specs.String.{string_bytes};
+ghost use Rattle.da_wire.specs.declared.frames.Frame.{Frame as FrameOf};
 ghost use Rattle.da_wire.specs.declared.frames.Frame.TheVariants.{Sample};
-ghost use Rattle.da_show.specs.Text.{joined, lines_of, text_of};
+ghost use Rattle.da_wire.specs.Briefs.{brief_of};
+ghost use Rattle.da_show.specs.Text.{joined, lines_of, brief_lines, text_of};
 
 mod kinds;
 mod lines;
 mod lists;
 
-use da_wire::Frame;
+use da_wire::{Brief, Frame};
 use namespace_id::{Axis, Cell, NoMemory};
 use std::alloc::{AllocError, Global};
 
@@ -61,6 +63,38 @@ pub fn put_sample(out: &mut String, cell: Cell, axis: Axis) -> Result<(), NoMemo
         ≡ string_bytes out.old ++ text_of (Sample cell axis)) }
 {
     match lines::put_sample(out, cell, axis) {
+        Ok(()) => Ok(()),
+        Err(AllocError) => Err(NoMemory),
+    }
+}
+
+/// Appends the text of a brief value.
+fn put_lines(alloc: Global, out: &mut String, brief: &Brief) -> Result<(), AllocError>
+    ensures { OnOk result (string_bytes out.new
+        ≡ string_bytes out.old ++ joined (brief_lines brief.now)) }
+{
+    match brief {
+        Brief::Names(name, found) => kinds::places(alloc, out, name, found),
+        Brief::Fraud(claim) => kinds::claim(alloc, out, claim),
+        Brief::Missing(cells) => kinds::missing(out, cells),
+        Brief::Sample(cell, axis) => lines::put_sample(out, *cell, *axis),
+        Brief::Request(name) => lines::put_request(alloc, out, name),
+        Brief::Block(block) => kinds::block(alloc, out, block),
+    }
+}
+
+/// Appends what `show` gives for the value that this is brief of.
+///
+/// It refuses only where there is no memory.
+///
+/// docs/FORMATS.md, "Text of frames".
+pub fn put_brief(alloc: Global, out: &mut String, brief: &Brief) -> Result<(), NoMemory>
+    ensures lines { OnOk result (string_bytes out.new
+        ≡ string_bytes out.old ++ joined (brief_lines brief.now)) }
+    ensures text { (value : FrameOf) → brief_of value ≡ Some brief.now →
+        OnOk result (string_bytes out.new ≡ string_bytes out.old ++ text_of value) }
+{
+    match put_lines(alloc, out, brief) {
         Ok(()) => Ok(()),
         Err(AllocError) => Err(NoMemory),
     }

@@ -1,11 +1,30 @@
 -- What is brief of the value at the front of bytes is what is brief of the value that its payload holds.
-use Rattle.std.proofs.Common.{◌≡◌, ◌∙◌, ℕ, List, drop, Option, None, Some, Ok, Err, refl, sym, ap, subst}
+use Rattle.std.proofs.Common.{◌≡◌, ◌∙◌, ℕ, ◌-◌, List, length, take, drop, Option, None, Some, Ok, Err, refl, sym, ap, subst}
 use Rattle.std.specs.Prelude.{IsSome}
 use Rattle.std.specs.Option.{option_map}
+use Rattle.std.proofs.lemmas.List.{take_rest}
+use Rattle.namespace_id.specs.declared.cells.Cell.{Cell}
+use Rattle.namespace_id.specs.declared.cells.Axis.{Axis}
+use Rattle.namespace_id.specs.declared.namespaces.Namespace.{Namespace}
+use Rattle.axis_roots.specs.declared.answers.NsEntry.{NsEntry}
 use Rattle.frame_fields.specs.Fields.{◌>>=◌}
+use Rattle.frame_fields.specs.Messages.{message_at}
+use Rattle.da_wire.specs.kinds.Header.{header_at}
+use Rattle.da_wire.specs.kinds.Square.{square_at}
+use Rattle.da_wire.specs.kinds.Names.{names_at, answer_places}
+use Rattle.da_wire.specs.kinds.Fraud.{fraud_at}
+use Rattle.da_wire.specs.kinds.Missing.{missing_at}
+use Rattle.da_wire.specs.kinds.Clash.{clash_at}
+use Rattle.da_wire.specs.kinds.Requests.{sample_at, request_at}
+use Rattle.da_wire.specs.kinds.Block.{block_at}
+use Rattle.da_wire.specs.kinds.Commit.{commit_at}
+use Rattle.da_wire.specs.kinds.Rooted.{rooted_at}
 use Rattle.da_wire.specs.declared.frames.Frame.{Frame}
+use Rattle.da_wire.specs.declared.frames.Frame.TheVariants as frames
 use Rattle.da_wire.specs.declared.frames.FrameError.{FrameError}
 use Rattle.da_wire.specs.declared.briefs.Brief.{Brief}
+use Rattle.da_wire.specs.declared.briefs.Brief.TheVariants as briefs
+use Rattle.da_wire.specs.declared.briefs.EntryPlace.{EntryPlace}
 use Rattle.da_wire.specs.declared.kinds.Kind.{Kind}
 use Rattle.da_wire.specs.declared.kinds.Kind.TheVariants as kinds
 use Rattle.da_wire.specs.Reading.{Raw, kind_at, value_of_kind, value_at, is_among, tested_raw}
@@ -34,18 +53,21 @@ made_twice made turn short same (Some a) = sym (same a)
 
 -- what is brief of the value of a kind
 kind_brief : (kind : Kind) (payload : List ℕ) → brief_of_kind kind payload ≡ (value_of_kind kind payload >>= brief_of)
-kind_brief kinds.Header payload = made_none _ (λ a. refl) _
-kind_brief kinds.Square payload = made_none _ (λ a. refl) _
-kind_brief kinds.Message payload = made_none _ (λ a. refl) _
-kind_brief kinds.Names payload = made_twice _ _ _ (λ a. refl) _
-kind_brief kinds.Fraud payload = made_brief _ _ (λ a. refl) _
-kind_brief kinds.Missing payload = made_brief _ _ (λ a. refl) _
-kind_brief kinds.Clash payload = made_none _ (λ a. refl) _
-kind_brief kinds.Sample payload = made_brief _ _ (λ a. refl) _
-kind_brief kinds.Request payload = made_brief _ _ (λ a. refl) _
-kind_brief kinds.Block payload = made_brief _ _ (λ a. refl) _
-kind_brief kinds.Commit payload = made_none _ (λ a. refl) _
-kind_brief kinds.Rooted payload = made_none _ (λ a. refl) _
+kind_brief kinds.Header payload = made_none frames.Header (λ a. refl) (header_at payload)
+kind_brief kinds.Square payload = made_none frames.Square (λ a. refl) (square_at payload)
+kind_brief kinds.Message payload = made_none frames.Message (λ a. refl) (message_at payload)
+kind_brief kinds.Names payload =
+    made_twice (λ (n : Namespace × List NsEntry). frames.Names n.0 n.1) answer_places (λ (n : Namespace × List EntryPlace). briefs.Names n.0 n.1) (λ a. refl)
+    (names_at payload)
+kind_brief kinds.Fraud payload = made_brief frames.Fraud briefs.Fraud (λ a. refl) (fraud_at payload)
+kind_brief kinds.Missing payload = made_brief frames.Missing briefs.Missing (λ a. refl) (missing_at payload)
+kind_brief kinds.Clash payload = made_none frames.Clash (λ a. refl) (clash_at payload)
+kind_brief kinds.Sample payload =
+    made_brief (λ (s : Cell × Axis). frames.Sample s.0 s.1) (λ (s : Cell × Axis). briefs.Sample s.0 s.1) (λ a. refl) (sample_at payload)
+kind_brief kinds.Request payload = made_brief frames.Request briefs.Request (λ a. refl) (request_at payload)
+kind_brief kinds.Block payload = made_brief frames.Block briefs.Block (λ a. refl) (block_at payload)
+kind_brief kinds.Commit payload = made_none frames.Commit (λ a. refl) (commit_at payload)
+kind_brief kinds.Rooted payload = made_none frames.Rooted (λ a. refl) (rooted_at payload)
 
 -- by the kind that a byte is, if it is one
 byte_brief : (o : Option Kind) (payload : List ℕ)
@@ -63,27 +85,42 @@ payload_brief byte payload = byte_brief (kind_at byte) payload
 module _ (bytes : List ℕ) where
   -- what comes of a value at the front, and its length
   abbrev brief_by : Option (Frame × ℕ) → Option (Brief × List ℕ)
-  brief_by found = option_map (λ x. (x.0, drop x.1 bytes)) found >>= (λ v. option_map (λ b. (b, v.1)) (brief_of v.0))
+  brief_by found = ◌>>=◌ {A = Frame × List ℕ} (option_map (λ x. (x.0, drop x.1 bytes)) found) (λ v. option_map (λ b. (b, v.1)) (brief_of v.0))
+
+  -- what is brief, with the bytes after it
+  abbrev followed : List ℕ → Option Brief → Option (Brief × List ℕ)
+  followed rest brief = option_map (λ b. (b, rest)) brief
 
   -- by the value that the payload holds
   value_brief : (f : Raw) (o : Option Frame) → tested_raw (is_among brief_kinds) 0 bytes ≡ Ok f → value_at f.kind f.payload ≡ o
-      → brief_and_rest bytes ≡ option_map (λ b. (b, drop f.size bytes)) (o >>= brief_of)
+      → brief_and_rest bytes ≡ followed (drop f.size bytes) (o >>= brief_of)
   value_brief f None front read = ap brief_by (value_missed brief_kinds bytes f front read)
   value_brief f (Some v) front read = ap brief_by (value_found brief_kinds bytes f v front read)
 
   -- what is brief of the frame at the front
-  pub front_brief : (f : Raw) → tested_raw (is_among brief_kinds) 0 bytes ≡ Ok f
-      → brief_and_rest bytes ≡ option_map (λ b. (b, drop f.size bytes)) (brief_at f.kind f.payload)
+  front_brief : (f : Raw) → tested_raw (is_among brief_kinds) 0 bytes ≡ Ok f
+      → brief_and_rest bytes ≡ followed (drop f.size bytes) (brief_at f.kind f.payload)
   front_brief f front =
       value_brief f (value_at f.kind f.payload) front refl
-      ∙ ap (λ (o : Option Brief). option_map (λ b. (b, drop f.size bytes)) o) (sym (payload_brief f.kind f.payload))
+      ∙ ap (followed (drop f.size bytes)) (sym (payload_brief f.kind f.payload))
 
-  -- where no frame of these kinds stands, nothing is
+  -- what the payload holds stands there
+  pub found_brief : (f : Raw) (brief : Brief) → tested_raw (is_among brief_kinds) 0 bytes ≡ Ok f → brief_at f.kind f.payload ≡ Some brief
+      → brief_and_rest bytes ≡ Some (brief, take (length bytes - f.size) (drop f.size bytes))
+  found_brief f brief front read =
+      front_brief f front ∙ ap (followed (drop f.size bytes)) read
+      ∙ ap (λ (l : List ℕ). followed l (Some brief)) (sym (take_rest bytes f.size))
+
+  -- where the payload isn't in the grammar, nothing does
+  pub missed_brief : (f : Raw) → tested_raw (is_among brief_kinds) 0 bytes ≡ Ok f → brief_at f.kind f.payload ≡ None → brief_and_rest bytes ≡ None
+  missed_brief f front read = front_brief f front ∙ ap (followed (drop f.size bytes)) read
+
+  -- where no frame of these kinds stands, nothing does
   pub no_brief : (why : FrameError) → tested_raw (is_among brief_kinds) 0 bytes ≡ Err why → brief_and_rest bytes ≡ None
   no_brief why front = ap brief_by (frame_missed brief_kinds bytes why front)
 
   -- where its payload holds one, there is one
-  held : (rest : List ℕ) (o : Option Brief) → IsSome o → IsSome (option_map (λ (b : Brief). (b, rest)) o)
+  held : (rest : List ℕ) (o : Option Brief) → IsSome o → IsSome (followed rest o)
   held rest None some = some
   held rest (Some b) some = refl
 

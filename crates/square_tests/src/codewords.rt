@@ -122,38 +122,37 @@ fn greatest_width(rt: HostRuntime) {
     }
 }
 
-/// A share whose first word is 1.
-fn unit() -> Share {
+/// The recovery shares where the first word of one of `count` originals is 1, and all others are 0.
+fn word_column(rt: &impl Abort, alloc: Global, count: usize, at: usize) -> Vec<Share> {
+    assert!(rt; count == 256 || count == 512);
+    assert!(rt; at < count);
+    let originals = vec![in alloc; share(0); count];
+    let mut originals = originals.expect(rt, "there is memory");
     let mut bytes = [0; SHARE_SIZE];
     bytes[0] = 1;
-    Share(bytes)
+    originals[at] = Share(bytes);
+    let recovery = vec![in alloc; share(0); count];
+    let mut recovery = recovery.expect(rt, "there is memory");
+    extend_words(&originals, &mut recovery);
+    recovery
 }
 
 /// The first word of a share.
-fn word(share: &Share) -> u16 {
+fn first_word(share: &Share) -> u16 {
     u16::from_le_bytes([share.0[0], share.0[32]])
 }
 
 #[test]
-fn words_of_width_256(rt: HostRuntime) {
-    let mut originals = [share(0); 256];
-    originals[17] = unit();
-    let mut recovery = [share(0); 256];
-    extend_words(&originals, &mut recovery);
-    assert!(rt; word(&recovery[0]) == 8551);
-    assert!(rt; word(&recovery[1]) == 8518);
-    assert!(rt; word(&recovery[2]) == 63600);
-    assert!(rt; word(&recovery[255]) == 33122);
-}
-
-#[test]
-fn words_of_width_512(rt: HostRuntime) {
-    let mut originals = [share(0); 512];
-    originals[511] = unit();
-    let mut recovery = [share(0); 512];
-    extend_words(&originals, &mut recovery);
-    assert!(rt; word(&recovery[0]) == 48763);
-    assert!(rt; word(&recovery[1]) == 33754);
-    assert!(rt; word(&recovery[2]) == 33625);
-    assert!(rt; word(&recovery[511]) == 57670);
+fn words(rt: HostRuntime) {
+    let cases = [
+        (256, 17, [(0, 8551), (1, 8518), (2, 63600), (255, 33122)]),
+        (512, 511, [(0, 48763), (1, 33754), (2, 33625), (511, 57670)]),
+    ];
+    for (count, at, wanted) in cases {
+        let recovery = word_column(&rt, rt.alloc(), count, at);
+        for (pos, want) in wanted {
+            assert!(rt; pos < recovery.len());
+            assert!(rt; first_word(&recovery[pos]) == want, "{pos} of {count}");
+        }
+    }
 }

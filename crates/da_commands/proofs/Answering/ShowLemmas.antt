@@ -1,21 +1,25 @@
 -- What the commands show and json answer.
-use Rattle.std.proofs.Common.{◌≡◌, ◌∙◌, ℕ, ◌<◌, Bool, true, false, List, [], ◌∷◌, ◌++◌, length, drop, None, Some, IsSome, Result, Ok, Err, OnErr, cond, Bor, ◌↔◌, refl, sym, ap, ap₂, subst, inr, arith, append-nil, eqb-true}
+use Rattle.std.proofs.Common.{◌≡◌, ◌∙◌, ℕ, ◌<◌, Bool, true, false, List, [], ◌∷◌, ◌++◌, length, drop, None, Some, IsSome, Result, Ok, Err, OnErr, cond, Bor, ◌↔◌, refl, sym, ap, subst, inr, arith, append-nil, eqb-true}
 use Rattle.std.specs.declared.option.Option.{Option}
 use Rattle.std.specs.Option.{option_map, option_map_or}
+use Rattle.std.specs.List.{list_all}
 use Rattle.std.specs.Result.{is_ok}
-use Rattle.std.specs.Prelude.{◌-◌, ◌==◌, ◌&&◌, slice_index, MatchOption}
-use Rattle.std.proofs.Math.Bool.{or-false}
+use Rattle.std.specs.Prelude.{◌-◌, ◌==◌, ◌&&◌, ◌||◌, slice_index, IfSome, MatchOption}
+use Rattle.std.proofs.lemmas.Bool.{and_parts}
 use Rattle.std.proofs.lemmas.List.{length-append, length-drop}
 use Rattle.da_io.specs.Faults.{CountsFault}
 use Rattle.da_io.specs.Sinks.{WritesAll}
 use Rattle.da_wire.specs.declared.frames.Frame.{Frame}
 use Rattle.da_wire.specs.declared.frames.FrameError.{FrameError}
 use Rattle.da_wire.specs.declared.frames.FrameError.TheVariants.{Truncated, BadKind}
-use Rattle.da_wire.specs.Spelling.{sample_kind}
+use Rattle.namespace_id.specs.Answers.{Gives}
+use Rattle.frame_fields.specs.Fields.{◌>>=◌}
+use Rattle.da_wire.specs.declared.briefs.Brief.{Brief}
+use Rattle.da_wire.specs.Briefs.{brief_kinds, brief_of, brief_and_rest}
 use Rattle.da_wire.specs.Reading.{Raw, is_kind, raw_of, value_of, is_among, tested_raw}
 use Rattle.da_wire.specs.Frames.{ok_of}
 use Rattle.da_wire.specs.Walks.{walk_from}
-use Rattle.da_wire.specs.Values.{value_in, value_and_rest, values_of, bad_value}
+use Rattle.da_wire.specs.Values.{value_in, values_of, bad_value}
 use Rattle.da_wire.proofs.WalkLemmas.{walk_on}
 use Rattle.da_status.specs.declared.status.Status.{Status}
 use Rattle.da_status.specs.declared.status.Status.TheVariants.{Done, NoMemory, WriteFault, BadInput}
@@ -89,12 +93,20 @@ unfolding walk_from tested_raw
 shown_found shown kinds [] some = absurd cc
 shown_found shown kinds (byte ∷ rest) some = shown_by shown kinds rest (value_in kinds (byte ∷ rest)) some
 
--- ---- a request for a sample at the front
+-- ---- what is brief of the frame at the front
 
--- the kind of requests for samples is one of all
-sample_among : (kind : ℕ) → is_among (sample_kind ∷ []) kind ≡ true → is_among all_kinds kind ≡ true
-sample_among kind e =
-    subst (λ (k : ℕ). is_among all_kinds k ≡ true) (eqb-true sample_kind kind (sym (or-false (sample_kind == kind)) ∙ e)) refl
+-- a kind that is the first of a few, or one of the others, is one of those among which all of these are
+among_by : (b : Bool) (k kind : ℕ) (few many : List ℕ) → (k == kind) ≡ b → is_among many k ≡ true → (is_among few kind ≡ true → is_among many kind ≡ true)
+    → (b || is_among few kind) ≡ true → is_among many kind ≡ true
+among_by true k kind few many is first later e = subst (λ (n : ℕ). is_among many n ≡ true) (eqb-true k kind is) first
+among_by false k kind few many is first later e = later e
+
+-- a kind that is one of a few is one of those among which all of these are
+among_wider : (few many : List ℕ) (kind : ℕ) → list_all (is_among many) few ≡ true → is_among few kind ≡ true → is_among many kind ≡ true
+among_wider [] many kind all e = absurd cc
+among_wider (k ∷ few) many kind all e =
+    let parts = and_parts (is_among many k) (list_all (is_among many) few) all in
+    among_by (k == kind) k kind few many refl parts.0 (among_wider few many kind parts.1) e
 
 -- what passes a test passes one that more kinds pass
 wider : (short there narrow wide : Bool) (read : Result Raw FrameError) (e f : FrameError) (x : Frame × ℕ) → (narrow ≡ true → wide ≡ true)
@@ -106,31 +118,68 @@ wider false true false wide read e f x more h = absurd cc
 wider false true true wide read e f x more h =
     subst (λ (w : Bool). ok_of (value_of 0 (cond w read (Err f))) ≡ Some x) (sym (more refl)) h
 
--- a request for a sample that is found is found among all kinds
-sample_found : (bytes : List ℕ) (x : Frame × ℕ) → value_in (sample_kind ∷ []) bytes ≡ Some x → value_in all_kinds bytes ≡ Some x
+-- a value of these kinds that is found is found among all kinds
+brief_found : (bytes : List ℕ) (x : Frame × ℕ) → value_in brief_kinds bytes ≡ Some x → value_in all_kinds bytes ≡ Some x
 unfolding tested_raw
-sample_found bytes x h =
+brief_found bytes x h =
     let kind : ℕ = slice_index bytes 0 in
-    wider (length bytes == 0) (is_kind kind) (is_among (sample_kind ∷ []) kind) (is_among all_kinds kind) (raw_of 0 bytes) (Truncated 0) (BadKind 0) x
-    (sample_among kind) h
+    wider (length bytes == 0) (is_kind kind) (is_among brief_kinds kind) (is_among all_kinds kind) (raw_of 0 bytes) (Truncated 0) (BadKind 0) x
+    (among_wider brief_kinds all_kinds kind refl) h
 
--- then it is the first frame, by what is found at the front
-sample_by : (bytes more : List ℕ) (frame : Frame) (o : Option (Frame × ℕ)) → value_in (sample_kind ∷ []) bytes ≡ o
-    → ◌≡◌ {A = Option (Frame × List ℕ)} (option_map (λ (x : Frame × ℕ). (x.0, drop x.1 bytes)) o) (Some (frame, more)) → length more < length bytes
-    → values_of all_kinds bytes ≡ frame ∷ values_of all_kinds more
-sample_by bytes more frame None at e shorter = absurd cc
-sample_by bytes more frame (Some x) at e shorter =
-    let value : x.0 ≡ frame = ap (λ (o : Option (Frame × List ℕ)). option_map_or (λ (y : Frame × List ℕ). y.0) o frame) e in
-    let rest : drop x.1 bytes ≡ more = ap (λ (o : Option (Frame × List ℕ)). option_map_or (λ (y : Frame × List ℕ). y.1) o more) e in
-    let left : length (drop x.1 bytes) ≡ length more = ap (λ (l : List ℕ). length l) rest in
-    let some : 0 < x.1 = omega (arith, length-drop x.1 bytes, left, shorter) in
-    walk_on (value_in all_kinds) bytes x.0 x.1 (sample_found bytes x at) some (omega (arith, shorter))
-    ∙ ap₂ (λ (v : Frame) (l : List ℕ). v ∷ values_of all_kinds l) value rest
+-- a value of which this is brief, and the first of all
+abbrev pub IsFirstBrief : List ℕ → List ℕ → Brief → Frame → Type 0
+IsFirstBrief bytes more brief value =
+    (brief_of value ≡ Some brief) × (values_of all_kinds bytes ≡ value ∷ values_of all_kinds more)
 
--- a request for a sample that stands at the front is the first frame
-pub sample_first : (bytes more : List ℕ) (frame : Frame) → value_and_rest (sample_kind ∷ []) bytes ≡ Some (frame, more) → length more < length bytes
-    → values_of all_kinds bytes ≡ frame ∷ values_of all_kinds more
-sample_first bytes more frame e shorter = sample_by bytes more frame (value_in (sample_kind ∷ []) bytes) refl e shorter
+module _ (bytes more : List ℕ) (brief : Brief) (shorter : length more < length bytes) where
+  -- by what is brief of the value that is found at the front
+  first_by : (x : Frame × ℕ) (o : Option Brief) → value_in brief_kinds bytes ≡ Some x → brief_of x.0 ≡ o
+      → ◌≡◌ {A = Option (Brief × List ℕ)} (option_map (λ (b : Brief). (b, drop x.1 bytes)) o) (Some (brief, more))
+      → (value : Frame) × IsFirstBrief bytes more brief value
+  first_by x None at is e = absurd cc
+  first_by x (Some b) at is e =
+      let same : b ≡ brief = ap (λ (o : Option (Brief × List ℕ)). option_map_or (λ (y : Brief × List ℕ). y.0) o brief) e in
+      let rest : drop x.1 bytes ≡ more = ap (λ (o : Option (Brief × List ℕ)). option_map_or (λ (y : Brief × List ℕ). y.1) o more) e in
+      let left : length (drop x.1 bytes) ≡ length more = ap (λ (l : List ℕ). length l) rest in
+      let some : 0 < x.1 = omega (arith, length-drop x.1 bytes, left, shorter) in (
+        x.0,
+        is ∙ ap (λ (c : Brief). Some c) same,
+        walk_on (value_in all_kinds) bytes x.0 x.1 (brief_found bytes x at) some (omega (arith, shorter))
+            ∙ ap (λ (l : List ℕ). x.0 ∷ values_of all_kinds l) rest,
+      )
+
+  -- by the value that is found at the front
+  front_by : (o : Option (Frame × ℕ)) → value_in brief_kinds bytes ≡ o
+      → ◌≡◌ {A = Option (Brief × List ℕ)} (option_map (λ (x : Frame × ℕ). (x.0, drop x.1 bytes)) o >>= (λ v. option_map (λ (b : Brief). (b, v.1)) (brief_of v.0))) (Some (brief, more))
+      → (value : Frame) × IsFirstBrief bytes more brief value
+  front_by None at e = absurd cc
+  front_by (Some x) at e = first_by x (brief_of x.0) at refl e
+
+  -- what is found at the front is brief of the first frame
+  brief_first : brief_and_rest bytes ≡ Some (brief, more) → (value : Frame) × IsFirstBrief bytes more brief value
+  brief_first e = front_by (value_in brief_kinds bytes) refl e
+
+-- the same of what a call answered
+pub brief_front : (bytes : List ℕ) (found : Option (Brief × Bor (List ℕ))) (brief : Brief) (more : Bor (List ℕ)) → found ≡ Some (brief, more)
+    → Gives (λ (x : Brief × Bor (List ℕ)). (x.0, x.1.now)) found (brief_and_rest bytes)
+    → IfSome found (λ (x : Brief × Bor (List ℕ)). length x.1.now < length bytes)
+    → (value : Frame) × IsFirstBrief bytes more.now brief value
+brief_front bytes found brief more is after shorter =
+    let front : brief_and_rest bytes ≡ Some (brief, more.now) =
+    subst (λ (o : Option (Brief × Bor (List ℕ))). Gives (λ (x : Brief × Bor (List ℕ)). (x.0, x.1.now)) o (brief_and_rest bytes)) is after in
+    let less : length more.now < length bytes =
+    subst (λ (o : Option (Brief × Bor (List ℕ))). IfSome o (λ (x : Brief × Bor (List ℕ)). length x.1.now < length bytes)) is shorter in
+    brief_first bytes more.now brief less front
+
+-- where something is found at the front, so is a value
+some_by : (bytes : List ℕ) (o : Option (Frame × ℕ)) → value_in brief_kinds bytes ≡ o
+    → IsSome (option_map (λ (x : Frame × ℕ). (x.0, drop x.1 bytes)) o >>= (λ v. option_map (λ (b : Brief). (b, v.1)) (brief_of v.0)))
+    → IsSome (value_in all_kinds bytes)
+some_by bytes None at some = absurd cc
+some_by bytes (Some x) at some = subst (λ (o : Option (Frame × ℕ)). IsSome o) (sym (brief_found bytes x at)) refl
+
+pub brief_some : (bytes : List ℕ) → IsSome (brief_and_rest bytes) → IsSome (value_in all_kinds bytes)
+brief_some bytes some = some_by bytes (value_in brief_kinds bytes) refl some
 
 -- ---- the next line
 

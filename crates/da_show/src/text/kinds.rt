@@ -2,17 +2,18 @@
 
 ghost use Rattle.std.specs.Prelude.{◌≡◌, ◌++◌, OnOk};
 ghost use Rattle.std.specs.String.{string_bytes};
-ghost use Rattle.da_show.specs.Text.{joined, following, header_lines, square_lines, names_lines, claim_lines, missing_lines, clash_lines, unit_lines, block_lines, rooted_lines};
+ghost use Rattle.da_show.specs.Text.{joined, following, header_lines, square_lines, names_lines, places_lines, claim_lines, missing_lines, clash_lines, unit_lines, block_lines, rooted_lines};
 
 use super::lines::{
     put_block, put_claim, put_header, put_message, put_missing, put_names, put_rooted, put_square,
     put_string,
 };
 use super::lists::{
-    put_blobs, put_cells, put_entries, put_messages, put_roots, put_shares, put_units,
+    put_blobs, put_cells, put_entries, put_messages, put_places, put_roots, put_shares, put_units,
 };
 use axis_roots::{FraudClaim, NsAnswer};
 use blob_commit::RootedMessage;
+use da_wire::PlaceList;
 use data_header::Header;
 use hash_clash::Clash;
 use namespace_id::{Axis, Cells, Namespace};
@@ -50,6 +51,20 @@ pub(crate) fn names(
 {
     put_names(alloc, out, name, answer.entries.len())?;
     put_entries(out, &answer.entries)
+}
+
+/// A namespace answer and where its entries found something.
+pub(crate) fn places(
+    alloc: Global,
+    out: &mut String,
+    name: &Namespace,
+    found: &PlaceList,
+) -> Result<(), AllocError>
+    ensures { OnOk result (string_bytes out.new
+        ≡ string_bytes out.old ++ joined (places_lines name.now found.now)) }
+{
+    put_names(alloc, out, name, found.list.len())?;
+    put_places(out, &found.list)
 }
 
 /// A fraud claim and its samples.

@@ -3,7 +3,7 @@
 ghost use Rattle.std.specs.Prelude.{◌≡◌, ◌++◌, length, OnOk};
 ghost use Rattle.std.specs.String.{string_bytes};
 ghost use Rattle.da_show.specs.Parts.{axis_word};
-ghost use Rattle.da_show.specs.Text.{header_line, square_line, names_line, claim_line, missing_line, counts, sized_line, block_line, string_line, request_line, sample_line, cell_line, place, root_line, share_line, message_line, found_line, unit_line, blob_line, commit_line, rooted_line};
+ghost use Rattle.da_show.specs.Text.{header_line, square_line, names_line, claim_line, missing_line, counts, sized_line, block_line, string_line, request_line, sample_line, cell_line, place, place_line, range_line, absence_line, root_line, share_line, message_line, found_line, unit_line, blob_line, commit_line, rooted_line};
 
 use crate::words::{
     axis_word, digest_word, hash_word, name_word, put_number, share_hash_word, share_name_word,
@@ -11,6 +11,7 @@ use crate::words::{
 };
 use axis_roots::{Found, FraudClaim, Message};
 use blob_commit::{CommitProof, RootedMessage};
+use da_wire::{EntryPlace, FoundPlace};
 use data_header::{Header, data_root};
 use namespace_id::{Axis, Cell, Cells, Digest, NAMESPACE_SIZE, Namespace, Share};
 use share_split::{Blob, Unit};
@@ -123,6 +124,41 @@ pub(crate) fn put_found(out: &mut String, row: u16, found: &Found) -> Result<(),
             let pos = *pos;
             write!(out, "row {row} absent {pos}")
         }
+    }
+}
+
+/// A range by its row, its start and how many shares it has.
+#[tactic(auto, unfolding(crate::specs::Text::range_line))]
+fn put_range(out: &mut String, row: u16, start: u16, count: u16) -> Result<(), AllocError>
+    ensures { OnOk result (string_bytes out.new
+        ≡ string_bytes out.old ++ range_line row start count) }
+{
+    out.push_str("row ")?;
+    put_number(out, row)?;
+    out.push_str(" range ")?;
+    put_number(out, start)?;
+    out.push(' ')?;
+    put_number(out, count)
+}
+
+/// An absence by its row and its column.
+#[tactic(auto, unfolding(crate::specs::Text::absence_line))]
+fn put_absence(out: &mut String, row: u16, pos: u16) -> Result<(), AllocError>
+    ensures { OnOk result (string_bytes out.new ≡ string_bytes out.old ++ absence_line row pos) }
+{
+    out.push_str("row ")?;
+    put_number(out, row)?;
+    out.push_str(" absent ")?;
+    put_number(out, pos)
+}
+
+/// Where something is found in a row.
+pub(crate) fn put_place_line(out: &mut String, entry: &EntryPlace) -> Result<(), AllocError>
+    ensures { OnOk result (string_bytes out.new ≡ string_bytes out.old ++ place_line entry.now) }
+{
+    match entry.found {
+        FoundPlace::Range { start, count } => put_range(out, entry.row, start, count),
+        FoundPlace::Absence { pos } => put_absence(out, entry.row, pos),
     }
 }
 

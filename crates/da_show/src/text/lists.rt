@@ -3,10 +3,13 @@
 ghost use Rattle.std.specs.Prelude.{◌≡◌, ◌++◌, map, OnOk};
 ghost use Rattle.std.specs.String.{string_bytes};
 ghost use Rattle.da_show.specs.Parts.{axis_word};
-ghost use Rattle.da_show.specs.Text.{following, numbered, root_line, share_line, message_line, entry_line, cell_line, unit_line, blob_line};
+ghost use Rattle.da_show.specs.Text.{following, numbered, root_line, share_line, message_line, entry_line, place_line, cell_line, unit_line, blob_line};
 
-use super::lines::{put_blob, put_cell, put_found, put_message, put_root, put_share, put_unit};
+use super::lines::{
+    put_blob, put_cell, put_found, put_message, put_place_line, put_root, put_share, put_unit,
+};
 use axis_roots::{Message, NsEntry};
+use da_wire::EntryPlace;
 use namespace_id::{Axis, Cell, Digest, Share};
 use share_split::{Blob, Unit};
 use std::alloc::{AllocError, Global};
@@ -68,6 +71,18 @@ pub(crate) fn put_entries(out: &mut String, entries: &[NsEntry]) -> Result<(), A
     for entry in entries {
         out.push('\n')?;
         put_found(out, entry.row, &entry.found)?;
+    }
+    Ok(())
+}
+
+/// Where the entries of a namespace answer found something.
+pub(crate) fn put_places(out: &mut String, places: &[EntryPlace]) -> Result<(), AllocError>
+    ensures { OnOk result (string_bytes out.new ≡ string_bytes out.old
+        ++ following (map place_line places.now)) }
+{
+    for place in places {
+        out.push('\n')?;
+        put_place_line(out, place)?;
     }
     Ok(())
 }

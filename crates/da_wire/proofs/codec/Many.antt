@@ -154,7 +154,7 @@ module _ {A B : Type 0} (f : A → B) (one : List ℕ → Option (A × List ℕ)
 
   -- one more is turned, by what is read first
   one_turned : (n : ℕ) → ((bytes : List ℕ) → many_at turned n bytes ≡ turned_all (many_at one n bytes)) → (o : Option (A × List ℕ))
-      → (option_map (λ (x : A × List ℕ). (f x.0, x.1)) o >>= (λ first. after_first first.0 (many_at turned n first.1)))
+      → ◌>>=◌ {A = B × List ℕ} (option_map (λ (x : A × List ℕ). (f x.0, x.1)) o) (λ first. after_first first.0 (many_at turned n first.1))
       ≡ turned_all (o >>= (λ first. after_first first.0 (many_at one n first.1)))
   one_turned n others None = refl
   one_turned n others (Some x) = ap (after_first (f x.0)) (others x.1) ∙ first_turned x.0 (many_at one n x.1)

@@ -4,8 +4,8 @@ use Rattle.da_wire.proofs.codec.Many.{gives_some, gives_value, kept_more, kept_e
 use Rattle.da_wire.proofs.kinds.names.places_of.Goals as goal
 
 -- where all entries can be read, so can the next place
-pub unwrap-place-requires : goal.unwrap-place-requires
-unwrap-place-requires c =
+pub unwrap-requires : goal.unwrap-requires
+unwrap-requires c =
     gives_some _ c.place_at.result (place_at c.loop.rest.now) c.place_at.ensures
     (next_some place_at c.args.count c.loop.counter c.loop.rest.now c.loop.places.items _ c.loop-test.true
     (turned_some entry_place entry_at c.args.count c.args.bytes.now c.requires) c.loop.invariant)
@@ -13,8 +13,8 @@ unwrap-place-requires c =
 pub loop-preserved : goal.loop-preserved
 loop-preserved c =
     rw c.in_ok-push.ensures.items
-    (kept_more place_at c.args.count c.loop.counter c.loop.rest.now c.loop.places.items c.unwrap-place.result.0 c.unwrap-place.result.1.now _ c.loop-test.true
-    (gives_value _ c.place_at.result (place_at c.loop.rest.now) c.unwrap-place.result c.place_at.ensures c.unwrap-place.ensures) c.loop.invariant)
+    (kept_more place_at c.args.count c.loop.counter c.loop.rest.now c.loop.places.items c.unwrap.result.0 c.unwrap.result.1.now _ c.loop-test.true
+    (gives_value _ c.place_at.result (place_at c.loop.rest.now) c.unwrap.result c.place_at.ensures c.unwrap.ensures) c.loop.invariant)
 
 -- the places are those of the entries
 pub returns : goal.returns
