@@ -1,5 +1,5 @@
 -- follow WANTED ANSWERS: the blobs of namespaces from height to height, complete.
-use Rattle.std.specs.Prelude.{◌≡◌, ℕ, ◌+◌, ◌<◌, ◌≤◌, ◌==◌, List, [], ◌∷◌, ◌++◌, length, map, codes, decimal, slice_index, Bool, not, Option, Some, None, is_some, IsSome, Ok, Err, if◌then◌else◌, MatchOption}
+use Rattle.std.specs.Prelude.{◌≡◌, ℕ, ◌+◌, ◌<◌, ◌==◌, List, [], ◌∷◌, ◌++◌, length, map, codes, decimal, slice_index, Bool, not, Option, Some, None, is_some, IsSome, Ok, Err, if◌then◌else◌, MatchOption}
 use Rattle.std.specs.List.{fold, filter, filter_map, flat_map, range_with_len, Contains}
 use Rattle.std.specs.BTreeSet.{insert_key}
 use Rattle.hex.specs.Hex.{encode_lower}

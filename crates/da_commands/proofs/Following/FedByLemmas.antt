@@ -1,5 +1,5 @@
 -- What heights feed of the namespaces that are wanted is the feed.
-use Rattle.std.proofs.Common.{◌≡◌, ◌∙◌, ℕ, List, Bool, true, false, true≢false, Option, Some, None, if◌then◌else◌, slice_get, refl, sym, subst}
+use Rattle.std.proofs.Common.{◌≡◌, ◌∙◌, List, Bool, true, false, true≢false, Option, Some, None, if◌then◌else◌, slice_get, refl, sym, subst}
 use Rattle.std.specs.List.{list_any, Contains}
 use Rattle.namespace_id.specs.declared.namespaces.Namespace.{Namespace}
 use Rattle.namespace_id.specs.Names.{is_blob_namespace}

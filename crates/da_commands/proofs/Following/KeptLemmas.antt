@@ -6,7 +6,6 @@ use Rattle.std.proofs.lemmas.Bool.{cases_Bool}
 use Rattle.namespace_id.specs.declared.namespaces.Namespace.{Namespace}
 use Rattle.share_split.specs.Walks.{blobs_of}
 use Rattle.data_header.specs.Headers.{Roots}
-use Rattle.axis_roots.specs.declared.answers.NsEntry.{NsEntry}
 use Rattle.square_serve.specs.declared.checking.NsRefusal.{NsRefusal}
 use Rattle.square_serve.specs.Answers.{answer_refusal}
 use Rattle.blob_feed.specs.Feeds.{NamedAnswer, Read, shares_shown}

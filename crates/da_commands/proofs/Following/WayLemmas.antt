@@ -1,6 +1,6 @@
 -- The way through the heights of a run.
-use Rattle.std.proofs.Common.{◌≡◌, ◌∙◌, ℕ, suc, ◌+◌, List, [], ◌∷◌, ◌++◌, length, Bool, true, false, cond, true≢false, Option, Some, None, IfSome, slice_get, if◌then◌else◌, refl, sym, ap, subst, arith, append_assoc, append-nil, inl, inr}
-use Rattle.std.specs.List.{list_any, cons_option}
+use Rattle.std.proofs.Common.{◌≡◌, ◌∙◌, ℕ, ◌+◌, List, [], ◌∷◌, ◌++◌, length, Bool, true, false, true≢false, Option, Some, None, IfSome, slice_get, if◌then◌else◌, refl, sym, ap, subst, append_assoc, append-nil, inl, inr}
+use Rattle.std.specs.List.{list_any}
 use Rattle.std.specs.Option.{option_map, option_or}
 use Rattle.std.proofs.lemmas.Bool.{cases_Bool}
 use Rattle.std.proofs.lemmas.List.{length-append}
@@ -10,10 +10,9 @@ use Rattle.blob_feed.specs.Feeds.{NamedAnswer, Item, headed, answered, Height, a
 use Rattle.blob_feed.specs.Followers.{is_name}
 use Rattle.blob_feed.proofs.NameLemmas.{same_name}
 use Rattle.blob_feed.proofs.ZipLemmas.{get_behind}
-use Rattle.da_commands.specs.declared.feed_lines.Told.{Told}
 use Rattle.da_commands.specs.declared.heights.UnderWay.{UnderWay}
 use Rattle.da_commands.specs.declared.heights.Way.{Way}
-use Rattle.da_commands.specs.Follow.{Feed, places_at, places_from, IsToldOf, IsToldMore}
+use Rattle.da_commands.specs.Follow.{places_at, places_from, IsToldOf, IsToldMore}
 use Rattle.da_commands.specs.Heights.{said, said_by, said_at, AreSaid, read_at, fed_by, heights_left, IsOnWay}
 use Rattle.da_commands.proofs.Following.FeedLineLemmas.{none_told, told_more}
 use Rattle.da_commands.proofs.Following.FeedStatusLemmas.{each_name}

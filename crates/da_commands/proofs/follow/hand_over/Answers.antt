@@ -4,7 +4,7 @@ use Rattle.std.specs.List.{cons_option, filter_map}
 use Rattle.da_wire.specs.declared.frames.Frame.{Frame}
 use Rattle.da_commands.specs.Follow.{feed_kinds, item_of, items_in}
 use Rattle.da_commands.specs.Heights.{IsOnWay}
-use Rattle.da_commands.proofs.Answering.ShowLemmas.{first_is, none_is}
+use Rattle.da_commands.proofs.Answering.ShowLemmas.{first_is}
 use Rattle.da_commands.proofs.follow.hand_over.Goals as goal
 
 -- the next frame was handed over

@@ -4,5 +4,5 @@ use Rattle.one_answer.proofs.followers.read_twice.Goals as goal
 -- both are judged and read alike
 pub returns : goal.returns
 returns c =
-    one_read _ _ c.read_answer.result c.read_answer-2.result c.read_answer.ensures.read c.read_answer-2.ensures.read
-    c.read_answer.ensures.complete c.read_answer-2.ensures.complete c.read_answer.ensures.refused c.read_answer-2.ensures.refused
+    one_read _ _ c.read_answer-first.result c.read_answer-second.result c.read_answer-first.ensures.read c.read_answer-second.ensures.read
+    c.read_answer-first.ensures.complete c.read_answer-second.ensures.complete c.read_answer-first.ensures.refused c.read_answer-second.ensures.refused

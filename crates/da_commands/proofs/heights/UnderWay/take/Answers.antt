@@ -1,4 +1,4 @@
-use Rattle.std.proofs.Common.{◌∙◌, ℕ, Vec, Some, sym, ap}
+use Rattle.std.proofs.Common.{◌∙◌, ℕ, Vec, sym, ap}
 use Rattle.std.specs.Map.{lookup}
 use Rattle.std.specs.Option.{option_map}
 use Rattle.std.specs.declared.alloc.Global.{Global}
