@@ -1,5 +1,5 @@
 -- What is brief of the value at the front of bytes is what is brief of the value that its payload holds.
-use Rattle.std.proofs.Common.{◌≡◌, ◌∙◌, ℕ, ◌-◌, List, length, take, drop, Option, None, Some, Ok, Err, refl, sym, ap, subst}
+use Rattle.std.proofs.Common.{◌≡◌, ◌∙◌, ℕ, ◌-◌, List, length, take, drop, Option, None, Some, Result, Ok, Err, OnErr, refl, sym, ap, subst}
 use Rattle.std.specs.Prelude.{IsSome}
 use Rattle.std.specs.Option.{option_map}
 use Rattle.std.proofs.lemmas.List.{take_rest}
@@ -28,7 +28,6 @@ use Rattle.da_wire.specs.declared.briefs.EntryPlace.{EntryPlace}
 use Rattle.da_wire.specs.declared.kinds.Kind.{Kind}
 use Rattle.da_wire.specs.declared.kinds.Kind.TheVariants as kinds
 use Rattle.da_wire.specs.Reading.{Raw, kind_at, value_of_kind, value_at, is_among, tested_raw}
-use Rattle.da_wire.specs.Values.{value_in}
 use Rattle.da_wire.specs.Briefs.{brief_kinds, brief_of, brief_and_rest, brief_of_kind, brief_at}
 use Rattle.da_wire.proofs.ValueListLemmas.{value_found, value_missed, frame_missed}
 
@@ -127,3 +126,8 @@ module _ (bytes : List ℕ) where
   pub some_brief : (f : Raw) → tested_raw (is_among brief_kinds) 0 bytes ≡ Ok f → IsSome (brief_at f.kind f.payload) → IsSome (brief_and_rest bytes)
   some_brief f front some =
       subst (λ (o : Option (Brief × List ℕ)). IsSome o) (sym (front_brief f front)) (held (drop f.size bytes) (brief_at f.kind f.payload) some)
+
+-- what holds in any case holds where a call failed
+pub on_err : {T E : Type 0} (r : Result T E) (P : Type 0) → P → OnErr r P
+on_err (Ok x) P p = tt
+on_err (Err e) P p = p

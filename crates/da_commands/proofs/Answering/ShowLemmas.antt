@@ -1,5 +1,5 @@
 -- What the commands show and json answer.
-use Rattle.std.proofs.Common.{◌≡◌, ◌∙◌, ℕ, ◌<◌, Bool, true, false, List, [], ◌∷◌, ◌++◌, length, drop, None, Some, IsSome, Result, Ok, Err, OnErr, cond, Bor, ◌↔◌, refl, sym, ap, subst, inr, arith, append-nil, eqb-true}
+use Rattle.std.proofs.Common.{◌≡◌, ◌∙◌, ℕ, ◌<◌, Bool, true, false, List, [], ◌∷◌, ◌++◌, length, drop, None, Some, IsSome, Result, Ok, Err, cond, Bor, ◌↔◌, refl, sym, ap, subst, inr, arith, append-nil, eqb-true}
 use Rattle.std.specs.declared.option.Option.{Option}
 use Rattle.std.specs.Option.{option_map, option_map_or}
 use Rattle.std.specs.List.{list_all}
@@ -227,8 +227,3 @@ module _ (shown : Frame → List ℕ) (frames : List Frame) (old mid new : Optio
       let both : IsSome old ↔ IsSome new = (λ s. also.0 (told.0 s), λ s. told.1 (also.1 s)) in
       ends_after (Shows shown frames) (shown_bytes shown frames) rest held Done old mid new before now later Same wrote status (refl, refl) w counted both taken faults
       (λ v counts. ends v counts both)
-
--- what holds in any case holds where a call failed
-pub on_err : {T E : Type 0} (r : Result T E) (P : Type 0) → P → OnErr r P
-on_err (Ok x) P p = tt
-on_err (Err e) P p = p

@@ -1,6 +1,6 @@
 use Rattle.std.proofs.Common.{◌∙◌}
 use Rattle.da_wire.specs.Reading.{raw_seen}
-use Rattle.da_wire.proofs.BriefLemmas.{found_brief, missed_brief, no_brief, some_brief}
+use Rattle.da_wire.proofs.BriefLemmas.{found_brief, missed_brief, no_brief, some_brief, on_err}
 use Rattle.da_wire.proofs.briefs.next_brief.Goals as goal
 
 -- no frame of these kinds stands there
@@ -9,7 +9,8 @@ returns-in_default-clause-after c = no_brief c.args.bytes.now c.in_default.field
 
 -- memory runs out in place of a value
 pub returns-in_err-value-clause-memory : goal.returns-in_err-value-clause-memory
-returns-in_err-value-clause-memory c = some_brief c.args.bytes.now (raw_seen c.in-Ok.frame) c.in-Ok.ensures.value c.in_err-value.ensures
+returns-in_err-value-clause-memory c =
+    on_err c.from_residual.result _ (some_brief c.args.bytes.now (raw_seen c.in-Ok.frame) c.in-Ok.ensures.value c.in_err-value.ensures)
 
 -- what the payload holds
 pub returns-in-Some-clause-after : goal.returns-in-Some-clause-after
