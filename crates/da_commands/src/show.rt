@@ -71,7 +71,7 @@ fn put_line(alloc: Global, form: Form, text: &mut String, brief: &Brief) -> Resu
         ≡ string_bytes text.old ++ line_of (shown_as form) value) }
 {
     put_shown(alloc, form, text, brief)?;
-    match text.push('\n') {
+    match text.push_str("\n") {
         Ok(()) => Ok(()),
         Err(_) => Err(NoMemory),
     }

@@ -1,7 +1,7 @@
 -- The texts that are put together are those of the objects.
 use Rattle.std.proofs.Common.{◌≡◌, ◌∙◌, ℕ, Bool, true, false, List, [], ◌∷◌, ◌++◌, map, codes, decimal, Option, Some, refl, sym, ap, ap₂}
 use Rattle.std.proofs.lemmas.Option.{same_Some}
-use Rattle.json.specs.Print.{escape_byte, quoted}
+use Rattle.json.specs.Print.{escape_byte}
 use Rattle.serde_json.specs.Data.{Data}
 use Rattle.serde_json.specs.View.{items_of}
 use Rattle.serde_json.specs.Written.{compact_text, comma_if, items_text}
@@ -16,13 +16,14 @@ use Rattle.axis_roots.specs.declared.answers.NsEntry.{NsEntry}
 use Rattle.axis_roots.specs.declared.answers.Found.{Found}
 use Rattle.axis_roots.specs.declared.answers.Found.TheVariants.{Range, Absence}
 use Rattle.axis_roots.specs.Claims.{ClaimParts}
+use Rattle.square_layout.specs.Blocks.{BlockParts}
 use Rattle.da_wire.specs.declared.frames.Frame.{Frame}
 use Rattle.da_wire.specs.declared.frames.Frame.TheVariants as frames
 use Rattle.da_wire.specs.declared.briefs.Brief.{Brief}
 use Rattle.da_wire.specs.kinds.Names.{found_place, entry_place}
 use Rattle.da_wire.specs.Briefs.{brief_of}
-use Rattle.da_show.specs.Parts.{axis_word, name_word}
-use Rattle.da_show.specs.Json.{list_of, found_json, entry_json, cell_json, cell_of_json, names_json, claim_json, missing_json, request_json, range_text, absence_text, found_place_text, place_text, pair_text, items_from, list_text, cell_text, cell_of_text, claim_text, missing_text, places_text, request_text, brief_json, json_text}
+use Rattle.da_show.specs.Parts.{axis_word}
+use Rattle.da_show.specs.Json.{list_of, found_json, entry_json, cell_json, cell_of_json, names_json, claim_json, missing_json, request_json, range_text, absence_text, found_place_text, place_text, pair_text, items_from, list_text, cell_text, cell_of_text, claim_text, missing_text, quoted_name, claim_end, names_end, places_text, request_text, block_json, block_text, brief_json, json_text}
 use Rattle.da_show.proofs.SampleText.{sample_text_is}
 
 -- ---- lists
@@ -88,7 +89,7 @@ claim_object Col cells index set = refl
 
 -- a fraud claim
 claim_is : (claim : ClaimParts) → claim_text claim.axis claim.cells claim.index ≡ compact_text (claim_json claim)
-unfolding claim_text
+unfolding claim_text claim_end
 claim_is claim =
     ap (λ (l : List ℕ). claim_around claim.axis l claim.index) (message_cells_are claim.cells)
     ∙ claim_object claim.axis claim.cells claim.index claim.set
@@ -102,15 +103,20 @@ missing_is cells =
 
 -- a namespace answer
 names_is : (name : Namespace) (entries : List NsEntry) → places_text name (map entry_place entries) ≡ compact_text (names_json name entries)
-unfolding places_text escape_byte
+unfolding places_text names_end quoted_name escape_byte
 names_is name entries =
-    ap (λ (l : List ℕ). codes "{\"entries\":" ++ (l ++ (codes ",\"kind\":\"namespace\",\"namespace\":" ++ (quoted (name_word name) ++ codes "}"))))
+    ap (λ (l : List ℕ). codes "{\"entries\":" ++ (l ++ (codes ",\"kind\":\"namespace\",\"namespace\":" ++ (quoted_name name ++ codes "}"))))
     (places_are entries)
 
 -- a request for the shares of a namespace
 request_is : (name : Namespace) → request_text name ≡ compact_text (request_json name)
-unfolding request_text escape_byte
+unfolding request_text quoted_name escape_byte
 request_is name = refl
+
+-- a block
+block_is : (block : BlockParts) → block_text block ≡ compact_text (block_json block)
+unfolding block_text
+block_is block = refl
 
 -- the text of what is brief of a value is that of its object
 pub brief_json_is : (value : Frame) (brief : Brief) → brief_of value ≡ Some brief → brief_json brief ≡ json_text value
@@ -119,7 +125,7 @@ brief_json_is (frames.Fraud claim) brief e = ap brief_json (sym (same_Some _ _ e
 brief_json_is (frames.Missing cells) brief e = ap brief_json (sym (same_Some _ _ e)) ∙ missing_is cells
 brief_json_is (frames.Sample cell axis) brief e = ap brief_json (sym (same_Some _ _ e)) ∙ sample_text_is cell axis
 brief_json_is (frames.Request name) brief e = ap brief_json (sym (same_Some _ _ e)) ∙ request_is name
-brief_json_is (frames.Block block) brief e = ap brief_json (sym (same_Some _ _ e))
+brief_json_is (frames.Block block) brief e = ap brief_json (sym (same_Some _ _ e)) ∙ block_is block
 brief_json_is (frames.Header header) brief e = absurd cc
 brief_json_is (frames.Square square) brief e = absurd cc
 brief_json_is (frames.Message message) brief e = absurd cc

@@ -1,5 +1,5 @@
 -- What is shown of what is brief of a value is what is shown of the value.
-use Rattle.std.proofs.Common.{◌≡◌, ◌∙◌, ℕ, List, [], ◌∷◌, ◌++◌, map, length, decimal, codes, Some, Ok, Err, Result, OnOk, refl, sym, ap, ap₂}
+use Rattle.std.proofs.Common.{◌≡◌, ◌∙◌, ℕ, List, [], ◌∷◌, map, Some, refl, sym, ap, ap₂}
 use Rattle.std.proofs.lemmas.List.{length-map}
 use Rattle.std.proofs.lemmas.Option.{same_Some}
 use Rattle.namespace_id.specs.declared.namespaces.Namespace.{Namespace}
@@ -27,7 +27,7 @@ places_are (entry ∷ entries) = ap₂ (λ (x : List ℕ) (xs : List (List ℕ))
 -- the lines of a namespace answer
 answer_lines : (name : Namespace) (entries : List NsEntry) → places_lines name (map entry_place entries) ≡ names_lines name entries
 answer_lines name entries =
-    ap₂ (λ (n : ℕ) (later : List (List ℕ)). names_line name n ∷ later) (length-map entry_place entries) (places_are entries)
+    ap₂ (λ (n : ℕ) (later : List (List ℕ)). names_line name n ∷ later) (length-map entries entry_place) (places_are entries)
 
 -- the lines of a value
 lines_are : (value : Frame) (brief : Brief) → brief_of value ≡ Some brief → brief_lines brief ≡ lines_of value

@@ -1,12 +1,14 @@
 -- Digits stand in a JSON string as they are.
-use Rattle.std.proofs.Common.{◌≡◌, ℕ, suc, ◌<◌, true, List, [], ◌∷◌, ◌++◌, refl, ap₂, arith}
+use Rattle.std.proofs.Common.{◌≡◌, ℕ, suc, ◌<◌, true, List, [], ◌∷◌, ◌++◌, ◌∙◌, refl, sym, ap, ap₂, arith}
 use Rattle.std.specs.Prelude.{◌/◌, ◌%◌, slice_index}
 use Rattle.std.specs.Str.{bytes_eq}
-use Rattle.std.proofs.lemmas.Bool.{agree_below}
 use Rattle.std.proofs.lemmas.Slice.Eq.{bytes_eq-Decides}
 use Rattle.json.specs.Print.{escape_byte, escape}
 use Rattle.hex.specs.Hex.{lower_digits, encode_with, encode_lower}
+use Rattle.namespace_id.specs.declared.namespaces.Namespace.{Namespace}
 use Rattle.namespace_id.specs.Bytes.{AreBytes}
+use Rattle.da_show.specs.Parts.{name_word}
+use Rattle.da_show.specs.Json.{in_quotes, quoted_name}
 use Rattle.namespace_id.proofs.TestLemmas.{passes_below, passes_below-at}
 
 -- each of the sixteen digits
@@ -30,3 +32,8 @@ digits_plain (b ∷ bytes) fits =
     let low : b % 16 < 16 = omega arith in
     ap₂ (λ (x y : List ℕ). x ++ y) (digit_plain (b / 16) high)
     (ap₂ (λ (x y : List ℕ). x ++ y) (digit_plain (b % 16) low) (digits_plain bytes (λ i. fits (suc i))))
+
+-- the digits of a namespace in quotes
+pub quotes_are : (name : Namespace) (digits : List ℕ) → AreBytes name.0 → digits ≡ name_word name → in_quotes digits ≡ quoted_name name
+unfolding in_quotes quoted_name
+quotes_are name digits fits e = ap (λ (l : List ℕ). 34 ∷ (l ++ 34 ∷ [])) (e ∙ sym (digits_plain name.0 fits))

@@ -2,4 +2,5 @@ pub mod NoFloats
 mod SampleText
 mod BriefText
 mod HexDigits
+mod Pieces
 mod BriefJson

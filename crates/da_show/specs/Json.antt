@@ -186,27 +186,40 @@ cell_text cell = pair_text cell.row cell.col
 abbrev pub cell_of_text : Message → List ℕ
 cell_of_text m = cell_text m.cell
 
+-- the text of a fraud claim from its index on
+unfoldable pub claim_end : ℕ → List ℕ
+claim_end index = codes ",\"index\":" ++ (decimal index ++ codes ",\"kind\":\"fraud\"}")
+
 -- the text of a fraud claim
 unfoldable pub claim_text : Axis → List Message → ℕ → List ℕ
 claim_text axis cells index =
-    codes "{\"axis\":\"" ++ (axis_word axis ++ (codes "\",\"cells\":" ++ (list_text cell_of_text cells
-    ++ (codes ",\"index\":" ++ (decimal index ++ codes ",\"kind\":\"fraud\"}")))))
+    codes "{\"axis\":\"" ++ (axis_word axis ++ (codes "\",\"cells\":" ++ (list_text cell_of_text cells ++ claim_end index)))
 
 -- the text of missing cells
 unfoldable pub missing_text : List Cell → ℕ → List ℕ
 missing_text cells k =
     codes "{\"cells\":" ++ (list_text cell_text cells ++ (codes ",\"k\":" ++ (decimal k ++ codes ",\"kind\":\"missing\"}")))
 
+-- a text of which no byte is escaped
+unfoldable pub in_quotes : List ℕ → List ℕ
+in_quotes text = codes "\"" ++ (text ++ codes "\"")
+
+-- the digits of a namespace as a string
+unfoldable pub quoted_name : Namespace → List ℕ
+quoted_name name = quoted (name_word name)
+
+-- the text of a namespace answer from its kind on
+unfoldable pub names_end : Namespace → List ℕ
+names_end name = codes ",\"kind\":\"namespace\",\"namespace\":" ++ (quoted_name name ++ codes "}")
+
 -- the text of a namespace answer, by where its entries found something
 unfoldable pub places_text : Namespace → List EntryPlace → List ℕ
-places_text name entries =
-    codes "{\"entries\":" ++ (list_text place_text entries
-    ++ (codes ",\"kind\":\"namespace\",\"namespace\":" ++ (quoted (name_word name) ++ codes "}")))
+places_text name entries = codes "{\"entries\":" ++ (list_text place_text entries ++ names_end name)
 
 -- the text of a request for the shares of a namespace
 unfoldable pub request_text : Namespace → List ℕ
 request_text name =
-    codes "{\"kind\":\"request\",\"namespace\":" ++ (quoted (name_word name) ++ codes "}")
+    codes "{\"kind\":\"request\",\"namespace\":" ++ (quoted_name name ++ codes "}")
 
 -- a request for the shares of a namespace
 abbrev pub request_json : Namespace → Data
@@ -272,6 +285,10 @@ json_of (frames.Rooted proof) = rooted_json proof
 abbrev pub json_text : Frame → List ℕ
 json_text frame = compact_text (json_of frame)
 
+-- the text of a block
+unfoldable pub block_text : BlockParts → List ℕ
+block_text block = compact_text (block_json block)
+
 -- ---- the text of what is brief of a frame
 
 -- the text by its kind
@@ -281,4 +298,4 @@ brief_json (briefs.Fraud claim) = claim_text claim.axis claim.cells claim.index
 brief_json (briefs.Missing cells) = missing_text cells.list cells.k
 brief_json (briefs.Sample cell axis) = sample_text cell axis
 brief_json (briefs.Request name) = request_text name
-brief_json (briefs.Block block) = compact_text (block_json block)
+brief_json (briefs.Block block) = block_text block

@@ -1,5 +1,5 @@
 -- What the commands show and json answer.
-use Rattle.std.proofs.Common.{◌≡◌, ◌∙◌, ℕ, ◌<◌, Bool, true, false, List, [], ◌∷◌, ◌++◌, length, drop, None, Some, IsSome, Result, Ok, Err, cond, Bor, ◌↔◌, refl, sym, ap, subst, inr, arith, append-nil, eqb-true}
+use Rattle.std.proofs.Common.{◌≡◌, ◌∙◌, ℕ, ◌<◌, Bool, true, false, List, [], ◌∷◌, ◌++◌, length, drop, None, Some, IsSome, Result, Err, cond, Bor, ◌↔◌, refl, sym, ap, subst, inr, arith, append-nil, eqb-true}
 use Rattle.std.specs.declared.option.Option.{Option}
 use Rattle.std.specs.Option.{option_map, option_map_or}
 use Rattle.std.specs.List.{list_all}
@@ -131,6 +131,11 @@ abbrev pub IsFirstBrief : List ℕ → List ℕ → Brief → Frame → Type 0
 IsFirstBrief bytes more brief value =
     (brief_of value ≡ Some brief) × (values_of all_kinds bytes ≡ value ∷ values_of all_kinds more)
 
+-- what comes of a value at the front, and its length
+abbrev after_front : List ℕ → Option (Frame × ℕ) → Option (Brief × List ℕ)
+after_front bytes found =
+    ◌>>=◌ {A = Frame × List ℕ} (option_map (λ x. (x.0, drop x.1 bytes)) found) (λ v. option_map (λ b. (b, v.1)) (brief_of v.0))
+
 module _ (bytes more : List ℕ) (brief : Brief) (shorter : length more < length bytes) where
   -- by what is brief of the value that is found at the front
   first_by : (x : Frame × ℕ) (o : Option Brief) → value_in brief_kinds bytes ≡ Some x → brief_of x.0 ≡ o
@@ -141,17 +146,12 @@ module _ (bytes more : List ℕ) (brief : Brief) (shorter : length more < length
       let same : b ≡ brief = ap (λ (o : Option (Brief × List ℕ)). option_map_or (λ (y : Brief × List ℕ). y.0) o brief) e in
       let rest : drop x.1 bytes ≡ more = ap (λ (o : Option (Brief × List ℕ)). option_map_or (λ (y : Brief × List ℕ). y.1) o more) e in
       let left : length (drop x.1 bytes) ≡ length more = ap (λ (l : List ℕ). length l) rest in
-      let some : 0 < x.1 = omega (arith, length-drop x.1 bytes, left, shorter) in (
-        x.0,
-        is ∙ ap (λ (c : Brief). Some c) same,
-        walk_on (value_in all_kinds) bytes x.0 x.1 (brief_found bytes x at) some (omega (arith, shorter))
-            ∙ ap (λ (l : List ℕ). x.0 ∷ values_of all_kinds l) rest,
-      )
+      let some : 0 < x.1 = omega (arith, length-drop x.1 bytes, left, shorter) in
+      let later = walk_on (value_in all_kinds) bytes x.0 x.1 (brief_found bytes x at) some (omega (arith, shorter)) in
+      (x.0, (is ∙ ap (λ (c : Brief). Some c) same, later ∙ ap (λ (l : List ℕ). x.0 ∷ values_of all_kinds l) rest))
 
   -- by the value that is found at the front
-  front_by : (o : Option (Frame × ℕ)) → value_in brief_kinds bytes ≡ o
-      → ◌≡◌ {A = Option (Brief × List ℕ)} (option_map (λ (x : Frame × ℕ). (x.0, drop x.1 bytes)) o >>= (λ v. option_map (λ (b : Brief). (b, v.1)) (brief_of v.0))) (Some (brief, more))
-      → (value : Frame) × IsFirstBrief bytes more brief value
+  front_by : (o : Option (Frame × ℕ)) → value_in brief_kinds bytes ≡ o → after_front bytes o ≡ Some (brief, more) → (value : Frame) × IsFirstBrief bytes more brief value
   front_by None at e = absurd cc
   front_by (Some x) at e = first_by x (brief_of x.0) at refl e
 
@@ -172,9 +172,7 @@ brief_front bytes found brief more is after shorter =
     brief_first bytes more.now brief less front
 
 -- where something is found at the front, so is a value
-some_by : (bytes : List ℕ) (o : Option (Frame × ℕ)) → value_in brief_kinds bytes ≡ o
-    → IsSome (option_map (λ (x : Frame × ℕ). (x.0, drop x.1 bytes)) o >>= (λ v. option_map (λ (b : Brief). (b, v.1)) (brief_of v.0)))
-    → IsSome (value_in all_kinds bytes)
+some_by : (bytes : List ℕ) (o : Option (Frame × ℕ)) → value_in brief_kinds bytes ≡ o → IsSome (after_front bytes o) → IsSome (value_in all_kinds bytes)
 some_by bytes None at some = absurd cc
 some_by bytes (Some x) at some = subst (λ (o : Option (Frame × ℕ)). IsSome o) (sym (brief_found bytes x at)) refl
 

@@ -1,11 +1,9 @@
 //! The texts of objects, put together without the objects, of the kinds whose frames may be short.
 
-ghost use Rattle.std.specs.Prelude.{◌≡◌, ◌++◌, OnOk};
+ghost use Rattle.std.specs.Prelude.{◌≡◌, ◌++◌, IfOk, OnOk};
 ghost use Rattle.std.specs.String.{string_bytes};
-ghost use Rattle.serde_json.specs.Written.{compact_text, comma_if};
-ghost use Rattle.json.specs.Print.{quoted};
-ghost use Rattle.da_show.specs.Parts.{name_word};
-ghost use Rattle.da_show.specs.Json.{range_text, absence_text, place_text, pair_text, list_text, cell_text, cell_of_text, claim_text, missing_text, places_text, request_text, block_json};
+ghost use Rattle.serde_json.specs.Written.{comma_if};
+ghost use Rattle.da_show.specs.Json.{range_text, absence_text, place_text, pair_text, list_text, cell_text, cell_of_text, in_quotes, quoted_name, claim_end, claim_text, missing_text, names_end, places_text, request_text, block_text};
 
 use super::kinds;
 use crate::words::{axis_word, name_word, put_number};
@@ -116,16 +114,32 @@ fn put_places(out: &mut String, places: &[EntryPlace]) -> Result<(), AllocError>
     out.push(']')
 }
 
-/// Appends the digits of a namespace as a string, of which no byte is escaped.
+/// Appends a text of which no byte is escaped, in quotes.
+#[tactic(auto, unfolding(crate::specs::Json::in_quotes))]
+fn put_quoted(out: &mut String, text: &str) -> Result<(), AllocError>
+    ensures { OnOk result (string_bytes out.new ≡ string_bytes out.old ++ in_quotes text.now) }
+{
+    out.push('"')?;
+    out.push_str(text)?;
+    out.push('"')
+}
+
+/// Appends the digits of a namespace as a string.
 fn put_name(alloc: Global, out: &mut String, name: &Namespace) -> Result<(), AllocError>
-    ensures { OnOk result (string_bytes out.new
-        ≡ string_bytes out.old ++ quoted (name_word name.now)) }
+    ensures { OnOk result (string_bytes out.new ≡ string_bytes out.old ++ quoted_name name.now) }
 {
     namespace_law(name);
     let digits = name_word(alloc, name)?;
-    out.push('"')?;
-    out.push_str(digits.as_str())?;
-    out.push('"')
+    put_quoted(out, digits.as_str())
+}
+
+/// Appends the text of a fraud claim from its index on.
+fn put_claim_end(out: &mut String, index: u16) -> Result<(), AllocError>
+    ensures { OnOk result (string_bytes out.new ≡ string_bytes out.old ++ claim_end index) }
+{
+    out.push_str(",\"index\":")?;
+    put_number(out, index)?;
+    out.push_str(",\"kind\":\"fraud\"}")
 }
 
 /// Appends a fraud claim of an axis and its index, with the cells of its samples.
@@ -143,9 +157,7 @@ pub(crate) fn put_claim(
     out.push_str(axis_word(axis))?;
     out.push_str("\",\"cells\":")?;
     put_message_cells(out, cells)?;
-    out.push_str(",\"index\":")?;
-    put_number(out, index)?;
-    out.push_str(",\"kind\":\"fraud\"}")
+    put_claim_end(out, index)
 }
 
 /// Appends missing cells of a square of width k.
@@ -161,8 +173,16 @@ pub(crate) fn put_missing(out: &mut String, cells: &[Cell], k: u16) -> Result<()
     out.push_str(",\"kind\":\"missing\"}")
 }
 
+/// Appends the text of a namespace answer from its kind on.
+fn put_names_end(alloc: Global, out: &mut String, name: &Namespace) -> Result<(), AllocError>
+    ensures { OnOk result (string_bytes out.new ≡ string_bytes out.old ++ names_end name.now) }
+{
+    out.push_str(",\"kind\":\"namespace\",\"namespace\":")?;
+    put_name(alloc, out, name)?;
+    out.push_str("}")
+}
+
 /// Appends a namespace answer by where its entries found something.
-#[tactic(auto, unfolding(crate::specs::Json::places_text))]
 pub(crate) fn put_names(
     alloc: Global,
     out: &mut String,
@@ -174,13 +194,10 @@ pub(crate) fn put_names(
 {
     out.push_str("{\"entries\":")?;
     put_places(out, places)?;
-    out.push_str(",\"kind\":\"namespace\",\"namespace\":")?;
-    put_name(alloc, out, name)?;
-    out.push('}')
+    put_names_end(alloc, out, name)
 }
 
 /// Appends a request for the shares of a namespace.
-#[tactic(auto, unfolding(crate::specs::Json::request_text))]
 pub(crate) fn put_request(
     alloc: Global,
     out: &mut String,
@@ -190,14 +207,21 @@ pub(crate) fn put_request(
 {
     out.push_str("{\"kind\":\"request\",\"namespace\":")?;
     put_name(alloc, out, name)?;
-    out.push('}')
+    out.push_str("}")
+}
+
+/// The text of a block's object.
+fn block_text(alloc: Global, block: &Block) -> Result<String, AllocError>
+    ensures { IfOk result (λ text. string_bytes text ≡ block_text block.now) }
+{
+    let value = kinds::block(alloc, block)?;
+    value.to_string(alloc)
 }
 
 /// Appends the text of a block's object.
 pub(crate) fn put_block(alloc: Global, out: &mut String, block: &Block) -> Result<(), AllocError>
-    ensures { OnOk result (string_bytes out.new
-        ≡ string_bytes out.old ++ compact_text (block_json block.now)) }
+    ensures { OnOk result (string_bytes out.new ≡ string_bytes out.old ++ block_text block.now) }
 {
-    let text = kinds::block(alloc, block)?.to_string(alloc)?;
+    let text = block_text(alloc, block)?;
     out.push_str(text.as_str())
 }

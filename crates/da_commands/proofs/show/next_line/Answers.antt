@@ -1,5 +1,4 @@
-use Rattle.std.proofs.Common.{◌≡◌, ◌∙◌, ◌++◌, ℕ, List, Some, ap, subst}
-use Rattle.da_wire.specs.Briefs.{brief_and_rest}
+use Rattle.std.proofs.Common.{◌∙◌, ◌++◌, ℕ, List, ap}
 use Rattle.da_wire.specs.Values.{values_of}
 use Rattle.da_commands.specs.Show.{all_kinds, shown_as, line_of}
 use Rattle.da_commands.proofs.Answering.ShowLemmas.{brief_front, brief_some, next_shown, shown-first, shown_found}
@@ -15,7 +14,7 @@ pub returns-in_default-put-clause-memory : goal.returns-in_default-put-clause-me
 returns-in_default-put-clause-memory c =
     let bytes = c.args.bytes.now in
     let first = brief_front bytes c.in-Ok.found c.in-Some.brief c.in-Some.more c.in-Some.is c.in-Ok.ensures.after c.in-Ok.ensures.shorter in
-    shown-first (shown_as c.args.form) (values_of all_kinds bytes) (values_of all_kinds c.in-Some.more.now) first.0 first.2
+    shown-first (shown_as c.args.form) (values_of all_kinds bytes) (values_of all_kinds c.in-Some.more.now) first.0 first.1.1
 
 -- the text was empty, and the line was put there
 pub returns-clause-line : goal.returns-clause-line
@@ -23,5 +22,5 @@ returns-clause-line c =
     let shown = shown_as c.args.form in
     let bytes = c.args.bytes.now in
     let first = brief_front bytes c.in-Ok.found c.in-Some.brief c.in-Some.more c.in-Some.is c.in-Ok.ensures.after c.in-Ok.ensures.shorter in
-    next_shown shown (values_of all_kinds bytes) (values_of all_kinds c.in-Some.more.now) first.0 _ first.2
-    (c.in-Ok-put.ensures first.0 first.1 ∙ ap (λ (l : List ℕ). l ++ line_of shown first.0) c.clear.ensures.bytes)
+    next_shown shown (values_of all_kinds bytes) (values_of all_kinds c.in-Some.more.now) first.0 _ first.1.1
+    (c.in-Ok-put.ensures first.0 first.1.0 ∙ ap (λ (l : List ℕ). l ++ line_of shown first.0) c.clear.ensures.bytes)

@@ -3,7 +3,7 @@ use Rattle.da_commands.specs.Show.{shown_as}
 use Rattle.da_commands.proofs.show.put_line.Goals as goal
 
 -- the line feed stands behind what is shown
-pub returns-in_ok-put_shown-in-Ok : goal.returns-in_ok-put_shown-in-Ok
-returns-in_ok-put_shown-in-Ok c =
-    λ value e. c.in_ok-put_shown-in-Ok.ensures.bytes ∙ ap (λ (l : List ℕ). l ++ 10 ∷ []) (c.in_ok-put_shown.ensures value e)
+pub returns-in-Ok : goal.returns-in-Ok
+returns-in-Ok c =
+    λ value e. c.in-Ok.ensures.bytes ∙ ap (λ (l : List ℕ). l ++ 10 ∷ []) (c.in_ok-put_shown.ensures value e)
     ∙ append_assoc (string_bytes c.args.text.now) (shown_as c.args.form value) (10 ∷ [])
