@@ -25,5 +25,5 @@ pub use message::{
 };
 pub use square::{
     Grid, Trees, cell_on, grid_laws, header_of, header_of_square, is_root, line_strict_root,
-    name_leaves, write_axis,
+    name_leaves,
 };

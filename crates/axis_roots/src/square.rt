@@ -13,7 +13,7 @@ mod trees;
 pub(crate) use filling::fill_axis;
 pub use grids::Grid;
 pub use laws::grid_laws;
-pub use lines::{cell_on, is_root, line_strict_root, name_leaves, write_axis};
+pub use lines::{cell_on, is_root, line_strict_root, name_leaves};
 pub use quarters::header_of_square;
 pub use rooting::header_of;
 pub use trees::Trees;

@@ -1,21 +1,20 @@
 -- What the shares of a namespace in the square of a block are.
-use Rattle.std.proofs.Common.{◌≡◌, ◌∙◌, ℕ, zero, suc, ◌+◌, ◌-◌, List, [], ◌∷◌, ◌++◌, append-nil, replicate, Bool, true, false, cond, true≢false, refl, sym, ap, ap₂, subst, arith, inl, inr}
+use Rattle.std.proofs.Common.{◌≡◌, ◌∙◌, ℕ, ◌+◌, ◌-◌, List, [], ◌∷◌, ◌++◌, append-nil, replicate, Bool, true, false, cond, true≢false, refl, sym, ap, ap₂, subst, inl, inr}
 use Rattle.std.specs.List.{filter, AllByRecursion}
 use Rattle.std.specs.Str.{bytes_eq}
 use Rattle.std.proofs.lemmas.Bool.{cases_Bool}
 use Rattle.std.proofs.lemmas.Slice.Eq.{bytes_eq-Decides}
 use Rattle.std.proofs.lemmas.List.Elements.{filter-append}
-use Rattle.std.proofs.lemmas.Grind.{flat_map-append}
 use Rattle.namespace_id.specs.declared.namespaces.Namespace.{Namespace}
 use Rattle.namespace_id.specs.declared.shares.Share.{Share}
 use Rattle.namespace_id.specs.Names.{IsNamespace, named_by}
 use Rattle.namespace_id.specs.Shares.{name_in}
 use Rattle.share_split.specs.Blobs.{NamedBytes, blob_shares_of}
-use Rattle.share_split.specs.Joined.{padding, blob, padding_share, piece_shares, piece_blobs, IsBlob, IsPiece, AreBlobs}
+use Rattle.share_split.specs.Joined.{padding_share, IsBlob, AreBlobs}
 use Rattle.square_layout.specs.Layout.{has_name, share_count_of, start_after, placed}
 use Rattle.square_layout.specs.ShareNames.{AreNamed, BlobSharesAreNamed, PaddingIsNamed}
+use Rattle.square_layout.proofs.ReadBackLemmas.{no_blobs, both_blobs, some_padding, one_blob}
 use Rattle.square_serve.specs.Shares.{is_named}
-use Rattle.nmt_proofs.proofs.Parts.ListLemmas.{each-append}
 
 -- ---- shares of one namespace
 
@@ -39,48 +38,6 @@ none_named name other (share ∷ shares) apart named = elim (cases_Bool (is_name
       ap (λ (b : Bool). cond b (share ∷ filter (is_named name) shares) (filter (is_named name) shares)) here
       ∙ none_named name other shares apart named.1
 ]
-
--- ---- blobs with padding
-
--- none
-no_blobs : AreBlobs [] []
-no_blobs = record { pieces = []; are_pieces = tt; parts = refl; shown = refl }
-
--- one list behind another
-both_blobs : (s t : List Share) (b c : List NamedBytes) → AreBlobs s b → AreBlobs t c → AreBlobs (s ++ t) (b ++ c)
-both_blobs s t b c one other = record {
-  pieces = one.pieces ++ other.pieces;
-  are_pieces = each-append IsPiece one.pieces other.pieces one.are_pieces other.are_pieces;
-  parts = ap₂ (λ (x y : List Share). x ++ y) one.parts other.parts
-      ∙ sym (flat_map-append piece_shares one.pieces other.pieces);
-  shown = ap₂ (λ (x y : List NamedBytes). x ++ y) one.shown other.shown
-      ∙ sym (flat_map-append piece_blobs one.pieces other.pieces);
-}
-
--- padding
-one_padding : (name : Namespace) → IsNamespace name → AreBlobs (padding_share name ∷ []) []
-one_padding name named = record {
-  pieces = padding 0 name ∷ [];
-  are_pieces = ((omega arith, named), tt);
-  parts = refl;
-  shown = refl;
-}
-
--- so much padding
-some_padding : (n : ℕ) (name : Namespace) → IsNamespace name → AreBlobs (replicate n (padding_share name)) []
-some_padding zero name named = no_blobs
-some_padding (suc n) name named =
-    both_blobs (padding_share name ∷ []) (replicate n (padding_share name)) [] [] (one_padding name named)
-    (some_padding n name named)
-
--- a blob
-one_blob : (named : NamedBytes) → IsBlob named → AreBlobs (blob_shares_of named.namespace named.signer named.bytes) (named ∷ [])
-one_blob named is = record {
-  pieces = blob named ∷ [];
-  are_pieces = (is, tt);
-  parts = sym (append-nil (blob_shares_of named.namespace named.signer named.bytes));
-  shown = refl;
-}
 
 -- ---- the layout
 

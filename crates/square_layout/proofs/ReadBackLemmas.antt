@@ -25,11 +25,11 @@ each_append P [] ys h k = k
 each_append P (x ∷ xs) ys h k = (h.0, each_append P xs ys h.1 k)
 
 -- none
-no_blobs : AreBlobs [] []
+pub no_blobs : AreBlobs [] []
 no_blobs = record { pieces = []; are_pieces = tt; parts = refl; shown = refl }
 
 -- one list behind another
-both_blobs : (s t : List Share) (b c : List NamedBytes) → AreBlobs s b → AreBlobs t c → AreBlobs (s ++ t) (b ++ c)
+pub both_blobs : (s t : List Share) (b c : List NamedBytes) → AreBlobs s b → AreBlobs t c → AreBlobs (s ++ t) (b ++ c)
 both_blobs s t b c one other = record {
   pieces = one.pieces ++ other.pieces;
   are_pieces = each_append IsPiece one.pieces other.pieces one.are_pieces other.are_pieces;
@@ -49,14 +49,14 @@ one_padding name named = record {
 }
 
 -- so much padding
-some_padding : (n : ℕ) (name : Namespace) → IsNamespace name → AreBlobs (replicate n (padding_share name)) []
+pub some_padding : (n : ℕ) (name : Namespace) → IsNamespace name → AreBlobs (replicate n (padding_share name)) []
 some_padding zero name named = no_blobs
 some_padding (suc n) name named =
     both_blobs (padding_share name ∷ []) (replicate n (padding_share name)) [] [] (one_padding name named)
     (some_padding n name named)
 
 -- a blob
-one_blob : (named : NamedBytes) → IsBlob named → AreBlobs (blob_shares_of named.namespace named.signer named.bytes) (named ∷ [])
+pub one_blob : (named : NamedBytes) → IsBlob named → AreBlobs (blob_shares_of named.namespace named.signer named.bytes) (named ∷ [])
 one_blob named is = record {
   pieces = blob named ∷ [];
   are_pieces = (is, tt);

@@ -76,24 +76,6 @@ pub(super) fn write_back(grid: &mut Grid, axis: Axis, index: u16, line: &[Share]
     }
 }
 
-/// Puts 2k shares into the cells of an axis. Every other cell stays as it was.
-pub fn write_axis(grid: &mut Grid, axis: Axis, index: u16, line: &[Share])
-    requires index { index < 2 * grid.old.k }
-    requires line { length line.now ≡ 2 * grid.old.k }
-    ensures k { grid.new.k ≡ grid.old.k }
-    ensures line { axis_shares grid.old.k grid.new.shares axis index ≡ line.now }
-
-    // Every cell of another axis is as it was.
-    ensures others { (cell : Place) → IsTrue (is_in_square grid.old.k cell) →
-        index_of axis cell ≢ index →
-        share_at (2 * grid.old.k) grid.new.shares cell
-        ≡ share_at (2 * grid.old.k) grid.old.shares cell }
-{
-    for pos in 0..2 * grid.width() {
-        grid.set(cell_on(axis, index, pos), &line[pos as usize]);
-    }
-}
-
 /// Copies the leaf namespaces along an axis.
 pub(crate) fn read_names(grid: &Grid, axis: Axis, index: u16, line: &mut [Namespace])
     requires index { index < 2 * grid.now.k }

@@ -1,5 +1,5 @@
 -- The shares of the original cells, row by row.
-use Rattle.std.proofs.Common.{◌≡◌, ◌≢◌, ◌∙◌, ℕ, ◌+◌, ◌*◌, ◌<◌, ◌≤◌, List, [], ◌∷◌, ◌++◌, length, get_or, take, set, true, refl, sym, ap, subst, inl, inr, arith}
+use Rattle.std.proofs.Common.{◌≡◌, ◌≢◌, ◌∙◌, ℕ, ◌+◌, ◌*◌, ◌<◌, ◌≤◌, List, [], ◌∷◌, ◌++◌, length, get_or, take, set, true, sym, ap, subst, inl, inr, arith}
 use Rattle.std.proofs.lemmas.Bool.{cases_eq}
 use Rattle.std.proofs.lemmas.List.{get_or_append_left, get_or-append-add, get_or-set_other, get_or_default, take_more_set, length-set, length-append}
 use Rattle.namespace_id.specs.declared.cells.Cell.{Cell}
@@ -16,10 +16,6 @@ use Rattle.repair_queue.proofs.UnknownLemmas.{same_cell}
 pub record AreSharesBelow (k n : ℕ) (of_cell : Shared) (shares : List Share) : Type 0 where
   pub count : length shares ≡ n
   pub are : (cell : Cell) → is_original k cell ≡ true → cell.row * k + cell.col < n → share_at k shares cell ≡ of_cell cell
-
--- none at first
-pub no_shares : (k : ℕ) (of_cell : Shared) (shares : List Share) → shares ≡ [] → AreSharesBelow k 0 of_cell shares
-no_shares k of_cell shares e = record { count = ap length e; are = λ cell within h. absurd (omega arith) }
 
 -- one cell more
 pub shares_more : (k n : ℕ) (of_cell : Shared) (shares : List Share) (cell : Cell) (share : Share) → cell.col < k → cell.row * k + cell.col ≡ n
@@ -41,10 +37,6 @@ pub record AreMoved (k n : ℕ) (all shares : List Share) : Type 0 where
   pub front : AreSharesBelow k n (share_at (2 * k) all) (take n shares)
   pub rest : (j : ℕ) → n ≤ j → get_or shares j blank ≡ get_or all j blank
   pub size : length shares ≡ 2 * k * (2 * k)
-
--- none at first
-pub none_moved : (k : ℕ) (all : List Share) → length all ≡ 2 * k * (2 * k) → AreMoved k 0 all all
-none_moved k all size = record { front = no_shares k (share_at (2 * k) all) (take 0 all) refl; rest = λ j h. refl; size = size }
 
 -- one more, which stood no nearer to the front
 pub one_moved : (k n from : ℕ) (all shares : List Share) (cell : Cell) (share : Share) → cell.col < k → cell.row * k + cell.col ≡ n
