@@ -8,6 +8,8 @@ pub mod FieldLaws
 pub mod Laws
 pub mod PowerLaws
 pub mod ByteTables
+pub mod ExponentLaws
+pub mod WordPowers
 pub mod Rows
 pub mod RowFacts
 pub mod RowLemmas

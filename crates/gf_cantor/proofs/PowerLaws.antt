@@ -32,7 +32,7 @@ module _ (f : Field) (levels : ℕ) (h : IsCantor f levels) where
   shift-lt (suc i) p l = let labels = h.are_labels in times_x-lt f labels.modulus _ (shift-lt i p l)
 
   -- 1 is a polynomial
-  one-lt : 1 < 2 ^ suc f.top
+  pub one-lt : 1 < 2 ^ suc f.top
   one-lt = omega (arith, two-pow-succ f.top, pow_pos f.top)
 
   -- a power of x is a polynomial

@@ -7,7 +7,8 @@
 //!
 //! Of bytes `mul` gives a product, `inv` an inverse, `mul_row` adds one multiple. `log` tells which
 //! power of x a label stands for, and `exp` gives the label of a power: a product of many labels is
-//! a sum of numbers. `field_laws` says that these are fields, and `power_laws` how exponents add.
+//! a sum of numbers. Of words `word_log` and `word_exp` do. `field_laws` says that these are fields,
+//! and `power_laws` how exponents add.
 //!
 //! The definitions are those of docs/RULES.md, "The byte field" and "The word field".
 #![tactic(auto)]
@@ -16,10 +17,12 @@ mod bytes;
 mod field;
 mod lanes;
 mod tables;
+mod word_powers;
 mod word_rows;
 mod words;
 
 pub use bytes::{ByteFactor, mul_row};
 pub use field::{field_laws, inv, mul};
 pub use tables::{exp, log, power_laws};
+pub use word_powers::{word_exp, word_log};
 pub use words::WordFactor;

@@ -1,7 +1,8 @@
 //! Powers of x and their exponents, by table.
 
 ghost use Rattle.std.specs.Prelude.{◌≡◌, ◌<◌, ◌+◌, ◌%◌, ℕ};
-ghost use Rattle.gf_cantor.specs.Field.{element, label, power, product, byte_field};
+ghost use Rattle.gf_cantor.specs.Field.{element, label, power, product, byte_field, word_field};
+ghost use Rattle.gf_cantor.specs.Laws.{ArePowerLaws};
 
 /// The labels of 1, x, x^2, .., twice over, as x^255 is 1: so the sum of two logarithms is a place in
 /// them.
@@ -76,13 +77,18 @@ pub fn log(a: u8) -> usize
 }
 
 /// The laws of the powers of x: a product of powers is the power of the sum of their exponents,
-/// which count modulo 255. It does nothing, and takes no memory.
+/// which count modulo 255, and of words modulo 65,535. It does nothing, and takes no memory.
 ///
-/// docs/RULES.md, "The byte field" (profile, in the manner of Leopard's 8-bit field).
+/// docs/RULES.md, "The byte field" and "The word field" (profile, in the manner of Leopard's fields
+/// of 8 and of 16 bits).
 pub fn power_laws()
     ensures label { (a : ℕ) → a < 256 → label byte_field (element byte_field a) ≡ a }
     ensures product { (i j : ℕ) →
         product byte_field (label byte_field (power byte_field i))
         (label byte_field (power byte_field j)) ≡ label byte_field (power byte_field (i + j)) }
     ensures period { (i : ℕ) → power byte_field (i % 255) ≡ power byte_field i }
+
+    // The same in one fact, of bytes and of words.
+    ensures bytes { ArePowerLaws byte_field }
+    ensures words { ArePowerLaws word_field }
 {}

@@ -54,6 +54,20 @@ impl WordFactor {
         }
     }
 
+    /// The product with a word. It takes no memory.
+    ///
+    /// docs/RULES.md, "The word field" (profile, in the manner of Leopard's 16-bit field).
+    pub fn times(&self, a: u16) -> u16
+        ensures { result ≡ product word_field self.now a }
+    {
+        let low = (a % 256) as usize;
+        let high = (a / 256) as usize;
+        let t = &self.tables;
+        let first = t[low % 16] ^ t[16 + low / 16] ^ (t[32 + high % 16] ^ t[48 + high / 16]);
+        let second = t[64 + low % 16] ^ t[80 + low / 16] ^ (t[96 + high % 16] ^ t[112 + high / 16]);
+        first as u16 + 256 * second as u16
+    }
+
     /// Adds the products with the 32 words of a block of a share, from `at` on, to those of another.
     #[inline(always)]
     fn add_block(&self, acc: &mut [u8; 512], row: &[u8; 512], at: usize)
