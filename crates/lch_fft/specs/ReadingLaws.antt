@@ -6,7 +6,9 @@ use Rattle.std.proofs.lemmas.Nat.{xor_block}
 use Rattle.std.proofs.lemmas.Grind.{same_number_lists}
 use Rattle.gf_cantor.specs.Field.{byte_field, word_field}
 use Rattle.gf_cantor.specs.Words.{place, word}
+use Rattle.gf_cantor.specs.Laws.{ArePowerLaws}
 use Rattle.gf_cantor.proofs.FieldLaws.{byte_laws, word_laws}
+use Rattle.gf_cantor.proofs.ExponentLaws.{byte_power_laws, word_power_laws}
 use Rattle.namespace_id.specs.Bytes.{AreBytes}
 use Rattle.namespace_id.specs.declared.shares.Share.{Share}
 use Rattle.namespace_id.specs.Shares.{IsShare}
@@ -154,3 +156,12 @@ word_reading_laws = record {
   made = share_of_words;
   sum = word_sum;
 }
+
+-- the powers of x, of bytes and of words
+pub byte_reading_powers : ArePowerLaws byte_reading.field
+unfolding byte_reading
+byte_reading_powers = byte_power_laws
+
+pub word_reading_powers : ArePowerLaws word_reading.field
+unfolding word_reading
+word_reading_powers = word_power_laws
