@@ -110,6 +110,21 @@ def derived(coefficients):
     return total
 
 
+def powers_of_words():
+    """The labels of 1, x, x^2, .., in the word field (docs/RULES.md, "The word field")."""
+    basis = [0x0001, 0xACCA, 0x3C0E, 0x163E, 0xC582, 0xED2E, 0x914C, 0x4012]
+    basis += [0x6C98, 0x10D8, 0x6A72, 0xB900, 0xFDB8, 0xFB34, 0xFF38, 0x991E]
+    elements = [0]
+    for more in basis:
+        elements += [element ^ more for element in elements]
+    label_of = {element: label for label, element in enumerate(elements)}
+    power, powers = 1, []
+    for _ in range(65535):
+        powers.append(label_of[power])
+        power = power << 1 ^ (0x1002D if power & 0x8000 else 0)
+    return powers
+
+
 def line(k, known):
     """The codeword of one byte column through k bytes at k positions."""
     return [share[0] for share in make.codeword(k, {i: bytes([byte]) * 512 for i, byte in known.items()})]
@@ -323,6 +338,12 @@ def code_of_tests(values):
     values.stands(path, "its end", f"acc[511] == {9 ^ make.times(2, 255)}")
     powers = [(i, make.POWER[i]) for i in (0, 1, 254)]
     values.stands("crates/square_tests/src/fields.rt", "powers", "[" + ", ".join(map(str, powers)) + "]")
+
+    powers = powers_of_words()
+    some = [(i, powers[i]) for i in (0, 1, 256, 65534)]
+    values.stands(path, "powers of words", "[" + ", ".join(map(str, some)) + "]")
+    some = [(a, powers.index(a)) for a in (1, 2, 1023)]
+    values.stands(path, "logarithms of words", "[" + ", ".join(map(str, some)) + "]")
 
     path = "crates/square_tests/src/codewords.rt"
     pair = line(2, {0: 0, 1: 1})

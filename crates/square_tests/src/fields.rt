@@ -1,6 +1,7 @@
-//! Products, inverses and powers in the byte field. Expected bytes: by tools/values.py.
+//! Products, inverses and powers in the byte field, and powers in the word field. Expected values: by
+//! tools/values.py.
 
-use gf_cantor::{exp, inv, log, mul, mul_row};
+use gf_cantor::{exp, inv, log, mul, mul_row, word_exp, word_log};
 
 #[test]
 fn products_and_inverses(rt: HostRuntime) {
@@ -29,4 +30,14 @@ fn powers_and_logarithms(rt: HostRuntime) {
         assert!(rt; log(a) == i, "the logarithm of {a}");
     }
     assert!(rt; exp(509) == 66);
+}
+
+#[test]
+fn powers_and_logarithms_of_words(rt: HostRuntime) {
+    for (i, a) in [(0, 1), (1, 18064), (256, 18134), (65534, 9798)] {
+        assert!(rt; word_exp(i) == a, "the power {i}");
+    }
+    for (a, i) in [(1, 0), (2, 21845), (1023, 60169)] {
+        assert!(rt; word_log(a) == i, "the logarithm of {a}");
+    }
 }
