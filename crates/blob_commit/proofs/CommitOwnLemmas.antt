@@ -227,8 +227,8 @@ commit_own header proof sized holds S own =
     let some : 1 ≤ count = omega (arith, range.0) in
     let within : count ≤ k * k = omega (arith, range.1) in
     let most : count ≤ 16384 = square_bound k count one.0 within in
-    let power : 2 ^ l ≡ subtree_width_of count = power_halvings (subtree_width_of count) (width_count count some most).0 in
-    let div : k % 2 ^ l ≡ 0 = ap (λ (w : ℕ). k % w) power ∙ width_divides k count one.0 some most within in
+    let power : 2 ^ l ≡ subtree_width_of count = power_halvings (subtree_width_of count) (width_count count most).0 in
+    let div : k % 2 ^ l ≡ 0 = ap (λ (w : ℕ). k % w) power ∙ width_divides k count one.0 within in
     let begins : start % 2 ^ l ≡ 0 = ap (λ (w : ℕ). start % w) power ∙ range.2 in
     elim (first_width header S k (levels_of count) (start / k) start count proof.rows own sized.rows two.1 range.0 holds.lead) [
       | inr names ↦ inr names

@@ -164,7 +164,7 @@ all_of old sizes new levels n w counter some width so_far end last =
 pub few-cut : (n : ℕ) → 1 ≤ n → n ≤ 16384 → length (cut n) ≤ 135
 few-cut n some most =
     let w : ℕ = subtree_width_of n in
-    let facts = width_count n some most in
+    let facts = width_count n most in
     let power : 2 ^ halvings w ≡ w = power_halvings w facts.0 in
     let deep : halvings w ≤ 7 = halvings_le w facts.0 facts.1 in
     let fits : n / w ≤ 128 = fits_often n w 128 (leaf_count-pos w facts.0) (omega (arith, facts.2)) in
@@ -174,7 +174,7 @@ few-cut n some most =
 -- its levels are few
 pub levels_le : (n : ℕ) → 1 ≤ n → n ≤ 16384 → levels_of n ≤ 8
 levels_le n some most =
-    let facts = width_count n some most in
+    let facts = width_count n most in
     omega (arith, halvings_le (subtree_width_of n) facts.0 facts.1)
 
 -- pieces of shares are some

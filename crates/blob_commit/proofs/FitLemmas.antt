@@ -112,7 +112,7 @@ range_divides k start count levels width range e =
     let within : count ≤ k * k = omega (arith, r.1) in
     let most : count ≤ 16384 = square_bound k count width within in
     ap (λ (m : ℕ). k % 2 ^ (m - 1)) e ∙ ap (λ (m : ℕ). k % 2 ^ m) (levels-less count)
-    ∙ ap (λ (w : ℕ). k % w) (power_halvings (subtree_width_of count) (width_count count some most).0) ∙ width_divides k count width some most within
+    ∙ ap (λ (w : ℕ). k % w) (power_halvings (subtree_width_of count) (width_count count most).0) ∙ width_divides k count width within
 
 pub range_begins : (k start count levels : ℕ) → IsTrue (is_width k) → is_range k start count ≡ true → levels ≡ levels_of count → start % 2 ^ (levels - 1) ≡ 0
 range_begins k start count levels width range e =
@@ -121,7 +121,7 @@ range_begins k start count levels width range e =
     let within : count ≤ k * k = omega (arith, r.1) in
     let most : count ≤ 16384 = square_bound k count width within in
     ap (λ (m : ℕ). start % 2 ^ (m - 1)) e ∙ ap (λ (m : ℕ). start % 2 ^ m) (levels-less count)
-    ∙ ap (λ (w : ℕ). start % w) (power_halvings (subtree_width_of count) (width_count count some most).0) ∙ r.2
+    ∙ ap (λ (w : ℕ). start % w) (power_halvings (subtree_width_of count) (width_count count most).0) ∙ r.2
 
 -- the number of all subtrees
 pub range_subtrees : (k start count levels : ℕ) (rows : List RowParts) → IsTrue (is_width k) → is_range k start count ≡ true → levels ≡ levels_of count → fits_rows k levels start count rows ≡ true

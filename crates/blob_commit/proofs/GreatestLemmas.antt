@@ -73,7 +73,7 @@ cut_whole l n =
 -- the subtrees over shares are so cut
 pub cut_is : (count : ℕ) → 1 ≤ count → count ≤ 16384 → IsCut (subtree_width_of count) count (cut count)
 cut_is count some most =
-    subst (λ (width : ℕ). IsCut width count (cut count)) (power_halvings (subtree_width_of count) (width_count count some most).0)
+    subst (λ (width : ℕ). IsCut width count (cut count)) (power_halvings (subtree_width_of count) (width_count count most).0)
     (cut_whole (halvings (subtree_width_of count)) count)
 
 -- and there is one such cut

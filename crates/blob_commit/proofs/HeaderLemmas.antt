@@ -1,9 +1,9 @@
 -- The roots of a square's header, and an axis root that leads to its data root.
-use Rattle.std.proofs.Common.{◌≡◌, ◌⊎◌, ◌∙◌, ℕ, suc, ◌+◌, ◌*◌, ◌^◌, ◌<◌, ◌==◌, List, [], ◌∷◌, ◌++◌, length, drop, get_or, true, refl, sym, ap, subst, inl, inr, arith, length-append}
+use Rattle.std.proofs.Common.{◌≡◌, ◌⊎◌, ◌∙◌, ℕ, suc, ◌+◌, ◌*◌, ◌^◌, ◌<◌, List, [], ◌∷◌, ◌++◌, length, drop, get_or, true, sym, ap, subst, inl, inr, arith, length-append}
 use Rattle.std.specs.List.{AllByRecursion}
-use Rattle.std.proofs.lemmas.Bool.{eqb-true}
 use Rattle.std.proofs.lemmas.List.{length-map, get_or-append-add}
 use Rattle.std.proofs.Math.ListN.{get_or-append}
+use Rattle.std.proofs.Math.Nat.{pow-suc}
 use Rattle.namespace_id.specs.declared.cells.Axis.{Axis}
 use Rattle.namespace_id.specs.declared.cells.Axis.TheVariants.{Row, Col}
 use Rattle.namespace_id.specs.declared.digests.Digest.{Digest}
@@ -12,8 +12,7 @@ use Rattle.namespace_id.specs.Cells.{is_width}
 use Rattle.namespace_id.specs.Digests.{IsDigest, AreDigests, no_digest}
 use Rattle.namespace_id.specs.Lists.{ascending}
 use Rattle.namespace_id.proofs.AscendingLemmas.{length-ascending}
-use Rattle.namespace_id.proofs.TestLemmas.{passes_below, passes_below-at, where_holds, where_holds-true}
-use Rattle.namespace_id.proofs.WidthLemmas.{is_width-le}
+use Rattle.namespace_id.proofs.PowerLemmas.{double_halvings}
 use Rattle.nmt_tree.specs.Roots.{halvings}
 use Rattle.nmt_proofs.proofs.Agreement.AgreeLemmas.{digest-sized}
 use Rattle.nmt_proofs.proofs.Parts.WholeLemmas.{digest-whole, sized-whole}
@@ -71,15 +70,9 @@ header_whole header S own =
 
 -- ---- widths by their halvings
 
-widths_test : passes_below 129 (λ k. where_holds (is_width k) (4 * k == 2 ^ root_halvings k)) ≡ true
-unfolding passes_below
-widths_test = refl
-
 -- a width of 4k roots
 pub power_width : (k : ℕ) → is_width k ≡ true → 4 * k ≡ 2 ^ root_halvings k
-power_width k w =
-    let one = passes_below-at 129 (λ k. where_holds (is_width k) (4 * k == 2 ^ root_halvings k)) widths_test k (omega (arith, is_width-le k w)) in
-    eqb-true _ _ (where_holds-true _ _ one w)
+power_width k w = omega (arith, pow-suc 2 (halvings (2 * k)), double_halvings k w)
 
 -- ---- axis roots
 

@@ -1,18 +1,15 @@
 -- A sample that is proved under the header of a square has a root proof under its data root.
-use Rattle.std.proofs.Common.{◌≡◌, ◌∙◌, ℕ, zero, suc, ◌-◌, ◌*◌, ◌^◌, ◌<◌, ◌≤◌, List, [], ◌∷◌, ◌++◌, length, take, drop, get_or, true, refl, sym, ap, subst, inl, inr, arith, length-append}
-use Rattle.std.specs.Prelude.{nat_le}
+use Rattle.std.proofs.Common.{◌≡◌, ◌∙◌, ℕ, zero, suc, ◌-◌, ◌*◌, ◌^◌, ◌<◌, ◌≤◌, List, [], ◌∷◌, ◌++◌, length, take, drop, get_or, refl, sym, ap, subst, inl, inr, arith, length-append}
 use Rattle.std.specs.List.{AllByRecursion}
 use Rattle.std.proofs.Math.Nat.{pow-suc, one-le-pow}
-use Rattle.std.proofs.lemmas.Bool.{cases_lt, leb-true}
+use Rattle.std.proofs.lemmas.Bool.{cases_lt}
 use Rattle.std.proofs.lemmas.List.{length-take, length-drop}
 use Rattle.std.proofs.lemmas.List.Elements.{All-from_recursion}
 use Rattle.namespace_id.specs.declared.cells.Axis.{Axis}
 use Rattle.namespace_id.specs.declared.digests.Digest.{Digest}
 use Rattle.namespace_id.specs.Bytes.{IsString}
-use Rattle.namespace_id.specs.Cells.{is_width}
 use Rattle.namespace_id.specs.Digests.{IsDigest, no_digest}
-use Rattle.namespace_id.proofs.TestLemmas.{passes_below, passes_below-at}
-use Rattle.namespace_id.proofs.WidthLemmas.{is_width-le}
+use Rattle.namespace_id.proofs.PowerLemmas.{halvings-le}
 use Rattle.nmt_proofs.proofs.Parts.DigestLemmas.{string-sha256}
 use Rattle.nmt_proofs.proofs.Parts.ListLemmas.{each-append}
 use Rattle.data_header.specs.Headers.{Roots, root_of}
@@ -58,14 +55,9 @@ path-strings (suc d) digests place power =
           (each-append (IsString 32) (path_of d r (place - 2 ^ d)) (merkle_root d l ∷ []) (path-strings d r (place - 2 ^ d) right) (root-string d l (omega (arith, left, one)), tt))
     ]
 
-halvings_test : passes_below 129 (λ k. nat_le (root_halvings k) 9) ≡ true
-unfolding passes_below
-halvings_test = refl
-
 -- there are at most 9
-few_halvings : (k : ℕ) → is_width k ≡ true → root_halvings k ≤ 9
-few_halvings k width =
-    leb-true (root_halvings k) 9 (passes_below-at 129 (λ k. nat_le (root_halvings k) 9) halvings_test k (omega (arith, is_width-le k width)))
+few_halvings : (k : ℕ) → root_halvings k ≤ 9
+few_halvings k = omega (arith, halvings-le (2 * k))
 
 -- ---- the root of the axis of a sample
 
@@ -100,6 +92,6 @@ sample_rooted header square message own proved =
         root = subst IsDigest here (All-from_recursion IsDigest roots whole.digests place no_digest (omega (arith, within, power, count)));
         up = path-strings d roots place count;
       },
-      omega (arith, deep, few_halvings k whole.width),
+      omega (arith, deep, few_halvings k),
       record { lead = record { width = whole.width; place = below; count = deep; leads = leads }; opens = proved },
     )

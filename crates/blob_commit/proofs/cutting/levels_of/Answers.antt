@@ -6,4 +6,4 @@ use Rattle.blob_commit.proofs.cutting.levels_of.Goals as goal
 -- the width is a count of leaves
 pub halvings-requires : goal.halvings-requires
 halvings-requires c =
-    subst (λ n. IsTrue (is_leaf_count n)) (sym c.subtree_width.ensures.value) (width_count c.args.count c.requires.some c.requires.bound).0
+    subst (λ n. IsTrue (is_leaf_count n)) (sym c.subtree_width.ensures.value) (width_count c.args.count c.requires.bound).0
