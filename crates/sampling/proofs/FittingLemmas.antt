@@ -1,5 +1,5 @@
 -- Generated blobs and units take few shares.
-use Rattle.std.proofs.Common.{◌≡◌, ◌∙◌, ℕ, zero, suc, ◌+◌, ◌-◌, ◌*◌, ◌/◌, ◌%◌, ◌<◌, ◌≤◌, min, List, [], ◌∷◌, length, true, false, refl, ap, inl, inr, length-append, arith}
+use Rattle.std.proofs.Common.{◌≡◌, ◌∙◌, ℕ, zero, suc, ◌+◌, ◌-◌, ◌*◌, ◌/◌, ◌%◌, ◌^◌, ◌<◌, ◌≤◌, min, List, [], ◌∷◌, length, true, false, refl, ap, inl, inr, length-append, arith}
 use Rattle.std.specs.Prelude.{None}
 use Rattle.std.specs.List.{AllByRecursion}
 use Rattle.std.proofs.Math.Nat.{mod-lt}
@@ -83,17 +83,12 @@ unfolding blobs_at
 length-blobs_at k key zero place = refl
 length-blobs_at k key (suc count) place = ap suc (length-blobs_at k key count (after_blob k key place))
 
--- up to 64 shares have subtrees of width 1
-pub narrow : (count : ℕ) → count ≤ 64 → subtree_width_of count ≤ 1
-narrow count h =
-    let wide : is_wide_enough count 1 ≡ true =
-    grind (arith, nat_tests) in least_from (is_wide_enough count) 28 1 0 (omega arith) wide
-
--- and up to 128 of width 2
-pub less_narrow : (count : ℕ) → count ≤ 128 → subtree_width_of count ≤ 2
-less_narrow count h =
-    let wide : is_wide_enough count 2 ≡ true =
-    grind (arith, nat_tests) in least_from (is_wide_enough count) 28 1 1 (omega arith) wide
+-- up to 64 shares for each share of a subtree have none wider
+pub narrow : (count j : ℕ) → j ≤ 28 → count ≤ 64 * 2 ^ j → subtree_width_of count ≤ 2 ^ j
+narrow count j low h =
+    let one : 1 * 2 ^ j ≡ 2 ^ j = omega arith in
+    let wide : is_wide_enough count (1 * 2 ^ j) ≡ true = grind (arith, nat_tests, one) in
+    omega (arith, one, least_from (is_wide_enough count) 28 1 j low wide)
 
 -- ---- units
 

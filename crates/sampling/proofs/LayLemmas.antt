@@ -1,26 +1,32 @@
 -- A generated block has a square of the width that it asks for.
-use Rattle.std.proofs.Common.{◌≡◌, ◌∙◌, ℕ, suc, ◌+◌, ◌*◌, ◌<◌, ◌≤◌, List, [], ◌∷◌, length, Bool, true, false, ◌&&◌, ◌==◌, min, if◌then◌else◌, refl, ap, ap₂, inl, inr, arith}
+use Rattle.std.proofs.Common.{◌≡◌, ◌∙◌, ℕ, suc, ◌+◌, ◌-◌, ◌*◌, ◌/◌, ◌^◌, ◌≤◌, List, [], ◌∷◌, length, Bool, true, false, ◌==◌, min, if◌then◌else◌, refl, sym, ap, ap₂, inl, inr, arith}
 use Rattle.std.specs.Prelude.{Option, Some, None, nat_lt, nat_le}
 use Rattle.std.specs.Option.{option_or, option_map_or}
 use Rattle.std.specs.List.{AllByRecursion}
-use Rattle.std.proofs.lemmas.Bool.{cases_lt}
-use Rattle.std.proofs.lemmas.Nat.{mul-le}
+use Rattle.std.proofs.lemmas.Bool.{cases_lt, leb-true}
+use Rattle.std.proofs.lemmas.Nat.{mul-le, pow-add}
+use Rattle.std.proofs.Math.Pow.{pow_mono}
 use Rattle.std.proofs.lemmas.Bool.Decides.{nat_tests}
 use Rattle.namespace_id.specs.declared.namespaces.NsError.{NsError}
 use Rattle.namespace_id.specs.Names.{is_at_most}
 use Rattle.namespace_id.specs.Cells.{is_width}
+use Rattle.namespace_id.specs.Powers.{halvings}
+use Rattle.namespace_id.proofs.WidthLemmas.{is_width-le, is_width-pos}
+use Rattle.namespace_id.proofs.PowerLemmas.{width_power, power_halvings, halvings-le}
 use Rattle.namespace_id.proofs.TestLemmas.{passes_below, passes_below-at, where_holds, where_holds-true}
 use Rattle.share_split.specs.Blobs.{NamedBytes}
 use Rattle.share_split.specs.Units.{unit_share_count}
+use Rattle.share_split.specs.Widths.{subtree_width_of}
 use Rattle.square_layout.specs.declared.laying.LayError.{LayError}
 use Rattle.square_layout.specs.declared.laying.LayError.TheVariants.{BadBlob, EmptyBlob, BadWidth, TooLarge, WidthTooSmall}
 use Rattle.square_layout.specs.Blocks.{BlockParts}
 use Rattle.square_layout.specs.Layout.{put_in, in_order, share_count_of, start_after, end_of, compact_end, needed}
 use Rattle.square_layout.specs.Refusals.{bad_blob, empty_blob, size_refusal, width_refusal, max_shares, max_count, layout_refusal}
 use Rattle.square_layout.proofs.PlaceLemmas.{start_after-near}
+use Rattle.square_layout.proofs.LaidLemmas.{square_fits}
 use Rattle.square_layout.proofs.BlobOrderLemmas.{All-in_order}
 use Rattle.sampling.specs.Generated.{blobs_at, unit_at, units_at, after_units, blob_count, block_of}
-use Rattle.sampling.proofs.FittingLemmas.{Fits, blobs_fit, length-blobs_at, narrow, less_narrow, made_unit_share}
+use Rattle.sampling.proofs.FittingLemmas.{Fits, blobs_fit, length-blobs_at, narrow, made_unit_share}
 
 -- ---- blobs pass
 
@@ -60,32 +66,48 @@ length-in_order (blob ∷ blobs) = length-put_in blob (in_order blobs) ∙ ap su
 
 -- ---- where they end
 
--- the most shares that padding may take before a blob of at most so many shares
+-- the most shares that padding may take before a blob of at most so many shares: one less than the widest
+-- subtree, of which 64 hold them
 abbrev pub gap_of : ℕ → ℕ
-gap_of k = if nat_le k 64 then 0 else 1
+gap_of k = if nat_le k 64 then 0 else k / 64 - 1
+
+-- the subtrees of a blob are wider by no more
+widest : (k count : ℕ) → is_width k ≡ true → count ≤ k → subtree_width_of count ≤ 1 + gap_of k
+widest k count width few =
+    let power : 2 ^ halvings k ≡ k = power_halvings k (width_power k width) in
+    elim (cases_lt 64 k) [
+      | inl above ↦
+          let gap : gap_of k ≡ k / 64 - 1 = grind (arith, nat_tests) in
+          let deep : 6 ≤ halvings k = elim (cases_lt (halvings k) 6) [
+            | inl lt ↦
+                let le : halvings k ≤ 6 = omega (arith, lt) in
+                let up : 2 ^ halvings k ≤ 2 ^ 6 = pow_mono le in absurd (omega (arith, up, power, above))
+            | inr ge ↦ ge
+          ] in
+          let j : ℕ = halvings k - 6 in
+          let sum : halvings k ≡ j + 6 = omega (arith, deep) in
+          let times : k ≡ 2 ^ j * 64 = sym power ∙ ap (λ (d : ℕ). 2 ^ d) sum ∙ pow-add 2 j 6 in
+          omega (arith, gap, times, narrow count j (omega (arith, halvings-le k)) (omega (arith, few, times)), above)
+      | inr within ↦
+          let gap : gap_of k ≡ 0 = grind (arith, nat_tests) in
+          omega (arith, gap, narrow count 0 (omega arith) (omega (arith, few, within)))
+    ]
 
 -- a blob starts at most so far behind what precedes it
-start_near : (k end : ℕ) (blob : NamedBytes) → k ≤ 128 → share_count_of blob ≤ k → start_after end blob ≤ end + gap_of k
-start_near k end blob most few = elim (cases_lt 64 k) [
-  | inl above ↦
-      let gap : gap_of k ≡ 1 = grind (arith, nat_tests) in
-      omega (arith, gap, start_after-near end blob, less_narrow (share_count_of blob) (omega arith))
-  | inr within ↦
-      let gap : gap_of k ≡ 0 = grind (arith, nat_tests) in
-      omega (arith, gap, start_after-near end blob, narrow (share_count_of blob) (omega arith))
-]
+start_near : (k end : ℕ) (blob : NamedBytes) → is_width k ≡ true → share_count_of blob ≤ k → start_after end blob ≤ end + gap_of k
+start_near k end blob width few = omega (arith, start_after-near end blob, widest k (share_count_of blob) width few)
 
 -- blobs of at most k shares each end at most so far behind what precedes them
-end_near : (k : ℕ) (blobs : List NamedBytes) (end : ℕ) → k ≤ 128 → AllByRecursion (Fits k) blobs
+end_near : (k : ℕ) (blobs : List NamedBytes) (end : ℕ) → is_width k ≡ true → AllByRecursion (Fits k) blobs
     → end_of end blobs ≤ end + length blobs * (k + gap_of k)
 unfolding end_of
-end_near k [] end most all = omega arith
-end_near k (blob ∷ blobs) end most all =
+end_near k [] end width all = omega arith
+end_near k (blob ∷ blobs) end width all =
     let own : ℕ = k + gap_of k in
     let rest : end_of (start_after end blob + share_count_of blob) blobs ≤ start_after end blob + share_count_of blob + length blobs * own =
-    end_near k blobs (start_after end blob + share_count_of blob) most all.1 in
+    end_near k blobs (start_after end blob + share_count_of blob) width all.1 in
     let more : suc (length blobs) * own ≡ own + length blobs * own = omega arith in
-    omega (arith, rest, more, start_near k end blob most all.0.few, all.0.few)
+    omega (arith, rest, more, start_near k end blob width all.0.few, all.0.few)
 
 -- ---- all fits
 
@@ -104,9 +126,9 @@ units_share k key place = elim (nat_le 2 k) as (λ b. unit_share_count (if b the
 abbrev pub most_of : ℕ → ℕ
 most_of k = compact_of k + compact_of k + blob_count k * (k + gap_of k)
 
--- whether a square of a width has so many, and the width is from 1 to 128
+-- whether a square of a width has so many
 abbrev has_most : ℕ → Bool
-has_most k = nat_le (most_of k) (k * k) && nat_le 1 k && nat_le k 128
+has_most k = nat_le (most_of k) (k * k)
 
 -- computed for each width
 most_test : passes_below 129 (λ k. where_holds (is_width k) (has_most k)) ≡ true
@@ -114,17 +136,16 @@ unfolding passes_below
 most_test = refl
 
 -- so for each width
-most_fits : (k : ℕ) → is_width k ≡ true → (most_of k ≤ k * k) × (1 ≤ k) × (k ≤ 128)
+most_fits : (k : ℕ) → is_width k ≡ true → most_of k ≤ k * k
 most_fits k width =
-    let low : k < 129 = grind (arith, nat_tests) in
-    let test : has_most k ≡ true =
-    where_holds-true (is_width k) (has_most k) (passes_below-at 129 (λ k. where_holds (is_width k) (has_most k)) most_test k low) width in
-    grind (arith, nat_tests)
+    leb-true (most_of k) (k * k)
+    (where_holds-true (is_width k) (has_most k)
+    (passes_below-at 129 (λ k. where_holds (is_width k) (has_most k)) most_test k (omega (arith, is_width-le k width))) width)
 
 -- a number of shares that a square of a width holds is none that is refused
-size-none : (k count : ℕ) → is_width k ≡ true → k ≤ 128 → count ≤ k * k → size_refusal (Some k) count ≡ None
-size-none k count width most h =
-    let square : k * k ≤ 128 * 128 = mul-le k k 128 128 most most in
+size-none : (k count : ℕ) → is_width k ≡ true → count ≤ k * k → size_refusal (Some k) count ≡ None
+size-none k count width h =
+    let square : k * k ≤ max_shares = square_fits k width in
     let small : nat_lt max_shares count ≡ false = grind (arith, nat_tests) in
     let holds : nat_lt (k * k) count ≡ false = grind (arith, nat_tests) in
     ap (λ (b : Bool). if b then Some (TooLarge (min count max_count)) else width_refusal count k) small
@@ -145,26 +166,26 @@ square_some k some = mul-le 1 1 k k some some
 -- a block that is made is laid out
 pub made_lays : (k : ℕ) (key : List ℕ) → is_width k ≡ true → layout_refusal (block_of k key) ≡ None
 made_lays k key width =
-    let fits = most_fits k width in
+    let some : 1 ≤ k = is_width-pos k width in
     let from : ℕ = after_units k key (after_units k key 0) in
     let blobs : List NamedBytes = blobs_at k key from (blob_count k) in
-    let all : AllByRecursion (Fits k) blobs = blobs_fit k key (blob_count k) from fits.1 in
+    let all : AllByRecursion (Fits k) blobs = blobs_fit k key (blob_count k) from some in
     let compact : compact_end (block_of k key) ≡ compact_of k + compact_of k =
     ap₂ (λ (m n : ℕ). m + n) (units_share k key 0) (units_share k key (after_units k key 0)) in
     let long : length (in_order blobs) ≡ blob_count k =
     length-in_order blobs ∙ length-blobs_at k key (blob_count k) from in
     let near : end_of (compact_end (block_of k key)) (in_order blobs) ≤ compact_end (block_of k key) + length
     (in_order blobs) * (k + gap_of k) =
-    end_near k (in_order blobs) (compact_end (block_of k key)) fits.2 (All-in_order (Fits k) blobs all) in
+    end_near k (in_order blobs) (compact_end (block_of k key)) width (All-in_order (Fits k) blobs all) in
     let width_of : length (in_order blobs) * (k + gap_of k) ≡ blob_count k * (k + gap_of k) =
     ap (λ (n : ℕ). n * (k + gap_of k)) long in
     let end : end_of (compact_end (block_of k key)) (in_order blobs) ≤ k * k =
-    omega (arith, near, width_of, compact, fits.0) in
+    omega (arith, near, width_of, compact, most_fits k width) in
     ap (λ (o : Option LayError). option_or (option_or o (empty_blob 0 blobs))
     (size_refusal (Some k) (needed (block_of k key)))) (bad-none k blobs 0 all)
     ∙ ap (λ (o : Option LayError). option_or o (size_refusal (Some k) (needed (block_of k key))))
     (empty-none k blobs 0 all)
-    ∙ size-none k (needed (block_of k key)) width fits.2 (needed_fits (end_of (compact_end (block_of k key)) (in_order blobs)) (k * k) end (square_some k fits.1))
+    ∙ size-none k (needed (block_of k key)) width (needed_fits (end_of (compact_end (block_of k key)) (in_order blobs)) (k * k) end (square_some k some))
 
 -- the parts of a block that is made
 pub block_is : (k : ℕ) (key : List ℕ) (units pay_units : List (List ℕ)) (blobs : List NamedBytes)

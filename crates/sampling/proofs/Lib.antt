@@ -1,4 +1,5 @@
 pub mod ApartLemmas
+pub mod TakenLemmas
 pub mod DrawLemmas
 pub mod WordLemmas
 pub mod BlobLemmas

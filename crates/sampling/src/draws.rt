@@ -1,12 +1,14 @@
 //! Drawn cells.
 
-ghost use Rattle.std.specs.Prelude.{◌≡◌, ◌↔◌, ◌<◌, ◌≤◌, ◌+◌, ◌*◌, ◌%◌, ◌^◌, ℕ, List, [], ◌∷◌, map, IsTrue, IsErrOf, IfOk, length, get_or, true};
+ghost use Rattle.std.specs.Prelude.{◌≡◌, ◌↔◌, ◌<◌, ◌≤◌, ◌+◌, ◌*◌, ◌%◌, ◌^◌, ℕ, List, [], ◌∷◌, map, IsTrue, IsErrOf, IfOk, OnOk, length, get_or, true};
 ghost use Rattle.std.specs.List.{list_all, remove};
-ghost use Rattle.namespace_id.specs.Cells.{is_width, is_in_square, all_cells, cell_numbered};
-ghost use Rattle.sampling.specs.Words.{words_at};
+ghost use Rattle.namespace_id.specs.Cells.{is_width, is_in_square, cell_numbered};
+ghost use Rattle.sampling.specs.Words.{words_at, key_number};
 ghost use Rattle.sampling.specs.Draws.{draw_limit, draw_place, drawn_cells, AreApart};
+ghost use Rattle.sampling.specs.Taken.{AreTaken, cells_left};
 ghost use Rattle.sampling.specs.declared.draws.DrawError.TheVariants.{TooMany};
 
+use crate::taken::take_out;
 use crate::words::{next_number, words_of};
 use namespace_id::{Cell, NoMemory, cell_numbered, cells_laws};
 use rand_chacha::ChaCha20Rng;
@@ -27,43 +29,49 @@ pub enum DrawError {
     NoMemory,
 }
 
-/// All cells of the extended square of width `k`, row-major.
-fn all_cells(alloc: Global, k: u16) -> Result<Vec<Cell>, NoMemory>
-    requires { IsTrue (is_width k) }
-    ensures { IfOk result (λ cells. cells.items ≡ all_cells k) }
+/// The place of the next draw in the rest, which has so many cells.
+fn next_place(words: &mut ChaCha20Rng, left: u32) -> u32
+    requires words { words.old.word_pos + 2 < 2 ^ 68 }
+    requires some { 0 < left }
+    ensures place { (key : List ℕ) (i : ℕ) → words.old ≡ words_at key (2 * i) →
+        result ≡ key_number key (2 * i) % left }
+    ensures words { (key : List ℕ) (i : ℕ) → words.old ≡ words_at key (2 * i) →
+        words.new ≡ words_at key (2 * (i + 1)) }
+    ensures bound { result < left }
 {
-    let in_row = 2 * k;
-    let count = in_row as usize * in_row as usize;
-    let Ok(mut cells) = Vec::with_capacity(alloc, count) else {
-        return Err(NoMemory);
-    };
-    for number in 0..count {
-        let Ok(()) = cells.push(cell_numbered(in_row, number)) else {
-            return Err(NoMemory);
-        };
-    }
-    Ok(cells)
+    (next_number(words) % u64::from(left)) as u32
 }
 
-/// Takes the next drawn cell out of the rest, which closes up.
-fn draw(words: &mut ChaCha20Rng, rest: &mut Vec<Cell>) -> Cell
+/// Takes the next drawn cell out of the rest, which closes up: so many cells in a row and in a column,
+/// without those at the taken places.
+fn draw(words: &mut ChaCha20Rng, in_row: u16, taken: &mut Vec<u32>) -> Result<Cell, NoMemory>
     requires words { words.old.word_pos + 2 < 2 ^ 68 }
-    requires some { 0 < length rest.old.items }
-    ensures drawn { (key : List ℕ) (i : ℕ) → words.old ≡ words_at key (2 * i) →
-        (result ≡ get_or rest.old.items (draw_place key i rest.old.items) (cell_numbered 1 0))
-        × (rest.new.items ≡ remove rest.old.items (draw_place key i rest.old.items))
-        × (words.new ≡ words_at key (2 * (i + 1))) }
-    ensures closes_up { length rest.new.items + 1 ≡ length rest.old.items }
+    requires bound { in_row < 2 ^ 15 }
+    requires some { length taken.old.items < in_row * in_row }
+    requires ascend { AreTaken 0 taken.old.items }
+    ensures cell { (key : List ℕ) (i : ℕ) → words.old ≡ words_at key (2 * i) →
+        IfOk result (λ cell. cell ≡ get_or (cells_left in_row taken.old.items)
+        (draw_place key i (cells_left in_row taken.old.items)) (cell_numbered 1 0)) }
+    ensures rest { (key : List ℕ) (i : ℕ) → words.old ≡ words_at key (2 * i) →
+        OnOk result (cells_left in_row taken.new.items ≡ remove (cells_left in_row taken.old.items)
+        (draw_place key i (cells_left in_row taken.old.items))) }
+    ensures words { (key : List ℕ) (i : ℕ) → words.old ≡ words_at key (2 * i) →
+        OnOk result (words.new ≡ words_at key (2 * (i + 1))) }
+    ensures one { OnOk result (length taken.new.items ≡ length taken.old.items + 1) }
+    ensures ascend { OnOk result (AreTaken 0 taken.new.items) }
 {
-    let number = next_number(words);
-    rest.remove((number % rest.len() as u64) as usize)
+    let left = u32::from(in_row) * u32::from(in_row) - taken.len() as u32;
+    let place = next_place(words, left);
+    let number = take_out(taken, place)?;
+    Ok(cell_numbered(in_row, number as usize))
 }
 
 /// The cells that a key draws of the extended square of width `k`, in the order in which they are
 /// drawn, and no cell twice. The words of the key are those of ChaCha20 with stream 0, and each draw
 /// takes two of them. Equal keys draw equal cells, and fewer draws are the first ones of more.
 ///
-/// Refuses a count above the cells of the square or above 4,096, then out of memory.
+/// Refuses a count above the cells of the square or above 4,096, then out of memory. All memory is
+/// taken at once: 4 bytes for the place of each drawn cell, besides the cells.
 ///
 /// RFC 8439, "The ChaCha20 Block Function"; docs/FORMATS.md, "Drawn cells".
 pub fn cells(alloc: Global, key: &[u8; 32], k: u16, count: u32) -> Result<Vec<Cell>, DrawError>
@@ -80,7 +88,7 @@ pub fn cells(alloc: Global, key: &[u8; 32], k: u16, count: u32) -> Result<Vec<Ce
     if count > MAX_DRAWN || count > 4 * u32::from(k) * u32::from(k) {
         return Err(DrawError::TooMany);
     }
-    let Ok(mut rest) = all_cells(alloc, k) else {
+    let Ok(mut taken) = Vec::with_capacity(alloc, count as usize) else {
         return Err(DrawError::NoMemory);
     };
     let Ok(mut drawn) = Vec::with_capacity(alloc, count as usize) else {
@@ -88,7 +96,10 @@ pub fn cells(alloc: Global, key: &[u8; 32], k: u16, count: u32) -> Result<Vec<Ce
     };
     let mut words = words_of(key);
     for _ in 0..count {
-        let Ok(()) = drawn.push(draw(&mut words, &mut rest)) else {
+        let Ok(cell) = draw(&mut words, 2 * k, &mut taken) else {
+            return Err(DrawError::NoMemory);
+        };
+        let Ok(()) = drawn.push(cell) else {
             return Err(DrawError::NoMemory);
         };
     }

@@ -28,7 +28,7 @@ fn number_key(number: u64) -> [u8; 32]
 
 /// So many bytes of the next words.
 fn bytes(alloc: Global, words: &mut ChaCha20Rng, len: usize) -> Result<Vec<u8>, NoMemory>
-    requires len { len < 2 ^ 16 }
+    requires len { len < 2 ^ 18 }
     requires words { words.old.word_pos + 2 ^ 16 < 2 ^ 68 }
     ensures value { (key : List ℕ) (place : ℕ) → words.old ≡ words_at key place →
         IfOk result (λ bytes. bytes.items ≡ bytes_at key place len) }
@@ -94,7 +94,7 @@ fn name_with(last: u8) -> Namespace
 /// The next blob of a block of width `k`.
 fn blob(alloc: Global, words: &mut ChaCha20Rng, k: u16) -> Result<Blob, NoMemory>
     requires some { 0 < k }
-    requires most { k ≤ 128 }
+    requires most { k ≤ 512 }
     requires words { words.old.word_pos + 2 ^ 17 < 2 ^ 68 }
     ensures value { (key : List ℕ) (place : ℕ) → words.old ≡ words_at key place →
         IfOk result (λ blob. blob ≡ blob_at k key place) }
@@ -116,7 +116,7 @@ fn blob(alloc: Global, words: &mut ChaCha20Rng, k: u16) -> Result<Blob, NoMemory
 /// The blobs of a block of width `k`.
 fn blobs(alloc: Global, words: &mut ChaCha20Rng, k: u16) -> Result<Vec<Blob>, NoMemory>
     requires some { 0 < k }
-    requires most { k ≤ 128 }
+    requires most { k ≤ 512 }
     requires words { words.old.word_pos + 2 ^ 32 < 2 ^ 68 }
     ensures { (key : List ℕ) (place : ℕ) → words.old ≡ words_at key place →
         IfOk result (λ blobs. blobs.items ≡ blobs_at k key place (blob_count k)) }

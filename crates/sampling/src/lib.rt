@@ -7,6 +7,7 @@
 
 mod draws;
 mod generating;
+mod taken;
 mod words;
 
 pub use draws::{DrawError, cells, draw_laws};
