@@ -1,8 +1,8 @@
 -- The texts that are put together are those of the objects.
-use Rattle.std.proofs.Common.{◌≡◌, ◌∙◌, ℕ, Bool, true, false, List, [], ◌∷◌, ◌++◌, map, codes, decimal, Option, Some, refl, sym, ap, ap₂}
+use Rattle.std.proofs.Common.{◌≡◌, ◌∙◌, ℕ, Bool, true, false, List, [], ◌∷◌, ◌++◌, map, codes, decimal, length, Option, Some, None, refl, sym, ap, ap₂}
 use Rattle.std.proofs.lemmas.Option.{same_Some}
-use Rattle.json.specs.Print.{escape_byte}
-use Rattle.serde_json.specs.Data.{Data}
+use Rattle.json.specs.Print.{escape_byte, quoted}
+use Rattle.serde_json.specs.Data.{Data, string}
 use Rattle.serde_json.specs.View.{items_of}
 use Rattle.serde_json.specs.Written.{compact_text, comma_if, items_text}
 use Rattle.namespace_id.specs.declared.cells.Axis.{Axis}
@@ -16,14 +16,16 @@ use Rattle.axis_roots.specs.declared.answers.NsEntry.{NsEntry}
 use Rattle.axis_roots.specs.declared.answers.Found.{Found}
 use Rattle.axis_roots.specs.declared.answers.Found.TheVariants.{Range, Absence}
 use Rattle.axis_roots.specs.Claims.{ClaimParts}
+use Rattle.share_split.specs.Blobs.{NamedBytes}
 use Rattle.square_layout.specs.Blocks.{BlockParts}
+use Rattle.da_wire.specs.kinds.Block.{width_number}
 use Rattle.da_wire.specs.declared.frames.Frame.{Frame}
 use Rattle.da_wire.specs.declared.frames.Frame.TheVariants as frames
 use Rattle.da_wire.specs.declared.briefs.Brief.{Brief}
 use Rattle.da_wire.specs.kinds.Names.{found_place, entry_place}
 use Rattle.da_wire.specs.Briefs.{brief_of}
-use Rattle.da_show.specs.Parts.{axis_word}
-use Rattle.da_show.specs.Json.{list_of, found_json, entry_json, cell_json, cell_of_json, names_json, claim_json, missing_json, request_json, range_text, absence_text, found_place_text, place_text, pair_text, items_from, list_text, cell_text, cell_of_text, claim_text, missing_text, quoted_name, claim_end, names_end, places_text, request_text, block_json, block_text, brief_json, json_text}
+use Rattle.da_show.specs.Parts.{axis_word, name_word}
+use Rattle.da_show.specs.Json.{count, list_of, object_of, found_json, entry_json, cell_json, cell_of_json, names_json, claim_json, missing_json, request_json, range_text, absence_text, found_place_text, place_text, pair_text, items_from, list_text, cell_text, cell_of_text, claim_text, missing_text, quoted_name, claim_end, names_end, places_text, request_text, quoted_hex, length_json, length_text, signer_json, signer_text, blob_json, blob_text, block_end, block_json, block_text, brief_json, json_text}
 use Rattle.da_show.proofs.SampleText.{sample_text_is}
 
 -- ---- lists
@@ -113,10 +115,47 @@ request_is : (name : Namespace) → request_text name ≡ compact_text (request_
 unfolding request_text quoted_name escape_byte
 request_is name = refl
 
+-- ---- blocks
+
+-- a blob, by its length, the digits of its namespace and its signer
+blob_object : (size : ℕ) (name : List ℕ) (signer : Option (List ℕ))
+    → codes "{\"length\":" ++ (decimal size ++ (codes ",\"namespace\":" ++ (quoted name ++ (signer_text signer ++ codes "}"))))
+    ≡ compact_text (object_of ((codes "length", count size) ∷ (codes "namespace", string name) ∷ signer_json signer))
+unfolding quoted_hex escape_byte
+blob_object size name None = refl
+blob_object size name (Some signer) = refl
+
+-- a blob
+blob_is : (blob : NamedBytes) → blob_text blob ≡ compact_text (blob_json blob)
+unfolding blob_text quoted_name
+blob_is blob = blob_object (length blob.bytes) (name_word blob.namespace) blob.signer
+
+-- blobs
+blobs_are : (blobs : List NamedBytes) → list_text blob_text blobs ≡ compact_text (list_of blob_json blobs)
+blobs_are blobs = ap (list_text blob_text) (sym (map_same blobs)) ∙ list_is (λ (x : NamedBytes). x) blob_text blob_json blob_is blobs
+
+-- the lengths of units
+lengths_are : (units : List (List ℕ)) → list_text length_text units ≡ compact_text (list_of length_json units)
+lengths_are units =
+    ap (list_text length_text) (sym (map_same units))
+    ∙ list_is (λ (x : List ℕ). x) length_text length_json (λ unit. refl) units
+
+-- a block, by the texts of its blobs, units of payments and units
+abbrev block_around : List ℕ → List ℕ → List ℕ → ℕ → List ℕ
+block_around blobs pay units width =
+    codes "{\"blobs\":" ++ (blobs ++ (codes ",\"kind\":\"block\",\"pay\":" ++ (pay
+    ++ (codes ",\"units\":" ++ (units ++ (codes ",\"width\":" ++ (decimal width ++ codes "}")))))))
+
 -- a block
 block_is : (block : BlockParts) → block_text block ≡ compact_text (block_json block)
-unfolding block_text
-block_is block = refl
+unfolding block_text block_end escape_byte
+block_is block =
+    let units : List ℕ = list_text length_text block.units in
+    let blobs : List ℕ = compact_text (list_of blob_json block.blobs) in
+    let pay : List ℕ = compact_text (list_of length_json block.pay_units) in
+    let width : ℕ = width_number block.width in
+    ap₂ (λ (a b : List ℕ). block_around a b units width) (blobs_are block.blobs) (lengths_are block.pay_units)
+    ∙ ap (λ (l : List ℕ). block_around blobs pay l width) (lengths_are block.units)
 
 -- the text of what is brief of a value is that of its object
 pub brief_json_is : (value : Frame) (brief : Brief) → brief_of value ≡ Some brief → brief_json brief ≡ json_text value

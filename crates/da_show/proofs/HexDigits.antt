@@ -5,10 +5,8 @@ use Rattle.std.specs.Str.{bytes_eq}
 use Rattle.std.proofs.lemmas.Slice.Eq.{bytes_eq-Decides}
 use Rattle.json.specs.Print.{escape_byte, escape}
 use Rattle.hex.specs.Hex.{lower_digits, encode_with, encode_lower}
-use Rattle.namespace_id.specs.declared.namespaces.Namespace.{Namespace}
 use Rattle.namespace_id.specs.Bytes.{AreBytes}
-use Rattle.da_show.specs.Parts.{name_word}
-use Rattle.da_show.specs.Json.{in_quotes, quoted_name}
+use Rattle.da_show.specs.Json.{in_quotes, quoted_hex}
 use Rattle.namespace_id.proofs.TestLemmas.{passes_below, passes_below-at}
 
 -- each of the sixteen digits
@@ -33,7 +31,7 @@ digits_plain (b ∷ bytes) fits =
     ap₂ (λ (x y : List ℕ). x ++ y) (digit_plain (b / 16) high)
     (ap₂ (λ (x y : List ℕ). x ++ y) (digit_plain (b % 16) low) (digits_plain bytes (λ i. fits (suc i))))
 
--- the digits of a namespace in quotes
-pub quotes_are : (name : Namespace) (digits : List ℕ) → AreBytes name.0 → digits ≡ name_word name → in_quotes digits ≡ quoted_name name
-unfolding in_quotes quoted_name
-quotes_are name digits fits e = ap (λ (l : List ℕ). 34 ∷ (l ++ 34 ∷ [])) (e ∙ sym (digits_plain name.0 fits))
+-- the digits of bytes in quotes
+pub quotes_are : (bytes digits : List ℕ) → AreBytes bytes → digits ≡ encode_lower bytes → in_quotes digits ≡ quoted_hex bytes
+unfolding in_quotes quoted_hex
+quotes_are bytes digits fits e = ap (λ (l : List ℕ). 34 ∷ (l ++ 34 ∷ [])) (e ∙ sym (digits_plain bytes fits))

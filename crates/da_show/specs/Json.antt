@@ -204,6 +204,10 @@ missing_text cells k =
 unfoldable pub in_quotes : List ℕ → List ℕ
 in_quotes text = codes "\"" ++ (text ++ codes "\"")
 
+-- the digits of bytes as a string
+unfoldable pub quoted_hex : List ℕ → List ℕ
+quoted_hex bytes = quoted (encode_lower bytes)
+
 -- the digits of a namespace as a string
 unfoldable pub quoted_name : Namespace → List ℕ
 quoted_name name = quoted (name_word name)
@@ -240,6 +244,32 @@ abbrev pub blob_json : NamedBytes → Data
 blob_json blob = object_of (
     (codes "length", count (length blob.bytes)) ∷ (codes "namespace", string (name_word blob.namespace))
     ∷ signer_json blob.signer)
+
+-- the text of the length of a unit
+abbrev pub length_text : List ℕ → List ℕ
+length_text unit = decimal (length unit)
+
+-- the text of a signer behind the namespace of its blob, if there is one
+abbrev pub signer_text : Option (List ℕ) → List ℕ
+signer_text None = []
+signer_text (Some signer) = codes ",\"signer\":" ++ quoted_hex signer
+
+-- the text of a blob
+unfoldable pub blob_text : NamedBytes → List ℕ
+blob_text blob =
+    codes "{\"length\":" ++ (decimal (length blob.bytes) ++ (codes ",\"namespace\":" ++ (quoted_name blob.namespace
+    ++ (signer_text blob.signer ++ codes "}"))))
+
+-- the text of the lengths of units and of the width that is asked for, 0 for none
+unfoldable pub block_end : List (List ℕ) → ℕ → List ℕ
+block_end units width =
+    codes ",\"units\":" ++ (list_text length_text units ++ (codes ",\"width\":" ++ (decimal width ++ codes "}")))
+
+-- the text of a block
+unfoldable pub block_text : BlockParts → List ℕ
+block_text block =
+    codes "{\"blobs\":" ++ (list_text blob_text block.blobs ++ (codes ",\"kind\":\"block\",\"pay\":"
+    ++ (list_text length_text block.pay_units ++ block_end block.units (width_number block.width))))
 
 -- a block: what it asks for, and the lengths of what is in it
 abbrev pub block_json : BlockParts → Data
@@ -284,10 +314,6 @@ json_of (frames.Rooted proof) = rooted_json proof
 -- the text of it, without a space and on one line
 abbrev pub json_text : Frame → List ℕ
 json_text frame = compact_text (json_of frame)
-
--- the text of a block
-unfoldable pub block_text : BlockParts → List ℕ
-block_text block = compact_text (block_json block)
 
 -- ---- the text of what is brief of a frame
 

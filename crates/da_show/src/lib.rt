@@ -7,5 +7,5 @@ mod objects;
 mod text;
 mod words;
 
-pub use objects::{put_brief_json, put_sample_json, show_json};
-pub use text::{put_brief, put_sample, show};
+pub use objects::{put_brief_json, show_json};
+pub use text::{put_brief, show};

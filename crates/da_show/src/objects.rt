@@ -4,7 +4,6 @@ ghost use Rattle.std.specs.Prelude.{◌≡◌, ◌++◌, Some, IfOk, OnOk};
 ghost use Rattle.std.specs.String.{string_bytes};
 ghost use Rattle.serde_json.specs.View.{view};
 ghost use Rattle.da_wire.specs.declared.frames.Frame.{Frame as FrameOf};
-ghost use Rattle.da_wire.specs.declared.frames.Frame.TheVariants.{Sample};
 ghost use Rattle.da_wire.specs.Briefs.{brief_of};
 ghost use Rattle.da_show.specs.Json.{json_of, json_text, sample_text, brief_json};
 
@@ -73,21 +72,6 @@ fn put_object(out: &mut String, cell: Cell, axis: Axis) -> Result<(), AllocError
     out.push_str(",\"kind\":\"sample\",\"row\":")?;
     put_number(out, cell.row)?;
     out.push('}')
-}
-
-/// Appends what `show_json` gives for a request for the sample of a cell on an axis.
-///
-/// It refuses only where there is no memory.
-///
-/// docs/FORMATS.md, "JSON of frames".
-pub fn put_sample_json(out: &mut String, cell: Cell, axis: Axis) -> Result<(), NoMemory>
-    ensures text { OnOk result (string_bytes out.new
-        ≡ string_bytes out.old ++ json_text (Sample cell axis)) }
-{
-    match put_object(out, cell, axis) {
-        Ok(()) => Ok(()),
-        Err(AllocError) => Err(NoMemory),
-    }
 }
 
 /// Appends the text of the object of a brief value.

@@ -3,7 +3,6 @@
 ghost use Rattle.std.specs.Prelude.{◌≡◌, ◌++◌, Some, IfOk, OnOk};
 ghost use Rattle.std.specs.String.{string_bytes};
 ghost use Rattle.da_wire.specs.declared.frames.Frame.{Frame as FrameOf};
-ghost use Rattle.da_wire.specs.declared.frames.Frame.TheVariants.{Sample};
 ghost use Rattle.da_wire.specs.Briefs.{brief_of};
 ghost use Rattle.da_show.specs.Text.{joined, lines_of, brief_lines, text_of};
 
@@ -12,7 +11,7 @@ mod lines;
 mod lists;
 
 use da_wire::{Brief, Frame};
-use namespace_id::{Axis, Cell, NoMemory};
+use namespace_id::NoMemory;
 use std::alloc::{AllocError, Global};
 
 /// Appends the text of a frame.
@@ -49,21 +48,6 @@ pub fn show(alloc: Global, frame: &Frame) -> Result<String, NoMemory>
     let mut out = String::new(alloc);
     match put_frame(alloc, &mut out, frame) {
         Ok(()) => Ok(out),
-        Err(AllocError) => Err(NoMemory),
-    }
-}
-
-/// Appends what `show` gives for a request for the sample of a cell on an axis.
-///
-/// It refuses only where there is no memory.
-///
-/// docs/FORMATS.md, "Text of frames".
-pub fn put_sample(out: &mut String, cell: Cell, axis: Axis) -> Result<(), NoMemory>
-    ensures text { OnOk result (string_bytes out.new
-        ≡ string_bytes out.old ++ text_of (Sample cell axis)) }
-{
-    match lines::put_sample(out, cell, axis) {
-        Ok(()) => Ok(()),
         Err(AllocError) => Err(NoMemory),
     }
 }

@@ -32,6 +32,14 @@ pub(crate) fn put_number(out: &mut String, number: u16) -> Result<(), AllocError
     out.push_str(buffer.format(number))
 }
 
+/// Appends a number of things in decimal.
+pub(crate) fn put_size(out: &mut String, number: usize) -> Result<(), AllocError>
+    ensures { OnOk result (string_bytes out.new ≡ string_bytes out.old ++ decimal number) }
+{
+    let mut buffer = Buffer::new();
+    out.push_str(buffer.format(number))
+}
+
 /// The 29 bytes of a namespace in hexadecimal digits.
 pub(crate) fn name_word(alloc: Global, name: &Namespace) -> Result<String, AllocError>
     ensures { IfOk result (λ word. string_bytes word ≡ name_word name.now) }

@@ -1,15 +1,15 @@
 //! The texts of objects, put together without the objects, of the kinds whose frames may be short.
 
-ghost use Rattle.std.specs.Prelude.{◌≡◌, ◌++◌, IfOk, OnOk};
+ghost use Rattle.std.specs.Prelude.{◌≡◌, ◌++◌, OnOk};
 ghost use Rattle.std.specs.String.{string_bytes};
 ghost use Rattle.serde_json.specs.Written.{comma_if};
-ghost use Rattle.da_show.specs.Json.{range_text, absence_text, place_text, pair_text, list_text, cell_text, cell_of_text, in_quotes, quoted_name, claim_end, claim_text, missing_text, names_end, places_text, request_text, block_text};
+ghost use Rattle.da_show.specs.Json.{range_text, absence_text, place_text, pair_text, list_text, cell_text, cell_of_text, in_quotes, quoted_hex, quoted_name, claim_end, claim_text, missing_text, names_end, places_text, request_text, length_text, signer_text, blob_text, block_end, block_text};
 
-use super::kinds;
-use crate::words::{axis_word, name_word, put_number};
+use crate::words::{axis_word, put_number, put_size, width_number};
 use axis_roots::Message;
 use da_wire::{EntryPlace, FoundPlace};
-use namespace_id::{Axis, Cell, Namespace, namespace_law};
+use namespace_id::{Axis, Cell, Namespace, bytes_law};
+use share_split::{Blob, SIGNER_SIZE, Unit};
 use square_layout::Block;
 use std::alloc::{AllocError, Global};
 
@@ -124,13 +124,21 @@ fn put_quoted(out: &mut String, text: &str) -> Result<(), AllocError>
     out.push('"')
 }
 
+/// Appends the digits of bytes as a string.
+fn put_hex(alloc: Global, out: &mut String, bytes: &[u8]) -> Result<(), AllocError>
+    ensures { OnOk result (string_bytes out.new ≡ string_bytes out.old ++ quoted_hex bytes.now) }
+{
+    bytes_law(bytes);
+    let digits = hex::encode(alloc, bytes)?;
+    put_quoted(out, digits.as_str())
+}
+
 /// Appends the digits of a namespace as a string.
+#[tactic(auto, unfolding(crate::specs::Json::quoted_hex, crate::specs::Json::quoted_name))]
 fn put_name(alloc: Global, out: &mut String, name: &Namespace) -> Result<(), AllocError>
     ensures { OnOk result (string_bytes out.new ≡ string_bytes out.old ++ quoted_name name.now) }
 {
-    namespace_law(name);
-    let digits = name_word(alloc, name)?;
-    put_quoted(out, digits.as_str())
+    put_hex(alloc, out, name.0.as_slice())
 }
 
 /// Appends the text of a fraud claim from its index on.
@@ -210,18 +218,87 @@ pub(crate) fn put_request(
     out.push_str("}")
 }
 
-/// The text of a block's object.
-fn block_text(alloc: Global, block: &Block) -> Result<String, AllocError>
-    ensures { IfOk result (λ text. string_bytes text ≡ block_text block.now) }
+/// Appends the list of the lengths of units.
+fn put_lengths(out: &mut String, units: &[Unit]) -> Result<(), AllocError>
+    ensures { OnOk result (string_bytes out.new
+        ≡ string_bytes out.old ++ list_text length_text units.now) }
 {
-    let value = kinds::block(alloc, block)?;
-    value.to_string(alloc)
+    out.push('[')?;
+    let mut later = false;
+    for unit in units {
+        put_comma(out, later)?;
+        put_size(out, unit.bytes.len())?;
+        later = true;
+    }
+    out.push(']')
 }
 
-/// Appends the text of a block's object.
+/// Appends the signer of a blob behind its namespace, if it has one.
+fn put_signer(
+    alloc: Global,
+    out: &mut String,
+    signer: &Option<[u8; SIGNER_SIZE]>,
+) -> Result<(), AllocError>
+    ensures { OnOk result (string_bytes out.new ≡ string_bytes out.old ++ signer_text signer.now) }
+{
+    match signer {
+        Some(signer) => {
+            out.push_str(",\"signer\":")?;
+            put_hex(alloc, out, signer.as_slice())
+        }
+        None => Ok(()),
+    }
+}
+
+/// Appends a blob: its length, its namespace and its signer, if it has one.
+#[tactic(auto, unfolding(crate::specs::Json::blob_text))]
+fn put_blob(alloc: Global, out: &mut String, blob: &Blob) -> Result<(), AllocError>
+    ensures { OnOk result (string_bytes out.new ≡ string_bytes out.old ++ blob_text blob.now) }
+{
+    out.push_str("{\"length\":")?;
+    put_size(out, blob.bytes.len())?;
+    out.push_str(",\"namespace\":")?;
+    put_name(alloc, out, &blob.namespace)?;
+    put_signer(alloc, out, &blob.signer)?;
+    out.push('}')
+}
+
+/// Appends a list of blobs.
+fn put_blobs(alloc: Global, out: &mut String, blobs: &[Blob]) -> Result<(), AllocError>
+    ensures { OnOk result (string_bytes out.new
+        ≡ string_bytes out.old ++ list_text blob_text blobs.now) }
+{
+    out.push('[')?;
+    let mut later = false;
+    for blob in blobs {
+        put_comma(out, later)?;
+        put_blob(alloc, out, blob)?;
+        later = true;
+    }
+    out.push(']')
+}
+
+/// Appends the text of a block from its units on.
+#[tactic(auto, unfolding(crate::specs::Json::block_end))]
+fn put_block_end(out: &mut String, units: &[Unit], width: u16) -> Result<(), AllocError>
+    ensures { OnOk result (string_bytes out.new
+        ≡ string_bytes out.old ++ block_end units.now width) }
+{
+    out.push_str(",\"units\":")?;
+    put_lengths(out, units)?;
+    out.push_str(",\"width\":")?;
+    put_number(out, width)?;
+    out.push('}')
+}
+
+/// Appends a block: what it asks for, and the lengths of what is in it.
+#[tactic(auto, unfolding(crate::specs::Json::block_text))]
 pub(crate) fn put_block(alloc: Global, out: &mut String, block: &Block) -> Result<(), AllocError>
     ensures { OnOk result (string_bytes out.new ≡ string_bytes out.old ++ block_text block.now) }
 {
-    let text = block_text(alloc, block)?;
-    out.push_str(text.as_str())
+    out.push_str("{\"blobs\":")?;
+    put_blobs(alloc, out, &block.blobs)?;
+    out.push_str(",\"kind\":\"block\",\"pay\":")?;
+    put_lengths(out, &block.pay_units)?;
+    put_block_end(out, &block.units, width_number(block))
 }
