@@ -16,3 +16,5 @@ pub mod Told
 pub mod Short
 pub mod Hashes
 pub mod DigestLists
+pub mod Fields
+pub mod Bases

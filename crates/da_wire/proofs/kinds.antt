@@ -7,7 +7,6 @@ pub mod MissingForm
 pub mod RequestForms
 pub mod Blobs
 pub mod BlockForm
-pub mod Ranges
 pub mod Founds
 pub mod Entries
 pub mod NamesForm

@@ -1,8 +1,6 @@
 -- A field, and then a list that ends the bytes: what is made of both, and where nothing is.
-use Rattle.std.proofs.Common.{◌≡◌, ◌∙◌, ℕ, Bool, eqb, cond, List, length, Option, None, Some, ap, eqb-true}
-use Rattle.std.proofs.lemmas.Option.{cond_some}
+use Rattle.std.proofs.Common.{◌≡◌, ◌∙◌, ℕ, Bool, eqb, cond, List, length, Option, None, Some, ap}
 use Rattle.frame_fields.specs.Fields.{◌>>=◌, read_items, read_rest}
-use Rattle.da_wire.proofs.codec.Readers.{bind_some}
 use Rattle.da_wire.proofs.codec.Many.{made, not_made, by_rest}
 
 -- what is made of a list where no byte is left
@@ -37,12 +35,3 @@ pub from_rest : {H A B : Type 0} (list : List ℕ → Option (List A × List ℕ
 from_rest list make head h after rest none e n is =
     by_rest none rest (make h (read_items (list after))) (headed list make head) is
     (from_head list make head h after e ∙ made (list after) (ended (make h)) rest n)
-
--- what was made was made of a field and a list that were read, and no byte was left
-pub headed_some : {H A B : Type 0} (list : List ℕ → Option (List A × List ℕ)) (make : H → List A → B) (head : Option (H × List ℕ)) (y : B) → headed list make head ≡ Some y
-    → (h : H × List ℕ) × (head ≡ Some h) × (l : List A × List ℕ) × (list h.1 ≡ Some l) × (length l.1 ≡ 0) × (make h.0 l.0 ≡ y)
-headed_some list make head y e =
-    let h = bind_some head (behind list make) y e in
-    let l = bind_some (list h.0.1) (ended (make h.0.0)) y h.2 in
-    let g = cond_some (eqb (length l.0.1) 0) (make h.0.0 l.0.0) y l.2 in
-    (h.0, h.1, l.0, l.1, eqb-true (length l.0.1) 0 g.0, g.1)

@@ -1,5 +1,5 @@
 -- The laws of a kind: what is read of a payload is what the payload spells, and what is spelled is read.
-use Rattle.std.proofs.Common.{◌≡◌, ◌∙◌, ℕ, ◌≤◌, Bool, true, false, cond, ltb, List, length, Option, Some, None, sym, ap, subst, ltb-false}
+use Rattle.std.proofs.Common.{◌≡◌, ◌∙◌, ℕ, ◌^◌, ◌<◌, ◌≤◌, Bool, true, false, cond, ltb, List, length, Option, Some, None, sym, ap, subst, arith, ltb-false}
 use Rattle.std.specs.Option.{option_map, option_map_or}
 use Rattle.std.proofs.lemmas.Option.{same_Some}
 use Rattle.namespace_id.specs.Bytes.{AreBytes}
@@ -9,6 +9,7 @@ use Rattle.frame_fields.specs.Fields.{◌>>=◌}
 use Rattle.da_wire.specs.Spelling.{max_payload, kind_byte, frame, spelled, spelling, IsFrame}
 use Rattle.da_wire.specs.Reading.{kind_at, is_kind, value_of_kind, value_at}
 use Rattle.da_wire.proofs.codec.Readers.{map_some, if_false}
+use Rattle.da_wire.proofs.codec.Fields.{Fields, AreMaps, as_field, ended, ended_takes, ended_again}
 
 -- a reader and a spelling of payloads are those of a kind; `none` says which of its values have no spelling
 pub record IsForm {A : Type 0} (kind : Kind) (make : A → Frame) (read : List ℕ → Option A) (payload : A → List ℕ) (none : A → Bool) : Type 0 where
@@ -20,6 +21,25 @@ pub record IsForm {A : Type 0} (kind : Kind) (make : A → Frame) (read : List �
 -- of a kind whose values all have a spelling
 abbrev pub never : {A : Type 0} → A → Bool
 never x = false
+
+-- a value of a kind that has a spelling
+abbrev pub IsSpelled : {A : Type 0} → (A → Frame) → (A → Bool) → A → Type 0
+IsSpelled make none x = IsFrame (make x) × (none x ≡ false)
+
+-- fields that end a payload are the form of a kind
+pub form_of : {A X : Type 0} {make : X → Frame} {read : List ℕ → Option X} {payload : X → List ℕ} {none : X → Bool} {fields : Fields X A} {join : A → X} {parts : X → A} (kind : Kind) → ((bytes : List ℕ) → value_of_kind kind bytes ≡ option_map make (read bytes))
+    → ((x : X) → spelling (make x) ≡ cond (none x) None (spelled (kind_byte kind) (payload x))) → AreMaps fields join parts (IsSpelled make none)
+    → ((bytes : List ℕ) → read bytes ≡ fields.read bytes (λ a. ended (join a))) → ((x : X) → payload x ≡ fields.text (parts x)) → IsForm kind make read payload none
+form_of {A} {X} {make} {read} {payload} {none} {fields} {join} {parts} kind value_is spelled_is maps read_is text_is =
+    let all : Fields X X = as_field fields join parts (IsSpelled make none) maps in
+    record {
+      read_is = value_is;
+      spelled_is = spelled_is;
+      takes = λ bytes x fits e. let t = ended_takes all bytes x fits (sym (read_is bytes) ∙ e) in (t.0.0, t.1 ∙ sym (text_is x), t.0.1);
+      again = λ x is some few.
+          read_is (payload x) ∙ ap (λ (l : List ℕ). fields.read l (λ a. ended (join a))) (text_is x)
+          ∙ ended_again all x (is, some) (subst (λ (l : List ℕ). length l < 2 ^ 32) (text_is x) (omega (arith, few)));
+    }
 
 -- a value whose spelling is a frame of this kind with this payload
 abbrev pub Spells : Kind → List ℕ → Frame → Type 0

@@ -17,7 +17,7 @@ use Rattle.da_wire.proofs.codec.Digests.{length-digest_bytes}
 use Rattle.da_wire.proofs.codec.Shares.{length-share_bytes}
 use Rattle.da_wire.proofs.codec.Lengths.{texts_few}
 use Rattle.da_wire.proofs.codec.Short.{all_short}
-use Rattle.da_wire.proofs.kinds.Ranges.{IsWritable}
+use Rattle.da_wire.proofs.kinds.Founds.{IsWritable}
 use Rattle.da_wire.proofs.kinds.Entries.{IsShortEntry}
 
 -- what is found in a row has at most 66,982 bytes
