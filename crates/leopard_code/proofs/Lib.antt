@@ -18,4 +18,4 @@ pub mod ZeroLemmas
 pub mod ErasureLemmas
 pub mod RebuildLemmas
 pub mod LocateLemmas
-pub mod SumLemmas
+pub mod PowerLemmas

@@ -1,16 +1,13 @@
 -- The values of a locator, and of its derivative at its points.
-use Rattle.std.proofs.Common.{◌≡◌, ◌≢◌, ◌∙◌, ℕ, ◌<◌, ◌≤◌, get_or, Bool, List, [], ◌∷◌, ◌++◌, if◌then◌else◌, refl, sym, ap, ap₂, arith, inl, inr}
+use Rattle.std.proofs.Common.{◌≡◌, ◌≢◌, ◌∙◌, ℕ, ◌<◌, Bool, List, [], ◌∷◌, ◌++◌, if◌then◌else◌, refl, sym, ap, ap₂}
 use Rattle.std.specs.Prelude.{bit_xor}
-use Rattle.std.proofs.lemmas.Bool.{cases_eq, eq-eqb, ne_eqb}
-use Rattle.std.proofs.lemmas.Nat.{xor_lt}
-use Rattle.gf_cantor.proofs.Laws.{size-above, product-lt, product_comm, product_swap, one-product, zero_factor}
+use Rattle.std.proofs.lemmas.Bool.{eq-eqb, ne_eqb}
+use Rattle.gf_cantor.proofs.Laws.{size-above, product-lt, product_comm, product_swap, one-product}
 use Rattle.byte_polynomial.specs.Polynomial.{Avoids, ArePoints}
-use Rattle.byte_polynomial.proofs.Sums.{xor_zero-same}
 use Rattle.leopard_code.proofs.DifferenceLemmas.{away}
-use Rattle.leopard_code.specs.Locators.{missing_from, difference, apart_from}
+use Rattle.leopard_code.specs.Locators.{difference, apart_from}
 use Rattle.leopard_code.proofs.LagrangeLemmas.{points_middle}
-use Rattle.leopard_code.proofs.MissingLemmas.{points_missing}
-use Rattle.gf_cantor.specs.Field.{Field, product, bits, size}
+use Rattle.gf_cantor.specs.Field.{Field, product, size}
 use Rattle.gf_cantor.specs.Laws.{AreFieldLaws}
 
 -- the difference of a point and itself counts as 1
@@ -27,25 +24,6 @@ module _ (F : Field) (L : AreFieldLaws F) where
   unfolding apart_from
   apart_from-lt [] x = size-above F L
   apart_from-lt (r ∷ rs) x = product-lt F L (difference x r) (apart_from F rs x)
-
-  -- a difference is not 0
-  difference_nonzero : (x r : ℕ) → x < size F → r < size F → (0 < difference x r) × (difference x r < size F)
-  difference_nonzero x r hx hr = elim (cases_eq x r) [
-    | inl same ↦ (omega (arith, difference-same x r same), omega (arith, difference-same x r same, size-above F L))
-    | inr other ↦
-        let apart : bit_xor x r ≢ 0 = λ e. other (xor_zero-same x r e) in
-        let byte : bit_xor x r < size F = xor_lt (bits F) x r hx hr in (omega (arith, difference-other x r other, apart), omega (arith, difference-other x r other, byte))
-  ]
-
-  -- and neither is their product
-  pub apart_from-pos : (rs : List ℕ) (x : ℕ) → x < size F → ArePoints F rs → 0 < apart_from F rs x
-  unfolding apart_from ArePoints
-  apart_from-pos [] x hx points = omega arith
-  apart_from-pos (r ∷ rs) x hx points =
-      let one = difference_nonzero x r hx points.0 in
-      let rest : 0 < apart_from F rs x = apart_from-pos rs x hx points.2 in
-      let none : product F (difference x r) (apart_from F rs x) ≢ 0 =
-      λ e. absurd (omega (arith, rest, zero_factor F L (difference x r) (apart_from F rs x) one.0 one.1 (apart_from-lt rs x) e)) in omega arith
 
   -- at none of the points it is the locator's value
   pub apart_from-avoids : (rs : List ℕ) (x : ℕ) → Avoids x rs → apart_from F rs x ≡ away F L rs x
@@ -72,9 +50,3 @@ module _ (F : Field) (L : AreFieldLaws F) where
   -- a label times the difference of a point and itself stays
   pub difference_kept : (x r v : ℕ) → v < size F → x ≡ r → v ≡ product F v (difference x r)
   difference_kept x r v h e = sym (ap (product F v) (difference-same x r e) ∙ product_comm F L v 1 ∙ one-product F L v h)
-
-  -- values of a locator and its derivative are not 0
-  pub located_pos : (n : ℕ) (known values : List ℕ) → n ≤ size F → ((x : ℕ) → x < n → get_or values x 0 ≡ apart_from F (missing_from 0 n known) x)
-      → (i : ℕ) → i < n → 0 < get_or values i 0
-  located_pos n known values few located i h =
-      omega (arith, located i h, apart_from-pos (missing_from 0 n known) i (omega arith) (points_missing F n 0 known (omega arith)))

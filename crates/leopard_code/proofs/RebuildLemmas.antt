@@ -28,24 +28,24 @@ use Rattle.lch_fft.specs.Readings.{Reading, AreReadingLaws}
 
 module _ (R : Reading) (L : AreReadingLaws R) where
   -- what the calls of `rebuild` make, one after another, of shares at known positions
-  pub record IsRebuilding (k : ℕ) (known : List ℕ) (shares : List Share) (values : List ℕ) (blank multiplied derived divided word : List Share) : Type 0 where
+  pub record IsRebuilding (k : ℕ) (known : List ℕ) (shares : List Share) (values : ℕ → ℕ) (blank multiplied derived divided word : List Share) : Type 0 where
     pub code : HasCode R.field k
     pub count : length known ≡ k
     pub positions : IsTrue (are_positions k known)
     pub as_many : length shares ≡ k
     pub bytes : AreShares shares
-    pub located : (x : ℕ) → x < 2 * k → get_or values x 0 ≡ apart_from R.field (missing_from 0 (2 * k) known) x
+    pub located : (x : ℕ) → x < 2 * k → values x ≡ apart_from R.field (missing_from 0 (2 * k) known) x
     pub blank_bytes : (b i : ℕ) → b < R.columns → i < 2 * k → get_or (column R b blank) i 0 ≡ 0
     pub products_known : (b i : ℕ) → b < R.columns → i < length known → get_or (column R b multiplied) (get_or known i 0) 0
         ≡ bit_xor (get_or (column R b blank) (get_or known i 0) 0)
-        (product R.field (get_or values (get_or known i 0) 0) (get_or (column R b shares) i 0))
+        (product R.field (values (get_or known i 0)) (get_or (column R b shares) i 0))
     pub products_others : (b pos : ℕ) → b < R.columns → pos < 2 * k → ((i : ℕ) → i < length known → get_or known i 0 ≢ pos)
         → get_or (column R b multiplied) pos 0 ≡ get_or (column R b blank) pos 0
     pub long : length multiplied ≡ 2 * k
     pub derivatives : AreDerivatives R multiplied derived
     pub quotients : (b pos y : ℕ) → b < R.columns → pos < 2 * k → y < size R.field
         → ((i : ℕ) → i < length known → get_or known i 0 ≢ pos)
-        → get_or (column R b derived) pos 0 ≡ product R.field y (get_or values pos 0) → get_or (column R b divided) pos 0 ≡ y
+        → get_or (column R b derived) pos 0 ≡ product R.field y (values pos) → get_or (column R b divided) pos 0 ≡ y
     pub known_again : HasEntries known shares word
     pub others_again : (pos : ℕ) → ((i : ℕ) → i < length known → get_or known i 0 ≢ pos) → slice_get word pos ≡ slice_get divided pos
     pub all_bytes : AreShares word
@@ -53,7 +53,7 @@ module _ (R : Reading) (L : AreReadingLaws R) where
 
   -- ---- one column, of a polynomial that takes the labels of the known shares
 
-  module _ (k : ℕ) (known : List ℕ) (shares : List Share) (values : List ℕ) (blank multiplied derived divided word : List Share)
+  module _ (k : ℕ) (known : List ℕ) (shares : List Share) (values : ℕ → ℕ) (blank multiplied derived divided word : List Share)
       (r : IsRebuilding k known shares values blank multiplied derived divided word)
       (b : ℕ) (hb : b < R.columns) (cs : List ℕ) (degree : length cs ≡ k) (coefficients : AreCoefficients R.field cs) (takes : PassesThrough R.field cs (points_at k known) (column R b shares)) where
     -- the missing positions
@@ -93,13 +93,13 @@ module _ (R : Reading) (L : AreReadingLaws R) where
 
     -- the product at a known position
     product_known : (pos : ℕ) → pos < 2 * k → (s : IsKnown pos known ms)
-        → get_or (column R b multiplied) pos 0 ≡ product R.field (get_or values pos 0) (get_or (column R b shares) s.index 0)
+        → get_or (column R b multiplied) pos 0 ≡ product R.field (values pos) (get_or (column R b shares) s.index 0)
     product_known pos h s =
         ap (λ (p : ℕ). get_or (column R b multiplied) p 0) (sym s.here)
         ∙ r.products_known b s.index hb s.within
-        ∙ ap (λ (p : ℕ). bit_xor (get_or (column R b blank) p 0) (product R.field (get_or values p 0) (get_or (column R b shares) s.index 0)))
+        ∙ ap (λ (p : ℕ). bit_xor (get_or (column R b blank) p 0) (product R.field (values p) (get_or (column R b shares) s.index 0)))
         s.here
-        ∙ ap (λ (y : ℕ). bit_xor y (product R.field (get_or values pos 0) (get_or (column R b shares) s.index 0)))
+        ∙ ap (λ (y : ℕ). bit_xor y (product R.field (values pos) (get_or (column R b shares) s.index 0)))
         (r.blank_bytes b pos hb h)
 
     -- the products are values of the product of the polynomial and the locator
@@ -114,7 +114,7 @@ module _ (R : Reading) (L : AreReadingLaws R) where
         ∙ sym (ap (product R.field (value_at R.field moved pos)) (ap (λ (l : List ℕ). away R.field L.laws l pos) s.parts ∙ away-root R.field L.laws s.before s.after pos) ∙ product-zero R.field L.laws (value_at R.field moved pos))
 
     -- the derivative at a missing position is a multiple of the value there
-    derivative_value : (pos : ℕ) → pos < 2 * k → (s : IsMissing pos known ms) → get_or (column R b derived) pos 0 ≡ product R.field (value_at R.field moved pos) (get_or values pos 0)
+    derivative_value : (pos : ℕ) → pos < 2 * k → (s : IsMissing pos known ms) → get_or (column R b derived) pos 0 ≡ product R.field (value_at R.field moved pos) (values pos)
     derivative_value pos h s =
         let narrow : 2 * k ≤ size R.field = r.code.fits in
         let found = r.derivatives b hb in
@@ -122,7 +122,7 @@ module _ (R : Reading) (L : AreReadingLaws R) where
         let same_length : length moved ≡ k = length-translated R.field L.laws k cs ∙ degree in
         let agree : (x : ℕ) → x < 2 * k → value_at R.field found.0 x ≡ product R.field (value_at R.field moved x) (away R.field L.laws (s.before ++ pos ∷ s.after) x) =
         λ x l. found.3 x (omega (arith, l, r.long)) ∙ product_value x l (standing x l) ∙ ap (λ (l : List ℕ). product R.field (value_at R.field moved x) (away R.field L.laws l x)) s.parts in
-        let apart : get_or values pos 0 ≡ away R.field L.laws (s.before ++ s.after) pos =
+        let apart : values pos ≡ away R.field L.laws (s.before ++ s.after) pos =
         r.located pos h ∙ ap (λ (l : List ℕ). apart_from R.field l pos) s.parts
         ∙ apart_from-middle R.field L.laws s.before s.after pos (subst (ArePoints R.field) s.parts (points_missing R.field (2 * k) 0 known (omega arith))) in
         sym (found.4 pos (omega (arith, h, r.long)))
@@ -145,7 +145,7 @@ module _ (R : Reading) (L : AreReadingLaws R) where
     takes_word = takes_all R L k cs (column R b word) (length-column R L b word ∙ r.whole) (λ pos h. word_value pos h (standing pos h))
 
   -- what the calls make is a codeword
-  pub rebuilt_codeword : (k : ℕ) (known : List ℕ) (shares : List Share) (values : List ℕ) (blank multiplied derived divided word : List Share)
+  pub rebuilt_codeword : (k : ℕ) (known : List ℕ) (shares : List Share) (values : ℕ → ℕ) (blank multiplied derived divided word : List Share)
       → IsRebuilding k known shares values blank multiplied derived divided word → IsCodewordOver R k word
   rebuilt_codeword k known shares values blank multiplied derived divided word r = record {
     count = r.whole;

@@ -1,6 +1,6 @@
 -- What lost shares are found by: the missing positions, their locator, and formal derivatives.
 use Rattle.std.specs.Prelude.{◌≡◌, ℕ, zero, suc, ◌<◌, ◌*◌, ◌==◌, IsTrue, List, [], ◌∷◌, length, bit_xor, slice_index, if◌then◌else◌}
-use Rattle.gf_cantor.specs.Field.{Field, product, size}
+use Rattle.gf_cantor.specs.Field.{Field, label, power, product, size}
 use Rattle.namespace_id.specs.declared.shares.Share.{Share}
 use Rattle.namespace_id.specs.Cells.{is_width}
 use Rattle.byte_polynomial.specs.Polynomial.{value_at, AreCoefficients}
@@ -24,6 +24,10 @@ unfoldable pub apart_from : Field → List ℕ → ℕ → ℕ
 apart_from f [] x = 1
 apart_from f (r ∷ rs) x = product f (difference x r) (apart_from f rs x)
 
+-- the label of x to an exponent
+abbrev pub label_of_power : Field → ℕ → ℕ
+label_of_power f exponent = label f (power f exponent)
+
 -- each new column has the values at 0, 1, .. of the derivative of a polynomial that takes the old labels there
 abbrev pub AreDerivatives : Reading → List Share → List Share → Type 0
 AreDerivatives r old new = (c : ℕ) → c < r.columns → (cs : List ℕ) × (length cs ≡ length old) × AreCoefficients r.field cs
@@ -39,7 +43,7 @@ pub record IsFormalDerivative (r : Reading) (old new : List Share) (c : ℕ) : T
   pub values : (x : ℕ) → x < size r.field → value_at r.field polynomial x ≡ value r.field (column r c old) x
   pub slopes : (x : ℕ) → x < size r.field → derivative_at r.field polynomial x ≡ value r.field (column r c new) x
 
--- a place for a value of the locator at each position of a codeword
-pub record IsRoom (k : ℕ) (locator : List ℕ) : Type 0 where
+-- a place for an exponent at each position of a codeword
+pub record IsRoom (k : ℕ) (exponents : List ℕ) : Type 0 where
   pub width : IsTrue (is_width k)
-  pub size : length locator ≡ 2 * k
+  pub size : length exponents ≡ 2 * k

@@ -4,7 +4,7 @@
 //! 0 up to k. Both are of one codeword, since a sum of X_j for j below k is a polynomial of k
 //! coefficients (`proofs/TransformLemmas.antt`).
 //!
-//! `rebuild` divides a derivative. Let f be the polynomial of a byte column. Let L be the product of
+//! `rebuild` divides a derivative. Let f be the polynomial of a column. Let L be the product of
 //! x + m over the missing positions m. The values of f * L at all 2k positions are known, since L
 //! is 0 at the missing ones. Its derivative, f' * L + f * L', is f * L' there, and L'(m) is the
 //! product of m + n over the other missing n. That isn't 0, so a division gives f(m). The
@@ -12,9 +12,10 @@
 //! the X_m with one set bit of j taken away.
 //!
 //! A position is its point xor k, so over positions f has the same degree, and nothing is put in
-//! the order of points. One array of 2k bytes, kept in `Room`, has L at the known positions and L'
-//! at the missing ones: products of differences, made as sums of logarithms. So the known shares
-//! alone are multiplied, and the missing ones alone divided.
+//! the order of points. One array of 2k exponents, kept in `Room`, has L at the known positions and
+//! L' at the missing ones as powers of x: products of differences are sums of exponents. So the known
+//! shares alone are multiplied, and the missing ones alone divided, by the power whose exponent is a
+//! whole turn less.
 //!
 //! Sums by Lagrange's weights would take k * k multiples of shares in place of about k * log k.
 
@@ -88,6 +89,34 @@ fn differentiate<M: Factor>(shares: &mut [Share])
     forward::<M>(shares, 0);
 }
 
+/// Makes all 2k shares of the codeword that has the k shares at the k known positions, over a field.
+/// The exponents are the room for a locator. It takes no memory.
+fn rebuild_over<M: Factor>(
+    known: &[u16],
+    shares: &[Share],
+    exponents: &mut [u32],
+    all: &mut [Share],
+)
+    requires count { IsTrue (is_count (2 * length known.now)) }
+    requires fits { 2 * length known.now ≤ size M.reading.field }
+    requires positions { IsTrue (are_positions (length known.now) known.now) }
+    requires shares { length shares.now ≡ length known.now }
+    requires exponents { length exponents.old ≡ 2 * length known.now }
+    requires all { length all.old ≡ 2 * length known.now }
+    ensures codeword { IsCodewordOver M.reading (length known.now) all.new }
+    ensures known { HasEntries known.now shares.now all.new }
+{
+    shares_law(shares);
+    // A position is its point plus k: over positions a column is a polynomial of the same degree.
+    locate::<M>(known, exponents);
+    clear_all::<M>(all);
+    add_multiples::<M>(known, shares, exponents, all);
+    differentiate::<M>(all);
+    divide_missing::<M>(known, exponents, all);
+    place(known, shares, all);
+    shares_law(all);
+}
+
 /// Reed-Solomon recovery of one axis: makes all 2k shares of the codeword that has the k shares at the
 /// k known positions. The positions ascend, share i stands at the i-th of them, and `all` is in the
 /// order of positions: k originals, then k recovery (parity) shares. It takes no memory.
@@ -103,13 +132,5 @@ pub fn rebuild(room: &mut Room, known: &[u16], shares: &[Share], all: &mut [Shar
     ensures known { HasEntries known.now shares.now all.new }
     ensures kept { room.new ≡ room.old }
 {
-    shares_law(shares);
-    // A position is its point plus k: over positions a column is a polynomial of the same degree.
-    locate(known, &mut room.locator);
-    clear_all(all);
-    add_multiples(known, shares, &room.locator, all);
-    differentiate::<ByteFactor>(all);
-    divide_missing(known, all, &room.locator);
-    place(known, shares, all);
-    shares_law(all);
+    rebuild_over::<ByteFactor>(known, shares, &mut room.exponents, all);
 }

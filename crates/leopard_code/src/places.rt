@@ -1,25 +1,26 @@
 //! Known shares at their positions.
 
 ghost use Rattle.std.specs.Prelude.{◌≡◌, ◌≢◌, ◌*◌, ◌<◌, ℕ, IsTrue, length, slice_get, slice_index};
-ghost use Rattle.namespace_id.specs.Sizes.{share_size};
-ghost use Rattle.leopard_code.specs.Codewords.{column, are_positions, HasEntries};
+ghost use Rattle.lch_fft.specs.Transforms.{column};
+ghost use Rattle.leopard_code.specs.Codewords.{are_positions, HasEntries};
 
+use lch_fft::Factor;
 use namespace_id::{SHARE_SIZE, Share};
 
-/// Makes all bytes of a share 0.
-fn clear(share: &mut Share)
-    ensures { (b : ℕ) → b < share_size → slice_index share.new.0 b ≡ 0 }
+/// Makes all bytes of a share 0, and so all labels.
+fn clear<M: Factor>(share: &mut Share)
+    ensures { (c : ℕ) → c < M.reading.columns → M.reading.label_at share.new.0 c ≡ 0 }
 {
     *share = Share([0; SHARE_SIZE]);
 }
 
-/// Makes all bytes of the shares 0.
-pub(crate) fn clear_all(shares: &mut [Share])
-    ensures { (b i : ℕ) → b < share_size → i < length shares.old →
-        slice_index (column b shares.new) i ≡ 0 }
+/// Makes all labels of the shares 0.
+pub(crate) fn clear_all<M: Factor>(shares: &mut [Share])
+    ensures { (c i : ℕ) → c < M.reading.columns → i < length shares.old →
+        slice_index (column M.reading c shares.new) i ≡ 0 }
 {
     for i in 0..shares.len() {
-        clear(&mut shares[i]);
+        clear::<M>(&mut shares[i]);
     }
 }
 

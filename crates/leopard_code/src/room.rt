@@ -12,8 +12,8 @@ use std::marker::Model;
 #[derive(Drop)]
 pub struct Room {
     pub(crate) k: u16,
-    // a value of the locator for each position
-    pub(crate) locator: Vec<u8>,
+    // for each position the exponent of a value of the locator
+    pub(crate) exponents: Vec<u32>,
 }
 
 impl Model for Room {
@@ -24,16 +24,16 @@ impl Model for Room {
 
     ghost view = { λ r. r.k };
 
-    ghost invariant = { λ r. IsRoom r.k r.locator.items };
+    ghost invariant = { λ r. IsRoom r.k r.exponents.items };
 }
 
 impl Room {
-    /// A room for the code of width `k`. It takes all memory that the code needs, 2k bytes.
+    /// A room for the code of width `k`. It takes all memory that the code needs, 8k bytes.
     pub fn new(alloc: Global, k: u16) -> Result<Room, NoMemory>
         requires { IsTrue (is_width k) }
         ensures { IfOk result (λ room. room ≡ k) }
     {
-        let locator = vec![in alloc; 0; 2 * k as usize]?;
-        Ok(Room { k, locator })
+        let exponents = vec![in alloc; 0; 2 * k as usize]?;
+        Ok(Room { k, exponents })
     }
 }

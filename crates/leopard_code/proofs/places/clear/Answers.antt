@@ -1,6 +1,6 @@
-use Rattle.std.proofs.lemmas.List.{get_or-replicate}
+use Rattle.lch_fft.proofs.ColumnLemmas.{label_of_zeros}
 use Rattle.leopard_code.proofs.places.clear.Goals as goal
 
--- each byte of a share of zeros is 0
+-- each label of a share of zeros is 0
 pub returns : goal.returns
-returns c = λ b h. get_or-replicate 512 b 0 0 h
+returns g c = label_of_zeros g.M.Factor.reading g.met.M.Factor.laws

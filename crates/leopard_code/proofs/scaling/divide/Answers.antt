@@ -1,11 +1,9 @@
-use Rattle.std.proofs.Common.{◌∙◌, ap}
-use Rattle.gf_cantor.specs.Field.{product, byte_field}
-use Rattle.gf_cantor.proofs.FieldLaws.{byte_laws}
-use Rattle.leopard_code.proofs.LocatorLemmas.{inverse_undoes}
+use Rattle.leopard_code.proofs.PowerLemmas.{divided}
 use Rattle.leopard_code.proofs.scaling.divide.Goals as goal
 
--- the inverse takes the factor back
+-- a whole turn less the exponent takes the power back
 pub returns : goal.returns
-unfolding byte_field
-returns c = λ b y hb hy e.
-    c.multiply.ensures b hb ∙ ap (product byte_field c.inv.result) e ∙ inverse_undoes byte_field byte_laws c.args.by c.inv.result y hy c.inv.ensures
+returns g c = λ b y hb hy e.
+    let r = g.M.Factor.reading in
+    divided r.field g.met.M.Factor.laws.laws g.met.M.Factor.powers c.order-turn.result c.args.exponent y
+    (r.label_at c.multiply.new.share.0 b) (r.label_at c.args.share.now.0 b) c.order-turn.ensures.value hy (c.multiply.ensures b hb) e

@@ -1,14 +1,17 @@
 use Rattle.std.proofs.Common.{◌≡◌, ◌≢◌, ℕ, ◌<◌, ◌≤◌, length, get_or}
-use Rattle.gf_cantor.specs.Field.{product, byte_field}
-use Rattle.lch_fft.specs.Readings.{byte_reading}
+use Rattle.gf_cantor.specs.Field.{product, size}
+use Rattle.lch_fft.specs.Readings.{Reading}
 use Rattle.lch_fft.proofs.ColumnLemmas.{byte}
+use Rattle.leopard_code.specs.Locators.{label_of_power}
 use Rattle.leopard_code.proofs.scaling.divide_missing.Given as goal
 
 -- the missing ones so far are divided, and those behind are as they were
 abbrev pub invariant-loop-pos : goal.invariant-loop-pos
-invariant-loop-pos l = record {
-  done : (p b y : ℕ) → p < l.pos → b < 512 → y < 256
-      → ((i : ℕ) → i < length l.known → get_or l.known i 0 ≢ p)
-      → byte byte_reading l.fn.all p b ≡ product byte_field y (get_or l.by p 0) → byte byte_reading l.all p b ≡ y;
-  left : (p b : ℕ) → l.pos ≤ p → b < 512 → byte byte_reading l.all p b ≡ byte byte_reading l.fn.all p b;
-}
+invariant-loop-pos g l =
+    let r : Reading = g.M.Factor.reading in
+    record {
+      done : (p b y : ℕ) → p < l.pos → b < r.columns → y < size r.field
+          → ((i : ℕ) → i < length l.known → get_or l.known i 0 ≢ p)
+          → byte r l.fn.all p b ≡ product r.field y (label_of_power r.field (get_or l.exponents p 0)) → byte r l.all p b ≡ y;
+      left : (p b : ℕ) → l.pos ≤ p → b < r.columns → byte r l.all p b ≡ byte r l.fn.all p b;
+    }
