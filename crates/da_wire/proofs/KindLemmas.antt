@@ -1,5 +1,5 @@
 -- A frame that is read behind a test of its kind is of a kind that passes, and so is its value.
-use Rattle.std.proofs.Common.{◌≡◌, ◌∙◌, ℕ, ◌+◌, Bool, true, eqb, ltb, List, [], ◌∷◌, length, Option, None, Some, Ok, refl, sym, ap, subst, eqb-true}
+use Rattle.std.proofs.Common.{◌≡◌, ◌∙◌, ℕ, ◌+◌, Bool, true, eqb, ltb, List, [], ◌∷◌, length, Option, Some, Ok, refl, sym, ap, eqb-true}
 use Rattle.std.specs.Prelude.{slice_index}
 use Rattle.std.specs.Option.{option_map}
 use Rattle.std.proofs.Math.Bool.{or-false}

@@ -13,7 +13,7 @@ use Rattle.da_wire.specs.declared.frames.FrameError.TheVariants.{Truncated, BadK
 use Rattle.da_wire.specs.Spelling.{max_payload, header_kind, square_kind, message_kind, fraud_kind, missing_kind, sample_kind, request_kind, block_kind}
 use Rattle.da_wire.specs.Reading.{Raw, promised, raw_of, is_kind, value_at, valued, value_of, is_among, tested_raw, tested_frame, ended, only_of, Reads, ReadsAt}
 use Rattle.da_wire.specs.Values.{value_in, value_and_rest, values_of}
-use Rattle.da_wire.specs.Single.{single, of_payload, header_of, square_of, message_of, claim_of, missing_of, block_of}
+use Rattle.da_wire.specs.Single.{single, of_payload}
 use Rattle.da_wire.specs.kinds.Header.{header_at}
 use Rattle.da_wire.specs.kinds.Square.{square_at}
 use Rattle.frame_fields.specs.Messages.{message_at}

@@ -26,14 +26,14 @@ const KINDS: &[u8] = b"NBKQPV";
 
 /// Where something is found in a row: a range by the column of its first share and the number of its shares,
 /// an absence by the column of its leaf.
-#[derive(Clone, Copy, Debug)]
+#[derive(Clone, Copy)]
 pub enum FoundPlace {
     Range { start: u16, count: u16 },
     Absence { pos: u16 },
 }
 
 /// The row of an entry of a namespace answer, and where something is found in it.
-#[derive(Clone, Copy, Debug)]
+#[derive(Clone, Copy)]
 pub struct EntryPlace {
     pub row: u16,
     pub found: FoundPlace,
@@ -42,7 +42,7 @@ pub struct EntryPlace {
 /// Where the entries of a namespace answer found something.
 ///
 /// It is a type of its own so that clauses compare lists.
-#[derive(Debug, Drop)]
+#[derive(Drop)]
 pub struct PlaceList {
     pub list: Vec<EntryPlace>,
 }
