@@ -29,6 +29,7 @@ use Rattle.square_layout.specs.Blocks.{SquareShares}
 use Rattle.axis_roots.specs.Grids.{IsHeaderOf, axis_names, axis_shares}
 use Rattle.axis_roots.proofs.Grids.HeaderLemmas.{header_width}
 use Rattle.axis_roots.proofs.Messages.OwnLemmas.{names_or_agrees}
+use Rattle.square_layout.specs.Refusals.{max_shares}
 use Rattle.blob_commit.specs.Cuts.{cut_by, cut, levels_of}
 use Rattle.blob_commit.specs.Commitments.{subtree_roots, root_of_digests}
 use Rattle.blob_commit.specs.Proofs.{RowParts, CommitParts, IsRow, IsCommit, CommitHolds, RowsLead, RowsOpen, fits_rows, is_range, part_of_row, row_sizes, shown_in, subtrees_of}
@@ -226,7 +227,7 @@ commit_own header proof sized holds S own =
     let range = range_parts k start count one.1 in
     let some : 1 ≤ count = omega (arith, range.0) in
     let within : count ≤ k * k = omega (arith, range.1) in
-    let most : count ≤ 16384 = square_bound k count one.0 within in
+    let most : count ≤ max_shares = square_bound k count one.0 within in
     let power : 2 ^ l ≡ subtree_width_of count = power_halvings (subtree_width_of count) (width_count count most).0 in
     let div : k % 2 ^ l ≡ 0 = ap (λ (w : ℕ). k % w) power ∙ width_divides k count one.0 within in
     let begins : start % 2 ^ l ≡ 0 = ap (λ (w : ℕ). start % w) power ∙ range.2 in

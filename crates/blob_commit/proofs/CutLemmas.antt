@@ -12,12 +12,14 @@ use Rattle.nmt_tree.specs.Roots.{is_leaf_count, halvings}
 use Rattle.std.proofs.Math.Pow.{pow_mono}
 use Rattle.nmt_tree.proofs.CountLemmas.{leaf_count_power, power_halvings, leaf_count-pos}
 use Rattle.share_split.specs.Widths.{subtree_width_of}
+use Rattle.square_layout.specs.Refusals.{max_shares}
+use Rattle.blob_commit.specs.Bounds.{most_halvings, most_width, most_levels, most_subtrees}
 use Rattle.blob_commit.proofs.WidthLemmas.{width_count}
 use Rattle.blob_commit.specs.Cuts.{cut_by, cut, levels_of}
 use Rattle.nmt_proofs.proofs.Parts.ListLemmas.{each-append}
 
 -- so often fits a number
-fits_often : (n w m : ℕ) → 0 < w → n ≤ m * w → n / w ≤ m
+pub fits_often : (n w m : ℕ) → 0 < w → n ≤ m * w → n / w ≤ m
 fits_often n w m some h =
     elim (cases_lt m (n / w)) [
       | inl lt ↦
@@ -26,12 +28,12 @@ fits_often n w m some h =
       | inr ge ↦ ge
     ]
 
--- at most 128 can be halved seven times
-halvings_le : (w : ℕ) → IsTrue (is_leaf_count w) → w ≤ 128 → halvings w ≤ 7
+-- none up to the greatest width is halved more often
+halvings_le : (w : ℕ) → IsTrue (is_leaf_count w) → w ≤ most_width → halvings w ≤ most_halvings
 halvings_le w count h =
-    elim (cases_lt (halvings w) 8) [
+    elim (cases_lt (halvings w) most_levels) [
       | inl lt ↦ omega (arith, lt)
-      | inr ge ↦ let up : 2 ^ 8 ≤ 2 ^ halvings w = pow_mono ge in absurd (omega (arith, up, power_halvings w count, h))
+      | inr ge ↦ let up : 2 ^ most_levels ≤ 2 ^ halvings w = pow_mono ge in absurd (omega (arith, up, power_halvings w count, h))
     ]
 
 -- how many shares pieces of these sizes have
@@ -88,26 +90,26 @@ total-cut l n =
     let rest = whole_below l (n % 2 ^ l) (mod-lt n (pow_pos l)) in
     omega (arith, rest, total-append (replicate (n / 2 ^ l) (2 ^ l)) (cut_by l (n % 2 ^ l)), total-replicate (n / 2 ^ l) (2 ^ l), div-add-mod' n (2 ^ l))
 
--- a size of a piece: a count of leaves, at most 128
+-- a size of a piece: a count of leaves, at most the greatest width
 abbrev pub IsPiece : ℕ → Type 0
-IsPiece size = IsTrue (is_leaf_count size) × (size ≤ 128)
+IsPiece size = IsTrue (is_leaf_count size) × (size ≤ most_width)
 
 -- what holds of one holds of each of so many
 each-replicate : {A : Type 0} (P : A → Type 0) (n : ℕ) (x : A) → P x → AllByRecursion P (replicate n x)
 each-replicate P zero x h = tt
 each-replicate P (suc n) x h = (h, each-replicate P n x h)
 
--- a power below 2 ^ 8
-power_le : (l : ℕ) → l < 8 → 2 ^ l ≤ 128
+-- a power up to the greatest width
+power_le : (l : ℕ) → l < most_levels → 2 ^ l ≤ most_width
 power_le l h =
-    let le : l ≤ 7 = omega (arith, h) in
-    let up : 2 ^ l ≤ 2 ^ 7 = pow_mono le in omega (arith, up)
+    let le : l ≤ most_halvings = omega (arith, h) in
+    pow_mono le
 
-power_piece : (l : ℕ) → l < 8 → IsPiece (2 ^ l)
+power_piece : (l : ℕ) → l < most_levels → IsPiece (2 ^ l)
 power_piece l h = ((leaf_count_power l (omega (arith, h))).0, power_le l h)
 
 -- each size is one of a piece
-pub pieces-cut : (levels n : ℕ) → levels ≤ 8 → AllByRecursion IsPiece (cut_by levels n)
+pub pieces-cut : (levels n : ℕ) → levels ≤ most_levels → AllByRecursion IsPiece (cut_by levels n)
 unfolding cut_by
 pieces-cut zero n h = tt
 pieces-cut (suc l) n h =
@@ -134,16 +136,16 @@ length-next levels n h =
     ∙ ap (λ (k : ℕ). k + length (cut_by (levels - 1) (n % 2 ^ (levels - 1)))) (length-replicate (n / 2 ^ (levels - 1)) (2 ^ (levels - 1)))
 
 -- one more of the widest fits
-pub room_more : (old sizes : List ℕ) (levels n w counter : ℕ) → 0 < levels → w ≡ 2 ^ (levels - 1) → length old + length (cut_by levels n) ≤ 255
-    → sizes ≡ old ++ replicate counter w → counter < n / w → length sizes < 255
+pub room_more : (old sizes : List ℕ) (levels n w counter : ℕ) → 0 < levels → w ≡ 2 ^ (levels - 1) → length old + length (cut_by levels n) ≤ most_subtrees
+    → sizes ≡ old ++ replicate counter w → counter < n / w → length sizes < most_subtrees
 room_more old sizes levels n w counter some width room so_far more =
     let count : length sizes ≡ length old + counter = ap length so_far ∙ length-append old (replicate counter w) ∙ ap (λ (k : ℕ). length old + k) (length-replicate counter w) in
     let same : n / w ≡ n / 2 ^ (levels - 1) = ap (λ (k : ℕ). n / k) width in
     omega (arith, count, same, length-next levels n some, room, more)
 
 -- and then for the rest
-pub room_rest : (old sizes : List ℕ) (levels n w counter : ℕ) → 0 < levels → w ≡ 2 ^ (levels - 1) → length old + length (cut_by levels n) ≤ 255
-    → sizes ≡ old ++ replicate counter w → counter ≡ n / w → length sizes + length (cut_by (levels - 1) (n % w)) ≤ 255
+pub room_rest : (old sizes : List ℕ) (levels n w counter : ℕ) → 0 < levels → w ≡ 2 ^ (levels - 1) → length old + length (cut_by levels n) ≤ most_subtrees
+    → sizes ≡ old ++ replicate counter w → counter ≡ n / w → length sizes + length (cut_by (levels - 1) (n % w)) ≤ most_subtrees
 room_rest old sizes levels n w counter some width room so_far end =
     let count : length sizes ≡ length old + counter = ap length so_far ∙ length-append old (replicate counter w) ∙ ap (λ (k : ℕ). length old + k) (length-replicate counter w) in
     let same : n / w ≡ n / 2 ^ (levels - 1) = ap (λ (k : ℕ). n / k) width in
@@ -161,18 +163,18 @@ all_of old sizes new levels n w counter some width so_far end last =
 -- ---- of a count
 
 -- there are few pieces
-pub few-cut : (n : ℕ) → 1 ≤ n → n ≤ 16384 → length (cut n) ≤ 135
+pub few-cut : (n : ℕ) → 1 ≤ n → n ≤ max_shares → length (cut n) ≤ most_subtrees
 few-cut n some most =
     let w : ℕ = subtree_width_of n in
     let facts = width_count n most in
     let power : 2 ^ halvings w ≡ w = power_halvings w facts.0 in
-    let deep : halvings w ≤ 7 = halvings_le w facts.0 facts.1 in
-    let fits : n / w ≤ 128 = fits_often n w 128 (leaf_count-pos w facts.0) (omega (arith, facts.2)) in
+    let deep : halvings w ≤ most_halvings = halvings_le w facts.0 facts.1 in
+    let fits : n / w ≤ most_width = fits_often n w most_width (leaf_count-pos w facts.0) (omega (arith, facts.2)) in
     let same : n / 2 ^ halvings w ≡ n / w = ap (λ (k : ℕ). n / k) power in
     omega (arith, few_pieces (halvings w) n, deep, fits, same)
 
 -- its levels are few
-pub levels_le : (n : ℕ) → 1 ≤ n → n ≤ 16384 → levels_of n ≤ 8
+pub levels_le : (n : ℕ) → 1 ≤ n → n ≤ max_shares → levels_of n ≤ most_levels
 levels_le n some most =
     let facts = width_count n most in
     omega (arith, halvings_le (subtree_width_of n) facts.0 facts.1)
@@ -189,9 +191,9 @@ total-of n = total-cut (halvings (subtree_width_of n)) n
 -- ---- of a row
 
 -- a row has few pieces
-pub few_in_row : (k levels at left n : ℕ) → IsTrue (is_width k) → 1 ≤ levels → levels ≤ 8 → n ≡ part_of_row k at left → length (cut_by levels n) ≤ 255
+pub few_in_row : (k levels at left n : ℕ) → IsTrue (is_width k) → 1 ≤ levels → levels ≤ most_levels → n ≡ part_of_row k at left → length (cut_by levels n) ≤ most_subtrees
 few_in_row k levels at left n width some deep e =
-    let small : k ≤ 128 = is_width-le k width in
+    let small : k ≤ most_width = is_width-le k width in
     let within : n ≤ k - at % k = subst (λ (m : ℕ). m ≤ k - at % k) (sym e) (min-le_right left (k - at % k)) in
     let l : ℕ = levels - 1 in
     let next : suc l ≡ levels = omega (arith, some) in

@@ -1,26 +1,22 @@
 -- Rows that fit a range.
-use Rattle.std.proofs.Common.{◌≡◌, ◌∙◌, ℕ, zero, suc, ◌+◌, ◌-◌, ◌*◌, ◌/◌, ◌%◌, ◌^◌, ◌<◌, ◌≤◌, ◌==◌, ◌&&◌, nat_lt, List, [], ◌∷◌, length, true, IsTrue, refl, sym, ap, subst, inl, inr, arith, length-append}
+use Rattle.std.proofs.Common.{◌≡◌, ◌∙◌, ℕ, zero, suc, ◌+◌, ◌-◌, ◌*◌, ◌%◌, ◌^◌, ◌<◌, ◌≤◌, ◌==◌, ◌&&◌, nat_lt, List, [], ◌∷◌, length, true, IsTrue, refl, sym, ap, subst, inl, inr, arith, length-append}
 use Rattle.std.proofs.lemmas.Bool.{eqb-true, and_parts, ltb-true}
-use Rattle.std.proofs.lemmas.Nat.{div-add-mod', pow_pos}
-use Rattle.std.proofs.Math.Nat.{mod-lt, min-le_left, min-le_right, mul-le-mul_left}
+use Rattle.std.proofs.lemmas.Nat.{pow_pos}
+use Rattle.std.proofs.Math.Nat.{mod-lt, min-le_left, min-le_right}
 use Rattle.namespace_id.specs.Cells.{is_width}
 use Rattle.namespace_id.proofs.WidthLemmas.{is_width-pos}
 use Rattle.nmt_tree.specs.Roots.{halvings}
 use Rattle.share_split.specs.Widths.{subtree_width_of}
 use Rattle.nmt_tree.proofs.CountLemmas.{power_halvings}
 use Rattle.nmt_proofs.specs.Places.{AreAligned}
+use Rattle.square_layout.specs.Refusals.{max_shares}
+use Rattle.blob_commit.specs.Bounds.{most_levels, most_subtrees}
 use Rattle.blob_commit.specs.Cuts.{cut_by, cut, levels_of}
 use Rattle.blob_commit.specs.Proofs.{RowParts, part_of_row, row_sizes, fits_rows, subtrees_of, is_range}
 use Rattle.blob_commit.proofs.WidthLemmas.{width_count, width_divides, square_bound}
 use Rattle.blob_commit.proofs.CutLemmas.{total-cut, total-of, some_pieces, few-cut}
 use Rattle.blob_commit.proofs.RowCutLemmas.{cut_zero, cut_parts, aligned-cut, mod_row}
 use Rattle.blob_commit.proofs.CommitOwnLemmas.{next_row, min_cases, rest_whole, range_parts}
-
--- a quotient is no greater
-div_le : (n m : ℕ) → 0 < m → n / m ≤ n
-div_le n m some =
-    let times : n / m * 1 ≤ n / m * m = mul-le-mul_left (n / m) some in
-    omega (arith, times, div-add-mod' n m)
 
 -- what a row that fits has
 pub fits-parts : (k levels at left : ℕ) (rows others : List RowParts) (row : RowParts) → rows ≡ row ∷ others → fits_rows k levels at left rows ≡ true
@@ -74,7 +70,7 @@ subtrees_cut k l at left (row ∷ rows) some div begins fits =
     omega (arith, length-append row.subtrees (subtrees_of rows), parts.1, rest, count)
 
 -- the subtrees of a row are aligned in it
-pub row_places : (k levels at left n from : ℕ) → IsTrue (is_width k) → 1 ≤ levels → levels ≤ 8 → k % 2 ^ (levels - 1) ≡ 0 → at % 2 ^ (levels - 1) ≡ 0 → from ≡ at % k → n ≡ part_of_row k at left
+pub row_places : (k levels at left n from : ℕ) → IsTrue (is_width k) → 1 ≤ levels → levels ≤ most_levels → k % 2 ^ (levels - 1) ≡ 0 → at % 2 ^ (levels - 1) ≡ 0 → from ≡ at % k → n ≡ part_of_row k at left
     → AreAligned from (2 * k) (cut_by levels n)
 row_places k zero at left n from width some deep div begins from_is n_is = absurd (omega (arith, some))
 row_places k (suc l) at left n from width some deep div begins from_is n_is =
@@ -110,7 +106,7 @@ range_divides k start count levels width range e =
     let r = range_parts k start count range in
     let some : 1 ≤ count = omega (arith, r.0) in
     let within : count ≤ k * k = omega (arith, r.1) in
-    let most : count ≤ 16384 = square_bound k count width within in
+    let most : count ≤ max_shares = square_bound k count width within in
     ap (λ (m : ℕ). k % 2 ^ (m - 1)) e ∙ ap (λ (m : ℕ). k % 2 ^ m) (levels-less count)
     ∙ ap (λ (w : ℕ). k % w) (power_halvings (subtree_width_of count) (width_count count most).0) ∙ width_divides k count width within
 
@@ -119,30 +115,20 @@ range_begins k start count levels width range e =
     let r = range_parts k start count range in
     let some : 1 ≤ count = omega (arith, r.0) in
     let within : count ≤ k * k = omega (arith, r.1) in
-    let most : count ≤ 16384 = square_bound k count width within in
+    let most : count ≤ max_shares = square_bound k count width within in
     ap (λ (m : ℕ). start % 2 ^ (m - 1)) e ∙ ap (λ (m : ℕ). start % 2 ^ m) (levels-less count)
     ∙ ap (λ (w : ℕ). start % w) (power_halvings (subtree_width_of count) (width_count count most).0) ∙ r.2
 
 -- the number of all subtrees
 pub range_subtrees : (k start count levels : ℕ) (rows : List RowParts) → IsTrue (is_width k) → is_range k start count ≡ true → levels ≡ levels_of count → fits_rows k levels start count rows ≡ true
-    → (length (subtrees_of rows) ≤ 135) × (1 ≤ length (subtrees_of rows))
+    → (length (subtrees_of rows) ≤ most_subtrees) × (1 ≤ length (subtrees_of rows))
 range_subtrees k start count levels rows width range e fits =
     let l : ℕ = halvings (subtree_width_of count) in
     let r = range_parts k start count range in
     let some : 1 ≤ count = omega (arith, r.0) in
     let within : count ≤ k * k = omega (arith, r.1) in
-    let most : count ≤ 16384 = square_bound k count width within in
+    let most : count ≤ max_shares = square_bound k count width within in
     let all = subtrees_cut k l start count rows (is_width-pos k width) (ap (λ (m : ℕ). k % 2 ^ m) (sym (levels-less count)) ∙ range_divides k start count (levels_of count) width range refl)
     (λ _. ap (λ (m : ℕ). start % 2 ^ m) (sym (levels-less count)) ∙ range_begins k start count (levels_of count) width range refl)
     (subst (λ (m : ℕ). fits_rows k m start count rows ≡ true) e fits) in
     (omega (arith, all, few-cut count some most), let one = some_pieces (cut count) (omega (arith, total-of count, some)) in omega (arith, all, one))
-
--- and of its rows
-pub range_rows : (k start count levels : ℕ) (rows : List RowParts) → IsTrue (is_width k) → is_range k start count ≡ true → fits_rows k levels start count rows ≡ true
-    → (length rows ≤ 16384) × (start / k + length rows ≤ 40000)
-range_rows k start count levels rows width range fits =
-    let r = range_parts k start count range in
-    let few = few_rows k levels start count rows (is_width-pos k width) fits in
-    let most : start + count ≤ 16384 = square_bound k (start + count) width r.1 in
-    let less : start / k ≤ start = div_le start k (is_width-pos k width) in
-    (omega (arith, few, most), omega (arith, few, most, less))

@@ -10,6 +10,7 @@ use Rattle.nmt_tree.specs.Roots.{halvings}
 use Rattle.nmt_tree.proofs.CountLemmas.{power_halvings}
 use Rattle.data_header.specs.DataRoots.{inner_hash}
 use Rattle.share_split.specs.Widths.{subtree_width_of}
+use Rattle.square_layout.specs.Refusals.{max_shares}
 use Rattle.blob_commit.specs.Cuts.{cut_by, cut, IsCut}
 use Rattle.blob_commit.specs.Commitments.{root_over, IsSplit, IsPlainRoot, one, more}
 use Rattle.blob_commit.proofs.WidthLemmas.{width_count}
@@ -71,7 +72,7 @@ cut_whole l n =
     (λ other power within fits. within) (cut_below l (n % 2 ^ l) (2 ^ l) small (omega arith))
 
 -- the subtrees over shares are so cut
-pub cut_is : (count : ℕ) → 1 ≤ count → count ≤ 16384 → IsCut (subtree_width_of count) count (cut count)
+pub cut_is : (count : ℕ) → 1 ≤ count → count ≤ max_shares → IsCut (subtree_width_of count) count (cut count)
 cut_is count some most =
     subst (λ (width : ℕ). IsCut width count (cut count)) (power_halvings (subtree_width_of count) (width_count count most).0)
     (cut_whole (halvings (subtree_width_of count)) count)

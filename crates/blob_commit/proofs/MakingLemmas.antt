@@ -17,6 +17,7 @@ use Rattle.nmt_proofs.specs.Places.{AreAligned}
 use Rattle.nmt_proofs.specs.Making.{interval_digests}
 use Rattle.data_header.specs.Headers.{Roots, root_of}
 use Rattle.data_header.specs.DataRoots.{OpensRoot}
+use Rattle.blob_commit.specs.Bounds.{most_subtrees}
 use Rattle.blob_commit.specs.Cuts.{levels_of}
 use Rattle.blob_commit.specs.Proofs.{RowParts, part_of_row, row_sizes, shown_in, is_range, fits_rows, RowsLead, RowsOpen, subtrees_of}
 use Rattle.blob_commit.specs.Making.{IsRowTree, RowsHold, AddsRows}
@@ -135,5 +136,5 @@ rows_alone root k levels at left old new e h =
 
 -- the digests of all subtrees are some, and few
 pub subtrees_few : (root : List ℕ) (k start count : ℕ) (rows : List RowParts) → IsTrue (is_width k) → is_range k start count ≡ true → RowsHold root k (levels_of count) start count rows
-    → (length (subtrees_of rows) ≤ 135) × (1 ≤ length (subtrees_of rows))
+    → (length (subtrees_of rows) ≤ most_subtrees) × (1 ≤ length (subtrees_of rows))
 subtrees_few root k start count rows width range h = range_subtrees k start count (levels_of count) rows width range refl h.fits

@@ -8,6 +8,7 @@ use Rattle.namespace_id.specs.declared.digests.Digest.{Digest}
 use Rattle.namespace_id.specs.Shares.{name_in}
 use Rattle.nmt_tree.specs.Roots.{halvings, root}
 use Rattle.data_header.specs.DataRoots.{leaf_hash}
+use Rattle.square_layout.specs.Refusals.{max_shares}
 use Rattle.blob_commit.specs.Commitments.{subtree_root, subtree_roots, leaf_hashes}
 use Rattle.blob_commit.specs.Cuts.{cut, levels_of}
 use Rattle.blob_commit.proofs.CutLemmas.{total, IsPiece, pieces-cut, levels_le}
@@ -56,6 +57,6 @@ hashes_all sizes i rest hashes whole end so_far =
     ∙ so_far
 
 -- a piece is a count of leaves
-pub piece_sized : (sizes : List ℕ) (n i len : ℕ) → sizes ≡ cut n → 1 ≤ n → n ≤ 16384 → i < length sizes → len ≡ get_or sizes i 0 → IsPiece len
+pub piece_sized : (sizes : List ℕ) (n i len : ℕ) → sizes ≡ cut n → 1 ≤ n → n ≤ max_shares → i < length sizes → len ≡ get_or sizes i 0 → IsPiece len
 piece_sized sizes n i len sizes_are some most lt e =
     subst IsPiece (sym e) (All-from_recursion IsPiece sizes (subst (AllByRecursion IsPiece) (sym sizes_are) (pieces-cut (levels_of n) n (levels_le n some most))) i 0 lt)

@@ -11,6 +11,7 @@ use Rattle.nmt_tree.specs.Roots.{is_leaf_count, halvings, root}
 use Rattle.nmt_tree.proofs.CountLemmas.{leaf_count_power}
 use Rattle.nmt_proofs.specs.Places.{AreAligned}
 use Rattle.nmt_proofs.proofs.Agreement.PutLemmas.{left_aligned}
+use Rattle.blob_commit.specs.Bounds.{most_levels}
 use Rattle.blob_commit.specs.Cuts.{cut_by}
 use Rattle.blob_commit.specs.Commitments.{subtree_roots}
 use Rattle.blob_commit.proofs.CutLemmas.{total}
@@ -103,7 +104,7 @@ aligned-replicate (suc q) z from high rest count begins h =
     (count, begins, aligned-replicate q z (from + z) high rest count (add-mod_right from z ∙ begins) (subst (λ (n : ℕ). AreAligned n high rest) same h))
 
 -- what is cut below a power of two is aligned from a multiple of that on
-aligned_below : (l from n high : ℕ) → l ≤ 8 → from % 2 ^ l ≡ 0 → n < 2 ^ l → from + n ≤ high → AreAligned from high (cut_by l n)
+aligned_below : (l from n high : ℕ) → l ≤ most_levels → from % 2 ^ l ≡ 0 → n < 2 ^ l → from + n ≤ high → AreAligned from high (cut_by l n)
 unfolding cut_by
 aligned_below zero from n high deep begins small le = omega (arith, le)
 aligned_below (suc l) from n high deep begins small le =

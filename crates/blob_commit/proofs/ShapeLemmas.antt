@@ -7,10 +7,12 @@ use Rattle.std.proofs.lemmas.Nat.{div-add-mod', pow_pos}
 use Rattle.std.proofs.Math.Nat.{mod-lt, min-le_left, min-le_right, mul-le-mul_left}
 use Rattle.namespace_id.specs.Cells.{is_width}
 use Rattle.namespace_id.proofs.WidthLemmas.{is_width-le, is_width-pos}
+use Rattle.blob_commit.specs.Bounds.{most_width}
 use Rattle.blob_commit.specs.Cuts.{cut_by, levels_of}
 use Rattle.blob_commit.specs.Proofs.{RowParts, CommitParts, part_of_row, row_sizes, fits_rows, is_range, has_commit_shape}
 use Rattle.blob_commit.proofs.CommitOwnLemmas.{min_cases, row-lt, next_row, range_parts}
 use Rattle.blob_commit.proofs.FitLemmas.{fits-parts, few_rows}
+use Rattle.blob_commit.proofs.CutLemmas.{fits_often}
 
 -- ---- rows
 
@@ -33,6 +35,16 @@ rows-le k levels at left (row ∷ rows) some fits within =
           omega (arith, rest, next, inside)
     ]
 
+-- so there are few, and none has a great index
+pub range_rows : (k start count levels : ℕ) (rows : List RowParts) → IsTrue (is_width k) → is_range k start count ≡ true → fits_rows k levels start count rows ≡ true
+    → (length rows ≤ most_width) × (start / k + length rows ≤ most_width)
+range_rows k start count levels rows width range fits =
+    let some = is_width-pos k width in
+    let within = (range_parts k start count range).1 in
+    let few = rows-le k levels start count rows some fits within in
+    let low : start / k ≤ k = fits_often start k k some (omega (arith, within)) in
+    (omega (arith, few, is_width-le k width), omega (arith, few, low, is_width-le k width))
+
 -- ---- subtrees
 
 -- there are no more pieces than shares
@@ -46,14 +58,14 @@ pieces-le (suc l) n =
     let rest = pieces-le l (n % z) in
     omega (arith, times, rest, div-add-mod' n z, length-append (replicate (n / z) z) (cut_by l (n % z)), length-replicate (n / z) z)
 
--- so there are at most 128 in a row
-sizes-le : (k levels at left : ℕ) → IsTrue (is_width k) → length (row_sizes k levels at left) ≤ 128
+-- so there are at most as many in a row as the greatest width
+sizes-le : (k levels at left : ℕ) → IsTrue (is_width k) → length (row_sizes k levels at left) ≤ most_width
 sizes-le k levels at left width =
     omega (arith, pieces-le levels (part_of_row k at left), min-le_right left (k - at % k), is_width-le k width)
 
 -- and in each row
 few_subtrees : (k levels at left : ℕ) (rows : List RowParts) → IsTrue (is_width k) → fits_rows k levels at left rows ≡ true
-    → AllByRecursion (λ (row : RowParts). length row.subtrees ≤ 128) rows
+    → AllByRecursion (λ (row : RowParts). length row.subtrees ≤ most_width) rows
 few_subtrees k levels at left [] width fits = tt
 few_subtrees k levels at left (row ∷ rows) width fits =
     let parts = fits-parts k levels at left (row ∷ rows) rows row refl fits in
@@ -69,16 +81,16 @@ shape_parts proof h =
     let one = and_parts (is_width proof.k) (is_range proof.k proof.start proof.count) two.0 in
     (one.0, one.1, two.1)
 
--- at most 128 rows
-pub shape_rows : (proof : CommitParts) → has_commit_shape proof ≡ true → length proof.rows ≤ 128
+-- few rows
+pub shape_rows : (proof : CommitParts) → has_commit_shape proof ≡ true → length proof.rows ≤ most_width
 shape_rows proof h =
     let parts = shape_parts proof h in
     let range = range_parts proof.k proof.start proof.count parts.1 in
     let rows = rows-le proof.k (levels_of proof.count) proof.start proof.count proof.rows (is_width-pos proof.k parts.0) parts.2 range.1 in
     omega (arith, rows, is_width-le proof.k parts.0)
 
--- with at most 128 subtrees each
-pub shape_subtrees : (proof : CommitParts) → has_commit_shape proof ≡ true → AllByRecursion (λ row. length row.subtrees ≤ 128) proof.rows
+-- with few subtrees each
+pub shape_subtrees : (proof : CommitParts) → has_commit_shape proof ≡ true → AllByRecursion (λ row. length row.subtrees ≤ most_width) proof.rows
 shape_subtrees proof h =
     let parts = shape_parts proof h in
     few_subtrees proof.k (levels_of proof.count) proof.start proof.count proof.rows parts.0 parts.2

@@ -15,6 +15,7 @@ use Rattle.nmt_proofs.specs.Openings.{intervals_from}
 use Rattle.nmt_proofs.specs.Causes.{set_refusal}
 use Rattle.nmt_proofs.specs.declared.opening.OpenRefusal.{OpenRefusal}
 use Rattle.data_header.specs.DataRoots.{root_halvings, root_place, leaf_hash, led, OpensRoot}
+use Rattle.blob_commit.specs.Bounds.{most_subtrees}
 use Rattle.blob_commit.specs.Commitments.{leaf_hashes}
 use Rattle.blob_commit.specs.Proofs.{RowParts, part_of_row, row_sizes, fits_rows, subtrees_of}
 use Rattle.blob_commit.specs.Refusals.{is_led, first_unled, row_refusal, first_unopened}
@@ -145,7 +146,7 @@ subtrees-more hashes mid new rows others row e first rest =
 
 -- the hashes that are left fit
 pub room_behind : (hashes mid : List (List ℕ)) (rows others : List RowParts) (row : RowParts) → rows ≡ row ∷ others → mid ≡ hashes ++ leaf_hashes row.subtrees
-    → length hashes + length (subtrees_of rows) ≤ 255 → length mid + length (subtrees_of others) ≤ 255
+    → length hashes + length (subtrees_of rows) ≤ most_subtrees → length mid + length (subtrees_of others) ≤ most_subtrees
 room_behind hashes mid rows others row e first room =
     let count : length mid ≡ length hashes + length row.subtrees = ap length first ∙ length-append hashes (leaf_hashes row.subtrees) ∙ ap (λ (n : ℕ). length hashes + n) (length-map row.subtrees leaf_hash) in
     omega (arith, count, length-subtrees rows others row e, room)

@@ -4,15 +4,17 @@ use Rattle.std.specs.Int.{IsPowerOfTwo, div_ceil}
 use Rattle.std.proofs.lemmas.Bool.{cases_lt}
 use Rattle.std.proofs.lemmas.Nat.{mul-le, pow-add, pow_pos}
 use Rattle.std.proofs.lemmas.Grind.{div_ceil_times}
-use Rattle.std.proofs.Math.Nat.{pow-suc, mul-le-mul, mul-mod_left}
+use Rattle.std.proofs.Math.Nat.{pow-suc, mul-mod_left}
 use Rattle.std.proofs.Math.Pow.{pow_mono}
 use Rattle.namespace_id.specs.Cells.{is_width}
-use Rattle.namespace_id.proofs.WidthLemmas.{is_width-le}
 use Rattle.namespace_id.proofs.PowerLemmas.{width_power}
 use Rattle.nmt_tree.specs.Roots.{is_leaf_count, halvings}
 use Rattle.nmt_tree.proofs.CountLemmas.{leaf_count_power, power_halvings}
 use Rattle.share_split.specs.Widths.{subtree_width_of}
 use Rattle.share_split.proofs.Width.Laws.{width_is_lesser, least_power, least_root}
+use Rattle.square_layout.specs.Refusals.{max_shares}
+use Rattle.square_layout.proofs.LaidLemmas.{square_fits}
+use Rattle.blob_commit.specs.Bounds.{most_halvings, most_width, most_levels}
 
 -- of two powers of two the lesser divides the greater
 power_divides : (a b : ℕ) → IsPowerOfTwo a → IsPowerOfTwo b → a ≤ b → b % a ≡ 0
@@ -64,31 +66,29 @@ formula n small =
 
 -- ---- of shares that a square holds
 
--- a square has at most 16384 shares
-pub square_bound : (k n : ℕ) → is_width k ≡ true → n ≤ k * k → n ≤ 16384
+-- no square has more shares than the greatest
+pub square_bound : (k n : ℕ) → is_width k ≡ true → n ≤ k * k → n ≤ max_shares
 square_bound k n width le =
-    let small : k ≤ 128 = is_width-le k width in
-    let most : k * k ≤ 128 * 128 = mul-le-mul small small in
-    omega (arith, le, most)
+    omega (arith, le, square_fits k width)
 
 -- the width is a count of leaves, and no more subtrees of it than the greatest square has shares in a row hold them
-pub width_count : (n : ℕ) → n ≤ 16384 → IsTrue (is_leaf_count (subtree_width_of n)) × (subtree_width_of n ≤ 128) × (n ≤ 128 * subtree_width_of n)
+pub width_count : (n : ℕ) → n ≤ max_shares → IsTrue (is_leaf_count (subtree_width_of n)) × (subtree_width_of n ≤ most_width) × (n ≤ most_width * subtree_width_of n)
 width_count n most =
     let w : ℕ = subtree_width_of n in
     let is : IsWidth n w = formula n (omega (arith, most)) in
     let j : ℕ = is.power.0 in
-    let narrow : w ≤ 128 = is.least 128 (7, refl) (omega (arith, most)) in
-    let low : j ≤ 8 = elim (cases_lt 8 j) [
+    let narrow : w ≤ most_width = is.least most_width (most_halvings, refl) (omega (arith, most)) in
+    let low : j ≤ most_halvings = elim (cases_lt most_halvings j) [
       | inl lt ↦
-          let next : 9 ≤ j = omega (arith, lt) in
-          let up : 2 ^ 9 ≤ 2 ^ j = pow_mono next in absurd (omega (arith, up, is.power.1, narrow))
+          let next : most_levels ≤ j = omega (arith, lt) in
+          let up : 2 ^ most_levels ≤ 2 ^ j = pow_mono next in absurd (omega (arith, up, is.power.1, narrow))
       | inr ge ↦ ge
     ] in (
-      subst (λ (m : ℕ). IsTrue (is_leaf_count m)) (sym is.power.1) (leaf_count_power j low).0,
+      subst (λ (m : ℕ). IsTrue (is_leaf_count m)) (sym is.power.1) (leaf_count_power j (omega (arith, low))).0,
       narrow,
       elim is.holds [
         | inl threshold ↦ omega (arith, threshold)
-        | inr square ↦ let wide : w * w ≤ 128 * w = mul-le w w 128 w narrow (omega arith) in omega (arith, square, wide)
+        | inr square ↦ let wide : w * w ≤ most_width * w = mul-le w w most_width w narrow (omega arith) in omega (arith, square, wide)
       ],
     )
 

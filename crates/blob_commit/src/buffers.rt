@@ -1,24 +1,30 @@
 //! Short lists in arrays, so that commitments take no memory.
 
 ghost use Rattle.std.specs.Prelude.{◌≡◌, ◌<◌, ◌≤◌, [], ◌∷◌, ◌++◌, length};
+ghost use Rattle.blob_commit.specs.Bounds.{most_subtrees};
 
 use std::marker::Model;
 
-/// The sizes of subtrees, up to 255.
+/// The most subtrees that cover the shares of a square: of the widest as many as a row has shares,
+/// and one of each lesser width.
+const MOST_SUBTREES: usize = 135;
+
+/// The sizes of subtrees, up to `MOST_SUBTREES`.
 #[derive(Drop)]
 pub(crate) struct Sizes {
-    count: u8,
-    sizes: [u16; 255],
+    count: u16,
+    sizes: [u16; MOST_SUBTREES],
 }
 
 impl Model for Sizes {
     ghost use Rattle.std.specs.Prelude.{List, ℕ, ◌≤◌, take};
+    ghost use Rattle.blob_commit.specs.Bounds.{most_subtrees};
 
     ghost Value = { List ℕ };
 
     ghost view = { λ s. take s.count s.sizes };
 
-    ghost invariant = { λ s. s.count ≤ 255 };
+    ghost invariant = { λ s. s.count ≤ most_subtrees };
 }
 
 impl Sizes {
@@ -28,13 +34,13 @@ impl Sizes {
     {
         Sizes {
             count: 0,
-            sizes: [0; 255],
+            sizes: [0; MOST_SUBTREES],
         }
     }
 
-    /// Adds a size. There are fewer than 255 before it.
+    /// Adds a size. There are fewer than `MOST_SUBTREES` before it.
     pub(crate) fn push(&mut self, size: u16)
-        requires { length self.old < 255 }
+        requires { length self.old < most_subtrees }
         ensures { self.new ≡ self.old ++ size ∷ [] }
     {
         self.sizes[self.count as usize] = size;
@@ -44,27 +50,28 @@ impl Sizes {
     /// The sizes, in order.
     pub(crate) fn sizes(&self) -> &[u16]
         ensures value { result.now ≡ self.now }
-        ensures bound { length result.now ≤ 255 }
+        ensures bound { length result.now ≤ most_subtrees }
     {
         &self.sizes[..self.count as usize]
     }
 }
 
-/// Hashes of leaves, up to 255.
+/// Hashes of leaves, up to `MOST_SUBTREES`.
 #[derive(Drop)]
 pub(crate) struct Hashes {
-    count: u8,
-    hashes: [[u8; 32]; 255],
+    count: u16,
+    hashes: [[u8; 32]; MOST_SUBTREES],
 }
 
 impl Model for Hashes {
     ghost use Rattle.std.specs.Prelude.{List, ℕ, ◌≤◌, take};
+    ghost use Rattle.blob_commit.specs.Bounds.{most_subtrees};
 
     ghost Value = { List (List ℕ) };
 
     ghost view = { λ h. take h.count h.hashes };
 
-    ghost invariant = { λ h. h.count ≤ 255 };
+    ghost invariant = { λ h. h.count ≤ most_subtrees };
 }
 
 impl Hashes {
@@ -74,13 +81,13 @@ impl Hashes {
     {
         Hashes {
             count: 0,
-            hashes: [[0; 32]; 255],
+            hashes: [[0; 32]; MOST_SUBTREES],
         }
     }
 
-    /// Adds a hash. There are fewer than 255 before it.
+    /// Adds a hash. There are fewer than `MOST_SUBTREES` before it.
     pub(crate) fn push(&mut self, hash: [u8; 32])
-        requires { length self.old < 255 }
+        requires { length self.old < most_subtrees }
         ensures { self.new ≡ self.old ++ hash ∷ [] }
     {
         self.hashes[self.count as usize] = hash;
@@ -90,7 +97,7 @@ impl Hashes {
     /// The hashes, in order.
     pub(crate) fn hashes(&self) -> &[[u8; 32]]
         ensures value { result.now ≡ self.now }
-        ensures bound { length result.now ≤ 255 }
+        ensures bound { length result.now ≤ most_subtrees }
     {
         &self.hashes[..self.count as usize]
     }

@@ -4,6 +4,7 @@ ghost use Rattle.std.specs.Prelude.{◌≡◌, ◌<◌, ◌≤◌, length, take,
 ghost use Rattle.namespace_id.specs.Shares.{name_in};
 ghost use Rattle.nmt_tree.specs.Roots.{is_leaf_count};
 ghost use Rattle.share_split.specs.Blobs.{blob_shares_of, share_count};
+ghost use Rattle.blob_commit.specs.Bounds.{most_width};
 ghost use Rattle.blob_commit.specs.Commitments.{subtree_root, commitment_over};
 
 use crate::buffers::Hashes;
@@ -17,7 +18,7 @@ use square_layout::MAX_SHARES;
 use std::alloc::Global;
 use thiserror::Error;
 
-/// How many shares the widest subtree has.
+/// How many shares the widest subtree has: as many as a row of the greatest square.
 const WIDEST_SUBTREE: usize = 128;
 
 /// How many leaves are hashed side by side.
@@ -51,7 +52,7 @@ fn put_names(shares: &[Share], names: &mut [Namespace])
 /// nodes are hashed eight at a time where there are as many.
 fn subtree_root(shares: &[Share]) -> Digest
     requires count { IsTrue (is_leaf_count (length shares.now)) }
-    requires bound { length shares.now ≤ 128 }
+    requires bound { length shares.now ≤ most_width }
     ensures { result ≡ subtree_root shares.now }
 {
     let mut names = [Namespace([0; NAMESPACE_SIZE]); WIDEST_SUBTREE];

@@ -1,6 +1,8 @@
 //! How the shares of a blob are cut into subtrees.
 
 ghost use Rattle.std.specs.Prelude.{◌≡◌, ◌<◌, ◌≤◌, ◌+◌, ◌++◌, length};
+ghost use Rattle.square_layout.specs.Refusals.{max_shares};
+ghost use Rattle.blob_commit.specs.Bounds.{most_levels, most_subtrees};
 ghost use Rattle.blob_commit.specs.Cuts.{cut_by, levels_of};
 
 use crate::buffers::Sizes;
@@ -11,17 +13,17 @@ use share_split::subtree_width;
 /// this.
 pub(crate) fn levels_of(count: u32) -> u8
     requires some { 1 ≤ count }
-    requires bound { count ≤ 16384 }
+    requires bound { count ≤ max_shares }
     ensures value { result ≡ levels_of count }
-    ensures bound { result ≤ 8 }
+    ensures bound { result ≤ most_levels }
 {
     halvings(subtree_width(count as u64) as usize) + 1
 }
 
 /// Adds the sizes into which so many shares are cut by the powers of two below two to `levels`.
 fn put_cut(sizes: &mut Sizes, levels: u8, count: u32)
-    requires levels { levels ≤ 8 }
-    requires room { length sizes.old + length (cut_by levels count) ≤ 255 }
+    requires levels { levels ≤ most_levels }
+    requires room { length sizes.old + length (cut_by levels count) ≤ most_subtrees }
     ensures { sizes.new ≡ sizes.old ++ cut_by levels count }
 {
     if levels == 0 {
@@ -37,8 +39,8 @@ fn put_cut(sizes: &mut Sizes, levels: u8, count: u32)
 
 /// The sizes into which so many shares are cut by the powers of two below two to `levels`.
 pub(crate) fn cut_by(levels: u8, count: u32) -> Sizes
-    requires levels { levels ≤ 8 }
-    requires room { length (cut_by levels count) ≤ 255 }
+    requires levels { levels ≤ most_levels }
+    requires room { length (cut_by levels count) ≤ most_subtrees }
     ensures { result ≡ cut_by levels count }
 {
     let mut sizes = Sizes::new();

@@ -9,6 +9,7 @@ ghost use Rattle.nmt_proofs.specs.Openings.{intervals_from, Opens};
 ghost use Rattle.nmt_proofs.specs.Places.{AreAligned};
 ghost use Rattle.nmt_proofs.specs.Making.{interval_digests};
 ghost use Rattle.data_header.specs.DataRoots.{data_root_of, OpensRoot};
+ghost use Rattle.blob_commit.specs.Bounds.{most_levels};
 ghost use Rattle.blob_commit.specs.Cuts.{levels_of};
 ghost use Rattle.blob_commit.specs.Proofs.{is_range, CommitHolds};
 ghost use Rattle.blob_commit.specs.Making.{IsRowTree, AreRowTrees, RowsHold, AddsRows};
@@ -119,7 +120,7 @@ fn add_rows(
     requires number { roots.now.k ≤ length trees.now }
     requires trees { AreRowTrees roots.now trees.now }
     requires levels { 1 ≤ levels }
-    requires bound { levels ≤ 8 }
+    requires bound { levels ≤ most_levels }
     requires within { rest.at + rest.left ≤ roots.now.k * roots.now.k }
     requires divides { roots.now.k % 2 ^ (levels - 1) ≡ 0 }
     requires begins { 0 < rest.left → rest.at % 2 ^ (levels - 1) ≡ 0 }

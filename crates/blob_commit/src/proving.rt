@@ -6,6 +6,8 @@ ghost use Rattle.nmt_proofs.specs.declared.opening.OpenRefusal.{OpenRefusal as R
 ghost use Rattle.namespace_id.specs.Cells.{is_width};
 ghost use Rattle.data_header.specs.Headers.{Roots};
 ghost use Rattle.data_header.specs.DataRoots.{data_root_of};
+ghost use Rattle.square_layout.specs.Refusals.{max_shares};
+ghost use Rattle.blob_commit.specs.Bounds.{most_width, most_levels, most_subtrees};
 ghost use Rattle.blob_commit.specs.Commitments.{leaf_hashes};
 ghost use Rattle.blob_commit.specs.Proofs.{part_of_row, is_range, fits_rows, row_sizes, subtrees_of, has_commit_shape, CommitHolds};
 ghost use Rattle.blob_commit.specs.Refusals.{is_led, first_unled, row_refusal, first_unopened, unled_row, unopened_row, has_commitment, commit_refusal};
@@ -69,8 +71,8 @@ pub(crate) fn part_of_row(k: u16, at: u32, left: u32) -> u32
 fn fits_rows(k: u16, levels: u8, at: u32, left: u32, rows: &[CommitRow]) -> bool
     requires width { IsTrue (is_width k) }
     requires levels { 1 ≤ levels }
-    requires bound { levels ≤ 8 }
-    requires within { at + left ≤ 16384 }
+    requires bound { levels ≤ most_levels }
+    requires within { at + left ≤ max_shares }
     ensures { result ≡ fits_rows k levels at left rows.now }
 {
     let Some((row, others)) = rows.split_first() else {
@@ -90,8 +92,8 @@ fn fits_rows(k: u16, levels: u8, at: u32, left: u32, rows: &[CommitRow]) -> bool
 
 /// The number of the first row whose hashes don't lead to the data root.
 fn first_unled(root: &[u8; 32], k: u16, index: u16, number: u32, rows: &[CommitRow]) -> Option<u32>
-    requires index { index + length rows.now ≤ 40000 }
-    requires number { number + length rows.now ≤ 40000 }
+    requires index { index + length rows.now ≤ most_width }
+    requires number { number + length rows.now ≤ most_width }
     ensures { result ≡ first_unled root.now k index number rows.now }
 {
     let Some((row, others)) = rows.split_first() else {
@@ -105,7 +107,7 @@ fn first_unled(root: &[u8; 32], k: u16, index: u16, number: u32, rows: &[CommitR
 
 /// Adds the hashes of the leaves over digests.
 fn put_digests(digests: &[Digest], hashes: &mut Hashes)
-    requires { length hashes.old + length digests.now ≤ 255 }
+    requires { length hashes.old + length digests.now ≤ most_subtrees }
     ensures { hashes.new ≡ hashes.old ++ leaf_hashes digests.now }
 {
     for digest in digests {
@@ -115,7 +117,7 @@ fn put_digests(digests: &[Digest], hashes: &mut Hashes)
 
 /// Adds those over the subtrees of rows.
 pub(crate) fn put_rows(rows: &[CommitRow], hashes: &mut Hashes)
-    requires { length hashes.old + length (subtrees_of rows.now) ≤ 255 }
+    requires { length hashes.old + length (subtrees_of rows.now) ≤ most_subtrees }
     ensures { hashes.new ≡ hashes.old ++ leaf_hashes (subtrees_of rows.now) }
 {
     let Some((row, others)) = rows.split_first() else {
@@ -136,12 +138,12 @@ fn first_unopened(
 ) -> Option<(u32, OpenRefusal)>
     requires width { IsTrue (is_width k) }
     requires levels { 1 ≤ levels }
-    requires bound { levels ≤ 8 }
+    requires bound { levels ≤ most_levels }
     requires within { at + left ≤ k * k }
     requires divides { k % 2 ^ (levels - 1) ≡ 0 }
     requires begins { 0 < left → at % 2 ^ (levels - 1) ≡ 0 }
     requires fits { fits_rows k levels at left rows.now ≡ true }
-    requires number { number + length rows.now ≤ 40000 }
+    requires number { number + length rows.now ≤ most_width }
     ensures { result ≡ first_unopened k levels at left number rows.now }
 {
     let Some((row, others)) = rows.split_first() else {

@@ -7,7 +7,7 @@ use Rattle.blob_commit.proofs.FitLemmas.{range_divides, range_begins}
 use Rattle.blob_commit.proofs.MakingLemmas.{rows_alone}
 use Rattle.blob_commit.proofs.making.rows_of.Goals as goal
 
--- a square has at most 16384 shares
+-- the greatest square has so many shares
 pub levels_of-requires-clause-bound : goal.levels_of-requires-clause-bound
 levels_of-requires-clause-bound c =
     let within = (range_parts c.args.roots.now.k c.args.start c.args.count c.requires.range).1 in

@@ -1,7 +1,8 @@
 use Rattle.std.proofs.Common.{◌∙◌, List, length, ap, sym, arith}
 use Rattle.blob_commit.specs.Proofs.{RowParts, subtrees_of}
 use Rattle.blob_commit.proofs.WalkLemmas.{some_hashes}
-use Rattle.blob_commit.proofs.FitLemmas.{range_divides, range_subtrees, range_rows}
+use Rattle.blob_commit.proofs.FitLemmas.{range_divides, range_subtrees}
+use Rattle.blob_commit.proofs.ShapeLemmas.{range_rows}
 use Rattle.blob_commit.proofs.proving.judge.Goals as goal
 
 pub first_unled-requires-clause-index : goal.first_unled-requires-clause-index
