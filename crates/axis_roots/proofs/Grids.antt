@@ -3,7 +3,6 @@ pub mod NumberLemmas
 pub mod AxisLemmas
 pub mod WordLemmas
 pub mod LineLemmas
-pub mod SumLemmas
 pub mod ExtensionLemmas
 pub mod HeaderLemmas
 pub mod LaidLemmas

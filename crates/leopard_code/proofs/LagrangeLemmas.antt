@@ -7,7 +7,7 @@ use Rattle.byte_polynomial.specs.Polynomial.{value_at, AreCoefficients, Avoids, 
 use Rattle.byte_polynomial.proofs.Sums.{sum, scaled, value_at-sum, value_at-scaled, length-sum, length-scaled, AreCoefficients-sum, AreCoefficients-scaled, value_at-lt}
 use Rattle.byte_polynomial.proofs.Through.{vanishing, length-vanishing, AreCoefficients-vanishing, value_at-vanishing, value_at-vanishing_none, vanishing_elsewhere, vanishes, takes_still}
 use Rattle.byte_polynomial.proofs.Roots.{one_polynomial, AreRoots}
-use Rattle.leopard_code.specs.Codewords.{weighted_over}
+use Rattle.leopard_code.specs.Codewords.{weighted}
 use Rattle.leopard_code.proofs.DifferenceLemmas.{away}
 use Rattle.gf_cantor.specs.Field.{Field, product, size}
 use Rattle.gf_cantor.specs.Laws.{AreFieldLaws}
@@ -80,17 +80,17 @@ module _ (F : Field) (L : AreFieldLaws F) where
       ∙ product_assoc F L (product F y u) w d ∙ ap (product F (product F y u)) weight
 
   -- where no point is left, no weight is
-  none_left : (before : List ℕ) (x : ℕ) (ws : List ℕ) → AreWeights before [] x ws → weighted_over F ws [] ≡ 0
-  unfolding AreWeights weighted_over
+  none_left : (before : List ℕ) (x : ℕ) (ws : List ℕ) → AreWeights before [] x ws → weighted F ws [] ≡ 0
+  unfolding AreWeights weighted
   none_left before x [] h = refl
   none_left before x (w ∷ ws) h = refl
 
   -- where a point is left, its weight and those of the others are
   more_left : (before : List ℕ) (p : ℕ) (ps : List ℕ) (y : ℕ) (ys : List ℕ) (c : ℕ) (cs : List ℕ) (x : ℕ) (ws : List ℕ) → AreWeights before (p ∷ ps) x ws
-      → ((x : ℕ) (ws : List ℕ) → AreWeights (before ++ p ∷ []) ps x ws → weighted_over F ws ys ≡ value_at F cs x)
+      → ((x : ℕ) (ws : List ℕ) → AreWeights (before ++ p ∷ []) ps x ws → weighted F ws ys ≡ value_at F cs x)
       → ((w : ℕ) → product F w (away F L (before ++ ps) p) ≡ away F L (before ++ ps) x → product F w y ≡ product F c (away F L (before ++ ps) x))
-      → weighted_over F ws (y ∷ ys) ≡ value_at F (sum cs (scaled F L c (vanishing F L (before ++ ps)))) x
-  unfolding AreWeights weighted_over
+      → weighted F ws (y ∷ ys) ≡ value_at F (sum cs (scaled F L c (vanishing F L (before ++ ps)))) x
+  unfolding AreWeights weighted
   more_left before p ps y ys c cs x [] h rest first = elim h [ ]
   more_left before p ps y ys c cs x (w ∷ ws) h rest first =
       ap₂ bit_xor (first w h.0 ∙ ap (product F c) (sym (away-is (before ++ ps) x))) (rest x ws h.1)
@@ -101,8 +101,8 @@ module _ (F : Field) (L : AreFieldLaws F) where
   -- a polynomial through the points that is 0 at those before, whose values the weights give
   lagrange_from : (before xs ys : List ℕ) → length xs ≡ length ys → ArePoints F (before ++ xs) → AreCoefficients F ys
       → (cs : List ℕ) × (length cs ≤ length before + length xs) × AreCoefficients F cs × AreRoots F L cs before × PassesThrough F cs xs ys
-      × ((x : ℕ) (ws : List ℕ) → AreWeights before xs x ws → weighted_over F ws ys ≡ value_at F cs x)
-  unfolding AreCoefficients PassesThrough AreWeights weighted_over value_at AreRoots
+      × ((x : ℕ) (ws : List ℕ) → AreWeights before xs x ws → weighted F ws ys ≡ value_at F cs x)
+  unfolding AreCoefficients PassesThrough AreWeights weighted value_at AreRoots
   lagrange_from before [] [] same points bytes = ([], omega arith, tt, zero_vanishes before, tt, λ x ws h. none_left before x ws h)
   lagrange_from before [] (y ∷ ys) same points bytes = absurd (omega arith)
   lagrange_from before (p ∷ ps) [] same points bytes = absurd (omega arith)
@@ -130,7 +130,7 @@ module _ (F : Field) (L : AreFieldLaws F) where
 
   -- the value of any polynomial of at most n coefficients, from its values at n points
   pub lagrange : (cs xs ys ws : List ℕ) (x : ℕ) → length xs ≡ length ys → length cs ≤ length xs → ArePoints F xs → AreCoefficients F cs → AreCoefficients F ys
-      → PassesThrough F cs xs ys → AreWeights [] xs x ws → weighted_over F ws ys ≡ value_at F cs x
+      → PassesThrough F cs xs ys → AreWeights [] xs x ws → weighted F ws ys ≡ value_at F cs x
   lagrange cs xs ys ws x same few points bytes values takes weights =
       let found = lagrange_from [] xs ys same points values in
       found.5 x ws weights

@@ -10,7 +10,7 @@ use Rattle.byte_polynomial.proofs.Sums.{value_at-lt}
 use Rattle.byte_polynomial.proofs.Through.{through, vanishing_elsewhere}
 use Rattle.byte_polynomial.proofs.Roots.{one_polynomial}
 use Rattle.lch_fft.specs.Transforms.{column}
-use Rattle.leopard_code.specs.Codewords.{HasCode, points, point, points_at, are_positions, IsCodewordOver, HasEntries, weighted_over}
+use Rattle.leopard_code.specs.Codewords.{HasCode, points, point, points_at, are_positions, IsCodewordOver, HasEntries, weighted}
 use Rattle.leopard_code.proofs.ListedLemmas.{listed, length-listed, AreShares-listed, listed-at}
 use Rattle.leopard_code.proofs.LagrangeLemmas.{AreWeights, lagrange, away-is, points_middle, undone}
 use Rattle.leopard_code.proofs.DifferenceLemmas.{away, away-lt}
@@ -129,7 +129,7 @@ module _ (R : Reading) (L : AreReadingLaws R) where
   -- an entry is the same weighted sum of the known ones in each codeword
   pub generated : (k : ℕ) (known : List ℕ) (pos : ℕ) → HasCode R.field k → length known ≡ k → IsTrue (are_positions k known) → pos < 2 * k
       → (ws : List ℕ) × (length ws ≡ k) × AreCoefficients R.field ws × ((word shares : List Share) → IsCodewordOver R k word → length shares ≡ k → HasEntries known shares word → (b : ℕ) → b < R.columns
-      → IfSome (slice_get word pos) (λ share. R.label_at share.0 b ≡ weighted_over R.field ws (column R b shares)))
+      → IfSome (slice_get word pos) (λ share. R.label_at share.0 b ≡ weighted R.field ws (column R b shares)))
   generated k known pos width count positions within =
       let xs : List ℕ = points_at k known in
       let apart : ArePoints R.field xs = points_differ R.field k known (width.fits) positions in
@@ -143,7 +143,7 @@ module _ (R : Reading) (L : AreReadingLaws R) where
             let ys : List ℕ = column R b shares in
             let takes : PassesThrough R.field c.0 xs ys = takes_known k known c.0 (column R b word) ys positions (omega (arith, length-column R L b shares)) c.3
             (λ i h. get_or-column R L b word (get_or known i 0) ∙ ap (byte_of R b) (entries i h) ∙ sym (get_or-column R L b shares i)) in
-            entry_of_byte b (weighted_over R.field weights.0 ys) word pos (omega (arith, code.count))
+            entry_of_byte b (weighted R.field weights.0 ys) word pos (omega (arith, code.count))
             (sym (value_at_position R.field k pos c.0 (column R b word) within c.3)
             ∙ sym (lagrange R.field L.laws c.0 xs ys weights.0 (point k pos) (omega (arith, length-column R L b shares)) (omega (arith, c.1)) apart c.2 (labels_taken c.0 xs ys c.2 takes) takes weights.3)),
       )

@@ -3,11 +3,13 @@ pub mod LagrangeLemmas
 pub mod PointLemmas
 pub mod PositionLemmas
 pub mod EntryReadingLemmas
-pub mod EntryLemmas
 pub mod ListedLemmas
 pub mod LawReadingLemmas
-pub mod LawLemmas
 pub mod LinearLemmas
+pub mod FirstLemmas
+pub mod CrossingLemmas
+pub mod CodeLemmas
+pub mod LawLemmas
 pub mod NovelLemmas
 pub mod TransformLemmas
 pub mod MissingLemmas

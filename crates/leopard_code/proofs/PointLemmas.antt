@@ -1,19 +1,12 @@
 -- The points of the positions.
-use Rattle.std.proofs.Common.{◌≡◌, ℕ, zero, suc, ◌+◌, ◌<◌, ◌≤◌, List, [], ◌∷◌, ◌++◌, length, arith}
+use Rattle.std.proofs.Common.{ℕ, zero, suc, ◌+◌, ◌<◌, ◌≤◌, List, [], ◌∷◌, ◌++◌, arith}
 use Rattle.namespace_id.specs.declared.shares.Share.{Share}
 use Rattle.namespace_id.specs.Shares.{AreShares}
 use Rattle.gf_cantor.specs.Field.{Field, size}
-use Rattle.lch_fft.specs.Readings.{Reading, AreReadingLaws, byte_reading}
-use Rattle.lch_fft.specs.ReadingLaws.{byte_reading_laws}
-use Rattle.lch_fft.specs.Transforms.{column as column_over}
-use Rattle.lch_fft.proofs.ColumnLemmas.{length-column as length-column_over}
+use Rattle.lch_fft.specs.Readings.{Reading, AreReadingLaws}
+use Rattle.lch_fft.specs.Transforms.{column}
 use Rattle.byte_polynomial.specs.Polynomial.{AreCoefficients, Avoids, ArePoints, PassesThrough}
 use Rattle.namespace_id.specs.Lists.{ascending}
-use Rattle.leopard_code.specs.Codewords.{column}
-
--- a byte column is as long as the list of shares
-pub length-column : (b : ℕ) (ss : List Share) → length (column b ss) ≡ length ss
-length-column = length-column_over byte_reading byte_reading_laws
 
 -- a number below the first of those that count up is none of them
 avoids-ascending : (n x first : ℕ) → x < first → Avoids x (ascending first n)
@@ -28,8 +21,8 @@ points-ascending f zero first h = tt
 points-ascending f (suc n) first h = (omega arith, avoids-ascending n first (suc first) (omega arith), points-ascending f n (suc first) (omega arith))
 
 -- a column has labels
-pub column_labels : (r : Reading) → AreReadingLaws r → (c : ℕ) (ss : List Share) → AreShares ss → AreCoefficients r.field (column_over r c ss)
-unfolding column_over AreCoefficients
+pub column_labels : (r : Reading) → AreReadingLaws r → (c : ℕ) (ss : List Share) → AreShares ss → AreCoefficients r.field (column r c ss)
+unfolding column AreCoefficients
 column_labels r laws c [] h = tt
 column_labels r laws c (s ∷ ss) h = (laws.below s h.0 c, column_labels r laws c ss h.1)
 

@@ -10,17 +10,9 @@ use Rattle.namespace_id.proofs.TestLemmas.{passes_below, passes_below-at, where_
 use Rattle.lch_fft.specs.Transforms.{is_count}
 use Rattle.lch_fft.proofs.CountLemmas.{count-le}
 use Rattle.byte_polynomial.specs.Polynomial.{value_at, Avoids, ArePoints, PassesThrough}
-use Rattle.leopard_code.specs.Codewords.{is_word_width, point, points_at, are_positions, points}
+use Rattle.leopard_code.specs.Codewords.{point, points_at, are_positions, points}
 use Rattle.std.proofs.lemmas.List.{get_or_append_left, get_or-append_right}
 use Rattle.namespace_id.proofs.AscendingLemmas.{length-ascending, get_or-ascending}
-
--- a width of the code over words is at most 512
-pub word_width-le : (k : ℕ) → IsTrue (is_word_width k) → k ≤ 512
-word_width-le k width = grind (arith, nat_tests)
-
--- twice it is the length of a transform
-pub word_count : (k : ℕ) → IsTrue (is_word_width k) → IsTrue (is_count (2 * k))
-word_count k width = grind (arith, nat_tests)
 
 -- the point of a position is below 2k
 pub point-lt : (k pos : ℕ) → pos < 2 * k → point k pos < 2 * k

@@ -1,18 +1,16 @@
 -- Codewords: lists of 2k shares whose columns of labels are polynomials (docs/RULES.md, "The code").
 use Rattle.std.specs.Prelude.{◌≡◌, ℕ, Bool, ◌&&◌, ◌==◌, ◌||◌, nat_lt, if◌then◌else◌, ◌<◌, ◌≤◌, IsTrue, ◌+◌, ◌-◌, ◌*◌, List, [], ◌∷◌, ◌++◌, map, length, bit_xor, slice_get, slice_index}
 use Rattle.std.specs.List.{list_all}
-use Rattle.gf_cantor.specs.Field.{Field, product, size, byte_field}
+use Rattle.gf_cantor.specs.Field.{Field, product, size}
 use Rattle.namespace_id.specs.declared.shares.Share.{Share}
 use Rattle.namespace_id.specs.Shares.{AreShares}
 use Rattle.namespace_id.specs.Lists.{holds_along, ascending}
 use Rattle.byte_polynomial.specs.Polynomial.{AreCoefficients, PassesThrough}
-use Rattle.lch_fft.specs.Readings.{Reading, byte_reading}
-use Rattle.lch_fft.specs.Transforms.{is_count, column as column_over}
+use Rattle.namespace_id.specs.Cells.{is_width}
+use Rattle.lch_fft.specs.Readings.{Reading, byte_reading, word_reading}
+use Rattle.lch_fft.specs.Transforms.{is_count, column}
+use Rattle.lch_fft.specs.Butterflies.{multiple}
 unfoldable pub use Rattle.lch_fft.specs.Butterflies.{bytes_sum}
-
--- the bytes at one place of each share
-abbrev pub column : ℕ → List Share → List ℕ
-column b shares = column_over byte_reading b shares
 
 -- the points of the positions: the originals stand at k up to 2k, the recovery shares at 0 up to k
 unfoldable pub points : ℕ → List ℕ
@@ -34,21 +32,25 @@ IsColumn f k labels = (cs : List ℕ) × (length cs ≡ k) × AreCoefficients f 
 pub record IsCodewordOver (r : Reading) (k : ℕ) (word : List Share) : Type 0 where
   pub count : length word ≡ 2 * k
   pub shares : AreShares word
-  pub columns : (c : ℕ) → c < r.columns → IsColumn r.field k (column_over r c word)
+  pub columns : (c : ℕ) → c < r.columns → IsColumn r.field k (column r c word)
 
--- the codewords of widths up to 128, over bytes
+-- how the code of a width reads shares: as bytes up to width 128, and as words above
+unfoldable pub reading_of : ℕ → Reading
+reading_of k = if nat_lt 128 k then word_reading else byte_reading
+
+-- the codewords of a width
 abbrev pub IsCodeword : ℕ → List Share → Type 0
-IsCodeword k word = IsCodewordOver byte_reading k word
+IsCodeword k word = IsCodewordOver (reading_of k) k word
+
+-- whether there is a code of this width: a power of two from 1 to 512
+abbrev pub is_code_width : ℕ → Bool
+is_code_width k = is_width k || (k == 256) || (k == 512)
 
 -- whether k original shares have a code over a field: a transform may have twice their length, and a label stands for
 -- each point
 pub record HasCode (f : Field) (k : ℕ) : Type 0 where
   pub count : IsTrue (is_count (2 * k))
   pub fits : 2 * k ≤ size f
-
--- whether this is a width whose code is over words
-abbrev pub is_word_width : ℕ → Bool
-is_word_width k = (k == 256) || (k == 512)
 
 -- whether these are positions of a codeword, strictly ascending
 abbrev pub are_positions : ℕ → List ℕ → Bool
@@ -69,22 +71,20 @@ shares_sum [] others = []
 shares_sum (share ∷ shares) [] = []
 shares_sum (share ∷ shares) (other ∷ others) = share_sum share other ∷ shares_sum shares others
 
--- the bytewise multiple of a share, and of a list of shares
-abbrev pub share_multiple : ℕ → Share → Share
-share_multiple c share = record { 0 = map (product byte_field c) share.0 }
+-- each label of the new shares is the multiple of that of the old ones
+pub record AreMultiples (r : Reading) (by : ℕ) (old new : List Share) : Type 0 where
+  pub count : length new ≡ length old
+  pub shares : AreShares new
+  pub columns : (c : ℕ) → c < r.columns → column r c new ≡ multiple r.field by (column r c old)
 
--- the bytewise multiples of shares
-abbrev pub shares_multiple : ℕ → List Share → List Share
-shares_multiple c shares = map (share_multiple c) shares
+-- the sum of the products of weights and labels
+unfoldable pub weighted : Field → List ℕ → List ℕ → ℕ
+weighted f [] ys = 0
+weighted f (w ∷ ws) [] = 0
+weighted f (w ∷ ws) (y ∷ ys) = bit_xor (product f w y) (weighted f ws ys)
 
--- the sum of the products of weights and bytes
-unfoldable pub weighted : List ℕ → List ℕ → ℕ
-weighted [] ys = 0
-weighted (w ∷ ws) [] = 0
-weighted (w ∷ ws) (y ∷ ys) = bit_xor (product byte_field w y) (weighted ws ys)
-
--- the same over any field
-unfoldable pub weighted_over : Field → List ℕ → List ℕ → ℕ
-weighted_over f [] ys = 0
-weighted_over f (w ∷ ws) [] = 0
-weighted_over f (w ∷ ws) (y ∷ ys) = bit_xor (product f w y) (weighted_over f ws ys)
+-- the rows and the columns of a square of 2k by 2k shares
+pub record AreLines (k : ℕ) (rows cols : ℕ → List Share) : Type 0 where
+  pub row_count : (i : ℕ) → i < 2 * k → length (rows i) ≡ 2 * k
+  pub col_count : (i : ℕ) → i < 2 * k → length (cols i) ≡ 2 * k
+  pub same : (i j : ℕ) → i < 2 * k → j < 2 * k → slice_get (rows i) j ≡ slice_get (cols j) i

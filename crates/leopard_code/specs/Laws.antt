@@ -1,17 +1,16 @@
 -- What is proved of codewords.
-use Rattle.std.specs.Prelude.{◌≡◌, ◌<◌, ◌*◌, ℕ, List, IsTrue, IfSome, length, slice_get, slice_index}
+use Rattle.std.specs.Prelude.{◌≡◌, ◌<◌, ◌*◌, ℕ, List, IsTrue, IfSome, length, slice_get}
 use Rattle.namespace_id.specs.declared.shares.Share.{Share}
-use Rattle.namespace_id.specs.Sizes.{share_size}
-use Rattle.namespace_id.specs.Cells.{is_width}
-use Rattle.gf_cantor.specs.Field.{byte_field}
 use Rattle.byte_polynomial.specs.Polynomial.{AreCoefficients}
-use Rattle.leopard_code.specs.Codewords.{column, are_positions, IsCodeword, HasEntries, weighted}
+use Rattle.lch_fft.specs.Transforms.{column}
+use Rattle.leopard_code.specs.Codewords.{reading_of, is_code_width, are_positions, IsCodeword, HasEntries, weighted}
 
 -- each entry is the same weighted sum of the known ones in every codeword
 abbrev pub EntriesAreWeightedSums : Type 0
-EntriesAreWeightedSums = (k : ℕ) (known : List ℕ) (pos : ℕ) → IsTrue (is_width k) → length known ≡ k
+EntriesAreWeightedSums = (k : ℕ) (known : List ℕ) (pos : ℕ) → IsTrue (is_code_width k) → length known ≡ k
     → IsTrue (are_positions k known) → pos < 2 * k
-    → (ws : List ℕ) × (length ws ≡ k) × AreCoefficients byte_field ws
+    → (ws : List ℕ) × (length ws ≡ k) × AreCoefficients (reading_of k).field ws
     × ((word shares : List Share) → IsCodeword k word → length shares ≡ k → HasEntries known shares word
-    → (b : ℕ) → b < share_size
-    → IfSome (slice_get word pos) (λ share. slice_index share.0 b ≡ weighted ws (column b shares)))
+    → (c : ℕ) → c < (reading_of k).columns
+    → IfSome (slice_get word pos) (λ share. (reading_of k).label_at share.0 c
+    ≡ weighted (reading_of k).field ws (column (reading_of k) c shares)))

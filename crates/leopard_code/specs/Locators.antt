@@ -2,11 +2,11 @@
 use Rattle.std.specs.Prelude.{◌≡◌, ℕ, zero, suc, ◌<◌, ◌*◌, ◌==◌, IsTrue, List, [], ◌∷◌, length, bit_xor, slice_index, if◌then◌else◌}
 use Rattle.gf_cantor.specs.Field.{Field, label, power, product, size}
 use Rattle.namespace_id.specs.declared.shares.Share.{Share}
-use Rattle.namespace_id.specs.Cells.{is_width}
 use Rattle.byte_polynomial.specs.Polynomial.{value_at, AreCoefficients}
 use Rattle.byte_polynomial.specs.Derivatives.{derivative_at}
 use Rattle.lch_fft.specs.Readings.{Reading}
 use Rattle.lch_fft.specs.Transforms.{value, column}
+use Rattle.leopard_code.specs.Codewords.{is_code_width}
 
 -- those of n positions from the first on that are not among ascending known ones
 unfoldable pub missing_from : ℕ → ℕ → List ℕ → List ℕ
@@ -45,5 +45,5 @@ pub record IsFormalDerivative (r : Reading) (old new : List Share) (c : ℕ) : T
 
 -- a place for an exponent at each position of a codeword
 pub record IsRoom (k : ℕ) (exponents : List ℕ) : Type 0 where
-  pub width : IsTrue (is_width k)
+  pub width : IsTrue (is_code_width k)
   pub size : length exponents ≡ 2 * k

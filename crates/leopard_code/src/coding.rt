@@ -21,9 +21,8 @@
 
 ghost use Rattle.std.specs.Prelude.{◌≡◌, ◌++◌, ◌*◌, ◌≤◌, IsTrue, length};
 ghost use Rattle.gf_cantor.specs.Field.{size};
-ghost use Rattle.lch_fft.specs.Readings.{byte_reading, word_reading};
 ghost use Rattle.lch_fft.specs.Transforms.{is_count};
-ghost use Rattle.leopard_code.specs.Codewords.{are_positions, is_word_width, IsCodeword, IsCodewordOver, HasEntries};
+ghost use Rattle.leopard_code.specs.Codewords.{reading_of, is_code_width, are_positions, IsCodeword, HasEntries};
 ghost use Rattle.leopard_code.specs.Locators.{AreDerivatives};
 
 use crate::Room;
@@ -34,13 +33,16 @@ use gf_cantor::{ByteFactor, WordFactor};
 use lch_fft::{Factor, derive, forward, inverse};
 use namespace_id::{Share, shares_law};
 
-/// Makes the k recovery shares of k original ones, over a field. It takes no memory.
+/// The greatest width whose code is over bytes: there are no more points than bytes.
+const BYTE_WIDTH: u16 = 128;
+
+/// Makes the k recovery shares of k original ones, over the field of the width. It takes no memory.
 fn extend_over<M: Factor>(k: u16, originals: &[Share], recovery: &mut [Share])
-    requires count { IsTrue (is_count k) }
-    requires fits { 2 * k ≤ size M.reading.field }
+    requires width { IsTrue (is_code_width k) }
+    requires reading { M.reading ≡ reading_of k }
     requires originals { length originals.now ≡ k }
     requires recovery { length recovery.old ≡ k }
-    ensures { IsCodewordOver M.reading k (originals.now ++ recovery.new) }
+    ensures { IsCodeword k (originals.now ++ recovery.new) }
 {
     shares_law(originals);
     recovery.copy_from_slice(originals);
@@ -61,20 +63,11 @@ pub fn extend(room: &mut Room, originals: &[Share], recovery: &mut [Share])
     ensures codeword { IsCodeword room.old (originals.now ++ recovery.new) }
     ensures kept { room.new ≡ room.old }
 {
-    extend_over::<ByteFactor>(room.k, originals, recovery);
-}
-
-/// The same of the widths 256 and 512, whose axes have more shares than there are bytes: the code is
-/// over words. It takes no memory.
-///
-/// docs/RULES.md, "The code".
-pub fn extend_words(originals: &[Share], recovery: &mut [Share])
-    requires width { IsTrue (is_word_width (length originals.now)) }
-    requires recovery { length recovery.old ≡ length originals.now }
-    ensures codeword { IsCodewordOver word_reading (length originals.now)
-        (originals.now ++ recovery.new) }
-{
-    extend_over::<WordFactor>(originals.len() as u16, originals, recovery);
+    if room.k <= BYTE_WIDTH {
+        extend_over::<ByteFactor>(room.k, originals, recovery);
+    } else {
+        extend_over::<WordFactor>(room.k, originals, recovery);
+    }
 }
 
 /// From the values of polynomials at 0, 1, .. to those of their formal derivatives, over a field.
@@ -89,21 +82,23 @@ fn differentiate<M: Factor>(shares: &mut [Share])
     forward::<M>(shares, 0);
 }
 
-/// Makes all 2k shares of the codeword that has the k shares at the k known positions, over a field.
-/// The exponents are the room for a locator. It takes no memory.
+/// Makes all 2k shares of the codeword that has the k shares at the k known positions, over the field
+/// of the width. The exponents are the room for a locator. It takes no memory.
 fn rebuild_over<M: Factor>(
+    k: u16,
     known: &[u16],
     shares: &[Share],
     exponents: &mut [u32],
     all: &mut [Share],
 )
-    requires count { IsTrue (is_count (2 * length known.now)) }
-    requires fits { 2 * length known.now ≤ size M.reading.field }
-    requires positions { IsTrue (are_positions (length known.now) known.now) }
-    requires shares { length shares.now ≡ length known.now }
-    requires exponents { length exponents.old ≡ 2 * length known.now }
-    requires all { length all.old ≡ 2 * length known.now }
-    ensures codeword { IsCodewordOver M.reading (length known.now) all.new }
+    requires width { IsTrue (is_code_width k) }
+    requires reading { M.reading ≡ reading_of k }
+    requires known { length known.now ≡ k }
+    requires positions { IsTrue (are_positions k known.now) }
+    requires shares { length shares.now ≡ k }
+    requires exponents { length exponents.old ≡ 2 * k }
+    requires all { length all.old ≡ 2 * k }
+    ensures codeword { IsCodeword k all.new }
     ensures known { HasEntries known.now shares.now all.new }
 {
     shares_law(shares);
@@ -132,5 +127,9 @@ pub fn rebuild(room: &mut Room, known: &[u16], shares: &[Share], all: &mut [Shar
     ensures known { HasEntries known.now shares.now all.new }
     ensures kept { room.new ≡ room.old }
 {
-    rebuild_over::<ByteFactor>(known, shares, &mut room.exponents, all);
+    if room.k <= BYTE_WIDTH {
+        rebuild_over::<ByteFactor>(room.k, known, shares, &mut room.exponents, all);
+    } else {
+        rebuild_over::<WordFactor>(room.k, known, shares, &mut room.exponents, all);
+    }
 }

@@ -2,8 +2,8 @@
 //! of its 2k entries determine the rest.
 //!
 //! Each column of labels of a codeword is a polynomial of k coefficients: over the byte field a byte
-//! column, up to width 128, and above over the word field, of which `extend_words` is. The calls go
-//! by additive transforms, about k * log k products of a share and a label for one axis; `rebuild`
+//! column, up to width 128, and above, up to width 512, over the word field. The calls go by additive
+//! transforms, about k * log k products of a share and a label for one axis; `rebuild`
 //! multiplies by the locator of the missing positions and divides its formal derivative by the
 //! locator's. docs/RULES.md, "The code", has the definition.
 #![tactic(auto)]
@@ -16,7 +16,7 @@ mod positions;
 mod room;
 mod scaling;
 
-pub use coding::{extend, extend_words, rebuild};
+pub use coding::{extend, rebuild};
 pub use laws::code_laws;
 pub use positions::are_positions;
 pub use room::Room;

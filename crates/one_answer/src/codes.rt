@@ -1,14 +1,13 @@
 //! Of the field, the transforms and the code.
 
 ghost use Rattle.std.specs.Prelude.{◌≡◌, ◌<◌, ◌≤◌, ◌+◌, ◌*◌, ◌%◌, ℕ, IsTrue, length, slice_index};
-ghost use Rattle.namespace_id.specs.Cells.{is_width};
 ghost use Rattle.gf_cantor.specs.Field.{size};
-ghost use Rattle.leopard_code.specs.Codewords.{are_positions, is_word_width};
+ghost use Rattle.leopard_code.specs.Codewords.{is_code_width, are_positions};
 ghost use Rattle.lch_fft.specs.Transforms.{is_count};
 
 use gf_cantor::{field_laws, inv, mul_row};
 use lch_fft::{Factor, forward, inverse, transform_laws};
-use leopard_code::{Room, code_laws, extend, extend_words, rebuild};
+use leopard_code::{Room, code_laws, extend, rebuild};
 use namespace_id::{Share, shares_law};
 
 /// A label has one inverse.
@@ -39,7 +38,7 @@ pub fn rebuild_twice(
     one: &mut [Share],
     other: &mut [Share],
 )
-    requires width { IsTrue (is_width room.old) }
+    requires width { IsTrue (is_code_width room.old) }
     requires known { length known.now ≡ room.old }
     requires positions { IsTrue (are_positions room.old known.now) }
     requires shares { length shares.now ≡ room.old }
@@ -54,7 +53,7 @@ pub fn rebuild_twice(
 
 /// Originals have one list of recovery shares.
 pub fn extend_twice(room: &mut Room, originals: &[Share], one: &mut [Share], other: &mut [Share])
-    requires width { IsTrue (is_width room.old) }
+    requires width { IsTrue (is_code_width room.old) }
     requires originals { length originals.now ≡ room.old }
     requires one { length one.old ≡ room.old }
     requires other { length other.old ≡ room.old }
@@ -63,18 +62,6 @@ pub fn extend_twice(room: &mut Room, originals: &[Share], one: &mut [Share], oth
     code_laws();
     extend(room, originals, one);
     extend(room, originals, other);
-}
-
-/// So have those of the widths 256 and 512.
-pub fn extend_words_twice(originals: &[Share], one: &mut [Share], other: &mut [Share])
-    requires width { IsTrue (is_word_width (length originals.now)) }
-    requires one { length one.old ≡ length originals.now }
-    requires other { length other.old ≡ length originals.now }
-    ensures state { one.new ≡ other.new }
-{
-    code_laws();
-    extend_words(originals, one);
-    extend_words(originals, other);
 }
 
 /// Coefficients have one list of values, over each field.

@@ -1,10 +1,10 @@
 //! Codewords of shares. Expected bytes: by tools/values.py, those of widths 256 and 512 by
 //! klauspost/reedsolomon 1.14.1.
 
-ghost use Rattle.std.specs.Prelude.{◌<◌};
+ghost use Rattle.std.specs.Prelude.{◌<◌, ◌≤◌, length};
 
 use crate::inputs::share;
-use leopard_code::{Room, are_positions, extend, extend_words, rebuild};
+use leopard_code::{Room, are_positions, extend, rebuild};
 use namespace_id::{SHARE_SIZE, Share, is_width};
 use std::alloc::Global;
 use std::process::Abort;
@@ -133,7 +133,8 @@ fn word_column(rt: &impl Abort, alloc: Global, count: usize, at: usize) -> Vec<S
     originals[at] = Share(bytes);
     let recovery = vec![in alloc; share(0); count];
     let mut recovery = recovery.expect(rt, "there is memory");
-    extend_words(&originals, &mut recovery);
+    let mut room = Room::new(alloc, count as u16).expect(rt, "there is memory");
+    extend(&mut room, &originals, &mut recovery);
     recovery
 }
 
@@ -153,6 +154,43 @@ fn words(rt: HostRuntime) {
         for (pos, want) in wanted {
             assert!(rt; pos < recovery.len());
             assert!(rt; first_word(&recovery[pos]) == want, "{pos} of {count}");
+        }
+    }
+}
+
+/// Writes the positions of the recovery shares.
+fn write_recovery(known: &mut [u16])
+    requires { length known.old ≤ 512 }
+{
+    let count = known.len();
+    for i in 0..count {
+        known[i] = (count + i) as u16;
+    }
+}
+
+/// What is rebuilt of the recovery shares alone, over words.
+fn from_recovery(rt: &impl Abort, alloc: Global, recovery: &[Share]) -> Vec<Share> {
+    let count = recovery.len();
+    assert!(rt; count == 256 || count == 512);
+    let known = vec![in alloc; 0; count];
+    let mut known = known.expect(rt, "there is memory");
+    write_recovery(&mut known);
+    assert!(rt; known.len() == count && are_positions(count as u16, &known));
+    let all = vec![in alloc; share(0); 2 * count];
+    let mut all = all.expect(rt, "there is memory");
+    let mut room = Room::new(alloc, count as u16).expect(rt, "there is memory");
+    rebuild(&mut room, &known, recovery, &mut all);
+    all
+}
+
+#[test]
+fn words_of_recovery_shares(rt: HostRuntime) {
+    for (count, at) in [(256, 17), (512, 511)] {
+        let recovery = word_column(&rt, rt.alloc(), count, at);
+        let all = from_recovery(&rt, rt.alloc(), &recovery);
+        for pos in 0..count {
+            assert!(rt; pos < all.len());
+            assert!(rt; first_word(&all[pos]) == (pos == at) as u16, "{pos} of {count}");
         }
     }
 }

@@ -1,104 +1,40 @@
 -- Each square has exactly one extension.
-use Rattle.std.proofs.Common.{◌≡◌, ◌∙◌, ℕ, ◌+◌, ◌*◌, ◌<◌, ◌≤◌, List, [], ◌∷◌, length, get_or, take, map, sym, ap, subst, arith, IsTrue}
-use Rattle.std.specs.Prelude.{IfSome, slice_get, slice_index}
-use Rattle.std.proofs.lemmas.List.{get_or-take, length-take-le}
+use Rattle.std.proofs.Common.{◌≡◌, ◌∙◌, ℕ, ◌+◌, ◌*◌, ◌<◌, List, length, get_or, map, sym, ap, subst, arith, IsTrue}
+use Rattle.std.specs.Prelude.{Some}
+use Rattle.std.proofs.lemmas.Option.{slice_get-get_or}
 use Rattle.namespace_id.specs.declared.cells.Cell.{Cell}
 use Rattle.namespace_id.specs.declared.cells.Axis.{Axis}
 use Rattle.namespace_id.specs.declared.cells.Axis.TheVariants.{Row, Col}
 use Rattle.namespace_id.specs.declared.shares.Share.{Share}
-use Rattle.namespace_id.specs.Shares.{IsShare, AreShares}
+use Rattle.namespace_id.specs.Shares.{AreShares}
 use Rattle.namespace_id.specs.Cells.{is_width}
-use Rattle.namespace_id.specs.Lists.{ascending}
-use Rattle.namespace_id.proofs.AscendingLemmas.{length-ascending}
 use Rattle.namespace_id.proofs.WidthLemmas.{is_width-pos}
-use Rattle.leopard_code.specs.Codewords.{column, IsCodeword, HasEntries, weighted}
-use Rattle.leopard_code.proofs.PointLemmas.{length-column}
-use Rattle.leopard_code.proofs.EntryLemmas.{get_or-column_at, byte_of_entry, same_shares}
-use Rattle.leopard_code.proofs.LawLemmas.{generated}
+use Rattle.leopard_code.specs.Codewords.{IsCodeword, AreLines}
+use Rattle.leopard_code.proofs.CodeLemmas.{code_width}
+use Rattle.leopard_code.proofs.LawLemmas.{crossed}
 use Rattle.square_layout.specs.Blocks.{SquareShares, IsSquare}
 use Rattle.axis_roots.specs.Lines.{blank, cell_on}
 use Rattle.axis_roots.specs.Grids.{share_at, axis_cells, axis_shares, Extends}
 use Rattle.axis_roots.proofs.Grids.NumberLemmas.{listed, length-listed, get_or-listed, same_listed}
 use Rattle.axis_roots.proofs.Grids.AxisLemmas.{length-along, get_or-along, is_along}
-use Rattle.axis_roots.proofs.Grids.WordLemmas.{share_in, shares_each, share_anywhere, first_positions, has_first, one_word, word_through}
-use Rattle.axis_roots.proofs.Grids.SumLemmas.{words_sum, codeword-words_sum, byte-words_sum}
+use Rattle.axis_roots.proofs.Grids.WordLemmas.{share_anywhere, one_word, word_through}
 
--- rows that are codewords in the upper half, and columns that are codewords
-record Lines (k : ℕ) (w : Cell → Share) : Type 0 where
-  rows : (row : ℕ) → row < k → IsCodeword k (map w (axis_cells k Row row))
-  cols : (col : ℕ) → col < 2 * k → IsCodeword k (map w (axis_cells k Col col))
-
-module _ (k : ℕ) (w : Cell → Share) (lines : Lines k w) where
-  -- the cells of the square have shares
-  cell_share : (row col : ℕ) → row < 2 * k → col < 2 * k → IsShare (w (record { row = row; col = col }))
-  cell_share row col hr hc =
-      let word : List Share = map w (axis_cells k Col col) in
-      subst IsShare (get_or-along k w Col col row blank hr)
-      (share_in word row blank (omega (arith, length-along k w Col col)) (lines.cols col hc).shares)
-
-  -- so have those of each row
-  row_shares : (row : ℕ) → row < 2 * k → AreShares (map w (axis_cells k Row row))
-  row_shares row hr =
-      shares_each (map w (axis_cells k Row row)) blank (λ col h.
-      let hc : col < 2 * k = omega (arith, length-along k w Row row) in
-      subst IsShare (sym (get_or-along k w Row row col blank hc)) (cell_share row col hr hc))
-
-  -- the upper half of a column, byte by byte, from the rows
-  upper_bytes : (col b a : ℕ) → col < 2 * k → a < k
-      → get_or (column b (take k (map w (axis_cells k Col col)))) a 0 ≡ get_or (get_or (map w (axis_cells k Row (0 + a))) col blank).0 b 0
-  upper_bytes col b a hc ha =
-      let word : List Share = map w (axis_cells k Col col) in
-      let long : length (take k word) ≡ k = length-take-le k word (omega (arith, length-along k w Col col)) in
-      let start : 0 + a ≡ a = omega arith in
-      get_or-column_at b (take k word) a blank (omega arith)
-      ∙ ap (λ (share : Share). get_or share.0 b 0)
-      (get_or-take k word a blank ha ∙ get_or-along k w Col col a blank (omega arith)
-      ∙ sym (ap (λ (r : ℕ). get_or (map w (axis_cells k Row r)) col blank) start ∙ get_or-along k w Row a col blank hc))
-
-  -- a byte of a column, by the weights of its row
-  column_byte : (row col b : ℕ) (ws : List ℕ) → row < 2 * k → col < 2 * k → b < 512
-      → ((word shares : List Share) → IsCodeword k word → length shares ≡ k → HasEntries (ascending 0 k) shares word → (b : ℕ) → b < 512
-      → IfSome (slice_get word row) (λ share. slice_index share.0 b ≡ weighted ws (column b shares)))
-      → get_or (w (record { row = row; col = col })).0 b 0 ≡ weighted ws (column b (take k (map w (axis_cells k Col col))))
-  column_byte row col b ws hr hc hb made =
-      let word : List Share = map w (axis_cells k Col col) in
-      let long : length word ≡ 2 * k = length-along k w Col col in
-      let count : length (take k word) ≡ k = length-take-le k word (omega arith) in
-      let entries : HasEntries (ascending 0 k) (take k word) word =
-      has_first k word (take k word) (omega arith) count (λ i h. sym (get_or-take k word i blank h)) in
-      ap (λ (share : Share). get_or share.0 b 0) (sym (get_or-along k w Col col row blank hr))
-      ∙ sym (get_or-column_at b word row blank (omega arith))
-      ∙ byte_of_entry b (weighted ws (column b (take k word))) word row (omega arith) (made word (take k word) (lines.cols col hc) count entries b hb)
-
-  -- each row is the sum of the upper ones by its weights
-  crossed : 0 < k → (row : ℕ) → row < 2 * k → (ws : List ℕ) → length ws ≡ k
-      → ((word shares : List Share) → IsCodeword k word → length shares ≡ k → HasEntries (ascending 0 k) shares word → (b : ℕ) → b < 512
-      → IfSome (slice_get word row) (λ share. slice_index share.0 b ≡ weighted ws (column b shares)))
-      → IsCodeword k (map w (axis_cells k Row row))
-  crossed some row hr [] count made = absurd (omega arith)
-  crossed some row hr (v ∷ ws) count made =
-      let upper : ℕ → List Share = λ r. map w (axis_cells k Row r) in
-      let codes : (i : ℕ) → 0 ≤ i → i ≤ 0 + length ws → IsCodeword k (upper i) = λ i low high. lines.rows i (omega arith) in
-      let total : IsCodeword k (words_sum upper 0 v ws) = codeword-words_sum k upper 0 v ws codes in
-      subst (IsCodeword k)
-      (sym (same_shares (upper row) (words_sum upper 0 v ws) (length-along k w Row row ∙ sym total.count) (row_shares row hr) total.shares
-      (λ b col hb h.
-      let hc : col < 2 * k = omega (arith, length-along k w Row row) in
-      let ys : List ℕ = column b (take k (map w (axis_cells k Col col))) in
-      let long : length ys ≡ k =
-      length-column b (take k (map w (axis_cells k Col col))) ∙ length-take-le k (map w (axis_cells k Col col)) (omega (arith, length-along k w Col col)) in
-      get_or-column_at b (upper row) col blank h
-      ∙ ap (λ (share : Share). get_or share.0 b 0) (get_or-along k w Row row col blank hc)
-      ∙ column_byte row col b (v ∷ ws) hr hc hb made
-      ∙ sym (byte-words_sum k upper 0 v ws ys col b hc hb codes (omega arith) (λ a ha. upper_bytes col b a hc (omega arith)))
-      ∙ sym (get_or-column_at b (words_sum upper 0 v ws) col blank (omega (arith, total.count))))))
-      total
+-- the rows and the columns of a grid cross at its shares
+grid_lines : (k : ℕ) (w : Cell → Share) → AreLines k (λ row. map w (axis_cells k Row row)) (λ col. map w (axis_cells k Col col))
+grid_lines k w = record {
+  row_count = λ row h. length-along k w Row row;
+  col_count = λ col h. length-along k w Col col;
+  same = λ row col hr hc.
+      slice_get-get_or (map w (axis_cells k Row row)) col blank (omega (arith, length-along k w Row row))
+      ∙ ap Some (get_or-along k w Row row col blank hc ∙ sym (get_or-along k w Col col row blank hr))
+      ∙ sym (slice_get-get_or (map w (axis_cells k Col col)) row blank (omega (arith, length-along k w Col col)));
+}
 
 -- where the upper rows and all columns are codewords, all rows are
-all_rows : (k : ℕ) (w : Cell → Share) → IsTrue (is_width k) → Lines k w → (row : ℕ) → row < 2 * k → IsCodeword k (map w (axis_cells k Row row))
-all_rows k w width lines row hr =
-    let made = generated k (ascending 0 k) row width (length-ascending k 0) (first_positions k) hr in
-    crossed k w lines (is_width-pos k width) row hr made.0 made.1 made.3
+all_rows : (k : ℕ) (w : Cell → Share) → IsTrue (is_width k) → ((row : ℕ) → row < k → IsCodeword k (map w (axis_cells k Row row)))
+    → ((col : ℕ) → col < 2 * k → IsCodeword k (map w (axis_cells k Col col)))
+    → (row : ℕ) → row < 2 * k → IsCodeword k (map w (axis_cells k Row row))
+all_rows k w width = crossed k (λ row. map w (axis_cells k Row row)) (λ col. map w (axis_cells k Col col)) (code_width k width) (grid_lines k w)
 
 -- a grid that has the square, and codewords as its upper rows and as its columns, extends the square
 pub extends_by_lines : (k : ℕ) (square grid : List Share) → IsTrue (is_width k) → length grid ≡ 2 * k * (2 * k)
@@ -108,7 +44,7 @@ pub extends_by_lines : (k : ℕ) (square grid : List Share) → IsTrue (is_width
 extends_by_lines k square grid width size quarter rows cols = record {
   size = size;
   quarter = quarter;
-  codewords = elim [ Row ↦ all_rows k (share_at (2 * k) grid) width (record { rows = rows; cols = cols }) | Col ↦ cols ];
+  codewords = elim [ Row ↦ all_rows k (share_at (2 * k) grid) width rows cols | Col ↦ cols ];
 }
 
 -- each square has an extension

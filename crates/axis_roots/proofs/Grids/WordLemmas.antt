@@ -1,18 +1,18 @@
 -- Codewords by their first k shares.
 use Rattle.std.proofs.Common.{◌≡◌, ◌∙◌, ℕ, zero, suc, ◌+◌, ◌*◌, ◌<◌, ◌≤◌, List, [], ◌∷◌, length, get_or, map, refl, sym, ap, subst, inl, inr, arith, true, IsTrue}
-use Rattle.std.specs.Prelude.{Some, slice_get, slice_index, nat_lt}
-use Rattle.std.specs.List.{list_all, AllByRecursion}
-use Rattle.std.proofs.lemmas.Bool.{cases_lt, and_from}
-use Rattle.std.proofs.lemmas.Bool.Decides.{nat_tests}
+use Rattle.std.specs.Prelude.{Some, slice_get, slice_index}
+use Rattle.std.specs.List.{AllByRecursion}
+use Rattle.std.proofs.lemmas.Bool.{cases_lt}
 use Rattle.std.proofs.lemmas.List.{get_or_past, length-replicate, get_or-map, length-map}
 use Rattle.std.proofs.lemmas.Option.{slice_get-get_or, get_or_from_slice_get}
 use Rattle.namespace_id.specs.declared.shares.Share.{Share}
 use Rattle.namespace_id.specs.Shares.{IsShare, AreShares}
 use Rattle.namespace_id.specs.Cells.{is_width}
 use Rattle.namespace_id.proofs.StringLemmas.{AreBytes-replicate}
-use Rattle.namespace_id.specs.Lists.{holds_along, ascending}
+use Rattle.namespace_id.specs.Lists.{ascending}
 use Rattle.namespace_id.proofs.AscendingLemmas.{length-ascending, get_or-ascending}
-use Rattle.leopard_code.specs.Codewords.{are_positions, IsCodeword, HasEntries}
+use Rattle.leopard_code.specs.Codewords.{IsCodeword}
+pub use Rattle.leopard_code.proofs.FirstLemmas.{first_positions}
 use Rattle.leopard_code.proofs.LawLemmas.{one_codeword, through_shares}
 use Rattle.axis_roots.specs.Lines.{blank}
 
@@ -47,37 +47,6 @@ share_anywhere shares i are = elim (cases_lt i (length shares)) [
 ]
 
 -- ---- the first k positions
-
--- numbers that count up are ascending
-along_ascending : (n first : ℕ) → holds_along nat_lt (ascending first n) ≡ true
-unfolding ascending holds_along
-along_ascending zero first = refl
-along_ascending (suc zero) first = refl
-along_ascending (suc (suc n)) first =
-    let next : nat_lt first (suc first) ≡ true = grind (arith, nat_tests) in
-    and_from (nat_lt first (suc first)) (holds_along nat_lt (ascending (suc first) (suc n))) next (along_ascending (suc n) (suc first))
-
--- and below their end
-below_ascending : (n first high : ℕ) → first + n ≤ high → list_all (λ pos. nat_lt pos high) (ascending first n) ≡ true
-unfolding ascending
-below_ascending zero first high h = refl
-below_ascending (suc n) first high h =
-    let here : nat_lt first high ≡ true = grind (arith, nat_tests) in
-    and_from (nat_lt first high) (list_all (λ pos. nat_lt pos high) (ascending (suc first) n)) here (below_ascending n (suc first) high (omega arith))
-
--- the first k places of a codeword are positions
-pub first_positions : (k : ℕ) → IsTrue (are_positions k (ascending 0 k))
-first_positions k =
-    and_from (list_all (λ pos. nat_lt pos (2 * k)) (ascending 0 k)) (holds_along nat_lt (ascending 0 k)) (below_ascending k 0 (2 * k) (omega arith)) (along_ascending k 0)
-
--- a list begins with its first k entries
-pub has_first : (k : ℕ) (word shares : List Share) → k ≤ length word → length shares ≡ k
-    → ((i : ℕ) → i < k → get_or word i blank ≡ get_or shares i blank) → HasEntries (ascending 0 k) shares word
-has_first k word shares long count same i h =
-    let within : i < k = omega (arith, length-ascending k 0) in
-    let start : 0 + i ≡ i = omega arith in
-    ap (slice_get word) (get_or-ascending k 0 i within ∙ start)
-    ∙ slice_get-get_or word i blank (omega arith) ∙ ap Some (same i within) ∙ sym (slice_get-get_or shares i blank (omega arith))
 
 -- two codewords with the same first k shares are one
 pub one_word : (k : ℕ) (word other : List Share) → IsTrue (is_width k) → IsCodeword k word → IsCodeword k other
