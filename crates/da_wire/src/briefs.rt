@@ -79,7 +79,7 @@ fn brief_of_kind(alloc: Global, kind: Kind, payload: &[u8]) -> Result<Option<Bri
     ensures { GivesUnlessFull result (brief_of_kind kind payload.now) }
 {
     match kind {
-        Kind::Names => Ok(places(alloc, payload)?.map(|(name, list)| Brief::Names(name, list))),
+        Kind::Names => places(alloc, payload),
         Kind::Fraud => Ok(fraud(alloc, payload)?.map(Brief::Fraud)),
         Kind::Missing => Ok(missing(alloc, payload)?.map(Brief::Missing)),
         Kind::Sample => Ok(sample(payload).map(|(cell, axis)| Brief::Sample(cell, axis))),

@@ -89,14 +89,14 @@ fn value_of_kind(alloc: Global, kind: Kind, payload: &[u8]) -> Result<Option<Fra
         Kind::Header => Ok(header(alloc, payload)?.map(Frame::Header)),
         Kind::Square => Ok(square(alloc, payload)?.map(Frame::Square)),
         Kind::Message => Ok(message(payload).map(Frame::Message)),
-        Kind::Names => Ok(names(alloc, payload)?.map(|(name, answer)| Frame::Names(name, answer))),
+        Kind::Names => names(alloc, payload),
         Kind::Fraud => Ok(fraud(alloc, payload)?.map(Frame::Fraud)),
         Kind::Missing => Ok(missing(alloc, payload)?.map(Frame::Missing)),
         Kind::Clash => Ok(clash(payload).map(Frame::Clash)),
         Kind::Sample => Ok(sample(payload).map(|(cell, axis)| Frame::Sample(cell, axis))),
         Kind::Request => Ok(request(payload).map(Frame::Request)),
         Kind::Block => Ok(block(alloc, payload)?.map(Frame::Block)),
-        Kind::Commit => Ok(commit(alloc, payload)?.map(Frame::Commit)),
+        Kind::Commit => commit(alloc, payload),
         Kind::Rooted => Ok(rooted(payload).map(Frame::Rooted)),
     }
 }

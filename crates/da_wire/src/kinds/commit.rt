@@ -3,7 +3,7 @@
 ghost use Rattle.std.specs.Prelude.{◌≡◌, ◌≤◌, ◌==◌, if◌then◌else◌, length, vec_len, None, Some, IfOk, IfSome, MatchOption, ◌+◌, ◌*◌, ◌++◌, vec_capacity, IsSome, false};
 ghost use Rattle.std.specs.Int.{w16, w32, to_be_bytes};
 ghost use Rattle.std.specs.List.{flat_map, list_any};
-ghost use Rattle.std.specs.Option.{option_map_or};
+ghost use Rattle.std.specs.Option.{option_map, option_map_or};
 ghost use Rattle.namespace_id.specs.Answers.{Gives, HasRoom};
 ghost use Rattle.frame_fields.specs.Fields.{many_at, read_items, read_rest, digests_of};
 ghost use Rattle.da_wire.specs.codec.Texts.{digest_list};
@@ -13,6 +13,7 @@ ghost use Rattle.da_wire.specs.Spelling.{max_payload};
 ghost use Rattle.da_wire.specs.Writing.{HasSize, IsWithin};
 ghost use Rattle.da_wire.specs.declared.frames.Frame.TheVariants as FrameOf;
 
+use crate::Frame;
 use crate::bounds::hash_law;
 use crate::codec::appending::{put_digests, put_hashes, put_path};
 use crate::codec::sizes::{DIGEST_SIZE, HASH_SIZE, longer};
@@ -207,22 +208,22 @@ fn row_list(alloc: Global, bytes: &[u8]) -> Result<Vec<CommitRow>, AllocError>
     rows_of(alloc, count, rest)
 }
 
-/// The commitment proof whose payload the bytes are. No memory is taken before they are known to be
-/// one.
-pub(crate) fn commit(alloc: Global, payload: &[u8]) -> Result<Option<CommitProof>, AllocError>
-    ensures { GivesUnlessFull result (commit_at payload.now) }
+/// The frame of the commitment proof whose payload the bytes are. No memory is taken before they are
+/// known to be one.
+pub(crate) fn commit(alloc: Global, payload: &[u8]) -> Result<Option<Frame>, AllocError>
+    ensures { GivesUnlessFull result (option_map FrameOf.Commit (commit_at payload.now)) }
 {
     let Some(fields) = commit_parts(payload) else {
         return Ok(None);
     };
     let rows = row_list(alloc, fields.rows)?;
-    Ok(Some(CommitProof {
+    Ok(Some(Frame::Commit(CommitProof {
         k: fields.k,
         start: fields.start,
         count: fields.count,
         commitment: fields.commitment,
         rows,
-    }))
+    })))
 }
 
 /// Whether a row has more subtrees than can be written.

@@ -10,9 +10,11 @@ ghost use Rattle.da_wire.specs.Reading.{GivesUnlessFull};
 ghost use Rattle.da_wire.specs.kinds.Names.{is_long_found, is_long_entry, is_long_answer, share_list_bytes, found_bytes, entry_bytes, names_payload, share_list_at, range_at, absence_at, found_at, entry_at, entries_at, names_at, found_place, entry_place, answer_places, place_at, found_seen, HasShares, HasFewNodes, HasNodes};
 ghost use Rattle.da_wire.specs.Spelling.{max_payload};
 ghost use Rattle.da_wire.specs.Writing.{HasSize, IsWithin};
+ghost use Rattle.da_wire.specs.declared.briefs.Brief.TheVariants as BriefOf;
 ghost use Rattle.da_wire.specs.declared.frames.Frame.TheVariants as FrameOf;
 
-use crate::briefs::{EntryPlace, FoundPlace, PlaceList};
+use crate::Frame;
+use crate::briefs::{Brief, EntryPlace, FoundPlace, PlaceList};
 use crate::codec::appending::{put_path, put_shares};
 use crate::codec::sizes::{DIGEST_SIZE, NAMESPACE_SIZE, SHARE_SIZE, longer};
 use axis_roots::{Found, NsAnswer, NsEntry, ShareList};
@@ -238,19 +240,17 @@ fn entry_list(alloc: Global, bytes: &[u8]) -> Result<Vec<NsEntry>, AllocError>
     entries_of(alloc, count, rest)
 }
 
-/// The namespace answer whose payload the bytes are. No memory is taken before they are known to be
-/// one.
-pub(crate) fn names(
-    alloc: Global,
-    payload: &[u8],
-) -> Result<Option<(Namespace, NsAnswer)>, AllocError>
-    ensures { GivesUnlessFull result (names_at payload.now) }
+/// The frame of the namespace answer whose payload the bytes are. No memory is taken before they are
+/// known to be one.
+pub(crate) fn names(alloc: Global, payload: &[u8]) -> Result<Option<Frame>, AllocError>
+    ensures { GivesUnlessFull result
+        (option_map (λ n. FrameOf.Names n.0 n.1) (names_at payload.now)) }
 {
     let Some((name, bytes)) = names_parts(payload) else {
         return Ok(None);
     };
     let entries = entry_list(alloc, bytes)?;
-    Ok(Some((name, NsAnswer { entries })))
+    Ok(Some(Frame::Names(name, NsAnswer { entries })))
 }
 
 /// The place of what is found in a row.
@@ -299,19 +299,17 @@ fn place_list(alloc: Global, bytes: &[u8]) -> Result<Vec<EntryPlace>, AllocError
     places_of(alloc, count, rest)
 }
 
-/// The namespace of the answer whose payload the bytes are, and where its entries found something. No memory is
-/// taken before they are known to be one.
-pub(crate) fn places(
-    alloc: Global,
-    payload: &[u8],
-) -> Result<Option<(Namespace, PlaceList)>, AllocError>
-    ensures { GivesUnlessFull result (option_map answer_places (names_at payload.now)) }
+/// What is shown of the namespace answer whose payload the bytes are: its namespace, and where its entries
+/// found something. No memory is taken before they are known to be one.
+pub(crate) fn places(alloc: Global, payload: &[u8]) -> Result<Option<Brief>, AllocError>
+    ensures { GivesUnlessFull result (option_map (λ n. BriefOf.Names n.0 n.1)
+        (option_map answer_places (names_at payload.now))) }
 {
     let Some((name, bytes)) = names_parts(payload) else {
         return Ok(None);
     };
     let list = place_list(alloc, bytes)?;
-    Ok(Some((name, PlaceList { list })))
+    Ok(Some(Brief::Names(name, PlaceList { list })))
 }
 
 /// Whether what is found has more shares than can be written.
