@@ -23,12 +23,18 @@ pub(crate) const NUMBER_SIZE: usize = 2;
 pub(crate) fn accused_at(wanted: u8, bytes: &[u8]) -> Option<(Axis, u16, &[u8])>
     ensures { Gives (λ x. ((x.0, x.1), x.2.now)) result (accused_at wanted bytes.now) }
 {
-    let (form, rest) = u8_at(bytes)?;
+    let Some((form, rest)) = u8_at(bytes) else {
+        return None;
+    };
     if form != wanted {
         return None;
     }
-    let (axis, rest) = axis_at(rest)?;
-    let (index, rest) = u16_at(rest)?;
+    let Some((axis, rest)) = axis_at(rest) else {
+        return None;
+    };
+    let Some((index, rest)) = u16_at(rest) else {
+        return None;
+    };
     Some((axis, index, rest))
 }
 

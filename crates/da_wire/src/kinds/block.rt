@@ -91,9 +91,15 @@ fn blob_at(bytes: &[u8]) -> Option<(BlobFields<'_>, &[u8])>
       x.1.now,
     )) result (blob_at bytes.now) }
 {
-    let (namespace, rest) = name_at(bytes)?;
-    let (signer, rest) = signer_at(rest)?;
-    let (bytes, rest) = text_at(rest, MOST)?;
+    let Some((namespace, rest)) = name_at(bytes) else {
+        return None;
+    };
+    let Some((signer, rest)) = signer_at(rest) else {
+        return None;
+    };
+    let Some((bytes, rest)) = text_at(rest, MOST) else {
+        return None;
+    };
     let blob = BlobFields {
         namespace,
         signer,

@@ -37,8 +37,12 @@ fn side_at(bytes: &[u8]) -> Option<(&[u8], &[u8])>
 pub(crate) fn clash(payload: &[u8]) -> Option<Clash>
     ensures { result ≡ clash_at payload.now }
 {
-    let (left, rest) = side_at(payload)?;
-    let (right, rest) = side_at(rest)?;
+    let Some((left, rest)) = side_at(payload) else {
+        return None;
+    };
+    let Some((right, rest)) = side_at(rest) else {
+        return None;
+    };
     if !rest.is_empty() {
         return None;
     }

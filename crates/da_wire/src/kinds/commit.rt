@@ -75,10 +75,18 @@ fn row_at(bytes: &[u8]) -> Option<(RowFields<'_>, &[u8])>
     )) result (row_at bytes.now) }
     ensures all { IfSome result (λ x. length x.0.subtrees.now ≡ 90 * x.0.count) }
 {
-    let (root, rest) = digest_at(bytes)?;
-    let (up, rest) = hashes_at(rest)?;
-    let (count, subtrees, rest) = digest_list_at(rest, MOST_SUBTREES)?;
-    let (nodes, rest) = nodes_at(rest)?;
+    let Some((root, rest)) = digest_at(bytes) else {
+        return None;
+    };
+    let Some((up, rest)) = hashes_at(rest) else {
+        return None;
+    };
+    let Some((count, subtrees, rest)) = digest_list_at(rest, MOST_SUBTREES) else {
+        return None;
+    };
+    let Some((nodes, rest)) = nodes_at(rest) else {
+        return None;
+    };
     let row = RowFields {
         root,
         up,

@@ -85,10 +85,18 @@ fn cell_path_at(along: bool, bytes: &[u8]) -> Option<(Path, &[u8])>
 fn set_cell_at(accused: Axis, index: u16, bytes: &[u8]) -> Option<(Message, &[u8])>
     ensures { Gives (λ x. (x.0, x.1.now)) result (set_cell_at accused index bytes.now) }
 {
-    let (pos, rest) = u16_at(bytes)?;
-    let (axis, rest) = tag_at(accused, rest)?;
-    let (share, rest) = share_at(rest)?;
-    let (path, rest) = cell_path_at(is_one_axis(accused, axis), rest)?;
+    let Some((pos, rest)) = u16_at(bytes) else {
+        return None;
+    };
+    let Some((axis, rest)) = tag_at(accused, rest) else {
+        return None;
+    };
+    let Some((share, rest)) = share_at(rest) else {
+        return None;
+    };
+    let Some((path, rest)) = cell_path_at(is_one_axis(accused, axis), rest) else {
+        return None;
+    };
     let message = Message {
         cell: cell_on(accused, index, pos),
         axis,

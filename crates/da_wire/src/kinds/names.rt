@@ -66,8 +66,12 @@ fn share_list_at(bytes: &[u8]) -> Option<(u16, &[u8], &[u8])>
         result (share_list_at bytes.now) }
     ensures all { IfSome result (λ x. length x.1.now ≡ 512 * x.0) }
 {
-    let (count, rest) = count16_at(bytes, MOST_SHARES)?;
-    let (shares, rest) = shares_at(count, rest)?;
+    let Some((count, rest)) = count16_at(bytes, MOST_SHARES) else {
+        return None;
+    };
+    let Some((shares, rest)) = shares_at(count, rest) else {
+        return None;
+    };
     Some((count, shares, rest))
 }
 
@@ -79,9 +83,15 @@ fn range_at(bytes: &[u8]) -> Option<(FoundFields<'_>, &[u8])>
     ensures few { IfSome result (λ x. HasFewNodes x.0) }
     ensures nodes { IfSome result (λ x. HasNodes x.0) }
 {
-    let (start, rest) = u16_at(bytes)?;
-    let (count, shares, rest) = share_list_at(rest)?;
-    let (node_count, nodes, rest) = node_list_at(rest)?;
+    let Some((start, rest)) = u16_at(bytes) else {
+        return None;
+    };
+    let Some((count, shares, rest)) = share_list_at(rest) else {
+        return None;
+    };
+    let Some((node_count, nodes, rest)) = node_list_at(rest) else {
+        return None;
+    };
     let found = FoundFields::Range {
         start,
         count,
@@ -100,9 +110,15 @@ fn absence_at(bytes: &[u8]) -> Option<(FoundFields<'_>, &[u8])>
     ensures few { IfSome result (λ x. HasFewNodes x.0) }
     ensures nodes { IfSome result (λ x. HasNodes x.0) }
 {
-    let (pos, rest) = u16_at(bytes)?;
-    let (leaf, rest) = digest_at(rest)?;
-    let (node_count, nodes, rest) = node_list_at(rest)?;
+    let Some((pos, rest)) = u16_at(bytes) else {
+        return None;
+    };
+    let Some((leaf, rest)) = digest_at(rest) else {
+        return None;
+    };
+    let Some((node_count, nodes, rest)) = node_list_at(rest) else {
+        return None;
+    };
     let found = FoundFields::Absence {
         pos,
         leaf,
@@ -137,8 +153,12 @@ fn entry_at(bytes: &[u8]) -> Option<(u16, FoundFields<'_>, &[u8])>
     ensures few { IfSome result (λ x. HasFewNodes x.1) }
     ensures nodes { IfSome result (λ x. HasNodes x.1) }
 {
-    let (row, rest) = u16_at(bytes)?;
-    let (found, rest) = found_at(rest)?;
+    let Some((row, rest)) = u16_at(bytes) else {
+        return None;
+    };
+    let Some((found, rest)) = found_at(rest) else {
+        return None;
+    };
     Some((row, found, rest))
 }
 

@@ -19,8 +19,12 @@ pub(crate) const SAMPLE_SIZE: u32 = CELL_SIZE as u32 + 1;
 pub(crate) fn sample(payload: &[u8]) -> Option<(Cell, Axis)>
     ensures { result ≡ sample_at payload.now }
 {
-    let (cell, rest) = cell_at(payload)?;
-    let (axis, rest) = axis_at(rest)?;
+    let Some((cell, rest)) = cell_at(payload) else {
+        return None;
+    };
+    let Some((axis, rest)) = axis_at(rest) else {
+        return None;
+    };
     if !rest.is_empty() {
         return None;
     }

@@ -22,10 +22,18 @@ const BARE_SIZE: u32 = WIDTH_SIZE + MESSAGE_SIZE as u32 + DIGEST_SIZE as u32 + 1
 pub(crate) fn rooted(payload: &[u8]) -> Option<RootedMessage>
     ensures { result ≡ rooted_at payload.now }
 {
-    let (k, rest) = u16_at(payload)?;
-    let (message, rest) = message_front(rest)?;
-    let (root, rest) = digest_at(rest)?;
-    let (up, rest) = hashes_at(rest)?;
+    let Some((k, rest)) = u16_at(payload) else {
+        return None;
+    };
+    let Some((message, rest)) = message_front(rest) else {
+        return None;
+    };
+    let Some((root, rest)) = digest_at(rest) else {
+        return None;
+    };
+    let Some((up, rest)) = hashes_at(rest) else {
+        return None;
+    };
     if !rest.is_empty() {
         return None;
     }
