@@ -6,7 +6,7 @@ ghost use Rattle.da_c.specs.Calls.{Checks, IsProvedUnder, IsOwnUnder, Holds, Ver
 
 use crate::replies::{Reply, unread_reply, verdict};
 use axis_roots::opens;
-use da_commands::{
+use da_answers::{
     answer_in, check_number, header_in, message_in, refusal_for, refusal_of, request_in,
 };
 use std::alloc::Global;

@@ -1,4 +1,2 @@
-pub mod Files
 pub mod Answering
-pub mod Following
 pub mod MeaningLemmas

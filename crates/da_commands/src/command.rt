@@ -2,14 +2,15 @@
 
 ghost use Rattle.std.specs.Prelude.{◌≡◌, ◌≢◌};
 ghost use Rattle.da_commands.specs.declared.command.Command.TheVariants as CommandOf;
-ghost use Rattle.da_commands.specs.Contents.{contents_of};
+ghost use Rattle.da_answers.specs.Contents.{contents_of};
 ghost use Rattle.da_status.specs.declared.status.Status.TheVariants.{NoMemory};
 ghost use Rattle.da_commands.specs.Meaning.{Meaning, TakesFirst, IsRunnable};
 ghost use Rattle.da_status.specs.Outcome.{Ends};
 
-use crate::{
-    blobs, build, check, commit, compact, demo, follow, header, help, light, namespace, net, prove,
-    root, sample, show, verify, verify_for, wanted,
+use crate::{demo, help, net, show};
+use da_answers::{
+    blobs, build, check, commit, compact, follow, header, light, namespace, prove, root, sample,
+    verify, verify_for, wanted,
 };
 use da_io::Sink;
 use da_status::Status;

@@ -51,21 +51,6 @@ module _ (files : List (List ℕ)) (Answer : Relation) where
 pub shows_answers : (shown : Frame → List ℕ) (frames : List Frame) (w : List ℕ) (status : Status) → Shows shown frames w status → IsAnswer (kind_of status)
 shows_answers shown frames w status shows = status_answers status Done shows.1 tt
 
--- the frame that was found at the front is the first one
-pub first_is : (kinds bytes : List ℕ) (found : Option (Frame × Bor (List ℕ))) (frame : Frame) (after : Bor (List ℕ)) → found ≡ Some (frame, after)
-    → MatchOption found (values_of kinds bytes ≡ []) (λ x. values_of kinds bytes ≡ x.0 ∷ values_of kinds x.1.now)
-    → values_of kinds bytes ≡ frame ∷ values_of kinds after.now
-first_is kinds bytes found frame after is values =
-    subst (λ (o : Option (Frame × Bor (List ℕ))). MatchOption o (values_of kinds bytes ≡ []) (λ (x : Frame × Bor (List ℕ)). values_of kinds bytes ≡ x.0 ∷ values_of kinds x.1.now))
-    is values
-
--- where no frame is found at the front there is none
-pub none_is : (kinds bytes : List ℕ) (found : Option (Frame × Bor (List ℕ))) → found ≡ None
-    → MatchOption found (values_of kinds bytes ≡ []) (λ x. values_of kinds bytes ≡ x.0 ∷ values_of kinds x.1.now) → values_of kinds bytes ≡ []
-none_is kinds bytes found is values =
-    subst (λ (o : Option (Frame × Bor (List ℕ))). MatchOption o (values_of kinds bytes ≡ []) (λ (x : Frame × Bor (List ℕ)). values_of kinds bytes ≡ x.0 ∷ values_of kinds x.1.now))
-    is values
-
 -- the next frame's line comes next
 pub next_shown : (shown : Frame → List ℕ) (values later : List Frame) (frame : Frame) (text : List ℕ) → values ≡ frame ∷ later → text ≡ line_of shown frame
     → shown_bytes shown values ≡ text ++ shown_bytes shown later

@@ -1,0 +1,25 @@
+-- What each command answers.
+pub mod AheadLemmas
+pub mod CheckLemmas
+pub mod ClashLemmas
+pub mod RepairLemmas
+pub mod LightLemmas
+pub mod NodeLemmas
+pub mod BuildLemmas
+pub mod HeaderLemmas
+pub mod ChoiceLemmas
+pub mod ServingLemmas
+pub mod SampleLemmas
+pub mod AskedLemmas
+pub mod AnswerLemmas
+pub mod NamespaceLemmas
+pub mod VerifyLemmas
+pub mod CompactLemmas
+pub mod VerifyForLemmas
+pub mod AllowedLemmas
+pub mod RootLemmas
+pub mod WantedLemmas
+pub mod BlobsLemmas
+pub mod CommitLemmas
+pub mod ProveLemmas
+pub mod BackLemmas

@@ -1,0 +1,80 @@
+//! root HEADER, root HEADER ROOT: the data root of a header, and whether it is a given one.
+
+ghost use Rattle.std.specs.Prelude.{◌≡◌};
+ghost use Rattle.data_header.specs.DataRoots.{data_root_of};
+ghost use Rattle.da_answers.specs.Contents.{contents_of};
+ghost use Rattle.da_answers.specs.Frames.{WritesText, header_in};
+ghost use Rattle.da_answers.specs.Root.{root_line, root_refusal, RootOf, RootIsOf};
+ghost use Rattle.da_answers.specs.Forms.{single_judged};
+ghost use Rattle.da_status.specs.Judging.{Judged};
+ghost use Rattle.da_status.specs.declared.status.Status.TheVariants as StatusOf;
+ghost use Rattle.da_status.specs.Outcome.{EndsAtOnce};
+
+use crate::forms::one_header;
+use crate::frames::put;
+use crate::verify::give_line;
+use da_io::Sink;
+use da_status::{Line, Status};
+use data_header::{Header, data_root};
+use std::alloc::Global;
+
+/// The line of a hash, as a data root is one, in hexadecimal digits.
+pub(crate) fn hash_line(hash: &[u8; 32]) -> Line
+    ensures { result ≡ root_line hash.now }
+{
+    let mut digits = [0u8; 64];
+    let _written = hex::encode_to_slice(hash, &mut digits);
+    let mut line = Line::new();
+    line.put(&digits);
+    line.put(b"\n");
+    line
+}
+
+/// The number of the refusal of a header by the data root that it is to have, none where it has it.
+fn root_refusal(header: &Header, root: &[u8; 32]) -> Option<u64>
+    ensures { result ≡ root_refusal header.now root.now }
+{
+    if data_root(header) == *root {
+        None
+    } else {
+        Some(1)
+    }
+}
+
+/// Writes the line of a header's data root. It takes no memory.
+fn give_root<O: Sink>(header: &Header, out: &mut O) -> Status
+    ensures { EndsAtOnce (WritesText StatusOf.Done (root_line (data_root_of header.now)))
+        (O.taken out.old) (O.taken out.new) (O.faults out.old) (O.faults out.new)
+        (out.new ≡ out.old) result }
+{
+    put(hash_line(&data_root(header)).as_bytes(), Status::Done, out)
+}
+
+/// Answers the data root of the header in HEADER.
+pub fn root<O: Sink>(alloc: Global, files: &[Vec<u8>], out: &mut O) -> Status
+    ensures { EndsAtOnce (Judged (single_judged header_in (contents_of files.now))
+        (RootOf (contents_of files.now))) (O.taken out.old) (O.taken out.new) (O.faults out.old)
+        (O.faults out.new) (out.new ≡ out.old) result }
+{
+    match one_header(alloc, files) {
+        Ok(header) => give_root(&header, out),
+        Err(status) => status,
+    }
+}
+
+/// Answers whether the header in HEADER has this data root.
+pub fn root_is<O: Sink>(
+    alloc: Global,
+    files: &[Vec<u8>],
+    root: &[u8; 32],
+    out: &mut O,
+) -> Status
+    ensures { EndsAtOnce (Judged (single_judged header_in (contents_of files.now))
+        (RootIsOf root.now (contents_of files.now))) (O.taken out.old) (O.taken out.new)
+        (O.faults out.old) (O.faults out.new) (out.new ≡ out.old) result }
+{
+    match one_header(alloc, files) {
+        Ok(header) => give_line(root_refusal(&header, root), out),
+        Err(status) => status,
+    }
+}
