@@ -1,6 +1,7 @@
 -- Samples, certificates and fraud claims.
 pub mod SizeLemmas
 pub mod MessageLemmas
+pub mod HalfLemmas
 pub mod OwnLemmas
 pub mod ClaimLemmas
 pub mod SetLemmas

@@ -4,6 +4,7 @@ pub mod Proved
 pub mod Lines
 pub mod Grids
 pub mod Quarters
+pub mod Halves
 pub mod Own
 pub mod Answers
 pub mod Trees

@@ -2,8 +2,9 @@
 //! proved under a header.
 //!
 //! `Grid::extend` makes the extension of a square, `header_of` the header of a grid, and
-//! `header_of_square` that of a square without its extension in memory; `message_of` makes a sample,
-//! one share with its inclusion proof along a row or a column. `opens` judges one, and `Proved` is the
+//! `header_of_square` that of a square without its extension in memory, and a `LeftHalf` besides the
+//! samples of some cells; `message_of` makes a sample, one share with its inclusion proof along a row or
+//! a column. `opens` judges one, and `Proved` is the
 //! certificate of one that it accepts: only `check` makes it. `PartialTrees` has both calls for many
 //! samples under one header, and remembers the digests that these have shown.
 //!
@@ -13,11 +14,13 @@
 
 mod answers;
 mod claims;
+mod halves;
 mod message;
 mod square;
 
 pub use answers::{Found, NsAnswer, NsEntry, ShareList, answer_law};
 pub use claims::{FraudClaim, FraudProof, SetNodes, claim_law, claim_laws, is_along};
+pub use halves::LeftHalf;
 pub use message::{
     CheckRefusal, Message, PartialTrees, Proved, RefusedMessage, check, index, made_laws,
     message_from, message_law, message_laws, message_of, opens, opens_by, opens_hashed_by,

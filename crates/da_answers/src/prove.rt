@@ -23,7 +23,7 @@ ghost use Rattle.da_status.specs.Outcome.{Ends, EndsAtOnce};
 use crate::forms::{one_square, square_and_requests};
 use crate::frames::give;
 use crate::sample::{first_outside, next_sample};
-use axis_roots::{Grid, Message, grid_laws, header_of, index};
+use axis_roots::{Grid, LeftHalf, Message, grid_laws, header_of, index};
 use blob_commit::{
     CommitProof, ProveError, RootedMessage, commit_law, prove_commit, row_trees, sample_laws,
 };
@@ -35,6 +35,13 @@ use namespace_id::NoMemory;
 use square_layout::Square;
 use square_serve::{Held, HeldError, serve_laws};
 use std::alloc::Global;
+
+/// How many requests are answered from the left half of the extension. A proof from there hashes the nodes
+/// over an axis, and may extend a row; from so many on trees of all rows and columns cost less.
+const FEW_REQUESTS: usize = 64;
+
+/// How many bytes the frame of a request has.
+const REQUEST_LENGTH: usize = 10;
 
 /// The tree over the roots of a held square's header.
 fn data_tree(alloc: Global, held: &mut Held) -> Result<DataTree, NoMemory>
@@ -104,8 +111,8 @@ fn give_proofs<O: Sink>(alloc: Global, held: &mut Held, requests: &[u8], out: &m
     Status::Done
 }
 
-/// Answers to the requests over a square.
-fn answer<O: Sink>(alloc: Global, square: Square, requests: &[u8], out: &mut O) -> Status
+/// Answers to the requests over a square, from its whole extension and the trees of all rows and columns.
+fn answer_many<O: Sink>(alloc: Global, square: Square, requests: &[u8], out: &mut O) -> Status
     ensures { Ends (Serves square (is_asked_inside square) (AllowsRootProof square)
         (samples_in requests.now)) (O.taken out.old) (O.taken out.new) (O.faults out.old)
         (O.faults out.new) (out.new ≡ out.old) result }
@@ -120,6 +127,66 @@ fn answer<O: Sink>(alloc: Global, square: Square, requests: &[u8], out: &mut O) 
     match first_outside(k, requests) {
         Some(number) => Status::BadRequest(Asked::At(number)),
         None => give_proofs(alloc, &mut held, requests, out),
+    }
+}
+
+/// Writes root proofs of the samples that are asked for, one at a time, from the left half of the
+/// extension. The cells are in the square.
+fn give_few<O: Sink>(alloc: Global, half: &mut LeftHalf, requests: &[u8], out: &mut O) -> Status
+    requires { failing_from (λ asked. is_in_square half.old.square.k asked.0) 0
+        (samples_in requests.now) ≡ None }
+    ensures { Ends (Gives (AllowsRootProof half.old.square half.old.header) (samples_in requests.now))
+        (O.taken out.old) (O.taken out.new) (O.faults out.old) (O.faults out.new)
+        (out.new ≡ out.old) result }
+{
+    wire_laws();
+    sample_laws();
+    half.law();
+    let Ok(roots) = DataTree::of(alloc, half.header()) else {
+        return Status::NoMemory;
+    };
+    let mut text = Vec::new(alloc);
+    let mut rest = requests;
+    while let Some((asked, after)) = next_sample(rest) {
+        let message = half.sample(asked.0, asked.1);
+        let proof = root_proof(&roots, message);
+        let status = give(rooted_frame(proof), &mut text, out);
+        match status {
+            Status::Done => rest = after,
+            failed => return failed,
+        }
+    }
+    Status::Done
+}
+
+/// Answers to the requests over a square, from the left half of its extension.
+fn answer_few<O: Sink>(alloc: Global, square: Square, requests: &[u8], out: &mut O) -> Status
+    ensures { Ends (Serves square (is_asked_inside square) (AllowsRootProof square)
+        (samples_in requests.now)) (O.taken out.old) (O.taken out.new) (O.faults out.old)
+        (O.faults out.new) (out.new ≡ out.old) result }
+{
+    let k = square.k;
+    let mut half = match LeftHalf::of(alloc, square) {
+        Ok(Some(half)) => half,
+        Ok(None) => return Status::BadRequest(Asked::NoHeader),
+        Err(_) => return Status::NoMemory,
+    };
+    match first_outside(k, requests) {
+        Some(number) => Status::BadRequest(Asked::At(number)),
+        None => give_few(alloc, &mut half, requests, out),
+    }
+}
+
+/// Answers to the requests over a square, by how many they are.
+fn answer<O: Sink>(alloc: Global, square: Square, requests: &[u8], out: &mut O) -> Status
+    ensures { Ends (Serves square (is_asked_inside square) (AllowsRootProof square)
+        (samples_in requests.now)) (O.taken out.old) (O.taken out.new) (O.faults out.old)
+        (O.faults out.new) (out.new ≡ out.old) result }
+{
+    if requests.len() <= FEW_REQUESTS * REQUEST_LENGTH {
+        answer_few(alloc, square, requests, out)
+    } else {
+        answer_many(alloc, square, requests, out)
     }
 }
 

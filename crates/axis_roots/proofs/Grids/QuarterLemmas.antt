@@ -163,6 +163,37 @@ row_word k square quarter grid left right row width lower extended hr is long co
     ∙ ap (λ (l : List Share). get_or l q blank) (sym is)
     ∙ sym (get_or_append_left left right blank q (omega arith)))
 
+-- the right half of a row of the extension has the last k shares of that row
+right_share : (k : ℕ) (square quarter grid left right : List Share) (row pos : ℕ) → IsTrue (is_width k) → IsLowerLeft k square quarter → Extends k square grid → row < 2 * k → pos < k
+    → left ≡ left_half k square quarter row → length left ≡ k → IsCodeword k (left ++ right) → get_or right pos blank ≡ share_at (2 * k) grid (cell_in row (k + pos))
+right_share k square quarter grid left right row pos width lower extended hr hp is long code =
+    sym (get_or-append-add left right pos blank)
+    ∙ ap (λ (n : ℕ). get_or (left ++ right) (n + pos) blank) long
+    ∙ ap (λ (word : List Share). get_or word (k + pos) blank) (sym (row_word k square quarter grid left right row width lower extended hr is long code))
+    ∙ get_or-along k (share_at (2 * k) grid) Row row (k + pos) blank (omega arith)
+
+-- ---- the share of a cell
+
+-- a cell of the left half
+pub left_cell : (k m : ℕ) (square quarter left : List Share) (cell : Cell) (share : Share) → m ≡ k → IsTrue (is_width m) → IsLowerLeft k square quarter
+    → IsTrue (is_in_square k cell) → left ≡ left_half k square quarter cell.row → cell.col < m → share ≡ get_or left cell.col blank
+    → (grid : List Share) → Extends k square grid → share ≡ share_at (2 * k) grid cell
+left_cell k m square quarter left cell share same width lower within is low at grid extended =
+    at ∙ ap (λ (l : List Share). get_or l cell.col blank) is
+    ∙ left_share k square quarter grid (subst (λ (n : ℕ). IsTrue (is_width n)) same width) lower extended cell.row cell.col (inside k cell within).0 (omega arith)
+
+-- a cell of the right half
+pub right_cell : (k m a : ℕ) (square quarter left right : List Share) (cell : Cell) (share : Share) → m ≡ k → a ≡ k → IsTrue (is_width m) → IsLowerLeft k square quarter
+    → IsTrue (is_in_square k cell) → left ≡ left_half k square quarter cell.row → length left ≡ k → IsCodeword a (left ++ right) → m ≤ cell.col
+    → share ≡ get_or right (cell.col - m) blank → (grid : List Share) → Extends k square grid → share ≡ share_at (2 * k) grid cell
+right_cell k m a square quarter left right cell share same wide width lower within is long code high at grid extended =
+    let col : cell.col < 2 * k = (inside k cell within).1 in
+    let place : k + (cell.col - m) ≡ cell.col = omega arith in
+    at
+    ∙ right_share k square quarter grid left right cell.row (cell.col - m) (subst (λ (n : ℕ). IsTrue (is_width n)) same width) lower extended
+    (inside k cell within).0 (omega arith) is long (subst (λ (n : ℕ). IsCodeword n (left ++ right)) wide code)
+    ∙ ap (λ (n : ℕ). share_at (2 * k) grid (cell_in cell.row n)) place
+
 -- ---- leaves over a row
 
 -- the leaves over cells of a row beside each other
@@ -260,7 +291,7 @@ every_next k m a square quarter left right was half new row same wide width lowe
 -- ---- headers
 
 -- the shares of an extension are shares
-extension_shares : (k : ℕ) (square grid : List Share) → IsTrue (is_width k) → Extends k square grid → AreShares grid
+pub extension_shares : (k : ℕ) (square grid : List Share) → IsTrue (is_width k) → Extends k square grid → AreShares grid
 extension_shares k square grid width extended =
     let some : 0 < k = is_width-pos k width in
     shares_each grid blank (λ number h.

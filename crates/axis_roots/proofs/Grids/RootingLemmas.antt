@@ -1,8 +1,8 @@
 -- Roots of axes, from the digests of the leaves over all cells.
-use Rattle.std.proofs.Common.{◌≡◌, ◌∙◌, ℕ, ◌+◌, ◌-◌, ◌*◌, ◌^◌, ◌<◌, ◌≤◌, List, length, get_or, set, map, Bool, true, false, cond, refl, sym, ap, ap₂, subst, inl, inr, arith, below_more, IsTrue}
+use Rattle.std.proofs.Common.{◌≡◌, ◌∙◌, ℕ, ◌+◌, ◌-◌, ◌*◌, ◌^◌, ◌<◌, ◌≤◌, List, length, get_or, set, map, Bool, true, false, cond, refl, sym, ap, ap₂, subst, arith, below_more, IsTrue}
 use Rattle.std.specs.Prelude.{Some, None}
 use Rattle.std.specs.List.{list_all}
-use Rattle.std.proofs.lemmas.Bool.{cases_eq, false_from_ne_true}
+use Rattle.std.proofs.lemmas.Bool.{false_from_ne_true}
 use Rattle.std.proofs.lemmas.List.{get_or-map, length-map, get_or-set_same, get_or-set_other, ext_get_or}
 use Rattle.namespace_id.specs.declared.cells.Cell.{Cell}
 use Rattle.namespace_id.specs.declared.cells.Axis.{Axis}
@@ -12,7 +12,7 @@ use Rattle.namespace_id.specs.declared.digests.Digest.{Digest}
 use Rattle.namespace_id.specs.Shares.{AreShares}
 use Rattle.namespace_id.specs.Names.{is_at_most, parity}
 use Rattle.namespace_id.specs.Digests.{least_of, no_digest}
-use Rattle.namespace_id.specs.Cells.{is_width, is_in_square, leaf_namespace}
+use Rattle.namespace_id.specs.Cells.{is_width, leaf_namespace}
 use Rattle.namespace_id.proofs.ShareLemmas.{name_of-is}
 use Rattle.nmt_tree.specs.Roots.{halvings, is_ordered, strict_root}
 use Rattle.nmt_tree.specs.Levels.{span}
@@ -25,7 +25,6 @@ use Rattle.namespace_id.proofs.PowerLemmas.{double_power}
 use Rattle.axis_roots.specs.Lines.{cell_on, line_root, line_strict_root}
 use Rattle.axis_roots.specs.Grids.{share_at, axis_cells, axis_names, axis_shares, axis_root, axis_roots, leaf_over, AreLeafDigests, is_ordered_axis}
 use Rattle.axis_roots.specs.Trees.{axis_leaves}
-use Rattle.axis_roots.proofs.Grids.NumberLemmas.{inside, cell_of, cell_of-number}
 use Rattle.axis_roots.proofs.Grids.AxisLemmas.{get_or-mapped, length-along, get_or-along, is_along}
 use Rattle.axis_roots.proofs.Grids.WordLemmas.{share_anywhere}
 use Rattle.axis_roots.proofs.Grids.LineLemmas.{length-line_names, axis_names-cells, axis_leaves-cells}

@@ -75,7 +75,7 @@ pub(super) fn leaves_of(alloc: Global, grid: &Grid) -> Result<Vec<Digest>, NoMem
 }
 
 /// Copies the digests of the leaves over an axis from those over all cells.
-pub(super) fn read_leaves(k: u16, leaves: &[Digest], axis: Axis, index: u16, line: &mut [Digest])
+pub(crate) fn read_leaves(k: u16, leaves: &[Digest], axis: Axis, index: u16, line: &mut [Digest])
     requires width { IsTrue (is_width k) }
     requires leaves { length leaves.now ≡ 2 * k * (2 * k) }
     requires index { index < 2 * k }

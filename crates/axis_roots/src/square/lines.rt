@@ -13,7 +13,7 @@ use namespace_id::{Axis, BLANK_DIGEST, Cell, Digest, Namespace, Share, leaf_name
 use nmt_tree::{are_ordered, fold_leaves};
 
 /// How many shares the longest axis has: 2k for the greatest width, 128.
-pub(super) const LONGEST_AXIS: usize = 256;
+pub(crate) const LONGEST_AXIS: usize = 256;
 
 /// The cell at a position of a row or a column of this index.
 ///

@@ -7,14 +7,15 @@
 
 ghost use Rattle.std.specs.Prelude.{◌≡◌, ◌≢◌, ◌⊎◌, ◌+◌, ◌*◌, ◌<◌, ◌≤◌, ℕ, List, IsTrue, IfOk, IfSome, IsNone, length, get_or};
 ghost use Rattle.namespace_id.specs.declared.shares.Share.{Share as ShareOf};
-ghost use Rattle.namespace_id.specs.Cells.{is_width, cell_in, leaf_namespace};
+ghost use Rattle.namespace_id.specs.Cells.{is_width, is_in_square, cell_in, leaf_namespace};
 ghost use Rattle.namespace_id.specs.Digests.{no_digest};
 ghost use Rattle.namespace_id.specs.Names.{parity};
 ghost use Rattle.nmt_tree.specs.Digests.{leaf_digest};
 ghost use Rattle.axis_roots.specs.Lines.{blank};
-ghost use Rattle.axis_roots.specs.Grids.{Extends, AreLeafDigests, IsHeaderOf, HasNoHeader};
+ghost use Rattle.axis_roots.specs.Grids.{share_at, Extends, AreLeafDigests, IsHeaderOf, HasNoHeader};
 ghost use Rattle.axis_roots.specs.Quarters.{quarter_column, IsLowerLeft, left_half};
 
+use super::lines::LONGEST_AXIS;
 use super::rooting::header_over;
 use data_header::Header;
 use leopard_code::{Room, extend};
@@ -161,11 +162,16 @@ fn fill_rows(
     }
 }
 
-/// The digests of the leaves over all cells of the extension of a square.
-fn square_leaves(alloc: Global, square: &Square) -> Result<Vec<Digest>, NoMemory>
-    ensures leaves { IfOk result (λ leaves. (grid : List ShareOf) →
-        Extends square.now.k square.now.shares grid → AreLeafDigests square.now.k grid leaves.items) }
-    ensures count { IfOk result (λ leaves. length leaves.items ≡ 2 * square.now.k * (2 * square.now.k)) }
+/// The lower left quarter of the extension of a square, and the digests of the leaves over all of its
+/// cells.
+pub(crate) fn quarter_and_leaves(
+    alloc: Global,
+    square: &Square,
+) -> Result<(Vec<Share>, Vec<Digest>), NoMemory>
+    ensures quarter { IfOk result (λ made. IsLowerLeft square.now.k square.now.shares made.0.items) }
+    ensures leaves { IfOk result (λ made. (grid : List ShareOf) →
+        Extends square.now.k square.now.shares grid → AreLeafDigests square.now.k grid made.1.items) }
+    ensures count { IfOk result (λ made. length made.1.items ≡ 2 * square.now.k * (2 * square.now.k)) }
 {
     let k = square.k as usize;
     let mut room = Room::new(alloc, square.k)?;
@@ -182,7 +188,28 @@ fn square_leaves(alloc: Global, square: &Square) -> Result<Vec<Digest>, NoMemory
         &mut names,
         &mut leaves,
     );
-    Ok(leaves)
+    Ok((quarter, leaves))
+}
+
+/// The share of a cell of the extension: one of the left half, or a recovery share of its row. It takes
+/// no memory.
+pub(crate) fn share_of(room: &mut Room, square: &Square, quarter: &[Share], cell: Cell) -> Share
+    requires room { room.old ≡ square.now.k }
+    requires quarter { IsLowerLeft square.now.k square.now.shares quarter.now }
+    requires cell { IsTrue (is_in_square square.now.k cell) }
+    ensures room { room.new ≡ room.old }
+    ensures share { (grid : List ShareOf) → Extends square.now.k square.now.shares grid →
+        result ≡ share_at (2 * square.now.k) grid cell }
+{
+    let (k, col) = (square.k as usize, cell.col as usize);
+    let left = left_half(square, quarter, cell.row);
+    if col < k {
+        return left[col];
+    }
+    let mut line = [Share([0; 512]); LONGEST_AXIS];
+    let right = &mut line[..k];
+    extend(room, left, right);
+    right[col - k]
 }
 
 /// The data availability header (DAH) of a square: that of its extension, none exactly where the namespaces
@@ -198,6 +225,6 @@ pub fn header_of_square(alloc: Global, square: &Square) -> Result<Option<Header>
     ensures none { IfOk result (λ found. IsNone found → HasNoHeader square.now) }
 {
     shares_law(&square.shares);
-    let leaves = square_leaves(alloc, square)?;
+    let (_, leaves) = quarter_and_leaves(alloc, square)?;
     header_over(alloc, square.k, &leaves)
 }

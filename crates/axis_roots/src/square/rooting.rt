@@ -97,7 +97,7 @@ fn roots_of(
 }
 
 /// The header over the digests of the leaves over all cells.
-pub(super) fn header_over(
+pub(crate) fn header_over(
     alloc: Global,
     k: u16,
     leaves: &[Digest],

@@ -77,6 +77,14 @@ is_root_proof held square asked m proof holds cell axis share width message root
       holds = root;
     }
 
+-- a square with its header, as one that is held
+abbrev pub held_of : (header : Roots) (square : SquareShares) → IsHeaderOf header square → HeldParts
+held_of header square own = record { k = square.k; grid = own.grid; header = header }
+
+-- it holds the square
+pub holds_own : (header : Roots) (square : SquareShares) (own : IsHeaderOf header square) → Holds (held_of header square own) square
+holds_own header square own = record { whole = own.whole; width = refl; extends = own.extends; roots = own.roots }
+
 -- a sample has a root proof under the data root of a header
 abbrev pub HasRootProof : Roots → sent.Message → Type 0
 HasRootProof header m =

@@ -4,7 +4,7 @@ use Rattle.namespace_id.specs.declared.shares.Share.{Share}
 use Rattle.square_layout.specs.Blocks.{SquareShares}
 use Rattle.axis_roots.specs.Quarters.{IsLowerLeft}
 use Rattle.axis_roots.specs.Grids.{AreLeafDigests}
-use Rattle.axis_roots.proofs.square.quarters.square_leaves.Goals as goal
+use Rattle.axis_roots.proofs.square.quarters.quarter_and_leaves.Goals as goal
 
 -- what was lent whole is what was left there
 lent : {A : Type 0} (n : ℕ) (new old : List A) → n ≡ length new → take n (new ++ drop (length new) old) ≡ new
@@ -55,7 +55,15 @@ pub fill_rows-requires-clause-leaves : goal.fill_rows-requires-clause-leaves
 fill_rows-requires-clause-leaves c =
     c.deref_mut-5.ensures.len ∙ c.in_ok-leaves.ensures.len ∙ ap (λ (s : SquareShares). 2 * s.k * (2 * s.k)) c.square.view_is
 
--- and holds what was written into it
+-- what was written into the quarter is there
+pub returns-clause-quarter : goal.returns-clause-quarter
+returns-clause-quarter c =
+    subst (IsLowerLeft c.args.square.now.k c.args.square.now.shares)
+    (sym (lent _ c.fill_quarter.new.quarter c.in_ok-quarter.quarter.items
+    (sym (c.fill_quarter.auto.quarter ∙ c.deref_mut-2.ensures.len))))
+    c.fill_quarter.ensures.quarter
+
+-- and the table holds what was written into it
 pub returns-clause-leaves : goal.returns-clause-leaves
 returns-clause-leaves c = λ grid extends.
     subst (AreLeafDigests c.args.square.now.k grid)

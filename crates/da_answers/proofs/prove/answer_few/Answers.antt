@@ -1,44 +1,54 @@
-use Rattle.std.proofs.Common.{◌≡◌, ◌∙◌, ℕ, None, Some, refl, sym, ap, Err}
+use Rattle.std.proofs.Common.{◌≡◌, ◌∙◌, ℕ, None, Some, refl, sym, ap, subst}
+use Rattle.std.specs.Prelude.{Option, IfSome, IsNone}
 use Rattle.namespace_id.specs.declared.cells.Cell.{Cell}
 use Rattle.namespace_id.specs.declared.cells.Axis.{Axis}
 use Rattle.namespace_id.specs.Cells.{is_in_square}
 use Rattle.square_layout.specs.Blocks.{SquareShares}
+use Rattle.axis_roots.specs.Grids.{IsHeaderOf, HasNoHeader}
+use Rattle.axis_roots.specs.Halves.{HeadedSquare}
 use Rattle.da_answers.specs.Serving.{failing_from, Gives, Serves}
 use Rattle.da_answers.specs.Sample.{samples_in, is_asked_inside}
 use Rattle.da_answers.specs.Prove.{AllowsRootProof}
 use Rattle.da_status.proofs.EndLemmas.{ends_within, ends_request}
 use Rattle.da_answers.proofs.Answering.ServingLemmas.{serves_gives, serves_at, serves_none}
-use Rattle.da_answers.proofs.prove.answer.Goals as goal
+use Rattle.da_answers.proofs.prove.answer_few.Goals as goal
 
-pub returns-in-Err-NoHeader : goal.returns-in-Err-NoHeader
-returns-in-Err-NoHeader g c =
+pub returns-in-Ok-None : goal.returns-in-Ok-None
+returns-in-Ok-None g c =
     let square = c.args.square in
     let asked = samples_in c.args.requests.now in
+    let none : HasNoHeader square =
+    subst (λ (o : Option HeadedSquare). IsNone o → HasNoHeader square) c.in-Ok-None.field-0-is c.in-Ok-None.ensures.none refl in
     ends_request (Serves square (is_asked_inside square) (AllowsRootProof square) asked) _ _ _ _ refl
-    (serves_none square (is_asked_inside square) (AllowsRootProof square) asked (c.in-Err-NoHeader.ensures.no_header (ap Err c.in-Err-NoHeader.field-0-is))) refl
+    (serves_none square (is_asked_inside square) (AllowsRootProof square) asked none) refl
 
 -- a request outside is refused
 pub returns-in-Some : goal.returns-in-Some
 returns-in-Some g c =
     let square = c.args.square in
     let asked = samples_in c.args.requests.now in
-    let holds = c.in-Ok.ensures.held in
+    let own : IsHeaderOf c.in-Ok-Some.half.header square =
+    subst (λ (o : Option HeadedSquare). IfSome o (λ half. IsHeaderOf half.header square)) c.in-Ok-Some.field-0-is c.in-Ok-Some.ensures.header in
     let same : c.square.inside.k ≡ square.k = ap (λ (s : SquareShares). s.k) c.square.view_is in
     let some : failing_from (is_asked_inside square) 0 asked ≡ Some c.in-Some.number =
     ap (λ (k : ℕ). failing_from (λ (a : Cell × Axis). is_in_square k a.0) 0 asked) (sym same) ∙ sym c.first_outside.ensures ∙ c.in-Some.is in
     ends_request (Serves square (is_asked_inside square) (AllowsRootProof square) asked) _ _ _ _ refl
-    (serves_at square (is_asked_inside square) (AllowsRootProof square) asked c.in-Ok.held.header c.in-Some.number
-    (c.serve_laws.ensures.header c.in-Ok.held square holds) some) refl
+    (serves_at square (is_asked_inside square) (AllowsRootProof square) asked c.in-Ok-Some.half.header c.in-Some.number own some) refl
 
 -- what is written are the frames of all requests
 pub returns : goal.returns
 returns g c =
     let square = c.args.square in
     let asked = samples_in c.args.requests.now in
-    let holds = c.in-Ok.ensures.held in
+    let half = c.in-Ok-Some.half in
+    let own : IsHeaderOf half.header square =
+    subst (λ (o : Option HeadedSquare). IfSome o (λ half. IsHeaderOf half.header square)) c.in-Ok-Some.field-0-is c.in-Ok-Some.ensures.header in
+    let is : half.square ≡ square =
+    subst (λ (o : Option HeadedSquare). IfSome o (λ half. half.square ≡ square)) c.in-Ok-Some.field-0-is c.in-Ok-Some.ensures.square in
     let same : c.square.inside.k ≡ square.k = ap (λ (s : SquareShares). s.k) c.square.view_is in
     let none : failing_from (is_asked_inside square) 0 asked ≡ None =
     ap (λ (k : ℕ). failing_from (λ (a : Cell × Axis). is_in_square k a.0) 0 asked) (sym same) ∙ sym c.first_outside.ensures ∙ c.in-None.is in
-    ends_within (Gives (AllowsRootProof square c.in-Ok.held.header) asked) (Serves square (is_asked_inside square) (AllowsRootProof square) asked) _ _ _ _ _ _
-    (serves_gives square (is_asked_inside square) (AllowsRootProof square) asked c.in-Ok.held.header (c.serve_laws.ensures.header c.in-Ok.held square holds) none)
-    (c.give_proofs.ensures square holds)
+    ends_within (Gives (AllowsRootProof half.square half.header) asked) (Serves square (is_asked_inside square) (AllowsRootProof square) asked) _ _ _ _ _ _
+    (λ w status gives. serves_gives square (is_asked_inside square) (AllowsRootProof square) asked half.header own none w status
+    (subst (λ (s : SquareShares). Gives (AllowsRootProof s half.header) asked w status) is gives))
+    c.give_few.ensures
