@@ -76,5 +76,8 @@ pub(crate) fn next_leaf(
     ensures { IsNextAhead k result (queued queue.new) (frames_of bytes.now) }
 {
     look_ahead(trees, queue, k, bytes);
+    if queue.is_empty() {
+        return None;
+    }
     queue.next()
 }
