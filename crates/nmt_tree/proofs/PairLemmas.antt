@@ -77,7 +77,7 @@ length-pairs zero (a ∷ b ∷ ds) h = absurd (omega arith)
 length-pairs (suc m) (a ∷ b ∷ ds) h = ap (λ (k : ℕ). suc k) (length-pairs m ds (omega arith))
 
 -- a node of the level above
-get_or-pairs : (t : ℕ) (ds : List Digest) (o : Digest) → 2 * t + 1 < length ds → get_or (pairs ds) t o ≡ node_digest (get_or ds (2 * t) o) (get_or ds (2 * t + 1) o)
+pub get_or-pairs : (t : ℕ) (ds : List Digest) (o : Digest) → 2 * t + 1 < length ds → get_or (pairs ds) t o ≡ node_digest (get_or ds (2 * t) o) (get_or ds (2 * t + 1) o)
 unfolding pairs
 get_or-pairs t [] o h = absurd (omega arith)
 get_or-pairs t (a ∷ []) o h = absurd (omega arith)
@@ -99,3 +99,9 @@ span-pairs (suc e) t ds h =
     ap₂ node_digest
     (span-pairs e t ds (omega (arith, p, h)))
     (span-pairs e (t + 2 ^ e) ds (omega (arith, p, q, h)) ∙ ap (λ (k : ℕ). span ds k (suc e)) m)
+
+-- a node is over these digests where its halves are
+pub node_over : (halves nodes : List Digest) (i : ℕ) (l r : Digest) → nodes ≡ pairs halves → 2 * i + 1 < length halves
+    → l ≡ get_or halves (2 * i) no_digest → r ≡ get_or halves (2 * i + 1) no_digest → get_or nodes i no_digest ≡ node_digest l r
+node_over halves nodes i l r made within el er =
+    ap (λ (ds : List Digest). get_or ds i no_digest) made ∙ get_or-pairs i halves no_digest within ∙ sym (ap₂ node_digest el er)

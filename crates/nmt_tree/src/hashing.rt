@@ -69,6 +69,16 @@ pub fn node(left: &Digest, right: &Digest) -> Digest
     digest_of(&left.least(), &greatest(left, right), &hasher.finalize())
 }
 
+/// Whether the join of two digests is ordered.
+#[tactic(auto, unfolding(crate::specs::Digests::is_ordered_join))]
+pub(crate) fn is_ordered(left: &Digest, right: &Digest) -> bool
+    ensures { result ≡ is_ordered_join left.now right.now }
+{
+    left.greatest().is_at_most(&right.least())
+        && left.least().is_at_most(&left.greatest())
+        && right.least().is_at_most(&right.greatest())
+}
+
 /// The digest of the node over two digests, where their join is ordered: the left one's greatest
 /// namespace is at most the right one's least, and neither has its least above its greatest.
 ///
@@ -76,16 +86,12 @@ pub fn node(left: &Digest, right: &Digest) -> Digest
 ///
 /// Celestia specifications, "Data Structures", namespaced Merkle trees; that a digest's own
 /// namespaces are looked at too is docs/RULES.md, "Trees".
-#[tactic(auto, unfolding(crate::specs::Digests::is_ordered_join))]
 pub fn join(left: &Digest, right: &Digest) -> Result<Digest, Unordered>
     ensures ordered { IsOk result ↔ IsTrue (is_ordered_join left.now right.now) }
     ensures unordered { IsErr result ↔ (is_ordered_join left.now right.now ≡ false) }
     ensures value { IfOk result (λ digest. digest ≡ node_digest left.now right.now) }
 {
-    let ordered = left.greatest().is_at_most(&right.least())
-        && left.least().is_at_most(&left.greatest())
-        && right.least().is_at_most(&right.greatest());
-    if ordered {
+    if is_ordered(left, right) {
         Ok(node(left, right))
     } else {
         Err(Unordered)

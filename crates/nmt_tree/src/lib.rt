@@ -3,12 +3,13 @@
 //!
 //! `leaf`, `node` and `join` make one digest; `plain_root` and `strict_root` are the plain
 //! recursions that say what the root of a list is. A `Tree` keeps the digests of all levels,
-//! `fold_root` joins digests of leaves in place, `fold_leaves` makes these first, and a
-//! `LeafQueue` hashes leaves as they come.
+//! `fold_root` joins digests of leaves in place, `fold_leaves` makes these first, a
+//! `LeafQueue` hashes leaves as they come, and `HashedNodes` are nodes that are hashed ahead.
 #![tactic(auto)]
 
 mod batches;
 mod folding;
+mod hashed;
 mod hashing;
 mod levels;
 mod queues;
@@ -16,6 +17,7 @@ mod roots;
 mod trees;
 
 pub use folding::{fold_leaves, fold_root};
+pub use hashed::HashedNodes;
 pub use hashing::{Unordered, join, leaf, node};
 pub use levels::put_leaves;
 pub use queues::LeafQueue;
