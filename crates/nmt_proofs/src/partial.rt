@@ -20,7 +20,7 @@ ghost use Rattle.nmt_proofs.specs.Partial.{digest_at, AreHalves, AreJoined, AreK
 use crate::joining::{Piece, ordered_node};
 use crate::opening::OpenRefusal;
 use namespace_id::{DIGEST_SIZE, Digest, Namespace, NoMemory, Share};
-use nmt_tree::{halvings, leaf, leaf_count};
+use nmt_tree::{HashedNodes, halvings, leaf, leaf_count};
 use std::alloc::Global;
 use std::marker::Model;
 
@@ -88,9 +88,32 @@ fn has_halves(nodes: &[Node], i: usize, left: &Digest, right: &Digest) -> bool
     *left == nodes[2 * i].digest && *right == nodes[2 * i + 1].digest
 }
 
+/// The node over two digests, where the join is ordered: the one that was hashed ahead for the place
+/// where its right half begins, if it is over these, and hashed otherwise.
+fn next_node(
+    ahead: Option<&HashedNodes>,
+    middle: u16,
+    left: &Digest,
+    right: &Digest,
+) -> Option<Digest>
+    ensures { result ≡ (if is_ordered_join left.now right.now then Some (node_digest left.now right.now) else None) }
+{
+    match ahead {
+        Some(hashed) => hashed.join(middle as usize, left, right).ok(),
+        None => ordered_node(left, right),
+    }
+}
+
 /// The node over two digests, where the join is ordered: the one that is kept where these are its
-/// halves, and hashed otherwise.
-fn known_node(nodes: &[Node], i: usize, left: &Digest, right: &Digest) -> Option<Digest>
+/// halves, and that of `next_node` otherwise.
+fn known_node(
+    nodes: &[Node],
+    ahead: Option<&HashedNodes>,
+    i: usize,
+    middle: u16,
+    left: &Digest,
+    right: &Digest,
+) -> Option<Digest>
     requires bound { 2 * i + 1 < length nodes.now }
     requires memory { length nodes.now ≤ 512 }
     requires joined { AreJoined nodes.now }
@@ -99,13 +122,14 @@ fn known_node(nodes: &[Node], i: usize, left: &Digest, right: &Digest) -> Option
     if nodes[i].is_joined && has_halves(nodes, i, left, right) {
         return Some(nodes[i].digest);
     }
-    ordered_node(left, right)
+    next_node(ahead, middle, left, right)
 }
 
 /// The digest of the interval of a node, where every join in it is ordered: one leaf is shown, and
 /// the path has the other nodes. All are hashed, and the digests of all nodes below it are written.
 fn fold_anew(
     nodes: &mut [Node],
+    ahead: Option<&HashedNodes>,
     i: usize,
     depth: u8,
     start: u16,
@@ -132,15 +156,15 @@ fn fold_anew(
     let middle = start + leaf_count(depth - 1);
     if leaf.from < middle {
         let last = path.len() - 1;
-        let below = fold_anew(nodes, 2 * i, depth - 1, start, leaf, &path[..last])?;
+        let below = fold_anew(nodes, ahead, 2 * i, depth - 1, start, leaf, &path[..last])?;
         put(nodes, depth - 1, 2 * i, &below);
         write(nodes, 2 * i + 1, &path[last]);
-        ordered_node(&below, &path[last])
+        next_node(ahead, middle, &below, &path[last])
     } else {
-        let below = fold_anew(nodes, 2 * i + 1, depth - 1, middle, leaf, &path[1..])?;
+        let below = fold_anew(nodes, ahead, 2 * i + 1, depth - 1, middle, leaf, &path[1..])?;
         put(nodes, depth - 1, 2 * i + 1, &below);
         write(nodes, 2 * i, &path[0]);
-        ordered_node(&path[0], &below)
+        next_node(ahead, middle, &path[0], &below)
     }
 }
 
@@ -148,6 +172,7 @@ fn fold_anew(
 /// kept of the node, the digests below it are kept from now on.
 fn learn(
     nodes: &mut [Node],
+    ahead: Option<&HashedNodes>,
     i: usize,
     depth: u8,
     start: u16,
@@ -168,7 +193,7 @@ fn learn(
     ensures joined { AreJoined nodes.new }
     ensures kept { AreKept i nodes.old nodes.new }
 {
-    let digest = fold_anew(nodes, i, depth, start, leaf, path)?;
+    let digest = fold_anew(nodes, ahead, i, depth, start, leaf, path)?;
     if digest == nodes[i].digest {
         mark(nodes, i);
     }
@@ -180,6 +205,7 @@ fn learn(
 /// this one stay as they are.
 fn fold(
     nodes: &mut [Node],
+    ahead: Option<&HashedNodes>,
     i: usize,
     depth: u8,
     start: u16,
@@ -203,16 +229,16 @@ fn fold(
         return Some(leaf.digest);
     }
     if !nodes[i].is_joined {
-        return learn(nodes, i, depth, start, leaf, path);
+        return learn(nodes, ahead, i, depth, start, leaf, path);
     }
     let middle = start + leaf_count(depth - 1);
     if leaf.from < middle {
         let last = path.len() - 1;
-        let below = fold(nodes, 2 * i, depth - 1, start, leaf, &path[..last])?;
-        known_node(nodes, i, &below, &path[last])
+        let below = fold(nodes, ahead, 2 * i, depth - 1, start, leaf, &path[..last])?;
+        known_node(nodes, ahead, i, middle, &below, &path[last])
     } else {
-        let below = fold(nodes, 2 * i + 1, depth - 1, middle, leaf, &path[1..])?;
-        known_node(nodes, i, &path[0], &below)
+        let below = fold(nodes, ahead, 2 * i + 1, depth - 1, middle, leaf, &path[1..])?;
+        known_node(nodes, ahead, i, middle, &path[0], &below)
     }
 }
 
@@ -237,6 +263,7 @@ fn write_rest(nodes: &mut Vec<Node>, count: u16)
 fn open_under(
     count: u16,
     nodes: &mut [Node],
+    ahead: Option<&HashedNodes>,
     leaf: &Piece,
     path: &[Digest],
 ) -> Result<(), OpenRefusal>
@@ -253,7 +280,7 @@ fn open_under(
     if path.len() != depth as usize {
         return Err(OpenRefusal::NodeCount);
     }
-    let Some(value) = fold(nodes, 1, depth, 0, leaf, path) else {
+    let Some(value) = fold(nodes, ahead, 1, depth, 0, leaf, path) else {
         return Err(OpenRefusal::Unordered);
     };
     if value == nodes[1].digest {
@@ -313,6 +340,57 @@ impl PartialTree {
     }
 
     /// Verifies an NMT inclusion proof of one leaf under the root as the call `open_leaf` of this tree
+    /// does, where the digest of the leaf was hashed before, and maybe nodes ahead: of these, the one at a
+    /// place modulo 8 is taken for the node whose right half begins at that leaf, if it is over its halves.
+    ///
+    /// Refuses what that refuses, in the same order. It takes no memory, and keeps what the path shows.
+    ///
+    /// Celestia specifications, "Data Structures", namespaced Merkle tree inclusion proofs.
+    pub fn open_ahead(
+        &mut self,
+        pos: u16,
+        name: &Namespace,
+        share: &Share,
+        leaf: &Digest,
+        nodes: &[Digest],
+        ahead: Option<&HashedNodes>,
+    ) -> Result<(), OpenRefusal>
+        requires place { pos < self.old.count }
+        requires leaf { leaf.now ≡ leaf_digest name.now share.now }
+        ensures accepts { IsOk result ↔ Opens (halvings self.old.count)
+            (one_leaf pos name.now share.now) nodes.now self.old.root }
+
+        // Each refusal comes exactly where its test is the first that fails.
+        ensures node_count { IsErrOf result OpenRefusal.NodeCount ↔
+            (has_count (halvings self.old.count) (one_leaf pos name.now share.now) nodes.now
+            ≡ false) }
+        ensures unordered { IsErrOf result OpenRefusal.Unordered ↔
+            (has_count (halvings self.old.count) (one_leaf pos name.now share.now) nodes.now ≡ true)
+            × (has_order (halvings self.old.count) (one_leaf pos name.now share.now) nodes.now
+            ≡ false) }
+        ensures other_root { IsErrOf result OpenRefusal.OtherRoot ↔
+            (has_count (halvings self.old.count) (one_leaf pos name.now share.now) nodes.now ≡ true)
+            × (has_order (halvings self.old.count) (one_leaf pos name.now share.now) nodes.now
+            ≡ true)
+            × (has_root (halvings self.old.count) (one_leaf pos name.now share.now) nodes.now
+            self.old.root ≡ false) }
+
+        // One leaf has nothing to be complete for.
+        ensures never { (i : ℕ) → IsErrOf result (OpenRefusal.Incomplete i) → ⊥ }
+
+        // It stays the partial tree under this root.
+        ensures kept { self.new ≡ self.old }
+    {
+        let shown = Piece {
+            from: pos,
+            size: 1,
+            digest: *leaf,
+        };
+        write_rest(&mut self.nodes, self.count);
+        open_under(self.count, &mut self.nodes, ahead, &shown, nodes)
+    }
+
+    /// Verifies an NMT inclusion proof of one leaf under the root as the call `open_leaf` of this tree
     /// does, where the digest of the leaf was hashed before.
     ///
     /// Refuses what that refuses, in the same order. It takes no memory, and keeps what the path shows.
@@ -352,13 +430,7 @@ impl PartialTree {
         // It stays the partial tree under this root.
         ensures kept { self.new ≡ self.old }
     {
-        let shown = Piece {
-            from: pos,
-            size: 1,
-            digest: *leaf,
-        };
-        write_rest(&mut self.nodes, self.count);
-        open_under(self.count, &mut self.nodes, &shown, nodes)
+        self.open_ahead(pos, name, share, leaf, nodes, None)
     }
 
     /// Verifies an NMT inclusion proof of one leaf under the root, as `open_leaf` does: whether the

@@ -87,14 +87,14 @@ returns-in_ok-below-clause-value t c =
     let deep : 0 < c.args.depth = omega arith in
     both_ordered _ _ _ _ _ _
     (left_half c.args.depth c.args.start c.leaf_count.result c.args.leaf.now.from c.args.leaf.now.digest c.args.path.now deep c.leaf_count.ensures c.if-leaf-middle.true c.requires.count)
-    (sym c.in_ok-below.was ∙ c.fold_anew.ensures.value) (value_given _ _ refl) c.ordered_node.ensures
+    (sym c.in_ok-below.was ∙ c.fold_anew.ensures.value) (value_given _ _ refl) c.next_node.ensures
 
 pub returns-in_ok-below-2-clause-value : goal.returns-in_ok-below-2-clause-value
 returns-in_ok-below-2-clause-value t c =
     let deep : 0 < c.args.depth = omega arith in
     both_ordered _ _ _ _ _ _
     (right_half c.args.depth c.args.start c.leaf_count.result c.args.leaf.now.from c.args.leaf.now.digest c.args.path.now deep c.leaf_count.ensures c.if-leaf-middle.false c.requires.count)
-    (value_given _ _ refl) (sym c.in_ok-below-2.was ∙ c.fold_anew-else-leaf-middle.ensures.value) c.ordered_node-else-leaf-middle.ensures
+    (value_given _ _ refl) (sym c.in_ok-below-2.was ∙ c.fold_anew-else-leaf-middle.ensures.value) c.next_node-else-leaf-middle.ensures
 
 -- only nodes behind this one are written
 pub returns-in_ok-below-clause-kept : goal.returns-in_ok-below-clause-kept

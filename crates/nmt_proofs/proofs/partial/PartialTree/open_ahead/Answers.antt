@@ -4,7 +4,7 @@ use Rattle.nmt_proofs.specs.Openings.{one_leaf}
 use Rattle.nmt_proofs.proofs.PartialLemmas.{tree_cause, keeps_all}
 use Rattle.nmt_proofs.proofs.Parts.PublicLemmas.{opens}
 use Rattle.nmt_proofs.proofs.Parts.CauseLemmas.{node_count, unordered, other_root, never_incomplete}
-use Rattle.nmt_proofs.proofs.partial.PartialTree.open_hashed.Goals as goal
+use Rattle.nmt_proofs.proofs.partial.PartialTree.open_ahead.Goals as goal
 
 -- each clause by the cause of the answer, in terms of the leaf and of what contracts see
 pub returns-clause-accepts : goal.returns-clause-accepts
