@@ -17,9 +17,9 @@ use super::certificates::RefusedMessage;
 use super::messages::{CheckRefusal, Message, index, message_law, opens, position};
 use super::proved::Proved;
 use data_header::Header;
-use namespace_id::{Axis, Digest, NoMemory, is_in_square, leaf_namespace};
+use namespace_id::{Axis, BLANK_DIGEST, Digest, NoMemory, is_in_square, leaf_namespace};
 use nmt_proofs::{OpenRefusal, PartialTree};
-use nmt_tree::leaf;
+use nmt_tree::{HashedNodes, leaf};
 use std::alloc::Global;
 use std::marker::Model;
 
@@ -52,6 +52,7 @@ fn shown_leaf(k: u16, message: &Message) -> Digest
 /// of its row or column; these are the trees of the sample's axis, in a square of width k.
 fn open_in(
     trees: &mut [PartialTree],
+    ahead: &HashedNodes,
     k: u16,
     message: &Message,
     leaf: &Digest,
@@ -80,7 +81,8 @@ fn open_in(
     let name = leaf_namespace(k, message.cell, &message.share);
     let at = index(message.axis, message.cell) as usize;
     let pos = position(message.axis, message.cell);
-    trees[at].open_hashed(pos, &name, &message.share, leaf, message.path.nodes())
+    let nodes = message.path.nodes();
+    trees[at].open_ahead(pos, &name, &message.share, leaf, nodes, Some(ahead))
 }
 
 /// The digests that samples have shown under a header: of each row and column, those of its namespaced
@@ -93,6 +95,7 @@ pub struct PartialTrees {
     k: u16,
     rows: Vec<PartialTree>,
     cols: Vec<PartialTree>,
+    ahead: HashedNodes,
 }
 
 impl Model for PartialTrees {
@@ -118,7 +121,18 @@ impl PartialTrees {
             k: header.k,
             rows,
             cols,
+            ahead: HashedNodes::over([BLANK_DIGEST; 16]),
         })
+    }
+
+    /// Hashes eight nodes ahead, side by side, over sixteen digests in pairs. A later sample whose path
+    /// leads over one of them is judged without hashing it, where it is the one at a place modulo 8 and
+    /// the right half of the node begins at that place of its row or column. Nodes that were hashed
+    /// ahead before are forgotten; the answers are the same whichever there are.
+    pub fn hash_ahead(&mut self, halves: [Digest; 16])
+        ensures kept { self.new ≡ self.old }
+    {
+        self.ahead = HashedNodes::over(halves);
     }
 
     /// Whether the nodes of a sample with a cell of the square open its share, of which the digest of
@@ -142,8 +156,8 @@ impl PartialTrees {
         ensures kept { self.new ≡ self.old }
     {
         match message.axis {
-            Axis::Row => open_in(&mut self.rows, self.k, message, leaf),
-            Axis::Col => open_in(&mut self.cols, self.k, message, leaf),
+            Axis::Row => open_in(&mut self.rows, &self.ahead, self.k, message, leaf),
+            Axis::Col => open_in(&mut self.cols, &self.ahead, self.k, message, leaf),
         }
     }
 
