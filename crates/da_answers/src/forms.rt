@@ -59,10 +59,7 @@ pub(crate) fn one_block(alloc: Global, files: &[Vec<u8>]) -> Result<Block, Statu
 }
 
 /// HEADER and MESSAGES: a header, and a list of frames.
-pub fn header_and_messages(
-    alloc: Global,
-    files: &[Vec<u8>],
-) -> Result<(Header, &[u8]), Status>
+pub fn header_and_messages(alloc: Global, files: &[Vec<u8>]) -> Result<(Header, &[u8]), Status>
     ensures judged { IsJudged (messages_judged (contents_of files.now)) result }
     ensures header { IfOk result (λ read.
         header_in (file_of (contents_of files.now) 0) ≡ Ok read.0) }

@@ -6,30 +6,29 @@
 //! for a verdict, since its second file is read two crates above.
 #![tactic(auto)]
 
+mod ahead;
+mod answers;
 pub mod blobs;
 pub mod build;
 pub mod check;
 pub mod commit;
 pub mod compact;
+mod contents;
+mod feed_lines;
 pub mod follow;
+mod forms;
+mod frames;
 pub mod header;
+mod heights;
 pub mod light;
 pub mod namespace;
 pub mod prove;
+mod repair;
 pub mod root;
 pub mod sample;
 pub mod verify;
 pub mod verify_for;
 pub mod wanted;
-
-mod ahead;
-mod answers;
-mod contents;
-mod feed_lines;
-mod forms;
-mod frames;
-mod heights;
-mod repair;
 
 pub use answers::{Answer, Request, is_answer_to};
 pub use blobs::blobs_laws;

@@ -63,12 +63,7 @@ pub fn root<O: Sink>(alloc: Global, files: &[Vec<u8>], out: &mut O) -> Status
 }
 
 /// Answers whether the header in HEADER has this data root.
-pub fn root_is<O: Sink>(
-    alloc: Global,
-    files: &[Vec<u8>],
-    root: &[u8; 32],
-    out: &mut O,
-) -> Status
+pub fn root_is<O: Sink>(alloc: Global, files: &[Vec<u8>], root: &[u8; 32], out: &mut O) -> Status
     ensures { EndsAtOnce (Judged (single_judged header_in (contents_of files.now))
         (RootIsOf root.now (contents_of files.now))) (O.taken out.old) (O.taken out.new)
         (O.faults out.old) (O.faults out.new) (out.new ≡ out.old) result }

@@ -14,7 +14,8 @@ mod show;
 
 pub use command::{Command, execute};
 pub use da_answers::{
-    Answer, Finding, Request, Unread, answer_in, blobs_laws, check_number, follow_laws, give_verdict,
-    header_frame, header_in, is_answer_to, message_in, refusal_for, refusal_of, request_in, square_in,
+    Answer, Finding, Request, Unread, answer_in, blobs_laws, check_number, follow_laws,
+    give_verdict, header_frame, header_in, is_answer_to, message_in, refusal_for, refusal_of,
+    request_in, square_in,
 };
 pub use laws::answering_laws;
