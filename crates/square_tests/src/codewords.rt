@@ -194,3 +194,48 @@ fn words_of_recovery_shares(rt: HostRuntime) {
         }
     }
 }
+
+/// Writes one of each two positions, by the bits of its number.
+fn write_either(known: &mut [u16])
+    requires { length known.old ≤ 512 }
+{
+    for i in 0..known.len() {
+        known[i] = 2 * i as u16 + (i.count_ones() % 2) as u16;
+    }
+}
+
+/// What is rebuilt of `count` shares, one at one of each two positions. The first word of one of them
+/// is 1, and all others are 0.
+fn from_either(rt: &impl Abort, alloc: Global, count: usize, at: usize) -> Vec<Share> {
+    assert!(rt; count == 256 || count == 512);
+    assert!(rt; at < count);
+    let known = vec![in alloc; 0; count];
+    let mut known = known.expect(rt, "there is memory");
+    write_either(&mut known);
+    assert!(rt; known.len() == count && are_positions(count as u16, &known));
+    let shares = vec![in alloc; share(0); count];
+    let mut shares = shares.expect(rt, "there is memory");
+    let mut bytes = [0; SHARE_SIZE];
+    bytes[0] = 1;
+    shares[at] = Share(bytes);
+    let all = vec![in alloc; share(0); 2 * count];
+    let mut all = all.expect(rt, "there is memory");
+    let mut room = Room::new(alloc, count as u16).expect(rt, "there is memory");
+    rebuild(&mut room, &known, &shares, &mut all);
+    all
+}
+
+#[test]
+fn words_of_either(rt: HostRuntime) {
+    let cases = [
+        (256, [(1, 31934), (2, 21644), (256, 29629), (511, 32258)]),
+        (512, [(1, 16153), (2, 18879), (512, 11654), (1022, 19778)]),
+    ];
+    for (count, wanted) in cases {
+        let all = from_either(&rt, rt.alloc(), count, 17);
+        for (pos, want) in wanted {
+            assert!(rt; pos < all.len());
+            assert!(rt; first_word(&all[pos]) == want, "{pos} of {count}");
+        }
+    }
+}
