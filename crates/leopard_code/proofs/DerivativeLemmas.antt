@@ -3,10 +3,10 @@ use Rattle.std.proofs.Common.{◌≡◌, ◌∙◌, ℕ, zero, suc, ◌+◌, ◌
 use Rattle.std.specs.Prelude.{bit_xor}
 use Rattle.std.specs.Int.Bits.{xor_assoc, xor_self}
 use Rattle.gf_cantor.proofs.Laws.{size-pos, product_comm, product-zero, one-product}
-use Rattle.byte_polynomial.specs.Polynomial.{value_at, AreCoefficients}
-use Rattle.byte_polynomial.specs.Derivatives.{derivative_at}
-use Rattle.byte_polynomial.proofs.Products.{multiplied}
-use Rattle.byte_polynomial.proofs.Derived.{derivative_at-sum, derivative_at-multiplied}
+use Rattle.label_polynomial.specs.Polynomial.{value_at, AreCoefficients}
+use Rattle.label_polynomial.specs.Derivatives.{derivative_at}
+use Rattle.label_polynomial.proofs.Products.{multiplied}
+use Rattle.label_polynomial.proofs.Derived.{derivative_at-sum, derivative_at-multiplied}
 use Rattle.namespace_id.specs.declared.shares.Share.{Share}
 use Rattle.namespace_id.specs.Shares.{AreShares}
 use Rattle.lch_fft.specs.Transforms.{is_count, value, Evaluates}

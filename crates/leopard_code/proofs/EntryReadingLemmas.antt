@@ -5,8 +5,8 @@ use Rattle.std.proofs.lemmas.Option.{IfSome_then}
 use Rattle.std.proofs.lemmas.List.{get_or-map}
 use Rattle.namespace_id.specs.declared.shares.Share.{Share}
 use Rattle.namespace_id.specs.Shares.{IsShare, AreShares}
-use Rattle.byte_polynomial.specs.Polynomial.{value_at, AreCoefficients, PassesThrough}
-use Rattle.byte_polynomial.proofs.Through.{through}
+use Rattle.label_polynomial.specs.Polynomial.{value_at, AreCoefficients, PassesThrough}
+use Rattle.label_polynomial.proofs.Through.{through}
 use Rattle.lch_fft.specs.Transforms.{column}
 use Rattle.leopard_code.specs.Codewords.{HasCode, points, point, points_at, are_positions, IsCodewordOver, HasEntries}
 use Rattle.lch_fft.proofs.ColumnLemmas.{length-column}

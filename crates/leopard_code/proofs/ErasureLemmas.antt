@@ -4,12 +4,12 @@ use Rattle.std.proofs.Common.{◌≡◌, ◌∙◌, ℕ, ◌+◌, ◌<◌, ◌�
 use Rattle.std.specs.Prelude.{bit_xor}
 use Rattle.std.specs.Int.Bits.{xor_assoc, xor_self, xor_zero_r}
 use Rattle.gf_cantor.proofs.Laws.{zero-product, product-zero, xor-product}
-use Rattle.byte_polynomial.specs.Polynomial.{value_at, AreCoefficients}
-use Rattle.byte_polynomial.specs.Derivatives.{derivative_at}
-use Rattle.byte_polynomial.proofs.Sums.{scaled}
-use Rattle.byte_polynomial.proofs.Through.{vanishing, length-vanishing}
-use Rattle.byte_polynomial.proofs.Products.{multiplied, value_at-multiplied, length-multiplied, AreCoefficients-multiplied}
-use Rattle.byte_polynomial.proofs.Derived.{derivative_at-sum, derivative_at-scaled, derivative_at-multiplied}
+use Rattle.label_polynomial.specs.Polynomial.{value_at, AreCoefficients}
+use Rattle.label_polynomial.specs.Derivatives.{derivative_at}
+use Rattle.label_polynomial.proofs.Sums.{scaled}
+use Rattle.label_polynomial.proofs.Through.{vanishing, length-vanishing}
+use Rattle.label_polynomial.proofs.Products.{multiplied, value_at-multiplied, length-multiplied, AreCoefficients-multiplied}
+use Rattle.label_polynomial.proofs.Derived.{derivative_at-sum, derivative_at-scaled, derivative_at-multiplied}
 use Rattle.leopard_code.proofs.LagrangeLemmas.{away-is}
 use Rattle.leopard_code.proofs.DifferenceLemmas.{away, away-append}
 use Rattle.leopard_code.proofs.ZeroLemmas.{same_derivative}

@@ -3,10 +3,10 @@ use Rattle.std.proofs.Common.{◌≡◌, ◌≢◌, ℕ, ◌+◌, ◌<◌, ◌�
 use Rattle.std.specs.Prelude.{bit_xor}
 use Rattle.std.proofs.lemmas.Nat.{xor_comm}
 use Rattle.gf_cantor.proofs.Laws.{product-lt, product_comm, product_assoc, product-zero, one-product, has_inverse}
-use Rattle.byte_polynomial.specs.Polynomial.{value_at, AreCoefficients, Avoids, ArePoints, PassesThrough}
-use Rattle.byte_polynomial.proofs.Sums.{sum, scaled, value_at-sum, value_at-scaled, length-sum, length-scaled, AreCoefficients-sum, AreCoefficients-scaled, value_at-lt}
-use Rattle.byte_polynomial.proofs.Through.{vanishing, length-vanishing, AreCoefficients-vanishing, value_at-vanishing, value_at-vanishing_none, vanishing_elsewhere, vanishes, takes_still}
-use Rattle.byte_polynomial.proofs.Roots.{one_polynomial, AreRoots}
+use Rattle.label_polynomial.specs.Polynomial.{value_at, AreCoefficients, Avoids, ArePoints, PassesThrough}
+use Rattle.label_polynomial.proofs.Sums.{sum, scaled, value_at-sum, value_at-scaled, length-sum, length-scaled, AreCoefficients-sum, AreCoefficients-scaled, value_at-lt}
+use Rattle.label_polynomial.proofs.Through.{vanishing, length-vanishing, AreCoefficients-vanishing, value_at-vanishing, value_at-vanishing_none, vanishing_elsewhere, vanishes, takes_still}
+use Rattle.label_polynomial.proofs.Roots.{one_polynomial, AreRoots}
 use Rattle.leopard_code.specs.Codewords.{weighted}
 use Rattle.leopard_code.proofs.DifferenceLemmas.{away}
 use Rattle.gf_cantor.specs.Field.{Field, product, size}

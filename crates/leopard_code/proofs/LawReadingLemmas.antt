@@ -5,10 +5,10 @@ use Rattle.std.proofs.lemmas.List.{get_or-map}
 use Rattle.gf_cantor.proofs.Laws.{product-lt, has_inverse}
 use Rattle.namespace_id.specs.declared.shares.Share.{Share}
 use Rattle.namespace_id.specs.Shares.{IsShare, AreShares}
-use Rattle.byte_polynomial.specs.Polynomial.{value_at, AreCoefficients, ArePoints, PassesThrough}
-use Rattle.byte_polynomial.proofs.Sums.{value_at-lt}
-use Rattle.byte_polynomial.proofs.Through.{through, vanishing_elsewhere}
-use Rattle.byte_polynomial.proofs.Roots.{one_polynomial}
+use Rattle.label_polynomial.specs.Polynomial.{value_at, AreCoefficients, ArePoints, PassesThrough}
+use Rattle.label_polynomial.proofs.Sums.{value_at-lt}
+use Rattle.label_polynomial.proofs.Through.{through, vanishing_elsewhere}
+use Rattle.label_polynomial.proofs.Roots.{one_polynomial}
 use Rattle.lch_fft.specs.Transforms.{column}
 use Rattle.leopard_code.specs.Codewords.{HasCode, points, point, points_at, are_positions, IsCodewordOver, HasEntries, weighted}
 use Rattle.leopard_code.proofs.ListedLemmas.{listed, length-listed, AreShares-listed, listed-at}

@@ -6,8 +6,8 @@ use Rattle.gf_cantor.proofs.FieldLaws.{byte_laws}
 use Rattle.namespace_id.specs.declared.shares.Share.{Share}
 use Rattle.namespace_id.specs.Bytes.{AreBytes}
 use Rattle.namespace_id.specs.Shares.{IsShare, AreShares}
-use Rattle.byte_polynomial.specs.Polynomial.{PassesThrough}
-use Rattle.byte_polynomial.proofs.Sums.{sum, scaled, value_at-sum, value_at-scaled, length-sum, length-scaled, AreCoefficients-sum, AreCoefficients-scaled}
+use Rattle.label_polynomial.specs.Polynomial.{PassesThrough}
+use Rattle.label_polynomial.proofs.Sums.{sum, scaled, value_at-sum, value_at-scaled, length-sum, length-scaled, AreCoefficients-sum, AreCoefficients-scaled}
 use Rattle.lch_fft.specs.Readings.{Reading, AreReadingLaws}
 use Rattle.lch_fft.specs.Transforms.{column}
 use Rattle.lch_fft.specs.Butterflies.{multiple}

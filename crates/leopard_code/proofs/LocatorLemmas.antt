@@ -3,7 +3,7 @@ use Rattle.std.proofs.Common.{◌≡◌, ◌≢◌, ◌∙◌, ℕ, ◌<◌, Boo
 use Rattle.std.specs.Prelude.{bit_xor}
 use Rattle.std.proofs.lemmas.Bool.{eq-eqb, ne_eqb}
 use Rattle.gf_cantor.proofs.Laws.{size-above, product-lt, product_comm, product_swap, one-product}
-use Rattle.byte_polynomial.specs.Polynomial.{Avoids, ArePoints}
+use Rattle.label_polynomial.specs.Polynomial.{Avoids, ArePoints}
 use Rattle.leopard_code.proofs.DifferenceLemmas.{away}
 use Rattle.leopard_code.specs.Locators.{difference, apart_from}
 use Rattle.leopard_code.proofs.LagrangeLemmas.{points_middle}

@@ -2,7 +2,7 @@
 use Rattle.std.proofs.Common.{◌≡◌, ◌≢◌, ◌⊎◌, ℕ, zero, suc, ◌+◌, ◌<◌, ◌≤◌, Bool, List, [], ◌∷◌, ◌++◌, length, get_or, if◌then◌else◌, refl, sym, ap, subst, arith, inl, inr}
 use Rattle.std.proofs.lemmas.Bool.{cases_eq, eq-eqb, ne_eqb}
 use Rattle.gf_cantor.specs.Field.{Field, size}
-use Rattle.byte_polynomial.specs.Polynomial.{Avoids, ArePoints}
+use Rattle.label_polynomial.specs.Polynomial.{Avoids, ArePoints}
 use Rattle.leopard_code.specs.Locators.{missing_from}
 
 -- positions from a first one on, up to a last one, that ascend

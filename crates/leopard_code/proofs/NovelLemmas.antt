@@ -4,9 +4,9 @@ use Rattle.std.specs.Prelude.{bit_xor}
 use Rattle.std.specs.Int.Bits.{xor_zero_r}
 use Rattle.std.proofs.lemmas.Nat.{pow_pos}
 use Rattle.gf_cantor.proofs.Laws.{product_comm, product-zero, one-product}
-use Rattle.byte_polynomial.specs.Polynomial.{value_at, AreCoefficients}
-use Rattle.byte_polynomial.proofs.Sums.{sum, value_at-sum, length-sum, AreCoefficients-sum}
-use Rattle.byte_polynomial.proofs.Products.{multiplied, value_at-multiplied, length-multiplied, AreCoefficients-multiplied}
+use Rattle.label_polynomial.specs.Polynomial.{value_at, AreCoefficients}
+use Rattle.label_polynomial.proofs.Sums.{sum, value_at-sum, length-sum, AreCoefficients-sum}
+use Rattle.label_polynomial.proofs.Products.{multiplied, value_at-multiplied, length-multiplied, AreCoefficients-multiplied}
 use Rattle.lch_fft.specs.Transforms.{subspace, value}
 use Rattle.lch_fft.proofs.SubspaceLemmas.{subspace_shifts}
 use Rattle.lch_fft.proofs.SumLemmas.{value_one, value_halves}

@@ -5,7 +5,7 @@ use Rattle.namespace_id.specs.Shares.{AreShares}
 use Rattle.gf_cantor.specs.Field.{Field, size}
 use Rattle.lch_fft.specs.Readings.{Reading, AreReadingLaws}
 use Rattle.lch_fft.specs.Transforms.{column}
-use Rattle.byte_polynomial.specs.Polynomial.{AreCoefficients, Avoids, ArePoints, PassesThrough}
+use Rattle.label_polynomial.specs.Polynomial.{AreCoefficients, Avoids, ArePoints, PassesThrough}
 use Rattle.namespace_id.specs.Lists.{ascending}
 
 -- a number below the first of those that count up is none of them

@@ -9,7 +9,7 @@ use Rattle.namespace_id.specs.Lists.{holds_along, ascending}
 use Rattle.namespace_id.proofs.TestLemmas.{passes_below, passes_below-at, where_holds, where_holds-true}
 use Rattle.lch_fft.specs.Transforms.{is_count}
 use Rattle.lch_fft.proofs.CountLemmas.{count-le}
-use Rattle.byte_polynomial.specs.Polynomial.{value_at, Avoids, ArePoints, PassesThrough}
+use Rattle.label_polynomial.specs.Polynomial.{value_at, Avoids, ArePoints, PassesThrough}
 use Rattle.leopard_code.specs.Codewords.{point, points_at, are_positions, points}
 use Rattle.std.proofs.lemmas.List.{get_or_append_left, get_or-append_right}
 use Rattle.namespace_id.proofs.AscendingLemmas.{length-ascending, get_or-ascending}

@@ -6,7 +6,7 @@ use Rattle.std.proofs.Math.Nat.{mod-lt, mod_self}
 use Rattle.gf_cantor.specs.Field.{Field, product, bits, size}
 use Rattle.gf_cantor.specs.Laws.{AreFieldLaws, ArePowerLaws}
 use Rattle.gf_cantor.proofs.Laws.{size-above, product-lt, product_comm}
-use Rattle.byte_polynomial.proofs.Sums.{xor_zero-same}
+use Rattle.label_polynomial.proofs.Sums.{xor_zero-same}
 use Rattle.leopard_code.specs.Locators.{label_of_power, difference}
 use Rattle.leopard_code.proofs.LocatorLemmas.{difference-other, difference_kept, inverse_undoes}
 

@@ -7,10 +7,10 @@ use Rattle.gf_cantor.proofs.Laws.{product_comm, product-zero}
 use Rattle.namespace_id.specs.declared.shares.Share.{Share}
 use Rattle.namespace_id.specs.Shares.{AreShares}
 use Rattle.lch_fft.proofs.CountLemmas.{count-pos}
-use Rattle.byte_polynomial.specs.Polynomial.{value_at, AreCoefficients, ArePoints, PassesThrough}
-use Rattle.byte_polynomial.proofs.Sums.{value_at-lt}
-use Rattle.byte_polynomial.proofs.Through.{through}
-use Rattle.byte_polynomial.proofs.Translated.{translated, value_at-translated, length-translated}
+use Rattle.label_polynomial.specs.Polynomial.{value_at, AreCoefficients, ArePoints, PassesThrough}
+use Rattle.label_polynomial.proofs.Sums.{value_at-lt}
+use Rattle.label_polynomial.proofs.Through.{through}
+use Rattle.label_polynomial.proofs.Translated.{translated, value_at-translated, length-translated}
 use Rattle.lch_fft.specs.Transforms.{column}
 use Rattle.leopard_code.specs.Codewords.{HasCode, points, point, points_at, are_positions, IsCodewordOver, HasEntries}
 use Rattle.leopard_code.proofs.DifferenceLemmas.{away}

@@ -1,7 +1,7 @@
 -- Each position is known or missing.
 use Rattle.std.proofs.Common.{◌≡◌, ◌≢◌, ℕ, zero, suc, ◌+◌, ◌<◌, ◌≤◌, List, [], ◌∷◌, length, get_or, sym, ap, subst, arith, inl, inr, IsTrue, ◌*◌}
 use Rattle.std.proofs.lemmas.Bool.{cases_eq}
-use Rattle.byte_polynomial.specs.Polynomial.{Avoids}
+use Rattle.label_polynomial.specs.Polynomial.{Avoids}
 use Rattle.leopard_code.specs.Codewords.{are_positions}
 use Rattle.leopard_code.specs.Locators.{missing_from}
 use Rattle.leopard_code.proofs.MissingLemmas.{Rises, missing-known, missing-other, avoids_missing, Stands}

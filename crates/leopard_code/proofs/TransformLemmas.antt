@@ -2,7 +2,7 @@
 use Rattle.std.proofs.Common.{◌≡◌, ◌∙◌, ℕ, zero, suc, ◌+◌, ◌*◌, ◌<◌, ◌≤◌, List, [], ◌∷◌, ◌++◌, length, get_or, ◌^◌, sym, ap, subst, arith, length-append, IsTrue}
 use Rattle.namespace_id.specs.declared.shares.Share.{Share}
 use Rattle.namespace_id.specs.Shares.{AreShares}
-use Rattle.byte_polynomial.specs.Polynomial.{value_at, PassesThrough}
+use Rattle.label_polynomial.specs.Polynomial.{value_at, PassesThrough}
 use Rattle.lch_fft.specs.Transforms.{is_count, Evaluates}
 use Rattle.lch_fft.specs.Butterflies.{halvings}
 use Rattle.lch_fft.proofs.CountLemmas.{power_halvings, halvings-le}

@@ -5,11 +5,11 @@ use Rattle.std.specs.Int.Bits.{xor_self, xor_zero_r}
 use Rattle.gf_cantor.proofs.Laws.{size-pos, size-above, zero-product, product-zero, zero_factor}
 use Rattle.namespace_id.specs.Lists.{ascending}
 use Rattle.namespace_id.proofs.AscendingLemmas.{length-ascending}
-use Rattle.byte_polynomial.specs.Polynomial.{value_at, AreCoefficients}
-use Rattle.byte_polynomial.specs.Derivatives.{derivative_at}
-use Rattle.byte_polynomial.proofs.Sums.{sum, value_at-sum, length-sum, AreCoefficients-sum, value_at-lt, xor_zero-same}
-use Rattle.byte_polynomial.proofs.Roots.{AreRoots, zero_everywhere}
-use Rattle.byte_polynomial.proofs.Derived.{derivative_at-sum}
+use Rattle.label_polynomial.specs.Polynomial.{value_at, AreCoefficients}
+use Rattle.label_polynomial.specs.Derivatives.{derivative_at}
+use Rattle.label_polynomial.proofs.Sums.{sum, value_at-sum, length-sum, AreCoefficients-sum, value_at-lt, xor_zero-same}
+use Rattle.label_polynomial.proofs.Roots.{AreRoots, zero_everywhere}
+use Rattle.label_polynomial.proofs.Derived.{derivative_at-sum}
 use Rattle.leopard_code.proofs.PointLemmas.{points-ascending}
 use Rattle.gf_cantor.specs.Field.{Field, product, size}
 use Rattle.gf_cantor.specs.Laws.{AreFieldLaws}

@@ -5,7 +5,7 @@ use Rattle.gf_cantor.specs.Field.{Field, product, size}
 use Rattle.namespace_id.specs.declared.shares.Share.{Share}
 use Rattle.namespace_id.specs.Shares.{AreShares}
 use Rattle.namespace_id.specs.Lists.{holds_along, ascending}
-use Rattle.byte_polynomial.specs.Polynomial.{AreCoefficients, PassesThrough}
+use Rattle.label_polynomial.specs.Polynomial.{AreCoefficients, PassesThrough}
 use Rattle.namespace_id.specs.Cells.{is_width}
 use Rattle.lch_fft.specs.Readings.{Reading, byte_reading, word_reading}
 use Rattle.lch_fft.specs.Transforms.{is_count, column}

@@ -1,7 +1,7 @@
 -- What is proved of codewords.
 use Rattle.std.specs.Prelude.{◌≡◌, ◌<◌, ◌*◌, ℕ, List, IsTrue, IfSome, length, slice_get}
 use Rattle.namespace_id.specs.declared.shares.Share.{Share}
-use Rattle.byte_polynomial.specs.Polynomial.{AreCoefficients}
+use Rattle.label_polynomial.specs.Polynomial.{AreCoefficients}
 use Rattle.lch_fft.specs.Transforms.{column}
 use Rattle.leopard_code.specs.Codewords.{reading_of, is_code_width, are_positions, IsCodeword, HasEntries, weighted}
 

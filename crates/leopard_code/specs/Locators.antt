@@ -2,8 +2,8 @@
 use Rattle.std.specs.Prelude.{◌≡◌, ℕ, zero, suc, ◌<◌, ◌*◌, ◌==◌, IsTrue, List, [], ◌∷◌, length, bit_xor, slice_index, if◌then◌else◌}
 use Rattle.gf_cantor.specs.Field.{Field, label, power, product, size}
 use Rattle.namespace_id.specs.declared.shares.Share.{Share}
-use Rattle.byte_polynomial.specs.Polynomial.{value_at, AreCoefficients}
-use Rattle.byte_polynomial.specs.Derivatives.{derivative_at}
+use Rattle.label_polynomial.specs.Polynomial.{value_at, AreCoefficients}
+use Rattle.label_polynomial.specs.Derivatives.{derivative_at}
 use Rattle.lch_fft.specs.Readings.{Reading}
 use Rattle.lch_fft.specs.Transforms.{value, column}
 use Rattle.leopard_code.specs.Codewords.{is_code_width}

@@ -1,6 +1,6 @@
-use Rattle.byte_polynomial.proofs.Roots.{one_polynomial}
-use Rattle.byte_polynomial.proofs.Through.{through}
-use Rattle.byte_polynomial.proofs.interpolation_laws.Goals as goal
+use Rattle.label_polynomial.proofs.Roots.{one_polynomial}
+use Rattle.label_polynomial.proofs.Through.{through}
+use Rattle.label_polynomial.proofs.interpolation_laws.Goals as goal
 
 pub returns-clause-through : goal.returns-clause-through
 returns-clause-through c = through

@@ -5,10 +5,10 @@ use Rattle.std.specs.Int.Bits.{xor_assoc, xor_zero_r}
 use Rattle.std.proofs.lemmas.Nat.{xor_comm}
 use Rattle.gf_cantor.proofs.Linear.{xor_swap_middle}
 use Rattle.gf_cantor.proofs.Laws.{product_assoc, product_swap, product-xor, xor-product, product-zero, zero-product}
-use Rattle.byte_polynomial.specs.Polynomial.{value_at}
-use Rattle.byte_polynomial.specs.Derivatives.{derivative_at}
-use Rattle.byte_polynomial.proofs.Sums.{sum, scaled, value_at-sum, value_at-scaled}
-use Rattle.byte_polynomial.proofs.Products.{multiplied, value_at-multiplied}
+use Rattle.label_polynomial.specs.Polynomial.{value_at}
+use Rattle.label_polynomial.specs.Derivatives.{derivative_at}
+use Rattle.label_polynomial.proofs.Sums.{sum, scaled, value_at-sum, value_at-scaled}
+use Rattle.label_polynomial.proofs.Products.{multiplied, value_at-multiplied}
 use Rattle.gf_cantor.specs.Field.{Field, product}
 use Rattle.gf_cantor.specs.Laws.{AreFieldLaws}
 

@@ -4,9 +4,9 @@ use Rattle.std.specs.Prelude.{bit_xor}
 use Rattle.std.specs.Int.Bits.{xor_self, xor_zero_r}
 use Rattle.std.proofs.lemmas.Nat.{xor_lt}
 use Rattle.gf_cantor.proofs.Laws.{size-pos, size-above, product_comm, product_assoc, xor-product, product-zero, zero-product, one-product, has_inverse, zero_factor}
-use Rattle.byte_polynomial.specs.Polynomial.{value_at, AreCoefficients, Avoids, ArePoints, PassesThrough}
-use Rattle.byte_polynomial.proofs.Sums.{sum, scaled, value_at-sum, value_at-scaled, length-sum, length-scaled, AreCoefficients-sum, AreCoefficients-scaled, value_at-lt, xor_back, xor_zero-same}
-use Rattle.byte_polynomial.proofs.Roots.{AreRoots}
+use Rattle.label_polynomial.specs.Polynomial.{value_at, AreCoefficients, Avoids, ArePoints, PassesThrough}
+use Rattle.label_polynomial.proofs.Sums.{sum, scaled, value_at-sum, value_at-scaled, length-sum, length-scaled, AreCoefficients-sum, AreCoefficients-scaled, value_at-lt, xor_back, xor_zero-same}
+use Rattle.label_polynomial.proofs.Roots.{AreRoots}
 use Rattle.gf_cantor.specs.Field.{Field, product, bits, size}
 use Rattle.gf_cantor.specs.Laws.{AreFieldLaws}
 

@@ -7,7 +7,7 @@
 ghost use Rattle.std.specs.Prelude.{◌≡◌, ℕ, ◌≤◌, List, length};
 ghost use Rattle.gf_cantor.specs.Field.{Field};
 ghost use Rattle.gf_cantor.specs.Laws.{AreFieldLaws};
-ghost use Rattle.byte_polynomial.specs.Polynomial.{value_at, AreCoefficients, ArePoints, PassesThrough};
+ghost use Rattle.label_polynomial.specs.Polynomial.{value_at, AreCoefficients, ArePoints, PassesThrough};
 
 /// The law of interpolation, of each field: `gf_cantor::field_laws` says that bytes and words are
 /// one. It changes nothing.

@@ -4,8 +4,8 @@ use Rattle.std.specs.Prelude.{bit_xor}
 use Rattle.std.specs.Int.Bits.{xor_self, xor_zero_r}
 use Rattle.std.proofs.lemmas.Nat.{xor_comm, xor_lt}
 use Rattle.gf_cantor.proofs.Laws.{product_swap, product-xor, xor-product, product-zero, zero_factor}
-use Rattle.byte_polynomial.specs.Polynomial.{value_at, AreCoefficients, Avoids, ArePoints, PassesThrough}
-use Rattle.byte_polynomial.proofs.Sums.{sum, scaled, value_at-sum, value_at-scaled, length-sum, length-scaled, AreCoefficients-sum, AreCoefficients-scaled, value_at-lt, xor_cancel, xor_zero-same}
+use Rattle.label_polynomial.specs.Polynomial.{value_at, AreCoefficients, Avoids, ArePoints, PassesThrough}
+use Rattle.label_polynomial.proofs.Sums.{sum, scaled, value_at-sum, value_at-scaled, length-sum, length-scaled, AreCoefficients-sum, AreCoefficients-scaled, value_at-lt, xor_cancel, xor_zero-same}
 use Rattle.gf_cantor.specs.Field.{Field, product, bits, size}
 use Rattle.gf_cantor.specs.Laws.{AreFieldLaws}
 

@@ -2,8 +2,8 @@
 use Rattle.std.proofs.Common.{◌≡◌, ◌∙◌, ℕ, ◌+◌, ◌<◌, List, [], ◌∷◌, length, sym, ap, ap₂, arith}
 use Rattle.std.specs.Prelude.{bit_xor}
 use Rattle.gf_cantor.proofs.Laws.{size-pos, product_assoc, xor-product, zero-product}
-use Rattle.byte_polynomial.specs.Polynomial.{value_at, AreCoefficients}
-use Rattle.byte_polynomial.proofs.Sums.{sum, scaled, value_at-sum, value_at-scaled, length-sum, length-scaled, AreCoefficients-sum, AreCoefficients-scaled}
+use Rattle.label_polynomial.specs.Polynomial.{value_at, AreCoefficients}
+use Rattle.label_polynomial.proofs.Sums.{sum, scaled, value_at-sum, value_at-scaled, length-sum, length-scaled, AreCoefficients-sum, AreCoefficients-scaled}
 use Rattle.gf_cantor.specs.Field.{Field, product}
 use Rattle.gf_cantor.specs.Laws.{AreFieldLaws}
 

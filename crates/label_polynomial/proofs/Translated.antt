@@ -3,8 +3,8 @@ use Rattle.std.proofs.Common.{◌≡◌, ◌∙◌, ℕ, List, [], ◌∷◌, le
 use Rattle.std.specs.Prelude.{bit_xor}
 use Rattle.std.specs.Int.Bits.{xor_zero_r}
 use Rattle.gf_cantor.proofs.Laws.{xor-product, product-zero}
-use Rattle.byte_polynomial.specs.Polynomial.{value_at}
-use Rattle.byte_polynomial.proofs.Sums.{sum, scaled, value_at-sum, value_at-scaled, length-sum, length-scaled}
+use Rattle.label_polynomial.specs.Polynomial.{value_at}
+use Rattle.label_polynomial.proofs.Sums.{sum, scaled, value_at-sum, value_at-scaled, length-sum, length-scaled}
 use Rattle.gf_cantor.specs.Field.{Field, product}
 use Rattle.gf_cantor.specs.Laws.{AreFieldLaws}
 

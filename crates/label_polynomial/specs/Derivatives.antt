@@ -1,7 +1,7 @@
 -- Formal derivatives of polynomials over a field.
 use Rattle.std.specs.Prelude.{ℕ, List, [], ◌∷◌, bit_xor}
 use Rattle.gf_cantor.specs.Field.{Field, product}
-use Rattle.byte_polynomial.specs.Polynomial.{value_at}
+use Rattle.label_polynomial.specs.Polynomial.{value_at}
 
 -- the value of the formal derivative at a point, where that of c + x p is p + x p'
 unfoldable pub derivative_at : Field → List ℕ → ℕ → ℕ

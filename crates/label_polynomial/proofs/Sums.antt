@@ -5,7 +5,7 @@ use Rattle.std.specs.Int.Bits.{xor_assoc, xor_self, xor_zero_r}
 use Rattle.std.proofs.lemmas.Nat.{xor_comm, xor_lt}
 use Rattle.gf_cantor.proofs.Linear.{xor_swap_middle}
 use Rattle.gf_cantor.proofs.Laws.{size-pos, product-lt, product_swap, product-xor, product-zero}
-use Rattle.byte_polynomial.specs.Polynomial.{value_at, AreCoefficients}
+use Rattle.label_polynomial.specs.Polynomial.{value_at, AreCoefficients}
 use Rattle.gf_cantor.specs.Field.{Field, product, bits, size}
 use Rattle.gf_cantor.specs.Laws.{AreFieldLaws}
 
