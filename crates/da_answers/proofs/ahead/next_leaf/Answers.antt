@@ -4,7 +4,7 @@ use Rattle.da_answers.proofs.Answering.AheadLemmas.{taken_ahead}
 use Rattle.da_answers.proofs.ahead.next_leaf.Goals as goal
 
 -- the first digest is taken
-pub returns : goal.returns
-returns c =
+pub returns-clause-next : goal.returns-clause-next
+returns-clause-next c =
     taken_ahead c.args.k c.next.result (queued c.look_ahead.new.queue) (queued c.next.new.self) (frames_of c.args.bytes.now)
-    c.look_ahead.ensures c.next.ensures.first c.next.ensures.empty
+    c.look_ahead.ensures.ahead c.next.ensures.first c.next.ensures.empty

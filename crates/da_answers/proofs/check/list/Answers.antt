@@ -38,7 +38,7 @@ pub finding_of-finding-requires-clause-leaf : goal.finding_of-finding-requires-c
 finding_of-finding-requires-clause-leaf g c =
     next_shown c.args.header.now.k c.next_leaf-leaf.result (queued c.next_leaf-leaf.new.queue) (frames_of c.loop-frame.rest.now) (raw_seen c.in-Some.frame) (frames_of c.in-Some.after.now)
     (subst (λ (k : ℕ). IsNextAhead k c.next_leaf-leaf.result (queued c.next_leaf-leaf.new.queue) (frames_of c.loop-frame.rest.now))
-    (ap (λ (h : Roots). h.k) c.header.view_is) c.next_leaf-leaf.ensures)
+    (ap (λ (h : Roots). h.k) c.header.view_is) c.next_leaf-leaf.ensures.next)
     c.in-Some.ensures.frames
 
 pub loop-frame-preserved : goal.loop-frame-preserved
@@ -46,10 +46,10 @@ loop-frame-preserved g c =
     let next = next_line c.args.header.now c.loop-frame.rest.now c.in-Some.after.now c.line_of.result.now (raw_seen c.in-Some.frame) c.finding_of-finding.result
     c.in-Some.ensures.frames c.finding_of-finding.ensures.value c.line_of.ensures in
     record {
-      trees = c.finding_of-finding.ensures.kept ∙ c.loop-frame.invariant.trees;
+      trees = c.finding_of-finding.ensures.kept ∙ c.next_leaf-leaf.ensures.kept ∙ c.loop-frame.invariant.trees;
       ahead = next_ahead c.args.header.now.k c.next_leaf-leaf.result (queued c.next_leaf-leaf.new.queue) (frames_of c.loop-frame.rest.now) (raw_seen c.in-Some.frame) (frames_of c.in-Some.after.now)
           (subst (λ (k : ℕ). IsNextAhead k c.next_leaf-leaf.result (queued c.next_leaf-leaf.new.queue) (frames_of c.loop-frame.rest.now))
-          (ap (λ (h : Roots). h.k) c.header.view_is) c.next_leaf-leaf.ensures)
+          (ap (λ (h : Roots). h.k) c.header.view_is) c.next_leaf-leaf.ensures.next)
           c.in-Some.ensures.frames;
       lines = gathered_on _ _ _ _ _ _ _ _ _ c.loop-frame.invariant.lines next c.in-Ok.ensures.taken;
       ok = c.loop-frame.invariant.ok
