@@ -190,7 +190,10 @@ fn words_of_recovery_shares(rt: HostRuntime) {
         let all = from_recovery(&rt, rt.alloc(), &recovery);
         for pos in 0..count {
             assert!(rt; pos < all.len());
-            assert!(rt; first_word(&all[pos]) == (pos == at) as u16, "{pos} of {count}");
+            assert!(rt;
+                first_word(&all[pos]) == (pos == at) as u16,
+                "{pos} of {count}"
+            );
         }
     }
 }
