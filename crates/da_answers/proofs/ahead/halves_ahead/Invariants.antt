@@ -1,5 +1,5 @@
 use Rattle.std.proofs.Common.{◌≤◌}
-use Rattle.da_commands.proofs.ahead.halves_ahead.Given as goal
+use Rattle.da_answers.proofs.ahead.halves_ahead.Given as goal
 
 -- one node for each frame at most
 abbrev pub invariant-loop : goal.invariant-loop
