@@ -6,7 +6,7 @@ use Rattle.std.proofs.lemmas.Slice.Eq.{bytes_eq-Decides}
 use Rattle.json.specs.Print.{escape_byte, escape}
 use Rattle.hex.specs.Hex.{lower_digits, encode_with, encode_lower}
 use Rattle.namespace_id.specs.Bytes.{AreBytes}
-use Rattle.da_show.specs.Json.{in_quotes, quoted_hex}
+use Rattle.da_show.specs.JsonTexts.{in_quotes, quoted_hex}
 use Rattle.namespace_id.proofs.TestLemmas.{passes_below, passes_below-at}
 
 -- each of the sixteen digits

@@ -1,6 +1,5 @@
 pub mod NoFloats
-mod SampleText
 mod BriefText
 mod HexDigits
 mod Pieces
-mod BriefJson
+mod JsonLaws

@@ -1,10 +1,9 @@
 -- The JSON of a frame (docs/FORMATS.md, "JSON of frames").
-use Rattle.std.specs.Prelude.{ℕ, List, [], ◌∷◌, ◌++◌, codes, decimal, length, map, Bool, true, false, Option, Some, None}
+use Rattle.std.specs.Prelude.{ℕ, List, [], ◌∷◌, codes, length, map, Option, Some, None}
 use Rattle.hex.specs.Hex.{encode_lower}
 use Rattle.serde_json.specs.Data.{Data, number, string, array, object, Members, no_members, member, unsigned}
 use Rattle.serde_json.specs.View.{items_of}
-use Rattle.serde_json.specs.Written.{compact_text, comma_if}
-use Rattle.json.specs.Print.{quoted}
+use Rattle.serde_json.specs.Written.{compact_text}
 use Rattle.namespace_id.specs.declared.cells.Cell.{Cell}
 use Rattle.namespace_id.specs.declared.cells.Axis.{Axis}
 use Rattle.namespace_id.specs.declared.namespaces.Namespace.{Namespace}
@@ -25,11 +24,6 @@ use Rattle.blob_commit.specs.Proofs.{CommitParts, RootedParts}
 use Rattle.da_wire.specs.kinds.Block.{width_number}
 use Rattle.da_wire.specs.declared.frames.Frame.{Frame}
 use Rattle.da_wire.specs.declared.frames.Frame.TheVariants as frames
-use Rattle.da_wire.specs.declared.briefs.Brief.{Brief}
-use Rattle.da_wire.specs.declared.briefs.Brief.TheVariants as briefs
-use Rattle.da_wire.specs.declared.briefs.EntryPlace.{EntryPlace}
-use Rattle.da_wire.specs.declared.briefs.FoundPlace.{FoundPlace}
-use Rattle.da_wire.specs.declared.briefs.FoundPlace.TheVariants as places
 use Rattle.da_show.specs.Parts.{axis_word, name_word, digest_word, share_name_word, share_hash_word}
 
 -- ---- values
@@ -92,16 +86,6 @@ found_json row (Absence pos leaf nodes) = object_of ((codes "pos", count pos) �
 abbrev pub entry_json : NsEntry → Data
 entry_json entry = found_json entry.row entry.found
 
--- what is found in this row, by where it is
-abbrev pub found_place_json : ℕ → FoundPlace → Data
-found_place_json row (places.Range start shares) =
-    object_of ((codes "count", count shares) ∷ (codes "row", count row) ∷ (codes "start", count start) ∷ [])
-found_place_json row (places.Absence pos) = object_of ((codes "pos", count pos) ∷ (codes "row", count row) ∷ [])
-
--- where an entry of a namespace answer found something
-abbrev pub place_json : EntryPlace → Data
-place_json entry = found_place_json entry.row entry.found
-
 -- a namespace answer
 abbrev pub names_json : Namespace → List NsEntry → Data
 names_json name entries = object_of (
@@ -140,91 +124,6 @@ sample_json cell axis = object_of (
     (codes "axis", string (axis_word axis)) ∷ (codes "col", count cell.col) ∷ (codes "kind", string (codes "sample"))
     ∷ (codes "row", count cell.row) ∷ [])
 
--- the text of a request for a sample, as it is put together
-unfoldable pub sample_text : Cell → Axis → List ℕ
-sample_text cell axis =
-    codes "{\"axis\":\"" ++ axis_word axis ++ codes "\",\"col\":" ++ decimal cell.col
-    ++ codes ",\"kind\":\"sample\",\"row\":" ++ decimal cell.row ++ codes "}"
-
--- the text of a range, as it is put together
-unfoldable pub range_text : ℕ → ℕ → ℕ → List ℕ
-range_text row start shares =
-    codes "{\"count\":" ++ (decimal shares ++ (codes ",\"row\":" ++ (decimal row
-    ++ (codes ",\"start\":" ++ (decimal start ++ codes "}")))))
-
--- the text of an absence
-unfoldable pub absence_text : ℕ → ℕ → List ℕ
-absence_text row pos =
-    codes "{\"pos\":" ++ (decimal pos ++ (codes ",\"row\":" ++ (decimal row ++ codes "}")))
-
--- where something is found in a row
-abbrev pub found_place_text : ℕ → FoundPlace → List ℕ
-found_place_text row (places.Range start shares) = range_text row start shares
-found_place_text row (places.Absence pos) = absence_text row pos
-
--- where an entry of a namespace answer found something
-abbrev pub place_text : EntryPlace → List ℕ
-place_text entry = found_place_text entry.row entry.found
-
--- the text of a cell
-unfoldable pub pair_text : ℕ → ℕ → List ℕ
-pair_text row col = codes "[" ++ (decimal row ++ (codes "," ++ (decimal col ++ codes "]")))
-
--- the text of what is left of a list, with a comma in front where something stands before
-abbrev pub items_from : {A : Type 0} → (A → List ℕ) → Bool → List A → List ℕ
-items_from text_of later [] = codes "]"
-items_from text_of later (x ∷ xs) = comma_if later ++ (text_of x ++ items_from text_of true xs)
-
--- the text of a list
-abbrev pub list_text : {A : Type 0} → (A → List ℕ) → List A → List ℕ
-list_text text_of xs = codes "[" ++ items_from text_of false xs
-
--- the text of a cell, and of the cell of a sample
-abbrev pub cell_text : Cell → List ℕ
-cell_text cell = pair_text cell.row cell.col
-
-abbrev pub cell_of_text : Message → List ℕ
-cell_of_text m = cell_text m.cell
-
--- the text of a fraud claim from its index on
-unfoldable pub claim_end : ℕ → List ℕ
-claim_end index = codes ",\"index\":" ++ (decimal index ++ codes ",\"kind\":\"fraud\"}")
-
--- the text of a fraud claim
-unfoldable pub claim_text : Axis → List Message → ℕ → List ℕ
-claim_text axis cells index =
-    codes "{\"axis\":\"" ++ (axis_word axis ++ (codes "\",\"cells\":" ++ (list_text cell_of_text cells ++ claim_end index)))
-
--- the text of missing cells
-unfoldable pub missing_text : List Cell → ℕ → List ℕ
-missing_text cells k =
-    codes "{\"cells\":" ++ (list_text cell_text cells ++ (codes ",\"k\":" ++ (decimal k ++ codes ",\"kind\":\"missing\"}")))
-
--- a text of which no byte is escaped
-unfoldable pub in_quotes : List ℕ → List ℕ
-in_quotes text = codes "\"" ++ (text ++ codes "\"")
-
--- the digits of bytes as a string
-unfoldable pub quoted_hex : List ℕ → List ℕ
-quoted_hex bytes = quoted (encode_lower bytes)
-
--- the digits of a namespace as a string
-unfoldable pub quoted_name : Namespace → List ℕ
-quoted_name name = quoted (name_word name)
-
--- the text of a namespace answer from its kind on
-unfoldable pub names_end : Namespace → List ℕ
-names_end name = codes ",\"kind\":\"namespace\",\"namespace\":" ++ (quoted_name name ++ codes "}")
-
--- the text of a namespace answer, by where its entries found something
-unfoldable pub places_text : Namespace → List EntryPlace → List ℕ
-places_text name entries = codes "{\"entries\":" ++ (list_text place_text entries ++ names_end name)
-
--- the text of a request for the shares of a namespace
-unfoldable pub request_text : Namespace → List ℕ
-request_text name =
-    codes "{\"kind\":\"request\",\"namespace\":" ++ (quoted_name name ++ codes "}")
-
 -- a request for the shares of a namespace
 abbrev pub request_json : Namespace → Data
 request_json name =
@@ -244,32 +143,6 @@ abbrev pub blob_json : NamedBytes → Data
 blob_json blob = object_of (
     (codes "length", count (length blob.bytes)) ∷ (codes "namespace", string (name_word blob.namespace))
     ∷ signer_json blob.signer)
-
--- the text of the length of a unit
-abbrev pub length_text : List ℕ → List ℕ
-length_text unit = decimal (length unit)
-
--- the text of a signer behind the namespace of its blob, if there is one
-abbrev pub signer_text : Option (List ℕ) → List ℕ
-signer_text None = []
-signer_text (Some signer) = codes ",\"signer\":" ++ quoted_hex signer
-
--- the text of a blob
-unfoldable pub blob_text : NamedBytes → List ℕ
-blob_text blob =
-    codes "{\"length\":" ++ (decimal (length blob.bytes) ++ (codes ",\"namespace\":" ++ (quoted_name blob.namespace
-    ++ (signer_text blob.signer ++ codes "}"))))
-
--- the text of the lengths of units and of the width that is asked for, 0 for none
-unfoldable pub block_end : List (List ℕ) → ℕ → List ℕ
-block_end units width =
-    codes ",\"units\":" ++ (list_text length_text units ++ (codes ",\"width\":" ++ (decimal width ++ codes "}")))
-
--- the text of a block
-unfoldable pub block_text : BlockParts → List ℕ
-block_text block =
-    codes "{\"blobs\":" ++ (list_text blob_text block.blobs ++ (codes ",\"kind\":\"block\",\"pay\":"
-    ++ (list_text length_text block.pay_units ++ block_end block.units (width_number block.width))))
 
 -- a block: what it asks for, and the lengths of what is in it
 abbrev pub block_json : BlockParts → Data
@@ -314,14 +187,3 @@ json_of (frames.Rooted proof) = rooted_json proof
 -- the text of it, without a space and on one line
 abbrev pub json_text : Frame → List ℕ
 json_text frame = compact_text (json_of frame)
-
--- ---- the text of what is brief of a frame
-
--- the text by its kind
-abbrev pub brief_json : Brief → List ℕ
-brief_json (briefs.Names name found) = places_text name found
-brief_json (briefs.Fraud claim) = claim_text claim.axis claim.cells claim.index
-brief_json (briefs.Missing cells) = missing_text cells.list cells.k
-brief_json (briefs.Sample cell axis) = sample_text cell axis
-brief_json (briefs.Request name) = request_text name
-brief_json (briefs.Block block) = block_text block

@@ -1,3 +1,4 @@
 pub mod Parts
 pub mod Text
 pub mod Json
+pub mod JsonTexts

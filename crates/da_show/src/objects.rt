@@ -2,47 +2,39 @@
 
 ghost use Rattle.std.specs.Prelude.{◌≡◌, ◌++◌, Some, IfOk, OnOk};
 ghost use Rattle.std.specs.String.{string_bytes};
-ghost use Rattle.serde_json.specs.View.{view};
 ghost use Rattle.da_wire.specs.declared.frames.Frame.{Frame as FrameOf};
 ghost use Rattle.da_wire.specs.Briefs.{brief_of};
-ghost use Rattle.da_show.specs.Json.{json_of, json_text, sample_text, brief_json};
+ghost use Rattle.da_show.specs.Json.{json_text};
+ghost use Rattle.da_show.specs.JsonTexts.{frame_text, brief_json};
 
 mod kinds;
 mod lists;
-mod texts;
+mod parts;
 
-use crate::words::{axis_word, put_number};
 use da_wire::{Brief, Frame};
-use namespace_id::{Axis, Cell, NoMemory};
-use serde_json::Value;
+use namespace_id::NoMemory;
 use std::alloc::{AllocError, Global};
 
-/// The object that a frame is.
-fn json_of(alloc: Global, frame: &Frame) -> Result<Value, AllocError>
-    ensures { IfOk result (λ value. view value ≡ json_of frame.now) }
+/// Appends the text of a frame's object.
+fn put_object(alloc: Global, out: &mut String, frame: &Frame) -> Result<(), AllocError>
+    ensures { OnOk result (string_bytes out.new ≡ string_bytes out.old ++ frame_text frame.now) }
 {
     match frame {
-        Frame::Header(header) => kinds::header(alloc, header),
-        Frame::Square(square) => kinds::square(alloc, square),
-        Frame::Message(message) => kinds::message(alloc, message),
-        Frame::Names(name, answer) => kinds::names(alloc, name, answer),
-        Frame::Fraud(claim) => kinds::claim(alloc, claim),
-        Frame::Missing(cells) => kinds::missing(alloc, cells),
-        Frame::Clash(clash) => kinds::clash(alloc, clash),
-        Frame::Sample(cell, axis) => kinds::sample(alloc, *cell, *axis),
-        Frame::Request(name) => kinds::request(alloc, name),
-        Frame::Block(block) => kinds::block(alloc, block),
-        Frame::Commit(proof) => kinds::commit(alloc, proof),
-        Frame::Rooted(proof) => kinds::rooted(alloc, proof),
+        Frame::Header(header) => kinds::put_header(alloc, out, header),
+        Frame::Square(square) => kinds::put_square(alloc, out, square),
+        Frame::Message(message) => kinds::put_message(alloc, out, message),
+        Frame::Names(name, answer) => kinds::put_names(alloc, out, name, &answer.entries),
+        Frame::Fraud(claim) => kinds::put_claim(out, claim.axis, &claim.cells, claim.index),
+        Frame::Missing(cells) => kinds::put_missing(out, &cells.list, cells.k),
+        Frame::Clash(clash) => {
+            kinds::put_clash(alloc, out, clash.left().bytes(), clash.right().bytes())
+        }
+        Frame::Sample(cell, axis) => kinds::put_sample(out, *cell, *axis),
+        Frame::Request(name) => kinds::put_request(alloc, out, name),
+        Frame::Block(block) => kinds::put_block(alloc, out, block),
+        Frame::Commit(proof) => kinds::put_commit(alloc, out, proof),
+        Frame::Rooted(proof) => kinds::put_rooted(alloc, out, proof),
     }
-}
-
-/// The text of a frame's object.
-fn json_text(alloc: Global, frame: &Frame) -> Result<String, AllocError>
-    ensures { IfOk result (λ text. string_bytes text ≡ json_text frame.now) }
-{
-    let value = json_of(alloc, frame)?;
-    value.to_string(alloc)
 }
 
 /// A frame as one JSON object on one line, without spaces and with its keys in ascending order of
@@ -54,24 +46,11 @@ fn json_text(alloc: Global, frame: &Frame) -> Result<String, AllocError>
 pub fn show_json(alloc: Global, frame: &Frame) -> Result<String, NoMemory>
     ensures text { IfOk result (λ text. string_bytes text ≡ json_text frame.now) }
 {
-    match json_text(alloc, frame) {
-        Ok(text) => Ok(text),
+    let mut out = String::new(alloc);
+    match put_object(alloc, &mut out, frame) {
+        Ok(()) => Ok(out),
         Err(AllocError) => Err(NoMemory),
     }
-}
-
-/// Appends the text of the object of a request for a sample.
-#[tactic(auto, unfolding(crate::specs::Json::sample_text))]
-fn put_object(out: &mut String, cell: Cell, axis: Axis) -> Result<(), AllocError>
-    ensures { OnOk result (string_bytes out.new ≡ string_bytes out.old ++ sample_text cell axis) }
-{
-    out.push_str("{\"axis\":\"")?;
-    out.push_str(axis_word(axis))?;
-    out.push_str("\",\"col\":")?;
-    put_number(out, cell.col)?;
-    out.push_str(",\"kind\":\"sample\",\"row\":")?;
-    put_number(out, cell.row)?;
-    out.push('}')
 }
 
 /// Appends the text of the object of a brief value.
@@ -79,12 +58,12 @@ fn put_brief_object(alloc: Global, out: &mut String, brief: &Brief) -> Result<()
     ensures { OnOk result (string_bytes out.new ≡ string_bytes out.old ++ brief_json brief.now) }
 {
     match brief {
-        Brief::Names(name, found) => texts::put_names(alloc, out, name, &found.list),
-        Brief::Fraud(claim) => texts::put_claim(out, claim.axis, &claim.cells, claim.index),
-        Brief::Missing(cells) => texts::put_missing(out, &cells.list, cells.k),
-        Brief::Sample(cell, axis) => put_object(out, *cell, *axis),
-        Brief::Request(name) => texts::put_request(alloc, out, name),
-        Brief::Block(block) => texts::put_block(alloc, out, block),
+        Brief::Names(name, found) => kinds::put_names_at(alloc, out, name, &found.list),
+        Brief::Fraud(claim) => kinds::put_claim(out, claim.axis, &claim.cells, claim.index),
+        Brief::Missing(cells) => kinds::put_missing(out, &cells.list, cells.k),
+        Brief::Sample(cell, axis) => kinds::put_sample(out, *cell, *axis),
+        Brief::Request(name) => kinds::put_request(alloc, out, name),
+        Brief::Block(block) => kinds::put_block(alloc, out, block),
     }
 }
 

@@ -32,6 +32,14 @@ pub(crate) fn put_number(out: &mut String, number: u16) -> Result<(), AllocError
     out.push_str(buffer.format(number))
 }
 
+/// Appends a number of shares in decimal.
+pub(crate) fn put_share_count(out: &mut String, number: u32) -> Result<(), AllocError>
+    ensures { OnOk result (string_bytes out.new ≡ string_bytes out.old ++ decimal number) }
+{
+    let mut buffer = Buffer::new();
+    out.push_str(buffer.format(number))
+}
+
 /// Appends a number of things in decimal.
 pub(crate) fn put_size(out: &mut String, number: usize) -> Result<(), AllocError>
     ensures { OnOk result (string_bytes out.new ≡ string_bytes out.old ++ decimal number) }
@@ -76,7 +84,7 @@ pub(crate) fn hash_word(alloc: Global, hash: &[u8; HASH_SIZE]) -> Result<String,
 }
 
 /// The SHA-256 value of bytes.
-fn digest_of(bytes: &[u8]) -> [u8; HASH_SIZE]
+pub(crate) fn digest_of(bytes: &[u8]) -> [u8; HASH_SIZE]
     ensures { result ≡ sha256 bytes.now }
 {
     let mut hasher = Sha256::new();

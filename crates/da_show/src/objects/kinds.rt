@@ -1,150 +1,364 @@
-//! The object of each kind of frame.
+//! The text of the object of each kind of frame, put together without the object.
 
-ghost use Rattle.std.specs.Prelude.{◌≡◌, IfOk};
-ghost use Rattle.serde_json.specs.View.{view};
-ghost use Rattle.da_show.specs.Json.{header_json, square_json, message_json, names_json, claim_json, missing_json, clash_json, sample_json, request_json, block_json, commit_json, rooted_json};
+ghost use Rattle.std.specs.Prelude.{◌≡◌, ◌++◌, OnOk};
+ghost use Rattle.std.specs.String.{string_bytes};
+ghost use Rattle.da_show.specs.JsonTexts.{header_end, header_text, square_end, square_text, place_front, share_end, message_end, message_text, names_end, names_text, places_text, claim_end, claim_text, missing_text, clash_text, sample_text, request_text, units_end, block_end, block_text, commit_end, commit_counts, commit_text, rooted_end, rooted_text};
 
-use super::lists;
-use crate::words::{axis_word, digest_word, hash_word, name_word, share_hash_word, width_number};
-use axis_roots::{FraudClaim, Message, NsAnswer};
+use super::lists::{
+    put_blobs, put_cells, put_entries, put_lengths, put_message_cells, put_places, put_roots,
+    put_shares,
+};
+use super::parts::{put_axis, put_hex, put_name};
+use crate::words::{axis_word, digest_of, put_number, put_share_count, put_size, width_number};
+use axis_roots::{Message, NsEntry};
 use blob_commit::{CommitProof, RootedMessage};
+use da_wire::EntryPlace;
 use data_header::{Header, data_root};
-use hash_clash::Clash;
-use namespace_id::{Axis, Cell, Cells, Namespace};
-use serde_json::{Value, json};
+use namespace_id::{Axis, Cell, Digest, Namespace, Share};
+use share_split::Unit;
 use square_layout::{Block, Square};
 use std::alloc::{AllocError, Global};
 
-/// A header: its data root and its roots.
-pub(crate) fn header(alloc: Global, header: &Header) -> Result<Value, AllocError>
-    ensures { IfOk result (λ value. view value ≡ header_json header.now) }
+/// Appends a header from its kind on, by its data root and the roots of its rows.
+fn put_header_end(
+    alloc: Global,
+    out: &mut String,
+    root: &[u8],
+    rows: &[Digest],
+) -> Result<(), AllocError>
+    ensures { OnOk result (string_bytes out.new
+        ≡ string_bytes out.old ++ header_end root.now rows.now) }
 {
-    let cols = lists::roots(alloc, &header.cols)?;
-    let k = header.k;
-    let root = hash_word(alloc, &data_root(header))?;
-    let rows = lists::roots(alloc, &header.rows)?;
-    json!(in alloc; {"cols": cols, "k": k, "kind": "header", "root": root, "rows": rows})
+    out.push_str(",\"kind\":\"header\",\"root\":")?;
+    put_hex(alloc, out, root)?;
+    out.push_str(",\"rows\":")?;
+    put_roots(alloc, out, rows)?;
+    out.push_str("}")
 }
 
-/// A square: the namespaces of its shares.
-pub(crate) fn square(alloc: Global, square: &Square) -> Result<Value, AllocError>
-    ensures { IfOk result (λ value. view value ≡ square_json square.now) }
+/// Appends a header: its data root and its roots.
+#[tactic(auto, unfolding(crate::specs::JsonTexts::header_text))]
+pub(crate) fn put_header(alloc: Global, out: &mut String, header: &Header) -> Result<(), AllocError>
+    ensures { OnOk result (string_bytes out.new ≡ string_bytes out.old ++ header_text header.now) }
 {
-    let k = square.k;
-    let names = lists::shares(alloc, &square.shares)?;
-    json!(in alloc; {"k": k, "kind": "square", "namespaces": names})
+    let root = data_root(header);
+    out.push_str("{\"cols\":")?;
+    put_roots(alloc, out, &header.cols)?;
+    out.push_str(",\"k\":")?;
+    put_number(out, header.k)?;
+    put_header_end(alloc, out, &root, &header.rows)
 }
 
-/// A sample, with the hash of its share.
-pub(crate) fn message(alloc: Global, message: &Message) -> Result<Value, AllocError>
-    ensures { IfOk result (λ value. view value ≡ message_json message.now) }
+/// Appends a square from its kind on.
+fn put_square_end(alloc: Global, out: &mut String, shares: &[Share]) -> Result<(), AllocError>
+    ensures { OnOk result (string_bytes out.new ≡ string_bytes out.old ++ square_end shares.now) }
 {
-    let axis = axis_word(message.axis);
-    let col = message.cell.col;
+    out.push_str(",\"kind\":\"square\",\"namespaces\":")?;
+    put_shares(alloc, out, shares)?;
+    out.push_str("}")
+}
+
+/// Appends a square: the namespaces of its shares.
+#[tactic(auto, unfolding(crate::specs::JsonTexts::square_text))]
+pub(crate) fn put_square(alloc: Global, out: &mut String, square: &Square) -> Result<(), AllocError>
+    ensures { OnOk result (string_bytes out.new ≡ string_bytes out.old ++ square_text square.now) }
+{
+    out.push_str("{\"k\":")?;
+    put_number(out, square.k)?;
+    put_square_end(alloc, out, &square.shares)
+}
+
+/// Appends an axis and a column, which stand at the front of an object.
+#[tactic(auto, unfolding(crate::specs::JsonTexts::place_front))]
+fn put_place_front(out: &mut String, axis: Axis, col: u16) -> Result<(), AllocError>
+    ensures { OnOk result (string_bytes out.new ≡ string_bytes out.old ++ place_front axis col) }
+{
+    out.push_str("{\"axis\":")?;
+    put_axis(out, axis)?;
+    out.push_str(",\"col\":")?;
+    put_number(out, col)
+}
+
+/// Appends a row and the hash of a share, which stand at the end of an object.
+#[tactic(auto, unfolding(crate::specs::JsonTexts::share_end))]
+fn put_share_end(alloc: Global, out: &mut String, row: u16, share: &Share) -> Result<(), AllocError>
+    ensures { OnOk result (string_bytes out.new
+        ≡ string_bytes out.old ++ share_end row share.now) }
+{
+    let hash = digest_of(&share.0);
+    out.push_str(",\"row\":")?;
+    put_number(out, row)?;
+    out.push_str(",\"share\":")?;
+    put_hex(alloc, out, &hash)?;
+    out.push('}')
+}
+
+/// Appends a sample from its kind on: how many nodes it has, its row and the hash of its share.
+fn put_message_end(
+    alloc: Global,
+    out: &mut String,
+    nodes: usize,
+    row: u16,
+    share: &Share,
+) -> Result<(), AllocError>
+    ensures { OnOk result (string_bytes out.new
+        ≡ string_bytes out.old ++ message_end nodes row share.now) }
+{
+    out.push_str(",\"kind\":\"message\",\"nodes\":")?;
+    put_size(out, nodes)?;
+    put_share_end(alloc, out, row, share)
+}
+
+/// Appends a sample, with the hash of its share.
+#[tactic(auto, unfolding(crate::specs::JsonTexts::message_text))]
+pub(crate) fn put_message(
+    alloc: Global,
+    out: &mut String,
+    message: &Message,
+) -> Result<(), AllocError>
+    ensures { OnOk result (string_bytes out.new
+        ≡ string_bytes out.old ++ message_text message.now) }
+{
     let nodes = message.path.nodes().len();
-    let row = message.cell.row;
-    let share = share_hash_word(alloc, &message.share)?;
-    json!(in alloc; {
-        "axis": axis, "col": col, "kind": "message", "nodes": nodes, "row": row, "share": share
-    })
+    put_place_front(out, message.axis, message.cell.col)?;
+    put_message_end(alloc, out, nodes, message.cell.row, &message.share)
 }
 
-/// A namespace answer.
-pub(crate) fn names(alloc: Global, name: &Namespace, answer: &NsAnswer) -> Result<Value, AllocError>
-    ensures { IfOk result (λ value. view value ≡ names_json name.now answer.now) }
+/// Appends a namespace answer from its kind on.
+fn put_names_end(alloc: Global, out: &mut String, name: &Namespace) -> Result<(), AllocError>
+    ensures { OnOk result (string_bytes out.new ≡ string_bytes out.old ++ names_end name.now) }
 {
-    let entries = lists::entries(alloc, &answer.entries)?;
-    let name = name_word(alloc, name)?;
-    json!(in alloc; {"entries": entries, "kind": "namespace", "namespace": name})
+    out.push_str(",\"kind\":\"namespace\",\"namespace\":")?;
+    put_name(alloc, out, name)?;
+    out.push_str("}")
 }
 
-/// A fraud claim, with the cells of its samples.
-pub(crate) fn claim(alloc: Global, claim: &FraudClaim) -> Result<Value, AllocError>
-    ensures { IfOk result (λ value. view value ≡ claim_json claim.now) }
+/// Appends a namespace answer.
+pub(crate) fn put_names(
+    alloc: Global,
+    out: &mut String,
+    name: &Namespace,
+    entries: &[NsEntry],
+) -> Result<(), AllocError>
+    ensures { OnOk result (string_bytes out.new
+        ≡ string_bytes out.old ++ names_text name.now entries.now) }
 {
-    let axis = axis_word(claim.axis);
-    let cells = lists::messages(alloc, &claim.cells)?;
-    let index = claim.index;
-    json!(in alloc; {"axis": axis, "cells": cells, "index": index, "kind": "fraud"})
+    out.push_str("{\"entries\":")?;
+    put_entries(out, entries)?;
+    put_names_end(alloc, out, name)
 }
 
-/// Missing cells.
-pub(crate) fn missing(alloc: Global, cells: &Cells) -> Result<Value, AllocError>
-    ensures { IfOk result (λ value. view value ≡ missing_json cells.now) }
+/// Appends a namespace answer by where its entries found something.
+pub(crate) fn put_names_at(
+    alloc: Global,
+    out: &mut String,
+    name: &Namespace,
+    places: &[EntryPlace],
+) -> Result<(), AllocError>
+    ensures { OnOk result (string_bytes out.new
+        ≡ string_bytes out.old ++ places_text name.now places.now) }
 {
-    let list = lists::cells(alloc, &cells.list)?;
-    let k = cells.k;
-    json!(in alloc; {"cells": list, "k": k, "kind": "missing"})
+    out.push_str("{\"entries\":")?;
+    put_places(out, places)?;
+    put_names_end(alloc, out, name)
 }
 
-/// A collision: its two strings.
-pub(crate) fn clash(alloc: Global, clash: &Clash) -> Result<Value, AllocError>
-    ensures { IfOk result (λ value. view value ≡ clash_json clash.now) }
+/// Appends a fraud claim from its index on.
+fn put_claim_end(out: &mut String, index: u16) -> Result<(), AllocError>
+    ensures { OnOk result (string_bytes out.new ≡ string_bytes out.old ++ claim_end index) }
 {
-    let left = hex::encode(alloc, clash.left().bytes())?;
-    let right = hex::encode(alloc, clash.right().bytes())?;
-    json!(in alloc; {"kind": "clash", "left": left, "right": right})
+    out.push_str(",\"index\":")?;
+    put_number(out, index)?;
+    out.push_str(",\"kind\":\"fraud\"}")
 }
 
-/// A request for the sample of a cell on an axis.
-pub(crate) fn sample(alloc: Global, cell: Cell, axis: Axis) -> Result<Value, AllocError>
-    ensures { IfOk result (λ value. view value ≡ sample_json cell axis) }
+/// Appends a fraud claim of an axis and its index, with the cells of its samples.
+#[tactic(auto, unfolding(crate::specs::JsonTexts::claim_text))]
+pub(crate) fn put_claim(
+    out: &mut String,
+    axis: Axis,
+    cells: &[Message],
+    index: u16,
+) -> Result<(), AllocError>
+    ensures { OnOk result (string_bytes out.new
+        ≡ string_bytes out.old ++ claim_text axis cells.now index) }
 {
-    let axis = axis_word(axis);
-    let col = cell.col;
-    let row = cell.row;
-    json!(in alloc; {"axis": axis, "col": col, "kind": "sample", "row": row})
+    out.push_str("{\"axis\":\"")?;
+    out.push_str(axis_word(axis))?;
+    out.push_str("\",\"cells\":")?;
+    put_message_cells(out, cells)?;
+    put_claim_end(out, index)
 }
 
-/// A request for the shares of a namespace.
-pub(crate) fn request(alloc: Global, name: &Namespace) -> Result<Value, AllocError>
-    ensures { IfOk result (λ value. view value ≡ request_json name.now) }
+/// Appends missing cells of a square of width k.
+#[tactic(auto, unfolding(crate::specs::JsonTexts::missing_text))]
+pub(crate) fn put_missing(out: &mut String, cells: &[Cell], k: u16) -> Result<(), AllocError>
+    ensures { OnOk result (string_bytes out.new
+        ≡ string_bytes out.old ++ missing_text cells.now k) }
 {
-    let name = name_word(alloc, name)?;
-    json!(in alloc; {"kind": "request", "namespace": name})
+    out.push_str("{\"cells\":")?;
+    put_cells(out, cells)?;
+    out.push_str(",\"k\":")?;
+    put_number(out, k)?;
+    out.push_str(",\"kind\":\"missing\"}")
 }
 
-/// A block: what it asks for, and the lengths of what is in it.
-pub(crate) fn block(alloc: Global, block: &Block) -> Result<Value, AllocError>
-    ensures { IfOk result (λ value. view value ≡ block_json block.now) }
+/// Appends a collision by its two strings.
+pub(crate) fn put_clash(
+    alloc: Global,
+    out: &mut String,
+    left: &[u8],
+    right: &[u8],
+) -> Result<(), AllocError>
+    ensures { OnOk result (string_bytes out.new
+        ≡ string_bytes out.old ++ clash_text left.now right.now) }
 {
-    let blobs = lists::blobs(alloc, &block.blobs)?;
-    let pay = lists::units(alloc, &block.pay_units)?;
-    let units = lists::units(alloc, &block.units)?;
+    out.push_str("{\"kind\":\"clash\",\"left\":")?;
+    put_hex(alloc, out, left)?;
+    out.push_str(",\"right\":")?;
+    put_hex(alloc, out, right)?;
+    out.push_str("}")
+}
+
+/// Appends a request for the sample of a cell on an axis.
+pub(crate) fn put_sample(out: &mut String, cell: Cell, axis: Axis) -> Result<(), AllocError>
+    ensures { OnOk result (string_bytes out.new ≡ string_bytes out.old ++ sample_text cell axis) }
+{
+    put_place_front(out, axis, cell.col)?;
+    out.push_str(",\"kind\":\"sample\",\"row\":")?;
+    put_number(out, cell.row)?;
+    out.push_str("}")
+}
+
+/// Appends a request for the shares of a namespace.
+pub(crate) fn put_request(
+    alloc: Global,
+    out: &mut String,
+    name: &Namespace,
+) -> Result<(), AllocError>
+    ensures { OnOk result (string_bytes out.new ≡ string_bytes out.old ++ request_text name.now) }
+{
+    out.push_str("{\"kind\":\"request\",\"namespace\":")?;
+    put_name(alloc, out, name)?;
+    out.push_str("}")
+}
+
+/// Appends a block from its units on.
+#[tactic(auto, unfolding(crate::specs::JsonTexts::units_end))]
+fn put_units_end(out: &mut String, units: &[Unit], width: u16) -> Result<(), AllocError>
+    ensures { OnOk result (string_bytes out.new
+        ≡ string_bytes out.old ++ units_end units.now width) }
+{
+    out.push_str(",\"units\":")?;
+    put_lengths(out, units)?;
+    out.push_str(",\"width\":")?;
+    put_number(out, width)?;
+    out.push('}')
+}
+
+/// Appends a block from its kind on.
+fn put_block_end(
+    out: &mut String,
+    pay: &[Unit],
+    units: &[Unit],
+    width: u16,
+) -> Result<(), AllocError>
+    ensures { OnOk result (string_bytes out.new
+        ≡ string_bytes out.old ++ block_end pay.now units.now width) }
+{
+    out.push_str(",\"kind\":\"block\",\"pay\":")?;
+    put_lengths(out, pay)?;
+    put_units_end(out, units, width)
+}
+
+/// Appends a block: what it asks for, and the lengths of what is in it.
+#[tactic(auto, unfolding(crate::specs::JsonTexts::block_text))]
+pub(crate) fn put_block(alloc: Global, out: &mut String, block: &Block) -> Result<(), AllocError>
+    ensures { OnOk result (string_bytes out.new ≡ string_bytes out.old ++ block_text block.now) }
+{
     let width = width_number(block);
-    json!(in alloc; {
-        "blobs": blobs, "kind": "block", "pay": pay, "units": units, "width": width
-    })
+    out.push_str("{\"blobs\":")?;
+    put_blobs(alloc, out, &block.blobs)?;
+    put_block_end(out, &block.pay_units, &block.units, width)
 }
 
-/// A commitment proof: its range, its commitment, and how many rows it has.
-pub(crate) fn commit(alloc: Global, proof: &CommitProof) -> Result<Value, AllocError>
-    ensures { IfOk result (λ value. view value ≡ commit_json proof.now) }
+/// Appends a commitment proof from its kind on: how many rows it has, and its start.
+fn put_commit_end(out: &mut String, rows: usize, start: u32) -> Result<(), AllocError>
+    ensures { OnOk result (string_bytes out.new ≡ string_bytes out.old ++ commit_end rows start) }
 {
-    let commitment = hash_word(alloc, &proof.commitment)?;
-    let count = proof.count;
-    let k = proof.k;
+    out.push_str(",\"kind\":\"commit\",\"rows\":")?;
+    put_size(out, rows)?;
+    out.push_str(",\"start\":")?;
+    put_share_count(out, start)?;
+    out.push_str("}")
+}
+
+/// Appends a commitment proof from its count on.
+fn put_commit_counts(
+    out: &mut String,
+    count: u32,
+    k: u16,
+    rows: usize,
+    start: u32,
+) -> Result<(), AllocError>
+    ensures { OnOk result (string_bytes out.new
+        ≡ string_bytes out.old ++ commit_counts count k rows start) }
+{
+    out.push_str(",\"count\":")?;
+    put_share_count(out, count)?;
+    out.push_str(",\"k\":")?;
+    put_number(out, k)?;
+    put_commit_end(out, rows, start)
+}
+
+/// Appends a commitment proof: its commitment, its range, and how many rows it has.
+#[tactic(auto, unfolding(crate::specs::JsonTexts::commit_text))]
+pub(crate) fn put_commit(
+    alloc: Global,
+    out: &mut String,
+    proof: &CommitProof,
+) -> Result<(), AllocError>
+    ensures { OnOk result (string_bytes out.new ≡ string_bytes out.old ++ commit_text proof.now) }
+{
     let rows = proof.rows.len();
-    let start = proof.start;
-    json!(in alloc; {
-        "commitment": commitment, "count": count, "k": k, "kind": "commit", "rows": rows,
-        "start": start
-    })
+    out.push_str("{\"commitment\":")?;
+    put_hex(alloc, out, &proof.commitment)?;
+    put_commit_counts(out, proof.count, proof.k, rows, proof.start)
 }
 
-/// A root proof: its sample, with the hash of its share, and the root of its axis.
-pub(crate) fn rooted(alloc: Global, proof: &RootedMessage) -> Result<Value, AllocError>
-    ensures { IfOk result (λ value. view value ≡ rooted_json proof.now) }
+/// Appends a root proof from its kind on: its root, its row and the hash of its share.
+fn put_rooted_end(
+    alloc: Global,
+    out: &mut String,
+    root: &Digest,
+    row: u16,
+    share: &Share,
+) -> Result<(), AllocError>
+    ensures { OnOk result (string_bytes out.new
+        ≡ string_bytes out.old ++ rooted_end root.now row share.now) }
 {
-    let message = &proof.message;
-    let axis = axis_word(message.axis);
-    let col = message.cell.col;
-    let k = proof.k;
-    let root = digest_word(alloc, &proof.root)?;
-    let row = message.cell.row;
-    let share = share_hash_word(alloc, &message.share)?;
-    json!(in alloc; {
-        "axis": axis, "col": col, "k": k, "kind": "rooted", "root": root, "row": row,
-        "share": share
-    })
+    out.push_str(",\"kind\":\"rooted\",\"root\":")?;
+    put_hex(alloc, out, &root.0)?;
+    put_share_end(alloc, out, row, share)
+}
+
+/// Appends a root proof: its sample, with the hash of its share, and the root of its axis.
+#[tactic(auto, unfolding(crate::specs::JsonTexts::rooted_text))]
+pub(crate) fn put_rooted(
+    alloc: Global,
+    out: &mut String,
+    proof: &RootedMessage,
+) -> Result<(), AllocError>
+    ensures { OnOk result (string_bytes out.new ≡ string_bytes out.old ++ rooted_text proof.now) }
+{
+    put_place_front(out, proof.message.axis, proof.message.cell.col)?;
+    out.push_str(",\"k\":")?;
+    put_number(out, proof.k)?;
+    put_rooted_end(
+        alloc,
+        out,
+        &proof.root,
+        proof.message.cell.row,
+        &proof.message.share,
+    )
 }

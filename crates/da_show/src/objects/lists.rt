@@ -1,130 +1,240 @@
-//! Lists of what the elements of a list show.
+//! Lists of objects, of strings and of numbers.
 
-ghost use Rattle.std.specs.Prelude.{◌≡◌, IfOk};
-ghost use Rattle.serde_json.specs.View.{view};
-ghost use Rattle.da_show.specs.Json.{list_of, root_json, share_json, entry_json, found_json, cell_json, cell_of_json, length_json, blob_json};
+ghost use Rattle.std.specs.Prelude.{◌≡◌, ◌++◌, OnOk};
+ghost use Rattle.std.specs.String.{string_bytes};
+ghost use Rattle.da_show.specs.JsonTexts.{list_text, root_text, share_text, range_text, absence_text, found_text, entry_text, place_text, cell_text, cell_of_text, length_text, signer_text, blob_end, blob_text};
 
-use crate::words::{digest_word, name_word, share_name_word, signer_word};
+use super::parts::{put_comma, put_hex, put_name};
+use crate::words::{put_number, put_size};
 use axis_roots::{Found, Message, NsEntry};
-use namespace_id::{Cell, Digest, Share};
-use serde_json::{Value, json};
-use share_split::{Blob, Unit};
+use da_wire::{EntryPlace, FoundPlace};
+use namespace_id::{Cell, Digest, Namespace, Share};
+use share_split::{Blob, SIGNER_SIZE, Unit};
 use std::alloc::{AllocError, Global};
 
-/// Roots.
-pub(crate) fn roots(alloc: Global, roots: &[Digest]) -> Result<Value, AllocError>
-    ensures { IfOk result (λ value. view value ≡ list_of root_json roots.now) }
+/// Appends a list of roots.
+pub(crate) fn put_roots(alloc: Global, out: &mut String, roots: &[Digest]) -> Result<(), AllocError>
+    ensures { OnOk result (string_bytes out.new
+        ≡ string_bytes out.old ++ list_text root_text roots.now) }
 {
-    let mut list = Vec::with_capacity(alloc, roots.len())?;
+    out.push('[')?;
+    let mut later = false;
     for root in roots {
-        list.push(Value::String(digest_word(alloc, root)?))?;
+        put_comma(out, later)?;
+        put_hex(alloc, out, &root.0)?;
+        later = true;
     }
-    Ok(Value::Array(list))
+    out.push(']')
 }
 
-/// The namespaces of shares.
-pub(crate) fn shares(alloc: Global, shares: &[Share]) -> Result<Value, AllocError>
-    ensures { IfOk result (λ value. view value ≡ list_of share_json shares.now) }
+/// Appends a list of the namespaces of shares.
+pub(crate) fn put_shares(
+    alloc: Global,
+    out: &mut String,
+    shares: &[Share],
+) -> Result<(), AllocError>
+    ensures { OnOk result (string_bytes out.new
+        ≡ string_bytes out.old ++ list_text share_text shares.now) }
 {
-    let mut list = Vec::with_capacity(alloc, shares.len())?;
+    out.push('[')?;
+    let mut later = false;
     for share in shares {
-        list.push(Value::String(share_name_word(alloc, share)?))?;
+        put_comma(out, later)?;
+        put_name(alloc, out, &share.namespace())?;
+        later = true;
     }
-    Ok(Value::Array(list))
+    out.push(']')
 }
 
-/// What is found in a row.
-fn found(alloc: Global, row: u16, found: &Found) -> Result<Value, AllocError>
-    ensures { IfOk result (λ value. view value ≡ found_json row found.now) }
+/// Appends a range by its row, its start and how many shares it has.
+#[tactic(auto, unfolding(crate::specs::JsonTexts::range_text))]
+fn put_range(out: &mut String, row: u16, start: u16, count: usize) -> Result<(), AllocError>
+    ensures { OnOk result (string_bytes out.new
+        ≡ string_bytes out.old ++ range_text row start count) }
+{
+    out.push_str("{\"count\":")?;
+    put_size(out, count)?;
+    out.push_str(",\"row\":")?;
+    put_number(out, row)?;
+    out.push_str(",\"start\":")?;
+    put_number(out, start)?;
+    out.push('}')
+}
+
+/// Appends an absence by its row and its column.
+#[tactic(auto, unfolding(crate::specs::JsonTexts::absence_text))]
+fn put_absence(out: &mut String, row: u16, pos: u16) -> Result<(), AllocError>
+    ensures { OnOk result (string_bytes out.new ≡ string_bytes out.old ++ absence_text row pos) }
+{
+    out.push_str("{\"pos\":")?;
+    put_number(out, pos)?;
+    out.push_str(",\"row\":")?;
+    put_number(out, row)?;
+    out.push('}')
+}
+
+/// Appends what is found in a row.
+fn put_found(out: &mut String, row: u16, found: &Found) -> Result<(), AllocError>
+    ensures { OnOk result (string_bytes out.new
+        ≡ string_bytes out.old ++ found_text row found.now) }
 {
     match found {
-        Found::Range { start, shares, .. } => {
-            let start = *start;
-            let count = shares.list.len();
-            json!(in alloc; {"count": count, "row": row, "start": start})
-        }
-        Found::Absence { pos, .. } => {
-            let pos = *pos;
-            json!(in alloc; {"pos": pos, "row": row})
-        }
+        Found::Range { start, shares, .. } => put_range(out, row, *start, shares.list.len()),
+        Found::Absence { pos, .. } => put_absence(out, row, *pos),
     }
 }
 
-/// The entries of a namespace answer.
-pub(crate) fn entries(alloc: Global, entries: &[NsEntry]) -> Result<Value, AllocError>
-    ensures { IfOk result (λ value. view value ≡ list_of entry_json entries.now) }
+/// Appends a list of the entries of a namespace answer.
+pub(crate) fn put_entries(out: &mut String, entries: &[NsEntry]) -> Result<(), AllocError>
+    ensures { OnOk result (string_bytes out.new
+        ≡ string_bytes out.old ++ list_text entry_text entries.now) }
 {
-    let mut list = Vec::with_capacity(alloc, entries.len())?;
+    out.push('[')?;
+    let mut later = false;
     for entry in entries {
-        list.push(found(alloc, entry.row, &entry.found)?)?;
+        put_comma(out, later)?;
+        put_found(out, entry.row, &entry.found)?;
+        later = true;
     }
-    Ok(Value::Array(list))
+    out.push(']')
 }
 
-/// A cell: its row and its column.
-fn cell(alloc: Global, cell: Cell) -> Result<Value, AllocError>
-    ensures { IfOk result (λ value. view value ≡ cell_json cell) }
+/// Appends where an entry found something.
+fn put_place(out: &mut String, entry: &EntryPlace) -> Result<(), AllocError>
+    ensures { OnOk result (string_bytes out.new ≡ string_bytes out.old ++ place_text entry.now) }
 {
-    let row = cell.row;
-    let col = cell.col;
-    json!(in alloc; [row, col])
-}
-
-/// Cells.
-pub(crate) fn cells(alloc: Global, cells: &[Cell]) -> Result<Value, AllocError>
-    ensures { IfOk result (λ value. view value ≡ list_of cell_json cells.now) }
-{
-    let mut list = Vec::with_capacity(alloc, cells.len())?;
-    for place in cells {
-        list.push(cell(alloc, *place)?)?;
+    match entry.found {
+        FoundPlace::Range { start, count } => put_range(out, entry.row, start, count as usize),
+        FoundPlace::Absence { pos } => put_absence(out, entry.row, pos),
     }
-    Ok(Value::Array(list))
 }
 
-/// The cells of samples.
-pub(crate) fn messages(alloc: Global, messages: &[Message]) -> Result<Value, AllocError>
-    ensures { IfOk result (λ value. view value ≡ list_of cell_of_json messages.now) }
+/// Appends a list of where entries found something.
+pub(crate) fn put_places(out: &mut String, places: &[EntryPlace]) -> Result<(), AllocError>
+    ensures { OnOk result (string_bytes out.new
+        ≡ string_bytes out.old ++ list_text place_text places.now) }
 {
-    let mut list = Vec::with_capacity(alloc, messages.len())?;
+    out.push('[')?;
+    let mut later = false;
+    for place in places {
+        put_comma(out, later)?;
+        put_place(out, place)?;
+        later = true;
+    }
+    out.push(']')
+}
+
+/// Appends a cell.
+#[tactic(auto, unfolding(crate::specs::JsonTexts::pair_text))]
+fn put_cell(out: &mut String, cell: Cell) -> Result<(), AllocError>
+    ensures { OnOk result (string_bytes out.new ≡ string_bytes out.old ++ cell_text cell) }
+{
+    out.push('[')?;
+    put_number(out, cell.row)?;
+    out.push(',')?;
+    put_number(out, cell.col)?;
+    out.push(']')
+}
+
+/// Appends a list of cells.
+pub(crate) fn put_cells(out: &mut String, cells: &[Cell]) -> Result<(), AllocError>
+    ensures { OnOk result (string_bytes out.new
+        ≡ string_bytes out.old ++ list_text cell_text cells.now) }
+{
+    out.push('[')?;
+    let mut later = false;
+    for cell in cells {
+        put_comma(out, later)?;
+        put_cell(out, *cell)?;
+        later = true;
+    }
+    out.push(']')
+}
+
+/// Appends a list of the cells of samples.
+pub(crate) fn put_message_cells(out: &mut String, messages: &[Message]) -> Result<(), AllocError>
+    ensures { OnOk result (string_bytes out.new
+        ≡ string_bytes out.old ++ list_text cell_of_text messages.now) }
+{
+    out.push('[')?;
+    let mut later = false;
     for message in messages {
-        list.push(cell(alloc, message.cell)?)?;
+        put_comma(out, later)?;
+        put_cell(out, message.cell)?;
+        later = true;
     }
-    Ok(Value::Array(list))
+    out.push(']')
 }
 
-/// The lengths of units.
-pub(crate) fn units(alloc: Global, units: &[Unit]) -> Result<Value, AllocError>
-    ensures { IfOk result (λ value. view value ≡ list_of length_json units.now) }
+/// Appends a list of the lengths of units.
+pub(crate) fn put_lengths(out: &mut String, units: &[Unit]) -> Result<(), AllocError>
+    ensures { OnOk result (string_bytes out.new
+        ≡ string_bytes out.old ++ list_text length_text units.now) }
 {
-    let mut list = Vec::with_capacity(alloc, units.len())?;
+    out.push('[')?;
+    let mut later = false;
     for unit in units {
-        list.push(Value::from(unit.bytes.len()))?;
+        put_comma(out, later)?;
+        put_size(out, unit.bytes.len())?;
+        later = true;
     }
-    Ok(Value::Array(list))
+    out.push(']')
 }
 
-/// A blob: its length, its namespace and its signer, if it has one.
-fn blob(alloc: Global, blob: &Blob) -> Result<Value, AllocError>
-    ensures { IfOk result (λ value. view value ≡ blob_json blob.now) }
+/// Appends the signer of a blob behind its namespace, if it has one.
+fn put_signer(
+    alloc: Global,
+    out: &mut String,
+    signer: &Option<[u8; SIGNER_SIZE]>,
+) -> Result<(), AllocError>
+    ensures { OnOk result (string_bytes out.new ≡ string_bytes out.old ++ signer_text signer.now) }
 {
-    let length = blob.bytes.len();
-    let name = name_word(alloc, &blob.namespace)?;
-    match &blob.signer {
+    match signer {
         Some(signer) => {
-            let signer = signer_word(alloc, signer)?;
-            json!(in alloc; {"length": length, "namespace": name, "signer": signer})
+            out.push_str(",\"signer\":")?;
+            put_hex(alloc, out, signer.as_slice())
         }
-        None => json!(in alloc; {"length": length, "namespace": name}),
+        None => Ok(()),
     }
 }
 
-/// Blobs.
-pub(crate) fn blobs(alloc: Global, blobs: &[Blob]) -> Result<Value, AllocError>
-    ensures { IfOk result (λ value. view value ≡ list_of blob_json blobs.now) }
+/// Appends a blob from its namespace on.
+fn put_blob_end(
+    alloc: Global,
+    out: &mut String,
+    name: &Namespace,
+    signer: &Option<[u8; SIGNER_SIZE]>,
+) -> Result<(), AllocError>
+    ensures { OnOk result (string_bytes out.new
+        ≡ string_bytes out.old ++ blob_end name.now signer.now) }
 {
-    let mut list = Vec::with_capacity(alloc, blobs.len())?;
-    for named in blobs {
-        list.push(blob(alloc, named)?)?;
+    out.push_str(",\"namespace\":")?;
+    put_name(alloc, out, name)?;
+    put_signer(alloc, out, signer)?;
+    out.push_str("}")
+}
+
+/// Appends a blob: its length, its namespace and its signer, if it has one.
+#[tactic(auto, unfolding(crate::specs::JsonTexts::blob_text))]
+fn put_blob(alloc: Global, out: &mut String, blob: &Blob) -> Result<(), AllocError>
+    ensures { OnOk result (string_bytes out.new ≡ string_bytes out.old ++ blob_text blob.now) }
+{
+    out.push_str("{\"length\":")?;
+    put_size(out, blob.bytes.len())?;
+    put_blob_end(alloc, out, &blob.namespace, &blob.signer)
+}
+
+/// Appends a list of blobs.
+pub(crate) fn put_blobs(alloc: Global, out: &mut String, blobs: &[Blob]) -> Result<(), AllocError>
+    ensures { OnOk result (string_bytes out.new
+        ≡ string_bytes out.old ++ list_text blob_text blobs.now) }
+{
+    out.push('[')?;
+    let mut later = false;
+    for blob in blobs {
+        put_comma(out, later)?;
+        put_blob(alloc, out, blob)?;
+        later = true;
     }
-    Ok(Value::Array(list))
+    out.push(']')
 }

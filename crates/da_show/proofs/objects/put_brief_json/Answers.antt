@@ -1,5 +1,5 @@
 use Rattle.std.proofs.Common.{◌∙◌, ◌++◌, ℕ, List, ap, string_bytes}
-use Rattle.da_show.proofs.BriefJson.{brief_json_is}
+use Rattle.da_show.proofs.JsonLaws.{brief_json_is}
 use Rattle.da_show.proofs.objects.put_brief_json.Goals as goal
 
 -- what was put is the text of the value's object

@@ -1,0 +1,14 @@
+use Rattle.std.proofs.Common.{◌≡◌, ◌++◌, ℕ, List, codes, string_bytes}
+use Rattle.std.proofs.lemmas.Result.{on_ok_weaker}
+use Rattle.da_show.specs.JsonTexts.{quoted_name, names_end}
+use Rattle.da_show.proofs.Pieces.{three_pieces, put_where_ok}
+use Rattle.da_show.proofs.objects.kinds.put_names_end.Goals as goal
+
+-- the namespace stands between two words
+pub returns : goal.returns
+unfolding names_end
+returns c =
+    let old : List ℕ = string_bytes c.args.out.now in
+    let put = λ (whole : string_bytes c.push_str-2.new.self ≡ string_bytes c.put_name.new.out ++ codes "}").
+    three_pieces old (codes ",\"kind\":\"namespace\",\"namespace\":") (quoted_name c.args.name.now) (codes "}") _ _ _ c.in_ok-push_str.ensures.bytes c.in_ok-put_name.ensures whole in
+    on_ok_weaker c.push_str-2.result put (put_where_ok c.push_str-2.result _ _ _ c.push_str-2.ensures.bytes)
