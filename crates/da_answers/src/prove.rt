@@ -130,6 +130,13 @@ fn answer_many<O: Sink>(alloc: Global, square: Square, requests: &[u8], out: &mu
     }
 }
 
+/// The tree over the roots of the header of a square whose left half is kept.
+fn half_tree(alloc: Global, half: &LeftHalf) -> Result<DataTree, NoMemory>
+    ensures { IfOk result (λ roots. roots ≡ half.now.header) }
+{
+    DataTree::of(alloc, half.header())
+}
+
 /// Writes root proofs of the samples that are asked for, one at a time, from the left half of the
 /// extension. The cells are in the square.
 fn give_few<O: Sink>(alloc: Global, half: &mut LeftHalf, requests: &[u8], out: &mut O) -> Status
@@ -142,7 +149,7 @@ fn give_few<O: Sink>(alloc: Global, half: &mut LeftHalf, requests: &[u8], out: &
     wire_laws();
     sample_laws();
     half.law();
-    let Ok(roots) = DataTree::of(alloc, half.header()) else {
+    let Ok(roots) = half_tree(alloc, half) else {
         return Status::NoMemory;
     };
     let mut text = Vec::new(alloc);

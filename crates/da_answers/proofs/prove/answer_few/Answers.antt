@@ -35,6 +35,15 @@ returns-in-Some g c =
     ends_request (Serves square (is_asked_inside square) (AllowsRootProof square) asked) _ _ _ _ refl
     (serves_at square (is_asked_inside square) (AllowsRootProof square) asked c.in-Ok-Some.half.header c.in-Some.number own some) refl
 
+-- else all cells are in the square
+pub give_few-requires : goal.give_few-requires
+give_few-requires g c =
+    let is : c.in-Ok-Some.half.square ≡ c.args.square =
+    subst (λ (o : Option HeadedSquare). IfSome o (λ half. half.square ≡ c.args.square)) c.in-Ok-Some.field-0-is c.in-Ok-Some.ensures.square in
+    let same : c.square.inside.k ≡ c.args.square.k = ap (λ (s : SquareShares). s.k) c.square.view_is in
+    ap (λ (k : ℕ). failing_from (λ (a : Cell × Axis). is_in_square k a.0) 0 (samples_in c.args.requests.now)) (ap (λ (s : SquareShares). s.k) is ∙ sym same)
+    ∙ sym c.first_outside.ensures ∙ c.in-None.is
+
 -- what is written are the frames of all requests
 pub returns : goal.returns
 returns g c =

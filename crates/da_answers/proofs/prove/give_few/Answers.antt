@@ -1,4 +1,4 @@
-use Rattle.std.proofs.Common.{◌∙◌, ◌≡◌, ◌∷◌, ◌*◌, List, true, refl, ap, subst}
+use Rattle.std.proofs.Common.{◌∙◌, ◌≡◌, ◌∷◌, ◌*◌, List, true, refl, sym, ap, subst}
 use Rattle.std.specs.List.{AllByRecursion}
 use Rattle.namespace_id.specs.declared.cells.Cell.{Cell}
 use Rattle.namespace_id.specs.declared.cells.Axis.{Axis}
@@ -25,6 +25,14 @@ loop-asked-init g c = record {
   kept = refl;
   faults = refl;
 }
+
+-- the next cell is in the square
+pub sample-message-requires : goal.sample-message-requires
+sample-message-requires g c =
+    let half = c.args.half.now in
+    let inside : AllByRecursion (λ (a : Cell × Axis). is_in_square half.square.k a.0 ≡ true) (c.in-Some.asked ∷ samples_in c.in-Some.after.now) =
+    subst (AllByRecursion (λ (a : Cell × Axis). is_in_square half.square.k a.0 ≡ true)) c.in-Some.ensures.0 c.loop-asked.invariant.inside in
+    subst (λ (h : HeadedSquare). is_in_square h.square.k c.in-Some.asked.0 ≡ true) (sym c.loop-asked.invariant.kept) inside.0
 
 pub loop-asked-preserved : goal.loop-asked-preserved
 loop-asked-preserved g c =
