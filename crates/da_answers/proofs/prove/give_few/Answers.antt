@@ -32,7 +32,7 @@ sample-message-requires g c =
     let half = c.args.half.now in
     let inside : AllByRecursion (λ (a : Cell × Axis). is_in_square half.square.k a.0 ≡ true) (c.in-Some.asked ∷ samples_in c.in-Some.after.now) =
     subst (AllByRecursion (λ (a : Cell × Axis). is_in_square half.square.k a.0 ≡ true)) c.in-Some.ensures.0 c.loop-asked.invariant.inside in
-    subst (λ (h : HeadedSquare). is_in_square h.square.k c.in-Some.asked.0 ≡ true) (sym c.loop-asked.invariant.kept) inside.0
+    record { cell = subst (λ (h : HeadedSquare). is_in_square h.square.k c.in-Some.asked.0 ≡ true) (sym c.loop-asked.invariant.kept) inside.0 }
 
 pub loop-asked-preserved : goal.loop-asked-preserved
 loop-asked-preserved g c =
