@@ -12,7 +12,9 @@ ghost use Rattle.da_answers.specs.Ahead.{AreAhead, IsNextAhead};
 use axis_roots::{PartialTrees, index, position};
 use da_wire::{RawFrame, next_frame};
 use frame_fields::{axis_at, cell_at, digest_at, node_list_at, shares_at, shown_front};
-use namespace_id::{Axis, BLANK_DIGEST, Cell, DIGEST_SIZE, Digest, Share, is_in_square, leaf_namespace};
+use namespace_id::{
+    Axis, BLANK_DIGEST, Cell, DIGEST_SIZE, Digest, Share, is_in_square, leaf_namespace,
+};
 use nmt_tree::LeafQueue;
 
 /// How many of eight nodes have to be of use: eight side by side take as long as up to four one by one.
