@@ -3,8 +3,8 @@ use Rattle.std.proofs.Common.{◌≡◌, ℕ, ◌<◌, ◌≤◌, true, arith}
 use Rattle.std.proofs.lemmas.Bool.Decides.{nat_tests}
 use Rattle.namespace_id.specs.Cells.{is_width}
 
--- a width is at most 128
-pub is_width-le : (k : ℕ) → is_width k ≡ true → k ≤ 128
+-- a width is at most 512
+pub is_width-le : (k : ℕ) → is_width k ≡ true → k ≤ 512
 is_width-le k h = grind (arith, nat_tests)
 
 -- a width is not 0

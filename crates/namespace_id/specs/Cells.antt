@@ -11,9 +11,9 @@ use Rattle.namespace_id.specs.Lists.{holds_along, ascending}
 use Rattle.namespace_id.specs.declared.cells.Axis.{Axis}
 use Rattle.namespace_id.specs.declared.cells.Axis.TheVariants.{Row, Col}
 
--- whether a square may have this width: a power of two from 1 to 128 (docs/RULES.md, "Widths")
+-- whether a square may have this width: a power of two from 1 to 512 (docs/RULES.md, "Widths")
 abbrev pub is_width : ℕ → Bool
-is_width k = (k == 1) || (k == 2) || (k == 4) || (k == 8) || (k == 16) || (k == 32) || (k == 64) || (k == 128)
+is_width k = (k == 1) || (k == 2) || (k == 4) || (k == 8) || (k == 16) || (k == 32) || (k == 64) || (k == 128) || (k == 256) || (k == 512)
 
 -- the crossing kind of axis: that of columns for rows, and that of rows for columns
 abbrev pub crossing : Axis → Axis

@@ -37,13 +37,13 @@ impl Axis {
     }
 }
 
-/// Whether a square may have this width k: a power of two from 1 to 128.
+/// Whether a square may have this width k: a power of two from 1 to 512.
 ///
 /// docs/RULES.md, "Widths".
 pub fn is_width(k: u16) -> bool
     ensures { result ≡ is_width k }
 {
-    matches!(k, 1 | 2 | 4 | 8 | 16 | 32 | 64 | 128)
+    matches!(k, 1 | 2 | 4 | 8 | 16 | 32 | 64 | 128 | 256 | 512)
 }
 
 /// Whether the extended square of width `k` has the cell.

@@ -26,4 +26,7 @@ pub use namespaces::{
 };
 pub use rooms::CellRoom;
 pub use shares::{Share, share_law, shares_law};
-pub use sizes::{DIGEST_SIZE, HASH_SIZE, NAMESPACE_SIZE, SHARE_SIZE, sizes_laws};
+pub use sizes::{
+    DIGEST_SIZE, GREATEST_WIDTH, HASH_SIZE, MOST_DEPTH, MOST_LEAVES, MOST_SHARES, NAMESPACE_SIZE,
+    SHARE_SIZE, sizes_laws,
+};
