@@ -1,6 +1,6 @@
 //! Multiples of the bytes of a share.
 
-ghost use Rattle.std.specs.Prelude.{◌≡◌, ◌<◌, ◌*◌, ℕ, [], ◌∷◌, bit_xor, slice_index};
+ghost use Rattle.std.specs.Prelude.{◌≡◌, ◌<◌, ◌≤◌, ◌+◌, ◌*◌, ℕ, [], ◌∷◌, bit_xor, slice_index};
 ghost use Rattle.gf_cantor.specs.Field.{combine, product, byte_field};
 
 use crate::field::mul;
@@ -81,15 +81,35 @@ impl ByteFactor {
         }
     }
 
-    /// Adds the products, 32 bytes at a time: a byte is the sum of its low four bits and its high four
-    /// bits, so its product is the sum of an entry of each table.
+    /// Adds the products with 32 bytes, from `at` on: a byte is the sum of its low four bits and its high
+    /// four bits, so its product is the sum of an entry of each table.
+    #[inline(always)]
+    fn add_lanes(&self, acc: &mut [u8; 512], row: &[u8; 512], at: usize)
+        requires { at + 32 ≤ 512 }
+        ensures sums { (k : ℕ) → k < 32 → slice_index acc.new (at + k) ≡
+            bit_xor (slice_index acc.old (at + k))
+            (product byte_field self.now (slice_index row.now (at + k))) }
+        ensures before { (k : ℕ) → k < at → slice_index acc.new k ≡ slice_index acc.old k }
+        ensures behind { (k : ℕ) → at + 32 ≤ k → slice_index acc.new k ≡ slice_index acc.old k }
+    {
+        let lanes = load(row, at);
+        add(acc, at, by_halves(&self.low, 0, &self.high, 0, lanes));
+    }
+
+    /// Adds the products, 64 bytes a turn. The tables are copied first, so that they stay in registers
+    /// while the shares are written.
     fn add_products(&self, acc: &mut [u8; 512], row: &[u8; 512])
         ensures { (i : ℕ) → i < 512 → slice_index acc.new i ≡
             bit_xor (slice_index acc.old i) (product byte_field self.now (slice_index row.now i)) }
     {
-        for i in 0..16 {
-            let lanes = load(row, 32 * i);
-            add(acc, 32 * i, by_halves(&self.low, 0, &self.high, 0, lanes));
+        let factor = ByteFactor {
+            by: self.by,
+            low: self.low,
+            high: self.high,
+        };
+        for i in 0..8 {
+            factor.add_lanes(acc, row, 64 * i);
+            factor.add_lanes(acc, row, 64 * i + 32);
         }
     }
 
