@@ -4,6 +4,7 @@ use Rattle.namespace_id.specs.declared.namespaces.Namespace.{Namespace}
 use Rattle.namespace_id.specs.Bytes.{AreBytes, IsString}
 use Rattle.namespace_id.specs.Names.{IsNamespace}
 use Rattle.namespace_id.specs.Shares.{IsShare, AreShares}
+use Rattle.namespace_id.specs.Sizes.{most_shares}
 use Rattle.share_split.specs.Blobs.{signer_size, max_sequence_length, share_count, blob_shares_of}
 use Rattle.share_split.specs.Joined.{padding_share}
 
@@ -21,6 +22,6 @@ BlobSharesAreShares = (name : Namespace) (signer : Option (List ℕ)) (bytes : L
 abbrev pub PaddingIsShare : Type 0
 PaddingIsShare = (name : Namespace) → IsNamespace name → IsShare (padding_share name)
 
--- a blob that takes at most 16384 shares, as many as the greatest square has, is no longer than a sequence may be
+-- a blob that takes no more shares than the greatest square has is no longer than a sequence may be
 abbrev pub FewSharesHoldASequence : Type 0
-FewSharesHoldASequence = (size : ℕ) (signed : Bool) → share_count size signed ≤ 16384 → size ≤ max_sequence_length
+FewSharesHoldASequence = (size : ℕ) (signed : Bool) → share_count size signed ≤ most_shares → size ≤ max_sequence_length

@@ -6,6 +6,7 @@ use Rattle.std.proofs.lemmas.Bool.Decides.{nat_tests}
 use Rattle.namespace_id.specs.declared.namespaces.Namespace.{Namespace}
 use Rattle.namespace_id.specs.Bytes.{AreBytes, IsString}
 use Rattle.namespace_id.specs.Names.{IsNamespace}
+use Rattle.namespace_id.specs.Sizes.{most_shares}
 use Rattle.namespace_id.specs.Shares.{IsShare, AreShares}
 use Rattle.namespace_id.proofs.StringLemmas.{AreBytes-none, AreBytes-append, AreBytes-take, AreBytes-drop}
 use Rattle.share_split.specs.Blobs.{later_content, signer_size, max_sequence_length, version_of, signer_bytes, first_blob_content, later_shares, share_count, blob_shares_of}
@@ -34,7 +35,7 @@ length-blob_shares_of name signer bytes =
     ap suc (length-later_shares (count - 1) name (version_of signer) rest) ∙ omega (arith, share_count-some (length bytes) (is_some signer))
 
 -- so many shares hold no more than a sequence may have
-pub few_shares_hold_a_sequence : (size : ℕ) (signed : Bool) → share_count size signed ≤ 16384 → size ≤ max_sequence_length
+pub few_shares_hold_a_sequence : (size : ℕ) (signed : Bool) → share_count size signed ≤ most_shares → size ≤ max_sequence_length
 few_shares_hold_a_sequence size true few = grind (arith, nat_tests)
 few_shares_hold_a_sequence size false few = grind (arith, nat_tests)
 
