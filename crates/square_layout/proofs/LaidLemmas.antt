@@ -5,6 +5,7 @@ use Rattle.std.proofs.lemmas.Bool.{cases_lt}
 use Rattle.std.proofs.lemmas.Bool.Decides.{nat_tests}
 use Rattle.std.proofs.lemmas.Nat.{mul-le}
 use Rattle.namespace_id.specs.Cells.{is_width}
+use Rattle.namespace_id.specs.Sizes.{greatest_width}
 use Rattle.namespace_id.specs.declared.shares.Share.{Share}
 use Rattle.namespace_id.specs.Names.{transaction, pay_for_blob, primary_reserved_padding, tail_padding}
 use Rattle.share_split.specs.Blobs.{NamedBytes}
@@ -65,8 +66,8 @@ laid_fits block most h = omega (arith, length-laid block, end_fits block most h)
 -- no square has more shares than the greatest
 pub square_fits : (k : ℕ) → is_width k ≡ true → k * k ≤ max_shares
 square_fits k h =
-    let low : k ≤ 128 = grind (arith, nat_tests) in
-    let square = mul-le k k 128 128 low low in omega (arith, square)
+    let low : k ≤ greatest_width = grind (arith, nat_tests) in
+    let square = mul-le k k greatest_width greatest_width low low in omega (arith, square)
 
 -- ---- the parts, one behind another
 

@@ -4,6 +4,7 @@ use Rattle.std.proofs.lemmas.Bool.{cases_lt}
 use Rattle.std.proofs.lemmas.Bool.Decides.{nat_tests}
 use Rattle.std.proofs.lemmas.Nat.{mul-le}
 use Rattle.namespace_id.specs.Cells.{is_width}
+use Rattle.namespace_id.specs.Sizes.{greatest_width}
 use Rattle.share_split.specs.Blobs.{NamedBytes}
 use Rattle.square_layout.specs.Layout.{end_of}
 use Rattle.square_layout.specs.Refusals.{max_count, max_shares}
@@ -39,12 +40,12 @@ needed_told a b x y sum end blobs others ex ey es ee same =
 -- ---- the width
 
 -- a width whose square doesn't hold what the greatest holds is below the greatest
-pub below_greatest : (count k : ℕ) → count ≤ max_shares → k * k < count → k < 128
-below_greatest count k h lt = elim (cases_lt k 128) [
+pub below_greatest : (count k : ℕ) → count ≤ max_shares → k * k < count → k < greatest_width
+below_greatest count k h lt = elim (cases_lt k greatest_width) [
   | inl below ↦ below
-  | inr above ↦ (let square = mul-le 128 128 k k above above in omega (arith, square, h, lt))
+  | inr above ↦ (let square = mul-le greatest_width greatest_width k k above above in omega (arith, square, h, lt))
 ]
 
 -- a width below the greatest, doubled
-pub is_width-double : (k : ℕ) → is_width k ≡ true → k < 128 → is_width (k * 2) ≡ true
+pub is_width-double : (k : ℕ) → is_width k ≡ true → k < greatest_width → is_width (k * 2) ≡ true
 is_width-double k h lt = grind (arith, nat_tests)

@@ -9,6 +9,7 @@ use Rattle.std.proofs.lemmas.Nat.{mul-le}
 use Rattle.namespace_id.specs.declared.namespaces.Namespace.{Namespace}
 use Rattle.namespace_id.specs.declared.shares.Share.{Share}
 use Rattle.namespace_id.specs.Cells.{is_width}
+use Rattle.namespace_id.specs.Sizes.{greatest_width, most_shares}
 use Rattle.namespace_id.specs.Names.{IsNamespace, transaction, pay_for_blob, primary_reserved_padding, tail_padding}
 use Rattle.namespace_id.specs.Shares.{IsShare, AreShares}
 use Rattle.namespace_id.proofs.StringLemmas.{AreBytes-append, AreBytes-replicate}
@@ -35,20 +36,20 @@ use Rattle.square_layout.proofs.SizeLemmas.{is_width-double}
 -- ---- the square is one
 
 -- a width doubled has one doubling less before it
-width-doubled : (k more : ℕ) → k * 2 ^ suc more ≡ 128 → k * 2 * 2 ^ more ≡ 128
+width-doubled : (k more : ℕ) → k * 2 ^ suc more ≡ greatest_width → k * 2 * 2 ^ more ≡ greatest_width
 width-doubled k more last =
     let twice : 2 ^ suc more ≡ 2 ^ more * 2 = pow-suc 2 more in
     mul_assoc k 2 (2 ^ more) ∙ ap (λ (n : ℕ). k * n) (mul_comm 2 (2 ^ more) ∙ sym twice) ∙ last
 
 -- a width of which so many doublings give the greatest is below it
-below_last : (k more : ℕ) → k * 2 ^ suc more ≡ 128 → k < 128
+below_last : (k more : ℕ) → k * 2 ^ suc more ≡ greatest_width → k < greatest_width
 below_last k more last =
     let two : 2 ≤ 2 ^ suc more = omega (arith, pow-suc 2 more, one-le-pow more 2 (omega arith)) in
     let grows : k * 2 ≤ k * 2 ^ suc more = mul-le k 2 k (2 ^ suc more) (omega arith) two in
     omega (arith, grows, last)
 
 -- of some widths the one that is found is a width
-holding_from-width : (more k count : ℕ) → is_width k ≡ true → k * 2 ^ more ≡ 128 → is_width (holding_from more k count) ≡ true
+holding_from-width : (more k count : ℕ) → is_width k ≡ true → k * 2 ^ more ≡ greatest_width → is_width (holding_from more k count) ≡ true
 unfolding least_doubling
 holding_from-width zero k count one last = one
 holding_from-width (suc more) k count one last = elim (cases_Bool (nat_le count (k * k))) [
@@ -59,8 +60,8 @@ holding_from-width (suc more) k count one last = elim (cases_Bool (nat_le count 
 ]
 
 -- the least width is one
-pub least_is_width : (count : ℕ) → is_width (holding_from 7 1 count) ≡ true
-least_is_width count = holding_from-width 7 1 count refl refl
+pub least_is_width : (count : ℕ) → is_width (holding_from 9 1 count) ≡ true
+least_is_width count = holding_from-width 9 1 count refl refl
 
 -- a test that refuses where it fails has passed
 if_passes : (b : Bool) (e : LayError) → (if b then None else Some e) ≡ None → b ≡ true
@@ -69,11 +70,11 @@ if_passes false e h = absurd cc
 
 -- a width that isn't refused holds the shares
 pub size_passes : (width : Option ℕ) (count : ℕ) → size_refusal width count ≡ None
-    → (is_width (option_map_or (λ k. k) width (holding_from 7 1 count)) ≡ true)
-    × (count ≤ option_map_or (λ k. k) width (holding_from 7 1 count) * option_map_or (λ k. k) width (holding_from 7 1 count))
+    → (is_width (option_map_or (λ k. k) width (holding_from 9 1 count)) ≡ true)
+    × (count ≤ option_map_or (λ k. k) width (holding_from 9 1 count) * option_map_or (λ k. k) width (holding_from 9 1 count))
 size_passes None count h =
     let fits = if_none (nat_lt max_shares count) (TooLarge (min count max_count)) None h in
-    let few : count ≤ 128 * 128 = grind (arith, nat_tests, fits.0) in
+    let few : count ≤ most_shares = grind (arith, nat_tests, fits.0) in
     (least_is_width count, holding_holds count few)
 size_passes (Some k) count h =
     let fits = if_none (nat_lt max_shares count) (TooLarge (min count max_count)) (width_refusal count k) h in

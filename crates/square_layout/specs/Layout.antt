@@ -97,7 +97,7 @@ holding_from more k count = least_doubling (holds_shares count) more k
 
 -- the width of the square: the least whose square holds the layout, or the one that is asked for
 abbrev pub width_for : BlockParts → ℕ
-width_for block = option_map_or (λ k. k) block.width (holding_from 7 1 (needed block))
+width_for block = option_map_or (λ k. k) block.width (holding_from 9 1 (needed block))
 
 -- the square of a block: the layout, and tail padding behind it
 abbrev pub square_of : BlockParts → SquareShares

@@ -4,6 +4,7 @@ use Rattle.std.specs.Prelude.{◌≡◌, ◌⊎◌, ℕ, suc, ◌-◌, ◌*◌, 
 use Rattle.std.specs.Option.{option_map_or, option_or}
 use Rattle.namespace_id.specs.Names.{namespace_refusal}
 use Rattle.namespace_id.specs.Cells.{is_width}
+use Rattle.namespace_id.specs.Sizes.{most_shares}
 use Rattle.share_split.specs.Blobs.{NamedBytes}
 use Rattle.square_layout.specs.declared.laying.LayError.{LayError}
 use Rattle.square_layout.specs.declared.laying.LayError.TheVariants.{BadBlob, EmptyBlob, TooLarge, WidthTooSmall, BadWidth, NoMemory}
@@ -30,9 +31,9 @@ blob_refusal blobs = option_or (bad_blob 0 blobs) (empty_blob 0 blobs)
 
 -- ---- the size
 
--- the greatest square has 128 * 128 shares
+-- the shares of the greatest square
 abbrev pub max_shares : ℕ
-max_shares = 16384
+max_shares = most_shares
 
 -- a greater number of shares isn't told
 abbrev pub max_count : ℕ

@@ -58,10 +58,10 @@ pub fn size_laws()
     ensures needed { (block : BlockParts) → needed block ≡ max 1 (length (laid block)) }
     ensures full { (block : BlockParts) → needed block ≤ width_for block * width_for block →
         length (square_of block).shares ≡ width_for block * width_for block }
-    ensures holds { (count : ℕ) → count ≤ 128 * 128 →
-        count ≤ holding_from 7 1 count * holding_from 7 1 count }
-    ensures least { (count j : ℕ) → j ≤ 7 → count ≤ 2 ^ j * 2 ^ j → holding_from 7 1 count ≤ 2 ^ j }
-    ensures width { (count : ℕ) → is_width (holding_from 7 1 count) ≡ true }
+    ensures holds { (count : ℕ) → count ≤ max_shares →
+        count ≤ holding_from 9 1 count * holding_from 9 1 count }
+    ensures least { (count j : ℕ) → j ≤ 9 → count ≤ 2 ^ j * 2 ^ j → holding_from 9 1 count ≤ 2 ^ j }
+    ensures width { (count : ℕ) → is_width (holding_from 9 1 count) ≡ true }
     ensures limit { MAX_SHARES ≡ max_shares }
 
     // Squares and shares.

@@ -17,15 +17,17 @@ use crate::ordering::blobs_in_order;
 use crate::putting::{put_blobs, put_padding, put_units};
 use crate::widths::{square_size, width_for};
 use crate::{Block, Square};
-use namespace_id::{NoMemory, NsError, PAY_FOR_BLOB, Share, TAIL_PADDING, TRANSACTION};
+use namespace_id::{
+    MOST_SHARES, NoMemory, NsError, PAY_FOR_BLOB, Share, TAIL_PADDING, TRANSACTION,
+};
 use share_split::Blob;
 use std::alloc::Global;
 use thiserror::Error;
 
-/// The shares of the greatest square: 128 * 128.
+/// The shares of the greatest square.
 ///
 /// docs/RULES.md, "Widths".
-pub const MAX_SHARES: u64 = 16_384;
+pub const MAX_SHARES: u64 = MOST_SHARES as u64;
 
 /// Why a block has no square. The variants stand in the order in which they are tested.
 #[derive(Clone, Copy, Debug, PartialEq, Eq, Error)]
@@ -37,13 +39,13 @@ pub enum LayError {
     #[error("blob {0} has no bytes")]
     EmptyBlob(u64),
     /// The layout has so many shares, more than `MAX_SHARES`; 2^64 - 1 stands for any greater number.
-    #[error("the layout has {0} shares, more than 16384")]
+    #[error("the layout has {0} shares, more than 262144")]
     TooLarge(u64),
     /// The layout has so many shares, more than a square of the width that is asked for.
     #[error("the layout has {0} shares, more than a square of the width asked for")]
     WidthTooSmall(u64),
     /// The width that is asked for isn't one.
-    #[error("the width asked for is not a power of two from 1 to 128")]
+    #[error("the width asked for is not a power of two from 1 to 512")]
     BadWidth,
     /// There was no memory.
     #[error("out of memory")]

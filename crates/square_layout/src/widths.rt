@@ -16,7 +16,7 @@ pub(crate) fn square_size(k: u16) -> u64
 /// The width of the least square that holds so many shares.
 fn least_width(count: u64) -> u16
     requires { count ≤ max_shares }
-    ensures value { result ≡ holding_from 7 1 count }
+    ensures value { result ≡ holding_from 9 1 count }
     ensures width { is_width result ≡ true }
     ensures holds { count ≤ result * result }
 {
@@ -30,7 +30,7 @@ fn least_width(count: u64) -> u16
 /// The width of the square of so many shares: the one that is asked for, or the least.
 pub(crate) fn width_for(width: Option<u16>, count: u64) -> u16
     requires { size_refusal width count ≡ None }
-    ensures value { result ≡ option_map_or (λ k. k) width (holding_from 7 1 count) }
+    ensures value { result ≡ option_map_or (λ k. k) width (holding_from 9 1 count) }
     ensures width { is_width result ≡ true }
     ensures holds { count ≤ result * result }
 {
