@@ -16,8 +16,8 @@ use Rattle.std.proofs.Math.Seq.{take-append_seam, drop-append_seam}
 use Rattle.namespace_id.specs.Powers.{halvings}
 use Rattle.namespace_id.proofs.PowerLemmas.{double_halvings}
 use Rattle.data_header.proofs.RootLemmas.{IsRootOf, IsPathOf, merkle_root-suc, length-path_of}
-use Rattle.data_header.specs.HashTrees.{hash_at, siblings, AreTreeHashes}
-use Rattle.data_header.proofs.HashTreeLemmas.{length-siblings, top_root, leaf_led}
+use Rattle.data_header.specs.HashTrees.{siblings, AreTreeHashes}
+use Rattle.data_header.proofs.HashTreeLemmas.{length-siblings, leaf_led}
 use Rattle.data_header.proofs.LedLemmas.{led-left-power, led-right-power, led-path_of}
 
 -- the root over two lists of 2 ^ depth digests
@@ -34,6 +34,17 @@ pub data_root-axes : (header : Roots) → AreRoots header
     → data_root_of header ≡ inner_hash (merkle_root (halvings (2 * header.k)) header.rows) (merkle_root (halvings (2 * header.k)) header.cols)
 data_root-axes header h =
     merkle_root-append (halvings (2 * header.k)) header.rows header.cols (h.rows ∙ sym (double_halvings header.k h.width))
+
+-- the hash over the root over the rows and that over the columns is the data root
+pub data_root-halves : (header : Roots) (rows cols : List Digest) (l r : List ℕ) → AreRoots header → rows ≡ header.rows → cols ≡ header.cols
+    → IsRootOf rows l → IsRootOf cols r → inner_hash l r ≡ data_root_of header
+data_root-halves header rows cols l r h rows_are cols_are lefts rights =
+    let d : ℕ = halvings (2 * header.k) in
+    let long : 2 * header.k ≡ 2 ^ d = sym (double_halvings header.k h.width) in
+    ap₂ inner_hash
+    (lefts d (ap length rows_are ∙ h.rows ∙ long) ∙ ap (merkle_root d) rows_are)
+    (rights d (ap length cols_are ∙ h.cols ∙ long) ∙ ap (merkle_root d) cols_are)
+    ∙ sym (data_root-axes header h)
 
 -- the hash over what stands along an axis and what stands along the other: rows on the left
 abbrev pub joined : Axis → List ℕ → List ℕ → List ℕ
@@ -131,11 +142,6 @@ tree_power : (header : Roots) → AreRoots header → length (header.rows ++ hea
 tree_power header h =
     let long : 2 ^ root_halvings header.k ≡ 2 ^ halvings (2 * header.k) * 2 = pow-suc 2 (halvings (2 * header.k)) in
     omega (arith, all_roots header h, long, double_halvings header.k h.width)
-
--- the hash at the top of that tree is the data root
-pub top_data_root : (header : Roots) (hashes : List (List ℕ)) → AreRoots header → AreTreeHashes (header.rows ++ header.cols) hashes
-    → hash_at hashes 1 ≡ data_root_of header
-top_data_root header hashes h are = top_root (header.rows ++ header.cols) hashes are (root_halvings header.k) (tree_power header h)
 
 -- the hashes beside the way of a leaf, in the tree over all roots of a header, lead to the data root
 pub opens-siblings : (header : Roots) (hashes path : List (List ℕ)) (axis : Axis) (index place levels : ℕ) → AreRoots header

@@ -4,6 +4,7 @@ use Rattle.std.proofs.lemmas.Bool.{cases_lt}
 use Rattle.std.proofs.lemmas.Bool.Decides.{nat_tests}
 use Rattle.namespace_id.specs.declared.digests.Digest.{Digest}
 use Rattle.data_header.specs.DataRoots.{leaf_hash, inner_hash, merkle_root, path_of}
+use Rattle.data_header.specs.Paths.{most_hashes}
 use Rattle.namespace_id.specs.Powers.{is_power, halvings}
 use Rattle.namespace_id.proofs.PowerLemmas.{halvings-le, power_halvings}
 use Rattle.namespace_id.proofs.HalfLemmas.{depth_below, depth_zero, half_power}
@@ -13,12 +14,6 @@ pub merkle_root-zero : (digests : List Digest) (d : Digest) → length digests �
 unfolding merkle_root
 merkle_root-zero (digest ∷ digests) d h = refl
 merkle_root-zero [] d h = absurd (omega arith)
-
--- the root of one digest, by a depth that its number has
-pub merkle_root-one : (digests : List Digest) (d : Digest) (depth : ℕ) → length digests ≡ 1 → length digests ≡ 2 ^ depth
-    → leaf_hash (get_or digests 0 d) ≡ merkle_root depth digests
-merkle_root-one digests d depth h power =
-    merkle_root-zero digests d h ∙ ap (λ (k : ℕ). merkle_root k digests) (sym (depth_zero (length digests) depth h power))
 
 -- the root of more digests, by its halves
 pub merkle_root-suc : (depth : ℕ) (digests : List Digest)
@@ -159,7 +154,7 @@ length-path_of (suc d) digests place =
 
 -- one more hash fits in a path
 pub path_of-room : (digests : List Digest) (place : ℕ) (path : List (List ℕ)) → IsTrue (is_power (length digests))
-    → IsPathOf digests place path → length path < 9
+    → IsPathOf digests place path → length path < most_hashes
 path_of-room digests place path count value =
     let hashes : length path ≡ halvings (length digests) =
     ap length (value _ (sym (power_halvings (length digests) count))) ∙ length-path_of _ digests place in

@@ -2,14 +2,16 @@
 //! a node.
 //!
 //! Roots and paths are recursions on halves that keep nothing and hash anew each time. A header has
-//! at most 512 axis roots, so a proof costs about a thousand hashes and no memory. `trees` has the hashes
-//! of all nodes, for the data root and for many proofs.
+//! at most 2,048 axis roots, so a proof costs about four thousand hashes and no memory. `trees` has the
+//! hashes of all nodes, for few digests and for many proofs.
 
 ghost use Rattle.std.specs.Prelude.{◌≡◌, ◌^◌, ◌<◌, ℕ, length, IsTrue};
 ghost use Rattle.namespace_id.specs.Powers.{is_power};
 ghost use Rattle.data_header.specs.DataRoots.{leaf_hash, inner_hash, merkle_root, path_of, led};
+ghost use Rattle.data_header.specs.Paths.{most_hashes};
 
 use crate::RootPath;
+use crate::trees::{FEW, few_root};
 use namespace_id::Digest;
 use sha2::{Digest as _, Sha256};
 
@@ -48,8 +50,8 @@ pub(crate) fn merkle_root(digests: &[Digest]) -> [u8; 32]
     ensures { (depth : ℕ) → length digests.now ≡ 2 ^ depth →
         result ≡ merkle_root depth digests.now }
 {
-    if digests.len() == 1 {
-        return leaf_hash(&digests[0]);
+    if digests.len() <= FEW {
+        return few_root(digests);
     }
     let (left, right) = digests.split_at(digests.len() / 2);
     inner_hash(&merkle_root(left), &merkle_root(right))
@@ -63,7 +65,7 @@ pub(crate) fn path_of(digests: &[Digest], place: usize) -> RootPath
     requires place { place < length digests.now }
     ensures value { (depth : ℕ) → length digests.now ≡ 2 ^ depth →
         result ≡ path_of depth digests.now place }
-    ensures room { length result < 9 }
+    ensures room { length result < most_hashes }
 {
     if digests.len() == 1 {
         return RootPath::new();

@@ -13,7 +13,7 @@ use thiserror::Error;
 #[derive(Clone, Copy, Debug, PartialEq, Eq, Error)]
 pub enum HeaderError {
     /// k is no width.
-    #[error("the width is not a power of two from 1 to 128")]
+    #[error("the width is not a power of two from 1 to 512")]
     Width,
     /// A list doesn't have 2k roots.
     #[error("a header has 2k row roots and 2k column roots")]

@@ -11,6 +11,6 @@ mod trees;
 
 pub use hashing::{inner_hash, leaf_hash};
 pub use headers::{Header, HeaderError};
-pub use paths::RootPath;
+pub use paths::{MOST_HASHES, RootPath};
 pub use proving::{data_root, make_root_proof, open_root};
 pub use trees::DataTree;

@@ -5,13 +5,9 @@ ghost use Rattle.data_header.specs.Headers.{root_of};
 ghost use Rattle.namespace_id.specs.Cells.{is_width};
 ghost use Rattle.data_header.specs.DataRoots.{root_halvings, root_place, data_root_of, OpensRoot};
 
-use crate::hashing::{leaf_hash, led, merkle_root, path_of};
-use crate::trees::put_hashes;
+use crate::hashing::{inner_hash, leaf_hash, led, merkle_root, path_of};
 use crate::{Header, RootPath};
 use namespace_id::{Axis, Digest, is_width};
-
-/// How many hashes the tree over the axis roots of the widest header takes: 8k for width 128.
-const MOST_HASHES: usize = 1024;
 
 /// The data root of a data availability header, 32 bytes: the plain SHA-256 Merkle root over its 2k
 /// row roots and then its 2k column roots. It takes no memory, and hashes leaves and nodes eight at a
@@ -21,10 +17,7 @@ const MOST_HASHES: usize = 1024;
 pub fn data_root(header: &Header) -> [u8; 32]
     ensures { result ≡ data_root_of header.now }
 {
-    let mut hashes = [[0; 32]; MOST_HASHES];
-    let hashes = &mut hashes[..4 * header.rows.len()];
-    put_hashes(header, hashes);
-    hashes[1]
+    inner_hash(&merkle_root(&header.rows), &merkle_root(&header.cols))
 }
 
 /// Makes the Merkle proof of an axis root under the header's data root: the hashes from the leaf
@@ -63,7 +56,9 @@ pub(crate) fn root_halvings(k: u16) -> usize
         16 => 6,
         32 => 7,
         64 => 8,
-        _ => 9,
+        128 => 9,
+        256 => 10,
+        _ => 11,
     }
 }
 

@@ -5,7 +5,8 @@ ghost use Rattle.std.specs.Prelude.{◌≡◌, ◌<◌, ◌≤◌, ◌+◌, ◌*
 ghost use Rattle.namespace_id.specs.Cells.{is_width};
 ghost use Rattle.namespace_id.specs.Digests.{no_digest};
 ghost use Rattle.data_header.specs.Headers.{root_of};
-ghost use Rattle.data_header.specs.DataRoots.{leaf_hash, inner_hash, data_root_of, OpensRoot};
+ghost use Rattle.data_header.specs.DataRoots.{leaf_hash, inner_hash, merkle_root, data_root_of, OpensRoot};
+ghost use Rattle.data_header.specs.Paths.{most_hashes};
 ghost use Rattle.data_header.specs.HashTrees.{hash_at, beside, siblings, AreTreeHashes};
 
 use crate::batches::{BATCH, MESSAGES, eight_leaves, eight_nodes};
@@ -15,6 +16,9 @@ use crate::{Header, RootPath};
 use namespace_id::{Axis, Digest, NoMemory};
 use std::alloc::Global;
 use std::marker::Model;
+
+/// So many digests are few: the hashes of all nodes over them stand in an array.
+pub(crate) const FEW: usize = 256;
 
 /// Puts eight hashes, from a place on.
 fn put_eight(hashes: &mut [[u8; 32]], at: usize, made: &[[u8; 32]; BATCH])
@@ -71,8 +75,30 @@ fn put_inner(hashes: &mut [[u8; 32]], count: usize)
     }
 }
 
+/// Puts the hashes of the tree over digests.
+fn put_tree(digests: &[Digest], hashes: &mut [[u8; 32]])
+    requires { length hashes.old ≡ 2 * length digests.now }
+    ensures { AreTreeHashes digests.now hashes.new }
+{
+    put_leaves(hashes, digests.len(), digests);
+    put_inner(hashes, digests.len());
+}
+
+/// The root over few digests, by the hashes of all nodes, eight at a time. It takes no memory.
+pub(crate) fn few_root(digests: &[Digest]) -> [u8; 32]
+    requires some { 0 < length digests.now }
+    requires few { length digests.now ≤ FEW }
+    ensures { (depth : ℕ) → length digests.now ≡ 2 ^ depth →
+        result ≡ merkle_root depth digests.now }
+{
+    let mut hashes = [[0; 32]; 2 * FEW];
+    let hashes = &mut hashes[..2 * digests.len()];
+    put_tree(digests, hashes);
+    hashes[1]
+}
+
 /// Puts the hashes of the tree over the axis roots of a header.
-pub(crate) fn put_hashes(header: &Header, hashes: &mut [[u8; 32]])
+fn put_hashes(header: &Header, hashes: &mut [[u8; 32]])
     requires { length hashes.old ≡ 2 * length (header.now.rows ++ header.now.cols) }
     ensures { AreTreeHashes (header.now.rows ++ header.now.cols) hashes.new }
 {
@@ -91,7 +117,7 @@ fn beside(place: usize) -> usize
 
 /// The hashes beside the way from a place up to the root, so many levels below it.
 fn siblings_from(hashes: &[[u8; 32]], place: usize, levels: usize) -> RootPath
-    requires few { levels ≤ 9 }
+    requires few { levels ≤ most_hashes }
     requires place { place < length hashes.now }
     requires even { length hashes.now ≡ 2 * 2 ^ levels }
     ensures { result ≡ siblings levels hashes.now place }

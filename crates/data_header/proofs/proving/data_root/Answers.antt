@@ -1,8 +1,14 @@
-use Rattle.std.proofs.Common.{subst}
-use Rattle.data_header.specs.Headers.{AreRoots}
-use Rattle.data_header.proofs.OpenLemmas.{top_data_root}
+use Rattle.std.proofs.Common.{◌∙◌, ap}
+use Rattle.data_header.specs.Headers.{Roots}
+use Rattle.data_header.specs.DataRoots.{data_root_of}
+use Rattle.data_header.proofs.OpenLemmas.{data_root-halves}
 use Rattle.data_header.proofs.proving.data_root.Goals as goal
 
--- the data root stands at the top of the tree
+-- the data root is the hash over the root over the rows and that over the columns
 pub returns : goal.returns
-returns c = top_data_root c.args.header.now c.put_hashes.new.hashes (subst AreRoots c.header.view_is c.header.invariant) c.put_hashes.ensures
+returns c =
+    let header : Roots = record { k = c.header.inside.k; rows = c.header.inside.rows.items; cols = c.header.inside.cols.items } in
+    c.inner_hash.ensures
+    ∙ data_root-halves header c.deref.result.now c.deref-2.result.now c.merkle_root.result c.merkle_root-2.result c.header.invariant
+    c.deref.ensures.value c.deref-2.ensures.value c.merkle_root.ensures c.merkle_root-2.ensures
+    ∙ ap (λ (h : Roots). data_root_of h) c.header.view_is
