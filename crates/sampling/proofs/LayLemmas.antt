@@ -131,7 +131,7 @@ abbrev has_most : ℕ → Bool
 has_most k = nat_le (most_of k) (k * k)
 
 -- computed for each width
-most_test : passes_below 129 (λ k. where_holds (is_width k) (has_most k)) ≡ true
+most_test : passes_below 513 (λ k. where_holds (is_width k) (has_most k)) ≡ true
 unfolding passes_below
 most_test = refl
 
@@ -140,7 +140,7 @@ most_fits : (k : ℕ) → is_width k ≡ true → most_of k ≤ k * k
 most_fits k width =
     leb-true (most_of k) (k * k)
     (where_holds-true (is_width k) (has_most k)
-    (passes_below-at 129 (λ k. where_holds (is_width k) (has_most k)) most_test k (omega (arith, is_width-le k width))) width)
+    (passes_below-at 513 (λ k. where_holds (is_width k) (has_most k)) most_test k (omega (arith, is_width-le k width))) width)
 
 -- a number of shares that a square of a width holds is none that is refused
 size-none : (k count : ℕ) → is_width k ≡ true → count ≤ k * k → size_refusal (Some k) count ≡ None

@@ -108,8 +108,8 @@ pub fn cells(alloc: Global, key: &[u8; 32], k: u16, count: u32) -> Result<Vec<Ce
 
 /// How many cells are drawn at most.
 pub fn draw_laws()
-    // As many as the square has, and no more than 4,096: for the widths from 1 to 128 these.
+    // As many as the square has, and no more than 4,096: for the widths from 1 to 512 these.
     ensures limit { (k count : ℕ) → (count ≤ draw_limit k) ↔ (count ≤ 4 * k * k) × (count ≤ 4096) }
-    ensures widths { map draw_limit (1 ∷ 2 ∷ 4 ∷ 8 ∷ 16 ∷ 32 ∷ 64 ∷ 128 ∷ []) ≡
-        4 ∷ 16 ∷ 64 ∷ 256 ∷ 1024 ∷ 4096 ∷ 4096 ∷ 4096 ∷ [] }
+    ensures widths { map draw_limit (1 ∷ 2 ∷ 4 ∷ 8 ∷ 16 ∷ 32 ∷ 64 ∷ 128 ∷ 256 ∷ 512 ∷ []) ≡
+        4 ∷ 16 ∷ 64 ∷ 256 ∷ 1024 ∷ 4096 ∷ 4096 ∷ 4096 ∷ 4096 ∷ 4096 ∷ [] }
 {}

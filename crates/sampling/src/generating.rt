@@ -2,6 +2,7 @@
 
 ghost use Rattle.std.specs.Prelude.{◌≡◌, ◌+◌, ◌<◌, ◌≤◌, ◌^◌, ℕ, List, IsTrue, IfOk, OnOk, None};
 ghost use Rattle.namespace_id.specs.Cells.{is_width};
+ghost use Rattle.namespace_id.specs.Sizes.{greatest_width};
 ghost use Rattle.square_layout.specs.Layout.{square_of};
 ghost use Rattle.square_layout.specs.Refusals.{layout_refusal};
 ghost use Rattle.sampling.specs.Words.{words_at, words_after};
@@ -94,7 +95,7 @@ fn name_with(last: u8) -> Namespace
 /// The next blob of a block of width `k`.
 fn blob(alloc: Global, words: &mut ChaCha20Rng, k: u16) -> Result<Blob, NoMemory>
     requires some { 0 < k }
-    requires most { k ≤ 512 }
+    requires most { k ≤ greatest_width }
     requires words { words.old.word_pos + 2 ^ 17 < 2 ^ 68 }
     ensures value { (key : List ℕ) (place : ℕ) → words.old ≡ words_at key place →
         IfOk result (λ blob. blob ≡ blob_at k key place) }
@@ -116,7 +117,7 @@ fn blob(alloc: Global, words: &mut ChaCha20Rng, k: u16) -> Result<Blob, NoMemory
 /// The blobs of a block of width `k`.
 fn blobs(alloc: Global, words: &mut ChaCha20Rng, k: u16) -> Result<Vec<Blob>, NoMemory>
     requires some { 0 < k }
-    requires most { k ≤ 512 }
+    requires most { k ≤ greatest_width }
     requires words { words.old.word_pos + 2 ^ 32 < 2 ^ 68 }
     ensures { (key : List ℕ) (place : ℕ) → words.old ≡ words_at key place →
         IfOk result (λ blobs. blobs.items ≡ blobs_at k key place (blob_count k)) }
