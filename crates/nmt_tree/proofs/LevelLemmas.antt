@@ -83,6 +83,18 @@ halved_multiple from size even aligned =
     let half : from / 2 ≡ q * h = omega (arith, whole, sum) in
     (omega (arith, whole, sum), ap (λ (k : ℕ). k % h) half ∙ mul-mod_left q h)
 
+-- what reading a higher level asks
+pub read_halves : (n from size : ℕ) → IsTrue (is_leaf_count n) → IsTrue (is_leaf_count size) → (size ≡ 1 → ⊥) → from % size ≡ 0 → from + size ≤ n
+    → IsTrue (is_leaf_count (n / 2)) × (IsTrue (is_leaf_count (size / 2)) × (from / 2 % (size / 2) ≡ 0 × ((from / 2 + size / 2 ≤ n / 2) × (n / 2 + n / 2 ≡ n))))
+read_halves n from size is_n is_size several aligned within =
+    let halves = power-half size is_size several in
+    let some : 0 < size = halves.1 in
+    let even : size / 2 + size / 2 ≡ size = halves.2 in
+    let whole = power-half n is_n (λ one. several (omega arith)) in
+    let even_n : n / 2 + n / 2 ≡ n = whole.2 in
+    let place = halved_multiple from size even aligned in
+    (whole.0, (halves.0, (place.1, (omega (arith, place.0), even_n))))
+
 -- reading a higher level
 pub read_above : (n from size : ℕ) (digests leaves : List Digest) (result : Digest) → IsTrue (is_leaf_count n) → IsTrue (is_leaf_count size) → (size ≡ 1 → ⊥)
     → from % size ≡ 0 → from + size ≤ n → length leaves ≡ n → digests ≡ levels (halvings n) leaves

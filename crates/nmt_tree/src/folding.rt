@@ -42,8 +42,8 @@ fn fold(digests: &mut [Digest]) -> Digest
     fold(&mut digests[..half])
 }
 
-/// The root over the digests of leaves, a power of two from 1 to 256 of them, joined level by level
-/// in place: afterwards the slice holds no digests of use.
+/// The root over the digests of leaves, a power of two from 1 to `MOST_LEAVES` of them, joined level
+/// by level in place: afterwards the slice holds no digests of use.
 ///
 /// It takes no memory, and does not look whether the joins are ordered.
 ///
@@ -55,9 +55,9 @@ pub fn fold_root(digests: &mut [Digest]) -> Digest
     fold(digests)
 }
 
-/// The root of leaves, given as two slices of one length, a power of two from 1 to 256: that of
-/// `plain_root`, by way of as many digests, which hold nothing of use afterwards. Leaves and nodes are
-/// hashed eight at a time, side by side.
+/// The root of leaves, given as two slices of one length, a power of two from 1 to `MOST_LEAVES`: that
+/// of `plain_root`, by way of as many digests, which hold nothing of use afterwards. Leaves and nodes
+/// are hashed eight at a time, side by side.
 ///
 /// It takes no memory, and does not look whether the namespaces are in order.
 ///

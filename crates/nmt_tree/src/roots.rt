@@ -4,19 +4,20 @@
 //! asked more than one root or proof of the same leaves has `Tree` and `fold_root`.
 
 ghost use Rattle.std.specs.Prelude.{◌≡◌, ◌≤◌, ◌^◌, ℕ, length, IsTrue};
+ghost use Rattle.namespace_id.specs.Sizes.{most_depth};
 ghost use Rattle.nmt_tree.specs.Roots.{is_leaf_count, halvings, root, is_ordered, strict_root};
 
 use crate::{leaf, node};
 use namespace_id::{Digest, Namespace, Share};
 
-/// Whether a tree may have this many leaves: a power of two from 1 to 256, the 2k of the greatest
-/// width.
+/// Whether a tree may have this many leaves: a power of two from 1 to `MOST_LEAVES`, the 2k of the
+/// greatest width.
 ///
 /// docs/RULES.md, "Trees".
 pub fn is_leaf_count(n: usize) -> bool
     ensures { result ≡ is_leaf_count n }
 {
-    matches!(n, 1 | 2 | 4 | 8 | 16 | 32 | 64 | 128 | 256)
+    matches!(n, 1 | 2 | 4 | 8 | 16 | 32 | 64 | 128 | 256 | 512 | 1024)
 }
 
 /// How often a number of leaves is halved until it is one: the depth of the tree over them, and the
@@ -27,7 +28,7 @@ pub fn halvings(n: usize) -> u8
     requires { IsTrue (is_leaf_count n) }
     ensures value { result ≡ halvings n }
     ensures power { 2 ^ result ≡ n }
-    ensures bound { result ≤ 8 }
+    ensures bound { result ≤ most_depth }
 {
     match n {
         1 => 0,
@@ -38,15 +39,17 @@ pub fn halvings(n: usize) -> u8
         32 => 5,
         64 => 6,
         128 => 7,
-        _ => 8,
+        256 => 8,
+        512 => 9,
+        _ => 10,
     }
 }
 
-/// How many leaves a tree of this depth has. The depth is at most 8.
+/// How many leaves a tree of this depth has. The depth is at most `MOST_DEPTH`.
 ///
 /// docs/RULES.md, "Trees".
 pub fn leaf_count(depth: u8) -> u16
-    requires { depth ≤ 8 }
+    requires { depth ≤ most_depth }
     ensures { result ≡ 2 ^ depth }
 {
     1 << depth
@@ -68,8 +71,8 @@ fn root_of(names: &[Namespace], shares: &[Share]) -> Digest
     node(&left, &right)
 }
 
-/// The root of leaves, given as two slices of one length, a power of two from 1 to 256: the leaf's
-/// digest where there is one, else the node's over the roots of both halves.
+/// The root of leaves, given as two slices of one length, a power of two from 1 to `MOST_LEAVES`: the
+/// leaf's digest where there is one, else the node's over the roots of both halves.
 ///
 /// It takes no memory, and does not look whether the namespaces are in order.
 ///

@@ -23,7 +23,8 @@ use std::alloc::Global;
 use std::marker::Model;
 
 /// A namespaced Merkle tree (NMT) that keeps the digests of all its levels. It is for a power of
-/// two of leaves from 1 to 256, and either empty or over leaves whose namespaces never fall.
+/// two of leaves from 1 to `MOST_LEAVES`, and either empty or over leaves whose namespaces never
+/// fall.
 ///
 /// Celestia specifications, "Data Structures", namespaced Merkle trees.
 #[derive(Drop)]
@@ -45,8 +46,8 @@ impl Model for Tree {
 }
 
 impl Tree {
-    /// An empty tree for `n` leaves, a power of two from 1 to 256. It takes all memory at its
-    /// start, 2n - 1 digests of 90 bytes, and refuses only where there is none.
+    /// An empty tree for `n` leaves, a power of two from 1 to `MOST_LEAVES`. It takes all memory at
+    /// its start, 2n - 1 digests of 90 bytes, and refuses only where there is none.
     pub fn new(alloc: Global, n: u16) -> Result<Tree, NoMemory>
         requires { IsTrue (is_leaf_count n) }
         ensures count { IfOk result (λ tree. tree.count ≡ n) }
