@@ -11,6 +11,7 @@ use Rattle.namespace_id.specs.declared.namespaces.Namespace.{Namespace}
 use Rattle.namespace_id.specs.declared.shares.Share.{Share}
 use Rattle.namespace_id.specs.declared.digests.Digest.{Digest}
 use Rattle.namespace_id.specs.Digests.{no_digest}
+use Rattle.namespace_id.specs.Sizes.{most_leaves}
 use Rattle.nmt_tree.specs.Digests.{is_ordered_join, node_digest, leaf_digest}
 use Rattle.nmt_tree.specs.Roots.{halvings}
 use Rattle.nmt_proofs.specs.Parts.{given, join, ordered_digest}
@@ -96,7 +97,7 @@ right_half (suc d) st m pos leaf ns h em right count =
     ∙ ap₂ (λ (k x : ℕ). join (given (get_or ns 0 no_digest)) (opened k (st + x) (one_digest pos leaf) (take (length ns - 1) (drop 1 ns)))) (sym low) (sym half)
 
 -- two halves of an interval fit where it does
-pub half_interval : (st d : ℕ) → 0 < d → st + 2 ^ d ≤ 256 → st + 2 ^ (d - 1) + 2 ^ (d - 1) ≤ 256
+pub half_interval : (st d : ℕ) → 0 < d → st + 2 ^ d ≤ most_leaves → st + 2 ^ (d - 1) + 2 ^ (d - 1) ≤ most_leaves
 half_interval st d h within = omega (arith, twice_half d h)
 
 -- the left half has the nodes of the path before the last

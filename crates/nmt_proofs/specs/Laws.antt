@@ -4,6 +4,7 @@ use Rattle.std.specs.List.{slice_get}
 use Rattle.namespace_id.specs.declared.namespaces.Namespace.{Namespace}
 use Rattle.namespace_id.specs.declared.shares.Share.{Share}
 use Rattle.namespace_id.specs.declared.digests.Digest.{Digest}
+use Rattle.namespace_id.specs.Sizes.{most_depth}
 use Rattle.nmt_tree.specs.Roots.{root, is_ordered}
 use Rattle.nmt_tree.specs.Levels.{leaf_digests}
 use Rattle.nmt_proofs.specs.Parts.{digest_of}
@@ -55,7 +56,7 @@ SetIsListed = (depth : ℕ) (places : List ℕ) (shown_names : List Namespace) (
 -- the same for one that shows neighboring subtrees: their digests are those over the list's leaves
 abbrev pub SubtreesAreListed : Type 0
 SubtreesAreListed = (depth from : ℕ) (sizes : List ℕ) (digests nodes : List Digest) (names : List Namespace)
-    (shares : List Share) → depth ≤ 8 → IsOpening depth (intervals_from from sizes digests) nodes
+    (shares : List Share) → depth ≤ most_depth → IsOpening depth (intervals_from from sizes digests) nodes
     → AreAligned from (2 ^ depth) sizes → length digests ≡ length sizes → AreLeaves depth names shares
     → digest_of (opened depth 0 (intervals_from from sizes digests) nodes) ≡ root depth names shares
     → ClashOr (opened depth 0 (intervals_from from sizes digests) nodes) (whole depth names shares)

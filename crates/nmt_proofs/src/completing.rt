@@ -3,6 +3,7 @@
 ghost use Rattle.std.specs.Prelude.{◌≡◌, ◌+◌, ◌^◌, ◌<◌, ◌≤◌, length, None};
 ghost use Rattle.namespace_id.specs.declared.namespaces.Namespace.{Namespace};
 ghost use Rattle.namespace_id.specs.declared.digests.Digest.{Digest};
+ghost use Rattle.namespace_id.specs.Sizes.{most_depth, most_leaves};
 ghost use Rattle.nmt_proofs.specs.Openings.{outside};
 ghost use Rattle.nmt_proofs.specs.Complete.{excludes, first_break};
 ghost use Rattle.nmt_proofs.specs.Pieces.{shown};
@@ -33,8 +34,8 @@ pub(crate) fn first_break(
     from: u16,
     number: u64,
 ) -> Option<u64>
-    requires depth { depth ≤ 8 }
-    requires interval { start + 2 ^ depth ≤ 256 }
+    requires depth { depth ≤ most_depth }
+    requires interval { start + 2 ^ depth ≤ most_leaves }
     requires count { length nodes.now ≡ length (outside depth start (shown pieces.now)) }
     requires numbers { number + length nodes.now < 2 ^ 64 }
     ensures { result ≡

@@ -2,17 +2,18 @@
 //!
 //! An interval of 2^depth places takes the next node where it holds no piece, is a piece, or is
 //! halved by `halves`. This serves any pieces, one leaf, a range or none, where climbing from a
-//! leaf by the bits of its place would serve one leaf alone. It is at most nine deep, and takes no
+//! leaf by the bits of its place would serve one leaf alone. It is at most eleven deep, and takes no
 //! memory.
 
 ghost use Rattle.std.specs.Prelude.{ltb, ◌≡◌, ◌+◌, ◌-◌, ◌^◌, ◌≤◌, ◌<◌, ◌++◌, ℕ, List, length, take, drop, true, false, Some, None, if◌then◌else◌};
 ghost use Rattle.namespace_id.specs.declared.digests.Digest.{Digest};
+ghost use Rattle.namespace_id.specs.Sizes.{most_depth, most_leaves};
 ghost use Rattle.nmt_tree.specs.Digests.{is_ordered_join, node_digest};
 ghost use Rattle.nmt_proofs.specs.Parts.{join, ordered_digest};
 ghost use Rattle.nmt_proofs.specs.Openings.{begun, is_interval, is_halved, outside, opened};
 ghost use Rattle.nmt_proofs.specs.Pieces.{shown, shown_of};
 
-use namespace_id::{BLANK_DIGEST, Digest};
+use namespace_id::{BLANK_DIGEST, Digest, MOST_LEAVES};
 use nmt_tree::{join, leaf_count};
 
 /// The digest of an interval that an opening shows.
@@ -24,12 +25,12 @@ pub(crate) struct Piece {
 }
 
 /// Pieces that are not written yet, as many as a range may have.
-pub(crate) fn blank_pieces() -> [Piece; 256] {
+pub(crate) fn blank_pieces() -> [Piece; MOST_LEAVES] {
     [Piece {
         from: 0,
         size: 0,
         digest: BLANK_DIGEST,
-    }; 256]
+    }; MOST_LEAVES]
 }
 
 /// How many pieces begin before a place.
@@ -47,7 +48,7 @@ pub(crate) fn count_begun(pieces: &[Piece], middle: u16) -> usize
 
 /// Whether the interval of this depth in which the piece begins is the piece.
 pub(crate) fn is_piece(depth: u8, piece: &Piece) -> bool
-    requires { depth ≤ 8 }
+    requires { depth ≤ most_depth }
     ensures shown { result ≡ is_interval depth (shown_of piece.now) }
     ensures halved { result ≡ false → 0 < depth }
 {
@@ -57,8 +58,8 @@ pub(crate) fn is_piece(depth: u8, piece: &Piece) -> bool
 /// An interval that holds pieces and isn't one, by its halves: where the right one begins, and the
 /// pieces of the left one and of the right one.
 pub(crate) fn halves(depth: u8, start: u16, pieces: &[Piece]) -> (u16, &[Piece], &[Piece])
-    requires depth { depth ≤ 8 }
-    requires interval { start + 2 ^ depth ≤ 256 }
+    requires depth { depth ≤ most_depth }
+    requires interval { start + 2 ^ depth ≤ most_leaves }
     requires halved { is_halved depth (shown pieces.now) ≡ true }
     ensures depth { 0 < depth }
     ensures size { 2 ^ (depth - 1) + 2 ^ (depth - 1) ≡ 2 ^ depth }
@@ -82,8 +83,8 @@ pub(crate) fn halves(depth: u8, start: u16, pieces: &[Piece]) -> (u16, &[Piece],
 
 /// How many intervals hold no piece.
 pub(crate) fn count_outside(depth: u8, start: u16, pieces: &[Piece]) -> usize
-    requires depth { depth ≤ 8 }
-    requires interval { start + 2 ^ depth ≤ 256 }
+    requires depth { depth ≤ most_depth }
+    requires interval { start + 2 ^ depth ≤ most_leaves }
     ensures count { result ≡ length (outside depth start (shown pieces.now)) }
     ensures bound { result ≤ 2 ^ depth }
 {
@@ -106,8 +107,8 @@ pub(crate) fn ordered_node(left: &Digest, right: &Digest) -> Option<Digest>
 
 /// The digest of the interval, where every join in it is ordered.
 pub(crate) fn joined(depth: u8, start: u16, pieces: &[Piece], nodes: &[Digest]) -> Option<Digest>
-    requires depth { depth ≤ 8 }
-    requires interval { start + 2 ^ depth ≤ 256 }
+    requires depth { depth ≤ most_depth }
+    requires interval { start + 2 ^ depth ≤ most_leaves }
     requires count { length nodes.now ≡ length (outside depth start (shown pieces.now)) }
     ensures { result ≡ ordered_digest (opened depth start (shown pieces.now) nodes.now) }
 {

@@ -1,11 +1,12 @@
 //! Openings made from a stored tree, by the recursion on intervals that reads them.
 
-ghost use Rattle.std.specs.Prelude.{◌≡◌, ◌↔◌, ◌+◌, ◌%◌, ◌^◌, ◌≤◌, ◌<◌, ℕ, List, length, replicate, get_or, true, IsSome};
+ghost use Rattle.std.specs.Prelude.{◌≡◌, ◌↔◌, ◌+◌, ◌*◌, ◌%◌, ◌^◌, ◌≤◌, ◌<◌, ℕ, List, length, replicate, get_or, true, IsSome};
 ghost use Rattle.std.specs.Option.{ForSome};
 ghost use Rattle.namespace_id.specs.declared.namespaces.Namespace.{Namespace};
 ghost use Rattle.namespace_id.specs.declared.shares.Share.{Share};
 ghost use Rattle.namespace_id.specs.declared.digests.Digest.{Digest};
 ghost use Rattle.namespace_id.specs.Digests.{no_digest};
+ghost use Rattle.namespace_id.specs.Sizes.{most_depth, most_leaves};
 ghost use Rattle.nmt_tree.specs.Roots.{halvings};
 ghost use Rattle.nmt_tree.specs.Levels.{leaf_digests, span, HasOrderedJoins};
 ghost use Rattle.nmt_proofs.specs.Parts.{is_in_order};
@@ -18,14 +19,14 @@ ghost use Rattle.nmt_proofs.specs.Pieces.{shown};
 
 use crate::joining::{Piece, blank_pieces, count_outside, halves, is_piece};
 use crate::{Absent, Nodes, Path};
-use namespace_id::{BLANK_DIGEST, Digest};
+use namespace_id::{BLANK_DIGEST, Digest, MOST_DEPTH};
 use nmt_tree::{Tree, halvings, leaf_count};
 
 /// Writes the digests of the intervals that hold no piece, left to right.
 fn put_nodes(tree: &Tree, depth: u8, start: u16, pieces: &[Piece], nodes: &mut [Digest])
     requires filled { IsSome tree.now.leaves }
-    requires small { tree.now.count ≤ 256 }
-    requires depth { depth ≤ 8 }
+    requires small { tree.now.count ≤ most_leaves }
+    requires depth { depth ≤ most_depth }
     requires aligned { start % 2 ^ depth ≡ 0 }
     requires interval { start + 2 ^ depth ≤ tree.now.count }
     requires count { length nodes.old ≡ length (outside depth start (shown pieces.now)) }
@@ -48,7 +49,7 @@ fn put_nodes(tree: &Tree, depth: u8, start: u16, pieces: &[Piece], nodes: &mut [
 
 /// A path of these nodes.
 fn path_of(nodes: &[Digest]) -> Path
-    requires { length nodes.now ≤ 8 }
+    requires { length nodes.now ≤ most_depth }
     ensures { result ≡ nodes.now }
 {
     let mut path = Path::new();
@@ -59,8 +60,8 @@ fn path_of(nodes: &[Digest]) -> Path
 }
 
 /// Nodes that are not written yet, as many as an opening may have.
-fn blank_nodes() -> [Digest; 16] {
-    [BLANK_DIGEST; 16]
+fn blank_nodes() -> [Digest; 2 * MOST_DEPTH] {
+    [BLANK_DIGEST; 2 * MOST_DEPTH]
 }
 
 /// Makes the NMT inclusion proof of one leaf: the nodes that open the leaf at place `pos`, below
@@ -94,7 +95,7 @@ pub fn make_leaf(tree: &Tree, pos: u16) -> Path
 
 /// A list of these nodes.
 fn list_of(nodes: &[Digest]) -> Nodes
-    requires { length nodes.now ≤ 16 }
+    requires { length nodes.now ≤ 2 * most_depth }
     ensures { result ≡ nodes.now }
 {
     let mut list = Nodes::new();
@@ -104,13 +105,13 @@ fn list_of(nodes: &[Digest]) -> Nodes
     list
 }
 
-/// The digests of the intervals that hold no piece, left to right, at most 16, in a tree of this
-/// depth.
+/// The digests of the intervals that hold no piece, left to right, at most `2 * MOST_DEPTH`, in a
+/// tree of this depth.
 fn nodes_beside(tree: &Tree, depth: u8, pieces: &[Piece]) -> Nodes
     requires filled { IsSome tree.now.leaves }
-    requires depth { depth ≤ 8 }
+    requires depth { depth ≤ most_depth }
     requires count { tree.now.count ≡ 2 ^ depth }
-    requires few { length (outside depth 0 (shown pieces.now)) ≤ 16 }
+    requires few { length (outside depth 0 (shown pieces.now)) ≤ 2 * most_depth }
     ensures { ForSome tree.now.leaves (λ leaves.
         result ≡ spans leaves (outside depth 0 (shown pieces.now))) }
 {
@@ -123,7 +124,7 @@ fn nodes_beside(tree: &Tree, depth: u8, pieces: &[Piece]) -> Nodes
 /// Writes neighboring places as pieces, from one place on. Which digest they show is left open: the
 /// intervals beside them don't depend on it.
 fn put_places(from: u16, digest: Digest, pieces: &mut [Piece])
-    requires { from + length pieces.old ≤ 256 }
+    requires { from + length pieces.old ≤ most_leaves }
     ensures { shown pieces.new ≡ digests_from from (replicate (length pieces.old) digest) }
 {
     for i in 0..pieces.len() {
@@ -200,7 +201,7 @@ pub fn make_absent(tree: &Tree, pos: u16) -> Absent
 /// Writes neighboring intervals as pieces, from one place on. Which digests they show is left open:
 /// the intervals beside them don't depend on it.
 fn put_sizes(from: u16, sizes: &[u16], digest: Digest, pieces: &mut [Piece])
-    requires places { AreAligned from 256 sizes.now }
+    requires places { AreAligned from most_leaves sizes.now }
     requires room { length sizes.now ≡ length pieces.old }
     ensures { shown pieces.new ≡
         intervals_from from sizes.now (replicate (length sizes.now) digest) }
@@ -258,8 +259,8 @@ pub fn making_laws()
         (is_in_order (whole depth names shares) ≡ true) }
 
     // The same as the first for neighboring subtrees.
-    ensures subtrees { (depth from : ℕ) (leaves : List Digest) (sizes : List ℕ) → depth ≤ 8 →
-        AreAligned from (2 ^ depth) sizes → HasOrderedJoins leaves 0 depth →
+    ensures subtrees { (depth from : ℕ) (leaves : List Digest) (sizes : List ℕ) →
+        depth ≤ most_depth → AreAligned from (2 ^ depth) sizes → HasOrderedJoins leaves 0 depth →
         Opens depth (subtrees leaves from sizes)
         (spans leaves (outside depth 0 (subtrees leaves from sizes))) (span leaves 0 depth) }
 

@@ -3,6 +3,7 @@
 
 ghost use Rattle.std.specs.Prelude.{◌≡◌, ◌<◌, ◌≤◌, ◌+◌, ℕ, length, take, IsTrue, IsOk, IsErrOf, ◌↔◌, None, Some, true, false};
 ghost use Rattle.namespace_id.specs.Answers.{refusal_in};
+ghost use Rattle.namespace_id.specs.Sizes.{most_leaves};
 ghost use Rattle.nmt_tree.specs.Roots.{is_leaf_count, halvings};
 ghost use Rattle.nmt_proofs.specs.Openings.{outside, has_count, has_order, has_root, Opens, one_leaf, one_digest, leaves_from, leaves_at, intervals_from, shadow};
 ghost use Rattle.nmt_proofs.specs.Places.{AreAscending, AreAligned};
@@ -81,7 +82,7 @@ fn open_complete(
 
 /// Writes the leaves of one namespace as pieces, from one place on.
 fn put_leaves(from: u16, name: &Namespace, shares: &[Share], pieces: &mut [Piece])
-    requires places { from + length shares.now ≤ 256 }
+    requires places { from + length shares.now ≤ most_leaves }
     requires room { length shares.now ≤ length pieces.old }
     ensures { shown (take (length shares.now) pieces.new) ≡
         shadow (leaves_from from name.now shares.now) }
@@ -115,7 +116,7 @@ fn put_set(places: &[u16], names: &[Namespace], shares: &[Share], pieces: &mut [
 /// Writes neighboring intervals as pieces, from one place on.
 fn put_intervals(from: u16, sizes: &[u16], digests: &[Digest], pieces: &mut [Piece])
     requires digests { length digests.now ≡ length sizes.now }
-    requires places { AreAligned from 256 sizes.now }
+    requires places { AreAligned from most_leaves sizes.now }
     requires room { length sizes.now ≤ length pieces.old }
     ensures { shown (take (length sizes.now) pieces.new) ≡
         intervals_from from sizes.now digests.now }
@@ -133,8 +134,8 @@ fn put_intervals(from: u16, sizes: &[u16], digests: &[Digest], pieces: &mut [Pie
 
 /// Verifies an NMT inclusion proof of one leaf: whether the nodes open the leaf over `share`, with
 /// namespace `name`, at place `pos` of `n` leaves under the root. `n` is a power of two, at most
-/// 256, and `pos` is below it; the nodes are the digests of the greatest subtrees that don't hold
-/// the place, left to right, as many as `n` has halvings.
+/// `MOST_LEAVES`, and `pos` is below it; the nodes are the digests of the greatest subtrees that
+/// don't hold the place, left to right, as many as `n` has halvings.
 ///
 /// Refuses another number of nodes, then a join that is not ordered, then another root. It takes no
 /// memory.
@@ -177,9 +178,9 @@ pub fn open_leaf(
 
 /// Verifies an NMT range proof: whether the nodes open the neighboring leaves over `shares`, all with
 /// namespace `name`, from place `from` on of `n` leaves under the root, and leave no other place for
-/// that namespace. `n` is a power of two, at most 256; there is a share, and their places are below
-/// `n`. The nodes are the digests of the greatest subtrees that hold no place of the range, left to
-/// right.
+/// that namespace. `n` is a power of two, at most `MOST_LEAVES`; there is a share, and their places
+/// are below `n`. The nodes are the digests of the greatest subtrees that hold no place of the range,
+/// left to right.
 ///
 /// Refuses another number of nodes, then a join that is not ordered, then another root, then the
 /// first node that leaves a place: left of the range its greatest namespace is not below `name`, or
@@ -225,7 +226,7 @@ pub fn open_range(
 
 /// Verifies an NMT absence proof: whether the nodes open a digest at place `pos` of `n`
 /// leaves under the root, and leave no place for the namespace `name`. `n` is a power of two, at most
-/// 256, and `pos` is below it; the nodes are as for `open_leaf`.
+/// `MOST_LEAVES`, and `pos` is below it; the nodes are as for `open_leaf`.
 ///
 /// Refuses another number of nodes, then a join that is not ordered, then another root, then the
 /// first node that leaves a place: left of the place its greatest namespace is not below `name`, or
@@ -280,8 +281,8 @@ pub fn open_absent(
 
 /// Verifies one NMT inclusion proof of several leaves: whether the nodes open the leaves over `shares`,
 /// each with its namespace of `names`, at their places of `n` leaves under the root. `n` is a power of
-/// two, at most 256. The places ascend, there is one at least, and each is below `n`. The nodes are the
-/// digests of the greatest subtrees that hold none of the places, left to right.
+/// two, at most `MOST_LEAVES`. The places ascend, there is one at least, and each is below `n`. The
+/// nodes are the digests of the greatest subtrees that hold none of the places, left to right.
 ///
 /// Refuses another number of nodes, then a join that is not ordered, then another root. It takes no
 /// memory.
@@ -326,9 +327,10 @@ pub fn open_set(
 }
 
 /// Verifies an NMT proof of neighboring subtrees: whether the nodes open their digests, from place `from`
-/// on of `n` leaves, under the root. `n` is a power of two, at most 256. Each subtree has a power of two
-/// of places, and begins at a multiple of that; there is one at least, and they end at or before `n`. The
-/// nodes are the digests of the greatest subtrees that hold no place of theirs, left to right.
+/// on of `n` leaves, under the root. `n` is a power of two, at most `MOST_LEAVES`. Each subtree has a
+/// power of two of places, and begins at a multiple of that; there is one at least, and they end at or
+/// before `n`. The nodes are the digests of the greatest subtrees that hold no place of theirs, left to
+/// right.
 ///
 /// Refuses another number of nodes, then a join that is not ordered, then another root. It takes no
 /// memory.

@@ -10,6 +10,7 @@
 //! not known.
 
 ghost use Rattle.std.specs.Prelude.{◌≡◌, ◌<◌, ◌≤◌, ◌+◌, ◌*◌, ◌^◌, ◌↔◌, ℕ, length, IsTrue, IsOk, IsErrOf, IfOk, IfSome, Some, None, true, false, if◌then◌else◌};
+ghost use Rattle.namespace_id.specs.Sizes.{most_depth, most_leaves};
 ghost use Rattle.nmt_tree.specs.Digests.{is_ordered_join, leaf_digest, node_digest};
 ghost use Rattle.nmt_tree.specs.Roots.{is_leaf_count, halvings};
 ghost use Rattle.nmt_proofs.specs.Parts.{ordered_digest};
@@ -81,7 +82,7 @@ fn put(nodes: &mut [Node], depth: u8, i: usize, digest: &Digest)
 /// Whether these digests are the ones that are kept of the halves of a node.
 fn has_halves(nodes: &[Node], i: usize, left: &Digest, right: &Digest) -> bool
     requires bound { 2 * i + 1 < length nodes.now }
-    requires memory { length nodes.now ≤ 512 }
+    requires memory { length nodes.now ≤ 2 * most_leaves }
     ensures left { result ≡ true → left.now ≡ digest_at nodes.now (2 * i) }
     ensures right { result ≡ true → right.now ≡ digest_at nodes.now (2 * i + 1) }
 {
@@ -115,7 +116,7 @@ fn known_node(
     right: &Digest,
 ) -> Option<Digest>
     requires bound { 2 * i + 1 < length nodes.now }
-    requires memory { length nodes.now ≤ 512 }
+    requires memory { length nodes.now ≤ 2 * most_leaves }
     requires joined { AreJoined nodes.now }
     ensures { result ≡ (if is_ordered_join left.now right.now then Some (node_digest left.now right.now) else None) }
 {
@@ -137,10 +138,10 @@ fn fold_anew(
     path: &[Digest],
 ) -> Option<Digest>
     requires place { 0 < i }
-    requires depth { depth ≤ 8 }
-    requires interval { start + 2 ^ depth ≤ 256 }
+    requires depth { depth ≤ most_depth }
+    requires interval { start + 2 ^ depth ≤ most_leaves }
     requires bound { (i + 1) * 2 ^ depth ≤ length nodes.old }
-    requires memory { length nodes.old ≤ 512 }
+    requires memory { length nodes.old ≤ 2 * most_leaves }
     requires count { length path.now ≡ depth }
     requires joined { AreJoined nodes.old }
     ensures value { result ≡ ordered_digest (opened depth start
@@ -180,11 +181,11 @@ fn learn(
     path: &[Digest],
 ) -> Option<Digest>
     requires place { 0 < i }
-    requires depth { depth ≤ 8 }
+    requires depth { depth ≤ most_depth }
     requires deep { 0 < depth }
-    requires interval { start + 2 ^ depth ≤ 256 }
+    requires interval { start + 2 ^ depth ≤ most_leaves }
     requires bound { (i + 1) * 2 ^ depth ≤ length nodes.old }
-    requires memory { length nodes.old ≤ 512 }
+    requires memory { length nodes.old ≤ 2 * most_leaves }
     requires count { length path.now ≡ depth }
     requires joined { AreJoined nodes.old }
     ensures value { result ≡ ordered_digest (opened depth start
@@ -213,10 +214,10 @@ fn fold(
     path: &[Digest],
 ) -> Option<Digest>
     requires place { 0 < i }
-    requires depth { depth ≤ 8 }
-    requires interval { start + 2 ^ depth ≤ 256 }
+    requires depth { depth ≤ most_depth }
+    requires interval { start + 2 ^ depth ≤ most_leaves }
     requires bound { (i + 1) * 2 ^ depth ≤ length nodes.old }
-    requires memory { length nodes.old ≤ 512 }
+    requires memory { length nodes.old ≤ 2 * most_leaves }
     requires count { length path.now ≡ depth }
     requires joined { AreJoined nodes.old }
     ensures value { result ≡ ordered_digest (opened depth start
@@ -291,7 +292,7 @@ fn open_under(
 }
 
 /// The digests of a namespaced Merkle tree (NMT) that samples have shown under its root. The tree
-/// has a power of two of leaves, from 1 to 256.
+/// has a power of two of leaves, from 1 to `MOST_LEAVES`.
 ///
 /// They make the verification of many openings under one root cheaper, and decide nothing: what
 /// contracts see is the number of leaves and the root.
@@ -316,7 +317,7 @@ impl Model for PartialTree {
 }
 
 impl PartialTree {
-    /// The root alone, of a tree of `n` leaves, a power of two from 1 to 256. It takes all memory at
+    /// The root alone, of a tree of `n` leaves, a power of two from 1 to `MOST_LEAVES`. It takes all memory at
     /// its start, 2n nodes of 91 bytes, and refuses only where there is none.
     pub fn new(alloc: Global, n: u16, root: &Digest) -> Result<PartialTree, NoMemory>
         requires { IsTrue (is_leaf_count n) }

@@ -1,10 +1,11 @@
 -- The nodes made for neighboring leaves.
-use Rattle.std.proofs.Common.{◌≡◌, ◌∙◌, ℕ, zero, suc, ◌+◌, ◌^◌, ◌<◌, ◌≤◌, List, [], ◌∷◌, ◌++◌, length, take, drop, get_or, replicate, None, refl, sym, ap, ap₂, subst, arith, length-drop}
+use Rattle.std.proofs.Common.{◌≡◌, ◌∙◌, ℕ, zero, suc, ◌+◌, ◌*◌, ◌^◌, ◌<◌, ◌≤◌, List, [], ◌∷◌, ◌++◌, length, take, drop, get_or, replicate, None, refl, sym, ap, ap₂, subst, arith, length-drop}
 use Rattle.std.proofs.lemmas.List.{map-append, length-replicate, length-take-le}
 use Rattle.namespace_id.specs.declared.namespaces.Namespace.{Namespace}
 use Rattle.namespace_id.specs.declared.shares.Share.{Share}
 use Rattle.namespace_id.specs.declared.digests.Digest.{Digest}
 use Rattle.namespace_id.specs.Digests.{no_digest}
+use Rattle.namespace_id.specs.Sizes.{most_depth}
 use Rattle.nmt_tree.specs.Digests.{leaf_digest}
 use Rattle.nmt_tree.specs.Levels.{leaf_digests, span, HasOrderedJoins}
 use Rattle.nmt_proofs.specs.declared.joining.Piece.{Piece}
@@ -45,9 +46,9 @@ places_of : (from count : ℕ) (room ps : List Piece) (digest : Digest) → coun
     → shown ps ≡ digests_from from (replicate count digest)
 places_of from count room ps digest fits e = e ∙ ap (λ (k : ℕ). digests_from from (replicate k digest)) (length-take-le count room fits)
 
--- neighboring places leave out at most 16 intervals of up to 256 leaves
-pub few_beside : (d from count : ℕ) (room ps : List Piece) (digest : Digest) → d ≤ 8 → 0 < count → from + count ≤ 2 ^ d → count ≤ length room
-    → shown ps ≡ digests_from from (replicate (length (take count room)) digest) → length (outside d 0 (shown ps)) ≤ 16
+-- neighboring places leave out at most two intervals a level
+pub few_beside : (d from count : ℕ) (room ps : List Piece) (digest : Digest) → d ≤ most_depth → 0 < count → from + count ≤ 2 ^ d → count ≤ length room
+    → shown ps ≡ digests_from from (replicate (length (take count room)) digest) → length (outside d 0 (shown ps)) ≤ 2 * most_depth
 few_beside d from count room ps digest deep some fits room_fits e =
     let ss : List Shown = digests_from from (replicate count digest) in
     let len : length ss ≡ count = length-digests_from from (replicate count digest) ∙ length-replicate count digest in

@@ -7,6 +7,7 @@ use Rattle.namespace_id.specs.declared.namespaces.Namespace.{Namespace}
 use Rattle.namespace_id.specs.declared.shares.Share.{Share}
 use Rattle.namespace_id.specs.declared.digests.Digest.{Digest}
 use Rattle.namespace_id.specs.Digests.{no_digest}
+use Rattle.namespace_id.specs.Sizes.{most_depth}
 use Rattle.nmt_tree.specs.Digests.{leaf_digest, node_digest}
 use Rattle.nmt_tree.specs.Roots.{halvings, root}
 use Rattle.nmt_tree.specs.Levels.{leaf_digests, span}
@@ -47,7 +48,7 @@ none_left from high (s ∷ ss) h le = absurd (omega (arith, tiled-le IsAny (from
 -- ---- what agrees with a list
 
 -- the subtree that is the whole interval is the list's
-whole_of : (d st from : ℕ) (ns : List Namespace) (ss : List Share) (s : Shown) (xs : List Shown) → d ≤ 8 → st ≤ from → IsTiled IsAny from (st + 2 ^ d) (s ∷ xs) → s.size ≡ 2 ^ d
+whole_of : (d st from : ℕ) (ns : List Namespace) (ss : List Share) (s : Shown) (xs : List Shown) → d ≤ most_depth → st ≤ from → IsTiled IsAny from (st + 2 ^ d) (s ∷ xs) → s.size ≡ 2 ^ d
     → Agree s.part (whole d (drop st ns) (drop st ss)) → AllByRecursion (IsOf (leaf_digests ns ss)) (s ∷ xs)
 whole_of d st from ns ss s xs deep low h e a =
     let within : from + s.size ≤ st + 2 ^ d = tiled-le IsAny (from + s.size) (st + 2 ^ d) xs h.4 in
@@ -59,7 +60,7 @@ whole_of d st from ns ss s xs deep low h e a =
     )
 
 -- where what is opened agrees with a list, each subtree is the list's, and so are the nodes
-pub agreed_tiles : (d st : ℕ) (ns : List Namespace) (ss : List Share) (xs : List Shown) (nodes : List Digest) → d ≤ 8 → st % 2 ^ d ≡ 0 → IsTiledIn IsAny st (st + 2 ^ d) xs
+pub agreed_tiles : (d st : ℕ) (ns : List Namespace) (ss : List Share) (xs : List Shown) (nodes : List Digest) → d ≤ most_depth → st % 2 ^ d ≡ 0 → IsTiledIn IsAny st (st + 2 ^ d) xs
     → length nodes ≡ length (outside d st xs)
     → Agree (opened d st xs nodes) (whole d (drop st ns) (drop st ss))
     → AllByRecursion (IsOf (leaf_digests ns ss)) xs × (nodes ≡ spans (leaf_digests ns ss) (outside d st xs))
@@ -121,7 +122,7 @@ intervals_of leaves from (size ∷ sizes) [] e h = absurd (omega (arith, e))
 intervals_of leaves from (size ∷ sizes) (digest ∷ digests) e h = ap₂ (λ (x : Digest) (l : List Digest). x ∷ l) h.0 (intervals_of leaves (from + size) sizes digests (omega (arith, e)) h.1)
 
 -- subtrees that agree with a list are the list's, and so are their nodes
-pub subtrees_agreed : (d from : ℕ) (sizes : List ℕ) (digests nodes : List Digest) (ns : List Namespace) (ss : List Share) → d ≤ 8
+pub subtrees_agreed : (d from : ℕ) (sizes : List ℕ) (digests nodes : List Digest) (ns : List Namespace) (ss : List Share) → d ≤ most_depth
     → IsOpening d (intervals_from from sizes digests) nodes → AreAligned from (2 ^ d) sizes → length digests ≡ length sizes
     → Agree (opened d 0 (intervals_from from sizes digests) nodes) (whole d ns ss)
     → (digests ≡ interval_digests (leaf_digests ns ss) from sizes) × (nodes ≡ spans (leaf_digests ns ss) (outside d 0 (intervals_from from sizes digests)))
@@ -134,7 +135,7 @@ subtrees_agreed d from sizes digests nodes ns ss deep h aligned count same =
     (intervals_of (leaf_digests ns ss) from sizes digests count both.0, both.1)
 
 -- the law of subtrees under the root of a list
-pub subtrees_law : (d from : ℕ) (sizes : List ℕ) (digests nodes : List Digest) (ns : List Namespace) (ss : List Share) → d ≤ 8
+pub subtrees_law : (d from : ℕ) (sizes : List ℕ) (digests nodes : List Digest) (ns : List Namespace) (ss : List Share) → d ≤ most_depth
     → IsOpening d (intervals_from from sizes digests) nodes → AreAligned from (2 ^ d) sizes → length digests ≡ length sizes → AreLeaves d ns ss
     → digest_of (opened d 0 (intervals_from from sizes digests) nodes) ≡ root d ns ss
     → ClashOr (opened d 0 (intervals_from from sizes digests) nodes) (whole d ns ss)

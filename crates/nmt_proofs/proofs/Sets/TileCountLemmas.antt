@@ -1,10 +1,11 @@
 -- How many intervals neighboring subtrees leave out.
-use Rattle.std.proofs.Common.{◌≡◌, ◌∙◌, ℕ, zero, suc, ◌+◌, ◌-◌, ◌%◌, ◌^◌, ◌<◌, ◌≤◌, List, [], ◌∷◌, ◌++◌, length, map, take, drop, Bool, true, false, cond, ltb, IsTrue, refl, sym, ap, subst, inl, inr, arith, length-append}
+use Rattle.std.proofs.Common.{◌≡◌, ◌∙◌, ℕ, zero, suc, ◌+◌, ◌*◌, ◌-◌, ◌%◌, ◌^◌, ◌<◌, ◌≤◌, List, [], ◌∷◌, ◌++◌, length, map, take, drop, Bool, true, false, cond, ltb, IsTrue, refl, sym, ap, subst, inl, inr, arith, length-append}
 use Rattle.std.proofs.lemmas.Bool.{cases_Bool, cases_lt, eq-eqb, ltb-true, ltb-false, le-ltb, lt-ltb}
 use Rattle.std.proofs.lemmas.Nat.{pow_pos}
 use Rattle.std.proofs.Math.Nat.{pow-suc}
 use Rattle.namespace_id.specs.declared.digests.Digest.{Digest}
 use Rattle.namespace_id.specs.Digests.{no_digest}
+use Rattle.namespace_id.specs.Sizes.{most_depth}
 use Rattle.nmt_tree.specs.Roots.{is_leaf_count}
 use Rattle.nmt_tree.proofs.CountLemmas.{leaf_count-pos}
 use Rattle.nmt_proofs.specs.Parts.{Part, given}
@@ -68,15 +69,15 @@ one_outside : (d st : ℕ) (ss : List Shown) → ss ≡ [] → length (outside d
 one_outside d st ss e = ap (λ (l : List Shown). length (outside d st l)) e ∙ ap length (outside_empty d st)
 
 -- a row that begins before the middle of an interval that is none of it
-head_cut : (d st low high : ℕ) (s : Shown) (ss : List Shown) → suc d ≤ 8 → st % 2 ^ suc d ≡ 0 → s.size < 2 ^ suc d → st ≤ low → high ≤ st + 2 ^ suc d → low < st + 2 ^ d
+head_cut : (d st low high : ℕ) (s : Shown) (ss : List Shown) → suc d ≤ most_depth → st % 2 ^ suc d ≡ 0 → s.size < 2 ^ suc d → st ≤ low → high ≤ st + 2 ^ suc d → low < st + 2 ^ d
     → IsRow low high (s ∷ ss) → 2 ^ suc d ≡ 2 ^ d + 2 ^ d → IsCut low (st + 2 ^ d) high (s ∷ ss)
 unfolding begun
 head_cut d st low high s ss deep aligned small lo hi before row twice =
     let m : ℕ = st + 2 ^ d in
-    let first : low + s.size ≤ m = ends_in_half d st low s.size deep aligned row.1 row.2 small before in
+    let first : low + s.size ≤ m = ends_in_half d st low s.size aligned row.1 row.2 small before in
     let some : 0 < s.size = leaf_count-pos s.size row.1 in
     let rest : IsCut (low + s.size) m high ss =
-    row-cut (st + 1) m high (λ f z at count begins fits lt. ends_in_half d st f z deep aligned count begins (omega (arith, at, fits, hi)) lt)
+    row-cut (st + 1) m high (λ f z at count begins fits lt. ends_in_half d st f z aligned count begins (omega (arith, at, fits, hi)) lt)
     (low + s.size) ss (omega (arith, lo, some)) first row.3 in
     let here : ltb s.from m ≡ true = lt-ltb s.from m (omega (arith, before, row.0)) in
     let Goal : Bool → Type 0 = λ b. (high ≤ m → (take (cond b (suc (begun m ss)) 0) (s ∷ ss) ≡ s ∷ ss) × (drop (cond b (suc (begun m ss)) 0) (s ∷ ss) ≡ []))
@@ -88,7 +89,7 @@ head_cut d st low high s ss deep aligned small lo hi before row twice =
     record { all = both.0; cut = both.1 }
 
 -- a row leaves out at most one interval a level on either side, and none where it reaches that end
-pub row_few : (a b d st low high : ℕ) (ss : List Shown) → d ≤ 8 → st % 2 ^ d ≡ 0 → low < high → st ≤ low → high ≤ st + 2 ^ d → IsRow low high ss
+pub row_few : (a b d st low high : ℕ) (ss : List Shown) → d ≤ most_depth → st % 2 ^ d ≡ 0 → low < high → st ≤ low → high ≤ st + 2 ^ d → IsRow low high ss
     → (st < low → d ≤ a) → (high < st + 2 ^ d → d ≤ b) → length (outside d st ss) ≤ a + b
 unfolding outside is_interval
 row_few a b d st low high [] deep aligned some lo hi row left right = absurd (omega (arith, row, some))
@@ -159,8 +160,8 @@ ends_behind : (from high : ℕ) (sizes : List ℕ) → AreAligned from high size
 ends_behind from high [] h = omega arith
 ends_behind from high (z ∷ sizes) h = let rest = ends_behind (from + z) high sizes h.2 in omega (arith, rest)
 
--- so they leave out at most 16 intervals of up to 256 leaves
-pub intervals_few : (d from : ℕ) (sizes : List ℕ) (ds : List Digest) → d ≤ 8 → 0 < length sizes → length ds ≡ length sizes → AreAligned from (2 ^ d) sizes → length (outside d 0 (intervals_from from sizes ds)) ≤ 16
+-- so they leave out at most two intervals a level
+pub intervals_few : (d from : ℕ) (sizes : List ℕ) (ds : List Digest) → d ≤ most_depth → 0 < length sizes → length ds ≡ length sizes → AreAligned from (2 ^ d) sizes → length (outside d 0 (intervals_from from sizes ds)) ≤ 2 * most_depth
 intervals_few d from [] ds deep some e h = absurd (omega arith)
 intervals_few d from (z ∷ sizes) ds deep some e h =
     let behind : from < end_of from (z ∷ sizes) = omega (arith, leaf_count-pos z h.0, ends_behind (from + z) (2 ^ d) sizes h.2) in

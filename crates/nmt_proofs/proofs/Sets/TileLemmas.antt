@@ -1,17 +1,18 @@
 -- Neighboring subtrees: the digests of the intervals outside open them.
-use Rattle.std.proofs.Common.{◌≡◌, ◌∙◌, ℕ, zero, suc, ◌+◌, ◌-◌, ◌*◌, ◌/◌, ◌%◌, ◌^◌, ◌<◌, ◌≤◌, List, [], ◌∷◌, ◌++◌, length, take, drop, Bool, true, false, cond, ltb, ◌==◌, IsTrue, refl, sym, ap, ap₂, subst, inl, inr, arith}
-use Rattle.std.proofs.lemmas.Bool.{cases_Bool, cases_lt, eq-eqb, eqb-true, ltb-true, ltb-false, lt-ltb}
+use Rattle.std.proofs.Common.{◌≡◌, ◌∙◌, ℕ, zero, suc, ◌+◌, ◌-◌, ◌*◌, ◌/◌, ◌%◌, ◌^◌, ◌<◌, ◌≤◌, List, [], ◌∷◌, ◌++◌, length, take, drop, Bool, true, false, cond, ltb, IsTrue, refl, sym, ap, ap₂, subst, inl, inr, arith}
+use Rattle.std.proofs.lemmas.Bool.{cases_Bool, cases_lt, eq-eqb, eqb-true, ltb-true, ltb-false}
 use Rattle.std.proofs.lemmas.List.{map-append, length-map}
-use Rattle.std.proofs.lemmas.Nat.{div-add-mod'}
+use Rattle.std.proofs.lemmas.Nat.{div-add-mod', pow-add}
 use Rattle.std.proofs.lemmas.Slice.Eq.{bytes_eq-Decides}
 use Rattle.std.proofs.Math.Nat.{pow-suc, mul_assoc, mul-mod_left, mul-le-mul_right}
+use Rattle.std.proofs.Math.Pow.{pow_mono}
 use Rattle.namespace_id.specs.declared.digests.Digest.{Digest}
 use Rattle.namespace_id.proofs.StringLemmas.{front, behind}
-use Rattle.namespace_id.proofs.TestLemmas.{passes_below, passes_below-at, where_holds, where_holds-true}
+use Rattle.namespace_id.specs.Sizes.{most_depth}
 use Rattle.nmt_tree.specs.Digests.{node_digest, is_ordered_join}
 use Rattle.nmt_tree.specs.Roots.{is_leaf_count, halvings}
 use Rattle.nmt_tree.specs.Levels.{span, HasOrderedJoins}
-use Rattle.nmt_tree.proofs.CountLemmas.{leaf_count-le, leaf_count-pos, leaf_count_power}
+use Rattle.nmt_tree.proofs.CountLemmas.{leaf_count-pos, leaf_count_power, power_halvings}
 use Rattle.nmt_proofs.specs.Parts.{Part, join, digest_of, is_in_order}
 use Rattle.nmt_proofs.specs.Openings.{Shown, begun, is_interval, outside, opened, intervals_from, Opens}
 use Rattle.nmt_proofs.specs.Places.{AreAligned}
@@ -42,25 +43,26 @@ twice_multiple m w z em ew =
     let ws : w ≡ b * z = sym (omega (arith, div-add-mod' w z, ew)) in
     ap (λ (k : ℕ). k % z) (ms ∙ ap (λ (k : ℕ). a * k) ws ∙ sym (mul_assoc a b z)) ∙ mul-mod_left (a * b) z
 
--- a test of all sizes and depths
-halves_test : passes_below 8 (λ d. passes_below 257 (λ z. where_holds (is_leaf_count z) (where_holds (ltb z (2 ^ suc d)) (2 ^ d % z == 0)))) ≡ true
-unfolding passes_below
-halves_test = refl
-
 -- a subtree that is smaller than an interval divides its half
-divides_half : (d z : ℕ) → suc d ≤ 8 → IsTrue (is_leaf_count z) → z < 2 ^ suc d → 2 ^ d % z ≡ 0
-divides_half d z deep count small =
-    let all = passes_below-at 8 (λ n. passes_below 257 (λ y. where_holds (is_leaf_count y) (where_holds (ltb y (2 ^ suc n)) (2 ^ n % y == 0)))) halves_test d (omega (arith, deep)) in
-    let one = passes_below-at 257 (λ y. where_holds (is_leaf_count y) (where_holds (ltb y (2 ^ suc d)) (2 ^ d % y == 0))) all z (omega (arith, leaf_count-le z count)) in
-    eqb-true _ _ (where_holds-true _ _ (where_holds-true _ _ one count) (lt-ltb z (2 ^ suc d) small))
+divides_half : (d z : ℕ) → IsTrue (is_leaf_count z) → z < 2 ^ suc d → 2 ^ d % z ≡ 0
+divides_half d z count small =
+    let h : ℕ = halvings z in
+    let power : 2 ^ h ≡ z = power_halvings z count in
+    let less : h ≤ d = elim (cases_lt d h) [
+      | inl above ↦ let next : suc d ≤ h = omega (arith, above) in let more : 2 ^ suc d ≤ 2 ^ h = pow_mono next in absurd (omega (arith, more, power, small))
+      | inr within ↦ within
+    ] in
+    let sum : d ≡ d - h + h = omega (arith, less) in
+    let times : 2 ^ d ≡ 2 ^ (d - h) * z = ap (λ (n : ℕ). 2 ^ n) sum ∙ pow-add 2 (d - h) h ∙ ap (λ (n : ℕ). 2 ^ (d - h) * n) power in
+    ap (λ (n : ℕ). n % z) times ∙ mul-mod_left (2 ^ (d - h)) z
 
 -- a subtree that begins before the middle ends at or before it
-pub ends_in_half : (d st f z : ℕ) → suc d ≤ 8 → st % 2 ^ suc d ≡ 0 → IsTrue (is_leaf_count z) → f % z ≡ 0 → z < 2 ^ suc d → f < st + 2 ^ d → f + z ≤ st + 2 ^ d
-ends_in_half d st f z deep aligned count begins small lt =
+pub ends_in_half : (d st f z : ℕ) → st % 2 ^ suc d ≡ 0 → IsTrue (is_leaf_count z) → f % z ≡ 0 → z < 2 ^ suc d → f < st + 2 ^ d → f + z ≤ st + 2 ^ d
+ends_in_half d st f z aligned count begins small lt =
     let low : suc d - 1 ≡ d = omega arith in
     let half : (st + 2 ^ d) % 2 ^ d ≡ 0 =
     ap (λ (n : ℕ). (st + 2 ^ d) % 2 ^ n) (sym low) ∙ right_aligned (suc d) st (st + 2 ^ d) (omega arith) aligned (ap (λ (n : ℕ). st + 2 ^ n) (sym low)) in
-    next_multiple f (st + 2 ^ d) z begins (twice_multiple (st + 2 ^ d) (2 ^ d) z half (divides_half d z deep count small)) lt
+    next_multiple f (st + 2 ^ d) z begins (twice_multiple (st + 2 ^ d) (2 ^ d) z half (divides_half d z count small)) lt
 
 -- ---- subtrees side by side
 
@@ -103,7 +105,7 @@ pub record TiledHalves (P : Shown → Type 0) (d st : ℕ) (ss : List Shown) : T
   pub left : IsTiledIn P st (st + 2 ^ d) (take (begun (st + 2 ^ d) ss) ss)
   pub right : IsTiledIn P (st + 2 ^ d) (st + 2 ^ d + 2 ^ d) (drop (begun (st + 2 ^ d) ss) ss)
 
-pub tiled-halves : (P : Shown → Type 0) (d st from : ℕ) (s : Shown) (ss : List Shown) → suc d ≤ 8 → st % 2 ^ suc d ≡ 0 → st ≤ from → IsTiled P from (st + 2 ^ suc d) (s ∷ ss)
+pub tiled-halves : (P : Shown → Type 0) (d st from : ℕ) (s : Shown) (ss : List Shown) → suc d ≤ most_depth → st % 2 ^ suc d ≡ 0 → st ≤ from → IsTiled P from (st + 2 ^ suc d) (s ∷ ss)
     → is_interval (suc d) s ≡ false → TiledHalves P d st (s ∷ ss)
 unfolding begun is_interval
 tiled-halves P d st from s ss deep aligned low h whole =
@@ -118,9 +120,9 @@ tiled-halves P d st from s ss deep aligned low h whole =
     let both : Goal (ltb s.from m) = elim (cases_Bool (ltb s.from m)) [
       | inl t ↦
           let lt : from < m = omega (arith, ltb-true s.from m t, h.0) in
-          let first : from + s.size ≤ m = ends_in_half d st from s.size deep aligned h.1 h.2 small lt in
+          let first : from + s.size ≤ m = ends_in_half d st from s.size aligned h.1 h.2 small lt in
           let rest = tiled-split P (st + 1) m (m + 2 ^ d)
-          (λ f z lo count begins fits before. ends_in_half d st f z deep aligned count begins (omega (arith, lo, fits, end)) before)
+          (λ f z lo count begins fits before. ends_in_half d st f z aligned count begins (omega (arith, lo, fits, end)) before)
           (omega arith) (from + s.size) ss (omega (arith, low, some)) first (subst (λ (n : ℕ). IsTiled P (from + s.size) n ss) end h.4) in
           subst Goal (sym t) (record { from = from; behind_low = low; tiled = (h.0, h.1, h.2, h.3, rest.0) }, rest.1)
       | inr past ↦
@@ -143,7 +145,7 @@ abbrev pub IsMadeOf : List Digest → Shown → Type 0
 IsMadeOf leaves s = IsOf leaves s × (is_in_order s.part ≡ true)
 
 -- the subtree that is the whole interval
-made_whole : (leaves : List Digest) (d st from : ℕ) (s : Shown) (ss : List Shown) → d ≤ 8 → st ≤ from → IsTiled (IsMadeOf leaves) from (st + 2 ^ d) (s ∷ ss) → s.size ≡ 2 ^ d
+made_whole : (leaves : List Digest) (d st from : ℕ) (s : Shown) (ss : List Shown) → d ≤ most_depth → st ≤ from → IsTiled (IsMadeOf leaves) from (st + 2 ^ d) (s ∷ ss) → s.size ≡ 2 ^ d
     → (digest_of s.part ≡ span leaves st d) × (is_in_order s.part ≡ true)
 made_whole leaves d st from s ss deep low h e =
     let within : from + s.size ≤ st + 2 ^ d = tiled-le (IsMadeOf leaves) (from + s.size) (st + 2 ^ d) ss h.4 in
@@ -155,7 +157,7 @@ pub whole_size : (d : ℕ) (s : Shown) → is_interval (suc d) s ≡ true → s.
 unfolding is_interval
 whole_size d s t = eqb-true s.size (2 ^ suc d) t
 
-made_tiles : (leaves : List Digest) (d st : ℕ) (ss : List Shown) → d ≤ 8 → st % 2 ^ d ≡ 0 → IsTiledIn (IsMadeOf leaves) st (st + 2 ^ d) ss → HasOrderedJoins leaves st d
+made_tiles : (leaves : List Digest) (d st : ℕ) (ss : List Shown) → d ≤ most_depth → st % 2 ^ d ≡ 0 → IsTiledIn (IsMadeOf leaves) st (st + 2 ^ d) ss → HasOrderedJoins leaves st d
     → IsMade leaves d st (opened d st ss (spans leaves (outside d st ss)))
 unfolding opened outside HasOrderedJoins span
 made_tiles leaves zero st [] deep aligned of j = record { digest = refl; order = refl }
@@ -208,7 +210,7 @@ pub zero_mod : (n : ℕ) → 0 % n ≡ 0
 zero_mod n = let none : 0 ≡ 0 * n = omega arith in ap (λ (k : ℕ). k % n) none ∙ mul-mod_left 0 n
 
 -- are opened by the digests of the intervals outside
-pub intervals_open : (d from : ℕ) (leaves : List Digest) (sizes : List ℕ) → d ≤ 8 → AreAligned from (2 ^ d) sizes → HasOrderedJoins leaves 0 d
+pub intervals_open : (d from : ℕ) (leaves : List Digest) (sizes : List ℕ) → d ≤ most_depth → AreAligned from (2 ^ d) sizes → HasOrderedJoins leaves 0 d
     → Opens d (intervals_from from sizes (interval_digests leaves from sizes)) (spans leaves (outside d 0 (intervals_from from sizes (interval_digests leaves from sizes)))) (span leaves 0 d)
 intervals_open d from leaves sizes deep aligned joins =
     let ss : List Shown = intervals_from from sizes (interval_digests leaves from sizes) in

@@ -1,7 +1,8 @@
-use Rattle.std.proofs.Common.{◌≡◌, ◌∙◌, ◌^◌, ◌≤◌, ℕ, List, ap, ap₂, sym, subst, length, arith, Some, replicate}
+use Rattle.std.proofs.Common.{◌≡◌, ◌∙◌, ◌*◌, ◌^◌, ◌≤◌, ℕ, List, ap, ap₂, sym, subst, length, arith, Some, replicate}
 use Rattle.std.proofs.lemmas.Option.{MatchOption-at_some}
 use Rattle.std.proofs.lemmas.List.{length-replicate, length-take-le}
 use Rattle.namespace_id.specs.declared.digests.Digest.{Digest}
+use Rattle.namespace_id.specs.Sizes.{most_depth, most_leaves}
 use Rattle.nmt_tree.specs.Roots.{halvings}
 use Rattle.nmt_tree.specs.Levels.{span}
 use Rattle.nmt_tree.specs.Trees.{AreTreeLeaves}
@@ -27,15 +28,15 @@ put_sizes-requires-clause-room c = sym (length-take-le _ c.blank_pieces-pieces.r
 
 pub put_sizes-requires-clause-places : goal.put_sizes-requires-clause-places
 put_sizes-requires-clause-places c =
-    aligned_within c.args.from c.args.tree.now.count 256 c.args.sizes.now (leaf_count-le c.args.tree.now.count c.len.ensures.count) c.requires.places
+    aligned_within c.args.from c.args.tree.now.count most_leaves c.args.sizes.now (leaf_count-le c.args.tree.now.count c.len.ensures.count) c.requires.places
 
--- at most 16 intervals are left out
+-- at most two intervals a level are left out
 pub nodes_beside-requires-clause-few : goal.nodes_beside-requires-clause-few
 nodes_beside-requires-clause-few c =
     let depth : c.halvings-depth.result ≡ halvings c.args.tree.now.count = c.halvings-depth.ensures.value ∙ ap (λ (k : ℕ). halvings k) c.len.ensures.value in
     let power : c.args.tree.now.count ≡ 2 ^ halvings c.args.tree.now.count = sym (power_halvings c.args.tree.now.count c.len.ensures.count) in
-    subst (λ (n : ℕ). length (outside n 0 (shown c.put_sizes.new.pieces)) ≤ 16) (sym depth)
-    (subst (λ (ss : List _). length (outside (halvings c.args.tree.now.count) 0 ss) ≤ 16) (sym c.put_sizes.ensures)
+    subst (λ (n : ℕ). length (outside n 0 (shown c.put_sizes.new.pieces)) ≤ 2 * most_depth) (sym depth)
+    (subst (λ (ss : List _). length (outside (halvings c.args.tree.now.count) 0 ss) ≤ 2 * most_depth) (sym c.put_sizes.ensures)
     (intervals_few (halvings c.args.tree.now.count) c.args.from c.args.sizes.now (replicate (length c.args.sizes.now) _) (omega (arith, depth, c.halvings-depth.ensures.bound)) c.requires.some
     (length-replicate _ _) (subst (λ (n : ℕ). AreAligned c.args.from n c.args.sizes.now) power c.requires.places)))
 

@@ -1,5 +1,6 @@
 use Rattle.std.proofs.Common.{◌≡◌, ◌∙◌, ◌+◌, ◌<◌, ℕ, ap, ap₂, sym, refl, arith, length, take, List, get_or, replicate}
 use Rattle.std.proofs.lemmas.List.{take_more, take_more_set, length-take-le, length-replicate, replicate_more, take_all}
+use Rattle.namespace_id.specs.Sizes.{most_leaves}
 use Rattle.nmt_proofs.specs.Openings.{intervals_from}
 use Rattle.nmt_proofs.specs.Pieces.{shown}
 use Rattle.nmt_proofs.proofs.Sets.SetLemmas.{interval_more, next_end, aligned_end}
@@ -9,9 +10,9 @@ pub loop-i-init : goal.loop-i-init
 unfolding intervals_from
 loop-i-init c = record { so_far = refl; end = refl }
 
--- the next end is at most 256
+-- the next end is at most that of the greatest tree
 pub overflow_add-at : goal.overflow_add-at
-overflow_add-at c = omega (arith, next_end c.args.from c.loop-i.at c.args.sizes.now c.loop-i.i c.loop-i-test.true c.loop-i.invariant.end, aligned_end c.args.from 256 (c.loop-i.i + 1) c.args.sizes.now c.requires.places)
+overflow_add-at c = omega (arith, next_end c.args.from c.loop-i.at c.args.sizes.now c.loop-i.i c.loop-i-test.true c.loop-i.invariant.end, aligned_end c.args.from most_leaves (c.loop-i.i + 1) c.args.sizes.now c.requires.places)
 
 pub loop-i-preserved : goal.loop-i-preserved
 loop-i-preserved c =

@@ -1,5 +1,6 @@
 use Rattle.std.proofs.Common.{List, None, arith, subst, sym}
 use Rattle.std.proofs.lemmas.List.{length-take-le}
+use Rattle.namespace_id.specs.Sizes.{most_leaves}
 use Rattle.nmt_tree.specs.Roots.{halvings}
 use Rattle.nmt_tree.proofs.CountLemmas.{leaf_count-le}
 use Rattle.nmt_proofs.specs.Openings.{Shown, intervals_from, has_count, has_order, has_root}
@@ -9,10 +10,10 @@ use Rattle.nmt_proofs.proofs.Parts.PublicLemmas.{opens}
 use Rattle.nmt_proofs.proofs.Parts.CauseLemmas.{node_count, unordered, other_root, first_refusal, never_incomplete}
 use Rattle.nmt_proofs.proofs.opening.open_nodes.Goals as goal
 
--- the intervals are within 256 places
+-- the intervals are within the places of the greatest tree
 pub put_intervals-requires-clause-places : goal.put_intervals-requires-clause-places
 put_intervals-requires-clause-places c =
-    aligned_within c.args.from c.args.n 256 c.args.sizes.now (leaf_count-le c.args.n c.requires.leaves) c.requires.places
+    aligned_within c.args.from c.args.n most_leaves c.args.sizes.now (leaf_count-le c.args.n c.requires.leaves) c.requires.places
 
 -- there is capacity for each
 pub put_intervals-requires-clause-room : goal.put_intervals-requires-clause-room

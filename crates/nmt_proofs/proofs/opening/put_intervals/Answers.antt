@@ -1,6 +1,7 @@
 use Rattle.std.proofs.Common.{◌≡◌, ◌∙◌, ◌+◌, ◌<◌, ℕ, ap, sym, refl, arith, length, take, get_or}
 use Rattle.std.proofs.lemmas.List.{take_more, take_more_set, length-take-le, take_all}
 use Rattle.namespace_id.specs.Digests.{no_digest}
+use Rattle.namespace_id.specs.Sizes.{most_leaves}
 use Rattle.nmt_proofs.specs.Openings.{intervals_from}
 use Rattle.nmt_proofs.specs.Pieces.{shown}
 use Rattle.nmt_proofs.proofs.Sets.SetLemmas.{interval_more, next_end, aligned_end}
@@ -10,9 +11,9 @@ pub loop-i-init : goal.loop-i-init
 unfolding intervals_from
 loop-i-init c = record { pieces = refl; end = refl }
 
--- so it is below 256
+-- so it is a place of the greatest tree, or its end
 pub overflow_add-at : goal.overflow_add-at
-overflow_add-at c = omega (arith, next_end c.args.from c.loop-i.at c.args.sizes.now c.loop-i.i c.loop-i-test.true c.loop-i.invariant.end, aligned_end c.args.from 256 (c.loop-i.i + 1) c.args.sizes.now c.requires.places)
+overflow_add-at c = omega (arith, next_end c.args.from c.loop-i.at c.args.sizes.now c.loop-i.i c.loop-i-test.true c.loop-i.invariant.end, aligned_end c.args.from most_leaves (c.loop-i.i + 1) c.args.sizes.now c.requires.places)
 
 pub loop-i-preserved : goal.loop-i-preserved
 loop-i-preserved c =

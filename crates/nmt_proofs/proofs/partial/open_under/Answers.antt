@@ -1,6 +1,7 @@
 use Rattle.std.proofs.Common.{◌≡◌, ◌∙◌, ◌==◌, ap, sym, length, ℕ, refl, arith, true, false}
 use Rattle.std.proofs.lemmas.Bool.{ne_eqb}
 use Rattle.nmt_tree.specs.Roots.{halvings}
+use Rattle.nmt_tree.proofs.CountLemmas.{leaf_count-le}
 use Rattle.nmt_proofs.specs.Parts.{given}
 use Rattle.nmt_proofs.specs.Openings.{opened, one_digest, has_order}
 use Rattle.nmt_proofs.specs.Partial.{digest_at}
@@ -14,6 +15,10 @@ pub returns-then-path-depth-clause-cause : goal.returns-then-path-depth-clause-c
 returns-then-path-depth-clause-cause c =
     ap (λ (k : ℕ). length c.args.path.now == k) (length-outside-one (halvings c.args.count) 0 c.args.leaf.now.from (given c.args.leaf.now.digest))
     ∙ ne_eqb (length c.args.path.now) (halvings c.args.count) (λ e. c.if-path-depth.true (e ∙ sym c.halvings-depth.ensures.value))
+
+-- there are two nodes a leaf
+pub fold-requires-clause-memory : goal.fold-requires-clause-memory
+fold-requires-clause-memory c = omega (arith, leaf_count-le c.args.count c.requires.is_count, c.requires.room)
 
 -- no digest: a join is not ordered
 pub returns-in_default-clause-cause : goal.returns-in_default-clause-cause
