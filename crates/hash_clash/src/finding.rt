@@ -6,6 +6,7 @@
 //! is kept: for lists of n leaves that is about n log n hashes, and no memory.
 
 ghost use Rattle.std.specs.Prelude.{◌≡◌, ◌+◌, ◌^◌, ◌≤◌, ◌<◌, length, IsTrue, true, false, Some, None};
+ghost use Rattle.namespace_id.specs.Sizes.{most_depth, most_leaves};
 ghost use Rattle.nmt_tree.specs.Roots.{is_leaf_count, halvings, root};
 ghost use Rattle.nmt_proofs.specs.Parts.{digest_of};
 ghost use Rattle.nmt_proofs.specs.Clashes.{join_text, apart_or, clash_at, whole};
@@ -32,9 +33,9 @@ fn differing(left: Preimage, right: Preimage) -> Option<(Preimage, Preimage)>
 
 /// What is hashed for a node over two intervals.
 fn node_text(depth: u8, start: u16, middle: u16, left: Side, right: Side) -> Preimage
-    requires depth { depth ≤ 8 }
-    requires left_interval { start + 2 ^ depth ≤ 256 }
-    requires right_interval { middle + 2 ^ depth ≤ 256 }
+    requires depth { depth ≤ most_depth }
+    requires left_interval { start + 2 ^ depth ≤ most_leaves }
+    requires right_interval { middle + 2 ^ depth ≤ most_leaves }
     requires left { IsSide depth left }
     requires right { IsSide depth right }
     ensures { result ≡ join_text (digest_of (part_of depth start left.entry))
@@ -46,8 +47,8 @@ fn node_text(depth: u8, start: u16, middle: u16, left: Side, right: Side) -> Pre
 /// The strings at the first interval at which two sides of 2 ^ depth places both have one and these
 /// differ: the root first, then the left half.
 fn find(depth: u8, start: u16, a: Side, b: Side) -> Option<(Preimage, Preimage)>
-    requires depth { depth ≤ 8 }
-    requires interval { start + 2 ^ depth ≤ 256 }
+    requires depth { depth ≤ most_depth }
+    requires interval { start + 2 ^ depth ≤ most_leaves }
     requires a { IsSide depth a }
     requires b { IsSide depth b }
     ensures { result ≡ clash_at (part_of depth start a.entry) (part_of depth start b.entry) }
@@ -77,9 +78,9 @@ fn find(depth: u8, start: u16, a: Side, b: Side) -> Option<(Preimage, Preimage)>
 }
 
 /// The SHA-256 collision that two inclusion proofs of one place name, where they have one root and
-/// differ in namespace, share or nodes. `n` is a number of leaves, a power of two up to 256, and
-/// `pos` is below it; each proof has as many nodes as there are subtrees that don't hold the place.
-/// The order of joins plays no part.
+/// differ in namespace, share or nodes. `n` is a number of leaves, a power of two up to
+/// `MOST_LEAVES`, and `pos` is below it; each proof has as many nodes as there are subtrees that
+/// don't hold the place. The order of joins plays no part.
 ///
 /// The strings are those at the first interval, root first and left half before right half, for
 /// which both openings have a string and these differ. It takes no memory.
@@ -104,9 +105,9 @@ pub fn clash_paths(n: u16, pos: u16, a: &Opening, b: &Opening) -> Clash
 
 /// The SHA-256 collision that two inclusion proofs name, of one place or of two, where they have one
 /// root; none exactly where they have no string that differs at an interval for which both have one.
-/// `n` is a number of leaves, a power of two up to 256, and both places are below it; each proof has
-/// as many nodes as there are subtrees that don't hold its place. The strings are chosen as by
-/// `clash_paths`. It takes no memory.
+/// `n` is a number of leaves, a power of two up to `MOST_LEAVES`, and both places are below it; each
+/// proof has as many nodes as there are subtrees that don't hold its place. The strings are chosen as
+/// by `clash_paths`. It takes no memory.
 ///
 /// docs/RULES.md, "Collisions".
 pub fn clash_between(n: u16, pos_a: u16, a: &Opening, pos_b: u16, b: &Opening) -> Option<Clash>
@@ -127,8 +128,8 @@ pub fn clash_between(n: u16, pos_a: u16, a: &Opening, pos_b: u16, b: &Opening) -
 
 /// The SHA-256 collision that an inclusion proof and a list of leaves name, where they have one
 /// root and the list has another namespace or another share at the place. The list has `n` leaves,
-/// a power of two up to 256; `pos` is below it, and the proof has as many nodes as there are
-/// subtrees that don't hold the place. The strings are chosen as by `clash_paths`. It takes no
+/// a power of two up to `MOST_LEAVES`; `pos` is below it, and the proof has as many nodes as there
+/// are subtrees that don't hold the place. The strings are chosen as by `clash_paths`. It takes no
 /// memory.
 ///
 /// docs/RULES.md, "Collisions".
@@ -157,8 +158,8 @@ pub fn clash_path_leaves(
 }
 
 /// The SHA-256 collision that two lists of leaves name, where they have one root and differ. Both
-/// have one number of leaves, a power of two up to 256. The strings are chosen as by `clash_paths`.
-/// It takes no memory.
+/// have one number of leaves, a power of two up to `MOST_LEAVES`. The strings are chosen as by
+/// `clash_paths`. It takes no memory.
 ///
 /// docs/RULES.md, "Collisions".
 pub fn clash_leaves(

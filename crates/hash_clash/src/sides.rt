@@ -1,6 +1,7 @@
 //! What is known of an interval of a tree, and its halves.
 
 ghost use Rattle.std.specs.Prelude.{◌≡◌, ◌+◌, ◌^◌, ◌≤◌};
+ghost use Rattle.namespace_id.specs.Sizes.{most_depth, most_leaves};
 ghost use Rattle.nmt_proofs.specs.Parts.{digest_of};
 ghost use Rattle.hash_clash.specs.Sides.{part_of, IsSide, IsSeen};
 
@@ -32,8 +33,8 @@ pub(crate) enum Seen<'a> {
 
 /// What an interval of 2 ^ depth places is.
 pub(crate) fn look<'a>(depth: u8, start: u16, side: Side<'a>) -> Seen<'a>
-    requires depth { depth ≤ 8 }
-    requires interval { start + 2 ^ depth ≤ 256 }
+    requires depth { depth ≤ most_depth }
+    requires interval { start + 2 ^ depth ≤ most_leaves }
     requires side { IsSide depth side }
     ensures { IsSeen depth start side.entry result }
 {
@@ -67,8 +68,8 @@ pub(crate) fn look<'a>(depth: u8, start: u16, side: Side<'a>) -> Seen<'a>
 
 /// The digest of an interval of 2 ^ depth places.
 pub(crate) fn digest(depth: u8, start: u16, side: Side) -> Digest
-    requires depth { depth ≤ 8 }
-    requires interval { start + 2 ^ depth ≤ 256 }
+    requires depth { depth ≤ most_depth }
+    requires interval { start + 2 ^ depth ≤ most_leaves }
     requires side { IsSide depth side }
     ensures { result ≡ digest_of (part_of depth start side.entry) }
 {
