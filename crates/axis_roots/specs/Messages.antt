@@ -7,6 +7,7 @@ use Rattle.namespace_id.specs.declared.digests.Digest.{Digest}
 use Rattle.namespace_id.specs.declared.shares.Share.{Share}
 use Rattle.namespace_id.specs.Shares.{IsShare}
 use Rattle.namespace_id.specs.Digests.{AreDigests}
+use Rattle.namespace_id.specs.Sizes.{most_depth}
 use Rattle.namespace_id.specs.Cells.{is_in_square, leaf_namespace}
 use Rattle.nmt_tree.specs.Digests.{leaf_digest}
 use Rattle.nmt_tree.specs.Roots.{halvings}
@@ -16,12 +17,12 @@ use Rattle.axis_roots.specs.declared.message.messages.Message.{Message}
 use Rattle.axis_roots.specs.declared.message.messages.CheckRefusal.{CheckRefusal}
 use Rattle.axis_roots.specs.declared.message.messages.CheckRefusal.TheVariants.{OutOfSquare, NodeCount, Unordered, OtherRoot}
 
--- every sample has numbers of two bytes, a share, and up to 8 digests
+-- every sample has numbers of two bytes, a share, and up to `most_depth` digests
 pub record IsMessage (m : Message) : Type 0 where
   pub row : m.cell.row < 2 ^ 16
   pub col : m.cell.col < 2 ^ 16
   pub share : IsShare m.share
-  pub few : length m.path ≤ 8
+  pub few : length m.path ≤ most_depth
   pub nodes : AreDigests m.path
 
 -- the place of a cell on its row or its column

@@ -71,7 +71,7 @@ impl Model for NsAnswer {
     ghost view = { λ a. a.entries.items };
 }
 
-/// What is found in a row has places of two bytes, shares, digests, and up to 16 nodes.
+/// What is found in a row has places of two bytes, shares, digests, and up to `2 * MOST_DEPTH` nodes.
 fn found_law(found: &Found)
     ensures { IsFound found.now }
 {
@@ -102,7 +102,7 @@ fn entry_law(entry: &NsEntry)
     found_law(&entry.found);
 }
 
-/// An answer has numbers of two bytes, shares, digests, and up to 16 nodes an entry. It changes
+/// An answer has numbers of two bytes, shares, digests, and up to `2 * MOST_DEPTH` nodes an entry. It changes
 /// nothing.
 pub fn answer_law(answer: &NsAnswer)
     ensures { AreEntries answer.now }

@@ -15,10 +15,10 @@ ghost use Rattle.axis_roots.specs.Trees.{axis_leaves, message_at};
 ghost use Rattle.axis_roots.specs.Halves.{AreOrderedLeaves, AreHalfParts};
 
 use crate::message::{Message, index, position};
-use crate::square::{LONGEST_AXIS, header_over, quarter_and_leaves, read_leaves, share_of};
+use crate::square::{header_over, quarter_and_leaves, read_leaves, share_of};
 use data_header::Header;
 use leopard_code::Room;
-use namespace_id::{Axis, BLANK_DIGEST, Cell, Digest, NoMemory, Share, shares_law};
+use namespace_id::{Axis, BLANK_DIGEST, Cell, Digest, MOST_LEAVES, NoMemory, Share, shares_law};
 use nmt_proofs::make_leaf;
 use nmt_tree::Tree;
 use square_layout::Square;
@@ -69,7 +69,7 @@ fn put_axis(k: u16, leaves: &[Digest], axis: Axis, index: u16, tree: &mut Tree)
     ensures leaves { (grid : List ShareOf) → AreLeafDigests k grid leaves.now →
         tree.new.leaves ≡ Some (axis_leaves k grid axis index) }
 {
-    let mut line = [BLANK_DIGEST; LONGEST_AXIS];
+    let mut line = [BLANK_DIGEST; MOST_LEAVES];
     let line = &mut line[..2 * k as usize];
     read_leaves(k, leaves, axis, index, line);
     tree.put(line);

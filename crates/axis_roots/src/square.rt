@@ -14,7 +14,6 @@ pub(crate) use filling::fill_axis;
 pub use grids::Grid;
 pub use laws::grid_laws;
 pub(crate) use leaves::read_leaves;
-pub(crate) use lines::LONGEST_AXIS;
 pub use lines::{cell_on, is_root, line_strict_root, name_leaves};
 pub use quarters::header_of_square;
 pub(crate) use quarters::{quarter_and_leaves, share_of};

@@ -107,18 +107,18 @@ fn values_without_spelling(rt: HostRuntime) {
     let alloc = rt.alloc();
     is_refused(&rt, alloc, "no cells", no_cells(&rt, alloc));
     is_refused(&rt, alloc, "width 0", narrow_block(alloc));
-    is_refused(&rt, alloc, "129 entries", answer(&rt, alloc, 129, 0));
-    is_refused(&rt, alloc, "129 shares", answer(&rt, alloc, 1, 129));
+    is_refused(&rt, alloc, "513 entries", answer(&rt, alloc, 513, 0));
+    is_refused(&rt, alloc, "513 shares", answer(&rt, alloc, 1, 513));
 }
 
 #[test]
 fn claims_without_spelling(rt: HostRuntime) {
     let alloc = rt.alloc();
-    is_refused(&rt, alloc, "129 cells", claim(&rt, alloc, 129, None));
+    is_refused(&rt, alloc, "513 cells", claim(&rt, alloc, 513, None));
     let shows_no_cell = claim(&rt, alloc, 1, set(&rt, alloc, 0));
     is_refused(&rt, alloc, "a set that shows no cell", shows_no_cell);
     let cases = [
-        ("129 nodes", 129, message(1, 3, Axis::Col, Path::new())),
+        ("513 nodes", 513, message(1, 3, Axis::Col, Path::new())),
         (
             "a shown cell's path",
             1,

@@ -61,7 +61,7 @@ pub fn index(axis: Axis, cell: Cell) -> u16
     }
 }
 
-/// A sample has numbers of two bytes, a share, and up to 8 digests. It changes nothing.
+/// A sample has numbers of two bytes, a share, and up to `MOST_DEPTH` digests. It changes nothing.
 pub fn message_law(message: &Message)
     ensures { IsMessage message.now }
 {

@@ -4,9 +4,9 @@ ghost use Rattle.std.specs.Prelude.{◌≡◌, ◌*◌, ◌<◌, length, Some, t
 ghost use Rattle.nmt_tree.specs.Levels.{leaf_digests};
 ghost use Rattle.axis_roots.specs.Grids.{axis_names, axis_shares, is_ordered_axis};
 
-use super::lines::{LONGEST_AXIS, read_axis, read_names};
+use super::lines::{read_axis, read_names};
 use crate::Grid;
-use namespace_id::{Axis, Namespace, PARITY, Share};
+use namespace_id::{Axis, MOST_LEAVES, Namespace, PARITY, Share};
 use nmt_tree::{Tree, are_ordered};
 
 /// Fills a tree with the leaves along an axis, by way of these lines; false where their namespaces
@@ -50,8 +50,8 @@ pub(crate) fn fill_axis(grid: &Grid, axis: Axis, index: u16, tree: &mut Tree) ->
         (axis_shares grid.now.k grid.now.shares axis index)) }
     ensures kept { result ≡ false → tree.new ≡ tree.old }
 {
-    let mut names = [PARITY; LONGEST_AXIS];
-    let mut shares = [Share([0; 512]); LONGEST_AXIS];
+    let mut names = [PARITY; MOST_LEAVES];
+    let mut shares = [Share([0; 512]); MOST_LEAVES];
     let count = 2 * grid.width() as usize;
     fill_by_lines(
         grid,

@@ -14,9 +14,9 @@ ghost use Rattle.axis_roots.specs.Trees.{axis_leaves};
 ghost use Rattle.axis_roots.specs.Grids.{axis_shares, leaf_over, AreLeafDigests};
 
 use super::grids::place;
-use super::lines::{LONGEST_AXIS, cell_on, name_leaves};
+use super::lines::{cell_on, name_leaves};
 use crate::Grid;
-use namespace_id::{Axis, BLANK_DIGEST, Digest, Namespace, NoMemory, PARITY, Share};
+use namespace_id::{Axis, BLANK_DIGEST, Digest, MOST_LEAVES, Namespace, NoMemory, PARITY, Share};
 use nmt_tree::put_leaves;
 use std::alloc::Global;
 
@@ -57,7 +57,7 @@ fn fill_leaves(grid: &Grid, leaves: &mut [Digest])
     requires { length leaves.old ≡ 2 * grid.now.k * (2 * grid.now.k) }
     ensures { AreLeafDigests grid.now.k grid.now.shares leaves.new }
 {
-    let mut names = [PARITY; LONGEST_AXIS];
+    let mut names = [PARITY; MOST_LEAVES];
     let names = &mut names[..2 * grid.width() as usize];
     for row in 0..2 * grid.width() {
         put_row(grid, row, names, leaves);

@@ -9,11 +9,10 @@ ghost use Rattle.axis_roots.specs.Lines.{cell_on, line_names, line_strict_root};
 ghost use Rattle.axis_roots.specs.Grids.{share_at, axis_names, axis_shares};
 
 use crate::Grid;
-use namespace_id::{Axis, BLANK_DIGEST, Cell, Digest, Namespace, Share, leaf_namespace};
+use namespace_id::{
+    Axis, BLANK_DIGEST, Cell, Digest, MOST_LEAVES, Namespace, Share, leaf_namespace,
+};
 use nmt_tree::{are_ordered, fold_leaves};
-
-/// How many shares the longest axis has: 2k for the greatest width, 128.
-pub(crate) const LONGEST_AXIS: usize = 256;
 
 /// The cell at a position of a row or a column of this index.
 ///
@@ -129,7 +128,7 @@ pub fn line_strict_root(
     if !are_ordered(names) {
         return None;
     }
-    let mut leaves = [BLANK_DIGEST; LONGEST_AXIS];
+    let mut leaves = [BLANK_DIGEST; MOST_LEAVES];
     Some(fold_leaves(names, line, &mut leaves[..names.len()]))
 }
 

@@ -15,12 +15,12 @@ ghost use Rattle.axis_roots.specs.Lines.{blank};
 ghost use Rattle.axis_roots.specs.Grids.{share_at, Extends, AreLeafDigests, IsHeaderOf, HasNoHeader};
 ghost use Rattle.axis_roots.specs.Quarters.{quarter_column, IsLowerLeft, left_half};
 
-use super::lines::LONGEST_AXIS;
 use super::rooting::header_over;
 use data_header::Header;
 use leopard_code::{Room, extend};
 use namespace_id::{
-    BLANK_DIGEST, Cell, Digest, Namespace, NoMemory, PARITY, Share, leaf_namespace, shares_law,
+    BLANK_DIGEST, Cell, Digest, GREATEST_WIDTH, Namespace, NoMemory, PARITY, Share, leaf_namespace,
+    shares_law,
 };
 use square_layout::Square;
 use std::alloc::Global;
@@ -206,7 +206,7 @@ pub(crate) fn share_of(room: &mut Room, square: &Square, quarter: &[Share], cell
     if col < k {
         return left[col];
     }
-    let mut line = [Share([0; 512]); LONGEST_AXIS];
+    let mut line = [Share([0; 512]); GREATEST_WIDTH as usize];
     let right = &mut line[..k];
     extend(room, left, right);
     right[col - k]
