@@ -22,8 +22,6 @@ sys.dont_write_bytecode = True
 import frames  # noqa: E402
 
 HASH_BYTES = 32
-SHARES_LIMIT = 128  # of a range in a frame
-NODES_LIMIT = 16  # of a range and of an absence in a frame
 
 
 class Value:
@@ -157,10 +155,10 @@ def spell_header(header):
 
 def spell_row(row, value):
     """An entry of an answer: the shares of a row with their proof, or the proof that the row has none."""
-    shares = [item.bytes(frames.SHARE_BYTES) for item in value.member("shares").items(SHARES_LIMIT)]
+    shares = [item.bytes(frames.SHARE_BYTES) for item in value.member("shares").items(frames.COUNT_LIMIT)]
     proof = value.needed("proof")
     start, end = proof.member("start").number(0, frames.U16), proof.needed("end").number(0, frames.U16 + 1)
-    nodes = [item.bytes(frames.DIGEST_BYTES) for item in proof.member("nodes").items(NODES_LIMIT)]
+    nodes = [item.bytes(frames.DIGEST_BYTES) for item in proof.member("nodes").items(frames.NODES_LIMIT)]
     absent = proof.member("leaf_hash").value
     ignored = proof.member("is_max_namespace_ignored")
     if ignored.value is not True:

@@ -16,6 +16,7 @@ import random
 import subprocess
 import sys
 import unittest
+from unittest import mock
 
 sys.dont_write_bytecode = True
 TOOLS = os.path.dirname(os.path.abspath(__file__))
@@ -285,9 +286,9 @@ class Refused(Case):
             (["dah", "row_roots", 1], "\u0661===", 'dah.row_roots[1]: "\\u0661===" isn\'t base64 (BadBase64)'),
             (["dah", "column_roots", 3], "AAAA", "dah.column_roots[3]: 3 bytes, and there are to be 90 (BadLength)"),
             (["dah", "row_roots"], [zeros] * 3,
-             "dah.row_roots: 3 roots, and there are to be 2, 4, 8, 16, 32, 64, 128 or 256 (BadCount)"),
-            (["dah", "row_roots"], [zeros] * 512,
-             "dah.row_roots: 512 roots, and there are to be 2, 4, 8, 16, 32, 64, 128 or 256 (BadCount)"),
+             "dah.row_roots: 3 roots, and there are to be 2, 4, 8, 16, 32, 64, 128, 256, 512 or 1024 (BadCount)"),
+            (["dah", "row_roots"], [zeros] * 2048,
+             "dah.row_roots: 2048 roots, and there are to be 2, 4, 8, 16, 32, 64, 128, 256, 512 or 1024 (BadCount)"),
             (["dah", "row_roots"], [zeros] * 2, "dah: 2 row roots, and 4 column roots (BadCount)"),
             (["header", "data_hash"], None, "header.data_hash: it isn't there (Missing)"),
             (["header", "data_hash"], 5, "header.data_hash: 5 isn't a text (BadType)"),
@@ -317,7 +318,7 @@ class Refused(Case):
             (shown, [0], [], "[0]: [] isn't an object (BadType)"),
             (shown, [0, "shares"], {}, "[0].shares: {} isn't a list (BadType)"),
             (shown, [1, "shares", 0], "AAAA", "[1].shares[0]: 3 bytes, and there are to be 512 (BadLength)"),
-            (shown, [0, "shares"], [share] * 129, "[0].shares: 129 of them, and a frame has at most 128 (BadCount)"),
+            (shown, [0, "shares"], [share] * 513, "[0].shares: 513 of them, and a frame has at most 512 (BadCount)"),
             (shown, [0, "shares"], [], "[0]: it has neither shares nor a leaf hash (BadRow)"),
             (shown, [0, "proof"], None, "[0].proof: it isn't there (Missing)"),
             (shown, [0, "proof", "start"], "1", '[0].proof.start: "1" isn\'t a number without a fraction (BadType)'),
@@ -326,8 +327,8 @@ class Refused(Case):
             (shown, [0, "proof", "start"], 0, "[0].proof: from 0 to 2, and the row shows 1 (BadCount)"),
             (shown, [0, "proof", "end"], None, "[0].proof.end: it isn't there (Missing)"),
             (shown, [0, "proof", "nodes", 1], "", "[0].proof.nodes[1]: 0 bytes, and there are to be 90 (BadLength)"),
-            (shown, [0, "proof", "nodes"], [digest] * 17,
-             "[0].proof.nodes: 17 of them, and a frame has at most 16 (BadCount)"),
+            (shown, [0, "proof", "nodes"], [digest] * 21,
+             "[0].proof.nodes: 21 of them, and a frame has at most 20 (BadCount)"),
             (shown, [0, "proof", "leaf_hash"], digest, "[0]: it has both shares and a leaf hash (BadRow)"),
             (shown, [1, "proof", "is_max_namespace_ignored"], None,
              "[1].proof.is_max_namespace_ignored: it isn't true, as it is in Celestia's trees (BadValue)"),
@@ -343,6 +344,7 @@ class Refused(Case):
                 words = ["answer", make.name(name).hex(), header, self.changed(value, path, put)]
                 self.refused(words, f"bad input: {note}")
 
+    @mock.patch.object(frames, "PAYLOAD_LIMIT", 1000)
     def test_block(self):
         blob, most = json.loads(BLOB), frames.PAYLOAD_LIMIT
         cases = [

@@ -28,7 +28,7 @@ import re
 import sys
 from collections import namedtuple
 
-WIDTHS = (1, 2, 4, 8, 16, 32, 64, 128)
+WIDTHS = (1, 2, 4, 8, 16, 32, 64, 128, 256, 512)
 AXES = ("row", "col")
 NAMESPACE_BYTES = 29
 SIGNER_BYTES = 20
@@ -39,8 +39,13 @@ COMMIT_ROW_BYTES = 94  # a row of a commitment proof without its hashes, subtree
 MESSAGE_BYTES = 518  # a sample without its nodes
 SET_CELL_BYTES = 515  # a cell that a set shows
 FRONT_BYTES = 5  # the kind and the length of a frame
-PAYLOAD_LIMIT = 16_777_216
+PAYLOAD_LIMIT = 268_435_456
 FILE_LIMIT = 536_870_912
+# How many there may be in one frame (docs/FORMATS.md, "Limits").
+COUNT_LIMIT = WIDTHS[-1]  # entries, shares of a range, cells, nodes of a set, rows, subtrees of a row
+PATH_LIMIT = 10  # nodes of a sample
+NODES_LIMIT = 20  # nodes of a range, an absence or a row of a commitment proof
+HASHES_LIMIT = 11  # hashes from an axis root to a data root
 U16 = 2**16 - 1
 
 
@@ -115,7 +120,7 @@ class Fields:
 
     def width(self):
         """The width k of a square."""
-        return self.number("width k", 2, WIDTHS, "a power of two from 1 to 128")
+        return self.number("width k", 2, WIDTHS, f"a power of two from 1 to {COUNT_LIMIT}")
 
     def axis(self, of=""):
         """An axis: 0 for row, 1 for column."""
@@ -128,7 +133,7 @@ class Fields:
 
     def hashes(self, of=""):
         """A count of hashes (u8), and the hashes."""
-        count = self.count(f"hash count{of}", 1, HASH_BYTES, range(10))
+        count = self.count(f"hash count{of}", 1, HASH_BYTES, range(HASHES_LIMIT + 1))
         return [self.bytes(f"hash {i}{of}", HASH_BYTES) for i in range(count)]
 
     def strings(self, name):
@@ -197,7 +202,7 @@ class Message(namedtuple("Message", "row col axis share nodes")):
         col = fields.number(f"column{of}", 2)
         axis = fields.axis(of)
         share = fields.bytes(f"share{of}", SHARE_BYTES)
-        return Message(row, col, axis, share, fields.nodes(8, of))
+        return Message(row, col, axis, share, fields.nodes(PATH_LIMIT, of))
 
     def members(self):
         cell = {"row": self.row, "col": self.col, "axis": self.axis}
@@ -211,9 +216,9 @@ class Range(namedtuple("Range", "row start shares nodes")):
     @staticmethod
     def read(fields, row, of):
         start = fields.number(f"start{of}", 2)
-        count = fields.count(f"share count{of}", 2, SHARE_BYTES, range(129))
+        count = fields.count(f"share count{of}", 2, SHARE_BYTES, range(COUNT_LIMIT + 1))
         shares = [fields.bytes(f"share {i}{of}", SHARE_BYTES) for i in range(count)]
-        return Range(row, start, shares, fields.nodes(16, of))
+        return Range(row, start, shares, fields.nodes(NODES_LIMIT, of))
 
     def line(self):
         return f"row {self.row} range {self.start} {len(self.shares)}"
@@ -227,7 +232,7 @@ class Absence(namedtuple("Absence", "row pos digest nodes")):
     def read(fields, row, of):
         pos = fields.number(f"position{of}", 2)
         digest = fields.bytes(f"leaf digest{of}", DIGEST_BYTES)
-        return Absence(row, pos, digest, fields.nodes(16, of))
+        return Absence(row, pos, digest, fields.nodes(NODES_LIMIT, of))
 
     def line(self):
         return f"row {self.row} absent {self.pos}"
@@ -242,7 +247,7 @@ class Answer(namedtuple("Answer", "namespace entries")):
     @staticmethod
     def read(fields):
         namespace = fields.bytes("namespace", NAMESPACE_BYTES)
-        count = fields.count("entry count", 2, 8, range(129))
+        count = fields.count("entry count", 2, 8, range(COUNT_LIMIT + 1))
         return Answer(namespace, [Answer.read_entry(fields, f" of entry {i}") for i in range(count)])
 
     @staticmethod
@@ -268,12 +273,12 @@ class Claim(namedtuple("Claim", "axis index cells set")):
         axis = fields.axis()
         index = fields.number("index", 2)
         if form == 1:
-            count = fields.count("cell count", 2, MESSAGE_BYTES, range(129))
+            count = fields.count("cell count", 2, MESSAGE_BYTES, range(COUNT_LIMIT + 1))
             return Claim(axis, index, [Message.read(fields, f" of cell {i}") for i in range(count)], None)
-        count = fields.count("cell count", 2, SET_CELL_BYTES, range(129))
+        count = fields.count("cell count", 2, SET_CELL_BYTES, range(COUNT_LIMIT + 1))
         cells = [Claim.read_cell(fields, axis, index, f" of cell {i}") for i in range(count)]
         at = fields.at
-        count = fields.count("node count of the set", 2, DIGEST_BYTES, range(129))
+        count = fields.count("node count of the set", 2, DIGEST_BYTES, range(COUNT_LIMIT + 1))
         nodes = [fields.bytes(f"node {i} of the set", DIGEST_BYTES) for i in range(count)]
         if all(cell.axis != axis for cell in cells):
             raise BadField(at, "the set shows no cell, and shows one at least")
@@ -288,7 +293,7 @@ class Claim(namedtuple("Claim", "axis index cells set")):
         row, col = (index, pos) if axis == "row" else (pos, index)
         if shown:
             return Message(row, col, axis, share, [])
-        return Message(row, col, AXES[1 - AXES.index(axis)], share, fields.nodes(8, of))
+        return Message(row, col, AXES[1 - AXES.index(axis)], share, fields.nodes(PATH_LIMIT, of))
 
     def lines(self):
         front = f"fraud {self.axis} {self.index} cells={len(self.cells)}"
@@ -419,9 +424,9 @@ class CommitRow(namedtuple("CommitRow", "root up subtrees nodes")):
     def read(fields, of):
         root = fields.bytes(f"root{of}", DIGEST_BYTES)
         up = fields.hashes(of)
-        count = fields.count(f"subtree count{of}", 2, DIGEST_BYTES, range(129))
+        count = fields.count(f"subtree count{of}", 2, DIGEST_BYTES, range(COUNT_LIMIT + 1))
         subtrees = [fields.bytes(f"subtree {i}{of}", DIGEST_BYTES) for i in range(count)]
-        return CommitRow(root, up, subtrees, fields.nodes(16, of))
+        return CommitRow(root, up, subtrees, fields.nodes(NODES_LIMIT, of))
 
 
 class Commit(namedtuple("Commit", "k start count commitment rows")):
@@ -431,7 +436,7 @@ class Commit(namedtuple("Commit", "k start count commitment rows")):
     def read(fields):
         k, start, count = fields.number("width k", 2), fields.number("start", 4), fields.number("count", 4)
         commitment = fields.bytes("commitment", HASH_BYTES)
-        rows = fields.count("row count", 2, COMMIT_ROW_BYTES, range(129))
+        rows = fields.count("row count", 2, COMMIT_ROW_BYTES, range(COUNT_LIMIT + 1))
         return Commit(k, start, count, commitment, [CommitRow.read(fields, f" of row {i}") for i in range(rows)])
 
     def lines(self):

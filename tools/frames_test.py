@@ -106,6 +106,11 @@ def missing(k, *cells):
     return u16(k) + u32(len(cells)) + b"".join(u16(row) + u16(col) for row, col in cells)
 
 
+def cells_of(k):
+    """All cells of the extended square."""
+    return ((row, col) for row in range(2 * k) for col in range(2 * k))
+
+
 def clash(left, right):
     return u16(len(left)) + left + u16(len(right)) + right
 
@@ -285,26 +290,40 @@ class Reading(Case):
     def test_lengths(self):
         table = [
             ("H", header(1), 362), ("H", header(2), 722), ("H", header(128), 46082),
+            ("H", header(256), 92162), ("H", header(512), 184322),
             ("S", square(1), 514), ("S", square(2), 2050), ("S", square(128), 8388610),
             ("M", message(1), 608), ("M", message(2), 698), ("M", message(4), 878), ("M", message(8), 1238),
+            ("M", message(9), 1328), ("M", message(10), 1418),
             ("N", answer(), 31), ("N", answer(range_entry(0, 1, 1, 2), range_entry(1, 0, 1, 2)), 1431),
             ("N", answer(absence_entry(1, 1, 2)), 307),
             ("N", answer(*[range_entry(0, 0, 128, 16)] * 128), 8573983),
+            ("N", answer(range_entry(0, 0, 512, 20)), 31 + 263952),
+            ("N", answer(*[range_entry(0, 0, 1, 20)] * 512), 31 + 512 * 2320),
             ("B", claim(0, 3), 6), ("B", CLAIM, 1402), ("B", claim(0, 0, *[message(8)] * 128), 158470),
+            ("B", claim(0, 0, *[message(10)] * 512), 726022),
             ("B", set_claim(0, 3, 0, shown_cell(0)), 523), ("B", set_claim(0, 3, 2, shown_cell(0), shown_cell(2)), 1218),
             ("B", SET_CLAIM, 1399), ("B", set_claim(0, 3, 128, *[shown_cell(i) for i in range(128)]), 77448),
             ("B", set_claim(0, 3, 128, shown_cell(0), *[crossing_cell(1, 8)] * 127), 169015),
-            ("K", missing(1, (0, 0), (0, 1), (1, 0), (1, 1)), 22),
+            ("B", set_claim(0, 3, 512, shown_cell(0), *[crossing_cell(1, 10)] * 511), 770179),
+            ("K", missing(1, (0, 0), (0, 1), (1, 0), (1, 1)), 22), ("K", missing(512, *cells_of(512)), 4194310),
             ("Q", EACH["Q"], 5), ("P", EACH["P"], 29),
             ("V", block(0, [], [], []), 14), ("V", block(0, [], [], [(PARITY, b"ab")]), 50),
             ("V", block(0, [], [], [(version_0(0x0101), b"x", b"\x11" * 20)]), 69),
             ("C", commit(0, 0, 0), 44), ("C", COMMIT, 964), ("C", commit(0, 0, 0, *[commit_row(9, 128, 16)] * 128), 1707820),
+            ("C", commit(0, 0, 0, *[commit_row(11, 512, 20)] * 512), 24742956),
             ("R", EACH["R"], 887), ("R", rooted(0, 0, message(0)), 611), ("R", rooted(0, 9, message(8)), 1619),
+            ("R", rooted(0, 11, message(10)), 1863),
         ]
         for kind, payload, length in table:
             with self.subTest(kind, length=length):
                 self.assertEqual(len(payload), length)
                 self.assertEqual(self.why(frame(kind, payload)), "ok: 1 frames")
+
+    def test_wide_squares(self):
+        for k, length in ((256, 33554434), (512, 134217730)):
+            data = frame("S", u16(k) + share_of(7) * (k * k))
+            self.assertEqual(len(data), 5 + length)
+            self.assertEqual(self.why(data), "ok: 1 frames")
 
     def test_bytes(self):
         table = [
@@ -327,7 +346,7 @@ class Reading(Case):
             ("4e0000001f" + "77" * 29 + "0000", "ok"),
             ("4e00000020" + "77" * 29 + "000000", "BadPayload"),
             ("4e0000007f" + "77" * 29 + "0001000002" + "77" * 93, "BadPayload"),
-            ("4e00000427" + "77" * 29 + "0081" + "00" * 1032, "BadPayload"),
+            ("4e00001027" + "77" * 29 + "0201" + "00" * 4104, "BadPayload"),
             ("4200000006010100030000", "ok"),
             ("4200000006020100030000", "BadPayload"),
             ("42000000080201000300000000", "BadPayload"),
@@ -339,11 +358,12 @@ class Reading(Case):
             ("420000000701010003000000", "BadPayload"),
             ("430000002c" + "00" * 44, "ok"),
             ("430000002d" + "00" * 45, "BadPayload"),
-            ("430000002c" + "00" * 42 + "0081", "BadPayload"),
+            ("430000002c" + "00" * 42 + "0201", "BadPayload"),
             ("5200000263" + "00" * 611, "ok"),
-            ("5200000263" + "00" * 610 + "0a", "BadPayload"),
+            ("5200000263" + "00" * 610 + "0c", "BadPayload"),
             ("5a00000000", "BadKind"),
-            ("4d01000001", "TooLong"),
+            ("4d10000001", "TooLong"),
+            ("4d01000001", "Truncated"),
             ("4d000002", "Truncated"),
         ]
         for digits, reason in table:
@@ -429,9 +449,9 @@ class Reading(Case):
 # For each field of each kind: bytes of a payload in which it is wrong, the place that is named and what is said of it.
 FIELDS = [
     ("H", b"\x00", 0, "the width k takes 2 bytes, left are 1"),
-    ("H", u16(3), 0, "the width k is 3, and is a power of two from 1 to 128"),
+    ("H", u16(3), 0, "the width k is 3, and is a power of two from 1 to 512"),
     ("H", u16(0), 0, "the width k is 0, and is"),
-    ("H", u16(256), 0, "the width k is 256, and is"),
+    ("H", u16(1024), 0, "the width k is 1024, and is"),
     ("H", header(1)[:100], 92, "the root of row 1 takes 90 bytes, left are 8"),
     ("H", header(1)[:200], 182, "the root of column 0 takes 90 bytes, left are 18"),
     ("H", header(1) + b"\x00", 362, "bytes left over behind the last field: 1"),
@@ -445,22 +465,22 @@ FIELDS = [
     ("M", message(0, axis=2), 4, "the axis is 2, and is 0 or 1"),
     ("M", message(0)[:100], 5, "the share takes 512 bytes, left are 95"),
     ("M", message(0)[:517], 517, "the node count takes 1 bytes, left are 0"),
-    ("M", message(9), 517, "the node count is 9, and is 0 to 8"),
+    ("M", message(11), 517, "the node count is 11, and is 0 to 10"),
     ("M", message(2)[:-1], 517, "the node count is 2, of 90 bytes or more each, left are 179"),
     ("M", message(2) + b"\x00", 698, "bytes left over behind the last field: 1"),
     ("N", bytes(28), 0, "the namespace takes 29 bytes, left are 28"),
     ("N", bytes(30), 29, "the entry count takes 2 bytes, left are 1"),
-    ("N", bytes(29) + u16(129) + bytes(1032), 29, "the entry count is 129, and is 0 to 128"),
+    ("N", bytes(29) + u16(513) + bytes(4104), 29, "the entry count is 513, and is 0 to 512"),
     ("N", bytes(29) + u16(2) + bytes(8), 29, "the entry count is 2, of 8 bytes or more each, left are 8"),
     ("N", answer(u16(0) + u8(2) + bytes(9)), 33, "the tag of entry 0 is 2, and is 0 or 1"),
-    ("N", answer(range_entry(0, 0, 129, 0)), 36, "the share count of entry 0 is 129, and is 0 to 128"),
+    ("N", answer(range_entry(0, 0, 513, 0)), 36, "the share count of entry 0 is 513, and is 0 to 512"),
     ("N", answer(range_entry(0, 0, 1, 0)[:-2]), 36, "the share count of entry 0 is 1, of 512 bytes or more each"),
     ("N", answer(range_entry(0, 0, 1, 0)[:-1]), 550, "the node count of entry 0 takes 1 bytes, left are 0"),
-    ("N", answer(range_entry(0, 0, 1, 17)), 550, "the node count of entry 0 is 17, and is 0 to 16"),
+    ("N", answer(range_entry(0, 0, 1, 21)), 550, "the node count of entry 0 is 21, and is 0 to 20"),
     ("N", answer(range_entry(0, 0, 1, 2)[:-1]), 550, "the node count of entry 0 is 2, of 90 bytes or more each"),
     ("N", answer(absence_entry(0, 0, 0)[:90]), 36, "the leaf digest of entry 0 takes 90 bytes, left are 85"),
     ("N", answer(absence_entry(0, 0, 0)[:95]), 126, "the node count of entry 0 takes 1 bytes, left are 0"),
-    ("N", answer(absence_entry(0, 0, 17)), 126, "the node count of entry 0 is 17, and is 0 to 16"),
+    ("N", answer(absence_entry(0, 0, 21)), 126, "the node count of entry 0 is 21, and is 0 to 20"),
     ("N", answer(range_entry(0, 0, 1, 0), bytes(1)), 551, "the row of entry 1 takes 2 bytes, left are 1"),
     ("N", answer(range_entry(0, 0, 1, 0), bytes(2)), 553, "the tag of entry 1 takes 1 bytes, left are 0"),
     ("N", answer(range_entry(0, 0, 1, 0), bytes(4)), 554, "the start of entry 1 takes 2 bytes, left are 1"),
@@ -475,20 +495,20 @@ FIELDS = [
     ("B", claim(2, 3), 1, "the axis is 2, and is 0 or 1"),
     ("B", bytes([1, 0, 0]), 2, "the index takes 2 bytes, left are 1"),
     ("B", claim(0, 3)[:5], 4, "the cell count takes 2 bytes, left are 1"),
-    ("B", claim(0, 3, *[message(0)] * 129), 4, "the cell count is 129, and is 0 to 128"),
+    ("B", claim(0, 3, *[message(0)] * 513), 4, "the cell count is 513, and is 0 to 512"),
     ("B", claim(0, 3, message(0)[:-1]), 4, "the cell count is 1, of 518 bytes or more each, left are 517"),
     ("B", claim(0, 3, message(1, axis=3)), 10, "the axis of cell 0 is 3, and is 0 or 1"),
-    ("B", claim(0, 3, message(2), message(9)), 6 + 698 + 517, "the node count of cell 1 is 9, and is 0 to 8"),
+    ("B", claim(0, 3, message(2), message(11)), 6 + 698 + 517, "the node count of cell 1 is 11, and is 0 to 10"),
     ("B", claim(0, 3, message(2), message(1)[:-1]), 6 + 698 + 517, "the node count of cell 1 is 1, of 90 bytes or"),
     ("B", CLAIM + b"\x00", 1402, "bytes left over behind the last field: 1"),
     ("B", set_claim(0, 3, 0), 6, "the set shows no cell, and shows one at least"),
     ("B", set_claim(0, 3, 0, crossing_cell(0, 2)), 6 + 696, "the set shows no cell, and shows one at least"),
-    ("B", set_claim(0, 3, 0, *[shown_cell(0)] * 129), 4, "the cell count is 129, and is 0 to 128"),
+    ("B", set_claim(0, 3, 0, *[shown_cell(0)] * 513), 4, "the cell count is 513, and is 0 to 512"),
     ("B", set_claim(0, 3, 0, shown_cell(0))[:-3], 4, "the cell count is 1, of 515 bytes or more each, left are 514"),
     ("B", set_claim(0, 3, 0, shown_cell(0), u16(1) + u8(2) + bytes(600)), 6 + 515 + 2, "the tag of cell 1 is 2, and is"),
-    ("B", set_claim(0, 3, 0, crossing_cell(0, 9)), 6 + 515, "the node count of cell 0 is 9, and is 0 to 8"),
+    ("B", set_claim(0, 3, 0, crossing_cell(0, 11)), 6 + 515, "the node count of cell 0 is 11, and is 0 to 10"),
     ("B", set_claim(0, 3, 0, crossing_cell(0, 2))[:-50], 6 + 515, "the node count of cell 0 is 2, of 90 bytes or more"),
-    ("B", set_claim(0, 3, 129, shown_cell(0)), 6 + 515, "the node count of the set is 129, and is 0 to 128"),
+    ("B", set_claim(0, 3, 513, shown_cell(0)), 6 + 515, "the node count of the set is 513, and is 0 to 512"),
     ("B", set_claim(0, 3, 2, shown_cell(0))[:-1], 6 + 515, "the node count of the set is 2, of 90 bytes or more each"),
     ("B", SET_CLAIM + b"\x00", 1399, "bytes left over behind the last field: 1"),
     ("K", missing(3, (0, 0)), 0, "the width k is 3, and is"),
@@ -539,18 +559,18 @@ FIELDS = [
     ("C", bytes(9), 6, "the count takes 4 bytes, left are 3"),
     ("C", bytes(41), 10, "the commitment takes 32 bytes, left are 31"),
     ("C", bytes(43), 42, "the row count takes 2 bytes, left are 1"),
-    ("C", commit(0, 0, 0, *[commit_row(0, 0, 0)] * 129), 42, "the row count is 129, and is 0 to 128"),
+    ("C", commit(0, 0, 0, *[commit_row(0, 0, 0)] * 513), 42, "the row count is 513, and is 0 to 512"),
     ("C", commit(0, 0, 0, commit_row(0, 0, 0)[:-1]), 42, "the row count is 1, of 94 bytes or more each, left are 93"),
-    ("C", commit(0, 0, 0, commit_row(10, 0, 0)), 134, "the hash count of row 0 is 10, and is 0 to 9"),
-    ("C", commit(0, 0, 0, commit_row(0, 129, 0)), 135, "the subtree count of row 0 is 129, and is 0 to 128"),
+    ("C", commit(0, 0, 0, commit_row(12, 0, 0)), 134, "the hash count of row 0 is 12, and is 0 to 11"),
+    ("C", commit(0, 0, 0, commit_row(0, 513, 0)), 135, "the subtree count of row 0 is 513, and is 0 to 512"),
     ("C", commit(0, 0, 0, commit_row(0, 2, 0)[:-2]), 135, "the subtree count of row 0 is 2, of 90 bytes or more each"),
-    ("C", commit(0, 0, 0, commit_row(3, 1, 17)), 323, "the node count of row 0 is 17, and is 0 to 16"),
+    ("C", commit(0, 0, 0, commit_row(3, 1, 21)), 323, "the node count of row 0 is 21, and is 0 to 20"),
     ("C", COMMIT + b"\x00", 964, "bytes left over behind the last field: 1"),
     ("R", bytes(1), 0, "the width k takes 2 bytes, left are 1"),
     ("R", bytes(5), 4, "the column takes 2 bytes, left are 1"),
-    ("R", rooted(2, 3, message(9)), 519, "the node count is 9, and is 0 to 8"),
+    ("R", rooted(2, 3, message(11)), 519, "the node count is 11, and is 0 to 10"),
     ("R", rooted(2, 0, message(0))[:600], 520, "the root takes 90 bytes, left are 80"),
-    ("R", rooted(2, 10, message(0)), 610, "the hash count is 10, and is 0 to 9"),
+    ("R", rooted(2, 12, message(0)), 610, "the hash count is 12, and is 0 to 11"),
     ("R", rooted(2, 3, message(0))[:-1], 610, "the hash count is 3, of 32 bytes or more each, left are 95"),
     ("R", EACH["R"] + b"\x00", 887, "bytes left over behind the last field: 1"),
 ]
@@ -576,8 +596,8 @@ class Why(Case):
             (b"", ("check", "MESSAGES"), "ok: 0 frames"),
             (b"", ("verify", "ANSWER"), "file 1 at 0: no byte is there, and asked for is kind M or N or B or C or R (Truncated)"),
             (b"M\x00\x00\x02", (), "file 0 at 0: kind and length take 5 bytes, left are 4 (Truncated)"),
-            (b"M\x01\x00\x00\x01", (), "file 0 at 0: kind M: the length is 16777217, and at most 16777216 (TooLong)"),
-            (b"M\x01\x00\x00\x00", (), "file 0 at 0: kind M: the payload takes 16777216 bytes, left are 0 (Truncated)"),
+            (b"M\x10\x00\x00\x01", (), "file 0 at 0: kind M: the length is 268435457, and at most 268435456 (TooLong)"),
+            (b"M\x10\x00\x00\x00", (), "file 0 at 0: kind M: the payload takes 268435456 bytes, left are 0 (Truncated)"),
             (message_1 * 2, ("verify", "ANSWER"), "file 1 at 613: a byte 4d behind the one frame (Trailing)"),
             (message_1 * 2, ("light", "MESSAGES"), "ok: 2 frames"),
             (message_1 + b"M", ("repair", "MESSAGES"), "file 1 at 613: kind and length take 5 bytes, left are 1"),
@@ -657,10 +677,11 @@ class Making(Case):
         self.assertEqual(self.made("block", "{}"), frame("V", bytes(14)))
         self.assertEqual(self.made("block", '{"width": 0}'), frame("V", bytes(14)))
         self.assertEqual(self.made("block", '{"width": 65535}'), frame("V", b"\xff\xff" + bytes(12)))
-        most = {"units": [{"hex": "00", "times": frames.PAYLOAD_LIMIT - 18}]}
-        self.assertEqual(len(self.made("block", json.dumps(most))), frames.PAYLOAD_LIMIT + 5)
-        most["units"].append("")
-        self.assertEqual(run("block", json.dumps(most))[0], 1)
+        with mock.patch.object(frames, "PAYLOAD_LIMIT", 1000):
+            most = {"units": [{"hex": "00", "times": 1000 - 18}]}
+            self.assertEqual(len(self.made("block", json.dumps(most))), 1000 + 5)
+            most["units"].append("")
+            self.assertEqual(run("block", json.dumps(most))[0], 1)
 
     def test_block_refused(self):
         blob = {"namespace": "00" * 10, "data": ""}
@@ -668,7 +689,7 @@ class Making(Case):
                '{"unit": []}', '{"width": 1, "width": 2}', '{"units": {}}', '{"units": ["0"]}', '{"units": ["0g"]}',
                '{"units": [1]}', '{"units": [{"hex": "", "text": ""}]}', '{"units": [{"times": 2}]}',
                '{"units": [{"text": 1}]}', '{"units": [{"hex": "00", "times": -1}]}', '{"blobs": [[]]}',
-               '{"blobs": [{}]}', '{"units": [{"hex": "00", "times": 16777217}]}',
+               '{"blobs": [{}]}', '{"units": [{"hex": "00", "times": 268435457}]}',
                json.dumps({"blobs": [dict(blob, version=1)]}), json.dumps({"blobs": [dict(blob, namespace="00" * 11)]}),
                json.dumps({"blobs": [dict(blob, version=2)]}), json.dumps({"blobs": [dict(blob, version=1, signer="")]}),
                json.dumps({"blobs": [dict(blob, signer="11" * 19)]}), json.dumps({"blobs": [dict(blob, signer=11)]}),
@@ -854,17 +875,18 @@ class Program(Case):
                 self.same_place(self.read(path), command, words, word)
         for path in (self.answer, self.sample, self.missing, self.proof, self.rooted):
             self.same_text(b"", path)
-        for size in (0, 1, 2, 8, 64, 128):
+        for size in (0, 1, 2, 8, 64, 128, 256):
             data = frame("S", square(size)) if size else b""
             with self.subTest(size=size):
                 self.same_text(data)
-        self.same_text(frame("H", header(128)))
-        self.same_text(frame("N", answer(*[range_entry(i, i, 128, 16) for i in range(128)])))
-        self.same_text(frame("B", claim(0, 0, *[message(8, i, i) for i in range(128)])))
+        self.same_text(frame("H", header(512)))
+        self.same_text(frame("N", answer(*[range_entry(i, i, 512, 20) for i in range(64)])))
+        self.same_text(frame("N", answer(*[range_entry(i, i, 1, 20) for i in range(512)])))
+        self.same_text(frame("B", claim(0, 0, *[message(10, i, i) for i in range(512)])))
         self.same_text(frame("B", SET_CLAIM))
-        self.same_text(frame("B", set_claim(0, 0, 128, shown_cell(0), *[crossing_cell(i, 8) for i in range(127)])))
-        self.same_text(frame("K", missing(128, *[(row, col) for row in range(256) for col in range(256)])))
-        self.same_text(frame("C", commit(0, 0, 0, *[commit_row(9, 128, 16)] * 128)))
+        self.same_text(frame("B", set_claim(0, 0, 512, shown_cell(0), *[crossing_cell(i, 10) for i in range(511)])))
+        self.same_text(frame("K", missing(128, *cells_of(128))))
+        self.same_text(frame("C", commit(0, 0, 0, *[commit_row(11, 512, 20)] * 512)))
         self.same_text(frame("V", block(0xFFFF, [b""] * 1000, [b"a"] * 1000, [(PARITY, b"")] * 1000)))
 
     def test_limit(self):
@@ -872,14 +894,15 @@ class Program(Case):
         words = [os.path.join(EXAMPLES, "header"), None]
         for size in (frames.PAYLOAD_LIMIT, frames.PAYLOAD_LIMIT + 1):
             self.same_place(EACH_FRAME["M"] + frame("M", bytes(size)), "check", words, "MESSAGES")
-        most = self.made("block", json.dumps({"units": [{"hex": "ab", "times": frames.PAYLOAD_LIMIT - 18}]}))
-        for data in (most, frame("V", most[5:] + b"\x00"), most + most[:9]):
-            self.same_text(data)
+        unit = b"\xab" * (frames.PAYLOAD_LIMIT - 18)
+        for more in (b"", b"\x00"):
+            front = b"V" + u32(frames.PAYLOAD_LIMIT + len(more)) + bytes(2) + u32(1) + u32(len(unit))
+            self.same_text(b"", self.file(b"".join([front, unit, bytes(8), more])))
 
     def test_every_form(self):
         # Each kind, and some bytes that are no frame, in the place of each word.
         empty = [kind + bytes(4) for kind in (b"Z", b"M", b"H")]
-        datas = list(EACH_FRAME.values()) + empty + [b"", b"\x00", b"H\x01\x00\x00\x01"]
+        datas = list(EACH_FRAME.values()) + empty + [b"", b"\x00", b"H\x10\x00\x00\x01"]
         for command, word, _, words in self.files():
             for data in datas + [EACH_FRAME["M"] * 2, EACH_FRAME["Q"] * 2 + b"Q", EACH_FRAME["P"] + b"\x00"]:
                 self.same_place(data, command, words, word)
