@@ -33,7 +33,7 @@ const (
 	shareSize     = 512
 	namespaceSize = 29
 	digestSize    = 2*namespaceSize + sha256.Size
-	greatestWidth = 128
+	greatestWidth = 512
 )
 
 var (
