@@ -1,7 +1,9 @@
 #!/usr/bin/env python3
 """Makes the values that tests, rows and docs take from another program, and compares them.
 
-    values.py [DIR]    DIR is the repository, where nothing is said the one that this file stands in
+    values.py [--wide] [DIR]    DIR is the repository, where nothing is said the one that this file stands in
+
+--wide makes the values of width 512 and the trial of width 256 too, which takes some minutes and 1.5 GB of memory.
 
 The values are computed here and by examples/make.py, which were written from docs/RULES.md and docs/FORMATS.md; nothing
 of it is proved. Each is looked up in the source that has it. The last line is 'N passed, M failed'.
@@ -123,6 +125,89 @@ def powers_of_words():
         powers.append(label_of[power])
         power = power << 1 ^ (0x1002D if power & 0x8000 else 0)
     return powers
+
+
+def split(shares):
+    """The lower and the higher bytes of the words of shares (docs/RULES.md, "The word field")."""
+    blocks = [shares[at:at + 32] for at in range(0, len(shares), 32)]
+    return b"".join(blocks[::2]), b"".join(blocks[1::2])
+
+
+def joined(low, high):
+    """The shares of these lower and higher bytes."""
+    return b"".join(low[at:at + 32] + high[at:at + 32] for at in range(0, len(low), 32))
+
+
+def sum_of(texts):
+    total = 0
+    for text in texts:
+        total ^= int.from_bytes(text, "big")
+    return total.to_bytes(len(texts[0]), "big")
+
+
+class Wide:
+    """The code over words, for squares of width 256 and 512 (docs/RULES.md, "The code")."""
+
+    def __init__(self, k):
+        self.k, self.powers = k, powers_of_words()
+        self.logs = {label: log for log, label in enumerate(self.powers)}
+
+    def times(self, a, b):
+        return self.powers[(self.logs[a] + self.logs[b]) % 65535] if a and b else 0
+
+    def weights(self):
+        """For the word of each recovery share in turn those of the k originals, by Lagrange's formula."""
+        below = range(self.k)
+        down = sum(self.logs[point] for point in below if point)
+        for j in below:
+            ups = [self.logs[j ^ self.k + i] for i in below]
+            yield [self.powers[(sum(ups) - down - up) % 65535] for up in ups]
+
+    def multiple(self, weight, words):
+        """Words, each times a weight."""
+        table = [0]
+        for bit in range(8):
+            table += [it ^ self.times(weight, 1 << bit) for it in table]
+        upper = [0]
+        for bit in range(8, 16):
+            upper += [it ^ self.times(weight, 1 << bit) for it in upper]
+        low, high = ([bytes(it >> by & 255 for it in half) for half in (table, upper)] for by in (0, 8))
+        return tuple(sum_of([text.translate(part) for text, part in zip(words, parts)]) for parts in (low, high))
+
+    def recovery(self, originals):
+        """The k recovery parts of k originals, each one share or as many side by side."""
+        places = {}
+        for i, original in enumerate(originals):
+            places.setdefault(original, []).append(i)
+        parts = [(split(original), some) for original, some in places.items()]
+        for weights in self.weights():
+            found = []
+            for words, some in parts:
+                weight = 0
+                for i in some:
+                    weight ^= weights[i]
+                found.append(self.multiple(weight, words))
+            yield joined(*(sum_of(texts) for texts in zip(*found)))
+
+    def extended(self, lines):
+        """k lines of shares, and behind them the recovery shares along the other axis."""
+        lines = [b"".join(some) for some in lines]
+        lines += self.recovery(lines)
+        return [[some[at:at + 512] for at in range(0, len(some), 512)] for some in lines]
+
+    def grid(self, shares):
+        """The grid of a square: the code is linear, so columns are extended first, and then all rows."""
+        rows = self.extended([shares[row * self.k:][:self.k] for row in range(self.k)])
+        return WideGrid(self.k, list(zip(*self.extended(zip(*rows)))))
+
+
+class WideGrid(make.Grid):
+    """A grid that makes its roots once."""
+
+    def roots(self):
+        if not hasattr(self, "own"):
+            self.own = super().roots()
+        return self.own
 
 
 def line(k, known):
@@ -258,7 +343,7 @@ def square_of_row(values, row, data):
     width, units, pays, blobs = block_of(data)
     if all(len(make.blob_shares(*blob)) <= 64 for blob in blobs):
         count = len(make.square_of(0, blobs, units, pays))
-        k = width or next(1 << i for i in range(8) if 1 << 2 * i >= max(count, 1))
+        k = width or next(1 << i for i in range(10) if 1 << 2 * i >= max(count, 1))
         values.file(f"{row}/stdout", make.square(k, make.square_of(k, blobs, units, pays)))
 
 
@@ -278,14 +363,21 @@ def commitment_of(blob):
     return make.plain_root(subtrees)
 
 
-def three_blobs():
-    """The extension of the square of the tests: blobs of 1, 479 and 1 bytes."""
+def blobs_of_tests():
+    """The blobs of the tests, of 1, 479 and 1 bytes."""
     long, byte = b"", 63
     for number in range(478):
         long += bytes([byte])
         byte = (byte + (8 if byte > 248 or number == 250 else 7)) % 256
-    blobs = [(make.name("0101"), b"\x20"), (make.name("0102"), long + b"\x5f"), (make.name("0104"), b"\x5e")]
-    return make.Grid(2, make.extend(2, make.square_of(2, blobs)))
+    return [(make.name("0101"), b"\x20"), (make.name("0102"), long + b"\x5f"), (make.name("0104"), b"\x5e")]
+
+
+THREE_BLOBS = blobs_of_tests()
+
+
+def three_blobs():
+    """The extension of their square."""
+    return make.Grid(2, make.extend(2, make.square_of(2, THREE_BLOBS)))
 
 
 def roots_of(grid):
@@ -297,6 +389,89 @@ def data_root(roots):
     while len(level) > 1:
         level = [sha256(b"\1" + level[i] + level[i + 1]).digest() for i in range(0, len(level), 2)]
     return level[0]
+
+
+def wide_rows(values, k):
+    """The rows of a wide square: the blobs of `three_blobs`, and tail padding behind them."""
+    shares = make.square_of(k, THREE_BLOBS)
+    grid = Wide(k).grid(shares)
+    values.file(f"rows/files/header-{k}", grid.header())
+    root = data_root(grid.roots()).hex()
+    values.stands(f"rows/header/of-width-{k}/row", "root", f"root OUTPUT {root}\n")
+    values.file(f"rows/root/of-width-{k}/stdout", f"{root}\n".encode())
+    cells = ((0, 1, make.ROW), (1, k, make.COL), (k, 0, make.COL), (2 * k - 1, 2 * k - 1, make.ROW))
+    row = f"rows/sample/of-each-quarter-of-width-{k}"
+    values.file(f"{row}/requests", b"".join(make.request(*cell) for cell in cells))
+    samples = b"".join(grid.message(*cell) for cell in cells)
+    values.file(f"{row}/stdout", samples)
+    row = f"rows/check/samples-of-width-{k}/messages"
+    values.same(row, values.bytes_of(row)[:len(samples)], samples)
+    cells = sorted(drawn(bytes(range(32)), k, 4))
+    values.file(f"rows/light/four-of-width-{k}-not-shown/stdout", missing(k, cells))
+    row = f"rows/light/four-of-width-{k}-shown/messages"
+    values.same(row, sorted(pieces(values.bytes_of(row))), sorted(grid.message(*cell) for cell in cells))
+    blob, absent = (grid.answer(make.name(end)) for end in ("0102", "0103"))
+    values.file(f"rows/verify/an-absence-of-width-{k}/answer", absent)
+    values.file(f"rows/follow/a-height-of-width-{k}/both", blob + absent)
+    proof = grid.commitment(1, 2)
+    values.file(f"rows/prove/a-range-of-width-{k}/stdout", proof)
+    values.file(f"rows/verify/a-commitment-proof-of-width-{k}/proof", proof)
+    proof = grid.rooted(k, 0, make.COL)
+    values.file(f"rows/verify/a-root-proof-of-width-{k}/proof", proof)
+    if k == 512:
+        values.file("rows/verify/an-answer-of-width-512/answer", blob)
+        return
+    values.file("rows/namespace/of-width-256/stdout", blob + absent)
+    values.file("rows/prove/a-sample-of-width-256/requests", make.request(k, 0, make.COL))
+    values.file("rows/prove/a-sample-of-width-256/stdout", proof)
+    spoiled_wide_rows(values, grid)
+
+
+def spoiled_wide_rows(values, grid):
+    """The grid with another last byte of its last share, and the claim against its last row that a set of one node shows."""
+    k, last = grid.k, 2 * grid.k - 1
+    roots = list(grid.roots())
+    rows = [list(row) for row in grid.rows]
+    rows[last][last] = make.changed(rows[last][last], 511)
+    spoiled = make.Grid(k, rows)
+    for axis, place in ((make.ROW, last), (make.COL, 4 * k - 1)):
+        roots[place] = make.root(spoiled.leaves(axis, last))
+    values.file("rows/files/header-spoiled-256", make.frame("H", make.u16(k) + b"".join(roots)))
+    cells = b"".join(make.u16(col) + b"\1" + rows[last][col] for col in range(k))
+    path = make.nodes(spoiled.leaves(make.ROW, last), range(k))
+    text = b"\2\0" + make.u16(last) + make.u16(k) + cells + make.u16(len(path)) + b"".join(path)
+    values.file("rows/files/claim-with-a-set-256", make.frame("B", text))
+
+
+def missing(k, cells):
+    return make.frame("K", make.u16(k) + make.u32(len(cells)) + b"".join(make.u16(row) + make.u16(col) for row, col in cells))
+
+
+def pieces(data):
+    """The frames of a file."""
+    while data:
+        size = 5 + int.from_bytes(data[1:5], "big")
+        yield data[:size]
+        data = data[size:]
+
+
+def same_share_row(values, k, path):
+    """The data root of the square of one share, k * k times: its extension has the share in each cell."""
+    share = bytes(19) + 10 * b"\1" + 483 * b"\xff"
+    outer, inner = ([make.leaf(share[:29], share)] * half + [make.leaf(make.PARITY, share)] * (2 * k - half) for half in (0, k))
+    roots = ([make.root(inner)] * k + [make.root(outer)] * k) * 2
+    values.stands(path, f"one share in width {k}", data_root(roots).hex())
+
+
+def laid(k, block):
+    """The shares of the square of a generated block, with padding before blobs (docs/RULES.md, "From a block to its square")."""
+    units, pays, blobs = block
+    shares, before = make.square_of(0, [], units, pays), bytes(28) + b"\xff"
+    for blob in sorted(blobs, key=lambda blob: blob[0]):
+        own = make.blob_shares(*blob)
+        shares += make.blob_shares(before, b"") * (-len(shares) % make.subtree_width(len(own))) + own
+        before = blob[0]
+    return shares + make.blob_shares(make.TAIL_PADDING, b"") * (k * k - len(shares))
 
 
 def draws_and_blocks(values):
@@ -365,7 +540,8 @@ def code_of_tests(values):
 
 
 def main(words_given):
-    values = Values(words_given[0] if words_given else TOP)
+    is_wide = words_given[:1] == ["--wide"]
+    values = Values((words_given[is_wide:] or [TOP])[0])
     digests_of_tests(values)
     digests_of_rows(values)
     signed_rows(values)
@@ -373,6 +549,12 @@ def main(words_given):
     commitments_of_rows(values)
     draws_and_blocks(values)
     code_of_tests(values)
+    wide_rows(values, 256)
+    same_share_row(values, 256, "rows/header/of-one-share-in-width-256/row")
+    if is_wide:
+        wide_rows(values, 512)
+        root = data_root(Wide(256).grid(laid(256, generated(7, 256))).roots()).hex()
+        values.stands("rows/demo/7-in-width-256/stdout", "demo 7 256", f"root {root}")
     print(f"{values.passed} passed, {values.failed} failed")
     return values.failed > 0
 
