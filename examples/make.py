@@ -2,7 +2,7 @@
 """Makes the files of this folder that README.md's table gives to it, without the program `da`.
 
     make.py DIR     writes all of them below DIR
-    make.py many    writes a block of 16,385 blobs, which is too long to be kept here
+    make.py many    writes a block of 262,145 blobs, which is too long to be kept here
     make.py gap     writes a block with padding in front of a blob, whose square has width 16
 
 It follows docs/RULES.md and docs/FORMATS.md in its own way, and nothing of it is proved. Widths go to 4, and
@@ -128,7 +128,7 @@ def plain_path(strings, place):
 
 # The sizes of the subtrees of shares whose greatest have this width ("Subtrees").
 def subtree_width(count):
-    return next(1 << i for i in range(8) if 64 << i >= count or 1 << 2 * i >= count)
+    return next(1 << i for i in range(10) if 64 << i >= count or 1 << 2 * i >= count)
 
 
 def cut(count, width):
@@ -372,7 +372,7 @@ def files():
 
 def main(word):
     if word == "many":
-        sys.stdout.buffer.write(block([(name("0101"), b"1")] * 16385))
+        sys.stdout.buffer.write(block([(name("0101"), b"1")] * 262145))
     elif word == "gap":
         sys.stdout.buffer.write(block([(name("0101"), b"one"), (name("0102"), b"x" * (478 + 64 * 482))]))
     else:
