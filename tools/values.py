@@ -550,11 +550,13 @@ def main(words_given):
     draws_and_blocks(values)
     code_of_tests(values)
     wide_rows(values, 256)
-    same_share_row(values, 256, "rows/header/of-one-share-in-width-256/row")
+    for k, path in ((256, "rows/header/of-one-share-in-width-256/row"), (256, "tools/wide_squares"), (512, "tools/wide_squares")):
+        same_share_row(values, k, path)
     if is_wide:
         wide_rows(values, 512)
         root = data_root(Wide(256).grid(laid(256, generated(7, 256))).roots()).hex()
         values.stands("rows/demo/7-in-width-256/stdout", "demo 7 256", f"root {root}")
+        values.stands("tools/wide_squares", "demo 7 256", root)
     print(f"{values.passed} passed, {values.failed} failed")
     return values.failed > 0
 
