@@ -59,7 +59,7 @@ _da() {
         # In the place of START may stand a file REQUESTS.
         '' | KEY | COUNT | NUMBER | ROOT) ;;
         AXIS) mapfile -t COMPREPLY < <(compgen -W "row col" -- "$word") ;;
-        WIDTH) mapfile -t COMPREPLY < <(compgen -W "2 4 8 16 32 64 128" -- "$word") ;;
+        WIDTH) mapfile -t COMPREPLY < <(compgen -W "2 4 8 16 32 64 128 256 512" -- "$word") ;;
         *) _da_files "$word" ;;
     esac
 }
