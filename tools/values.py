@@ -455,6 +455,28 @@ def pieces(data):
         data = data[size:]
 
 
+def words_of_tests(values):
+    """The first words of recovery shares 0, 1, 2 and k - 1, where the first word of one original is 1 and all others are 0."""
+    for k, at in ((256, 17), (512, 511)):
+        firsts = [weights[at] for weights in Wide(k).weights()]
+        words = ", ".join(map(str, firsts[:3] + firsts[-1:]))
+        values.stands("docs/RULES.md", f"words of width {k}", f"| {k} | {at} | {words} |")
+
+
+# klauspost/reedsolomon 1.14.1, `New(k, k, WithLeopardGF(true))`: the SHA-256 of the recovery shares where share i is the values
+# of SHA-256 of the texts `share I PART`, PART from 0 to 15.
+KLAUSPOST = {
+    256: "16ce87d6095369b379e9534e2c60913436c6defb4ca5423881d49920c5990108",
+    512: "a66aacd2e4bb2eb53680ea0530b623f0f1932b348e90bfc0d82842f4e3601935",
+}
+
+
+def drawn_codewords(values):
+    for k, want in KLAUSPOST.items():
+        shares = [b"".join(sha256(f"share {i} {part}".encode()).digest() for part in range(16)) for i in range(k)]
+        values.same(f"recovery shares of width {k}", sha256(b"".join(Wide(k).recovery(shares))).hexdigest(), want)
+
+
 def same_share_row(values, k, path):
     """The data root of the square of one share, k * k times: its extension has the share in each cell."""
     share = bytes(19) + 10 * b"\1" + 483 * b"\xff"
@@ -549,10 +571,12 @@ def main(words_given):
     commitments_of_rows(values)
     draws_and_blocks(values)
     code_of_tests(values)
+    words_of_tests(values)
     wide_rows(values, 256)
     for k, path in ((256, "rows/header/of-one-share-in-width-256/row"), (256, "tools/wide_squares"), (512, "tools/wide_squares")):
         same_share_row(values, k, path)
     if is_wide:
+        drawn_codewords(values)
         wide_rows(values, 512)
         root = data_root(Wide(256).grid(laid(256, generated(7, 256))).roots()).hex()
         values.stands("rows/demo/7-in-width-256/stdout", "demo 7 256", f"root {root}")
