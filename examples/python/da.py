@@ -12,7 +12,7 @@ from pathlib import Path
 
 DONE, NO_MEMORY, BAD_INPUT, NO_HEADER, REFUSED, SHORT = 0, 5, 6, 9, 13, 15
 USAGE, CANNOT_OPEN, CANNOT_READ, CANNOT_WRITE, TOO_LONG = 1, 2, 3, 4, 7  # of da, and of no call
-ROOT_SIZE, HEADER_MAX, FILE_LIMIT = 32, 46087, 512 * 1024 * 1024
+ROOT_SIZE, HEADER_MAX, FILE_LIMIT = 32, 184327, 512 * 1024 * 1024
 
 
 class Detail(ctypes.Structure):
