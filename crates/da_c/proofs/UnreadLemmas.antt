@@ -1,9 +1,9 @@
 -- What is left in a buffer by an argument that isn't read.
 use Rattle.std.proofs.Common.{◌≡◌, ℕ, List, [], Result, Ok, Err, refl, sym, subst, inr}
 use Rattle.std.specs.Prelude.{IsOk}
-use Rattle.da_answers.specs.declared.frames.Unread.{Unread}
-use Rattle.da_answers.specs.declared.frames.Unread.TheVariants as unread
-use Rattle.da_answers.specs.Frames.{ReadsSingle}
+use Rattle.da_files.specs.declared.frames.Unread.{Unread}
+use Rattle.da_files.specs.declared.frames.Unread.TheVariants as unread
+use Rattle.da_files.specs.Frames.{ReadsSingle}
 use Rattle.da_c.specs.declared.replies.Reply.{Reply}
 use Rattle.da_c.specs.declared.replies.Reply.TheVariants.{NoMemory}
 use Rattle.da_c.specs.Replies.{Outputs, Takes, Leaves, unread_reply}

@@ -13,10 +13,10 @@ use Rattle.axis_roots.specs.Own.{IsOwn}
 use Rattle.da_wire.specs.declared.frames.Frame.{Frame}
 use Rattle.da_wire.specs.declared.frames.Frame.TheVariants.{Header}
 use Rattle.da_wire.specs.Spelling.{spelling}
-use Rattle.da_answers.specs.Frames.{header_in, message_in, square_in}
-use Rattle.da_answers.specs.Verify.{answer_in, check_number, IsRefusal}
-use Rattle.da_answers.specs.Answers.{is_answer_to}
-use Rattle.da_answers.specs.VerifyFor.{request_in, IsRefusalFor}
+use Rattle.da_files.specs.Frames.{header_in, message_in, square_in}
+use Rattle.da_judging.specs.Verify.{answer_in, check_number, IsRefusal}
+use Rattle.da_judging.specs.Answers.{is_answer_to}
+use Rattle.da_judging.specs.VerifyFor.{request_in, IsRefusalFor}
 use Rattle.da_c.specs.declared.replies.Reply.TheVariants.{NoHeader}
 use Rattle.da_c.specs.Replies.{Replies, Outputs, Reads, Takes, Refuses, Fits, verdict}
 

@@ -2,8 +2,8 @@
 use Rattle.std.specs.Prelude.{◌≡◌, ◌⊎◌, ◌↔◌, ◌<◌, ◌≤◌, ℕ, List, [], ◌++◌, length, drop, MatchResult, Result}
 use Rattle.std.specs.declared.option.Option.{Option}
 use Rattle.std.specs.Option.{option_map_or}
-use Rattle.da_answers.specs.declared.frames.Unread.{Unread}
-use Rattle.da_answers.specs.declared.frames.Unread.TheVariants as unread
+use Rattle.da_files.specs.declared.frames.Unread.{Unread}
+use Rattle.da_files.specs.declared.frames.Unread.TheVariants as unread
 use Rattle.da_status.specs.declared.status.Asked.TheVariants as asked
 use Rattle.da_status.specs.declared.status.Status.TheVariants as status
 use Rattle.da_status.specs.Statuses.{number_of}

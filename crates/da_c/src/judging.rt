@@ -6,9 +6,8 @@ ghost use Rattle.da_c.specs.Calls.{Checks, IsProvedUnder, IsOwnUnder, Holds, Ver
 
 use crate::replies::{Reply, unread_reply, verdict};
 use axis_roots::opens;
-use da_answers::{
-    answer_in, check_number, header_in, message_in, refusal_for, refusal_of, request_in,
-};
+use da_files::{header_in, message_in};
+use da_judging::{answer_in, check_number, refusal_for, refusal_of, request_in};
 use std::alloc::Global;
 
 /// The places of the arguments.

@@ -3,7 +3,7 @@
 ghost use Rattle.std.specs.Prelude.{◌≡◌};
 ghost use Rattle.da_c.specs.Replies.{unread_reply, verdict, status_of, detail_of};
 
-use da_answers::Unread;
+use da_files::Unread;
 
 /// What goes with a status. What a status doesn't name is 0.
 #[repr(C)]

@@ -8,7 +8,8 @@ ghost use Rattle.da_c.specs.Calls.{root_size, most_header, RootOf, Spells, Heads
 use crate::judging::HEADER;
 use crate::replies::{Reply, unread_reply};
 use axis_roots::header_of_square;
-use da_answers::{header_frame, header_in, square_in};
+use da_files::{header_in, square_in};
+use da_serving::header_frame;
 use da_wire::{Frame, SpellError, write_frame};
 use data_header::data_root;
 use square_layout::Square;

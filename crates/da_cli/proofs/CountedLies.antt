@@ -6,11 +6,11 @@ use Rattle.repair_queue.specs.Verdicts.{VerdictParts, whole, missing, fraud, cla
 use Rattle.da_wire.specs.Reading.{Raw}
 use Rattle.da_wire.specs.Frames.{frames_of}
 use Rattle.da_status.specs.declared.status.Status.TheVariants.{Missing}
-use Rattle.da_answers.specs.Frames.{header_in}
-use Rattle.da_answers.specs.Check.{finding_of, is_ok}
-use Rattle.da_answers.specs.Repair.{lies_in, answer_status, RepairOf}
-use Rattle.da_answers.specs.Contents.{header_file, messages_file}
-use Rattle.da_answers.proofs.Answering.RepairLemmas.{answer_by}
+use Rattle.da_files.specs.Frames.{header_in}
+use Rattle.da_judging.specs.Check.{finding_of, is_ok}
+use Rattle.da_judging.specs.Repair.{lies_in, answer_status, RepairOf}
+use Rattle.da_files.specs.Contents.{header_file, messages_file}
+use Rattle.da_judging.proofs.RepairLemmas.{answer_by}
 
 -- one frame more, which is proved or a lie
 count_one : (ok : Bool) (lies n : ℕ) (frame : Raw) (proved : List Raw) → lies + length proved ≡ n

@@ -14,9 +14,9 @@ use Rattle.repair_queue.specs.Closures.{Covers}
 use Rattle.namespace_id.proofs.MemberLemmas.{contains_head, contains_cons, contains_tail, contains_none}
 use Rattle.da_wire.specs.Reading.{Raw}
 use Rattle.da_wire.specs.Frames.{message_in}
-use Rattle.da_answers.specs.declared.check.Finding.TheVariants.{Proved, NoMessage, Refused}
-use Rattle.da_answers.specs.Check.{is_ok}
-use Rattle.da_answers.specs.Repair.{messages_in, lies_in}
+use Rattle.da_judging.specs.declared.check.Finding.TheVariants.{Proved, NoMessage, Refused}
+use Rattle.da_judging.specs.Check.{is_ok}
+use Rattle.da_judging.specs.Repair.{messages_in, lies_in}
 use Rattle.da_cli.specs.Feeding.{proved_by, lies_by, proved_among, lies_among}
 use Rattle.da_cli.proofs.FeedingLemmas.{accepted_by}
 

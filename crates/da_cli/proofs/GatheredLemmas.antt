@@ -13,7 +13,7 @@ use Rattle.da_cli.specs.Limits.{file_limit}
 use Rattle.da_cli.specs.Words.{words_of}
 use Rattle.da_io.specs.Faults.{count_on}
 use Rattle.da_io.specs.declared.inputs.Ended.TheVariants as ended
-use Rattle.da_answers.specs.Contents.{contents_of, file_of}
+use Rattle.da_files.specs.Contents.{contents_of, file_of}
 use Rattle.da_cli.specs.Gathered.{Gathered, whole, long, absent, after, gathered_one, gathered_from, gathered, IsWord, IsLastOf, PicksIn, ReadsFile, StopsFile, Gathers, StopsIn, AllRead}
 
 -- one more content in front of what is gathered after them

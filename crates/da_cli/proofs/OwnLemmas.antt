@@ -21,29 +21,28 @@ use Rattle.da_wire.specs.Reading.{Raw, promised, raw_of}
 use Rattle.da_wire.specs.Frames.{ok_of, raw_in, frames_of}
 use Rattle.da_wire.specs.Walks.{walk_from}
 use Rattle.da_io.specs.Files.{Files}
-use Rattle.da_answers.specs.declared.check.Finding.{Finding}
-use Rattle.da_answers.specs.declared.check.Finding.TheVariants.{Proved, NoMessage, Refused}
+use Rattle.da_judging.specs.declared.check.Finding.{Finding}
+use Rattle.da_judging.specs.declared.check.Finding.TheVariants.{Proved, NoMessage, Refused}
 use Rattle.da_status.specs.declared.status.Status.{Status}
 use Rattle.da_status.specs.declared.status.Status.TheVariants.{Done}
-use Rattle.da_answers.specs.Check.{finding_of, line_of, IsOwnFrame}
+use Rattle.da_judging.specs.Check.{finding_of, line_of, IsOwnFrame}
 use Rattle.axis_roots.specs.Claims.{ClaimParts}
-use Rattle.da_answers.specs.Compact.{claim_file, claim_in, CompactsJudged, CompactsOwn}
-use Rattle.da_answers.specs.Repair.{Repairs, RepairsOwn}
-use Rattle.da_answers.specs.Light.{Lights, JudgesOwn}
-use Rattle.da_answers.specs.Namespace.{namespaces_in}
-use Rattle.da_answers.specs.Follow.{wanted_file, answers_file, items_in, Feed}
-use Rattle.da_answers.specs.Verify.{answer_file, answer_in, IsRefusal, verdict_line, IsOwnReply}
-use Rattle.da_answers.specs.declared.answers.Answer.{Answer}
-use Rattle.da_answers.specs.Answers.{answer_frame, is_answer_to}
-use Rattle.da_answers.specs.VerifyFor.{IsRefusalFor}
-use Rattle.da_answers.specs.Contents.{messages_file}
-use Rattle.da_answers.proofs.Answering.VerifyForLemmas.{asked_holds}
+use Rattle.da_judging.specs.Compact.{claim_file, claim_in, CompactsJudged, CompactsOwn}
+use Rattle.da_judging.specs.Repair.{Repairs, RepairsOwn}
+use Rattle.da_judging.specs.Light.{Lights, JudgesOwn}
+use Rattle.da_files.specs.Requests.{namespaces_in}
+use Rattle.da_judging.specs.Follow.{wanted_file, answers_file, items_in, Feed}
+use Rattle.da_judging.specs.Verify.{answer_file, answer_in, IsRefusal, verdict_line, IsOwnReply}
+use Rattle.da_judging.specs.declared.answers.Answer.{Answer}
+use Rattle.da_judging.specs.Answers.{answer_frame, is_answer_to}
+use Rattle.da_judging.specs.VerifyFor.{IsRefusalFor}
+use Rattle.da_files.specs.Contents.{messages_file}
+use Rattle.da_judging.proofs.VerifyForLemmas.{asked_holds, shows_asked}
 use Rattle.da_commands.specs.Net.{script_file, Nets}
 use Rattle.da_script.specs.Plays as plays
 use Rattle.da_script.specs.Alarms.{TellsOwn}
-use Rattle.da_answers.specs.Prove.{ProvesRange}
+use Rattle.da_serving.specs.Prove.{ProvesRange}
 use Rattle.da_cli.specs.Own.{ProvesOwn, AreOwn}
-use Rattle.da_answers.proofs.Answering.AllowedLemmas.{shows_asked}
 
 -- ---- frames of a byte string have bytes
 

@@ -6,7 +6,7 @@ use Rattle.square_layout.specs.Blocks.{SquareShares}
 use Rattle.blob_commit.specs.Proofs.{CommitParts, IsCommit, CommitHolds, is_range}
 use Rattle.blob_commit.specs.Places.{IsOwnCommit}
 use Rattle.da_status.specs.declared.status.Status.TheVariants.{Done}
-use Rattle.da_answers.specs.Prove.{ProvesIn, ProvesRange}
+use Rattle.da_serving.specs.Prove.{ProvesIn, ProvesRange}
 use Rattle.da_cli.specs.Own.{ProvesOwn}
 
 -- what is answered with `Done` to a range is a proof of the square's commitment in it, or names a collision, by what is known

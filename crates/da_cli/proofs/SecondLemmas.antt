@@ -12,15 +12,15 @@ use Rattle.da_cli.specs.declared.gathering.Stop.TheVariants as stop
 use Rattle.da_status.specs.declared.status.Status.{Status}
 use Rattle.da_status.specs.declared.status.Status.TheVariants.{BadInput}
 use Rattle.da_commands.specs.declared.command.Command.TheVariants.{Repair}
-use Rattle.da_answers.specs.Contents.{file_of}
+use Rattle.da_files.specs.Contents.{file_of}
 use Rattle.da_status.specs.Outcome.{Refuses, EndsAtOnce}
 use Rattle.da_cli.specs.Streamed.{IsRead, HasCome}
-use Rattle.da_answers.specs.Frames.{header_in}
-use Rattle.da_answers.specs.Repair.{Repairs}
+use Rattle.da_files.specs.Frames.{header_in}
+use Rattle.da_judging.specs.Repair.{Repairs}
 use Rattle.da_cli.specs.StreamedRepair.{RepairsFile, StreamsSecond, Streams}
 use Rattle.da_commands.specs.Meaning.{Meaning}
 use Rattle.da_status.proofs.EndLemmas.{once_as, once_refused}
-use Rattle.da_answers.proofs.Answering.RepairLemmas.{repair_is, repair_refuses, repair_header}
+use Rattle.da_judging.proofs.RepairLemmas.{repair_is, repair_refuses, repair_header}
 use Rattle.da_cli.proofs.ComeLemmas.{come_none, come_file, stop_file, come_memory}
 
 -- the meaning of two files: what repair comes to, or which of them isn't in its form

@@ -9,7 +9,7 @@ use Rattle.da_io.specs.declared.inputs.Ended.{Ended}
 use Rattle.da_io.specs.declared.inputs.Ended.TheVariants as ended
 use Rattle.da_cli.specs.declared.gathering.Stop.{Stop}
 use Rattle.da_cli.specs.declared.gathering.Stop.TheVariants.{PickFault, ReadFault, TooLong, NoMemory}
-use Rattle.da_answers.specs.Contents.{contents_of, file_of}
+use Rattle.da_files.specs.Contents.{contents_of, file_of}
 use Rattle.da_cli.specs.Limits.{file_limit}
 
 -- the contents of all; or the first that is longer than the limit; or the first that isn't there

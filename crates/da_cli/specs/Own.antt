@@ -20,24 +20,24 @@ use Rattle.da_wire.specs.Frames.{frames_of}
 use Rattle.da_io.specs.Files.{Files}
 use Rattle.da_cli.specs.Words.{is_command, names_of}
 use Rattle.da_cli.specs.Gathered.{gathered, whole}
-use Rattle.da_answers.specs.Frames.{header_in, square_in}
-use Rattle.da_answers.specs.Check.{finding_of, line_of, IsOwnFrame}
+use Rattle.da_files.specs.Frames.{header_in, square_in}
+use Rattle.da_judging.specs.Check.{finding_of, line_of, IsOwnFrame}
 use Rattle.da_status.specs.declared.status.Status.{Status}
 use Rattle.da_status.specs.declared.status.Status.TheVariants.{Done}
 use Rattle.axis_roots.specs.Claims.{ClaimParts}
-use Rattle.da_answers.specs.Compact.{claim_file, claim_in, CompactOf, CompactsOwn}
-use Rattle.da_answers.specs.Repair.{RepairOf, RepairsOwn}
-use Rattle.da_answers.specs.Light.{LightOf, JudgesOwn}
-use Rattle.da_answers.specs.Namespace.{namespaces_in}
-use Rattle.da_answers.specs.Follow.{wanted_file, answers_file, items_in, Feed}
-use Rattle.da_answers.specs.Verify.{answer_file, answer_in, IsRefusal, verdict_line, IsOwnReply}
-use Rattle.da_answers.specs.declared.answers.Answer.{Answer}
-use Rattle.da_answers.specs.declared.answers.Request.{Request}
-use Rattle.da_answers.specs.Answers.{is_answer_to, IsAnswerTo}
-use Rattle.da_answers.specs.VerifyFor.{request_file, request_in, IsRefusalFor, ShowsAsked}
+use Rattle.da_judging.specs.Compact.{claim_file, claim_in, CompactOf, CompactsOwn}
+use Rattle.da_judging.specs.Repair.{RepairOf, RepairsOwn}
+use Rattle.da_judging.specs.Light.{LightOf, JudgesOwn}
+use Rattle.da_files.specs.Requests.{namespaces_in}
+use Rattle.da_judging.specs.Follow.{wanted_file, answers_file, items_in, Feed}
+use Rattle.da_judging.specs.Verify.{answer_file, answer_in, IsRefusal, verdict_line, IsOwnReply}
+use Rattle.da_judging.specs.declared.answers.Answer.{Answer}
+use Rattle.da_judging.specs.declared.answers.Request.{Request}
+use Rattle.da_judging.specs.Answers.{is_answer_to, IsAnswerTo}
+use Rattle.da_judging.specs.VerifyFor.{request_file, request_in, IsRefusalFor, ShowsAsked}
 use Rattle.da_commands.specs.Net.{NetOf}
-use Rattle.da_answers.specs.Prove.{ProveRangeOf}
-use Rattle.da_answers.specs.Contents.{header_file, messages_file, square_file}
+use Rattle.da_serving.specs.Prove.{ProveRangeOf}
+use Rattle.da_files.specs.Contents.{header_file, messages_file, square_file}
 use Rattle.da_script.specs.Plays as plays
 
 -- over the files of `check`, where the header in HEADER is that of a square: a frame of MESSAGES whose line is `ok` is a sample that shows the square's own share, or they name a collision

@@ -11,7 +11,7 @@ use Rattle.da_status.specs.Outcome.{EndsAtOnce}
 use Rattle.da_cli.specs.Streamed.{IsRead, HasCome}
 use Rattle.da_cli.specs.declared.gathering.Stop.TheVariants.{NoMemory}
 use Rattle.da_commands.specs.declared.command.Command.TheVariants.{Repair}
-use Rattle.da_answers.specs.Repair.{Repairs}
+use Rattle.da_judging.specs.Repair.{Repairs}
 use Rattle.da_commands.specs.Meaning.{Meaning}
 
 -- what repair answers to MESSAGES under a header: where its bytes are a list of frames, what repair comes to by

@@ -8,7 +8,7 @@ ghost use Rattle.axis_roots.specs.Messages.{message_refusal};
 ghost use Rattle.repair_queue.specs.Closures.{Covers};
 ghost use Rattle.repair_queue.specs.SessionParts.{StandsFor as SessionStands};
 ghost use Rattle.da_wire.specs.Reading.{Raw};
-ghost use Rattle.da_answers.specs.Repair.{messages_in, lies_in};
+ghost use Rattle.da_judging.specs.Repair.{messages_in, lies_in};
 ghost use Rattle.da_io.specs.Faults.{count_on};
 ghost use Rattle.da_cli.specs.Limits.{file_limit};
 ghost use Rattle.da_cli.specs.Feeding.{proved_by, lies_by, proved_among, lies_among, HasGone, Feeds, FeedsTold, EndsFed, fed_faults, fed_end, Judges};

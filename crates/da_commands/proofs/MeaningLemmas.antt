@@ -10,25 +10,25 @@ use Rattle.da_commands.specs.declared.command.Command.{Command}
 use Rattle.da_commands.specs.declared.command.Command.TheVariants.{Check, Build, Header, Sample, Namespace, Verify, Compact, Repair, Light, Net, Show, Json, Demo, VerifyFor, Root, RootIs, Wanted, Blobs, Commit, Prove, ProveRange, Follow, Help, Version}
 use Rattle.da_commands.specs.Show.{all_kinds, shown_file}
 use Rattle.da_commands.specs.Meaning.{AnswerOf}
-use Rattle.da_answers.proofs.Answering.CheckLemmas.{check_last}
-use Rattle.da_answers.proofs.Answering.BuildLemmas.{build_answers}
-use Rattle.da_answers.proofs.Answering.HeaderLemmas.{header_answers}
-use Rattle.da_answers.proofs.Answering.SampleLemmas.{sample_answers}
-use Rattle.da_answers.proofs.Answering.NamespaceLemmas.{namespace_answers}
-use Rattle.da_answers.proofs.Answering.VerifyLemmas.{verify_last}
-use Rattle.da_answers.proofs.Answering.CompactLemmas.{compact_last}
-use Rattle.da_answers.proofs.Answering.RepairLemmas.{repair_last}
-use Rattle.da_answers.proofs.Answering.LightLemmas.{light_answers}
+use Rattle.da_judging.proofs.CheckLemmas.{check_last}
+use Rattle.da_serving.proofs.BuildLemmas.{build_answers}
+use Rattle.da_serving.proofs.HeaderLemmas.{header_answers}
+use Rattle.da_serving.proofs.SampleLemmas.{sample_answers}
+use Rattle.da_serving.proofs.NamespaceLemmas.{namespace_answers}
+use Rattle.da_judging.proofs.VerifyLemmas.{verify_last}
+use Rattle.da_judging.proofs.CompactLemmas.{compact_last}
+use Rattle.da_judging.proofs.RepairLemmas.{repair_last}
+use Rattle.da_judging.proofs.LightLemmas.{light_answers}
 use Rattle.da_commands.proofs.Answering.NetLemmas.{net_answers}
 use Rattle.da_commands.proofs.Answering.ShowLemmas.{shows_answers}
 use Rattle.da_commands.proofs.Answering.DemoLemmas.{demo_answers}
-use Rattle.da_answers.proofs.Answering.VerifyForLemmas.{verify_for_last}
-use Rattle.da_answers.proofs.Answering.RootLemmas.{root_last, root_is_last}
-use Rattle.da_answers.proofs.Answering.WantedLemmas.{wanted_last}
-use Rattle.da_answers.proofs.Answering.BlobsLemmas.{blobs_answers}
-use Rattle.da_answers.proofs.Answering.CommitLemmas.{commit_answers}
-use Rattle.da_answers.proofs.Answering.ProveLemmas.{prove_answers, prove_range_answers}
-use Rattle.da_answers.proofs.Following.FollowLemmas.{follow_answers}
+use Rattle.da_judging.proofs.VerifyForLemmas.{verify_for_last}
+use Rattle.da_judging.proofs.RootLemmas.{root_last, root_is_last}
+use Rattle.da_serving.proofs.WantedLemmas.{wanted_last}
+use Rattle.da_serving.proofs.BlobsLemmas.{blobs_answers}
+use Rattle.da_serving.proofs.CommitLemmas.{commit_answers}
+use Rattle.da_serving.proofs.ProveLemmas.{prove_answers, prove_range_answers}
+use Rattle.da_judging.proofs.Following.FollowLemmas.{follow_answers}
 
 -- a command's answer comes with its output, or refuses what the files ask for
 pub answer_last : (command : Command) (files : List (List ℕ)) (w : List ℕ) (status : Status) → AnswerOf command files w status → IsAnswer (kind_of status)

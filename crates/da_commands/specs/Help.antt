@@ -3,7 +3,7 @@ use Rattle.std.specs.Prelude.{ℕ, List, [], ◌++◌, codes}
 use Rattle.std.specs.declared.option.Option.{Option}
 use Rattle.da_status.specs.declared.status.Status.TheVariants.{Done}
 use Rattle.da_status.specs.Outcome.{Relation}
-use Rattle.da_answers.specs.Frames.{WritesText}
+use Rattle.da_files.specs.Frames.{WritesText}
 
 -- the commands with their words, one a line
 abbrev pub help_text : List ℕ

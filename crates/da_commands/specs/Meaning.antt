@@ -6,27 +6,27 @@ use Rattle.da_commands.specs.declared.command.Command.TheVariants.{Check, Build,
 use Rattle.da_wire.specs.Spelling.{sample_kind, request_kind}
 use Rattle.da_status.specs.Outcome.{Relation}
 use Rattle.da_status.specs.Judging.{Judged}
-use Rattle.da_answers.specs.Frames.{header_in, square_in, block_in}
-use Rattle.da_answers.specs.Forms.{single_judged, under_judged, messages_judged, requests_judged}
-use Rattle.da_answers.specs.Check.{CheckOf}
-use Rattle.da_answers.specs.Build.{BuildOf}
-use Rattle.da_answers.specs.Header.{HeaderOf}
-use Rattle.da_answers.specs.Sample.{SampleOf}
-use Rattle.da_answers.specs.Namespace.{NamespaceOf}
-use Rattle.da_answers.specs.Verify.{answer_in, VerifyOf}
-use Rattle.da_answers.specs.Compact.{claim_in, CompactOf}
-use Rattle.da_answers.specs.Repair.{RepairOf}
-use Rattle.da_answers.specs.Light.{LightOf}
+use Rattle.da_files.specs.Frames.{header_in, square_in, block_in}
+use Rattle.da_files.specs.Forms.{single_judged, under_judged, messages_judged, requests_judged}
+use Rattle.da_judging.specs.Check.{CheckOf}
+use Rattle.da_serving.specs.Build.{BuildOf}
+use Rattle.da_serving.specs.Header.{HeaderOf}
+use Rattle.da_serving.specs.Sample.{SampleOf}
+use Rattle.da_serving.specs.Namespace.{NamespaceOf}
+use Rattle.da_judging.specs.Verify.{answer_in, VerifyOf}
+use Rattle.da_judging.specs.Compact.{claim_in, CompactOf}
+use Rattle.da_judging.specs.Repair.{RepairOf}
+use Rattle.da_judging.specs.Light.{LightOf}
 use Rattle.da_commands.specs.Net.{net_judged, NetOf}
 use Rattle.da_commands.specs.Show.{show_judged, ShowOf, JsonOf}
 use Rattle.da_commands.specs.Demo.{is_trial_width, demo_judged, DemoOf}
-use Rattle.da_answers.specs.VerifyFor.{verify_for_judged, VerifyForOf}
-use Rattle.da_answers.specs.Root.{RootOf, RootIsOf}
-use Rattle.da_answers.specs.Wanted.{missing_in, WantedOf}
-use Rattle.da_answers.specs.Blobs.{shares_in, BlobsOf}
-use Rattle.da_answers.specs.Commit.{CommitOf}
-use Rattle.da_answers.specs.Prove.{ProveOf, ProveRangeOf}
-use Rattle.da_answers.specs.Follow.{follow_judged, FollowOf}
+use Rattle.da_judging.specs.VerifyFor.{verify_for_judged, VerifyForOf}
+use Rattle.da_judging.specs.Root.{RootOf, RootIsOf}
+use Rattle.da_serving.specs.Wanted.{missing_in, WantedOf}
+use Rattle.da_serving.specs.Blobs.{shares_in, BlobsOf}
+use Rattle.da_serving.specs.Commit.{CommitOf}
+use Rattle.da_serving.specs.Prove.{ProveOf, ProveRangeOf}
+use Rattle.da_judging.specs.Follow.{follow_judged, FollowOf}
 use Rattle.da_commands.specs.Help.{help_judged, HelpOf, VersionOf}
 
 -- of each file where it leaves its form, if it does

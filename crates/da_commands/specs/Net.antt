@@ -9,9 +9,9 @@ use Rattle.da_script.specs.Plays.{items_in, item_sizes, is_refused, first_net, T
 use Rattle.da_status.specs.declared.status.Asked.TheVariants.{Nodes}
 use Rattle.da_status.specs.declared.status.Status.TheVariants.{Done, BadRequest}
 use Rattle.da_status.specs.Outcome.{Relation, Refuses}
-use Rattle.da_answers.specs.Contents.{file_of, header_file, messages_file}
-use Rattle.da_answers.specs.Frames.{header_in}
-use Rattle.da_answers.specs.Forms.{messages_judged, Over}
+use Rattle.da_files.specs.Contents.{file_of, header_file, messages_file}
+use Rattle.da_files.specs.Frames.{header_in}
+use Rattle.da_files.specs.Forms.{messages_judged, Over}
 
 -- SCRIPT, the third file of net
 abbrev pub script_file : List (List ℕ) → List ℕ

@@ -9,7 +9,7 @@ use Rattle.da_show.specs.Json.{json_text}
 use Rattle.da_status.specs.declared.status.Status.TheVariants.{Done}
 use Rattle.da_commands.specs.declared.show.Form.{Form}
 use Rattle.da_commands.specs.declared.show.Form.TheVariants.{Text, Json}
-use Rattle.da_answers.specs.Contents.{file_of}
+use Rattle.da_files.specs.Contents.{file_of}
 use Rattle.da_status.specs.Outcome.{Relation}
 
 -- ---- frames

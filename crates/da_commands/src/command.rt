@@ -2,17 +2,15 @@
 
 ghost use Rattle.std.specs.Prelude.{◌≡◌, ◌≢◌};
 ghost use Rattle.da_commands.specs.declared.command.Command.TheVariants as CommandOf;
-ghost use Rattle.da_answers.specs.Contents.{contents_of};
+ghost use Rattle.da_files.specs.Contents.{contents_of};
 ghost use Rattle.da_status.specs.declared.status.Status.TheVariants.{NoMemory};
 ghost use Rattle.da_commands.specs.Meaning.{Meaning, TakesFirst, IsRunnable};
 ghost use Rattle.da_status.specs.Outcome.{Ends};
 
 use crate::{demo, help, net, show};
-use da_answers::{
-    blobs, build, check, commit, compact, follow, header, light, namespace, prove, root, sample,
-    verify, verify_for, wanted,
-};
 use da_io::Sink;
+use da_judging::{check, compact, follow, light, root, verify, verify_for};
+use da_serving::{blobs, build, commit, header, namespace, prove, sample, wanted};
 use da_status::Status;
 use namespace_id::Axis;
 use std::alloc::Global;

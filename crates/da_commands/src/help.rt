@@ -4,7 +4,7 @@ ghost use Rattle.std.specs.Prelude.{◌≡◌};
 ghost use Rattle.da_commands.specs.Help.{HelpOf, VersionOf};
 ghost use Rattle.da_status.specs.Outcome.{EndsAtOnce};
 
-use da_answers::put;
+use da_files::put;
 use da_io::Sink;
 use da_status::Status;
 

@@ -2,7 +2,7 @@
 //!
 //! A command is a case of `Command`, of `Meaning` and of `execute`. `show`, `json`, `net`, `demo`, `help` and
 //! `version` stand here, each with a file of its own here and in `specs/`; the others are those of
-//! `da_answers`.
+//! `da_serving` and `da_judging`.
 #![tactic(auto)]
 
 mod command;
@@ -13,9 +13,10 @@ mod net;
 mod show;
 
 pub use command::{Command, execute};
-pub use da_answers::{
-    Answer, Finding, Request, Unread, answer_in, blobs_laws, check_number, follow_laws,
-    give_verdict, header_frame, header_in, is_answer_to, message_in, refusal_for, refusal_of,
-    request_in, square_in,
+pub use da_files::{Unread, header_in, message_in, square_in};
+pub use da_judging::{
+    Answer, Finding, Request, answer_in, check_number, follow_laws, give_verdict, is_answer_to,
+    refusal_for, refusal_of, request_in,
 };
+pub use da_serving::{blobs_laws, header_frame};
 pub use laws::answering_laws;

@@ -2,11 +2,11 @@
 
 ghost use Rattle.std.specs.Prelude.{◌≡◌};
 ghost use Rattle.da_commands.specs.declared.command.Command.TheVariants as CommandOf;
-ghost use Rattle.da_answers.specs.Contents.{contents_of};
+ghost use Rattle.da_files.specs.Contents.{contents_of};
 ghost use Rattle.da_commands.specs.Meaning.{Meaning};
 ghost use Rattle.da_status.specs.Outcome.{EndsAtOnce};
 
-use da_answers::{file, header_and_messages, put};
+use da_files::{file, header_and_messages, put};
 use da_io::Sink;
 use da_script::{PlayError, play};
 use da_status::{Asked, Status};

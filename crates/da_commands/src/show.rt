@@ -6,13 +6,13 @@ ghost use Rattle.std.specs.String.{string_bytes};
 ghost use Rattle.da_wire.specs.declared.frames.Frame.{Frame as FrameOf};
 ghost use Rattle.da_wire.specs.Briefs.{brief_of};
 ghost use Rattle.da_wire.specs.Values.{values_of};
-ghost use Rattle.da_answers.specs.Contents.{contents_of};
+ghost use Rattle.da_files.specs.Contents.{contents_of};
 ghost use Rattle.da_commands.specs.Show.{all_kinds, shown_as, line_of, all_shown, Shows, show_judged, shown_file, ShowOf, JsonOf};
 ghost use Rattle.da_status.specs.declared.status.Status.TheVariants.{WriteFault};
 ghost use Rattle.da_status.specs.Judging.{Judged};
 ghost use Rattle.da_status.specs.Outcome.{Ends};
 
-use da_answers::file;
+use da_files::file;
 use da_io::{LineRoom, Sink, WriteFailed};
 use da_status::Status;
 use da_wire::{Brief, Frame, bad_value, next_brief, next_value};

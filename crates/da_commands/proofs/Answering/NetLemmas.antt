@@ -14,12 +14,12 @@ use Rattle.da_status.specs.Outcome.{Relation, Refuses}
 use Rattle.da_status.specs.Judging.{first_bad}
 use Rattle.da_status.proofs.EndLemmas.{IsAnswer, status_answers}
 use Rattle.da_commands.specs.declared.command.Command.TheVariants as command
-use Rattle.da_answers.specs.Frames.{header_in, error_of}
-use Rattle.da_answers.specs.Forms.{messages_judged}
+use Rattle.da_files.specs.Frames.{header_in, error_of}
+use Rattle.da_files.specs.Forms.{messages_judged}
 use Rattle.da_commands.specs.Net.{script_file, Limited, Nets, net_judged, NetOf}
 use Rattle.da_commands.specs.Meaning.{Meaning}
-use Rattle.da_answers.specs.Contents.{header_file, messages_file}
-use Rattle.da_answers.proofs.Files.FormLemmas.{third_bad, judged_over, over_each}
+use Rattle.da_files.specs.Contents.{header_file, messages_file}
+use Rattle.da_files.proofs.FormLemmas.{third_bad, judged_over, over_each}
 
 -- ---- the three files
 

@@ -1,5 +1,5 @@
 use Rattle.std.proofs.Common.{length}
-use Rattle.da_answers.specs.Frames.{square_in}
+use Rattle.da_files.specs.Frames.{square_in}
 use Rattle.da_c.specs.Calls.{Heads}
 use Rattle.da_c.proofs.UnreadLemmas.{unread_leaves}
 use Rattle.da_c.proofs.writing.header.Goals as goal

@@ -3,7 +3,7 @@ use Rattle.std.specs.declared.option.Option.{Option}
 use Rattle.std.specs.String.{string_bytes}
 use Rattle.da_io.specs.Files.{Files}
 use Rattle.da_cli.specs.Words.{words_of}
-use Rattle.da_answers.specs.Contents.{contents_of}
+use Rattle.da_files.specs.Contents.{contents_of}
 use Rattle.da_cli.specs.Gathered.{Gathers, ReadsFile}
 use Rattle.da_cli.proofs.GatheredLemmas.{last_on, stop_picks, come_on, stop_here, stop_in, all_read_on, name_here, contents_more}
 use Rattle.da_cli.proofs.gathering.gather.Goals as goal

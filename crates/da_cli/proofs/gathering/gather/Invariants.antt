@@ -2,7 +2,7 @@ use Rattle.std.proofs.Common.{◌≡◌, ◌≤◌, ◌<◌, Ok}
 use Rattle.da_io.specs.Faults.{count_on}
 use Rattle.da_cli.specs.Limits.{file_limit}
 use Rattle.da_cli.specs.Words.{words_of}
-use Rattle.da_answers.specs.Contents.{contents_of}
+use Rattle.da_files.specs.Contents.{contents_of}
 use Rattle.da_cli.specs.Gathered.{AllRead, Gathers, IsLastOf}
 use Rattle.da_cli.proofs.gathering.gather.Given as goal
 

@@ -1,29 +1,30 @@
 use Rattle.std.proofs.Common.{[], ◌∷◌, length}
 use Rattle.da_wire.specs.declared.frames.Frame.TheVariants.{Request}
 use Rattle.da_wire.specs.Spelling.{sample_kind, request_kind}
-use Rattle.da_answers.specs.Sample.{sample_of, sample_frame}
-use Rattle.da_answers.specs.Namespace.{namespace_of}
-use Rattle.da_answers.proofs.Files.RequestLemmas.{asked_again}
-use Rattle.da_answers.proofs.Answering.SampleLemmas.{is_sample_frame}
-use Rattle.da_answers.proofs.Answering.NamespaceLemmas.{is_name_frame}
+use Rattle.da_serving.specs.Sample.{sample_of, sample_frame}
+use Rattle.da_files.specs.Requests.{namespace_of}
+use Rattle.da_files.proofs.RequestLemmas.{asked_again}
+use Rattle.da_serving.proofs.SampleLemmas.{is_sample_frame}
+use Rattle.da_serving.proofs.NamespaceLemmas.{is_name_frame}
 use Rattle.data_header.specs.DataRoots.{data_root_of}
 use Rattle.square_layout.specs.Layout.{square_of}
 use Rattle.axis_roots.specs.Grids.{header_of_grid}
-use Rattle.da_answers.proofs.Files.FileLemmas.{header_file, square_file, block_file, answer_file, square_again, some_there}
+use Rattle.da_files.proofs.FileLemmas.{header_file, square_file, block_file, square_again, some_there}
+use Rattle.da_judging.proofs.AskedLemmas.{answer_file}
 use Rattle.da_cli.proofs.RunLemmas.{form_law, bad_input_law, excess_law, absent_law, failure_law}
-use Rattle.da_answers.proofs.Answering.CheckLemmas.{finding_proved, finding_own}
-use Rattle.da_answers.proofs.Answering.CompactLemmas.{compacts_own}
-use Rattle.da_answers.proofs.Answering.RepairLemmas.{repairs_own}
+use Rattle.da_judging.proofs.CheckLemmas.{finding_proved, finding_own}
+use Rattle.da_judging.proofs.CompactLemmas.{compacts_own}
+use Rattle.da_judging.proofs.RepairLemmas.{repairs_own}
 use Rattle.da_cli.proofs.CountedLies.{lies_counted}
 use Rattle.da_script.specs.Scripts.{moves_of}
 use Rattle.da_script.specs.Plays as plays
 use Rattle.da_cli.proofs.NetLemmas.{nets_own}
 use Rattle.da_cli.proofs.RangeLemmas.{proves_own}
-use Rattle.da_answers.proofs.Answering.LightLemmas.{lights_own}
-use Rattle.da_answers.proofs.Answering.VerifyLemmas.{verified_proved, verified_complete, verified_accepted, verified_committed, verified_rooted, verified_own}
-use Rattle.da_answers.proofs.Answering.AskedLemmas.{answers_to}
-use Rattle.da_answers.proofs.Answering.VerifyForLemmas.{asked_holds, asked_other}
-use Rattle.da_answers.proofs.Answering.RootLemmas.{tied}
+use Rattle.da_judging.proofs.LightLemmas.{lights_own}
+use Rattle.da_judging.proofs.VerifyLemmas.{verified_proved, verified_complete, verified_accepted, verified_committed, verified_rooted, verified_own}
+use Rattle.da_judging.proofs.AskedLemmas.{answers_to}
+use Rattle.da_judging.proofs.VerifyForLemmas.{asked_holds, asked_other}
+use Rattle.da_judging.proofs.RootLemmas.{tied}
 use Rattle.da_cli.proofs.laws.run_laws.Goals as goal
 
 pub returns-clause-form : goal.returns-clause-form

@@ -3,7 +3,7 @@ use Rattle.da_cli.specs.declared.words.Call.{Call}
 use Rattle.da_cli.specs.Run.{IsEarly}
 use Rattle.da_status.specs.declared.status.Status.{Status}
 use Rattle.da_cli.specs.Words.{words_of}
-use Rattle.da_answers.specs.Contents.{contents_of}
+use Rattle.da_files.specs.Contents.{contents_of}
 use Rattle.da_commands.specs.Meaning.{Meaning}
 use Rattle.da_cli.specs.Ran.{Ran}
 use Rattle.da_status.proofs.EndLemmas.{ends_as}

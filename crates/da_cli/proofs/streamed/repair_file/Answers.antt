@@ -12,11 +12,11 @@ use Rattle.repair_queue.specs.Verdicts.{IsVerdict}
 use Rattle.da_wire.specs.Frames.{frames_of}
 use Rattle.da_status.specs.declared.status.Status.TheVariants.{BadInput}
 use Rattle.da_status.specs.Outcome.{EndsAtOnce}
-use Rattle.da_answers.specs.Repair.{Repairs}
+use Rattle.da_judging.specs.Repair.{Repairs}
 use Rattle.da_cli.specs.Feeding.{proved_among}
 use Rattle.da_cli.specs.Streamed.{FeedsFile}
 use Rattle.da_status.proofs.EndLemmas.{once_within}
-use Rattle.da_answers.proofs.Answering.RepairLemmas.{repairs}
+use Rattle.da_judging.proofs.RepairLemmas.{repairs}
 use Rattle.da_cli.proofs.streamed.repair_file.Goals as goal
 
 -- the verdict is one over the proved samples of the file

@@ -2,8 +2,8 @@ use Rattle.std.proofs.Common.{◌≡◌, ℕ, Err, ap, subst, refl}
 use Rattle.data_header.specs.Headers.{Roots}
 use Rattle.std.specs.String.{string_bytes}
 use Rattle.da_status.specs.declared.status.Status.TheVariants.{BadInput}
-use Rattle.da_answers.specs.declared.frames.Unread.{Unread}
-use Rattle.da_answers.specs.Frames.{header_in, ReadsSingle}
+use Rattle.da_files.specs.declared.frames.Unread.{Unread}
+use Rattle.da_files.specs.Frames.{header_in, ReadsSingle}
 use Rattle.da_cli.proofs.SecondLemmas.{second_of, refused_ends, first_refuses}
 use Rattle.da_cli.proofs.streamed.second_file.Goals as goal
 

@@ -1,6 +1,6 @@
-use Rattle.da_answers.proofs.Answering.VerifyLemmas.{verified_own}
-use Rattle.da_answers.proofs.Answering.VerifyForLemmas.{asked_holds}
-use Rattle.da_answers.proofs.Answering.AllowedLemmas.{sample_allowed, root_proof_allowed, names_allowed, shows_asked}
+use Rattle.da_judging.proofs.VerifyLemmas.{verified_own}
+use Rattle.da_judging.proofs.VerifyForLemmas.{asked_holds, shows_asked}
+use Rattle.da_commands.proofs.Answering.AllowedLemmas.{sample_allowed, root_proof_allowed, names_allowed}
 use Rattle.da_commands.proofs.laws.answering_laws.Goals as goal
 
 pub returns-clause-sample : goal.returns-clause-sample

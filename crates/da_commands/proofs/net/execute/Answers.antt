@@ -6,14 +6,14 @@ use Rattle.da_script.specs.Scripts.{bad_script}
 use Rattle.da_script.specs.Plays.{items_in, Plays}
 use Rattle.da_status.specs.declared.status.Asked.TheVariants.{Nodes}
 use Rattle.da_status.specs.declared.status.Status.TheVariants.{Done, BadInput, BadRequest}
-use Rattle.da_answers.specs.Contents.{contents_of, messages_file}
-use Rattle.da_answers.specs.Frames.{WritesText}
-use Rattle.da_answers.specs.Forms.{messages_judged}
+use Rattle.da_files.specs.Contents.{contents_of, messages_file}
+use Rattle.da_files.specs.Frames.{WritesText}
+use Rattle.da_files.specs.Forms.{messages_judged}
 use Rattle.da_commands.specs.Net.{script_file, Nets, net_judged, NetOf}
 use Rattle.da_commands.specs.declared.command.Command.TheVariants.{Net}
 use Rattle.da_commands.specs.Meaning.{Meaning}
 use Rattle.da_status.proofs.EndLemmas.{once_as, once_within, once_request}
-use Rattle.da_answers.proofs.Files.FormLemmas.{refused_once, refused_more}
+use Rattle.da_files.proofs.FormLemmas.{refused_once, refused_more}
 use Rattle.da_commands.proofs.Answering.NetLemmas.{net_no_script, net_played, nets_told, nets_refused}
 use Rattle.da_commands.proofs.net.execute.Goals as goal
 

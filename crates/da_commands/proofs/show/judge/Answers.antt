@@ -1,6 +1,6 @@
 use Rattle.std.proofs.Common.{◌∙◌, ℕ, List, refl, sym, ap}
 use Rattle.da_wire.specs.Values.{values_of, bad_value}
-use Rattle.da_answers.specs.Contents.{contents_of}
+use Rattle.da_files.specs.Contents.{contents_of}
 use Rattle.da_status.specs.Judging.{Judged}
 use Rattle.da_commands.specs.Show.{all_kinds, shown_as, shown_file, Shows, show_judged}
 use Rattle.da_status.proofs.EndLemmas.{ends_as, ends_refused}

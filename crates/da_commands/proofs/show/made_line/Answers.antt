@@ -1,6 +1,6 @@
 use Rattle.da_wire.specs.Values.{values_of}
 use Rattle.da_commands.specs.Show.{all_kinds, shown_as}
-use Rattle.da_answers.proofs.Files.ValueLemmas.{first_is, none_is}
+use Rattle.da_files.proofs.ValueLemmas.{first_is, none_is}
 use Rattle.da_commands.proofs.Answering.ShowLemmas.{next_shown, shown-first, shown_found}
 use Rattle.da_commands.proofs.show.made_line.Goals as goal
 

@@ -1,0 +1,97 @@
+-- How commands end over files that are judged by their shapes.
+use Rattle.std.proofs.Common.{◌≡◌, ◌∙◌, ℕ, suc, List, [], ◌∷◌, ◌++◌, None, Some, Result, Ok, Err, inl, refl, sym, ap}
+use Rattle.std.specs.Prelude.{MatchOption}
+use Rattle.std.specs.declared.option.Option.{Option}
+use Rattle.std.proofs.KnownBytes.{Appends-nil}
+use Rattle.da_status.specs.declared.status.Status.{Status}
+use Rattle.da_status.specs.declared.status.Status.TheVariants.{BadInput, NoMemory}
+use Rattle.da_status.specs.Outcome.{Relation, Refuses, Ends, EndsAtOnce}
+use Rattle.da_status.specs.Judging.{first_bad, Judged}
+use Rattle.da_status.proofs.EndLemmas.{once_as, once_refused}
+use Rattle.da_files.specs.Frames.{error_of}
+use Rattle.da_files.specs.Forms.{IsRefusal, Over}
+
+-- the meaning by the first file that isn't in its form
+abbrev by_first : Relation → Option (ℕ × ℕ) → Relation
+by_first Answer first w status = MatchOption first (Answer w status) (λ bad. Refuses (BadInput bad.0 bad.1) w status)
+
+-- ---- files that are refused
+
+-- a command whose files are refused ends by the status of the refusal, whatever its answers are
+pub refused_once : (judged : List (Option ℕ)) (Answer : Relation) (old : Option (List ℕ)) (before : ℕ) (Same : Type 0) (status : Status)
+    → IsRefusal judged status → Same → EndsAtOnce (Judged judged Answer) old old before before Same status
+refused_once judged Answer old before Same (BadInput i at) bad same =
+    once_as (Refuses (BadInput i at)) (Judged judged Answer) old old before before Same (BadInput i at) (sym (ap (by_first Answer) bad))
+    (once_refused i at old before Same same)
+refused_once judged Answer old before Same NoMemory bad same = record {
+  ends = record {
+    leaves = ([], Appends-nil old, inl refl);
+    faults = refl;
+    told = (λ s. s, λ s. s);
+    untouched = tt;
+    own = tt;
+  };
+  late = λ e. same;
+}
+refused_once judged Answer old before Same status bad same = absurd bad
+
+-- so does one that doesn't take all of its memory before it writes
+pub refused_ends : (judged : List (Option ℕ)) (Answer : Relation) (old : Option (List ℕ)) (before : ℕ) (Same : Type 0) (status : Status)
+    → IsRefusal judged status → Same → Ends (Judged judged Answer) old old before before Same status
+refused_ends judged Answer old before Same status refusal same = (refused_once judged Answer old before Same status refusal same).ends
+
+-- the first file that isn't in its form is the first of more files
+bad_front : (i : ℕ) (judged more : List (Option ℕ)) (bad : ℕ × ℕ) → first_bad i judged ≡ Some bad → first_bad i (judged ++ more) ≡ Some bad
+bad_front i [] more bad e = absurd cc
+bad_front i (None ∷ judged) more bad e = bad_front (suc i) judged more bad e
+bad_front i (Some at ∷ judged) more bad e = e
+
+-- a refusal of files refuses more files
+pub refused_more : (judged more : List (Option ℕ)) (status : Status) → IsRefusal judged status → IsRefusal (judged ++ more) status
+refused_more judged more (BadInput i at) bad = bad_front 0 judged more (i, at) bad
+refused_more judged more NoMemory bad = tt
+refused_more judged more status bad = absurd bad
+
+-- behind one file in its form the second is judged
+pub second_bad : (a : Option ℕ) (more : List (Option ℕ)) → first_bad 0 (a ∷ []) ≡ None → first_bad 0 (a ∷ more) ≡ first_bad 1 more
+second_bad None more fine = refl
+second_bad (Some at) more fine = absurd cc
+
+-- behind two files in their forms the third is
+pub third_bad : (a b : Option ℕ) (more : List (Option ℕ)) → first_bad 0 (a ∷ b ∷ []) ≡ None → first_bad 0 (a ∷ b ∷ more) ≡ first_bad 2 more
+third_bad None None more fine = refl
+third_bad None (Some at) more fine = absurd cc
+third_bad (Some at) b more fine = absurd cc
+
+-- ---- files that are in their forms
+
+-- the meaning over files that are all in their forms is the answer
+pub judged_is : (judged : List (Option ℕ)) (Answer : Relation) → first_bad 0 judged ≡ None → Answer ≡ Judged judged Answer
+judged_is judged Answer fine = sym (ap (by_first Answer) fine)
+
+module _ {A : Type 0} (Answer : A → Relation) where
+  -- the answer to a file that was read as a value is that to the value
+  pub over_is : (read : Result A ℕ) (value : A) → read ≡ Ok value → Answer value ≡ Over read Answer
+  over_is read value is = sym (ap (λ (r : Result A ℕ). Over r Answer) is)
+
+  -- so is the meaning, where all files are in their forms
+  pub judged_over : (judged : List (Option ℕ)) (read : Result A ℕ) (value : A) → first_bad 0 judged ≡ None → read ≡ Ok value
+      → Answer value ≡ Judged judged (Over read Answer)
+  judged_over judged read value fine is = over_is read value is ∙ judged_is judged (Over read Answer) fine
+
+  -- the meaning over the one file that was read as a value
+  pub single_is : (read : Result A ℕ) (value : A) → read ≡ Ok value → Answer value ≡ Judged (error_of read ∷ []) (Over read Answer)
+  single_is read value is =
+      judged_over (error_of read ∷ []) read value (ap (λ (r : Result A ℕ). first_bad 0 (error_of r ∷ [])) is) is
+
+  -- a fact that comes with each value's answer comes with that to a file
+  pub over_each : (read : Result A ℕ) (w : List ℕ) (status : Status) (Fact : Type 0) → ((value : A) → Answer value w status → Fact)
+      → Over read Answer w status → Fact
+  over_each (Ok value) w status Fact each h = each value h
+  over_each (Err at) w status Fact each h = absurd h
+
+-- the meaning over a file that was read as a value and one that is taken as it is
+pub judged_with : {A : Type 0} (Answer : A → List ℕ → Relation) (judged : List (Option ℕ)) (read : Result A ℕ) (value : A) (bytes file : List ℕ)
+    → first_bad 0 judged ≡ None → read ≡ Ok value → bytes ≡ file → Answer value bytes ≡ Judged judged (Over read (λ v. Answer v file))
+judged_with {A} Answer judged read value bytes file fine is here =
+    ap (Answer value) here ∙ judged_over (λ (v : A). Answer v file) judged read value fine is

@@ -1,0 +1,91 @@
+-- Files of one frame: what a reader of one kind gives, and memory that runs out in place of a value alone.
+use Rattle.std.proofs.Common.{◌≡◌, ◌∙◌, ℕ, List, None, Some, Result, Ok, Err, IsOk, IsSome, refl, sym, ap, subst, inl, inr}
+use Rattle.std.specs.declared.option.Option.{Option}
+use Rattle.std.specs.Option.{option_map_or, ok_or}
+use Rattle.da_wire.specs.declared.frames.Frame.{Frame}
+use Rattle.da_wire.specs.declared.frames.FrameError.{FrameError}
+use Rattle.da_wire.specs.declared.frames.FrameError.TheVariants.{Truncated, BadKind, TooLong, BadPayload, Trailing, NoMemory}
+use Rattle.da_wire.specs.Reading.{only_of, Reads}
+use Rattle.da_wire.specs.Single.{single as read_single}
+use Rattle.da_wire.proofs.SingleLemmas.{IsNotFull, only_not_full, single_not_full}
+use Rattle.da_wire.specs.Streams.{offset_of}
+use Rattle.da_files.specs.declared.frames.Unread.TheVariants as reasons
+use Rattle.da_files.specs.Frames.{single, unread_of, ReadsSingle}
+
+module _ {A : Type 0} where
+  -- what a file is, or where it stops being one frame, by what its reader gives
+  abbrev told_of : Result A FrameError → Result A ℕ
+  told_of (Ok value) = Ok value
+  told_of (Err e) = Err (offset_of e)
+
+  -- that of a frame, by its value
+  told_by : (o : Option A) → ◌≡◌ {A = Result A ℕ} (option_map_or Ok o (Err 0)) (told_of (option_map_or Ok o (Err (BadKind 0))))
+  told_by None = refl
+  told_by (Some value) = refl
+
+  -- that of a frame of a kind
+  told : (value : Frame → Option A) (read : Result Frame FrameError) → single value read ≡ told_of (read_single value read)
+  told value (Err e) = refl
+  told value (Ok frame) = told_by (value frame)
+
+  -- a value that was read is what the file is
+  pub is_read : (value : Frame → Option A) (read : Result Frame FrameError) (a : A) → read_single value read ≡ Ok a → single value read ≡ Ok a
+  is_read value read a e = told value read ∙ ap told_of e
+
+  -- a value that there is is what the file is
+  told_ok : (r : Result A FrameError) → IsOk r → IsOk (told_of r)
+  told_ok (Ok value) h = refl
+  told_ok (Err e) h = absurd cc
+
+  -- why nothing was read is why the file isn't one frame
+  unread : (error : FrameError) (r : Result A FrameError) → IsNotFull r → Reads NoMemory (λ (a : A). a) (Err error) r
+      → ReadsSingle (Err (unread_of error)) (told_of r)
+  unread (Truncated at) r h (inl full) = absurd cc
+  unread (Truncated at) r h (inr e) = ap told_of e
+  unread (BadKind at) r h (inl full) = absurd cc
+  unread (BadKind at) r h (inr e) = ap told_of e
+  unread (TooLong at) r h (inl full) = absurd cc
+  unread (TooLong at) r h (inr e) = ap told_of e
+  unread (BadPayload at) r h (inl full) = absurd cc
+  unread (BadPayload at) r h (inr e) = ap told_of e
+  unread (Trailing at) r h (inl full) = absurd cc
+  unread (Trailing at) r h (inr e) = ap told_of e
+  unread NoMemory r h (inl full) = told_ok r full.1
+  unread NoMemory r h (inr e) = absurd (subst (λ (x : Result A FrameError). IsNotFull x) e h refl)
+
+  -- why a file was not read as one frame of a kind
+  pub is_unread : (value : Frame → Option A) (bytes kinds : List ℕ) (error : FrameError)
+      → Reads NoMemory (λ (a : A). a) (Err error) (read_single value (only_of bytes kinds)) → ReadsSingle (Err (unread_of error)) (single value (only_of bytes kinds))
+  is_unread value bytes kinds error h =
+      subst (λ (x : Result A ℕ). ReadsSingle (Err (unread_of error)) x) (sym (told value (only_of bytes kinds)))
+      (unread error (read_single value (only_of bytes kinds)) (single_not_full value (only_of bytes kinds) (only_not_full bytes kinds)) h)
+
+  -- a value that there is is what a frame is read as
+  some_ok : (o : Option A) → IsSome o → IsOk {T = A} {E = FrameError} (option_map_or Ok o (Err (BadKind 0)))
+  some_ok None some = absurd cc
+  some_ok (Some value) some = refl
+
+  -- a frame that was read is read as its value, where it has one
+  value_ok : (value : Frame → Option A) (read : Result Frame FrameError) → ((frame : Frame) → read ≡ Ok frame → IsSome (value frame)) → IsOk read
+      → IsOk (read_single value read)
+  value_ok value (Ok frame) some ok = some_ok (value frame) (some frame refl)
+  value_ok value (Err e) some ok = absurd cc
+
+  -- why a file was not read as one frame of some kinds, which all have values
+  pub values_unread : (value : Frame → Option A) (bytes kinds : List ℕ) (error : FrameError)
+      → ((frame : Frame) → only_of bytes kinds ≡ Ok frame → IsSome (value frame)) → Reads NoMemory (λ (v : Frame). v) (Err error) (only_of bytes kinds)
+      → ReadsSingle (Err (unread_of error)) (single value (only_of bytes kinds))
+  values_unread value bytes kinds error some (inl full) =
+      is_unread value bytes kinds error (inl (full.0, value_ok value (only_of bytes kinds) some full.1))
+  values_unread value bytes kinds error some (inr e) = is_unread value bytes kinds error (inr (ap (read_single value) e))
+
+  -- a value is what the file is, and without one the file is none from its first byte on
+  value_read : (o : Option A) → ReadsSingle (ok_or o (reasons.BadForm 0)) (option_map_or Ok o (Err 0))
+  value_read None = refl
+  value_read (Some value) = refl
+
+  -- what a frame that was read has is what the file is
+  pub values_read : (value : Frame → Option A) (read : Result Frame FrameError) (frame : Frame) → read ≡ Ok frame
+      → ReadsSingle (ok_or (value frame) (reasons.BadForm 0)) (single value read)
+  values_read value read frame e =
+      subst (λ (r : Result Frame FrameError). ReadsSingle (ok_or (value frame) (reasons.BadForm 0)) (single value r)) (sym e) (value_read (value frame))

@@ -1,0 +1,5 @@
+pub mod Contents
+pub mod Frames
+pub mod Forms
+pub mod Requests
+pub mod Lines

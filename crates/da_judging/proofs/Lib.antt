@@ -1,0 +1,13 @@
+pub mod AheadLemmas
+pub mod CheckLemmas
+pub mod ClashLemmas
+pub mod MessageLemmas
+pub mod RepairLemmas
+pub mod LightLemmas
+pub mod NodeLemmas
+pub mod AskedLemmas
+pub mod VerifyLemmas
+pub mod CompactLemmas
+pub mod VerifyForLemmas
+pub mod RootLemmas
+pub mod Following

@@ -1,0 +1,75 @@
+-- Light nodes that are handed frames.
+use Rattle.std.proofs.Common.{◌≡◌, ◌∙◌, ℕ, List, [], ◌∷◌, ◌++◌, Some, None, sym, ap, subst, append-nil}
+use Rattle.std.specs.declared.option.Option.{Option}
+use Rattle.std.specs.Option.{option_map_or}
+use Rattle.std.proofs.Math.Seq.{append_snoc}
+use Rattle.namespace_id.specs.declared.cells.Cell.{Cell}
+use Rattle.light_node.specs.declared.events.Event.{Event}
+use Rattle.light_node.specs.Nodes.{NodeParts, StandsFor, IsSame}
+use Rattle.da_wire.specs.Reading.{Raw}
+use Rattle.da_judging.specs.Light.{event_in, events_in}
+
+-- ---- events
+
+-- an event that is there stands in front
+with_event : (o : Option Event) (later : List Event) (event : Event) → o ≡ Some event
+    → option_map_or (λ e. e ∷ later) o later ≡ event ∷ later
+with_event o later event here = ap (λ (x : Option Event). option_map_or (λ e. e ∷ later) x later) here
+
+-- where there is none the later ones are left
+without_event : (o : Option Event) (later : List Event) → o ≡ None → option_map_or (λ e. e ∷ later) o later ≡ later
+without_event o later none = ap (λ (x : Option Event). option_map_or (λ e. e ∷ later) x later) none
+
+-- the events among frames, by the first frame
+events_by : (rest after : List Raw) (frame : Raw) → rest ≡ frame ∷ after
+    → events_in rest ≡ option_map_or (λ e. e ∷ events_in after) (event_in frame) (events_in after)
+unfolding events_in
+events_by rest after frame next = ap events_in next
+
+module _ {F : Type 0} (picks : F → ℕ → Cell → Type 0) (old : NodeParts F) (frames : List Raw) where
+  -- a node that planned these cells and was handed nothing was handed all events but those of the rest since
+  abbrev pub Handed : NodeParts F → List Raw → Type 0
+  Handed node rest = (plan : List Cell) → StandsFor picks old plan []
+      → (done : List Event) × StandsFor picks node plan done × (events_in frames ≡ done ++ events_in rest)
+
+  -- the next frame is an event
+  pub handed_on : (node new : NodeParts F) (rest after : List Raw) (frame : Raw) (event : Event) → rest ≡ frame ∷ after
+      → event_in frame ≡ Some event
+      → ((plan : List Cell) (events : List Event) → StandsFor picks node plan events
+      → StandsFor picks new plan (events ++ event ∷ []))
+      → Handed node rest → Handed new after
+  handed_on node new rest after frame event next here step handed = λ plan stands.
+      let so_far = handed plan stands in
+      let later : events_in rest ≡ event ∷ events_in after =
+      events_by rest after frame next ∙ with_event (event_in frame) (events_in after) event here in
+      let parts : events_in frames ≡ (so_far.0 ++ event ∷ []) ++ events_in after =
+      so_far.2 ∙ ap (λ (l : List Event). so_far.0 ++ l) later ∙ sym (append_snoc so_far.0 event (events_in after)) in
+      (so_far.0 ++ event ∷ [], step plan so_far.0 so_far.1, parts)
+
+  -- the next frame is none
+  pub handed_past : (node : NodeParts F) (rest after : List Raw) (frame : Raw) → rest ≡ frame ∷ after
+      → event_in frame ≡ None
+      → Handed node rest → Handed node after
+  handed_past node rest after frame next none handed = λ plan stands.
+      let so_far = handed plan stands in
+      let later : events_in rest ≡ events_in after =
+      events_by rest after frame next ∙ without_event (event_in frame) (events_in after) none in
+      (so_far.0, so_far.1, so_far.2 ∙ ap (λ (l : List Event). so_far.0 ++ l) later)
+
+  -- all frames were handed over
+  pub handed_all : (node : NodeParts F) (rest : List Raw) → rest ≡ [] → Handed node rest
+      → (plan : List Cell) → StandsFor picks old plan [] → StandsFor picks node plan (events_in frames)
+  unfolding events_in
+  handed_all node rest none handed plan stands =
+      let so_far = handed plan stands in
+      let all : events_in frames ≡ so_far.0 = so_far.2 ∙ ap (λ (l : List Raw). so_far.0 ++ events_in l) none
+      ∙ append-nil so_far.0 in
+      subst (StandsFor picks node plan) (sym all) so_far.1
+
+-- what no call changes stays over two of them
+pub same_on : {F : Type 0} (a b d : NodeParts F) → IsSame a b → IsSame b d → IsSame a d
+same_on a b d one two = record {
+  header = two.header ∙ one.header;
+  limit = two.limit ∙ one.limit;
+  pick = two.pick ∙ one.pick;
+}

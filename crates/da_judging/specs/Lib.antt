@@ -1,0 +1,11 @@
+pub mod Ahead
+pub mod Check
+pub mod Answers
+pub mod Verify
+pub mod Compact
+pub mod VerifyFor
+pub mod Repair
+pub mod Light
+pub mod Root
+pub mod Follow
+pub mod Heights

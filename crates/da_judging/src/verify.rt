@@ -1,0 +1,220 @@
+//! verify HEADER ANSWER: whether one answer holds under a header.
+
+ghost use Rattle.std.specs.Prelude.{◌≡◌, IfOk};
+ghost use Rattle.std.specs.Option.{option_map};
+ghost use Rattle.data_header.specs.DataRoots.{data_root_of};
+ghost use Rattle.blob_commit.specs.Refusals.{commit_refusal, rooted_refusal};
+ghost use Rattle.da_judging.specs.declared.answers.Answer.TheVariants as AnswerOf;
+ghost use Rattle.da_files.specs.Contents.{contents_of};
+ghost use Rattle.da_files.specs.Frames.{ReadsSingle, WritesText};
+ghost use Rattle.da_judging.specs.Verify.{check_number, ns_number, fraud_number, commit_number, rooted_number, IsRefusal, verdict_line, verdict_status, answer_in, Verifies, VerifyOf};
+ghost use Rattle.da_files.specs.Forms.{under_judged};
+ghost use Rattle.da_status.specs.Judging.{Judged};
+ghost use Rattle.da_status.specs.Outcome.{EndsAtOnce};
+ghost use Rattle.da_status.specs.Statuses.{kind_of, output};
+
+use crate::answers::{Answer, answer_of};
+use crate::forms::header_and_answer;
+use axis_roots::{CheckRefusal, FraudClaim, opens};
+use befp_verify::{FraudRefusal, VerifyRoom};
+use blob_commit::{CommitProof, CommitRefusal, RootedMessage, RootedRefusal, check_commit, rooted};
+use da_files::{Unread, put, reason};
+use da_io::Sink;
+use da_status::{Line, Status, around};
+use da_wire::{read_only, wire_laws};
+use data_header::{Header, data_root};
+use namespace_id::{NoMemory, bytes_law};
+use square_serve::{NsRefusal, check_namespace};
+use std::alloc::Global;
+
+/// The answer that a file is.
+pub fn answer_in(alloc: Global, bytes: &[u8]) -> Result<Answer, Unread>
+    ensures { ReadsSingle result (answer_in bytes.now) }
+{
+    wire_laws();
+    bytes_law(bytes);
+    match read_only(alloc, bytes, b"MNBCR") {
+        Ok(frame) => match answer_of(frame) {
+            Some(answer) => Ok(answer),
+            None => Err(Unread::BadForm(0)),
+        },
+        Err(error) => Err(reason(error)),
+    }
+}
+
+/// The number of the check that refuses a sample.
+pub fn check_number(why: CheckRefusal) -> u64
+    ensures { result ≡ check_number why }
+{
+    match why {
+        CheckRefusal::OutOfSquare => 1,
+        CheckRefusal::NodeCount => 2,
+        CheckRefusal::Unordered => 3,
+        CheckRefusal::OtherRoot => 4,
+    }
+}
+
+/// The number of the check that refuses a namespace answer.
+fn ns_number(why: NsRefusal) -> u64
+    ensures { result ≡ ns_number why }
+{
+    match why {
+        NsRefusal::Parity => 1,
+        NsRefusal::Rows(_) => 2,
+        NsRefusal::Proof(..) => 3,
+    }
+}
+
+/// The number of the check that refuses a fraud claim.
+pub(crate) fn fraud_number(why: FraudRefusal) -> u64
+    ensures { result ≡ fraud_number why }
+{
+    match why {
+        FraudRefusal::Shape => 1,
+        FraudRefusal::Cell(..) => 2,
+        FraudRefusal::Set(..) => 4,
+        FraudRefusal::AxisMatches => 3,
+    }
+}
+
+/// The number of the check that refuses a commitment proof.
+fn commit_number(why: CommitRefusal) -> u64
+    ensures { result ≡ commit_number why }
+{
+    match why {
+        CommitRefusal::Shape => 1,
+        CommitRefusal::Root(_) => 2,
+        CommitRefusal::Nodes(..) => 3,
+        CommitRefusal::Commitment => 4,
+    }
+}
+
+/// The number of the check that refuses a root proof.
+fn rooted_number(why: RootedRefusal) -> u64
+    ensures { result ≡ rooted_number why }
+{
+    match why {
+        RootedRefusal::Shape => 1,
+        RootedRefusal::Root => 2,
+        RootedRefusal::Path(_) => 3,
+    }
+}
+
+/// The number of the check that refuses a fraud claim, none of one that is accepted. It takes the
+/// memory that verifying needs.
+fn refuse_claim(alloc: Global, header: &Header, claim: FraudClaim) -> Result<Option<u64>, NoMemory>
+    ensures { IfOk result (λ refusal. IsRefusal header.now (AnswerOf.Fraud claim) refusal) }
+{
+    let mut room = VerifyRoom::new(alloc, header.k)?;
+    match befp_verify::verify(&mut room, header, claim) {
+        Ok(upheld) => {
+            let _claim = upheld.into_claim();
+            Ok(None)
+        }
+        Err(refused) => Ok(Some(fraud_number(refused.why))),
+    }
+}
+
+/// The number of the check that refuses a commitment proof under a header's data root, none of one
+/// that holds.
+fn refuse_commit(header: &Header, proof: &CommitProof) -> Option<u64>
+    ensures { result ≡
+        option_map commit_number (commit_refusal (data_root_of header.now) proof.now) }
+{
+    match check_commit(&data_root(header), proof) {
+        Ok(()) => None,
+        Err(why) => Some(commit_number(why)),
+    }
+}
+
+/// The number of the check that refuses a root proof under a header's data root, none of one that
+/// holds.
+fn refuse_rooted(header: &Header, proof: &RootedMessage) -> Option<u64>
+    ensures { result ≡
+        option_map rooted_number (rooted_refusal (data_root_of header.now) proof.now) }
+{
+    match rooted(&data_root(header), proof) {
+        Ok(()) => None,
+        Err(why) => Some(rooted_number(why)),
+    }
+}
+
+/// The number of the check that refuses an answer, none of one that holds. It takes memory for a fraud
+/// claim alone.
+pub fn refusal_of(alloc: Global, header: &Header, answer: Answer) -> Result<Option<u64>, NoMemory>
+    ensures { IfOk result (λ refusal. IsRefusal header.now answer refusal) }
+{
+    match answer {
+        Answer::Message(message) => match opens(header, &message) {
+            Ok(()) => Ok(None),
+            Err(why) => Ok(Some(check_number(why))),
+        },
+        Answer::Names(name, answer) => match check_namespace(header, &name, &answer) {
+            Ok(()) => Ok(None),
+            Err(why) => Ok(Some(ns_number(why))),
+        },
+        Answer::Fraud(claim) => refuse_claim(alloc, header, claim),
+        Answer::Commit(proof) => Ok(refuse_commit(header, &proof)),
+        Answer::Rooted(proof) => Ok(refuse_rooted(header, &proof)),
+    }
+}
+
+/// The line for an answer.
+#[tactic(auto, using(da_status::proofs::DigitLemmas::digits_fit))]
+pub(crate) fn verdict_line(refusal: Option<u64>) -> Line
+    ensures { result ≡ verdict_line refusal }
+{
+    let mut line = Line::new();
+    match refusal {
+        Some(number) => around(&mut line, b"refused ", number, b"\n"),
+        None => line.put(b"ok\n"),
+    }
+    line
+}
+
+/// The status for an answer.
+fn verdict_status(refusal: Option<u64>) -> Status
+    ensures value { result ≡ verdict_status refusal }
+    ensures output { kind_of result ≡ output }
+{
+    match refusal {
+        Some(_) => Status::Refused,
+        None => Status::Done,
+    }
+}
+
+/// Writes the line for an answer. It takes no memory.
+pub(crate) fn give_line<O: Sink>(refusal: Option<u64>, out: &mut O) -> Status
+    ensures { EndsAtOnce (WritesText (verdict_status refusal) (verdict_line refusal))
+        (O.taken out.old) (O.taken out.new) (O.faults out.old) (O.faults out.new)
+        (out.new ≡ out.old) result }
+{
+    let line = verdict_line(refusal);
+    put(line.as_bytes(), verdict_status(refusal), out)
+}
+
+/// Writes the line for an answer under a header. Where there is no memory for a fraud claim nothing
+/// is written.
+fn verify<O: Sink>(alloc: Global, header: &Header, answer: Answer, out: &mut O) -> Status
+    ensures { EndsAtOnce (Verifies header.now answer) (O.taken out.old) (O.taken out.new)
+        (O.faults out.old) (O.faults out.new) (out.new ≡ out.old) result }
+{
+    let Ok(refusal) = refusal_of(alloc, header, answer) else {
+        return Status::NoMemory;
+    };
+    give_line(refusal, out)
+}
+
+/// Answers whether the answer in ANSWER holds under the header in HEADER. All memory is taken before the
+/// write.
+pub fn execute<O: Sink>(alloc: Global, files: &[Vec<u8>], out: &mut O) -> Status
+    ensures { EndsAtOnce (Judged (under_judged answer_in (contents_of files.now))
+        (VerifyOf (contents_of files.now))) (O.taken out.old) (O.taken out.new) (O.faults out.old)
+        (O.faults out.new) (out.new ≡ out.old) result }
+{
+    let (header, answer) = match header_and_answer(alloc, files) {
+        Ok(read) => read,
+        Err(status) => return status,
+    };
+    verify(alloc, &header, answer, out)
+}

@@ -1,0 +1,12 @@
+pub mod BuildLemmas
+pub mod HeaderLemmas
+pub mod ChoiceLemmas
+pub mod ServingLemmas
+pub mod SampleLemmas
+pub mod AnswerLemmas
+pub mod NamespaceLemmas
+pub mod WantedLemmas
+pub mod BlobsLemmas
+pub mod CommitLemmas
+pub mod ProveLemmas
+pub mod BackLemmas

@@ -1,0 +1,173 @@
+-- What the command prove answers.
+use Rattle.std.proofs.Common.{◌≡◌, ◌∙◌, ℕ, ◌*◌, ◌<◌, ◌≤◌, Bool, true, false, List, [], ◌∷◌, length, None, IsSome, refl, sym, ap, ap₂, subst, inl, inr, arith}
+use Rattle.std.specs.List.{AllByRecursion}
+use Rattle.namespace_id.specs.declared.cells.Cell.{Cell}
+use Rattle.namespace_id.specs.declared.cells.Axis.{Axis}
+use Rattle.namespace_id.specs.declared.shares.Share.{Share}
+use Rattle.namespace_id.specs.Cells.{is_in_square}
+use Rattle.namespace_id.proofs.WidthLemmas.{is_width-le}
+use Rattle.namespace_id.specs.declared.digests.Digest.{Digest}
+use Rattle.data_header.specs.Headers.{Roots, root_of}
+use Rattle.data_header.specs.DataRoots.{data_root_of, OpensRoot}
+use Rattle.square_layout.specs.Blocks.{SquareShares}
+use Rattle.axis_roots.specs.declared.message.messages.Message as sent
+use Rattle.axis_roots.specs.Grids.{header_of_grid, IsHeaderOf, share_at}
+use Rattle.axis_roots.specs.Messages.{index, root_for}
+use Rattle.axis_roots.specs.Openings.{OpensAt, IsProved}
+use Rattle.axis_roots.specs.Trees.{message_at}
+use Rattle.axis_roots.proofs.Grids.HeaderLemmas.{header_width}
+use Rattle.blob_commit.specs.Proofs.{CommitParts, IsCommit, CommitHolds, RootedParts, RootedHolds, IsRooted, is_range}
+use Rattle.blob_commit.proofs.ShapeLemmas.{shape_parts}
+use Rattle.axis_roots.proofs.Grids.NumberLemmas.{index-lt}
+use Rattle.square_serve.specs.Serving.{HeldParts, Holds}
+use Rattle.da_wire.specs.declared.frames.Frame.{Frame}
+use Rattle.da_wire.specs.declared.frames.Frame.TheVariants.{Commit, Rooted}
+use Rattle.da_wire.specs.Spelling.{spelling}
+use Rattle.da_wire.specs.kinds.Rooted.{IsRootedSent}
+use Rattle.da_status.specs.declared.status.Status.{Status}
+use Rattle.da_status.specs.declared.status.Status.TheVariants.{BadRequest}
+use Rattle.da_status.specs.declared.status.Asked.TheVariants.{NoHeader, Range}
+use Rattle.da_status.specs.Statuses.{kind_of}
+use Rattle.da_serving.specs.Choices.{HasFrame}
+use Rattle.da_files.specs.Frames.{square_in, Writes}
+use Rattle.da_serving.specs.Serving.{requests_file, Serves}
+use Rattle.da_serving.specs.Sample.{samples_in, is_asked_inside}
+use Rattle.da_serving.specs.Prove.{IsRootProof, AllowsRootProof, ProveOf, ProvesIn, ProvesRange, ProveRangeOf}
+use Rattle.da_files.specs.Contents.{square_file}
+use Rattle.da_status.proofs.EndLemmas.{IsAnswer, status_answers}
+use Rattle.da_files.proofs.FormLemmas.{over_each}
+use Rattle.da_serving.proofs.ServingLemmas.{serves_answers}
+
+-- ---- the root proof of a sample
+
+-- the axis through the cell of a sample that is proved is one of the header's
+pub index_inside : (header : Roots) (m : sent.Message) (i : ℕ) → i ≡ index m.axis m.cell → IsProved header m → i < 2 * header.k
+index_inside header m i is proved = omega (arith, is, index-lt header.k m.axis m.cell proved.inside)
+
+-- hashes that lead from the root of this axis to the data root make a root proof of the sample, which holds
+pub holds_rooted : (header : Roots) (m : sent.Message) (i k : ℕ) (root : Digest) (hashes : List (List ℕ)) → i ≡ index m.axis m.cell → k ≡ header.k
+    → root ≡ root_of header m.axis i → OpensRoot (data_root_of header) header.k m.axis i (root_of header m.axis i) hashes → IsProved header m
+    → RootedHolds (data_root_of header) (record { k = k; message = m; root = root; up = hashes })
+holds_rooted header m i k root hashes here width is leads proved =
+    let top : List ℕ = data_root_of header in
+    let own : root ≡ root_for header m = is ∙ ap (root_of header m.axis) here in
+    record {
+      lead = subst (λ (n : ℕ). OpensRoot top n m.axis (index m.axis m.cell) root hashes) (sym width)
+          (subst (λ (j : ℕ). OpensRoot top header.k m.axis j root hashes) here
+          (subst (λ (d : Digest). OpensRoot top header.k m.axis i d hashes) (sym is) leads));
+      opens = subst (λ (n : ℕ). OpensAt n m root) (sym width) (subst (OpensAt header.k m) (sym own) proved);
+    }
+
+-- ---- prove SQUARE REQUESTS
+
+-- a root proof of a sample of a held square is a root proof of it
+pub is_root_proof : (held : HeldParts) (square : SquareShares) (asked : Cell × Axis) (m : sent.Message) (proof : RootedParts) → Holds held square
+    → m.cell ≡ asked.0 → m.axis ≡ asked.1 → m.share ≡ share_at (2 * held.k) held.grid asked.0 → proof.k ≡ held.header.k → proof.message ≡ m
+    → RootedHolds (data_root_of held.header) proof → IsRootProof square held.header asked proof
+is_root_proof held square asked m proof holds cell axis share width message root =
+    let at : proof.message.cell ≡ asked.0 = ap (λ (n : sent.Message). n.cell) message ∙ cell in
+    record {
+      width = width ∙ header_width held.k held.grid held.header holds.roots ∙ holds.width;
+      cell = at;
+      axis = ap (λ (n : sent.Message). n.axis) message ∙ axis;
+      grid = held.grid;
+      extends = holds.extends;
+      share = ap (λ (n : sent.Message). n.share) message ∙ share
+          ∙ ap₂ (λ (k : ℕ) (c : Cell). share_at (2 * k) held.grid c) holds.width (sym at);
+      holds = root;
+    }
+
+-- a square with its header, as one that is held
+abbrev pub held_of : (header : Roots) (square : SquareShares) → IsHeaderOf header square → HeldParts
+held_of header square own = record { k = square.k; grid = own.grid; header = header }
+
+-- it holds the square
+pub holds_own : (header : Roots) (square : SquareShares) (own : IsHeaderOf header square) → Holds (held_of header square own) square
+holds_own header square own = record { whole = own.whole; width = refl; extends = own.extends; roots = own.roots }
+
+-- a sample has a root proof under the data root of a header
+abbrev pub HasRootProof : Roots → sent.Message → Type 0
+HasRootProof header m =
+    (proof : RootedParts) × (proof.k ≡ header.k) × (proof.message ≡ m) × IsRooted proof × (length proof.up ≤ 9)
+    × RootedHolds (data_root_of header) proof
+
+-- such a proof can be written
+proof_sent : (header : Roots) (m : sent.Message) (h : HasRootProof header m) → IsRootedSent h.0
+proof_sent header m h =
+    let proof = h.0 in
+    record { k = omega (arith, is_width-le proof.k h.5.lead.width); is = h.3; few_hashes = h.4 }
+
+-- each request of a cell inside allows a frame that has a spelling, by what is known of a held square and of root proofs
+pub have_proofs : (held : HeldParts) (square : SquareShares) → Holds held square
+    → ((cell : Cell) (axis : Axis) → is_in_square held.k cell ≡ true → HasRootProof held.header (message_at held.k held.grid cell axis))
+    → ((proof : RootedParts) → IsRootedSent proof → IsSome (spelling (Rooted proof)))
+    → (requests : List (Cell × Axis)) → AllByRecursion (λ (asked : Cell × Axis). is_in_square held.k asked.0 ≡ true) requests
+    → AllByRecursion (HasFrame (AllowsRootProof square held.header)) requests
+have_proofs held square holds rooted spelled [] inside = tt
+have_proofs held square holds rooted spelled (asked ∷ requests) inside =
+    let m = message_at held.k held.grid asked.0 asked.1 in
+    let h = rooted asked.0 asked.1 inside.0 in (
+      (Rooted h.0, (h.0, is_root_proof held square asked m h.0 holds refl refl refl h.1 h.2 h.5, refl), spelled h.0 (proof_sent held.header m h)),
+      have_proofs held square holds rooted spelled requests inside.1,
+    )
+
+-- what prove answers to its files is an answer
+pub prove_answers : (files : List (List ℕ)) (w : List ℕ) (status : Status) → ProveOf files w status → IsAnswer (kind_of status)
+prove_answers files w status h =
+    let asked = samples_in (requests_file files) in
+    over_each (λ square. Serves square (is_asked_inside square) (AllowsRootProof square) asked) (square_in (square_file files)) w status
+    (IsAnswer (kind_of status)) (λ square. serves_answers square (is_asked_inside square) (AllowsRootProof square) asked w status) h
+
+-- ---- prove SQUARE START COUNT
+
+-- a commitment proof that holds is of a range
+holds_range : (root : List ℕ) (proof : CommitParts) → CommitHolds root proof → is_range proof.k proof.start proof.count ≡ true
+holds_range root proof h = (shape_parts proof h.shape).1
+
+module _ (square : SquareShares) (header : Roots) (start count : ℕ) (same : header.k ≡ square.k) where
+  -- the frame of a proof of the range is the answer
+  pub proves_range : (proof : CommitParts) (frame : Frame) → proof.k ≡ header.k → proof.start ≡ start → proof.count ≡ count
+      → IsCommit proof → CommitHolds (data_root_of header) proof → frame ≡ Commit proof → (w : List ℕ) (status : Status) → Writes frame w status
+      → ProvesIn (is_range square.k start count) square header start count w status
+  proves_range proof frame k from n lengths holds is w status gives =
+      let here : is_range proof.k proof.start proof.count ≡ is_range square.k start count =
+      ap (λ (x : ℕ). is_range x proof.start proof.count) (k ∙ same) ∙ ap₂ (λ (x y : ℕ). is_range square.k x y) from n in
+      let range : is_range square.k start count ≡ true = sym here ∙ holds_range (data_root_of header) proof holds in
+      subst (λ (b : Bool). ProvesIn b square header start count w status) (sym range)
+      (proof, record { width = k ∙ same; start = from; count = n; lengths = lengths; holds = holds }, (ap spelling (sym is) ∙ gives.0, gives.1))
+
+  -- what is no range of the square is refused
+  pub proves_none : is_range header.k start count ≡ false → ProvesIn (is_range square.k start count) square header start count [] (BadRequest Range)
+  proves_none none =
+      let outside : is_range square.k start count ≡ false = ap (λ (x : ℕ). is_range x start count) (sym same) ∙ none in
+      subst (λ (b : Bool). ProvesIn b square header start count [] (BadRequest Range)) (sym outside) (refl, refl)
+
+module _ (square : SquareShares) (start count : ℕ) where
+  -- what is answered under the header of the square is what is answered
+  pub proves_under : (header : Roots) → IsHeaderOf header square → (w : List ℕ) (status : Status)
+      → ProvesIn (is_range square.k start count) square header start count w status → ProvesRange square start count w status
+  proves_under header own w status h = inl (header, own, h)
+
+  -- the square has no header
+  pub proves_nothing : (k : ℕ) (grid : List Share) → k ≡ square.k → None ≡ header_of_grid k grid
+      → ((header : Roots) → header_of_grid square.k grid ≡ None → IsHeaderOf header square → ⊥)
+      → ProvesRange square start count [] (BadRequest NoHeader)
+  proves_nothing k grid same is law =
+      inr ((λ header own. law header (ap (λ (n : ℕ). header_of_grid n grid) (sym same) ∙ sym is) own), (refl, refl))
+
+  -- what is answered under a header is an answer, by whether the range is one
+  in_range : (b : Bool) (header : Roots) (w : List ℕ) (status : Status) → ProvesIn b square header start count w status → IsAnswer (kind_of status)
+  in_range true header w status h = status_answers status _ h.2.1 tt
+  in_range false header w status h = status_answers status _ h.1 tt
+
+  -- what is answered to a range of a square is an answer
+  proves_answers : (w : List ℕ) (status : Status) → ProvesRange square start count w status → IsAnswer (kind_of status)
+  proves_answers w status (inl h) = in_range (is_range square.k start count) h.0 w status h.2
+  proves_answers w status (inr h) = status_answers status _ h.1.1 tt
+
+-- what prove answers to its file is an answer
+pub prove_range_answers : (start count : ℕ) (files : List (List ℕ)) (w : List ℕ) (status : Status) → ProveRangeOf start count files w status
+    → IsAnswer (kind_of status)
+prove_range_answers start count files w status h =
+    over_each (λ square. ProvesRange square start count) (square_in (square_file files)) w status (IsAnswer (kind_of status))
+    (λ square. proves_answers square start count w status) h

@@ -1,0 +1,10 @@
+pub mod Build
+pub mod Commit
+pub mod Header
+pub mod Choices
+pub mod Serving
+pub mod Sample
+pub mod Prove
+pub mod Namespace
+pub mod Wanted
+pub mod Blobs

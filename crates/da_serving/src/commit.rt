@@ -1,0 +1,115 @@
+//! commit BLOCK: the commitments of a block's blobs.
+
+ghost use Rattle.std.specs.Prelude.{◌≡◌, ◌≤◌, ◌++◌, length, None, IfOk, OnOk};
+ghost use Rattle.std.specs.List.{AllByRecursion};
+ghost use Rattle.square_layout.specs.Layout.{share_count_of};
+ghost use Rattle.square_layout.specs.Refusals.{layout_refusal, Answers};
+ghost use Rattle.da_files.specs.Contents.{contents_of};
+ghost use Rattle.da_files.specs.Frames.{WritesText, block_in};
+ghost use Rattle.da_serving.specs.Commit.{commitment_of, commitment_line, commitment_lines, Commits, CommitOf};
+ghost use Rattle.da_files.specs.Forms.{single_judged};
+ghost use Rattle.da_status.specs.Judging.{Judged};
+ghost use Rattle.da_status.specs.declared.status.Status.TheVariants as StatusOf;
+ghost use Rattle.da_status.specs.Outcome.{EndsAtOnce};
+
+use blob_commit::{CommitError, commitment_of, range_laws};
+use da_files::{hash_line, one_block, put};
+use da_io::Sink;
+use da_status::Status;
+use namespace_id::NoMemory;
+use share_split::Blob;
+use square_layout::{Block, LayError, lay, order_laws, size_laws};
+use std::alloc::Global;
+
+/// The commitment of a blob that has bytes, and no more shares than the greatest square.
+fn commitment_in(alloc: Global, blob: &Blob) -> Result<[u8; 32], NoMemory>
+    requires some { 1 ≤ length blob.now.bytes }
+    requires few { share_count_of blob.now ≤ 16384 }
+    ensures { IfOk result (λ commitment. commitment ≡ commitment_of blob.now) }
+{
+    match commitment_of(alloc, blob) {
+        Ok(commitment) => Ok(commitment),
+        Err(CommitError::NoMemory) => Err(NoMemory),
+        // Never taken: the blob has bytes. The type of the error has this variant too.
+        Err(CommitError::Empty) => unreachable!(),
+        // Never taken: the blob has few shares.
+        Err(CommitError::TooLarge) => unreachable!(),
+    }
+}
+
+/// Appends the line of such a blob.
+fn put_line(alloc: Global, blob: &Blob, text: &mut Vec<u8>) -> Result<(), NoMemory>
+    requires some { 1 ≤ length blob.now.bytes }
+    requires few { share_count_of blob.now ≤ 16384 }
+    ensures { OnOk result (text.new.items ≡ text.old.items ++ commitment_line blob.now) }
+{
+    let line = hash_line(&commitment_in(alloc, blob)?);
+    match text.extend_from_slice(line.as_bytes()) {
+        Ok(()) => Ok(()),
+        Err(_) => Err(NoMemory),
+    }
+}
+
+/// The lines of such blobs, in their order.
+fn lines(alloc: Global, blobs: &[Blob]) -> Result<Vec<u8>, NoMemory>
+    requires { AllByRecursion (λ blob.
+        (1 ≤ length blob.bytes) × (share_count_of blob ≤ 16384)) blobs.now }
+    ensures { IfOk result (λ text. text.items ≡ commitment_lines blobs.now) }
+{
+    let mut text = Vec::new(alloc);
+    let mut rest = blobs;
+    while let Some((blob, after)) = rest.split_first() {
+        put_line(alloc, blob, &mut text)?;
+        rest = after;
+    }
+    Ok(text)
+}
+
+/// Whether a block can be laid out, or the first check that fails. Its square is let go.
+fn judge(alloc: Global, block: &Block) -> Result<(), LayError>
+    ensures { Answers result (layout_refusal block.now) }
+{
+    let _square = lay(alloc, block)?;
+    Ok(())
+}
+
+/// Writes the lines of the blobs of a block that can be laid out, as one piece.
+fn give_lines<O: Sink>(alloc: Global, block: &Block, out: &mut O) -> Status
+    requires { layout_refusal block.now ≡ None }
+    ensures { EndsAtOnce (WritesText StatusOf.Done (commitment_lines block.now.blobs))
+        (O.taken out.old) (O.taken out.new) (O.faults out.old) (O.faults out.new)
+        (out.new ≡ out.old) result }
+{
+    order_laws();
+    size_laws();
+    range_laws();
+    match lines(alloc, &block.blobs) {
+        Ok(text) => put(&text, Status::Done, out),
+        Err(_) => Status::NoMemory,
+    }
+}
+
+/// Writes the lines of the blobs of a block, if it can be laid out. All memory is taken before the
+/// write.
+fn commit<O: Sink>(alloc: Global, block: &Block, out: &mut O) -> Status
+    ensures { EndsAtOnce (Commits block.now) (O.taken out.old) (O.taken out.new) (O.faults out.old)
+        (O.faults out.new) (out.new ≡ out.old) result }
+{
+    match judge(alloc, block) {
+        Ok(()) => give_lines(alloc, block, out),
+        Err(LayError::NoMemory) => Status::NoMemory,
+        Err(why) => Status::BadBlock(why),
+    }
+}
+
+/// Answers the commitments of the blobs of the block in BLOCK.
+pub fn execute<O: Sink>(alloc: Global, files: &[Vec<u8>], out: &mut O) -> Status
+    ensures { EndsAtOnce (Judged (single_judged block_in (contents_of files.now))
+        (CommitOf (contents_of files.now))) (O.taken out.old) (O.taken out.new) (O.faults out.old)
+        (O.faults out.new) (out.new ≡ out.old) result }
+{
+    match one_block(alloc, files) {
+        Ok(block) => commit(alloc, &block, out),
+        Err(status) => status,
+    }
+}
