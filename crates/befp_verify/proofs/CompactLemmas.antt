@@ -11,6 +11,7 @@ use Rattle.namespace_id.specs.declared.digests.Digest.{Digest}
 use Rattle.namespace_id.specs.Digests.{AreDigests}
 use Rattle.namespace_id.specs.Cells.{is_width, is_in_square, leaf_namespace}
 use Rattle.namespace_id.specs.Lists.{holds_along}
+use Rattle.namespace_id.specs.Sizes.{most_depth}
 use Rattle.namespace_id.proofs.ShareLemmas.{name_of-is}
 use Rattle.namespace_id.proofs.PowerLemmas.{double_halvings}
 use Rattle.nmt_tree.specs.Roots.{halvings}
@@ -63,7 +64,7 @@ bare_same axis m f = ap (λ (b : Bool). record { cell = m.cell; axis = m.axis; s
 bare_message : (axis : Axis) (m : Message) → IsMessage m → IsMessage (bare axis m)
 bare_message axis m h = record { row = h.row; col = h.col; share = h.share; few = few (is_along axis m); nodes = digests (is_along axis m) }
   where
-    few : (b : Bool) → length (cond b [] m.path) ≤ 8
+    few : (b : Bool) → length (cond b [] m.path) ≤ most_depth
     few true = omega arith
     few false = h.few
 

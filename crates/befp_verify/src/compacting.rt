@@ -5,6 +5,7 @@ ghost use Rattle.std.specs.Option.{is_some};
 ghost use Rattle.befp_verify.specs.declared.compacting.Compacted.TheVariants.{Claim as Made};
 ghost use Rattle.std.specs.List.{AllByRecursion, list_any};
 ghost use Rattle.namespace_id.specs.Cells.{is_width, is_in_square};
+ghost use Rattle.namespace_id.specs.Sizes.{most_depth, most_leaves};
 ghost use Rattle.nmt_proofs.specs.Openings.{begun};
 ghost use Rattle.nmt_proofs.specs.Merging.{leaves_of, merged_nodes, HoldsAlong, AreAlike};
 ghost use Rattle.nmt_tree.specs.Roots.{is_leaf_count, halvings};
@@ -73,9 +74,9 @@ fn merge(
     branches: &[Placed],
     nodes: &mut Vec<Digest>,
 ) -> Result<(), NoMemory>
-    requires depth { depth ≤ 8 }
-    requires interval { start + 2 ^ depth ≤ 256 }
-    requires turned { turns ≤ 8 }
+    requires depth { depth ≤ most_depth }
+    requires interval { start + 2 ^ depth ≤ most_leaves }
+    requires turned { turns ≤ most_depth }
     requires paths { AllByRecursion (HasNodes (turns + depth)) branches.now }
     ensures { OnOk result (nodes.new.items ≡
         nodes.old.items ++ merged_nodes depth start turns beside (placed branches.now)) }
