@@ -25,7 +25,7 @@ invariant_of-result g c = (
   tt,
 )
 
--- a row has at most 256 cells
+-- a row has few cells
 pub overflow_mul-in_row : goal.overflow_mul-in_row
 overflow_mul-in_row g c = omega (arith, is_width-le c.width-k.result c.width-k.ensures.width)
 
