@@ -30,6 +30,7 @@ use Rattle.axis_roots.specs.Grids.{IsHeaderOf, axis_names, axis_shares}
 use Rattle.axis_roots.proofs.Grids.HeaderLemmas.{header_width}
 use Rattle.axis_roots.proofs.Messages.OwnLemmas.{names_or_agrees}
 use Rattle.square_layout.specs.Refusals.{max_shares}
+use Rattle.blob_commit.specs.Bounds.{most_halvings}
 use Rattle.blob_commit.specs.Cuts.{cut_by, cut, levels_of}
 use Rattle.blob_commit.specs.Commitments.{subtree_roots, root_of_digests}
 use Rattle.blob_commit.specs.Proofs.{RowParts, CommitParts, IsRow, IsCommit, CommitHolds, RowsLead, RowsOpen, fits_rows, is_range, part_of_row, row_sizes, shown_in, subtrees_of}
@@ -109,7 +110,7 @@ none_left : (l left : ℕ) (shares : List Share) → left ≡ 0 → [] ≡ subtr
 unfolding subtree_roots
 none_left l left shares e = sym (ap (λ (n : ℕ). subtree_roots (cut_by (suc l) n) shares) e ∙ ap (λ (t : List ℕ). subtree_roots t shares) (cut_zero (suc l)))
 
-pub rows_own : (header : Roots) (S : SquareShares) (l : ℕ) (rows : List RowParts) (index at left : ℕ) → IsHeaderOf header S → l ≤ 7 → AllByRecursion IsRow rows
+pub rows_own : (header : Roots) (S : SquareShares) (l : ℕ) (rows : List RowParts) (index at left : ℕ) → IsHeaderOf header S → l ≤ most_halvings → AllByRecursion IsRow rows
     → RowsOwn header S S.k l rows index at left
 unfolding fits_rows subtrees_of
 rows_own header S l [] index at left own deep sized div within begins fits lead opens = inl (none_left l left (drop at S.shares) (eqb-true left 0 fits))

@@ -13,7 +13,8 @@ use Rattle.std.proofs.Math.Pow.{pow_mono}
 use Rattle.nmt_tree.proofs.CountLemmas.{leaf_count_power, power_halvings, leaf_count-pos}
 use Rattle.share_split.specs.Widths.{subtree_width_of}
 use Rattle.square_layout.specs.Refusals.{max_shares}
-use Rattle.blob_commit.specs.Bounds.{most_halvings, most_width, most_levels, most_subtrees}
+use Rattle.namespace_id.specs.Sizes.{greatest_width}
+use Rattle.blob_commit.specs.Bounds.{most_halvings, most_levels, most_subtrees}
 use Rattle.blob_commit.proofs.WidthLemmas.{width_count}
 use Rattle.blob_commit.specs.Cuts.{cut_by, cut, levels_of}
 use Rattle.nmt_proofs.proofs.Parts.ListLemmas.{each-append}
@@ -29,7 +30,7 @@ fits_often n w m some h =
     ]
 
 -- none up to the greatest width is halved more often
-halvings_le : (w : ℕ) → IsTrue (is_leaf_count w) → w ≤ most_width → halvings w ≤ most_halvings
+halvings_le : (w : ℕ) → IsTrue (is_leaf_count w) → w ≤ greatest_width → halvings w ≤ most_halvings
 halvings_le w count h =
     elim (cases_lt (halvings w) most_levels) [
       | inl lt ↦ omega (arith, lt)
@@ -76,6 +77,17 @@ few_pieces l n =
     let rest = few_below l (n % 2 ^ l) (mod-lt n (pow_pos l)) in
     omega (arith, rest, length-append (replicate (n / 2 ^ l) (2 ^ l)) (cut_by l (n % 2 ^ l)), length-replicate (n / 2 ^ l) (2 ^ l))
 
+-- there are no more pieces than shares
+pub pieces-le : (levels n : ℕ) → length (cut_by levels n) ≤ n
+unfolding cut_by
+pieces-le zero n = omega arith
+pieces-le (suc l) n =
+    let z : ℕ = 2 ^ l in
+    let some : 0 < z = pow_pos l in
+    let times : n / z * 1 ≤ n / z * z = mul-le-mul_left (n / z) some in
+    let rest = pieces-le l (n % z) in
+    omega (arith, times, rest, div-add-mod' n z, length-append (replicate (n / z) z) (cut_by l (n % z)), length-replicate (n / z) z)
+
 -- nothing is left
 pub whole_below : (levels n : ℕ) → n < 2 ^ levels → total (cut_by levels n) ≡ n
 unfolding cut_by
@@ -92,7 +104,7 @@ total-cut l n =
 
 -- a size of a piece: a count of leaves, at most the greatest width
 abbrev pub IsPiece : ℕ → Type 0
-IsPiece size = IsTrue (is_leaf_count size) × (size ≤ most_width)
+IsPiece size = IsTrue (is_leaf_count size) × (size ≤ greatest_width)
 
 -- what holds of one holds of each of so many
 each-replicate : {A : Type 0} (P : A → Type 0) (n : ℕ) (x : A) → P x → AllByRecursion P (replicate n x)
@@ -100,7 +112,7 @@ each-replicate P zero x h = tt
 each-replicate P (suc n) x h = (h, each-replicate P n x h)
 
 -- a power up to the greatest width
-power_le : (l : ℕ) → l < most_levels → 2 ^ l ≤ most_width
+power_le : (l : ℕ) → l < most_levels → 2 ^ l ≤ greatest_width
 power_le l h =
     let le : l ≤ most_halvings = omega (arith, h) in
     pow_mono le
@@ -134,6 +146,11 @@ pub length-next : (levels n : ℕ) → 0 < levels → length (cut_by levels n) �
 length-next levels n h =
     ap length (cut_next levels n h) ∙ length-append (replicate (n / 2 ^ (levels - 1)) (2 ^ (levels - 1))) (cut_by (levels - 1) (n % 2 ^ (levels - 1)))
     ∙ ap (λ (k : ℕ). k + length (cut_by (levels - 1) (n % 2 ^ (levels - 1)))) (length-replicate (n / 2 ^ (levels - 1)) (2 ^ (levels - 1)))
+
+-- their number, by what is handed over
+pub count_next : (levels n w rest : ℕ) → 0 < levels → w ≡ 2 ^ (levels - 1) → rest ≡ length (cut_by (levels - 1) (n % w)) → n / w + rest ≡ length (cut_by levels n)
+count_next levels n w rest some width is =
+    ap (λ (m : ℕ). n / w + m) is ∙ ap (λ (z : ℕ). n / z + length (cut_by (levels - 1) (n % z))) width ∙ sym (length-next levels n some)
 
 -- one more of the widest fits
 pub room_more : (old sizes : List ℕ) (levels n w counter : ℕ) → 0 < levels → w ≡ 2 ^ (levels - 1) → length old + length (cut_by levels n) ≤ most_subtrees
@@ -169,7 +186,7 @@ few-cut n some most =
     let facts = width_count n most in
     let power : 2 ^ halvings w ≡ w = power_halvings w facts.0 in
     let deep : halvings w ≤ most_halvings = halvings_le w facts.0 facts.1 in
-    let fits : n / w ≤ most_width = fits_often n w most_width (leaf_count-pos w facts.0) (omega (arith, facts.2)) in
+    let fits : n / w ≤ greatest_width = fits_often n w greatest_width (leaf_count-pos w facts.0) (omega (arith, facts.2)) in
     let same : n / 2 ^ halvings w ≡ n / w = ap (λ (k : ℕ). n / k) power in
     omega (arith, few_pieces (halvings w) n, deep, fits, same)
 
@@ -193,7 +210,7 @@ total-of n = total-cut (halvings (subtree_width_of n)) n
 -- a row has few pieces
 pub few_in_row : (k levels at left n : ℕ) → IsTrue (is_width k) → 1 ≤ levels → levels ≤ most_levels → n ≡ part_of_row k at left → length (cut_by levels n) ≤ most_subtrees
 few_in_row k levels at left n width some deep e =
-    let small : k ≤ most_width = is_width-le k width in
+    let small : k ≤ greatest_width = is_width-le k width in
     let within : n ≤ k - at % k = subst (λ (m : ℕ). m ≤ k - at % k) (sym e) (min-le_right left (k - at % k)) in
     let l : ℕ = levels - 1 in
     let next : suc l ≡ levels = omega (arith, some) in

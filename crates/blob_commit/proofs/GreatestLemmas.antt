@@ -6,6 +6,7 @@ use Rattle.std.proofs.lemmas.Bool.{cases_lt}
 use Rattle.std.proofs.lemmas.Nat.{div-add-mod', pow_pos}
 use Rattle.std.proofs.Math.Nat.{pow-suc, mod-lt}
 use Rattle.std.proofs.Math.Pow.{pow_mono}
+use Rattle.namespace_id.specs.Sizes.{most_leaves, most_depth}
 use Rattle.nmt_tree.specs.Roots.{halvings}
 use Rattle.nmt_tree.proofs.CountLemmas.{power_halvings}
 use Rattle.data_header.specs.DataRoots.{inner_hash}
@@ -120,6 +121,6 @@ plain (suc d) hashes some few =
       | inr small ↦ subst (IsPlainRoot hashes) (sym (root_over-few d hashes small)) (plain d hashes some small)
     ]
 
--- of up to 256
-pub plain_root_is : (hashes : List (List ℕ)) → 1 ≤ length hashes → length hashes ≤ 256 → IsPlainRoot hashes (root_over 8 hashes)
-plain_root_is hashes some few = plain 8 hashes some few
+-- of up to 1,024
+pub plain_root_is : (hashes : List (List ℕ)) → 1 ≤ length hashes → length hashes ≤ most_leaves → IsPlainRoot hashes (root_over most_depth hashes)
+plain_root_is hashes some few = plain most_depth hashes some few

@@ -19,8 +19,8 @@ use Rattle.data_header.specs.Headers.{Roots, root_of}
 use Rattle.data_header.specs.DataRoots.{OpensRoot}
 use Rattle.blob_commit.specs.Bounds.{most_subtrees}
 use Rattle.blob_commit.specs.Cuts.{levels_of}
-use Rattle.blob_commit.specs.Proofs.{RowParts, part_of_row, row_sizes, shown_in, is_range, fits_rows, RowsLead, RowsOpen, subtrees_of}
-use Rattle.blob_commit.specs.Making.{IsRowTree, RowsHold, AddsRows}
+use Rattle.blob_commit.specs.Proofs.{RowParts, part_of_row, row_sizes, is_range, fits_rows, RowsLead, RowsOpen, subtrees_of}
+use Rattle.blob_commit.specs.Making.{IsRowTree, RowHolds, RowsHold, AddsRow, AddsRows}
 use Rattle.blob_commit.proofs.FitLemmas.{fits-parts, range_subtrees}
 use Rattle.blob_commit.proofs.CommitOwnLemmas.{min_cases, next_row}
 use Rattle.blob_commit.proofs.WalkLemmas.{fits-more}
@@ -36,12 +36,6 @@ lead_behind root k levels at left index (row ∷ rows) e fits = let some = (fits
 pub no_rows_hold : (root : List ℕ) (k levels at left : ℕ) → left ≡ 0 → RowsHold root k levels at left []
 unfolding fits_rows
 no_rows_hold root k levels at left e = record { fits = eq-eqb left 0 e; lead = tt; opens = tt }
-
--- what is known of the first row
-pub record RowHolds (root : List ℕ) (k levels at left : ℕ) (row : RowParts) : Type 0 where
-  pub lead : OpensRoot root k Row (at / k) row.root row.up
-  pub count : length row.subtrees ≡ length (row_sizes k levels at left)
-  pub opens : Opens (halvings (2 * k)) (shown_in k levels at left row) row.nodes row.root
 
 -- by what a row was made of
 pub row_holds : (root : List ℕ) (k levels at left index from : ℕ) (sizes : List ℕ) (row : RowParts) → index ≡ at / k → from ≡ at % k → sizes ≡ row_sizes k levels at left
@@ -77,12 +71,12 @@ rows_hold root k levels at left n row rows some_k div some n_is first behind =
     }
 
 -- one more row, and then the others
-pub adds_more : (root : List ℕ) (k levels at left n : ℕ) (row : RowParts) (old mid new : List RowParts) → 0 < k → k % 2 ^ (levels - 1) ≡ 0 → 0 < left → n ≡ part_of_row k at left
-    → RowHolds root k levels at left row → mid ≡ old ++ row ∷ [] → AddsRows root k levels (at + n) (left - n) mid new → AddsRows root k levels at left old new
-adds_more root k levels at left n row old mid new some_k div some n_is first pushed behind = record {
-  added = row ∷ behind.added;
-  all = behind.all ∙ ap (λ (l : List RowParts). l ++ behind.added) pushed ∙ append_assoc old (row ∷ []) behind.added;
-  hold = rows_hold root k levels at left n row behind.added some_k div some n_is first behind.hold;
+pub adds_more : (root : List ℕ) (k levels at left n : ℕ) (old mid new : List RowParts) → 0 < k → k % 2 ^ (levels - 1) ≡ 0 → 0 < left → n ≡ part_of_row k at left
+    → AddsRow root k levels at left old mid → AddsRows root k levels (at + n) (left - n) mid new → AddsRows root k levels at left old new
+adds_more root k levels at left n old mid new some_k div some n_is first behind = record {
+  added = first.row ∷ behind.added;
+  all = behind.all ∙ ap (λ (l : List RowParts). l ++ behind.added) first.all ∙ append_assoc old (first.row ∷ []) behind.added;
+  hold = rows_hold root k levels at left n first.row behind.added some_k div some n_is first.holds behind.hold;
 }
 
 -- and where nothing is left

@@ -1,17 +1,54 @@
--- The roots of pieces, one by one.
-use Rattle.std.proofs.Common.{◌≡◌, ◌∙◌, ℕ, ◌+◌, ◌<◌, ◌≤◌, List, [], ◌∷◌, ◌++◌, length, take, drop, map, get_or, refl, sym, ap, ap₂, subst, arith, drop-cons, add-one}
-use Rattle.std.proofs.lemmas.List.{append_assoc, append-nil, drop_all}
+-- The roots of pieces: of one by its halves, and one by one.
+use Rattle.std.proofs.Common.{◌≡◌, ◌∙◌, ℕ, suc, ◌+◌, ◌/◌, ◌^◌, ◌<◌, ◌≤◌, IsTrue, List, [], ◌∷◌, ◌++◌, length, take, drop, map, get_or, refl, sym, ap, ap₂, subst, arith, drop-cons, add-one}
+use Rattle.std.proofs.lemmas.List.{append_assoc, append-nil, drop_all, take-map, drop-map}
 use Rattle.std.specs.List.{AllByRecursion}
 use Rattle.std.proofs.lemmas.List.Elements.{All-from_recursion}
+use Rattle.namespace_id.specs.declared.namespaces.Namespace.{Namespace}
 use Rattle.namespace_id.specs.declared.shares.Share.{Share}
 use Rattle.namespace_id.specs.declared.digests.Digest.{Digest}
 use Rattle.namespace_id.specs.Shares.{name_in}
-use Rattle.nmt_tree.specs.Roots.{halvings, root}
+use Rattle.namespace_id.proofs.PowerLemmas.{power-half, power_halvings, halvings_half}
+use Rattle.nmt_tree.specs.Digests.{node_digest}
+use Rattle.nmt_tree.specs.Roots.{is_leaf_count, halvings, root}
 use Rattle.data_header.specs.DataRoots.{leaf_hash}
 use Rattle.square_layout.specs.Refusals.{max_shares}
 use Rattle.blob_commit.specs.Commitments.{subtree_root, subtree_roots, leaf_hashes}
 use Rattle.blob_commit.specs.Cuts.{cut, levels_of}
 use Rattle.blob_commit.proofs.CutLemmas.{total, IsPiece, pieces-cut, levels_le}
+
+-- ---- of one piece
+
+-- the root of more leaves than one
+root-suc : (depth : ℕ) (names : List Namespace) (shares : List Share) → root (suc depth) names shares
+    ≡ node_digest (root depth (take (2 ^ depth) names) (take (2 ^ depth) shares)) (root depth (drop (2 ^ depth) names) (drop (2 ^ depth) shares))
+unfolding root
+root-suc depth names shares = refl
+
+-- the root of a subtree over so many shares, by how often their number is halved
+root_of-part : (part half : List Share) (n : ℕ) → length part ≡ n → part ≡ half → subtree_root part ≡ root (halvings n) (map name_in half) half
+root_of-part part half n count is =
+    ap (λ (k : ℕ). root (halvings k) (map name_in part) part) count ∙ ap (λ (l : List Share). root (halvings n) (map name_in l) l) is
+
+-- the root of a subtree over more shares than one, by those over both halves
+pub subtree_root-halves : (shares left right : List Share) → IsTrue (is_leaf_count (length shares)) → (length shares ≡ 1 → ⊥)
+    → left ≡ take (length shares / 2) shares → right ≡ drop (length shares / 2) shares
+    → length left ≡ length shares / 2 → length right + length shares / 2 ≡ length shares
+    → node_digest (subtree_root left) (subtree_root right) ≡ subtree_root shares
+subtree_root-halves shares left right count several left_is right_is left_len right_len =
+    let h : ℕ = length shares / 2 in
+    let d : ℕ = halvings h in
+    let half = power-half (length shares) count several in
+    let power : 2 ^ d ≡ h = power_halvings h half.0 in
+    let right_half : length right ≡ h = omega (arith, half.2, right_len) in
+    ap₂ node_digest
+    (root_of-part left (take (2 ^ d) shares) h left_len (left_is ∙ ap (λ (n : ℕ). take n shares) (sym power))
+    ∙ ap (λ (names : List Namespace). root d names (take (2 ^ d) shares)) (sym (take-map name_in (2 ^ d) shares)))
+    (root_of-part right (drop (2 ^ d) shares) h right_half (right_is ∙ ap (λ (n : ℕ). drop n shares) (sym power))
+    ∙ ap (λ (names : List Namespace). root d names (drop (2 ^ d) shares)) (sym (drop-map name_in (2 ^ d) shares)))
+    ∙ sym (root-suc d (map name_in shares) shares)
+    ∙ ap (λ (k : ℕ). root k (map name_in shares) shares) (sym (halvings_half (length shares) count several))
+
+-- ---- one by one
 
 -- how many shares are left behind a piece
 pub left_behind : (sizes : List ℕ) (i z : ℕ) (rest after : List Share) → i < length sizes → z ≡ get_or sizes i 0 → total (drop i sizes) ≡ length rest

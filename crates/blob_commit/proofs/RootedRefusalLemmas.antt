@@ -10,10 +10,11 @@ use Rattle.nmt_proofs.specs.declared.opening.OpenRefusal.{OpenRefusal}
 use Rattle.nmt_proofs.proofs.Parts.CauseLemmas.{opens_where, not_refused_where}
 use Rattle.blob_commit.specs.declared.rooting.RootedRefusal.{RootedRefusal}
 use Rattle.blob_commit.specs.declared.rooting.RootedRefusal.TheVariants as V
+use Rattle.data_header.specs.DataRoots.{OpensRoot}
 use Rattle.axis_roots.specs.Messages.{IsMessage, shown_by, index}
 use Rattle.blob_commit.specs.Proofs.{RootedParts, RootedHolds}
-use Rattle.blob_commit.specs.Refusals.{has_rooted_shape, is_rooted_led, sample_refusal, rooted_refusal}
-use Rattle.blob_commit.proofs.WalkLemmas.{led-opens, opens-led}
+use Rattle.blob_commit.specs.Refusals.{is_led, has_rooted_shape, is_rooted_led, sample_refusal, rooted_refusal}
+use Rattle.blob_commit.proofs.WalkLemmas.{led-opens, opens-led, not_led}
 
 -- the refusal, by the three checks
 abbrev pub refusal_by : Bool → Bool → Option OpenRefusal → Option RootedRefusal
@@ -40,6 +41,17 @@ path_by r shape led sample e why = (
   λ k. named shape led sample why (sym e ∙ ap refusal_in k),
   λ k. let all : refusal_by shape led sample ≡ Some (V.Path why) = λ i. refusal_by (k.0 i) (k.1 i) (k.2 i) in refused_by r (V.Path why) (e ∙ all),
 )
+
+-- the root is named where there is a width and a cell in its square, and the hashes don't lead to it
+pub root_refused : (root : List ℕ) (proof : RootedParts) (at : ℕ) → is_width proof.k ≡ true → is_in_square proof.k proof.message.cell ≡ true
+    → at ≡ index proof.message.axis proof.message.cell → (OpensRoot root proof.k proof.message.axis at proof.root proof.up → ⊥)
+    → Some V.Root ≡ rooted_refusal root proof
+root_refused root proof at width inside at_is unled =
+    let m = proof.message in
+    let no : is_rooted_led root proof ≡ false =
+    ap (λ (i : ℕ). is_led root proof.k m.axis i proof.root proof.up) (sym at_is) ∙ not_led root proof.k m.axis at proof.root proof.up unled in
+    sym (ap (λ (b : Bool). refusal_by b (is_rooted_led root proof) (sample_refusal proof)) (and_from (is_width proof.k) (is_in_square proof.k m.cell) width inside)
+    ∙ ap (λ (b : Bool). refusal_by true b (sample_refusal proof)) no)
 
 -- there is no refusal only where all three checks hold
 none_parts : (shape led : Bool) (sample : Option OpenRefusal) → refusal_by shape led sample ≡ None → (shape ≡ true) × (led ≡ true) × (sample ≡ None)

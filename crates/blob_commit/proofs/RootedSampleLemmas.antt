@@ -14,6 +14,7 @@ use Rattle.nmt_proofs.proofs.Parts.DigestLemmas.{string-sha256}
 use Rattle.nmt_proofs.proofs.Parts.ListLemmas.{each-append}
 use Rattle.data_header.specs.Headers.{Roots, root_of}
 use Rattle.data_header.specs.DataRoots.{leaf_hash, inner_hash, merkle_root, root_halvings, root_place, led, path_of, data_root_of}
+use Rattle.data_header.specs.Paths.{most_hashes}
 use Rattle.data_header.proofs.RootLemmas.{path_of-low, path_of-high, length-path_of}
 use Rattle.data_header.proofs.LedLemmas.{led-path_of}
 use Rattle.axis_roots.specs.declared.message.messages.Message.{Message}
@@ -55,8 +56,8 @@ path-strings (suc d) digests place power =
           (each-append (IsString 32) (path_of d r (place - 2 ^ d)) (merkle_root d l ∷ []) (path-strings d r (place - 2 ^ d) right) (root-string d l (omega (arith, left, one)), tt))
     ]
 
--- there are at most 9
-few_halvings : (k : ℕ) → root_halvings k ≤ 9
+-- there are few
+few_halvings : (k : ℕ) → root_halvings k ≤ most_hashes
 few_halvings k = omega (arith, halvings-le (2 * k))
 
 -- ---- the root of the axis of a sample
@@ -65,7 +66,7 @@ few_halvings k = omega (arith, halvings-le (2 * k))
 
 -- a sample that is proved under the header of a square has a root proof
 pub sample_rooted : (header : Roots) (square : SquareShares) (message : Message) → IsHeaderOf header square → IsProved header message
-    → (proof : RootedParts) × (proof.k ≡ header.k) × (proof.message ≡ message) × IsRooted proof × (length proof.up ≤ 9)
+    → (proof : RootedParts) × (proof.k ≡ header.k) × (proof.message ≡ message) × IsRooted proof × (length proof.up ≤ most_hashes)
     × RootedHolds (data_root_of header) proof
 sample_rooted header square message own proved =
     let k : ℕ = header.k in

@@ -11,7 +11,7 @@ use Rattle.nmt_tree.specs.Roots.{is_leaf_count, halvings, root}
 use Rattle.nmt_tree.proofs.CountLemmas.{leaf_count_power}
 use Rattle.nmt_proofs.specs.Places.{AreAligned}
 use Rattle.nmt_proofs.proofs.Agreement.PutLemmas.{left_aligned}
-use Rattle.blob_commit.specs.Bounds.{most_levels}
+use Rattle.blob_commit.specs.Bounds.{most_halvings, most_levels}
 use Rattle.blob_commit.specs.Cuts.{cut_by}
 use Rattle.blob_commit.specs.Commitments.{subtree_roots}
 use Rattle.blob_commit.proofs.CutLemmas.{total}
@@ -116,7 +116,7 @@ aligned_below (suc l) from n high deep begins small le =
     (aligned_below l (from + n / z * z) (n % z) high (omega (arith, deep)) behind (mod-lt n some) (omega (arith, div-add-mod' n z, le)))
 
 -- so is what is cut by its width
-pub aligned-cut : (l from n high : ℕ) → l ≤ 7 → from % 2 ^ l ≡ 0 → from + n ≤ high → AreAligned from high (cut_by (suc l) n)
+pub aligned-cut : (l from n high : ℕ) → l ≤ most_halvings → from % 2 ^ l ≡ 0 → from + n ≤ high → AreAligned from high (cut_by (suc l) n)
 aligned-cut l from n high deep begins le =
     let z : ℕ = 2 ^ l in
     let some : 0 < z = pow_pos l in

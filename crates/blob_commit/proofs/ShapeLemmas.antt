@@ -1,18 +1,16 @@
 -- A commitment proof that has its shape has few rows, and few subtrees in each.
-use Rattle.std.proofs.Common.{◌≡◌, ◌∙◌, ℕ, zero, suc, ◌+◌, ◌-◌, ◌*◌, ◌/◌, ◌%◌, ◌^◌, ◌<◌, ◌≤◌, ◌&&◌, List, [], ◌∷◌, length, replicate, true, IsTrue, refl, sym, ap, inl, inr, arith, length-append}
+use Rattle.std.proofs.Common.{◌≡◌, ◌∙◌, ℕ, suc, ◌+◌, ◌-◌, ◌*◌, ◌/◌, ◌%◌, ◌<◌, ◌≤◌, ◌&&◌, List, [], ◌∷◌, length, true, IsTrue, refl, sym, ap, inl, inr, arith}
 use Rattle.std.specs.List.{AllByRecursion}
 use Rattle.std.proofs.lemmas.Bool.{and_parts}
-use Rattle.std.proofs.lemmas.List.{length-replicate}
-use Rattle.std.proofs.lemmas.Nat.{div-add-mod', pow_pos}
-use Rattle.std.proofs.Math.Nat.{mod-lt, min-le_left, min-le_right, mul-le-mul_left}
+use Rattle.std.proofs.Math.Nat.{mod-lt, min-le_left, min-le_right}
 use Rattle.namespace_id.specs.Cells.{is_width}
 use Rattle.namespace_id.proofs.WidthLemmas.{is_width-le, is_width-pos}
-use Rattle.blob_commit.specs.Bounds.{most_width}
-use Rattle.blob_commit.specs.Cuts.{cut_by, levels_of}
+use Rattle.namespace_id.specs.Sizes.{greatest_width}
+use Rattle.blob_commit.specs.Cuts.{levels_of}
 use Rattle.blob_commit.specs.Proofs.{RowParts, CommitParts, part_of_row, row_sizes, fits_rows, is_range, has_commit_shape}
 use Rattle.blob_commit.proofs.CommitOwnLemmas.{min_cases, row-lt, next_row, range_parts}
 use Rattle.blob_commit.proofs.FitLemmas.{fits-parts, few_rows}
-use Rattle.blob_commit.proofs.CutLemmas.{fits_often}
+use Rattle.blob_commit.proofs.CutLemmas.{fits_often, pieces-le}
 
 -- ---- rows
 
@@ -37,7 +35,7 @@ rows-le k levels at left (row ∷ rows) some fits within =
 
 -- so there are few, and none has a great index
 pub range_rows : (k start count levels : ℕ) (rows : List RowParts) → IsTrue (is_width k) → is_range k start count ≡ true → fits_rows k levels start count rows ≡ true
-    → (length rows ≤ most_width) × (start / k + length rows ≤ most_width)
+    → (length rows ≤ greatest_width) × (start / k + length rows ≤ greatest_width)
 range_rows k start count levels rows width range fits =
     let some = is_width-pos k width in
     let within = (range_parts k start count range).1 in
@@ -47,25 +45,14 @@ range_rows k start count levels rows width range fits =
 
 -- ---- subtrees
 
--- there are no more pieces than shares
-pieces-le : (levels n : ℕ) → length (cut_by levels n) ≤ n
-unfolding cut_by
-pieces-le zero n = omega arith
-pieces-le (suc l) n =
-    let z : ℕ = 2 ^ l in
-    let some : 0 < z = pow_pos l in
-    let times : n / z * 1 ≤ n / z * z = mul-le-mul_left (n / z) some in
-    let rest = pieces-le l (n % z) in
-    omega (arith, times, rest, div-add-mod' n z, length-append (replicate (n / z) z) (cut_by l (n % z)), length-replicate (n / z) z)
-
 -- so there are at most as many in a row as the greatest width
-sizes-le : (k levels at left : ℕ) → IsTrue (is_width k) → length (row_sizes k levels at left) ≤ most_width
+sizes-le : (k levels at left : ℕ) → IsTrue (is_width k) → length (row_sizes k levels at left) ≤ greatest_width
 sizes-le k levels at left width =
     omega (arith, pieces-le levels (part_of_row k at left), min-le_right left (k - at % k), is_width-le k width)
 
 -- and in each row
 few_subtrees : (k levels at left : ℕ) (rows : List RowParts) → IsTrue (is_width k) → fits_rows k levels at left rows ≡ true
-    → AllByRecursion (λ (row : RowParts). length row.subtrees ≤ most_width) rows
+    → AllByRecursion (λ (row : RowParts). length row.subtrees ≤ greatest_width) rows
 few_subtrees k levels at left [] width fits = tt
 few_subtrees k levels at left (row ∷ rows) width fits =
     let parts = fits-parts k levels at left (row ∷ rows) rows row refl fits in
@@ -82,7 +69,7 @@ shape_parts proof h =
     (one.0, one.1, two.1)
 
 -- few rows
-pub shape_rows : (proof : CommitParts) → has_commit_shape proof ≡ true → length proof.rows ≤ most_width
+pub shape_rows : (proof : CommitParts) → has_commit_shape proof ≡ true → length proof.rows ≤ greatest_width
 shape_rows proof h =
     let parts = shape_parts proof h in
     let range = range_parts proof.k proof.start proof.count parts.1 in
@@ -90,7 +77,7 @@ shape_rows proof h =
     omega (arith, rows, is_width-le proof.k parts.0)
 
 -- with few subtrees each
-pub shape_subtrees : (proof : CommitParts) → has_commit_shape proof ≡ true → AllByRecursion (λ row. length row.subtrees ≤ most_width) proof.rows
+pub shape_subtrees : (proof : CommitParts) → has_commit_shape proof ≡ true → AllByRecursion (λ row. length row.subtrees ≤ greatest_width) proof.rows
 shape_subtrees proof h =
     let parts = shape_parts proof h in
     few_subtrees proof.k (levels_of proof.count) proof.start proof.count proof.rows parts.0 parts.2

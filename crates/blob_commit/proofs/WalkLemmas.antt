@@ -72,7 +72,7 @@ opens-led root k axis index digest path h =
     ap₂ (λ (x y : Bool). x && y && (length path == root_halvings k) && bytes_eq (led (root_place k axis index) (leaf_hash digest) path) root) h.width b
     ∙ ap₂ (λ (x y : Bool). x && y) c d
 
-not_led : (root : List ℕ) (k : ℕ) (axis : Axis) (index : ℕ) (digest : Digest) (path : List (List ℕ)) → (OpensRoot root k axis index digest path → ⊥) → is_led root k axis index digest path ≡ false
+pub not_led : (root : List ℕ) (k : ℕ) (axis : Axis) (index : ℕ) (digest : Digest) (path : List (List ℕ)) → (OpensRoot root k axis index digest path → ⊥) → is_led root k axis index digest path ≡ false
 not_led root k axis index digest path h = elim (cases_Bool (is_led root k axis index digest path)) [
   | inl t ↦ absurd (h (led-opens root k axis index digest path t))
   | inr f ↦ f

@@ -14,7 +14,8 @@ use Rattle.share_split.specs.Widths.{subtree_width_of}
 use Rattle.share_split.proofs.Width.Laws.{width_is_lesser, least_power, least_root}
 use Rattle.square_layout.specs.Refusals.{max_shares}
 use Rattle.square_layout.proofs.LaidLemmas.{square_fits}
-use Rattle.blob_commit.specs.Bounds.{most_halvings, most_width, most_levels}
+use Rattle.namespace_id.specs.Sizes.{greatest_width}
+use Rattle.blob_commit.specs.Bounds.{most_halvings, most_levels}
 
 -- of two powers of two the lesser divides the greater
 power_divides : (a b : ℕ) → IsPowerOfTwo a → IsPowerOfTwo b → a ≤ b → b % a ≡ 0
@@ -72,12 +73,12 @@ square_bound k n width le =
     omega (arith, le, square_fits k width)
 
 -- the width is a count of leaves, and no more subtrees of it than the greatest square has shares in a row hold them
-pub width_count : (n : ℕ) → n ≤ max_shares → IsTrue (is_leaf_count (subtree_width_of n)) × (subtree_width_of n ≤ most_width) × (n ≤ most_width * subtree_width_of n)
+pub width_count : (n : ℕ) → n ≤ max_shares → IsTrue (is_leaf_count (subtree_width_of n)) × (subtree_width_of n ≤ greatest_width) × (n ≤ greatest_width * subtree_width_of n)
 width_count n most =
     let w : ℕ = subtree_width_of n in
     let is : IsWidth n w = formula n (omega (arith, most)) in
     let j : ℕ = is.power.0 in
-    let narrow : w ≤ most_width = is.least most_width (most_halvings, refl) (omega (arith, most)) in
+    let narrow : w ≤ greatest_width = is.least greatest_width (most_halvings, refl) (omega (arith, most)) in
     let low : j ≤ most_halvings = elim (cases_lt most_halvings j) [
       | inl lt ↦
           let next : most_levels ≤ j = omega (arith, lt) in
@@ -88,7 +89,7 @@ width_count n most =
       narrow,
       elim is.holds [
         | inl threshold ↦ omega (arith, threshold)
-        | inr square ↦ let wide : w * w ≤ most_width * w = mul-le w w most_width w narrow (omega arith) in omega (arith, square, wide)
+        | inr square ↦ let wide : w * w ≤ greatest_width * w = mul-le w w greatest_width w narrow (omega arith) in omega (arith, square, wide)
       ],
     )
 

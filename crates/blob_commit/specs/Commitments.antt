@@ -4,6 +4,7 @@ use Rattle.std.specs.Int.{IsPowerOfTwo}
 use Rattle.namespace_id.specs.declared.shares.Share.{Share}
 use Rattle.namespace_id.specs.declared.digests.Digest.{Digest}
 use Rattle.namespace_id.specs.Shares.{name_in}
+use Rattle.namespace_id.specs.Sizes.{most_depth}
 use Rattle.nmt_tree.specs.Roots.{halvings, root}
 use Rattle.data_header.specs.DataRoots.{leaf_hash, inner_hash}
 use Rattle.blob_commit.specs.Cuts.{cut}
@@ -20,9 +21,9 @@ root_over (suc depth) hashes =
 abbrev pub leaf_hashes : List Digest → List (List ℕ)
 leaf_hashes digests = map leaf_hash digests
 
--- the plain Merkle root over up to 256 digests
+-- the plain Merkle root over up to `most_leaves` digests
 abbrev pub root_of_digests : List Digest → List ℕ
-root_of_digests digests = root_over 8 (leaf_hashes digests)
+root_of_digests digests = root_over most_depth (leaf_hashes digests)
 
 -- the root of a subtree over shares, each a leaf under the namespace that it begins with
 abbrev pub subtree_root : List Share → Digest

@@ -3,11 +3,12 @@
 ghost use Rattle.std.specs.Prelude.{◌≡◌, ◌<◌, ◌≤◌, [], ◌∷◌, ◌++◌, length};
 ghost use Rattle.blob_commit.specs.Bounds.{most_subtrees};
 
+use namespace_id::{GREATEST_WIDTH, MOST_DEPTH};
 use std::marker::Model;
 
 /// The most subtrees that cover the shares of a square: of the widest as many as a row has shares,
 /// and one of each lesser width.
-const MOST_SUBTREES: usize = 135;
+const MOST_SUBTREES: usize = GREATEST_WIDTH as usize + MOST_DEPTH - 1;
 
 /// The sizes of subtrees, up to `MOST_SUBTREES`.
 #[derive(Drop)]

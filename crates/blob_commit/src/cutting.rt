@@ -20,6 +20,19 @@ pub(crate) fn levels_of(count: u32) -> u8
     halvings(subtree_width(count as u64) as usize) + 1
 }
 
+/// Into how many sizes so many shares are cut by the powers of two below two to `levels`.
+pub(crate) fn cut_count(levels: u8, count: u32) -> u32
+    requires { levels ≤ most_levels }
+    ensures { result ≡ length (cut_by levels count) }
+{
+    if levels == 0 {
+        return 0;
+    }
+    let lower = levels - 1;
+    let width = leaf_count(lower) as u32;
+    count / width + cut_count(lower, count % width)
+}
+
 /// Adds the sizes into which so many shares are cut by the powers of two below two to `levels`.
 fn put_cut(sizes: &mut Sizes, levels: u8, count: u32)
     requires levels { levels ≤ most_levels }

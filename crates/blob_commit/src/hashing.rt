@@ -2,6 +2,7 @@
 //! 0x01 for a node.
 
 ghost use Rattle.std.specs.Prelude.{◌≡◌, ◌≤◌, ◌^◌, length};
+ghost use Rattle.namespace_id.specs.Sizes.{most_depth};
 ghost use Rattle.blob_commit.specs.Commitments.{root_over};
 
 use data_header::inner_hash;
@@ -11,7 +12,7 @@ use nmt_tree::leaf_count;
 ///
 /// RFC 6962, 2.1.
 pub(crate) fn root_over(depth: u8, hashes: &[[u8; 32]]) -> [u8; 32]
-    requires depth { depth ≤ 8 }
+    requires depth { depth ≤ most_depth }
     requires some { 1 ≤ length hashes.now }
     ensures { result ≡ root_over depth hashes.now }
 {

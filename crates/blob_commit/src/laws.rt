@@ -2,6 +2,7 @@
 
 ghost use Rattle.std.specs.Prelude.{◌/◌, ◌≡◌, ◌↔◌, ◌<◌, ◌≤◌, ◌*◌, ◌++◌, ◌∷◌, ℕ, List, length, take, drop, true, Some, None};
 ghost use Rattle.namespace_id.specs.declared.cells.Axis.{Axis};
+ghost use Rattle.namespace_id.specs.Sizes.{greatest_width, most_leaves, most_depth};
 ghost use Rattle.share_split.specs.Widths.{subtree_width_of};
 ghost use Rattle.nmt_proofs.specs.declared.opening.OpenRefusal.{OpenRefusal as Refusal};
 ghost use Rattle.blob_commit.specs.Cuts.{levels_of, cut, IsCut};
@@ -9,10 +10,11 @@ ghost use Rattle.blob_commit.specs.Commitments.{root_over, IsPlainRoot};
 ghost use Rattle.std.specs.List.{AllByRecursion};
 ghost use Rattle.share_split.specs.Blobs.{NamedBytes, blob_shares_of};
 ghost use Rattle.square_layout.specs.Blocks.{BlockParts, SquareShares};
-ghost use Rattle.square_layout.specs.Refusals.{layout_refusal};
+ghost use Rattle.square_layout.specs.Refusals.{max_shares, layout_refusal};
 ghost use Rattle.square_layout.specs.Layout.{in_order, share_count_of, start_after, end_of, compact_end, square_of};
 ghost use Rattle.data_header.specs.Headers.{Roots, AreRoots, root_of};
 ghost use Rattle.data_header.specs.DataRoots.{data_root_of, root_halvings};
+ghost use Rattle.data_header.specs.Paths.{most_hashes};
 ghost use Rattle.blob_commit.specs.DataTrees.{full, text_at};
 ghost use Rattle.axis_roots.specs.declared.message.messages.Message.{Message};
 ghost use Rattle.axis_roots.specs.Messages.{IsMessage};
@@ -40,17 +42,17 @@ pub fn commit_laws()
 
 /// What is proved of the subtrees of a commitment and of the root over them, in the words of the rules.
 pub fn commitment_laws()
-    // The subtrees over 1 to 16,384 shares are each the greatest, up to the width of their subtrees, that fits into the
+    // The subtrees over 1 to `MAX_SHARES` shares are each the greatest, up to the width of their subtrees, that fits into the
     // shares that are left, and there is one such cut.
-    ensures cut { (count : ℕ) → 1 ≤ count → count ≤ 16384 →
+    ensures cut { (count : ℕ) → 1 ≤ count → count ≤ max_shares →
         IsCut (subtree_width_of count) count (cut count) }
     ensures one_cut { (width count : ℕ) (sizes others : List ℕ) → IsCut width count sizes →
         IsCut width count others → sizes ≡ others }
 
-    // The root over 1 to 256 hashes is the plain one: of more than one the left part has the greatest power of two below
+    // The root over 1 to 1,024 hashes is the plain one: of more than one the left part has the greatest power of two below
     // their number.
-    ensures root { (hashes : List (List ℕ)) → 1 ≤ length hashes → length hashes ≤ 256 →
-        IsPlainRoot hashes (root_over 8 hashes) }
+    ensures root { (hashes : List (List ℕ)) → 1 ≤ length hashes → length hashes ≤ most_leaves →
+        IsPlainRoot hashes (root_over most_depth hashes) }
 {}
 
 /// What is proved of the places of strings.
@@ -82,12 +84,12 @@ pub fn range_laws()
     start_laws();
 }
 
-/// What is proved of a commitment proof that has its shape: it has at most 128 rows, each with at most
-/// 128 subtrees.
+/// What is proved of a commitment proof that has its shape: it has at most 512 rows, each with at most
+/// 512 subtrees.
 pub fn shape_laws()
-    ensures rows { (proof : CommitParts) → has_commit_shape proof ≡ true → length proof.rows ≤ 128 }
+    ensures rows { (proof : CommitParts) → has_commit_shape proof ≡ true → length proof.rows ≤ greatest_width }
     ensures subtrees { (proof : CommitParts) → has_commit_shape proof ≡ true →
-        AllByRecursion (λ row. length row.subtrees ≤ 128) proof.rows }
+        AllByRecursion (λ row. length row.subtrees ≤ greatest_width) proof.rows }
 {}
 
 /// What is proved of the refusals of proofs under any data root.
@@ -113,5 +115,5 @@ pub fn sample_laws()
     ensures { (header : Roots) (square : SquareShares) (message : Message) →
         IsHeaderOf header square → IsProved header message →
         (proof : RootedParts) × (proof.k ≡ header.k) × (proof.message ≡ message)
-        × IsRooted proof × (length proof.up ≤ 9) × RootedHolds (data_root_of header) proof }
+        × IsRooted proof × (length proof.up ≤ most_hashes) × RootedHolds (data_root_of header) proof }
 {}

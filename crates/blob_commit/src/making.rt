@@ -4,6 +4,7 @@ ghost use Rattle.std.specs.Prelude.{◌≡◌, ◌↔◌, ◌+◌, ◌-◌, ◌*
 ghost use Rattle.std.specs.Option.{ForSome};
 ghost use Rattle.namespace_id.specs.declared.cells.Axis.TheVariants.{Row};
 ghost use Rattle.namespace_id.specs.Cells.{is_width};
+ghost use Rattle.namespace_id.specs.Sizes.{most_leaves};
 ghost use Rattle.nmt_tree.specs.Roots.{halvings};
 ghost use Rattle.nmt_proofs.specs.Openings.{intervals_from, Opens};
 ghost use Rattle.nmt_proofs.specs.Places.{AreAligned};
@@ -12,7 +13,7 @@ ghost use Rattle.data_header.specs.DataRoots.{data_root_of, OpensRoot};
 ghost use Rattle.blob_commit.specs.Bounds.{most_levels};
 ghost use Rattle.blob_commit.specs.Cuts.{levels_of};
 ghost use Rattle.blob_commit.specs.Proofs.{is_range, CommitHolds};
-ghost use Rattle.blob_commit.specs.Making.{IsRowTree, AreRowTrees, RowsHold, AddsRows};
+ghost use Rattle.blob_commit.specs.Making.{IsRowTree, AreRowTrees, RowsHold, AddsRow, AddsRows};
 
 use crate::buffers::Hashes;
 use crate::cutting::{cut_by, levels_of};
@@ -20,7 +21,7 @@ use crate::hashing::root_over;
 use crate::proofs::{CommitProof, CommitRow};
 use crate::proving::{is_range, part_of_row, put_rows};
 use data_header::DataTree;
-use namespace_id::{Axis, Digest, NoMemory};
+use namespace_id::{Axis, Digest, MOST_DEPTH, NoMemory};
 use nmt_proofs::make_nodes;
 use nmt_tree::Tree;
 use std::alloc::Global;
@@ -56,7 +57,7 @@ fn put_subtrees(
     subtrees: &mut Vec<Digest>,
 ) -> Result<(), NoMemory>
     requires filled { IsSome tree.now.leaves }
-    requires small { tree.now.count ≤ 256 }
+    requires small { tree.now.count ≤ most_leaves }
     requires places { AreAligned from tree.now.count sizes.now }
     ensures { OnOk result (ForSome tree.now.leaves (λ leaves.
         subtrees.new.items ≡ subtrees.old.items ++ interval_digests leaves from sizes.now)) }
@@ -108,6 +109,40 @@ struct Rest {
     left: u32,
 }
 
+/// Adds the row that what is left of a range begins in. Its stack is free again before the next row.
+#[inline(never)]
+fn add_row(
+    alloc: Global,
+    roots: &DataTree,
+    trees: &[Tree],
+    levels: u8,
+    rest: Rest,
+    rows: &mut Vec<CommitRow>,
+) -> Result<(), NoMemory>
+    requires number { roots.now.k ≤ length trees.now }
+    requires trees { AreRowTrees roots.now trees.now }
+    requires levels { 1 ≤ levels }
+    requires bound { levels ≤ most_levels }
+    requires some { 0 < rest.left }
+    requires within { rest.at + rest.left ≤ roots.now.k * roots.now.k }
+    requires divides { roots.now.k % 2 ^ (levels - 1) ≡ 0 }
+    requires begins { rest.at % 2 ^ (levels - 1) ≡ 0 }
+    ensures { OnOk result (AddsRow (data_root_of roots.now) roots.now.k levels rest.at rest.left
+        rows.old.items rows.new.items) }
+{
+    let k = roots.width();
+    let part = part_of_row(k, rest.at, rest.left);
+    let sizes = cut_by(levels, part);
+    let index = (rest.at / k as u32) as u16;
+    let from = (rest.at % k as u32) as u16;
+    let tree = &trees[index as usize];
+    let row = make_row(alloc, roots, tree, index, from, sizes.sizes())?;
+    let Ok(()) = rows.push(row) else {
+        return Err(NoMemory);
+    };
+    Ok(())
+}
+
 /// Adds the rows that what is left of a range touches.
 fn add_rows(
     alloc: Global,
@@ -130,16 +165,8 @@ fn add_rows(
     if rest.left == 0 {
         return Ok(());
     }
-    let k = roots.width();
-    let part = part_of_row(k, rest.at, rest.left);
-    let sizes = cut_by(levels, part);
-    let index = (rest.at / k as u32) as u16;
-    let from = (rest.at % k as u32) as u16;
-    let tree = &trees[index as usize];
-    let row = make_row(alloc, roots, tree, index, from, sizes.sizes())?;
-    let Ok(()) = rows.push(row) else {
-        return Err(NoMemory);
-    };
+    add_row(alloc, roots, trees, levels, rest, rows)?;
+    let part = part_of_row(roots.width(), rest.at, rest.left);
     let rest = Rest {
         at: rest.at + part,
         left: rest.left - part,
@@ -205,7 +232,7 @@ pub fn prove_commit(
     let rows = rows_of(alloc, roots, trees, start, count)?;
     let mut hashes = Hashes::new();
     put_rows(&rows, &mut hashes);
-    let commitment = root_over(8, hashes.hashes());
+    let commitment = root_over(MOST_DEPTH as u8, hashes.hashes());
     Ok(CommitProof {
         k,
         start,

@@ -3,11 +3,13 @@
 ghost use Rattle.std.specs.Prelude.{◌≡◌, ◌<◌, ◌≤◌, ◌+◌, ◌*◌, ◌%◌, ◌^◌, ◌-◌, ◌++◌, ◌↔◌, length, IsOk, IsErrOf, IsTrue, true, false, ℕ, List, Some, None};
 ghost use Rattle.namespace_id.specs.Answers.{refusal_in};
 ghost use Rattle.nmt_proofs.specs.declared.opening.OpenRefusal.{OpenRefusal as Refusal};
+ghost use Rattle.namespace_id.specs.declared.cells.Axis.TheVariants.{Row};
 ghost use Rattle.namespace_id.specs.Cells.{is_width};
 ghost use Rattle.data_header.specs.Headers.{Roots};
-ghost use Rattle.data_header.specs.DataRoots.{data_root_of};
+ghost use Rattle.data_header.specs.DataRoots.{data_root_of, OpensRoot};
 ghost use Rattle.square_layout.specs.Refusals.{max_shares};
-ghost use Rattle.blob_commit.specs.Bounds.{most_width, most_levels, most_subtrees};
+ghost use Rattle.namespace_id.specs.Sizes.{greatest_width};
+ghost use Rattle.blob_commit.specs.Bounds.{most_levels, most_subtrees};
 ghost use Rattle.blob_commit.specs.Commitments.{leaf_hashes};
 ghost use Rattle.blob_commit.specs.Proofs.{part_of_row, is_range, fits_rows, row_sizes, subtrees_of, has_commit_shape, CommitHolds};
 ghost use Rattle.blob_commit.specs.Refusals.{is_led, first_unled, row_refusal, first_unopened, unled_row, unopened_row, has_commitment, commit_refusal};
@@ -15,12 +17,12 @@ ghost use Rattle.blob_commit.specs.Places.{IsOwnCommit};
 
 use crate::buffers::Hashes;
 use crate::commit_laws;
-use crate::cutting::{cut_by, levels_of};
+use crate::cutting::{cut_by, cut_count, levels_of};
 use crate::hashing::root_over;
 use crate::proofs::{CommitProof, CommitRow};
 use crate::sizes::commit_law;
 use data_header::{leaf_hash, open_root};
-use namespace_id::{Axis, Digest, is_width};
+use namespace_id::{Axis, Digest, MOST_DEPTH, is_width};
 use nmt_proofs::{OpenRefusal, open_nodes};
 use share_split::subtree_width;
 use thiserror::Error;
@@ -83,29 +85,38 @@ fn fits_rows(k: u16, levels: u8, at: u32, left: u32, rows: &[CommitRow]) -> bool
     }
     let part = part_of_row(k, at, left);
     let subtrees: &[Digest] = &row.subtrees;
-    let sizes = cut_by(levels, part);
-    if subtrees.len() != sizes.sizes().len() {
+    if subtrees.len() != cut_count(levels, part) as usize {
         return false;
     }
     fits_rows(k, levels, at + part, left - part, others)
 }
 
+/// Whether the hashes of a row lead from its root to the data root. Its stack is free again before the
+/// next row.
+#[inline(never)]
+fn is_led(root: &[u8; 32], k: u16, index: u16, row: &CommitRow) -> bool
+    ensures { IsTrue result ↔ OpensRoot root.now k Row index row.now.root row.now.up }
+{
+    open_root(root, k, Axis::Row, index, &row.root, &row.up)
+}
+
 /// The number of the first row whose hashes don't lead to the data root.
 fn first_unled(root: &[u8; 32], k: u16, index: u16, number: u32, rows: &[CommitRow]) -> Option<u32>
-    requires index { index + length rows.now ≤ most_width }
-    requires number { number + length rows.now ≤ most_width }
+    requires index { index + length rows.now ≤ greatest_width }
+    requires number { number + length rows.now ≤ greatest_width }
     ensures { result ≡ first_unled root.now k index number rows.now }
 {
     let Some((row, others)) = rows.split_first() else {
         return None;
     };
-    if !open_root(root, k, Axis::Row, index, &row.root, &row.up) {
+    if !is_led(root, k, index, row) {
         return Some(number);
     }
     first_unled(root, k, index + 1, number + 1, others)
 }
 
-/// Adds the hashes of the leaves over digests.
+/// Adds the hashes of the leaves over digests. Its stack is free again before those of the next row.
+#[inline(never)]
 fn put_digests(digests: &[Digest], hashes: &mut Hashes)
     requires { length hashes.old + length digests.now ≤ most_subtrees }
     ensures { hashes.new ≡ hashes.old ++ leaf_hashes digests.now }
@@ -127,6 +138,35 @@ pub(crate) fn put_rows(rows: &[CommitRow], hashes: &mut Hashes)
     put_rows(others, hashes);
 }
 
+/// Why the subtrees of a row don't open under its root. Its stack is free again before the next row.
+#[inline(never)]
+fn row_refusal(k: u16, levels: u8, at: u32, left: u32, row: &CommitRow) -> Option<OpenRefusal>
+    requires width { IsTrue (is_width k) }
+    requires levels { 1 ≤ levels }
+    requires bound { levels ≤ most_levels }
+    requires some { 0 < left }
+    requires divides { k % 2 ^ (levels - 1) ≡ 0 }
+    requires begins { at % 2 ^ (levels - 1) ≡ 0 }
+    requires fits { length row.now.subtrees ≡ length (row_sizes k levels at left) }
+    ensures { result ≡ row_refusal k levels at left row.now }
+{
+    let part = part_of_row(k, at, left);
+    let sizes = cut_by(levels, part);
+    let from = (at % k as u32) as u16;
+    let opened = open_nodes(
+        2 * k,
+        from,
+        sizes.sizes(),
+        &row.subtrees,
+        row.nodes.nodes(),
+        &row.root,
+    );
+    match opened {
+        Ok(()) => None,
+        Err(why) => Some(why),
+    }
+}
+
 /// The number of the first row whose subtrees don't open under its root, and why.
 fn first_unopened(
     k: u16,
@@ -143,26 +183,16 @@ fn first_unopened(
     requires divides { k % 2 ^ (levels - 1) ≡ 0 }
     requires begins { 0 < left → at % 2 ^ (levels - 1) ≡ 0 }
     requires fits { fits_rows k levels at left rows.now ≡ true }
-    requires number { number + length rows.now ≤ most_width }
+    requires number { number + length rows.now ≤ greatest_width }
     ensures { result ≡ first_unopened k levels at left number rows.now }
 {
     let Some((row, others)) = rows.split_first() else {
         return None;
     };
-    let part = part_of_row(k, at, left);
-    let sizes = cut_by(levels, part);
-    let from = (at % k as u32) as u16;
-    let opened = open_nodes(
-        2 * k,
-        from,
-        sizes.sizes(),
-        &row.subtrees,
-        row.nodes.nodes(),
-        &row.root,
-    );
-    if let Err(why) = opened {
+    if let Some(why) = row_refusal(k, levels, at, left, row) {
         return Some((number, why));
     }
+    let part = part_of_row(k, at, left);
     first_unopened(k, levels, at + part, left - part, number + 1, others)
 }
 
@@ -189,7 +219,7 @@ fn judge(root: &[u8; 32], proof: &CommitProof) -> Result<(), CommitRefusal>
     }
     let mut hashes = Hashes::new();
     put_rows(&proof.rows, &mut hashes);
-    if root_over(8, hashes.hashes()) == proof.commitment {
+    if root_over(MOST_DEPTH as u8, hashes.hashes()) == proof.commitment {
         Ok(())
     } else {
         Err(CommitRefusal::Commitment)

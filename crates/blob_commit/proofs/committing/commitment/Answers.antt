@@ -1,4 +1,5 @@
 use Rattle.std.proofs.Common.{◌≡◌, ◌∙◌, ℕ, List, [], ◌∷◌, ◌++◌, length, refl, ap, arith, get_or, length-append}
+use Rattle.namespace_id.specs.Sizes.{most_depth}
 use Rattle.blob_commit.specs.Cuts.{cut_by, cut}
 use Rattle.blob_commit.specs.Commitments.{root_over, leaf_hashes, subtree_roots}
 use Rattle.blob_commit.proofs.CutLemmas.{few-cut, total, total-of, some_pieces}
@@ -21,17 +22,11 @@ loop-i-init c =
       count = ap length c.new-hashes.ensures;
     }
 
-pub subtree_root-requires-clause-count : goal.subtree_root-requires-clause-count
-subtree_root-requires-clause-count c =
+pub subtree_root-requires : goal.subtree_root-requires
+subtree_root-requires c =
     let n : ℕ = length c.args.shares.now in
     let sizes_are : c.sizes-sizes.result.now ≡ cut n = c.sizes-sizes.ensures.value ∙ c.cut_by-sizes.ensures ∙ ap (λ (l : ℕ). cut_by l n) c.levels_of.ensures.value in
     (piece_sized c.sizes-sizes.result.now n c.loop-i.i (length c.split_at.result.0.now) sizes_are c.requires.some c.requires.bound c.loop-i-test.true c.split_at.ensures.front_len).0
-
-pub subtree_root-requires-clause-bound : goal.subtree_root-requires-clause-bound
-subtree_root-requires-clause-bound c =
-    let n : ℕ = length c.args.shares.now in
-    let sizes_are : c.sizes-sizes.result.now ≡ cut n = c.sizes-sizes.ensures.value ∙ c.cut_by-sizes.ensures ∙ ap (λ (l : ℕ). cut_by l n) c.levels_of.ensures.value in
-    (piece_sized c.sizes-sizes.result.now n c.loop-i.i (length c.split_at.result.0.now) sizes_are c.requires.some c.requires.bound c.loop-i-test.true c.split_at.ensures.front_len).1
 
 pub loop-i-preserved : goal.loop-i-preserved
 loop-i-preserved c = record {
@@ -56,5 +51,5 @@ returns c =
     let n : ℕ = length c.args.shares.now in
     let sizes_are : c.sizes-sizes.result.now ≡ cut n = c.sizes-sizes.ensures.value ∙ c.cut_by-sizes.ensures ∙ ap (λ (l : ℕ). cut_by l n) c.levels_of.ensures.value in
     c.root_over.ensures
-    ∙ ap (root_over 8) (c.hashes.ensures.value ∙ hashes_all c.sizes-sizes.result.now c.loop-i.i c.loop-i.rest.now c.loop-i.hashes _ (omega (arith, c.loop-i-test.false)) c.loop-i.invariant.hashes)
-    ∙ ap (λ (l : List ℕ). root_over 8 (leaf_hashes (subtree_roots l c.args.shares.now))) sizes_are
+    ∙ ap (root_over most_depth) (c.hashes.ensures.value ∙ hashes_all c.sizes-sizes.result.now c.loop-i.i c.loop-i.rest.now c.loop-i.hashes _ (omega (arith, c.loop-i-test.false)) c.loop-i.invariant.hashes)
+    ∙ ap (λ (l : List ℕ). root_over most_depth (leaf_hashes (subtree_roots l c.args.shares.now))) sizes_are

@@ -6,7 +6,7 @@ use Rattle.nmt_proofs.proofs.Sets.TileCountLemmas.{length-interval_digests}
 use Rattle.blob_commit.proofs.MakingLemmas.{row_tree-filled}
 use Rattle.blob_commit.proofs.making.make_row.Goals as goal
 
--- 2k is at most 256
+-- 2k is no more than the leaves of the greatest tree
 pub put_subtrees-requires-clause-small : goal.put_subtrees-requires-clause-small
 put_subtrees-requires-clause-small c = omega (arith, c.requires.tree.count, is_width-le c.args.roots.now.k c.requires.width)
 
