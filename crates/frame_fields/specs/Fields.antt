@@ -1,6 +1,6 @@
 -- Fields of a payload, read from the front of a byte string. A field that is read is a value and the
 -- bytes after it.
-use Rattle.std.specs.Prelude.{ℕ, zero, suc, ◌*◌, List, [], ◌∷◌, length, take, drop, nat_lt, Option, Some, None, if◌then◌else◌, ◌==◌}
+use Rattle.std.specs.Prelude.{ℕ, zero, suc, ◌+◌, ◌*◌, List, [], ◌∷◌, length, take, drop, nat_lt, Option, Some, None, if◌then◌else◌, ◌==◌}
 use Rattle.std.specs.Option.{option_map, option_map_or}
 use Rattle.std.specs.Int.{Width, w16, byte_len, from_be_bytes}
 use Rattle.namespace_id.specs.declared.cells.Cell.{Cell}
@@ -10,6 +10,22 @@ use Rattle.namespace_id.specs.declared.cells.Axis.{Axis}
 use Rattle.namespace_id.specs.declared.cells.Axis.TheVariants.{Row, Col}
 use Rattle.namespace_id.specs.Sizes.{share_size, digest_size, hash_size}
 use Rattle.namespace_id.specs.Shares.{share_of}
+
+-- ---- limits
+
+-- the most nodes of a path, one for each halving of the longest row or column
+abbrev pub most_path : ℕ
+most_path = 8
+
+-- the most nodes of a range proof or an absence proof, two for each halving
+abbrev pub most_nodes : ℕ
+most_nodes = 2 * most_path
+
+-- the most hashes that lead from an axis root to a data root
+abbrev pub most_hashes : ℕ
+most_hashes = most_path + 1
+
+-- ---- fields
 
 -- a reader, and what is read after it; none where the first reads none
 infixl 10 ◌>>=◌
@@ -89,10 +105,6 @@ unfoldable pub path_at : ℕ → List ℕ → Option (List Digest × List ℕ)
 path_at limit bytes = do
   count ← byte_at bytes
   if nat_lt limit count.0 then None else digests_at count.0 count.1
-
--- the most hashes that lead from an axis root to a data root
-abbrev pub most_hashes : ℕ
-most_hashes = 9
 
 -- a count in one byte, and so many hashes
 unfoldable pub hashes_at : List ℕ → Option (List (List ℕ) × List ℕ)

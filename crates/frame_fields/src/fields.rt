@@ -3,21 +3,21 @@
 ghost use Rattle.std.specs.Prelude.{◌≡◌, ◌≤◌, ◌*◌, length, vec_len, IfOk, IfSome};
 ghost use Rattle.std.specs.Int.{w16, w32};
 ghost use Rattle.namespace_id.specs.Answers.{Gives};
-ghost use Rattle.frame_fields.specs.Fields.{hashes_at, split_into, digests_of, shares_of, shares_at, text_at, count_at, number_at, byte_at, string_at, axis_at, path_at, cell_at, digest_list_at};
+ghost use Rattle.frame_fields.specs.Fields.{most_path, most_nodes, most_hashes, hashes_at, split_into, digests_of, shares_of, shares_at, text_at, count_at, number_at, byte_at, string_at, axis_at, path_at, cell_at, digest_list_at};
 
 use data_header::RootPath;
 use namespace_id::{Axis, Cell, DIGEST_SIZE, Digest, NAMESPACE_SIZE, Namespace, SHARE_SIZE, Share};
 use nmt_proofs::{Nodes, Path};
 use std::alloc::{AllocError, Global};
 
-/// The most nodes of a path.
+/// The most nodes of a path, one for each halving of the longest row or column.
 const PATH_LIMIT: u8 = 8;
 
-/// The most nodes of a range proof or an absence proof.
-const NODES_LIMIT: u8 = 16;
+/// The most nodes of a range proof or an absence proof, two for each halving.
+const NODES_LIMIT: u8 = 2 * PATH_LIMIT;
 
 /// The most hashes that lead from an axis root to a data root.
-const HASHES_LIMIT: u8 = 9;
+const HASHES_LIMIT: u8 = PATH_LIMIT + 1;
 
 /// The bytes of a hash.
 const HASH_SIZE: usize = 32;
@@ -273,7 +273,7 @@ pub fn digests_of(alloc: Global, count: usize, bytes: &[u8]) -> Result<Vec<Diges
 
 /// So many digests, one after another, which are all of the bytes, in a path.
 fn path_of(count: u8, bytes: &[u8]) -> Path
-    requires few { count ≤ 8 }
+    requires few { count ≤ most_path }
     requires all { length bytes.now ≡ 90 * count }
     ensures { result ≡ digests_of count bytes.now }
 {
@@ -289,7 +289,7 @@ fn path_of(count: u8, bytes: &[u8]) -> Path
 
 /// So many digests, one after another, which are all of the bytes, as nodes.
 pub fn nodes_of(count: u8, bytes: &[u8]) -> Nodes
-    requires few { count ≤ 16 }
+    requires few { count ≤ most_nodes }
     requires all { length bytes.now ≡ 90 * count }
     ensures { result ≡ digests_of count bytes.now }
 {
@@ -322,26 +322,27 @@ fn digests_at(bytes: &[u8], limit: u8) -> Option<(u8, &[u8], &[u8])>
     Some((count, digests, rest))
 }
 
-/// A count of at most 8, so many digests, and the bytes after them.
+/// A count of nodes that a path can have, so many digests, and the bytes after them.
 pub fn path_at(bytes: &[u8]) -> Option<(Path, &[u8])>
-    ensures { Gives (λ x. (x.0, x.1.now)) result (path_at 8 bytes.now) }
+    ensures { Gives (λ x. (x.0, x.1.now)) result (path_at most_path bytes.now) }
 {
     let (count, digests, rest) = digests_at(bytes, PATH_LIMIT)?;
     Some((path_of(count, digests), rest))
 }
 
-/// A count of at most 16, the bytes of so many digests, and the bytes after them.
+/// A count of nodes that a range proof can have, the bytes of so many digests, and the bytes after them.
 pub fn node_list_at(bytes: &[u8]) -> Option<(u8, &[u8], &[u8])>
-    ensures value { Gives (λ x. (digests_of x.0 x.1.now, x.2.now)) result (path_at 16 bytes.now) }
-    ensures few { IfSome result (λ x. x.0 ≤ 16) }
+    ensures value { Gives (λ x. (digests_of x.0 x.1.now, x.2.now))
+        result (path_at most_nodes bytes.now) }
+    ensures few { IfSome result (λ x. x.0 ≤ most_nodes) }
     ensures all { IfSome result (λ x. length x.1.now ≡ 90 * x.0) }
 {
     digests_at(bytes, NODES_LIMIT)
 }
 
-/// A count of at most 16, so many digests, and the bytes after them.
+/// A count of nodes that a range proof can have, so many digests, and the bytes after them.
 pub fn nodes_at(bytes: &[u8]) -> Option<(Nodes, &[u8])>
-    ensures { Gives (λ x. (x.0, x.1.now)) result (path_at 16 bytes.now) }
+    ensures { Gives (λ x. (x.0, x.1.now)) result (path_at most_nodes bytes.now) }
 {
     let (count, digests, rest) = node_list_at(bytes)?;
     Some((nodes_of(count, digests), rest))
@@ -349,7 +350,7 @@ pub fn nodes_at(bytes: &[u8]) -> Option<(Nodes, &[u8])>
 
 /// So many hashes, one after another, which are all of the bytes, in a root path.
 fn hashes_of(count: u8, bytes: &[u8]) -> RootPath
-    requires few { count ≤ 9 }
+    requires few { count ≤ most_hashes }
     requires all { length bytes.now ≡ 32 * count }
     ensures { result ≡ split_into (λ hash. hash) 32 count bytes.now }
 {
@@ -363,12 +364,12 @@ fn hashes_of(count: u8, bytes: &[u8]) -> RootPath
     hashes
 }
 
-/// A count of at most 9, the bytes of so many hashes, and the bytes after them.
+/// A count of hashes that a root path can have, the bytes of so many hashes, and the bytes after them.
 #[tactic(auto, unfolding(crate::specs::Fields::hashes_at))]
 fn hash_list_at(bytes: &[u8]) -> Option<(u8, &[u8], &[u8])>
     ensures value { Gives (λ x. (split_into (λ hash. hash) 32 x.0 x.1.now, x.2.now))
         result (hashes_at bytes.now) }
-    ensures few { IfSome result (λ x. x.0 ≤ 9) }
+    ensures few { IfSome result (λ x. x.0 ≤ most_hashes) }
     ensures all { IfSome result (λ x. length x.1.now ≡ 32 * x.0) }
 {
     let (count, rest) = u8_at(bytes)?;
@@ -382,7 +383,7 @@ fn hash_list_at(bytes: &[u8]) -> Option<(u8, &[u8], &[u8])>
     Some((count, hashes, rest))
 }
 
-/// A count of at most 9, so many hashes, and the bytes after them.
+/// A count of hashes that a root path can have, so many hashes, and the bytes after them.
 pub fn hashes_at(bytes: &[u8]) -> Option<(RootPath, &[u8])>
     ensures { Gives (λ x. (x.0, x.1.now)) result (hashes_at bytes.now) }
 {
