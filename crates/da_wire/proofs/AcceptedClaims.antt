@@ -13,7 +13,7 @@ use Rattle.axis_roots.specs.Sets.{is_along, is_shown, is_bare, fits_set, OpensSe
 use Rattle.axis_roots.specs.Claims.{ClaimParts, is_on, is_set_cell, claimed_root, AreProved, HasSet, Accepts}
 use Rattle.axis_roots.proofs.Messages.ClaimLemmas.{Shape, shape_of}
 use Rattle.axis_roots.proofs.Messages.SetLemmas.{accepted_few}
-use Rattle.da_wire.specs.kinds.Fraud.{is_placed, fits_form, is_unwritten}
+use Rattle.da_wire.specs.kinds.Fraud.{most_cells, is_placed, fits_form, is_unwritten}
 use Rattle.da_wire.proofs.kinds.CellParts.{is_path}
 use Rattle.da_wire.proofs.kinds.FraudForm.{written_from, fits_from}
 
@@ -46,7 +46,7 @@ shown_width k axis cells root None m shown opens = absurd cc
 shown_width k axis cells root (Some nodes) m shown opens = opens.width
 
 -- as many proved cells as a square is wide are few
-proved_few : (header : Roots) (claim : ClaimParts) (cells : List Message) → HasSet header claim → AreProved header claim cells → length cells ≡ header.k → length cells ≤ 128
+proved_few : (header : Roots) (claim : ClaimParts) (cells : List Message) → HasSet header claim → AreProved header claim cells → length cells ≡ header.k → length cells ≤ most_cells
 proved_few header claim [] opens proved count = omega arith
 proved_few header claim (m ∷ cells) opens proved count =
     let width : is_width header.k ≡ true = elim (cases_Bool (is_set_cell claim m)) [

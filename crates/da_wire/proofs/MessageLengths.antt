@@ -4,22 +4,22 @@ use Rattle.namespace_id.specs.Bytes.{AreBytes}
 use Rattle.axis_roots.specs.declared.message.messages.Message.{Message}
 use Rattle.axis_roots.specs.Messages.{IsMessage}
 use Rattle.frame_fields.specs.Messages.{message_at}
-use Rattle.da_wire.specs.kinds.Message.{message_payload}
+use Rattle.da_wire.specs.kinds.Message.{message_payload, most_message}
 use Rattle.da_wire.proofs.kinds.PayloadSizes.{length-message}
 use Rattle.da_wire.proofs.kinds.MessageForm.{message_takes}
 pub use Rattle.da_wire.proofs.codec.Digests.{length-digest_bytes}
 
--- a sample of eight nodes has the longest payload
-pub length-message_payload : (m : Message) → IsMessage m → length (message_payload m) ≤ 1238
+-- a sample of as many nodes as a path has at most has the longest payload
+pub length-message_payload : (m : Message) → IsMessage m → length (message_payload m) ≤ most_message
 length-message_payload m is = omega (arith, length-message m is.share is.nodes, is.few)
 
 -- what a longer payload gives
-none_of : (payload : List ℕ) (o : Option Message) → AreBytes payload → 1238 < length payload → message_at payload ≡ o → o ≡ None
+none_of : (payload : List ℕ) (o : Option Message) → AreBytes payload → most_message < length payload → message_at payload ≡ o → o ≡ None
 none_of payload None fits h e = refl
 none_of payload (Some m) fits h e =
     let t = message_takes payload m fits e in
     absurd (omega (arith, h, ap length t.1, length-message_payload m t.0))
 
 -- a payload that is longer is that of no sample
-pub message_at-long : (payload : List ℕ) → AreBytes payload → 1238 < length payload → message_at payload ≡ None
+pub message_at-long : (payload : List ℕ) → AreBytes payload → most_message < length payload → message_at payload ≡ None
 message_at-long payload fits h = none_of payload (message_at payload) fits h refl

@@ -1,4 +1,5 @@
 pub mod codec
+pub mod Limits
 pub mod kinds
 pub mod Spelling
 pub mod Reading

@@ -3,11 +3,12 @@ use Rattle.std.specs.Prelude.{◌≡◌, ℕ, ◌+◌, ◌++◌, true, false, �
 use Rattle.da_wire.specs.Spelling.{max_payload, message_kind}
 use Rattle.axis_roots.specs.declared.message.messages.Message.{Message}
 use Rattle.frame_fields.specs.Messages.{message_at}
+use Rattle.da_wire.specs.kinds.Message.{most_message}
 use Rattle.da_wire.specs.Reading.{promised}
 
 -- how many bytes of a frame are kept: the head, and the greatest payload of a sample
 abbrev pub front_size : ℕ
-front_size = 1243
+front_size = 5 + most_message
 
 -- a stream as contracts see it: the offset of the frame under way, how many bytes were taken, and a room
 -- whose first bytes are those of the frame under way, as many as it holds

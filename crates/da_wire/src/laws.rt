@@ -16,10 +16,10 @@ ghost use Rattle.axis_roots.specs.Claims.{ClaimParts, IsClaim, Accepts};
 ghost use Rattle.square_layout.specs.Blocks.{SquareShares, IsSquare};
 ghost use Rattle.hash_clash.specs.Collisions.{Strings};
 ghost use Rattle.blob_commit.specs.Proofs.{CommitParts, RootedParts, has_commit_shape};
-ghost use Rattle.frame_fields.specs.Fields.{most_hashes};
+ghost use Rattle.frame_fields.specs.Fields.{most_nodes, most_hashes};
 ghost use Rattle.da_wire.specs.declared.frames.Frame.TheVariants.{Header, Square, Message, Names, Fraud, Missing, Clash, Sample, Request, Commit, Rooted};
 ghost use Rattle.da_wire.specs.Spelling.{max_payload, spelling};
-ghost use Rattle.da_wire.specs.kinds.Names.{most_entries, most_shares, most_nodes, is_long_answer};
+ghost use Rattle.da_wire.specs.kinds.Names.{most_entries, most_shares_shown, is_long_answer};
 ghost use Rattle.da_wire.specs.kinds.Fraud.{most_cells, most_set_nodes, is_unwritten};
 ghost use Rattle.da_wire.specs.kinds.Clash.{AreStrings, has_empty};
 ghost use Rattle.da_wire.specs.kinds.Commit.{most_rows, most_subtrees, IsCommitSent, is_long_commit};
@@ -107,7 +107,7 @@ pub fn limit_laws()
 
     // A namespace answer has at most 128 entries, each of at most 128 shares and 16 nodes.
     ensures entries { most_entries ≡ 128 }
-    ensures shares { most_shares ≡ 128 }
+    ensures shares { most_shares_shown ≡ 128 }
     ensures nodes { most_nodes ≡ 16 }
 
     // A fraud claim has at most 128 cells, and its set at most 128 nodes.

@@ -12,6 +12,7 @@ ghost use Rattle.da_wire.specs.Streams.{StandsFor, IsPush, first_refusal, offset
 ghost use Rattle.da_wire.specs.Frames.{bad_frame};
 
 use crate::codec::sizes::HEAD_SIZE;
+use crate::kinds::message::MOST_MESSAGE;
 use crate::{FrameError, MAX_PAYLOAD};
 use axis_roots::Message;
 use frame_fields::message;
@@ -19,7 +20,7 @@ use namespace_id::{bytes_law, write_at};
 use std::marker::Model;
 
 /// How many bytes of a frame are kept: the head, and the greatest payload of a sample.
-const FRONT_SIZE: usize = 1243;
+const FRONT_SIZE: usize = HEAD_SIZE + MOST_MESSAGE;
 
 /// What the bytes that a push took come to.
 #[derive(Debug, Drop)]

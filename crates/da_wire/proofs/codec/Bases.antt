@@ -14,7 +14,7 @@ use Rattle.namespace_id.specs.declared.cells.Axis.{Axis}
 use Rattle.namespace_id.specs.declared.cells.Cell.{Cell}
 use Rattle.namespace_id.specs.declared.namespaces.Namespace.{Namespace}
 use Rattle.namespace_id.specs.declared.shares.Share.{Share}
-use Rattle.frame_fields.specs.Fields.{byte_at, number_at, string_at, cell_at, axis_at, path_at, hashes_at, digest_list_at, text_at, list_at}
+use Rattle.frame_fields.specs.Fields.{byte_at, number_at, string_at, cell_at, axis_at, path_at, most_hashes, hashes_at, digest_list_at, text_at, list_at}
 use Rattle.da_wire.specs.codec.Texts.{axis_byte, cell_bytes, path_bytes, digest_list, text_bytes, list_bytes, IsCell}
 use Rattle.da_wire.specs.kinds.Commit.{hash_bytes}
 use Rattle.da_wire.proofs.codec.Numbers.{IsWide, wide16, wide32, number_takes, number_again}
@@ -82,7 +82,7 @@ path limit = one (path_at limit) path_bytes (λ nodes. (length nodes ≤ limit) 
 
 -- hashes behind their count
 abbrev pub hashes : {R : Type 0} → Fields R (List (List ℕ))
-hashes = one hashes_at hash_bytes (λ up. (length up ≤ 9) × AllByRecursion (IsString 32) up) (λ bytes up rest fits e. with_both (hashes_take bytes up rest fits e)) (λ up rest is few. hashes_again up rest is.0 is.1)
+hashes = one hashes_at hash_bytes (λ up. (length up ≤ most_hashes) × AllByRecursion (IsString 32) up) (λ bytes up rest fits e. with_both (hashes_take bytes up rest fits e)) (λ up rest is few. hashes_again up rest is.0 is.1)
 
 -- a field that is read and spelled by itself
 abbrev pub field : {R A : Type 0} (read : List ℕ → Option (A × List ℕ)) (text : A → List ℕ) (Is : A → Type 0) → IsField read text Is → Fields R A

@@ -9,6 +9,7 @@ use Rattle.namespace_id.specs.Lists.{holds_along}
 use Rattle.namespace_id.specs.Cells.{CellList, AreCells, is_width, is_in_square, is_before}
 use Rattle.namespace_id.proofs.WidthLemmas.{is_width-le}
 use Rattle.namespace_id.proofs.NumberLemmas.{inside as within_square}
+use Rattle.da_wire.specs.Limits.{greatest_width}
 use Rattle.da_wire.proofs.kinds.PayloadSizes.{square_few}
 
 -- the place of a cell in row-major order, in a square of this side
@@ -74,6 +75,6 @@ width_of_cells cells are =
     (and_parts (is_width cells.k) (list_all (is_in_square cells.k) cells.list) both.0).0
 
 -- no more than the greatest square has
-pub cells_few : (cells : CellList) → AreCells cells → length cells.list ≤ 65536
+pub cells_few : (cells : CellList) → AreCells cells → length cells.list ≤ 4 * (greatest_width * greatest_width)
 cells_few cells are =
     omega (arith, cells_counted cells are, square_few cells.k (is_width-le cells.k (width_of_cells cells are)))

@@ -3,7 +3,7 @@ use Rattle.std.proofs.Common.{◌≡◌, ◌∙◌, ℕ, Bool, eqb, cond, List, 
 use Rattle.std.specs.Int.{w16, w32}
 use Rattle.blob_commit.specs.Proofs.{RowParts, CommitParts}
 use Rattle.frame_fields.specs.Fields.{◌>>=◌, number_at, string_at, read_items, read_rest}
-use Rattle.da_wire.specs.kinds.Commit.{IsRowSent, is_long_row, is_long_commit, row_bytes, commit_payload, row_at, rows_at, commit_at}
+use Rattle.da_wire.specs.kinds.Commit.{most_rows, IsRowSent, is_long_row, is_long_commit, row_bytes, commit_payload, row_at, rows_at, commit_at}
 use Rattle.da_wire.specs.declared.kinds.Kind.TheVariants as kinds
 use Rattle.da_wire.specs.declared.frames.Frame.TheVariants as frames
 use Rattle.da_wire.proofs.codec.Many.{made, by_rest}
@@ -29,7 +29,7 @@ pub from_rest : (read : Option CommitParts) (make : List RowParts → CommitPart
 from_rest read make rows rest none e r is = by_rest none rest (make (read_items (rows_at rows))) read is (e ∙ made (rows_at rows) (ended make) rest r)
 
 -- a commitment proof is a width, a first index, a number of shares, a commitment, and rows
-maps : AreMaps {R = CommitParts} (number16 ▸ number32 ▸ number32 ▸ string 32 ▸ short_list16 128 (omega arith) row_at row_bytes IsRowSent is_long_row row_field)
+maps : AreMaps {R = CommitParts} (number16 ▸ number32 ▸ number32 ▸ string 32 ▸ short_list16 most_rows (omega arith) row_at row_bytes IsRowSent is_long_row row_field)
     (λ x. commit x.0.0.0.0 x.0.0.0.1 x.0.0.1 x.0.1 x.1) (λ p. ((((p.k, p.start), p.count), p.commitment), p.rows)) (IsSpelled frames.Commit is_long_commit)
 maps = record {
   there = λ x is. ((record { k = is.0.0.0.0; start = is.0.0.0.1; count = is.0.0.1; commitment = is.0.1; rows = is.1.0 }, is.1.1), refl);

@@ -9,9 +9,9 @@ use Rattle.namespace_id.specs.Shares.{AreShares}
 use Rattle.axis_roots.specs.declared.answers.Found.{Found}
 use Rattle.axis_roots.specs.declared.answers.Found.TheVariants.{Range, Absence}
 use Rattle.axis_roots.specs.Answers.{IsFound}
-use Rattle.frame_fields.specs.Fields.{count_at, shares_at}
+use Rattle.frame_fields.specs.Fields.{most_nodes, count_at, shares_at}
 use Rattle.da_wire.specs.codec.Texts.{share_bytes}
-use Rattle.da_wire.specs.kinds.Names.{is_long_found, share_list_bytes, found_bytes, share_list_at, range_at, absence_at, found_at}
+use Rattle.da_wire.specs.kinds.Names.{most_shares_shown, is_long_found, share_list_bytes, found_bytes, share_list_at, range_at, absence_at, found_at}
 use Rattle.da_wire.proofs.codec.Readers.{bind_some, bind_again, Takes, Takes-then}
 use Rattle.da_wire.proofs.codec.Numbers.{wide16, count_takes, count_again}
 use Rattle.da_wire.proofs.codec.Shares.{shares_take, shares_again}
@@ -31,28 +31,28 @@ after_count count = shares_at count.0 count.1
 
 -- shares that are read behind their count are those that were written, and are within the limit
 share_list_takes : (bytes : List ℕ) (shares : List Share) (rest : List ℕ) → AreBytes bytes → share_list_at bytes ≡ Some (shares, rest)
-    → Takes bytes (share_list_bytes shares) rest × AreShares shares × (length shares ≤ 128)
+    → Takes bytes (share_list_bytes shares) rest × AreShares shares × (length shares ≤ most_shares_shown)
 unfolding share_list_at
 share_list_takes bytes shares rest fits e =
-    let a = bind_some (count_at w16 128 bytes) after_count (shares, rest) e in
-    let t = count_takes w16 (2 ^ 16) wide16 128 bytes a.0.0 a.0.1 fits a.1 in
+    let a = bind_some (count_at w16 most_shares_shown bytes) after_count (shares, rest) e in
+    let t = count_takes w16 (2 ^ 16) wide16 most_shares_shown bytes a.0.0 a.0.1 fits a.1 in
     let u = shares_take a.0.0 a.0.1 shares rest t.0.rest_fits a.2 in
     let both = Takes-then bytes (to_be_bytes w16 a.0.0) a.0.1 (share_bytes shares) rest t.0 u.0 in
-    (subst (λ (n : ℕ). Takes bytes (to_be_bytes w16 n ++ share_bytes shares) rest) (sym u.1) both, u.2, subst (λ (n : ℕ). n ≤ 128) (sym u.1) t.1)
+    (subst (λ (n : ℕ). Takes bytes (to_be_bytes w16 n ++ share_bytes shares) rest) (sym u.1) both, u.2, subst (λ (n : ℕ). n ≤ most_shares_shown) (sym u.1) t.1)
 
 -- shares within the limit that were written behind their count are read, whatever follows them
-share_list_again : (shares : List Share) (rest : List ℕ) → AreShares shares → length shares ≤ 128 → share_list_at (share_list_bytes shares ++ rest) ≡ Some (shares, rest)
+share_list_again : (shares : List Share) (rest : List ℕ) → AreShares shares → length shares ≤ most_shares_shown → share_list_at (share_list_bytes shares ++ rest) ≡ Some (shares, rest)
 unfolding share_list_at
 share_list_again shares rest all few =
     let tail : List ℕ = share_bytes shares ++ rest in
-    bind_again (count_at w16 128 (to_be_bytes w16 (length shares) ++ tail)) after_count (length shares, tail) (shares, rest)
-    (count_again w16 (2 ^ 16) wide16 128 (length shares) tail (omega arith) few) (shares_again shares rest all)
+    bind_again (count_at w16 most_shares_shown (to_be_bytes w16 (length shares) ++ tail)) after_count (length shares, tail) (shares, rest)
+    (count_again w16 (2 ^ 16) wide16 most_shares_shown (length shares) tail (omega arith) few) (shares_again shares rest all)
 
 -- ---- what is found
 
 -- shares behind their count are a field
 abbrev shares : {R : Type 0} → Fields R (List Share)
-shares = one share_list_at share_list_bytes (λ shares. AreShares shares × (length shares ≤ 128)) (λ bytes shares rest fits e. with_both (share_list_takes bytes shares rest fits e))
+shares = one share_list_at share_list_bytes (λ shares. AreShares shares × (length shares ≤ most_shares_shown)) (λ bytes shares rest fits e. with_both (share_list_takes bytes shares rest fits e))
     (λ shares rest is few. share_list_again shares rest is.0 is.1)
 
 -- a start, shares and nodes, or a place, a leaf and nodes
@@ -61,7 +61,7 @@ Parts = ((ℕ × List Share) × List Digest) ⊎ ((ℕ × Digest) × List Digest
 
 -- the fields of what is found
 abbrev fields : Fields (Found × List ℕ) Parts
-fields = either (number16 ▸ shares ▸ path 16) (number16 ▸ digest90 ▸ path 16)
+fields = either (number16 ▸ shares ▸ path most_nodes) (number16 ▸ digest90 ▸ path most_nodes)
 
 -- what is found, of these fields
 abbrev make : Parts → Found

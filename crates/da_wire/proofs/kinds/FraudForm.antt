@@ -9,7 +9,7 @@ use Rattle.namespace_id.specs.Bytes.{AreBytes}
 use Rattle.axis_roots.specs.Sets.{is_along}
 use Rattle.axis_roots.specs.Claims.{ClaimParts, IsClaim}
 use Rattle.da_wire.specs.codec.Texts.{list_bytes, digest_list}
-use Rattle.da_wire.specs.kinds.Fraud.{is_placed, fits_form, is_unwritten, cell_payload, plain_payload, set_payload, payload_by, fraud_payload, accused_at, claim_cells_at, plain_at, with_set_at, either, fraud_at}
+use Rattle.da_wire.specs.kinds.Fraud.{most_cells, most_set_nodes, is_placed, fits_form, is_unwritten, cell_payload, plain_payload, set_payload, payload_by, fraud_payload, accused_at, claim_cells_at, plain_at, with_set_at, either, fraud_at}
 use Rattle.da_wire.specs.declared.kinds.Kind.TheVariants as kinds
 use Rattle.da_wire.specs.declared.frames.Frame.TheVariants as frames
 use Rattle.da_wire.proofs.codec.Headed.{no_head}
@@ -34,37 +34,37 @@ either_second {A} r other e = ap (λ (o : Option A). either o other) e
 -- ---- claims that can be written
 
 -- the cells of a claim that can be written fit its set, and aren't too many
-pub written_parts : (claim : ClaimParts) → is_unwritten claim ≡ false → (fits_form claim claim.set ≡ true) × (length claim.cells ≤ 128)
+pub written_parts : (claim : ClaimParts) → is_unwritten claim ≡ false → (fits_form claim claim.set ≡ true) × (length claim.cells ≤ most_cells)
 written_parts claim e =
-    let parts = or_parts (not (fits_form claim claim.set)) (nat_lt 128 (length claim.cells)) e in
-    (not-false (fits_form claim claim.set) parts.0, ltb-false 128 (length claim.cells) parts.1)
+    let parts = or_parts (not (fits_form claim claim.set)) (nat_lt most_cells (length claim.cells)) e in
+    (not-false (fits_form claim claim.set) parts.0, ltb-false most_cells (length claim.cells) parts.1)
 
 -- a claim whose cells fit its set and aren't too many can be written
-pub written_from : (claim : ClaimParts) → fits_form claim claim.set ≡ true → length claim.cells ≤ 128 → is_unwritten claim ≡ false
+pub written_from : (claim : ClaimParts) → fits_form claim claim.set ≡ true → length claim.cells ≤ most_cells → is_unwritten claim ≡ false
 written_from claim fits few =
-    or_from (not (fits_form claim claim.set)) (nat_lt 128 (length claim.cells)) (not_from_true (fits_form claim claim.set) fits) (le-ltb 128 (length claim.cells) few)
+    or_from (not (fits_form claim claim.set)) (nat_lt most_cells (length claim.cells)) (not_from_true (fits_form claim claim.set) fits) (le-ltb most_cells (length claim.cells) few)
 
 -- what cells that fit a set tell
 pub record Fits (claim : ClaimParts) (nodes : List Digest) : Type 0 where
   pub placed : list_all (is_placed claim) claim.cells ≡ true
   pub some : list_any (is_along claim.axis) claim.cells ≡ true
-  pub few : length nodes ≤ 128
+  pub few : length nodes ≤ most_set_nodes
 
 -- cells that fit a set are placed, the set shows one, and it has few nodes
 pub fits_parts : (claim : ClaimParts) (nodes : List Digest) → fits_form claim (Some nodes) ≡ true → Fits claim nodes
 fits_parts claim nodes e =
     let placed : Bool = list_all (is_placed claim) claim.cells in
     let some : Bool = list_any (is_along claim.axis) claim.cells in
-    let last = and_parts (placed && some) (not (nat_lt 128 (length nodes))) e in
+    let last = and_parts (placed && some) (not (nat_lt most_set_nodes (length nodes))) e in
     let both = and_parts placed some last.0 in
-    record { placed = both.0; some = both.1; few = ltb-false 128 (length nodes) (not-true (nat_lt 128 (length nodes)) last.1) }
+    record { placed = both.0; some = both.1; few = ltb-false most_set_nodes (length nodes) (not-true (nat_lt most_set_nodes (length nodes)) last.1) }
 
 -- and such cells fit it
 pub fits_from : (claim : ClaimParts) (nodes : List Digest) → Fits claim nodes → fits_form claim (Some nodes) ≡ true
 fits_from claim nodes h =
     let placed : Bool = list_all (is_placed claim) claim.cells in
     let some : Bool = list_any (is_along claim.axis) claim.cells in
-    and_from (placed && some) (not (nat_lt 128 (length nodes))) (and_from placed some h.placed h.some) (not_from_false (nat_lt 128 (length nodes)) (le-ltb 128 (length nodes) h.few))
+    and_from (placed && some) (not (nat_lt most_set_nodes (length nodes))) (and_from placed some h.placed h.some) (not_from_false (nat_lt most_set_nodes (length nodes)) (le-ltb most_set_nodes (length nodes) h.few))
 
 -- ---- claims
 
@@ -103,7 +103,7 @@ other_form claim nodes =
     plain_is (set_payload claim nodes) ∙ no_head claim_cells_at plain_claim (accused_at 1 (set_payload claim nodes)) none
 
 -- the payload of a claim that can be written is read as the claim, by whether it has a set
-again_by : (x : ClaimParts) (set : Option (List Digest)) → x.set ≡ set → IsClaim x → fits_form x set ≡ true → length x.cells ≤ 128 → length (payload_by x set) < 2 ^ 32
+again_by : (x : ClaimParts) (set : Option (List Digest)) → x.set ≡ set → IsClaim x → fits_form x set ≡ true → length x.cells ≤ most_cells → length (payload_by x set) < 2 ^ 32
     → fraud_at (payload_by x set) ≡ Some x
 again_by x None same is fits few small =
     let made : ClaimParts = plain_claim (x.axis, x.index) x.cells in

@@ -16,8 +16,8 @@ use Rattle.axis_roots.specs.Claims.{ClaimParts, IsClaim}
 use Rattle.da_wire.specs.declared.frames.Frame.TheVariants.{Fraud}
 use Rattle.da_wire.specs.Spelling.{max_payload, spelled, fraud_kind}
 use Rattle.da_wire.specs.codec.Texts.{list_bytes, digest_list}
-use Rattle.da_wire.specs.kinds.Message.{message_payload}
-use Rattle.da_wire.specs.kinds.Fraud.{is_unwritten, fits_form, cell_payload, plain_payload, set_payload, payload_by, fraud_payload}
+use Rattle.da_wire.specs.kinds.Message.{message_payload, most_message}
+use Rattle.da_wire.specs.kinds.Fraud.{most_cells, is_unwritten, fits_form, cell_payload, plain_payload, set_payload, payload_by, fraud_payload}
 use Rattle.da_wire.specs.Writing.{HasSize, IsWithin}
 use Rattle.da_wire.proofs.codec.Digests.{length-digest_bytes}
 use Rattle.da_wire.proofs.codec.Lengths.{texts_few, spelled_within, spelled_beyond}
@@ -42,8 +42,8 @@ length-path_text along path f all =
     let written : length (path_text false path) ≡ 1 + 90 * length path = omega (arith, length-digest_bytes path all) in
     ap (λ (b : Bool). length (path_text b path)) f ∙ written
 
--- so such a cell has at most 1,236 bytes
-cell_few : (axis : Axis) (m : Message) → IsMessage m → length (cell_payload axis m) ≤ 1236
+-- so such a cell has fewer bytes than the longest payload of a sample
+cell_few : (axis : Axis) (m : Message) → IsMessage m → length (cell_payload axis m) ≤ most_message
 cell_few axis m is = elim (cases_Bool (is_along axis m)) [
   | inl t ↦ omega (arith, length-cell axis m is.share, length-path_shown (is_along axis m) m.path t)
   | inr f ↦ omega (arith, is.few, length-cell axis m is.share, length-path_text (is_along axis m) m.path f is.nodes)
@@ -68,8 +68,8 @@ pub plain_text : (claim : ClaimParts) → claim.set ≡ None → fraud_payload c
 plain_text claim e = ap (payload_by claim) e
 
 -- the payload by whether there is a set is within the limit
-few_by : (claim : ClaimParts) (set : Option (List Digest)) → claim.set ≡ set → IsClaim claim → fits_form claim set ≡ true → length claim.cells ≤ 128 → length (payload_by claim set) ≤ max_payload
-few_by claim None same is fits few = omega (arith, few, length-plain claim, texts_few message_payload IsMessage 1238 length-message_payload claim.cells is.messages)
+few_by : (claim : ClaimParts) (set : Option (List Digest)) → claim.set ≡ set → IsClaim claim → fits_form claim set ≡ true → length claim.cells ≤ most_cells → length (payload_by claim set) ≤ max_payload
+few_by claim None same is fits few = omega (arith, few, length-plain claim, texts_few message_payload IsMessage most_message length-message_payload claim.cells is.messages)
 few_by claim (Some nodes) same is fits few =
     let digests : AreDigests nodes = subst (λ (s : Option (List Digest)). IfSome s AreDigests) same is.digests in
     omega (
@@ -78,7 +78,7 @@ few_by claim (Some nodes) same is fits few =
       (fits_parts claim nodes fits).few,
       length-set claim nodes,
       length-digest_bytes nodes digests,
-      texts_few (cell_payload claim.axis) IsMessage 1236 (cell_few claim.axis) claim.cells is.messages,
+      texts_few (cell_payload claim.axis) IsMessage most_message (cell_few claim.axis) claim.cells is.messages,
     )
 
 -- a claim that can be written has a payload within its limit

@@ -11,6 +11,7 @@ use Rattle.namespace_id.proofs.StringLemmas.{AreBytes-take, AreBytes-drop}
 use Rattle.namespace_id.proofs.WidthLemmas.{is_width-le}
 use Rattle.data_header.specs.Headers.{Roots, IsHeader}
 use Rattle.frame_fields.specs.Fields.{number_at, digests_of}
+use Rattle.da_wire.specs.Limits.{greatest_width}
 use Rattle.da_wire.specs.codec.Texts.{digest_bytes}
 use Rattle.da_wire.specs.kinds.Header.{header_payload, header_at}
 use Rattle.da_wire.proofs.codec.Readers.{bind_some, bind_again, if_false, if_false_again, if_true_again}
@@ -81,7 +82,7 @@ pub header_again : (h : Roots) → IsHeader h → header_at (header_payload h) �
 unfolding header_at
 header_again h is =
     let len = body_length h is in
-    let few : h.k ≤ 128 = is_width-le h.k is.roots.width in
+    let few : h.k ≤ greatest_width = is_width-le h.k is.roots.width in
     let front : take (180 * h.k) (body h) ≡ digest_bytes h.rows = take_at (digest_bytes h.rows) (digest_bytes h.cols) (180 * h.k) len.0 in
     let behind : drop (180 * h.k) (body h) ≡ digest_bytes h.cols = drop_at (digest_bytes h.rows) (digest_bytes h.cols) (180 * h.k) len.0 in
     let rows : digests_of (2 * h.k) (take (180 * h.k) (body h)) ≡ h.rows = digests_of-spelled (2 * h.k) (take (180 * h.k) (body h)) h.rows is.rows is.roots.rows front in

@@ -10,6 +10,7 @@ use Rattle.namespace_id.specs.Bytes.{AreBytes}
 use Rattle.namespace_id.specs.Cells.{is_width, is_in_square, is_before, are_cells, CellList, AreCells}
 use Rattle.namespace_id.specs.Lists.{holds_along}
 use Rattle.frame_fields.specs.Fields.{◌>>=◌, number_at, cells_of}
+use Rattle.da_wire.specs.Limits.{greatest_width}
 use Rattle.da_wire.specs.codec.Texts.{cell_bytes, IsCell}
 use Rattle.da_wire.specs.kinds.Missing.{missing_payload, missing_at}
 use Rattle.da_wire.proofs.codec.Readers.{bind_some, bind_again, if_false, if_false_again, if_true_again, Takes, Takes-then}
@@ -68,7 +69,7 @@ missing_takes payload cells fits e =
 -- ---- spelled
 
 -- cells of a square have numbers of two bytes
-in_square : (k : ℕ) (cells : List Cell) → k ≤ 128 → list_all (is_in_square k) cells ≡ true → AllByRecursion IsCell cells
+in_square : (k : ℕ) (cells : List Cell) → k ≤ greatest_width → list_all (is_in_square k) cells ≡ true → AllByRecursion IsCell cells
 in_square k [] few all = tt
 in_square k (c ∷ cs) few all =
     let here = and_parts (is_in_square k c) (list_all (is_in_square k) cs) all in
@@ -85,7 +86,7 @@ missing_again cells are some few =
     let bytes : List ℕ = flat_map cell_bytes cells.list in
     let parts = and_parts (is_width cells.k && list_all (is_in_square cells.k) cells.list) (holds_along is_before cells.list) are in
     let inside = and_parts (is_width cells.k) (list_all (is_in_square cells.k) cells.list) parts.0 in
-    let narrow : cells.k ≤ 128 = is_width-le cells.k inside.0 in
+    let narrow : cells.k ≤ greatest_width = is_width-le cells.k inside.0 in
     let same : cells_of count bytes ≡ cells.list = cells_of-bytes cells.list (in_square cells.k cells.list narrow inside.1) in
     let len : eqb (length bytes) (4 * count) ≡ true = eq-eqb _ _ (length-cells_bytes cells.list) in
     let read : Option CellList = cond (are_cells cells.k (cells_of count bytes)) (Some (cell_list cells.k (cells_of count bytes))) None in

@@ -5,7 +5,7 @@ use Rattle.namespace_id.specs.declared.namespaces.Namespace.{Namespace}
 use Rattle.axis_roots.specs.declared.answers.NsEntry.{NsEntry}
 use Rattle.axis_roots.specs.Answers.{IsEntry}
 use Rattle.frame_fields.specs.Fields.{string_at}
-use Rattle.da_wire.specs.kinds.Names.{is_long_entry, is_long_answer, entry_bytes, names_payload, entry_at, entries_at, names_at}
+use Rattle.da_wire.specs.kinds.Names.{most_entries, is_long_entry, is_long_answer, entry_bytes, names_payload, entry_at, entries_at, names_at}
 use Rattle.da_wire.specs.declared.frames.Frame.{Frame}
 use Rattle.da_wire.specs.declared.kinds.Kind.TheVariants as kinds
 use Rattle.da_wire.specs.declared.frames.Frame.TheVariants as frames
@@ -33,7 +33,7 @@ abbrev frame : Named → Frame
 frame x = frames.Names x.0 x.1
 
 -- a namespace answer is a namespace, and entries
-maps : AreMaps {R = Named} (name29 ▸ short_list16 128 (omega arith) entry_at entry_bytes IsEntry is_long_entry entry_field) (λ x. x) (λ x. x) (IsSpelled frame (λ x. is_long_answer x.1))
+maps : AreMaps {R = Named} (name29 ▸ short_list16 most_entries (omega arith) entry_at entry_bytes IsEntry is_long_entry entry_field) (λ x. x) (λ x. x) (IsSpelled frame (λ x. is_long_answer x.1))
 maps = record { there = λ x is. (((is.0, is.1.0), is.1.1), refl); back = λ x is. ((is.0.0, (is.0.1, is.1)), refl) }
 
 -- the form of this kind

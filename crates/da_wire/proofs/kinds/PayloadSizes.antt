@@ -10,8 +10,10 @@ use Rattle.namespace_id.specs.Cells.{CellList}
 use Rattle.data_header.specs.Headers.{Roots, AreRoots}
 use Rattle.axis_roots.specs.declared.message.messages.Message as sent
 use Rattle.square_layout.specs.Blocks.{SquareShares, IsSquare}
+use Rattle.frame_fields.specs.Fields.{most_path}
+use Rattle.da_wire.specs.Limits.{greatest_width}
 use Rattle.da_wire.specs.declared.frames.Frame.TheVariants.{Header, Square, Message, Missing, Request}
-use Rattle.da_wire.specs.Spelling.{spelled, header_kind, square_kind, message_kind, missing_kind, request_kind}
+use Rattle.da_wire.specs.Spelling.{max_payload, spelled, header_kind, square_kind, message_kind, missing_kind, request_kind}
 use Rattle.da_wire.specs.codec.Texts.{digest_bytes}
 use Rattle.da_wire.specs.kinds.Header.{header_payload}
 use Rattle.da_wire.specs.kinds.Square.{square_payload}
@@ -34,22 +36,22 @@ length-header h roots rows cols =
 pub header_sized : (h : Roots) (n : ℕ) → AreRoots h → AreDigests h.rows → AreDigests h.cols → n ≡ 2 + 360 * h.k → HasSize (Header h) (Some n)
 header_sized h n roots rows cols e =
     let size : n ≡ length (header_payload h) = e ∙ length-header h roots rows cols in
-    let small : h.k ≤ 128 = is_width-le h.k roots.width in
+    let small : h.k ≤ greatest_width = is_width-le h.k roots.width in
     (size, spelled_within header_kind n (header_payload h) size (omega arith))
 
 -- the payload of a square has two bytes, and 512 for each share
 length-square : (s : SquareShares) → IsSquare s → AreShares s.shares → 2 + 512 * (s.k * s.k) ≡ length (square_payload s)
 length-square s is shares = omega (arith, length-share_bytes s is shares)
 
--- a square of width 128 at most has at most 128 times 128 shares
-pub square_few : (k : ℕ) → k ≤ 128 → k * k ≤ 128 * 128
-square_few k h = let by_k : k * k ≤ k * 128 = mul-le-mul_left k h in omega arith
+-- a square has no more shares than one of the greatest width
+pub square_few : (k : ℕ) → k ≤ greatest_width → k * k ≤ greatest_width * greatest_width
+square_few k h = let by_k : k * k ≤ k * greatest_width = mul-le-mul_left k h in omega arith
 
 -- a square has a spelling, and this is its payload's length
 pub square_sized : (s : SquareShares) (n : ℕ) → IsSquare s → AreShares s.shares → n ≡ 2 + 512 * (s.k * s.k) → HasSize (Square s) (Some n)
 square_sized s n is shares e =
     let size : n ≡ length (square_payload s) = e ∙ length-square s is shares in
-    let few : s.k * s.k ≤ 128 * 128 = square_few s.k (is_width-le s.k is.width) in
+    let few : s.k * s.k ≤ greatest_width * greatest_width = square_few s.k (is_width-le s.k is.width) in
     (size, spelled_within square_kind n (square_payload s) size (omega arith))
 
 -- the payload of a sample has 518 bytes, and 90 for each node
@@ -58,7 +60,7 @@ length-message m share nodes =
     omega (arith, length-append m.share.0 (length m.path ∷ digest_bytes m.path), share.size_is, length-digest_bytes m.path nodes)
 
 -- a sample has a spelling, and this is its payload's length
-pub message_sized : (m : sent.Message) (n : ℕ) → IsShare m.share → AreDigests m.path → length m.path ≤ 8 → n ≡ 518 + 90 * length m.path → HasSize (Message m) (Some n)
+pub message_sized : (m : sent.Message) (n : ℕ) → IsShare m.share → AreDigests m.path → length m.path ≤ most_path → n ≡ 518 + 90 * length m.path → HasSize (Message m) (Some n)
 message_sized m n share nodes few e =
     let size : n ≡ length (message_payload m) = e ∙ length-message m share nodes in
     (size, spelled_within message_kind n (message_payload m) size (omega arith))
@@ -68,14 +70,14 @@ some_cells : (n : ℕ) (x : Option (List ℕ)) → (n ≡ 0 → ⊥) → cond (n
 some_cells n x h = let e : (n == 0) ≡ false = grind (arith, nat_tests) in ap (λ (b : Bool). cond b None x) e
 
 -- some missing cells within the limit have a spelling, and this is their payload's length
-pub missing_sized : (cells : CellList) (n : ℕ) → (length cells.list ≡ 0 → ⊥) → length cells.list ≤ 4194302 → n ≡ 6 + 4 * length cells.list
+pub missing_sized : (cells : CellList) (n : ℕ) → (length cells.list ≡ 0 → ⊥) → 6 + 4 * length cells.list ≤ max_payload → n ≡ 6 + 4 * length cells.list
     → HasSize (Missing cells) (Some n)
 missing_sized cells n some few e =
     let size : n ≡ length (missing_payload cells) = e ∙ length-missing cells in
     (size, some_cells (length cells.list) (spelled missing_kind (missing_payload cells)) some ∙ spelled_within missing_kind n (missing_payload cells) size (omega arith))
 
 -- missing cells above the limit have no spelling
-pub missing_beyond : (cells : CellList) → (length cells.list ≡ 0 → ⊥) → 4194302 < length cells.list → HasSize (Missing cells) None
+pub missing_beyond : (cells : CellList) → (length cells.list ≡ 0 → ⊥) → max_payload < 6 + 4 * length cells.list → HasSize (Missing cells) None
 missing_beyond cells some many =
     some_cells (length cells.list) (spelled missing_kind (missing_payload cells)) some
     ∙ spelled_beyond missing_kind (6 + 4 * length cells.list) (missing_payload cells) (length-missing cells) (omega arith)

@@ -7,7 +7,7 @@ use Rattle.axis_roots.specs.Messages.{IsMessage}
 use Rattle.axis_roots.specs.Claims.{ClaimParts, IsClaim}
 use Rattle.frame_fields.specs.Messages.{message_front}
 use Rattle.da_wire.specs.kinds.Message.{message_payload}
-use Rattle.da_wire.specs.kinds.Fraud.{plain_payload, accused_at, claim_cells_at, plain_at}
+use Rattle.da_wire.specs.kinds.Fraud.{most_cells, plain_payload, accused_at, claim_cells_at, plain_at}
 use Rattle.da_wire.proofs.codec.Headed.{headed}
 use Rattle.da_wire.proofs.codec.Fields.{Fields, AreMaps, ◌▸◌, as_field, ended_takes, ended_again}
 use Rattle.da_wire.proofs.codec.Bases.{list16, field}
@@ -27,16 +27,16 @@ plain_is payload = refl
 pub record IsPlain (payload : List ℕ) (x : ClaimParts) : Type 0 where
   pub is : IsClaim x
   pub plain : x.set ≡ None
-  pub few : length x.cells ≤ 128
+  pub few : length x.cells ≤ most_cells
   pub spelled : payload ≡ plain_payload x
 
 -- the accused axis, and the samples
 abbrev fields : Fields ClaimParts (Accused × List Message)
-fields = field (accused_at 1) (text 1) IsAccused (accused_field 1) ▸ list16 128 (omega arith) message_front message_payload IsMessage message_field
+fields = field (accused_at 1) (text 1) IsAccused (accused_field 1) ▸ list16 most_cells (omega arith) message_front message_payload IsMessage message_field
 
 -- a claim that has no set, and few samples
 abbrev IsFew : ClaimParts → Type 0
-IsFew x = IsClaim x × (x.set ≡ None) × (length x.cells ≤ 128)
+IsFew x = IsClaim x × (x.set ≡ None) × (length x.cells ≤ most_cells)
 
 -- both ways
 maps : AreMaps fields (λ x. claim x.0 x.1) (λ c. ((c.axis, c.index), c.cells)) IsFew
@@ -57,7 +57,7 @@ plain_takes payload x fits e =
     record { is = t.0.0; plain = t.0.1; few = t.0.2; spelled = t.1 }
 
 -- the payload of few cells is read as the claim of them that has no set
-pub plain_again : (accused : Accused) (cells : List Message) → IsClaim (claim accused cells) → length cells ≤ 128 → length (plain_payload (claim accused cells)) < 2 ^ 32
+pub plain_again : (accused : Accused) (cells : List Message) → IsClaim (claim accused cells) → length cells ≤ most_cells → length (plain_payload (claim accused cells)) < 2 ^ 32
     → plain_at (plain_payload (claim accused cells)) ≡ Some (claim accused cells)
 unfolding plain_at
 plain_again accused cells is few small = ended_again plain (claim accused cells) (is, refl, few) small

@@ -1,8 +1,9 @@
 -- A row of a commitment proof that is read is the one that was written, and one that was written is read.
 use Rattle.std.proofs.Common.{◌≡◌, ◌++◌, false, ℕ, List, length-append, refl, arith, ltb-false, le-ltb}
 use Rattle.blob_commit.specs.Proofs.{RowParts}
+use Rattle.frame_fields.specs.Fields.{most_nodes}
 use Rattle.da_wire.specs.codec.Texts.{path_bytes, digest_list}
-use Rattle.da_wire.specs.kinds.Commit.{IsRowSent, is_long_row, hash_bytes, row_bytes, row_at}
+use Rattle.da_wire.specs.kinds.Commit.{most_subtrees, IsRowSent, is_long_row, hash_bytes, row_bytes, row_at}
 use Rattle.da_wire.proofs.codec.Fields.{AreMaps, ◌▸◌, made_field}
 use Rattle.da_wire.proofs.codec.Bases.{digest90, hashes, digests16, path}
 use Rattle.da_wire.proofs.codec.Texts.{IsField}
@@ -12,7 +13,7 @@ abbrev pub IsShortRow : RowParts → Type 0
 IsShortRow row = IsRowSent row × (is_long_row row ≡ false)
 
 -- a row is a root, hashes, subtrees, and nodes
-maps : AreMaps {R = RowParts × List ℕ} (digest90 ▸ hashes ▸ digests16 128 (omega arith) ▸ path 16)
+maps : AreMaps {R = RowParts × List ℕ} (digest90 ▸ hashes ▸ digests16 most_subtrees (omega arith) ▸ path most_nodes)
     (λ x. record { root = x.0.0.0; up = x.0.0.1; subtrees = x.0.1; nodes = x.1 }) (λ r. (((r.root, r.up), r.subtrees), r.nodes)) IsShortRow
 maps = record {
   there = λ x is. (

@@ -12,7 +12,7 @@ use Rattle.axis_roots.specs.Sets.{is_along}
 use Rattle.axis_roots.specs.Claims.{ClaimParts, IsClaim}
 use Rattle.frame_fields.specs.Fields.{◌>>=◌, digest_list_at}
 use Rattle.da_wire.specs.codec.Texts.{list_bytes, digest_list}
-use Rattle.da_wire.specs.kinds.Fraud.{cell_payload, set_payload, accused_at, set_cell_at, set_cells_at, with_set_at}
+use Rattle.da_wire.specs.kinds.Fraud.{most_cells, most_set_nodes, cell_payload, set_payload, accused_at, set_cell_at, set_cells_at, with_set_at}
 use Rattle.da_wire.proofs.codec.Readers.{bind_some, bind_again, if_true_again, Takes-then, Takes-all}
 use Rattle.da_wire.proofs.codec.Numbers.{wide16}
 use Rattle.da_wire.proofs.codec.DigestLists.{digest_list_takes, digest_list_again}
@@ -32,7 +32,7 @@ after_nodes accused cells nodes = cond (eqb (length nodes.1) 0 && list_any (is_a
 
 -- what `with_set_at` does after the cells
 abbrev pub after_cells : Accused → List Message × List ℕ → Option ClaimParts
-after_cells accused cells = digest_list_at 128 cells.1 >>= after_nodes accused cells.0
+after_cells accused cells = digest_list_at most_set_nodes cells.1 >>= after_nodes accused cells.0
 
 -- what `with_set_at` does after the accused axis
 abbrev pub after_accused : Accused × List ℕ → Option ClaimParts
@@ -49,8 +49,8 @@ pub record IsWith (payload : List ℕ) (x : ClaimParts) (nodes : List Digest) : 
   pub has : x.set ≡ Some nodes
   pub placed : list_all (is_at x.axis x.index) x.cells ≡ true
   pub some : list_any (is_along x.axis) x.cells ≡ true
-  pub few_nodes : length nodes ≤ 128
-  pub few : length x.cells ≤ 128
+  pub few_nodes : length nodes ≤ most_set_nodes
+  pub few : length x.cells ≤ most_cells
   pub spelled : payload ≡ set_payload x nodes
 
 -- a claim with a set that is read of a payload is what the payload spells
@@ -61,14 +61,14 @@ with_set_takes payload x fits e =
     let axis = accused.0 in
     let c = bind_some (set_cells_at axis accused.1 a.0.1) (after_cells accused) x a.2 in
     let cells : List Message = c.0.0 in
-    let n = bind_some (digest_list_at 128 c.0.1) (after_nodes accused cells) x c.2 in
+    let n = bind_some (digest_list_at most_set_nodes c.0.1) (after_nodes accused cells) x c.2 in
     let nodes : List Digest = n.0.0 in
     let rest : List ℕ = n.0.1 in
     let g = cond_some (eqb (length rest) 0 && list_any (is_along axis) cells) (claim accused cells nodes) x n.2 in
     let tests = and_parts (eqb (length rest) 0) (list_any (is_along axis) cells) g.0 in
     let t = accused_takes 2 payload accused a.0.1 fits a.1 in
-    let u = list_takes (set_cell_at axis accused.1) (cell_payload axis) (IsSetCell axis accused.1) (set_cell_field axis accused.1 t.1) w16 (2 ^ 16) wide16 128 a.0.1 cells c.0.1 t.0.rest_fits c.1 in
-    let v = digest_list_takes 128 c.0.1 nodes rest u.0.rest_fits n.1 in
+    let u = list_takes (set_cell_at axis accused.1) (cell_payload axis) (IsSetCell axis accused.1) (set_cell_field axis accused.1 t.1) w16 (2 ^ 16) wide16 most_cells a.0.1 cells c.0.1 t.0.rest_fits c.1 in
+    let v = digest_list_takes most_set_nodes c.0.1 nodes rest u.0.rest_fits n.1 in
     let made = placed_messages axis accused.1 cells u.1 in
     let list : List ℕ = list_bytes w16 (cell_payload axis) cells in
     let front = Takes-then payload (text 2 accused) a.0.1 list c.0.1 t.0 u.0 in
@@ -88,7 +88,7 @@ with_set_takes payload x fits e =
 
 -- the payload of cells that fit a set is read as the claim of them that has the set
 pub with_set_again : (accused : Accused) (cells : List Message) (nodes : List Digest) → IsClaim (claim accused cells nodes) → list_all (is_at accused.0 accused.1) cells ≡ true
-    → list_any (is_along accused.0) cells ≡ true → length nodes ≤ 128 → length cells ≤ 128 → length (set_payload (claim accused cells nodes) nodes) < 2 ^ 32
+    → list_any (is_along accused.0) cells ≡ true → length nodes ≤ most_set_nodes → length cells ≤ most_cells → length (set_payload (claim accused cells nodes) nodes) < 2 ^ 32
     → with_set_at (set_payload (claim accused cells nodes) nodes) ≡ Some (claim accused cells nodes)
 with_set_again accused cells nodes is placed some few_nodes few small =
     let axis = accused.0 in
@@ -99,11 +99,11 @@ with_set_again accused cells nodes is placed some few_nodes few small =
     let sum : length (set_payload made nodes) ≡ length (front ++ list) + length tail = length-append (front ++ list) tail in
     let sum_front : length (front ++ list) ≡ length front + length list = length-append front list in
     let joined : front ++ list ++ tail ≡ front ++ (list ++ tail) = append_assoc front list tail in
-    let nodes_read : digest_list_at 128 tail ≡ Some (nodes, []) = subst (λ (l : List ℕ). digest_list_at 128 l ≡ Some (nodes, [])) (append-nil tail) (digest_list_again 128 nodes [] is.digests (omega (arith, few_nodes)) few_nodes) in
+    let nodes_read : digest_list_at most_set_nodes tail ≡ Some (nodes, []) = subst (λ (l : List ℕ). digest_list_at most_set_nodes l ≡ Some (nodes, [])) (append-nil tail) (digest_list_again most_set_nodes nodes [] is.digests (omega (arith, few_nodes)) few_nodes) in
     let ended : after_nodes accused cells (nodes, []) ≡ Some made = if_true_again (list_any (is_along axis) cells) (Some made) made some refl in
-    let after : after_cells accused (cells, tail) ≡ Some made = bind_again (digest_list_at 128 tail) (after_nodes accused cells) (nodes, []) made nodes_read ended in
+    let after : after_cells accused (cells, tail) ≡ Some made = bind_again (digest_list_at most_set_nodes tail) (after_nodes accused cells) (nodes, []) made nodes_read ended in
     let listed : set_cells_at axis accused.1 (list ++ tail) ≡ Some (cells, tail) =
-    list_again (set_cell_at axis accused.1) (cell_payload axis) (IsSetCell axis accused.1) (set_cell_field axis accused.1 is.index_bytes) w16 (2 ^ 16) wide16 128 cells tail
+    list_again (set_cell_at axis accused.1) (cell_payload axis) (IsSetCell axis accused.1) (set_cell_field axis accused.1 is.index_bytes) w16 (2 ^ 16) wide16 most_cells cells tail
     (all_placed axis accused.1 cells is.messages placed) (omega arith) (omega (arith, few)) few in
     let found : after_accused (accused, list ++ tail) ≡ Some made = bind_again (set_cells_at axis accused.1 (list ++ tail)) (after_cells accused) (cells, tail) made listed after in
     let all : (accused_at 2 (front ++ (list ++ tail)) >>= after_accused) ≡ Some made =

@@ -9,7 +9,7 @@ use Rattle.axis_roots.specs.declared.message.messages.Message.{Message}
 use Rattle.axis_roots.specs.Sets.{is_along}
 use Rattle.axis_roots.specs.Claims.{ClaimParts}
 use Rattle.frame_fields.specs.Fields.{◌>>=◌, digest_list_at, read_items}
-use Rattle.da_wire.specs.kinds.Fraud.{accused_at, set_cells_at, with_set_at, passed}
+use Rattle.da_wire.specs.kinds.Fraud.{most_set_nodes, accused_at, set_cells_at, with_set_at, passed}
 use Rattle.da_wire.proofs.kinds.AccusedForm.{Accused}
 use Rattle.da_wire.proofs.kinds.SetForm.{claim, after_nodes, after_cells, after_accused, with_set_is}
 
@@ -47,19 +47,19 @@ no_cells payload accused cells e n = from_cells payload accused cells e ∙ not_
 -- behind the cells, the nodes are read next
 from_nodes : (payload : List ℕ) (accused : Accused) (cells : List ℕ) (shown : Bool) (nodes : List ℕ) → accused_at 2 payload ≡ Some (accused, cells)
     → passed accused.0 (set_cells_at accused.0 accused.1 cells) ≡ Some (shown, nodes)
-    → with_set_at payload ≡ (digest_list_at 128 nodes >>= after_nodes accused (read_items (set_cells_at accused.0 accused.1 cells)))
+    → with_set_at payload ≡ (digest_list_at most_set_nodes nodes >>= after_nodes accused (read_items (set_cells_at accused.0 accused.1 cells)))
 from_nodes payload accused cells shown nodes e p = from_cells payload accused cells e ∙ (was_passed accused.0 (set_cells_at accused.0 accused.1 cells) (after_cells accused) shown nodes p).0
 
 -- without the nodes there is no claim
 pub no_nodes : (payload : List ℕ) (accused : Accused) (cells : List ℕ) (shown : Bool) (nodes : List ℕ) → accused_at 2 payload ≡ Some (accused, cells)
-    → passed accused.0 (set_cells_at accused.0 accused.1 cells) ≡ Some (shown, nodes) → digest_list_at 128 nodes ≡ None → with_set_at payload ≡ None
+    → passed accused.0 (set_cells_at accused.0 accused.1 cells) ≡ Some (shown, nodes) → digest_list_at most_set_nodes nodes ≡ None → with_set_at payload ≡ None
 no_nodes payload accused cells shown nodes e p n =
     from_nodes payload accused cells shown nodes e p
     ∙ ap (λ (r : Option (List Digest × List ℕ)). r >>= after_nodes accused (read_items (set_cells_at accused.0 accused.1 cells))) n
 
 -- behind the nodes there is a claim where no byte is left and the set shows a cell
 from_rest : (payload : List ℕ) (accused : Accused) (cells : List ℕ) (shown : Bool) (nodes : List ℕ) (digests : List Digest) (rest : List ℕ) → accused_at 2 payload ≡ Some (accused, cells)
-    → passed accused.0 (set_cells_at accused.0 accused.1 cells) ≡ Some (shown, nodes) → digest_list_at 128 nodes ≡ Some (digests, rest)
+    → passed accused.0 (set_cells_at accused.0 accused.1 cells) ≡ Some (shown, nodes) → digest_list_at most_set_nodes nodes ≡ Some (digests, rest)
     → with_set_at payload ≡ cond (eqb (length rest) 0 && shown) (Some (claim accused (read_items (set_cells_at accused.0 accused.1 cells)) digests)) None
 from_rest payload accused cells shown nodes digests rest e p n =
     let items : List Message = read_items (set_cells_at accused.0 accused.1 cells) in
@@ -70,7 +70,7 @@ from_rest payload accused cells shown nodes digests rest e p n =
 
 -- where bytes are left or the set shows no cell, there is no claim
 pub no_end : (payload : List ℕ) (accused : Accused) (cells : List ℕ) (shown : Bool) (nodes : List ℕ) (digests : List Digest) (rest : List ℕ) (empty : Bool) → accused_at 2 payload ≡ Some (accused, cells)
-    → passed accused.0 (set_cells_at accused.0 accused.1 cells) ≡ Some (shown, nodes) → digest_list_at 128 nodes ≡ Some (digests, rest) → empty ≡ eqb (length rest) 0
+    → passed accused.0 (set_cells_at accused.0 accused.1 cells) ≡ Some (shown, nodes) → digest_list_at most_set_nodes nodes ≡ Some (digests, rest) → empty ≡ eqb (length rest) 0
     → (empty ≡ false) ⊎ ((empty ≡ true) × (shown ≡ false)) → with_set_at payload ≡ None
 no_end payload accused cells shown nodes digests rest empty e p n is either =
     let made : Option ClaimParts = Some (claim accused (read_items (set_cells_at accused.0 accused.1 cells)) digests) in
@@ -84,7 +84,7 @@ no_end payload accused cells shown nodes digests rest empty e p n is either =
 
 -- else there is one
 pub all_read : (payload : List ℕ) (accused : Accused) (cells : List ℕ) (shown : Bool) (nodes : List ℕ) (digests : List Digest) (rest : List ℕ) → accused_at 2 payload ≡ Some (accused, cells)
-    → passed accused.0 (set_cells_at accused.0 accused.1 cells) ≡ Some (shown, nodes) → digest_list_at 128 nodes ≡ Some (digests, rest) → eqb (length rest) 0 ≡ true → shown ≡ true
+    → passed accused.0 (set_cells_at accused.0 accused.1 cells) ≡ Some (shown, nodes) → digest_list_at most_set_nodes nodes ≡ Some (digests, rest) → eqb (length rest) 0 ≡ true → shown ≡ true
     → with_set_at payload ≡ Some (claim accused (read_items (set_cells_at accused.0 accused.1 cells)) digests)
 all_read payload accused cells shown nodes digests rest e p n empty some =
     let made : Option ClaimParts = Some (claim accused (read_items (set_cells_at accused.0 accused.1 cells)) digests) in

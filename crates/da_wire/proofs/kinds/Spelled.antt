@@ -51,14 +51,14 @@ square_spelled s is shares = has_spelling (spelling (Square s)) _ (square_sized 
 pub message_spelled : (m : sent.Message) → IsMessage m → IsSome (spelling (Message m))
 message_spelled m is = has_spelling (spelling (Message m)) _ (message_sized m (518 + 90 * length m.path) is.share is.nodes is.few refl).1
 
--- each namespace answer has a spelling that has up to 128 entries, each of up to 128 shares
+-- each namespace answer that has no more entries than can be written, and no more shares in one of them, has a spelling
 pub names_spelled : (name : Namespace) (answer : List NsEntry) → IsNamespace name → AreEntries answer → is_long_answer answer ≡ false → IsSome (spelling (Names name answer))
 names_spelled name answer is are short =
     let payload : List ℕ = names_payload name answer in
     has_spelling (spelling (Names name answer)) _
     (if_false_again (is_long_answer answer) (spelled names_kind payload) (frame names_kind payload) short (spelled_within names_kind (length payload) payload refl (names_few name answer is are short)))
 
--- each fraud claim has a spelling that has up to 128 cells
+-- each fraud claim that can be written has a spelling
 pub fraud_spelled : (claim : ClaimParts) → IsClaim claim → is_unwritten claim ≡ false → IsSome (spelling (Fraud claim))
 fraud_spelled claim is short =
     let payload : List ℕ = fraud_payload claim in
@@ -87,7 +87,7 @@ sample_spelled cell axis = has_spelling (spelling (Sample cell axis)) _ (spelled
 pub request_spelled : (name : Namespace) → IsNamespace name → IsSome (spelling (Request name))
 request_spelled name is = has_spelling (spelling (Request name)) _ (request_sized name 29 (sym is.size_is) (omega arith)).1
 
--- each commitment proof has a spelling that has up to 128 rows, each of up to 128 subtrees
+-- each commitment proof that has no more rows than can be written, and no more subtrees in one of them, has a spelling
 pub commit_spelled : (proof : CommitParts) → IsCommitSent proof → is_long_commit proof ≡ false → IsSome (spelling (Commit proof))
 commit_spelled proof is short =
     let payload : List ℕ = commit_payload proof in

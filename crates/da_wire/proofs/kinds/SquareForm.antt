@@ -9,6 +9,7 @@ use Rattle.namespace_id.specs.Shares.{AreShares, share_of}
 use Rattle.namespace_id.specs.Cells.{is_width}
 use Rattle.square_layout.specs.Blocks.{SquareShares, IsSquare}
 use Rattle.frame_fields.specs.Fields.{number_at, shares_of}
+use Rattle.da_wire.specs.Limits.{greatest_width}
 use Rattle.da_wire.specs.codec.Texts.{share_bytes}
 use Rattle.da_wire.specs.kinds.Square.{square_payload, square_at}
 use Rattle.da_wire.proofs.codec.Readers.{bind_some, bind_again, if_false, if_false_again, if_true_again}
@@ -68,7 +69,7 @@ pub square_again : (s : SquareShares) → IsSquare s → AreShares s.shares → 
 unfolding square_at
 square_again s is shares =
     let bytes : List ℕ = share_bytes s.shares in
-    let few : s.k ≤ 128 = is_width-le s.k is.width in
+    let few : s.k ≤ greatest_width = is_width-le s.k is.width in
     let same : square_in s.k bytes ≡ s = ap (λ (l : List Share). square s.k l) (split_into-spelled share_of text texts 512 (s.k * s.k) bytes s.shares shares is.count refl) in
     bind_again (number_at w16 (square_payload s)) after_width (s.k, bytes) s
     (number_again w16 (2 ^ 16) wide16 s.k bytes (omega (arith, few)))

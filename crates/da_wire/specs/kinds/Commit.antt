@@ -5,17 +5,17 @@ use Rattle.std.specs.List.{AllByRecursion, flat_map, list_any}
 use Rattle.namespace_id.specs.Sizes.{hash_size, digest_size}
 use Rattle.namespace_id.specs.Bytes.{IsString}
 use Rattle.blob_commit.specs.Proofs.{RowParts, CommitParts, IsRow}
-use Rattle.frame_fields.specs.Fields.{◌>>=◌, most_hashes, string_at, number_at, digest, digest_list_at, path_at, hashes_at, list_at}
+use Rattle.frame_fields.specs.Fields.{◌>>=◌, most_nodes, most_hashes, string_at, number_at, digest, digest_list_at, path_at, hashes_at, list_at}
+use Rattle.da_wire.specs.Limits.{greatest_width}
 use Rattle.da_wire.specs.codec.Texts.{path_bytes, list_bytes, digest_list}
-use Rattle.da_wire.specs.kinds.Names.{most_nodes}
 
 -- the most rows of a commitment proof, as many as the greatest square has
 abbrev pub most_rows : ℕ
-most_rows = 128
+most_rows = greatest_width
 
 -- the most subtrees in a row, as many as it has original shares in the greatest square
 abbrev pub most_subtrees : ℕ
-most_subtrees = 128
+most_subtrees = greatest_width
 
 -- ---- the values that there are
 

@@ -13,7 +13,8 @@ use Rattle.axis_roots.specs.Lines.{cell_on}
 use Rattle.axis_roots.specs.Sets.{is_one_axis, is_along}
 use Rattle.axis_roots.specs.Claims.{ClaimParts, is_on}
 use Rattle.da_wire.specs.declared.kinds.fraud_set.SetFields.{SetFields}
-use Rattle.frame_fields.specs.Fields.{◌>>=◌, number_at, byte_at, string_at, axis_at, path_at, digest_list_at, digests_of, list_at, read_items}
+use Rattle.frame_fields.specs.Fields.{◌>>=◌, number_at, byte_at, string_at, axis_at, path_at, digest_list_at, digests_of, list_at, read_items, most_path}
+use Rattle.da_wire.specs.Limits.{greatest_width}
 use Rattle.da_wire.specs.codec.Texts.{axis_byte, path_bytes, list_bytes, digest_list}
 use Rattle.frame_fields.specs.Messages.{message_front}
 use Rattle.da_wire.specs.kinds.Message.{message_payload}
@@ -27,11 +28,11 @@ set_form = 2
 
 -- the most cells of a claim, as many as recover an axis of the greatest square
 abbrev pub most_cells : ℕ
-most_cells = 128
+most_cells = greatest_width
 
 -- the most nodes of a set, as many as open cells of an axis of the greatest square
 abbrev pub most_set_nodes : ℕ
-most_set_nodes = 128
+most_set_nodes = greatest_width
 
 -- ---- what is written
 
@@ -120,7 +121,7 @@ tag_at axis bytes = do
 -- the path of a cell: none is written where the set shows it
 abbrev pub cell_path_at : Bool → List ℕ → Option (List Digest × List ℕ)
 cell_path_at true bytes = Some ([], bytes)
-cell_path_at false bytes = path_at 8 bytes
+cell_path_at false bytes = path_at most_path bytes
 
 -- a cell of a claim with a set, on the axis that is accused
 unfoldable pub set_cell_at : Axis → ℕ → List ℕ → Option (Message × List ℕ)

@@ -14,26 +14,23 @@ use Rattle.da_wire.specs.declared.kinds.names.FoundFields.TheVariants as fields
 use Rattle.da_wire.specs.declared.briefs.FoundPlace.{FoundPlace}
 use Rattle.da_wire.specs.declared.briefs.FoundPlace.TheVariants as place
 use Rattle.da_wire.specs.declared.briefs.EntryPlace.{EntryPlace}
-use Rattle.frame_fields.specs.Fields.{◌>>=◌, number_at, byte_at, string_at, count_at, list_at, path_at, shares_at, shares_of, digests_of, digest}
+use Rattle.frame_fields.specs.Fields.{◌>>=◌, number_at, byte_at, string_at, count_at, list_at, path_at, shares_at, shares_of, digests_of, digest, most_nodes}
+use Rattle.da_wire.specs.Limits.{greatest_width}
 use Rattle.da_wire.specs.codec.Texts.{path_bytes, list_bytes}
 
 -- ---- limits
 
 -- the most entries of an answer, a row each
 abbrev pub most_entries : ℕ
-most_entries = 128
+most_entries = greatest_width
 
 -- the most shares of a range, all of the original half of a row
-abbrev pub most_shares : ℕ
-most_shares = 128
-
--- the most nodes of a range proof or an absence proof
-abbrev pub most_nodes : ℕ
-most_nodes = 16
+abbrev pub most_shares_shown : ℕ
+most_shares_shown = greatest_width
 
 -- whether what is found has more shares than can be written
 abbrev pub is_long_found : Found → Bool
-is_long_found (Range start shares nodes) = nat_lt most_shares (length shares)
+is_long_found (Range start shares nodes) = nat_lt most_shares_shown (length shares)
 is_long_found (Absence pos leaf nodes) = false
 
 -- whether an entry has more shares than can be written
@@ -70,7 +67,7 @@ names_payload name entries = name.0 ++ list_bytes w16 entry_bytes entries
 -- shares behind their count
 unfoldable pub share_list_at : List ℕ → Option (List Share × List ℕ)
 share_list_at bytes = do
-  count ← count_at w16 most_shares bytes
+  count ← count_at w16 most_shares_shown bytes
   shares_at count.0 count.1
 
 -- a range behind its tag

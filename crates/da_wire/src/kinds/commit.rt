@@ -8,7 +8,7 @@ ghost use Rattle.namespace_id.specs.Answers.{Gives, HasRoom};
 ghost use Rattle.frame_fields.specs.Fields.{many_at, read_items, read_rest, digests_of};
 ghost use Rattle.da_wire.specs.codec.Texts.{digest_list};
 ghost use Rattle.da_wire.specs.Reading.{GivesUnlessFull};
-ghost use Rattle.da_wire.specs.kinds.Commit.{is_long_row, is_long_commit, row_bytes, commit_payload, row_at, rows_at, commit_at};
+ghost use Rattle.da_wire.specs.kinds.Commit.{most_subtrees, is_long_row, is_long_commit, row_bytes, commit_payload, row_at, rows_at, commit_at};
 ghost use Rattle.da_wire.specs.Spelling.{max_payload};
 ghost use Rattle.da_wire.specs.Writing.{HasSize, IsWithin};
 ghost use Rattle.da_wire.specs.declared.frames.Frame.TheVariants as FrameOf;
@@ -299,7 +299,7 @@ pub(crate) fn commit_size(proof: &CommitProof) -> Option<u32>
 
 /// Appends the digests of subtrees behind their count.
 fn put_subtrees(out: &mut Vec<u8>, subtrees: &[Digest])
-    requires few { length subtrees.now ≤ 128 }
+    requires few { length subtrees.now ≤ most_subtrees }
     requires room { HasRoom out.old (length (digest_list subtrees.now)) }
     ensures appended { out.new.items ≡ out.old.items ++ digest_list subtrees.now }
     ensures len { vec_len out.new ≡ vec_len out.old + length (digest_list subtrees.now) }

@@ -9,7 +9,7 @@ ghost use Rattle.frame_fields.specs.Fields.{many_at, read_items, read_rest};
 ghost use Rattle.da_wire.specs.Reading.{GivesUnlessFull};
 ghost use Rattle.frame_fields.specs.Messages.{message_front};
 ghost use Rattle.da_wire.specs.kinds.Message.{message_payload};
-ghost use Rattle.da_wire.specs.kinds.Fraud.{is_unwritten, plain_payload, fraud_payload, claim_cells_at, plain_at, fraud_at};
+ghost use Rattle.da_wire.specs.kinds.Fraud.{most_cells, is_unwritten, plain_payload, fraud_payload, claim_cells_at, plain_at, fraud_at};
 ghost use Rattle.da_wire.specs.Spelling.{max_payload};
 ghost use Rattle.da_wire.specs.Writing.{HasSize, IsWithin};
 ghost use Rattle.da_wire.specs.declared.frames.Frame.TheVariants as FrameOf;
@@ -216,7 +216,7 @@ fn put_cells(out: &mut Vec<u8>, cells: &[Message])
 
 /// Appends the payload of a claim without a set.
 fn put_plain(out: &mut Vec<u8>, claim: &FraudClaim)
-    requires few { length claim.now.cells ≤ 128 }
+    requires few { length claim.now.cells ≤ most_cells }
     requires room { HasRoom out.old (length (plain_payload claim.now)) }
     ensures appended { out.new.items ≡ out.old.items ++ plain_payload claim.now }
 {

@@ -7,7 +7,7 @@ ghost use Rattle.axis_roots.specs.Sets.{is_one_axis, is_along};
 ghost use Rattle.frame_fields.specs.Fields.{many_at, read_items, digests_of};
 ghost use Rattle.da_wire.specs.codec.Texts.{digest_bytes, digest_list};
 ghost use Rattle.da_wire.specs.Reading.{GivesUnlessFull};
-ghost use Rattle.da_wire.specs.kinds.Fraud.{most_cells, tag_of, cell_payload, set_payload, is_placed, fits_form, tag_at, cell_path_at, set_cell_at, set_cells_at, with_set_at, passed, set_seen};
+ghost use Rattle.da_wire.specs.kinds.Fraud.{most_cells, most_set_nodes, tag_of, cell_payload, set_payload, is_placed, fits_form, tag_at, cell_path_at, set_cell_at, set_cells_at, with_set_at, passed, set_seen};
 ghost use Rattle.da_wire.specs.Spelling.{max_payload};
 ghost use Rattle.da_wire.specs.Writing.{IsWithin};
 
@@ -280,7 +280,7 @@ fn with_cells(size: u32, axis: Axis, cells: &[Message]) -> Option<u32>
 /// A length with that of the nodes of a set more.
 fn with_nodes(size: u32, nodes: &[Digest]) -> Option<u32>
     requires size { size ≤ max_payload }
-    requires few { length nodes.now ≤ 128 }
+    requires few { length nodes.now ≤ most_set_nodes }
     ensures { IsWithin (size + 2 + length (digest_bytes nodes.now)) result }
 {
     digests_law(nodes);
@@ -289,7 +289,7 @@ fn with_nodes(size: u32, nodes: &[Digest]) -> Option<u32>
 
 /// The length of the payload of a claim with this set.
 pub(crate) fn set_size(claim: &FraudClaim, set: &SetNodes) -> Option<u32>
-    requires few { length set.now ≤ 128 }
+    requires few { length set.now ≤ most_set_nodes }
     ensures { IsWithin (length (set_payload claim.now set.now)) result }
 {
     with_nodes(
@@ -331,7 +331,7 @@ fn put_cells(out: &mut Vec<u8>, axis: Axis, cells: &[Message])
 
 /// Appends the nodes of a set behind their count.
 fn put_nodes(out: &mut Vec<u8>, nodes: &[Digest])
-    requires few { length nodes.now ≤ 128 }
+    requires few { length nodes.now ≤ most_set_nodes }
     requires room { HasRoom out.old (2 + length (digest_bytes nodes.now)) }
     ensures { out.new.items ≡ out.old.items ++ digest_list nodes.now }
 {
@@ -342,7 +342,7 @@ fn put_nodes(out: &mut Vec<u8>, nodes: &[Digest])
 /// Appends the payload of a claim with this set.
 pub(crate) fn put_with_set(out: &mut Vec<u8>, claim: &FraudClaim, set: &SetNodes)
     requires cells { length claim.now.cells ≤ most_cells }
-    requires few { length set.now ≤ 128 }
+    requires few { length set.now ≤ most_set_nodes }
     requires room { HasRoom out.old (length (set_payload claim.now set.now)) }
     ensures appended { out.new.items ≡ out.old.items ++ set_payload claim.now set.now }
 {

@@ -14,6 +14,12 @@ use namespace_id::{append, digests_law, share_law};
 /// The bytes of a sample whose path has no nodes: its cell, its axis, its share, and the count 0.
 pub(crate) const BARE_SIZE: usize = CELL_SIZE + 1 + SHARE_SIZE + 1;
 
+/// The most nodes of a path.
+const MOST_NODES: usize = 8;
+
+/// The most bytes of the payload of a sample.
+pub(crate) const MOST_MESSAGE: usize = BARE_SIZE + DIGEST_SIZE * MOST_NODES;
+
 /// The length of the payload of a sample.
 pub(crate) fn message_size(message: &Message) -> u32
     ensures { HasSize (FrameOf.Message message.now) (Some result) }

@@ -4,10 +4,10 @@ ghost use Rattle.std.specs.Prelude.{◌≡◌, ◌≤◌, length, map, vec_len, 
 ghost use Rattle.std.specs.List.{flat_map, list_any};
 ghost use Rattle.std.specs.Option.{option_map};
 ghost use Rattle.namespace_id.specs.Answers.{Gives, HasRoom};
-ghost use Rattle.frame_fields.specs.Fields.{many_at, read_items, read_rest, shares_of};
+ghost use Rattle.frame_fields.specs.Fields.{most_nodes, many_at, read_items, read_rest, shares_of};
 ghost use Rattle.da_wire.specs.codec.Texts.{path_bytes};
 ghost use Rattle.da_wire.specs.Reading.{GivesUnlessFull};
-ghost use Rattle.da_wire.specs.kinds.Names.{is_long_found, is_long_entry, is_long_answer, share_list_bytes, found_bytes, entry_bytes, names_payload, share_list_at, range_at, absence_at, found_at, entry_at, entries_at, names_at, found_place, entry_place, answer_places, place_at, found_seen, HasShares, HasFewNodes, HasNodes};
+ghost use Rattle.da_wire.specs.kinds.Names.{most_shares_shown, is_long_found, is_long_entry, is_long_answer, share_list_bytes, found_bytes, entry_bytes, names_payload, share_list_at, range_at, absence_at, found_at, entry_at, entries_at, names_at, found_place, entry_place, answer_places, place_at, found_seen, HasShares, HasFewNodes, HasNodes};
 ghost use Rattle.da_wire.specs.Spelling.{max_payload};
 ghost use Rattle.da_wire.specs.Writing.{HasSize, IsWithin};
 ghost use Rattle.da_wire.specs.declared.briefs.Brief.TheVariants as BriefOf;
@@ -30,7 +30,7 @@ use std::alloc::{AllocError, Global};
 const MOST_ENTRIES: u16 = 128;
 
 /// The most shares of a range, all of the original half of a row.
-const MOST_SHARES: u16 = 128;
+const MOST_SHARES_SHOWN: u16 = 128;
 
 /// The byte in front of a range.
 const RANGE: u8 = 0;
@@ -66,7 +66,7 @@ fn share_list_at(bytes: &[u8]) -> Option<(u16, &[u8], &[u8])>
         result (share_list_at bytes.now) }
     ensures all { IfSome result (λ x. length x.1.now ≡ 512 * x.0) }
 {
-    let Some((count, rest)) = count16_at(bytes, MOST_SHARES) else {
+    let Some((count, rest)) = count16_at(bytes, MOST_SHARES_SHOWN) else {
         return None;
     };
     let Some((shares, rest)) = shares_at(count, rest) else {
@@ -337,7 +337,7 @@ fn is_long_found(found: &Found) -> bool
     ensures { result ≡ is_long_found found.now }
 {
     match found {
-        Found::Range { shares, .. } => shares.list.len() > MOST_SHARES as usize,
+        Found::Range { shares, .. } => shares.list.len() > MOST_SHARES_SHOWN as usize,
         Found::Absence { .. } => false,
     }
 }
@@ -364,7 +364,7 @@ fn is_long_answer(answer: &NsAnswer) -> bool
 /// A length with that of nodes behind their count more.
 fn with_nodes(size: u32, nodes: &[Digest]) -> Option<u32>
     requires size { size ≤ max_payload }
-    requires few { length nodes.now ≤ 16 }
+    requires few { length nodes.now ≤ most_nodes }
     ensures { IsWithin (size + length (path_bytes nodes.now)) result }
 {
     digests_law(nodes);
@@ -374,7 +374,7 @@ fn with_nodes(size: u32, nodes: &[Digest]) -> Option<u32>
 /// A length with that of shares behind their count more.
 fn with_shares(size: u32, shares: &[Share]) -> Option<u32>
     requires size { size ≤ max_payload }
-    requires few { length shares.now ≤ 128 }
+    requires few { length shares.now ≤ most_shares_shown }
     ensures { IsWithin (size + length (share_list_bytes shares.now)) result }
 {
     shares_law(shares);
@@ -427,7 +427,7 @@ pub(crate) fn names_size(name: &Namespace, answer: &NsAnswer) -> Option<u32>
 
 /// Appends shares behind their count.
 fn put_share_list(out: &mut Vec<u8>, shares: &[Share])
-    requires few { length shares.now ≤ 128 }
+    requires few { length shares.now ≤ most_shares_shown }
     requires room { HasRoom out.old (length (share_list_bytes shares.now)) }
     ensures appended { out.new.items ≡ out.old.items ++ share_list_bytes shares.now }
     ensures len { vec_len out.new ≡ vec_len out.old + length (share_list_bytes shares.now) }
