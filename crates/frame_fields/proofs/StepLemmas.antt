@@ -6,9 +6,9 @@ use Rattle.namespace_id.specs.declared.cells.Cell.{Cell}
 use Rattle.namespace_id.specs.declared.cells.Axis.{Axis}
 use Rattle.namespace_id.specs.declared.shares.Share.{Share}
 use Rattle.namespace_id.specs.declared.digests.Digest.{Digest}
-use Rattle.namespace_id.specs.Sizes.{share_size}
+use Rattle.namespace_id.specs.Sizes.{share_size, most_depth}
 use Rattle.namespace_id.specs.Shares.{share_of}
-use Rattle.frame_fields.specs.Fields.{◌>>=◌, string_at, axis_at, cell_at, path_at, most_path}
+use Rattle.frame_fields.specs.Fields.{◌>>=◌, string_at, axis_at, cell_at, path_at}
 use Rattle.frame_fields.specs.Messages.{message_front, message_at, shown_front}
 
 -- the value of a first step that did not fail
@@ -30,7 +30,7 @@ abbrev with_path : Cell → Axis → Share → List Digest × List ℕ → Optio
 with_path cell axis share path = Some (record { cell = cell; axis = axis; share = share; path = path.0 }, path.1)
 
 abbrev with_share : Cell → Axis → List ℕ × List ℕ → Option (sent.Message × List ℕ)
-with_share cell axis share = path_at most_path share.1 >>= with_path cell axis (share_of share.0)
+with_share cell axis share = path_at most_depth share.1 >>= with_path cell axis (share_of share.0)
 
 abbrev with_axis : Cell → Axis × List ℕ → Option (sent.Message × List ℕ)
 with_axis cell axis = string_at share_size axis.1 >>= with_share cell axis.0
@@ -54,7 +54,7 @@ front_shown bytes m rest e =
     let cell = bind_some (cell_at bytes) with_cell (m, rest) e in
     let axis = bind_some (axis_at cell.0.1) (with_axis cell.0.0) (m, rest) cell.2 in
     let share = bind_some (string_at share_size axis.0.1) (with_share cell.0.0 axis.0.0) (m, rest) axis.2 in
-    let path = bind_some (path_at most_path share.0.1) (with_path cell.0.0 axis.0.0 (share_of share.0.0)) (m, rest) share.2 in
+    let path = bind_some (path_at most_depth share.0.1) (with_path cell.0.0 axis.0.0 (share_of share.0.0)) (m, rest) share.2 in
     let same : (record { cell = cell.0.0; axis = axis.0.0; share = share_of share.0.0; path = path.0.0 }, path.0.1) ≡ (m, rest) = same_Some _ _ path.2 in
     bind_again (cell_at bytes) shown_cell cell.0 (m.cell, m.share) cell.1
     (bind_again (axis_at cell.0.1) (shown_axis cell.0.0) axis.0 (m.cell, m.share) axis.1

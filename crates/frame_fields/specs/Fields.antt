@@ -1,6 +1,6 @@
 -- Fields of a payload, read from the front of a byte string. A field that is read is a value and the
 -- bytes after it.
-use Rattle.std.specs.Prelude.{ℕ, zero, suc, ◌+◌, ◌*◌, List, [], ◌∷◌, length, take, drop, nat_lt, Option, Some, None, if◌then◌else◌, ◌==◌}
+use Rattle.std.specs.Prelude.{ℕ, zero, suc, ◌*◌, List, [], ◌∷◌, length, take, drop, nat_lt, Option, Some, None, if◌then◌else◌, ◌==◌}
 use Rattle.std.specs.Option.{option_map, option_map_or}
 use Rattle.std.specs.Int.{Width, w16, byte_len, from_be_bytes}
 use Rattle.namespace_id.specs.declared.cells.Cell.{Cell}
@@ -8,22 +8,15 @@ use Rattle.namespace_id.specs.declared.digests.Digest.{Digest}
 use Rattle.namespace_id.specs.declared.shares.Share.{Share}
 use Rattle.namespace_id.specs.declared.cells.Axis.{Axis}
 use Rattle.namespace_id.specs.declared.cells.Axis.TheVariants.{Row, Col}
-use Rattle.namespace_id.specs.Sizes.{share_size, digest_size, hash_size}
+use Rattle.namespace_id.specs.Sizes.{share_size, digest_size, hash_size, most_depth}
 use Rattle.namespace_id.specs.Shares.{share_of}
+use Rattle.data_header.specs.Paths.{most_hashes}
 
 -- ---- limits
 
--- the most nodes of a path, one for each halving of the longest row or column
-abbrev pub most_path : ℕ
-most_path = 8
-
--- the most nodes of a range proof or an absence proof, two for each halving
+-- the most nodes of a range proof or an absence proof, two for each level of a tree
 abbrev pub most_nodes : ℕ
-most_nodes = 2 * most_path
-
--- the most hashes that lead from an axis root to a data root
-abbrev pub most_hashes : ℕ
-most_hashes = most_path + 1
+most_nodes = 2 * most_depth
 
 -- ---- fields
 

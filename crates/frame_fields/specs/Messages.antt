@@ -3,9 +3,9 @@ use Rattle.axis_roots.specs.declared.message.messages.Message as sent
 use Rattle.std.specs.Prelude.{ℕ, List, length, Option, Some, None, if◌then◌else◌, ◌==◌}
 use Rattle.namespace_id.specs.declared.cells.Cell.{Cell}
 use Rattle.namespace_id.specs.declared.shares.Share.{Share}
-use Rattle.namespace_id.specs.Sizes.{share_size}
+use Rattle.namespace_id.specs.Sizes.{share_size, most_depth}
 use Rattle.namespace_id.specs.Shares.{share_of}
-use Rattle.frame_fields.specs.Fields.{◌>>=◌, string_at, axis_at, cell_at, path_at, most_path}
+use Rattle.frame_fields.specs.Fields.{◌>>=◌, string_at, axis_at, cell_at, path_at}
 
 -- a sample at the front of bytes, and the bytes after it
 unfoldable pub message_front : List ℕ → Option (sent.Message × List ℕ)
@@ -13,7 +13,7 @@ message_front bytes = do
   cell ← cell_at bytes
   axis ← axis_at cell.1
   share ← string_at share_size axis.1
-  path ← path_at most_path share.1
+  path ← path_at most_depth share.1
   Some (
     record {
       cell = cell.0;

@@ -3,21 +3,25 @@
 ghost use Rattle.std.specs.Prelude.{◌≡◌, ◌≤◌, ◌*◌, length, vec_len, IfOk, IfSome};
 ghost use Rattle.std.specs.Int.{w16, w32};
 ghost use Rattle.namespace_id.specs.Answers.{Gives};
-ghost use Rattle.frame_fields.specs.Fields.{most_path, most_nodes, most_hashes, hashes_at, split_into, digests_of, shares_of, shares_at, text_at, count_at, number_at, byte_at, string_at, axis_at, path_at, cell_at, digest_list_at};
+ghost use Rattle.namespace_id.specs.Sizes.{most_depth};
+ghost use Rattle.data_header.specs.Paths.{most_hashes};
+ghost use Rattle.frame_fields.specs.Fields.{most_nodes, hashes_at, split_into, digests_of, shares_of, shares_at, text_at, count_at, number_at, byte_at, string_at, axis_at, path_at, cell_at, digest_list_at};
 
-use data_header::RootPath;
-use namespace_id::{Axis, Cell, DIGEST_SIZE, Digest, NAMESPACE_SIZE, Namespace, SHARE_SIZE, Share};
+use data_header::{MOST_HASHES, RootPath};
+use namespace_id::{
+    Axis, Cell, DIGEST_SIZE, Digest, MOST_DEPTH, NAMESPACE_SIZE, Namespace, SHARE_SIZE, Share,
+};
 use nmt_proofs::{Nodes, Path};
 use std::alloc::{AllocError, Global};
 
-/// The most nodes of a path, one for each halving of the longest row or column.
-const PATH_LIMIT: u8 = 8;
+/// The most nodes of a path, one for each level of a tree.
+const PATH_LIMIT: u8 = MOST_DEPTH as u8;
 
-/// The most nodes of a range proof or an absence proof, two for each halving.
+/// The most nodes of a range proof or an absence proof, two for each level of a tree.
 const NODES_LIMIT: u8 = 2 * PATH_LIMIT;
 
 /// The most hashes that lead from an axis root to a data root.
-const HASHES_LIMIT: u8 = PATH_LIMIT + 1;
+const HASHES_LIMIT: u8 = MOST_HASHES as u8;
 
 /// The bytes of a hash.
 const HASH_SIZE: usize = 32;
@@ -273,7 +277,7 @@ pub fn digests_of(alloc: Global, count: usize, bytes: &[u8]) -> Result<Vec<Diges
 
 /// So many digests, one after another, which are all of the bytes, in a path.
 fn path_of(count: u8, bytes: &[u8]) -> Path
-    requires few { count ≤ most_path }
+    requires few { count ≤ most_depth }
     requires all { length bytes.now ≡ 90 * count }
     ensures { result ≡ digests_of count bytes.now }
 {
@@ -324,7 +328,7 @@ fn digests_at(bytes: &[u8], limit: u8) -> Option<(u8, &[u8], &[u8])>
 
 /// A count of nodes that a path can have, so many digests, and the bytes after them.
 pub fn path_at(bytes: &[u8]) -> Option<(Path, &[u8])>
-    ensures { Gives (λ x. (x.0, x.1.now)) result (path_at most_path bytes.now) }
+    ensures { Gives (λ x. (x.0, x.1.now)) result (path_at most_depth bytes.now) }
 {
     let (count, digests, rest) = digests_at(bytes, PATH_LIMIT)?;
     Some((path_of(count, digests), rest))
