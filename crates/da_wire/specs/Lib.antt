@@ -1,5 +1,4 @@
 pub mod codec
-pub mod Limits
 pub mod kinds
 pub mod Spelling
 pub mod Reading

@@ -26,9 +26,9 @@ use Rattle.da_wire.specs.kinds.Block.{block_payload, asks_for_zero}
 use Rattle.da_wire.specs.kinds.Commit.{IsCommitSent, is_long_commit, commit_payload}
 use Rattle.da_wire.specs.kinds.Rooted.{IsRootedSent, rooted_payload}
 
--- the greatest payload: 16 MiB
+-- the greatest payload: 256 MiB
 abbrev pub max_payload : ℕ
-max_payload = 16777216
+max_payload = 268435456
 
 -- the kind of a header: `H`
 abbrev pub header_kind : ℕ
@@ -104,9 +104,9 @@ abbrev pub spelled : ℕ → List ℕ → Option (List ℕ)
 spelled kind payload = if nat_lt max_payload (length payload) then None else Some (frame kind payload)
 
 -- the spelling of a value, where it has one: no cells are no missing cells, 0 is no width to ask for, an
--- answer has up to 128 entries, each of up to 128 shares, a claim has up to 128 cells, which fit its set
--- where it has one, no string of a collision is empty, and a commitment proof has up to 128 rows, each of up to
--- 128 subtrees
+-- answer has up to `greatest_width` entries, each of up to so many shares, a claim has up to so many cells,
+-- which fit its set where it has one, no string of a collision is empty, and a commitment proof has up to so
+-- many rows, each of up to so many subtrees
 abbrev pub spelling : Frame → Option (List ℕ)
 spelling (Header h) = spelled header_kind (header_payload h)
 spelling (Square s) = spelled square_kind (square_payload s)

@@ -109,7 +109,7 @@ fn block_law(block: &Block)
 }
 
 /// Says that a namespace has 29 bytes, and that an answer has numbers of two bytes, shares, digests,
-/// and up to 16 nodes an entry. It changes nothing.
+/// and up to `2 * MOST_DEPTH` nodes an entry. It changes nothing.
 fn names_law(name: &Namespace, answer: &NsAnswer)
     ensures name { IsNamespace name.now }
     ensures entries { AreEntries answer.now }
@@ -133,8 +133,8 @@ pub(crate) fn hash_law(hash: &[u8; 32])
     bytes_law(hash);
 }
 
-/// Says that a row of a commitment proof has digests and hashes, up to 9 of these and up to 16 nodes. It
-/// changes nothing.
+/// Says that a row of a commitment proof has digests and hashes, up to `MOST_HASHES` of these and up to
+/// `2 * MOST_DEPTH` nodes. It changes nothing.
 fn sent_row_law(row: &CommitRow)
     ensures { IsRowSent row.now }
 {
@@ -164,8 +164,8 @@ fn sent_commit_law(proof: &CommitProof)
     sent_rows_law(&proof.rows);
 }
 
-/// Says that a root proof has a width of two bytes, a sample, a digest, and up to 9 hashes. It changes
-/// nothing.
+/// Says that a root proof has a width of two bytes, a sample, a digest, and up to `MOST_HASHES` hashes. It
+/// changes nothing.
 fn sent_rooted_law(proof: &RootedMessage)
     ensures { IsRootedSent proof.now }
 {
@@ -183,8 +183,8 @@ fn proved_law(cells: &[Proved])
     }
 }
 
-/// Says that the claim of a fraud proof has an index of two bytes, up to 128 samples and no set. It
-/// changes nothing.
+/// Says that the claim of a fraud proof has an index of two bytes, up to `GREATEST_WIDTH` samples and no
+/// set. It changes nothing.
 pub(crate) fn proof_law(proof: &FraudProof)
     ensures claim { IsClaim proof.now.claim }
     ensures plain { proof.now.claim.set ≡ None }

@@ -57,7 +57,7 @@ pub enum FrameError {
     #[error("the frame at {0} is of another kind")]
     BadKind(u64),
     /// The payload is above its limit.
-    #[error("the payload of the frame at {0} has more than 16777216 bytes")]
+    #[error("the payload of the frame at {0} has more than 268435456 bytes")]
     TooLong(u64),
     /// The payload isn't in the grammar of its kind.
     #[error("the payload of the frame at {0} is not in its form")]
@@ -74,10 +74,10 @@ pub enum FrameError {
 #[derive(Clone, Copy, Debug, PartialEq, Eq, Error)]
 pub enum SpellError {
     /// The value has no spelling: an empty list of missing cells, a block that asks for the width 0,
-    /// a namespace answer of more than 128 entries or of a range of more than 128 shares, a fraud claim
-    /// of more than 128 cells or of cells that don't fit its set, a collision of which one string is
-    /// empty, a commitment proof of more than 128 rows or with more than 128 subtrees in one, or a payload
-    /// above its limit.
+    /// a namespace answer of more than `GREATEST_WIDTH` entries or of a range of more than so many shares,
+    /// a fraud claim of more than so many cells or of cells that don't fit its set, a collision of which
+    /// one string is empty, a commitment proof of more than so many rows or with more than so many
+    /// subtrees in one, or a payload above its limit.
     #[error("the value has no spelling")]
     Unspellable,
     /// There was no memory.

@@ -7,6 +7,7 @@ ghost use Rattle.namespace_id.specs.declared.namespaces.Namespace as names;
 ghost use Rattle.namespace_id.specs.Names.{IsNamespace};
 ghost use Rattle.namespace_id.specs.Cells.{CellList, AreCells};
 ghost use Rattle.data_header.specs.Headers.{Roots, IsHeader};
+ghost use Rattle.data_header.specs.Paths.{most_hashes};
 ghost use Rattle.namespace_id.specs.Shares.{AreShares};
 ghost use Rattle.axis_roots.specs.declared.message.messages.Message as sent;
 ghost use Rattle.axis_roots.specs.Messages.{IsMessage};
@@ -16,7 +17,7 @@ ghost use Rattle.axis_roots.specs.Claims.{ClaimParts, IsClaim, Accepts};
 ghost use Rattle.square_layout.specs.Blocks.{SquareShares, IsSquare};
 ghost use Rattle.hash_clash.specs.Collisions.{Strings};
 ghost use Rattle.blob_commit.specs.Proofs.{CommitParts, RootedParts, has_commit_shape};
-ghost use Rattle.frame_fields.specs.Fields.{most_nodes, most_hashes};
+ghost use Rattle.frame_fields.specs.Fields.{most_nodes};
 ghost use Rattle.da_wire.specs.declared.frames.Frame.TheVariants.{Header, Square, Message, Names, Fraud, Missing, Clash, Sample, Request, Commit, Rooted};
 ghost use Rattle.da_wire.specs.Spelling.{max_payload, spelling};
 ghost use Rattle.da_wire.specs.kinds.Names.{most_entries, most_shares_shown, is_long_answer};
@@ -102,20 +103,20 @@ pub fn stream_laws()
 
 /// The limits of payloads, as numbers.
 pub fn limit_laws()
-    // A payload has at most 16 MiB.
-    ensures payload { max_payload ≡ 16 * (1024 * 1024) }
+    // A payload has at most 256 MiB.
+    ensures payload { max_payload ≡ 256 * (1024 * 1024) }
 
-    // A namespace answer has at most 128 entries, each of at most 128 shares and 16 nodes.
-    ensures entries { most_entries ≡ 128 }
-    ensures shares { most_shares_shown ≡ 128 }
-    ensures nodes { most_nodes ≡ 16 }
+    // A namespace answer has at most 512 entries, each of at most 512 shares and 20 nodes.
+    ensures entries { most_entries ≡ 512 }
+    ensures shares { most_shares_shown ≡ 512 }
+    ensures nodes { most_nodes ≡ 20 }
 
-    // A fraud claim has at most 128 cells, and its set at most 128 nodes.
-    ensures claim_cells { most_cells ≡ 128 }
-    ensures set_nodes { most_set_nodes ≡ 128 }
+    // A fraud claim has at most 512 cells, and its set at most 512 nodes.
+    ensures claim_cells { most_cells ≡ 512 }
+    ensures set_nodes { most_set_nodes ≡ 512 }
 
-    // A commitment proof has at most 128 rows, each of at most 128 subtrees and 9 hashes.
-    ensures rows { most_rows ≡ 128 }
-    ensures subtrees { most_subtrees ≡ 128 }
-    ensures hashes { most_hashes ≡ 9 }
+    // A commitment proof has at most 512 rows, each of at most 512 subtrees and 11 hashes.
+    ensures rows { most_rows ≡ 512 }
+    ensures subtrees { most_subtrees ≡ 512 }
+    ensures hashes { most_hashes ≡ 11 }
 {}

@@ -34,8 +34,8 @@ use crate::{Frame, FrameError, RawFrame};
 use frame_fields::message;
 use std::alloc::{AllocError, Global};
 
-/// The greatest payload of a frame, 16 MiB.
-pub const MAX_PAYLOAD: u32 = 16_777_216;
+/// The greatest payload of a frame, 256 MiB.
+pub const MAX_PAYLOAD: u32 = 268_435_456;
 
 impl From<AllocError> for FrameError {
     ghost from_gives = { λ _ e. e ≡ NoMemory };

@@ -14,7 +14,8 @@ use Rattle.namespace_id.specs.declared.cells.Axis.{Axis}
 use Rattle.namespace_id.specs.declared.cells.Cell.{Cell}
 use Rattle.namespace_id.specs.declared.namespaces.Namespace.{Namespace}
 use Rattle.namespace_id.specs.declared.shares.Share.{Share}
-use Rattle.frame_fields.specs.Fields.{byte_at, number_at, string_at, cell_at, axis_at, path_at, most_hashes, hashes_at, digest_list_at, text_at, list_at}
+use Rattle.data_header.specs.Paths.{most_hashes}
+use Rattle.frame_fields.specs.Fields.{byte_at, number_at, string_at, cell_at, axis_at, path_at, hashes_at, digest_list_at, text_at, list_at}
 use Rattle.da_wire.specs.codec.Texts.{axis_byte, cell_bytes, path_bytes, digest_list, text_bytes, list_bytes, IsCell}
 use Rattle.da_wire.specs.kinds.Commit.{hash_bytes}
 use Rattle.da_wire.proofs.codec.Numbers.{IsWide, wide16, wide32, number_takes, number_again}

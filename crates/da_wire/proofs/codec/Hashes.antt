@@ -2,7 +2,8 @@
 use Rattle.std.proofs.Common.{◌≡◌, ℕ, ◌+◌, ◌*◌, ◌≤◌, ltb, cond, List, [], ◌∷◌, ◌++◌, length, Option, None, Some, refl, sym, subst, arith, ltb-false, le-ltb}
 use Rattle.std.specs.List.{flat_map, AllByRecursion}
 use Rattle.namespace_id.specs.Bytes.{AreBytes, IsString}
-use Rattle.frame_fields.specs.Fields.{most_hashes, byte_at, values_at, hashes_at}
+use Rattle.data_header.specs.Paths.{most_hashes}
+use Rattle.frame_fields.specs.Fields.{byte_at, values_at, hashes_at}
 use Rattle.da_wire.specs.kinds.Commit.{hash_bytes}
 use Rattle.da_wire.proofs.codec.Readers.{bind_some, if_false, if_false_again, Takes, Takes-then}
 use Rattle.da_wire.proofs.codec.Strings.{byte_takes}

@@ -7,9 +7,9 @@ use Rattle.std.proofs.lemmas.Bool.Decides.{nat_tests}
 use Rattle.namespace_id.specs.declared.cells.Cell.{Cell}
 use Rattle.namespace_id.specs.Lists.{holds_along}
 use Rattle.namespace_id.specs.Cells.{CellList, AreCells, is_width, is_in_square, is_before}
+use Rattle.namespace_id.specs.Sizes.{greatest_width}
 use Rattle.namespace_id.proofs.WidthLemmas.{is_width-le}
 use Rattle.namespace_id.proofs.NumberLemmas.{inside as within_square}
-use Rattle.da_wire.specs.Limits.{greatest_width}
 use Rattle.da_wire.proofs.kinds.PayloadSizes.{square_few}
 
 -- the place of a cell in row-major order, in a square of this side

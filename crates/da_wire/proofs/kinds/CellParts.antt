@@ -10,11 +10,11 @@ use Rattle.namespace_id.specs.declared.digests.Digest.{Digest}
 use Rattle.namespace_id.specs.Bytes.{AreBytes}
 use Rattle.namespace_id.specs.Digests.{AreDigests}
 use Rattle.namespace_id.specs.Cells.{crossing}
+use Rattle.namespace_id.specs.Sizes.{most_depth}
 use Rattle.axis_roots.specs.Messages.{position, index}
 use Rattle.axis_roots.specs.Lines.{cell_on}
 use Rattle.axis_roots.specs.Sets.{is_one_axis}
 use Rattle.axis_roots.proofs.Grids.AxisLemmas.{cell_on-own}
-use Rattle.frame_fields.specs.Fields.{most_path}
 use Rattle.da_wire.specs.codec.Texts.{path_bytes, IsCell}
 use Rattle.da_wire.specs.kinds.Fraud.{tag_at, cell_path_at}
 use Rattle.da_wire.proofs.codec.Readers.{Takes}
@@ -76,22 +76,22 @@ is_path along path = cond along (eqb (length path) 0) true
 
 -- a path that is read is the one that was written
 pub cell_path_takes : (along : Bool) (bytes : List ℕ) (path : List Digest) (rest : List ℕ) → AreBytes bytes → cell_path_at along bytes ≡ Some (path, rest)
-    → Takes bytes (path_text along path) rest × (length path ≤ most_path) × AreDigests path × (is_path along path ≡ true)
+    → Takes bytes (path_text along path) rest × (length path ≤ most_depth) × AreDigests path × (is_path along path ≡ true)
 cell_path_takes true bytes path rest fits e =
     let same = some_pair_parts [] path bytes rest e in
-    subst (λ (l : List Digest). Takes bytes [] rest × (length l ≤ most_path) × AreDigests l × (is_path true l ≡ true)) same.0
+    subst (λ (l : List Digest). Takes bytes [] rest × (length l ≤ most_depth) × AreDigests l × (is_path true l ≡ true)) same.0
     (record { parts = same.1; rest_fits = subst (λ (l : List ℕ). AreBytes l) same.1 fits }, omega arith, tt, refl)
 cell_path_takes false bytes path rest fits e =
-    let t = path_takes most_path bytes path rest fits e in
+    let t = path_takes most_depth bytes path rest fits e in
     (t.0, t.1, t.2, refl)
 
 -- a path that was written is read, whatever follows it
-pub cell_path_again : (along : Bool) (path : List Digest) (rest : List ℕ) → length path ≤ most_path → AreDigests path → is_path along path ≡ true
+pub cell_path_again : (along : Bool) (path : List Digest) (rest : List ℕ) → length path ≤ most_depth → AreDigests path → is_path along path ≡ true
     → cell_path_at along (path_text along path ++ rest) ≡ Some (path, rest)
 cell_path_again true path rest few all is =
     let none : [] ≡ path = sym (nil_from_length path (eqb-true (length path) 0 is)) in
     ap (λ (l : List Digest). Some (l, rest)) none
-cell_path_again false path rest few all is = path_again most_path path rest few all
+cell_path_again false path rest few all is = path_again most_depth path rest few all
 
 -- ---- the place
 

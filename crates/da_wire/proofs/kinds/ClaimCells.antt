@@ -10,13 +10,13 @@ use Rattle.axis_roots.specs.Messages.{IsMessage, position, index}
 use Rattle.axis_roots.specs.Lines.{cell_on}
 use Rattle.axis_roots.specs.Sets.{is_one_axis, is_along}
 use Rattle.axis_roots.proofs.Grids.AxisLemmas.{index-cell_on, position-cell_on}
-use Rattle.frame_fields.specs.Fields.{most_path}
 use Rattle.da_wire.specs.codec.Texts.{IsCell}
 use Rattle.da_wire.specs.kinds.Fraud.{cell_payload, tag_at, cell_path_at, set_cell_at}
 use Rattle.da_wire.proofs.codec.Texts.{IsField}
 use Rattle.da_wire.proofs.codec.Fields.{Fields, AreMaps, ◌▸◌, then_field, one, made_field}
 use Rattle.da_wire.proofs.codec.Bases.{number16, share512}
 use Rattle.namespace_id.specs.Digests.{AreDigests}
+use Rattle.namespace_id.specs.Sizes.{most_depth}
 use Rattle.std.specs.Prelude.{⊤}
 use Rattle.da_wire.proofs.kinds.CellParts.{tag_byte, tag_takes, tag_again, path_text, is_path, cell_path_takes, cell_path_again, on_cell, position-bytes, cell_there}
 
@@ -36,7 +36,7 @@ tag axis = one (tag_at axis) (λ found. tag_byte axis found ∷ []) (λ found. �
 
 -- so is its path
 abbrev cell_path : Bool → Fields (Message × List ℕ) (List Digest)
-cell_path along = one (cell_path_at along) (path_text along) (λ path. (length path ≤ most_path) × AreDigests path × (is_path along path ≡ true))
+cell_path along = one (cell_path_at along) (path_text along) (λ path. (length path ≤ most_depth) × AreDigests path × (is_path along path ≡ true))
     (λ bytes path rest fits e. let t = cell_path_takes along bytes path rest fits e in (t.0, (t.1, t.2, t.3))) (λ path rest is few. cell_path_again along path rest is.0 is.1 is.2)
 
 -- a cell is a position, a tag, a share, and the path that the tag calls for

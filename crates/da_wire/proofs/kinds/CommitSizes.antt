@@ -4,8 +4,9 @@ use Rattle.std.specs.Int.{w16, to_be_bytes}
 use Rattle.std.specs.List.{AllByRecursion, list_any}
 use Rattle.std.proofs.lemmas.Bool.{or_parts, or_from}
 use Rattle.namespace_id.specs.Sizes.{hash_size, digest_size}
+use Rattle.data_header.specs.Paths.{most_hashes}
 use Rattle.blob_commit.specs.Proofs.{RowParts, CommitParts, RootedParts, IsRow, IsRooted}
-use Rattle.frame_fields.specs.Fields.{most_nodes, most_hashes}
+use Rattle.frame_fields.specs.Fields.{most_nodes}
 use Rattle.da_wire.specs.declared.frames.Frame.TheVariants.{Rooted}
 use Rattle.da_wire.specs.Spelling.{max_payload, rooted_kind}
 use Rattle.da_wire.specs.codec.Texts.{path_bytes, list_bytes, digest_list}

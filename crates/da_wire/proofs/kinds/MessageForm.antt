@@ -1,9 +1,9 @@
 -- A sample that is read of a payload is what the payload spells, and the payload that a sample has is read.
 use Rattle.std.proofs.Common.{◌≡◌, ℕ, List, Some, refl, arith}
 use Rattle.namespace_id.specs.Bytes.{AreBytes}
+use Rattle.namespace_id.specs.Sizes.{most_depth}
 use Rattle.axis_roots.specs.declared.message.messages.Message.{Message}
 use Rattle.axis_roots.specs.Messages.{IsMessage}
-use Rattle.frame_fields.specs.Fields.{most_path}
 use Rattle.frame_fields.specs.Messages.{message_front, message_at}
 use Rattle.da_wire.specs.kinds.Message.{message_payload}
 use Rattle.da_wire.specs.declared.kinds.Kind.TheVariants as kinds
@@ -15,7 +15,7 @@ use Rattle.da_wire.proofs.kinds.PayloadSizes.{length-message}
 use Rattle.da_wire.proofs.kinds.Form.{IsForm, IsSpelled, never, form_of}
 
 -- a sample is a cell, an axis, a share, and a path
-maps : AreMaps {R = Message × List ℕ} (cell ▸ axis ▸ share512 ▸ path most_path) (λ x. record { cell = x.0.0.0; axis = x.0.0.1; share = x.0.1; path = x.1 }) (λ m. (((m.cell, m.axis), m.share), m.path)) IsMessage
+maps : AreMaps {R = Message × List ℕ} (cell ▸ axis ▸ share512 ▸ path most_depth) (λ x. record { cell = x.0.0.0; axis = x.0.0.1; share = x.0.1; path = x.1 }) (λ m. (((m.cell, m.axis), m.share), m.path)) IsMessage
 maps = record {
   there = λ x is. (record { row = is.0.0.0.row; col = is.0.0.0.col; share = is.0.1; few = is.1.0; nodes = is.1.1 }, refl);
   back = λ m is. ((((record { row = is.row; col = is.col }, tt), is.share), (is.few, is.nodes)), refl);

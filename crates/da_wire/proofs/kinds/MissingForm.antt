@@ -9,8 +9,8 @@ use Rattle.namespace_id.specs.declared.cells.Cell.{Cell}
 use Rattle.namespace_id.specs.Bytes.{AreBytes}
 use Rattle.namespace_id.specs.Cells.{is_width, is_in_square, is_before, are_cells, CellList, AreCells}
 use Rattle.namespace_id.specs.Lists.{holds_along}
+use Rattle.namespace_id.specs.Sizes.{greatest_width}
 use Rattle.frame_fields.specs.Fields.{◌>>=◌, number_at, cells_of}
-use Rattle.da_wire.specs.Limits.{greatest_width}
 use Rattle.da_wire.specs.codec.Texts.{cell_bytes, IsCell}
 use Rattle.da_wire.specs.kinds.Missing.{missing_payload, missing_at}
 use Rattle.da_wire.proofs.codec.Readers.{bind_some, bind_again, if_false, if_false_again, if_true_again, Takes, Takes-then}

@@ -7,11 +7,10 @@ use Rattle.namespace_id.specs.declared.namespaces.Namespace.{Namespace}
 use Rattle.namespace_id.specs.Shares.{IsShare, AreShares}
 use Rattle.namespace_id.specs.Digests.{AreDigests}
 use Rattle.namespace_id.specs.Cells.{CellList}
+use Rattle.namespace_id.specs.Sizes.{greatest_width, most_depth}
 use Rattle.data_header.specs.Headers.{Roots, AreRoots}
 use Rattle.axis_roots.specs.declared.message.messages.Message as sent
 use Rattle.square_layout.specs.Blocks.{SquareShares, IsSquare}
-use Rattle.frame_fields.specs.Fields.{most_path}
-use Rattle.da_wire.specs.Limits.{greatest_width}
 use Rattle.da_wire.specs.declared.frames.Frame.TheVariants.{Header, Square, Message, Missing, Request}
 use Rattle.da_wire.specs.Spelling.{max_payload, spelled, header_kind, square_kind, message_kind, missing_kind, request_kind}
 use Rattle.da_wire.specs.codec.Texts.{digest_bytes}
@@ -60,7 +59,7 @@ length-message m share nodes =
     omega (arith, length-append m.share.0 (length m.path ∷ digest_bytes m.path), share.size_is, length-digest_bytes m.path nodes)
 
 -- a sample has a spelling, and this is its payload's length
-pub message_sized : (m : sent.Message) (n : ℕ) → IsShare m.share → AreDigests m.path → length m.path ≤ most_path → n ≡ 518 + 90 * length m.path → HasSize (Message m) (Some n)
+pub message_sized : (m : sent.Message) (n : ℕ) → IsShare m.share → AreDigests m.path → length m.path ≤ most_depth → n ≡ 518 + 90 * length m.path → HasSize (Message m) (Some n)
 message_sized m n share nodes few e =
     let size : n ≡ length (message_payload m) = e ∙ length-message m share nodes in
     (size, spelled_within message_kind n (message_payload m) size (omega arith))

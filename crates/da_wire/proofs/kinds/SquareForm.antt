@@ -7,9 +7,9 @@ use Rattle.namespace_id.specs.declared.shares.Share.{Share}
 use Rattle.namespace_id.specs.Bytes.{AreBytes}
 use Rattle.namespace_id.specs.Shares.{AreShares, share_of}
 use Rattle.namespace_id.specs.Cells.{is_width}
+use Rattle.namespace_id.specs.Sizes.{greatest_width}
 use Rattle.square_layout.specs.Blocks.{SquareShares, IsSquare}
 use Rattle.frame_fields.specs.Fields.{number_at, shares_of}
-use Rattle.da_wire.specs.Limits.{greatest_width}
 use Rattle.da_wire.specs.codec.Texts.{share_bytes}
 use Rattle.da_wire.specs.kinds.Square.{square_payload, square_at}
 use Rattle.da_wire.proofs.codec.Readers.{bind_some, bind_again, if_false, if_false_again, if_true_again}

@@ -3,7 +3,7 @@ use Rattle.std.specs.Prelude.{ℕ, List, [], ◌∷◌, length, nat_lt, not, Opt
 use Rattle.std.specs.Option.{option_map}
 use Rattle.std.specs.Int.{w16, to_be_bytes}
 use Rattle.std.specs.List.{list_all, list_any}
-use Rattle.namespace_id.specs.Sizes.{share_size}
+use Rattle.namespace_id.specs.Sizes.{share_size, greatest_width, most_depth}
 use Rattle.namespace_id.specs.declared.cells.Axis.{Axis}
 use Rattle.namespace_id.specs.declared.digests.Digest.{Digest}
 use Rattle.namespace_id.specs.Cells.{crossing}
@@ -13,8 +13,7 @@ use Rattle.axis_roots.specs.Lines.{cell_on}
 use Rattle.axis_roots.specs.Sets.{is_one_axis, is_along}
 use Rattle.axis_roots.specs.Claims.{ClaimParts, is_on}
 use Rattle.da_wire.specs.declared.kinds.fraud_set.SetFields.{SetFields}
-use Rattle.frame_fields.specs.Fields.{◌>>=◌, number_at, byte_at, string_at, axis_at, path_at, digest_list_at, digests_of, list_at, read_items, most_path}
-use Rattle.da_wire.specs.Limits.{greatest_width}
+use Rattle.frame_fields.specs.Fields.{◌>>=◌, number_at, byte_at, string_at, axis_at, path_at, digest_list_at, digests_of, list_at, read_items}
 use Rattle.da_wire.specs.codec.Texts.{axis_byte, path_bytes, list_bytes, digest_list}
 use Rattle.frame_fields.specs.Messages.{message_front}
 use Rattle.da_wire.specs.kinds.Message.{message_payload}
@@ -121,7 +120,7 @@ tag_at axis bytes = do
 -- the path of a cell: none is written where the set shows it
 abbrev pub cell_path_at : Bool → List ℕ → Option (List Digest × List ℕ)
 cell_path_at true bytes = Some ([], bytes)
-cell_path_at false bytes = path_at most_path bytes
+cell_path_at false bytes = path_at most_depth bytes
 
 -- a cell of a claim with a set, on the axis that is accused
 unfoldable pub set_cell_at : Axis → ℕ → List ℕ → Option (Message × List ℕ)

@@ -2,8 +2,7 @@
 use Rattle.axis_roots.specs.declared.message.messages.Message as sent
 use Rattle.std.specs.Prelude.{ℕ, ◌+◌, ◌*◌, List, [], ◌∷◌, length, ◌++◌}
 use Rattle.std.specs.Int.{w16, to_be_bytes}
-use Rattle.namespace_id.specs.Sizes.{share_size, digest_size}
-use Rattle.frame_fields.specs.Fields.{most_path}
+use Rattle.namespace_id.specs.Sizes.{share_size, digest_size, most_depth}
 use Rattle.da_wire.specs.codec.Texts.{digest_bytes, axis_byte}
 
 -- a cell, an axis, a share, and a path behind the number of its nodes
@@ -14,4 +13,4 @@ message_payload m =
 
 -- the most bytes of such a payload
 abbrev pub most_message : ℕ
-most_message = 6 + share_size + digest_size * most_path
+most_message = 6 + share_size + digest_size * most_depth

@@ -4,7 +4,7 @@ use Rattle.std.specs.Int.{w16, to_be_bytes}
 use Rattle.std.specs.List.{list_any}
 use Rattle.std.specs.Option.{option_map}
 use Rattle.namespace_id.specs.declared.namespaces.Namespace.{Namespace}
-use Rattle.namespace_id.specs.Sizes.{namespace_size, share_size, digest_size}
+use Rattle.namespace_id.specs.Sizes.{namespace_size, share_size, digest_size, greatest_width}
 use Rattle.namespace_id.specs.declared.shares.Share.{Share}
 use Rattle.axis_roots.specs.declared.answers.Found.{Found}
 use Rattle.axis_roots.specs.declared.answers.Found.TheVariants.{Range, Absence}
@@ -15,7 +15,6 @@ use Rattle.da_wire.specs.declared.briefs.FoundPlace.{FoundPlace}
 use Rattle.da_wire.specs.declared.briefs.FoundPlace.TheVariants as place
 use Rattle.da_wire.specs.declared.briefs.EntryPlace.{EntryPlace}
 use Rattle.frame_fields.specs.Fields.{◌>>=◌, number_at, byte_at, string_at, count_at, list_at, path_at, shares_at, shares_of, digests_of, digest, most_nodes}
-use Rattle.da_wire.specs.Limits.{greatest_width}
 use Rattle.da_wire.specs.codec.Texts.{path_bytes, list_bytes}
 
 -- ---- limits

@@ -2,8 +2,9 @@
 use Rattle.std.specs.Prelude.{◌≤◌, ◌<◌, ◌^◌, ℕ, List, length, Option, Some, None, if◌then◌else◌, ◌==◌, ◌++◌}
 use Rattle.std.specs.Int.{w16, to_be_bytes}
 use Rattle.namespace_id.specs.Sizes.{digest_size}
+use Rattle.data_header.specs.Paths.{most_hashes}
 use Rattle.blob_commit.specs.Proofs.{RootedParts, IsRooted}
-use Rattle.frame_fields.specs.Fields.{◌>>=◌, string_at, number_at, digest, most_hashes, hashes_at}
+use Rattle.frame_fields.specs.Fields.{◌>>=◌, string_at, number_at, digest, hashes_at}
 use Rattle.frame_fields.specs.Messages.{message_front}
 use Rattle.da_wire.specs.kinds.Message.{message_payload}
 use Rattle.da_wire.specs.kinds.Commit.{hash_bytes}

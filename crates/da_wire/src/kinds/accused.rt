@@ -7,10 +7,10 @@ ghost use Rattle.da_wire.specs.kinds.Fraud.{most_cells, accused_bytes, accused_a
 
 use crate::codec::appending::axis_byte;
 use frame_fields::{axis_at, u8_at, u16_at};
-use namespace_id::{Axis, append};
+use namespace_id::{Axis, GREATEST_WIDTH, append};
 
 /// The most cells of a claim, as many as recover an axis of the greatest square.
-pub(crate) const MOST_CELLS: u16 = 128;
+pub(crate) const MOST_CELLS: u16 = GREATEST_WIDTH;
 
 /// The bytes in front of the cells: the form, the axis, the index.
 pub(crate) const ACCUSED_SIZE: u32 = 4;

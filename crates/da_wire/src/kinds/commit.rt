@@ -22,15 +22,15 @@ use data_header::RootPath;
 use frame_fields::{
     count16_at, digest_at, digest_list_at, digests_of, hash_at, hashes_at, nodes_at, u16_at, u32_at,
 };
-use namespace_id::{Digest, append};
+use namespace_id::{Digest, GREATEST_WIDTH, append};
 use nmt_proofs::Nodes;
 use std::alloc::{AllocError, Global};
 
 /// The most rows of a commitment proof, as many as the greatest square has.
-const MOST_ROWS: u16 = 128;
+const MOST_ROWS: u16 = GREATEST_WIDTH;
 
 /// The most subtrees in a row, as many as it has original shares in the greatest square.
-const MOST_SUBTREES: u16 = 128;
+const MOST_SUBTREES: u16 = GREATEST_WIDTH;
 
 /// The bytes in front of the rows: the width, the first index, the number of shares, the commitment.
 const FRONT_SIZE: u32 = 42;

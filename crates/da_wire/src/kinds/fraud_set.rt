@@ -16,7 +16,7 @@ use crate::codec::sizes::{DIGEST_SIZE, SHARE_SIZE, longer};
 use crate::kinds::accused::{ACCUSED_SIZE, MOST_CELLS, NUMBER_SIZE, accused_at, put_accused};
 use axis_roots::{FraudClaim, Message, SetNodes, cell_on, index, is_along, position};
 use frame_fields::{count16_at, digest_list_at, digests_of, path_at, share_at, u8_at, u16_at};
-use namespace_id::{Axis, Digest, append, digests_law, share_law};
+use namespace_id::{Axis, Digest, GREATEST_WIDTH, append, digests_law, share_law};
 use nmt_proofs::Path;
 use std::alloc::{AllocError, Global};
 
@@ -24,7 +24,7 @@ use std::alloc::{AllocError, Global};
 const FORM: u8 = 2;
 
 /// The most nodes of a set, as many as open cells of an axis of the greatest square.
-const MOST_NODES: u16 = 128;
+const MOST_NODES: u16 = GREATEST_WIDTH;
 
 /// The tag of a cell that has a path along the crossing axis.
 const CROSSING: u8 = 0;

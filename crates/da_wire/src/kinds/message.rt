@@ -9,16 +9,13 @@ ghost use Rattle.da_wire.specs.declared.frames.Frame.TheVariants as FrameOf;
 use crate::codec::appending::{axis_byte, put_cell, put_path};
 use crate::codec::sizes::{CELL_SIZE, DIGEST_SIZE, SHARE_SIZE};
 use axis_roots::Message;
-use namespace_id::{append, digests_law, share_law};
+use namespace_id::{MOST_DEPTH, append, digests_law, share_law};
 
 /// The bytes of a sample whose path has no nodes: its cell, its axis, its share, and the count 0.
 pub(crate) const BARE_SIZE: usize = CELL_SIZE + 1 + SHARE_SIZE + 1;
 
-/// The most nodes of a path.
-const MOST_NODES: usize = 8;
-
 /// The most bytes of the payload of a sample.
-pub(crate) const MOST_MESSAGE: usize = BARE_SIZE + DIGEST_SIZE * MOST_NODES;
+pub(crate) const MOST_MESSAGE: usize = BARE_SIZE + DIGEST_SIZE * MOST_DEPTH;
 
 /// The length of the payload of a sample.
 pub(crate) fn message_size(message: &Message) -> u32

@@ -22,15 +22,16 @@ use frame_fields::{
     count16_at, digest_at, name_at, node_list_at, nodes_of, shares_at, shares_of, u8_at, u16_at,
 };
 use namespace_id::{
-    Digest, Namespace, Share, append, digest_law, digests_law, namespace_law, shares_law,
+    Digest, GREATEST_WIDTH, Namespace, Share, append, digest_law, digests_law, namespace_law,
+    shares_law,
 };
 use std::alloc::{AllocError, Global};
 
 /// The most entries of an answer, a row each.
-const MOST_ENTRIES: u16 = 128;
+const MOST_ENTRIES: u16 = GREATEST_WIDTH;
 
 /// The most shares of a range, all of the original half of a row.
-const MOST_SHARES_SHOWN: u16 = 128;
+const MOST_SHARES_SHOWN: u16 = GREATEST_WIDTH;
 
 /// The byte in front of a range.
 const RANGE: u8 = 0;
