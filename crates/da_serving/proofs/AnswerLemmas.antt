@@ -6,6 +6,7 @@ use Rattle.std.proofs.lemmas.Bool.{and_parts, or_from, not-true, le-ltb}
 use Rattle.std.proofs.lemmas.List.{length-map}
 use Rattle.std.proofs.lemmas.List.Filters.{length-filter_both}
 use Rattle.namespace_id.specs.declared.namespaces.Namespace as names
+use Rattle.namespace_id.specs.Sizes.{greatest_width}
 use Rattle.namespace_id.specs.Lists.{ascending}
 use Rattle.namespace_id.proofs.AscendingLemmas.{length-ascending}
 use Rattle.namespace_id.proofs.WidthLemmas.{is_width-le}
@@ -23,14 +24,14 @@ filter_few : {A : Type 0} (test : A → Bool) (xs : List A) → length (filter t
 filter_few test xs = omega (arith, length-filter_both test (λ x. not (test x)) (λ x. refl) xs)
 
 -- what is found in the original square has as many shares as can be written
-found_short : (k : ℕ) (found : Found) → k ≤ 128 → is_placed k found ≡ true → is_long_found found ≡ false
+found_short : (k : ℕ) (found : Found) → k ≤ greatest_width → is_placed k found ≡ true → is_long_found found ≡ false
 found_short k (Range start shares nodes) le placed =
     let within = ltb-false k (start + length shares) (not-true (nat_lt k (start + length shares)) (and_parts (nat_lt 0 (length shares)) (not (nat_lt k (start + length shares))) placed).1) in
-    le-ltb 128 (length shares) (omega (arith, within, le))
+    le-ltb greatest_width (length shares) (omega (arith, within, le))
 found_short k (Absence pos leaf nodes) le placed = refl
 
 -- so has each entry
-entries_short : (header : Roots) (name : names.Namespace) (answer : List NsEntry) → header.k ≤ 128 → AllByRecursion (HoldsEntry header name) answer
+entries_short : (header : Roots) (name : names.Namespace) (answer : List NsEntry) → header.k ≤ greatest_width → AllByRecursion (HoldsEntry header name) answer
     → list_any is_long_entry answer ≡ false
 entries_short header name [] le holds = refl
 entries_short header name (entry ∷ answer) le holds =
@@ -40,9 +41,9 @@ entries_short header name (entry ∷ answer) le holds =
 pub complete_short : (held : HeldParts) (name : names.Namespace) (answer : List NsEntry) → IsHeld held → IsComplete held.header name answer → is_long_answer answer ≡ false
 complete_short held name answer is complete =
     let width : held.header.k ≡ held.k = header_width held.k held.grid held.header is.roots in
-    let le : held.header.k ≤ 128 = omega (arith, width, is_width-le held.k is.grid.width) in
+    let le : held.header.k ≤ greatest_width = omega (arith, width, is_width-le held.k is.grid.width) in
     let rows = length-map answer (λ (entry : NsEntry). entry.row) in
     let few = filter_few (is_wanted held.header name) (ascending 0 held.header.k) in
     let many : length (map (λ (entry : NsEntry). entry.row) answer) ≡ length (filter (is_wanted held.header name) (ascending 0 held.header.k)) = ap length complete.rows in
     or_from (nat_lt most_entries (length answer)) (list_any is_long_entry answer)
-    (le-ltb 128 (length answer) (omega (arith, rows, many, few, length-ascending held.header.k 0, le))) (entries_short held.header name answer le complete.entries)
+    (le-ltb greatest_width (length answer) (omega (arith, rows, many, few, length-ascending held.header.k 0, le))) (entries_short held.header name answer le complete.entries)

@@ -9,6 +9,7 @@ use Rattle.std.proofs.lemmas.Bool.{cases_Bool, or_parts}
 use Rattle.std.proofs.lemmas.Grind.{div_ceil_times, flat_map-append}
 use Rattle.std.proofs.lemmas.List.{length-append}
 use Rattle.namespace_id.specs.Bytes.{AreBytes, IsString}
+use Rattle.namespace_id.specs.Sizes.{greatest_width, most_shares}
 use Rattle.namespace_id.specs.declared.namespaces.Namespace as names
 use Rattle.namespace_id.specs.declared.shares.Share.{Share}
 use Rattle.namespace_id.proofs.WidthLemmas.{is_width-le}
@@ -141,19 +142,19 @@ behind_few (share ∷ shares) =
       | false ↦ omega arith
     ]
 
--- a square has at most 16384 shares
-pub square_few : (square : SquareShares) → IsSquare square → length (behind_compact square.shares) ≤ 16384
+-- a square has at most `most_shares` shares
+pub square_few : (square : SquareShares) → IsSquare square → length (behind_compact square.shares) ≤ most_shares
 square_few square is =
-    let le : square.k ≤ 128 = is_width-le square.k is.width in
+    let le : square.k ≤ greatest_width = is_width-le square.k is.width in
     omega (arith, behind_few square.shares, is.count, le, mul-le-mul_right square.k le)
 
--- what is found in a row has at most 128 shares
-found_few : (found : Found) → is_long_found found ≡ false → length (shares_found found) ≤ 128
-found_few (Range start shares nodes) short = ltb-false 128 (length shares) short
+-- what is found in a row has at most `greatest_width` shares
+found_few : (found : Found) → is_long_found found ≡ false → length (shares_found found) ≤ greatest_width
+found_few (Range start shares nodes) short = ltb-false greatest_width (length shares) short
 found_few (Absence pos leaf nodes) short = omega arith
 
--- an answer has at most 128 shares an entry
-entries_few : (entries : List NsEntry) → list_any is_long_entry entries ≡ false → length (answer_shares entries) ≤ 128 * length entries
+-- an answer has at most `greatest_width` shares an entry
+entries_few : (entries : List NsEntry) → list_any is_long_entry entries ≡ false → length (answer_shares entries) ≤ greatest_width * length entries
 entries_few [] short = omega arith
 entries_few (entry ∷ entries) short =
     let parts = or_parts (is_long_entry entry) (list_any is_long_entry entries) short in
@@ -164,12 +165,12 @@ not_long : (long : Bool) (text : Option (List ℕ)) → IsSome (cond long None t
 not_long true text some = absurd cc
 not_long false text some = refl
 
--- an answer that has a spelling has at most 16384 shares
-pub answer_few : (name : names.Namespace) (answer : List NsEntry) → IsSome (spelling (Names name answer)) → length (answer_shares answer) ≤ 16384
+-- an answer that has a spelling has at most `most_shares` shares
+pub answer_few : (name : names.Namespace) (answer : List NsEntry) → IsSome (spelling (Names name answer)) → length (answer_shares answer) ≤ most_shares
 answer_few name answer some =
     let short = or_parts (nat_lt most_entries (length answer)) (list_any is_long_entry answer)
     (not_long (is_long_answer answer) (spelled names_kind (names_payload name answer)) some) in
-    omega (arith, ltb-false 128 (length answer) short.0, entries_few answer short.1)
+    omega (arith, ltb-false greatest_width (length answer) short.0, entries_few answer short.1)
 
 -- a frame that was read has a spelling
 pub read_spelled : OnlyIsSpelled → (bytes : List ℕ) (frame : Frame) → AreBytes bytes → only_of bytes share_kinds ≡ Ok frame → IsSome (spelling frame)

@@ -16,7 +16,7 @@ use Rattle.square_layout.specs.declared.laying.LayError.{LayError}
 use Rattle.square_layout.specs.declared.laying.LayError.TheVariants.{EmptyBlob}
 use Rattle.square_layout.specs.Blocks.{BlockParts, IsSquare}
 use Rattle.square_layout.specs.Layout.{has_name, in_order, share_count_of, start_after, end_of, compact_end, needed, square_of}
-use Rattle.square_layout.specs.Refusals.{bad_blob, empty_blob, blob_refusal, size_refusal, layout_refusal}
+use Rattle.square_layout.specs.Refusals.{max_shares, bad_blob, empty_blob, blob_refusal, size_refusal, layout_refusal}
 use Rattle.blob_commit.specs.Proofs.{is_range}
 use Rattle.blob_commit.proofs.WidthLemmas.{square_bound}
 use Rattle.blob_commit.proofs.CommitOwnLemmas.{range_parts}
@@ -145,12 +145,12 @@ have_bytes i (blob ∷ blobs) e =
     (has_byte (length blob.bytes) parts.0, have_bytes (suc i) blobs parts.1)
 
 -- a range that lies in a square has no more shares than the greatest square
-range_few : (k start count : ℕ) → is_width k ≡ true → is_range k start count ≡ true → count ≤ 16384
+range_few : (k start count : ℕ) → is_width k ≡ true → is_range k start count ≡ true → count ≤ max_shares
 range_few k start count width range = square_bound k count width (omega (arith, (range_parts k start count range).1))
 
 -- a blob has bytes, and no more shares than the greatest square
 abbrev pub IsLaid : NamedBytes → Type 0
-IsLaid blob = (1 ≤ length blob.bytes) × (share_count_of blob ≤ 16384)
+IsLaid blob = (1 ≤ length blob.bytes) × (share_count_of blob ≤ max_shares)
 
 -- such are the blobs of a block that isn't refused, by what is known of their order, of its square and of their ranges
 pub laid_blobs : (block : BlockParts)
@@ -162,9 +162,9 @@ pub laid_blobs : (block : BlockParts)
 laid_blobs block stable whole ranges fine =
     let blobs : List NamedBytes = block.blobs in
     let sized = no_second (bad_blob 0 blobs) (empty_blob 0 blobs) (no_first (blob_refusal blobs) (size_refusal block.width (needed block)) fine) in
-    let few : AllByRecursion (λ (blob : NamedBytes). share_count_of blob ≤ 16384) blobs =
-    all_split (λ (blob : NamedBytes). share_count_of blob ≤ 16384) blobs
+    let few : AllByRecursion (λ (blob : NamedBytes). share_count_of blob ≤ max_shares) blobs =
+    all_split (λ (blob : NamedBytes). share_count_of blob ≤ max_shares) blobs
     (λ before after blob e.
     let there = ordered blobs before after blob stable e in
     range_few (square_of block).k _ (share_count_of blob) whole.width (ranges there.0 there.1 blob there.2)) in
-    each-both HasByte (λ (blob : NamedBytes). share_count_of blob ≤ 16384) blobs (have_bytes 0 blobs sized) few
+    each-both HasByte (λ (blob : NamedBytes). share_count_of blob ≤ max_shares) blobs (have_bytes 0 blobs sized) few

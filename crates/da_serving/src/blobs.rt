@@ -5,7 +5,8 @@ ghost use Rattle.std.specs.List.{flat_map};
 ghost use Rattle.share_split.specs.Walks.{blobs_of};
 ghost use Rattle.square_layout.specs.Blocks.{BlockParts, IsBlock};
 ghost use Rattle.square_layout.specs.Layout.{in_order, square_of};
-ghost use Rattle.square_layout.specs.Refusals.{layout_refusal};
+ghost use Rattle.namespace_id.specs.Sizes.{share_size};
+ghost use Rattle.square_layout.specs.Refusals.{max_shares, layout_refusal};
 ghost use Rattle.blob_feed.specs.Feeds.{shares_found};
 ghost use Rattle.da_wire.specs.declared.frames.Frame.TheVariants as FrameOf;
 ghost use Rattle.da_wire.specs.Spelling.{spelling};
@@ -93,7 +94,7 @@ fn shares_in(alloc: Global, bytes: &[u8]) -> Result<Frame, Unread>
 
 /// The frame of blobs that are short enough to be written.
 fn block_frame(alloc: Global, blobs: Vec<Blob>) -> Frame
-    requires { length (flat_map blob_bytes blobs.items) ≤ 16384 * 512 }
+    requires { length (flat_map blob_bytes blobs.items) ≤ max_shares * share_size }
     ensures value { result ≡ FrameOf.Block (block_with blobs.items) }
     ensures spelled { IsSome (spelling result) }
 {
@@ -108,7 +109,7 @@ fn block_frame(alloc: Global, blobs: Vec<Blob>) -> Frame
 /// Writes the frame of the blobs that shares are, if they are any. All memory is taken before the
 /// write.
 fn give_blobs<O: Sink>(alloc: Global, shares: &[Share], out: &mut O) -> Status
-    requires { length shares.now ≤ 16384 }
+    requires { length shares.now ≤ max_shares }
     ensures { EndsAtOnce (Joins shares.now) (O.taken out.old) (O.taken out.new) (O.faults out.old)
         (O.faults out.new) (out.new ≡ out.old) result }
 {

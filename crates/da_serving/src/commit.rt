@@ -3,7 +3,7 @@
 ghost use Rattle.std.specs.Prelude.{◌≡◌, ◌≤◌, ◌++◌, length, None, IfOk, OnOk};
 ghost use Rattle.std.specs.List.{AllByRecursion};
 ghost use Rattle.square_layout.specs.Layout.{share_count_of};
-ghost use Rattle.square_layout.specs.Refusals.{layout_refusal, Answers};
+ghost use Rattle.square_layout.specs.Refusals.{max_shares, layout_refusal, Answers};
 ghost use Rattle.da_files.specs.Contents.{contents_of};
 ghost use Rattle.da_files.specs.Frames.{WritesText, block_in};
 ghost use Rattle.da_serving.specs.Commit.{commitment_of, commitment_line, commitment_lines, Commits, CommitOf};
@@ -24,7 +24,7 @@ use std::alloc::Global;
 /// The commitment of a blob that has bytes, and no more shares than the greatest square.
 fn commitment_in(alloc: Global, blob: &Blob) -> Result<[u8; 32], NoMemory>
     requires some { 1 ≤ length blob.now.bytes }
-    requires few { share_count_of blob.now ≤ 16384 }
+    requires few { share_count_of blob.now ≤ max_shares }
     ensures { IfOk result (λ commitment. commitment ≡ commitment_of blob.now) }
 {
     match commitment_of(alloc, blob) {
@@ -40,7 +40,7 @@ fn commitment_in(alloc: Global, blob: &Blob) -> Result<[u8; 32], NoMemory>
 /// Appends the line of such a blob.
 fn put_line(alloc: Global, blob: &Blob, text: &mut Vec<u8>) -> Result<(), NoMemory>
     requires some { 1 ≤ length blob.now.bytes }
-    requires few { share_count_of blob.now ≤ 16384 }
+    requires few { share_count_of blob.now ≤ max_shares }
     ensures { OnOk result (text.new.items ≡ text.old.items ++ commitment_line blob.now) }
 {
     let line = hash_line(&commitment_in(alloc, blob)?);
@@ -53,7 +53,7 @@ fn put_line(alloc: Global, blob: &Blob, text: &mut Vec<u8>) -> Result<(), NoMemo
 /// The lines of such blobs, in their order.
 fn lines(alloc: Global, blobs: &[Blob]) -> Result<Vec<u8>, NoMemory>
     requires { AllByRecursion (λ blob.
-        (1 ≤ length blob.bytes) × (share_count_of blob ≤ 16384)) blobs.now }
+        (1 ≤ length blob.bytes) × (share_count_of blob ≤ max_shares)) blobs.now }
     ensures { IfOk result (λ text. text.items ≡ commitment_lines blobs.now) }
 {
     let mut text = Vec::new(alloc);
