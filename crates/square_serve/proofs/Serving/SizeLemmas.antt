@@ -9,6 +9,7 @@ use Rattle.namespace_id.specs.declared.shares.Share.{Share}
 use Rattle.namespace_id.specs.declared.digests.Digest.{Digest}
 use Rattle.namespace_id.specs.Names.{IsNamespace}
 use Rattle.namespace_id.specs.Shares.{IsShare}
+use Rattle.namespace_id.specs.Sizes.{most_depth}
 use Rattle.namespace_id.specs.Digests.{IsDigest, AreDigests, no_digest}
 use Rattle.namespace_id.proofs.PowerLemmas.{double_halvings, halvings-le}
 use Rattle.nmt_tree.specs.Roots.{halvings}
@@ -34,9 +35,9 @@ digests_over low high last leaves [] are long beside = tt
 digests_over low high last leaves (x ∷ xs) are long beside =
     (digest-span x.1 x.0 leaves are (omega (arith, beside.0.within, long)), digests_over low high last leaves xs are long beside.1)
 
--- the nodes beside some neighboring places are digests, and at most 16
-nodes_beside : (depth from : ℕ) (leaves : List Digest) (ss : List Shown) → AreDigests leaves → length leaves ≡ 2 ^ depth → depth ≤ 8 → 0 < length ss → from + length ss ≤ 2 ^ depth
-    → IsRun from ss → (length (spans leaves (outside depth 0 ss)) ≤ 16) × AreDigests (spans leaves (outside depth 0 ss))
+-- the nodes beside some neighboring places are digests, and at most two for each level of the greatest tree
+nodes_beside : (depth from : ℕ) (leaves : List Digest) (ss : List Shown) → AreDigests leaves → length leaves ≡ 2 ^ depth → depth ≤ most_depth → 0 < length ss → from + length ss ≤ 2 ^ depth
+    → IsRun from ss → (length (spans leaves (outside depth 0 ss)) ≤ 2 * most_depth) × AreDigests (spans leaves (outside depth 0 ss))
 nodes_beside depth from leaves ss are long deep some fits run =
     let few : length (outside depth 0 ss) ≤ depth + depth =
     outside_few depth depth depth 0 from ss some run (omega arith) (omega (arith, fits)) (λ lt. omega arith) (λ lt. omega arith) in (
@@ -60,7 +61,7 @@ entry_sized name k grid row named is =
     let digests : AreDigests leaves = digests-leaves names shares is.leaves.name_bytes in
     let long : length leaves ≡ 2 * k = length-leaves k grid Row row in
     let nodes_of : (ss : List Shown) → 0 < length ss → from + length ss ≤ 2 ^ depth → IsRun from ss
-    → (length (spans leaves (outside depth 0 ss)) ≤ 16) × AreDigests (spans leaves (outside depth 0 ss)) = λ ss.
+    → (length (spans leaves (outside depth 0 ss)) ≤ 2 * most_depth) × AreDigests (spans leaves (outside depth 0 ss)) = λ ss.
     nodes_beside depth from leaves ss digests (long ∙ size) (halvings-le (2 * k)) in
     record {
       row = number-lt-two_bytes k row is.width (omega (arith, is.within));
