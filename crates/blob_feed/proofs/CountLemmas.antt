@@ -9,6 +9,7 @@ use Rattle.std.proofs.lemmas.List.Concat.{flat_map-cons}
 use Rattle.namespace_id.specs.declared.namespaces.Namespace.{Namespace}
 use Rattle.namespace_id.specs.declared.shares.Share.{Share}
 use Rattle.namespace_id.specs.Cells.{is_width}
+use Rattle.namespace_id.specs.Sizes.{greatest_width}
 use Rattle.namespace_id.specs.Lists.{ascending}
 use Rattle.namespace_id.proofs.WidthLemmas.{is_width-le}
 use Rattle.namespace_id.proofs.AscendingLemmas.{length-ascending}
@@ -111,10 +112,10 @@ entries_few header name (entry ∷ answer) all =
     ∙ length-append (shares_found entry.found) (flat_map (λ (e : NsEntry). shares_found e.found) answer) in
     grind (arith, here, rest, long)
 
--- at most 128 entries of at most 128 shares
-square_few : (a n k : ℕ) → n ≤ k → k ≤ 128 → a ≤ n * k → a < 2 ^ 32
+-- no more entries than the greatest square has rows, each of no more shares than one of these has
+square_few : (a n k : ℕ) → n ≤ k → k ≤ greatest_width → a ≤ n * k → a < 2 ^ 32
 square_few a n k few small le =
-    let rows : n * k ≤ 128 * k = grind (arith, few, small) in
+    let rows : n * k ≤ greatest_width * k = grind (arith, few, small) in
     omega (arith, rows, small, le)
 
 -- the number of blobs of a complete answer has four bytes
