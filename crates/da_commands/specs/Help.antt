@@ -35,7 +35,7 @@ help_text =
 
 -- the name of the program, and its version
 abbrev pub version_text : List ℕ
-version_text = codes "da 0.1.0\n"
+version_text = codes "da 0.2.0\n"
 
 -- help and version have no file
 abbrev pub help_judged : List (Option ℕ)

@@ -36,7 +36,7 @@ const COMMANDS: &[u8] = b"\
     da version\n";
 
 /// The name of the program, and its version.
-const VERSION: &[u8] = b"da 0.1.0\n";
+const VERSION: &[u8] = b"da 0.2.0\n";
 
 /// Answers the commands with their words. It takes no memory.
 pub(crate) fn help<O: Sink>(out: &mut O) -> Status
