@@ -5,6 +5,7 @@ use Rattle.std.proofs.lemmas.List.Elements.{filter-append}
 use Rattle.namespace_id.specs.declared.cells.Cell.{Cell}
 use Rattle.namespace_id.specs.declared.shares.Share.{Share}
 use Rattle.namespace_id.specs.Cells.{is_width, cell_numbered}
+use Rattle.namespace_id.specs.Sizes.{greatest_width, most_leaves}
 use Rattle.namespace_id.proofs.WidthLemmas.{is_width-le}
 use Rattle.data_header.specs.Headers.{Roots}
 use Rattle.da_demo.specs.declared.gathering.Gathered.{Gathered}
@@ -82,8 +83,8 @@ half_next header k grid old new left before in_row cell is wide next within had 
     (taken (first_from k grid before) had)
 
 -- a square has few cells
-pub few_cells : (k : ℕ) → is_width k ≡ true → 2 * k * (2 * k) ≤ 65536
+pub few_cells : (k : ℕ) → is_width k ≡ true → 2 * k * (2 * k) ≤ most_leaves * most_leaves
 few_cells k width =
-    let wide : k ≤ 128 = is_width-le k width in
-    let side : 2 * k ≤ 256 = omega arith in
+    let wide : k ≤ greatest_width = is_width-le k width in
+    let side : 2 * k ≤ most_leaves = omega arith in
     mul-le-mul side side

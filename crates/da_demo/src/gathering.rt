@@ -3,6 +3,7 @@
 
 ghost use Rattle.std.specs.Prelude.{◌≡◌, ◌+◌, ◌*◌, ◌<◌, ◌≤◌, ◌^◌, ◌++◌, List, [], ◌∷◌, IsTrue, IfSome, IsNone, IfOk, Some, None};
 ghost use Rattle.namespace_id.specs.Cells.{is_width, is_in_square};
+ghost use Rattle.namespace_id.specs.Sizes.{most_leaves};
 ghost use Rattle.axis_roots.specs.declared.message.messages.Message.{Message as Sent};
 ghost use Rattle.axis_roots.specs.Messages.{message_refusal};
 ghost use Rattle.axis_roots.specs.Proved.{IsUnder, kept_message};
@@ -111,8 +112,8 @@ pub(crate) fn gather_lies(grid: &Grid, trees: &Trees, header: &Header, gathered:
 
 /// Whether row and column of a cell add up to an even number.
 fn is_even(cell: Cell) -> bool
-    requires row { cell.row < 256 }
-    requires col { cell.col < 256 }
+    requires row { cell.row < most_leaves }
+    requires col { cell.col < most_leaves }
     ensures { result ≡ is_even cell }
 {
     (cell.row + cell.col) % 2 == 0
