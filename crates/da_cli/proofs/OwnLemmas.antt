@@ -31,7 +31,7 @@ use Rattle.da_judging.specs.Compact.{claim_file, claim_in, CompactsJudged, Compa
 use Rattle.da_judging.specs.Repair.{Repairs, RepairsOwn}
 use Rattle.da_judging.specs.Light.{Lights, JudgesOwn}
 use Rattle.da_files.specs.Requests.{namespaces_in}
-use Rattle.da_judging.specs.Follow.{wanted_file, answers_file, items_in, Feed}
+use Rattle.da_following.specs.Follow.{wanted_file, answers_file, items_in, Feed}
 use Rattle.da_judging.specs.Verify.{answer_file, answer_in, IsRefusal, verdict_line, IsOwnReply}
 use Rattle.da_judging.specs.declared.answers.Answer.{Answer}
 use Rattle.da_judging.specs.Answers.{answer_frame, is_answer_to}

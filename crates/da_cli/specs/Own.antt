@@ -29,7 +29,7 @@ use Rattle.da_judging.specs.Compact.{claim_file, claim_in, CompactOf, CompactsOw
 use Rattle.da_judging.specs.Repair.{RepairOf, RepairsOwn}
 use Rattle.da_judging.specs.Light.{LightOf, JudgesOwn}
 use Rattle.da_files.specs.Requests.{namespaces_in}
-use Rattle.da_judging.specs.Follow.{wanted_file, answers_file, items_in, Feed}
+use Rattle.da_following.specs.Follow.{wanted_file, answers_file, items_in, Feed}
 use Rattle.da_judging.specs.Verify.{answer_file, answer_in, IsRefusal, verdict_line, IsOwnReply}
 use Rattle.da_judging.specs.declared.answers.Answer.{Answer}
 use Rattle.da_judging.specs.declared.answers.Request.{Request}

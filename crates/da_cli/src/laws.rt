@@ -46,7 +46,7 @@ ghost use Rattle.da_judging.specs.Answers.{answer_frame, is_answer_to, IsAnswerT
 ghost use Rattle.da_judging.specs.Verify.{IsRefusal, answer_in, IsOwnReply};
 ghost use Rattle.da_judging.specs.VerifyFor.{IsRefusalFor};
 ghost use Rattle.da_judging.specs.Root.{root_refusal};
-ghost use Rattle.da_judging.specs.Follow.{items_in, Feed, Follows};
+ghost use Rattle.da_following.specs.Follow.{items_in, Feed, Follows};
 ghost use Rattle.data_header.specs.DataRoots.{data_root_of};
 ghost use Rattle.blob_commit.specs.Proofs.{CommitParts, CommitHolds, RootedParts, RootedHolds};
 ghost use Rattle.da_cli.specs.Own.{ProvesOwn};

@@ -28,7 +28,7 @@ use Rattle.da_serving.proofs.WantedLemmas.{wanted_last}
 use Rattle.da_serving.proofs.BlobsLemmas.{blobs_answers}
 use Rattle.da_serving.proofs.CommitLemmas.{commit_answers}
 use Rattle.da_serving.proofs.ProveLemmas.{prove_answers, prove_range_answers}
-use Rattle.da_judging.proofs.Following.FollowLemmas.{follow_answers}
+use Rattle.da_following.proofs.FollowLemmas.{follow_answers}
 
 -- a command's answer comes with its output, or refuses what the files ask for
 pub answer_last : (command : Command) (files : List (List ℕ)) (w : List ℕ) (status : Status) → AnswerOf command files w status → IsAnswer (kind_of status)

@@ -26,7 +26,7 @@ use Rattle.da_serving.specs.Wanted.{missing_in, WantedOf}
 use Rattle.da_serving.specs.Blobs.{shares_in, BlobsOf}
 use Rattle.da_serving.specs.Commit.{CommitOf}
 use Rattle.da_serving.specs.Prove.{ProveOf, ProveRangeOf}
-use Rattle.da_judging.specs.Follow.{follow_judged, FollowOf}
+use Rattle.da_following.specs.Follow.{follow_judged, FollowOf}
 use Rattle.da_commands.specs.Help.{help_judged, HelpOf, VersionOf}
 
 -- of each file where it leaves its form, if it does

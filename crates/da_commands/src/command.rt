@@ -8,8 +8,9 @@ ghost use Rattle.da_commands.specs.Meaning.{Meaning, TakesFirst, IsRunnable};
 ghost use Rattle.da_status.specs.Outcome.{Ends};
 
 use crate::{demo, help, net, show};
+use da_following::follow;
 use da_io::Sink;
-use da_judging::{check, compact, follow, light, root, verify, verify_for};
+use da_judging::{check, compact, light, root, verify, verify_for};
 use da_serving::{blobs, build, commit, header, namespace, prove, sample, wanted};
 use da_status::Status;
 use namespace_id::Axis;

@@ -2,7 +2,7 @@
 //!
 //! A command is a case of `Command`, of `Meaning` and of `execute`. `show`, `json`, `net`, `demo`, `help` and
 //! `version` stand here, each with a file of its own here and in `specs/`; the others are those of
-//! `da_serving` and `da_judging`.
+//! `da_serving`, `da_judging` and `da_following`.
 #![tactic(auto)]
 
 mod command;
@@ -14,9 +14,10 @@ mod show;
 
 pub use command::{Command, execute};
 pub use da_files::{Unread, header_in, message_in, square_in};
+pub use da_following::follow_laws;
 pub use da_judging::{
-    Answer, Finding, Request, answer_in, check_number, follow_laws, give_verdict, is_answer_to,
-    refusal_for, refusal_of, request_in,
+    Answer, Finding, Request, answer_in, check_number, give_verdict, is_answer_to, refusal_for,
+    refusal_of, request_in,
 };
 pub use da_serving::{blobs_laws, header_frame};
 pub use laws::answering_laws;

@@ -10,4 +10,3 @@ pub mod VerifyLemmas
 pub mod CompactLemmas
 pub mod VerifyForLemmas
 pub mod RootLemmas
-pub mod Following

@@ -7,5 +7,3 @@ pub mod VerifyFor
 pub mod Repair
 pub mod Light
 pub mod Root
-pub mod Follow
-pub mod Heights

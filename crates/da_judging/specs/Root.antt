@@ -1,8 +1,7 @@
 -- root HEADER, root HEADER ROOT: the data root of a header, and whether it is a given one.
-use Rattle.std.specs.Prelude.{ℕ, List, ◌++◌, codes, Some, None, if◌then◌else◌}
+use Rattle.std.specs.Prelude.{ℕ, List, Some, None, if◌then◌else◌}
 use Rattle.std.specs.declared.option.Option.{Option}
 use Rattle.std.specs.Str.{bytes_eq}
-use Rattle.hex.specs.Hex.{encode_lower}
 use Rattle.data_header.specs.Headers.{Roots}
 use Rattle.data_header.specs.DataRoots.{data_root_of}
 use Rattle.da_status.specs.declared.status.Status.TheVariants.{Done}

@@ -1,7 +1,7 @@
-//! What the commands of `da` that judge and follow answer over the contents of their files: samples, claims,
-//! answers and data roots under a header, light runs, and the blobs of namespaces from height to height.
+//! What the commands of `da` that judge answer over the contents of their files: samples, claims, answers and
+//! data roots under a header, and light runs.
 //!
-//! A command is a file of its own here and in `specs/`. `forms` has the shapes of files with answers; the others
+//! A command is a file of its own here and in `specs/`. `forms` has the shape of files with an answer; the others
 //! are those of `da_files`. `repair` has what is written for a verdict, since its second file is read two crates
 //! above.
 #![tactic(auto)]
@@ -10,10 +10,7 @@ mod ahead;
 mod answers;
 pub mod check;
 pub mod compact;
-mod feed_lines;
-pub mod follow;
 mod forms;
-mod heights;
 pub mod light;
 mod repair;
 pub mod root;
@@ -22,7 +19,6 @@ pub mod verify_for;
 
 pub use answers::{Answer, Request, is_answer_to};
 pub use check::Finding;
-pub use follow::follow_laws;
 pub use repair::give_verdict;
 pub use verify::{answer_in, check_number, refusal_of};
 pub use verify_for::{refusal_for, request_in};

@@ -1,0 +1,112 @@
+-- What is kept of the height under way, with one answer more.
+use Rattle.std.proofs.Common.{◌≡◌, ◌∙◌, List, [], ◌∷◌, ◌++◌, Bool, true, false, cond, ◌&&◌, Option, Some, None, is_some, is_none, if◌then◌else◌, refl, sym, ap, ap₂, subst, inl, inr}
+use Rattle.std.specs.Prelude.{ℕ}
+use Rattle.std.specs.Option.{option_map, option_or}
+use Rattle.std.proofs.lemmas.Bool.{cases_Bool}
+use Rattle.namespace_id.specs.declared.namespaces.Namespace.{Namespace}
+use Rattle.share_split.specs.Walks.{blobs_of}
+use Rattle.data_header.specs.Headers.{Roots}
+use Rattle.square_serve.specs.declared.checking.NsRefusal.{NsRefusal}
+use Rattle.square_serve.specs.Answers.{answer_refusal}
+use Rattle.blob_feed.specs.Feeds.{NamedAnswer, Read, shares_shown}
+use Rattle.blob_feed.specs.Followers.{is_name}
+use Rattle.blob_feed.specs.Firsts.{completes, first_read}
+use Rattle.blob_feed.proofs.NameLemmas.{same_name, same_refl}
+use Rattle.blob_feed.proofs.FirstLemmas.{first_more, map_or}
+use Rattle.da_following.specs.Heights.{said, said_by}
+
+-- one or else nothing is that one
+pub or_none : {X : Type 0} (o : Option X) → o ≡ option_or o None
+or_none None = refl
+or_none (Some x) = refl
+
+-- something stays, whatever else there is
+or_some : {X : Type 0} (o other : Option X) → is_some o ≡ true → o ≡ option_or o other
+or_some None other e = absurd cc
+or_some (Some x) other e = refl
+
+-- what is made of something is something
+pub some_map : {A B : Type 0} (f : A → B) (o : Option A) → is_some (option_map f o) ≡ is_some o
+some_map f None = refl
+some_map f (Some x) = refl
+
+-- and of nothing nothing
+pub none_map : {A B : Type 0} (f : A → B) (o : Option A) → is_some o ≡ false → option_map f o ≡ None
+none_map f None e = refl
+none_map f (Some x) e = absurd cc
+
+-- what is made of something in the place of another
+pub if_map : {A B : Type 0} (f : A → B) (b : Bool) (x : A) (o : Option A)
+    → option_map f (if b then Some x else o) ≡ (if b then Some (f x) else option_map f o)
+if_map f true x o = refl
+if_map f false x o = refl
+
+-- behind some answers one more says what none of them does
+pub said_more : (header : Roots) (name : Namespace) (answers : List NamedAnswer) (given : NamedAnswer)
+    → said_by header name (answers ++ given ∷ []) ≡ option_or (said_by header name answers) (said_by header name (given ∷ []))
+said_more header name answers given =
+    ap (option_map said) (first_more header name answers given)
+    ∙ map_or said (first_read header name answers) (first_read header name (given ∷ []))
+
+module _ (header : Roots) (given : NamedAnswer) where
+  -- an answer says nothing of another namespace
+  pub said_other : (other : Namespace) → is_name given.name other ≡ false → said_by header other (given ∷ []) ≡ None
+  said_other other e =
+      ap (λ (b : Bool). option_map said (option_map (λ (g : NamedAnswer). blobs_of (shares_shown g.answer))
+      (cond (b && is_none (answer_refusal header given.name given.answer)) (Some given) None))) e
+
+  -- what it says of its own, by whether it is complete
+  said_own : (b : Bool) → completes header given.name given ≡ b
+      → said_by header given.name (given ∷ []) ≡ option_map said (option_map (λ (g : NamedAnswer). blobs_of (shares_shown g.answer))
+      (cond b (Some given) None))
+  said_own b e =
+      ap (λ (t : Bool). option_map said (option_map (λ (g : NamedAnswer). blobs_of (shares_shown g.answer)) (cond t (Some given) None))) e
+
+  -- one that is refused says nothing of it
+  pub said_refused : (why : NsRefusal) → answer_refusal header given.name given.answer ≡ Some why
+      → said_by header given.name (given ∷ []) ≡ None
+  said_refused why some =
+      said_own false (ap₂ (λ (b : Bool) (o : Option NsRefusal). b && is_none o) (same_refl given.name) some)
+
+  -- one that is complete says what its shares are read as
+  pub said_complete : (read : Read) → answer_refusal header given.name given.answer ≡ None
+      → read ≡ blobs_of (shares_shown given.answer) → said_by header given.name (given ∷ []) ≡ Some (said read)
+  said_complete read none is =
+      said_own true (ap₂ (λ (b : Bool) (o : Option NsRefusal). b && is_none o) (same_refl given.name) none)
+      ∙ ap (λ (r : Read). Some (said r)) (sym is)
+
+  module _ (kept : Namespace → Option (List ℕ)) where
+    -- what is kept of each namespace with the answer
+    abbrev pub AreWith : (Namespace → Option (List ℕ)) → Type 0
+    AreWith new = (other : Namespace) → new other ≡ option_or (kept other) (said_by header other (given ∷ []))
+
+    -- nothing more, where the answer says something of its namespace alone
+    same_other : (other : Namespace) → is_name given.name other ≡ false → kept other ≡ option_or (kept other) (said_by header other (given ∷ []))
+    same_other other e = or_none (kept other) ∙ ap (option_or (kept other)) (sym (said_other other e))
+
+    -- something is kept of the namespace already
+    pub kept_already : is_some (kept given.name) ≡ true → AreWith kept
+    kept_already some = λ other. elim (cases_Bool (is_name given.name other)) [
+      | inl e ↦ or_some (kept other) (said_by header other (given ∷ []))
+          (subst (λ (n : Namespace). is_some (kept n) ≡ true) (same_name given.name other e) some)
+      | inr e ↦ same_other other e
+    ]
+
+    -- the answer says nothing
+    pub kept_so : said_by header given.name (given ∷ []) ≡ None → AreWith kept
+    kept_so none = λ other. elim (cases_Bool (is_name given.name other)) [
+      | inl e ↦ or_none (kept other) ∙ ap (option_or (kept other))
+          (sym (subst (λ (n : Namespace). said_by header n (given ∷ []) ≡ None) (same_name given.name other e) none))
+      | inr e ↦ same_other other e
+    ]
+
+    -- it is the first to say something
+    pub kept_new : (text : List ℕ) (new : Namespace → Option (List ℕ)) → kept given.name ≡ None
+        → said_by header given.name (given ∷ []) ≡ Some text
+        → ((other : Namespace) → new other ≡ (if is_name given.name other then Some text else kept other)) → AreWith new
+    kept_new text new none says is = λ other. elim (cases_Bool (is_name given.name other)) [
+      | inl e ↦ is other ∙ ap (λ (b : Bool). if b then Some text else kept other) e
+          ∙ subst (λ (n : Namespace). Some text ≡ option_or (kept n) (said_by header n (given ∷ []))) (same_name given.name other e)
+          (sym (ap₂ option_or none says))
+      | inr e ↦ is other ∙ ap (λ (b : Bool). if b then Some text else kept other) e ∙ same_other other e
+    ]

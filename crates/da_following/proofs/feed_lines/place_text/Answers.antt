@@ -1,0 +1,14 @@
+use Rattle.std.proofs.Common.{ap, arith, length}
+use Rattle.std.proofs.lemmas.List.{length-append}
+use Rattle.da_status.proofs.DigitLemmas.{digits_fit}
+use Rattle.da_following.proofs.feed_lines.place_text.Goals as goal
+
+-- a number has at most 20 digits
+pub put-requires : goal.put-requires
+put-requires c =
+    omega (
+      arith,
+      ap length c.new-line.ensures,
+      simp length-append at (ap length c.around.ensures),
+      digits_fit c.args.number (omega arith),
+    )
