@@ -27,6 +27,7 @@ use Rattle.da_serving.specs.Namespace.{is_other, AllowsNames, NamespaceOf}
 use Rattle.da_files.specs.Contents.{square_file}
 use Rattle.da_status.proofs.EndLemmas.{IsAnswer}
 use Rattle.da_files.proofs.FormLemmas.{over_each}
+use Rattle.da_files.proofs.RequestLemmas.{values_by}
 use Rattle.da_serving.proofs.ServingLemmas.{serves_answers}
 
 -- a frame of this kind asks for a namespace, and is the frame that does

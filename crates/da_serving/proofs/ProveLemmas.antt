@@ -7,6 +7,7 @@ use Rattle.namespace_id.specs.declared.shares.Share.{Share}
 use Rattle.namespace_id.specs.Cells.{is_in_square}
 use Rattle.namespace_id.proofs.WidthLemmas.{is_width-le}
 use Rattle.namespace_id.specs.declared.digests.Digest.{Digest}
+use Rattle.data_header.specs.Paths.{most_hashes}
 use Rattle.data_header.specs.Headers.{Roots, root_of}
 use Rattle.data_header.specs.DataRoots.{data_root_of, OpensRoot}
 use Rattle.square_layout.specs.Blocks.{SquareShares}
@@ -88,7 +89,7 @@ holds_own header square own = record { whole = own.whole; width = refl; extends 
 -- a sample has a root proof under the data root of a header
 abbrev pub HasRootProof : Roots → sent.Message → Type 0
 HasRootProof header m =
-    (proof : RootedParts) × (proof.k ≡ header.k) × (proof.message ≡ m) × IsRooted proof × (length proof.up ≤ 9)
+    (proof : RootedParts) × (proof.k ≡ header.k) × (proof.message ≡ m) × IsRooted proof × (length proof.up ≤ most_hashes)
     × RootedHolds (data_root_of header) proof
 
 -- such a proof can be written

@@ -1,7 +1,5 @@
 -- namespace SQUARE REQUESTS: the shares of namespaces in a square, complete.
-use Rattle.std.specs.Prelude.{◌≡◌, ℕ, List, [], ◌∷◌, Bool, not, Some, None}
-use Rattle.std.specs.declared.option.Option.{Option}
-use Rattle.std.specs.List.{filter_map}
+use Rattle.std.specs.Prelude.{◌≡◌, ℕ, List, Bool, not}
 use Rattle.namespace_id.specs.declared.namespaces.Namespace as names
 use Rattle.namespace_id.specs.Names.{is_parity}
 use Rattle.data_header.specs.Headers.{Roots}
@@ -10,12 +8,11 @@ use Rattle.axis_roots.specs.declared.answers.NsEntry.{NsEntry}
 use Rattle.square_serve.specs.Shares.{shares_of}
 use Rattle.square_serve.specs.Answers.{shown, IsComplete}
 use Rattle.da_wire.specs.declared.frames.Frame.{Frame}
-use Rattle.da_wire.specs.declared.frames.Frame.TheVariants.{Names, Request}
-use Rattle.da_wire.specs.Spelling.{request_kind}
-use Rattle.da_wire.specs.Values.{values_of}
+use Rattle.da_wire.specs.declared.frames.Frame.TheVariants.{Names}
 use Rattle.da_status.specs.Outcome.{Relation}
 use Rattle.da_files.specs.Frames.{square_in}
 use Rattle.da_files.specs.Forms.{Over}
+use Rattle.da_files.specs.Requests.{namespaces_in}
 use Rattle.da_serving.specs.Serving.{requests_file, Serves}
 use Rattle.da_files.specs.Contents.{square_file}
 

@@ -1,7 +1,6 @@
 -- Commands that answer requests over a square: their frames are a choice, and the first request that has no answer is
 -- refused.
-use Rattle.std.specs.Prelude.{◌≡◌, ◌⊎◌, ℕ, ◌+◌, ◌<◌, List, [], ◌∷◌, length, Bool, Option, Some, None, if◌then◌else◌, MatchOption}
-use Rattle.std.specs.Borrow.{Bor}
+use Rattle.std.specs.Prelude.{◌≡◌, ◌⊎◌, ℕ, List, Bool, MatchOption}
 use Rattle.data_header.specs.Headers.{Roots}
 use Rattle.square_layout.specs.Blocks.{SquareShares}
 use Rattle.axis_roots.specs.Grids.{IsHeaderOf, HasNoHeader}
@@ -9,6 +8,7 @@ use Rattle.da_wire.specs.declared.frames.Frame.{Frame}
 use Rattle.da_status.specs.declared.status.Asked.TheVariants.{NoHeader, At}
 use Rattle.da_status.specs.declared.status.Status.TheVariants.{Done, BadRequest}
 use Rattle.da_files.specs.Contents.{file_of}
+use Rattle.da_files.specs.Requests.{failing_from}
 use Rattle.da_serving.specs.Choices.{FramesOf}
 use Rattle.da_status.specs.Outcome.{Relation, Refuses}
 
