@@ -7,6 +7,7 @@ use Rattle.std.specs.Option.{option_map, option_map_or, option_or}
 use Rattle.std.specs.String.{string_bytes}
 use Rattle.std.specs.Str.{bytes_eq}
 use Rattle.hex.specs.Hex.{decode_sized}
+use Rattle.namespace_id.specs.Sizes.{greatest_width}
 use Rattle.namespace_id.specs.declared.cells.Axis.{Axis}
 use Rattle.namespace_id.specs.declared.cells.Axis.TheVariants.{Row, Col}
 use Rattle.da_wire.specs.Frames.{ok_of}
@@ -54,7 +55,7 @@ key_in word = ok_of (decode_sized word 32)
 
 -- the width of a trial that a word is
 abbrev pub width_in : List ℕ → Option ℕ
-width_in word = option_map_or (λ k. if is_trial_width k then Some k else None) (number_in 128 word) None
+width_in word = option_map_or (λ k. if is_trial_width k then Some k else None) (number_in greatest_width word) None
 
 -- the axis that a word is
 abbrev pub axis_in : List ℕ → Option Axis

@@ -7,7 +7,7 @@ ghost use Rattle.da_cli.specs.Words.{words_of, is_command, is_digit, digits_in, 
 
 use da_commands::Command;
 use hex::FromHex;
-use namespace_id::{Axis, is_width};
+use namespace_id::{Axis, GREATEST_WIDTH, is_width};
 
 /// A command, and how many of the words after its own name files. These come first.
 #[derive(Clone, Copy, Debug, PartialEq, Eq)]
@@ -92,7 +92,7 @@ fn width_in(word: &str) -> Option<u16>
     ensures value { result ≡ width_in word.now }
     ensures width { IfSome result (λ k. is_trial_width k ≡ true) }
 {
-    let k = number_in(word, 128)? as u16;
+    let k = number_in(word, u64::from(GREATEST_WIDTH))? as u16;
     if is_width(k) && k >= 2 { Some(k) } else { None }
 }
 
