@@ -60,7 +60,7 @@ struct da_detail {
 };
 
 /* The bytes of a data root, and the most of the frame of a header: that of width k has 7 + 360 * k. */
-enum { DA_ROOT_SIZE = 32, DA_HEADER_MAX = 46087 };
+enum { DA_ROOT_SIZE = 32, DA_HEADER_MAX = 184327 };
 
 /*
  * Whether a sample (kind M) is proved under a header (kind H): DA_DONE exactly where it is, unless memory runs out.

@@ -2,6 +2,7 @@
 use Rattle.std.specs.Prelude.{◌≡◌, ◌⊎◌, ◌+◌, ◌*◌, ℕ, List, Some, MatchResult}
 use Rattle.std.specs.declared.option.Option.{Option}
 use Rattle.std.specs.Option.{option_map}
+use Rattle.namespace_id.specs.Sizes.{greatest_width}
 use Rattle.data_header.specs.Headers as headers
 use Rattle.data_header.specs.DataRoots.{data_root_of}
 use Rattle.square_layout.specs.Blocks.{SquareShares}
@@ -60,9 +61,9 @@ Verifies header answer request =
 abbrev pub root_size : ℕ
 root_size = 32
 
--- the most bytes that the frame of a header has, that of width 128
+-- the most bytes that the frame of a header has, that of the greatest width
 abbrev pub most_header : ℕ
-most_header = 7 + 360 * 128
+most_header = 7 + 360 * greatest_width
 
 -- da_data_root: the data root of a header
 abbrev pub RootOf : List ℕ → ℕ → Outputs

@@ -80,7 +80,7 @@ pub extern "C" fn da_header(
     ensures writes { Writes (HeaderOf square.now (length buffer.old)) buffer.old buffer.new result
         detail.new }
 
-    // In a buffer for the frame of the header of width 128 each fits.
+    // In a buffer for the frame of the header of the greatest width each fits.
     ensures room { most_header ≤ length buffer.old → result ≢ 15 }
 {
     tell(header(alloc, square, buffer), detail)
