@@ -29,9 +29,9 @@
  * The version of the program whose calls these are. The shared library is named by its first number, libda_c.so.0: what
  * was linked with one of another first number isn't run with this one.
  */
-#define DA_VERSION "0.1.0"
+#define DA_VERSION "0.2.0"
 #define DA_VERSION_MAJOR 0
-#define DA_VERSION_MINOR 1
+#define DA_VERSION_MINOR 2
 #define DA_VERSION_PATCH 0
 
 #ifdef __cplusplus
