@@ -9,6 +9,7 @@ use Rattle.da_status.specs.Outcome.{Relation}
 use Rattle.da_files.specs.Contents.{header_file}
 use Rattle.da_files.specs.Frames.{header_in, WritesText}
 use Rattle.da_files.specs.Forms.{Over}
+use Rattle.da_files.specs.Lines.{root_line}
 use Rattle.da_judging.specs.Verify.{verdict_line, verdict_status}
 
 -- the number of the refusal of a header by the data root that it is to have: 1 where it has another one
