@@ -174,13 +174,15 @@ class Wide:
         low, high = ([bytes(it >> by & 255 for it in half) for half in (table, upper)] for by in (0, 8))
         return tuple(sum_of([text.translate(part) for text, part in zip(words, parts)]) for parts in (low, high))
 
-    def recovery(self, originals):
-        """The k recovery parts of k originals, each one share or as many side by side."""
+    def recovery(self, originals, wanted=None):
+        """The recovery parts of k originals, each one share or as many side by side: of these numbers, or all k."""
         places = {}
         for i, original in enumerate(originals):
             places.setdefault(original, []).append(i)
         parts = [(split(original), some) for original, some in places.items()]
-        for weights in self.weights():
+        for j, weights in enumerate(self.weights()):
+            if wanted and j not in wanted:
+                continue
             found = []
             for words, some in parts:
                 weight = 0
@@ -463,18 +465,27 @@ def words_of_tests(values):
         values.stands("docs/RULES.md", f"words of width {k}", f"| {k} | {at} | {words} |")
 
 
-# klauspost/reedsolomon 1.14.1, `New(k, k, WithLeopardGF(true))`: the SHA-256 of the recovery shares where share i is the values
-# of SHA-256 of the texts `share I PART`, PART from 0 to 15.
+# klauspost/reedsolomon 1.14.1, `New(k, k, WithLeopardGF(true))`: the SHA-256 of recovery shares 0, 1 and k - 1, where share i is
+# the values of SHA-256 of the texts `share I PART`, PART from 0 to 15.
 KLAUSPOST = {
-    256: "16ce87d6095369b379e9534e2c60913436c6defb4ca5423881d49920c5990108",
-    512: "a66aacd2e4bb2eb53680ea0530b623f0f1932b348e90bfc0d82842f4e3601935",
+    256: (
+        "83687d16ae6caab89444d4bc917d052dff614b2c40f489a2f1cea351dda6930a",
+        "f336e65b469505af284b4d7dd52b73160b6ff580a602db647f1a1618dd456287",
+        "4f0f86f33b592709acbe2cfb401bdfd130a7c5c334c148f14bd6d0d72f097027",
+    ),
+    512: (
+        "d28b6eda32179849443a0c8b321e387622d8e19b1fde6eae9dd1eb1127634403",
+        "0a9cbe36ca7a174f0dd9905fb2f895c27de46d97eaf14448d8892adc3d5960ef",
+        "4fb1077b3d7b12c111fd8b92b585735d0f71c843dd9f34c44c71d813d4a03d8a",
+    ),
 }
 
 
 def drawn_codewords(values):
     for k, want in KLAUSPOST.items():
         shares = [b"".join(sha256(f"share {i} {part}".encode()).digest() for part in range(16)) for i in range(k)]
-        values.same(f"recovery shares of width {k}", sha256(b"".join(Wide(k).recovery(shares))).hexdigest(), want)
+        found = Wide(k).recovery(shares, (0, 1, k - 1))
+        values.same(f"recovery shares of width {k}", tuple(sha256(share).hexdigest() for share in found), want)
 
 
 def same_share_row(values, k, path):
@@ -572,11 +583,11 @@ def main(words_given):
     draws_and_blocks(values)
     code_of_tests(values)
     words_of_tests(values)
+    drawn_codewords(values)
     wide_rows(values, 256)
     for k, path in ((256, "rows/header/of-one-share-in-width-256/row"), (256, "tools/wide_squares"), (512, "tools/wide_squares")):
         same_share_row(values, k, path)
     if is_wide:
-        drawn_codewords(values)
         wide_rows(values, 512)
         root = data_root(Wide(256).grid(laid(256, generated(7, 256))).roots()).hex()
         values.stands("rows/demo/7-in-width-256/stdout", "demo 7 256", f"root {root}")
