@@ -9,7 +9,6 @@ use Rattle.da_io.specs.Files.{Files}
 use Rattle.da_io.specs.declared.inputs.Ended.{Ended}
 use Rattle.da_cli.specs.declared.gathering.Stop.{Stop}
 use Rattle.da_cli.specs.declared.gathering.Stop.TheVariants.{PickFault, ReadFault, TooLong, NoMemory}
-use Rattle.da_cli.specs.Limits.{file_limit}
 use Rattle.da_cli.specs.Words.{words_of}
 use Rattle.da_io.specs.Faults.{count_on}
 use Rattle.da_io.specs.declared.inputs.Ended.TheVariants as ended
@@ -39,63 +38,63 @@ name_here words i word name h e same =
     word_here words i word h e ∙ ap (λ (l : List ℕ). l ∷ drop (i + 1) (words_of words)) (sym same)
 
 -- what is gathered from a name on
-from_here : (files : Files) (names : List (List ℕ)) (i : ℕ) (name : List ℕ) → drop i names ≡ name ∷ drop (i + 1) names
-    → gathered_from files i (drop i names) ≡ gathered_one i (files name) (gathered_from files (i + 1) (drop (i + 1) names))
+from_here : (limits : ℕ → ℕ) (files : Files) (names : List (List ℕ)) (i : ℕ) (name : List ℕ) → drop i names ≡ name ∷ drop (i + 1) names
+    → gathered_from limits files i (drop i names) ≡ gathered_one limits i (files name) (gathered_from limits files (i + 1) (drop (i + 1) names))
 unfolding gathered_from
-from_here files names i name here =
+from_here limits files names i name here =
     let next : suc i ≡ i + 1 = sym (add-one i) in
-    ap (gathered_from files i) here
-    ∙ ap (λ (j : ℕ). gathered_one i (files name) (gathered_from files j (drop (i + 1) names))) next
+    ap (gathered_from limits files i) here
+    ∙ ap (λ (j : ℕ). gathered_one limits i (files name) (gathered_from limits files j (drop (i + 1) names))) next
 
--- a file within the limit is gathered
-within : (i : ℕ) (content : List ℕ) (later : Gathered) → length content ≤ file_limit → gathered_one i (Some content) later ≡ after (content ∷ []) later
-within i content later h =
-    let e : nat_lt file_limit (length content) ≡ false = grind (arith, nat_tests) in
+-- a file within its limit is gathered
+within : (limits : ℕ → ℕ) (i : ℕ) (content : List ℕ) (later : Gathered) → length content ≤ limits i → gathered_one limits i (Some content) later ≡ after (content ∷ []) later
+within limits i content later h =
+    let e : nat_lt (limits i) (length content) ≡ false = grind (arith, nat_tests) in
     ap (λ (b : Bool). cond b (long i) (after (content ∷ []) later)) e
 
--- a file beyond the limit ends what is gathered
-beyond : (i : ℕ) (content : List ℕ) (later : Gathered) → file_limit < length content → gathered_one i (Some content) later ≡ long i
-beyond i content later h =
-    let e : nat_lt file_limit (length content) ≡ true = grind (arith, nat_tests) in
+-- a file beyond its limit ends what is gathered
+beyond : (limits : ℕ → ℕ) (i : ℕ) (content : List ℕ) (later : Gathered) → limits i < length content → gathered_one limits i (Some content) later ≡ long i
+beyond limits i content later h =
+    let e : nat_lt (limits i) (length content) ≡ true = grind (arith, nat_tests) in
     ap (λ (b : Bool). cond b (long i) (after (content ∷ []) later)) e
 
 -- one more file was read whole
-pub come_on : (told : Option Files) (names : List (List ℕ)) (i : ℕ) (contents : List (List ℕ)) (name content : List ℕ)
-    → Gathers told names i (Ok contents) → drop i names ≡ name ∷ drop (i + 1) names → ReadsFile told name (Ok content)
-    → Gathers told names (i + 1) (Ok (contents ++ content ∷ []))
-come_on None names i contents name content come here read = tt
-come_on (Some files) names i contents name content come here read =
-    let later = gathered_from files (i + 1) (drop (i + 1) names) in
-    let next : gathered_from files i (drop i names) ≡ after (content ∷ []) later =
-    from_here files names i name here ∙ ap (λ (o : Option (List ℕ)). gathered_one i o later) read.0 ∙ within i content later read.1 in
+pub come_on : (limits : ℕ → ℕ) (told : Option Files) (names : List (List ℕ)) (i : ℕ) (contents : List (List ℕ)) (name content : List ℕ)
+    → Gathers limits told names i (Ok contents) → drop i names ≡ name ∷ drop (i + 1) names → ReadsFile (limits i) told name (Ok content)
+    → Gathers limits told names (i + 1) (Ok (contents ++ content ∷ []))
+come_on limits None names i contents name content come here read = tt
+come_on limits (Some files) names i contents name content come here read =
+    let later = gathered_from limits files (i + 1) (drop (i + 1) names) in
+    let next : gathered_from limits files i (drop i names) ≡ after (content ∷ []) later =
+    from_here limits files names i name here ∙ ap (λ (o : Option (List ℕ)). gathered_one limits i o later) read.0 ∙ within limits i content later read.1 in
     come ∙ ap (after contents) next ∙ after-after contents content later
 
 -- the files of all names hold these contents, where files are told
-abbrev pub AllGathered : Option Files → List (List ℕ) → List (List ℕ) → Type 0
-AllGathered None names contents = ⊤
-AllGathered (Some files) names contents = gathered files names ≡ whole contents
+abbrev pub AllGathered : (ℕ → ℕ) → Option Files → List (List ℕ) → List (List ℕ) → Type 0
+AllGathered limits None names contents = ⊤
+AllGathered limits (Some files) names contents = gathered limits files names ≡ whole contents
 
 -- all were read
-pub all_gathered : (told : Option Files) (names : List (List ℕ)) (count : ℕ) (contents : List (List ℕ))
-    → Gathers told names count (Ok contents) → length names ≤ count → AllGathered told names contents
+pub all_gathered : (limits : ℕ → ℕ) (told : Option Files) (names : List (List ℕ)) (count : ℕ) (contents : List (List ℕ))
+    → Gathers limits told names count (Ok contents) → length names ≤ count → AllGathered limits told names contents
 unfolding gathered_from
-all_gathered None names count contents come h = tt
-all_gathered (Some files) names count contents come h =
+all_gathered limits None names count contents come h = tt
+all_gathered limits (Some files) names count contents come h =
     let none : drop count names ≡ [] = grind (arith, common_steps) in
-    come ∙ ap (λ (ns : List (List ℕ)). after contents (gathered_from files count ns)) none ∙ ap whole (append-nil contents)
+    come ∙ ap (λ (ns : List (List ℕ)). after contents (gathered_from limits files count ns)) none ∙ ap whole (append-nil contents)
 
 -- file i was not read whole
-pub stop_here : (told : Option Files) (names : List (List ℕ)) (i count : ℕ) (contents : List (List ℕ)) (name : List ℕ) (last : Ended) (given : ℕ) (stop : Stop)
-    → Gathers told names i (Ok contents) → drop i names ≡ name ∷ drop (i + 1) names → ReadsFile told name (Err stop)
-    → StopsFile i last given stop → Gathers told names count (Err stop)
-stop_here None names i count contents name last given stop come here read why = tt
-stop_here (Some files) names i count contents name last given (PickFault j) come here read why = tt
-stop_here (Some files) names i count contents name last given (ReadFault j) come here read why = tt
-stop_here (Some files) names i count contents name last given NoMemory come here read why = tt
-stop_here (Some files) names i count contents name last given (TooLong j) come here read why =
-    let later = gathered_from files (i + 1) (drop (i + 1) names) in
-    let next : gathered_from files i (drop i names) ≡ long i =
-    from_here files names i name here ∙ ap (λ (o : Option (List ℕ)). gathered_one i o later) read.1 ∙ beyond i read.0 later read.2 in
+pub stop_here : (limits : ℕ → ℕ) (told : Option Files) (names : List (List ℕ)) (i count : ℕ) (contents : List (List ℕ)) (name : List ℕ) (last : Ended) (given : ℕ) (stop : Stop)
+    → Gathers limits told names i (Ok contents) → drop i names ≡ name ∷ drop (i + 1) names → ReadsFile (limits i) told name (Err stop)
+    → StopsFile (limits i) i last given stop → Gathers limits told names count (Err stop)
+stop_here limits None names i count contents name last given stop come here read why = tt
+stop_here limits (Some files) names i count contents name last given (PickFault j) come here read why = tt
+stop_here limits (Some files) names i count contents name last given (ReadFault j) come here read why = tt
+stop_here limits (Some files) names i count contents name last given NoMemory come here read why = tt
+stop_here limits (Some files) names i count contents name last given (TooLong j) come here read why =
+    let later = gathered_from limits files (i + 1) (drop (i + 1) names) in
+    let next : gathered_from limits files i (drop i names) ≡ long i =
+    from_here limits files names i name here ∙ ap (λ (o : Option (List ℕ)). gathered_one limits i o later) read.1 ∙ beyond limits i read.0 later read.2 in
     come ∙ ap (after contents) next ∙ ap long (sym why.0)
 
 -- the name at a place
@@ -107,19 +106,19 @@ name_at (n ∷ names) zero name later e = (omega arith, cc)
 name_at (n ∷ names) (suc i) name later e = let rest = name_at names i name later e in (omega (arith, rest.0), rest.1)
 
 -- the file that stopped it is the one with its number
-pub stop_in : (told : Option Files) (names : List (List ℕ)) (i : ℕ) (name : List ℕ) (picked : Option (List ℕ)) (last : Ended) (given : ℕ) (stop : Stop)
-    → drop i names ≡ name ∷ drop (i + 1) names → AllRead told names i → picked ≡ Some name → StopsFile i last given stop
-    → StopsIn told names picked last given stop
-stop_in told names i name picked last given (PickFault j) here all named why =
+pub stop_in : (limits : ℕ → ℕ) (told : Option Files) (names : List (List ℕ)) (i : ℕ) (name : List ℕ) (picked : Option (List ℕ)) (last : Ended) (given : ℕ) (stop : Stop)
+    → drop i names ≡ name ∷ drop (i + 1) names → AllRead limits told names i → picked ≡ Some name → StopsFile (limits i) i last given stop
+    → StopsIn limits told names picked last given stop
+stop_in limits told names i name picked last given (PickFault j) here all named why =
     let word = subst (IsWord names i) (sym named) (name_at names i name (drop (i + 1) names) here) in
-    (why.1, subst (λ (n : ℕ). IsWord names n picked) (sym why.0) word, subst (AllRead told names) (sym why.0) all)
-stop_in told names i name picked last given (ReadFault j) here all named why =
+    (why.1, subst (λ (n : ℕ). IsWord names n picked) (sym why.0) word, subst (AllRead limits told names) (sym why.0) all)
+stop_in limits told names i name picked last given (ReadFault j) here all named why =
     let word = subst (IsWord names i) (sym named) (name_at names i name (drop (i + 1) names) here) in
-    (why.1, subst (λ (n : ℕ). IsWord names n picked) (sym why.0) word, subst (AllRead told names) (sym why.0) all)
-stop_in told names i name picked last given (TooLong j) here all named why =
+    (why.1, subst (λ (n : ℕ). IsWord names n picked) (sym why.0) word, subst (AllRead limits told names) (sym why.0) all)
+stop_in limits told names i name picked last given (TooLong j) here all named why =
     let word = subst (IsWord names i) (sym named) (name_at names i name (drop (i + 1) names) here) in
-    (why.1, subst (λ (n : ℕ). IsWord names n picked) (sym why.0) word, subst (AllRead told names) (sym why.0) all)
-stop_in told names i name picked last given NoMemory here all named why = tt
+    (subst (λ (n : ℕ). limits n < given) (sym why.0) why.1, subst (λ (n : ℕ). IsWord names n picked) (sym why.0) word, subst (AllRead limits told names) (sym why.0) all)
+stop_in limits told names i name picked last given NoMemory here all named why = tt
 
 -- the name at a place was picked last
 pub last_on : (names : List (List ℕ)) (i : ℕ) (name : List ℕ) (picked : Option (List ℕ)) (last : Ended) → drop i names ≡ name ∷ drop (i + 1) names
@@ -129,12 +128,12 @@ last_on names i name picked last here named fine =
     λ some. (subst (λ (j : ℕ). IsWord names j picked) same (subst (IsWord names i) (sym named) (name_at names i name (drop (i + 1) names) here)), fine)
 
 -- how many files were picked when file i was not read whole
-pub stop_picks : (i before now count : ℕ) (last : Ended) (given : ℕ) (stop : Stop) → i < count → StopsFile i last given stop
+pub stop_picks : (limit i before now count : ℕ) (last : Ended) (given : ℕ) (stop : Stop) → i < count → StopsFile limit i last given stop
     → now ≡ count_on before (i + 1) → PicksIn {T = List (List ℕ)} before now count (Err stop)
-stop_picks i before now count last given (PickFault j) h why e = e ∙ ap (λ (k : ℕ). count_on before (k + 1)) (sym why.0)
-stop_picks i before now count last given (ReadFault j) h why e = e ∙ ap (λ (k : ℕ). count_on before (k + 1)) (sym why.0)
-stop_picks i before now count last given (TooLong j) h why e = e ∙ ap (λ (k : ℕ). count_on before (k + 1)) (sym why.0)
-stop_picks i before now count last given NoMemory h why e = (i + 1, omega arith, e)
+stop_picks limit i before now count last given (PickFault j) h why e = e ∙ ap (λ (k : ℕ). count_on before (k + 1)) (sym why.0)
+stop_picks limit i before now count last given (ReadFault j) h why e = e ∙ ap (λ (k : ℕ). count_on before (k + 1)) (sym why.0)
+stop_picks limit i before now count last given (TooLong j) h why e = e ∙ ap (λ (k : ℕ). count_on before (k + 1)) (sym why.0)
+stop_picks limit i before now count last given NoMemory h why e = (i + 1, omega arith, e)
 
 -- a number below the next one is below this one or is it
 below : (j i : ℕ) → j < i + 1 → (j < i) ⊎ (j ≡ i)
@@ -143,16 +142,16 @@ below zero (suc i) h = inl (omega arith)
 below (suc j) zero h = absurd (omega arith)
 below (suc j) (suc i) h = ⊎_elim (λ (lt : j < i). inl (omega arith)) (λ (same : j ≡ i). inr (ap suc same)) (below j i (omega arith))
 
--- one more file is there and within the limit
-pub all_read_on : (told : Option Files) (names : List (List ℕ)) (i : ℕ) (name content : List ℕ)
-    → AllRead told names i → drop i names ≡ name ∷ drop (i + 1) names → ReadsFile told name (Ok content) → AllRead told names (i + 1)
-all_read_on None names i name content before here read = tt
-all_read_on (Some files) names i name content before here read = λ j hj.
+-- one more file is there and within its limit
+pub all_read_on : (limits : ℕ → ℕ) (told : Option Files) (names : List (List ℕ)) (i : ℕ) (name content : List ℕ)
+    → AllRead limits told names i → drop i names ≡ name ∷ drop (i + 1) names → ReadsFile (limits i) told name (Ok content) → AllRead limits told names (i + 1)
+all_read_on limits None names i name content before here read = tt
+all_read_on limits (Some files) names i name content before here read = λ j hj.
     ⊎_elim
     (λ (lt : j < i). before j lt)
     (λ (same : j ≡ i).
     let named : file_of names j ≡ name = ap (file_of names) same ∙ (name_at names i name (drop (i + 1) names) here).1 in
-    (content, ap files named ∙ read.0, read.1))
+    (content, ap files named ∙ read.0, subst (λ (n : ℕ). length content ≤ limits n) (sym same) read.1))
     (below j i hj)
 
 -- the contents of one more file

@@ -1,5 +1,5 @@
 -- How a run ended, from how its files were read and how its command ended.
-use Rattle.std.proofs.Common.{◌≡◌, ◌∙◌, ℕ, zero, suc, ◌+◌, ◌-◌, ◌<◌, ◌≤◌, List, String, Global, length, take, drop, None, Some, Ok, Err, refl, sym, ap, subst, arith, inl, inr, ◌⊎◌}
+use Rattle.std.proofs.Common.{◌≡◌, ◌∙◌, ℕ, zero, suc, ◌+◌, ◌-◌, ◌<◌, ◌≤◌, List, String, Global, length, take, drop, None, Some, Result, Ok, Err, refl, sym, ap, subst, arith, inl, inr, ◌⊎◌}
 use Rattle.std.specs.declared.option.Option.{Option}
 use Rattle.da_io.specs.Faults.{count_on}
 use Rattle.da_io.specs.Files.{Files}
@@ -11,10 +11,10 @@ use Rattle.da_cli.specs.declared.gathering.Stop.TheVariants as stop
 use Rattle.da_status.specs.declared.status.Status.{Status}
 use Rattle.da_status.specs.declared.status.Status.TheVariants.{Usage, PickFault, ReadFault, TooLong}
 use Rattle.da_cli.specs.declared.words.Call.{Call}
-use Rattle.da_cli.specs.Limits.{file_limit}
+use Rattle.da_cli.specs.Limits.{limits_for, limits_in, limits_of}
 use Rattle.da_cli.specs.Words.{words_of, call_of, names_of}
 use Rattle.da_status.specs.Statuses.{kind_of, Reading, unread, failed, exceeded, begun, finished, row_of, counted_reading, input_count, output_count}
-use Rattle.da_cli.specs.Gathered.{IsWord, IsLastOf, PicksIn, StopsIn, WithinLimit, count_after}
+use Rattle.da_cli.specs.Gathered.{IsWord, IsLastOf, PicksIn, StopsIn, IsWithin, WithinLimits, count_after}
 use Rattle.da_cli.specs.Causes.{FaultCause, GivenReading, ExcessCause, IfFinished, LastBy, PicksReading, PickCount}
 use Rattle.da_status.specs.Outcome.{Untouched, IsOwn, IsOwnBy, Ends}
 use Rattle.da_commands.specs.Meaning.{Meaning}
@@ -27,31 +27,36 @@ use Rattle.da_cli.proofs.RunLemmas.{command_told, stopped_told, names_same, file
 -- ---- a command's own status, which comes after all files were read
 
 -- a command's status names no failed pick or read
-fault_own : (told : Option Files) (names : List (List ℕ)) (picked : Option (List ℕ)) (last : Ended) (status : Status) → IsOwnBy (kind_of status)
-    → FaultCause told names picked last status
-fault_own told names picked last (PickFault i) own = absurd own
-fault_own told names picked last (ReadFault i) own = absurd own
-fault_own told names picked last status own = tt
+fault_own : (limits : ℕ → ℕ) (told : Option Files) (names : List (List ℕ)) (picked : Option (List ℕ)) (last : Ended) (status : Status) → IsOwnBy (kind_of status)
+    → FaultCause limits told names picked last status
+fault_own limits told names picked last (PickFault i) own = absurd own
+fault_own limits told names picked last (ReadFault i) own = absurd own
+fault_own limits told names picked last status own = tt
 
--- the file that was picked last gave no more than the limit, or there are no files
-few_or_idle : (n given : ℕ) (Idle : Type 0) → (0 < n → given ≤ file_limit) → (n ≡ 0 → Idle) → Idle ⊎ (given ≤ file_limit)
-few_or_idle zero given Idle few idle = inl (idle refl)
-few_or_idle (suc n) given Idle few idle = inr (few (omega arith))
+-- a fact of the last file, or there are no files
+some_or_idle : (n : ℕ) (Fact Idle : Type 0) → (0 < n → Fact) → (n ≡ 0 → Idle) → Idle ⊎ Fact
+some_or_idle zero Fact Idle fact idle = inl (idle refl)
+some_or_idle (suc n) Fact Idle fact idle = inr (fact (omega arith))
 
--- over files that were read the file picked last gave no more than the limit
-given_own : (r : Reading) (names : List (List ℕ)) (given : ℕ) (Idle : Type 0) → IsOwn r → (0 < length names → given ≤ file_limit)
-    → (length names ≡ 0 → Idle) → GivenReading r names given Idle
-given_own unread names given Idle own few idle = tt
-given_own failed names given Idle own few idle = absurd own
-given_own exceeded names given Idle own few idle = tt
-given_own begun names given Idle own few idle = few_or_idle (length names) given Idle few idle
-given_own finished names given Idle own few idle = few
+-- over files that were read the file picked last gave no more than its limit
+given_own : (limits : ℕ → ℕ) (r : Reading) (names : List (List ℕ)) (picked : Option (List ℕ)) (given : ℕ) (Idle : Type 0) → IsOwn r
+    → (0 < length names → IsWord names (length names - 1) picked) → (0 < length names → given ≤ limits (length names - 1))
+    → (length names ≡ 0 → Idle) → GivenReading limits r names picked given Idle
+given_own limits unread names picked given Idle own word few idle = tt
+given_own limits failed names picked given Idle own word few idle = absurd own
+given_own limits exceeded names picked given Idle own word few idle = tt
+given_own limits begun names picked given Idle own word few idle =
+    some_or_idle (length names) (IsWithin limits names picked given) Idle (λ some. (length names - 1, word some, few some)) idle
+given_own limits finished names picked given Idle own word few idle = few
 
 -- a command's status names no file that is too long
-excess_own : (told : Option Files) (names : List (List ℕ)) (picked : Option (List ℕ)) (given : ℕ) (Idle : Type 0) (status : Status) → IsOwnBy (kind_of status)
-    → (0 < length names → given ≤ file_limit) → (length names ≡ 0 → Idle) → ExcessCause told names picked given Idle status
-excess_own told names picked given Idle (TooLong i) own few idle = absurd own
-excess_own told names picked given Idle status own few idle = given_own (row_of (kind_of status)).reading names given Idle own few idle
+excess_own : (limits : ℕ → ℕ) (told : Option Files) (names : List (List ℕ)) (picked : Option (List ℕ)) (given : ℕ) (Idle : Type 0) (status : Status) → IsOwnBy (kind_of status)
+    → (0 < length names → IsWord names (length names - 1) picked) → (0 < length names → given ≤ limits (length names - 1)) → (length names ≡ 0 → Idle)
+    → ExcessCause limits told names picked given Idle status
+excess_own limits told names picked given Idle (TooLong i) own word few idle = absurd own
+excess_own limits told names picked given Idle (PickFault i) own word few idle = absurd own
+excess_own limits told names picked given Idle (ReadFault i) own word few idle = absurd own
+excess_own limits told names picked given Idle status own word few idle = given_own limits (row_of (kind_of status)).reading names picked given Idle own word few idle
 
 -- no failure of the inputs is counted
 input_own : (r : Reading) (before : ℕ) → IsOwn r → before ≡ counted_reading r before
@@ -101,31 +106,31 @@ stop_untouched Same (stop.TooLong i) same = same
 stop_untouched Same stop.NoMemory same = tt
 
 -- the failed pick or read that stopped the reading is the cause of the status
-stop_fault : (told : Option Files) (names : List (List ℕ)) (picked : Option (List ℕ)) (last : Ended) (given : ℕ) (stop : Stop)
-    → StopsIn told names picked last given stop → FaultCause told names picked last (status_of stop)
-stop_fault told names picked last given (stop.PickFault i) why = why
-stop_fault told names picked last given (stop.ReadFault i) why = why
-stop_fault told names picked last given (stop.TooLong i) why = tt
-stop_fault told names picked last given stop.NoMemory why = tt
+stop_fault : (limits : ℕ → ℕ) (told : Option Files) (names : List (List ℕ)) (picked : Option (List ℕ)) (last : Ended) (given : ℕ) (stop : Stop)
+    → StopsIn limits told names picked last given stop → FaultCause limits told names picked last (status_of stop)
+stop_fault limits told names picked last given (stop.PickFault i) why = why
+stop_fault limits told names picked last given (stop.ReadFault i) why = why
+stop_fault limits told names picked last given (stop.TooLong i) why = tt
+stop_fault limits told names picked last given stop.NoMemory why = tt
 
 -- a named file is one of the names
 some_names : (names : List (List ℕ)) (i : ℕ) (picked : Option (List ℕ)) → IsWord names i picked → 0 < length names
 some_names names i None word = absurd word
 some_names names i (Some name) word = omega (arith, word.0)
 
--- where memory ran out the file picked last gave no more than the limit, or there are no files
-memory_given : (n given : ℕ) (Idle : Type 0) → (0 < n → Idle ⊎ (given ≤ file_limit)) → (n ≡ 0 → Idle) → Idle ⊎ (given ≤ file_limit)
-memory_given zero given Idle few idle = inl (idle refl)
-memory_given (suc n) given Idle few idle = few (omega arith)
+-- where memory ran out a fact holds of the file picked last, or there are no files
+memory_given : (n : ℕ) (Fact Idle : Type 0) → (0 < n → Idle ⊎ Fact) → (n ≡ 0 → Idle) → Idle ⊎ Fact
+memory_given zero Fact Idle few idle = inl (idle refl)
+memory_given (suc n) Fact Idle few idle = few (omega arith)
 
 -- the file that was too long is the cause of the status; with another one no file was
-stop_excess : (told : Option Files) (names : List (List ℕ)) (picked : Option (List ℕ)) (last : Ended) (given : ℕ) (Idle : Type 0) (stop : Stop)
-    → StopsIn told names picked last given stop → (0 < length names → WithinLimit {T = List (List ℕ)} given Idle (Err stop))
-    → (length names ≡ 0 → Idle) → ExcessCause told names picked given Idle (status_of stop)
-stop_excess told names picked last given Idle (stop.PickFault i) why few idle = few (some_names names i picked why.1)
-stop_excess told names picked last given Idle (stop.ReadFault i) why few idle = few (some_names names i picked why.1)
-stop_excess told names picked last given Idle (stop.TooLong i) why few idle = why
-stop_excess told names picked last given Idle stop.NoMemory why few idle = memory_given (length names) given Idle few idle
+stop_excess : (limits : ℕ → ℕ) (told : Option Files) (names : List (List ℕ)) (count : ℕ) (picked : Option (List ℕ)) (last : Ended) (given : ℕ) (Idle : Type 0) (stop : Stop)
+    → StopsIn limits told names picked last given stop → (0 < length names → WithinLimits limits names count picked given Idle (Err stop))
+    → (length names ≡ 0 → Idle) → ExcessCause limits told names picked given Idle (status_of stop)
+stop_excess limits told names count picked last given Idle (stop.PickFault i) why few idle = few (some_names names i picked why.1)
+stop_excess limits told names count picked last given Idle (stop.ReadFault i) why few idle = few (some_names names i picked why.1)
+stop_excess limits told names count picked last given Idle (stop.TooLong i) why few idle = why
+stop_excess limits told names count picked last given Idle stop.NoMemory why few idle = memory_given (length names) (IsWithin limits names picked given) Idle few idle
 
 -- the failure that stopped the reading is counted
 stop_inputs : (stop : Stop) (before : ℕ) → count_after {T = List (List ℕ)} before (Err stop) ≡ input_count (kind_of (status_of stop)) before
@@ -160,18 +165,20 @@ stop_last Last stop.NoMemory = tt
 module _ {I O : Type 0} (i : inputs.Ghosts I) (o : sink.Ghosts O) where
   -- a command ended so, over its files, which were read
   ran_command : (words : List (List ℕ)) (call : Call) (contents : List (List ℕ)) (before now : I) (old new : O) (status : Status)
-      → call_of words ≡ Some call → call.files ≡ length (names_of words) → HasGathered i (names_of words) call.files before now (Ok contents)
+      → call_of words ≡ Some call → call.files ≡ length (names_of words) → HasGathered i (limits_of words) (names_of words) call.files before now (Ok contents)
       → Ends (Meaning call.command contents) (o.taken old) (o.taken new) (o.faults old) (o.faults new) (new ≡ old) status
       → Ran i o words before now old new status
   ran_command words call contents before now old new status e count came ends = record {
     meaning = command_told (i.files before) words call contents (o.taken old) (o.taken new) status e
-        (all_gathered (i.files before) (names_of words) call.files contents came.contents (omega (arith, count))) ends.leaves;
+        (all_gathered (limits_of words) (i.files before) (names_of words) call.files contents came.contents (omega (arith, count))) ends.leaves;
     usage = (λ u. absurd (subst (λ (s : Status). IsOwnBy (kind_of s)) u ends.own), λ none. absurd cc);
     idle = (λ none. came.idle (count ∙ ap length none));
     untouched = ends.untouched;
-    fault = fault_own (i.files before) (names_of words) (i.picked now) (i.ended now) status ends.own;
-    excess = excess_own (i.files before) (names_of words) (i.picked now) (i.given now) (now ≡ before) status ends.own
-        (λ some. came.within (subst (λ (n : ℕ). 0 < n) (sym count) some)) (λ none. came.idle (count ∙ none));
+    fault = fault_own (limits_of words) (i.files before) (names_of words) (i.picked now) (i.ended now) status ends.own;
+    excess = excess_own (limits_of words) (i.files before) (names_of words) (i.picked now) (i.given now) (now ≡ before) status ends.own
+        (λ some. (subst (λ (n : ℕ). IsLastOf (names_of words) n (i.picked now) (i.ended now)) count came.last some).0)
+        (λ some. subst (λ (n : ℕ). i.given now ≤ limits_of words (n - 1)) count (came.within (subst (λ (n : ℕ). 0 < n) (sym count) some)))
+        (λ none. came.idle (count ∙ none));
     input_faults = came.faults ∙ input_own (row_of (kind_of status)).reading (i.faults before) ends.own;
     output_faults = ends.faults;
     picks = picks_own (length (names_of words)) (i.picks before) (i.picks now) status ends.own
@@ -183,15 +190,15 @@ module _ {I O : Type 0} (i : inputs.Ghosts I) (o : sink.Ghosts O) where
 
   -- a command's files were not read whole
   ran_stopped : (words : List (List ℕ)) (call : Call) (before now : I) (out : O) (stop : Stop)
-      → call_of words ≡ Some call → call.files ≡ length (names_of words) → HasGathered i (names_of words) call.files before now (Err stop)
+      → call_of words ≡ Some call → call.files ≡ length (names_of words) → HasGathered i (limits_of words) (names_of words) call.files before now (Err stop)
       → Ran i o words before now out out (status_of stop)
   ran_stopped words call before now out stop e count came = record {
     meaning = stopped_told (i.files before) words call call.files (o.taken out) stop e came.contents;
     usage = (λ u. absurd (stop_usage stop u), λ none. absurd cc);
     idle = (λ none. came.idle (count ∙ ap length none));
     untouched = stop_untouched (out ≡ out) stop refl;
-    fault = stop_fault (i.files before) (names_of words) (i.picked now) (i.ended now) (i.given now) stop came.stop;
-    excess = stop_excess (i.files before) (names_of words) (i.picked now) (i.ended now) (i.given now) (now ≡ before) stop came.stop
+    fault = stop_fault (limits_of words) (i.files before) (names_of words) (i.picked now) (i.ended now) (i.given now) stop came.stop;
+    excess = stop_excess (limits_of words) (i.files before) (names_of words) call.files (i.picked now) (i.ended now) (i.given now) (now ≡ before) stop came.stop
         (λ some. came.within (subst (λ (n : ℕ). 0 < n) (sym count) some)) (λ none. came.idle (count ∙ none));
     input_faults = came.faults ∙ stop_inputs stop (i.faults before);
     output_faults = stop_outputs stop (o.faults out);
@@ -202,21 +209,30 @@ module _ {I O : Type 0} (i : inputs.Ghosts I) (o : sink.Ghosts O) where
     told = (λ s. s, λ s. s);
   }
 
+  -- files that were read by the words behind a command's own, with its limits
+  of_words : (words : List (String Global)) (call : Call) (limits : ℕ → ℕ) (before now : I) (r : Result (List (List ℕ)) Stop)
+      → Some call ≡ call_of (words_of words) → limits ≡ limits_for call.command
+      → HasGathered i limits (words_of (take (1 + call.files - 1) (drop 1 words))) call.files before now r
+      → HasGathered i (limits_of (words_of words)) (names_of (words_of words)) call.files before now r
+  of_words words call limits before now r e own came =
+      subst (λ (l : ℕ → ℕ). HasGathered i l (names_of (words_of words)) call.files before now r) (own ∙ ap limits_in e)
+      (subst (λ (names : List (List ℕ)). HasGathered i limits names call.files before now r) (names_same words call e) came)
+
   -- a command ended so, over the files that were read by the words behind its own
-  pub ran_over : (words : List (String Global)) (call : Call) (contents : List (List ℕ)) (before now : I) (old new : O) (status : Status)
-      → Some call ≡ call_of (words_of words) → call.files < length words
-      → HasGathered i (words_of (take (1 + call.files - 1) (drop 1 words))) call.files before now (Ok contents)
+  pub ran_over : (words : List (String Global)) (call : Call) (limits : ℕ → ℕ) (contents : List (List ℕ)) (before now : I) (old new : O) (status : Status)
+      → Some call ≡ call_of (words_of words) → call.files < length words → limits ≡ limits_for call.command
+      → HasGathered i limits (words_of (take (1 + call.files - 1) (drop 1 words))) call.files before now (Ok contents)
       → Ends (Meaning call.command contents) (o.taken old) (o.taken new) (o.faults old) (o.faults new) (new ≡ old) status
       → Ran i o (words_of words) before now old new status
-  ran_over words call contents before now old new status e few came ends =
+  ran_over words call limits contents before now old new status e few own came ends =
       ran_command (words_of words) call contents before now old new status (sym e) (files_count words call e few)
-      (subst (λ (names : List (List ℕ)). HasGathered i names call.files before now (Ok contents)) (names_same words call e) came) ends
+      (of_words words call limits before now (Ok contents) e own came) ends
 
   -- the files of the words behind a command's own were not read whole
-  pub ran_up_to : (words : List (String Global)) (call : Call) (before now : I) (out : O) (stop : Stop)
-      → Some call ≡ call_of (words_of words) → call.files < length words
-      → HasGathered i (words_of (take (1 + call.files - 1) (drop 1 words))) call.files before now (Err stop)
+  pub ran_up_to : (words : List (String Global)) (call : Call) (limits : ℕ → ℕ) (before now : I) (out : O) (stop : Stop)
+      → Some call ≡ call_of (words_of words) → call.files < length words → limits ≡ limits_for call.command
+      → HasGathered i limits (words_of (take (1 + call.files - 1) (drop 1 words))) call.files before now (Err stop)
       → Ran i o (words_of words) before now out out (status_of stop)
-  ran_up_to words call before now out stop e few came =
+  ran_up_to words call limits before now out stop e few own came =
       ran_stopped (words_of words) call before now out stop (sym e) (files_count words call e few)
-      (subst (λ (names : List (List ℕ)). HasGathered i names call.files before now (Err stop)) (names_same words call e) came)
+      (of_words words call limits before now (Err stop) e own came)

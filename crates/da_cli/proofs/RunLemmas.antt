@@ -1,5 +1,5 @@
 -- A whole run: what words, files, output and status belong together.
-use Rattle.std.proofs.Common.{◌≡◌, ℕ, Bool, true, false, ◌+◌, ◌-◌, ◌<◌, List, [], length, take, drop, None, Some, Err, String, Global, refl, inl, sym, ap, ◌∙◌, subst, arith, ◌↔◌}
+use Rattle.std.proofs.Common.{◌≡◌, ℕ, Bool, true, false, ◌+◌, ◌-◌, ◌<◌, List, [], length, take, drop, None, Some, Err, String, Global, refl, inl, sym, ap, ap₂, ◌∙◌, subst, arith, ◌↔◌}
 use Rattle.std.specs.Prelude.{MatchOption}
 use Rattle.std.specs.declared.option.Option.{Option}
 use Rattle.std.specs.String.{string_bytes}
@@ -8,11 +8,13 @@ use Rattle.std.proofs.KnownBytes.{Appends-nil}
 use Rattle.std.proofs.lemmas.List.{take-map, drop-map, length-map}
 use Rattle.da_io.specs.Files.{Files}
 use Rattle.da_commands.specs.declared.command.Command.{Command}
+use Rattle.da_commands.specs.declared.command.Command.TheVariants.{Repair}
 use Rattle.da_cli.specs.declared.words.Call.{Call}
 use Rattle.da_status.specs.declared.status.Status.{Status}
 use Rattle.da_status.specs.declared.status.Status.TheVariants.{BadInput, TooLong}
 use Rattle.da_status.specs.Statuses.{Kind, usage, fault, excess, form, request, memory, write, output, kind_of, row_of, May, IsDecided}
 use Rattle.da_cli.specs.Words.{words_of, call_of, file_words, names_in, names_of}
+use Rattle.da_cli.specs.Limits.{file_limits, limits_for, limits_in, limits_of}
 use Rattle.da_cli.specs.Gathered.{Gathered, whole, long, absent, gathered, Gathers}
 use Rattle.da_cli.specs.declared.gathering.Stop.{Stop}
 use Rattle.da_cli.specs.declared.gathering.Stop.TheVariants as stop
@@ -25,33 +27,41 @@ use Rattle.da_cli.proofs.GatheredLemmas.{AllGathered}
 use Rattle.da_status.proofs.EndLemmas.{IsAnswer}
 use Rattle.da_commands.proofs.MeaningLemmas.{answer_last}
 
+-- a command that keeps its files has one limit for all
+pub kept_limits : (command : Command) → (command ≡ Repair → ⊥) → file_limits ≡ limits_for command
+kept_limits Repair kept = absurd (kept refl)
+kept_limits command kept = refl
+
 -- the relation of words that are a command
 run_of_call : (words : List (List ℕ)) (call : Call) (files : Files) (g : Gathered) → call_of words ≡ Some call
-    → gathered files (file_words call.files words) ≡ g → RunOf files words ≡ CommandOf call.command g
+    → gathered (limits_for call.command) files (file_words call.files words) ≡ g → RunOf files words ≡ CommandOf call.command g
 run_of_call words call files g e read =
     ap (λ (o : Option Call). CallOf o files words) e ∙ ap (CommandOf call.command) read
 
 -- a command over files that were read whole
 pub command_told : (told : Option Files) (words : List (List ℕ)) (call : Call) (contents : List (List ℕ)) (old new : Option (List ℕ)) (status : Status)
-    → call_of words ≡ Some call → AllGathered told (names_of words) contents → Leaves (Meaning call.command contents) old new status
+    → call_of words ≡ Some call → AllGathered (limits_of words) told (names_of words) contents → Leaves (Meaning call.command contents) old new status
     → LeavesTold told words old new status
 command_told None words call contents old new status e all leaves = tt
 command_told (Some files) words call contents old new status e all leaves =
     let named : names_of words ≡ file_words call.files words = ap (λ (o : Option Call). names_in o words) e in
+    let limits : limits_of words ≡ limits_for call.command = ap limits_in e in
     let same : RunOf files words ≡ Meaning call.command contents =
-    run_of_call words call files (whole contents) e (ap (gathered files) (sym named) ∙ all) in
+    run_of_call words call files (whole contents) e (ap₂ (λ (l : ℕ → ℕ) (names : List (List ℕ)). gathered l files names) (sym limits) (sym named) ∙ all) in
     subst (λ (M : Relation). Leaves M old new status) (sym same) leaves
 
 -- files that were not read whole
 pub stopped_told : (told : Option Files) (words : List (List ℕ)) (call : Call) (count : ℕ) (old : Option (List ℕ)) (stop : Stop)
-    → call_of words ≡ Some call → Gathers told (names_of words) count (Err stop) → LeavesTold told words old old (status_of stop)
+    → call_of words ≡ Some call → Gathers (limits_of words) told (names_of words) count (Err stop) → LeavesTold told words old old (status_of stop)
 stopped_told None words call count old stop e read = tt
 stopped_told (Some files) words call count old (stop.PickFault i) e read = tt
 stopped_told (Some files) words call count old (stop.ReadFault i) e read = tt
 stopped_told (Some files) words call count old stop.NoMemory e read = ([], Appends-nil old, inl refl)
 stopped_told (Some files) words call count old (stop.TooLong i) e read =
     let named : names_of words ≡ file_words call.files words = ap (λ (o : Option Call). names_in o words) e in
-    let same : RunOf files words ≡ Refuses (TooLong i) = run_of_call words call files (long i) e (ap (gathered files) (sym named) ∙ read) in
+    let limits : limits_of words ≡ limits_for call.command = ap limits_in e in
+    let same : RunOf files words ≡ Refuses (TooLong i) =
+    run_of_call words call files (long i) e (ap₂ (λ (l : ℕ → ℕ) (names : List (List ℕ)). gathered l files names) (sym limits) (sym named) ∙ read) in
     subst (λ (M : Relation). Outputs M old old (TooLong i)) (sym same) ([], (refl, refl), Appends-nil old)
 
 -- the names of the files, as a slice of the words gives them
@@ -88,7 +98,7 @@ as_one M N w status e = (
 
 -- over files in their forms the words' relation is the command's answer
 run_in_form : (files : Files) (words : List (List ℕ)) (call : Call) (contents : List (List ℕ)) → call_of words ≡ Some call
-    → gathered files (file_words call.files words) ≡ whole contents → first_bad 0 (judged_of call.command contents) ≡ None
+    → gathered (limits_for call.command) files (file_words call.files words) ≡ whole contents → first_bad 0 (judged_of call.command contents) ≡ None
     → RunOf files words ≡ AnswerOf call.command contents
 run_in_form files words call contents e read fine =
     run_of_call words call files (whole contents) e read ∙ judged_is (judged_of call.command contents) (AnswerOf call.command contents) None fine
@@ -138,7 +148,7 @@ by_gathered (absent i) command w status h = absurd h
 -- what words come to is decided by words and files
 by_call : (o : Option Call) (files : Files) (words : List (List ℕ)) (w : List ℕ) (status : Status) → CallOf o files words w status → IsDecided (kind_of status)
 by_call None files words w status h = decided status usage (ap kind_of h.1) tt
-by_call (Some call) files words w status h = by_gathered (gathered files (file_words call.files words)) call.command w status h
+by_call (Some call) files words w status h = by_gathered (gathered (limits_for call.command) files (file_words call.files words)) call.command w status h
 
 -- neither a failure nor out of memory belongs to a run
 pub failure_law : FailureLaw

@@ -14,6 +14,7 @@ use Rattle.da_status.specs.declared.status.Status.TheVariants.{BadInput}
 use Rattle.da_commands.specs.declared.command.Command.TheVariants.{Repair}
 use Rattle.da_files.specs.Contents.{file_of}
 use Rattle.da_status.specs.Outcome.{Refuses, EndsAtOnce}
+use Rattle.da_cli.specs.Limits.{file_limit, repair_limits}
 use Rattle.da_cli.specs.Streamed.{IsRead, HasCome}
 use Rattle.da_files.specs.Frames.{header_in}
 use Rattle.da_judging.specs.Repair.{Repairs}
@@ -66,25 +67,25 @@ module _ {I O : Type 0} (i : inputs.Ghosts I) (o : sink.Ghosts O) where
   second_of name text h before now old new (Err why) read file = (inl file.0, file.1)
 
   -- both files, of which the first was read whole
-  pub stream_second : (names : List (List ℕ)) (name text : List ℕ) (before mid now : I) (old new : O) (r : Result Status Stop) → HasCome i names 1 before mid (Ok (text ∷ []))
+  pub stream_second : (names : List (List ℕ)) (name text : List ℕ) (before mid now : I) (old new : O) (r : Result Status Stop) → HasCome i repair_limits names 1 before mid (Ok (text ∷ []))
       → drop 1 names ≡ name ∷ drop 2 names → StreamsSecond i o name text mid now old new r → Streams i o names before now old new r
   stream_second names name text before mid now old new (Ok status) come here second =
-      (text ∷ second.0 ∷ [], come_file i names 1 before mid now (text ∷ []) name second.0 come here second.1, second.2)
+      (text ∷ second.0 ∷ [], come_file i repair_limits names 1 before mid now (text ∷ []) name second.0 come here second.1, second.2)
   stream_second names name text before mid now old new (Err why) come here (inl read, same) =
-      (stop_file i names 1 2 before mid now (text ∷ []) name why (omega arith) come here read, same)
+      (stop_file i repair_limits names 1 2 before mid now (text ∷ []) name why (omega arith) come here read, same)
   stream_second names name text before mid now old new (Err why) come here (inr out, same) = (
-    subst (λ (s : Stop). HasCome i names 2 before now (Err s)) (sym out.0)
-        (subst (λ (x : I). HasCome i names 2 before x (Err stop.NoMemory)) (sym out.1) (come_memory i names 1 2 before mid (text ∷ []) (omega arith) (omega arith) come)),
+    subst (λ (s : Stop). HasCome i repair_limits names 2 before now (Err s)) (sym out.0)
+        (subst (λ (x : I). HasCome i repair_limits names 2 before x (Err stop.NoMemory)) (sym out.1) (come_memory i repair_limits names 1 2 before mid (text ∷ []) (omega arith) (omega arith) come)),
     same,
   )
 
   -- the first was not
   pub stream_first : (names : List (List ℕ)) (name : List ℕ) (before now : I) (out : O) (why : Stop) → i.picks before ≤ max_count
-      → names ≡ name ∷ drop 1 names → IsRead i 0 name before now (Err why) → Streams i o names before now out out (Err why)
+      → names ≡ name ∷ drop 1 names → IsRead i file_limit 0 name before now (Err why) → Streams i o names before now out out (Err why)
   stream_first names name before now out why few here read =
-      (stop_file i names 0 2 before before now [] name why (omega arith) (come_none i names before few) here read, refl)
+      (stop_file i repair_limits names 0 2 before before now [] name why (omega arith) (come_none i repair_limits names before few) here read, refl)
 
   -- it was
   pub stream_on : (names : List (List ℕ)) (name text : List ℕ) (before now : I) → i.picks before ≤ max_count
-      → names ≡ name ∷ drop 1 names → IsRead i 0 name before now (Ok text) → HasCome i names 1 before now (Ok (text ∷ []))
-  stream_on names name text before now few here read = come_file i names 0 before before now [] name text (come_none i names before few) here read
+      → names ≡ name ∷ drop 1 names → IsRead i file_limit 0 name before now (Ok text) → HasCome i repair_limits names 1 before now (Ok (text ∷ []))
+  stream_on names name text before now few here read = come_file i repair_limits names 0 before before now [] name text (come_none i repair_limits names before few) here read

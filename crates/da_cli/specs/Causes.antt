@@ -1,5 +1,5 @@
 -- What a status says of the inputs: of which file it speaks, and what was picked and read.
-use Rattle.std.specs.Prelude.{◌≡◌, ℕ, ◌+◌, ◌<◌, ◌≤◌, List, length, ⊤, ◌⊎◌}
+use Rattle.std.specs.Prelude.{◌≡◌, ℕ, ◌+◌, ◌-◌, ◌<◌, ◌≤◌, List, length, ⊤, ◌⊎◌}
 use Rattle.std.specs.declared.option.Option.{Option}
 use Rattle.da_io.specs.declared.inputs.Ended.{Ended}
 use Rattle.da_io.specs.declared.inputs.Ended.TheVariants as ended
@@ -8,36 +8,37 @@ use Rattle.da_io.specs.Files.{Files}
 use Rattle.da_status.specs.declared.status.Status.{Status}
 use Rattle.da_status.specs.declared.status.Status.TheVariants.{PickFault, ReadFault, TooLong}
 use Rattle.da_status.specs.Statuses.{Kind, kind_of, Reading, unread, failed, exceeded, begun, finished, row_of}
-use Rattle.da_cli.specs.Limits.{file_limit}
-use Rattle.da_cli.specs.Gathered.{IsWord, AllRead}
+use Rattle.da_cli.specs.Gathered.{IsWord, AllRead, IsWithin}
 
 -- a failed pick or read was the last call on the inputs, of the file word with that number, and each
--- file before it is there and within the limit, where files are told
-abbrev pub FaultCause : Option Files → List (List ℕ) → Option (List ℕ) → Ended → Status → Type 0
-FaultCause told names picked last (PickFault i) = (last ≡ ended.PickFailed) × IsWord names i picked × AllRead told names i
-FaultCause told names picked last (ReadFault i) = (last ≡ ended.ReadFailed) × IsWord names i picked × AllRead told names i
-FaultCause told names picked last status = ⊤
+-- file before it is there and within its limit, where files are told
+abbrev pub FaultCause : (ℕ → ℕ) → Option Files → List (List ℕ) → Option (List ℕ) → Ended → Status → Type 0
+FaultCause limits told names picked last (PickFault i) = (last ≡ ended.PickFailed) × IsWord names i picked × AllRead limits told names i
+FaultCause limits told names picked last (ReadFault i) = (last ≡ ended.ReadFailed) × IsWord names i picked × AllRead limits told names i
+FaultCause limits told names picked last status = ⊤
 
--- the file that was picked last gave no more than the limit, where the files were read so far; Idle: no file
+-- the file that was picked last gave no more than its limit, where the files were read so far; Idle: no file
 -- was picked
-abbrev pub GivenReading : Reading → List (List ℕ) → ℕ → Type 0 → Type 0
-GivenReading unread names given Idle = ⊤
-GivenReading failed names given Idle = given ≤ file_limit
-GivenReading exceeded names given Idle = ⊤
-GivenReading begun names given Idle = Idle ⊎ (given ≤ file_limit)
-GivenReading finished names given Idle = 0 < length names → given ≤ file_limit
+abbrev pub GivenReading : (ℕ → ℕ) → Reading → List (List ℕ) → Option (List ℕ) → ℕ → Type 0 → Type 0
+GivenReading limits unread names picked given Idle = ⊤
+GivenReading limits failed names picked given Idle = IsWithin limits names picked given
+GivenReading limits exceeded names picked given Idle = ⊤
+GivenReading limits begun names picked given Idle = Idle ⊎ IsWithin limits names picked given
+GivenReading limits finished names picked given Idle = 0 < length names → given ≤ limits (length names - 1)
 
--- the file that was picked last gave no more than the limit, by the kind of the status; Idle: no file was
+-- the file that was picked last gave no more than its limit, by the kind of the status; Idle: no file was
 -- picked
-abbrev pub GivenBy : Kind → List (List ℕ) → ℕ → Type 0 → Type 0
-GivenBy kind names given Idle = GivenReading (row_of kind).reading names given Idle
+abbrev pub GivenBy : (ℕ → ℕ) → Kind → List (List ℕ) → Option (List ℕ) → ℕ → Type 0 → Type 0
+GivenBy limits kind names picked given Idle = GivenReading limits (row_of kind).reading names picked given Idle
 
--- the file word with that number gave more than the limit, and each file before it is there and within
--- the limit, where files are told; with another status that reading comes before, the file that was picked
--- last gave no more
-abbrev pub ExcessCause : Option Files → List (List ℕ) → Option (List ℕ) → ℕ → Type 0 → Status → Type 0
-ExcessCause told names picked given Idle (TooLong i) = (file_limit < given) × IsWord names i picked × AllRead told names i
-ExcessCause told names picked given Idle status = GivenBy (kind_of status) names given Idle
+-- the file word with that number gave more than its limit, and each file before it is there and within
+-- its limit, where files are told; with another status that reading comes before, the file that was picked
+-- last gave no more than its limit
+abbrev pub ExcessCause : (ℕ → ℕ) → Option Files → List (List ℕ) → Option (List ℕ) → ℕ → Type 0 → Status → Type 0
+ExcessCause limits told names picked given Idle (TooLong i) = (limits i < given) × IsWord names i picked × AllRead limits told names i
+ExcessCause limits told names picked given Idle (PickFault i) = given ≤ limits i
+ExcessCause limits told names picked given Idle (ReadFault i) = given ≤ limits i
+ExcessCause limits told names picked given Idle status = GivenBy limits (kind_of status) names picked given Idle
 
 -- a fact that is said where all files were read to their ends
 abbrev pub IfFinished : Reading → Type 0 → Type 0

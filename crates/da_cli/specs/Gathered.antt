@@ -10,9 +10,8 @@ use Rattle.da_io.specs.declared.inputs.Ended.TheVariants as ended
 use Rattle.da_cli.specs.declared.gathering.Stop.{Stop}
 use Rattle.da_cli.specs.declared.gathering.Stop.TheVariants.{PickFault, ReadFault, TooLong, NoMemory}
 use Rattle.da_files.specs.Contents.{contents_of, file_of}
-use Rattle.da_cli.specs.Limits.{file_limit}
 
--- the contents of all; or the first that is longer than the limit; or the first that isn't there
+-- the contents of all; or the first that is longer than its limit; or the first that isn't there
 pub data Gathered : Type 0 where
   whole : List (List ℕ) → Gathered
   long : ℕ → Gathered
@@ -24,20 +23,20 @@ after front (whole contents) = whole (front ++ contents)
 after front (long i) = long i
 after front (absent i) = absent i
 
--- one more file: its number, its content, and what the later ones give
-abbrev pub gathered_one : ℕ → Option (List ℕ) → Gathered → Gathered
-gathered_one i None later = absent i
-gathered_one i (Some content) later =
-    if nat_lt file_limit (length content) then long i else after (content ∷ []) later
+-- one more file: the limits by the numbers of the files, its number, its content, and what the later ones give
+abbrev pub gathered_one : (ℕ → ℕ) → ℕ → Option (List ℕ) → Gathered → Gathered
+gathered_one limits i None later = absent i
+gathered_one limits i (Some content) later =
+    if nat_lt (limits i) (length content) then long i else after (content ∷ []) later
 
 -- the first name has this number
-unfoldable pub gathered_from : Files → ℕ → List (List ℕ) → Gathered
-gathered_from files i [] = whole []
-gathered_from files i (name ∷ names) = gathered_one i (files name) (gathered_from files (suc i) names)
+unfoldable pub gathered_from : (ℕ → ℕ) → Files → ℕ → List (List ℕ) → Gathered
+gathered_from limits files i [] = whole []
+gathered_from limits files i (name ∷ names) = gathered_one limits i (files name) (gathered_from limits files (suc i) names)
 
 -- what the files of these names hold, counted from 0
-abbrev pub gathered : Files → List (List ℕ) → Gathered
-gathered files names = gathered_from files 0 names
+abbrev pub gathered : (ℕ → ℕ) → Files → List (List ℕ) → Gathered
+gathered limits files names = gathered_from limits files 0 names
 
 -- an answer as bytes: of one file, of some
 abbrev pub bytes_read : Result (Vec ℕ Global) Stop → Result (List ℕ) Stop
@@ -62,46 +61,46 @@ IsLastOf names count picked last = 0 < count → IsWord names (count - 1) picked
 abbrev pub IsLast : List (List ℕ) → Option (List ℕ) → Ended → Type 0
 IsLast names picked last = IsLastOf names (length names) picked last
 
--- each file before number i is there and within the limit, where files are told
-abbrev pub AllRead : Option Files → List (List ℕ) → ℕ → Type 0
-AllRead None names i = ⊤
-AllRead (Some files) names i = (j : ℕ) → j < i →
-    (content : List ℕ) × (files (file_of names j) ≡ Some content) × (length content ≤ file_limit)
+-- each file before number i is there and within its limit, where files are told
+abbrev pub AllRead : (ℕ → ℕ) → Option Files → List (List ℕ) → ℕ → Type 0
+AllRead limits None names i = ⊤
+AllRead limits (Some files) names i = (j : ℕ) → j < i →
+    (content : List ℕ) × (files (file_of names j) ≡ Some content) × (length content ≤ limits j)
 
 -- what reading the file of one name answers, where files are told
-abbrev pub ReadsFile : Option Files → List ℕ → Result (List ℕ) Stop → Type 0
-ReadsFile None name result = ⊤
-ReadsFile (Some files) name (Ok content) = (files name ≡ Some content) × (length content ≤ file_limit)
-ReadsFile (Some files) name (Err (TooLong i)) = (content : List ℕ) × (files name ≡ Some content) × (file_limit < length content)
-ReadsFile (Some files) name (Err (PickFault i)) = ⊤
-ReadsFile (Some files) name (Err (ReadFault i)) = ⊤
-ReadsFile (Some files) name (Err NoMemory) = ⊤
+abbrev pub ReadsFile : ℕ → Option Files → List ℕ → Result (List ℕ) Stop → Type 0
+ReadsFile limit None name result = ⊤
+ReadsFile limit (Some files) name (Ok content) = (files name ≡ Some content) × (length content ≤ limit)
+ReadsFile limit (Some files) name (Err (TooLong i)) = (content : List ℕ) × (files name ≡ Some content) × (limit < length content)
+ReadsFile limit (Some files) name (Err (PickFault i)) = ⊤
+ReadsFile limit (Some files) name (Err (ReadFault i)) = ⊤
+ReadsFile limit (Some files) name (Err NoMemory) = ⊤
 
 -- what reading the files of the first `count` names answers, where files are told: of all names these
 -- contents are gathered, and then what the later names give
-abbrev pub Gathers : Option Files → List (List ℕ) → ℕ → Result (List (List ℕ)) Stop → Type 0
-Gathers None names count result = ⊤
-Gathers (Some files) names count (Ok contents) = gathered files names ≡ after contents (gathered_from files count (drop count names))
-Gathers (Some files) names count (Err (TooLong i)) = gathered files names ≡ long i
-Gathers (Some files) names count (Err (PickFault i)) = ⊤
-Gathers (Some files) names count (Err (ReadFault i)) = ⊤
-Gathers (Some files) names count (Err NoMemory) = ⊤
+abbrev pub Gathers : (ℕ → ℕ) → Option Files → List (List ℕ) → ℕ → Result (List (List ℕ)) Stop → Type 0
+Gathers limits None names count result = ⊤
+Gathers limits (Some files) names count (Ok contents) = gathered limits files names ≡ after contents (gathered_from limits files count (drop count names))
+Gathers limits (Some files) names count (Err (TooLong i)) = gathered limits files names ≡ long i
+Gathers limits (Some files) names count (Err (PickFault i)) = ⊤
+Gathers limits (Some files) names count (Err (ReadFault i)) = ⊤
+Gathers limits (Some files) names count (Err NoMemory) = ⊤
 
 -- why reading file i, which has this name, stopped: a failure was the last call, more than the limit
 -- was given
-abbrev pub StopsFile : ℕ → Ended → ℕ → Stop → Type 0
-StopsFile i last given (PickFault j) = (j ≡ i) × (last ≡ ended.PickFailed)
-StopsFile i last given (ReadFault j) = (j ≡ i) × (last ≡ ended.ReadFailed)
-StopsFile i last given (TooLong j) = (j ≡ i) × (file_limit < given)
-StopsFile i last given NoMemory = ⊤
+abbrev pub StopsFile : ℕ → ℕ → Ended → ℕ → Stop → Type 0
+StopsFile limit i last given (PickFault j) = (j ≡ i) × (last ≡ ended.PickFailed)
+StopsFile limit i last given (ReadFault j) = (j ≡ i) × (last ≡ ended.ReadFailed)
+StopsFile limit i last given (TooLong j) = (j ≡ i) × (limit < given)
+StopsFile limit i last given NoMemory = ⊤
 
 -- why reading the files stopped: the last call was of the named word, and each file before it is there
--- and within the limit, where files are told
-abbrev pub StopsIn : Option Files → List (List ℕ) → Option (List ℕ) → Ended → ℕ → Stop → Type 0
-StopsIn told names picked last given (PickFault i) = (last ≡ ended.PickFailed) × IsWord names i picked × AllRead told names i
-StopsIn told names picked last given (ReadFault i) = (last ≡ ended.ReadFailed) × IsWord names i picked × AllRead told names i
-StopsIn told names picked last given (TooLong i) = (file_limit < given) × IsWord names i picked × AllRead told names i
-StopsIn told names picked last given NoMemory = ⊤
+-- and within its limit, where files are told
+abbrev pub StopsIn : (ℕ → ℕ) → Option Files → List (List ℕ) → Option (List ℕ) → Ended → ℕ → Stop → Type 0
+StopsIn limits told names picked last given (PickFault i) = (last ≡ ended.PickFailed) × IsWord names i picked × AllRead limits told names i
+StopsIn limits told names picked last given (ReadFault i) = (last ≡ ended.ReadFailed) × IsWord names i picked × AllRead limits told names i
+StopsIn limits told names picked last given (TooLong i) = (limits i < given) × IsWord names i picked × AllRead limits told names i
+StopsIn limits told names picked last given NoMemory = ⊤
 
 -- the count of the inputs' failures after files were read: a stop at a failed pick or read counts it
 abbrev pub count_after : {T : Type 0} → ℕ → Result T Stop → ℕ
@@ -119,11 +118,23 @@ PicksIn before now count (Err (ReadFault i)) = now ≡ count_on before (i + 1)
 PicksIn before now count (Err (TooLong i)) = now ≡ count_on before (i + 1)
 PicksIn before now count (Err NoMemory) = (n : ℕ) × (n ≤ count) × (now ≡ count_on before n)
 
--- but for an excess of length, the file that was picked last gave no more than the limit; Idle: where
--- memory ran out, no file was picked
-abbrev pub WithinLimit : {T : Type 0} → ℕ → Type 0 → Result T Stop → Type 0
-WithinLimit given Idle (Ok _) = given ≤ file_limit
-WithinLimit given Idle (Err (PickFault _)) = given ≤ file_limit
-WithinLimit given Idle (Err (ReadFault _)) = given ≤ file_limit
-WithinLimit given Idle (Err (TooLong _)) = ⊤
-WithinLimit given Idle (Err NoMemory) = Idle ⊎ (given ≤ file_limit)
+-- but for an excess of length, the file that was picked gave no more than the limit
+abbrev pub WithinLimit : {T : Type 0} → ℕ → ℕ → Result T Stop → Type 0
+WithinLimit limit given (Ok _) = given ≤ limit
+WithinLimit limit given (Err (PickFault _)) = given ≤ limit
+WithinLimit limit given (Err (ReadFault _)) = given ≤ limit
+WithinLimit limit given (Err (TooLong _)) = ⊤
+WithinLimit limit given (Err NoMemory) = given ≤ limit
+
+-- the file that was picked last is a file word, and gave no more than its limit
+abbrev pub IsWithin : (ℕ → ℕ) → List (List ℕ) → Option (List ℕ) → ℕ → Type 0
+IsWithin limits names picked given = (i : ℕ) × IsWord names i picked × (given ≤ limits i)
+
+-- but for an excess of length, the file that was picked last, of the first `count` names, gave no more than its
+-- limit; Idle: where memory ran out, no file was picked
+abbrev pub WithinLimits : (ℕ → ℕ) → List (List ℕ) → ℕ → Option (List ℕ) → ℕ → Type 0 → Result (List (List ℕ)) Stop → Type 0
+WithinLimits limits names count picked given Idle (Ok _) = given ≤ limits (count - 1)
+WithinLimits limits names count picked given Idle (Err (PickFault i)) = given ≤ limits i
+WithinLimits limits names count picked given Idle (Err (ReadFault i)) = given ≤ limits i
+WithinLimits limits names count picked given Idle (Err (TooLong i)) = ⊤
+WithinLimits limits names count picked given Idle (Err NoMemory) = Idle ⊎ IsWithin limits names picked given

@@ -6,6 +6,7 @@ use Rattle.da_status.specs.declared.status.Status.{Status}
 use Rattle.da_status.specs.declared.status.Status.TheVariants.{BadInput, TooLong}
 use Rattle.da_status.specs.Statuses.{kind_of, IsDecided}
 use Rattle.da_cli.specs.Words.{call_of, file_words}
+use Rattle.da_cli.specs.Limits.{limits_for}
 use Rattle.da_cli.specs.Gathered.{gathered, whole, long, absent}
 use Rattle.da_status.specs.Outcome.{Refuses}
 use Rattle.da_status.specs.Judging.{first_bad}
@@ -15,27 +16,27 @@ use Rattle.da_cli.specs.Run.{RunOf}
 -- over files in their forms, exactly the command's answer belongs to the run
 abbrev pub FormLaw : Type 0
 FormLaw = (files : Files) (words : List (List ℕ)) (call : Call) (contents : List (List ℕ)) (w : List ℕ) (status : Status)
-    → call_of words ≡ Some call → gathered files (file_words call.files words) ≡ whole contents
+    → call_of words ≡ Some call → gathered (limits_for call.command) files (file_words call.files words) ≡ whole contents
     → first_bad 0 (judged_of call.command contents) ≡ None
     → RunOf files words w status ↔ AnswerOf call.command contents w status
 
 -- where file i is the first that isn't in its form, exactly `BadInput` with no output does
 abbrev pub BadInputLaw : Type 0
 BadInputLaw = (files : Files) (words : List (List ℕ)) (call : Call) (contents : List (List ℕ)) (i at : ℕ) (w : List ℕ) (status : Status)
-    → call_of words ≡ Some call → gathered files (file_words call.files words) ≡ whole contents
+    → call_of words ≡ Some call → gathered (limits_for call.command) files (file_words call.files words) ≡ whole contents
     → first_bad 0 (judged_of call.command contents) ≡ Some (i, at)
     → RunOf files words w status ↔ Refuses (BadInput i at) w status
 
 -- where file i is the first that is too long, exactly `TooLong` with no output does
 abbrev pub ExcessLaw : Type 0
 ExcessLaw = (files : Files) (words : List (List ℕ)) (call : Call) (i : ℕ) (w : List ℕ) (status : Status)
-    → call_of words ≡ Some call → gathered files (file_words call.files words) ≡ long i
+    → call_of words ≡ Some call → gathered (limits_for call.command) files (file_words call.files words) ≡ long i
     → RunOf files words w status ↔ Refuses (TooLong i) w status
 
 -- where a file isn't there, nothing does
 abbrev pub AbsentLaw : Type 0
 AbsentLaw = (files : Files) (words : List (List ℕ)) (call : Call) (i : ℕ) (w : List ℕ) (status : Status)
-    → call_of words ≡ Some call → gathered files (file_words call.files words) ≡ absent i
+    → call_of words ≡ Some call → gathered (limits_for call.command) files (file_words call.files words) ≡ absent i
     → RunOf files words w status → ⊥
 
 -- failures and out of memory belong to no run

@@ -19,6 +19,7 @@ use Rattle.da_wire.specs.Spelling.{spelling}
 use Rattle.da_wire.specs.Frames.{frames_of}
 use Rattle.da_io.specs.Files.{Files}
 use Rattle.da_cli.specs.Words.{is_command, names_of}
+use Rattle.da_cli.specs.Limits.{limits_of}
 use Rattle.da_cli.specs.Gathered.{gathered, whole}
 use Rattle.da_files.specs.Frames.{header_in, square_in}
 use Rattle.da_judging.specs.Check.{finding_of, line_of, IsOwnFrame}
@@ -43,7 +44,7 @@ use Rattle.da_script.specs.Plays as plays
 -- over the files of `check`, where the header in HEADER is that of a square: a frame of MESSAGES whose line is `ok` is a sample that shows the square's own share, or they name a collision
 abbrev pub AreOwnLines : Files → List (List ℕ) → Type 0
 AreOwnLines files words = (contents : List (List ℕ)) (header : Roots) (square : SquareShares) (i : ℕ) (frame : Raw)
-    → is_command words (codes "check") 2 ≡ true → gathered files (names_of words) ≡ whole contents
+    → is_command words (codes "check") 2 ≡ true → gathered (limits_of words) files (names_of words) ≡ whole contents
     → header_in (header_file contents) ≡ Ok header → IsHeaderOf header square
     → AreBytes (messages_file contents) → slice_get (frames_of (messages_file contents)) i ≡ Some frame
     → line_of (finding_of header frame) ≡ codes "ok\n" → IsOwnFrame frame square
@@ -51,7 +52,7 @@ AreOwnLines files words = (contents : List (List ℕ)) (header : Roots) (square 
 -- over the files of `verify`, where the header in HEADER is that of a square and the line is `ok`: ANSWER shows the square's own shares, or they name a collision, as a fraud claim always does
 abbrev pub IsOwnLine : Files → List (List ℕ) → Type 0
 IsOwnLine files words = (contents : List (List ℕ)) (header : Roots) (square : SquareShares) (answer : Answer) (refusal : Option ℕ)
-    → is_command words (codes "verify") 2 ≡ true → gathered files (names_of words) ≡ whole contents
+    → is_command words (codes "verify") 2 ≡ true → gathered (limits_of words) files (names_of words) ≡ whole contents
     → header_in (header_file contents) ≡ Ok header → IsHeaderOf header square
     → AreBytes (answer_file contents) → answer_in (answer_file contents) ≡ Ok answer
     → IsRefusal header answer refusal → verdict_line refusal ≡ codes "ok\n" → IsOwnReply answer square
@@ -59,14 +60,14 @@ IsOwnLine files words = (contents : List (List ℕ)) (header : Roots) (square : 
 -- over the files of `compact`, where the header in HEADER is that of a square: the claim is refused, or a sample of it, or its set, and the square name a collision
 abbrev pub IsOwnCompact : Files → List (List ℕ) → Type 0
 IsOwnCompact files words = (contents : List (List ℕ)) (header : Roots) (square : SquareShares) (claim : ClaimParts) (w : List ℕ) (status : Status)
-    → is_command words (codes "compact") 2 ≡ true → gathered files (names_of words) ≡ whole contents
+    → is_command words (codes "compact") 2 ≡ true → gathered (limits_of words) files (names_of words) ≡ whole contents
     → header_in (header_file contents) ≡ Ok header → IsHeaderOf header square
     → claim_in (claim_file contents) ≡ Ok claim → CompactOf contents w status → CompactsOwn claim square status
 
 -- over the files of `verify` with a REQUEST, where the header in HEADER is that of a square and the line is `ok`: ANSWER is to the request, and shows the square's own shares that are asked for, or they name a collision
 abbrev pub IsOwnLineFor : Files → List (List ℕ) → Type 0
 IsOwnLineFor files words = (contents : List (List ℕ)) (header : Roots) (square : SquareShares) (answer : Answer) (request : Request) (refusal : Option ℕ)
-    → is_command words (codes "verify") 3 ≡ true → gathered files (names_of words) ≡ whole contents
+    → is_command words (codes "verify") 3 ≡ true → gathered (limits_of words) files (names_of words) ≡ whole contents
     → header_in (header_file contents) ≡ Ok header → IsHeaderOf header square
     → AreBytes (answer_file contents) → answer_in (answer_file contents) ≡ Ok answer
     → request_in (request_file contents) ≡ Ok request
@@ -76,7 +77,7 @@ IsOwnLineFor files words = (contents : List (List ℕ)) (header : Roots) (square
 -- over the files of `repair`, where the header in HEADER is that of a square: what is written and answered is that square or the missing cells, or a proved sample of MESSAGES and the square name a collision
 abbrev pub IsOwnRepair : Files → List (List ℕ) → Type 0
 IsOwnRepair files words = (contents : List (List ℕ)) (header : Roots) (square : SquareShares) (w : List ℕ) (status : Status)
-    → is_command words (codes "repair") 2 ≡ true → gathered files (names_of words) ≡ whole contents
+    → is_command words (codes "repair") 2 ≡ true → gathered (limits_of words) files (names_of words) ≡ whole contents
     → header_in (header_file contents) ≡ Ok header → IsHeaderOf header square
     → AreBytes (messages_file contents) → RepairOf contents w status
     → RepairsOwn header (frames_of (messages_file contents)) square w status
@@ -84,14 +85,14 @@ IsOwnRepair files words = (contents : List (List ℕ)) (header : Roots) (square 
 -- over the files of `light`, where the header in HEADER is that of a square: no claim is written, or one that with the square names a collision
 abbrev pub IsOwnLight : Files → List (List ℕ) → Type 0
 IsOwnLight files words = (contents : List (List ℕ)) (header : Roots) (square : SquareShares) (key : List ℕ) (count : ℕ) (w : List ℕ) (status : Status)
-    → is_command words (codes "light") 4 ≡ true → gathered files (names_of words) ≡ whole contents
+    → is_command words (codes "light") 4 ≡ true → gathered (limits_of words) files (names_of words) ≡ whole contents
     → header_in (header_file contents) ≡ Ok header → IsHeaderOf header square
     → AreBytes (messages_file contents) → LightOf key count contents w status → JudgesOwn square w status
 
 -- over the files of `follow`, at a height whose header is that of a square: what is told of a namespace is what the square's shares of it are read as, or the first complete answer and the square name a collision
 abbrev pub IsOwnFollow : Files → List (List ℕ) → Type 0
 IsOwnFollow files words = (contents : List (List ℕ)) (header : Roots) (square : SquareShares) (feed : Feed) (number : ℕ) (name : names.Namespace) (read : Read)
-    → is_command words (codes "follow") 2 ≡ true → gathered files (names_of words) ≡ whole contents
+    → is_command words (codes "follow") 2 ≡ true → gathered (limits_of words) files (names_of words) ≡ whole contents
     → AreBytes (answers_file contents) → header_at (items_in (answers_file contents)) number ≡ Some header → IsHeaderOf header square
     → IsFeedOf (Contains (namespaces_in (wanted_file contents))) (items_in (answers_file contents)) feed → feed number name ≡ Some read
     → (read ≡ blobs_of (shares_in square name)) ⊎ FirstNames (items_in (answers_file contents)) number name square
@@ -99,7 +100,7 @@ IsOwnFollow files words = (contents : List (List ℕ)) (header : Roots) (square 
 -- over the files of `net`, where the header in HEADER is that of a square: `rejected` or `clash` is written only where a sample of MESSAGES, by itself or in a claim, or the set of a claim, and the square name a collision
 abbrev pub IsOwnNet : Files → List (List ℕ) → Type 0
 IsOwnNet files words = (contents : List (List ℕ)) (header : Roots) (square : SquareShares) (w : List ℕ) (status : Status)
-    → is_command words (codes "net") 3 ≡ true → gathered files (names_of words) ≡ whole contents
+    → is_command words (codes "net") 3 ≡ true → gathered (limits_of words) files (names_of words) ≡ whole contents
     → header_in (header_file contents) ≡ Ok header → IsHeaderOf header square → NetOf contents w status
     → TellsOwn (plays.items_in (frames_of (messages_file contents))) square w
 
@@ -111,7 +112,7 @@ ProvesOwn square start count w = (proof : CommitParts) × (spelling (Commit proo
 -- over the file of `prove` with a range: what is answered with `Done` is such a proof, of the square in SQUARE
 abbrev pub IsOwnProve : Files → List (List ℕ) → Type 0
 IsOwnProve files words = (contents : List (List ℕ)) (square : SquareShares) (start count : ℕ) (w : List ℕ)
-    → is_command words (codes "prove") 3 ≡ true → gathered files (names_of words) ≡ whole contents
+    → is_command words (codes "prove") 3 ≡ true → gathered (limits_of words) files (names_of words) ≡ whole contents
     → square_in (square_file contents) ≡ Ok square → ProveRangeOf start count contents w Done
     → ProvesOwn square start count w
 

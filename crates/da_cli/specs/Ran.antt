@@ -6,6 +6,7 @@ use Rattle.da_status.specs.declared.status.Status.{Status}
 use Rattle.da_status.specs.declared.status.Status.TheVariants.{Usage}
 use Rattle.da_status.specs.Statuses.{kind_of, input_count, output_count}
 use Rattle.da_cli.specs.Words.{call_of, names_of}
+use Rattle.da_cli.specs.Limits.{limits_of}
 use Rattle.da_cli.specs.Gathered.{IsLast}
 use Rattle.da_cli.specs.Causes.{FaultCause, ExcessCause, LastBy, PickCount}
 use Rattle.da_status.specs.Outcome.{Untouched}
@@ -17,8 +18,8 @@ pub record Ran {I O : Type 0} (i : inputs.Ghosts I) (o : sink.Ghosts O) (words :
   pub usage : (status ≡ Usage) ↔ (call_of words ≡ None)
   pub idle : names_of words ≡ [] → now ≡ before
   pub untouched : Untouched (new ≡ old) status
-  pub fault : FaultCause (i.files before) (names_of words) (i.picked now) (i.ended now) status
-  pub excess : ExcessCause (i.files before) (names_of words) (i.picked now) (i.given now) (now ≡ before) status
+  pub fault : FaultCause (limits_of words) (i.files before) (names_of words) (i.picked now) (i.ended now) status
+  pub excess : ExcessCause (limits_of words) (i.files before) (names_of words) (i.picked now) (i.given now) (now ≡ before) status
   pub input_faults : i.faults now ≡ input_count (kind_of status) (i.faults before)
   pub output_faults : o.faults new ≡ output_count (kind_of status) (o.faults old)
   pub picks : PickCount (length (names_of words)) (i.picks before) (i.picks now) status

@@ -10,7 +10,7 @@ ghost use Rattle.repair_queue.specs.SessionParts.{StandsFor as SessionStands};
 ghost use Rattle.da_wire.specs.Reading.{Raw};
 ghost use Rattle.da_judging.specs.Repair.{messages_in, lies_in};
 ghost use Rattle.da_io.specs.Faults.{count_on};
-ghost use Rattle.da_cli.specs.Limits.{file_limit};
+ghost use Rattle.da_cli.specs.Limits.{stream_limit};
 ghost use Rattle.da_cli.specs.Feeding.{proved_by, lies_by, proved_among, lies_among, HasGone, Feeds, FeedsTold, EndsFed, fed_faults, fed_end, Judges};
 ghost use Rattle.da_wire.specs.Streams.{StandsFor, offset_of};
 
@@ -148,7 +148,7 @@ pub fn feed_all<I: Inputs>(
     limit: u64,
 ) -> Result<u64, FeedFault>
     requires under { session.old.header ≡ header.now }
-    requires limit { limit ≤ file_limit }
+    requires limit { limit ≤ stream_limit }
 
     // Where the bytes are told: what all of them come to or, past the limit, `TooLong`.
     ensures told { FeedsTold (I.rest inputs.old) header.now limit result }

@@ -2,10 +2,11 @@
 
 ghost use Rattle.std.specs.Prelude.{◌≡◌, ◌≤◌, ◌<◌, length, IfErr, IfOk, Some, Ok, Err};
 ghost use Rattle.std.specs.String.{string_bytes};
+ghost use Rattle.da_cli.specs.Limits.{file_limit, file_limits};
 ghost use Rattle.da_cli.specs.Words.{words_of};
 ghost use Rattle.da_io.specs.Faults.{count_on};
 ghost use Rattle.da_io.specs.declared.inputs.Ended.TheVariants.{Fine};
-ghost use Rattle.da_cli.specs.Gathered.{bytes_read, files_read, IsLastOf, PicksIn, ReadsFile, StopsFile, Gathers, StopsIn, count_after, WithinLimit};
+ghost use Rattle.da_cli.specs.Gathered.{bytes_read, files_read, IsLastOf, PicksIn, ReadsFile, StopsFile, Gathers, StopsIn, count_after, WithinLimit, WithinLimits};
 
 use da_io::{InputFault, Inputs, read_all};
 use std::alloc::Global;
@@ -29,10 +30,10 @@ pub(crate) fn read_file<I: Inputs>(
     i: u32,
     inputs: &mut I,
 ) -> Result<Vec<u8>, Stop>
-    ensures content { ReadsFile (I.files inputs.old) (string_bytes name) (bytes_read result) }
-    ensures stop { IfErr result (StopsFile i (I.ended inputs.new) (I.given inputs.new)) }
+    ensures content { ReadsFile file_limit (I.files inputs.old) (string_bytes name) (bytes_read result) }
+    ensures stop { IfErr result (StopsFile file_limit i (I.ended inputs.new) (I.given inputs.new)) }
     ensures faults { I.faults inputs.new ≡ count_after (I.faults inputs.old) result }
-    ensures within { WithinLimit (I.given inputs.new) ⊥ result }
+    ensures within { WithinLimit file_limit (I.given inputs.new) result }
     ensures picks { I.picks inputs.new ≡ count_on (I.picks inputs.old) 1 }
     ensures fine { IfOk result (λ _. I.ended inputs.new ≡ Fine) }
     ensures picked { I.picked inputs.new ≡ Some (string_bytes name) }
@@ -59,12 +60,14 @@ pub(crate) fn gather<I: Inputs>(
 ) -> Result<Vec<Vec<u8>>, Stop>
     requires few { length words.now < 16 }
     requires count { count ≤ length words.now }
-    ensures contents { Gathers (I.files inputs.old) (words_of words.now) count (files_read result) }
-    ensures stop { IfErr result (StopsIn (I.files inputs.old) (words_of words.now)
+    ensures contents { Gathers file_limits (I.files inputs.old) (words_of words.now) count
+        (files_read result) }
+    ensures stop { IfErr result (StopsIn file_limits (I.files inputs.old) (words_of words.now)
         (I.picked inputs.new) (I.ended inputs.new) (I.given inputs.new)) }
     ensures faults { I.faults inputs.new ≡ count_after (I.faults inputs.old) result }
     ensures within { 0 < count →
-        WithinLimit (I.given inputs.new) (inputs.new ≡ inputs.old) result }
+        WithinLimits file_limits (words_of words.now) count (I.picked inputs.new)
+        (I.given inputs.new) (inputs.new ≡ inputs.old) (files_read result) }
     ensures last { IfOk result (λ _. IsLastOf (words_of words.now) count (I.picked inputs.new)
         (I.ended inputs.new)) }
     ensures picks { PicksIn (I.picks inputs.old) (I.picks inputs.new) count result }

@@ -27,7 +27,7 @@ ghost use Rattle.da_files.specs.Contents.{header_file, messages_file};
 ghost use Rattle.da_judging.specs.declared.check.Finding.TheVariants.{Proved};
 ghost use Rattle.da_status.specs.declared.status.Status.{Status};
 ghost use Rattle.da_status.specs.declared.status.Status.TheVariants.{Done, Missing};
-ghost use Rattle.da_cli.specs.Limits.{file_limit};
+ghost use Rattle.da_cli.specs.Limits.{file_limit, stream_limit};
 ghost use Rattle.da_files.specs.Frames.{header_in, square_in, block_in};
 ghost use Rattle.da_judging.specs.Check.{finding_of, is_ok, IsProvedFrame, IsOwnFrame};
 ghost use Rattle.da_judging.specs.Compact.{CompactsJudged, CompactsOwn};
@@ -53,6 +53,7 @@ ghost use Rattle.da_cli.specs.Own.{ProvesOwn};
 ghost use Rattle.da_cli.specs.Laws.{FormLaw, BadInputLaw, ExcessLaw, AbsentLaw, FailureLaw};
 
 use crate::gathering::FILE_LIMIT;
+use crate::streaming::STREAM_LIMIT;
 use axis_roots::{claim_laws, grid_laws, message_laws};
 use blob_commit::{commit_laws, refusal_laws};
 use da_commands::follow_laws;
@@ -200,6 +201,8 @@ pub fn run_laws()
         (header : Roots) × IsHeaderOf header (square_of block) }
     ensures limit { FILE_LIMIT ≡ file_limit }
     ensures size { FILE_LIMIT ≡ 512 * (1024 * 1024) }
+    ensures stream_limit { STREAM_LIMIT ≡ stream_limit }
+    ensures stream_size { STREAM_LIMIT ≡ 2048 * (1024 * 1024) }
 {
     message_laws();
     claim_laws();

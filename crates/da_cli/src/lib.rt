@@ -18,3 +18,4 @@ pub use feeding::{FeedFault, feed_all};
 pub use gathering::FILE_LIMIT;
 pub use laws::run_laws;
 pub use running::run;
+pub use streaming::STREAM_LIMIT;

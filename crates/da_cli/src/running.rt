@@ -4,6 +4,7 @@ ghost use Rattle.std.specs.Prelude.{◌≡◌, ◌≢◌, ◌↔◌, length, ◌
 ghost use Rattle.da_status.specs.declared.status.Status.TheVariants.{Usage};
 ghost use Rattle.da_commands.specs.declared.command.Command.TheVariants as CommandOf;
 ghost use Rattle.da_commands.specs.Meaning.{IsRunnable};
+ghost use Rattle.da_cli.specs.Limits.{limits_of};
 ghost use Rattle.da_cli.specs.Words.{words_of, call_of, names_of, HasFiles};
 ghost use Rattle.da_status.specs.Statuses.{kind_of, input_count, output_count};
 ghost use Rattle.da_cli.specs.Gathered.{IsLast};
@@ -143,10 +144,10 @@ pub fn run<I: Inputs, O: Sink, N: Sink>(
     ensures late { IsEarly (call_of (words_of words.now)) (out.new ≡ out.old) result }
 
     // A failed pick or read, an excess of length: of which file, and after which others.
-    ensures fault { FaultCause (I.files inputs.old) (names_of (words_of words.now))
-        (I.picked inputs.new) (I.ended inputs.new) result }
-    ensures excess { ExcessCause (I.files inputs.old) (names_of (words_of words.now))
-        (I.picked inputs.new) (I.given inputs.new) (inputs.new ≡ inputs.old) result }
+    ensures fault { FaultCause (limits_of (words_of words.now)) (I.files inputs.old)
+        (names_of (words_of words.now)) (I.picked inputs.new) (I.ended inputs.new) result }
+    ensures excess { ExcessCause (limits_of (words_of words.now)) (I.files inputs.old)
+        (names_of (words_of words.now)) (I.picked inputs.new) (I.given inputs.new) (inputs.new ≡ inputs.old) result }
 
     // Failures are counted, and none is hidden behind another status.
     ensures input_faults { I.faults inputs.new ≡ input_count (kind_of result) (I.faults inputs.old) }

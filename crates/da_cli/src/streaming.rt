@@ -7,10 +7,13 @@ ghost use Rattle.repair_queue.specs.SessionParts.{StandsFor as SessionStands};
 ghost use Rattle.da_cli.specs.Streamed.{FeedsFile, Skims};
 
 use crate::feeding::{FeedFault, feed_all};
-use crate::gathering::{FILE_LIMIT, Stop};
+use crate::gathering::Stop;
 use da_io::{Inputs, PIECE_SIZE};
 use data_header::Header;
 use repair_queue::Session;
+
+/// The bytes that MESSAGES of `repair` may have, which are not kept: 2 GiB.
+pub const STREAM_LIMIT: u64 = 2_147_483_648;
 
 /// Picks the file that a word names, file `i`, and feeds a session with its proved samples. Answers how
 /// many of its frames are lies, or the first place at which no frame stands though bytes are left.
@@ -30,7 +33,7 @@ pub(crate) fn feed_file<I: Inputs>(
     if inputs.pick(name).is_err() {
         return Err(Stop::PickFault(i));
     }
-    match feed_all(header, session, inputs, FILE_LIMIT) {
+    match feed_all(header, session, inputs, STREAM_LIMIT) {
         Ok(lies) => Ok(Ok(lies)),
         Err(FeedFault::Bad(at)) => Ok(Err(at)),
         Err(FeedFault::ReadFailed) => Err(Stop::ReadFault(i)),
@@ -54,7 +57,7 @@ pub(crate) fn skim_file<I: Inputs>(name: String, i: u32, inputs: &mut I) -> Resu
         if count == 0 {
             return Ok(());
         }
-        if count as u64 > FILE_LIMIT - taken {
+        if count as u64 > STREAM_LIMIT - taken {
             return Err(Stop::TooLong(i));
         }
         taken += count as u64;
