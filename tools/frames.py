@@ -41,6 +41,7 @@ SET_CELL_BYTES = 515  # a cell that a set shows
 FRONT_BYTES = 5  # the kind and the length of a frame
 PAYLOAD_LIMIT = 268_435_456
 FILE_LIMIT = 536_870_912
+STREAM_LIMIT = 2_147_483_648  # of MESSAGES of `repair`
 # How many there may be in one frame (docs/FORMATS.md, "Limits").
 COUNT_LIMIT = WIDTHS[-1]  # entries, shares of a range, cells, nodes of a set, rows, subtrees of a row
 PATH_LIMIT = 10  # nodes of a sample
@@ -553,8 +554,9 @@ def walk(data, form):
         at = end
 
 
-def read_file(name, number=None):
+def read_file(name, number=None, limit=None):
     """All bytes of a file, which a note calls by its number where it has one. The name 0 is standard input."""
+    limit = limit or FILE_LIMIT
     called = f"file {number}" if number is not None else "standard input" if name == 0 else repr(name)
     try:
         stream = open(name, "rb")
@@ -564,10 +566,10 @@ def read_file(name, number=None):
         raise Note(2, f"cannot open {called}") from None
     with stream:
         try:
-            data = stream.read(FILE_LIMIT + 1)
+            data = stream.read(limit + 1)
         except OSError:
             raise Note(3, f"cannot read {called}") from None
-    if len(data) > FILE_LIMIT:
+    if len(data) > limit:
         raise Note(7, f"too long: {called}")
     return data
 
@@ -757,7 +759,7 @@ def why(args):
     if form is None:
         known = ", ".join(f"{command} {word}" for command in FORMS for word in FORMS[command])
         raise Note(1, f"--as: there is no file {word} of {command}, but there are: {known}")
-    data = read_file(args.file, form.number)
+    data = read_file(args.file, form.number, STREAM_LIMIT if (command, word) == ("repair", "MESSAGES") else None)
     try:
         count = sum(1 for _ in walk(data, form))
     except Refusal as refusal:

@@ -639,6 +639,10 @@ class Why(Case):
         self.assertEqual(run("why", missing_file, "--as", "check", "MESSAGES"), (2, b"", "cannot open file 1\n"))
         with mock.patch.object(frames, "FILE_LIMIT", 9):
             self.assertEqual(run("show", self.file(EACH_FRAME["Q"])), (7, b"", "too long: file 0\n"))
+            self.assertEqual(self.why(EACH_FRAME["Q"], "repair", "MESSAGES"), "ok: 1 frames")
+            self.assertEqual(run("why", self.file(EACH_FRAME["Q"]), "--as", "check", "MESSAGES")[::2], (7, "too long: file 1\n"))
+        with mock.patch.object(frames, "STREAM_LIMIT", 9):
+            self.assertEqual(run("why", self.file(EACH_FRAME["Q"]), "--as", "repair", "MESSAGES")[::2], (7, "too long: file 1\n"))
         self.assertEqual(run("show")[0], 1)
         self.assertEqual(run("raw", "Q", "00", "-o", self.folder)[::2], (4, "cannot write\n"))
 
