@@ -27,7 +27,7 @@ fn status_of(error: ErrorKind) -> Status {
 }
 
 /// The bytes of stack that are touched, more than the deepest command takes.
-const STACK: usize = 640 * 1024;
+const STACK: usize = 896 * 1024;
 
 /// Touches the stack down to its depth. A place of the room that the caller alone knows is written and another is read, so
 /// that the room is there; what is read says nothing.
