@@ -84,7 +84,7 @@ fn bytes_that_are_no_frame(rt: HostRuntime) {
     let heads: [(&str, &[u8], FrameError); 4] = [
         ("no byte", b"", FrameError::Truncated(7)),
         ("kind Z", b"Z\0\0\0\0", FrameError::BadKind(7)),
-        ("above the limit", b"M\x01\0\0\x01", FrameError::TooLong(7)),
+        ("above the limit", b"M\x10\0\0\x01", FrameError::TooLong(7)),
         (
             "axis 2",
             b"Q\0\0\0\x05\0\x01\0\x02\x02",

@@ -16,7 +16,7 @@ fn told(answer: Pushed) -> Result<Option<bool>, u64> {
 
 #[test]
 fn a_length_above_the_limit(rt: HostRuntime) {
-    let bytes = b"Z\0\0\0\0M\x01\0\0\x01";
+    let bytes = b"Z\0\0\0\0M\x10\0\0\x01";
     let mut stream = FrameStream::new();
     let (first, answer) = stream.push(bytes);
     assert_eq!(rt; (first, told(answer)), (5, Ok(Some(false))));
@@ -83,12 +83,12 @@ fn frames_in_any_cutting(rt: HostRuntime) {
     }
 }
 
-// The longest payload of a sample has 1,238 bytes.
+// The longest payload of a sample has 1,418 bytes.
 #[test]
 fn longest_messages(rt: HostRuntime) {
     let alloc = rt.alloc();
-    let longest = joined(&rt, alloc, &[(b"M\0\0\x04\xd6", 517, 0), (b"\x08", 720, 0)]);
-    assert_eq!(rt; counted(&longest, 100), (1, 1, None), "1,238 bytes");
-    let longer = joined(&rt, alloc, &[(b"M\0\0\x04\xd7", 517, 0), (b"\x08", 721, 0)]);
-    assert_eq!(rt; counted(&longer, 100), (1, 0, None), "1,239 bytes");
+    let longest = joined(&rt, alloc, &[(b"M\0\0\x05\x8a", 517, 0), (b"\x0a", 900, 0)]);
+    assert_eq!(rt; counted(&longest, 100), (1, 1, None), "1,418 bytes");
+    let longer = joined(&rt, alloc, &[(b"M\0\0\x05\x8b", 517, 0), (b"\x0a", 901, 0)]);
+    assert_eq!(rt; counted(&longer, 100), (1, 0, None), "1,419 bytes");
 }
