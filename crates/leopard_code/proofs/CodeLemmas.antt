@@ -7,7 +7,7 @@ use Rattle.namespace_id.specs.Cells.{is_width}
 use Rattle.lch_fft.specs.Readings.{Reading, AreReadingLaws, byte_reading, word_reading}
 use Rattle.lch_fft.specs.ReadingLaws.{byte_reading_laws, word_reading_laws}
 use Rattle.lch_fft.specs.Transforms.{is_count}
-use Rattle.leopard_code.specs.Codewords.{reading_of, is_code_width, HasCode}
+use Rattle.leopard_code.specs.Codewords.{reading_of, HasCode}
 
 -- up to width 128 shares are read as bytes
 pub reads_bytes : (k : ℕ) → k ≤ 128 → byte_reading ≡ reading_of k
@@ -30,27 +30,23 @@ of_each P k bytes words = elim (cases_lt 128 k) [
 pub reading_laws : (k : ℕ) → AreReadingLaws (reading_of k)
 reading_laws k = of_each AreReadingLaws k (λ low. byte_reading_laws) (λ above. word_reading_laws)
 
--- a width of squares has a code
-pub code_width : (k : ℕ) → IsTrue (is_width k) → IsTrue (is_code_width k)
-code_width k width = grind (arith, nat_tests)
-
 -- a width is at most 512, and not 0
-pub code_width-le : (k : ℕ) → IsTrue (is_code_width k) → k ≤ 512
+pub code_width-le : (k : ℕ) → IsTrue (is_width k) → k ≤ 512
 code_width-le k width = grind (arith, nat_tests)
 
-pub code_width-pos : (k : ℕ) → IsTrue (is_code_width k) → 0 < k
+pub code_width-pos : (k : ℕ) → IsTrue (is_width k) → 0 < k
 code_width-pos k width = grind (arith, nat_tests)
 
 -- a transform may have its length
-pub code_count : (k : ℕ) → IsTrue (is_code_width k) → IsTrue (is_count k)
+pub code_count : (k : ℕ) → IsTrue (is_width k) → IsTrue (is_count k)
 code_count k width = grind (arith, nat_tests)
 
 -- and twice its length
-pub double_code_count : (k : ℕ) → IsTrue (is_code_width k) → IsTrue (is_count (2 * k))
+pub double_code_count : (k : ℕ) → IsTrue (is_width k) → IsTrue (is_count (2 * k))
 double_code_count k width = grind (arith, nat_tests)
 
 -- a label stands for each of the 2k points
-labels_fit : (k : ℕ) → IsTrue (is_code_width k) → 2 * k ≤ size (reading_of k).field
+labels_fit : (k : ℕ) → IsTrue (is_width k) → 2 * k ≤ size (reading_of k).field
 unfolding byte_reading byte_field word_reading word_field
 labels_fit k width =
     of_each (λ (r : Reading). 2 * k ≤ size r.field) k
@@ -58,9 +54,9 @@ labels_fit k width =
     (λ above. let few : 2 * k ≤ 65536 = omega (arith, code_width-le k width) in few)
 
 -- so the width has a code over its reading
-pub width_code : (k : ℕ) → IsTrue (is_code_width k) → HasCode (reading_of k).field k
+pub width_code : (k : ℕ) → IsTrue (is_width k) → HasCode (reading_of k).field k
 width_code k width = record { count = double_code_count k width; fits = labels_fit k width }
 
 -- the same of a reading that is the width's
-pub code_fits : (r : Reading) (k : ℕ) → IsTrue (is_code_width k) → r ≡ reading_of k → 2 * k ≤ size r.field
+pub code_fits : (r : Reading) (k : ℕ) → IsTrue (is_width k) → r ≡ reading_of k → 2 * k ≤ size r.field
 code_fits r k width same = subst (λ (s : Reading). 2 * k ≤ size s.field) (sym same) (labels_fit k width)

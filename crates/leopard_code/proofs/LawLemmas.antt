@@ -4,33 +4,23 @@ use Rattle.std.specs.Prelude.{slice_get, slice_index}
 use Rattle.namespace_id.specs.declared.shares.Share.{Share}
 use Rattle.namespace_id.specs.Shares.{AreShares}
 use Rattle.namespace_id.specs.Cells.{is_width}
-use Rattle.leopard_code.specs.Codewords.{reading_of, is_code_width, are_positions, IsCodeword, HasEntries, shares_sum, AreMultiples, AreLines}
+use Rattle.leopard_code.specs.Codewords.{reading_of, are_positions, IsCodeword, HasEntries, shares_sum, AreMultiples, AreLines}
 use Rattle.leopard_code.specs.Laws.{EntriesAreWeightedSums}
-use Rattle.leopard_code.proofs.CodeLemmas.{reading_laws, width_code, code_width, code_width-pos}
+use Rattle.leopard_code.proofs.CodeLemmas.{reading_laws, width_code, code_width-pos}
 use Rattle.leopard_code.proofs.LawReadingLemmas.{one_codeword as one_over, through_shares as through_over, generated as generated_over}
 use Rattle.leopard_code.proofs.LinearLemmas.{codeword_over-sum, codeword_over-multiple}
 use Rattle.leopard_code.proofs.CrossingLemmas.{crossed_row}
 
 -- two codewords with the same shares at k positions are one
-pub only_codeword : (k : ℕ) (known : List ℕ) (word other : List Share) → IsTrue (is_code_width k) → length known ≡ k → IsTrue (are_positions k known)
-    → IsCodeword k word → IsCodeword k other
-    → ((i : ℕ) → i < k → slice_get word (slice_index known i) ≡ slice_get other (slice_index known i)) → word ≡ other
-only_codeword k known word other width = one_over (reading_of k) (reading_laws k) k known word other (width_code k width)
-
--- through k shares at k positions goes a codeword
-pub some_codeword : (k : ℕ) (known : List ℕ) (shares : List Share) → IsTrue (is_code_width k) → length known ≡ k → IsTrue (are_positions k known)
-    → length shares ≡ k → AreShares shares → (word : List Share) × IsCodeword k word × HasEntries known shares word
-some_codeword k known shares width = through_over (reading_of k) (reading_laws k) k known shares (width_code k width)
-
--- both of a width of squares
 pub one_codeword : (k : ℕ) (known : List ℕ) (word other : List Share) → IsTrue (is_width k) → length known ≡ k → IsTrue (are_positions k known)
     → IsCodeword k word → IsCodeword k other
     → ((i : ℕ) → i < k → slice_get word (slice_index known i) ≡ slice_get other (slice_index known i)) → word ≡ other
-one_codeword k known word other width = only_codeword k known word other (code_width k width)
+one_codeword k known word other width = one_over (reading_of k) (reading_laws k) k known word other (width_code k width)
 
+-- through k shares at k positions goes a codeword
 pub through_shares : (k : ℕ) (known : List ℕ) (shares : List Share) → IsTrue (is_width k) → length known ≡ k → IsTrue (are_positions k known)
     → length shares ≡ k → AreShares shares → (word : List Share) × IsCodeword k word × HasEntries known shares word
-through_shares k known shares width = some_codeword k known shares (code_width k width)
+through_shares k known shares width = through_over (reading_of k) (reading_laws k) k known shares (width_code k width)
 
 -- an entry is the same weighted sum of the known ones in each codeword
 pub generated : EntriesAreWeightedSums
@@ -44,7 +34,7 @@ pub codeword-multiple : (k by : ℕ) (word other : List Share) → IsCodeword k 
 codeword-multiple k = codeword_over-multiple (reading_of k) (reading_laws k) k
 
 -- where the first k rows of a square of shares are codewords, and all its columns, all its rows are
-pub crossed : (k : ℕ) (rows cols : ℕ → List Share) → IsTrue (is_code_width k) → AreLines k rows cols
+pub crossed : (k : ℕ) (rows cols : ℕ → List Share) → IsTrue (is_width k) → AreLines k rows cols
     → ((i : ℕ) → i < k → IsCodeword k (rows i)) → ((i : ℕ) → i < 2 * k → IsCodeword k (cols i))
     → (i : ℕ) → i < 2 * k → IsCodeword k (rows i)
 crossed k rows cols width lines upper codes =

@@ -1,12 +1,11 @@
 -- Codewords: lists of 2k shares whose columns of labels are polynomials (docs/RULES.md, "The code").
-use Rattle.std.specs.Prelude.{◌≡◌, ℕ, Bool, ◌&&◌, ◌==◌, ◌||◌, nat_lt, if◌then◌else◌, ◌<◌, ◌≤◌, IsTrue, ◌+◌, ◌-◌, ◌*◌, List, [], ◌∷◌, ◌++◌, map, length, bit_xor, slice_get, slice_index}
+use Rattle.std.specs.Prelude.{◌≡◌, ℕ, Bool, ◌&&◌, nat_lt, if◌then◌else◌, ◌<◌, ◌≤◌, IsTrue, ◌+◌, ◌-◌, ◌*◌, List, [], ◌∷◌, ◌++◌, map, length, bit_xor, slice_get, slice_index}
 use Rattle.std.specs.List.{list_all}
 use Rattle.gf_cantor.specs.Field.{Field, product, size}
 use Rattle.namespace_id.specs.declared.shares.Share.{Share}
 use Rattle.namespace_id.specs.Shares.{AreShares}
 use Rattle.namespace_id.specs.Lists.{holds_along, ascending}
 use Rattle.label_polynomial.specs.Polynomial.{AreCoefficients, PassesThrough}
-use Rattle.namespace_id.specs.Cells.{is_width}
 use Rattle.lch_fft.specs.Readings.{Reading, byte_reading, word_reading}
 use Rattle.lch_fft.specs.Transforms.{is_count, column}
 use Rattle.lch_fft.specs.Butterflies.{multiple}
@@ -41,10 +40,6 @@ reading_of k = if nat_lt 128 k then word_reading else byte_reading
 -- the codewords of a width
 abbrev pub IsCodeword : ℕ → List Share → Type 0
 IsCodeword k word = IsCodewordOver (reading_of k) k word
-
--- whether there is a code of this width: a power of two from 1 to 512
-abbrev pub is_code_width : ℕ → Bool
-is_code_width k = is_width k || (k == 256) || (k == 512)
 
 -- whether k original shares have a code over a field: a transform may have twice their length, and a label stands for
 -- each point

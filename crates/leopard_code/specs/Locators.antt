@@ -6,7 +6,7 @@ use Rattle.label_polynomial.specs.Polynomial.{value_at, AreCoefficients}
 use Rattle.label_polynomial.specs.Derivatives.{derivative_at}
 use Rattle.lch_fft.specs.Readings.{Reading}
 use Rattle.lch_fft.specs.Transforms.{value, column}
-use Rattle.leopard_code.specs.Codewords.{is_code_width}
+use Rattle.namespace_id.specs.Cells.{is_width}
 
 -- those of n positions from the first on that are not among ascending known ones
 unfoldable pub missing_from : ℕ → ℕ → List ℕ → List ℕ
@@ -45,5 +45,5 @@ pub record IsFormalDerivative (r : Reading) (old new : List Share) (c : ℕ) : T
 
 -- a place for an exponent at each position of a codeword
 pub record IsRoom (k : ℕ) (exponents : List ℕ) : Type 0 where
-  pub width : IsTrue (is_code_width k)
+  pub width : IsTrue (is_width k)
   pub size : length exponents ≡ 2 * k

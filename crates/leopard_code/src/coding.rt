@@ -22,7 +22,8 @@
 ghost use Rattle.std.specs.Prelude.{◌≡◌, ◌++◌, ◌*◌, ◌≤◌, IsTrue, length};
 ghost use Rattle.gf_cantor.specs.Field.{size};
 ghost use Rattle.lch_fft.specs.Transforms.{is_count};
-ghost use Rattle.leopard_code.specs.Codewords.{reading_of, is_code_width, are_positions, IsCodeword, HasEntries};
+ghost use Rattle.namespace_id.specs.Cells.{is_width};
+ghost use Rattle.leopard_code.specs.Codewords.{reading_of, are_positions, IsCodeword, HasEntries};
 ghost use Rattle.leopard_code.specs.Locators.{AreDerivatives};
 
 use crate::Room;
@@ -38,7 +39,7 @@ const BYTE_WIDTH: u16 = 128;
 
 /// Makes the k recovery shares of k original ones, over the field of the width. It takes no memory.
 fn extend_over<M: Factor>(k: u16, originals: &[Share], recovery: &mut [Share])
-    requires width { IsTrue (is_code_width k) }
+    requires width { IsTrue (is_width k) }
     requires reading { M.reading ≡ reading_of k }
     requires originals { length originals.now ≡ k }
     requires recovery { length recovery.old ≡ k }
@@ -91,7 +92,7 @@ fn rebuild_over<M: Factor>(
     exponents: &mut [u32],
     all: &mut [Share],
 )
-    requires width { IsTrue (is_code_width k) }
+    requires width { IsTrue (is_width k) }
     requires reading { M.reading ≡ reading_of k }
     requires known { length known.now ≡ k }
     requires positions { IsTrue (are_positions k known.now) }

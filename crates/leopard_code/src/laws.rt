@@ -8,20 +8,21 @@ ghost use Rattle.lch_fft.specs.Readings.{Reading, AreReadingLaws};
 ghost use Rattle.lch_fft.specs.Transforms.{is_count};
 ghost use Rattle.lch_fft.specs.Derivatives.{IsDerived};
 ghost use Rattle.leopard_code.specs.Locators.{IsFormalDerivative};
-ghost use Rattle.leopard_code.specs.Codewords.{reading_of, is_code_width, are_positions, IsCodeword, IsCodewordOver, HasCode, HasEntries, shares_sum, AreMultiples, AreLines};
+ghost use Rattle.namespace_id.specs.Cells.{is_width};
+ghost use Rattle.leopard_code.specs.Codewords.{reading_of, are_positions, IsCodeword, IsCodewordOver, HasCode, HasEntries, shares_sum, AreMultiples, AreLines};
 ghost use Rattle.leopard_code.specs.Laws.{EntriesAreWeightedSums};
 
 /// The laws of codewords. It changes nothing.
 pub fn code_laws()
     // Through k shares at k positions goes a codeword.
     ensures through { (k : ℕ) (known : List ℕ) (shares : List Share) →
-        IsTrue (is_code_width k) → length known ≡ k → IsTrue (are_positions k known) →
+        IsTrue (is_width k) → length known ≡ k → IsTrue (are_positions k known) →
         length shares ≡ k → AreShares shares →
         (word : List Share) × IsCodeword k word × HasEntries known shares word }
 
     // Two codewords that have the same shares at k positions are one.
     ensures one { (k : ℕ) (known : List ℕ) (word other : List Share) →
-        IsTrue (is_code_width k) → length known ≡ k → IsTrue (are_positions k known) →
+        IsTrue (is_width k) → length known ≡ k → IsTrue (are_positions k known) →
         IsCodeword k word → IsCodeword k other →
         ((i : ℕ) → i < k →
         slice_get word (slice_index known i) ≡ slice_get other (slice_index known i)) →
@@ -39,7 +40,7 @@ pub fn code_laws()
     // Where the first k rows of a square of 2k by 2k shares are codewords, and all its columns, all
     // its rows are.
     ensures crossed { (k : ℕ) (rows cols : ℕ → List Share) →
-        IsTrue (is_code_width k) → AreLines k rows cols →
+        IsTrue (is_width k) → AreLines k rows cols →
         ((i : ℕ) → i < k → IsCodeword k (rows i)) →
         ((i : ℕ) → i < 2 * k → IsCodeword k (cols i)) →
         (i : ℕ) → i < 2 * k → IsCodeword k (rows i) }

@@ -1,7 +1,7 @@
 //! A room for the code of one width.
 
 ghost use Rattle.std.specs.Prelude.{◌≡◌, IsTrue, IfOk};
-ghost use Rattle.leopard_code.specs.Codewords.{is_code_width};
+ghost use Rattle.namespace_id.specs.Cells.{is_width};
 
 use namespace_id::NoMemory;
 use std::alloc::Global;
@@ -31,7 +31,7 @@ impl Room {
     /// A room for the code of width `k`, a power of two from 1 to 512. It takes all memory that the
     /// code needs, 8k bytes.
     pub fn new(alloc: Global, k: u16) -> Result<Room, NoMemory>
-        requires { IsTrue (is_code_width k) }
+        requires { IsTrue (is_width k) }
         ensures { IfOk result (λ room. room ≡ k) }
     {
         let exponents = vec![in alloc; 0; 2 * k as usize]?;

@@ -2,7 +2,8 @@
 
 ghost use Rattle.std.specs.Prelude.{◌≡◌, ◌<◌, ◌≤◌, ◌+◌, ◌*◌, ◌%◌, ℕ, IsTrue, length, slice_index};
 ghost use Rattle.gf_cantor.specs.Field.{size};
-ghost use Rattle.leopard_code.specs.Codewords.{is_code_width, are_positions};
+ghost use Rattle.namespace_id.specs.Cells.{is_width};
+ghost use Rattle.leopard_code.specs.Codewords.{are_positions};
 ghost use Rattle.lch_fft.specs.Transforms.{is_count};
 
 use gf_cantor::{field_laws, inv, mul_row};
@@ -38,7 +39,7 @@ pub fn rebuild_twice(
     one: &mut [Share],
     other: &mut [Share],
 )
-    requires width { IsTrue (is_code_width room.old) }
+    requires width { IsTrue (is_width room.old) }
     requires known { length known.now ≡ room.old }
     requires positions { IsTrue (are_positions room.old known.now) }
     requires shares { length shares.now ≡ room.old }
@@ -53,7 +54,7 @@ pub fn rebuild_twice(
 
 /// Originals have one list of recovery shares.
 pub fn extend_twice(room: &mut Room, originals: &[Share], one: &mut [Share], other: &mut [Share])
-    requires width { IsTrue (is_code_width room.old) }
+    requires width { IsTrue (is_width room.old) }
     requires originals { length originals.now ≡ room.old }
     requires one { length one.old ≡ room.old }
     requires other { length other.old ≡ room.old }

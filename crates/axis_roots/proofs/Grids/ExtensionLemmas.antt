@@ -10,7 +10,6 @@ use Rattle.namespace_id.specs.Shares.{AreShares}
 use Rattle.namespace_id.specs.Cells.{is_width}
 use Rattle.namespace_id.proofs.WidthLemmas.{is_width-pos}
 use Rattle.leopard_code.specs.Codewords.{IsCodeword, AreLines}
-use Rattle.leopard_code.proofs.CodeLemmas.{code_width}
 use Rattle.leopard_code.proofs.LawLemmas.{crossed}
 use Rattle.square_layout.specs.Blocks.{SquareShares, IsSquare}
 use Rattle.axis_roots.specs.Lines.{blank, cell_on}
@@ -34,7 +33,7 @@ grid_lines k w = record {
 all_rows : (k : ℕ) (w : Cell → Share) → IsTrue (is_width k) → ((row : ℕ) → row < k → IsCodeword k (map w (axis_cells k Row row)))
     → ((col : ℕ) → col < 2 * k → IsCodeword k (map w (axis_cells k Col col)))
     → (row : ℕ) → row < 2 * k → IsCodeword k (map w (axis_cells k Row row))
-all_rows k w width = crossed k (λ row. map w (axis_cells k Row row)) (λ col. map w (axis_cells k Col col)) (code_width k width) (grid_lines k w)
+all_rows k w width = crossed k (λ row. map w (axis_cells k Row row)) (λ col. map w (axis_cells k Col col)) width (grid_lines k w)
 
 -- a grid that has the square, and codewords as its upper rows and as its columns, extends the square
 pub extends_by_lines : (k : ℕ) (square grid : List Share) → IsTrue (is_width k) → length grid ≡ 2 * k * (2 * k)

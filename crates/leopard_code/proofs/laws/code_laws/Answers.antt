@@ -1,14 +1,14 @@
-use Rattle.leopard_code.proofs.LawLemmas.{some_codeword, only_codeword, generated, codeword-sum, codeword-multiple, crossed}
+use Rattle.leopard_code.proofs.LawLemmas.{through_shares, one_codeword, generated, codeword-sum, codeword-multiple, crossed}
 use Rattle.leopard_code.proofs.LawReadingLemmas.{through_shares as through_over, one_codeword as one_over}
 use Rattle.leopard_code.proofs.LinearLemmas.{codeword_over-sum}
 use Rattle.leopard_code.proofs.DerivativeLemmas.{formal_derivative}
 use Rattle.leopard_code.proofs.laws.code_laws.Goals as goal
 
 pub returns-clause-through : goal.returns-clause-through
-returns-clause-through c = some_codeword
+returns-clause-through c = through_shares
 
 pub returns-clause-one : goal.returns-clause-one
-returns-clause-one c = only_codeword
+returns-clause-one c = one_codeword
 
 pub returns-clause-sum : goal.returns-clause-sum
 returns-clause-sum c = codeword-sum
