@@ -1,25 +1,12 @@
-//! Tests of what no proof can show of frames, streams, files, sessions, light nodes and networks: the bytes of the format, reads
-//! and writes that fail, and calls that succeed where memory is ample. What the program tells of them over files is shown by the
-//! rows of rows/ at the repository's top.
+//! Tests of what no proof can show of sessions, light nodes and networks: the bytes of the format, and calls that succeed where
+//! memory is ample. What the program tells of them over files is shown by the rows of rows/ at the repository's top.
 #![tactic(auto)]
 
-#[cfg(test)]
-mod files;
 #[cfg(test)]
 mod light_nodes;
 #[cfg(test)]
 mod networks;
 #[cfg(test)]
-mod runs;
-#[cfg(test)]
 mod sessions;
 #[cfg(test)]
-mod sinks;
-#[cfg(test)]
-mod spellings;
-#[cfg(test)]
 mod squares;
-#[cfg(test)]
-mod streams;
-#[cfg(test)]
-mod unspellable;

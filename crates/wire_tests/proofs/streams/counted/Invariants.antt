@@ -1,5 +1,5 @@
 use Rattle.std.proofs.Common.{◌≡◌, ◌+◌, length}
-use Rattle.peer_tests.proofs.streams.counted.Given as goal
+use Rattle.wire_tests.proofs.streams.counted.Given as goal
 
 -- the bytes that were taken, and those that are left
 abbrev pub invariant-loop-rest : goal.invariant-loop-rest
