@@ -4,7 +4,7 @@ ghost use Rattle.std.specs.Prelude.{◌≡◌, ◌+◌, ◌^◌, ◌≤◌, ◌<
 ghost use Rattle.std.specs.Option.{option_copied};
 ghost use Rattle.namespace_id.specs.Answers.{HasRoom};
 ghost use Rattle.share_split.specs.Blobs.{first_blob_content, later_content, max_sequence_length, info, version_of, signer_bytes, sequence_share, first_share, later_share, later_shares, count_from, share_count, blob_shares_of};
-ghost use Rattle.share_split.specs.Joined.{padding_share};
+ghost use Rattle.share_split.specs.Joined.{padding_of, padding_share};
 
 use namespace_id::{NAMESPACE_SIZE, Namespace, SHARE_SIZE, Share, write_at};
 use std::marker::Model;
@@ -211,6 +211,15 @@ pub fn padding_share(namespace: &Namespace) -> Share
     ensures { result ≡ padding_share namespace.now }
 {
     first_share(namespace, None, 0, &[])
+}
+
+/// Padding of share version 1, as it stands behind a blob with a signer: it is a padding share but for its version.
+///
+/// Celestia specifications, "Shares", padding.
+pub fn signed_padding_share(namespace: &Namespace) -> Share
+    ensures { result ≡ padding_of 1 namespace.now }
+{
+    sequence_share(namespace, 1, true, &0u32.to_be_bytes(), &[], &[])
 }
 
 /// A later share of a blob's sequence.

@@ -10,7 +10,7 @@ use Rattle.namespace_id.specs.Sizes.{most_shares}
 use Rattle.namespace_id.specs.Shares.{IsShare, AreShares}
 use Rattle.namespace_id.proofs.StringLemmas.{AreBytes-none, AreBytes-append, AreBytes-take, AreBytes-drop}
 use Rattle.share_split.specs.Blobs.{later_content, signer_size, max_sequence_length, version_of, signer_bytes, first_blob_content, later_shares, share_count, blob_shares_of}
-use Rattle.share_split.specs.Joined.{padding_share}
+use Rattle.share_split.specs.Joined.{padding_of, padding_share}
 use Rattle.share_split.proofs.Writing.UnitLaws.{AreBytes-number, sequence_fits}
 
 -- ---- their number
@@ -52,7 +52,7 @@ later_are_shares (suc count) name version bytes low named fits = (
 )
 
 -- the version of a blob is 0 or 1
-version_of-low : (signer : Option (List ℕ)) → version_of signer ≤ 1
+pub version_of-low : (signer : Option (List ℕ)) → version_of signer ≤ 1
 version_of-low None = omega arith
 version_of-low (Some signer) = omega arith
 
@@ -75,5 +75,10 @@ blob_shares_are_shares name signer bytes named signed fits =
     )
 
 -- padding is a share
+pub gap_is_share : (version : ℕ) (name : Namespace) → version ≤ 1 → IsNamespace name → IsShare (padding_of version name)
+gap_is_share version name low named =
+    sequence_fits name version true (to_be_bytes w32 0) [] low (omega arith) named (AreBytes-number 0) AreBytes-none
+
+-- that of version 0 is
 pub padding_is_share : (name : Namespace) → IsNamespace name → IsShare (padding_share name)
-padding_is_share name named = sequence_fits name 0 true (to_be_bytes w32 0) [] (omega arith) (omega arith) named (AreBytes-number 0) AreBytes-none
+padding_is_share name named = gap_is_share 0 name (omega arith) named
