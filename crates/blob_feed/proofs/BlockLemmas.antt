@@ -11,7 +11,7 @@ use Rattle.namespace_id.specs.Names.{IsNamespace, named_by}
 use Rattle.namespace_id.specs.Shares.{name_in}
 use Rattle.share_split.specs.Blobs.{NamedBytes, blob_shares_of}
 use Rattle.share_split.specs.Joined.{padding_share, IsBlob, AreBlobs}
-use Rattle.square_layout.specs.Layout.{has_name, share_count_of, start_after, placed}
+use Rattle.square_layout.specs.Layout.{has_name, share_count_of, start_after, placed, placed_behind}
 use Rattle.square_layout.specs.ShareNames.{AreNamed, BlobSharesAreNamed, PaddingIsNamed}
 use Rattle.square_layout.proofs.ReadBackLemmas.{no_blobs, both_blobs, some_padding, one_blob}
 use Rattle.square_serve.specs.Shares.{is_named}
@@ -100,7 +100,7 @@ own_part of_blobs name one is = part_of name one.namespace (blob_shares_of one.n
 
 -- the layout of no blobs
 placed_none : (before : Namespace) (end : ℕ) → placed before end [] ≡ []
-unfolding placed
+unfolding placed_behind
 placed_none before end = refl
 
 -- and of one more
@@ -108,7 +108,7 @@ placed_step : (before : Namespace) (end : ℕ) (one : NamedBytes) (blobs : List 
     → placed before end (one ∷ blobs) ≡ replicate (start_after end one - end) (padding_share before)
     ++ blob_shares_of one.namespace one.signer one.bytes
     ++ placed one.namespace (start_after end one + share_count_of one) blobs
-unfolding placed
+unfolding placed_behind
 placed_step before end one blobs = refl
 
 -- the padding before a blob, the blob, and the rest of a layout

@@ -13,7 +13,7 @@ use Rattle.share_split.specs.Units.{unit_shares_of}
 use Rattle.share_split.specs.Joined.{padding_share, IsBlob, AreBlobs}
 use Rattle.share_split.specs.Walks.{blobs_of}
 use Rattle.square_layout.specs.Blocks.{BlockParts}
-use Rattle.square_layout.specs.Layout.{share_count_of, start_after, placed, in_order, compact_part, compact_end, laid, width_for, square_of}
+use Rattle.square_layout.specs.Layout.{share_count_of, start_after, placed, placed_behind, in_order, compact_part, compact_end, laid, width_for, square_of}
 use Rattle.square_layout.specs.ShareNames.{AreNamed, BlobSharesAreNamed, UnitSharesAreNamed, PaddingIsNamed}
 use Rattle.square_layout.proofs.BlobOrderLemmas.{All-in_order}
 use Rattle.square_serve.specs.Shares.{is_named}
@@ -128,7 +128,7 @@ AreNames blobs = AllByRecursion (λ blob. is_blob_namespace blob.namespace.0 ≡
 -- blobs at their places, with their padding
 placed_others : BlobSharesAreNamed → PaddingIsNamed → (name : Namespace) (end : ℕ) (blobs : List NamedBytes) → IsOther name → length name.0 ≡ 29
     → AllByRecursion IsBlob blobs → AreNames blobs → AreOtherShares (placed name end blobs)
-unfolding placed
+unfolding placed_behind
 placed_others of_blobs of_padding name end [] other size are names = tt
 placed_others of_blobs of_padding name end (one ∷ blobs) other size are names =
     let gap : List Share = replicate (start_after end one - end) (padding_share name) in

@@ -1,5 +1,5 @@
 -- Lemmas on all shares of a square.
-use Rattle.std.proofs.Common.{◌≡◌, ◌∙◌, ℕ, ◌+◌, ◌-◌, ◌*◌, ◌≤◌, max, true, List, [], ◌++◌, length, replicate, sym, ap, ap₂, subst, arith, inl, inr, length-append}
+use Rattle.std.proofs.Common.{false, ◌≡◌, ◌∙◌, ℕ, ◌+◌, ◌-◌, ◌*◌, ◌≤◌, max, true, List, [], ◌++◌, length, replicate, sym, ap, ap₂, subst, arith, inl, inr, length-append}
 use Rattle.std.proofs.lemmas.List.{length-replicate}
 use Rattle.std.proofs.lemmas.Bool.{cases_lt}
 use Rattle.std.proofs.lemmas.Bool.Decides.{nat_tests}
@@ -13,7 +13,7 @@ use Rattle.share_split.specs.Units.{unit_shares_of}
 use Rattle.share_split.specs.Joined.{padding_share}
 use Rattle.share_split.proofs.Writing.UnitLaws.{unit_shares_are_counted}
 use Rattle.square_layout.specs.Blocks.{BlockParts}
-use Rattle.square_layout.specs.Layout.{in_order, end_of, placed, compact_part, compact_end, laid, needed}
+use Rattle.square_layout.specs.Layout.{in_order, end_of, placed, placed_behind, compact_part, compact_end, laid, needed}
 use Rattle.square_layout.specs.Refusals.{max_shares}
 use Rattle.square_layout.proofs.PlaceLemmas.{end_of-ge, length-placed}
 use Rattle.square_layout.proofs.SizeLemmas.{at_least_one}
@@ -31,7 +31,7 @@ pub length-laid : (block : BlockParts) → length (laid block) ≡ end_of (compa
 length-laid block =
     length-append (compact_part block) (placed primary_reserved_padding (compact_end block) (in_order block.blobs))
     ∙ ap (λ (n : ℕ). n + length (placed primary_reserved_padding (compact_end block) (in_order block.blobs))) (length-compact_part block)
-    ∙ length-placed primary_reserved_padding (compact_end block) (in_order block.blobs)
+    ∙ length-placed false (padding_share primary_reserved_padding) (compact_end block) (in_order block.blobs)
 
 -- a number or 1 is the greater of both
 at_least_one-max : (n : ℕ) → at_least_one n ≡ max 1 n
@@ -82,15 +82,17 @@ blobs_fit block out blobs most o b h =
     subst (λ (n : ℕ). n ≤ most) (sym (ap₂ end_of (ap length o ∙ length-compact_part block) b)) (end_fits block most h)
 
 -- then the blobs
-pub laid_there : (block : BlockParts) (out new : List Share) (blobs : List NamedBytes) → out ≡ compact_part block → blobs ≡ in_order block.blobs
-    → new ≡ out ++ placed primary_reserved_padding (length out) blobs → new ≡ laid block
-laid_there block out new blobs o b n =
-    n ∙ ap₂ (λ (l : List Share) (e : ℕ). l ++ placed primary_reserved_padding e blobs) o (ap length o ∙ length-compact_part block)
+pub laid_there : (block : BlockParts) (gap : Share) (out new : List Share) (blobs : List NamedBytes) → gap ≡ padding_share primary_reserved_padding
+    → out ≡ compact_part block → blobs ≡ in_order block.blobs → new ≡ out ++ placed_behind false gap (length out) blobs → new ≡ laid block
+laid_there block gap out new blobs g o b n =
+    n ∙ ap (λ (s : Share). out ++ placed_behind false s (length out) blobs) g
+    ∙ ap₂ (λ (l : List Share) (e : ℕ). l ++ placed primary_reserved_padding e blobs) o (ap length o ∙ length-compact_part block)
     ∙ ap (λ (l : List NamedBytes). compact_part block ++ placed primary_reserved_padding (compact_end block) l) b
 
 -- and the padding behind them
-pub padded_there : (block : BlockParts) (before all : List Share) (size to : ℕ) → before ≡ laid block → to ≡ size
-    → all ≡ before ++ replicate (to - length before) (padding_share tail_padding)
+pub padded_there : (block : BlockParts) (pad : Share) (before all : List Share) (size to : ℕ) → pad ≡ padding_share tail_padding
+    → before ≡ laid block → to ≡ size → all ≡ before ++ replicate (to - length before) pad
     → all ≡ laid block ++ replicate (size - length (laid block)) (padding_share tail_padding)
-padded_there block before all size to b t a =
-    a ∙ ap₂ (λ (l : List Share) (n : ℕ). l ++ replicate (n - length l) (padding_share tail_padding)) b t
+padded_there block pad before all size to p b t a =
+    a ∙ ap (λ (s : Share). before ++ replicate (to - length before) s) p
+    ∙ ap₂ (λ (l : List Share) (n : ℕ). l ++ replicate (n - length l) (padding_share tail_padding)) b t

@@ -15,3 +15,5 @@ pub mod OrderLawLemmas
 pub mod SquareLemmas
 pub mod BlobLemmas
 pub mod ReadBackLemmas
+pub mod PlanLemmas
+pub mod PlanStanding

@@ -1,5 +1,5 @@
 -- The namespaces of the shares of a square never fall.
-use Rattle.std.proofs.Common.{◌≡◌, ◌∙◌, ℕ, ◌+◌, ◌-◌, Bool, true, ◌&&◌, List, [], ◌∷◌, ◌++◌, length, map, replicate, refl, sym, ap, subst, inl, inr, ⊎_elim, append_assoc}
+use Rattle.std.proofs.Common.{◌≡◌, ◌∙◌, ℕ, zero, suc, ◌+◌, ◌-◌, Bool, true, ◌&&◌, List, [], ◌∷◌, ◌++◌, length, map, replicate, refl, sym, ap, subst, inl, inr, ⊎_elim, append_assoc}
 use Rattle.std.specs.List.{AllByRecursion}
 use Rattle.std.proofs.lemmas.List.{append-nil}
 use Rattle.std.proofs.lemmas.Bool.{cases_Bool, true≢false}
@@ -9,13 +9,15 @@ use Rattle.namespace_id.specs.Lists.{holds_along}
 use Rattle.namespace_id.specs.Names.{is_at_most, transaction, pay_for_blob, primary_reserved_padding, tail_padding}
 use Rattle.namespace_id.proofs.OrderLemmas.{at_most_refl, at_most_trans, at_most_total}
 use Rattle.namespace_id.specs.Shares.{name_in}
-use Rattle.share_split.specs.Blobs.{NamedBytes, blob_shares_of}
+use Rattle.share_split.specs.Blobs.{version_of, NamedBytes, blob_shares_of}
 use Rattle.share_split.specs.Units.{unit_shares_of}
 use Rattle.share_split.specs.Joined.{padding_share}
 use Rattle.square_layout.specs.Blocks.{BlockParts}
-use Rattle.square_layout.specs.Layout.{put_in, in_order, start_after, share_count_of, placed, compact_end, laid}
+use Rattle.square_layout.specs.Layout.{put_in, in_order, start_after, share_count_of, placed, placed_behind, gap_behind, compact_end, laid}
+use Rattle.square_layout.specs.Plans.{PlanParts, front, lead, planned}
+use Rattle.std.specs.Int.{w32, to_be_bytes}
 use Rattle.square_layout.specs.ShareNames.{AreNamed}
-use Rattle.square_layout.proofs.ShareNameLemmas.{blob_shares_of-named, unit_shares_of-named, padding-named}
+use Rattle.square_layout.proofs.ShareNameLemmas.{name_in-sequence_share, blob_shares_of-named, unit_shares_of-named, padding-named}
 use Rattle.square_layout.proofs.BlobOrderLemmas.{All-in_order}
 
 -- ---- shares whose namespaces never fall, from a namespace on
@@ -82,7 +84,7 @@ BlobsRise-in_order (blob ∷ blobs) h = BlobsRise-put_in primary_reserved_paddin
 -- the shares of blobs, and the padding behind them
 RiseFrom-placed : (name : Namespace) (end : ℕ) (blobs : List NamedBytes) (count : ℕ) → length name.0 ≡ 29 → is_at_most name tail_padding ≡ true
     → AllByRecursion IsBetween blobs → BlobsRise name blobs → RiseFrom name (placed name end blobs ++ replicate count (padding_share tail_padding))
-unfolding placed
+unfolding placed_behind
 RiseFrom-placed name end [] count n high between up =
     subst (RiseFrom name) (append-nil (replicate count (padding_share tail_padding)))
     (RiseFrom-named name tail_padding (replicate count (padding_share tail_padding)) [] high (padding-named count tail_padding refl) tt)
@@ -117,3 +119,63 @@ names_rise block count between =
     (RiseFrom-named transaction transaction first (second ++ (others ++ tail)) refl (unit_shares_of-named transaction block.units refl)
     (RiseFrom-named transaction pay_for_blob second (others ++ tail) refl (unit_shares_of-named pay_for_blob block.pay_units refl)
     (RiseFrom-lower pay_for_blob primary_reserved_padding (others ++ tail) refl rest))))
+
+-- ---- the square of a plan
+
+-- padding behind a blob has its namespace
+gap_behind-named : (blob : NamedBytes) → length blob.namespace.0 ≡ 29 → name_in (gap_behind true blob) ≡ blob.namespace
+gap_behind-named blob n = name_in-sequence_share blob.namespace (version_of blob.signer) true (to_be_bytes w32 0) [] n
+
+-- a share of a namespace, so many times
+alike-named : (count : ℕ) (name : Namespace) (share : Share) → name_in share ≡ name → AreNamed name (replicate count share)
+alike-named zero name share h = tt
+alike-named (suc count) name share h = (h, alike-named count name share h)
+
+-- the padding in front of the first blob
+lead-named : (count : ℕ) (blobs : List NamedBytes) → AreNamed primary_reserved_padding (lead count blobs)
+unfolding lead
+lead-named count [] = tt
+lead-named count (blob ∷ blobs) = padding-named count primary_reserved_padding refl
+
+-- the shares of blobs, and the padding behind them
+RiseFrom-placed_behind : (name : Namespace) (gap : Share) (end : ℕ) (blobs : List NamedBytes) (count : ℕ) → name_in gap ≡ name
+    → is_at_most name tail_padding ≡ true → AllByRecursion IsBetween blobs → BlobsRise name blobs
+    → RiseFrom name (placed_behind true gap end blobs ++ replicate count (padding_share tail_padding))
+unfolding placed_behind
+RiseFrom-placed_behind name gap end [] count n high between up =
+    subst (RiseFrom name) (append-nil (replicate count (padding_share tail_padding)))
+    (RiseFrom-named name tail_padding (replicate count (padding_share tail_padding)) [] high (padding-named count tail_padding refl) tt)
+RiseFrom-placed_behind name gap end (blob ∷ blobs) count n high between up =
+    let before : List Share = replicate (start_after end blob - end) gap in
+    let own : List Share = blob_shares_of blob.namespace blob.signer blob.bytes in
+    let others : List Share = placed_behind true (gap_behind true blob) (start_after end blob + share_count_of blob) blobs in
+    let tail : List Share = replicate count (padding_share tail_padding) in
+    let rest : RiseFrom blob.namespace (others ++ tail) =
+    RiseFrom-placed_behind blob.namespace (gap_behind true blob) (start_after end blob + share_count_of blob) blobs count
+    (gap_behind-named blob between.0.size) between.0.high between.1 up.1 in
+    let grouped : before ++ own ++ others ++ tail ≡ before ++ (own ++ (others ++ tail)) = simp append_assoc in
+    subst (RiseFrom name) (sym grouped)
+    (RiseFrom-named name name before (own ++ (others ++ tail)) (at_most_refl name) (alike-named (start_after end blob - end) name gap n)
+    (RiseFrom-named name blob.namespace own (others ++ tail) up.0 (blob_shares_of-named blob.namespace blob.signer blob.bytes between.0.size) rest))
+
+-- the namespaces of a plan's square never fall
+pub plan_names_rise : (plan : PlanParts) (count : ℕ) → AllByRecursion IsBetween plan.blobs
+    → holds_along is_at_most (map name_in (planned plan ++ replicate count (padding_share tail_padding))) ≡ true
+plan_names_rise plan count between =
+    let first : List Share = unit_shares_of transaction plan.units in
+    let second : List Share = unit_shares_of pay_for_blob plan.pay_units in
+    let before : List Share = lead (plan.reserve - length (front plan)) plan.blobs in
+    let others : List Share = placed_behind true (padding_share primary_reserved_padding) plan.reserve (in_order plan.blobs) in
+    let tail : List Share = replicate count (padding_share tail_padding) in
+    let rest : RiseFrom primary_reserved_padding (others ++ tail) =
+    RiseFrom-placed_behind primary_reserved_padding (padding_share primary_reserved_padding) plan.reserve (in_order plan.blobs) count
+    (name_in-sequence_share primary_reserved_padding 0 true (to_be_bytes w32 0) [] refl) refl (All-in_order IsBetween plan.blobs between)
+    (BlobsRise-in_order plan.blobs between) in
+    let grouped : first ++ second ++ before ++ others ++ tail ≡ first ++ (second ++ (before ++ (others ++ tail))) = simp append_assoc in
+    RiseFrom-along transaction (planned plan ++ tail)
+    (subst (RiseFrom transaction) (sym grouped)
+    (RiseFrom-named transaction transaction first (second ++ (before ++ (others ++ tail))) refl (unit_shares_of-named transaction plan.units refl)
+    (RiseFrom-named transaction pay_for_blob second (before ++ (others ++ tail)) refl (unit_shares_of-named pay_for_blob plan.pay_units refl)
+    (RiseFrom-lower pay_for_blob primary_reserved_padding (before ++ (others ++ tail)) refl
+    (RiseFrom-named primary_reserved_padding primary_reserved_padding before (others ++ tail) (at_most_refl primary_reserved_padding)
+    (lead-named (plan.reserve - length (front plan)) plan.blobs) rest)))))

@@ -16,7 +16,7 @@ name_front : (name : Namespace) (rest : List ℕ) → length name.0 ≡ 29 → n
 name_front name rest n = ap (λ (l : List ℕ). let x : Namespace = record { 0 = l } in x) (front name.0 rest 29 n)
 
 -- a share of a sequence has the namespace of the sequence
-name_in-sequence_share : (name : Namespace) (version : ℕ) (start : Bool) (fields content : List ℕ) → length name.0 ≡ 29
+pub name_in-sequence_share : (name : Namespace) (version : ℕ) (start : Bool) (fields content : List ℕ) → length name.0 ≡ 29
     → name_in (sequence_share name version start fields content) ≡ name
 unfolding sequence_share
 name_in-sequence_share name version start fields content n =

@@ -6,17 +6,16 @@ use Rattle.std.proofs.Math.Nat.{pow-suc, one-le-pow}
 use Rattle.std.proofs.lemmas.Bool.{cases_Bool}
 use Rattle.std.proofs.lemmas.Bool.Decides.{nat_tests}
 use Rattle.std.proofs.lemmas.Nat.{mul-le}
-use Rattle.namespace_id.specs.declared.namespaces.Namespace.{Namespace}
 use Rattle.namespace_id.specs.declared.shares.Share.{Share}
 use Rattle.namespace_id.specs.Cells.{is_width}
 use Rattle.namespace_id.specs.Sizes.{greatest_width, most_shares}
 use Rattle.namespace_id.specs.Names.{IsNamespace, transaction, pay_for_blob, primary_reserved_padding, tail_padding}
 use Rattle.namespace_id.specs.Shares.{IsShare, AreShares}
 use Rattle.namespace_id.proofs.StringLemmas.{AreBytes-append, AreBytes-replicate}
-use Rattle.share_split.specs.Blobs.{NamedBytes, IsNamed, blob_shares_of}
+use Rattle.share_split.specs.Blobs.{NamedBytes, IsNamed, version_of, blob_shares_of}
 use Rattle.share_split.specs.Units.{unit_shares_of}
 use Rattle.share_split.specs.Joined.{padding_share}
-use Rattle.share_split.proofs.Writing.BlobLaws.{blob_shares_are_shares, padding_is_share}
+use Rattle.share_split.proofs.Writing.BlobLaws.{version_of-low, blob_shares_are_shares, gap_is_share, padding_is_share}
 use Rattle.share_split.proofs.Writing.UnitLaws.{unit_shares_are_shares}
 use Rattle.square_layout.specs.declared.laying.LayError.{LayError}
 use Rattle.square_layout.specs.declared.laying.LayError.TheVariants.{TooLarge, WidthTooSmall, BadWidth}
@@ -25,11 +24,13 @@ use Rattle.namespace_id.specs.Doublings.{least_doubling}
 use Rattle.namespace_id.proofs.DoublingLemmas.{least_doubling-suc, least_doubling-found}
 use Rattle.namespace_id.proofs.ShareLemmas.{AreShares-append}
 use Rattle.namespace_id.proofs.RefusalLemmas.{if_none}
-use Rattle.square_layout.specs.Layout.{in_order, share_count_of, start_after, placed, compact_end, laid, needed, holds_shares, holding_from, width_for, square_of}
+use Rattle.square_layout.specs.Layout.{in_order, share_count_of, start_after, gap_behind, placed, placed_behind, compact_end, laid, needed, holds_shares, holding_from, width_for, square_of}
+use Rattle.square_layout.specs.Plans.{PlanParts, IsPlan, bound, front, lead, planned, plan_width, square_of_plan}
 use Rattle.square_layout.specs.Refusals.{max_shares, max_count, blob_refusal, width_refusal, size_refusal, layout_refusal}
 use Rattle.square_layout.proofs.AcceptedLemmas.{no_refusal}
 use Rattle.square_layout.proofs.BlobOrderLemmas.{All-in_order}
 use Rattle.square_layout.proofs.LaidLemmas.{length-padded, laid_fits}
+use Rattle.square_layout.proofs.PlanLemmas.{planned_fits}
 use Rattle.square_layout.proofs.LeastWidthLemmas.{holding_holds}
 use Rattle.square_layout.proofs.SizeLemmas.{is_width-double}
 
@@ -114,18 +115,34 @@ tail_is_namespace = record {
   fits = AreBytes-append (replicate 28 0xFF) (replicate 1 0xFE) (AreBytes-replicate 28 0xFF (omega arith)) (AreBytes-replicate 1 0xFE (omega arith));
 }
 
+-- the version of the padding behind a blob
+abbrev pub gap_version : Bool → NamedBytes → ℕ
+gap_version versioned blob = if versioned then version_of blob.signer else 0
+
+pub gap_version-low : (versioned : Bool) (blob : NamedBytes) → gap_version versioned blob ≤ 1
+gap_version-low versioned blob = elim versioned as (λ b. (if b then version_of blob.signer else 0) ≤ 1) [
+  | true ↦ version_of-low blob.signer
+  | false ↦ omega arith
+]
+
+-- the padding before the first blob is a share
+low_padding_is_share : IsShare (padding_share primary_reserved_padding)
+low_padding_is_share = padding_is_share primary_reserved_padding (low_is_namespace 0xFF (omega arith))
+
 -- placed blobs and their padding are shares
-placed-shares_law : (name : Namespace) (end : ℕ) (blobs : List NamedBytes) → IsNamespace name → AllByRecursion IsNamed blobs → AreShares (placed name end blobs)
-unfolding placed
-placed-shares_law name end [] named all = tt
-placed-shares_law name end (blob ∷ blobs) named all =
-    let gap : List Share = replicate (start_after end blob - end) (padding_share name) in
+placed-shares_law : (versioned : Bool) (before : Share) (end : ℕ) (blobs : List NamedBytes) → IsShare before → AllByRecursion IsNamed blobs
+    → AreShares (placed_behind versioned before end blobs)
+unfolding placed_behind
+placed-shares_law versioned before end [] is all = tt
+placed-shares_law versioned before end (blob ∷ blobs) is all =
+    let gap : List Share = replicate (start_after end blob - end) before in
     let own : List Share = blob_shares_of blob.namespace blob.signer blob.bytes in
-    let others : List Share = placed blob.namespace (start_after end blob + share_count_of blob) blobs in
+    let others : List Share = placed_behind versioned (gap_behind versioned blob) (start_after end blob + share_count_of blob) blobs in
     AreShares-append (gap ++ own) others
-    (AreShares-append gap own (AreShares-replicate (start_after end blob - end) (padding_share name) (padding_is_share name named))
+    (AreShares-append gap own (AreShares-replicate (start_after end blob - end) before is)
     (blob_shares_are_shares blob.namespace blob.signer blob.bytes all.0.name all.0.signer all.0.fits))
-    (placed-shares_law blob.namespace (start_after end blob + share_count_of blob) blobs all.0.name all.1)
+    (placed-shares_law versioned (gap_behind versioned blob) (start_after end blob + share_count_of blob) blobs
+    (gap_is_share (gap_version versioned blob) blob.namespace (gap_version-low versioned blob) all.0.name) all.1)
 
 -- a square has shares
 pub square_has_shares : (block : BlockParts) → IsBlock block → AreShares (square_of block).shares
@@ -138,6 +155,42 @@ square_has_shares block is =
     (AreShares-append (units ++ pay_units) blobs
     (AreShares-append units pay_units (unit_shares_are_shares transaction block.units (low_is_namespace 1 (omega arith)) is.units)
     (unit_shares_are_shares pay_for_blob block.pay_units (low_is_namespace 4 (omega arith)) is.pay_units))
-    (placed-shares_law primary_reserved_padding (compact_end block) (in_order block.blobs) (low_is_namespace 0xFF (omega arith))
+    (placed-shares_law false (padding_share primary_reserved_padding) (compact_end block) (in_order block.blobs) low_padding_is_share
     (All-in_order IsNamed block.blobs is.blobs)))
+    (AreShares-replicate rest (padding_share tail_padding) (padding_is_share tail_padding tail_is_namespace))
+
+-- ---- the square of a plan
+
+-- it is a square
+pub plan_is_square : (plan : PlanParts) → length (front plan) ≤ plan.reserve → bound plan ≤ max_shares → IsSquare (square_of_plan plan)
+plan_is_square plan room few =
+    let k : ℕ = plan_width plan in
+    let fits : length (planned plan) ≤ k * k = omega (arith, planned_fits plan room, holding_holds (bound plan) few) in
+    record {
+      width = least_is_width (bound plan);
+      count = length-padded (planned plan) (padding_share tail_padding) (k * k) fits;
+    }
+
+-- the padding in front of the first blob is shares
+lead-shares_law : (count : ℕ) (blobs : List NamedBytes) → AreShares (lead count blobs)
+unfolding lead
+lead-shares_law count [] = tt
+lead-shares_law count (blob ∷ blobs) = AreShares-replicate count (padding_share primary_reserved_padding) low_padding_is_share
+
+-- the square of a plan of bytes has shares
+pub plan_has_shares : (plan : PlanParts) → IsPlan plan → AreShares (square_of_plan plan).shares
+plan_has_shares plan is =
+    let units : List Share = unit_shares_of transaction plan.units in
+    let pay_units : List Share = unit_shares_of pay_for_blob plan.pay_units in
+    let first : List Share = lead (plan.reserve - length (front plan)) plan.blobs in
+    let blobs : List Share = placed_behind true (padding_share primary_reserved_padding) plan.reserve (in_order plan.blobs) in
+    let rest : ℕ = plan_width plan * plan_width plan - length (planned plan) in
+    AreShares-append (planned plan) (replicate rest (padding_share tail_padding))
+    (AreShares-append (units ++ pay_units ++ first) blobs
+    (AreShares-append (units ++ pay_units) first
+    (AreShares-append units pay_units (unit_shares_are_shares transaction plan.units (low_is_namespace 1 (omega arith)) is.units)
+    (unit_shares_are_shares pay_for_blob plan.pay_units (low_is_namespace 4 (omega arith)) is.pay_units))
+    (lead-shares_law (plan.reserve - length (front plan)) plan.blobs))
+    (placed-shares_law true (padding_share primary_reserved_padding) plan.reserve (in_order plan.blobs) low_padding_is_share
+    (All-in_order IsNamed plan.blobs is.blobs)))
     (AreShares-replicate rest (padding_share tail_padding) (padding_is_share tail_padding tail_is_namespace))

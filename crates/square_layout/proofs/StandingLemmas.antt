@@ -1,5 +1,5 @@
 -- Where each blob stands in a layout.
-use Rattle.std.proofs.Common.{◌≡◌, ◌∙◌, ℕ, ◌+◌, ◌-◌, ◌*◌, ◌%◌, ◌<◌, ◌≤◌, get_or, Some, List, [], ◌∷◌, ◌++◌, length, take, drop, replicate, refl, sym, ap, ap₂, arith, length-append, append_assoc}
+use Rattle.std.proofs.Common.{false, ◌≡◌, ◌∙◌, ℕ, ◌+◌, ◌-◌, ◌*◌, ◌%◌, ◌<◌, ◌≤◌, get_or, Some, List, [], ◌∷◌, ◌++◌, length, take, drop, replicate, refl, sym, ap, ap₂, arith, length-append, append_assoc}
 use Rattle.std.specs.Int.{div_ceil}
 use Rattle.std.proofs.Math.Seq.{take-append_seam, drop-append_seam}
 use Rattle.std.proofs.Math.Nat.{mul-mod_left}
@@ -14,7 +14,7 @@ use Rattle.share_split.specs.Blobs.{NamedBytes, blob_shares_of}
 use Rattle.share_split.specs.Joined.{padding_share}
 use Rattle.square_layout.specs.Blocks.{BlockParts}
 use Rattle.share_split.proofs.Writing.BlobLaws.{length-blob_shares_of}
-use Rattle.square_layout.specs.Layout.{share_count_of, start_after, end_of, placed, last_name, padding_name, in_order, compact_part, compact_end, laid, width_for, square_of}
+use Rattle.square_layout.specs.Layout.{share_count_of, start_after, end_of, placed, placed_behind, last_name, padding_name, in_order, compact_part, compact_end, laid, width_for, square_of}
 use Rattle.square_layout.proofs.PlaceLemmas.{start_after-ge, length-placed}
 use Rattle.square_layout.proofs.LaidLemmas.{length-compact_part}
 
@@ -35,7 +35,7 @@ middle a b c at size ea eb =
 -- some blobs, and others behind them
 placed-append : (name : Namespace) (end : ℕ) (front back : List NamedBytes)
     → placed name end (front ++ back) ≡ placed name end front ++ placed (last_name name front) (end_of end front) back
-unfolding placed end_of last_name
+unfolding placed_behind end_of last_name
 placed-append name end [] back = refl
 placed-append name end (first ∷ front) back =
     let next : ℕ = start_after end first + share_count_of first in
@@ -48,7 +48,7 @@ placed-cons : (name : Namespace) (end : ℕ) (blob : NamedBytes) (back : List Na
     → placed name end (blob ∷ back)
     ≡ replicate (start_after end blob - end) (padding_share name)
     ++ (blob_shares_of blob.namespace blob.signer blob.bytes ++ placed blob.namespace (start_after end blob + share_count_of blob) back)
-unfolding placed
+unfolding placed_behind
 placed-cons name end blob back =
     append_assoc (replicate (start_after end blob - end) (padding_share name)) (blob_shares_of blob.namespace blob.signer blob.bytes)
     (placed blob.namespace (start_after end blob + share_count_of blob) back)
@@ -62,7 +62,7 @@ length-before_of : (block : BlockParts) (front : List NamedBytes) → length (be
 length-before_of block front =
     length-append (compact_part block) (placed primary_reserved_padding (compact_end block) front)
     ∙ ap (λ (n : ℕ). n + length (placed primary_reserved_padding (compact_end block) front)) (length-compact_part block)
-    ∙ length-placed primary_reserved_padding (compact_end block) front
+    ∙ length-placed false (padding_share primary_reserved_padding) (compact_end block) front
 
 -- the padding before a blob
 abbrev pub gap_of : BlockParts → List NamedBytes → NamedBytes → List Share

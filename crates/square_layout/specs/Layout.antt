@@ -1,5 +1,5 @@
 -- Where the shares of a block stand in its square (Celestia specifications, "Square Layout").
-use Rattle.std.specs.Prelude.{ℕ, ◌+◌, ◌-◌, ◌*◌, ◌==◌, nat_le, Bool, List, [], ◌∷◌, ◌++◌, length, replicate, is_some, if◌then◌else◌}
+use Rattle.std.specs.Prelude.{ℕ, ◌+◌, ◌-◌, ◌*◌, ◌==◌, nat_le, Bool, List, [], ◌∷◌, ◌++◌, length, replicate, is_some, false, if◌then◌else◌}
 use Rattle.std.specs.Int.{div_ceil}
 use Rattle.std.specs.Option.{option_map_or}
 use Rattle.std.specs.Str.{bytes_eq}
@@ -8,9 +8,9 @@ use Rattle.namespace_id.specs.declared.shares.Share.{Share}
 use Rattle.namespace_id.specs.Names.{is_at_most, transaction, pay_for_blob, primary_reserved_padding, tail_padding}
 use Rattle.namespace_id.specs.Doublings.{least_doubling}
 use Rattle.share_split.specs.Widths.{subtree_width_of}
-use Rattle.share_split.specs.Blobs.{NamedBytes, share_count, blob_shares_of}
+use Rattle.share_split.specs.Blobs.{NamedBytes, version_of, share_count, blob_shares_of}
 use Rattle.share_split.specs.Units.{unit_shares_of, unit_share_count}
-use Rattle.share_split.specs.Joined.{padding_share}
+use Rattle.share_split.specs.Joined.{padding_of, padding_share}
 use Rattle.square_layout.specs.Blocks.{BlockParts, SquareShares}
 
 -- ---- the order of blobs
@@ -42,14 +42,22 @@ share_count_of blob = share_count (length blob.bytes) (is_some blob.signer)
 abbrev pub start_after : ℕ → NamedBytes → ℕ
 start_after end blob = div_ceil end (subtree_width_of (share_count_of blob)) * subtree_width_of (share_count_of blob)
 
--- the shares of blobs, each behind the padding before it, from place `end` on; the padding has the
--- namespace of the blob before it
-unfoldable pub placed : Namespace → ℕ → List NamedBytes → List Share
-placed name end [] = []
-placed name end (blob ∷ blobs) =
-    replicate (start_after end blob - end) (padding_share name)
+-- the padding behind a blob: of its namespace, and of the version of its shares where gaps have that, else of 0
+abbrev pub gap_behind : Bool → NamedBytes → Share
+gap_behind versioned blob = padding_of (if versioned then version_of blob.signer else 0) blob.namespace
+
+-- the shares of blobs, each behind the padding before it, from place `end` on; the first padding is `gap`, and
+-- the others are those behind the blobs
+unfoldable pub placed_behind : Bool → Share → ℕ → List NamedBytes → List Share
+placed_behind versioned gap end [] = []
+placed_behind versioned gap end (blob ∷ blobs) =
+    replicate (start_after end blob - end) gap
     ++ blob_shares_of blob.namespace blob.signer blob.bytes
-    ++ placed blob.namespace (start_after end blob + share_count_of blob) blobs
+    ++ placed_behind versioned (gap_behind versioned blob) (start_after end blob + share_count_of blob) blobs
+
+-- these with padding of version 0 alone, whose first has this namespace
+abbrev pub placed : Namespace → ℕ → List NamedBytes → List Share
+placed name end blobs = placed_behind false (padding_share name) end blobs
 
 -- the namespace of the last of some blobs, or this one where there is none
 unfoldable pub last_name : Namespace → List NamedBytes → Namespace

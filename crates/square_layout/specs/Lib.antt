@@ -3,3 +3,4 @@ pub mod Layout
 pub mod Refusals
 pub mod ShareNames
 pub mod Laws
+pub mod Plans

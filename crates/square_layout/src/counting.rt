@@ -1,6 +1,7 @@
 //! How many shares a layout has.
 
-ghost use Rattle.std.specs.Prelude.{◌≡◌, ◌+◌, ◌≤◌, ◌^◌, min, map, length};
+ghost use Rattle.std.specs.Prelude.{◌≡◌, ◌+◌, ◌-◌, ◌≤◌, ◌^◌, min, map, length};
+ghost use Rattle.share_split.specs.Widths.{subtree_width_of};
 ghost use Rattle.square_layout.specs.Blocks.{HaveBytes};
 ghost use Rattle.square_layout.specs.Layout.{share_count_of, start_after, end_of, in_order, needed};
 ghost use Rattle.square_layout.specs.Refusals.{max_count};
@@ -18,8 +19,20 @@ fn share_count_of(blob: &Blob) -> u64
     blob_share_count(blob.bytes.len() as u64, blob.signer.is_some())
 }
 
-/// Where a blob starts if what precedes it ends at `end`; 2^64 - 1 for any greater place.
-pub(crate) fn start_after(end: u64, blob: &Blob) -> u64
+/// The most shares that a blob may take: its own, and before them as much padding as its start may need.
+pub(crate) fn blob_bound(blob: &Blob) -> u64
+    requires { 1 ≤ length blob.now.bytes }
+    ensures { result ≡ share_count_of blob.now + (subtree_width_of (share_count_of blob.now) - 1) }
+{
+    let count = share_count_of(blob);
+    count + (subtree_width(count) - 1)
+}
+
+/// Where a blob starts if what precedes it ends at `end`: at the least multiple of the width of its subtrees that
+/// isn't below; 2^64 - 1 for any greater place. Takes no memory.
+///
+/// Celestia specifications, "Square Layout".
+pub fn start_after(end: u64, blob: &Blob) -> u64
     requires { 1 ≤ length blob.now.bytes }
     ensures { result ≡ min (start_after end blob.now) max_count }
 {
@@ -27,8 +40,8 @@ pub(crate) fn start_after(end: u64, blob: &Blob) -> u64
     end.div_ceil(width).saturating_mul(width)
 }
 
-/// Where a blob ends if what precedes it ends at `end`; 2^64 - 1 for any greater place.
-fn end_after(end: u64, blob: &Blob) -> u64
+/// Where a blob ends if what precedes it ends at `end`; 2^64 - 1 for any greater place. Takes no memory.
+pub fn end_after(end: u64, blob: &Blob) -> u64
     requires { 1 ≤ length blob.now.bytes }
     ensures { result ≡ min (start_after end blob.now + share_count_of blob.now) max_count }
 {

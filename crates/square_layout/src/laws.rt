@@ -12,6 +12,7 @@ ghost use Rattle.share_split.specs.Blobs.{NamedBytes, blob_shares_of};
 ghost use Rattle.share_split.specs.Joined.{padding_share, IsBlob, AreBlobs};
 ghost use Rattle.square_layout.specs.Blocks.{BlockParts, IsBlock, IsSquare};
 ghost use Rattle.square_layout.specs.Layout.{has_name, in_order, share_count_of, start_after, end_of, compact_part, compact_end, laid, needed, holding_from, width_for, square_of};
+ghost use Rattle.square_layout.specs.Plans.{PlanParts, IsPlan, plan_of, starts_after, ArePlaces, AreAtMost, bound, front, planned, square_of_plan};
 ghost use Rattle.square_layout.specs.Refusals.{max_shares, layout_refusal};
 ghost use Rattle.square_layout.specs.ShareNames.{BlobSharesAreNamed, UnitSharesAreNamed, PaddingIsNamed};
 ghost use Rattle.square_layout.specs.Laws.{GapsArePadding};
@@ -98,3 +99,36 @@ pub fn share_laws()
 {
     blob_laws();
 }
+
+/// The blobs of a plan start at the least places that they may have, and end within the most shares that the width is
+/// for. A block without signers is laid out as the plan whose blobs may start behind its compact shares.
+pub fn plan_laws()
+    ensures least { (end : ℕ) (blobs : List NamedBytes) (places : List ℕ) →
+        ArePlaces end blobs places → AreAtMost (starts_after end blobs) places }
+    ensures fits { (plan : PlanParts) →
+        end_of plan.reserve (in_order plan.blobs) ≤ bound plan }
+    ensures held { (plan : PlanParts) →
+        length (front plan) ≤ plan.reserve → length (planned plan) ≤ bound plan }
+    ensures same { (block : BlockParts) →
+        AllByRecursion (λ blob. blob.signer ≡ None) block.blobs →
+        planned (plan_of block) ≡ laid block }
+
+    // What stands in its square, where its compact shares end at or before the place from which its blobs start.
+    ensures stands { (plan : PlanParts) (before after : List NamedBytes) (blob : NamedBytes) →
+        length (front plan) ≤ plan.reserve → in_order plan.blobs ≡ before ++ blob ∷ after →
+        take (share_count_of blob)
+        (drop (start_after (end_of plan.reserve before) blob) (planned plan))
+        ≡ blob_shares_of blob.namespace blob.signer blob.bytes }
+    ensures square { (plan : PlanParts) →
+        length (front plan) ≤ plan.reserve → bound plan ≤ max_shares → IsSquare (square_of_plan plan) }
+
+    // Its shares: behind the compact ones exactly the blobs, in their order, with padding.
+    ensures shares { (plan : PlanParts) → IsPlan plan → AreShares (square_of_plan plan).shares }
+    ensures behind { (plan : PlanParts) → AllByRecursion IsBlob plan.blobs →
+        AreBlobs (drop (length (front plan)) (square_of_plan plan).shares) (in_order plan.blobs) }
+
+    // The namespaces of its square's shares never fall.
+    ensures rising { (plan : PlanParts) →
+        AllByRecursion (λ blob. is_blob_namespace blob.namespace.0 ≡ true) plan.blobs →
+        holds_along is_at_most (map name_in (square_of_plan plan).shares) ≡ true }
+{}

@@ -18,9 +18,10 @@ use crate::putting::{put_blobs, put_padding, put_units};
 use crate::widths::{square_size, width_for};
 use crate::{Block, Square};
 use namespace_id::{
-    MOST_SHARES, NoMemory, NsError, PAY_FOR_BLOB, Share, TAIL_PADDING, TRANSACTION,
+    MOST_SHARES, NoMemory, NsError, PAY_FOR_BLOB, PRIMARY_RESERVED_PADDING, Share, TAIL_PADDING,
+    TRANSACTION,
 };
-use share_split::Blob;
+use share_split::{Blob, padding_share};
 use std::alloc::Global;
 use thiserror::Error;
 
@@ -75,8 +76,10 @@ fn shares_of(alloc: Global, block: &Block, order: &[&Blob], k: u16) -> Result<Ve
         return Err(NoMemory);
     };
     put_compact(alloc, block, &mut shares)?;
-    put_blobs(order, &mut shares)?;
-    put_padding(&TAIL_PADDING, square_size(k) as usize, &mut shares)?;
+    let reserved = padding_share(&PRIMARY_RESERVED_PADDING);
+    put_blobs(false, reserved, order, &mut shares)?;
+    let tail = padding_share(&TAIL_PADDING);
+    put_padding(tail, square_size(k) as usize, &mut shares)?;
     Ok(shares)
 }
 

@@ -17,15 +17,23 @@ fn borrowed(alloc: Global, blobs: &[Blob]) -> Result<Vec<&Blob>, NoMemory>
     Ok(all)
 }
 
-/// Blobs by ascending namespace, and within one namespace as they came.
+/// Borrowed blobs by ascending namespace, and within one namespace as they came.
 ///
 /// Celestia specifications, "Square Layout".
-pub(crate) fn blobs_in_order(alloc: Global, blobs: &[Blob]) -> Result<Vec<&Blob>, NoMemory>
-    ensures { IfOk result (λ order. map (λ blob. blob.now) order.items ≡ in_order blobs.now) }
+pub(crate) fn in_order(blobs: Vec<&Blob>) -> Result<Vec<&Blob>, NoMemory>
+    ensures { IfOk result (λ order. map (λ blob. blob.now) order.items
+        ≡ in_order (map (λ blob. blob.now) blobs.entry.items)) }
 {
-    let mut order = borrowed(alloc, blobs)?;
+    let mut order = blobs;
     let Ok(()) = order.sort_by_key(|blob| blob.namespace) else {
         return Err(NoMemory);
     };
     Ok(order)
+}
+
+/// Blobs by ascending namespace, and within one namespace as they came.
+pub(crate) fn blobs_in_order(alloc: Global, blobs: &[Blob]) -> Result<Vec<&Blob>, NoMemory>
+    ensures { IfOk result (λ order. map (λ blob. blob.now) order.items ≡ in_order blobs.now) }
+{
+    in_order(borrowed(alloc, blobs)?)
 }

@@ -1,30 +1,27 @@
 //! The shares of a square, one part behind another.
 
 ghost use Rattle.std.specs.Prelude.{◌≡◌, ◌≤◌, ◌+◌, ◌-◌, ◌++◌, map, length, replicate, vec_len, OnOk};
-ghost use Rattle.namespace_id.specs.Names.{primary_reserved_padding};
 ghost use Rattle.share_split.specs.Blobs.{blob_shares_of};
 ghost use Rattle.share_split.specs.Units.{unit_shares_of, unit_share_count};
-ghost use Rattle.share_split.specs.Joined.{padding_share};
 ghost use Rattle.square_layout.specs.Blocks.{HaveBytes};
-ghost use Rattle.square_layout.specs.Layout.{share_count_of, start_after, end_of, placed};
+ghost use Rattle.square_layout.specs.Layout.{share_count_of, start_after, end_of, gap_behind, placed_behind};
 ghost use Rattle.square_layout.specs.Refusals.{max_shares};
 
 use crate::counting::start_after;
-use namespace_id::{Namespace, NoMemory, PRIMARY_RESERVED_PADDING, Share};
-use share_split::{Blob, SplitError, Unit, blob_laws, blob_shares, padding_share, unit_shares};
+use namespace_id::{Namespace, NoMemory, Share};
+use share_split::{
+    Blob, SplitError, Unit, blob_laws, blob_shares, padding_share, signed_padding_share,
+    unit_shares,
+};
 use std::alloc::Global;
 
-/// Appends padding shares until there are `to` shares.
-pub(crate) fn put_padding(
-    namespace: &Namespace,
-    to: usize,
-    out: &mut Vec<Share>,
-) -> Result<(), NoMemory>
+/// Appends a padding share until there are `to` shares.
+pub(crate) fn put_padding(gap: Share, to: usize, out: &mut Vec<Share>) -> Result<(), NoMemory>
     requires { vec_len out.old ≤ to }
     ensures { OnOk result (out.new.items ≡
-        out.old.items ++ replicate (to - length out.old.items) (padding_share namespace.now)) }
+        out.old.items ++ replicate (to - length out.old.items) gap) }
 {
-    let Ok(()) = out.resize(to, padding_share(namespace)) else {
+    let Ok(()) = out.resize(to, gap) else {
         return Err(NoMemory);
     };
     Ok(())
@@ -62,34 +59,48 @@ fn put_content(blob: &Blob, out: &mut Vec<Share>) -> Result<(), NoMemory>
     }
 }
 
-/// Appends the shares of a blob behind the padding before it, which has the namespace of what precedes
-/// it.
-fn put_blob(before: &Namespace, blob: &Blob, out: &mut Vec<Share>) -> Result<(), NoMemory>
+/// The padding behind a blob: of its namespace, and of the version of its shares where gaps have that.
+fn gap_behind(versioned: bool, blob: &Blob) -> Share
+    ensures { result ≡ gap_behind versioned blob.now }
+{
+    if versioned && blob.signer.is_some() {
+        signed_padding_share(&blob.namespace)
+    } else {
+        padding_share(&blob.namespace)
+    }
+}
+
+/// Appends the shares of a blob behind the padding before it.
+fn put_blob(gap: Share, blob: &Blob, out: &mut Vec<Share>) -> Result<(), NoMemory>
     requires some { 1 ≤ length blob.now.bytes }
     requires fits { start_after (length out.old.items) blob.now + share_count_of blob.now ≤ max_shares }
     ensures { OnOk result (out.new.items ≡
         out.old.items
-        ++ replicate (start_after (length out.old.items) blob.now - length out.old.items)
-        (padding_share before.now)
+        ++ replicate (start_after (length out.old.items) blob.now - length out.old.items) gap
         ++ blob_shares_of blob.now.namespace blob.now.signer blob.now.bytes) }
 {
     let start = start_after(out.len() as u64, blob);
-    put_padding(before, start as usize, out)?;
+    put_padding(gap, start as usize, out)?;
     put_content(blob, out)
 }
 
-/// Appends the shares of blobs, each behind the padding before it.
-pub(crate) fn put_blobs(blobs: &[&Blob], out: &mut Vec<Share>) -> Result<(), NoMemory>
+/// Appends the shares of blobs, each behind the padding before it, the first behind this.
+pub(crate) fn put_blobs(
+    versioned: bool,
+    gap: Share,
+    blobs: &[&Blob],
+    out: &mut Vec<Share>,
+) -> Result<(), NoMemory>
     requires some { HaveBytes (map (λ blob. blob.now) blobs.now) }
     requires fits { end_of (length out.old.items) (map (λ blob. blob.now) blobs.now) ≤ max_shares }
     ensures { OnOk result (out.new.items ≡
-        out.old.items ++ placed primary_reserved_padding (length out.old.items)
+        out.old.items ++ placed_behind versioned gap (length out.old.items)
         (map (λ blob. blob.now) blobs.now)) }
 {
-    let mut before = PRIMARY_RESERVED_PADDING;
+    let mut before = gap;
     for blob in blobs {
-        put_blob(&before, blob, out)?;
-        before = blob.namespace;
+        put_blob(before, blob, out)?;
+        before = gap_behind(versioned, blob);
     }
     Ok(())
 }

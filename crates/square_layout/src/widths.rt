@@ -14,7 +14,7 @@ pub(crate) fn square_size(k: u16) -> u64
 }
 
 /// The width of the least square that holds so many shares.
-fn least_width(count: u64) -> u16
+pub(crate) fn least_width(count: u64) -> u16
     requires { count ≤ max_shares }
     ensures value { result ≡ holding_from 9 1 count }
     ensures width { is_width result ≡ true }
