@@ -1,0 +1,14 @@
+-- answers that came of several steps
+pub mod Options
+-- varints
+pub mod Varint
+-- readers at the front of bytes: of numbers, tags and values
+pub mod Readers
+-- groups, and the field at the front
+pub mod GroupLemmas
+-- fields one after another, and the last of a number
+pub mod FieldLemmas
+-- fields that were written
+pub mod WrittenLemmas
+-- worked examples
+mod Examples
