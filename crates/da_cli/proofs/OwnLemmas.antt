@@ -16,7 +16,8 @@ use Rattle.square_layout.specs.Blocks.{SquareShares}
 use Rattle.axis_roots.specs.Grids.{IsHeaderOf}
 use Rattle.axis_roots.specs.declared.message.messages.CheckRefusal.TheVariants.{OutOfSquare, NodeCount, Unordered, OtherRoot}
 use Rattle.da_wire.specs.declared.frames.FrameError.TheVariants as wire
-use Rattle.da_wire.specs.Spelling.{max_payload, spelling, IsFrame}
+use Rattle.da_wire.specs.Spelling.{spelling, IsFrame}
+use Rattle.frame_payloads.specs.Payloads.{max_payload}
 use Rattle.da_wire.specs.Reading.{Raw, promised, raw_of}
 use Rattle.da_wire.specs.Frames.{ok_of, raw_in, frames_of}
 use Rattle.da_wire.specs.Walks.{walk_from}

@@ -4,18 +4,19 @@ use Rattle.std.specs.Prelude.{◌==◌, nat_lt}
 use Rattle.std.specs.declared.option.Option.{Option}
 use Rattle.da_wire.specs.declared.frames.Frame.{Frame}
 use Rattle.da_wire.specs.declared.frames.Frame.TheVariants.{Header, Square, Message, Names, Fraud, Missing, Clash, Sample, Request, Block, Commit, Rooted}
-use Rattle.da_wire.specs.Spelling.{spelling, spelled, max_payload, frame as framed, header_kind, square_kind, message_kind, names_kind, fraud_kind, missing_kind, clash_kind, sample_kind, request_kind, block_kind, commit_kind, rooted_kind}
-use Rattle.da_wire.specs.kinds.Header.{header_payload}
-use Rattle.da_wire.specs.kinds.Square.{square_payload}
-use Rattle.da_wire.specs.kinds.Message.{message_payload}
-use Rattle.da_wire.specs.kinds.Names.{names_payload, is_long_answer}
-use Rattle.da_wire.specs.kinds.Fraud.{fraud_payload, is_unwritten}
-use Rattle.da_wire.specs.kinds.Missing.{missing_payload}
-use Rattle.da_wire.specs.kinds.Clash.{has_empty, clash_payload}
-use Rattle.da_wire.specs.kinds.Requests.{sample_payload, request_payload}
-use Rattle.da_wire.specs.kinds.Block.{block_payload, asks_for_zero}
-use Rattle.da_wire.specs.kinds.Commit.{commit_payload, is_long_commit}
-use Rattle.da_wire.specs.kinds.Rooted.{rooted_payload}
+use Rattle.da_wire.specs.Spelling.{spelling, spelled, frame as framed, header_kind, square_kind, message_kind, names_kind, fraud_kind, missing_kind, clash_kind, sample_kind, request_kind, block_kind, commit_kind, rooted_kind}
+use Rattle.frame_payloads.specs.Payloads.{max_payload}
+use Rattle.frame_payloads.specs.kinds.Header.{header_payload}
+use Rattle.frame_payloads.specs.kinds.Square.{square_payload}
+use Rattle.frame_payloads.specs.kinds.Message.{message_payload}
+use Rattle.frame_payloads.specs.kinds.Names.{names_payload, is_long_answer}
+use Rattle.frame_payloads.specs.kinds.Fraud.{fraud_payload, is_unwritten}
+use Rattle.frame_payloads.specs.kinds.Missing.{missing_payload}
+use Rattle.frame_payloads.specs.kinds.Clash.{has_empty, clash_payload}
+use Rattle.frame_payloads.specs.kinds.Requests.{sample_payload, request_payload}
+use Rattle.frame_payloads.specs.kinds.Block.{block_payload, asks_for_zero}
+use Rattle.frame_payloads.specs.kinds.Commit.{commit_payload, is_long_commit}
+use Rattle.frame_payloads.specs.kinds.Rooted.{rooted_payload}
 use Rattle.da_wire.specs.Writing.{AppendsSpelling}
 use Rattle.da_status.specs.declared.status.Status.{Status}
 use Rattle.da_files.specs.Frames.{WritesWith, WritesText}

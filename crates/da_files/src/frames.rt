@@ -1,8 +1,8 @@
 //! Files that are one frame of a kind and nothing else, and outputs of one frame.
 
 ghost use Rattle.std.specs.Prelude.{◌≡◌, ◌≢◌, [], IsSome, false};
-ghost use Rattle.da_wire.specs.kinds.Fraud.{is_unwritten};
-ghost use Rattle.da_wire.specs.kinds.Clash.{has_empty};
+ghost use Rattle.frame_payloads.specs.kinds.Fraud.{is_unwritten};
+ghost use Rattle.frame_payloads.specs.kinds.Clash.{has_empty};
 ghost use Rattle.da_wire.specs.Spelling.{spelling};
 ghost use Rattle.da_wire.specs.declared.frames.Frame.TheVariants as FrameOf;
 ghost use Rattle.da_status.specs.Statuses.{kind_of, output};

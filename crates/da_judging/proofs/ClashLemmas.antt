@@ -7,7 +7,7 @@ use Rattle.std.specs.Option.{option_or}
 use Rattle.std.specs.Str.{bytes_eq}
 use Rattle.nmt_proofs.specs.Parts.{Part, given, leaf, join, digest_of}
 use Rattle.nmt_proofs.specs.Clashes.{clash_at}
-use Rattle.da_wire.specs.kinds.Clash.{has_empty}
+use Rattle.frame_payloads.specs.kinds.Clash.{has_empty}
 
 -- none of two strings is empty
 abbrev AreFull : List ℕ × List ℕ → Type 0

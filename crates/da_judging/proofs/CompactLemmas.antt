@@ -12,9 +12,9 @@ use Rattle.befp_verify.specs.declared.compacting.Compacted.{Compacted}
 use Rattle.befp_verify.specs.declared.compacting.Compacted.TheVariants as made
 use Rattle.befp_verify.specs.Refusals.{HasCause}
 use Rattle.befp_verify.specs.Compacting.{IsCompacted, NamesTwo}
-use Rattle.da_wire.specs.kinds.Clash.{has_empty}
-use Rattle.da_wire.specs.kinds.Fraud.{is_unwritten}
-use Rattle.da_wire.proofs.AcceptedClaims.{accepted_written}
+use Rattle.frame_payloads.specs.kinds.Clash.{has_empty}
+use Rattle.frame_payloads.specs.kinds.Fraud.{is_unwritten}
+use Rattle.frame_payloads.proofs.AcceptedClaims.{accepted_written}
 use Rattle.da_status.specs.declared.status.Status.{Status}
 use Rattle.da_status.specs.Statuses.{kind_of, output}
 use Rattle.da_status.specs.Judging.{first_bad, Judged}

@@ -8,7 +8,7 @@ use Rattle.square_layout.specs.Blocks.{SquareShares}
 use Rattle.axis_roots.specs.Claims.{ClaimParts, Accepts, IsFalseClaim}
 use Rattle.axis_roots.specs.Grids.{IsHeaderOf}
 use Rattle.namespace_id.specs.Cells.{is_width}
-use Rattle.da_wire.proofs.AcceptedClaims.{accepted_written}
+use Rattle.frame_payloads.proofs.AcceptedClaims.{accepted_written}
 use Rattle.sampling.specs.Draws.{draw_limit, drawn_cells}
 use Rattle.light_node.specs.declared.events.Event.{Event}
 use Rattle.light_node.specs.declared.events.Light.{Light}

@@ -13,7 +13,7 @@ use Rattle.repair_queue.specs.declared.verdict.Verdict.{Verdict}
 use Rattle.repair_queue.specs.Closures.{Covers}
 use Rattle.repair_queue.specs.Verdicts.{VerdictParts, whole, missing, fraud, clash, IsVerdict, IsOwnVerdict}
 use Rattle.repair_queue.specs.Answers.{parts_of, SomeNames}
-use Rattle.da_wire.specs.kinds.Clash.{has_empty}
+use Rattle.frame_payloads.specs.kinds.Clash.{has_empty}
 use Rattle.da_wire.specs.Reading.{Raw}
 use Rattle.da_wire.specs.Frames.{frames_of, bad_frame}
 use Rattle.da_wire.specs.Laws.{MessageIsSpelled}

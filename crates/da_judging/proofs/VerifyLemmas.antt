@@ -25,7 +25,7 @@ use Rattle.blob_commit.specs.Proofs.{RowParts, CommitParts, RootedParts, IsRow, 
 use Rattle.blob_commit.specs.Refusals.{commit_refusal, rooted_refusal}
 use Rattle.blob_commit.specs.Places.{IsOwnCommit, IsOwnRooted}
 use Rattle.da_wire.specs.Spelling.{IsFrame}
-use Rattle.da_wire.specs.kinds.Commit.{IsRowSent, IsCommitSent}
+use Rattle.frame_payloads.specs.kinds.Commit.{IsRowSent, IsCommitSent}
 use Rattle.da_status.specs.declared.status.Status.{Status}
 use Rattle.da_status.specs.Statuses.{kind_of, output}
 use Rattle.da_judging.specs.declared.answers.Answer.{Answer}

@@ -14,7 +14,7 @@ use Rattle.light_node.specs.declared.events.Light.TheVariants as light
 use Rattle.light_node.specs.Events.{IsLight}
 use Rattle.da_wire.specs.declared.frames.Frame.TheVariants as frames
 use Rattle.da_wire.specs.Spelling.{spelling}
-use Rattle.da_wire.specs.kinds.Fraud.{is_unwritten}
+use Rattle.frame_payloads.specs.kinds.Fraud.{is_unwritten}
 use Rattle.da_wire.specs.Reading.{Raw}
 use Rattle.da_wire.specs.Frames.{frames_of, message_in, claim_in}
 use Rattle.da_status.specs.declared.status.Asked.TheVariants.{Count}

@@ -9,7 +9,7 @@ ghost use Rattle.light_node.specs.Events.{IsLight};
 ghost use Rattle.light_node.specs.Nodes.{StandsFor, IsSame};
 ghost use Rattle.light_node.specs.Plans.{PicksInside, IsPlan};
 ghost use Rattle.da_wire.specs.declared.frames.Frame.TheVariants as FrameOf;
-ghost use Rattle.da_wire.specs.kinds.Fraud.{is_unwritten};
+ghost use Rattle.frame_payloads.specs.kinds.Fraud.{is_unwritten};
 ghost use Rattle.da_wire.specs.Reading.{raw_seen};
 ghost use Rattle.da_wire.specs.Spelling.{spelling};
 ghost use Rattle.da_wire.specs.Frames.{frames_of};

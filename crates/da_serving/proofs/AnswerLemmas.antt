@@ -17,7 +17,7 @@ use Rattle.axis_roots.specs.declared.answers.NsEntry.{NsEntry}
 use Rattle.axis_roots.proofs.Grids.HeaderLemmas.{header_width}
 use Rattle.square_serve.specs.Answers.{is_wanted, is_placed, HoldsEntry, IsComplete}
 use Rattle.square_serve.specs.Serving.{HeldParts, IsHeld}
-use Rattle.da_wire.specs.kinds.Names.{most_entries, is_long_found, is_long_entry, is_long_answer}
+use Rattle.frame_payloads.specs.kinds.Names.{most_entries, is_long_found, is_long_entry, is_long_answer}
 
 -- no more elements pass a test than there are
 filter_few : {A : Type 0} (test : A → Bool) (xs : List A) → length (filter test xs) ≤ length xs

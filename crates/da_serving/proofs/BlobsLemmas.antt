@@ -28,8 +28,8 @@ use Rattle.da_wire.specs.declared.frames.Frame.TheVariants.{Block, Names}
 use Rattle.da_wire.specs.Spelling.{spelling, frame, spelled, names_kind}
 use Rattle.da_wire.specs.Laws.{OnlyIsSpelled}
 use Rattle.da_wire.specs.Reading.{only_of}
-use Rattle.da_wire.specs.kinds.Block.{blob_bytes}
-use Rattle.da_wire.specs.kinds.Names.{is_long_found, is_long_entry, is_long_answer, names_payload, most_entries}
+use Rattle.frame_payloads.specs.kinds.Block.{blob_bytes}
+use Rattle.frame_payloads.specs.kinds.Names.{is_long_found, is_long_entry, is_long_answer, names_payload, most_entries}
 use Rattle.da_status.specs.declared.status.Status.{Status}
 use Rattle.da_status.specs.declared.status.Status.TheVariants.{BadRequest}
 use Rattle.da_status.specs.declared.status.Asked.TheVariants.{Shares}

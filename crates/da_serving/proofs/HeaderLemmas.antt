@@ -10,10 +10,11 @@ use Rattle.square_layout.specs.Blocks.{SquareShares, IsSquare}
 use Rattle.axis_roots.specs.Grids.{Extends, header_of_grid, IsHeaderOf}
 use Rattle.da_wire.specs.declared.frames.Frame.{Frame}
 use Rattle.da_wire.specs.declared.frames.Frame.TheVariants.{Header}
-use Rattle.da_wire.specs.Spelling.{spelling, max_payload, header_kind, frame as framed}
-use Rattle.da_wire.specs.codec.Texts.{digest_bytes}
-use Rattle.da_wire.specs.kinds.Header.{header_payload}
-use Rattle.da_wire.proofs.MessageLengths.{length-digest_bytes}
+use Rattle.da_wire.specs.Spelling.{spelling, header_kind, frame as framed}
+use Rattle.frame_payloads.specs.Payloads.{max_payload}
+use Rattle.frame_payloads.specs.codec.Texts.{digest_bytes}
+use Rattle.frame_payloads.specs.kinds.Header.{header_payload}
+use Rattle.frame_payloads.proofs.MessageLengths.{length-digest_bytes}
 use Rattle.da_status.specs.declared.status.Status.{Status}
 use Rattle.da_status.specs.Statuses.{kind_of}
 use Rattle.da_files.specs.Frames.{square_in, Writes}

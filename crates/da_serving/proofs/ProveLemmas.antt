@@ -24,7 +24,7 @@ use Rattle.square_serve.specs.Serving.{HeldParts, Holds}
 use Rattle.da_wire.specs.declared.frames.Frame.{Frame}
 use Rattle.da_wire.specs.declared.frames.Frame.TheVariants.{Commit, Rooted}
 use Rattle.da_wire.specs.Spelling.{spelling}
-use Rattle.da_wire.specs.kinds.Rooted.{IsRootedSent}
+use Rattle.frame_payloads.specs.kinds.Rooted.{IsRootedSent}
 use Rattle.da_status.specs.declared.status.Status.{Status}
 use Rattle.da_status.specs.declared.status.Status.TheVariants.{BadRequest}
 use Rattle.da_status.specs.declared.status.Asked.TheVariants.{NoHeader, Range}

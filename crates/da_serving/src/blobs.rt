@@ -10,7 +10,7 @@ ghost use Rattle.square_layout.specs.Refusals.{max_shares, layout_refusal};
 ghost use Rattle.blob_feed.specs.Feeds.{shares_found};
 ghost use Rattle.da_wire.specs.declared.frames.Frame.TheVariants as FrameOf;
 ghost use Rattle.da_wire.specs.Spelling.{spelling};
-ghost use Rattle.da_wire.specs.kinds.Block.{blob_bytes};
+ghost use Rattle.frame_payloads.specs.kinds.Block.{blob_bytes};
 ghost use Rattle.da_files.specs.Contents.{contents_of};
 ghost use Rattle.da_files.specs.Frames.{ReadsSingle};
 ghost use Rattle.da_serving.specs.Blobs.{is_compact, behind_compact, answer_shares, shares_of, shares_in, block_with, Joins, BlobsOf};

@@ -6,7 +6,7 @@ ghost use Rattle.square_layout.specs.Blocks.{SquareShares};
 ghost use Rattle.square_serve.specs.Serving.{Holds};
 ghost use Rattle.da_wire.specs.declared.frames.Frame.TheVariants as FrameOf;
 ghost use Rattle.da_wire.specs.Spelling.{spelling, request_kind};
-ghost use Rattle.da_wire.specs.kinds.Names.{is_long_answer};
+ghost use Rattle.frame_payloads.specs.kinds.Names.{is_long_answer};
 ghost use Rattle.da_files.specs.Contents.{contents_of};
 ghost use Rattle.da_files.specs.Requests.{failing_from, namespaces_in};
 ghost use Rattle.da_serving.specs.Serving.{Gives, Serves};

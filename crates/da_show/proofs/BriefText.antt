@@ -9,7 +9,7 @@ use Rattle.axis_roots.specs.declared.answers.Found.TheVariants.{Range, Absence}
 use Rattle.da_wire.specs.declared.frames.Frame.{Frame}
 use Rattle.da_wire.specs.declared.frames.Frame.TheVariants as frames
 use Rattle.da_wire.specs.declared.briefs.Brief.{Brief}
-use Rattle.da_wire.specs.kinds.Names.{found_place, entry_place}
+use Rattle.frame_payloads.specs.kinds.Names.{found_place, entry_place}
 use Rattle.da_wire.specs.Briefs.{brief_of}
 use Rattle.da_show.specs.Text.{found_line, entry_line, found_place_line, place_line, range_line, absence_line, names_lines, places_lines, names_line, brief_lines, joined, lines_of, text_of}
 

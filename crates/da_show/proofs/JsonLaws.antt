@@ -23,8 +23,8 @@ use Rattle.axis_roots.specs.declared.answers.Found.TheVariants.{Range, Absence}
 use Rattle.axis_roots.specs.Claims.{ClaimParts}
 use Rattle.hash_clash.specs.Collisions.{Strings}
 use Rattle.blob_commit.specs.Proofs.{CommitParts, RootedParts}
-use Rattle.da_wire.specs.kinds.Block.{width_number}
-use Rattle.da_wire.specs.kinds.Names.{found_place, entry_place}
+use Rattle.frame_payloads.specs.kinds.Block.{width_number}
+use Rattle.frame_payloads.specs.kinds.Names.{found_place, entry_place}
 use Rattle.da_wire.specs.declared.frames.Frame.{Frame}
 use Rattle.da_wire.specs.declared.frames.Frame.TheVariants as frames
 use Rattle.da_wire.specs.declared.briefs.Brief.{Brief}

@@ -19,14 +19,14 @@ use Rattle.axis_roots.specs.declared.answers.NsEntry.{NsEntry}
 use Rattle.axis_roots.specs.declared.answers.Found.{Found}
 use Rattle.axis_roots.specs.declared.answers.Found.TheVariants.{Range, Absence}
 use Rattle.blob_commit.specs.Proofs.{CommitParts, RootedParts}
-use Rattle.da_wire.specs.kinds.Block.{width_number}
+use Rattle.frame_payloads.specs.kinds.Block.{width_number}
 use Rattle.da_wire.specs.declared.frames.Frame.{Frame}
 use Rattle.da_wire.specs.declared.frames.Frame.TheVariants as frames
 use Rattle.da_wire.specs.declared.briefs.Brief.{Brief}
 use Rattle.da_wire.specs.declared.briefs.Brief.TheVariants as briefs
-use Rattle.da_wire.specs.declared.briefs.EntryPlace.{EntryPlace}
-use Rattle.da_wire.specs.declared.briefs.FoundPlace.{FoundPlace}
-use Rattle.da_wire.specs.declared.briefs.FoundPlace.TheVariants as places
+use Rattle.frame_payloads.specs.declared.shown.EntryPlace.{EntryPlace}
+use Rattle.frame_payloads.specs.declared.shown.FoundPlace.{FoundPlace}
+use Rattle.frame_payloads.specs.declared.shown.FoundPlace.TheVariants as places
 use Rattle.da_show.specs.Parts.{axis_word, name_word}
 
 -- ---- strings

@@ -4,7 +4,7 @@ ghost use Rattle.std.specs.Prelude.{◌≡◌, ◌++◌, decimal, IfOk, OnOk};
 ghost use Rattle.std.specs.String.{string_bytes};
 ghost use Rattle.sha2.specs.Sha256.{sha256};
 ghost use Rattle.hex.specs.Hex.{encode_lower};
-ghost use Rattle.da_wire.specs.kinds.Block.{width_number};
+ghost use Rattle.frame_payloads.specs.kinds.Block.{width_number};
 ghost use Rattle.da_show.specs.Parts.{axis_word, name_word, digest_word, share_name_word, share_hash_word};
 
 use itoa::Buffer;

@@ -9,22 +9,22 @@ use Rattle.namespace_id.specs.declared.namespaces.Namespace.{Namespace}
 use Rattle.axis_roots.specs.declared.answers.NsEntry.{NsEntry}
 use Rattle.frame_fields.specs.Fields.{◌>>=◌}
 use Rattle.frame_fields.specs.Messages.{message_at}
-use Rattle.da_wire.specs.kinds.Header.{header_at}
-use Rattle.da_wire.specs.kinds.Square.{square_at}
-use Rattle.da_wire.specs.kinds.Names.{names_at, answer_places}
-use Rattle.da_wire.specs.kinds.Fraud.{fraud_at}
-use Rattle.da_wire.specs.kinds.Missing.{missing_at}
-use Rattle.da_wire.specs.kinds.Clash.{clash_at}
-use Rattle.da_wire.specs.kinds.Requests.{sample_at, request_at}
-use Rattle.da_wire.specs.kinds.Block.{block_at}
-use Rattle.da_wire.specs.kinds.Commit.{commit_at}
-use Rattle.da_wire.specs.kinds.Rooted.{rooted_at}
+use Rattle.frame_payloads.specs.kinds.Header.{header_at}
+use Rattle.frame_payloads.specs.kinds.Square.{square_at}
+use Rattle.frame_payloads.specs.kinds.Names.{names_at, answer_places}
+use Rattle.frame_payloads.specs.kinds.Fraud.{fraud_at}
+use Rattle.frame_payloads.specs.kinds.Missing.{missing_at}
+use Rattle.frame_payloads.specs.kinds.Clash.{clash_at}
+use Rattle.frame_payloads.specs.kinds.Requests.{sample_at, request_at}
+use Rattle.frame_payloads.specs.kinds.Block.{block_at}
+use Rattle.frame_payloads.specs.kinds.Commit.{commit_at}
+use Rattle.frame_payloads.specs.kinds.Rooted.{rooted_at}
 use Rattle.da_wire.specs.declared.frames.Frame.{Frame}
 use Rattle.da_wire.specs.declared.frames.Frame.TheVariants as frames
 use Rattle.da_wire.specs.declared.frames.FrameError.{FrameError}
 use Rattle.da_wire.specs.declared.briefs.Brief.{Brief}
 use Rattle.da_wire.specs.declared.briefs.Brief.TheVariants as briefs
-use Rattle.da_wire.specs.declared.briefs.EntryPlace.{EntryPlace}
+use Rattle.frame_payloads.specs.declared.shown.EntryPlace.{EntryPlace}
 use Rattle.da_wire.specs.declared.kinds.Kind.{Kind}
 use Rattle.da_wire.specs.declared.kinds.Kind.TheVariants as kinds
 use Rattle.da_wire.specs.Reading.{Raw, kind_at, value_of_kind, value_at, is_among, tested_raw}

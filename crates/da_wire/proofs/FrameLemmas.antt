@@ -10,23 +10,24 @@ use Rattle.da_wire.specs.declared.frames.Frame.{Frame}
 use Rattle.da_wire.specs.declared.frames.Frame.TheVariants.{Header, Square, Message, Names, Fraud, Missing, Clash, Sample, Request, Block, Commit, Rooted}
 use Rattle.da_wire.specs.declared.frames.FrameError.{FrameError}
 use Rattle.da_wire.specs.declared.frames.FrameError.TheVariants.{Truncated, BadKind}
-use Rattle.da_wire.specs.Spelling.{max_payload, frame, spelled, spelling, IsFrame, header_kind, square_kind, message_kind, names_kind, fraud_kind, missing_kind, clash_kind, sample_kind, request_kind, block_kind, commit_kind, rooted_kind}
-use Rattle.da_wire.specs.kinds.Block.{asks_for_zero, block_payload}
-use Rattle.da_wire.specs.kinds.Header.{header_payload}
-use Rattle.da_wire.specs.kinds.Square.{square_payload}
-use Rattle.da_wire.specs.kinds.Message.{message_payload}
-use Rattle.da_wire.specs.kinds.Names.{names_payload, is_long_answer}
-use Rattle.da_wire.specs.kinds.Fraud.{fraud_payload, is_unwritten}
-use Rattle.da_wire.specs.kinds.Missing.{missing_payload}
-use Rattle.da_wire.specs.kinds.Clash.{has_empty, clash_payload}
-use Rattle.da_wire.specs.kinds.Requests.{sample_payload, request_payload}
-use Rattle.da_wire.specs.kinds.Commit.{is_long_commit, commit_payload}
-use Rattle.da_wire.specs.kinds.Rooted.{rooted_payload}
+use Rattle.da_wire.specs.Spelling.{frame, spelled, spelling, IsFrame, header_kind, square_kind, message_kind, names_kind, fraud_kind, missing_kind, clash_kind, sample_kind, request_kind, block_kind, commit_kind, rooted_kind}
+use Rattle.frame_payloads.specs.Payloads.{max_payload}
+use Rattle.frame_payloads.specs.kinds.Block.{asks_for_zero, block_payload}
+use Rattle.frame_payloads.specs.kinds.Header.{header_payload}
+use Rattle.frame_payloads.specs.kinds.Square.{square_payload}
+use Rattle.frame_payloads.specs.kinds.Message.{message_payload}
+use Rattle.frame_payloads.specs.kinds.Names.{names_payload, is_long_answer}
+use Rattle.frame_payloads.specs.kinds.Fraud.{fraud_payload, is_unwritten}
+use Rattle.frame_payloads.specs.kinds.Missing.{missing_payload}
+use Rattle.frame_payloads.specs.kinds.Clash.{has_empty, clash_payload}
+use Rattle.frame_payloads.specs.kinds.Requests.{sample_payload, request_payload}
+use Rattle.frame_payloads.specs.kinds.Commit.{is_long_commit, commit_payload}
+use Rattle.frame_payloads.specs.kinds.Rooted.{rooted_payload}
 use Rattle.da_wire.specs.Reading.{Raw, raw_of, is_kind, value_at, valued, value_of, tested_raw, tested_frame, frame_of}
 use Rattle.da_wire.specs.Frames.{ok_of}
 use Rattle.da_wire.specs.Writing.{kind_of, AppendsSpelling, IsReadBack, appended}
 use Rattle.da_wire.specs.Laws.{SpelledIsRead, ReadIsSpelled, OneSpelling, IsSpelledFront}
-use Rattle.da_wire.proofs.codec.Readers.{if_false}
+use Rattle.frame_payloads.proofs.codec.Readers.{if_false}
 use Rattle.da_wire.proofs.RawLemmas.{length-frame, raw_again, raw_takes}
 use Rattle.da_wire.proofs.kinds.Form.{IsWritten}
 use Rattle.da_wire.proofs.kinds.Forms.{value_takes, value_again}

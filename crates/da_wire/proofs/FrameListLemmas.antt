@@ -6,12 +6,13 @@ use Rattle.std.proofs.lemmas.Option.{some_pair_parts, none-some}
 use Rattle.namespace_id.specs.Bytes.{AreBytes}
 use Rattle.da_wire.specs.declared.frames.FrameError.{FrameError}
 use Rattle.da_wire.specs.declared.frames.FrameError.TheVariants.{Truncated, TooLong}
-use Rattle.da_wire.specs.Spelling.{max_payload, frame}
+use Rattle.da_wire.specs.Spelling.{frame}
+use Rattle.frame_payloads.specs.Payloads.{max_payload}
 use Rattle.da_wire.specs.Reading.{Raw, promised, raw_of}
 use Rattle.da_wire.specs.Frames.{ok_of, raw_in, frames_of, bad_frame, IsRaw}
 use Rattle.da_wire.specs.Laws.{FramesAreTheFile, FilesAreFrames, BadFrameIsFirst, RawIsFrame}
-use Rattle.da_wire.proofs.codec.Readers.{ok_some, map_some}
-use Rattle.da_wire.proofs.RawLemmas.{length-frame, raw_again, raw_takes}
+use Rattle.frame_payloads.proofs.codec.Readers.{map_some}
+use Rattle.da_wire.proofs.RawLemmas.{length-frame, raw_again, raw_takes, ok_some}
 use Rattle.da_wire.proofs.ListedLemmas.{IsFront, IsReader, walk_again, stop_none, walked, walked_all, walked_some}
 
 -- ---- one frame

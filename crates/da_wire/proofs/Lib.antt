@@ -8,11 +8,9 @@ pub mod ValueListLemmas
 pub mod KindLemmas
 pub mod SingleLemmas
 pub mod BriefLemmas
-pub mod MessageLengths
 pub mod StreamWalks
 pub mod TakingLemmas
 pub mod StreamLemmas
 pub mod PushLemmas
 pub mod CuttingLemmas
-pub mod AcceptedClaims
 pub mod Examples

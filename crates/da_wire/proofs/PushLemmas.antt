@@ -16,7 +16,7 @@ use Rattle.frame_fields.specs.Messages.{message_at}
 use Rattle.da_wire.specs.StreamParts.{StreamParts, front_size, under_way, is_long, front_message, IsStream, IsUnfinished, Keeps, IsTaken}
 use Rattle.da_wire.specs.Streams.{StandsFor, IsPush, first_refusal}
 use Rattle.da_wire.proofs.RawLemmas.{frame_at}
-use Rattle.da_wire.proofs.MessageLengths.{message_at-long}
+use Rattle.frame_payloads.proofs.MessageLengths.{message_at-long}
 use Rattle.da_wire.proofs.StreamLemmas.{part_len, part_head, part_at, seen, stands_on, reached_long, reached_part, reached_whole, stands_next, none_not_long}
 
 -- ---- before and after a push

@@ -1,16 +1,23 @@
 -- A frame that is read is what the bytes at the front spell, and a frame that was written is read.
-use Rattle.std.proofs.Common.{◌≡◌, ◌∙◌, ℕ, zero, suc, ◌+◌, ◌<◌, ◌≤◌, Bool, true, false, ltb, cond, List, [], ◌∷◌, ◌++◌, length, take, drop, Result, Ok, Err, refl, sym, ap, ap₂, subst, arith, length-take-le, ltb-false, le-ltb, lt-ltb, get_or}
+use Rattle.std.proofs.Common.{◌≡◌, ◌∙◌, ℕ, zero, suc, ◌+◌, ◌<◌, ◌≤◌, Bool, true, false, ltb, cond, List, [], ◌∷◌, ◌++◌, length, take, drop, Option, Some, Result, Ok, Err, refl, sym, ap, ap₂, subst, arith, length-take-le, ltb-false, le-ltb, lt-ltb, get_or}
 use Rattle.std.specs.Int.{w32, to_be_bytes, from_be_bytes}
 use Rattle.std.proofs.lemmas.List.{take_at, take-append-drop, length-append, length-drop, take-take, take-append-le, drop-append-le}
+use Rattle.std.proofs.lemmas.Option.{same_Some}
 use Rattle.std.proofs.Math.Seq.{take-nil}
 use Rattle.namespace_id.specs.Bytes.{AreBytes}
 use Rattle.namespace_id.proofs.StringLemmas.{AreBytes-take, AreBytes-drop}
 use Rattle.da_wire.specs.declared.frames.FrameError.TheVariants.{Truncated, TooLong}
-use Rattle.da_wire.specs.Spelling.{max_payload, frame}
+use Rattle.da_wire.specs.Spelling.{frame}
+use Rattle.frame_payloads.specs.Payloads.{max_payload}
 use Rattle.da_wire.specs.Reading.{Raw, promised, raw_of}
-use Rattle.da_wire.specs.Frames.{IsRaw}
-use Rattle.da_wire.proofs.codec.Numbers.{wide32}
-use Rattle.da_wire.proofs.codec.Strings.{AreBytes-rest}
+use Rattle.da_wire.specs.Frames.{ok_of, IsRaw}
+use Rattle.frame_payloads.proofs.codec.Numbers.{wide32}
+use Rattle.frame_payloads.proofs.codec.Strings.{AreBytes-rest}
+
+-- what a reader gave that did not refuse
+pub ok_some : {A E : Type 0} (r : Result A E) (x : A) → ok_of r ≡ Some x → r ≡ Ok x
+ok_some (Ok y) x e = ap (λ z. Ok z) (same_Some y x e)
+ok_some (Err why) x e = absurd cc
 
 -- ---- three tests that must fail
 

@@ -10,17 +10,18 @@ use Rattle.da_wire.specs.declared.frames.Frame.{Frame}
 use Rattle.da_wire.specs.declared.frames.Frame.TheVariants.{Header, Square, Message, Fraud, Missing, Sample, Request, Block}
 use Rattle.da_wire.specs.declared.frames.FrameError.{FrameError}
 use Rattle.da_wire.specs.declared.frames.FrameError.TheVariants.{Truncated, BadKind, TooLong, BadPayload, Trailing, NoMemory}
-use Rattle.da_wire.specs.Spelling.{max_payload, header_kind, square_kind, message_kind, fraud_kind, missing_kind, sample_kind, request_kind, block_kind}
+use Rattle.da_wire.specs.Spelling.{header_kind, square_kind, message_kind, fraud_kind, missing_kind, sample_kind, request_kind, block_kind}
+use Rattle.frame_payloads.specs.Payloads.{max_payload}
 use Rattle.da_wire.specs.Reading.{Raw, promised, raw_of, is_kind, value_at, valued, value_of, is_among, tested_raw, tested_frame, ended, only_of, Reads, ReadsAt}
 use Rattle.da_wire.specs.Values.{value_in, value_and_rest, values_of}
 use Rattle.da_wire.specs.Single.{single, of_payload}
-use Rattle.da_wire.specs.kinds.Header.{header_at}
-use Rattle.da_wire.specs.kinds.Square.{square_at}
+use Rattle.frame_payloads.specs.kinds.Header.{header_at}
+use Rattle.frame_payloads.specs.kinds.Square.{square_at}
 use Rattle.frame_fields.specs.Messages.{message_at}
-use Rattle.da_wire.specs.kinds.Fraud.{fraud_at}
-use Rattle.da_wire.specs.kinds.Missing.{missing_at}
-use Rattle.da_wire.specs.kinds.Requests.{sample_at, request_at}
-use Rattle.da_wire.specs.kinds.Block.{block_at}
+use Rattle.frame_payloads.specs.kinds.Fraud.{fraud_at}
+use Rattle.frame_payloads.specs.kinds.Missing.{missing_at}
+use Rattle.frame_payloads.specs.kinds.Requests.{sample_at, request_at}
+use Rattle.frame_payloads.specs.kinds.Block.{block_at}
 use Rattle.da_wire.proofs.RawLemmas.{frame_at}
 use Rattle.da_wire.proofs.ValueListLemmas.{value_found, value_missed}
 use Rattle.da_wire.proofs.WalkLemmas.{walk_on, walk_stop}

@@ -3,7 +3,7 @@ use Rattle.std.proofs.Common.{◌≡◌, ◌∙◌, ℕ, ◌+◌, ◌-◌, ◌<�
 use Rattle.std.proofs.lemmas.Bool.{false≢true, lt-leb, cases_lt, cases_Bool}
 use Rattle.std.proofs.Math.Seq.{take-add}
 use Rattle.std.proofs.lemmas.Bool.{and_parts, leb-true, ltb-true}
-use Rattle.da_wire.specs.Spelling.{max_payload}
+use Rattle.frame_payloads.specs.Payloads.{max_payload}
 use Rattle.da_wire.specs.Reading.{promised}
 use Rattle.da_wire.specs.StreamParts.{is_long, IsUnfinished, Keeps, IsTaken}
 use Rattle.da_wire.proofs.RawLemmas.{promised-take}

@@ -13,7 +13,7 @@ use Rattle.da_wire.specs.Reading.{Raw, is_among, value_at, valued, value_of, tes
 use Rattle.da_wire.specs.Frames.{ok_of}
 use Rattle.da_wire.specs.Values.{value_in, values_of, bad_value, text_of, IsValue}
 use Rattle.da_wire.specs.Laws.{ValuesAreTheFile, FilesAreValues, BadValueIsFirst, IsSpelledFront}
-use Rattle.da_wire.proofs.codec.Readers.{ok_some}
+use Rattle.da_wire.proofs.RawLemmas.{ok_some}
 use Rattle.da_wire.proofs.FrameLemmas.{Answer, spelled_some, tested_read, tested_spelled}
 use Rattle.da_wire.proofs.ListedLemmas.{IsFront, IsReader, walk_again, stop_none, walked, walked_all, walked_some}
 

@@ -11,11 +11,11 @@ use Rattle.da_wire.specs.declared.kinds.Kind.TheVariants as kinds
 use Rattle.da_wire.specs.Spelling.{names_kind, fraud_kind, missing_kind, sample_kind, request_kind, block_kind}
 use Rattle.da_wire.specs.Reading.{kind_at}
 use Rattle.da_wire.specs.Values.{value_and_rest}
-use Rattle.da_wire.specs.kinds.Names.{names_at, entry_place, answer_places}
-use Rattle.da_wire.specs.kinds.Fraud.{fraud_at}
-use Rattle.da_wire.specs.kinds.Missing.{missing_at}
-use Rattle.da_wire.specs.kinds.Requests.{sample_at, request_at}
-use Rattle.da_wire.specs.kinds.Block.{block_at}
+use Rattle.frame_payloads.specs.kinds.Names.{names_at, entry_place, answer_places}
+use Rattle.frame_payloads.specs.kinds.Fraud.{fraud_at}
+use Rattle.frame_payloads.specs.kinds.Missing.{missing_at}
+use Rattle.frame_payloads.specs.kinds.Requests.{sample_at, request_at}
+use Rattle.frame_payloads.specs.kinds.Block.{block_at}
 
 -- the kinds whose frames may be short
 abbrev pub brief_kinds : List ℕ

@@ -2,10 +2,11 @@
 use Rattle.std.specs.Prelude.{◌≡◌, ◌<◌, ◌≤◌, ℕ, ◌+◌, ◌==◌, List, length, Option, Some, None, Result, Ok, Err, if◌then◌else◌}
 use Rattle.std.specs.List.{flat_map}
 use Rattle.std.specs.Option.{option_map}
-use Rattle.da_wire.specs.Spelling.{max_payload, frame, message_kind, fraud_kind}
+use Rattle.da_wire.specs.Spelling.{frame, message_kind, fraud_kind}
+use Rattle.frame_payloads.specs.Payloads.{max_payload}
 use Rattle.da_wire.specs.Reading.{Raw, raw_of}
 use Rattle.frame_fields.specs.Messages.{message_at}
-use Rattle.da_wire.specs.kinds.Fraud.{fraud_at}
+use Rattle.frame_payloads.specs.kinds.Fraud.{fraud_at}
 use Rattle.da_wire.specs.Walks.{walk_from, stop_from}
 use Rattle.axis_roots.specs.declared.message.messages.Message.{Message}
 use Rattle.axis_roots.specs.Claims.{ClaimParts}

@@ -8,7 +8,7 @@ use Rattle.da_wire.specs.declared.frames.Frame.{Frame}
 use Rattle.da_wire.specs.declared.frames.FrameError.{FrameError}
 use Rattle.da_wire.specs.Spelling.{frame, spelling, IsFrame}
 use Rattle.frame_fields.specs.Messages.{message_at}
-use Rattle.da_wire.specs.kinds.Message.{message_payload}
+use Rattle.frame_payloads.specs.kinds.Message.{message_payload}
 use Rattle.da_wire.specs.Reading.{Raw, raw_of, is_among, tested_frame, frame_of, only_of}
 use Rattle.da_wire.specs.Writing.{kind_of}
 use Rattle.da_wire.specs.Frames.{frames_of, bad_frame, frames_bytes, IsRaw}

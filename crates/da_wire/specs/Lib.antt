@@ -1,5 +1,3 @@
-pub mod codec
-pub mod kinds
 pub mod Spelling
 pub mod Reading
 pub mod Walks

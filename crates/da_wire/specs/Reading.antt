@@ -12,18 +12,19 @@ use Rattle.da_wire.specs.declared.frames.Frame.TheVariants.{Header, Square, Mess
 use Rattle.da_wire.specs.declared.frames.RawFrame.{RawFrame}
 use Rattle.da_wire.specs.declared.frames.FrameError.{FrameError}
 use Rattle.da_wire.specs.declared.frames.FrameError.TheVariants.{Truncated, BadKind, TooLong, BadPayload, Trailing}
-use Rattle.da_wire.specs.Spelling.{max_payload, header_kind, square_kind, message_kind, names_kind, fraud_kind, missing_kind, clash_kind, sample_kind, request_kind, block_kind, commit_kind, rooted_kind}
-use Rattle.da_wire.specs.kinds.Header.{header_at}
-use Rattle.da_wire.specs.kinds.Square.{square_at}
+use Rattle.da_wire.specs.Spelling.{header_kind, square_kind, message_kind, names_kind, fraud_kind, missing_kind, clash_kind, sample_kind, request_kind, block_kind, commit_kind, rooted_kind}
+use Rattle.frame_payloads.specs.Payloads.{max_payload}
+use Rattle.frame_payloads.specs.kinds.Header.{header_at}
+use Rattle.frame_payloads.specs.kinds.Square.{square_at}
 use Rattle.frame_fields.specs.Messages.{message_at}
-use Rattle.da_wire.specs.kinds.Names.{names_at}
-use Rattle.da_wire.specs.kinds.Fraud.{fraud_at}
-use Rattle.da_wire.specs.kinds.Missing.{missing_at}
-use Rattle.da_wire.specs.kinds.Clash.{clash_at}
-use Rattle.da_wire.specs.kinds.Requests.{sample_at, request_at}
-use Rattle.da_wire.specs.kinds.Block.{block_at}
-use Rattle.da_wire.specs.kinds.Commit.{commit_at}
-use Rattle.da_wire.specs.kinds.Rooted.{rooted_at}
+use Rattle.frame_payloads.specs.kinds.Names.{names_at}
+use Rattle.frame_payloads.specs.kinds.Fraud.{fraud_at}
+use Rattle.frame_payloads.specs.kinds.Missing.{missing_at}
+use Rattle.frame_payloads.specs.kinds.Clash.{clash_at}
+use Rattle.frame_payloads.specs.kinds.Requests.{sample_at, request_at}
+use Rattle.frame_payloads.specs.kinds.Block.{block_at}
+use Rattle.frame_payloads.specs.kinds.Commit.{commit_at}
+use Rattle.frame_payloads.specs.kinds.Rooted.{rooted_at}
 
 -- ---- kinds
 
@@ -140,11 +141,6 @@ Reads full view (Err e) read = ((e ≡ full) × IsOk read) ⊎ (read ≡ Err e)
 abbrev pub ReadsAt : {X Y : Type 0} → (X → Y) → Result X FrameError → Result Y FrameError → Type 0
 ReadsAt view (Ok x) read = read ≡ Ok (view x)
 ReadsAt view (Err e) read = read ≡ Err e
-
--- a call answers the value that a payload holds, or that memory ran out where there is one
-abbrev pub GivesUnlessFull : {X E : Type 0} → Result (Option X) E → Option X → Type 0
-GivesUnlessFull (Ok x) read = read ≡ x
-GivesUnlessFull (Err e) read = IsSome read
 
 -- a raw frame, with the bytes of its payload
 abbrev pub raw_seen : RawFrame → Raw

@@ -13,22 +13,19 @@ use Rattle.namespace_id.specs.Shares.{AreShares}
 use Rattle.axis_roots.specs.Messages.{IsMessage}
 use Rattle.axis_roots.specs.Answers.{AreEntries}
 use Rattle.axis_roots.specs.Claims.{IsClaim}
-use Rattle.da_wire.specs.codec.Texts.{IsCell}
-use Rattle.da_wire.specs.kinds.Header.{header_payload}
-use Rattle.da_wire.specs.kinds.Square.{square_payload}
-use Rattle.da_wire.specs.kinds.Message.{message_payload}
-use Rattle.da_wire.specs.kinds.Names.{names_payload, is_long_answer}
-use Rattle.da_wire.specs.kinds.Fraud.{fraud_payload, is_unwritten}
-use Rattle.da_wire.specs.kinds.Missing.{missing_payload}
-use Rattle.da_wire.specs.kinds.Clash.{AreStrings, has_empty, clash_payload}
-use Rattle.da_wire.specs.kinds.Requests.{sample_payload, request_payload}
-use Rattle.da_wire.specs.kinds.Block.{block_payload, asks_for_zero}
-use Rattle.da_wire.specs.kinds.Commit.{IsCommitSent, is_long_commit, commit_payload}
-use Rattle.da_wire.specs.kinds.Rooted.{IsRootedSent, rooted_payload}
-
--- the greatest payload: 256 MiB
-abbrev pub max_payload : ℕ
-max_payload = 268435456
+use Rattle.frame_payloads.specs.Payloads.{max_payload}
+use Rattle.frame_payloads.specs.codec.Texts.{IsCell}
+use Rattle.frame_payloads.specs.kinds.Header.{header_payload}
+use Rattle.frame_payloads.specs.kinds.Square.{square_payload}
+use Rattle.frame_payloads.specs.kinds.Message.{message_payload}
+use Rattle.frame_payloads.specs.kinds.Names.{names_payload, is_long_answer}
+use Rattle.frame_payloads.specs.kinds.Fraud.{fraud_payload, is_unwritten}
+use Rattle.frame_payloads.specs.kinds.Missing.{missing_payload}
+use Rattle.frame_payloads.specs.kinds.Clash.{AreStrings, has_empty, clash_payload}
+use Rattle.frame_payloads.specs.kinds.Requests.{sample_payload, request_payload}
+use Rattle.frame_payloads.specs.kinds.Block.{block_payload, asks_for_zero}
+use Rattle.frame_payloads.specs.kinds.Commit.{IsCommitSent, is_long_commit, commit_payload}
+use Rattle.frame_payloads.specs.kinds.Rooted.{IsRootedSent, rooted_payload}
 
 -- the kind of a header: `H`
 abbrev pub header_kind : ℕ

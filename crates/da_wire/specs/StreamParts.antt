@@ -1,9 +1,10 @@
 -- What a stream of frames keeps.
 use Rattle.std.specs.Prelude.{◌≡◌, ℕ, ◌+◌, ◌++◌, true, false, ◌-◌, ◌<◌, ◌≤◌, List, length, take, drop, slice_index, nat_le, nat_lt, ◌&&◌, ◌==◌, Bool, Option, None, if◌then◌else◌}
-use Rattle.da_wire.specs.Spelling.{max_payload, message_kind}
+use Rattle.da_wire.specs.Spelling.{message_kind}
+use Rattle.frame_payloads.specs.Payloads.{max_payload}
 use Rattle.axis_roots.specs.declared.message.messages.Message.{Message}
 use Rattle.frame_fields.specs.Messages.{message_at}
-use Rattle.da_wire.specs.kinds.Message.{most_message}
+use Rattle.frame_payloads.specs.kinds.Message.{most_message}
 use Rattle.da_wire.specs.Reading.{promised}
 
 -- how many bytes of a frame are kept: the head, and the greatest payload of a sample

@@ -3,18 +3,19 @@ use Rattle.std.specs.Prelude.{◌≡◌, ◌≤◌, ◌<◌, ◌^◌, ℕ, List,
 use Rattle.da_wire.specs.declared.frames.Frame.{Frame}
 use Rattle.da_wire.specs.declared.frames.Frame.TheVariants.{Header, Square, Message, Names, Fraud, Missing, Clash, Sample, Request, Block, Commit, Rooted}
 use Rattle.da_wire.specs.Reading.{frame_of}
-use Rattle.da_wire.specs.Spelling.{max_payload, frame, spelling, header_kind, square_kind, message_kind, names_kind, fraud_kind, missing_kind, clash_kind, sample_kind, request_kind, block_kind, commit_kind, rooted_kind}
-use Rattle.da_wire.specs.kinds.Header.{header_payload}
-use Rattle.da_wire.specs.kinds.Square.{square_payload}
-use Rattle.da_wire.specs.kinds.Message.{message_payload}
-use Rattle.da_wire.specs.kinds.Names.{names_payload}
-use Rattle.da_wire.specs.kinds.Fraud.{fraud_payload}
-use Rattle.da_wire.specs.kinds.Missing.{missing_payload}
-use Rattle.da_wire.specs.kinds.Clash.{clash_payload}
-use Rattle.da_wire.specs.kinds.Requests.{sample_payload, request_payload}
-use Rattle.da_wire.specs.kinds.Block.{block_payload}
-use Rattle.da_wire.specs.kinds.Commit.{commit_payload}
-use Rattle.da_wire.specs.kinds.Rooted.{rooted_payload}
+use Rattle.da_wire.specs.Spelling.{frame, spelling, header_kind, square_kind, message_kind, names_kind, fraud_kind, missing_kind, clash_kind, sample_kind, request_kind, block_kind, commit_kind, rooted_kind}
+use Rattle.frame_payloads.specs.Payloads.{max_payload}
+use Rattle.frame_payloads.specs.kinds.Header.{header_payload}
+use Rattle.frame_payloads.specs.kinds.Square.{square_payload}
+use Rattle.frame_payloads.specs.kinds.Message.{message_payload}
+use Rattle.frame_payloads.specs.kinds.Names.{names_payload}
+use Rattle.frame_payloads.specs.kinds.Fraud.{fraud_payload}
+use Rattle.frame_payloads.specs.kinds.Missing.{missing_payload}
+use Rattle.frame_payloads.specs.kinds.Clash.{clash_payload}
+use Rattle.frame_payloads.specs.kinds.Requests.{sample_payload, request_payload}
+use Rattle.frame_payloads.specs.kinds.Block.{block_payload}
+use Rattle.frame_payloads.specs.kinds.Commit.{commit_payload}
+use Rattle.frame_payloads.specs.kinds.Rooted.{rooted_payload}
 
 -- the byte of the kind of a value
 abbrev pub kind_of : Frame → ℕ
@@ -54,14 +55,6 @@ HasSize value size = MatchOption size (spelling value ≡ None)
 -- the value's one spelling was appended
 abbrev pub AppendsSpelling : Frame → List ℕ → List ℕ → Type 0
 AppendsSpelling value old new = (text : List ℕ) × (spelling value ≡ Some text) × (new ≡ old ++ text)
-
--- a payload so short that four bytes state its length, and count what it has
-abbrev pub IsShort : List ℕ → Type 0
-IsShort payload = length payload < 2 ^ 32
-
--- a length that is within the limit of a payload, none for one above it
-abbrev pub IsWithin : ℕ → Option ℕ → Type 0
-IsWithin size within = MatchOption within (max_payload < size) (λ n. (n ≡ size) × (n ≤ max_payload))
 
 -- the bytes that were appended
 abbrev pub appended : List ℕ → List ℕ → List ℕ

@@ -1,28 +1,25 @@
 //! The lengths and bounds of values at hand.
 
-ghost use Rattle.std.specs.Prelude.{◌≡◌, ◌<◌, ◌^◌, map, false, None, IfSome};
+ghost use Rattle.std.specs.Prelude.{◌<◌, ◌^◌, IfSome};
 ghost use Rattle.std.specs.List.{AllByRecursion};
 ghost use Rattle.namespace_id.specs.Bytes.{AreBytes, IsString};
 ghost use Rattle.namespace_id.specs.Cells.{AreCells};
 ghost use Rattle.namespace_id.specs.Names.{IsNamespace};
 ghost use Rattle.axis_roots.specs.Answers.{AreEntries};
-ghost use Rattle.axis_roots.specs.Claims.{IsClaim};
-ghost use Rattle.axis_roots.specs.Messages.{IsMessage};
-ghost use Rattle.axis_roots.specs.Proved.{kept_message};
 ghost use Rattle.data_header.specs.Headers.{IsHeader};
 ghost use Rattle.share_split.specs.Blobs.{IsNamed, signer_size};
 ghost use Rattle.square_layout.specs.Blocks.{IsBlock};
-ghost use Rattle.da_wire.specs.codec.Texts.{IsCell};
-ghost use Rattle.da_wire.specs.kinds.Clash.{AreStrings};
-ghost use Rattle.da_wire.specs.kinds.Fraud.{is_unwritten};
-ghost use Rattle.da_wire.specs.kinds.Commit.{IsRowSent, IsCommitSent};
-ghost use Rattle.da_wire.specs.kinds.Rooted.{IsRootedSent};
+ghost use Rattle.frame_payloads.specs.codec.Texts.{IsCell};
+ghost use Rattle.frame_payloads.specs.kinds.Clash.{AreStrings};
+ghost use Rattle.frame_payloads.specs.kinds.Commit.{IsRowSent, IsCommitSent};
+ghost use Rattle.frame_payloads.specs.kinds.Rooted.{IsRootedSent};
 ghost use Rattle.da_wire.specs.Spelling.{IsFrame};
 
 use crate::Frame;
-use axis_roots::{FraudProof, NsAnswer, Proved, answer_law, claim_law, message_law};
+use axis_roots::{NsAnswer, answer_law, claim_law, message_law};
 use blob_commit::{CommitProof, CommitRow, RootedMessage, rooted_law, row_law};
 use data_header::Header;
+use frame_payloads::hash_law;
 use hash_clash::Clash;
 use namespace_id::{
     Cell, Cells, Namespace, bytes_law, digests_law, namespace_law, share_law, shares_law,
@@ -126,13 +123,6 @@ fn clash_law(clash: &Clash)
     let _right = clash.right().bytes();
 }
 
-/// Says that a hash has 32 bytes. It changes nothing.
-pub(crate) fn hash_law(hash: &[u8; 32])
-    ensures { IsString 32 hash.now }
-{
-    bytes_law(hash);
-}
-
 /// Says that a row of a commitment proof has digests and hashes, up to `MOST_HASHES` of these and up to
 /// `2 * MOST_DEPTH` nodes. It changes nothing.
 fn sent_row_law(row: &CommitRow)
@@ -172,26 +162,6 @@ fn sent_rooted_law(proof: &RootedMessage)
     let _k = proof.k;
     let _up = proof.up.hashes();
     rooted_law(proof);
-}
-
-/// Says that each certificate of a slice keeps a sample. It changes nothing.
-fn proved_law(cells: &[Proved])
-    ensures { AllByRecursion IsMessage (map kept_message cells.now) }
-{
-    for cell in cells {
-        message_law(cell.message());
-    }
-}
-
-/// Says that the claim of a fraud proof has an index of two bytes, up to `GREATEST_WIDTH` samples and no
-/// set. It changes nothing.
-pub(crate) fn proof_law(proof: &FraudProof)
-    ensures claim { IsClaim proof.now.claim }
-    ensures plain { proof.now.claim.set ≡ None }
-    ensures short { is_unwritten proof.now.claim ≡ false }
-{
-    let _k = proof.width();
-    proved_law(&proof.cells);
 }
 
 /// Says that a value has the lengths and bounds of its type, so that what is written of it is read

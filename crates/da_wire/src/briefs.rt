@@ -5,56 +5,19 @@
 
 ghost use Rattle.std.specs.Prelude.{◌≡◌, ◌<◌, length, IfOk, OnErr, IfSome, IsSome};
 ghost use Rattle.namespace_id.specs.Answers.{Gives};
-ghost use Rattle.da_wire.specs.Reading.{GivesUnlessFull};
+ghost use Rattle.frame_payloads.specs.Payloads.{GivesUnlessFull};
 ghost use Rattle.da_wire.specs.Briefs.{brief_of_kind, brief_at, brief_and_rest};
 
 use crate::kinds::Kind;
-use crate::kinds::block::block;
-use crate::kinds::fraud::fraud;
-use crate::kinds::missing::missing;
-use crate::kinds::names::places;
-use crate::kinds::requests::{request, sample};
 use crate::reading::raw_among;
 use axis_roots::FraudClaim;
+use frame_payloads::{PlaceList, block, fraud, missing, places, request, sample};
 use namespace_id::{Axis, Cell, Cells, Namespace};
 use square_layout::Block;
 use std::alloc::{AllocError, Global};
-use std::marker::Model;
 
 /// The kinds of the frames that may be short.
 const KINDS: &[u8] = b"NBKQPV";
-
-/// Where something is found in a row: a range by the column of its first share and the number of its shares,
-/// an absence by the column of its leaf.
-#[derive(Clone, Copy)]
-pub enum FoundPlace {
-    Range { start: u16, count: u16 },
-    Absence { pos: u16 },
-}
-
-/// The row of an entry of a namespace answer, and where something is found in it.
-#[derive(Clone, Copy)]
-pub struct EntryPlace {
-    pub row: u16,
-    pub found: FoundPlace,
-}
-
-/// Where the entries of a namespace answer found something.
-///
-/// It is a type of its own so that clauses compare lists.
-#[derive(Drop)]
-pub struct PlaceList {
-    pub list: Vec<EntryPlace>,
-}
-
-impl Model for PlaceList {
-    ghost use Rattle.std.specs.Prelude.{List};
-    ghost use Rattle.da_wire.specs.declared.briefs.EntryPlace.{EntryPlace};
-
-    ghost Value = { List EntryPlace };
-
-    ghost view = { λ p. p.list.items };
-}
 
 /// The value of a frame that may be short. Of a namespace answer it has no shares, digests or nodes, but where its
 /// entries found something.
@@ -79,7 +42,7 @@ fn brief_of_kind(alloc: Global, kind: Kind, payload: &[u8]) -> Result<Option<Bri
     ensures { GivesUnlessFull result (brief_of_kind kind payload.now) }
 {
     match kind {
-        Kind::Names => places(alloc, payload),
+        Kind::Names => Ok(places(alloc, payload)?.map(|(name, found)| Brief::Names(name, found))),
         Kind::Fraud => Ok(fraud(alloc, payload)?.map(Brief::Fraud)),
         Kind::Missing => Ok(missing(alloc, payload)?.map(Brief::Missing)),
         Kind::Sample => Ok(sample(payload).map(|(cell, axis)| Brief::Sample(cell, axis))),

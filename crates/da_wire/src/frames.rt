@@ -8,6 +8,9 @@ use namespace_id::{Axis, Cell, Cells, Namespace};
 use square_layout::{Block, Square};
 use thiserror::Error;
 
+/// The bytes in front of a payload: its kind, and its length.
+pub(crate) const HEAD_SIZE: usize = 5;
+
 /// A frame of any kind at the front of bytes. `size` is the length of all of it, 5 more than the
 /// payload's.
 #[derive(Clone, Copy, Debug)]

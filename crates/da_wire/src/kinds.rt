@@ -1,22 +1,8 @@
-//! The kinds of frames, each with what reads, measures and appends its payload.
+//! The kinds of frames.
 
 ghost use Rattle.std.specs.Prelude.{◌≡◌};
 ghost use Rattle.da_wire.specs.Spelling.{kind_byte};
 ghost use Rattle.da_wire.specs.Reading.{kind_at};
-
-pub(crate) mod accused;
-pub(crate) mod block;
-pub(crate) mod clash;
-pub(crate) mod commit;
-pub(crate) mod fraud;
-pub(crate) mod fraud_set;
-pub(crate) mod header;
-pub(crate) mod message;
-pub(crate) mod missing;
-pub(crate) mod names;
-pub(crate) mod requests;
-pub(crate) mod rooted;
-pub(crate) mod square;
 
 /// The kinds of which there are values.
 #[derive(Clone, Copy)]

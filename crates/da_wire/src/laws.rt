@@ -19,17 +19,18 @@ ghost use Rattle.hash_clash.specs.Collisions.{Strings};
 ghost use Rattle.blob_commit.specs.Proofs.{CommitParts, RootedParts, has_commit_shape};
 ghost use Rattle.frame_fields.specs.Fields.{most_nodes};
 ghost use Rattle.da_wire.specs.declared.frames.Frame.TheVariants.{Header, Square, Message, Names, Fraud, Missing, Clash, Sample, Request, Commit, Rooted};
-ghost use Rattle.da_wire.specs.Spelling.{max_payload, spelling};
-ghost use Rattle.da_wire.specs.kinds.Names.{most_entries, most_shares_shown, is_long_answer};
-ghost use Rattle.da_wire.specs.kinds.Fraud.{most_cells, most_set_nodes, is_unwritten};
-ghost use Rattle.da_wire.specs.kinds.Clash.{AreStrings, has_empty};
-ghost use Rattle.da_wire.specs.kinds.Commit.{most_rows, most_subtrees, IsCommitSent, is_long_commit};
-ghost use Rattle.da_wire.specs.kinds.Rooted.{IsRootedSent};
+ghost use Rattle.da_wire.specs.Spelling.{spelling};
+ghost use Rattle.frame_payloads.specs.Payloads.{max_payload};
+ghost use Rattle.frame_payloads.specs.kinds.Names.{most_entries, most_shares_shown, is_long_answer};
+ghost use Rattle.frame_payloads.specs.kinds.Fraud.{most_cells, most_set_nodes, is_unwritten};
+ghost use Rattle.frame_payloads.specs.kinds.Clash.{AreStrings, has_empty};
+ghost use Rattle.frame_payloads.specs.kinds.Commit.{most_rows, most_subtrees, IsCommitSent, is_long_commit};
+ghost use Rattle.frame_payloads.specs.kinds.Rooted.{IsRootedSent};
 ghost use Rattle.da_wire.specs.Laws.{SpelledIsRead, ReadIsSpelled, OneSpelling, OnlyIsSpelled, SpelledIsOnly, MessageIsRead, MessageIsSpelled, RawIsFrame, FramesAreTheFile, FilesAreFrames, BadFrameIsFirst, ValuesAreTheFile, FilesAreValues, BadValueIsFirst};
 ghost use Rattle.da_wire.specs.Streams.{EveryCutting, FramesStay};
 
-use crate::reading::MAX_PAYLOAD;
 use blob_commit::shape_laws;
+use frame_payloads::MAX_PAYLOAD;
 
 /// Each value has at most one spelling, and no spelling is a proper prefix of another; what is read is
 /// what was spelled.

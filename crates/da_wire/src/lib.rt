@@ -6,7 +6,6 @@
 
 mod bounds;
 mod briefs;
-mod codec;
 mod frames;
 mod kinds;
 mod laws;
@@ -16,13 +15,11 @@ mod streams;
 mod writing;
 
 pub use bounds::frame_law;
-pub use briefs::{Brief, EntryPlace, FoundPlace, PlaceList, next_brief};
+pub use briefs::{Brief, next_brief};
+pub use frame_payloads::{EntryPlace, FoundPlace, MAX_PAYLOAD, PlaceList, claim};
 pub use frames::{Frame, FrameError, RawFrame, SpellError};
-pub use kinds::fraud::claim;
 pub use laws::{limit_laws, stream_laws, value_laws, wire_laws};
-pub use reading::{
-    MAX_PAYLOAD, bad_frame, bad_value, next_frame, next_value, raw, read_frame, read_only,
-};
+pub use reading::{bad_frame, bad_value, next_frame, next_value, raw, read_frame, read_only};
 pub use single::{
     next_request, next_sample, read_block, read_claim, read_header, read_message, read_missing,
     read_square,

@@ -13,29 +13,21 @@ ghost use Rattle.std.specs.Prelude.{◌≡◌, ◌↔◌, suc, ◌+◌, ◌<◌,
 ghost use Rattle.std.specs.Option.{option_map};
 ghost use Rattle.namespace_id.specs.Answers.{Gives};
 ghost use Rattle.da_wire.specs.declared.frames.FrameError.TheVariants.{NoMemory};
-ghost use Rattle.da_wire.specs.Reading.{Reads, ReadsAt, raw_seen, raw_of, is_kind, value_of_kind, value_at, value_of, is_among, tested_raw, frame_of, ended, only_of, GivesUnlessFull};
+ghost use Rattle.da_wire.specs.Reading.{Reads, ReadsAt, raw_seen, raw_of, is_kind, value_of_kind, value_at, value_of, is_among, tested_raw, frame_of, ended, only_of};
+ghost use Rattle.frame_payloads.specs.Payloads.{GivesUnlessFull};
 ghost use Rattle.da_wire.specs.Frames.{frames_of, bad_frame};
 ghost use Rattle.da_wire.specs.Writing.{kind_of};
 ghost use Rattle.da_wire.specs.Values.{value_in, value_and_rest, values_of, bad_value};
 
-use crate::codec::sizes::HEAD_SIZE;
+use crate::frames::HEAD_SIZE;
 use crate::kinds::Kind;
-use crate::kinds::block::{block, block_parts};
-use crate::kinds::clash::clash;
-use crate::kinds::commit::{commit, commit_parts};
-use crate::kinds::fraud::{fraud, is_fraud};
-use crate::kinds::header::{header, header_parts};
-use crate::kinds::missing::{missing, missing_parts};
-use crate::kinds::names::{names, names_parts};
-use crate::kinds::requests::{request, sample};
-use crate::kinds::rooted::rooted;
-use crate::kinds::square::{square, square_parts};
 use crate::{Frame, FrameError, RawFrame};
 use frame_fields::message;
+use frame_payloads::{
+    MAX_PAYLOAD, block, clash, commit, fraud, header, is_block, is_commit, is_fraud, is_header,
+    is_missing, is_names, is_square, missing, names, request, rooted, sample, square,
+};
 use std::alloc::{AllocError, Global};
-
-/// The greatest payload of a frame, 256 MiB.
-pub const MAX_PAYLOAD: u32 = 268_435_456;
 
 impl From<AllocError> for FrameError {
     ghost from_gives = { λ _ e. e ≡ NoMemory };
@@ -89,14 +81,14 @@ fn value_of_kind(alloc: Global, kind: Kind, payload: &[u8]) -> Result<Option<Fra
         Kind::Header => Ok(header(alloc, payload)?.map(Frame::Header)),
         Kind::Square => Ok(square(alloc, payload)?.map(Frame::Square)),
         Kind::Message => Ok(message(payload).map(Frame::Message)),
-        Kind::Names => names(alloc, payload),
+        Kind::Names => Ok(names(alloc, payload)?.map(|(name, answer)| Frame::Names(name, answer))),
         Kind::Fraud => Ok(fraud(alloc, payload)?.map(Frame::Fraud)),
         Kind::Missing => Ok(missing(alloc, payload)?.map(Frame::Missing)),
         Kind::Clash => Ok(clash(payload).map(Frame::Clash)),
         Kind::Sample => Ok(sample(payload).map(|(cell, axis)| Frame::Sample(cell, axis))),
         Kind::Request => Ok(request(payload).map(Frame::Request)),
         Kind::Block => Ok(block(alloc, payload)?.map(Frame::Block)),
-        Kind::Commit => commit(alloc, payload),
+        Kind::Commit => Ok(commit(alloc, payload)?.map(Frame::Commit)),
         Kind::Rooted => Ok(rooted(payload).map(Frame::Rooted)),
     }
 }
@@ -117,17 +109,17 @@ fn is_in_form(kind: Kind, payload: &[u8]) -> bool
     ensures { IsTrue result ↔ IsSome (value_of_kind kind payload.now) }
 {
     match kind {
-        Kind::Header => header_parts(payload).is_some(),
-        Kind::Square => square_parts(payload).is_some(),
+        Kind::Header => is_header(payload),
+        Kind::Square => is_square(payload),
         Kind::Message => message(payload).is_some(),
-        Kind::Names => names_parts(payload).is_some(),
+        Kind::Names => is_names(payload),
         Kind::Fraud => is_fraud(payload),
-        Kind::Missing => missing_parts(payload).is_some(),
+        Kind::Missing => is_missing(payload),
         Kind::Clash => clash(payload).is_some(),
         Kind::Sample => sample(payload).is_some(),
         Kind::Request => request(payload).is_some(),
-        Kind::Block => block_parts(payload).is_some(),
-        Kind::Commit => commit_parts(payload).is_some(),
+        Kind::Block => is_block(payload),
+        Kind::Commit => is_commit(payload),
         Kind::Rooted => rooted(payload).is_some(),
     }
 }

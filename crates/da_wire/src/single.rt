@@ -10,16 +10,11 @@ ghost use Rattle.da_wire.specs.Values.{value_and_rest, values_of};
 ghost use Rattle.da_wire.specs.Single.{of_payload, only_header, only_square, only_message, only_claim, only_missing, only_block};
 
 use crate::FrameError;
-use crate::kinds::block::block;
-use crate::kinds::fraud::fraud;
-use crate::kinds::header::header;
-use crate::kinds::missing::missing;
-use crate::kinds::requests::{request, sample};
-use crate::kinds::square::square;
 use crate::reading::{raw_among, refusal_before_more};
 use axis_roots::{FraudClaim, Message};
 use data_header::Header;
 use frame_fields::message;
+use frame_payloads::{block, fraud, header, missing, request, sample, square};
 use namespace_id::{Axis, Cell, Cells, Namespace};
 use square_layout::{Block, Square};
 use std::alloc::Global;

@@ -11,11 +11,11 @@ ghost use Rattle.da_wire.specs.StreamParts.{front_size, is_long, front_message, 
 ghost use Rattle.da_wire.specs.Streams.{StandsFor, IsPush, first_refusal, offset_of};
 ghost use Rattle.da_wire.specs.Frames.{bad_frame};
 
-use crate::codec::sizes::HEAD_SIZE;
-use crate::kinds::message::MOST_MESSAGE;
-use crate::{FrameError, MAX_PAYLOAD};
+use crate::FrameError;
+use crate::frames::HEAD_SIZE;
 use axis_roots::Message;
 use frame_fields::message;
+use frame_payloads::{MAX_PAYLOAD, MOST_MESSAGE};
 use namespace_id::{bytes_law, write_at};
 use std::marker::Model;
 

@@ -4,24 +4,20 @@ ghost use Rattle.std.specs.Prelude.{◌≡◌, length, None, ◌+◌, ◌++◌, 
 ghost use Rattle.namespace_id.specs.Answers.{HasRoom};
 ghost use Rattle.da_wire.specs.Spelling.{kind_byte, spelling};
 ghost use Rattle.da_wire.specs.declared.frames.Frame.TheVariants as FrameOf;
-ghost use Rattle.da_wire.specs.Writing.{kind_of, payload_of, HasSize, AppendsSpelling, IsReadBack, IsShort, appended};
+ghost use Rattle.da_wire.specs.Writing.{kind_of, payload_of, HasSize, AppendsSpelling, IsReadBack, appended};
+ghost use Rattle.frame_payloads.specs.Payloads.{IsShort};
 
-use crate::bounds::{frame_law, proof_law};
-use crate::codec::sizes::HEAD_SIZE;
+use crate::bounds::frame_law;
+use crate::frames::HEAD_SIZE;
 use crate::kinds::Kind;
-use crate::kinds::block::{block_size, put_block};
-use crate::kinds::clash::{clash_size, put_clash};
-use crate::kinds::commit::{commit_size, put_commit};
-use crate::kinds::fraud::{fraud_size, proof_size, put_fraud, put_proof};
-use crate::kinds::header::{header_size, put_header};
-use crate::kinds::message::{message_size, put_message};
-use crate::kinds::missing::{missing_size, put_missing};
-use crate::kinds::names::{names_size, put_names};
-use crate::kinds::requests::{SAMPLE_SIZE, put_sample, request_size};
-use crate::kinds::rooted::{put_rooted, rooted_size};
-use crate::kinds::square::{put_square, square_size};
 use crate::{Frame, SpellError};
 use axis_roots::FraudProof;
+use frame_payloads::{
+    SAMPLE_SIZE, block_size, clash_size, commit_size, fraud_size, header_size, message_size,
+    missing_size, names_size, proof_law, proof_size, put_block, put_clash, put_commit, put_fraud,
+    put_header, put_message, put_missing, put_names, put_proof, put_rooted, put_sample, put_square,
+    request_size, rooted_size, square_size,
+};
 use namespace_id::{NoMemory, append};
 
 /// The kind of a value.
@@ -45,6 +41,7 @@ fn kind_of(frame: &Frame) -> Kind
 }
 
 /// The length of the payload of a value that has a spelling.
+#[tactic(auto, using(crate::proofs::kinds::Form::size_spelled))]
 fn payload_size(frame: &Frame) -> Option<u32>
     ensures { HasSize frame.now result }
 {

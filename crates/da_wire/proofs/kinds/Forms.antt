@@ -1,26 +1,30 @@
 -- What is read of a payload of any kind is what the payload spells, and what is spelled is read.
 use Rattle.std.proofs.Common.{◌≡◌, ◌∙◌, ℕ, Bool, true, false, eqb, cond, List, Option, None, Some, refl, sym, ap, subst, eqb-true}
 use Rattle.std.proofs.lemmas.Option.{same_Some}
+use Rattle.namespace_id.specs.declared.cells.Cell.{Cell}
+use Rattle.namespace_id.specs.declared.cells.Axis.{Axis}
+use Rattle.namespace_id.specs.declared.namespaces.Namespace.{Namespace}
 use Rattle.namespace_id.specs.Bytes.{AreBytes}
+use Rattle.axis_roots.specs.declared.answers.NsEntry.{NsEntry}
 use Rattle.da_wire.specs.declared.frames.Frame.{Frame}
 use Rattle.da_wire.specs.declared.frames.Frame.TheVariants.{Header, Square, Message, Names, Fraud, Missing, Clash, Sample, Request, Block, Commit, Rooted}
 use Rattle.da_wire.specs.declared.kinds.Kind.{Kind}
 use Rattle.da_wire.specs.declared.kinds.Kind.TheVariants as kinds
 use Rattle.da_wire.specs.Spelling.{kind_byte, spelled, spelling, IsFrame}
 use Rattle.da_wire.specs.Reading.{kind_at, value_of_kind, value_at}
-use Rattle.da_wire.proofs.codec.Readers.{bind_some}
+use Rattle.frame_payloads.proofs.codec.Readers.{bind_some}
 use Rattle.da_wire.proofs.kinds.Form.{Spells, IsWritten, form_takes, form_written}
-use Rattle.da_wire.proofs.kinds.HeaderForm.{header_form}
-use Rattle.da_wire.proofs.kinds.SquareForm.{square_form}
-use Rattle.da_wire.proofs.kinds.MessageForm.{message_form}
-use Rattle.da_wire.proofs.kinds.NamesForm.{names_form}
-use Rattle.da_wire.proofs.kinds.FraudForm.{fraud_form}
-use Rattle.da_wire.proofs.kinds.MissingForm.{missing_form}
-use Rattle.da_wire.proofs.kinds.ClashForm.{clash_form}
-use Rattle.da_wire.proofs.kinds.RequestForms.{sample_form, request_form}
-use Rattle.da_wire.proofs.kinds.BlockForm.{block_form}
-use Rattle.da_wire.proofs.kinds.CommitForm.{commit_form}
-use Rattle.da_wire.proofs.kinds.RootedForm.{rooted_form}
+use Rattle.frame_payloads.proofs.kinds.HeaderForm.{header_form}
+use Rattle.frame_payloads.proofs.kinds.SquareForm.{square_form}
+use Rattle.frame_payloads.proofs.kinds.MessageForm.{message_form}
+use Rattle.frame_payloads.proofs.kinds.NamesForm.{names_form}
+use Rattle.frame_payloads.proofs.kinds.FraudForm.{fraud_form}
+use Rattle.frame_payloads.proofs.kinds.MissingForm.{missing_form}
+use Rattle.frame_payloads.proofs.kinds.ClashForm.{clash_form}
+use Rattle.frame_payloads.proofs.kinds.RequestForms.{sample_form, request_form}
+use Rattle.frame_payloads.proofs.kinds.BlockForm.{block_form}
+use Rattle.frame_payloads.proofs.kinds.CommitForm.{commit_form}
+use Rattle.frame_payloads.proofs.kinds.RootedForm.{rooted_form}
 
 -- ---- the byte of a kind
 
@@ -63,20 +67,27 @@ kind_takes byte found e =
 
 -- ---- values
 
+-- the frame of a namespace and an answer, and that of a cell and an axis
+abbrev answer_frame : Namespace × List NsEntry → Frame
+answer_frame x = Names x.0 x.1
+
+abbrev asked_frame : Cell × Axis → Frame
+asked_frame x = Sample x.0 x.1
+
 -- a value of each kind is spelled by the payload of which it is read
 spelled_by : (kind : Kind) (payload : List ℕ) (value : Frame) → AreBytes payload → value_of_kind kind payload ≡ Some value → Spells kind payload value
-spelled_by kinds.Header = form_takes _ _ _ _ _ header_form
-spelled_by kinds.Square = form_takes _ _ _ _ _ square_form
-spelled_by kinds.Message = form_takes _ _ _ _ _ message_form
-spelled_by kinds.Names = form_takes _ _ _ _ _ names_form
-spelled_by kinds.Fraud = form_takes _ _ _ _ _ fraud_form
-spelled_by kinds.Missing = form_takes _ _ _ _ _ missing_form
-spelled_by kinds.Clash = form_takes _ _ _ _ _ clash_form
-spelled_by kinds.Sample = form_takes _ _ _ _ _ sample_form
-spelled_by kinds.Request = form_takes _ _ _ _ _ request_form
-spelled_by kinds.Block = form_takes _ _ _ _ _ block_form
-spelled_by kinds.Commit = form_takes _ _ _ _ _ commit_form
-spelled_by kinds.Rooted = form_takes _ _ _ _ _ rooted_form
+spelled_by kinds.Header = form_takes kinds.Header Header _ _ _ header_form (λ bytes. refl) (λ x. refl)
+spelled_by kinds.Square = form_takes kinds.Square Square _ _ _ square_form (λ bytes. refl) (λ x. refl)
+spelled_by kinds.Message = form_takes kinds.Message Message _ _ _ message_form (λ bytes. refl) (λ x. refl)
+spelled_by kinds.Names = form_takes kinds.Names answer_frame _ _ _ names_form (λ bytes. refl) (λ x. refl)
+spelled_by kinds.Fraud = form_takes kinds.Fraud Fraud _ _ _ fraud_form (λ bytes. refl) (λ x. refl)
+spelled_by kinds.Missing = form_takes kinds.Missing Missing _ _ _ missing_form (λ bytes. refl) (λ x. refl)
+spelled_by kinds.Clash = form_takes kinds.Clash Clash _ _ _ clash_form (λ bytes. refl) (λ x. refl)
+spelled_by kinds.Sample = form_takes kinds.Sample asked_frame _ _ _ sample_form (λ bytes. refl) (λ x. refl)
+spelled_by kinds.Request = form_takes kinds.Request Request _ _ _ request_form (λ bytes. refl) (λ x. refl)
+spelled_by kinds.Block = form_takes kinds.Block Block _ _ _ block_form (λ bytes. refl) (λ x. refl)
+spelled_by kinds.Commit = form_takes kinds.Commit Commit _ _ _ commit_form (λ bytes. refl) (λ x. refl)
+spelled_by kinds.Rooted = form_takes kinds.Rooted Rooted _ _ _ rooted_form (λ bytes. refl) (λ x. refl)
 
 -- a value that is read of a payload is what the payload spells
 pub value_takes : (byte : ℕ) (payload : List ℕ) (value : Frame) → AreBytes payload → value_at byte payload ≡ Some value
@@ -88,15 +99,15 @@ value_takes byte payload value fits e =
 
 -- the payload of a value that is spelled is read as the value
 pub value_again : (value : Frame) (text : List ℕ) → IsFrame value → spelling value ≡ Some text → IsWritten value text
-value_again (Header h) = form_written _ _ _ _ _ header_form (kind_again kinds.Header) h
-value_again (Square s) = form_written _ _ _ _ _ square_form (kind_again kinds.Square) s
-value_again (Message m) = form_written _ _ _ _ _ message_form (kind_again kinds.Message) m
-value_again (Names name answer) = form_written _ _ _ _ _ names_form (kind_again kinds.Names) (name, answer)
-value_again (Fraud claim) = form_written _ _ _ _ _ fraud_form (kind_again kinds.Fraud) claim
-value_again (Missing cells) = form_written _ _ _ _ _ missing_form (kind_again kinds.Missing) cells
-value_again (Clash clash) = form_written _ _ _ _ _ clash_form (kind_again kinds.Clash) clash
-value_again (Sample cell axis) = form_written _ _ _ _ _ sample_form (kind_again kinds.Sample) (cell, axis)
-value_again (Request name) = form_written _ _ _ _ _ request_form (kind_again kinds.Request) name
-value_again (Block b) = form_written _ _ _ _ _ block_form (kind_again kinds.Block) b
-value_again (Commit proof) = form_written _ _ _ _ _ commit_form (kind_again kinds.Commit) proof
-value_again (Rooted proof) = form_written _ _ _ _ _ rooted_form (kind_again kinds.Rooted) proof
+value_again (Header h) = form_written kinds.Header Header _ _ _ header_form (λ bytes. refl) (λ x. refl) (kind_again kinds.Header) h
+value_again (Square s) = form_written kinds.Square Square _ _ _ square_form (λ bytes. refl) (λ x. refl) (kind_again kinds.Square) s
+value_again (Message m) = form_written kinds.Message Message _ _ _ message_form (λ bytes. refl) (λ x. refl) (kind_again kinds.Message) m
+value_again (Names name answer) = form_written kinds.Names answer_frame _ _ _ names_form (λ bytes. refl) (λ x. refl) (kind_again kinds.Names) (name, answer)
+value_again (Fraud claim) = form_written kinds.Fraud Fraud _ _ _ fraud_form (λ bytes. refl) (λ x. refl) (kind_again kinds.Fraud) claim
+value_again (Missing cells) = form_written kinds.Missing Missing _ _ _ missing_form (λ bytes. refl) (λ x. refl) (kind_again kinds.Missing) cells
+value_again (Clash clash) = form_written kinds.Clash Clash _ _ _ clash_form (λ bytes. refl) (λ x. refl) (kind_again kinds.Clash) clash
+value_again (Sample cell axis) = form_written kinds.Sample asked_frame _ _ _ sample_form (λ bytes. refl) (λ x. refl) (kind_again kinds.Sample) (cell, axis)
+value_again (Request name) = form_written kinds.Request Request _ _ _ request_form (λ bytes. refl) (λ x. refl) (kind_again kinds.Request) name
+value_again (Block b) = form_written kinds.Block Block _ _ _ block_form (λ bytes. refl) (λ x. refl) (kind_again kinds.Block) b
+value_again (Commit proof) = form_written kinds.Commit Commit _ _ _ commit_form (λ bytes. refl) (λ x. refl) (kind_again kinds.Commit) proof
+value_again (Rooted proof) = form_written kinds.Rooted Rooted _ _ _ rooted_form (λ bytes. refl) (λ x. refl) (kind_again kinds.Rooted) proof

@@ -1,7 +1,7 @@
 use Rattle.std.proofs.Common.{subst, arith}
 use Rattle.std.proofs.lemmas.List.Elements.{All-more}
 use Rattle.namespace_id.proofs.ElementLemmas.{all_passed}
-use Rattle.da_wire.specs.kinds.Commit.{IsRowSent}
+use Rattle.frame_payloads.specs.kinds.Commit.{IsRowSent}
 use Rattle.da_wire.proofs.bounds.sent_rows_law.Goals as goal
 
 pub loop-row-preserved : goal.loop-row-preserved

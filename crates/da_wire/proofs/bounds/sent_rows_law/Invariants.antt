@@ -1,6 +1,6 @@
 use Rattle.std.proofs.Common.{take}
 use Rattle.std.specs.List.{All}
-use Rattle.da_wire.specs.kinds.Commit.{IsRowSent}
+use Rattle.frame_payloads.specs.kinds.Commit.{IsRowSent}
 use Rattle.da_wire.proofs.bounds.sent_rows_law.Given as goal
 
 -- so are those before this one

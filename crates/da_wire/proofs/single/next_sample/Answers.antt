@@ -3,7 +3,7 @@ use Rattle.da_wire.specs.declared.frames.Frame.TheVariants.{Sample}
 use Rattle.da_wire.specs.Spelling.{sample_kind}
 use Rattle.da_wire.specs.Reading.{raw_seen}
 use Rattle.da_wire.specs.Values.{value_in}
-use Rattle.da_wire.specs.kinds.Requests.{sample_at}
+use Rattle.frame_payloads.specs.kinds.Requests.{sample_at}
 use Rattle.da_wire.proofs.WalkLemmas.{walk_stop}
 use Rattle.da_wire.proofs.ValueListLemmas.{frame_missed}
 use Rattle.da_wire.proofs.SingleLemmas.{sample_value, found_after, found_values, missed_after, missed_values}

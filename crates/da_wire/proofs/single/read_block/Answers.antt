@@ -2,7 +2,7 @@ use Rattle.std.proofs.Common.{refl}
 use Rattle.da_wire.specs.declared.frames.Frame.TheVariants.{Block}
 use Rattle.da_wire.specs.Spelling.{block_kind}
 use Rattle.da_wire.specs.Single.{block_of}
-use Rattle.da_wire.specs.kinds.Block.{block_at}
+use Rattle.frame_payloads.specs.kinds.Block.{block_at}
 use Rattle.da_wire.proofs.SingleLemmas.{block_value, single_read, single_full}
 use Rattle.da_wire.proofs.single.read_block.Goals as goal
 

@@ -2,7 +2,7 @@ use Rattle.std.proofs.Common.{refl}
 use Rattle.da_wire.specs.declared.frames.Frame.TheVariants.{Fraud}
 use Rattle.da_wire.specs.Spelling.{fraud_kind}
 use Rattle.da_wire.specs.Single.{claim_of}
-use Rattle.da_wire.specs.kinds.Fraud.{fraud_at}
+use Rattle.frame_payloads.specs.kinds.Fraud.{fraud_at}
 use Rattle.da_wire.proofs.SingleLemmas.{claim_value, single_read, single_full}
 use Rattle.da_wire.proofs.single.read_claim.Goals as goal
 

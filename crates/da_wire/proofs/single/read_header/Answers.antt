@@ -2,7 +2,7 @@ use Rattle.std.proofs.Common.{refl}
 use Rattle.da_wire.specs.declared.frames.Frame.TheVariants.{Header}
 use Rattle.da_wire.specs.Spelling.{header_kind}
 use Rattle.da_wire.specs.Single.{header_of}
-use Rattle.da_wire.specs.kinds.Header.{header_at}
+use Rattle.frame_payloads.specs.kinds.Header.{header_at}
 use Rattle.da_wire.proofs.SingleLemmas.{header_value, single_read, single_full}
 use Rattle.da_wire.proofs.single.read_header.Goals as goal
 

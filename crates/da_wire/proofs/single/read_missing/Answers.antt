@@ -2,7 +2,7 @@ use Rattle.std.proofs.Common.{refl}
 use Rattle.da_wire.specs.declared.frames.Frame.TheVariants.{Missing}
 use Rattle.da_wire.specs.Spelling.{missing_kind}
 use Rattle.da_wire.specs.Single.{missing_of}
-use Rattle.da_wire.specs.kinds.Missing.{missing_at}
+use Rattle.frame_payloads.specs.kinds.Missing.{missing_at}
 use Rattle.da_wire.proofs.SingleLemmas.{missing_value, single_read, single_full}
 use Rattle.da_wire.proofs.single.read_missing.Goals as goal
 

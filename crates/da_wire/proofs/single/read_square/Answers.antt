@@ -2,7 +2,7 @@ use Rattle.std.proofs.Common.{refl}
 use Rattle.da_wire.specs.declared.frames.Frame.TheVariants.{Square}
 use Rattle.da_wire.specs.Spelling.{square_kind}
 use Rattle.da_wire.specs.Single.{square_of}
-use Rattle.da_wire.specs.kinds.Square.{square_at}
+use Rattle.frame_payloads.specs.kinds.Square.{square_at}
 use Rattle.da_wire.proofs.SingleLemmas.{square_value, single_read, single_full}
 use Rattle.da_wire.proofs.single.read_square.Goals as goal
 

@@ -1,0 +1,2 @@
+pub mod MessageLengths
+pub mod AcceptedClaims

@@ -1,0 +1,13 @@
+use Rattle.std.proofs.Common.{◌≡◌, ◌+◌, ◌≤◌, ◌++◌, drop, length, map, vec_len, vec_capacity}
+use Rattle.std.specs.List.{flat_map}
+use Rattle.axis_roots.specs.Proved.{kept_message}
+use Rattle.frame_payloads.specs.kinds.Message.{message_payload}
+use Rattle.frame_payloads.proofs.kinds.fraud.put_proved.Given as goal
+
+-- what is there and what is left are all, and there is capacity for what is left
+abbrev pub invariant-loop-cell : goal.invariant-loop-cell
+invariant-loop-cell l = record {
+  all : l.out.items ++ flat_map message_payload (map kept_message (drop l.cell-index l.cells)) ≡ l.fn.out.items ++ flat_map message_payload (map kept_message l.cells);
+  len : vec_len l.out + length (flat_map message_payload (map kept_message (drop l.cell-index l.cells))) ≡ vec_len l.fn.out + length (flat_map message_payload (map kept_message l.cells));
+  capacity : vec_capacity l.fn.out ≤ vec_capacity l.out;
+}

@@ -1,0 +1,7 @@
+use Rattle.std.proofs.Common.{arith}
+use Rattle.frame_payloads.proofs.codec.Digests.{length-digest_bytes}
+use Rattle.frame_payloads.proofs.codec.Lengths.{within_is}
+use Rattle.frame_payloads.proofs.kinds.fraud_set.with_nodes.Goals as goal
+
+pub returns : goal.returns
+returns c = within_is c.longer.result _ _ c.longer.ensures (omega (arith, length-digest_bytes c.args.nodes.now c.digests_law.ensures))

@@ -1,0 +1,3 @@
+pub mod codec
+pub mod Payloads
+pub mod kinds

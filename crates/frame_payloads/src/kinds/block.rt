@@ -1,0 +1,390 @@
+//! The payload of a block: judged where it lies, then read; and written.
+
+ghost use Rattle.std.specs.Prelude.{◌≡◌, ◌≤◌, length, vec_len, None, Some, IfOk, IfSome, MatchOption, ◌+◌, ◌++◌, vec_capacity, IsSome, ◌↔◌, IsTrue, ◌==◌};
+ghost use Rattle.namespace_id.specs.Answers.{Gives, HasRoom};
+ghost use Rattle.share_split.specs.Blobs.{version_of, signer_bytes};
+ghost use Rattle.frame_fields.specs.Fields.{many_at, read_items, read_rest};
+ghost use Rattle.frame_payloads.specs.Payloads.{GivesUnlessFull, max_payload, IsSize, IsShort, IsWithin};
+ghost use Rattle.frame_payloads.specs.kinds.Block.{signed_at, signer_at, blob_at, asked_width, asks_for_zero, block_at, blob_bytes, width_number, block_payload, unit_at, counted_at, unit_bytes, counted_bytes};
+
+use crate::codec::appending::put_text;
+use crate::codec::sizes::{COUNT_SIZE, WIDTH_SIZE, longer, with_bytes, with_text};
+use frame_fields::{count_at, name_at, text_at, u8_at, u16_at};
+use namespace_id::{Namespace, append};
+use share_split::{Blob, SIGNER_SIZE, Unit};
+use square_layout::Block;
+use std::alloc::{AllocError, Global};
+
+/// The greatest count or length: any number of four bytes.
+const MOST: u32 = u32::MAX;
+
+/// The share version of a blob without a signer.
+const UNSIGNED: u8 = 0;
+
+/// The share version of a blob with a signer.
+const SIGNED: u8 = 1;
+
+/// The parts of a payload that is a block: the width or 0, and its three lists, each from its count on.
+#[derive(Clone, Copy)]
+struct BlockFields<'a> {
+    width: u16,
+    units: &'a [u8],
+    pay_units: &'a [u8],
+    blobs: &'a [u8],
+}
+
+/// A blob where it lies in a payload.
+#[derive(Clone, Copy)]
+struct BlobFields<'a> {
+    namespace: Namespace,
+    signer: Option<[u8; SIGNER_SIZE]>,
+    bytes: &'a [u8],
+}
+
+/// The signer that 20 bytes are.
+fn signer_of(bytes: &[u8]) -> [u8; SIGNER_SIZE]
+    requires { length bytes.now ≡ 20 }
+    ensures { result ≡ bytes.now }
+{
+    let mut signer = [0; SIGNER_SIZE];
+    signer.copy_from_slice(bytes);
+    signer
+}
+
+/// A signer, and the bytes after it.
+fn signed_at(bytes: &[u8]) -> Option<(Option<[u8; SIGNER_SIZE]>, &[u8])>
+    ensures { Gives (λ x. (x.0, x.1.now)) result (signed_at bytes.now) }
+{
+    if bytes.len() < SIGNER_SIZE {
+        return None;
+    }
+    let (signer, rest) = bytes.split_at(SIGNER_SIZE);
+    Some((Some(signer_of(signer)), rest))
+}
+
+/// The signer behind a share version that has one, none where the version has none, and the bytes after
+/// it.
+#[tactic(auto, unfolding(crate::specs::kinds::Block::signer_at))]
+fn signer_at(bytes: &[u8]) -> Option<(Option<[u8; SIGNER_SIZE]>, &[u8])>
+    ensures { Gives (λ x. (x.0, x.1.now)) result (signer_at bytes.now) }
+{
+    let (version, rest) = u8_at(bytes)?;
+    match version {
+        UNSIGNED => Some((None, rest)),
+        SIGNED => signed_at(rest),
+        _ => None,
+    }
+}
+
+/// A blob, and the bytes after it.
+#[tactic(auto, unfolding(crate::specs::kinds::Block::blob_at))]
+fn blob_at(bytes: &[u8]) -> Option<(BlobFields<'_>, &[u8])>
+    ensures { Gives (λ x. (
+      record {
+        namespace = x.0.namespace;
+        bytes = x.0.bytes.now;
+        signer = x.0.signer;
+      },
+      x.1.now,
+    )) result (blob_at bytes.now) }
+{
+    let Some((namespace, rest)) = name_at(bytes) else {
+        return None;
+    };
+    let Some((signer, rest)) = signer_at(rest) else {
+        return None;
+    };
+    let Some((bytes, rest)) = text_at(rest, MOST) else {
+        return None;
+    };
+    let blob = BlobFields {
+        namespace,
+        signer,
+        bytes,
+    };
+    Some((blob, rest))
+}
+
+/// The bytes after so many units.
+fn after_units(count: u32, bytes: &[u8]) -> Option<&[u8]>
+    ensures { Gives (λ x. x.now) result (read_rest (many_at unit_at count bytes.now)) }
+{
+    let mut rest = bytes;
+    for _ in 0..count {
+        let (_text, after) = text_at(rest, MOST)?;
+        rest = after;
+    }
+    Some(rest)
+}
+
+/// The bytes after a list of units.
+#[tactic(auto, unfolding(frame_fields::specs::Fields::list_at))]
+fn after_unit_list(bytes: &[u8]) -> Option<&[u8]>
+    ensures { Gives (λ x. x.now) result (read_rest (counted_at unit_at bytes.now)) }
+{
+    let (count, rest) = count_at(bytes, MOST)?;
+    after_units(count, rest)
+}
+
+/// The bytes after so many blobs.
+fn after_blobs(count: u32, bytes: &[u8]) -> Option<&[u8]>
+    ensures { Gives (λ x. x.now) result (read_rest (many_at blob_at count bytes.now)) }
+{
+    let mut rest = bytes;
+    for _ in 0..count {
+        let (_blob, after) = blob_at(rest)?;
+        rest = after;
+    }
+    Some(rest)
+}
+
+/// The bytes after a list of blobs.
+#[tactic(auto, unfolding(frame_fields::specs::Fields::list_at))]
+fn after_blob_list(bytes: &[u8]) -> Option<&[u8]>
+    ensures { Gives (λ x. x.now) result (read_rest (counted_at blob_at bytes.now)) }
+{
+    let (count, rest) = count_at(bytes, MOST)?;
+    after_blobs(count, rest)
+}
+
+/// The parts of the block whose payload the bytes are. It takes no memory.
+fn block_parts(payload: &[u8]) -> Option<BlockFields<'_>>
+    ensures parts { MatchOption result (block_at payload.now ≡ None)
+        (λ f. block_at payload.now ≡ Some (record {
+          units = read_items (counted_at unit_at f.units.now);
+          pay_units = read_items (counted_at unit_at f.pay_units.now);
+          blobs = read_items (counted_at blob_at f.blobs.now);
+          width = asked_width f.width;
+        })) }
+    ensures units { IfSome result (λ f. IsSome (counted_at unit_at f.units.now)) }
+    ensures pay_units { IfSome result (λ f. IsSome (counted_at unit_at f.pay_units.now)) }
+    ensures blobs { IfSome result (λ f. IsSome (counted_at blob_at f.blobs.now)) }
+{
+    let (width, units) = u16_at(payload)?;
+    let pay_units = after_unit_list(units)?;
+    let blobs = after_unit_list(pay_units)?;
+    let rest = after_blob_list(blobs)?;
+    if !rest.is_empty() {
+        return None;
+    }
+    Some(BlockFields {
+        width,
+        units,
+        pay_units,
+        blobs,
+    })
+}
+
+/// Whether the bytes are the payload of a block. It takes no memory.
+pub fn is_block(payload: &[u8]) -> bool
+    ensures { IsTrue result ↔ IsSome (block_at payload.now) }
+{
+    block_parts(payload).is_some()
+}
+
+/// So many units, one after another.
+fn units_of(alloc: Global, count: u32, bytes: &[u8]) -> Result<Vec<Unit>, AllocError>
+    requires { IsSome (many_at unit_at count bytes.now) }
+    ensures { IfOk result (λ units. units.items ≡ read_items (many_at unit_at count bytes.now)) }
+{
+    let mut units = Vec::with_capacity(alloc, count as usize)?;
+    let mut rest = bytes;
+    for _ in 0..count {
+        let (text, after) = text_at(rest, MOST).unwrap();
+        let bytes = Vec::from_slice(alloc, text)?;
+        units.push(Unit { bytes })?;
+        rest = after;
+    }
+    Ok(units)
+}
+
+/// A list of units.
+#[tactic(auto, unfolding(frame_fields::specs::Fields::list_at))]
+fn unit_list(alloc: Global, bytes: &[u8]) -> Result<Vec<Unit>, AllocError>
+    requires { IsSome (counted_at unit_at bytes.now) }
+    ensures { IfOk result (λ units. units.items ≡ read_items (counted_at unit_at bytes.now)) }
+{
+    let (count, rest) = count_at(bytes, MOST).unwrap();
+    units_of(alloc, count, rest)
+}
+
+/// So many blobs, one after another.
+fn blobs_of(alloc: Global, count: u32, bytes: &[u8]) -> Result<Vec<Blob>, AllocError>
+    requires { IsSome (many_at blob_at count bytes.now) }
+    ensures { IfOk result (λ blobs. blobs.items ≡ read_items (many_at blob_at count bytes.now)) }
+{
+    let mut blobs = Vec::with_capacity(alloc, count as usize)?;
+    let mut rest = bytes;
+    for _ in 0..count {
+        let (blob, after) = blob_at(rest).unwrap();
+        let bytes = Vec::from_slice(alloc, blob.bytes)?;
+        blobs.push(Blob {
+            namespace: blob.namespace,
+            bytes,
+            signer: blob.signer,
+        })?;
+        rest = after;
+    }
+    Ok(blobs)
+}
+
+/// A list of blobs.
+#[tactic(auto, unfolding(frame_fields::specs::Fields::list_at))]
+fn blob_list(alloc: Global, bytes: &[u8]) -> Result<Vec<Blob>, AllocError>
+    requires { IsSome (counted_at blob_at bytes.now) }
+    ensures { IfOk result (λ blobs. blobs.items ≡ read_items (counted_at blob_at bytes.now)) }
+{
+    let (count, rest) = count_at(bytes, MOST).unwrap();
+    blobs_of(alloc, count, rest)
+}
+
+/// The width that a number asks for, none for 0.
+fn asked_width(k: u16) -> Option<u16>
+    ensures { result ≡ asked_width k }
+{
+    if k == 0 { None } else { Some(k) }
+}
+
+/// The block whose payload the bytes are. No memory is taken before they are known to be one.
+pub fn block(alloc: Global, payload: &[u8]) -> Result<Option<Block>, AllocError>
+    ensures { GivesUnlessFull result (block_at payload.now) }
+{
+    let Some(parts) = block_parts(payload) else {
+        return Ok(None);
+    };
+    let width = asked_width(parts.width);
+    let units = unit_list(alloc, parts.units)?;
+    let pay_units = unit_list(alloc, parts.pay_units)?;
+    let blobs = blob_list(alloc, parts.blobs)?;
+    Ok(Some(Block {
+        units,
+        pay_units,
+        blobs,
+        width,
+    }))
+}
+
+/// A length with that of a list of units more.
+fn with_units(size: u32, units: &[Unit]) -> Option<u32>
+    requires { size ≤ max_payload }
+    ensures { IsWithin (size + length (counted_bytes unit_bytes units.now)) result }
+{
+    let mut size = longer(size, COUNT_SIZE)?;
+    for unit in units {
+        size = with_text(size, &unit.bytes)?;
+    }
+    Some(size)
+}
+
+/// The share version of a blob with this signer, if there is one.
+fn version_of(signer: &Option<[u8; SIGNER_SIZE]>) -> u8
+    ensures { result ≡ version_of signer.now }
+{
+    match signer {
+        Some(_) => SIGNED,
+        None => UNSIGNED,
+    }
+}
+
+/// The bytes of a signer, none where there is no signer.
+fn signer_bytes(signer: &Option<[u8; SIGNER_SIZE]>) -> &[u8]
+    ensures { result.now ≡ signer_bytes signer.now }
+{
+    match signer {
+        Some(signer) => signer,
+        None => &[],
+    }
+}
+
+/// A length with that of a blob more.
+fn with_blob(size: u32, blob: &Blob) -> Option<u32>
+    requires { size ≤ max_payload }
+    ensures { IsWithin (size + length (blob_bytes blob.now)) result }
+{
+    let size = with_bytes(size, &blob.namespace.0)?;
+    let size = with_bytes(longer(size, 1)?, signer_bytes(&blob.signer))?;
+    with_text(size, &blob.bytes)
+}
+
+/// A length with that of a list of blobs more.
+fn with_blobs(size: u32, blobs: &[Blob]) -> Option<u32>
+    requires { size ≤ max_payload }
+    ensures { IsWithin (size + length (counted_bytes blob_bytes blobs.now)) result }
+{
+    let mut size = longer(size, COUNT_SIZE)?;
+    for blob in blobs {
+        size = with_blob(size, blob)?;
+    }
+    Some(size)
+}
+
+/// The length of the payload of a block, none where it asks for the width 0 or is too long.
+pub fn block_size(block: &Block) -> Option<u32>
+    ensures { IsSize (asks_for_zero block.now.width) (block_payload block.now) result }
+{
+    if matches!(block.width, Some(0)) {
+        return None;
+    }
+    let size = with_units(WIDTH_SIZE, &block.units)?;
+    let size = with_units(size, &block.pay_units)?;
+    with_blobs(size, &block.blobs)
+}
+
+/// Appends a list of units.
+fn put_units(out: &mut Vec<u8>, units: &[Unit])
+    requires few { IsShort (counted_bytes unit_bytes units.now) }
+    requires room { HasRoom out.old (length (counted_bytes unit_bytes units.now)) }
+    ensures appended { out.new.items ≡ out.old.items ++ counted_bytes unit_bytes units.now }
+    ensures len { vec_len out.new ≡ vec_len out.old + length (counted_bytes unit_bytes units.now) }
+    ensures capacity { vec_capacity out.old ≤ vec_capacity out.new }
+{
+    append(out, &(units.len() as u32).to_be_bytes());
+    for unit in units {
+        put_text(out, &unit.bytes);
+    }
+}
+
+/// Appends a blob: its namespace, its share version, its signer, if it has one, and its bytes.
+fn put_blob(out: &mut Vec<u8>, blob: &Blob)
+    requires few { IsShort (blob_bytes blob.now) }
+    requires room { HasRoom out.old (length (blob_bytes blob.now)) }
+    ensures appended { out.new.items ≡ out.old.items ++ blob_bytes blob.now }
+    ensures len { vec_len out.new ≡ vec_len out.old + length (blob_bytes blob.now) }
+    ensures capacity { vec_capacity out.old ≤ vec_capacity out.new }
+{
+    append(out, &blob.namespace.0);
+    append(out, &[version_of(&blob.signer)]);
+    append(out, signer_bytes(&blob.signer));
+    put_text(out, &blob.bytes);
+}
+
+/// Appends a list of blobs.
+fn put_blobs(out: &mut Vec<u8>, blobs: &[Blob])
+    requires few { IsShort (counted_bytes blob_bytes blobs.now) }
+    requires room { HasRoom out.old (length (counted_bytes blob_bytes blobs.now)) }
+    ensures appended { out.new.items ≡ out.old.items ++ counted_bytes blob_bytes blobs.now }
+{
+    append(out, &(blobs.len() as u32).to_be_bytes());
+    for blob in blobs {
+        put_blob(out, blob);
+    }
+}
+
+/// The number that a width is written as, 0 for none.
+fn width_number(width: Option<u16>) -> u16
+    ensures { result ≡ width_number width }
+{
+    width.unwrap_or(0)
+}
+
+/// Appends the payload of a block.
+pub fn put_block(out: &mut Vec<u8>, block: &Block)
+    requires few { IsShort (block_payload block.now) }
+    requires room { HasRoom out.old (length (block_payload block.now)) }
+    ensures appended { out.new.items ≡ out.old.items ++ block_payload block.now }
+{
+    append(out, &width_number(block.width).to_be_bytes());
+    put_units(out, &block.units);
+    put_units(out, &block.pay_units);
+    put_blobs(out, &block.blobs);
+}

@@ -1,0 +1,365 @@
+//! The payload of a commitment proof: judged where it lies, then read; and written.
+
+ghost use Rattle.std.specs.Prelude.{◌≡◌, ◌≤◌, ◌==◌, if◌then◌else◌, length, vec_len, None, Some, IfOk, IfSome, MatchOption, ◌+◌, ◌*◌, ◌++◌, vec_capacity, IsSome, false, ◌↔◌, IsTrue};
+ghost use Rattle.std.specs.Int.{w16, w32, to_be_bytes};
+ghost use Rattle.std.specs.List.{flat_map, list_any};
+ghost use Rattle.std.specs.Option.{option_map, option_map_or};
+ghost use Rattle.namespace_id.specs.Answers.{Gives, HasRoom};
+ghost use Rattle.frame_fields.specs.Fields.{many_at, read_items, read_rest, digests_of};
+ghost use Rattle.frame_payloads.specs.codec.Texts.{digest_list};
+ghost use Rattle.frame_payloads.specs.Payloads.{GivesUnlessFull, max_payload, IsSize, IsWithin};
+ghost use Rattle.frame_payloads.specs.kinds.Commit.{most_subtrees, is_long_row, is_long_commit, row_bytes, commit_payload, row_at, rows_at, commit_at};
+
+use crate::bounds::hash_law;
+use crate::codec::appending::{put_digests, put_hashes, put_path};
+use crate::codec::sizes::{DIGEST_SIZE, HASH_SIZE, longer};
+use blob_commit::{CommitProof, CommitRow, row_law};
+use data_header::RootPath;
+use frame_fields::{
+    count16_at, digest_at, digest_list_at, digests_of, hash_at, hashes_at, nodes_at, u16_at, u32_at,
+};
+use namespace_id::{Digest, GREATEST_WIDTH, append};
+use nmt_proofs::Nodes;
+use std::alloc::{AllocError, Global};
+
+/// The most rows of a commitment proof, as many as the greatest square has.
+const MOST_ROWS: u16 = GREATEST_WIDTH;
+
+/// The most subtrees in a row, as many as it has original shares in the greatest square.
+const MOST_SUBTREES: u16 = GREATEST_WIDTH;
+
+/// The bytes in front of the rows: the width, the first index, the number of shares, the commitment.
+const FRONT_SIZE: u32 = 42;
+
+/// The bytes that state the count of the rows.
+const NUMBER_SIZE: usize = 2;
+
+/// The bytes that state the counts in a row: of its hashes, of its subtrees, of its nodes.
+const COUNTS_SIZE: usize = 4;
+
+/// A row. Its subtrees are still bytes, behind their count.
+#[derive(Drop)]
+struct RowFields<'a> {
+    root: Digest,
+    up: RootPath,
+    count: u16,
+    subtrees: &'a [u8],
+    nodes: Nodes,
+}
+
+/// The parts of a commitment proof. Its rows are still bytes, from their count on.
+#[derive(Clone, Copy)]
+struct CommitFields<'a> {
+    k: u16,
+    start: u32,
+    count: u32,
+    commitment: [u8; 32],
+    rows: &'a [u8],
+}
+
+/// A row, and the bytes after it.
+#[tactic(auto, unfolding(crate::specs::kinds::Commit::row_at))]
+fn row_at(bytes: &[u8]) -> Option<(RowFields<'_>, &[u8])>
+    ensures value { Gives (λ x. (
+      record {
+        root = x.0.root;
+        up = x.0.up;
+        subtrees = digests_of x.0.count x.0.subtrees.now;
+        nodes = x.0.nodes;
+      },
+      x.1.now,
+    )) result (row_at bytes.now) }
+    ensures all { IfSome result (λ x. length x.0.subtrees.now ≡ 90 * x.0.count) }
+{
+    let Some((root, rest)) = digest_at(bytes) else {
+        return None;
+    };
+    let Some((up, rest)) = hashes_at(rest) else {
+        return None;
+    };
+    let Some((count, subtrees, rest)) = digest_list_at(rest, MOST_SUBTREES) else {
+        return None;
+    };
+    let Some((nodes, rest)) = nodes_at(rest) else {
+        return None;
+    };
+    let row = RowFields {
+        root,
+        up,
+        count,
+        subtrees,
+        nodes,
+    };
+    Some((row, rest))
+}
+
+/// The bytes after so many rows.
+fn after_rows(count: u16, bytes: &[u8]) -> Option<&[u8]>
+    ensures { Gives (λ x. x.now) result (read_rest (many_at row_at count bytes.now)) }
+{
+    let mut rest = bytes;
+    for _ in 0..count {
+        let (_row, after) = row_at(rest)?;
+        rest = after;
+    }
+    Some(rest)
+}
+
+/// The bytes after a list of rows.
+#[tactic(auto, unfolding(frame_fields::specs::Fields::list_at))]
+fn after_row_list(bytes: &[u8]) -> Option<&[u8]>
+    ensures { Gives (λ x. x.now) result (read_rest (rows_at bytes.now)) }
+{
+    let (count, rest) = count16_at(bytes, MOST_ROWS)?;
+    after_rows(count, rest)
+}
+
+/// What stands in front of the rows, and the bytes from their count on. What is read is a commitment
+/// proof where these are rows that end the payload.
+#[tactic(auto, unfolding(crate::specs::kinds::Commit::commit_at))]
+fn front(payload: &[u8]) -> Option<CommitFields<'_>>
+    ensures { MatchOption result (commit_at payload.now ≡ None)
+        (λ f. commit_at payload.now ≡ option_map_or (λ rows. if length rows.1 == 0 then Some (record {
+          k = f.k;
+          start = f.start;
+          count = f.count;
+          commitment = f.commitment;
+          rows = rows.0;
+        }) else None) (rows_at f.rows.now) None) }
+{
+    let (k, rest) = u16_at(payload)?;
+    let (start, rest) = u32_at(rest)?;
+    let (count, rest) = u32_at(rest)?;
+    let (commitment, rows) = hash_at(rest)?;
+    Some(CommitFields {
+        k,
+        start,
+        count,
+        commitment,
+        rows,
+    })
+}
+
+/// The parts of the commitment proof whose payload the bytes are. It takes no memory.
+fn commit_parts(payload: &[u8]) -> Option<CommitFields<'_>>
+    ensures parts { MatchOption result (commit_at payload.now ≡ None)
+        (λ f. commit_at payload.now ≡ Some (record {
+          k = f.k;
+          start = f.start;
+          count = f.count;
+          commitment = f.commitment;
+          rows = read_items (rows_at f.rows.now);
+        })) }
+    ensures rows { IfSome result (λ f. IsSome (rows_at f.rows.now)) }
+{
+    let fields = front(payload)?;
+    let rest = after_row_list(fields.rows)?;
+    if !rest.is_empty() {
+        return None;
+    }
+    Some(fields)
+}
+
+/// Whether the bytes are the payload of a commitment proof. It takes no memory.
+pub fn is_commit(payload: &[u8]) -> bool
+    ensures { IsTrue result ↔ IsSome (commit_at payload.now) }
+{
+    commit_parts(payload).is_some()
+}
+
+/// A row, with memory for its subtrees.
+fn row_of(alloc: Global, row: RowFields<'_>) -> Result<CommitRow, AllocError>
+    requires { length row.subtrees.now ≡ 90 * row.count }
+    ensures { IfOk result (λ made. made ≡ record {
+      root = row.entry.root;
+      up = row.entry.up;
+      subtrees = digests_of row.entry.count row.entry.subtrees.now;
+      nodes = row.entry.nodes;
+    }) }
+{
+    let RowFields {
+        root,
+        up,
+        count,
+        subtrees,
+        nodes,
+    } = row;
+    let subtrees = digests_of(alloc, count as usize, subtrees)?;
+    Ok(CommitRow {
+        root,
+        up,
+        subtrees,
+        nodes,
+    })
+}
+
+/// So many rows, one after another.
+fn rows_of(alloc: Global, count: u16, bytes: &[u8]) -> Result<Vec<CommitRow>, AllocError>
+    requires { IsSome (many_at row_at count bytes.now) }
+    ensures { IfOk result (λ rows. rows.items ≡ read_items (many_at row_at count bytes.now)) }
+{
+    let mut rows = Vec::with_capacity(alloc, count as usize)?;
+    let mut rest = bytes;
+    for _ in 0..count {
+        let (fields, after) = row_at(rest).unwrap();
+        let row = row_of(alloc, fields)?;
+        rows.push(row)?;
+        rest = after;
+    }
+    Ok(rows)
+}
+
+/// A list of rows.
+#[tactic(auto, unfolding(frame_fields::specs::Fields::list_at))]
+fn row_list(alloc: Global, bytes: &[u8]) -> Result<Vec<CommitRow>, AllocError>
+    requires { IsSome (rows_at bytes.now) }
+    ensures { IfOk result (λ rows. rows.items ≡ read_items (rows_at bytes.now)) }
+{
+    let (count, rest) = count16_at(bytes, MOST_ROWS).unwrap();
+    rows_of(alloc, count, rest)
+}
+
+/// The commitment proof whose payload the bytes are. No memory is taken before they are known to be one.
+pub fn commit(alloc: Global, payload: &[u8]) -> Result<Option<CommitProof>, AllocError>
+    ensures { GivesUnlessFull result (commit_at payload.now) }
+{
+    let Some(fields) = commit_parts(payload) else {
+        return Ok(None);
+    };
+    let rows = row_list(alloc, fields.rows)?;
+    Ok(Some(CommitProof {
+        k: fields.k,
+        start: fields.start,
+        count: fields.count,
+        commitment: fields.commitment,
+        rows,
+    }))
+}
+
+/// Whether a row has more subtrees than can be written.
+fn is_long_row(row: &CommitRow) -> bool
+    ensures { result ≡ is_long_row row.now }
+{
+    row.subtrees.len() > MOST_SUBTREES as usize
+}
+
+/// Whether one of several rows has.
+fn has_long_row(rows: &[CommitRow]) -> bool
+    ensures { result ≡ list_any is_long_row rows.now }
+{
+    for row in rows {
+        if is_long_row(row) {
+            return true;
+        }
+    }
+    false
+}
+
+/// Whether a commitment proof has more rows than can be written, or more subtrees in one of them.
+fn is_long_commit(proof: &CommitProof) -> bool
+    ensures { result ≡ is_long_commit proof.now }
+{
+    proof.rows.len() > MOST_ROWS as usize || has_long_row(&proof.rows)
+}
+
+/// The length of a row that can be written.
+fn row_size(row: &CommitRow) -> usize
+    requires { is_long_row row.now ≡ false }
+    ensures { result ≡ length (row_bytes row.now) }
+{
+    row_law(row);
+    let hashes = row.up.hashes();
+    let subtrees: &[Digest] = &row.subtrees;
+    let nodes = row.nodes.nodes();
+    COUNTS_SIZE + HASH_SIZE * hashes.len() + DIGEST_SIZE * (1 + subtrees.len() + nodes.len())
+}
+
+/// A length with that of a list of rows more.
+fn with_rows(size: u32, rows: &[CommitRow]) -> Option<u32>
+    requires size { size ≤ max_payload }
+    requires short { list_any is_long_row rows.now ≡ false }
+    ensures { IsWithin (size + 2 + length (flat_map row_bytes rows.now)) result }
+{
+    let mut size = longer(size, NUMBER_SIZE)?;
+    for row in rows {
+        size = longer(size, row_size(row))?;
+    }
+    Some(size)
+}
+
+/// The length of the payload of a commitment proof, none where it has too many rows or too many subtrees
+/// in one of them.
+pub fn commit_size(proof: &CommitProof) -> Option<u32>
+    ensures { IsSize (is_long_commit proof.now) (commit_payload proof.now) result }
+{
+    if is_long_commit(proof) {
+        return None;
+    }
+    hash_law(&proof.commitment);
+    with_rows(FRONT_SIZE, &proof.rows)
+}
+
+/// Appends the digests of subtrees behind their count.
+fn put_subtrees(out: &mut Vec<u8>, subtrees: &[Digest])
+    requires few { length subtrees.now ≤ most_subtrees }
+    requires room { HasRoom out.old (length (digest_list subtrees.now)) }
+    ensures appended { out.new.items ≡ out.old.items ++ digest_list subtrees.now }
+    ensures len { vec_len out.new ≡ vec_len out.old + length (digest_list subtrees.now) }
+    ensures capacity { vec_capacity out.old ≤ vec_capacity out.new }
+{
+    append(out, &(subtrees.len() as u16).to_be_bytes());
+    put_digests(out, subtrees);
+}
+
+/// Appends a row: its root, the hashes that lead from it to the data root, its subtrees, its nodes.
+fn put_row(out: &mut Vec<u8>, row: &CommitRow)
+    requires short { is_long_row row.now ≡ false }
+    requires room { HasRoom out.old (length (row_bytes row.now)) }
+    ensures appended { out.new.items ≡ out.old.items ++ row_bytes row.now }
+    ensures len { vec_len out.new ≡ vec_len out.old + length (row_bytes row.now) }
+    ensures capacity { vec_capacity out.old ≤ vec_capacity out.new }
+{
+    append(out, &row.root.0);
+    put_hashes(out, row.up.hashes());
+    put_subtrees(out, &row.subtrees);
+    put_path(out, row.nodes.nodes());
+}
+
+/// Appends rows, one after another.
+fn put_rows(out: &mut Vec<u8>, rows: &[CommitRow])
+    requires short { list_any is_long_row rows.now ≡ false }
+    requires room { HasRoom out.old (length (flat_map row_bytes rows.now)) }
+    ensures appended { out.new.items ≡ out.old.items ++ flat_map row_bytes rows.now }
+{
+    for row in rows {
+        put_row(out, row);
+    }
+}
+
+/// Appends what stands in front of the rows: the width, the first index, the number of shares, the
+/// commitment.
+fn put_front(out: &mut Vec<u8>, proof: &CommitProof)
+    requires room { HasRoom out.old 42 }
+    ensures appended { out.new.items
+        ≡ out.old.items ++ (to_be_bytes w16 proof.now.k ++ to_be_bytes w32 proof.now.start
+        ++ to_be_bytes w32 proof.now.count ++ proof.now.commitment) }
+    ensures len { vec_len out.new ≡ vec_len out.old + 42 }
+    ensures capacity { vec_capacity out.old ≤ vec_capacity out.new }
+{
+    append(out, &proof.k.to_be_bytes());
+    append(out, &proof.start.to_be_bytes());
+    append(out, &proof.count.to_be_bytes());
+    append(out, &proof.commitment);
+}
+
+/// Appends the payload of a commitment proof.
+pub fn put_commit(out: &mut Vec<u8>, proof: &CommitProof)
+    requires short { is_long_commit proof.now ≡ false }
+    requires room { HasRoom out.old (length (commit_payload proof.now)) }
+    ensures appended { out.new.items ≡ out.old.items ++ commit_payload proof.now }
+{
+    hash_law(&proof.commitment);
+    put_front(out, proof);
+    append(out, &(proof.rows.len() as u16).to_be_bytes());
+    put_rows(out, &proof.rows);
+}

@@ -1,0 +1,350 @@
+//! The payload of a fraud claim with a set: judged where it lies, then read; and written.
+
+ghost use Rattle.std.specs.Prelude.{◌≡◌, ◌≤◌, ◌*◌, length, vec_len, None, Some, true, IfOk, IfSome, ◌+◌, ◌++◌, vec_capacity, IsSome, false, ◌==◌};
+ghost use Rattle.std.specs.List.{flat_map, list_all, list_any};
+ghost use Rattle.namespace_id.specs.Answers.{Gives, HasRoom};
+ghost use Rattle.axis_roots.specs.Sets.{is_one_axis, is_along};
+ghost use Rattle.frame_fields.specs.Fields.{many_at, read_items, digests_of};
+ghost use Rattle.frame_payloads.specs.codec.Texts.{digest_bytes, digest_list};
+ghost use Rattle.frame_payloads.specs.Payloads.{GivesUnlessFull, max_payload, IsWithin};
+ghost use Rattle.frame_payloads.specs.kinds.Fraud.{most_cells, most_set_nodes, tag_of, cell_payload, set_payload, is_placed, fits_form, tag_at, cell_path_at, set_cell_at, set_cells_at, with_set_at, passed, set_seen};
+
+use crate::codec::appending::{put_digests, put_path};
+use crate::codec::sizes::{DIGEST_SIZE, SHARE_SIZE, longer};
+use crate::kinds::accused::{ACCUSED_SIZE, MOST_CELLS, NUMBER_SIZE, accused_at, put_accused};
+use axis_roots::{FraudClaim, Message, SetNodes, cell_on, index, is_along, position};
+use frame_fields::{count16_at, digest_list_at, digests_of, path_at, share_at, u8_at, u16_at};
+use namespace_id::{Axis, Digest, GREATEST_WIDTH, append, digests_law, share_law};
+use nmt_proofs::Path;
+use std::alloc::{AllocError, Global};
+
+/// The form of a claim with a set, the byte in front of it.
+const FORM: u8 = 2;
+
+/// The most nodes of a set, as many as open cells of an axis of the greatest square.
+const MOST_NODES: u16 = GREATEST_WIDTH;
+
+/// The tag of a cell that has a path along the crossing axis.
+const CROSSING: u8 = 0;
+
+/// The tag of a cell that the set shows.
+const ALONG: u8 = 1;
+
+/// The bytes of a cell without its path: its position, its tag, its share.
+const CELL_SIZE: usize = NUMBER_SIZE + 1 + SHARE_SIZE;
+
+/// A claim with a set, judged. The cells are still bytes, from their count on, and so are the nodes,
+/// behind theirs.
+#[derive(Clone, Copy)]
+pub(crate) struct SetFields<'a> {
+    pub axis: Axis,
+    pub index: u16,
+    pub cells: &'a [u8],
+    pub count: u16,
+    pub nodes: &'a [u8],
+}
+
+/// Whether two axes are both rows or both columns.
+fn is_one_axis(axis: Axis, other: Axis) -> bool
+    ensures { result ≡ is_one_axis axis other }
+{
+    match (axis, other) {
+        (Axis::Row, Axis::Row) => true,
+        (Axis::Col, Axis::Col) => true,
+        _ => false,
+    }
+}
+
+/// The axis of a sample by its tag, and the bytes after it.
+#[tactic(auto, unfolding(crate::specs::kinds::Fraud::tag_at))]
+fn tag_at(axis: Axis, bytes: &[u8]) -> Option<(Axis, &[u8])>
+    ensures { Gives (λ x. (x.0, x.1.now)) result (tag_at axis bytes.now) }
+{
+    let (tag, rest) = u8_at(bytes)?;
+    match tag {
+        CROSSING => Some((axis.crossing(), rest)),
+        ALONG => Some((axis, rest)),
+        _ => None,
+    }
+}
+
+/// The path of a cell, and the bytes after it; none is written where the set shows the cell.
+fn cell_path_at(along: bool, bytes: &[u8]) -> Option<(Path, &[u8])>
+    ensures { Gives (λ x. (x.0, x.1.now)) result (cell_path_at along bytes.now) }
+{
+    if along {
+        return Some((Path::new(), bytes));
+    }
+    path_at(bytes)
+}
+
+/// A cell on the accused axis, and the bytes after it.
+#[tactic(auto, unfolding(crate::specs::kinds::Fraud::set_cell_at))]
+fn set_cell_at(accused: Axis, index: u16, bytes: &[u8]) -> Option<(Message, &[u8])>
+    ensures { Gives (λ x. (x.0, x.1.now)) result (set_cell_at accused index bytes.now) }
+{
+    let Some((pos, rest)) = u16_at(bytes) else {
+        return None;
+    };
+    let Some((axis, rest)) = tag_at(accused, rest) else {
+        return None;
+    };
+    let Some((share, rest)) = share_at(rest) else {
+        return None;
+    };
+    let Some((path, rest)) = cell_path_at(is_one_axis(accused, axis), rest) else {
+        return None;
+    };
+    let message = Message {
+        cell: cell_on(accused, index, pos),
+        axis,
+        share,
+        path,
+    };
+    Some((message, rest))
+}
+
+/// Whether the set shows one of so many cells, and the bytes after them.
+fn after_cells(axis: Axis, index: u16, count: u16, bytes: &[u8]) -> Option<(bool, &[u8])>
+    ensures { Gives (λ x. (x.0, x.1.now)) result
+        (passed axis (many_at (set_cell_at axis index) count bytes.now)) }
+{
+    let mut shown = false;
+    let mut rest = bytes;
+    for _ in 0..count {
+        let (cell, after) = set_cell_at(axis, index, rest)?;
+        shown = shown || is_along(axis, &cell);
+        rest = after;
+    }
+    Some((shown, rest))
+}
+
+/// Whether the set shows one of a list of cells, and the bytes after them.
+#[tactic(auto, unfolding(frame_fields::specs::Fields::list_at))]
+fn after_cell_list(axis: Axis, index: u16, bytes: &[u8]) -> Option<(bool, &[u8])>
+    ensures { Gives (λ x. (x.0, x.1.now)) result (passed axis (set_cells_at axis index bytes.now)) }
+{
+    let (count, rest) = count16_at(bytes, MOST_CELLS)?;
+    after_cells(axis, index, count, rest)
+}
+
+/// The parts of the claim with a set whose payload the bytes are. It takes no memory.
+pub(crate) fn set_fields(payload: &[u8]) -> Option<SetFields<'_>>
+    ensures parts { Gives (λ f. set_seen f) result (with_set_at payload.now) }
+    ensures cells { IfSome result (λ f. IsSome (set_cells_at f.axis f.index f.cells.now)) }
+    ensures nodes { IfSome result (λ f. length f.nodes.now ≡ 90 * f.count) }
+{
+    let (axis, index, cells) = accused_at(FORM, payload)?;
+    let (shown, rest) = after_cell_list(axis, index, cells)?;
+    let (count, nodes, rest) = digest_list_at(rest, MOST_NODES)?;
+    if !rest.is_empty() || !shown {
+        return None;
+    }
+    Some(SetFields {
+        axis,
+        index,
+        cells,
+        count,
+        nodes,
+    })
+}
+
+/// So many cells, one after another.
+fn cells_of(
+    alloc: Global,
+    axis: Axis,
+    index: u16,
+    count: u16,
+    bytes: &[u8],
+) -> Result<Vec<Message>, AllocError>
+    requires { IsSome (many_at (set_cell_at axis index) count bytes.now) }
+    ensures { IfOk result (λ cells.
+        cells.items ≡ read_items (many_at (set_cell_at axis index) count bytes.now)) }
+{
+    let mut cells = Vec::with_capacity(alloc, count as usize)?;
+    let mut rest = bytes;
+    for _ in 0..count {
+        let (cell, after) = set_cell_at(axis, index, rest).unwrap();
+        cells.push(cell)?;
+        rest = after;
+    }
+    Ok(cells)
+}
+
+/// A list of cells.
+#[tactic(auto, unfolding(frame_fields::specs::Fields::list_at))]
+fn cell_list(
+    alloc: Global,
+    axis: Axis,
+    index: u16,
+    bytes: &[u8],
+) -> Result<Vec<Message>, AllocError>
+    requires { IsSome (set_cells_at axis index bytes.now) }
+    ensures { IfOk result (λ cells. cells.items ≡ read_items (set_cells_at axis index bytes.now)) }
+{
+    let (count, rest) = count16_at(bytes, MOST_CELLS).unwrap();
+    cells_of(alloc, axis, index, count, rest)
+}
+
+/// The claim with a set whose payload the bytes are. No memory is taken before they are known to be
+/// one.
+pub(crate) fn with_set(alloc: Global, payload: &[u8]) -> Result<Option<FraudClaim>, AllocError>
+    ensures { GivesUnlessFull result (with_set_at payload.now) }
+{
+    let Some(fields) = set_fields(payload) else {
+        return Ok(None);
+    };
+    let cells = cell_list(alloc, fields.axis, fields.index, fields.cells)?;
+    let nodes = digests_of(alloc, fields.count as usize, fields.nodes)?;
+    Ok(Some(FraudClaim {
+        axis: fields.axis,
+        index: fields.index,
+        cells,
+        set: Some(SetNodes { nodes }),
+    }))
+}
+
+/// Whether a cell of a claim with a set is on the accused axis, and has no path where the set shows it.
+fn is_placed(claim: &FraudClaim, message: &Message) -> bool
+    ensures { result ≡ is_placed claim.now message.now }
+{
+    index(claim.axis, message.cell) == claim.index
+        && (!is_along(claim.axis, message) || message.path.nodes().is_empty())
+}
+
+/// Whether all cells of a claim with a set are placed.
+fn are_placed(claim: &FraudClaim) -> bool
+    ensures { result ≡ list_all (is_placed claim.now) claim.now.cells }
+{
+    for cell in &claim.cells {
+        if !is_placed(claim, cell) {
+            return false;
+        }
+    }
+    true
+}
+
+/// Whether the set shows one of the cells of a claim.
+fn has_shown(claim: &FraudClaim) -> bool
+    ensures { result ≡ list_any (is_along claim.now.axis) claim.now.cells }
+{
+    for cell in &claim.cells {
+        if is_along(claim.axis, cell) {
+            return true;
+        }
+    }
+    false
+}
+
+/// Whether the cells of a claim can be written beside its set, if it has one.
+pub(crate) fn fits_form(claim: &FraudClaim) -> bool
+    ensures { result ≡ fits_form claim.now claim.now.set }
+{
+    match &claim.set {
+        Some(set) => {
+            are_placed(claim) && has_shown(claim) && set.nodes.len() <= MOST_NODES as usize
+        }
+        None => true,
+    }
+}
+
+/// A length with that of a cell more.
+fn with_cell(size: u32, axis: Axis, message: &Message) -> Option<u32>
+    requires size { size ≤ max_payload }
+    ensures { IsWithin (size + length (cell_payload axis message.now)) result }
+{
+    let nodes = message.path.nodes();
+    share_law(&message.share);
+    digests_law(nodes);
+    let size = longer(size, CELL_SIZE)?;
+    if is_along(axis, message) {
+        return Some(size);
+    }
+    longer(size, 1 + DIGEST_SIZE * nodes.len())
+}
+
+/// A length with that of a list of cells more.
+fn with_cells(size: u32, axis: Axis, cells: &[Message]) -> Option<u32>
+    requires size { size ≤ max_payload }
+    ensures { IsWithin (size + 2 + length (flat_map (cell_payload axis) cells.now)) result }
+{
+    let mut size = longer(size, NUMBER_SIZE)?;
+    for cell in cells {
+        size = with_cell(size, axis, cell)?;
+    }
+    Some(size)
+}
+
+/// A length with that of the nodes of a set more.
+fn with_nodes(size: u32, nodes: &[Digest]) -> Option<u32>
+    requires size { size ≤ max_payload }
+    requires few { length nodes.now ≤ most_set_nodes }
+    ensures { IsWithin (size + 2 + length (digest_bytes nodes.now)) result }
+{
+    digests_law(nodes);
+    longer(size, NUMBER_SIZE + DIGEST_SIZE * nodes.len())
+}
+
+/// The length of the payload of a claim with this set.
+pub(crate) fn set_size(claim: &FraudClaim, set: &SetNodes) -> Option<u32>
+    requires few { length set.now ≤ most_set_nodes }
+    ensures { IsWithin (length (set_payload claim.now set.now)) result }
+{
+    with_nodes(
+        with_cells(ACCUSED_SIZE, claim.axis, &claim.cells)?,
+        &set.nodes,
+    )
+}
+
+/// Appends a cell: its position on the accused axis, its tag, its share, and its path where it has one.
+fn put_cell(out: &mut Vec<u8>, axis: Axis, message: &Message)
+    requires room { HasRoom out.old (length (cell_payload axis message.now)) }
+    ensures appended { out.new.items ≡ out.old.items ++ cell_payload axis message.now }
+    ensures len { vec_len out.new ≡ vec_len out.old + length (cell_payload axis message.now) }
+    ensures capacity { vec_capacity out.old ≤ vec_capacity out.new }
+{
+    append(out, &position(axis, message.cell).to_be_bytes());
+    if is_along(axis, message) {
+        append(out, &[ALONG]);
+        append(out, &message.share.0);
+    } else {
+        append(out, &[CROSSING]);
+        append(out, &message.share.0);
+        put_path(out, message.path.nodes());
+    }
+}
+
+/// Appends cells, one after another.
+fn put_cells(out: &mut Vec<u8>, axis: Axis, cells: &[Message])
+    requires room { HasRoom out.old (length (flat_map (cell_payload axis) cells.now)) }
+    ensures appended { out.new.items ≡ out.old.items ++ flat_map (cell_payload axis) cells.now }
+    ensures len { vec_len out.new
+        ≡ vec_len out.old + length (flat_map (cell_payload axis) cells.now) }
+    ensures capacity { vec_capacity out.old ≤ vec_capacity out.new }
+{
+    for cell in cells {
+        put_cell(out, axis, cell);
+    }
+}
+
+/// Appends the nodes of a set behind their count.
+fn put_nodes(out: &mut Vec<u8>, nodes: &[Digest])
+    requires few { length nodes.now ≤ most_set_nodes }
+    requires room { HasRoom out.old (2 + length (digest_bytes nodes.now)) }
+    ensures { out.new.items ≡ out.old.items ++ digest_list nodes.now }
+{
+    append(out, &(nodes.len() as u16).to_be_bytes());
+    put_digests(out, nodes);
+}
+
+/// Appends the payload of a claim with this set.
+pub(crate) fn put_with_set(out: &mut Vec<u8>, claim: &FraudClaim, set: &SetNodes)
+    requires cells { length claim.now.cells ≤ most_cells }
+    requires few { length set.now ≤ most_set_nodes }
+    requires room { HasRoom out.old (length (set_payload claim.now set.now)) }
+    ensures appended { out.new.items ≡ out.old.items ++ set_payload claim.now set.now }
+{
+    put_accused(out, FORM, claim.axis, claim.index, claim.cells.len());
+    put_cells(out, claim.axis, &claim.cells);
+    put_nodes(out, &set.nodes);
+}

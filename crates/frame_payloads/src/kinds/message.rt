@@ -1,0 +1,40 @@
+//! The payload of a sample.
+
+ghost use Rattle.std.specs.Prelude.{◌≡◌, ◌≤◌, length, vec_len, Some, ◌+◌, ◌++◌, vec_capacity, false};
+ghost use Rattle.namespace_id.specs.Answers.{HasRoom};
+ghost use Rattle.frame_payloads.specs.kinds.Message.{message_payload};
+ghost use Rattle.frame_payloads.specs.Payloads.{IsSize};
+
+use crate::codec::appending::{axis_byte, put_cell, put_path};
+use crate::codec::sizes::{CELL_SIZE, DIGEST_SIZE, SHARE_SIZE};
+use axis_roots::Message;
+use namespace_id::{MOST_DEPTH, append, digests_law, share_law};
+
+/// The bytes of a sample whose path has no nodes: its cell, its axis, its share, and the count 0.
+pub(crate) const BARE_SIZE: usize = CELL_SIZE + 1 + SHARE_SIZE + 1;
+
+/// The most bytes of the payload of a sample.
+pub const MOST_MESSAGE: usize = BARE_SIZE + DIGEST_SIZE * MOST_DEPTH;
+
+/// The length of the payload of a sample.
+pub fn message_size(message: &Message) -> u32
+    ensures { IsSize false (message_payload message.now) (Some result) }
+{
+    let nodes = message.path.nodes();
+    share_law(&message.share);
+    digests_law(nodes);
+    BARE_SIZE as u32 + DIGEST_SIZE as u32 * nodes.len() as u32
+}
+
+/// Appends the payload of a sample.
+pub fn put_message(out: &mut Vec<u8>, message: &Message)
+    requires room { HasRoom out.old (length (message_payload message.now)) }
+    ensures appended { out.new.items ≡ out.old.items ++ message_payload message.now }
+    ensures len { vec_len out.new ≡ vec_len out.old + length (message_payload message.now) }
+    ensures capacity { vec_capacity out.old ≤ vec_capacity out.new }
+{
+    put_cell(out, message.cell);
+    append(out, &[axis_byte(message.axis)]);
+    append(out, &message.share.0);
+    put_path(out, message.path.nodes());
+}

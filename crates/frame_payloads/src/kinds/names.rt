@@ -1,0 +1,501 @@
+//! The payload of a namespace answer: judged where it lies, then read; and written.
+
+ghost use Rattle.std.specs.Prelude.{◌≡◌, ◌≤◌, length, map, vec_len, None, Some, IfOk, IfSome, MatchOption, ◌+◌, ◌++◌, vec_capacity, IsSome, ◌*◌, false, ◌↔◌, IsTrue};
+ghost use Rattle.std.specs.List.{flat_map, list_any};
+ghost use Rattle.std.specs.Option.{option_map};
+ghost use Rattle.namespace_id.specs.Answers.{Gives, HasRoom};
+ghost use Rattle.frame_fields.specs.Fields.{most_nodes, many_at, read_items, read_rest, shares_of};
+ghost use Rattle.frame_payloads.specs.codec.Texts.{path_bytes};
+ghost use Rattle.frame_payloads.specs.Payloads.{GivesUnlessFull, max_payload, IsSize, IsWithin};
+ghost use Rattle.frame_payloads.specs.kinds.Names.{most_shares_shown, is_long_found, is_long_entry, is_long_answer, share_list_bytes, found_bytes, entry_bytes, names_payload, share_list_at, range_at, absence_at, found_at, entry_at, entries_at, names_at, found_place, entry_place, answer_places, place_at, found_seen, HasShares, HasFewNodes, HasNodes};
+
+use crate::codec::appending::{put_path, put_shares};
+use crate::codec::sizes::{DIGEST_SIZE, NAMESPACE_SIZE, SHARE_SIZE, longer};
+use crate::shown::{EntryPlace, FoundPlace, PlaceList};
+use axis_roots::{Found, NsAnswer, NsEntry, ShareList};
+use frame_fields::{
+    count16_at, digest_at, name_at, node_list_at, nodes_of, shares_at, shares_of, u8_at, u16_at,
+};
+use namespace_id::{
+    Digest, GREATEST_WIDTH, Namespace, Share, append, digest_law, digests_law, namespace_law,
+    shares_law,
+};
+use std::alloc::{AllocError, Global};
+
+/// The most entries of an answer, a row each.
+const MOST_ENTRIES: u16 = GREATEST_WIDTH;
+
+/// The most shares of a range, all of the original half of a row.
+const MOST_SHARES_SHOWN: u16 = GREATEST_WIDTH;
+
+/// The byte in front of a range.
+const RANGE: u8 = 0;
+
+/// The byte in front of an absence.
+const ABSENCE: u8 = 1;
+
+/// The bytes that state a row, a place or a count.
+const NUMBER_SIZE: usize = 2;
+
+/// What is found in a row. The shares of a range and the nodes are still bytes, behind their counts.
+#[derive(Clone, Copy)]
+pub(crate) enum FoundFields<'a> {
+    Range {
+        start: u16,
+        count: u16,
+        shares: &'a [u8],
+        node_count: u8,
+        nodes: &'a [u8],
+    },
+    Absence {
+        pos: u16,
+        leaf: Digest,
+        node_count: u8,
+        nodes: &'a [u8],
+    },
+}
+
+/// The count of shares, their bytes, and the bytes after them.
+#[tactic(auto, unfolding(crate::specs::kinds::Names::share_list_at))]
+fn share_list_at(bytes: &[u8]) -> Option<(u16, &[u8], &[u8])>
+    ensures value { Gives (λ x. (shares_of x.0 x.1.now, x.2.now))
+        result (share_list_at bytes.now) }
+    ensures all { IfSome result (λ x. length x.1.now ≡ 512 * x.0) }
+{
+    let Some((count, rest)) = count16_at(bytes, MOST_SHARES_SHOWN) else {
+        return None;
+    };
+    let Some((shares, rest)) = shares_at(count, rest) else {
+        return None;
+    };
+    Some((count, shares, rest))
+}
+
+/// A range behind its tag, and the bytes after it.
+#[tactic(auto, unfolding(crate::specs::kinds::Names::range_at))]
+fn range_at(bytes: &[u8]) -> Option<(FoundFields<'_>, &[u8])>
+    ensures value { Gives (λ x. (found_seen x.0, x.1.now)) result (range_at bytes.now) }
+    ensures shares { IfSome result (λ x. HasShares x.0) }
+    ensures few { IfSome result (λ x. HasFewNodes x.0) }
+    ensures nodes { IfSome result (λ x. HasNodes x.0) }
+{
+    let Some((start, rest)) = u16_at(bytes) else {
+        return None;
+    };
+    let Some((count, shares, rest)) = share_list_at(rest) else {
+        return None;
+    };
+    let Some((node_count, nodes, rest)) = node_list_at(rest) else {
+        return None;
+    };
+    let found = FoundFields::Range {
+        start,
+        count,
+        shares,
+        node_count,
+        nodes,
+    };
+    Some((found, rest))
+}
+
+/// An absence behind its tag, and the bytes after it.
+#[tactic(auto, unfolding(crate::specs::kinds::Names::absence_at))]
+fn absence_at(bytes: &[u8]) -> Option<(FoundFields<'_>, &[u8])>
+    ensures value { Gives (λ x. (found_seen x.0, x.1.now)) result (absence_at bytes.now) }
+    ensures shares { IfSome result (λ x. HasShares x.0) }
+    ensures few { IfSome result (λ x. HasFewNodes x.0) }
+    ensures nodes { IfSome result (λ x. HasNodes x.0) }
+{
+    let Some((pos, rest)) = u16_at(bytes) else {
+        return None;
+    };
+    let Some((leaf, rest)) = digest_at(rest) else {
+        return None;
+    };
+    let Some((node_count, nodes, rest)) = node_list_at(rest) else {
+        return None;
+    };
+    let found = FoundFields::Absence {
+        pos,
+        leaf,
+        node_count,
+        nodes,
+    };
+    Some((found, rest))
+}
+
+/// What is found in a row, and the bytes after it.
+#[tactic(auto, unfolding(crate::specs::kinds::Names::found_at))]
+fn found_at(bytes: &[u8]) -> Option<(FoundFields<'_>, &[u8])>
+    ensures value { Gives (λ x. (found_seen x.0, x.1.now)) result (found_at bytes.now) }
+    ensures shares { IfSome result (λ x. HasShares x.0) }
+    ensures few { IfSome result (λ x. HasFewNodes x.0) }
+    ensures nodes { IfSome result (λ x. HasNodes x.0) }
+{
+    let (tag, rest) = u8_at(bytes)?;
+    match tag {
+        RANGE => range_at(rest),
+        ABSENCE => absence_at(rest),
+        _ => None,
+    }
+}
+
+/// A row, what is found in it, and the bytes after it.
+#[tactic(auto, unfolding(crate::specs::kinds::Names::entry_at))]
+fn entry_at(bytes: &[u8]) -> Option<(u16, FoundFields<'_>, &[u8])>
+    ensures value { Gives (λ x. (record { row = x.0; found = found_seen x.1 }, x.2.now))
+        result (entry_at bytes.now) }
+    ensures shares { IfSome result (λ x. HasShares x.1) }
+    ensures few { IfSome result (λ x. HasFewNodes x.1) }
+    ensures nodes { IfSome result (λ x. HasNodes x.1) }
+{
+    let Some((row, rest)) = u16_at(bytes) else {
+        return None;
+    };
+    let Some((found, rest)) = found_at(rest) else {
+        return None;
+    };
+    Some((row, found, rest))
+}
+
+/// The bytes after so many entries.
+fn after_entries(count: u16, bytes: &[u8]) -> Option<&[u8]>
+    ensures { Gives (λ x. x.now) result (read_rest (many_at entry_at count bytes.now)) }
+{
+    let mut rest = bytes;
+    for _ in 0..count {
+        let (_row, _found, after) = entry_at(rest)?;
+        rest = after;
+    }
+    Some(rest)
+}
+
+/// The bytes after a list of entries.
+#[tactic(auto, unfolding(frame_fields::specs::Fields::list_at))]
+fn after_entry_list(bytes: &[u8]) -> Option<&[u8]>
+    ensures { Gives (λ x. x.now) result (read_rest (entries_at bytes.now)) }
+{
+    let (count, rest) = count16_at(bytes, MOST_ENTRIES)?;
+    after_entries(count, rest)
+}
+
+/// The namespace of an answer, and the bytes of its entries from their count on, of which all are
+/// there. It takes no memory.
+fn names_parts(payload: &[u8]) -> Option<(Namespace, &[u8])>
+    ensures parts { MatchOption result (names_at payload.now ≡ None)
+        (λ x. names_at payload.now ≡ Some (x.0, read_items (entries_at x.1.now))) }
+    ensures entries { IfSome result (λ x. IsSome (entries_at x.1.now)) }
+{
+    let (name, entries) = name_at(payload)?;
+    let rest = after_entry_list(entries)?;
+    if !rest.is_empty() {
+        return None;
+    }
+    Some((name, entries))
+}
+
+/// Whether the bytes are the payload of a namespace answer. It takes no memory.
+pub fn is_names(payload: &[u8]) -> bool
+    ensures { IsTrue result ↔ IsSome (names_at payload.now) }
+{
+    names_parts(payload).is_some()
+}
+
+/// What is found in a row, with memory for the shares of a range.
+fn found_of(alloc: Global, found: FoundFields<'_>) -> Result<Found, AllocError>
+    requires shares { HasShares found }
+    requires few { HasFewNodes found }
+    requires nodes { HasNodes found }
+    ensures { IfOk result (λ made. made ≡ found_seen found.entry) }
+{
+    match found {
+        FoundFields::Range {
+            start,
+            count,
+            shares,
+            node_count,
+            nodes,
+        } => {
+            let list = shares_of(alloc, count as usize, shares)?;
+            Ok(Found::Range {
+                start,
+                shares: ShareList { list },
+                nodes: nodes_of(node_count, nodes),
+            })
+        }
+        FoundFields::Absence {
+            pos,
+            leaf,
+            node_count,
+            nodes,
+        } => Ok(Found::Absence {
+            pos,
+            leaf,
+            nodes: nodes_of(node_count, nodes),
+        }),
+    }
+}
+
+/// So many entries, one after another.
+fn entries_of(alloc: Global, count: u16, bytes: &[u8]) -> Result<Vec<NsEntry>, AllocError>
+    requires { IsSome (many_at entry_at count bytes.now) }
+    ensures { IfOk result (λ entries.
+        entries.items ≡ read_items (many_at entry_at count bytes.now)) }
+{
+    let mut entries = Vec::with_capacity(alloc, count as usize)?;
+    let mut rest = bytes;
+    for _ in 0..count {
+        let (row, fields, after) = entry_at(rest).unwrap();
+        let found = found_of(alloc, fields)?;
+        entries.push(NsEntry { row, found })?;
+        rest = after;
+    }
+    Ok(entries)
+}
+
+/// A list of entries.
+#[tactic(auto, unfolding(frame_fields::specs::Fields::list_at))]
+fn entry_list(alloc: Global, bytes: &[u8]) -> Result<Vec<NsEntry>, AllocError>
+    requires { IsSome (entries_at bytes.now) }
+    ensures { IfOk result (λ entries. entries.items ≡ read_items (entries_at bytes.now)) }
+{
+    let (count, rest) = count16_at(bytes, MOST_ENTRIES).unwrap();
+    entries_of(alloc, count, rest)
+}
+
+/// The namespace answer whose payload the bytes are, and the namespace. No memory is taken before they are
+/// known to be one.
+pub fn names(alloc: Global, payload: &[u8]) -> Result<Option<(Namespace, NsAnswer)>, AllocError>
+    ensures { GivesUnlessFull result (names_at payload.now) }
+{
+    let Some((name, bytes)) = names_parts(payload) else {
+        return Ok(None);
+    };
+    let entries = entry_list(alloc, bytes)?;
+    Ok(Some((name, NsAnswer { entries })))
+}
+
+/// The place of what is found in a row.
+fn place_of(found: FoundFields<'_>) -> FoundPlace
+    ensures { result ≡ found_place (found_seen found.entry) }
+{
+    match found {
+        FoundFields::Range { start, count, .. } => FoundPlace::Range { start, count },
+        FoundFields::Absence { pos, .. } => FoundPlace::Absence { pos },
+    }
+}
+
+/// The place of an entry, and the bytes after it.
+fn place_at(bytes: &[u8]) -> Option<(EntryPlace, &[u8])>
+    ensures { Gives (λ x. (x.0, x.1.now)) result (place_at bytes.now) }
+{
+    let (row, found, rest) = entry_at(bytes)?;
+    let found = place_of(found);
+    Some((EntryPlace { row, found }, rest))
+}
+
+/// The places of so many entries, one after another.
+fn places_of(alloc: Global, count: u16, bytes: &[u8]) -> Result<Vec<EntryPlace>, AllocError>
+    requires { IsSome (many_at entry_at count bytes.now) }
+    ensures { IfOk result (λ places.
+        places.items ≡ map entry_place (read_items (many_at entry_at count bytes.now))) }
+{
+    let mut places = Vec::with_capacity(alloc, count as usize)?;
+    let mut rest = bytes;
+    for _ in 0..count {
+        let (place, after) = place_at(rest).unwrap();
+        places.push(place)?;
+        rest = after;
+    }
+    Ok(places)
+}
+
+/// The places of a list of entries.
+#[tactic(auto, unfolding(frame_fields::specs::Fields::list_at))]
+fn place_list(alloc: Global, bytes: &[u8]) -> Result<Vec<EntryPlace>, AllocError>
+    requires { IsSome (entries_at bytes.now) }
+    ensures { IfOk result (λ places.
+        places.items ≡ map entry_place (read_items (entries_at bytes.now))) }
+{
+    let (count, rest) = count16_at(bytes, MOST_ENTRIES).unwrap();
+    places_of(alloc, count, rest)
+}
+
+/// What is shown of the namespace answer whose payload the bytes are: its namespace, and where its entries
+/// found something. No memory is taken before they are known to be one.
+pub fn places(alloc: Global, payload: &[u8]) -> Result<Option<(Namespace, PlaceList)>, AllocError>
+    ensures { GivesUnlessFull result (option_map answer_places (names_at payload.now)) }
+{
+    let Some((name, bytes)) = names_parts(payload) else {
+        return Ok(None);
+    };
+    let list = place_list(alloc, bytes)?;
+    Ok(Some((name, PlaceList { list })))
+}
+
+/// Whether what is found has more shares than can be written.
+fn is_long_found(found: &Found) -> bool
+    ensures { result ≡ is_long_found found.now }
+{
+    match found {
+        Found::Range { shares, .. } => shares.list.len() > MOST_SHARES_SHOWN as usize,
+        Found::Absence { .. } => false,
+    }
+}
+
+/// Whether an entry has more shares than can be written.
+fn has_long_entry(entries: &[NsEntry]) -> bool
+    ensures { result ≡ list_any is_long_entry entries.now }
+{
+    for entry in entries {
+        if is_long_found(&entry.found) {
+            return true;
+        }
+    }
+    false
+}
+
+/// Whether an answer has more entries than can be written, or more shares in one of them.
+fn is_long_answer(answer: &NsAnswer) -> bool
+    ensures { result ≡ is_long_answer answer.now }
+{
+    answer.entries.len() > MOST_ENTRIES as usize || has_long_entry(&answer.entries)
+}
+
+/// A length with that of nodes behind their count more.
+fn with_nodes(size: u32, nodes: &[Digest]) -> Option<u32>
+    requires size { size ≤ max_payload }
+    requires few { length nodes.now ≤ most_nodes }
+    ensures { IsWithin (size + length (path_bytes nodes.now)) result }
+{
+    digests_law(nodes);
+    longer(size, 1 + DIGEST_SIZE * nodes.len())
+}
+
+/// A length with that of shares behind their count more.
+fn with_shares(size: u32, shares: &[Share]) -> Option<u32>
+    requires size { size ≤ max_payload }
+    requires few { length shares.now ≤ most_shares_shown }
+    ensures { IsWithin (size + length (share_list_bytes shares.now)) result }
+{
+    shares_law(shares);
+    longer(size, NUMBER_SIZE + SHARE_SIZE * shares.len())
+}
+
+/// A length with that of what is found in a row more.
+fn with_found(size: u32, found: &Found) -> Option<u32>
+    requires size { size ≤ max_payload }
+    requires short { is_long_found found.now ≡ false }
+    ensures { IsWithin (size + length (found_bytes found.now)) result }
+{
+    match found {
+        Found::Range { shares, nodes, .. } => {
+            let size = longer(size, 1 + NUMBER_SIZE)?;
+            with_nodes(with_shares(size, &shares.list)?, nodes.nodes())
+        }
+        Found::Absence { leaf, nodes, .. } => {
+            digest_law(leaf);
+            let size = longer(size, 1 + NUMBER_SIZE + DIGEST_SIZE)?;
+            with_nodes(size, nodes.nodes())
+        }
+    }
+}
+
+/// A length with that of a list of entries more.
+fn with_entries(size: u32, entries: &[NsEntry]) -> Option<u32>
+    requires size { size ≤ max_payload }
+    requires short { list_any is_long_entry entries.now ≡ false }
+    ensures { IsWithin (size + 2 + length (flat_map entry_bytes entries.now)) result }
+{
+    let mut size = longer(size, NUMBER_SIZE)?;
+    for entry in entries {
+        size = with_found(longer(size, NUMBER_SIZE)?, &entry.found)?;
+    }
+    Some(size)
+}
+
+/// The length of the payload of a namespace answer, none where it has too many entries or too many
+/// shares in one of them.
+pub fn names_size(name: &Namespace, answer: &NsAnswer) -> Option<u32>
+    ensures { IsSize (is_long_answer answer.now) (names_payload name.now answer.now) result }
+{
+    if is_long_answer(answer) {
+        return None;
+    }
+    namespace_law(name);
+    with_entries(NAMESPACE_SIZE as u32, &answer.entries)
+}
+
+/// Appends shares behind their count.
+fn put_share_list(out: &mut Vec<u8>, shares: &[Share])
+    requires few { length shares.now ≤ most_shares_shown }
+    requires room { HasRoom out.old (length (share_list_bytes shares.now)) }
+    ensures appended { out.new.items ≡ out.old.items ++ share_list_bytes shares.now }
+    ensures len { vec_len out.new ≡ vec_len out.old + length (share_list_bytes shares.now) }
+    ensures capacity { vec_capacity out.old ≤ vec_capacity out.new }
+{
+    append(out, &(shares.len() as u16).to_be_bytes());
+    put_shares(out, shares);
+}
+
+/// Appends what is found in a row: its tag, its place, its shares or the digest of its leaf, its nodes.
+fn put_found(out: &mut Vec<u8>, found: &Found)
+    requires short { is_long_found found.now ≡ false }
+    requires room { HasRoom out.old (length (found_bytes found.now)) }
+    ensures appended { out.new.items ≡ out.old.items ++ found_bytes found.now }
+    ensures len { vec_len out.new ≡ vec_len out.old + length (found_bytes found.now) }
+    ensures capacity { vec_capacity out.old ≤ vec_capacity out.new }
+{
+    match found {
+        Found::Range {
+            start,
+            shares,
+            nodes,
+        } => {
+            append(out, &[RANGE]);
+            append(out, &start.to_be_bytes());
+            put_share_list(out, &shares.list);
+            put_path(out, nodes.nodes());
+        }
+        Found::Absence { pos, leaf, nodes } => {
+            append(out, &[ABSENCE]);
+            append(out, &pos.to_be_bytes());
+            append(out, &leaf.0);
+            put_path(out, nodes.nodes());
+        }
+    }
+}
+
+/// Appends a row, and what is found in it.
+fn put_entry(out: &mut Vec<u8>, entry: &NsEntry)
+    requires short { is_long_entry entry.now ≡ false }
+    requires room { HasRoom out.old (length (entry_bytes entry.now)) }
+    ensures appended { out.new.items ≡ out.old.items ++ entry_bytes entry.now }
+    ensures len { vec_len out.new ≡ vec_len out.old + length (entry_bytes entry.now) }
+    ensures capacity { vec_capacity out.old ≤ vec_capacity out.new }
+{
+    append(out, &entry.row.to_be_bytes());
+    put_found(out, &entry.found);
+}
+
+/// Appends entries, one after another.
+fn put_entries(out: &mut Vec<u8>, entries: &[NsEntry])
+    requires short { list_any is_long_entry entries.now ≡ false }
+    requires room { HasRoom out.old (length (flat_map entry_bytes entries.now)) }
+    ensures appended { out.new.items ≡ out.old.items ++ flat_map entry_bytes entries.now }
+{
+    for entry in entries {
+        put_entry(out, entry);
+    }
+}
+
+/// Appends the payload of a namespace answer.
+pub fn put_names(out: &mut Vec<u8>, name: &Namespace, answer: &NsAnswer)
+    requires short { is_long_answer answer.now ≡ false }
+    requires room { HasRoom out.old (length (names_payload name.now answer.now)) }
+    ensures appended { out.new.items ≡ out.old.items ++ names_payload name.now answer.now }
+{
+    append(out, &name.0);
+    append(out, &(answer.entries.len() as u16).to_be_bytes());
+    put_entries(out, &answer.entries);
+}
