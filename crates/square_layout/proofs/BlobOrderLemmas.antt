@@ -12,18 +12,6 @@ use Rattle.share_split.specs.Blobs.{NamedBytes}
 use Rattle.square_layout.specs.Layout.{put_in, in_order}
 use Rattle.square_layout.proofs.SortingLemmas.{Ranks, Rises, put_by, order_by, sorted_is, Rises-from_neighbours}
 
--- the namespace of a borrowed blob, and the order by it
-abbrev pub name_of : Bor NamedBytes → Namespace
-name_of blob = blob.now.namespace
-
--- whether the namespace of a borrowed blob is not above that of another
-abbrev pub named_at_most : Bor NamedBytes → Bor NamedBytes → Bool
-named_at_most a b = is_at_most (name_of a) (name_of b)
-
--- whether neither of two borrowed blobs has the smaller namespace
-abbrev pub named_level : Bor NamedBytes → Bor NamedBytes → Bool
-named_level = ties (λ a b. is_lt (namespace_cmp (name_of a) (name_of b)))
-
 -- a comparison the other way round is not below where it is not above
 turned : (o : Ordering) → not (is_lt (ordering_reverse o)) ≡ is_le o
 turned Less = refl
@@ -34,16 +22,40 @@ turned Greater = refl
 at_most_is : (a b : Namespace) → not (is_lt (namespace_cmp b a)) ≡ is_at_most a b
 at_most_is a b = ap (λ (o : Ordering). not (is_lt o)) (nat_list_cmp_total.antisymm b.0 a.0) ∙ turned (namespace_cmp a b)
 
--- borrowed blobs are ranked by their namespaces
-names_rank : Ranks named_at_most named_level
-names_rank = record {
-  total = λ x y. at_most_total (name_of x) (name_of y);
-  trans = λ x y z. at_most_trans (name_of x) (name_of y) (name_of z);
-  parts = λ x y h. (let both = and_parts (not (is_lt (namespace_cmp (name_of x) (name_of y)))) (not (is_lt (namespace_cmp (name_of y) (name_of x)))) h in
-      (sym (at_most_is (name_of x) (name_of y)) ∙ both.1, sym (at_most_is (name_of y) (name_of x)) ∙ both.0));
-  from = λ x y h k. and_from (not (is_lt (namespace_cmp (name_of x) (name_of y)))) (not (is_lt (namespace_cmp (name_of y) (name_of x))))
-      (at_most_is (name_of y) (name_of x) ∙ k) (at_most_is (name_of x) (name_of y) ∙ h);
+-- what has a namespace is ranked by it: whether the namespace of one is not above that of another
+abbrev pub at_most_by : {X : Type 0} → (X → Namespace) → X → X → Bool
+at_most_by name a b = is_at_most (name a) (name b)
+
+-- and whether neither has the smaller namespace
+abbrev pub level_by : {X : Type 0} → (X → Namespace) → X → X → Bool
+level_by name = ties (λ a b. is_lt (namespace_cmp (name a) (name b)))
+
+names_rank : {X : Type 0} (name : X → Namespace) → Ranks (at_most_by name) (level_by name)
+names_rank name = record {
+  total = λ x y. at_most_total (name x) (name y);
+  trans = λ x y z. at_most_trans (name x) (name y) (name z);
+  parts = λ x y h. (let both = and_parts (not (is_lt (namespace_cmp (name x) (name y)))) (not (is_lt (namespace_cmp (name y) (name x)))) h in
+      (sym (at_most_is (name x) (name y)) ∙ both.1, sym (at_most_is (name y) (name x)) ∙ both.0));
+  from = λ x y h k. and_from (not (is_lt (namespace_cmp (name x) (name y)))) (not (is_lt (namespace_cmp (name y) (name x))))
+      (at_most_is (name y) (name x) ∙ k) (at_most_is (name x) (name y) ∙ h);
 }
+
+-- a stable sort by namespaces is a sort by insertion
+pub sorted_by_name : {X : Type 0} (name : X → Namespace) (xs ys : List X) → IsSortedByKey name namespace_cmp ys → IsStableByKey name namespace_cmp xs ys
+    → ys ≡ order_by (at_most_by name) xs
+sorted_by_name name xs ys up same =
+    let rises : Rises (at_most_by name) ys = Rises-from_neighbours (names_rank name) ys (λ k d h. sym (at_most_is (name (get_or ys k d)) (name (get_or ys (k + 1) d))) ∙ ap not (up k d (omega arith) h)) in
+    sorted_is (names_rank name) xs ys rises same
+
+-- ---- borrowed blobs
+
+-- the namespace of a borrowed blob
+abbrev pub name_of : Bor NamedBytes → Namespace
+name_of blob = blob.now.namespace
+
+-- whether it is not above that of another
+abbrev named_at_most : Bor NamedBytes → Bor NamedBytes → Bool
+named_at_most = at_most_by name_of
 
 -- putting a borrowed blob among others is putting the blob
 map-put_by : (x : Bor NamedBytes) (ys : List (Bor NamedBytes)) → map (λ b. b.now) (put_by named_at_most x ys) ≡ put_in x.now (map (λ b. b.now) ys)
@@ -60,12 +72,10 @@ unfolding order_by in_order
 map-order_by [] = refl
 map-order_by (x ∷ xs) = map-put_by x (order_by named_at_most xs) ∙ ap (put_in x.now) (map-order_by xs)
 
--- a stable sort by namespaces
+-- a stable sort by namespaces gives the blobs in order
 pub sorted_in_order : (xs ys : List (Bor NamedBytes)) → IsSortedByKey name_of namespace_cmp ys → IsStableByKey name_of namespace_cmp xs ys
     → map (λ b. b.now) ys ≡ in_order (map (λ b. b.now) xs)
-sorted_in_order xs ys up same =
-    let rises : Rises named_at_most ys = Rises-from_neighbours names_rank ys (λ k d h. sym (at_most_is (name_of (get_or ys k d)) (name_of (get_or ys (k + 1) d))) ∙ ap not (up k d (omega arith) h)) in
-    ap (map (λ (b : Bor NamedBytes). b.now)) (sorted_is names_rank xs ys rises same) ∙ map-order_by xs
+sorted_in_order xs ys up same = ap (map (λ (b : Bor NamedBytes). b.now)) (sorted_by_name name_of xs ys up same) ∙ map-order_by xs
 
 -- what holds of each blob holds of each in order
 pub All-put_in : (P : NamedBytes → Type 0) (blob : NamedBytes) (blobs : List NamedBytes) → P blob → AllByRecursion P blobs → AllByRecursion P (put_in blob blobs)
