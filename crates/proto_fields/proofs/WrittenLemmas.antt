@@ -7,7 +7,7 @@ use Rattle.proto_fields.specs.declared.tags.Wire.{Wire}
 use Rattle.proto_fields.specs.declared.tags.Wire.TheVariants.{Varint, Delimited}
 use Rattle.proto_fields.specs.Varints.{varint, number_at}
 use Rattle.proto_fields.specs.Fields.{ValueParts, number_value, bytes_value, wire_of, is_field_number, tag_of, tag_at, bytes_at, text_at, value_at, most_open, field_at}
-use Rattle.proto_fields.specs.Spelled.{text, bytes_field, number_field, field_size}
+use Rattle.proto_fields.specs.Spelled.{text, bytes_field, number_field, field_size, number_size}
 use Rattle.proto_fields.proofs.Varint.Read.{varint_is_read}
 
 -- the tag of a number and a wire
@@ -88,3 +88,7 @@ number_field_is_read n value rest numbered fits =
 -- a field of bytes takes as many bytes as counted
 pub size_is_length : (n : ℕ) (bytes : List ℕ) → length (bytes_field n bytes) ≡ field_size n (length bytes)
 size_is_length n bytes = omega (arith, length-append (varint (8 * n + 2)) (text bytes), length-append (varint (length bytes)) bytes)
+
+-- and a field of a number
+pub number_size_is_length : (n value : ℕ) → length (number_field n value) ≡ number_size n value
+number_size_is_length n value = length-append (varint (8 * n)) (varint value)

@@ -2,7 +2,7 @@
 use Rattle.std.specs.Prelude.{◌≡◌, ◌↔◌, ℕ, ◌<◌, ◌≤◌, ◌^◌, true, List, [], ◌∷◌, ◌++◌, length, Some, None, option_map}
 use Rattle.proto_fields.specs.Varints.{IsVarint, varint, number_at}
 use Rattle.proto_fields.specs.Fields.{FieldParts, bytes_value, number_value, is_field_number, field_at, fields_of, last_of, all_bytes, all_numbers, last_bytes, last_number}
-use Rattle.proto_fields.specs.Spelled.{bytes_field, number_field, field_size}
+use Rattle.proto_fields.specs.Spelled.{bytes_field, number_field, field_size, number_size}
 
 -- ---- varints
 
@@ -31,9 +31,12 @@ abbrev pub NumberFieldIsRead : Type 0
 NumberFieldIsRead = (n value : ℕ) (rest : List ℕ) → is_field_number n ≡ true → value < 2 ^ 64
     → field_at (number_field n value ++ rest) ≡ Some (record { number = n; value = number_value value }, rest)
 
--- a field of bytes takes as many bytes as counted
+-- fields take as many bytes as counted
 abbrev pub SizeIsLength : Type 0
 SizeIsLength = (n : ℕ) (bytes : List ℕ) → length (bytes_field n bytes) ≡ field_size n (length bytes)
+
+abbrev pub NumberSizeIsLength : Type 0
+NumberSizeIsLength = (n value : ℕ) → length (number_field n value) ≡ number_size n value
 
 -- ---- fields one after another
 

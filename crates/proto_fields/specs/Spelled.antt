@@ -17,3 +17,7 @@ number_field n value = varint (8 * n) ++ varint value
 -- how many bytes a field of so many bytes takes
 abbrev pub field_size : ℕ → ℕ → ℕ
 field_size n len = length (varint (8 * n + 2)) + (length (varint len) + len)
+
+-- and a field of this number
+abbrev pub number_size : ℕ → ℕ → ℕ
+number_size n value = length (varint (8 * n)) + length (varint value)

@@ -1,6 +1,6 @@
 //! Laws of varints and of fields.
 
-ghost use Rattle.proto_fields.specs.Laws.{ReadInOneWay, ShortestIsVarint, ShortestIsShortest, BytesFieldIsRead, NumberFieldIsRead, NoFields, FirstField, NoField, FieldIsShorter, ReadWhateverFollows, FieldsInARow, AllBytesInARow, AllNumbersInARow, LastBytesCount, LastNumberCounts, SizeIsLength};
+ghost use Rattle.proto_fields.specs.Laws.{ReadInOneWay, ShortestIsVarint, ShortestIsShortest, BytesFieldIsRead, NumberFieldIsRead, NoFields, FirstField, NoField, FieldIsShorter, ReadWhateverFollows, FieldsInARow, AllBytesInARow, AllNumbersInARow, LastBytesCount, LastNumberCounts, SizeIsLength, NumberSizeIsLength};
 
 /// The laws of varints. It changes nothing.
 pub fn varint_laws()
@@ -15,6 +15,7 @@ pub fn field_laws()
     ensures bytes { BytesFieldIsRead }
     ensures number { NumberFieldIsRead }
     ensures size { SizeIsLength }
+    ensures number_size { NumberSizeIsLength }
 
     // A field is read in the same way whatever follows it, and fields one after another.
     ensures follows { ReadWhateverFollows }

@@ -2,7 +2,7 @@
 
 ghost use Rattle.std.specs.Prelude.{◌≡◌, ◌+◌, ◌*◌, ◌-◌, ◌^◌, ◌≤◌, ◌<◌, ◌++◌, length, min, vec_len, vec_capacity};
 ghost use Rattle.namespace_id.specs.Answers.{HasRoom};
-ghost use Rattle.proto_fields.specs.Spelled.{text, bytes_field, number_field, field_size};
+ghost use Rattle.proto_fields.specs.Spelled.{text, bytes_field, number_field, field_size, number_size};
 
 use crate::varints::{put_varint, varint_size};
 use namespace_id::append;
@@ -45,9 +45,9 @@ fn put_text(bytes: &[u8], out: &mut Vec<u8>)
 ///
 /// protobuf, "Encoding".
 pub fn put_field(number: u32, bytes: &[u8], out: &mut Vec<u8>)
-    requires room { HasRoom out.old (length (bytes_field number bytes.now)) }
+    requires room { HasRoom out.old (field_size number (length bytes.now)) }
     ensures appended { out.new.items ≡ out.old.items ++ bytes_field number bytes.now }
-    ensures len { vec_len out.new ≡ vec_len out.old + length (bytes_field number bytes.now) }
+    ensures len { vec_len out.new ≡ vec_len out.old + field_size number (length bytes.now) }
     ensures capacity { vec_capacity out.old ≤ vec_capacity out.new }
 {
     put_varint(out, tag_of(number) + DELIMITED);
@@ -59,9 +59,9 @@ pub fn put_field(number: u32, bytes: &[u8], out: &mut Vec<u8>)
 ///
 /// protobuf, "Encoding".
 pub fn put_number(number: u32, value: u64, out: &mut Vec<u8>)
-    requires room { HasRoom out.old (length (number_field number value)) }
+    requires room { HasRoom out.old (number_size number value) }
     ensures appended { out.new.items ≡ out.old.items ++ number_field number value }
-    ensures len { vec_len out.new ≡ vec_len out.old + length (number_field number value) }
+    ensures len { vec_len out.new ≡ vec_len out.old + number_size number value }
     ensures capacity { vec_capacity out.old ≤ vec_capacity out.new }
 {
     put_varint(out, tag_of(number));

@@ -1,5 +1,5 @@
 use Rattle.proto_fields.proofs.FieldLemmas.{read_whatever_follows, field_is_shorter, no_fields, first_field, no_field, fields_in_a_row, all_bytes_in_a_row, all_numbers_in_a_row, last_bytes_count, last_number_counts}
-use Rattle.proto_fields.proofs.WrittenLemmas.{bytes_field_is_read, number_field_is_read, size_is_length}
+use Rattle.proto_fields.proofs.WrittenLemmas.{bytes_field_is_read, number_field_is_read, size_is_length, number_size_is_length}
 use Rattle.proto_fields.proofs.laws.field_laws.Goals as goal
 
 pub returns-clause-bytes : goal.returns-clause-bytes
@@ -40,3 +40,6 @@ returns-clause-last_bytes c = last_bytes_count
 
 pub returns-clause-last_number : goal.returns-clause-last_number
 returns-clause-last_number c = last_number_counts
+
+pub returns-clause-number_size : goal.returns-clause-number_size
+returns-clause-number_size c = number_size_is_length
