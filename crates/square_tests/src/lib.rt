@@ -1,4 +1,4 @@
-//! What of fields, codes, units, proofs, samples and generated blocks no proof can show: values that
+//! What of fields, codes, units, messages, proofs, samples and generated blocks no proof can show: values that
 //! other programs give, and calls that succeed with ample memory. What the program tells of them over
 //! files is shown by the rows of rows/ at the repository's top.
 #![tactic(auto)]
@@ -25,6 +25,8 @@ mod headers;
 mod inputs;
 #[cfg(test)]
 mod namespaces;
+#[cfg(test)]
+mod protobuf;
 #[cfg(test)]
 mod sequences;
 #[cfg(test)]
