@@ -6,3 +6,5 @@ pub mod Laws
 pub mod Read
 -- how great a number so many bytes state
 pub mod Powers
+-- shortest varints, at the front of bytes
+pub mod Shortest

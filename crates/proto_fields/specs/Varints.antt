@@ -1,5 +1,5 @@
 -- Varints: numbers of up to 64 bits, seven bits in a byte, the lowest first (protobuf, "Encoding").
-use Rattle.std.specs.Prelude.{◌≡◌, ℕ, zero, suc, ◌+◌, ◌*◌, ◌/◌, ◌%◌, ◌^◌, ◌<◌, ◌≤◌, ◌&&◌, nat_le, nat_lt, Bool, true, false, List, [], ◌∷◌, length, Option, Some, None, if◌then◌else◌}
+use Rattle.std.specs.Prelude.{◌≡◌, ℕ, zero, suc, ◌+◌, ◌-◌, ◌*◌, ◌/◌, ◌%◌, ◌^◌, ◌<◌, ◌≤◌, ◌==◌, ◌&&◌, nat_le, nat_lt, Bool, true, false, List, [], ◌∷◌, length, Option, Some, None, if◌then◌else◌}
 
 -- ---- what a varint is
 
@@ -55,3 +55,18 @@ of_64_bits (Some read) = if nat_lt read.0 (2 ^ 64) then Some read else None
 -- the number that a varint states at the front, and what follows
 abbrev pub number_at : List ℕ → Option (ℕ × List ℕ)
 number_at bytes = of_64_bits (number_within 10 bytes)
+
+-- ---- the shortest one at the front of bytes
+
+-- a number whose lowest seven bits and whose higher part are stated; a higher part of 0 isn't the
+-- shortest form
+abbrev pub above_low : ℕ → Option (ℕ × List ℕ) → Option (ℕ × List ℕ)
+above_low low None = None
+above_low low (Some high) = if high.0 == 0 then None else Some (low + 128 * high.0, high.1)
+
+-- the number that a shortest varint of at most so many bytes states at the front, and what follows
+unfoldable pub varint_in : ℕ → List ℕ → Option (ℕ × List ℕ)
+varint_in zero bytes = None
+varint_in (suc more) [] = None
+varint_in (suc more) (byte ∷ rest) =
+    if nat_lt byte 128 then Some (byte, rest) else above_low (byte - 128) (varint_in more rest)

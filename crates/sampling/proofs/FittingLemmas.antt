@@ -9,9 +9,10 @@ use Rattle.std.proofs.lemmas.Bool.Decides.{nat_tests}
 use Rattle.namespace_id.specs.Names.{namespace_refusal}
 use Rattle.namespace_id.proofs.DoublingLemmas.{least_from}
 use Rattle.share_split.specs.Blobs.{NamedBytes, share_count}
-use Rattle.share_split.specs.Units.{varint, unit_text, units_text, compact_count, unit_share_count}
+use Rattle.share_split.specs.Units.{unit_text, units_text, compact_count, unit_share_count}
 use Rattle.share_split.specs.Widths.{is_wide_enough, subtree_width_of}
-use Rattle.share_split.proofs.Varint.Bytes.{length-varint-low, length-varint-high}
+use Rattle.proto_fields.specs.Varints.{varint}
+use Rattle.proto_fields.proofs.Varint.Bytes.{length-varint-low, length-varint-high}
 use Rattle.square_layout.specs.Layout.{share_count_of}
 use Rattle.sampling.specs.Words.{key_word}
 use Rattle.sampling.specs.Generated.{word_count, word_bytes, bytes_at, unit_len, unit_at, name_with, blob_len, blob_at, after_blob, blobs_at}

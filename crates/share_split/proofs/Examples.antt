@@ -2,7 +2,7 @@
 use Rattle.std.proofs.Common.{◌≡◌, true, false, [], ◌∷◌, refl}
 use Rattle.namespace_id.specs.Doublings.{least_doubling}
 use Rattle.share_split.specs.Blobs.{share_count}
-use Rattle.share_split.specs.Units.{varint_within, varint}
+use Rattle.proto_fields.specs.Varints.{varint_within, varint}
 use Rattle.share_split.specs.Widths.{subtree_width_of}
 
 -- 127 takes one byte, and 128 two

@@ -1,5 +1,3 @@
--- lengths of units as varints
-pub mod Varint
 -- shares of blobs and of units, and where units start in them
 pub mod Writing
 -- shares that are read back

@@ -1,13 +1,13 @@
 -- Laws of units and of their compact shares.
-use Rattle.std.specs.Prelude.{◌≡◌, ◌≢◌, ◌≤◌, ◌<◌, ◌+◌, ◌-◌, ◌*◌, ◌%◌, ◌^◌, ◌==◌, ◌&&◌, nat_le, nat_lt, ℕ, suc, Bool, true, false, List, [], ◌∷◌, ◌++◌, length, Some}
+use Rattle.std.specs.Prelude.{◌≡◌, ◌≢◌, ◌≤◌, ◌<◌, ◌+◌, ◌-◌, ◌^◌, ◌==◌, ◌&&◌, nat_le, nat_lt, ℕ, suc, Bool, true, false, List, [], ◌++◌, length, Some}
 use Rattle.std.specs.List.{list_any, AllByRecursion}
 use Rattle.namespace_id.specs.declared.namespaces.Namespace.{Namespace}
 use Rattle.namespace_id.specs.Bytes.{AreBytes}
 use Rattle.namespace_id.specs.Names.{IsNamespace}
 use Rattle.namespace_id.specs.Shares.{AreShares}
+use Rattle.proto_fields.specs.Varints.{stated, is_marked, varint, varint_in}
 use Rattle.share_split.specs.Blobs.{max_sequence_length}
-use Rattle.share_split.specs.Units.{varint, units_text, starts_from, content_start, content_place, reserved_of, unit_shares_of, unit_share_count}
-use Rattle.share_split.specs.Walks.{varint_in}
+use Rattle.share_split.specs.Units.{units_text, starts_from, content_start, content_place, reserved_of, unit_shares_of, unit_share_count}
 
 -- the compact shares of units are as many as counted
 abbrev pub UnitSharesAreCounted : Type 0
@@ -33,20 +33,9 @@ abbrev pub ReadIsVarint : Type 0
 ReadIsVarint = (bytes rest : List ℕ) (n : ℕ) → AreBytes bytes → varint_in 5 bytes ≡ Some (n, rest)
     → bytes ≡ varint n ++ rest
 
--- the number that bytes state with seven bits each, the lowest first, in whatever form
-unfoldable pub stated : List ℕ → ℕ
-stated [] = 0
-stated (byte ∷ bytes) = byte % 128 + 128 * stated bytes
-
 -- a varint states its number
 abbrev pub VarintStates : Type 0
 VarintStates = (n : ℕ) → n < 2 ^ 64 → stated (varint n) ≡ n
-
--- whether the upper bit is set in each byte but the last, and not in the last
-unfoldable pub is_marked : List ℕ → Bool
-is_marked [] = false
-is_marked (byte ∷ []) = nat_lt byte 128
-is_marked (byte ∷ next ∷ bytes) = nat_le 128 byte && is_marked (next ∷ bytes)
 
 -- a varint is marked so
 abbrev pub VarintIsMarked : Type 0

@@ -1,10 +1,11 @@
 -- Units as compact shares (Celestia specifications, "Shares", transaction shares).
-use Rattle.std.specs.Prelude.{ℕ, zero, suc, ◌+◌, ◌-◌, ◌*◌, ◌/◌, ◌%◌, ◌==◌, nat_lt, true, false, List, [], ◌∷◌, ◌++◌, length, take, drop, if◌then◌else◌}
+use Rattle.std.specs.Prelude.{ℕ, zero, suc, ◌+◌, ◌-◌, ◌*◌, ◌==◌, nat_lt, true, false, List, [], ◌∷◌, ◌++◌, length, take, drop, if◌then◌else◌}
 use Rattle.std.specs.List.{flat_map}
 use Rattle.std.specs.Int.{w32, to_be_bytes}
 use Rattle.namespace_id.specs.declared.namespaces.Namespace.{Namespace}
 use Rattle.namespace_id.specs.declared.shares.Share.{Share}
 use Rattle.namespace_id.specs.Sizes.{share_size}
+use Rattle.proto_fields.specs.Varints.{varint}
 use Rattle.share_split.specs.Blobs.{first_content, later_content, sequence_share, count_from}
 
 -- the bytes of content in the first compact share of a sequence: four reserved bytes come before it
@@ -16,17 +17,6 @@ abbrev pub later_compact_content : ℕ
 later_compact_content = later_content - 4
 
 -- ---- the text of units
-
--- a number as an unsigned varint of at most so many bytes: seven bits in each, the lowest first, and
--- the upper bit set where another follows
-unfoldable pub varint_within : ℕ → ℕ → List ℕ
-varint_within zero n = []
-varint_within (suc more) n =
-    if nat_lt n 128 then n ∷ [] else (n % 128 + 128) ∷ varint_within more (n / 128)
-
--- the shortest varint of a length; ten bytes hold every length that a machine counts
-abbrev pub varint : ℕ → List ℕ
-varint n = varint_within 10 n
 
 -- a unit behind its length
 abbrev pub unit_text : List ℕ → List ℕ

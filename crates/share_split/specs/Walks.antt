@@ -1,6 +1,6 @@
 -- What a list of shares is read as, and the first check that fails, share by share (docs/RULES.md,
 -- "Reading shares").
-use Rattle.std.specs.Prelude.{◌≡◌, ◌⊎◌, ℕ, zero, suc, ◌+◌, ◌-◌, ◌*◌, ◌/◌, ◌%◌, ◌^◌, ◌==◌, ◌&&◌, nat_le, nat_lt, not, Bool, List, [], ◌∷◌, ◌++◌, length, take, drop, slice_index, Option, Some, None, Result, Ok, Err, if◌then◌else◌}
+use Rattle.std.specs.Prelude.{◌≡◌, ◌⊎◌, ℕ, zero, suc, ◌+◌, ◌-◌, ◌/◌, ◌%◌, ◌^◌, ◌==◌, ◌&&◌, nat_le, nat_lt, not, Bool, List, [], ◌∷◌, ◌++◌, length, take, drop, slice_index, Option, Some, None, Result, Ok, Err, if◌then◌else◌}
 use Rattle.std.specs.Int.{w32, from_be_bytes}
 use Rattle.std.specs.Str.{bytes_eq}
 use Rattle.std.specs.Option.{option_map_or}
@@ -9,6 +9,7 @@ use Rattle.namespace_id.specs.declared.shares.Share.{Share}
 use Rattle.namespace_id.specs.Names.{is_zeros}
 use Rattle.namespace_id.specs.Shares.{name_in}
 use Rattle.namespace_id.specs.Sizes.{namespace_size}
+use Rattle.proto_fields.specs.Varints.{varint_in}
 use Rattle.share_split.specs.declared.joining.JoinError.{JoinError}
 use Rattle.share_split.specs.declared.joining.JoinError.TheVariants.{NoStart, Short, BadVersion, NonZeroFill, BadVarint, BadReserved, MixedNamespace, NoMemory}
 use Rattle.share_split.specs.declared.walking.Form.{Form}
@@ -178,19 +179,6 @@ sequence_from i so_far (share ∷ shares) =
     (sequence_from (suc i) (Some (taken_by Units i so_far share)) shares)
 
 -- ---- the units in its content
-
--- a number whose lowest seven bits and whose higher part are stated; a higher part of 0 isn't the
--- shortest form
-abbrev pub above_low : ℕ → Option (ℕ × List ℕ) → Option (ℕ × List ℕ)
-above_low low None = None
-above_low low (Some high) = if high.0 == 0 then None else Some (low + 128 * high.0, high.1)
-
--- the number that a shortest varint of at most so many bytes states at the front, and what follows
-unfoldable pub varint_in : ℕ → List ℕ → Option (ℕ × List ℕ)
-varint_in zero bytes = None
-varint_in (suc more) [] = None
-varint_in (suc more) (byte ∷ rest) =
-    if nat_lt byte 128 then Some (byte, rest) else above_low (byte - 128) (varint_in more rest)
 
 -- a unit at the front, whose length has up to 32 bits, and how many bytes it takes with its length
 abbrev pub unit_of : ℕ → Option (ℕ × List ℕ) → Option (List ℕ × ℕ)

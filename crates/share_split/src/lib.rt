@@ -17,7 +17,6 @@ mod parsing;
 mod places;
 mod texts;
 mod units;
-mod varints;
 mod walking;
 mod widths;
 

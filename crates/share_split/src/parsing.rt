@@ -2,8 +2,9 @@
 
 ghost use Rattle.std.specs.Prelude.{◌≡◌, ◌+◌, ◌<◌, ◌≤◌, ◌*◌, ◌^◌, ◌∷◌, [], ◌++◌, length, Ok, IfOk, IfSome, OnOk};
 ghost use Rattle.share_split.specs.Units.{starts_from, starts_on, first_place};
-ghost use Rattle.share_split.specs.Walks.{Joins, varint_in, unit_at, units_from, bad_reserved};
+ghost use Rattle.share_split.specs.Walks.{Joins, unit_at, units_from, bad_reserved};
 ghost use Rattle.namespace_id.specs.Answers.{Gives};
+ghost use Rattle.proto_fields.specs.Varints.{varint_in};
 ghost use Rattle.share_split.specs.Steps.{units_placed};
 
 use crate::fields::reserved;
@@ -23,7 +24,7 @@ const MAX_UNIT_LENGTH: u64 = 4_294_967_295;
 
 /// The number that a shortest varint of at most so many bytes states at the front, and the bytes
 /// after it.
-#[tactic(auto, unfolding(crate::specs::Walks::varint_in))]
+#[tactic(auto, unfolding(proto_fields::specs::Varints::varint_in))]
 fn varint_in(most: u8, bytes: &[u8]) -> Option<(u64, &[u8])>
     requires { most ≤ 5 }
     ensures value { Gives (λ x. (x.0, x.1.now)) result (varint_in most bytes.now) }

@@ -6,8 +6,8 @@ ghost use Rattle.namespace_id.specs.Answers.{HasRoom};
 ghost use Rattle.share_split.specs.Texts.{IsNextOf, starts_of};
 
 use crate::Unit;
-use crate::varints::{put_varint, varint_len};
 use namespace_id::append;
+use proto_fields::{put_varint, varint_size};
 use std::alloc::{AllocError, Global};
 
 /// How many bytes a unit takes in the text: those of its length and its own.
@@ -15,7 +15,7 @@ fn unit_size(unit: &Unit) -> usize
     ensures { result ≡ length (unit_text unit.now) }
 {
     let len = unit.bytes.len();
-    varint_len(len) + len
+    varint_size(len as u64) + len
 }
 
 /// How many bytes the text of units has.
@@ -36,7 +36,7 @@ fn put_unit(out: &mut Vec<u8>, unit: &Unit)
     ensures len { vec_len out.new ≡ vec_len out.old + length (unit_text unit.now) }
     ensures capacity { vec_capacity out.old ≤ vec_capacity out.new }
 {
-    put_varint(out, unit.bytes.len());
+    put_varint(out, unit.bytes.len() as u64);
     append(out, &unit.bytes);
 }
 

@@ -5,7 +5,8 @@ use Rattle.std.specs.List.{AllByRecursion}
 use Rattle.std.proofs.lemmas.List.{drop_at}
 use Rattle.namespace_id.specs.Bytes.{AreBytes}
 use Rattle.namespace_id.proofs.StringLemmas.{AreBytes-drop}
-use Rattle.share_split.specs.Units.{varint, unit_text, units_text}
+use Rattle.proto_fields.specs.Varints.{varint}
+use Rattle.share_split.specs.Units.{unit_text, units_text}
 use Rattle.share_split.specs.Walks.{unit_at, with_unit, units_from}
 use Rattle.share_split.proofs.Reading.Unit.{read_unit, unit_back, unit_again}
 use Rattle.share_split.proofs.Reading.Text.{Units, units_here, units_on, units_end}

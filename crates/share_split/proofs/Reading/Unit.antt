@@ -5,9 +5,10 @@ use Rattle.std.proofs.lemmas.List.{take_at, drop_at}
 use Rattle.std.proofs.lemmas.Option.{cond_some}
 use Rattle.namespace_id.specs.Bytes.{AreBytes}
 use Rattle.namespace_id.proofs.StringLemmas.{AreBytes-take, AreBytes-drop}
-use Rattle.share_split.specs.Units.{varint, unit_text}
-use Rattle.share_split.specs.Walks.{varint_in, unit_of, unit_at}
-use Rattle.share_split.proofs.Varint.Read.{varint_back, varint_again, varint_shorter}
+use Rattle.proto_fields.specs.Varints.{varint, varint_in}
+use Rattle.share_split.specs.Units.{unit_text}
+use Rattle.share_split.specs.Walks.{unit_of, unit_at}
+use Rattle.proto_fields.proofs.Varint.Shortest.{varint_back, varint_again, varint_shorter}
 
 -- a length that was read, and a unit that is all there
 pub record IsReadUnit (text unit : List ℕ) (size : ℕ) : Type 0 where
@@ -94,3 +95,13 @@ unit_again unit rest few =
     ap (unit_of (length text)) read
     ∙ ap (λ (b : Bool). cond b (Some (take n (unit ++ rest), length text - length (unit ++ rest) + n)) None) within
     ∙ ap₂ (λ (l : List ℕ) (k : ℕ). Some (l, k)) (take_at unit rest n refl) size
+
+-- ---- the varint of a length
+
+-- it is read back, whatever follows it
+pub varint_is_read : (n : ℕ) (rest : List ℕ) → n < 2 ^ 32 → varint_in 5 (varint n ++ rest) ≡ Some (n, rest)
+varint_is_read n rest h = varint_again 5 10 n rest (omega arith) (omega arith) (omega arith)
+
+-- and what is read as one is its varint
+pub read_is_varint : (bytes rest : List ℕ) (n : ℕ) → AreBytes bytes → varint_in 5 bytes ≡ Some (n, rest) → bytes ≡ varint n ++ rest
+read_is_varint bytes rest n fits e = varint_back 5 10 bytes n rest (omega arith) fits e

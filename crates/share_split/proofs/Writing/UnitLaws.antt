@@ -11,8 +11,9 @@ use Rattle.namespace_id.specs.Names.{IsNamespace}
 use Rattle.namespace_id.specs.Shares.{IsShare, AreShares}
 use Rattle.namespace_id.proofs.StringLemmas.{AreBytes-none, AreBytes-cons, AreBytes-replicate, AreBytes-append, AreBytes-take, AreBytes-drop}
 use Rattle.share_split.specs.Blobs.{max_sequence_length, later_content, info, filled, sequence_share}
-use Rattle.share_split.specs.Units.{first_compact_content, later_compact_content, varint_within, varint, unit_text, units_text, starts_from, reserved_of, later_compact_shares, compact_count, unit_shares_of, unit_share_count}
-use Rattle.share_split.proofs.Varint.Bytes.{varint_within-low, varint_within-high}
+use Rattle.share_split.specs.Units.{first_compact_content, later_compact_content, unit_text, units_text, starts_from, reserved_of, later_compact_shares, compact_count, unit_shares_of, unit_share_count}
+use Rattle.proto_fields.specs.Varints.{varint_within, varint}
+use Rattle.proto_fields.proofs.Varint.Bytes.{varint_within-low, varint_within-high}
 
 -- ---- their number
 

@@ -1,5 +1,5 @@
 use Rattle.std.proofs.Common.{◌-◌, arith}
-use Rattle.share_split.proofs.Varint.Powers.{pow_least, pow_next, pow_few}
+use Rattle.proto_fields.proofs.Varint.Powers.{pow_least, pow_next, pow_few}
 use Rattle.share_split.proofs.parsing.+varint_in.Goals as goal
 
 -- one byte states less than 128

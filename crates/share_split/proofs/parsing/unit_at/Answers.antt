@@ -1,5 +1,5 @@
 use Rattle.std.proofs.Common.{arith}
-use Rattle.share_split.proofs.Varint.Read.{varint_shorter}
+use Rattle.proto_fields.proofs.Varint.Shortest.{varint_shorter}
 use Rattle.share_split.proofs.Reading.Unit.{unit_read}
 use Rattle.share_split.proofs.parsing.unit_at.Goals as goal
 

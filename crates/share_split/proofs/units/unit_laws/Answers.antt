@@ -1,5 +1,6 @@
 use Rattle.share_split.proofs.Writing.UnitLaws.{unit_shares_are_counted, long_texts_take_many_shares, unit_shares_are_shares}
-use Rattle.share_split.proofs.Varint.Laws.{varint_is_read, read_is_varint, varint_states, varint_is_marked, varint_is_shortest}
+use Rattle.proto_fields.proofs.Varint.Laws.{varint_states, varint_is_marked, varint_is_shortest}
+use Rattle.share_split.proofs.Reading.Unit.{varint_is_read, read_is_varint}
 use Rattle.share_split.proofs.Writing.ReservedLaws.{reserved_is_first, reserved_is_none}
 use Rattle.share_split.proofs.units.unit_laws.Goals as goal
 

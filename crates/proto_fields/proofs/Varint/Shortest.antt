@@ -1,4 +1,4 @@
--- Varints, written and read.
+-- Shortest varints, written and read.
 use Rattle.std.proofs.Common.{◌≡◌, ◌≢◌, ◌∙◌, inl, inr, ℕ, zero, suc, ◌+◌, ◌-◌, ◌*◌, ◌/◌, ◌%◌, ◌^◌, ◌<◌, ◌≤◌, Bool, false, cond, eqb, lt-ltb, le-ltb, false-eqb, List, [], ◌∷◌, ◌++◌, length, Option, Some, None, refl, sym, ap, ap₂, arith, pow-suc}
 use Rattle.std.proofs.lemmas.Bool.{cases_lt}
 use Rattle.std.proofs.lemmas.Bool.Decides.{nat_tests}
@@ -6,9 +6,8 @@ use Rattle.std.proofs.lemmas.Nat.{div_below}
 use Rattle.std.proofs.lemmas.Option.{some_pair_parts}
 use Rattle.std.proofs.NetLemmas.Options.{cond_none}
 use Rattle.namespace_id.specs.Bytes.{AreBytes}
-use Rattle.share_split.specs.Units.{varint_within}
-use Rattle.share_split.specs.Walks.{varint_in, above_low}
-use Rattle.share_split.proofs.Varint.Bytes.{varint_within-low, varint_within-high}
+use Rattle.proto_fields.specs.Varints.{varint_within, varint_in, above_low}
+use Rattle.proto_fields.proofs.Varint.Bytes.{varint_within-low, varint_within-high}
 
 -- ---- read
 
