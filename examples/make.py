@@ -339,6 +339,7 @@ def files():
         "spoiled/every": b"".join(spoiled.message(r, c) for r, c in every),
         "transactions/block": block(blobs, units, pays),
         "transactions/square": square(4, square_of(4, blobs, units, pays)),
+        "transactions/quarter": b"".join(request(r, c) for r in range(4, 8) for c in range(4, 8)),
         "signed/block": block(signed),
         "signed/square": square(2, square_of(2, signed)),
         "refused/block-version": block([one, (changed(one[0], 0), b"one")]),

@@ -157,6 +157,10 @@ class Published(Case):
         self.assertEqual(self.made("dah", self.file(empty)).decode(), dah + "\n")
         want = f"data_hash {EMPTY_ROOT}\ndata_root {EMPTY_ROOT}\n"
         self.assertEqual(self.made("root", HEADER).decode(), want)
+        # A whole response for a height, of the square of examples/kinds: what stands beside the page for operators.
+        kinds = os.path.join(EXAMPLES, "kinds", "header")
+        with open(kinds, "rb") as file:
+            self.assertEqual(self.made("header", text("height.json")), file.read())
 
     def test_blob(self):
         want = make.block([(BLOB_NAMESPACE, BLOB_DATA)])

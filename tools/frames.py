@@ -11,6 +11,7 @@
     frames.py namespaces LIST               requests for namespaces (kind P)
     frames.py script FULL LIST              a script of a network of so many full nodes
     frames.py messages FILE..               files of samples and fraud claims as one list, each frame checked
+    frames.py cut FILE FOLDER               the frames of a file, each into a file of FOLDER
     frames.py ok FILE LINES                 the frames of FILE of which LINES, what `da check` wrote of it, say `ok`
     frames.py raw KIND HEX                  a frame of any kind byte and payload
 
@@ -832,6 +833,19 @@ def messages(args):
     return files, 0
 
 
+def cut(args):
+    """writes the frames of a file into files 0, 1 and so on of a folder, and a line with file, kind and bytes for each"""
+    found = list(judged(read_file(args.file, 0), MESSAGES))
+    os.makedirs(args.folder, exist_ok=True)
+    lines = []
+    for i, (_, kind, payload) in enumerate(found):
+        name = os.path.join(args.folder, str(i))
+        with open(name, "wb") as file:
+            file.write(frame(kind, payload))
+        lines.append(f"{name} {kind_text(kind).split()[-1]} {FRONT_BYTES + len(payload)}\n")
+    return lines, 0
+
+
 def ok(args):
     """the frames of a file whose lines of `da check` are `ok`"""
     found = list(judged(read_file(args.file, 0), MESSAGES))
@@ -885,6 +899,7 @@ def parser():
     joined = add("messages", messages, makes=True)
     joined.add_argument("files", nargs="+", metavar="FILE")
     joined.add_argument("--any", action="store_true", help="take frames of any kind and payload")
+    add("cut", cut, "file", "folder")
     add("ok", ok, "file", "lines", makes=True)
     add("raw", raw, "kind", "hex", makes=True)
     return top

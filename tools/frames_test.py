@@ -268,6 +268,25 @@ class Examples(Case):
         self.assertEqual(run("blobs", os.path.join(EXAMPLES, "block"), self.file(b""))[::2], (4, "cannot write\n"))
         self.assertEqual(self.made("blobs", self.file(frame("V", bytes(14)), "none"), folder), b"")
 
+    def test_cut(self):
+        folder = os.path.join(self.folder, "into", "frames")
+        lines = self.made("cut", os.path.join(EXAMPLES, "kinds", "all"), folder).decode().splitlines()
+        told = [line.split() for line in lines]
+        self.assertEqual("".join(kind for _, kind, _ in told), "VSHMNNBKQPCR")
+        self.assertEqual([name for name, _, _ in told], [os.path.join(folder, str(i)) for i in range(len(told))])
+        parts = []
+        for name, _, _ in told:
+            with open(name, "rb") as file:
+                parts.append(file.read())
+        self.assertEqual(b"".join(parts), example("kinds/all"))
+        self.assertEqual([len(part) for part in parts], [int(size) for _, _, size in told])
+        # Only the framing is judged: a kind that is none is written by its byte.
+        odd = self.file(b"\x07\0\0\0\x01x" + frame("A", b""), "odd")
+        self.assertEqual(self.made("cut", odd, folder).decode(), f"{folder}/0 07 6\n{folder}/1 41 5\n")
+        self.assertEqual(self.made("cut", self.file(b""), folder), b"")
+        self.assertEqual(run("cut", self.file(frame("M", b"") + b"M", "short"), folder), (6, b"", "bad input: file 0 at 5\n"))
+        self.assertEqual(run("cut", odd, self.file(b""))[::2], (4, "cannot write\n"))
+
     def test_signed_blobs(self):
         value = {"blobs": [
             {"namespace": "00" * 8 + "0101", "signer": "11" * 20, "data": {"text": "A blob with a signer. ", "times": 21}},
