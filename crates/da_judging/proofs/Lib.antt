@@ -9,4 +9,5 @@ pub mod AskedLemmas
 pub mod VerifyLemmas
 pub mod CompactLemmas
 pub mod VerifyForLemmas
+pub mod VerifyCommitmentLemmas
 pub mod RootLemmas

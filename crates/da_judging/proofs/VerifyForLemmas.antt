@@ -75,7 +75,7 @@ verify_for_last files w status h =
 -- ---- answers that aren't refused, and those that are to another request
 
 -- an answer isn't refused exactly where it is to the request and holds, by whether it is to the request
-none_by : (b : Bool) (header : Roots) (answer : Answer) → IsRefusalFor b header answer None ↔ (IsRefusal header answer None × (b ≡ true))
+pub none_by : (b : Bool) (header : Roots) (answer : Answer) → IsRefusalFor b header answer None ↔ (IsRefusal header answer None × (b ≡ true))
 none_by true header answer = (λ h. (h, refl), λ h. h.0)
 none_by false header answer = (λ e. absurd cc, λ h. absurd cc)
 
@@ -134,7 +134,7 @@ never_zero header (Commit proof) h = commit_some (commit_refusal (data_root_of h
 never_zero header (Rooted proof) h = rooted_some (rooted_refusal (data_root_of header) proof) h
 
 -- an answer is refused by the number 0 exactly where it isn't to the request, by whether it is
-zero_by : (b : Bool) (header : Roots) (answer : Answer) → IsRefusalFor b header answer (Some 0) ↔ (b ≡ false)
+pub zero_by : (b : Bool) (header : Roots) (answer : Answer) → IsRefusalFor b header answer (Some 0) ↔ (b ≡ false)
 zero_by true header answer = (λ h. absurd (never_zero header answer h), λ e. absurd cc)
 zero_by false header answer = (λ e. refl, λ e. refl)
 

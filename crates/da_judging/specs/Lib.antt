@@ -4,6 +4,7 @@ pub mod Answers
 pub mod Verify
 pub mod Compact
 pub mod VerifyFor
+pub mod VerifyCommitment
 pub mod Repair
 pub mod Light
 pub mod Root
