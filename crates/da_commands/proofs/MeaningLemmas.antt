@@ -7,7 +7,7 @@ use Rattle.da_status.specs.declared.status.Status.{Status}
 use Rattle.da_status.specs.Statuses.{kind_of}
 use Rattle.da_status.proofs.EndLemmas.{IsAnswer, answer_output, status_answers}
 use Rattle.da_commands.specs.declared.command.Command.{Command}
-use Rattle.da_commands.specs.declared.command.Command.TheVariants.{Check, Build, Header, Sample, Namespace, Verify, Compact, Repair, Light, Net, Show, Json, Demo, VerifyFor, Root, RootIs, Wanted, Blobs, Commit, Prove, ProveRange, Follow, Help, Version}
+use Rattle.da_commands.specs.declared.command.Command.TheVariants.{Check, Build, Header, Sample, Namespace, Verify, Compact, Repair, Light, Net, Show, Json, Demo, VerifyCommitment, VerifyFor, Root, RootIs, Wanted, Blobs, Commit, Prove, ProveRange, Follow, Help, Version}
 use Rattle.da_commands.specs.Show.{all_kinds, shown_file}
 use Rattle.da_commands.specs.Meaning.{AnswerOf}
 use Rattle.da_judging.proofs.CheckLemmas.{check_last}
@@ -23,6 +23,7 @@ use Rattle.da_commands.proofs.Answering.NetLemmas.{net_answers}
 use Rattle.da_commands.proofs.Answering.ShowLemmas.{shows_answers}
 use Rattle.da_commands.proofs.Answering.DemoLemmas.{demo_answers}
 use Rattle.da_judging.proofs.VerifyForLemmas.{verify_for_last}
+use Rattle.da_judging.proofs.VerifyCommitmentLemmas.{verify_commitment_last}
 use Rattle.da_judging.proofs.RootLemmas.{root_last, root_is_last}
 use Rattle.da_serving.proofs.WantedLemmas.{wanted_last}
 use Rattle.da_serving.proofs.BlobsLemmas.{blobs_answers}
@@ -45,6 +46,7 @@ answer_last Net files w status h = net_answers files w status h
 answer_last Show files w status h = shows_answers text_of (values_of all_kinds (shown_file files)) w status h
 answer_last Json files w status h = shows_answers json_text (values_of all_kinds (shown_file files)) w status h
 answer_last (Demo number k) files w status h = demo_answers number k w status h
+answer_last (VerifyCommitment commitment) files w status h = answer_output status (verify_commitment_last commitment files w status h)
 answer_last VerifyFor files w status h = answer_output status (verify_for_last files w status h)
 answer_last Root files w status h = answer_output status (root_last files w status h)
 answer_last (RootIs root) files w status h = answer_output status (root_is_last root files w status h)

@@ -13,6 +13,7 @@ help_text =
     ++ codes "da sample SQUARE REQUESTS\n"
     ++ codes "da namespace SQUARE REQUESTS\n"
     ++ codes "da verify HEADER ANSWER\n"
+    ++ codes "da verify HEADER ANSWER COMMITMENT\n"
     ++ codes "da verify HEADER ANSWER REQUEST\n"
     ++ codes "da compact HEADER CLAIM\n"
     ++ codes "da check HEADER MESSAGES\n"

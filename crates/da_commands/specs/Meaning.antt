@@ -2,7 +2,7 @@
 use Rattle.std.specs.Prelude.{◌≡◌, ℕ, List, [], ◌∷◌, true, ⊤}
 use Rattle.std.specs.declared.option.Option.{Option}
 use Rattle.da_commands.specs.declared.command.Command.{Command}
-use Rattle.da_commands.specs.declared.command.Command.TheVariants.{Check, Build, Header, Sample, Namespace, Verify, Compact, Repair, Light, Net, Show, Json, Demo, VerifyFor, Root, RootIs, Wanted, Blobs, Commit, Prove, ProveRange, Follow, Help, Version}
+use Rattle.da_commands.specs.declared.command.Command.TheVariants.{Check, Build, Header, Sample, Namespace, Verify, Compact, Repair, Light, Net, Show, Json, Demo, VerifyCommitment, VerifyFor, Root, RootIs, Wanted, Blobs, Commit, Prove, ProveRange, Follow, Help, Version}
 use Rattle.da_wire.specs.Spelling.{sample_kind, request_kind}
 use Rattle.da_status.specs.Outcome.{Relation}
 use Rattle.da_status.specs.Judging.{Judged}
@@ -21,6 +21,7 @@ use Rattle.da_commands.specs.Net.{net_judged, NetOf}
 use Rattle.da_commands.specs.Show.{show_judged, ShowOf, JsonOf}
 use Rattle.da_commands.specs.Demo.{is_trial_width, demo_judged, DemoOf}
 use Rattle.da_judging.specs.VerifyFor.{verify_for_judged, VerifyForOf}
+use Rattle.da_judging.specs.VerifyCommitment.{VerifyCommitmentOf}
 use Rattle.da_judging.specs.Root.{RootOf, RootIsOf}
 use Rattle.da_serving.specs.Wanted.{missing_in, WantedOf}
 use Rattle.da_serving.specs.Blobs.{shares_in, BlobsOf}
@@ -44,6 +45,7 @@ judged_of Net files = net_judged files
 judged_of Show files = show_judged files
 judged_of Json files = show_judged files
 judged_of (Demo number k) files = demo_judged
+judged_of (VerifyCommitment commitment) files = under_judged answer_in files
 judged_of VerifyFor files = verify_for_judged files
 judged_of Root files = single_judged header_in files
 judged_of (RootIs root) files = single_judged header_in files
@@ -71,6 +73,7 @@ AnswerOf Net files = NetOf files
 AnswerOf Show files = ShowOf files
 AnswerOf Json files = JsonOf files
 AnswerOf (Demo number k) files = DemoOf number k
+AnswerOf (VerifyCommitment commitment) files = VerifyCommitmentOf commitment files
 AnswerOf VerifyFor files = VerifyForOf files
 AnswerOf Root files = RootOf files
 AnswerOf (RootIs root) files = RootIsOf root files
@@ -103,6 +106,7 @@ TakesFirst Repair = ⊤
 TakesFirst (Light key count) = ⊤
 TakesFirst Net = ⊤
 TakesFirst (Demo number k) = ⊤
+TakesFirst (VerifyCommitment commitment) = ⊤
 TakesFirst VerifyFor = ⊤
 TakesFirst Root = ⊤
 TakesFirst (RootIs root) = ⊤

@@ -10,7 +10,7 @@ ghost use Rattle.da_status.specs.Outcome.{Ends};
 use crate::{demo, help, net, show};
 use da_following::follow;
 use da_io::Sink;
-use da_judging::{check, compact, light, root, verify, verify_for};
+use da_judging::{check, compact, light, root, verify, verify_commitment, verify_for};
 use da_serving::{blobs, build, commit, header, namespace, prove, sample, wanted};
 use da_status::Status;
 use namespace_id::Axis;
@@ -45,6 +45,8 @@ pub enum Command {
     Json,
     /// `demo NUMBER WIDTH`, with both numbers
     Demo(u64, u16),
+    /// `verify HEADER ANSWER COMMITMENT`, with the commitment that the answer is to prove
+    VerifyCommitment([u8; 32]),
     /// `verify HEADER ANSWER REQUEST`
     VerifyFor,
     /// `root HEADER`
@@ -95,6 +97,9 @@ pub fn execute<O: Sink>(alloc: Global, command: Command, files: &[Vec<u8>], out:
         Command::Show => show::show(alloc, files, out),
         Command::Json => show::json(alloc, files, out),
         Command::Demo(number, k) => demo::execute(alloc, number, k, out),
+        Command::VerifyCommitment(commitment) => {
+            verify_commitment::execute(alloc, files, &commitment, out)
+        }
         Command::VerifyFor => verify_for::execute(alloc, files, out),
         Command::Root => root::root(alloc, files, out),
         Command::RootIs(root) => root::root_is(alloc, files, &root, out),

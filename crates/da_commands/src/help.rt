@@ -15,6 +15,7 @@ const COMMANDS: &[u8] = b"\
     da sample SQUARE REQUESTS\n\
     da namespace SQUARE REQUESTS\n\
     da verify HEADER ANSWER\n\
+    da verify HEADER ANSWER COMMITMENT\n\
     da verify HEADER ANSWER REQUEST\n\
     da compact HEADER CLAIM\n\
     da check HEADER MESSAGES\n\
