@@ -37,8 +37,10 @@ use Rattle.da_judging.specs.Verify.{answer_file, answer_in, IsRefusal, verdict_l
 use Rattle.da_judging.specs.declared.answers.Answer.{Answer}
 use Rattle.da_judging.specs.Answers.{answer_frame, is_answer_to}
 use Rattle.da_judging.specs.VerifyFor.{IsRefusalFor}
+use Rattle.da_judging.specs.VerifyCommitment.{states_commitment}
 use Rattle.da_files.specs.Contents.{messages_file}
 use Rattle.da_judging.proofs.VerifyForLemmas.{asked_holds, shows_asked}
+use Rattle.da_judging.proofs.VerifyCommitmentLemmas.{stated_holds}
 use Rattle.da_commands.specs.Net.{script_file, Nets}
 use Rattle.da_script.specs.Plays as plays
 use Rattle.da_script.specs.Alarms.{TellsOwn}
@@ -136,6 +138,10 @@ are_own (Some files) words found verified file repaired lit compacted followed n
       let holds = (asked_holds header answer request).0 (subst (IsRefusalFor (is_answer_to request answer) header answer) (ok_has_none refusal ok) refused) in
       let reply = verified header answer square ((file (answer_file contents) answer fits).0 second).0 own holds.0 in
       (holds.1, reply, shows_asked request answer square holds.1 reply);
+  verify_commitment = λ contents header square answer commitment refusal command read first own fits second refused ok.
+      let holds = (stated_holds header answer commitment).0
+      (subst (IsRefusalFor (states_commitment commitment answer) header answer) (ok_has_none refusal ok) refused) in
+      (holds.1, verified header answer square ((file (answer_file contents) answer fits).0 second).0 own holds.0);
   repair = λ contents header square w status command read first own fits answers.
       repaired header (frames_of (messages_file contents)) square w status (frames_fit _ fits 0) own
       (subst (λ (a : Result Roots ℕ). MatchResult a (λ h. Repairs h (frames_of (messages_file contents)) w status) (λ at. ⊥)) first answers);

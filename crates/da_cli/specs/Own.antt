@@ -36,6 +36,7 @@ use Rattle.da_judging.specs.declared.answers.Answer.{Answer}
 use Rattle.da_judging.specs.declared.answers.Request.{Request}
 use Rattle.da_judging.specs.Answers.{is_answer_to, IsAnswerTo}
 use Rattle.da_judging.specs.VerifyFor.{request_file, request_in, IsRefusalFor, ShowsAsked}
+use Rattle.da_judging.specs.VerifyCommitment.{states_commitment, StatesCommitment}
 use Rattle.da_commands.specs.Net.{NetOf}
 use Rattle.da_serving.specs.Prove.{ProveRangeOf}
 use Rattle.da_files.specs.Contents.{header_file, messages_file, square_file}
@@ -73,6 +74,15 @@ IsOwnLineFor files words = (contents : List (List ℕ)) (header : Roots) (square
     → request_in (request_file contents) ≡ Ok request
     → IsRefusalFor (is_answer_to request answer) header answer refusal → verdict_line refusal ≡ codes "ok\n"
     → IsAnswerTo request answer × IsOwnReply answer square × ShowsAsked request answer square
+
+-- over the files of `verify` with a COMMITMENT, where the header in HEADER is that of a square and the line is `ok`: ANSWER is a commitment proof of this commitment, which is that of the square's shares in its range, or they name a collision
+abbrev pub IsOwnLineStated : Files → List (List ℕ) → Type 0
+IsOwnLineStated files words = (contents : List (List ℕ)) (header : Roots) (square : SquareShares) (answer : Answer) (commitment : List ℕ) (refusal : Option ℕ)
+    → is_command words (codes "verify") 3 ≡ true → gathered (limits_of words) files (names_of words) ≡ whole contents
+    → header_in (header_file contents) ≡ Ok header → IsHeaderOf header square
+    → AreBytes (answer_file contents) → answer_in (answer_file contents) ≡ Ok answer
+    → IsRefusalFor (states_commitment commitment answer) header answer refusal → verdict_line refusal ≡ codes "ok\n"
+    → StatesCommitment commitment answer × IsOwnReply answer square
 
 -- over the files of `repair`, where the header in HEADER is that of a square: what is written and answered is that square or the missing cells, or a proved sample of MESSAGES and the square name a collision
 abbrev pub IsOwnRepair : Files → List (List ℕ) → Type 0
@@ -116,8 +126,8 @@ IsOwnProve files words = (contents : List (List ℕ)) (square : SquareShares) (s
     → square_in (square_file contents) ≡ Ok square → ProveRangeOf start count contents w Done
     → ProvesOwn square start count w
 
--- under the header of a square the line `ok` stands only for the square's own shares, and for an answer to the request where
--- there is one, a claim is refused, a repair answers this square or the missing cells, `light` writes no claim, `follow`
+-- under the header of a square the line `ok` stands only for the square's own shares, and for an answer to the request or the
+-- commitment where there is one, a claim is refused, a repair answers this square or the missing cells, `light` writes no claim, `follow`
 -- tells of the square's shares, no node of `net` rejects or has a collision, and `prove` of a range writes a proof of the
 -- square's shares in it; or a collision is named
 pub record HasOwn (files : Files) (words : List (List ℕ)) : Type 0 where
@@ -125,6 +135,7 @@ pub record HasOwn (files : Files) (words : List (List ℕ)) : Type 0 where
   pub verify : IsOwnLine files words
   pub compact : IsOwnCompact files words
   pub verify_for : IsOwnLineFor files words
+  pub verify_commitment : IsOwnLineStated files words
   pub repair : IsOwnRepair files words
   pub light : IsOwnLight files words
   pub follow : IsOwnFollow files words

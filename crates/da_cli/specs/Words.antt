@@ -12,7 +12,7 @@ use Rattle.namespace_id.specs.declared.cells.Axis.{Axis}
 use Rattle.namespace_id.specs.declared.cells.Axis.TheVariants.{Row, Col}
 use Rattle.da_wire.specs.Frames.{ok_of}
 use Rattle.da_commands.specs.declared.command.Command.{Command}
-use Rattle.da_commands.specs.declared.command.Command.TheVariants.{Check, Build, Header, Sample, Namespace, Verify, Compact, Repair, Light, Net, Show, Json, Demo, VerifyFor, Root, RootIs, Wanted, Blobs, Commit, Prove, ProveRange, Follow, Help, Version}
+use Rattle.da_commands.specs.declared.command.Command.TheVariants.{Check, Build, Header, Sample, Namespace, Verify, Compact, Repair, Light, Net, Show, Json, Demo, VerifyCommitment, VerifyFor, Root, RootIs, Wanted, Blobs, Commit, Prove, ProveRange, Follow, Help, Version}
 use Rattle.da_commands.specs.Demo.{is_trial_width}
 use Rattle.da_cli.specs.declared.words.Call.{Call}
 
@@ -76,6 +76,11 @@ demo_call number width = option_map_or
     (λ n. option_map (λ k. record { command = Demo n k; files = 0 }) (width_in width))
     (number_in (2 ^ 64 - 1) number) None
 
+-- verify HEADER ANSWER and this word, which is a COMMITMENT where it is 64 hexadecimal digits, else REQUEST
+abbrev pub verify_call : List ℕ → Call
+verify_call word = option_map_or (λ bytes. record { command = VerifyCommitment bytes; files = 2 }) (key_in word)
+    (record { command = VerifyFor; files = 3 })
+
 -- root HEADER ROOT, where ROOT is this word
 abbrev pub root_call : List ℕ → Option Call
 root_call root = option_map (λ bytes. record { command = RootIs bytes; files = 1 }) (key_in root)
@@ -99,7 +104,6 @@ file_commands =
     (codes "sample", 2, Sample) ∷
     (codes "namespace", 2, Namespace) ∷
     (codes "verify", 2, Verify) ∷
-    (codes "verify", 3, VerifyFor) ∷
     (codes "compact", 2, Compact) ∷
     (codes "repair", 2, Repair) ∷
     (codes "net", 3, Net) ∷
@@ -130,7 +134,8 @@ value_call words =
     (if is_command words (codes "demo") 2 then demo_call (get_or words 1 []) (get_or words 2 []) else
     (if is_command words (codes "root") 2 then root_call (get_or words 2 []) else
     (if is_command words (codes "wanted") 2 then wanted_call (get_or words 2 []) else
-    (if is_command words (codes "prove") 3 then prove_call (get_or words 2 []) (get_or words 3 []) else None))))
+    (if is_command words (codes "prove") 3 then prove_call (get_or words 2 []) (get_or words 3 []) else
+    (if is_command words (codes "verify") 3 then Some (verify_call (get_or words 3 [])) else None)))))
 
 -- the command of these words, and how many of them name files
 abbrev pub call_of : List (List ℕ) → Option Call

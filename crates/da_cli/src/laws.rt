@@ -45,6 +45,7 @@ ghost use Rattle.da_judging.specs.declared.answers.Request as requests;
 ghost use Rattle.da_judging.specs.Answers.{answer_frame, is_answer_to, IsAnswerTo};
 ghost use Rattle.da_judging.specs.Verify.{IsRefusal, answer_in, IsOwnReply};
 ghost use Rattle.da_judging.specs.VerifyFor.{IsRefusalFor};
+ghost use Rattle.da_judging.specs.VerifyCommitment.{states_commitment, StatesCommitment};
 ghost use Rattle.da_judging.specs.Root.{root_refusal};
 ghost use Rattle.da_following.specs.Follow.{items_in, Feed, Follows};
 ghost use Rattle.data_header.specs.DataRoots.{data_root_of};
@@ -109,6 +110,17 @@ pub fn run_laws()
         ↔ (is_answer_to request answer ≡ false) }
     ensures answers { (request : requests.Request) (answer : Answer) →
         (is_answer_to request answer ≡ true) ↔ IsAnswerTo request answer }
+
+    // To a commitment an answer is not refused exactly where it is not without one and is a commitment
+    // proof that states it. It is refused by the number 0, first of all, exactly where it is no such.
+    ensures stated { (header : Roots) (answer : Answer) (commitment : List ℕ) →
+        IsRefusalFor (states_commitment commitment answer) header answer None
+        ↔ (IsRefusal header answer None × StatesCommitment commitment answer) }
+    ensures stated_other { (header : Roots) (answer : Answer) (commitment : List ℕ) →
+        IsRefusalFor (states_commitment commitment answer) header answer (Some 0)
+        ↔ (states_commitment commitment answer ≡ false) }
+    ensures states { (commitment : List ℕ) (answer : Answer) →
+        (states_commitment commitment answer ≡ true) ↔ StatesCommitment commitment answer }
 
     // A header is not refused exactly where its data root is the one that it is to have.
     ensures rooted { (header : Roots) (root : List ℕ) →

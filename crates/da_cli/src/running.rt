@@ -124,11 +124,11 @@ pub fn run<I: Inputs, O: Sink, N: Sink>(
 
     // Under the header of a square `ok` stands only for samples that show the square's own share, namespace
     // answers that show exactly its shares, proofs of the commitment of its shares in a range and root proofs
-    // of its own share, each to the request where there is one; `compact` refuses a claim; a repair answers
-    // this square or the missing cells; `light` writes no claim; `follow` tells of the square's shares; no
-    // node of `net` rejects or has a collision; and what `prove` writes of a range is a proof of the
-    // commitment of the square's shares in it. Or a collision is named, as a fraud claim always does. All
-    // where the files are told.
+    // of its own share, each to the request or the commitment where there is one; `compact` refuses a claim;
+    // a repair answers this square or the missing cells; `light` writes no claim; `follow` tells of the
+    // square's shares; no node of `net` rejects or has a collision; and what `prove` writes of a range is a
+    // proof of the commitment of the square's shares in it. Or a collision is named, as a fraud claim always
+    // does. All where the files are told.
     ensures own { AreOwn (I.files inputs.old) (words_of words.now) }
 
     // `Usage` comes exactly where the words are no command. Where no word names a file, nothing is

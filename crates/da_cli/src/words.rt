@@ -3,7 +3,7 @@
 ghost use Rattle.std.specs.Prelude.{◌≡◌, ◌<◌, length, map, IfSome, true};
 ghost use Rattle.da_commands.specs.Meaning.{IsRunnable};
 ghost use Rattle.da_commands.specs.Demo.{is_trial_width};
-ghost use Rattle.da_cli.specs.Words.{words_of, is_command, is_digit, digits_in, number_in, key_in, light_call, width_in, demo_call, axis_in, root_call, wanted_call, prove_call, call_in, file_call, value_call, call_of, HasFiles};
+ghost use Rattle.da_cli.specs.Words.{words_of, is_command, is_digit, digits_in, number_in, key_in, light_call, width_in, demo_call, axis_in, verify_call, root_call, wanted_call, prove_call, call_in, file_call, value_call, call_of, HasFiles};
 
 use da_commands::Command;
 use hex::FromHex;
@@ -124,6 +124,25 @@ fn axis_in(word: &str) -> Option<Axis>
     None
 }
 
+/// The call of `verify` of a third word: a COMMITMENT where it is 64 hexadecimal digits, else REQUEST.
+fn verify_call(third: &str) -> Call
+    ensures value { result ≡ verify_call third.now }
+    ensures files { result.files < 4 }
+    ensures runnable { IsRunnable result.command }
+    ensures own { HasFiles result.command result.files }
+{
+    match key_in(third) {
+        Some(commitment) => Call {
+            command: Command::VerifyCommitment(commitment),
+            files: 2,
+        },
+        None => Call {
+            command: Command::VerifyFor,
+            files: 3,
+        },
+    }
+}
+
 /// The call of `root` whose ROOT is this word.
 fn root_call(root: &str) -> Option<Call>
     ensures value { result ≡ root_call root.now }
@@ -167,14 +186,13 @@ fn prove_call(start: &str, count: &str) -> Option<Call>
 
 /// The commands whose words after their own all name files: the word of each, how many files it has, and
 /// the command.
-const FILE_COMMANDS: [(&str, usize, Command); 19] = [
+const FILE_COMMANDS: [(&str, usize, Command); 18] = [
     ("check", 2, Command::Check),
     ("build", 1, Command::Build),
     ("header", 1, Command::Header),
     ("sample", 2, Command::Sample),
     ("namespace", 2, Command::Namespace),
     ("verify", 2, Command::Verify),
-    ("verify", 3, Command::VerifyFor),
     ("compact", 2, Command::Compact),
     ("repair", 2, Command::Repair),
     ("net", 3, Command::Net),
@@ -231,6 +249,7 @@ fn value_call(words: &[String]) -> Option<Call>
         ("root", [_, root]) => root_call(root),
         ("wanted", [_, axis]) => wanted_call(axis),
         ("prove", [_, start, count]) => prove_call(start, count),
+        ("verify", [_, _, third]) => Some(verify_call(third)),
         _ => None,
     }
 }

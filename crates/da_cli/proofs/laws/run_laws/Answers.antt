@@ -24,6 +24,7 @@ use Rattle.da_judging.proofs.LightLemmas.{lights_own}
 use Rattle.da_judging.proofs.VerifyLemmas.{verified_proved, verified_complete, verified_accepted, verified_committed, verified_rooted, verified_own}
 use Rattle.da_judging.proofs.AskedLemmas.{answers_to}
 use Rattle.da_judging.proofs.VerifyForLemmas.{asked_holds, asked_other}
+use Rattle.da_judging.proofs.VerifyCommitmentLemmas.{states_is, stated_holds, stated_other}
 use Rattle.da_judging.proofs.RootLemmas.{tied}
 use Rattle.da_cli.proofs.laws.run_laws.Goals as goal
 
@@ -135,6 +136,15 @@ returns-clause-asked_other c = asked_other
 
 pub returns-clause-answers : goal.returns-clause-answers
 returns-clause-answers c = answers_to
+
+pub returns-clause-stated : goal.returns-clause-stated
+returns-clause-stated c = stated_holds
+
+pub returns-clause-stated_other : goal.returns-clause-stated_other
+returns-clause-stated_other c = stated_other
+
+pub returns-clause-states : goal.returns-clause-states
+returns-clause-states c = states_is
 
 pub returns-clause-rooted : goal.returns-clause-rooted
 returns-clause-rooted c = tied
