@@ -1,7 +1,8 @@
--- Numbers that pass a test, and counts of known cells and of decided rows and columns.
+-- Numbers that pass a test, and counts of known cells, of samples and of decided rows and columns.
 pub mod AscentLemmas
 pub mod PassingLemmas
 pub mod CountLemmas
 pub mod CountedLemmas
 pub mod CountLineLemmas
+pub mod SampleLemmas
 pub mod RaiseLemmas

@@ -18,7 +18,7 @@ use Rattle.axis_roots.specs.Grids.{share_at, leaf_over}
 use Rattle.befp_maker.specs.Conflicts.{IsLineOf}
 use Rattle.repair_queue.specs.declared.marks.Marks.{Marks}
 use Rattle.repair_queue.specs.declared.boards.Board.{Board}
-use Rattle.repair_queue.specs.Closures.{AreChosen, Fact}
+use Rattle.repair_queue.specs.Closures.{Fact}
 use Rattle.repair_queue.specs.Settled.{along}
 use Rattle.repair_queue.specs.Slots.{Kept, Flags, flags_of}
 use Rattle.repair_queue.specs.Repairs.{Shows, IsSlotted}
@@ -78,10 +78,9 @@ abbrev pub AreAlikeLined : ℕ → Flags → Shared → Axis → ℕ → List Sh
 AreAlikeLined k flag shares axis i line = (pos : ℕ) → pos < 2 * k → is_lined flag (cell_on axis i pos) ≡ true
     → shares (cell_on axis i pos) ≡ entry line pos
 
--- each row and column with k known cells is decided
+-- of each row and column that isn't decided fewer than k cells are known
 abbrev pub AreAtRest : ℕ → Kept → Flags → Type 0
-AreAtRest k slot flag = (axis : Axis) (i : ℕ) (chosen : List ℕ) → i < 2 * k → AreChosen k chosen
-    → ((p : ℕ) → Contains chosen p → is_found slot flag (cell_on axis i p) ≡ true) → flag axis i ≡ true
+AreAtRest k slot flag = (axis : Axis) (i : ℕ) → i < 2 * k → flag axis i ≡ false → found_count slot flag axis i (2 * k) < k
 
 -- ---- of the fields alone
 

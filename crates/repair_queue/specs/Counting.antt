@@ -1,4 +1,4 @@
--- Counting numbers that pass a test.
+-- Counting numbers that pass a test, and sums.
 use Rattle.std.specs.Prelude.{ℕ, zero, suc, ◌+◌, Bool, true, false}
 
 -- 1 where it passes
@@ -10,3 +10,8 @@ one_if false = 0
 unfoldable pub count_from : (ℕ → Bool) → ℕ → ℕ → ℕ
 count_from f first zero = 0
 count_from f first (suc n) = one_if (f first) + count_from f (suc first) n
+
+-- the sum of the first n numbers
+unfoldable pub sum_below : (ℕ → ℕ) → ℕ → ℕ
+sum_below f zero = 0
+sum_below f (suc n) = f n + sum_below f n

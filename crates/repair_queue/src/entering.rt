@@ -6,7 +6,7 @@ ghost use Rattle.axis_roots.specs.Proved.{IsUnder, kept_message};
 ghost use Rattle.repair_queue.specs.Slots.{IsAlike};
 ghost use Rattle.repair_queue.specs.Pools.{slot_in, HasPlaces};
 ghost use Rattle.repair_queue.specs.Repairs.{Shows};
-ghost use Rattle.repair_queue.specs.Boards.{given_of, decided_of, is_lined, IsGood};
+ghost use Rattle.repair_queue.specs.Boards.{given_of, decided_of, is_lined, IsGood, AreAtRest};
 ghost use Rattle.repair_queue.specs.Tools.{AreTools};
 ghost use Rattle.repair_queue.specs.Moves.{IsKeptOn, IsEntered, TakesMessage, Steps};
 
@@ -39,6 +39,7 @@ fn shows(pool: &Pool, axis: Axis, cell: Cell, share: &Share) -> bool
 /// wasn't known.
 fn keep_new(board: &mut Board, header: &Header, message: Proved)
     requires good { IsGood header.now board.old }
+    requires rest { AreAtRest header.now.k (given_of board.old) (decided_of board.old) }
     requires under { IsUnder header.now message }
     requires off { is_lined (decided_of board.old) (kept_message message).cell ≡ false }
     requires empty { given_of board.old (kept_message message).axis (kept_message message).cell
@@ -59,6 +60,7 @@ fn keep_new(board: &mut Board, header: &Header, message: Proved)
 /// shows another share. Where its share is shown already it is dropped.
 fn keep(board: &mut Board, header: &Header, message: Proved)
     requires good { IsGood header.now board.old }
+    requires rest { AreAtRest header.now.k (given_of board.old) (decided_of board.old) }
     requires under { IsUnder header.now message }
     requires off { is_lined (decided_of board.old) (kept_message message).cell ≡ false }
     requires alike { IsAlike
@@ -79,6 +81,7 @@ fn keep(board: &mut Board, header: &Header, message: Proved)
 /// Takes a sample in, where nothing that is known shows another share.
 fn enter(board: &mut Board, header: &Header, message: Proved) -> Taken
     requires good { IsGood header.now board.old }
+    requires rest { AreAtRest header.now.k (given_of board.old) (decided_of board.old) }
     requires under { IsUnder header.now message }
     ensures { IsEntered header.now board.old board.new message result }
 {
@@ -101,6 +104,7 @@ fn enter(board: &mut Board, header: &Header, message: Proved) -> Taken
 /// Takes a sample in, or names what is wrong where it shows another share than one that is known.
 fn take(board: &mut Board, tools: &mut Tools, header: &Header, message: Proved) -> Option<Ended>
     requires good { IsGood header.now board.old }
+    requires rest { AreAtRest header.now.k (given_of board.old) (decided_of board.old) }
     requires tools { AreTools header.now.k tools.old }
     requires under { IsUnder header.now message }
     ensures { TakesMessage header.now board.old board.new tools.new (kept_message message) result }
@@ -125,6 +129,7 @@ pub(crate) fn step(
     message: Proved,
 ) -> Option<Ended>
     requires good { IsGood header.now board.old }
+    requires rest { AreAtRest header.now.k (given_of board.old) (decided_of board.old) }
     requires tools { AreTools header.now.k tools.old }
     requires under { IsUnder header.now message }
     ensures { Steps header.now board.old board.new tools.new (kept_message message) result }

@@ -1,4 +1,7 @@
 //! The samples that were given and are kept: at most one for each cell along each axis.
+//!
+//! None is put in for a cell of a decided row. While a row isn't decided fewer than k of its cells are known when a
+//! sample comes, each with at most two samples. So a row has at most 2k - 1 samples, and all have fewer than (2k)^2.
 
 ghost use Rattle.std.specs.Prelude.{◌≡◌, ◌+◌, ◌*◌, ◌<◌, IsTrue, IfOk, MatchOption, None, Some, true, false, length};
 ghost use Rattle.namespace_id.specs.declared.cells.Cell.{Cell as Place};
@@ -6,7 +9,7 @@ ghost use Rattle.namespace_id.specs.declared.cells.Axis.{Axis as Along};
 ghost use Rattle.namespace_id.specs.Cells.{is_width, is_in_square};
 ghost use Rattle.axis_roots.specs.Proved.{kept_message};
 ghost use Rattle.repair_queue.specs.Slots.{IsPut, IsEmptied, IsApart, IsAlike};
-ghost use Rattle.repair_queue.specs.Pools.{slot_in, place_of, HasPlaces, IsPool, AreAtHome};
+ghost use Rattle.repair_queue.specs.Pools.{slot_in, place_of, samples_of_row, HasPlaces, IsPool, AreAtHome};
 
 use crate::slots::number;
 use axis_roots::Proved;
@@ -14,7 +17,7 @@ use namespace_id::{Axis, Cell, NoMemory, Share};
 use std::alloc::Global;
 
 /// Samples of the cells of a square, at most one for each cell along each axis, in memory that was
-/// taken for two of each cell. What isn't used of it isn't written.
+/// taken for one of each cell. What isn't used of it isn't written.
 #[derive(Drop)]
 pub(crate) struct Pool {
     pub(crate) k: u16,
@@ -38,7 +41,7 @@ impl Pool {
         let side = 2 * k as usize;
         let rows = vec![in alloc; 0; side * side]?;
         let cols = vec![in alloc; 0; side * side]?;
-        let mut given = Vec::with_capacity(alloc, 2 * (side * side) + 1)?;
+        let mut given = Vec::with_capacity(alloc, side * side)?;
         let Ok(()) = given.push(None) else {
             return Err(NoMemory);
         };
@@ -75,11 +78,13 @@ pub(crate) fn held_in(pool: &Pool, axis: Axis, cell: Cell) -> Option<&Proved>
     pool.given[place(pool, axis, cell)].as_ref()
 }
 
-/// Keeps a sample, of whose cell none is kept along its axis.
+/// Keeps a sample, of whose cell none is kept along its axis. Its row has room for one more.
 pub(crate) fn put_in(pool: &mut Pool, kept: Proved)
     requires pool { IsPool pool.old }
     requires cell { is_in_square pool.old.k (kept_message kept).cell ≡ true }
     requires empty { slot_in pool.old (kept_message kept).axis (kept_message kept).cell ≡ None }
+    requires few { samples_of_row pool.old.k (slot_in pool.old) (kept_message kept).cell.row + 1
+        < 2 * pool.old.k }
     ensures pool { IsPool pool.new }
     ensures width { pool.new.k ≡ pool.old.k }
     ensures put { IsPut (slot_in pool.old) (slot_in pool.new) (kept_message kept).axis

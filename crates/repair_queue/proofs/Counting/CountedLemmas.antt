@@ -1,6 +1,7 @@
 -- Counts of known cells: when a cell comes to be known, when a line is kept, and when none waits.
 use Rattle.std.proofs.Common.{◌≡◌, ◌≢◌, ◌∙◌, ℕ, zero, suc, ◌+◌, ◌*◌, ◌<◌, ◌≤◌, List, [], Bool, true, false, not, refl, sym, ap, ap₂, subst, inl, inr, arith}
 use Rattle.std.specs.Prelude.{is_some, ◌||◌, Some, None}
+use Rattle.std.specs.List.{Contains}
 use Rattle.std.proofs.lemmas.Bool.{cases_Bool, cases_eq, cases_lt, true≢false}
 use Rattle.namespace_id.specs.declared.cells.Cell.{Cell}
 use Rattle.namespace_id.specs.declared.cells.Axis.{Axis}
@@ -10,6 +11,7 @@ use Rattle.axis_roots.specs.Messages.{index, position}
 use Rattle.axis_roots.specs.Lines.{cell_on}
 use Rattle.axis_roots.proofs.Grids.AxisLemmas.{index-cell_on, position-cell_on, cell_on-own}
 use Rattle.axis_roots.proofs.Grids.NumberLemmas.{position-lt}
+use Rattle.repair_queue.specs.Closures.{AreChosen}
 use Rattle.repair_queue.specs.Slots.{Kept, Flags, IsFlagged}
 use Rattle.repair_queue.specs.Counting.{one_if, count_from}
 use Rattle.repair_queue.specs.Counts.{Numbers}
@@ -77,14 +79,22 @@ count_from-lt f (suc n) first i low high off = elim (cases_eq first i) [
 
 -- ---- none waits
 
--- where each row and column that has k waits, and none does, all with k known cells are decided
+-- where each row and column that has k waits, and none does, those that aren't decided have fewer than k known cells
 pub rest_counted : (k : ℕ) (slot : Kept) (flag : Flags) (counts : Numbers) → AreCounted k slot flag counts → AreWaiting k flag counts []
     → AreAtRest k slot flag
-rest_counted k slot flag counts counted waiting axis i chosen within are known = elim (cases_Bool (flag axis i)) [
+rest_counted k slot flag counts counted waiting axis i within off = elim (cases_lt (counts axis i) k) [
+  | inl few ↦ subst (λ (n : ℕ). n < k) (counted axis i within off) few
+  | inr many ↦ absurd (contains_none (axis, i) (waiting axis i within off (omega arith)))
+]
+
+-- so those with k known cells are decided
+pub rest_decided : (k : ℕ) (slot : Kept) (flag : Flags) → AreAtRest k slot flag → (axis : Axis) (i : ℕ) (chosen : List ℕ) → i < 2 * k → AreChosen k chosen
+    → ((p : ℕ) → Contains chosen p → is_found slot flag (cell_on axis i p) ≡ true) → flag axis i ≡ true
+rest_decided k slot flag rest axis i chosen within are known = elim (cases_Bool (flag axis i)) [
   | inl on ↦ on
   | inr off ↦
       let many : k ≤ found_count slot flag axis i (2 * k) = chosen_counted (λ pos. is_found slot flag (cell_on axis i pos)) k chosen are known in
-      absurd (contains_none (axis, i) (waiting axis i within off (subst (λ (n : ℕ). k ≤ n) (sym (counted axis i within off)) many)))
+      let few : found_count slot flag axis i (2 * k) < k = rest axis i within off in absurd (omega arith)
 ]
 
 -- ---- a line that is kept
@@ -216,7 +226,7 @@ nothing_found slot flag empty off cell = elim (cases_Bool (is_found slot flag ce
 ]
 
 -- none is counted where none passes
-count_from-none : (f : ℕ → Bool) (n first : ℕ) → ((q : ℕ) → f q ≡ false) → count_from f first n ≡ 0
+pub count_from-none : (f : ℕ → Bool) (n first : ℕ) → ((q : ℕ) → f q ≡ false) → count_from f first n ≡ 0
 unfolding count_from
 count_from-none f zero first none = refl
 count_from-none f (suc n) first none = let here : one_if (f first) ≡ 0 = ap one_if (none first) in let rest : count_from f (suc first) n ≡ 0 = count_from-none f n (suc first) none in omega arith
@@ -229,3 +239,8 @@ nothing_counted k slot flag counts empty off zeros axis i within low =
 pub nothing_waiting : (k : ℕ) (flag : Flags) (counts : Numbers) (queue : List (Axis × ℕ)) → 0 < k → ((axis : Axis) (i : ℕ) → counts axis i ≡ 0)
     → AreWaiting k flag counts queue
 nothing_waiting k flag counts queue some zeros axis i within low many = absurd (omega (arith, zeros axis i, many))
+
+pub nothing_rests : (k : ℕ) (slot : Kept) (flag : Flags) → 0 < k → ((axis : Axis) (cell : Cell) → slot axis cell ≡ None)
+    → ((axis : Axis) (i : ℕ) → flag axis i ≡ false) → AreAtRest k slot flag
+nothing_rests k slot flag some empty off axis i within low =
+    let none : 0 ≡ found_count slot flag axis i (2 * k) = nothing_counted k slot flag (λ a j. 0) empty off (λ a j. refl) axis i within low in omega arith

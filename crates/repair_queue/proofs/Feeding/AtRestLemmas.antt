@@ -20,6 +20,7 @@ use Rattle.repair_queue.specs.Boards.{Shared, is_lined, is_found, AreAtRest, IsS
 use Rattle.repair_queue.proofs.Facts.ClosureLemmas.{half_least, fact_half}
 use Rattle.repair_queue.proofs.Facts.SettledLemmas.{fits_settles, cells_fit}
 use Rattle.repair_queue.proofs.Places.TakenLemmas.{under_proved}
+use Rattle.repair_queue.proofs.Counting.CountedLemmas.{rest_decided}
 use Rattle.repair_queue.proofs.Lines.LinedLemmas.{lined_by, lined_on, lined_one, found_lined, found_held, found_how}
 
 module _ (header : Roots) (ms : List Message) (slot : Kept) (flag : Flags) (shares : Shared) (sound : IsSound header slot flag shares)
@@ -63,11 +64,11 @@ module _ (header : Roots) (ms : List Message) (slot : Kept) (flag : Flags) (shar
               found_held slot flag there.0 m.cell shows.kept shows.held
         ])
         (λ axis i chosen pos within are known below.
-        found_lined slot flag (cell_on axis i pos) (lined_on flag axis i pos (rest axis i chosen within are known)))
+        found_lined slot flag (cell_on axis i pos) (lined_on flag axis i pos (rest_decided header.k slot flag rest axis i chosen within are known)))
 
     -- a decided row or column is marked
     pub decided_set : (axis : Axis) (i : ℕ) → IsDecided header ms axis i → flag axis i ≡ true
-    decided_set axis i d = rest axis i d.chosen d.within d.are_chosen (λ p at. half_found (cell_on axis i p) (d.halves p at))
+    decided_set axis i d = rest_decided header.k slot flag rest axis i d.chosen d.within d.are_chosen (λ p at. half_found (cell_on axis i p) (d.halves p at))
 
     -- the shares fit
     rest_fits : CellsFit header ms shares

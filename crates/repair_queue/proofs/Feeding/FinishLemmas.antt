@@ -1,12 +1,10 @@
 -- What a session is at first, and what it answers.
-use Rattle.std.proofs.Common.{◌≡◌, ◌≢◌, ◌∙◌, ℕ, ◌*◌, ◌<◌, List, [], ◌∷◌, length, get_or, Bool, ◌==◌, true, false, refl, sym, ap, subst, inl, inr, arith}
+use Rattle.std.proofs.Common.{◌≡◌, ◌≢◌, ◌∙◌, ℕ, ◌*◌, List, [], ◌∷◌, length, Bool, ◌==◌, true, false, refl, sym, ap, subst, inl, inr}
 use Rattle.std.specs.Prelude.{Option, Some, None}
 use Rattle.std.specs.List.{Contains}
 use Rattle.std.proofs.lemmas.Bool.{cases_Bool, true≢false, eqb-true}
-use Rattle.std.proofs.lemmas.List.Elements.{Contains-get_or}
 use Rattle.std.proofs.lemmas.List.{nil_from_length}
 use Rattle.namespace_id.specs.declared.cells.Cell.{Cell}
-use Rattle.namespace_id.specs.declared.cells.Axis.{Axis}
 use Rattle.namespace_id.specs.declared.cells.Axis.TheVariants.{Row}
 use Rattle.namespace_id.specs.declared.shares.Share.{Share}
 use Rattle.namespace_id.specs.Cells.{is_in_square, is_original, CellList}
@@ -14,7 +12,6 @@ use Rattle.namespace_id.proofs.MemberLemmas.{contains_none}
 use Rattle.data_header.specs.Headers.{Roots, AreRoots}
 use Rattle.square_layout.specs.Blocks.{SquareShares}
 use Rattle.axis_roots.specs.declared.message.messages.Message.{Message}
-use Rattle.axis_roots.specs.Lines.{cell_on}
 use Rattle.axis_roots.specs.Grids.{share_at}
 use Rattle.axis_roots.proofs.Grids.NumberLemmas.{inside}
 use Rattle.axis_roots.proofs.Grids.LaidLemmas.{original-inside}
@@ -29,24 +26,14 @@ use Rattle.repair_queue.specs.Settled.{IsSettled}
 use Rattle.repair_queue.specs.Verdicts.{VerdictParts, IsWhole, IsMissing, IsVerdict}
 use Rattle.repair_queue.specs.Repairs.{IsEnd}
 use Rattle.repair_queue.specs.Answers.{parts_of, EndsAs}
-use Rattle.repair_queue.specs.Slots.{Kept, Flags}
 use Rattle.repair_queue.specs.Boards.{given_of, decided_of, share_of, is_found, IsGood, AreAtRest, HoldsFor}
 use Rattle.repair_queue.specs.OpenBoards.{IsOpenBoard, KeepsFor}
 use Rattle.repair_queue.specs.Views.{end_of}
 use Rattle.repair_queue.specs.Sessions.{state_by, AreLeft, AreNotFound, AreOriginals}
-use Rattle.repair_queue.proofs.Counting.CountedLemmas.{nothing_found}
 use Rattle.repair_queue.proofs.Lines.LinedLemmas.{lined_by}
 use Rattle.repair_queue.proofs.Feeding.AtRestLemmas.{lined_fact, found_half, half_found, decided_set, rest_settled}
 use Rattle.repair_queue.proofs.Facts.VerdictLemmas.{all_decided, original_inside}
 use Rattle.repair_queue.proofs.Facts.WholeLemmas.{whole_square}
-
--- where nothing is kept no row or column has k known cells
-pub nothing_rests : (k : ℕ) (slot : Kept) (flag : Flags) → 0 < k → ((axis : Axis) (cell : Cell) → slot axis cell ≡ None)
-    → ((axis : Axis) (i : ℕ) → flag axis i ≡ false) → AreAtRest k slot flag
-nothing_rests k slot flag some empty off axis i chosen within are known =
-    let p : ℕ = get_or chosen 0 0 in
-    let at : Contains chosen p = Contains-get_or chosen 0 0 (omega (arith, are.count)) in
-    absurd (true≢false (sym (known p at) ∙ nothing_found slot flag empty off (cell_on axis i p)))
 
 -- a list is empty where its length was found to be 0
 pub none_in : {A : Type 0} (xs : List A) (test : Bool) → test ≡ (length xs == 0) → test ≡ true → xs ≡ []

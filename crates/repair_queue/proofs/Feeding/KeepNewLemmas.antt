@@ -20,15 +20,16 @@ use Rattle.repair_queue.specs.declared.pools.Pool.{Pool}
 use Rattle.repair_queue.specs.declared.counts.Counts.{Counts}
 use Rattle.repair_queue.specs.Slots.{Kept, Flags, IsPut, IsAlike}
 use Rattle.repair_queue.specs.Repairs.{Shows}
-use Rattle.repair_queue.specs.Pools.{slot_in, IsPool}
+use Rattle.repair_queue.specs.Pools.{slot_in, samples_of_row, IsPool}
 use Rattle.repair_queue.specs.Counts.{Numbers, count_of, pending, AreCounts, IsRaised, AreQueued}
-use Rattle.repair_queue.specs.Boards.{given_of, decided_of, share_of, is_lined, is_found, found_count, AreCounted, AreWaiting, IsGood, HoldsFor}
+use Rattle.repair_queue.specs.Boards.{given_of, decided_of, share_of, is_lined, is_found, found_count, AreAtRest, AreCounted, AreWaiting, IsGood, HoldsFor}
 use Rattle.repair_queue.specs.Moves.{IsKeptOn}
 use Rattle.repair_queue.proofs.Places.PlaceLemmas.{own_or_crossing, same_cell}
 use Rattle.repair_queue.proofs.Places.TakenLemmas.{under_proved}
 use Rattle.repair_queue.proofs.Lines.LinedLemmas.{lined_off, found_held, found_how}
 use Rattle.repair_queue.proofs.Feeding.StandLemmas.{stands_lined, stands_shown, put_sound, put_stands}
 use Rattle.repair_queue.proofs.Counting.CountedLemmas.{count_from-same, IsFoundNow, count_off, count_on, count_few}
+use Rattle.repair_queue.proofs.Counting.SampleLemmas.{rest_few}
 
 -- a look at a slot that finds none
 pub look_none : (slot : Option Proved) (found : Option (Bor Proved)) (none : Bool) → MatchOption found (slot ≡ None) (λ kept. slot ≡ Some kept.now)
@@ -99,6 +100,12 @@ module _ (header : Roots) (b : Board) (good : IsGood header b) (kept : Proved) (
   -- the sample's cell is in the square
   inside : is_in_square header.k (kept_message kept).cell ≡ true
   inside = (under_proved header kept under).inside
+
+  -- where all is decided that can be, its row has room for it
+  pub room_for : AreAtRest header.k (given_of b) (decided_of b) → samples_of_row b.pool.k (given_of b) (kept_message kept).cell.row + 1 < 2 * b.pool.k
+  room_for rest =
+      subst (λ (k : ℕ). samples_of_row k (given_of b) (kept_message kept).cell.row + 1 < 2 * k) (good.width ∙ sym good.parts.pool_width)
+      (rest_few header.k (given_of b) (decided_of b) (kept_message kept).cell inside rest off)
 
   -- a count through its cell is not full
   pub few_counted : (none : given_of b (crossing (kept_message kept).axis) (kept_message kept).cell ≡ None) (new : Kept)

@@ -104,6 +104,9 @@ held_some : (slot : Option Proved) → is_some slot ≡ true → (kept : Proved)
 held_some (Some kept) e = (kept, refl)
 held_some None e = absurd cc
 
+pub found_some : (slot : Kept) (flag : Flags) (axis : Axis) (cell : Cell) → is_some (slot axis cell) ≡ true → is_found slot flag cell ≡ true
+found_some slot flag axis cell some = let x = held_some (slot axis cell) some in found_held slot flag axis cell x.0 x.1
+
 -- a known cell lies on a decided row or column, or a sample of it is kept
 pub found_how : (slot : Kept) (flag : Flags) (cell : Cell) → is_found slot flag cell ≡ true
     → (is_lined flag cell ≡ true) ⊎ ((axis : Axis) × (kept : Proved) × (slot axis cell ≡ Some kept))

@@ -1,10 +1,8 @@
 -- Places of samples: what is read at a cell, and a sample more.
-use Rattle.std.proofs.Common.{◌≡◌, ◌≢◌, ◌∙◌, ℕ, ◌+◌, ◌*◌, ◌<◌, ◌==◌, List, [], ◌∷◌, ◌++◌, length, get_or, set, cond, Bool, true, false, refl, sym, ap, subst, inl, inr, arith}
-use Rattle.std.specs.Prelude.{Option, Some, None, IsSome}
+use Rattle.std.proofs.Common.{◌≡◌, ◌≢◌, ◌∙◌, ℕ, ◌+◌, ◌*◌, ◌<◌, List, [], ◌∷◌, ◌++◌, length, get_or, set, cond, Bool, true, false, refl, sym, ap, subst, inl, inr, arith}
+use Rattle.std.specs.Prelude.{Option, Some, None}
 use Rattle.std.proofs.lemmas.Bool.{cases_Bool, cases_eq}
-use Rattle.std.proofs.lemmas.Bool.Decides.{nat_tests}
 use Rattle.std.proofs.lemmas.List.{get_or-set_same, get_or-set_other, get_or_read_under, get_or_append_left, length-append}
-use Rattle.std.proofs.lemmas.List.Sums.{sum_by-set}
 use Rattle.std.proofs.Math.Seq.{get_or-append_seam}
 use Rattle.namespace_id.specs.declared.cells.Cell.{Cell}
 use Rattle.namespace_id.specs.declared.cells.Axis.{Axis}
@@ -12,9 +10,8 @@ use Rattle.namespace_id.specs.declared.cells.Axis.TheVariants.{Row, Col}
 use Rattle.namespace_id.specs.Cells.{is_in_square}
 use Rattle.axis_roots.specs.declared.message.proved.Proved.{Proved}
 use Rattle.axis_roots.proofs.Grids.NumberLemmas.{inside, cell_of, cell_of-number}
-use Rattle.repair_queue.specs.Pools.{place_in, places_in, empties, AreFilled}
+use Rattle.repair_queue.specs.Pools.{place_in, places_in}
 use Rattle.repair_queue.proofs.Places.SlotLemmas.{slot_number-lt}
-use Rattle.repair_queue.proofs.Counting.RaiseLemmas.{one_true}
 
 -- the place of a cell of the square is read at its number
 pub place_within : (k : ℕ) (places : List ℕ) (cell : Cell) → is_in_square k cell ≡ true → place_in k places cell ≡ get_or places (cell.row * (2 * k) + cell.col) 0
@@ -94,34 +91,6 @@ col_placed k rows cols axis cell at n within number long is =
       elim [ Row ↦ λ d apart. refl | Col ↦ λ d apart. place_other k cols cell d at n within number (λ e. apart (refl, e)) ],
     )
 
--- ---- empty places
-
--- setting one that is empty leaves one less
-pub empties-set : (places : List ℕ) (at n : ℕ) → at < length places → get_or places at 0 ≡ 0 → 0 < n → empties (set places at n) + 1 ≡ empties places
-empties-set places at n below none some =
-    let test : (get_or places at 0 == 0) ≡ true = let e : get_or places at 0 ≡ 0 = none in grind (arith, nat_tests) in
-    let other : (n == 0) ≡ false = grind (arith, nat_tests) in
-    let sums : empties (set places at n) + one_true (get_or places at 0 == 0) ≡ empties places + one_true (n == 0) =
-    sum_by-set (λ (x : ℕ). one_true (x == 0)) places at n 0 below in
-    let was : one_true (get_or places at 0 == 0) ≡ 1 = ap one_true test in
-    let is : one_true (n == 0) ≡ 0 = ap one_true other in
-    omega (arith, sums, was, is)
-
--- so where one is empty there is one
-pub empties-some : (places : List ℕ) (at : ℕ) → at < length places → get_or places at 0 ≡ 0 → 0 < empties places
-empties-some places at below none = let less : empties (set places at 1) + 1 ≡ empties places = empties-set places at 1 below none (omega arith) in omega arith
-
--- an entry that leads to no sample is empty
-pub none_empty : (given : List (Option Proved)) (places : List ℕ) (at : ℕ) → AreFilled given places → get_or given (get_or places at 0) None ≡ None → get_or places at 0 ≡ 0
-none_empty given places at filled none = elim (cases_eq (get_or places at 0) 0) [
-  | inl e ↦ e
-  | inr apart ↦ absurd (some_none (get_or given (get_or places at 0) None) none (filled at apart))
-]
-  where
-    some_none : (slot : Option Proved) → slot ≡ None → IsSome slot → ⊥
-    some_none None e some = absurd cc
-    some_none (Some kept) e some = absurd cc
-
 -- ---- a sample more
 
 module _ (given : List (Option Proved)) (kept : Proved) where
@@ -144,25 +113,6 @@ module _ (given : List (Option Proved)) (kept : Proved) where
     | inr apart ↦
         let there : get_or (set places at (length given)) i 0 ≡ get_or places i 0 = get_or-set_other places at i (length given) 0 apart in
         omega (arith, there, each i, length-append given (Some kept ∷ []))
-  ]
-
-  -- others lead where they led
-  pub still_filled : (places : List ℕ) → ((i : ℕ) → get_or places i 0 < length given) → AreFilled given places → AreFilled (given ++ Some kept ∷ []) places
-  still_filled places each filled i apart = subst IsSome (sym (given_before (get_or places i 0) (each i))) (filled i apart)
-
-  pub set_filled : (places : List ℕ) (at : ℕ) → at < length places → ((i : ℕ) → get_or places i 0 < length given) → AreFilled given places
-      → AreFilled (given ++ Some kept ∷ []) (set places at (length given))
-  set_filled places at long each filled i apart = elim (cases_eq i at) [
-    | inl e ↦
-        let here : get_or (set places at (length given)) i 0 ≡ length given =
-        ap (λ (j : ℕ). get_or (set places at (length given)) j 0) e ∙ get_or-set_same places at (length given) 0 long in
-        let found : get_or (given ++ Some kept ∷ []) (get_or (set places at (length given)) i 0) None ≡ Some kept =
-        ap (λ (j : ℕ). get_or (given ++ Some kept ∷ []) j None) here ∙ get_or-append_seam given (Some kept) [] None in
-        subst IsSome (sym found) refl
-    | inr off ↦
-        let there : get_or (set places at (length given)) i 0 ≡ get_or places i 0 = get_or-set_other places at i (length given) 0 off in
-        subst (λ (p : ℕ). IsSome (get_or (given ++ Some kept ∷ []) p None)) (sym there)
-        (still_filled places each filled i (λ e. apart (there ∙ e)))
   ]
 
   -- what is kept of which cell then

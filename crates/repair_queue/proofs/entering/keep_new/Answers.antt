@@ -5,8 +5,13 @@ use Rattle.axis_roots.specs.Proved.{kept_message}
 use Rattle.repair_queue.specs.Counts.{count_of, IsRaised}
 use Rattle.repair_queue.specs.Pools.{slot_in}
 use Rattle.repair_queue.specs.Boards.{given_of}
-use Rattle.repair_queue.proofs.Feeding.KeepNewLemmas.{look_none, look_some, cross_none, cross_some, few_row, few_col, keeps_known, keeps_unknown}
+use Rattle.repair_queue.proofs.Feeding.KeepNewLemmas.{room_for, look_none, look_some, cross_none, cross_some, few_row, few_col, keeps_known, keeps_unknown}
 use Rattle.repair_queue.proofs.entering.keep_new.Goals as goal
+
+-- its row has room for it
+pub put_in-requires-clause-few : goal.put_in-requires-clause-few
+put_in-requires-clause-few c =
+    room_for c.args.header.now c.args.board.now c.requires.good c.args.message c.requires.under c.requires.off c.requires.empty c.requires.rest
 
 -- its row isn't known whole
 pub raise-requires-clause-below : goal.raise-requires-clause-below

@@ -12,6 +12,11 @@ step-requires-clause-tools c =
     (open_of c.self.inside.header c.self.inside.board c.self.inside.tools c.self.inside.ended c.is_none.result c.is_none.ensures c.if-is_none.true
     c.self.invariant.open_board).1
 
+pub step-requires-clause-rest : goal.step-requires-clause-rest
+step-requires-clause-rest c =
+    (open_of c.self.inside.header c.self.inside.board c.self.inside.tools c.self.inside.ended c.is_none.result c.is_none.ensures c.if-is_none.true
+    c.self.invariant.open_board).2
+
 -- it stands for one sample more
 pub returns-clause-stands : goal.returns-clause-stands
 returns-clause-stands c = elim c.if-is_none.branch [

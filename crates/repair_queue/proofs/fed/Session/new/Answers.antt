@@ -5,7 +5,7 @@ use Rattle.namespace_id.proofs.WidthLemmas.{is_width-pos}
 use Rattle.repair_queue.specs.Boards.{given_of, decided_of, share_of}
 use Rattle.repair_queue.specs.Tools.{AreTools}
 use Rattle.repair_queue.proofs.Feeding.StandLemmas.{nothing_stands}
-use Rattle.repair_queue.proofs.Feeding.FinishLemmas.{nothing_rests}
+use Rattle.repair_queue.proofs.Counting.CountedLemmas.{nothing_rests}
 use Rattle.repair_queue.proofs.Feeding.ViewLemmas.{keeps_stands}
 use Rattle.repair_queue.proofs.fed.Session.new.Goals as goal
 
