@@ -8,3 +8,4 @@ pub mod MakeLemmas
 pub mod DecideLemmas
 pub mod HeldLineLemmas
 pub mod KeepLineLemmas
+pub mod ClearLemmas

@@ -8,3 +8,4 @@ pub mod TakeFromLemmas
 pub mod HalfLemmas
 pub mod PoolLemmas
 pub mod PutInLemmas
+pub mod TakeOutLemmas

@@ -1,5 +1,5 @@
--- Keeping the line of a row or a column: what is counted, and what is written.
-use Rattle.std.specs.Prelude.{◌≡◌, ◌≢◌, ℕ, ◌+◌, ◌*◌, ◌<◌, List, get_or, true, not}
+-- Keeping the line of a row or a column: what is counted, what is written, and which samples are taken out.
+use Rattle.std.specs.Prelude.{◌≡◌, ◌≢◌, ◌⊎◌, ℕ, ◌+◌, ◌*◌, ◌<◌, List, get_or, true, not, None}
 use Rattle.namespace_id.specs.declared.cells.Cell.{Cell}
 use Rattle.namespace_id.specs.declared.cells.Axis.{Axis}
 use Rattle.namespace_id.specs.declared.shares.Share.{Share}
@@ -31,3 +31,13 @@ pub record AreWrittenLeaves (k : ℕ) (old new : List Digest) (axis : Axis) (i :
       → get_or new ((cell_on axis i pos).row * (2 * k) + (cell_on axis i pos).col) no_digest ≡ get_or digests pos no_digest
   pub elsewhere : (cell : Cell) → is_in_square k cell ≡ true → index axis cell ≢ i
       → get_or new (cell.row * (2 * k) + cell.col) no_digest ≡ get_or old (cell.row * (2 * k) + cell.col) no_digest
+
+-- both slots of a cell are empty, and no other changed
+pub record IsClearedAt (old new : Kept) (cell : Cell) : Type 0 where
+  pub here : (own : Axis) → new own cell ≡ None
+  pub elsewhere : (own : Axis) (d : Cell) → (d ≡ cell → ⊥) → new own d ≡ old own d
+
+-- the slots of the first n cells of a row or a column are empty, and none off it changed
+pub record IsClearedTo (old new : Kept) (axis : Axis) (i n : ℕ) : Type 0 where
+  pub here : (own : Axis) (pos : ℕ) → pos < n → new own (cell_on axis i pos) ≡ None
+  pub each : (own : Axis) (cell : Cell) → (new own cell ≡ old own cell) ⊎ ((index axis cell ≡ i) × (new own cell ≡ None))

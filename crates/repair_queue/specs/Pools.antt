@@ -1,6 +1,6 @@
 -- Samples that were given, at most one for each cell along each axis: what is kept of which cell, and what a change
 -- of it leaves.
-use Rattle.std.specs.Prelude.{◌≡◌, ℕ, ◌+◌, ◌*◌, ◌<◌, ◌≤◌, List, length, get_or, true, Some, None, is_some, if◌then◌else◌, vec_capacity, vec_len}
+use Rattle.std.specs.Prelude.{◌≡◌, ◌≢◌, ◌⊎◌, ℕ, ◌+◌, ◌*◌, ◌<◌, ◌≤◌, List, length, get_or, true, Option, Some, None, is_some, if◌then◌else◌, vec_capacity, vec_len}
 use Rattle.namespace_id.specs.declared.cells.Cell.{Cell}
 use Rattle.namespace_id.specs.declared.cells.Axis.{Axis}
 use Rattle.namespace_id.specs.declared.cells.Axis.TheVariants.{Row, Col}
@@ -49,13 +49,36 @@ pub record HasPlaces (p : Pool) : Type 0 where
   pub to_rows : (i : ℕ) → get_or p.rows.items i 0 < length p.given.items
   pub to_cols : (i : ℕ) → get_or p.cols.items i 0 < length p.given.items
 
--- behind the empty place are the samples that are kept, fewer than 2k of the cells of each row; so there is capacity for
--- one more
+-- places that may be used again: they are there, the first isn't among them, they differ, and none is a cell's
+pub record AreFree (count : ℕ) (place : Axis → Cell → ℕ) (free : List ℕ) : Type 0 where
+  pub within : (i : ℕ) → i < length free → get_or free i 0 < count
+  pub some : (i : ℕ) → i < length free → get_or free i 0 ≢ 0
+  pub apart : (i j : ℕ) → i < j → j < length free → get_or free i 0 ≢ get_or free j 0
+  pub unled : (i : ℕ) (axis : Axis) (cell : Cell) → i < length free → place axis cell ≢ get_or free i 0
+
+-- a sample is stored at a place that was free, or behind all others where none was
+pub record IsStored (given new : List (Option Proved)) (free left : List ℕ) (kept : Proved) (place : ℕ) : Type 0 where
+  pub here : get_or new place None ≡ Some kept
+  pub others : (i : ℕ) → i < length given → i ≢ place → get_or new i None ≡ get_or given i None
+  pub within : place < length new
+  pub longer : length given ≤ length new
+  pub count : length new + length free ≡ length given + length left + 1
+  pub full : (length new ≡ length given) ⊎ (length left ≡ 0)
+  pub unled : (i : ℕ) → i < length given → ((j : ℕ) → j < length free → i ≢ get_or free j 0) → i ≢ place
+  pub were : (i : ℕ) → i < length left → (i < length free) × (get_or left i 0 ≡ get_or free i 0)
+  pub apart : ((i j : ℕ) → i < j → j < length free → get_or free i 0 ≢ get_or free j 0) → (i : ℕ) → i < length left → get_or left i 0 ≢ place
+
+-- behind the empty place are the samples that are kept, fewer than 2k of the cells of each row, and the free places; so
+-- there is capacity for one more, and for each place that comes to be free
 pub record IsPool (p : Pool) : Type 0 where
   pub places : HasPlaces p
-  pub used : vec_len p.given ≡ 1 + samples_of_all p.k (slot_in p)
+  pub first : get_or p.given.items 0 None ≡ None
+  pub free : AreFree (length p.given.items) (place_of p) p.free.items
+  pub used : vec_len p.given ≡ 1 + samples_of_all p.k (slot_in p) + vec_len p.free
   pub few : (row : ℕ) → row < 2 * p.k → samples_of_row p.k (slot_in p) row < 2 * p.k
+  pub most : vec_len p.given ≤ 2 * p.k * (2 * p.k)
   pub room : 2 * p.k * (2 * p.k) ≤ vec_capacity p.given
+  pub free_room : 2 * p.k * (2 * p.k) ≤ vec_capacity p.free
 
 -- each sample is kept at its own cell along its own axis
 abbrev pub AreAtHome : Kept → Type 0

@@ -23,9 +23,9 @@ pub data SessionEnd : Type 0 where
   accused : (claim : ClaimParts) → SessionEnd
   collided : (left right : List ℕ) → SessionEnd
 
--- a session: its header; an empty place and the samples that it keeps, with the place of each cell's along its row and
--- along its column, row-major; the rows and the columns that it decided; a share for each cell, row-major; and what ended
--- it
+-- a session: its header; an empty place, and behind it the samples that it keeps and places that are free, with the place of
+-- each cell's sample along its row and along its column, row-major; the rows and the columns that it decided; a share for
+-- each cell, row-major; and what ended it
 pub record SessionParts : Type 0 where
   pub header : Roots
   pub kept : List (Option Message)

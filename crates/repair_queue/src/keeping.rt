@@ -11,14 +11,14 @@ ghost use Rattle.befp_maker.specs.Conflicts.{IsLineOf};
 ghost use Rattle.repair_queue.specs.Lines.{AreFacts};
 ghost use Rattle.repair_queue.specs.Slots.{IsFlagged};
 ghost use Rattle.repair_queue.specs.Counts.{count_of, pending, AreCounts};
-ghost use Rattle.repair_queue.specs.Pools.{slot_in, HasPlaces};
+ghost use Rattle.repair_queue.specs.Pools.{slot_in, HasPlaces, IsPool, AreAtHome};
 ghost use Rattle.repair_queue.specs.Boards.{given_of, decided_of, share_of, mark_of, is_lined, AreAlikeLined, AreMarks, AreCounted, IsGood, HoldsFor};
-ghost use Rattle.repair_queue.specs.Keeping.{IsAlikeAll, IsCountedIn, AreWrittenLeaves};
+ghost use Rattle.repair_queue.specs.Keeping.{IsAlikeAll, IsCountedIn, AreWrittenLeaves, IsClearedAt, IsClearedTo};
 
 use crate::boards::{Board, is_found, is_on_decided};
 use crate::counts::{Counts, raise};
 use crate::marks::{Marks, set_mark};
-use crate::pools::Pool;
+use crate::pools::{Pool, take_out};
 use crate::slots::number;
 use axis_roots::{Grid, cell_on};
 use data_header::Header;
@@ -103,7 +103,64 @@ fn write_line(marks: &Marks, grid: &mut Grid, axis: Axis, index: u16, line: &[Sh
     }
 }
 
-/// Keeps the line of a row or a column as decided.
+/// Takes the samples of a cell out.
+fn clear_cell(pool: &mut Pool, cell: Cell)
+    requires pool { IsPool pool.old }
+    requires cell { is_in_square pool.old.k cell ≡ true }
+    requires home { AreAtHome (slot_in pool.old) }
+    ensures pool { IsPool pool.new }
+    ensures width { pool.new.k ≡ pool.old.k }
+    ensures cleared { IsClearedAt (slot_in pool.old) (slot_in pool.new) cell }
+{
+    take_out(pool, Axis::Row, cell);
+    take_out(pool, Axis::Col, cell);
+}
+
+/// Takes the samples of the cells of a row or a column out.
+fn clear_line(pool: &mut Pool, axis: Axis, index: u16)
+    requires pool { IsPool pool.old }
+    requires index { index < 2 * pool.old.k }
+    requires home { AreAtHome (slot_in pool.old) }
+    ensures pool { IsPool pool.new }
+    ensures width { pool.new.k ≡ pool.old.k }
+    ensures cleared { IsClearedTo (slot_in pool.old) (slot_in pool.new) axis index
+        (2 * pool.old.k) }
+{
+    for pos in 0..2 * pool.k {
+        clear_cell(pool, cell_on(axis, index, pos));
+    }
+}
+
+/// Keeps the shares and the digests of a row or a column, and that it is decided.
+fn keep_shares(
+    board: &mut Board,
+    header: &Header,
+    axis: Axis,
+    index: u16,
+    line: &[Share],
+    digests: &[Digest],
+)
+    requires good { IsGood header.now board.old }
+    requires index { index < 2 * header.now.k }
+    requires off { decided_of board.old axis index ≡ false }
+    requires line { IsLineOf header.now axis index line.now }
+    requires alike { IsAlikeAll header.now.k (given_of board.old) (decided_of board.old)
+        (share_of board.old) axis index line.now }
+    requires digests { digests.now ≡ line_leaves header.now.k axis index line.now }
+    ensures good { IsGood header.now board.new }
+    ensures next { board.new.counts.next ≡ board.old.counts.next }
+    ensures flagged { IsFlagged (decided_of board.old) (decided_of board.new) axis index }
+    ensures pool { board.new.pool ≡ board.old.pool }
+    ensures stands { (ms : List Message) → AreFacts header.now ms axis index line.now →
+        HoldsFor header.now ms board.old → HoldsFor header.now ms board.new }
+{
+    count_line(&board.pool, &board.marks, &mut board.counts, axis, index);
+    write_line(&board.marks, &mut board.grid, axis, index, line);
+    write_leaves(header.k, &mut board.leaves, axis, index, digests);
+    set_mark(&mut board.marks, axis, index);
+}
+
+/// Keeps the line of a row or a column as decided. No sample of its cells is needed any more.
 pub(crate) fn keep_line(
     board: &mut Board,
     header: &Header,
@@ -122,11 +179,11 @@ pub(crate) fn keep_line(
     ensures good { IsGood header.now board.new }
     ensures next { board.new.counts.next ≡ board.old.counts.next }
     ensures flagged { IsFlagged (decided_of board.old) (decided_of board.new) axis index }
+    ensures cleared { IsClearedTo (given_of board.old) (given_of board.new) axis index
+        (2 * header.now.k) }
     ensures stands { (ms : List Message) → AreFacts header.now ms axis index line.now →
         HoldsFor header.now ms board.old → HoldsFor header.now ms board.new }
 {
-    count_line(&board.pool, &board.marks, &mut board.counts, axis, index);
-    write_line(&board.marks, &mut board.grid, axis, index, line);
-    write_leaves(header.k, &mut board.leaves, axis, index, digests);
-    set_mark(&mut board.marks, axis, index);
+    keep_shares(board, header, axis, index, line, digests);
+    clear_line(&mut board.pool, axis, index);
 }

@@ -1,15 +1,16 @@
 //! The samples that were given and are kept: at most one for each cell along each axis.
 //!
-//! None is put in for a cell of a decided row. While a row isn't decided fewer than k of its cells are known when a
-//! sample comes, each with at most two samples. So a row has at most 2k - 1 samples, and all have fewer than (2k)^2.
+//! Those of a row or a column that is decided are taken out, and none is put in for its cells. While
+//! a row isn't decided fewer than k of its cells are known when a sample comes, each with at most two
+//! samples. So a row has at most 2k - 1 samples, and all have fewer than (2k)^2.
 
-ghost use Rattle.std.specs.Prelude.{◌≡◌, ◌+◌, ◌*◌, ◌<◌, IsTrue, IfOk, MatchOption, None, Some, true, false, length};
+ghost use Rattle.std.specs.Prelude.{◌≡◌, ◌+◌, ◌*◌, ◌<◌, ◌≤◌, ℕ, IsTrue, IfOk, MatchOption, None, Some, true, false, length, get_or, vec_len, vec_capacity};
 ghost use Rattle.namespace_id.specs.declared.cells.Cell.{Cell as Place};
 ghost use Rattle.namespace_id.specs.declared.cells.Axis.{Axis as Along};
 ghost use Rattle.namespace_id.specs.Cells.{is_width, is_in_square};
 ghost use Rattle.axis_roots.specs.Proved.{kept_message};
 ghost use Rattle.repair_queue.specs.Slots.{IsPut, IsEmptied, IsApart, IsAlike};
-ghost use Rattle.repair_queue.specs.Pools.{slot_in, place_of, samples_of_row, HasPlaces, IsPool, AreAtHome};
+ghost use Rattle.repair_queue.specs.Pools.{slot_in, place_of, samples_of_row, HasPlaces, IsStored, IsPool, AreAtHome};
 
 use crate::slots::number;
 use axis_roots::Proved;
@@ -17,16 +18,19 @@ use namespace_id::{Axis, Cell, NoMemory, Share};
 use std::alloc::Global;
 
 /// Samples of the cells of a square, at most one for each cell along each axis, in memory that was
-/// taken for one of each cell. What isn't used of it isn't written.
+/// taken for one of each cell. Places are used again, so no more of it is written than was needed at
+/// once.
 #[derive(Drop)]
 pub(crate) struct Pool {
     pub(crate) k: u16,
-    /// An empty place, and behind it the samples in the order in which they came.
+    /// An empty place, and behind it the samples and the free places.
     pub(crate) given: Vec<Option<Proved>>,
     /// For each cell, row-major, the place of the sample along its row; 0 where none is kept.
     pub(crate) rows: Vec<usize>,
     /// The same along its column.
     pub(crate) cols: Vec<usize>,
+    /// The places of samples that were taken out, until others are put there.
+    pub(crate) free: Vec<usize>,
 }
 
 impl Pool {
@@ -45,11 +49,13 @@ impl Pool {
         let Ok(()) = given.push(None) else {
             return Err(NoMemory);
         };
+        let free = Vec::with_capacity(alloc, side * side)?;
         Ok(Pool {
             k,
             given,
             rows,
             cols,
+            free,
         })
     }
 }
@@ -78,6 +84,29 @@ pub(crate) fn held_in(pool: &Pool, axis: Axis, cell: Cell) -> Option<&Proved>
     pool.given[place(pool, axis, cell)].as_ref()
 }
 
+/// Stores a sample at a free place, else behind all others, and answers where.
+fn store(given: &mut Vec<Option<Proved>>, free: &mut Vec<usize>, kept: Proved) -> usize
+    requires within { (i : ℕ) → i < length free.old.items →
+        get_or free.old.items i 0 < length given.old.items }
+    requires room { length free.old.items ≡ 0 → vec_len given.old < vec_capacity given.old }
+    ensures stored { IsStored given.old.items given.new.items free.old.items free.new.items kept
+        result }
+    ensures given { vec_capacity given.old ≤ vec_capacity given.new }
+    ensures free { vec_capacity free.new ≡ vec_capacity free.old }
+{
+    match free.pop() {
+        Some(place) => {
+            given[place] = Some(kept);
+            place
+        }
+        None => {
+            let place = given.len();
+            given.push(Some(kept)).unwrap();
+            place
+        }
+    }
+}
+
 /// Keeps a sample, of whose cell none is kept along its axis. Its row has room for one more.
 pub(crate) fn put_in(pool: &mut Pool, kept: Proved)
     requires pool { IsPool pool.old }
@@ -93,8 +122,7 @@ pub(crate) fn put_in(pool: &mut Pool, kept: Proved)
     let message = kept.message();
     let axis = message.axis;
     let at = number(pool.k, message.cell);
-    let place = pool.given.len();
-    pool.given.push(Some(kept)).unwrap();
+    let place = store(&mut pool.given, &mut pool.free, kept);
     match axis {
         Axis::Row => pool.rows[at] = place,
         Axis::Col => pool.cols[at] = place,
@@ -113,6 +141,28 @@ pub(crate) fn take_from(pool: &mut Pool, axis: Axis, cell: Cell) -> Option<Prove
 {
     let place = place(pool, axis, cell);
     pool.given[place].take()
+}
+
+/// Takes the sample of a cell along an axis out, where one is kept. Its place is free then.
+pub(crate) fn take_out(pool: &mut Pool, axis: Axis, cell: Cell)
+    requires pool { IsPool pool.old }
+    requires cell { is_in_square pool.old.k cell ≡ true }
+    requires home { AreAtHome (slot_in pool.old) }
+    ensures pool { IsPool pool.new }
+    ensures width { pool.new.k ≡ pool.old.k }
+    ensures emptied { IsEmptied (slot_in pool.old) (slot_in pool.new) axis cell }
+{
+    let place = place(pool, axis, cell);
+    if pool.given[place].is_none() {
+        return;
+    }
+    pool.free.push(place).unwrap();
+    pool.given[place] = None;
+    let at = number(pool.k, cell);
+    match axis {
+        Axis::Row => pool.rows[at] = 0,
+        Axis::Col => pool.cols[at] = 0,
+    }
 }
 
 /// Whether a sample is kept of a cell along an axis and shows another share than this one.

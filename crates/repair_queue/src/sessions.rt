@@ -9,10 +9,10 @@
 //!
 //! What is kept: of each cell on no decided row or column one sample, and a second only where
 //! another share was proved along the other axis. Those two may differ for a while: nothing follows
-//! from that until one of the axes is decided. Of each other cell its share is kept, with the
-//! digest of its leaf, so that each leaf is hashed once for its row and its column. No sample is
-//! made on the way: those of a decided axis that a fraud proof or a collision needs are made from
-//! its tree, once.
+//! from that until one of the axes is decided. Then its samples are dropped, and others come to
+//! their places. Of each other cell its share is kept, with the digest of its leaf, so that each
+//! leaf is hashed once for its row and its column. No sample is made on the way: those of a decided
+//! axis that a fraud proof or a collision needs are made from its tree, once.
 //!
 //! `Session::new` takes all memory, also that of the answer.
 

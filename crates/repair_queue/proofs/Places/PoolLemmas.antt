@@ -1,14 +1,11 @@
 -- Places of samples: what is read at a cell, and a sample more.
-use Rattle.std.proofs.Common.{◌≡◌, ◌≢◌, ◌∙◌, ℕ, ◌+◌, ◌*◌, ◌<◌, List, [], ◌∷◌, ◌++◌, length, get_or, set, cond, Bool, true, false, refl, sym, ap, subst, inl, inr, arith}
-use Rattle.std.specs.Prelude.{Option, Some, None}
-use Rattle.std.proofs.lemmas.Bool.{cases_Bool, cases_eq}
-use Rattle.std.proofs.lemmas.List.{get_or-set_same, get_or-set_other, get_or_read_under, get_or_append_left, length-append}
-use Rattle.std.proofs.Math.Seq.{get_or-append_seam}
+use Rattle.std.proofs.Common.{◌≡◌, ◌≢◌, ◌∙◌, ℕ, ◌+◌, ◌*◌, ◌<◌, List, length, get_or, set, cond, Bool, true, false, refl, sym, ap, subst, inl, inr, arith}
+use Rattle.std.proofs.lemmas.Bool.{cases_Bool}
+use Rattle.std.proofs.lemmas.List.{get_or-set_same, get_or-set_other, get_or_read_under}
 use Rattle.namespace_id.specs.declared.cells.Cell.{Cell}
 use Rattle.namespace_id.specs.declared.cells.Axis.{Axis}
 use Rattle.namespace_id.specs.declared.cells.Axis.TheVariants.{Row, Col}
 use Rattle.namespace_id.specs.Cells.{is_in_square}
-use Rattle.axis_roots.specs.declared.message.proved.Proved.{Proved}
 use Rattle.axis_roots.proofs.Grids.NumberLemmas.{inside, cell_of, cell_of-number}
 use Rattle.repair_queue.specs.Pools.{place_in, places_in}
 use Rattle.repair_queue.proofs.Places.SlotLemmas.{slot_number-lt}
@@ -90,38 +87,3 @@ col_placed k rows cols axis cell at n within number long is =
       place_set k cols cell at n within long number,
       elim [ Row ↦ λ d apart. refl | Col ↦ λ d apart. place_other k cols cell d at n within number (λ e. apart (refl, e)) ],
     )
-
--- ---- a sample more
-
-module _ (given : List (Option Proved)) (kept : Proved) where
-  -- those before stay where they are
-  pub given_before : (i : ℕ) → i < length given → get_or (given ++ Some kept ∷ []) i None ≡ get_or given i None
-  given_before i below = get_or_append_left given (Some kept ∷ []) None i below
-
-  -- places that led to what is there still do
-  pub more-lt : (i : ℕ) → i < length given → i < length (given ++ Some kept ∷ [])
-  more-lt i below = omega (arith, length-append given (Some kept ∷ []))
-
-  -- a list of places in which one leads to it
-  pub set-lt : (places : List ℕ) (at : ℕ) → at < length places → ((i : ℕ) → get_or places i 0 < length given)
-      → (i : ℕ) → get_or (set places at (length given)) i 0 < length (given ++ Some kept ∷ [])
-  set-lt places at long each i = elim (cases_eq i at) [
-    | inl e ↦
-        let here : get_or (set places at (length given)) i 0 ≡ length given =
-        ap (λ (j : ℕ). get_or (set places at (length given)) j 0) e ∙ get_or-set_same places at (length given) 0 long in
-        omega (arith, here, length-append given (Some kept ∷ []))
-    | inr apart ↦
-        let there : get_or (set places at (length given)) i 0 ≡ get_or places i 0 = get_or-set_other places at i (length given) 0 apart in
-        omega (arith, there, each i, length-append given (Some kept ∷ []))
-  ]
-
-  -- what is kept of which cell then
-  pub placed_put : (old new : Axis → Cell → ℕ) (axis : Axis) (cell : Cell) → Placed old new axis cell (length given)
-      → ((other : Axis) (d : Cell) → old other d < length given)
-      → (get_or (given ++ Some kept ∷ []) (new axis cell) None ≡ Some kept)
-      × ((other : Axis) (d : Cell) → ((other ≡ axis) × (d ≡ cell) → ⊥)
-      → get_or (given ++ Some kept ∷ []) (new other d) None ≡ get_or given (old other d) None)
-  placed_put old new axis cell placed each = (
-    ap (λ (j : ℕ). get_or (given ++ Some kept ∷ []) j None) placed.0 ∙ get_or-append_seam given (Some kept) [] None,
-    λ other d apart. ap (λ (j : ℕ). get_or (given ++ Some kept ∷ []) j None) (placed.1 other d apart) ∙ given_before (old other d) (each other d),
-  )

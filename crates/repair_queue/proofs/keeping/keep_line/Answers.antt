@@ -1,81 +1,33 @@
-use Rattle.std.proofs.Common.{◌≡◌, ◌∙◌, ℕ, ◌*◌, length, sym, ap}
-use Rattle.std.specs.Vec.{with_items}
-use Rattle.namespace_id.proofs.StringLemmas.{front}
-use Rattle.data_header.specs.Headers.{Roots}
-use Rattle.nmt_tree.proofs.SpanLemmas.{length-leaf_digests}
-use Rattle.axis_roots.specs.Lines.{line_names}
-use Rattle.axis_roots.specs.Trees.{line_leaves}
-use Rattle.axis_roots.proofs.Grids.LineLemmas.{length-line_names}
-use Rattle.repair_queue.proofs.Lines.KeepLineLemmas.{IsLineKeptOn, kept_good, kept_stands, written_as}
+use Rattle.std.proofs.Common.{◌∙◌, ℕ, ◌*◌, sym, subst}
+use Rattle.repair_queue.specs.declared.pools.Pool.{Pool}
+use Rattle.repair_queue.specs.Pools.{slot_in}
+use Rattle.repair_queue.specs.Keeping.{IsClearedTo}
+use Rattle.repair_queue.specs.Boards.{given_of, decided_of, share_of}
+use Rattle.repair_queue.proofs.Feeding.JudgeLemmas.{at_home}
+use Rattle.repair_queue.proofs.Lines.ClearLemmas.{cleared_good, cleared_stands}
 use Rattle.repair_queue.proofs.keeping.keep_line.Goals as goal
 
--- there are as many digests as shares
-pub write_leaves-requires-clause-digests : goal.write_leaves-requires-clause-digests
-write_leaves-requires-clause-digests c =
-    let same : c.header.inside.k ≡ c.args.header.now.k = ap (λ (x : Roots). x.k) c.header.view_is in
-    let names = length-line_names c.args.header.now.k c.args.axis c.args.index c.args.line.now in
-    ap length c.requires.digests
-    ∙ length-leaf_digests (line_names c.args.header.now.k c.args.axis c.args.index c.args.line.now) c.args.line.now (names ∙ sym c.requires.line.codeword.count)
-    ∙ names ∙ ap (λ (k : ℕ). 2 * k) (sym same)
+-- samples are at home
+pub clear_line-requires-clause-home : goal.clear_line-requires-clause-home
+clear_line-requires-clause-home c =
+    at_home c.args.header.now (given_of c.keep_shares.new.board) (decided_of c.keep_shares.new.board) (share_of c.keep_shares.new.board) c.keep_shares.ensures.good.sound
 
 -- the board is good
 pub returns-clause-good : goal.returns-clause-good
 returns-clause-good c =
-    let same : c.header.inside.k ≡ c.args.header.now.k = ap (λ (x : Roots). x.k) c.header.view_is in
-    let long : length c.write_leaves.new.leaves ≡ c.args.board.now.leaves.len =
-    c.write_leaves.ensures.count ∙ ap length c.deref_mut.ensures.value ∙ sym c.args.board.now.leaves.ok.0 in
-    let items : c.write_leaves.new.leaves ≡ (with_items c.args.board.now.leaves c.write_leaves.new.leaves).items = sym (front c.write_leaves.new.leaves _ c.args.board.now.leaves.len long) in
-    let x : IsLineKeptOn c.args.header.now c.args.board.now c.args.axis c.args.index c.args.line.now c.count_line.new.counts c.write_line.new.grid
-    (with_items c.args.board.now.leaves c.write_leaves.new.leaves) c.set_mark.new.marks = record {
-      good = c.requires.good;
-      within = c.requires.index;
-      off = c.requires.off;
-      fits = c.requires.line;
-      alike = c.requires.alike;
-      counts_are = c.count_line.ensures.counts;
-      counts_width = c.count_line.ensures.width;
-      counted = c.count_line.ensures.counted;
-      grid_width = c.write_line.ensures.k;
-      written = c.write_line.ensures.line;
-      others = c.write_line.ensures.others;
-      digests = written_as c.header.inside.k c.args.header.now.k c.deref_mut.result.now c.args.board.now.leaves.items c.write_leaves.new.leaves
-          (with_items c.args.board.now.leaves c.write_leaves.new.leaves).items c.args.axis c.args.index c.args.digests.now
-          (line_leaves c.args.header.now.k c.args.axis c.args.index c.args.line.now) same c.deref_mut.ensures.value items c.requires.digests c.write_leaves.ensures.written;
-      digest_count = ap length (sym items) ∙ c.write_leaves.ensures.count ∙ ap length c.deref_mut.ensures.value;
-      marks_are = c.set_mark.ensures.marks;
-      marks_width = c.set_mark.ensures.width;
-      flagged = c.set_mark.ensures.flagged;
-    } in
-    kept_good c.args.header.now c.args.board.now c.args.axis c.args.index c.args.line.now c.count_line.new.counts c.write_line.new.grid
-    (with_items c.args.board.now.leaves c.write_leaves.new.leaves) c.set_mark.new.marks x
+    cleared_good c.args.header.now c.keep_shares.new.board c.keep_shares.ensures.good c.args.axis c.args.index (2 * c.keep_shares.new.board.pool.k) c.keep_shares.ensures.flagged.here
+    c.clear_line.new.pool c.clear_line.ensures.cleared c.clear_line.ensures.pool c.clear_line.ensures.width
 
 -- and stands for the same samples
 pub returns-clause-stands : goal.returns-clause-stands
-returns-clause-stands c =
-    let same : c.header.inside.k ≡ c.args.header.now.k = ap (λ (x : Roots). x.k) c.header.view_is in
-    let long : length c.write_leaves.new.leaves ≡ c.args.board.now.leaves.len =
-    c.write_leaves.ensures.count ∙ ap length c.deref_mut.ensures.value ∙ sym c.args.board.now.leaves.ok.0 in
-    let items : c.write_leaves.new.leaves ≡ (with_items c.args.board.now.leaves c.write_leaves.new.leaves).items = sym (front c.write_leaves.new.leaves _ c.args.board.now.leaves.len long) in
-    let x : IsLineKeptOn c.args.header.now c.args.board.now c.args.axis c.args.index c.args.line.now c.count_line.new.counts c.write_line.new.grid
-    (with_items c.args.board.now.leaves c.write_leaves.new.leaves) c.set_mark.new.marks = record {
-      good = c.requires.good;
-      within = c.requires.index;
-      off = c.requires.off;
-      fits = c.requires.line;
-      alike = c.requires.alike;
-      counts_are = c.count_line.ensures.counts;
-      counts_width = c.count_line.ensures.width;
-      counted = c.count_line.ensures.counted;
-      grid_width = c.write_line.ensures.k;
-      written = c.write_line.ensures.line;
-      others = c.write_line.ensures.others;
-      digests = written_as c.header.inside.k c.args.header.now.k c.deref_mut.result.now c.args.board.now.leaves.items c.write_leaves.new.leaves
-          (with_items c.args.board.now.leaves c.write_leaves.new.leaves).items c.args.axis c.args.index c.args.digests.now
-          (line_leaves c.args.header.now.k c.args.axis c.args.index c.args.line.now) same c.deref_mut.ensures.value items c.requires.digests c.write_leaves.ensures.written;
-      digest_count = ap length (sym items) ∙ c.write_leaves.ensures.count ∙ ap length c.deref_mut.ensures.value;
-      marks_are = c.set_mark.ensures.marks;
-      marks_width = c.set_mark.ensures.width;
-      flagged = c.set_mark.ensures.flagged;
-    } in
-    kept_stands c.args.header.now c.args.board.now c.args.axis c.args.index c.args.line.now c.count_line.new.counts c.write_line.new.grid
-    (with_items c.args.board.now.leaves c.write_leaves.new.leaves) c.set_mark.new.marks x
+returns-clause-stands c = λ ms facts stand.
+    cleared_stands c.args.header.now c.keep_shares.new.board c.keep_shares.ensures.good c.args.axis c.args.index (2 * c.keep_shares.new.board.pool.k)
+    c.keep_shares.ensures.flagged.here c.clear_line.new.pool c.clear_line.ensures.cleared ms (c.keep_shares.ensures.stands ms facts stand)
+
+-- the samples of its cells are out, and no others
+pub returns-clause-cleared : goal.returns-clause-cleared
+returns-clause-cleared c =
+    let good = c.keep_shares.ensures.good in
+    subst (λ (p : Pool). IsClearedTo (slot_in p) (slot_in c.clear_line.new.pool) c.args.axis c.args.index (2 * c.args.header.now.k)) c.keep_shares.ensures.pool
+    (subst (λ (k : ℕ). IsClearedTo (slot_in c.keep_shares.new.board.pool) (slot_in c.clear_line.new.pool) c.args.axis c.args.index (2 * k))
+    (good.parts.pool_width ∙ sym good.width) c.clear_line.ensures.cleared)
