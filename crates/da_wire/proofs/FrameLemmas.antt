@@ -27,7 +27,7 @@ use Rattle.da_wire.specs.Reading.{Raw, raw_of, is_kind, value_at, valued, value_
 use Rattle.da_wire.specs.Frames.{ok_of}
 use Rattle.da_wire.specs.Writing.{kind_of, AppendsSpelling, IsReadBack, appended}
 use Rattle.da_wire.specs.Laws.{SpelledIsRead, ReadIsSpelled, OneSpelling, IsSpelledFront}
-use Rattle.frame_payloads.proofs.codec.Readers.{if_false}
+use Rattle.frame_payloads.proofs.Fields.Readers.{if_false}
 use Rattle.da_wire.proofs.RawLemmas.{length-frame, raw_again, raw_takes}
 use Rattle.da_wire.proofs.kinds.Form.{IsWritten}
 use Rattle.da_wire.proofs.kinds.Forms.{value_takes, value_again}

@@ -11,7 +11,7 @@ use Rattle.frame_payloads.specs.Payloads.{max_payload}
 use Rattle.da_wire.specs.Reading.{Raw, promised, raw_of}
 use Rattle.da_wire.specs.Frames.{ok_of, raw_in, frames_of, bad_frame, IsRaw}
 use Rattle.da_wire.specs.Laws.{FramesAreTheFile, FilesAreFrames, BadFrameIsFirst, RawIsFrame}
-use Rattle.frame_payloads.proofs.codec.Readers.{map_some}
+use Rattle.frame_payloads.proofs.Fields.Readers.{map_some}
 use Rattle.da_wire.proofs.RawLemmas.{length-frame, raw_again, raw_takes, ok_some}
 use Rattle.da_wire.proofs.ListedLemmas.{IsFront, IsReader, walk_again, stop_none, walked, walked_all, walked_some}
 

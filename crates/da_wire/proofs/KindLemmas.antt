@@ -12,7 +12,7 @@ use Rattle.frame_payloads.specs.Payloads.{max_payload}
 use Rattle.da_wire.specs.Reading.{Raw, promised, raw_of, is_kind, kind_at, value_of_kind, value_at, is_among, tested_raw, tested_frame}
 use Rattle.da_wire.specs.Writing.{kind_of}
 use Rattle.da_wire.specs.Values.{value_in}
-use Rattle.frame_payloads.proofs.codec.Readers.{bind_some, map_some}
+use Rattle.frame_payloads.proofs.Fields.Readers.{bind_some, map_some}
 use Rattle.da_wire.proofs.RawLemmas.{tests_failed, frame_at, ok_some}
 use Rattle.da_wire.proofs.FrameLemmas.{tests_held, raw_some}
 use Rattle.da_wire.proofs.kinds.Forms.{kind_takes}

@@ -1,5 +1,5 @@
 -- A frame that is read is what the bytes at the front spell, and a frame that was written is read.
-use Rattle.std.proofs.Common.{◌≡◌, ◌∙◌, ℕ, zero, suc, ◌+◌, ◌<◌, ◌≤◌, Bool, true, false, ltb, cond, List, [], ◌∷◌, ◌++◌, length, take, drop, Option, Some, Result, Ok, Err, refl, sym, ap, ap₂, subst, arith, length-take-le, ltb-false, le-ltb, lt-ltb, get_or}
+use Rattle.std.proofs.Common.{◌≡◌, ◌∙◌, ℕ, zero, suc, ◌+◌, ◌<◌, ◌≤◌, Bool, true, false, ltb, cond, List, [], ◌∷◌, ◌++◌, length, take, drop, Some, Result, Ok, Err, refl, sym, ap, ap₂, subst, arith, length-take-le, ltb-false, le-ltb, lt-ltb, get_or}
 use Rattle.std.specs.Int.{w32, to_be_bytes, from_be_bytes}
 use Rattle.std.proofs.lemmas.List.{take_at, take-append-drop, length-append, length-drop, take-take, take-append-le, drop-append-le}
 use Rattle.std.proofs.lemmas.Option.{same_Some}
@@ -11,8 +11,8 @@ use Rattle.da_wire.specs.Spelling.{frame}
 use Rattle.frame_payloads.specs.Payloads.{max_payload}
 use Rattle.da_wire.specs.Reading.{Raw, promised, raw_of}
 use Rattle.da_wire.specs.Frames.{ok_of, IsRaw}
-use Rattle.frame_payloads.proofs.codec.Numbers.{wide32}
-use Rattle.frame_payloads.proofs.codec.Strings.{AreBytes-rest}
+use Rattle.frame_payloads.proofs.Fields.Numbers.{wide32}
+use Rattle.frame_payloads.proofs.Fields.Strings.{AreBytes-rest}
 
 -- what a reader gave that did not refuse
 pub ok_some : {A E : Type 0} (r : Result A E) (x : A) → ok_of r ≡ Some x → r ≡ Ok x

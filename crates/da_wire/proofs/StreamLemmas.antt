@@ -12,7 +12,7 @@ use Rattle.da_wire.specs.Frames.{ok_of, raw_in, frames_of, bad_frame}
 use Rattle.da_wire.specs.Walks.{stop_from}
 use Rattle.da_wire.specs.StreamParts.{StreamParts, front_size, under_way, is_long, IsUnfinished, Keeps}
 use Rattle.da_wire.specs.Streams.{StandsFor, err_of, refusal_at, first_refusal}
-use Rattle.frame_payloads.proofs.codec.Readers.{map_some}
+use Rattle.frame_payloads.proofs.Fields.Readers.{map_some}
 use Rattle.da_wire.proofs.WalkLemmas.{walk_on, walk_stop, stop_on, stop_here, stop_end}
 use Rattle.da_wire.proofs.RawLemmas.{promised-take, raw_short, raw_long, raw_cut, raw_whole, frame_at, raw_of-append, ok_some}
 use Rattle.da_wire.proofs.FrameListLemmas.{sized_raw, raw_found, raw_missed}

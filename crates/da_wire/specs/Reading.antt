@@ -1,6 +1,6 @@
 -- What is read of the front of bytes: the kind, the frame, its value, or the first refusal
 -- (docs/FORMATS.md).
-use Rattle.std.specs.Prelude.{ℕ, List, length, take, drop, nat_lt, Option, Some, None, if◌then◌else◌, ◌≡◌, ◌⊎◌, ◌+◌, slice_index, ◌==◌, ◌&&◌, Bool, true, false, IsSome, Result, Ok, Err, IsOk}
+use Rattle.std.specs.Prelude.{ℕ, List, length, take, drop, nat_lt, Option, Some, None, if◌then◌else◌, ◌≡◌, ◌⊎◌, ◌+◌, slice_index, ◌==◌, ◌&&◌, Bool, true, false, Result, Ok, Err, IsOk}
 use Rattle.std.specs.Option.{option_map, option_map_or}
 use Rattle.std.specs.Int.{w32, from_be_bytes}
 use Rattle.std.specs.List.{list_any}

@@ -1,10 +1,9 @@
 -- The two parts of a spelling: a value's kind and its payload.
-use Rattle.std.specs.Prelude.{◌≡◌, ◌≤◌, ◌<◌, ◌^◌, ℕ, List, ◌++◌, length, drop, Ok, Option, Some, None, MatchOption}
+use Rattle.std.specs.Prelude.{◌≡◌, ℕ, List, ◌++◌, length, drop, Ok, Option, Some, None, MatchOption}
 use Rattle.da_wire.specs.declared.frames.Frame.{Frame}
 use Rattle.da_wire.specs.declared.frames.Frame.TheVariants.{Header, Square, Message, Names, Fraud, Missing, Clash, Sample, Request, Block, Commit, Rooted}
 use Rattle.da_wire.specs.Reading.{frame_of}
 use Rattle.da_wire.specs.Spelling.{frame, spelling, header_kind, square_kind, message_kind, names_kind, fraud_kind, missing_kind, clash_kind, sample_kind, request_kind, block_kind, commit_kind, rooted_kind}
-use Rattle.frame_payloads.specs.Payloads.{max_payload}
 use Rattle.frame_payloads.specs.kinds.Header.{header_payload}
 use Rattle.frame_payloads.specs.kinds.Square.{square_payload}
 use Rattle.frame_payloads.specs.kinds.Message.{message_payload}

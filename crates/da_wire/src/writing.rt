@@ -41,7 +41,6 @@ fn kind_of(frame: &Frame) -> Kind
 }
 
 /// The length of the payload of a value that has a spelling.
-#[tactic(auto, using(crate::proofs::kinds::Form::size_spelled))]
 fn payload_size(frame: &Frame) -> Option<u32>
     ensures { HasSize frame.now result }
 {

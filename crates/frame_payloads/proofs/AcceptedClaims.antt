@@ -14,8 +14,8 @@ use Rattle.axis_roots.specs.Claims.{ClaimParts, is_on, is_set_cell, claimed_root
 use Rattle.axis_roots.proofs.Messages.ClaimLemmas.{Shape, shape_of}
 use Rattle.axis_roots.proofs.Messages.SetLemmas.{accepted_few}
 use Rattle.frame_payloads.specs.kinds.Fraud.{most_cells, is_placed, fits_form, is_unwritten}
-use Rattle.frame_payloads.proofs.kinds.CellParts.{is_path}
-use Rattle.frame_payloads.proofs.kinds.FraudForm.{written_from, fits_from}
+use Rattle.frame_payloads.proofs.Forms.CellParts.{is_path}
+use Rattle.frame_payloads.proofs.Forms.FraudForm.{written_from, fits_from}
 
 -- ---- the cells
 

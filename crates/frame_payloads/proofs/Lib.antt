@@ -1,2 +1,4 @@
+pub mod Fields
+pub mod Forms
 pub mod MessageLengths
 pub mod AcceptedClaims

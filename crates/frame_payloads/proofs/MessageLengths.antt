@@ -5,9 +5,9 @@ use Rattle.axis_roots.specs.declared.message.messages.Message.{Message}
 use Rattle.axis_roots.specs.Messages.{IsMessage}
 use Rattle.frame_fields.specs.Messages.{message_at}
 use Rattle.frame_payloads.specs.kinds.Message.{message_payload, most_message}
-use Rattle.frame_payloads.proofs.kinds.PayloadSizes.{length-message}
-use Rattle.frame_payloads.proofs.kinds.MessageForm.{message_takes}
-pub use Rattle.frame_payloads.proofs.codec.Digests.{length-digest_bytes}
+use Rattle.frame_payloads.proofs.Forms.PayloadSizes.{length-message}
+use Rattle.frame_payloads.proofs.Forms.MessageForm.{message_takes}
+pub use Rattle.frame_payloads.proofs.Fields.Digests.{length-digest_bytes}
 
 -- a sample of as many nodes as a path has at most has the longest payload
 pub length-message_payload : (m : Message) → IsMessage m → length (message_payload m) ≤ most_message

@@ -5,8 +5,8 @@ use Rattle.std.proofs.lemmas.Option.{same_Some}
 use Rattle.namespace_id.specs.Bytes.{AreBytes}
 use Rattle.frame_fields.specs.Fields.{◌>>=◌}
 use Rattle.frame_payloads.specs.Payloads.{max_payload, written, IsSize}
-use Rattle.frame_payloads.proofs.codec.Readers.{map_some, if_false}
-use Rattle.frame_payloads.proofs.kinds.Form.{IsForm}
+use Rattle.frame_payloads.proofs.Fields.Readers.{map_some, if_false}
+use Rattle.frame_payloads.proofs.Forms.Form.{IsForm}
 use Rattle.da_wire.specs.declared.frames.Frame.{Frame}
 use Rattle.da_wire.specs.declared.kinds.Kind.{Kind}
 use Rattle.da_wire.specs.Spelling.{kind_byte, frame, spelled, spelling, IsFrame}
@@ -34,10 +34,15 @@ unwritten_unspelled kind unwritten payload e = by unwritten (ltb max_payload (le
     by false false e = absurd cc
 
 -- the length of the payload that is written is that of the value's spelling
-pub size_spelled : (value : Frame) (unwritten : Bool) (size : Option ℕ) → spelling value ≡ cond unwritten None (spelled (kind_of value) (payload_of value))
+value_sized : (value : Frame) (unwritten : Bool) (size : Option ℕ) → spelling value ≡ cond unwritten None (spelled (kind_of value) (payload_of value))
     → IsSize unwritten (payload_of value) size → HasSize value size
-size_spelled value unwritten None same is = same ∙ unwritten_unspelled (kind_of value) unwritten (payload_of value) is
-size_spelled value unwritten (Some n) same is = (is.0, same ∙ written_spelled (kind_of value) unwritten (payload_of value) is.1)
+value_sized value unwritten None same is = same ∙ unwritten_unspelled (kind_of value) unwritten (payload_of value) is
+value_sized value unwritten (Some n) same is = (is.0, same ∙ written_spelled (kind_of value) unwritten (payload_of value) is.1)
+
+-- and of a value that is this one
+pub size_spelled : (size : Option ℕ) (frame value : Frame) (unwritten : Bool) → frame ≡ value → spelling value ≡ cond unwritten None (spelled (kind_of value) (payload_of value))
+    → IsSize unwritten (payload_of value) size → HasSize frame size
+size_spelled size frame value unwritten is same told = subst (λ (f : Frame). HasSize f size) (sym is) (value_sized value unwritten size same told)
 
 -- ---- kinds
 

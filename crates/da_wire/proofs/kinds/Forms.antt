@@ -12,19 +12,19 @@ use Rattle.da_wire.specs.declared.kinds.Kind.{Kind}
 use Rattle.da_wire.specs.declared.kinds.Kind.TheVariants as kinds
 use Rattle.da_wire.specs.Spelling.{kind_byte, spelled, spelling, IsFrame}
 use Rattle.da_wire.specs.Reading.{kind_at, value_of_kind, value_at}
-use Rattle.frame_payloads.proofs.codec.Readers.{bind_some}
+use Rattle.frame_payloads.proofs.Fields.Readers.{bind_some}
 use Rattle.da_wire.proofs.kinds.Form.{Spells, IsWritten, form_takes, form_written}
-use Rattle.frame_payloads.proofs.kinds.HeaderForm.{header_form}
-use Rattle.frame_payloads.proofs.kinds.SquareForm.{square_form}
-use Rattle.frame_payloads.proofs.kinds.MessageForm.{message_form}
-use Rattle.frame_payloads.proofs.kinds.NamesForm.{names_form}
-use Rattle.frame_payloads.proofs.kinds.FraudForm.{fraud_form}
-use Rattle.frame_payloads.proofs.kinds.MissingForm.{missing_form}
-use Rattle.frame_payloads.proofs.kinds.ClashForm.{clash_form}
-use Rattle.frame_payloads.proofs.kinds.RequestForms.{sample_form, request_form}
-use Rattle.frame_payloads.proofs.kinds.BlockForm.{block_form}
-use Rattle.frame_payloads.proofs.kinds.CommitForm.{commit_form}
-use Rattle.frame_payloads.proofs.kinds.RootedForm.{rooted_form}
+use Rattle.frame_payloads.proofs.Forms.HeaderForm.{header_form}
+use Rattle.frame_payloads.proofs.Forms.SquareForm.{square_form}
+use Rattle.frame_payloads.proofs.Forms.MessageForm.{message_form}
+use Rattle.frame_payloads.proofs.Forms.NamesForm.{names_form}
+use Rattle.frame_payloads.proofs.Forms.FraudForm.{fraud_form}
+use Rattle.frame_payloads.proofs.Forms.MissingForm.{missing_form}
+use Rattle.frame_payloads.proofs.Forms.ClashForm.{clash_form}
+use Rattle.frame_payloads.proofs.Forms.RequestForms.{sample_form, request_form}
+use Rattle.frame_payloads.proofs.Forms.BlockForm.{block_form}
+use Rattle.frame_payloads.proofs.Forms.CommitForm.{commit_form}
+use Rattle.frame_payloads.proofs.Forms.RootedForm.{rooted_form}
 
 -- ---- the byte of a kind
 

@@ -32,12 +32,12 @@ use Rattle.frame_payloads.specs.kinds.Clash.{AreStrings, has_empty, clash_payloa
 use Rattle.frame_payloads.specs.kinds.Requests.{sample_payload, request_payload}
 use Rattle.frame_payloads.specs.kinds.Commit.{IsCommitSent, is_long_commit, commit_payload}
 use Rattle.frame_payloads.specs.kinds.Rooted.{IsRootedSent, rooted_payload}
-use Rattle.frame_payloads.proofs.codec.Lengths.{written_within}
-use Rattle.frame_payloads.proofs.kinds.NamesSizes.{names_few}
-use Rattle.frame_payloads.proofs.kinds.FraudSizes.{fraud_few}
-use Rattle.frame_payloads.proofs.kinds.CommitSizes.{commit_few, rooted_sized}
-use Rattle.frame_payloads.proofs.kinds.PayloadSizes.{header_sized, square_sized, message_sized, missing_sized, request_sized}
-use Rattle.frame_payloads.proofs.kinds.CellCounts.{cells_few}
+use Rattle.frame_payloads.proofs.Fields.Lengths.{written_within}
+use Rattle.frame_payloads.proofs.Forms.NamesSizes.{names_few}
+use Rattle.frame_payloads.proofs.Forms.FraudSizes.{fraud_few}
+use Rattle.frame_payloads.proofs.Forms.CommitSizes.{commit_few, rooted_sized}
+use Rattle.frame_payloads.proofs.Forms.PayloadSizes.{header_sized, square_sized, message_sized, missing_sized, request_sized}
+use Rattle.frame_payloads.proofs.Forms.CellCounts.{cells_few}
 use Rattle.da_wire.proofs.kinds.Form.{written_spelled}
 
 -- a payload that is written is that of some spelling

@@ -1,7 +1,7 @@
 use Rattle.std.proofs.Common.{arith}
 use Rattle.da_wire.proofs.ValueListLemmas.{values_are_the_file, files_are_values, bad_value_is_first}
 use Rattle.da_wire.proofs.kinds.Spelled.{clash_spelled}
-use Rattle.frame_payloads.proofs.kinds.CellCounts.{cells_few}
+use Rattle.frame_payloads.proofs.Forms.CellCounts.{cells_few}
 use Rattle.da_wire.proofs.laws.value_laws.Goals as goal
 
 pub returns-clause-values : goal.returns-clause-values

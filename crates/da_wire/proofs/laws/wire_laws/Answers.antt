@@ -1,11 +1,11 @@
-use Rattle.frame_payloads.proofs.kinds.MessageForm.{message_again, message_takes}
+use Rattle.frame_payloads.proofs.Forms.MessageForm.{message_again, message_takes}
 use Rattle.da_wire.proofs.FrameLemmas.{spelled_is_read, read_is_spelled, one_spelling}
 use Rattle.da_wire.proofs.OnlyLemmas.{only_is_spelled, spelled_only}
 use Rattle.da_wire.proofs.FrameListLemmas.{raw_is_frame, frames_are_the_file, files_are_frames, bad_frame_is_first}
 use Rattle.da_wire.proofs.kinds.Spelled.{header_spelled, square_spelled, message_spelled, names_spelled, fraud_spelled, missing_spelled, sample_spelled, request_spelled, commit_spelled, rooted_spelled}
 use Rattle.frame_payloads.proofs.AcceptedClaims.{accepted_written}
-use Rattle.frame_payloads.proofs.kinds.CellCounts.{cells_counted}
-use Rattle.frame_payloads.proofs.kinds.CommitSizes.{commit_short}
+use Rattle.frame_payloads.proofs.Forms.CellCounts.{cells_counted}
+use Rattle.frame_payloads.proofs.Forms.CommitSizes.{commit_short}
 use Rattle.da_wire.proofs.laws.wire_laws.Goals as goal
 
 pub returns-clause-read : goal.returns-clause-read

@@ -1,6 +1,6 @@
 use Rattle.std.proofs.Common.{ℕ, List, []}
 use Rattle.std.proofs.lemmas.List.{get_or_default}
-use Rattle.frame_payloads.proofs.codec.PutLoops.{put_room, put_more, put_end}
+use Rattle.frame_payloads.proofs.Fields.PutLoops.{put_room, put_more, put_end}
 use Rattle.frame_payloads.proofs.codec.appending.put_hashes.Goals as goal
 
 -- it has no more bytes than are left

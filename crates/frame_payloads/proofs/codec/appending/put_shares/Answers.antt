@@ -1,7 +1,7 @@
 use Rattle.std.proofs.Common.{[]}
 use Rattle.std.proofs.lemmas.List.{get_or_default}
 use Rattle.namespace_id.specs.declared.shares.Share.{Share}
-use Rattle.frame_payloads.proofs.codec.PutLoops.{put_room, put_more, put_end}
+use Rattle.frame_payloads.proofs.Fields.PutLoops.{put_room, put_more, put_end}
 use Rattle.frame_payloads.proofs.codec.appending.put_shares.Goals as goal
 
 -- it has no more bytes than are left

@@ -1,5 +1,5 @@
 use Rattle.frame_payloads.specs.kinds.Block.{blob_at}
-use Rattle.frame_payloads.proofs.codec.Many.{passed_more, passed_none, passed_end}
+use Rattle.frame_payloads.proofs.Fields.Many.{passed_more, passed_none, passed_end}
 use Rattle.frame_payloads.proofs.kinds.block.after_blobs.Goals as goal
 
 pub returns-in_err-_blob : goal.returns-in_err-_blob

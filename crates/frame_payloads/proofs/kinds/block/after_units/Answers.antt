@@ -1,4 +1,4 @@
-use Rattle.frame_payloads.proofs.codec.Many.{passed_more, passed_none, passed_end}
+use Rattle.frame_payloads.proofs.Fields.Many.{passed_more, passed_none, passed_end}
 use Rattle.frame_payloads.specs.kinds.Block.{unit_at}
 use Rattle.frame_payloads.proofs.kinds.block.after_units.Goals as goal
 

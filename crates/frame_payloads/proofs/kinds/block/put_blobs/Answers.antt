@@ -1,8 +1,8 @@
 use Rattle.std.proofs.Common.{arith}
 use Rattle.frame_payloads.specs.kinds.Block.{blob_bytes}
-use Rattle.frame_payloads.proofs.codec.Lengths.{count_few, part_few}
-use Rattle.frame_payloads.proofs.codec.PutLoops.{put_room, put_more, put_end}
-use Rattle.frame_payloads.proofs.kinds.Blobs.{length-blob_bytes}
+use Rattle.frame_payloads.proofs.Fields.Lengths.{count_few, part_few}
+use Rattle.frame_payloads.proofs.Fields.PutLoops.{put_room, put_more, put_end}
+use Rattle.frame_payloads.proofs.Forms.Blobs.{length-blob_bytes}
 use Rattle.frame_payloads.proofs.kinds.block.put_blobs.Goals as goal
 
 -- each takes four bytes and more

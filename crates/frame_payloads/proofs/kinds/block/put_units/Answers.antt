@@ -1,6 +1,6 @@
 use Rattle.std.proofs.Common.{◌≡◌, ◌∙◌, ℕ, ◌+◌, List, ◌++◌, length, vec_len, ap, arith}
-use Rattle.frame_payloads.proofs.codec.Lengths.{count_few, part_few}
-use Rattle.frame_payloads.proofs.codec.PutLoops.{put_room, put_more, put_end}
+use Rattle.frame_payloads.proofs.Fields.Lengths.{count_few, part_few}
+use Rattle.frame_payloads.proofs.Fields.PutLoops.{put_room, put_more, put_end}
 use Rattle.frame_payloads.specs.kinds.Block.{unit_bytes}
 use Rattle.frame_payloads.proofs.kinds.block.put_units.Goals as goal
 

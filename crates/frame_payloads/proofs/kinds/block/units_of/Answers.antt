@@ -1,4 +1,4 @@
-use Rattle.frame_payloads.proofs.codec.Many.{gives_some, gives_value, kept_more, kept_end, next_some}
+use Rattle.frame_payloads.proofs.Fields.Many.{gives_some, gives_value, kept_more, kept_end, next_some}
 use Rattle.frame_payloads.specs.kinds.Block.{unit_at}
 use Rattle.frame_payloads.proofs.kinds.block.units_of.Goals as goal
 

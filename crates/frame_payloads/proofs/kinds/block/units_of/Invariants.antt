@@ -1,6 +1,6 @@
 use Rattle.std.proofs.Common.{◌≡◌, ◌-◌}
 use Rattle.frame_fields.specs.Fields.{many_at}
-use Rattle.frame_payloads.proofs.codec.Many.{after_some}
+use Rattle.frame_payloads.proofs.Fields.Many.{after_some}
 use Rattle.frame_payloads.specs.kinds.Block.{unit_at}
 use Rattle.frame_payloads.proofs.kinds.block.units_of.Given as goal
 

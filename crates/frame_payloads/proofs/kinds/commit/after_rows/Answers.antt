@@ -1,5 +1,5 @@
 use Rattle.frame_payloads.specs.kinds.Commit.{row_at}
-use Rattle.frame_payloads.proofs.codec.Many.{passed_more, passed_none, passed_end}
+use Rattle.frame_payloads.proofs.Fields.Many.{passed_more, passed_none, passed_end}
 use Rattle.frame_payloads.proofs.kinds.commit.after_rows.Goals as goal
 
 pub returns-in_err-_row : goal.returns-in_err-_row

@@ -1,9 +1,9 @@
 use Rattle.std.proofs.Common.{◌∙◌, sym, true, false}
 use Rattle.frame_payloads.specs.kinds.Commit.{rows_at}
-use Rattle.frame_payloads.proofs.codec.Readers.{bind_or}
-use Rattle.frame_payloads.proofs.codec.Many.{not_made}
-use Rattle.frame_payloads.proofs.codec.Headed.{ended}
-use Rattle.frame_payloads.proofs.kinds.CommitForm.{commit, from_rest}
+use Rattle.frame_payloads.proofs.Fields.Readers.{bind_or}
+use Rattle.frame_payloads.proofs.Fields.Many.{not_made}
+use Rattle.frame_payloads.proofs.Fields.Headed.{ended}
+use Rattle.frame_payloads.proofs.Forms.CommitForm.{commit, from_rest}
 use Rattle.frame_payloads.proofs.kinds.commit.commit_parts.Goals as goal
 
 pub returns-in_err-rest-clause-parts : goal.returns-in_err-rest-clause-parts

@@ -1,8 +1,8 @@
 use Rattle.std.proofs.Common.{◌∙◌}
 use Rattle.frame_payloads.specs.kinds.Commit.{rows_at}
-use Rattle.frame_payloads.proofs.codec.Readers.{bind_or}
-use Rattle.frame_payloads.proofs.codec.Headed.{ended}
-use Rattle.frame_payloads.proofs.kinds.CommitForm.{commit, front_is}
+use Rattle.frame_payloads.proofs.Fields.Readers.{bind_or}
+use Rattle.frame_payloads.proofs.Fields.Headed.{ended}
+use Rattle.frame_payloads.proofs.Forms.CommitForm.{commit, front_is}
 use Rattle.frame_payloads.proofs.kinds.commit.front.Goals as goal
 
 pub returns : goal.returns

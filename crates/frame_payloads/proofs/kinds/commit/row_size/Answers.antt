@@ -1,6 +1,6 @@
 use Rattle.std.proofs.Common.{◌∙◌, length, ap, arith}
 use Rattle.blob_commit.specs.Proofs.{RowParts}
-use Rattle.frame_payloads.proofs.kinds.CommitSizes.{length-row}
+use Rattle.frame_payloads.proofs.Forms.CommitSizes.{length-row}
 use Rattle.frame_payloads.proofs.kinds.commit.row_size.Goals as goal
 
 pub returns : goal.returns

@@ -1,5 +1,5 @@
 use Rattle.frame_fields.specs.Messages.{message_front}
-use Rattle.frame_payloads.proofs.codec.Many.{passed_more, passed_none, passed_end}
+use Rattle.frame_payloads.proofs.Fields.Many.{passed_more, passed_none, passed_end}
 use Rattle.frame_payloads.proofs.kinds.fraud.after_cells.Goals as goal
 
 pub returns-in_err-_message : goal.returns-in_err-_message

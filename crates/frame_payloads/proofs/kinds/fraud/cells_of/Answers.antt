@@ -1,5 +1,5 @@
 use Rattle.frame_fields.specs.Messages.{message_front}
-use Rattle.frame_payloads.proofs.codec.Many.{gives_some, gives_value, kept_more, kept_end, next_some}
+use Rattle.frame_payloads.proofs.Fields.Many.{gives_some, gives_value, kept_more, kept_end, next_some}
 use Rattle.frame_payloads.proofs.kinds.fraud.cells_of.Goals as goal
 
 pub unwrap-message-requires : goal.unwrap-message-requires

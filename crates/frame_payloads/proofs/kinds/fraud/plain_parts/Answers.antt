@@ -1,7 +1,7 @@
 use Rattle.std.proofs.Common.{◌∙◌, sym, true, false}
 use Rattle.frame_payloads.specs.kinds.Fraud.{accused_at, claim_cells_at}
-use Rattle.frame_payloads.proofs.codec.Headed.{no_head, no_list, from_rest}
-use Rattle.frame_payloads.proofs.kinds.PlainForm.{claim, plain_is}
+use Rattle.frame_payloads.proofs.Fields.Headed.{no_head, no_list, from_rest}
+use Rattle.frame_payloads.proofs.Forms.PlainForm.{claim, plain_is}
 use Rattle.frame_payloads.proofs.kinds.fraud.plain_parts.Goals as goal
 
 pub returns-in_err-axis-clause-parts : goal.returns-in_err-axis-clause-parts

@@ -5,7 +5,7 @@ use Rattle.axis_roots.specs.Claims.{ProofParts}
 use Rattle.axis_roots.specs.Proved.{kept_message}
 use Rattle.frame_payloads.specs.kinds.Message.{message_payload}
 use Rattle.frame_payloads.specs.Payloads.{IsWithin}
-use Rattle.frame_payloads.proofs.kinds.FraudSizes.{plain_told, plain_sized}
+use Rattle.frame_payloads.proofs.Forms.FraudSizes.{plain_told, plain_sized}
 use Rattle.frame_payloads.proofs.kinds.fraud.proof_size.Goals as goal
 
 pub unwrap-requires : goal.unwrap-requires

@@ -4,7 +4,7 @@ use Rattle.std.proofs.lemmas.List.Folds.{flat_map-map}
 use Rattle.axis_roots.specs.declared.message.proved.Proved.{Proved}
 use Rattle.axis_roots.specs.Proved.{kept_message}
 use Rattle.frame_payloads.specs.kinds.Message.{message_payload}
-use Rattle.frame_payloads.proofs.codec.PutLoops.{IsPutting, put_room, put_more, put_end}
+use Rattle.frame_payloads.proofs.Fields.PutLoops.{IsPutting, put_room, put_more, put_end}
 use Rattle.frame_payloads.proofs.kinds.fraud.put_proved.Goals as goal
 
 -- a certificate is written as the sample that it keeps

@@ -2,7 +2,7 @@ use Rattle.std.proofs.Common.{◌≡◌, ◌∙◌, ◌+◌, ◌-◌, Bool, ◌|
 use Rattle.axis_roots.specs.Sets.{is_along}
 use Rattle.frame_fields.specs.Fields.{many_at}
 use Rattle.frame_payloads.specs.kinds.Fraud.{set_cell_at, passed}
-use Rattle.frame_payloads.proofs.codec.Told.{told, told_more, told_none, told_end}
+use Rattle.frame_payloads.proofs.Fields.Told.{told, told_more, told_none, told_end}
 use Rattle.frame_payloads.proofs.kinds.fraud_set.after_cells.Goals.{then-shown, else-shown}
 use Rattle.frame_payloads.proofs.kinds.fraud_set.after_cells.Goals as goal
 

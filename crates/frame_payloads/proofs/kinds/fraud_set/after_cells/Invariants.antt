@@ -2,7 +2,7 @@ use Rattle.std.proofs.Common.{◌≡◌, ◌-◌}
 use Rattle.axis_roots.specs.Sets.{is_along}
 use Rattle.frame_fields.specs.Fields.{many_at}
 use Rattle.frame_payloads.specs.kinds.Fraud.{set_cell_at, passed}
-use Rattle.frame_payloads.proofs.codec.Told.{told}
+use Rattle.frame_payloads.proofs.Fields.Told.{told}
 use Rattle.frame_payloads.proofs.kinds.fraud_set.after_cells.Given as goal
 
 -- what is told so far and of what is left is told of all

@@ -1,5 +1,5 @@
 use Rattle.frame_payloads.specs.kinds.Fraud.{set_cell_at}
-use Rattle.frame_payloads.proofs.codec.Many.{gives_some, gives_value, kept_more, kept_end, next_some}
+use Rattle.frame_payloads.proofs.Fields.Many.{gives_some, gives_value, kept_more, kept_end, next_some}
 use Rattle.frame_payloads.proofs.kinds.fraud_set.cells_of.Goals as goal
 
 pub unwrap-cell-requires : goal.unwrap-cell-requires

@@ -1,5 +1,5 @@
 use Rattle.frame_payloads.specs.kinds.Fraud.{cell_payload}
-use Rattle.frame_payloads.proofs.codec.PutLoops.{put_room, put_more, put_end}
+use Rattle.frame_payloads.proofs.Fields.PutLoops.{put_room, put_more, put_end}
 use Rattle.frame_payloads.proofs.kinds.fraud_set.put_cells.Goals as goal
 
 -- it has no more bytes than are left

@@ -1,5 +1,5 @@
 use Rattle.std.proofs.Common.{sym}
-use Rattle.frame_payloads.proofs.kinds.SetParts.{no_accused, no_cells, no_nodes, no_end, all_read}
+use Rattle.frame_payloads.proofs.Forms.SetParts.{no_accused, no_cells, no_nodes, no_end, all_read}
 use Rattle.frame_payloads.proofs.kinds.fraud_set.set_fields.Goals as goal
 
 pub returns-in_err-axis-clause-parts : goal.returns-in_err-axis-clause-parts

@@ -2,8 +2,8 @@ use Rattle.std.proofs.Common.{◌≡◌, ◌∙◌, List, length, Bool, false, s
 use Rattle.namespace_id.specs.declared.digests.Digest.{Digest}
 use Rattle.namespace_id.specs.Digests.{AreDigests}
 use Rattle.axis_roots.specs.Sets.{is_along}
-use Rattle.frame_payloads.proofs.codec.Lengths.{within_is}
-use Rattle.frame_payloads.proofs.kinds.FraudSizes.{length-cell, length-path_text}
+use Rattle.frame_payloads.proofs.Fields.Lengths.{within_is}
+use Rattle.frame_payloads.proofs.Forms.FraudSizes.{length-cell, length-path_text}
 use Rattle.frame_payloads.proofs.kinds.fraud_set.with_cell.Goals as goal
 
 -- a cell with a path has that as well

@@ -4,7 +4,7 @@ use Rattle.namespace_id.specs.Digests.{AreDigests}
 use Rattle.data_header.specs.Headers.{Roots, AreRoots}
 use Rattle.frame_payloads.specs.Payloads.{IsSize}
 use Rattle.frame_payloads.specs.kinds.Header.{header_payload}
-use Rattle.frame_payloads.proofs.kinds.PayloadSizes.{header_sized}
+use Rattle.frame_payloads.proofs.Forms.PayloadSizes.{header_sized}
 use Rattle.frame_payloads.proofs.kinds.header.header_size.Goals as goal
 
 -- a header's length, by what its fields are

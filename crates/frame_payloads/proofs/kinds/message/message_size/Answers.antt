@@ -1,7 +1,7 @@
 use Rattle.std.proofs.Common.{List, arith, subst, length, ap}
 use Rattle.namespace_id.specs.declared.digests.Digest.{Digest}
 use Rattle.namespace_id.specs.Digests.{AreDigests}
-use Rattle.frame_payloads.proofs.kinds.PayloadSizes.{message_sized}
+use Rattle.frame_payloads.proofs.Forms.PayloadSizes.{message_sized}
 use Rattle.frame_payloads.proofs.kinds.message.message_size.Goals as goal
 
 pub returns : goal.returns

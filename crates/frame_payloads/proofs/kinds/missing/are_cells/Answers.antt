@@ -1,5 +1,5 @@
 use Rattle.std.proofs.Common.{◌∙◌, sym}
-use Rattle.frame_payloads.proofs.kinds.CellLoops.{cells_on, cells_fail}
+use Rattle.frame_payloads.proofs.Forms.CellLoops.{cells_on, cells_fail}
 use Rattle.frame_payloads.proofs.kinds.missing.are_cells.Goals as goal
 
 pub returns-then-not-is_in_square : goal.returns-then-not-is_in_square

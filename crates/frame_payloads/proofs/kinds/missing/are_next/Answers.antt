@@ -1,5 +1,5 @@
 use Rattle.std.proofs.Common.{◌∙◌, sym, arith}
-use Rattle.frame_payloads.proofs.kinds.CellLoops.{next_more, next_fails, next_end}
+use Rattle.frame_payloads.proofs.Forms.CellLoops.{next_more, next_fails, next_end}
 use Rattle.frame_payloads.proofs.kinds.missing.are_next.Goals as goal
 
 pub returns-then-not-is_next : goal.returns-then-not-is_next

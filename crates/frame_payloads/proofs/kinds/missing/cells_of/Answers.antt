@@ -1,5 +1,5 @@
 use Rattle.std.proofs.Common.{arith}
-use Rattle.frame_payloads.proofs.kinds.CellLoops.{cells_more, cells_end}
+use Rattle.frame_payloads.proofs.Forms.CellLoops.{cells_more, cells_end}
 use Rattle.frame_payloads.proofs.kinds.missing.cells_of.Goals as goal
 
 pub loop-preserved : goal.loop-preserved

@@ -1,6 +1,6 @@
 use Rattle.std.proofs.Common.{◌≡◌, ◌∙◌, length, ap, arith}
 use Rattle.namespace_id.specs.Cells.{CellList}
-use Rattle.frame_payloads.proofs.kinds.PayloadSizes.{missing_sized, missing_beyond}
+use Rattle.frame_payloads.proofs.Forms.PayloadSizes.{missing_sized, missing_beyond}
 use Rattle.frame_payloads.proofs.kinds.missing.missing_size.Goals as goal
 
 pub returns-then-count-gt-MAX_CELLS : goal.returns-then-count-gt-MAX_CELLS

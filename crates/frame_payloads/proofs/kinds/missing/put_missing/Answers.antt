@@ -1,6 +1,6 @@
 use Rattle.std.proofs.Common.{length, ap, arith}
 use Rattle.namespace_id.specs.Cells.{CellList}
-use Rattle.frame_payloads.proofs.kinds.MissingForm.{length-missing}
+use Rattle.frame_payloads.proofs.Forms.MissingForm.{length-missing}
 use Rattle.frame_payloads.proofs.kinds.missing.put_missing.Goals as goal
 
 pub overflow_cast-len : goal.overflow_cast-len

@@ -1,5 +1,5 @@
 use Rattle.frame_payloads.specs.kinds.Names.{entry_at, found_seen}
-use Rattle.frame_payloads.proofs.codec.Many.{passed_more, passed_none, passed_end}
+use Rattle.frame_payloads.proofs.Fields.Many.{passed_more, passed_none, passed_end}
 use Rattle.frame_payloads.proofs.kinds.names.after_entries.Goals as goal
 
 pub returns-in_err-_row : goal.returns-in_err-_row

@@ -1,5 +1,5 @@
 use Rattle.frame_payloads.specs.kinds.Names.{entry_at, found_seen}
-use Rattle.frame_payloads.proofs.codec.Many.{gives_some, gives_value, kept_more, kept_end, next_some}
+use Rattle.frame_payloads.proofs.Fields.Many.{gives_some, gives_value, kept_more, kept_end, next_some}
 use Rattle.frame_payloads.proofs.kinds.names.entries_of.Goals as goal
 
 pub unwrap-row-requires : goal.unwrap-row-requires

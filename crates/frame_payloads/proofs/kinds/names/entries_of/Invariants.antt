@@ -1,7 +1,7 @@
 use Rattle.std.proofs.Common.{◌≡◌, ◌-◌}
 use Rattle.frame_fields.specs.Fields.{many_at}
 use Rattle.frame_payloads.specs.kinds.Names.{entry_at}
-use Rattle.frame_payloads.proofs.codec.Many.{after_some}
+use Rattle.frame_payloads.proofs.Fields.Many.{after_some}
 use Rattle.frame_payloads.proofs.kinds.names.entries_of.Given as goal
 
 -- those so far and those that are left are all

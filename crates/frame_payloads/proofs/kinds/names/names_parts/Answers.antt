@@ -1,8 +1,8 @@
 use Rattle.std.proofs.Common.{◌∙◌, sym, true, false}
 use Rattle.frame_fields.specs.Fields.{string_at}
 use Rattle.frame_payloads.specs.kinds.Names.{entries_at}
-use Rattle.frame_payloads.proofs.codec.Headed.{no_head, no_list, from_rest}
-use Rattle.frame_payloads.proofs.kinds.NamesForm.{named, names_is}
+use Rattle.frame_payloads.proofs.Fields.Headed.{no_head, no_list, from_rest}
+use Rattle.frame_payloads.proofs.Forms.NamesForm.{named, names_is}
 use Rattle.frame_payloads.proofs.kinds.names.names_parts.Goals as goal
 
 pub returns-in_err-name-clause-parts : goal.returns-in_err-name-clause-parts

@@ -1,7 +1,7 @@
 use Rattle.std.proofs.Common.{ℕ, sym, ap}
 use Rattle.namespace_id.specs.Shares.{share_of}
 use Rattle.frame_payloads.specs.declared.shown.FoundPlace.TheVariants.{Range}
-use Rattle.frame_payloads.proofs.codec.Split.{length-split_into}
+use Rattle.frame_payloads.proofs.Fields.Split.{length-split_into}
 use Rattle.frame_payloads.proofs.kinds.names.place_of.Goals as goal
 
 -- so many shares as are counted are read

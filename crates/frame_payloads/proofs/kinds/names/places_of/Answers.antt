@@ -1,6 +1,6 @@
 use Rattle.std.proofs.Common.{◌∙◌}
 use Rattle.frame_payloads.specs.kinds.Names.{entry_place, entry_at, place_at}
-use Rattle.frame_payloads.proofs.codec.Many.{gives_some, gives_value, kept_more, kept_end, next_some, turned_some, turned_items}
+use Rattle.frame_payloads.proofs.Fields.Many.{gives_some, gives_value, kept_more, kept_end, next_some, turned_some, turned_items}
 use Rattle.frame_payloads.proofs.kinds.names.places_of.Goals as goal
 
 -- where all entries can be read, so can the next place

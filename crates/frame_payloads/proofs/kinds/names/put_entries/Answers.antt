@@ -1,5 +1,5 @@
 use Rattle.frame_payloads.specs.kinds.Names.{entry_bytes}
-use Rattle.frame_payloads.proofs.codec.PutLoops.{put_room, put_more, put_end}
+use Rattle.frame_payloads.proofs.Fields.PutLoops.{put_room, put_more, put_end}
 use Rattle.frame_payloads.proofs.kinds.names.put_entries.Goals as goal
 
 -- it has no more bytes than are left

@@ -1,6 +1,6 @@
 use Rattle.std.proofs.Common.{arith}
-use Rattle.frame_payloads.proofs.codec.Digests.{length-digest_bytes}
-use Rattle.frame_payloads.proofs.codec.Lengths.{within_is}
+use Rattle.frame_payloads.proofs.Fields.Digests.{length-digest_bytes}
+use Rattle.frame_payloads.proofs.Fields.Lengths.{within_is}
 use Rattle.frame_payloads.proofs.kinds.names.with_nodes.Goals as goal
 
 pub returns : goal.returns

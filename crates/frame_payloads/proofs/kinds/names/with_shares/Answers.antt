@@ -1,6 +1,6 @@
 use Rattle.std.proofs.Common.{arith}
-use Rattle.frame_payloads.proofs.codec.Shares.{length-share_bytes}
-use Rattle.frame_payloads.proofs.codec.Lengths.{within_is}
+use Rattle.frame_payloads.proofs.Fields.Shares.{length-share_bytes}
+use Rattle.frame_payloads.proofs.Fields.Lengths.{within_is}
 use Rattle.frame_payloads.proofs.kinds.names.with_shares.Goals as goal
 
 pub returns : goal.returns

@@ -1,5 +1,5 @@
 use Rattle.std.proofs.Common.{sym, arith}
-use Rattle.frame_payloads.proofs.kinds.PayloadSizes.{request_sized}
+use Rattle.frame_payloads.proofs.Forms.PayloadSizes.{request_sized}
 use Rattle.frame_payloads.proofs.kinds.requests.request_size.Goals as goal
 
 pub returns : goal.returns

@@ -1,6 +1,6 @@
 use Rattle.std.proofs.Common.{◌∙◌, length, ap, arith}
 use Rattle.blob_commit.specs.Proofs.{RootedParts}
-use Rattle.frame_payloads.proofs.kinds.CommitSizes.{rooted_sized}
+use Rattle.frame_payloads.proofs.Forms.CommitSizes.{rooted_sized}
 use Rattle.frame_payloads.proofs.kinds.rooted.rooted_size.Goals as goal
 
 pub returns : goal.returns

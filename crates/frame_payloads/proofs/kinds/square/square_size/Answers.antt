@@ -4,7 +4,7 @@ use Rattle.namespace_id.specs.Shares.{AreShares}
 use Rattle.square_layout.specs.Blocks.{SquareShares, IsSquare}
 use Rattle.frame_payloads.specs.Payloads.{IsSize}
 use Rattle.frame_payloads.specs.kinds.Square.{square_payload}
-use Rattle.frame_payloads.proofs.kinds.PayloadSizes.{square_sized}
+use Rattle.frame_payloads.proofs.Forms.PayloadSizes.{square_sized}
 use Rattle.frame_payloads.proofs.kinds.square.square_size.Goals as goal
 
 -- a square's length, by what its fields are
