@@ -1,4 +1,5 @@
-//! Fields of a payload: measured, appended.
+//! Fields of a payload: measured, appended; lists of values.
 
 pub(crate) mod appending;
+pub(crate) mod items;
 pub(crate) mod sizes;

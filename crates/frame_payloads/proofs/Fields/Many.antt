@@ -4,7 +4,8 @@ use Rattle.std.proofs.Common.{◌≡◌, ◌∙◌, ℕ, zero, suc, ◌+◌, ◌
 use Rattle.std.specs.Option.{option_map}
 use Rattle.std.proofs.lemmas.Option.{same_Some}
 use Rattle.namespace_id.specs.Answers.{Gives}
-use Rattle.frame_fields.specs.Fields.{◌>>=◌, many_at, read_items, read_rest}
+use Rattle.std.specs.Int.{Width}
+use Rattle.frame_fields.specs.Fields.{◌>>=◌, count_at, many_at, list_at, read_items, read_rest}
 
 -- a reader's values with one more before them
 abbrev pub after_first : {A : Type 0} → A → Option (List A × List ℕ) → Option (List A × List ℕ)
@@ -76,6 +77,16 @@ pub by_rest : {A : Type 0} (none : Bool) (rest : List ℕ) (x : A) (read : Optio
 by_rest none rest x read is e = e ∙ ap (λ (t : Bool). cond t (Some x) None) is
 
 -- ---- a loop that passes over them
+
+-- the bytes after a value are there where it is read
+pub rest_some : {A : Type 0} (read : Option (A × List ℕ)) (after : List ℕ) → option_map (λ (x : A × List ℕ). x.1) read ≡ Some after → (x : A) × (read ≡ Some (x, after))
+rest_some None after e = absurd cc
+rest_some (Some r) after e = (r.0, ap (λ (l : List ℕ). Some (r.0, l)) (same_Some r.1 after e))
+
+-- and not where it isn't
+pub rest_none : {A : Type 0} (read : Option (A × List ℕ)) → option_map (λ (x : A × List ℕ). x.1) read ≡ None → read ≡ None
+rest_none None e = refl
+rest_none (Some r) e = absurd cc
 
 -- a value in front changes nothing of the bytes after all
 rest_after_first : {A : Type 0} (x : A) (read : Option (List A × List ℕ)) → read_rest (after_first x read) ≡ read_rest read
@@ -165,18 +176,27 @@ module _ {A B : Type 0} (f : A → B) (one : List ℕ → Option (A × List ℕ)
   many_turned zero bytes = refl
   many_turned (suc n) bytes = one_turned n (many_turned n) (one bytes)
 
+  -- so are those behind their count
+  list_turned : (w : Width) (limit : ℕ) (bytes : List ℕ) → list_at w limit turned bytes ≡ turned_all (list_at w limit one bytes)
+  unfolding list_at
+  list_turned w limit bytes = by (count_at w limit bytes)
+    where
+      by : (count : Option (ℕ × List ℕ)) → (count >>= (λ c. many_at turned c.0 c.1)) ≡ turned_all (count >>= (λ c. many_at one c.0 c.1))
+      by None = refl
+      by (Some c) = many_turned c.0 c.1
+
   -- where all can be read, all can be turned
   some_turned : (read : Option (List A × List ℕ)) → IsSome read → IsSome (turned_all read)
   some_turned None some = some
   some_turned (Some r) some = refl
 
-  pub turned_some : (n : ℕ) (bytes : List ℕ) → IsSome (many_at one n bytes) → IsSome (many_at turned n bytes)
-  turned_some n bytes some = subst (λ (r : Option (List B × List ℕ)). IsSome r) (sym (many_turned n bytes)) (some_turned (many_at one n bytes) some)
+  pub turned_some : (w : Width) (limit : ℕ) (bytes : List ℕ) → IsSome (list_at w limit one bytes) → IsSome (list_at w limit turned bytes)
+  turned_some w limit bytes some = subst (λ (r : Option (List B × List ℕ)). IsSome r) (sym (list_turned w limit bytes)) (some_turned (list_at w limit one bytes) some)
 
   -- the values that are turned are those that are read
   items_turned : (read : Option (List A × List ℕ)) → read_items (turned_all read) ≡ map f (read_items read)
   items_turned None = refl
   items_turned (Some r) = refl
 
-  pub turned_items : (n : ℕ) (bytes : List ℕ) → read_items (many_at turned n bytes) ≡ map f (read_items (many_at one n bytes))
-  turned_items n bytes = ap (λ (r : Option (List B × List ℕ)). read_items r) (many_turned n bytes) ∙ items_turned (many_at one n bytes)
+  pub turned_items : (w : Width) (limit : ℕ) (bytes : List ℕ) → read_items (list_at w limit turned bytes) ≡ map f (read_items (list_at w limit one bytes))
+  turned_items w limit bytes = ap (λ (r : Option (List B × List ℕ)). read_items r) (list_turned w limit bytes) ∙ items_turned (list_at w limit one bytes)

@@ -1,15 +1,16 @@
 //! The payload of a block: judged where it lies, then read; and written.
 
-ghost use Rattle.std.specs.Prelude.{◌≡◌, ◌≤◌, length, vec_len, None, Some, IfOk, IfSome, MatchOption, ◌+◌, ◌++◌, vec_capacity, IsSome, ◌↔◌, IsTrue, ◌==◌};
+ghost use Rattle.std.specs.Prelude.{◌≡◌, ◌≤◌, length, vec_len, None, Some, IfSome, MatchOption, ◌+◌, ◌++◌, vec_capacity, IsSome, ◌↔◌, IsTrue, ◌==◌};
 ghost use Rattle.namespace_id.specs.Answers.{Gives, HasRoom};
 ghost use Rattle.share_split.specs.Blobs.{version_of, signer_bytes};
-ghost use Rattle.frame_fields.specs.Fields.{many_at, read_items, read_rest};
+ghost use Rattle.frame_fields.specs.Fields.{read_items};
 ghost use Rattle.frame_payloads.specs.Payloads.{GivesUnlessFull, max_payload, IsSize, IsShort, IsWithin};
 ghost use Rattle.frame_payloads.specs.kinds.Block.{signed_at, signer_at, blob_at, asked_width, asks_for_zero, block_at, blob_bytes, width_number, block_payload, unit_at, counted_at, unit_bytes, counted_bytes};
 
 use crate::codec::appending::put_text;
+use crate::codec::items::{Item, after_list, list};
 use crate::codec::sizes::{COUNT_SIZE, WIDTH_SIZE, longer, with_bytes, with_text};
-use frame_fields::{count_at, name_at, text_at, u8_at, u16_at};
+use frame_fields::{name_at, text_at, u8_at, u16_at};
 use namespace_id::{Namespace, append};
 use share_split::{Blob, SIGNER_SIZE, Unit};
 use square_layout::Block;
@@ -105,46 +106,39 @@ fn blob_at(bytes: &[u8]) -> Option<(BlobFields<'_>, &[u8])>
     Some((blob, rest))
 }
 
-/// The bytes after so many units.
-fn after_units(count: u32, bytes: &[u8]) -> Option<&[u8]>
-    ensures { Gives (λ x. x.now) result (read_rest (many_at unit_at count bytes.now)) }
-{
-    let mut rest = bytes;
-    for _ in 0..count {
-        let (_text, after) = text_at(rest, MOST)?;
-        rest = after;
+impl Item for Unit {
+    ghost at = { unit_at };
+
+    fn after(bytes: &[u8]) -> Option<&[u8]> {
+        let (_text, rest) = text_at(bytes, MOST)?;
+        Some(rest)
     }
-    Some(rest)
-}
 
-/// The bytes after a list of units.
-#[tactic(auto, unfolding(frame_fields::specs::Fields::list_at))]
-fn after_unit_list(bytes: &[u8]) -> Option<&[u8]>
-    ensures { Gives (λ x. x.now) result (read_rest (counted_at unit_at bytes.now)) }
-{
-    let (count, rest) = count_at(bytes, MOST)?;
-    after_units(count, rest)
-}
-
-/// The bytes after so many blobs.
-fn after_blobs(count: u32, bytes: &[u8]) -> Option<&[u8]>
-    ensures { Gives (λ x. x.now) result (read_rest (many_at blob_at count bytes.now)) }
-{
-    let mut rest = bytes;
-    for _ in 0..count {
-        let (_blob, after) = blob_at(rest)?;
-        rest = after;
+    fn read(alloc: Global, bytes: &[u8]) -> Result<(Unit, &[u8]), AllocError> {
+        let (text, rest) = text_at(bytes, MOST).unwrap();
+        let bytes = Vec::from_slice(alloc, text)?;
+        Ok((Unit { bytes }, rest))
     }
-    Some(rest)
 }
 
-/// The bytes after a list of blobs.
-#[tactic(auto, unfolding(frame_fields::specs::Fields::list_at))]
-fn after_blob_list(bytes: &[u8]) -> Option<&[u8]>
-    ensures { Gives (λ x. x.now) result (read_rest (counted_at blob_at bytes.now)) }
-{
-    let (count, rest) = count_at(bytes, MOST)?;
-    after_blobs(count, rest)
+impl Item for Blob {
+    ghost at = { blob_at };
+
+    fn after(bytes: &[u8]) -> Option<&[u8]> {
+        let (_blob, rest) = blob_at(bytes)?;
+        Some(rest)
+    }
+
+    fn read(alloc: Global, bytes: &[u8]) -> Result<(Blob, &[u8]), AllocError> {
+        let (fields, rest) = blob_at(bytes).unwrap();
+        let bytes = Vec::from_slice(alloc, fields.bytes)?;
+        let blob = Blob {
+            namespace: fields.namespace,
+            bytes,
+            signer: fields.signer,
+        };
+        Ok((blob, rest))
+    }
 }
 
 /// The parts of the block whose payload the bytes are. It takes no memory.
@@ -161,9 +155,9 @@ fn block_parts(payload: &[u8]) -> Option<BlockFields<'_>>
     ensures blobs { IfSome result (λ f. IsSome (counted_at blob_at f.blobs.now)) }
 {
     let (width, units) = u16_at(payload)?;
-    let pay_units = after_unit_list(units)?;
-    let blobs = after_unit_list(pay_units)?;
-    let rest = after_blob_list(blobs)?;
+    let pay_units = after_list::<Unit>(units, MOST)?;
+    let blobs = after_list::<Unit>(pay_units, MOST)?;
+    let rest = after_list::<Blob>(blobs, MOST)?;
     if !rest.is_empty() {
         return None;
     }
@@ -182,62 +176,6 @@ pub fn is_block(payload: &[u8]) -> bool
     block_parts(payload).is_some()
 }
 
-/// So many units, one after another.
-fn units_of(alloc: Global, count: u32, bytes: &[u8]) -> Result<Vec<Unit>, AllocError>
-    requires { IsSome (many_at unit_at count bytes.now) }
-    ensures { IfOk result (λ units. units.items ≡ read_items (many_at unit_at count bytes.now)) }
-{
-    let mut units = Vec::with_capacity(alloc, count as usize)?;
-    let mut rest = bytes;
-    for _ in 0..count {
-        let (text, after) = text_at(rest, MOST).unwrap();
-        let bytes = Vec::from_slice(alloc, text)?;
-        units.push(Unit { bytes })?;
-        rest = after;
-    }
-    Ok(units)
-}
-
-/// A list of units.
-#[tactic(auto, unfolding(frame_fields::specs::Fields::list_at))]
-fn unit_list(alloc: Global, bytes: &[u8]) -> Result<Vec<Unit>, AllocError>
-    requires { IsSome (counted_at unit_at bytes.now) }
-    ensures { IfOk result (λ units. units.items ≡ read_items (counted_at unit_at bytes.now)) }
-{
-    let (count, rest) = count_at(bytes, MOST).unwrap();
-    units_of(alloc, count, rest)
-}
-
-/// So many blobs, one after another.
-fn blobs_of(alloc: Global, count: u32, bytes: &[u8]) -> Result<Vec<Blob>, AllocError>
-    requires { IsSome (many_at blob_at count bytes.now) }
-    ensures { IfOk result (λ blobs. blobs.items ≡ read_items (many_at blob_at count bytes.now)) }
-{
-    let mut blobs = Vec::with_capacity(alloc, count as usize)?;
-    let mut rest = bytes;
-    for _ in 0..count {
-        let (blob, after) = blob_at(rest).unwrap();
-        let bytes = Vec::from_slice(alloc, blob.bytes)?;
-        blobs.push(Blob {
-            namespace: blob.namespace,
-            bytes,
-            signer: blob.signer,
-        })?;
-        rest = after;
-    }
-    Ok(blobs)
-}
-
-/// A list of blobs.
-#[tactic(auto, unfolding(frame_fields::specs::Fields::list_at))]
-fn blob_list(alloc: Global, bytes: &[u8]) -> Result<Vec<Blob>, AllocError>
-    requires { IsSome (counted_at blob_at bytes.now) }
-    ensures { IfOk result (λ blobs. blobs.items ≡ read_items (counted_at blob_at bytes.now)) }
-{
-    let (count, rest) = count_at(bytes, MOST).unwrap();
-    blobs_of(alloc, count, rest)
-}
-
 /// The width that a number asks for, none for 0.
 fn asked_width(k: u16) -> Option<u16>
     ensures { result ≡ asked_width k }
@@ -253,9 +191,9 @@ pub fn block(alloc: Global, payload: &[u8]) -> Result<Option<Block>, AllocError>
         return Ok(None);
     };
     let width = asked_width(parts.width);
-    let units = unit_list(alloc, parts.units)?;
-    let pay_units = unit_list(alloc, parts.pay_units)?;
-    let blobs = blob_list(alloc, parts.blobs)?;
+    let units = list::<Unit>(alloc, parts.units, MOST)?;
+    let pay_units = list::<Unit>(alloc, parts.pay_units, MOST)?;
+    let blobs = list::<Blob>(alloc, parts.blobs, MOST)?;
     Ok(Some(Block {
         units,
         pay_units,

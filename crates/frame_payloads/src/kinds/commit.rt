@@ -3,20 +3,21 @@
 ghost use Rattle.std.specs.Prelude.{◌≡◌, ◌≤◌, ◌==◌, if◌then◌else◌, length, vec_len, None, Some, IfOk, IfSome, MatchOption, ◌+◌, ◌*◌, ◌++◌, vec_capacity, IsSome, false, ◌↔◌, IsTrue};
 ghost use Rattle.std.specs.Int.{w16, w32, to_be_bytes};
 ghost use Rattle.std.specs.List.{flat_map, list_any};
-ghost use Rattle.std.specs.Option.{option_map, option_map_or};
+ghost use Rattle.std.specs.Option.{option_map_or};
 ghost use Rattle.namespace_id.specs.Answers.{Gives, HasRoom};
-ghost use Rattle.frame_fields.specs.Fields.{many_at, read_items, read_rest, digests_of};
+ghost use Rattle.frame_fields.specs.Fields.{read_items, digests_of};
 ghost use Rattle.frame_payloads.specs.codec.Texts.{digest_list};
 ghost use Rattle.frame_payloads.specs.Payloads.{GivesUnlessFull, max_payload, IsSize, IsWithin};
 ghost use Rattle.frame_payloads.specs.kinds.Commit.{most_subtrees, is_long_row, is_long_commit, row_bytes, commit_payload, row_at, rows_at, commit_at};
 
 use crate::bounds::hash_law;
 use crate::codec::appending::{put_digests, put_hashes, put_path};
+use crate::codec::items::{Item, after_list16, list16};
 use crate::codec::sizes::{DIGEST_SIZE, HASH_SIZE, longer};
 use blob_commit::{CommitProof, CommitRow, row_law};
 use data_header::RootPath;
 use frame_fields::{
-    count16_at, digest_at, digest_list_at, digests_of, hash_at, hashes_at, nodes_at, u16_at, u32_at,
+    digest_at, digest_list_at, digests_of, hash_at, hashes_at, nodes_at, u16_at, u32_at,
 };
 use namespace_id::{Digest, GREATEST_WIDTH, append};
 use nmt_proofs::Nodes;
@@ -93,27 +94,6 @@ fn row_at(bytes: &[u8]) -> Option<(RowFields<'_>, &[u8])>
     Some((row, rest))
 }
 
-/// The bytes after so many rows.
-fn after_rows(count: u16, bytes: &[u8]) -> Option<&[u8]>
-    ensures { Gives (λ x. x.now) result (read_rest (many_at row_at count bytes.now)) }
-{
-    let mut rest = bytes;
-    for _ in 0..count {
-        let (_row, after) = row_at(rest)?;
-        rest = after;
-    }
-    Some(rest)
-}
-
-/// The bytes after a list of rows.
-#[tactic(auto, unfolding(frame_fields::specs::Fields::list_at))]
-fn after_row_list(bytes: &[u8]) -> Option<&[u8]>
-    ensures { Gives (λ x. x.now) result (read_rest (rows_at bytes.now)) }
-{
-    let (count, rest) = count16_at(bytes, MOST_ROWS)?;
-    after_rows(count, rest)
-}
-
 /// What stands in front of the rows, and the bytes from their count on. What is read is a commitment
 /// proof where these are rows that end the payload.
 #[tactic(auto, unfolding(crate::specs::kinds::Commit::commit_at))]
@@ -153,7 +133,7 @@ fn commit_parts(payload: &[u8]) -> Option<CommitFields<'_>>
     ensures rows { IfSome result (λ f. IsSome (rows_at f.rows.now)) }
 {
     let fields = front(payload)?;
-    let rest = after_row_list(fields.rows)?;
+    let rest = after_list16::<CommitRow>(fields.rows, MOST_ROWS)?;
     if !rest.is_empty() {
         return None;
     }
@@ -193,30 +173,18 @@ fn row_of(alloc: Global, row: RowFields<'_>) -> Result<CommitRow, AllocError>
     })
 }
 
-/// So many rows, one after another.
-fn rows_of(alloc: Global, count: u16, bytes: &[u8]) -> Result<Vec<CommitRow>, AllocError>
-    requires { IsSome (many_at row_at count bytes.now) }
-    ensures { IfOk result (λ rows. rows.items ≡ read_items (many_at row_at count bytes.now)) }
-{
-    let mut rows = Vec::with_capacity(alloc, count as usize)?;
-    let mut rest = bytes;
-    for _ in 0..count {
-        let (fields, after) = row_at(rest).unwrap();
-        let row = row_of(alloc, fields)?;
-        rows.push(row)?;
-        rest = after;
-    }
-    Ok(rows)
-}
+impl Item for CommitRow {
+    ghost at = { row_at };
 
-/// A list of rows.
-#[tactic(auto, unfolding(frame_fields::specs::Fields::list_at))]
-fn row_list(alloc: Global, bytes: &[u8]) -> Result<Vec<CommitRow>, AllocError>
-    requires { IsSome (rows_at bytes.now) }
-    ensures { IfOk result (λ rows. rows.items ≡ read_items (rows_at bytes.now)) }
-{
-    let (count, rest) = count16_at(bytes, MOST_ROWS).unwrap();
-    rows_of(alloc, count, rest)
+    fn after(bytes: &[u8]) -> Option<&[u8]> {
+        let (_row, rest) = row_at(bytes)?;
+        Some(rest)
+    }
+
+    fn read(alloc: Global, bytes: &[u8]) -> Result<(CommitRow, &[u8]), AllocError> {
+        let (fields, rest) = row_at(bytes).unwrap();
+        Ok((row_of(alloc, fields)?, rest))
+    }
 }
 
 /// The commitment proof whose payload the bytes are. No memory is taken before they are known to be one.
@@ -226,7 +194,7 @@ pub fn commit(alloc: Global, payload: &[u8]) -> Result<Option<CommitProof>, Allo
     let Some(fields) = commit_parts(payload) else {
         return Ok(None);
     };
-    let rows = row_list(alloc, fields.rows)?;
+    let rows = list16::<CommitRow>(alloc, fields.rows, MOST_ROWS)?;
     Ok(Some(CommitProof {
         k: fields.k,
         start: fields.start,

@@ -1,48 +1,41 @@
 //! The payload of a fraud claim: judged where it lies, then read; and written. A claim without a set has
 //! form 1, and one with a set form 2.
 
-ghost use Rattle.std.specs.Prelude.{◌≡◌, ◌≤◌, length, map, vec_len, None, Some, IfOk, IfSome, MatchOption, ◌+◌, ◌++◌, ◌↔◌, vec_capacity, IsSome, IsTrue, false};
+ghost use Rattle.std.specs.Prelude.{◌≡◌, ◌≤◌, length, map, None, Some, IfSome, MatchOption, ◌+◌, ◌++◌, ◌↔◌, IsSome, IsTrue, false};
 ghost use Rattle.std.specs.List.{flat_map};
-ghost use Rattle.namespace_id.specs.Answers.{Gives, HasRoom};
+ghost use Rattle.namespace_id.specs.Answers.{HasRoom};
 ghost use Rattle.axis_roots.specs.Proved.{kept_message};
-ghost use Rattle.frame_fields.specs.Fields.{many_at, read_items, read_rest};
+ghost use Rattle.frame_fields.specs.Fields.{read_items};
 ghost use Rattle.frame_payloads.specs.Payloads.{GivesUnlessFull, max_payload, IsSize, IsWithin};
 ghost use Rattle.frame_fields.specs.Messages.{message_front};
 ghost use Rattle.frame_payloads.specs.kinds.Message.{message_payload};
 ghost use Rattle.frame_payloads.specs.kinds.Fraud.{most_cells, is_unwritten, plain_payload, fraud_payload, claim_cells_at, plain_at, fraud_at};
 
 use crate::bounds::proof_law;
+use crate::codec::items::{Item, after_list16, list16};
 use crate::codec::sizes::longer;
 use crate::kinds::accused::{ACCUSED_SIZE, MOST_CELLS, NUMBER_SIZE, accused_at, put_accused};
 use crate::kinds::fraud_set::{fits_form, put_with_set, set_fields, set_size, with_set};
 use crate::kinds::message::{message_size, put_message};
 use axis_roots::{FraudClaim, FraudProof, Message, Proved};
-use frame_fields::{count16_at, message_front};
+use frame_fields::message_front;
 use namespace_id::{Axis, NoMemory};
 use std::alloc::{AllocError, Global};
 
 /// The form of a claim without a set, the byte in front of it.
 const FORM: u8 = 1;
 
-/// The bytes after so many samples.
-fn after_cells(count: u16, bytes: &[u8]) -> Option<&[u8]>
-    ensures { Gives (λ x. x.now) result (read_rest (many_at message_front count bytes.now)) }
-{
-    let mut rest = bytes;
-    for _ in 0..count {
-        let (_message, after) = message_front(rest)?;
-        rest = after;
-    }
-    Some(rest)
-}
+impl Item for Message {
+    ghost at = { message_front };
 
-/// The bytes after a list of samples.
-#[tactic(auto, unfolding(frame_fields::specs::Fields::list_at))]
-fn after_cell_list(bytes: &[u8]) -> Option<&[u8]>
-    ensures { Gives (λ x. x.now) result (read_rest (claim_cells_at bytes.now)) }
-{
-    let (count, rest) = count16_at(bytes, MOST_CELLS)?;
-    after_cells(count, rest)
+    fn after(bytes: &[u8]) -> Option<&[u8]> {
+        let (_message, rest) = message_front(bytes)?;
+        Some(rest)
+    }
+
+    fn read(_alloc: Global, bytes: &[u8]) -> Result<(Message, &[u8]), AllocError> {
+        Ok(message_front(bytes).unwrap())
+    }
 }
 
 /// The axis that a claim without a set accuses, its index, and the bytes of its cells from their count
@@ -58,7 +51,7 @@ fn plain_parts(payload: &[u8]) -> Option<(Axis, u16, &[u8])>
     ensures cells { IfSome result (λ x. IsSome (claim_cells_at x.2.now)) }
 {
     let (axis, index, cells) = accused_at(FORM, payload)?;
-    let rest = after_cell_list(cells)?;
+    let rest = after_list16::<Message>(cells, MOST_CELLS)?;
     if !rest.is_empty() {
         return None;
     }
@@ -72,32 +65,6 @@ pub fn is_fraud(payload: &[u8]) -> bool
     plain_parts(payload).is_some() || set_fields(payload).is_some()
 }
 
-/// So many samples, one after another.
-fn cells_of(alloc: Global, count: u16, bytes: &[u8]) -> Result<Vec<Message>, AllocError>
-    requires { IsSome (many_at message_front count bytes.now) }
-    ensures { IfOk result (λ cells.
-        cells.items ≡ read_items (many_at message_front count bytes.now)) }
-{
-    let mut cells = Vec::with_capacity(alloc, count as usize)?;
-    let mut rest = bytes;
-    for _ in 0..count {
-        let (message, after) = message_front(rest).unwrap();
-        cells.push(message)?;
-        rest = after;
-    }
-    Ok(cells)
-}
-
-/// A list of samples.
-#[tactic(auto, unfolding(frame_fields::specs::Fields::list_at))]
-fn cell_list(alloc: Global, bytes: &[u8]) -> Result<Vec<Message>, AllocError>
-    requires { IsSome (claim_cells_at bytes.now) }
-    ensures { IfOk result (λ cells. cells.items ≡ read_items (claim_cells_at bytes.now)) }
-{
-    let (count, rest) = count16_at(bytes, MOST_CELLS).unwrap();
-    cells_of(alloc, count, rest)
-}
-
 /// The claim without a set whose payload the bytes are. No memory is taken before they are known to be
 /// one.
 fn plain(alloc: Global, payload: &[u8]) -> Result<Option<FraudClaim>, AllocError>
@@ -106,7 +73,7 @@ fn plain(alloc: Global, payload: &[u8]) -> Result<Option<FraudClaim>, AllocError
     let Some((axis, index, bytes)) = plain_parts(payload) else {
         return Ok(None);
     };
-    let cells = cell_list(alloc, bytes)?;
+    let cells = list16::<Message>(alloc, bytes, MOST_CELLS)?;
     Ok(Some(FraudClaim {
         axis,
         index,

@@ -4,12 +4,13 @@ ghost use Rattle.std.specs.Prelude.{◌≡◌, ◌≤◌, length, map, vec_len, 
 ghost use Rattle.std.specs.List.{flat_map, list_any};
 ghost use Rattle.std.specs.Option.{option_map};
 ghost use Rattle.namespace_id.specs.Answers.{Gives, HasRoom};
-ghost use Rattle.frame_fields.specs.Fields.{most_nodes, many_at, read_items, read_rest, shares_of};
+ghost use Rattle.frame_fields.specs.Fields.{most_nodes, read_items, shares_of};
 ghost use Rattle.frame_payloads.specs.codec.Texts.{path_bytes};
 ghost use Rattle.frame_payloads.specs.Payloads.{GivesUnlessFull, max_payload, IsSize, IsWithin};
 ghost use Rattle.frame_payloads.specs.kinds.Names.{most_shares_shown, is_long_found, is_long_entry, is_long_answer, share_list_bytes, found_bytes, entry_bytes, names_payload, share_list_at, range_at, absence_at, found_at, entry_at, entries_at, names_at, found_place, entry_place, answer_places, place_at, found_seen, HasShares, HasFewNodes, HasNodes};
 
 use crate::codec::appending::{put_path, put_shares};
+use crate::codec::items::{Item, after_list16, list16};
 use crate::codec::sizes::{DIGEST_SIZE, NAMESPACE_SIZE, SHARE_SIZE, longer};
 use crate::shown::{EntryPlace, FoundPlace, PlaceList};
 use axis_roots::{Found, NsAnswer, NsEntry, ShareList};
@@ -158,27 +159,6 @@ fn entry_at(bytes: &[u8]) -> Option<(u16, FoundFields<'_>, &[u8])>
     Some((row, found, rest))
 }
 
-/// The bytes after so many entries.
-fn after_entries(count: u16, bytes: &[u8]) -> Option<&[u8]>
-    ensures { Gives (λ x. x.now) result (read_rest (many_at entry_at count bytes.now)) }
-{
-    let mut rest = bytes;
-    for _ in 0..count {
-        let (_row, _found, after) = entry_at(rest)?;
-        rest = after;
-    }
-    Some(rest)
-}
-
-/// The bytes after a list of entries.
-#[tactic(auto, unfolding(frame_fields::specs::Fields::list_at))]
-fn after_entry_list(bytes: &[u8]) -> Option<&[u8]>
-    ensures { Gives (λ x. x.now) result (read_rest (entries_at bytes.now)) }
-{
-    let (count, rest) = count16_at(bytes, MOST_ENTRIES)?;
-    after_entries(count, rest)
-}
-
 /// The namespace of an answer, and the bytes of its entries from their count on, of which all are
 /// there. It takes no memory.
 fn names_parts(payload: &[u8]) -> Option<(Namespace, &[u8])>
@@ -187,7 +167,7 @@ fn names_parts(payload: &[u8]) -> Option<(Namespace, &[u8])>
     ensures entries { IfSome result (λ x. IsSome (entries_at x.1.now)) }
 {
     let (name, entries) = name_at(payload)?;
-    let rest = after_entry_list(entries)?;
+    let rest = after_list16::<NsEntry>(entries, MOST_ENTRIES)?;
     if !rest.is_empty() {
         return None;
     }
@@ -236,31 +216,19 @@ fn found_of(alloc: Global, found: FoundFields<'_>) -> Result<Found, AllocError>
     }
 }
 
-/// So many entries, one after another.
-fn entries_of(alloc: Global, count: u16, bytes: &[u8]) -> Result<Vec<NsEntry>, AllocError>
-    requires { IsSome (many_at entry_at count bytes.now) }
-    ensures { IfOk result (λ entries.
-        entries.items ≡ read_items (many_at entry_at count bytes.now)) }
-{
-    let mut entries = Vec::with_capacity(alloc, count as usize)?;
-    let mut rest = bytes;
-    for _ in 0..count {
-        let (row, fields, after) = entry_at(rest).unwrap();
-        let found = found_of(alloc, fields)?;
-        entries.push(NsEntry { row, found })?;
-        rest = after;
-    }
-    Ok(entries)
-}
+impl Item for NsEntry {
+    ghost at = { entry_at };
 
-/// A list of entries.
-#[tactic(auto, unfolding(frame_fields::specs::Fields::list_at))]
-fn entry_list(alloc: Global, bytes: &[u8]) -> Result<Vec<NsEntry>, AllocError>
-    requires { IsSome (entries_at bytes.now) }
-    ensures { IfOk result (λ entries. entries.items ≡ read_items (entries_at bytes.now)) }
-{
-    let (count, rest) = count16_at(bytes, MOST_ENTRIES).unwrap();
-    entries_of(alloc, count, rest)
+    fn after(bytes: &[u8]) -> Option<&[u8]> {
+        let (_row, _found, rest) = entry_at(bytes)?;
+        Some(rest)
+    }
+
+    fn read(alloc: Global, bytes: &[u8]) -> Result<(NsEntry, &[u8]), AllocError> {
+        let (row, fields, rest) = entry_at(bytes).unwrap();
+        let found = found_of(alloc, fields)?;
+        Ok((NsEntry { row, found }, rest))
+    }
 }
 
 /// The namespace answer whose payload the bytes are, and the namespace. No memory is taken before they are
@@ -271,7 +239,7 @@ pub fn names(alloc: Global, payload: &[u8]) -> Result<Option<(Namespace, NsAnswe
     let Some((name, bytes)) = names_parts(payload) else {
         return Ok(None);
     };
-    let entries = entry_list(alloc, bytes)?;
+    let entries = list16::<NsEntry>(alloc, bytes, MOST_ENTRIES)?;
     Ok(Some((name, NsAnswer { entries })))
 }
 
@@ -294,31 +262,26 @@ fn place_at(bytes: &[u8]) -> Option<(EntryPlace, &[u8])>
     Some((EntryPlace { row, found }, rest))
 }
 
-/// The places of so many entries, one after another.
-fn places_of(alloc: Global, count: u16, bytes: &[u8]) -> Result<Vec<EntryPlace>, AllocError>
-    requires { IsSome (many_at entry_at count bytes.now) }
-    ensures { IfOk result (λ places.
-        places.items ≡ map entry_place (read_items (many_at entry_at count bytes.now))) }
-{
-    let mut places = Vec::with_capacity(alloc, count as usize)?;
-    let mut rest = bytes;
-    for _ in 0..count {
-        let (place, after) = place_at(rest).unwrap();
-        places.push(place)?;
-        rest = after;
+impl Item for EntryPlace {
+    ghost at = { place_at };
+
+    fn after(bytes: &[u8]) -> Option<&[u8]> {
+        let (_place, rest) = place_at(bytes)?;
+        Some(rest)
     }
-    Ok(places)
+
+    fn read(_alloc: Global, bytes: &[u8]) -> Result<(EntryPlace, &[u8]), AllocError> {
+        Ok(place_at(bytes).unwrap())
+    }
 }
 
 /// The places of a list of entries.
-#[tactic(auto, unfolding(frame_fields::specs::Fields::list_at))]
 fn place_list(alloc: Global, bytes: &[u8]) -> Result<Vec<EntryPlace>, AllocError>
     requires { IsSome (entries_at bytes.now) }
     ensures { IfOk result (λ places.
         places.items ≡ map entry_place (read_items (entries_at bytes.now))) }
 {
-    let (count, rest) = count16_at(bytes, MOST_ENTRIES).unwrap();
-    places_of(alloc, count, rest)
+    list16::<EntryPlace>(alloc, bytes, MOST_ENTRIES)
 }
 
 /// What is shown of the namespace answer whose payload the bytes are: its namespace, and where its entries
