@@ -1,7 +1,10 @@
 mod PassingLemmas
 mod RowLemmas
 mod RowTreeLemmas
+mod RowFrontLemmas
+mod FindingLemmas
 mod WantedLemmas
+mod HeaderLemmas
 mod OrderingLemmas
 mod NeededLemmas
 mod Judging

@@ -1,19 +1,20 @@
 -- Leaves that were hashed, and trees that are made of them.
 use Rattle.std.proofs.Common.{◌≡◌, ◌≢◌, ◌∙◌, ℕ, ◌+◌, ◌*◌, ◌<◌, List, length, get_or, map, set, replicate, IsTrue, Some, None, inl, inr, refl, sym, ap, subst, arith, below_more}
-use Rattle.std.specs.Prelude.{Option, IfSome}
+use Rattle.std.specs.Prelude.{Option, IfSome, IsSome}
 use Rattle.std.proofs.lemmas.Bool.{cases_eq}
 use Rattle.std.proofs.lemmas.List.{get_or-set_same, get_or-set_other, length-set, length-replicate, get_or-replicate, ext_get_or, length-map}
 use Rattle.namespace_id.specs.declared.cells.Cell.{Cell}
 use Rattle.namespace_id.specs.declared.cells.Axis.{Axis}
+use Rattle.namespace_id.specs.declared.cells.Axis.TheVariants.{Row}
 use Rattle.namespace_id.specs.declared.shares.Share.{Share}
 use Rattle.namespace_id.specs.declared.digests.Digest.{Digest}
 use Rattle.namespace_id.specs.Cells.{is_in_square}
 use Rattle.namespace_id.specs.Lists.{ascending}
 use Rattle.namespace_id.proofs.AscendingLemmas.{length-ascending}
 use Rattle.namespace_id.proofs.BelowLemmas.{same_cell}
-use Rattle.nmt_tree.specs.Trees.{StoredTree}
+use Rattle.nmt_tree.specs.Trees.{StoredTree, digest_over}
 use Rattle.axis_roots.specs.Grids.{leaf_over}
-use Rattle.axis_roots.specs.Trees.{no_tree}
+use Rattle.axis_roots.specs.Trees.{axis_leaves, axis_stored, no_tree}
 use Rattle.axis_roots.proofs.Grids.AxisLemmas.{get_or-mapped}
 use Rattle.axis_roots.proofs.Grids.NumberLemmas.{inside, number-lt}
 use Rattle.square_serve.specs.Needed.{AreNeededLeaves, IsNeededTree, AreNeededTrees, empty_trees}
@@ -63,6 +64,17 @@ no_trees k side grid axis trees none all =
           (record { count = all; leaves = tt });
     }
 
+-- empty trees for the rows of a square, none of which was made
+pub empty_each : (k n side : ℕ) (grid : List Share) (trees : List StoredTree) → trees ≡ empty_trees n side → n ≡ k → side ≡ 2 * k
+    → (length trees ≡ k) × ((row : ℕ) → row < k → IsNeededTree k grid Row row (get_or trees row no_tree))
+empty_each k n side grid trees none same all =
+    let empty : StoredTree = record { count = side; leaves = None } in (
+      ap length none ∙ length-replicate n empty ∙ same,
+      λ row h.
+          subst (IsNeededTree k grid Row row) (sym (ap (λ (l : List StoredTree). get_or l row no_tree) none ∙ get_or-replicate n row empty no_tree (omega (arith, h, same))))
+          (record { count = all; leaves = tt }),
+    )
+
 -- one more value of a list that is written in order
 pub filled_next : {A : Type 0} (f : ℕ → A) (d : A) (xs : List A) (i : ℕ) (x : A) → i < length xs → x ≡ f i
     → ((j : ℕ) → j < i → get_or xs j d ≡ f j) → (j : ℕ) → j < i + 1 → get_or (set xs i x) j d ≡ f j
@@ -86,3 +98,24 @@ mapped_all f n d xs long each =
     ext_get_or d xs (map f (ascending 0 n)) (long ∙ sym (length-map (ascending 0 n) f ∙ length-ascending n 0)) (λ i h.
     let within : i < n = omega (arith, h, long) in
     each i within ∙ sym (get_or-mapped f n i d within))
+
+-- by what a tree has
+stored_by : (k : ℕ) (grid : List Share) (axis : Axis) (index n : ℕ) (o : Option (List Digest)) → IsSome (digest_over (record { count = n; leaves = o }) 0 n) → n ≡ 2 * k
+    → IfSome o (λ leaves. leaves ≡ axis_leaves k grid axis index) → record { count = n; leaves = o } ≡ axis_stored k grid axis index
+stored_by k grid axis index n None some count leaves = absurd cc
+stored_by k grid axis index n (Some made) some count leaves = λ i. record { count = count i; leaves = Some (leaves i) }
+
+-- a tree that has a root has the leaves of its axis
+pub rooted_stored : (k : ℕ) (grid : List Share) (axis : Axis) (index : ℕ) (tree : StoredTree) → IsSome (digest_over tree 0 tree.count) → IsNeededTree k grid axis index tree
+    → tree ≡ axis_stored k grid axis index
+rooted_stored k grid axis index tree some needed = stored_by k grid axis index tree.count tree.leaves some needed.count needed.leaves
+
+-- so has one whose leaves are those
+pub filled_stored : (k : ℕ) (grid : List Share) (axis : Axis) (index : ℕ) (tree : StoredTree) → tree.count ≡ 2 * k → tree.leaves ≡ Some (axis_leaves k grid axis index)
+    → tree ≡ axis_stored k grid axis index
+filled_stored k grid axis index tree count leaves = λ i. record { count = count i; leaves = leaves i }
+
+-- and it is one that may be asked for
+pub filled_needed : (k : ℕ) (grid : List Share) (axis : Axis) (index : ℕ) (tree : StoredTree) → tree ≡ axis_stored k grid axis index → IsNeededTree k grid axis index tree
+filled_needed k grid axis index tree is =
+    subst (IsNeededTree k grid axis index) (sym is) (record { count = refl; leaves = refl })

@@ -9,3 +9,4 @@ pub mod SizeLemmas
 pub mod ShownLemmas
 pub mod AnswerLemmas
 pub mod OnlyLemmas
+pub mod OwnLemmas

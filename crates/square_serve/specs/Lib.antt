@@ -4,4 +4,5 @@ pub mod Placed
 pub mod Own
 pub mod Needed
 pub mod RowNames
+pub mod Rows
 pub mod Serving

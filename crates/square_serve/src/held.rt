@@ -1,28 +1,26 @@
 //! A square that is held, and its answers.
 
-ghost use Rattle.std.specs.Prelude.{◌≡◌, ◌↔◌, ◌+◌, ◌*◌, ◌<◌, ◌≤◌, IsErr, IsErrOf, IfOk, Some, map, take, drop, true, false};
-ghost use Rattle.namespace_id.specs.declared.cells.Axis.TheVariants.{Row};
+ghost use Rattle.std.specs.Prelude.{◌≡◌, ◌↔◌, ◌*◌, IsErr, IsErrOf, IfOk, map, true, false};
 ghost use Rattle.namespace_id.specs.Names.{is_parity};
 ghost use Rattle.namespace_id.specs.Cells.{is_in_square};
 ghost use Rattle.square_layout.specs.Blocks.{SquareShares};
-ghost use Rattle.axis_roots.specs.Grids.{share_at, axis_names, axis_shares, grid_roots, HasNoHeader};
+ghost use Rattle.axis_roots.specs.Grids.{share_at, grid_roots, HasNoHeader};
 ghost use Rattle.axis_roots.specs.Openings.{IsProved};
-ghost use Rattle.axis_roots.specs.Trees.{axis_stored, message_at};
+ghost use Rattle.axis_roots.specs.Trees.{message_at};
 ghost use Rattle.square_serve.specs.Shares.{shares_of};
 ghost use Rattle.square_serve.specs.Answers.{shown, wanted_rows, IsComplete};
 ghost use Rattle.square_serve.specs.Needed.{AreNeeded};
 ghost use Rattle.square_serve.specs.RowNames.{row_names};
-ghost use Rattle.square_serve.specs.Serving.{IsHeld, Holds, count_below, count_same, found_at, found_in, entry_in, answer_for};
+ghost use Rattle.square_serve.specs.Serving.{IsHeld, Holds, entry_in, answer_for};
 
+use crate::finding::found_in;
 use crate::needed::NeededTrees;
-use crate::ordering::are_ordered_axes;
-use crate::rows::{RowNames, row_names};
+use crate::ordering::has_header;
+use crate::rows::{RowNames, front_of, row_names};
 use crate::serve_laws;
-use axis_roots::{Found, Grid, Message, NsAnswer, NsEntry, ShareList, index, message_from};
+use axis_roots::{Grid, Message, NsAnswer, NsEntry, index, message_from};
 use data_header::Header;
-use namespace_id::{Axis, Cell, Namespace, NoMemory, Share, is_in_square, namespace_law};
-use nmt_proofs::{make_absent, make_range};
-use nmt_tree::Tree;
+use namespace_id::{Axis, Cell, Namespace, NoMemory, is_in_square, namespace_law};
 use square_layout::Square;
 use std::alloc::{AllocError, Global};
 use std::marker::Model;
@@ -99,99 +97,6 @@ impl Model for Held {
     ghost invariant = { λ h. AreKept h.grid.k h.grid.shares h.names.items h.trees };
 }
 
-/// The columns of a namespace in a row whose namespaces never fall: the first one, before which all are
-/// below the namespace, and how many there are.
-#[derive(Clone, Copy)]
-struct Columns {
-    start: u16,
-    count: u16,
-}
-
-/// Counts the namespaces of a row of the original square that are below a namespace, and those that are
-/// this one. Behind the original square leaves have the namespace `PARITY`, which counts for neither.
-fn columns_of(grid: &Grid, namespace: &Namespace, row: u16) -> Columns
-    requires row { row < grid.now.k }
-    requires other { is_parity namespace.now ≡ false }
-    ensures start { result.start ≡
-        count_below namespace.now (axis_names grid.now.k grid.now.shares Row row) }
-    ensures count { result.count ≡
-        count_same namespace.now (axis_names grid.now.k grid.now.shares Row row) }
-    ensures within { result.start + result.count ≤ grid.now.k }
-{
-    namespace_law(namespace);
-    let mut columns = Columns { start: 0, count: 0 };
-    for col in 0..grid.width() {
-        let name = grid.cell(Cell { row, col }).namespace();
-        if !namespace.is_at_most(&name) {
-            columns.start += 1;
-        } else if name == *namespace {
-            columns.count += 1;
-        }
-    }
-    columns
-}
-
-/// The shares of a row of the original square in these columns.
-fn shares_in(grid: &Grid, row: u16, columns: Columns) -> &[Share]
-    requires row { row < grid.now.k }
-    requires within { columns.start + columns.count ≤ grid.now.k }
-    ensures { result.now ≡ take columns.count
-        (drop columns.start (axis_shares grid.now.k grid.now.shares Row row)) }
-{
-    let first = row as usize * (2 * grid.width() as usize) + columns.start as usize;
-    &grid.shares[first..first + columns.count as usize]
-}
-
-/// What is found in a row of the original square, with the tree over its leaves: the shares in these
-/// columns with the range proof, or the absence proof at the first of them where there are none.
-fn found_at(
-    alloc: Global,
-    grid: &Grid,
-    tree: &Tree,
-    row: u16,
-    columns: Columns,
-) -> Result<Found, AllocError>
-    requires row { row < grid.now.k }
-    requires tree { tree.now ≡ axis_stored grid.now.k grid.now.shares Row row }
-    requires within { columns.start + columns.count ≤ grid.now.k }
-    ensures { IfOk result (λ found. found ≡
-        found_at grid.now.k grid.now.shares row columns.start columns.count) }
-{
-    let start = columns.start;
-    if columns.count == 0 {
-        let absent = make_absent(tree, start);
-        return Ok(Found::Absence {
-            pos: start,
-            leaf: absent.leaf,
-            nodes: absent.nodes,
-        });
-    }
-    let list = Vec::from_slice(alloc, shares_in(grid, row, columns))?;
-    Ok(Found::Range {
-        start,
-        shares: ShareList { list },
-        nodes: make_range(tree, start, columns.count),
-    })
-}
-
-/// What is found of a namespace in a row of the original square, with the tree over its leaves.
-fn found_in(
-    alloc: Global,
-    grid: &Grid,
-    tree: &Tree,
-    namespace: &Namespace,
-    row: u16,
-) -> Result<Found, AllocError>
-    requires row { row < grid.now.k }
-    requires tree { tree.now ≡ axis_stored grid.now.k grid.now.shares Row row }
-    requires other { is_parity namespace.now ≡ false }
-    ensures { IfOk result (λ found. found ≡
-        found_in grid.now.k grid.now.shares namespace.now row) }
-{
-    let columns = columns_of(grid, namespace, row);
-    found_at(alloc, grid, tree, row, columns)
-}
-
 /// The entries of the rows of a grid that may hold a namespace. The trees over these rows are made,
 /// those of other rows aren't.
 fn entries_of(
@@ -213,7 +118,8 @@ fn entries_of(
     for row in 0..grid.width() {
         if names[row as usize].may_hold(namespace) {
             trees.make(grid, Axis::Row, row);
-            let found = found_in(alloc, grid, trees.tree(Axis::Row, row), namespace, row)?;
+            let tree = trees.tree(Axis::Row, row);
+            let found = found_in(alloc, front_of(grid, row), tree, namespace)?;
             entries.push(NsEntry { row, found })?;
         }
     }
@@ -225,7 +131,7 @@ impl Held {
     ghost use Rattle.std.specs.Io.BufRead.{Rests};
     ghost use Rattle.square_serve.specs.contracts.held.Held.{the_row};
 
-    /// Extends a square, and sees that it has a header. Nothing is hashed yet.
+    /// Sees that a square has a header, and extends it. Nothing is hashed yet.
     ///
     /// Refuses a square without a header, which drops it. It takes all memory but that of namespace
     /// answers: for 4 * k * k shares, as many digests of leaves, 4k trees of 4k - 1 digests each, a
@@ -236,11 +142,11 @@ impl Held {
         ensures no_header { IsErrOf result HeldError.NoHeader → HasNoHeader square }
         ensures held { IfOk result (λ held. Holds held square) }
     {
-        let grid = Grid::extend(alloc, &square)?;
-        if !are_ordered_axes(&grid) {
+        if !has_header(&square) {
             return Err(HeldError::NoHeader);
         }
-        let names = row_names(alloc, &grid)?;
+        let names = row_names(alloc, &square)?;
+        let grid = Grid::extend(alloc, &square)?;
         let trees = NeededTrees::of(alloc, &grid)?;
         Ok(Held { grid, names, trees })
     }

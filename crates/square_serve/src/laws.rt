@@ -1,6 +1,6 @@
 //! What is proved of answers to namespace requests.
 
-ghost use Rattle.std.specs.Prelude.{◌≡◌, ◌<◌, ◌≤◌, ◌⊎◌, ◌↔◌, ℕ, List, None, true, false};
+ghost use Rattle.std.specs.Prelude.{◌≡◌, ◌*◌, ◌<◌, ◌≤◌, ◌⊎◌, ◌↔◌, ℕ, List, None, true, false};
 ghost use Rattle.std.specs.List.{Contains};
 ghost use Rattle.namespace_id.specs.declared.cells.Cell.{Cell};
 ghost use Rattle.namespace_id.specs.declared.cells.Axis.{Axis};
@@ -62,6 +62,12 @@ pub fn serve_laws()
     ensures shares { (held : HeldParts) (square : SquareShares) (name : Namespace) → IsHeld held →
         Holds held square → IsNamespace name → is_parity name ≡ false →
         shown (answer_for held name) ≡ shares_of square name }
+
+    // So each namespace but PARITY has an answer under the header of a square.
+    ensures answer { (header : Roots) (square : SquareShares) (name : Namespace) →
+        IsHeaderOf header square → IsNamespace name → is_parity name ≡ false →
+        (answer : List NsEntry) × IsComplete header name answer × AreEntries answer
+        × (shown answer ≡ shares_of square name) }
 
     // No other answer is complete under the header of the square that is held, unless an entry and the
     // square name a collision.

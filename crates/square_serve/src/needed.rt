@@ -62,15 +62,15 @@ fn make_tree(
     }
 }
 
-/// Empty trees, each for so many leaves.
-fn empty_trees(alloc: Global, count: u16) -> Result<Vec<Tree>, NoMemory>
+/// So many empty trees, each for `count` leaves.
+pub(crate) fn empty_trees(alloc: Global, number: u16, count: u16) -> Result<Vec<Tree>, NoMemory>
     requires { IsTrue (is_leaf_count count) }
-    ensures { IfOk result (λ trees. trees.items ≡ empty_trees count count) }
+    ensures { IfOk result (λ trees. trees.items ≡ empty_trees number count) }
 {
-    let Ok(mut trees) = Vec::with_capacity(alloc, count as usize) else {
+    let Ok(mut trees) = Vec::with_capacity(alloc, number as usize) else {
         return Err(NoMemory);
     };
-    for _ in 0..count {
+    for _ in 0..number {
         let tree = Tree::new(alloc, count)?;
         let Ok(()) = trees.push(tree) else {
             return Err(NoMemory);
@@ -152,8 +152,8 @@ impl NeededTrees {
         };
         Ok(NeededTrees {
             leaves,
-            rows: empty_trees(alloc, side)?,
-            cols: empty_trees(alloc, side)?,
+            rows: empty_trees(alloc, side, side)?,
+            cols: empty_trees(alloc, side, side)?,
             line,
             header: blank_header(alloc, grid)?,
             rooted: false,

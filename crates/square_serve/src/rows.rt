@@ -1,14 +1,18 @@
 //! Rows of a square, and whether one may hold a namespace.
 
-ghost use Rattle.std.specs.Prelude.{◌≡◌, ◌*◌, ◌<◌, IfOk, true};
-ghost use Rattle.namespace_id.specs.Shares.{AreShares};
-ghost use Rattle.axis_roots.specs.Grids.{are_ordered_axes};
+ghost use Rattle.std.specs.Prelude.{◌≡◌, ◌*◌, ◌<◌, List, IfOk, length, take};
+ghost use Rattle.namespace_id.specs.declared.cells.Axis.TheVariants.{Row};
+ghost use Rattle.namespace_id.specs.declared.shares.Share.{Share as ShareOf};
+ghost use Rattle.axis_roots.specs.Grids.{Extends, axis_shares};
 ghost use Rattle.square_serve.specs.Answers.{is_wanted};
 ghost use Rattle.square_serve.specs.RowNames.{names_of, row_names, lies_between};
+ghost use Rattle.square_serve.specs.Rows.{HasHeader};
 
+use crate::ordering::name_over;
 use axis_roots::Grid;
 use data_header::Header;
-use namespace_id::{Axis, Cell, Namespace, NoMemory, shares_law};
+use namespace_id::{Axis, Cell, Namespace, NoMemory, Share};
+use square_layout::Square;
 use std::alloc::Global;
 
 /// Whether a row may hold a namespace: it lies between the namespaces of the row's root.
@@ -20,6 +24,28 @@ pub(crate) fn is_wanted(header: &Header, namespace: &Namespace, row: u16) -> boo
 {
     let root = header.root_of(Axis::Row, row);
     root.least().is_at_most(namespace) && namespace.is_at_most(&root.greatest())
+}
+
+/// The k shares of a row of a square.
+pub(crate) fn row_of(square: &Square, row: u16) -> &[Share]
+    requires { row < square.now.k }
+    ensures count { length result.now ≡ square.now.k }
+    ensures shares { (grid : List ShareOf) → Extends square.now.k square.now.shares grid →
+        result.now ≡ take square.now.k (axis_shares square.now.k grid Row row) }
+{
+    let (k, row) = (square.k as usize, row as usize);
+    &square.shares[row * k..(row + 1) * k]
+}
+
+/// The k shares that a row of the original square has in its extension.
+pub(crate) fn front_of(grid: &Grid, row: u16) -> &[Share]
+    requires { row < grid.now.k }
+    ensures count { length result.now ≡ grid.now.k }
+    ensures shares { result.now ≡ take grid.now.k (axis_shares grid.now.k grid.now.shares Row row) }
+{
+    let k = grid.width() as usize;
+    let first = row as usize * (2 * k);
+    &grid.shares[first..first + k]
 }
 
 /// The least and the greatest namespace of a row's root.
@@ -40,18 +66,19 @@ impl RowNames {
     }
 }
 
-/// The namespaces of the root of a row of the original square, told without the root: the least is that of
-/// the first leaf, the greatest that of the last leaf that isn't `PARITY`, and `PARITY` where all are.
-fn names_of(grid: &Grid, row: u16) -> RowNames
-    requires row { row < grid.now.k }
-    requires shares { AreShares grid.now.shares }
-    requires ordered { are_ordered_axes grid.now.k grid.now.shares ≡ true }
-    ensures { result ≡ names_of grid.now.k grid.now.shares row }
+/// The namespaces of the root of a row of a square that has a header, told without the root: the least is
+/// that of the first leaf, the greatest that of the last leaf that isn't `PARITY`, and `PARITY` where all
+/// are.
+fn names_of(square: &Square, row: u16) -> RowNames
+    requires header { HasHeader square.now }
+    requires row { row < square.now.k }
+    ensures { (grid : List ShareOf) → Extends square.now.k square.now.shares grid →
+        result ≡ names_of square.now.k grid row }
 {
-    let least = grid.cell(Cell { row, col: 0 }).namespace();
+    let least = name_over(square, Cell { row, col: 0 });
     let mut greatest = least;
-    for col in 1..grid.width() {
-        let name = grid.cell(Cell { row, col }).namespace();
+    for col in 1..square.k {
+        let name = name_over(square, Cell { row, col });
         if !name.is_parity() {
             greatest = name;
         }
@@ -59,20 +86,19 @@ fn names_of(grid: &Grid, row: u16) -> RowNames
     RowNames { least, greatest }
 }
 
-/// Those of the rows of the original square, from the first down.
+/// Those of all rows of a square that has a header, from the first down.
 ///
 /// It takes memory for them. The one refusal is that it is out of memory.
-pub(crate) fn row_names(alloc: Global, grid: &Grid) -> Result<Vec<RowNames>, NoMemory>
-    requires { are_ordered_axes grid.now.k grid.now.shares ≡ true }
-    ensures { IfOk result (λ names. names.items ≡ row_names grid.now.k grid.now.shares) }
+pub(crate) fn row_names(alloc: Global, square: &Square) -> Result<Vec<RowNames>, NoMemory>
+    requires { HasHeader square.now }
+    ensures { IfOk result (λ names. (grid : List ShareOf) →
+        Extends square.now.k square.now.shares grid → names.items ≡ row_names square.now.k grid) }
 {
-    shares_law(&grid.shares);
-    let k = grid.width();
-    let Ok(mut names) = Vec::with_capacity(alloc, k as usize) else {
+    let Ok(mut names) = Vec::with_capacity(alloc, square.k as usize) else {
         return Err(NoMemory);
     };
-    for row in 0..k {
-        let Ok(()) = names.push(names_of(grid, row)) else {
+    for row in 0..square.k {
+        let Ok(()) = names.push(names_of(square, row)) else {
             return Err(NoMemory);
         };
     }

@@ -1,5 +1,5 @@
 -- What is read from the stored trees and the shares of a grid.
-use Rattle.std.proofs.Common.{◌≡◌, ◌∙◌, ℕ, ◌+◌, ◌-◌, ◌*◌, ◌<◌, ◌≤◌, List, length, take, drop, get_or, IsTrue, true, false, Bool, cond, Some, None, refl, sym, ap, subst₂, arith, length-drop}
+use Rattle.std.proofs.Common.{◌≡◌, ◌∙◌, ℕ, ◌+◌, ◌-◌, ◌*◌, ◌<◌, ◌≤◌, List, length, take, drop, get_or, IsTrue, true, Some, refl, sym, ap, subst₂, arith, length-drop}
 use Rattle.std.proofs.lemmas.List.{get_or-take, get_or-drop, ext_get_or, length-take-le}
 use Rattle.namespace_id.specs.declared.cells.Cell.{Cell}
 use Rattle.namespace_id.specs.declared.cells.Axis.{Axis}
@@ -12,23 +12,14 @@ use Rattle.axis_roots.specs.declared.message.messages.Message.{Message}
 use Rattle.axis_roots.specs.Messages.{index, root_for}
 use Rattle.axis_roots.specs.Openings.{OpensAt, IsProved}
 use Rattle.axis_roots.specs.Lines.{blank}
-use Rattle.axis_roots.specs.Grids.{share_at, axis_shares, axis_root, is_ordered_axis, are_ordered_axes, header_of_grid, Extends, HasNoHeader, grid_roots}
-use Rattle.square_layout.specs.Blocks.{SquareShares}
+use Rattle.axis_roots.specs.Grids.{share_at, axis_shares, axis_root, is_ordered_axis, are_ordered_axes, header_of_grid}
 use Rattle.axis_roots.specs.Trees.{message_at}
 use Rattle.axis_roots.proofs.Grids.AxisLemmas.{length-along}
 use Rattle.axis_roots.proofs.Grids.NumberLemmas.{index-lt, number-lt}
-use Rattle.axis_roots.proofs.Grids.HeaderLemmas.{some_if, ordered_axis, header_width, header_root, header_not_made}
+use Rattle.axis_roots.proofs.Grids.HeaderLemmas.{some_if, ordered_axis, header_width, header_root}
 use Rattle.axis_roots.proofs.Messages.MessageLemmas.{message_opens}
 use Rattle.square_serve.specs.Serving.{HeldParts, IsHeld}
 use Rattle.square_serve.proofs.RowLemmas.{axis_shares-at}
-
--- ---- headers
-
--- a square along whose extension some namespaces fall has no header
-pub no_header : (square : SquareShares) (k : ℕ) (grid : List Share) → k ≡ square.k → Extends square.k square.shares grid → are_ordered_axes k grid ≡ false → HasNoHeader square
-no_header square k grid same extends falls = λ header is.
-    header_not_made square grid header extends
-    (ap (λ (n : ℕ). header_of_grid n grid) (sym same) ∙ ap (λ (b : Bool). cond b (Some (grid_roots k grid)) None) falls) is
 
 -- ---- samples
 

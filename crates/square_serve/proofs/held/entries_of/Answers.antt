@@ -20,7 +20,7 @@ loop-row-preserved c =
       | then-may_hold+in_ok-found+in_ok-push w ↦ record {
         needed = subst (AreNeeded c.args.grid.now.k c.args.grid.now.shares) (sym w.trees-is) w.make.ensures.needed;
         so_far = entries-pushed (grid_roots c.args.grid.now.k c.args.grid.now.shares) c.args.grid.now.k c.args.grid.now.shares c.args.namespace.now c.loop-row.row _ _ _ _ within (sym wanted ∙ sym w.if-may_hold.ensures)
-            w.in_ok-found.ensures (ap (λ (v : Vec NsEntry Global). v.items) w.entries-is ∙ w.in_ok-push.ensures.items) c.loop-row.invariant.so_far;
+            (w.in_ok-found.ensures c.args.grid.now.k c.loop-row.row c.args.grid.now.shares (record { within = within; shares = w.front_of.ensures.shares; tree = w.tree-tree.ensures ∙ w.make.ensures.made })) (ap (λ (v : Vec NsEntry Global). v.items) w.entries-is ∙ w.in_ok-push.ensures.items) c.loop-row.invariant.so_far;
       }
       | else-may_hold w ↦ record {
         needed = subst (AreNeeded c.args.grid.now.k c.args.grid.now.shares) (sym w.trees-is) c.loop-row.invariant.needed;
