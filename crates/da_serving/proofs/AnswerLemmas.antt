@@ -11,12 +11,13 @@ use Rattle.namespace_id.specs.Lists.{ascending}
 use Rattle.namespace_id.proofs.AscendingLemmas.{length-ascending}
 use Rattle.namespace_id.proofs.WidthLemmas.{is_width-le}
 use Rattle.data_header.specs.Headers.{Roots}
+use Rattle.square_layout.specs.Blocks.{SquareShares}
+use Rattle.axis_roots.specs.Grids.{IsHeaderOf}
 use Rattle.axis_roots.specs.declared.answers.Found.{Found}
 use Rattle.axis_roots.specs.declared.answers.Found.TheVariants.{Range, Absence}
 use Rattle.axis_roots.specs.declared.answers.NsEntry.{NsEntry}
-use Rattle.axis_roots.proofs.Grids.HeaderLemmas.{header_width}
+use Rattle.axis_roots.proofs.Grids.HeaderLemmas.{header_roots}
 use Rattle.square_serve.specs.Answers.{is_wanted, is_placed, HoldsEntry, IsComplete}
-use Rattle.square_serve.specs.Serving.{HeldParts, IsHeld}
 use Rattle.frame_payloads.specs.kinds.Names.{most_entries, is_long_found, is_long_entry, is_long_answer}
 
 -- no more elements pass a test than there are
@@ -37,13 +38,13 @@ entries_short header name [] le holds = refl
 entries_short header name (entry ∷ answer) le holds =
     or_from (is_long_entry entry) (list_any is_long_entry answer) (found_short header.k entry.found le holds.0.placed) (entries_short header name answer le holds.1)
 
--- a complete answer has an entry for at most each row of the original square
-pub complete_short : (held : HeldParts) (name : names.Namespace) (answer : List NsEntry) → IsHeld held → IsComplete held.header name answer → is_long_answer answer ≡ false
-complete_short held name answer is complete =
-    let width : held.header.k ≡ held.k = header_width held.k held.grid held.header is.roots in
-    let le : held.header.k ≤ greatest_width = omega (arith, width, is_width-le held.k is.grid.width) in
+-- an answer that is complete under a square's header has an entry for at most each row of the square
+pub complete_short : (header : Roots) (square : SquareShares) (name : names.Namespace) (answer : List NsEntry) → IsHeaderOf header square → IsComplete header name answer
+    → is_long_answer answer ≡ false
+complete_short header square name answer own complete =
+    let le : header.k ≤ greatest_width = is_width-le header.k (header_roots square header own).width in
     let rows = length-map answer (λ (entry : NsEntry). entry.row) in
-    let few = filter_few (is_wanted held.header name) (ascending 0 held.header.k) in
-    let many : length (map (λ (entry : NsEntry). entry.row) answer) ≡ length (filter (is_wanted held.header name) (ascending 0 held.header.k)) = ap length complete.rows in
+    let few = filter_few (is_wanted header name) (ascending 0 header.k) in
+    let many : length (map (λ (entry : NsEntry). entry.row) answer) ≡ length (filter (is_wanted header name) (ascending 0 header.k)) = ap length complete.rows in
     or_from (nat_lt most_entries (length answer)) (list_any is_long_entry answer)
-    (le-ltb greatest_width (length answer) (omega (arith, rows, many, few, length-ascending held.header.k 0, le))) (entries_short held.header name answer le complete.entries)
+    (le-ltb greatest_width (length answer) (omega (arith, rows, many, few, length-ascending header.k 0, le))) (entries_short header name answer le complete.entries)

@@ -6,10 +6,12 @@ use Rattle.std.proofs.lemmas.Bool.{not-true}
 use Rattle.namespace_id.specs.declared.namespaces.Namespace as names
 use Rattle.namespace_id.specs.Bytes.{AreBytes}
 use Rattle.namespace_id.specs.Names.{IsNamespace, is_parity}
+use Rattle.data_header.specs.Headers.{Roots}
 use Rattle.square_layout.specs.Blocks.{SquareShares}
+use Rattle.axis_roots.specs.declared.answers.NsEntry.{NsEntry}
+use Rattle.axis_roots.specs.Answers.{AreEntries}
 use Rattle.square_serve.specs.Shares.{shares_of}
 use Rattle.square_serve.specs.Answers.{shown, IsComplete}
-use Rattle.square_serve.specs.Serving.{HeldParts, Holds, answer_for}
 use Rattle.da_wire.specs.declared.frames.Frame.{Frame}
 use Rattle.da_wire.specs.declared.frames.Frame.TheVariants.{Names, Request}
 use Rattle.da_wire.specs.Spelling.{spelling, request_kind, IsFrame}
@@ -63,20 +65,22 @@ are_named whole first bytes fits =
 
 -- ---- answers
 
--- each request for another namespace than PARITY allows a frame that has a spelling, by what is known of a held square
--- and of frames of answers
-pub have_names : (held : HeldParts) (square : SquareShares) → Holds held square
-    → ((name : names.Namespace) → IsNamespace name → is_parity name ≡ false → IsComplete held.header name (answer_for held name))
-    → ((name : names.Namespace) → IsNamespace name → is_parity name ≡ false → shown (answer_for held name) ≡ shares_of square name)
-    → ((name : names.Namespace) → IsNamespace name → is_parity name ≡ false → IsSome (spelling (Names name (answer_for held name))))
+-- there is a complete answer that shows exactly the square's shares, for each namespace but PARITY
+abbrev pub HaveAnswers : Roots → SquareShares → Type 0
+HaveAnswers header square =
+    (name : names.Namespace) → IsNamespace name → is_parity name ≡ false
+    → (answer : List NsEntry) × IsComplete header name answer × AreEntries answer × (shown answer ≡ shares_of square name)
+
+-- so each request for one allows a frame that has a spelling, by what is known of frames of answers
+pub have_names : (header : Roots) (square : SquareShares) → HaveAnswers header square
+    → ((name : names.Namespace) (answer : List NsEntry) → IsNamespace name → AreEntries answer → IsComplete header name answer → IsSome (spelling (Names name answer)))
     → (requests : List names.Namespace) → AllByRecursion IsNamespace requests → AllByRecursion (λ (name : names.Namespace). is_other name ≡ true) requests
-    → AllByRecursion (HasFrame (AllowsNames square held.header)) requests
-have_names held square holds complete shares spelled [] are others = tt
-have_names held square holds complete shares spelled (name ∷ requests) are others =
-    let answer = answer_for held name in
-    let other = not-true (is_parity name) others.0 in (
-      (Names name answer, (answer, record { complete = complete name are.0 other; shares = shares name are.0 other }, refl), spelled name are.0 other),
-      have_names held square holds complete shares spelled requests are.1 others.1,
+    → AllByRecursion (HasFrame (AllowsNames square header)) requests
+have_names header square there spelled [] are others = tt
+have_names header square there spelled (name ∷ requests) are others =
+    let found = there name are.0 (not-true (is_parity name) others.0) in (
+      (Names name found.0, (found.0, record { complete = found.1; shares = found.3 }, refl), spelled name found.0 are.0 found.2 found.1),
+      have_names header square there spelled requests are.1 others.1,
     )
 
 -- what namespace answers to its files is an answer

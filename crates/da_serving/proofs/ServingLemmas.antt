@@ -1,5 +1,5 @@
 -- What commands that answer requests over a square write, and how they end.
-use Rattle.std.proofs.Common.{◌≡◌, ◌∙◌, ℕ, Bool, List, [], ◌∷◌, ◌++◌, None, Some, IsSome, inl, inr, refl, sym, ap, subst, arith, append_assoc, ◌↔◌, ◌⊎◌}
+use Rattle.std.proofs.Common.{◌≡◌, ◌∙◌, ℕ, Bool, List, [], ◌∷◌, ◌++◌, None, Some, IsSome, inl, inr, refl, sym, ap, subst, arith, append_assoc, append-nil, ◌↔◌, ◌⊎◌}
 use Rattle.std.specs.declared.option.Option.{Option}
 use Rattle.std.specs.Prelude.{MatchOption}
 use Rattle.std.specs.List.{AllByRecursion}
@@ -22,7 +22,7 @@ use Rattle.da_status.specs.Outcome.{Relation, Refuses, Outputs, OutputsPart, Out
 use Rattle.da_files.specs.Frames.{Writes}
 use Rattle.da_files.specs.Requests.{failing_from}
 use Rattle.da_serving.specs.Serving.{Gives, Serves}
-use Rattle.da_status.proofs.EndLemmas.{IsAnswer, status_answers, ends_in_fault}
+use Rattle.da_status.proofs.EndLemmas.{IsAnswer, status_answers, ends_in_fault, ends_output}
 use Rattle.da_files.proofs.FileLemmas.{some_there}
 use Rattle.da_files.proofs.SpelledLemmas.{spelling_some}
 use Rattle.da_io.proofs.PieceLemmas.{part_of_front, part_of_back}
@@ -138,6 +138,13 @@ module _ {A : Type 0} (Allows : A → Frame → Type 0) where
       let first = frames.0 in
       let text = some_there (spelling first.0) first.2 in
       stopped_memory old new new all rest some.1 some.0 first.0 before now Same s some.2 first.1 frames.1 told text.0 text.1 ([], Appends-nil new, inl refl) counted
+
+  -- all were answered
+  pub served_all : (old new : Option (List ℕ)) (all rest : List A) (before now : ℕ) (Same : Type 0) → Served old new all rest → rest ≡ []
+      → now ≡ before → (IsSome old ↔ IsSome new) → Ends (Gives Allows all) old new before now Same Done
+  served_all old new all rest before now Same s none counted told =
+      let same : s.0 ≡ all = sym (append-nil s.0) ∙ ap (λ (l : List A). s.0 ++ l) (sym none) ∙ sym s.4 in
+      ends_output (Gives Allows all) s.1 Done old new before now Same refl (subst (λ (l : List A). FramesOf Allows l s.1) same s.2, refl) s.3 counted told
 
 -- ---- what is answered over a square
 

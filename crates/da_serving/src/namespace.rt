@@ -2,8 +2,8 @@
 
 ghost use Rattle.std.specs.Prelude.{◌≡◌, None, IsSome, false, ◌∷◌, []};
 ghost use Rattle.namespace_id.specs.Names.{is_parity};
-ghost use Rattle.square_layout.specs.Blocks.{SquareShares};
-ghost use Rattle.square_serve.specs.Serving.{Holds};
+ghost use Rattle.data_header.specs.Headers.{Roots};
+ghost use Rattle.axis_roots.specs.Grids.{IsHeaderOf};
 ghost use Rattle.da_wire.specs.declared.frames.Frame.TheVariants as FrameOf;
 ghost use Rattle.da_wire.specs.Spelling.{spelling, request_kind};
 ghost use Rattle.frame_payloads.specs.kinds.Names.{is_long_answer};
@@ -22,7 +22,7 @@ use da_status::{Asked, Status};
 use da_wire::{Frame, value_laws, wire_laws};
 use namespace_id::{Namespace, bytes_law, namespace_law};
 use square_layout::Square;
-use square_serve::{Held, HeldError, ServeError, serve_laws};
+use square_serve::{HeldError, HeldRows, ServeError, serve_laws};
 use std::alloc::Global;
 
 /// The number of the first request of `PARITY`, which no answer can be complete for.
@@ -54,10 +54,10 @@ fn answer_frame(name: Namespace, answer: NsAnswer) -> Frame
 }
 
 /// Writes the answers for the namespaces that are asked for, one at a time. None is `PARITY`.
-fn give_answers<O: Sink>(alloc: Global, held: &mut Held, requests: &[u8], out: &mut O) -> Status
+fn give_answers<O: Sink>(alloc: Global, held: &mut HeldRows, requests: &[u8], out: &mut O) -> Status
     requires { failing_from is_other 0 (namespaces_in requests.now) ≡ None }
-    ensures { (square : SquareShares) → Holds held.old square →
-        Ends (Gives (AllowsNames square held.old.header) (namespaces_in requests.now))
+    ensures { (header : Roots) → IsHeaderOf header held.old →
+        Ends (Gives (AllowsNames held.old header) (namespaces_in requests.now))
         (O.taken out.old) (O.taken out.new) (O.faults out.old) (O.faults out.new)
         (out.new ≡ out.old) result }
 {
@@ -90,8 +90,7 @@ fn answer<O: Sink>(alloc: Global, square: Square, requests: &[u8], out: &mut O) 
         (namespaces_in requests.now)) (O.taken out.old) (O.taken out.new) (O.faults out.old)
         (O.faults out.new) (out.new ≡ out.old) result }
 {
-    serve_laws();
-    let mut held = match Held::of(alloc, square) {
+    let mut held = match HeldRows::of(alloc, square) {
         Ok(held) => held,
         Err(HeldError::NoHeader) => return Status::BadRequest(Asked::NoHeader),
         Err(HeldError::NoMemory) => return Status::NoMemory,

@@ -21,7 +21,7 @@ ghost use Rattle.da_files.specs.Frames.{square_in};
 ghost use Rattle.da_status.specs.Judging.{Judged};
 ghost use Rattle.da_status.specs.Outcome.{Ends, EndsAtOnce};
 
-use crate::sample::{first_outside, next_sample};
+use crate::sample::{are_few, first_outside, next_sample};
 use axis_roots::{Grid, LeftHalf, Message, grid_laws, header_of, index};
 use blob_commit::{
     CommitProof, ProveError, RootedMessage, commit_law, prove_commit, row_trees, sample_laws,
@@ -35,13 +35,6 @@ use namespace_id::NoMemory;
 use square_layout::Square;
 use square_serve::{Held, HeldError, serve_laws};
 use std::alloc::Global;
-
-/// How many requests are answered from the left half of the extension. A proof from there hashes the nodes
-/// over an axis, and may extend a row; from so many on trees of all rows and columns cost less.
-const FEW_REQUESTS: usize = 64;
-
-/// How many bytes the frame of a request has.
-const REQUEST_LENGTH: usize = 10;
 
 /// The tree over the roots of a held square's header.
 fn data_tree(alloc: Global, held: &mut Held) -> Result<DataTree, NoMemory>
@@ -190,7 +183,7 @@ fn answer<O: Sink>(alloc: Global, square: Square, requests: &[u8], out: &mut O) 
         (samples_in requests.now)) (O.taken out.old) (O.taken out.new) (O.faults out.old)
         (O.faults out.new) (out.new ≡ out.old) result }
 {
-    if requests.len() <= FEW_REQUESTS * REQUEST_LENGTH {
+    if are_few(requests) {
         answer_few(alloc, square, requests, out)
     } else {
         answer_many(alloc, square, requests, out)

@@ -14,7 +14,7 @@ ghost use Rattle.da_files.specs.Forms.{requests_judged};
 ghost use Rattle.da_status.specs.Judging.{Judged};
 ghost use Rattle.da_status.specs.Outcome.{Ends};
 
-use axis_roots::{Message, message_law};
+use axis_roots::{LeftHalf, Message, message_law};
 use da_files::{give, square_and_requests};
 use da_io::Sink;
 use da_status::{Asked, Status};
@@ -23,6 +23,18 @@ use namespace_id::{Axis, Cell, is_in_square};
 use square_layout::Square;
 use square_serve::{Held, HeldError, serve_laws};
 use std::alloc::Global;
+
+/// How many requests are answered from the left half of the extension. A sample from there hashes the nodes
+/// over an axis, and may extend a row; from so many on trees of all rows and columns cost less.
+const FEW_REQUESTS: usize = 64;
+
+/// How many bytes the frame of a request has.
+const REQUEST_LENGTH: usize = 10;
+
+/// Whether a list of requests for samples is answered from the left half of the extension.
+pub(crate) fn are_few(requests: &[u8]) -> bool {
+    requests.len() <= FEW_REQUESTS * REQUEST_LENGTH
+}
 
 /// The request at the front of a list of requests for samples, and the bytes after it.
 pub(crate) fn next_sample(bytes: &[u8]) -> Option<((Cell, Axis), &[u8])>
@@ -85,8 +97,8 @@ fn give_samples<O: Sink>(alloc: Global, held: &mut Held, requests: &[u8], out: &
     Status::Done
 }
 
-/// Answers to the requests over a square.
-fn answer<O: Sink>(alloc: Global, square: Square, requests: &[u8], out: &mut O) -> Status
+/// Answers to the requests over a square, from its whole extension and the trees of all rows and columns.
+fn answer_many<O: Sink>(alloc: Global, square: Square, requests: &[u8], out: &mut O) -> Status
     ensures { Ends (Serves square (is_asked_inside square) (AllowsSample square)
         (samples_in requests.now)) (O.taken out.old) (O.taken out.new) (O.faults out.old)
         (O.faults out.new) (out.new ≡ out.old) result }
@@ -101,6 +113,61 @@ fn answer<O: Sink>(alloc: Global, square: Square, requests: &[u8], out: &mut O) 
     match first_outside(k, requests) {
         Some(number) => Status::BadRequest(Asked::At(number)),
         None => give_samples(alloc, &mut held, requests, out),
+    }
+}
+
+/// Writes the samples that are asked for, one at a time, from the left half of the extension. The cells are
+/// in the square.
+fn give_few<O: Sink>(alloc: Global, half: &mut LeftHalf, requests: &[u8], out: &mut O) -> Status
+    requires { failing_from (λ asked. is_in_square half.old.square.k asked.0) 0
+        (samples_in requests.now) ≡ None }
+    ensures { Ends (Gives (AllowsSample half.old.square half.old.header) (samples_in requests.now))
+        (O.taken out.old) (O.taken out.new) (O.faults out.old) (O.faults out.new)
+        (out.new ≡ out.old) result }
+{
+    wire_laws();
+    half.law();
+    let mut text = Vec::new(alloc);
+    let mut rest = requests;
+    while let Some((asked, after)) = next_sample(rest) {
+        let message = half.sample(asked.0, asked.1);
+        let status = give(message_frame(message), &mut text, out);
+        match status {
+            Status::Done => rest = after,
+            failed => return failed,
+        }
+    }
+    Status::Done
+}
+
+/// Answers to the requests over a square, from the left half of its extension.
+fn answer_few<O: Sink>(alloc: Global, square: Square, requests: &[u8], out: &mut O) -> Status
+    ensures { Ends (Serves square (is_asked_inside square) (AllowsSample square)
+        (samples_in requests.now)) (O.taken out.old) (O.taken out.new) (O.faults out.old)
+        (O.faults out.new) (out.new ≡ out.old) result }
+{
+    let k = square.k;
+    let mut half = match LeftHalf::of(alloc, square) {
+        Ok(Some(half)) => half,
+        Ok(None) => return Status::BadRequest(Asked::NoHeader),
+        Err(_) => return Status::NoMemory,
+    };
+    match first_outside(k, requests) {
+        Some(number) => Status::BadRequest(Asked::At(number)),
+        None => give_few(alloc, &mut half, requests, out),
+    }
+}
+
+/// Answers to the requests over a square, by how many they are.
+fn answer<O: Sink>(alloc: Global, square: Square, requests: &[u8], out: &mut O) -> Status
+    ensures { Ends (Serves square (is_asked_inside square) (AllowsSample square)
+        (samples_in requests.now)) (O.taken out.old) (O.taken out.new) (O.faults out.old)
+        (O.faults out.new) (out.new ≡ out.old) result }
+{
+    if are_few(requests) {
+        answer_few(alloc, square, requests, out)
+    } else {
+        answer_many(alloc, square, requests, out)
     }
 }
 

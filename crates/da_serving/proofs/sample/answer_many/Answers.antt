@@ -8,7 +8,7 @@ use Rattle.da_serving.specs.Serving.{Gives, Serves}
 use Rattle.da_serving.specs.Sample.{samples_in, is_asked_inside, AllowsSample}
 use Rattle.da_status.proofs.EndLemmas.{ends_within, ends_request}
 use Rattle.da_serving.proofs.ServingLemmas.{serves_gives, serves_at, serves_none}
-use Rattle.da_serving.proofs.sample.answer.Goals as goal
+use Rattle.da_serving.proofs.sample.answer_many.Goals as goal
 
 pub returns-in-Err-NoHeader : goal.returns-in-Err-NoHeader
 returns-in-Err-NoHeader g c =
