@@ -1,0 +1,14 @@
+-- payments for blobs, and lists of transactions that were read
+pub mod Payments
+-- payments as their compact shares have them
+pub mod Wrapped
+-- the room that is reserved for them
+pub mod Reserves
+-- where blobs start
+pub mod Places
+-- the square of a list
+pub mod Lists
+-- why no square holds it
+pub mod Refusals
+-- what single steps do
+pub mod Steps

@@ -1,0 +1,49 @@
+//! Laws of lists of transactions.
+
+ghost use Rattle.std.specs.Prelude.{◌≡◌, ◌≤◌, ◌<◌, ◌+◌, ◌++◌, ◌∷◌, ℕ, List, None, length, take, drop, map, slice_index, true};
+ghost use Rattle.std.specs.List.{AllByRecursion};
+ghost use Rattle.namespace_id.specs.Lists.{holds_along};
+ghost use Rattle.namespace_id.specs.Names.{is_at_most};
+ghost use Rattle.namespace_id.specs.Shares.{name_in};
+ghost use Rattle.share_split.specs.Blobs.{NamedBytes, blob_shares_of};
+ghost use Rattle.share_split.specs.Units.{unit_share_count};
+ghost use Rattle.square_layout.specs.Layout.{in_order, share_count_of, end_of, laid};
+ghost use Rattle.square_layout.specs.Plans.{starts_after, planned};
+ghost use Rattle.square_layout.specs.Refusals.{max_shares};
+ghost use Rattle.tx_list.specs.Payments.{ListParts, IsPayment, blobs_of};
+ghost use Rattle.tx_list.specs.Places.{places_from, ordered};
+ghost use Rattle.tx_list.specs.Reserves.{wrap_full, list_reserve, list_bound};
+ghost use Rattle.tx_list.specs.Lists.{list_places, written, plan_of_list, block_of_list, square_of_list};
+
+/// What holds of the square of a list that may take no more shares than the greatest square has. It changes nothing.
+///
+/// docs/RULES.md, "A block of the network".
+pub fn list_laws()
+    // The reserve holds: each place is in the greatest square, the written payments end before the blobs, and the last blob
+    // ends within what the width is for.
+    ensures low { (list : ListParts) → list_bound list ≤ max_shares →
+        AllByRecursion (λ place. place < max_shares) (list_places list) }
+    ensures room { (list : ListParts) → list_bound list ≤ max_shares →
+        unit_share_count list.units + unit_share_count (written list) ≤ list_reserve list }
+    ensures ends { (list : ListParts) →
+        end_of (list_reserve list) (in_order (blobs_of list.payments)) ≤ list_bound list }
+
+    // Each blob stands at its place, and the namespaces of the shares never fall.
+    ensures stands { (list : ListParts) (before after : List NamedBytes) (blob : NamedBytes) →
+        list_bound list ≤ max_shares → blobs_of list.payments ≡ before ++ blob ∷ after →
+        take (share_count_of blob)
+        (drop (slice_index (list_places list) (length before)) (planned (plan_of_list list)))
+        ≡ blob_shares_of blob.namespace blob.signer blob.bytes }
+    ensures rising { (list : ListParts) → AllByRecursion IsPayment list.payments →
+        holds_along is_at_most (map name_in (square_of_list list).shares) ≡ true }
+
+    // The places in order are the starts of a plan, than which none are less (`square_layout::plan_laws`).
+    ensures starts { (end : ℕ) (blobs : List NamedBytes) →
+        map (λ place. place.start) (places_from end (ordered blobs)) ≡ starts_after end (in_order blobs) }
+
+    // A list without signers, whose payments take as many shares as are reserved for them, is laid out as a block is.
+    ensures same { (list : ListParts) →
+        unit_share_count (written list) ≡ unit_share_count (wrap_full list.payments) →
+        AllByRecursion (λ blob. blob.signer ≡ None) (blobs_of list.payments) →
+        planned (plan_of_list list) ≡ laid (block_of_list list) }
+{}
