@@ -12,3 +12,5 @@ pub mod Lists
 pub mod Refusals
 -- what single steps do
 pub mod Steps
+-- the one spelling of payments
+pub mod Spelled

@@ -10,9 +10,11 @@ mod laying;
 mod payments;
 mod placing;
 mod refusals;
+mod spelling;
 mod wrapping;
 
 pub use laws::list_laws;
 pub use laying::{lay_list, places};
 pub use payments::{Payment, TxList};
 pub use refusals::ListError;
+pub use spelling::spell_list;
