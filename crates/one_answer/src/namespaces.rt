@@ -7,7 +7,7 @@ ghost use Rattle.one_answer.specs.Ones.{AreOne};
 use axis_roots::NsAnswer;
 use data_header::Header;
 use namespace_id::{Namespace, NsError};
-use square_serve::{Held, NsRefusal, ServeError, check_namespace};
+use square_serve::{Held, HeldRows, NsRefusal, ServeError, check_namespace};
 use std::alloc::Global;
 
 /// Bytes are one namespace of a blob, or refused for one reason.
@@ -30,6 +30,23 @@ pub fn namespace_twice(
     ensures answer { AreOne (λ x. x) Full result.0 result.1 }
     ensures state { one.new ≡ other.new }
 {
+    let first = one.namespace(alloc, namespace);
+    let second = other.namespace(alloc, namespace);
+    (first, second)
+}
+
+/// So has one that is held without its extension.
+pub fn rows_namespace_twice(
+    alloc: Global,
+    one: &mut HeldRows,
+    other: &mut HeldRows,
+    namespace: &Namespace,
+) -> (Result<NsAnswer, ServeError>, Result<NsAnswer, ServeError>)
+    requires same { one.old ≡ other.old }
+    ensures answer { AreOne (λ x. x) Full result.0 result.1 }
+    ensures state { one.new ≡ other.new }
+{
+    one.held_law();
     let first = one.namespace(alloc, namespace);
     let second = other.namespace(alloc, namespace);
     (first, second)

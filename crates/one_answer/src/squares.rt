@@ -10,7 +10,7 @@ use axis_roots::{Grid, grid_laws, header_of_square};
 use data_header::Header;
 use namespace_id::NoMemory;
 use square_layout::{Block, LayError, Square, lay};
-use square_serve::{Held, HeldError, serve_laws};
+use square_serve::{Held, HeldError, HeldRows, serve_laws};
 use std::alloc::Global;
 
 /// A block has one square.
@@ -68,5 +68,19 @@ pub fn held_of_twice(
     serve_laws();
     let first = Held::of(alloc, square);
     let second = Held::of(alloc, copy);
+    (first, second)
+}
+
+/// So is one that is held without its extension.
+pub fn held_rows_of_twice(
+    alloc: Global,
+    square: Square,
+    copy: Square,
+) -> (Result<HeldRows, HeldError>, Result<HeldRows, HeldError>)
+    requires copy { copy ≡ square }
+    ensures { AreOne (λ x. x) held.NoMemory result.0 result.1 }
+{
+    let first = HeldRows::of(alloc, square);
+    let second = HeldRows::of(alloc, copy);
     (first, second)
 }
