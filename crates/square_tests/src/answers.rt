@@ -5,7 +5,7 @@ use axis_roots::{Found, NsAnswer, NsEntry};
 use namespace_id::{Axis, Cell};
 use nmt_proofs::{Nodes, OpenRefusal};
 use nmt_tree::leaf;
-use square_serve::{Held, NsRefusal, check_namespace};
+use square_serve::{Held, HeldRows, NsRefusal, check_namespace};
 use std::alloc::Global;
 use std::process::Abort;
 
@@ -38,6 +38,10 @@ fn shape(answer: &NsAnswer) -> (usize, u16, u16, usize) {
 #[test]
 fn answers_of_two_rows(rt: HostRuntime) {
     let mut held = held(&rt, rt.alloc(), [1, 3, 3, 7]);
+    let mut rows = HeldRows::of(rt.alloc(), square_of(&rt, rt.alloc(), [1, 3, 3, 7])).expect(
+        &rt,
+        "the namespaces do not fall",
+    );
     let cases = [
         ("in both rows", 3, (2, 0, 1, 1)),
         ("in the first row", 1, (1, 0, 0, 1)),
@@ -49,6 +53,9 @@ fn answers_of_two_rows(rt: HostRuntime) {
         let answer = held.namespace(rt.alloc(), &version_0(low));
         let answer = answer.expect(&rt, "there is memory");
         assert!(rt; shape(&answer) == want, "{name}");
+        let answer = rows.namespace(rt.alloc(), &version_0(low));
+        let answer = answer.expect(&rt, "there is memory");
+        assert!(rt; shape(&answer) == want, "{name}, without the extension");
     }
 }
 
