@@ -28,6 +28,9 @@ use std::alloc::Global;
 /// over an axis, and may extend a row; from so many on trees of all rows and columns cost less.
 const FEW_REQUESTS: usize = 64;
 
+/// Up to this width the whole extension takes 34 MB, and a sample is made of it sooner.
+const NARROW: u16 = 128;
+
 /// How many bytes the frame of a request has.
 const REQUEST_LENGTH: usize = 10;
 
@@ -158,13 +161,13 @@ fn answer_few<O: Sink>(alloc: Global, square: Square, requests: &[u8], out: &mut
     }
 }
 
-/// Answers to the requests over a square, by how many they are.
+/// Answers to the requests over a square, by its width and by how many they are.
 fn answer<O: Sink>(alloc: Global, square: Square, requests: &[u8], out: &mut O) -> Status
     ensures { Ends (Serves square (is_asked_inside square) (AllowsSample square)
         (samples_in requests.now)) (O.taken out.old) (O.taken out.new) (O.faults out.old)
         (O.faults out.new) (out.new ≡ out.old) result }
 {
-    if are_few(requests) {
+    if square.k > NARROW && are_few(requests) {
         answer_few(alloc, square, requests, out)
     } else {
         answer_many(alloc, square, requests, out)
