@@ -10,3 +10,15 @@ pub mod ReserveLemmas
 pub mod ListLemmas
 -- each blob stands at its place
 pub mod StandingLemmas
+-- the blobs that a payment carries
+pub mod EntryLemmas
+-- the first check that fails
+pub mod CheckLemmas
+-- transactions that no check refuses
+pub mod TakingLemmas
+-- blobs in their one spelling, read back
+pub mod SpelledBlobLemmas
+-- payments and lists in it
+pub mod SpelledListLemmas
+-- what was read, spelled and read again
+pub mod AgainLemmas

@@ -14,3 +14,11 @@ pub mod Refusals
 pub mod Steps
 -- the one spelling of payments
 pub mod Spelled
+-- what transactions are read as
+pub mod Reads
+-- why they are not
+pub mod ReadRefusals
+-- what the steps of reading answer
+pub mod Walks
+-- what is promised of reading for all lists
+pub mod ReadLaws

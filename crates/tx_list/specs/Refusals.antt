@@ -14,3 +14,8 @@ size_refusal list = if nat_lt max_shares (list_bound list) then Some (TooLarge (
 abbrev pub Answers : {X : Type 0} → Result X ListError → Option ListError → Type 0
 Answers (Ok x) refusal = refusal ≡ None
 Answers (Err e) refusal = (e ≡ NoMemory) ⊎ (refusal ≡ Some e)
+
+-- a call was refused by the first check that fails, whatever memory there was, or, where none does, for want of memory alone
+abbrev pub RefusesFirst : {X : Type 0} → Result X ListError → Option ListError → Type 0
+RefusesFirst (Ok x) refusal = refusal ≡ None
+RefusesFirst (Err e) refusal = (refusal ≡ Some e) ⊎ ((refusal ≡ None) × (e ≡ NoMemory))

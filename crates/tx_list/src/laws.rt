@@ -13,6 +13,7 @@ ghost use Rattle.square_layout.specs.Refusals.{max_shares};
 ghost use Rattle.tx_list.specs.Payments.{ListParts, IsPayment, blobs_of};
 ghost use Rattle.tx_list.specs.Places.{places_from, ordered};
 ghost use Rattle.tx_list.specs.Reserves.{wrap_full, list_reserve, list_bound};
+ghost use Rattle.tx_list.specs.ReadLaws.{SpellingIsPayment, SpellingIsRead, SpelledIsTaken, SpelledIsRead, SpelledAgain};
 ghost use Rattle.tx_list.specs.Lists.{list_places, written, plan_of_list, block_of_list, square_of_list};
 
 /// What holds of the square of a list that may take no more shares than the greatest square has. It changes nothing.
@@ -46,4 +47,18 @@ pub fn list_laws()
         unit_share_count (written list) ≡ unit_share_count (wrap_full list.payments) →
         AllByRecursion (λ blob. blob.signer ≡ None) (blobs_of list.payments) →
         planned (plan_of_list list) ≡ laid (block_of_list list) }
+{}
+
+/// What holds of reading lists in their one spelling. It changes nothing.
+///
+/// docs/RULES.md, "A block of the network".
+pub fn read_laws()
+    // The one spelling of a payment is read as a payment: of just its transaction and its blobs.
+    ensures payment { SpellingIsPayment }
+    ensures parts { SpellingIsRead }
+
+    // So a list in its one spelling is read as that list, and no check refuses it.
+    ensures taken { SpelledIsTaken }
+    ensures list { SpelledIsRead }
+    ensures again { SpelledAgain }
 {}

@@ -1,20 +1,24 @@
-//! A block of the network: a list of transactions, as the network's nodes give it, laid out as its square.
+//! A block of the network: a list of transactions, as the network's nodes give it, read, and laid out as its square.
 //!
 //! Some transactions are payments for blobs, which carry their blobs with them. The square has the other transactions, the
 //! payments, each wrapped with the places of its blobs, and the blobs. Since these places decide how long the payments are,
 //! room is reserved for them as if each place took three bytes, and the width is for as much padding as the blobs may need.
 #![tactic(auto)]
 
+mod checking;
 mod laws;
 mod laying;
 mod payments;
 mod placing;
+mod reading;
 mod refusals;
 mod spelling;
+mod taking;
 mod wrapping;
 
-pub use laws::list_laws;
+pub use laws::{list_laws, read_laws};
 pub use laying::{lay_list, places};
 pub use payments::{Payment, TxList};
 pub use refusals::ListError;
 pub use spelling::spell_list;
+pub use taking::read_list;

@@ -86,12 +86,20 @@ fn spelled_payment(alloc: Global, payment: &Payment) -> Result<Unit, NoMemory>
     Ok(Unit { bytes })
 }
 
+/// Bytes once more.
+pub(crate) fn copied_bytes(alloc: Global, bytes: &[u8]) -> Result<Vec<u8>, NoMemory>
+    ensures { IfOk result (λ copy. copy.items ≡ bytes.now) }
+{
+    let mut copy = Vec::with_capacity(alloc, bytes.len())?;
+    append(&mut copy, bytes);
+    Ok(copy)
+}
+
 /// A transaction once more.
-fn copied(alloc: Global, unit: &Unit) -> Result<Unit, NoMemory>
+pub(crate) fn copied(alloc: Global, unit: &Unit) -> Result<Unit, NoMemory>
     ensures { IfOk result (λ copy. copy ≡ unit.now) }
 {
-    let mut bytes = Vec::with_capacity(alloc, unit.bytes.len())?;
-    append(&mut bytes, &unit.bytes);
+    let bytes = copied_bytes(alloc, &unit.bytes)?;
     Ok(Unit { bytes })
 }
 

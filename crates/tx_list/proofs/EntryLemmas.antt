@@ -1,0 +1,122 @@
+-- The blobs that a payment carries, one after another.
+use Rattle.std.proofs.Common.{true, false, if◌then◌else◌, ◌≡◌, ◌∙◌, ◌↔◌, ℕ, ◌≤◌, ◌==◌, ◌&&◌, Bool, List, [], ◌∷◌, ◌++◌, length, Option, Some, None, refl, sym, ap, arith}
+use Rattle.std.specs.List.{list_all}
+use Rattle.std.specs.Option.{is_some, option_map_or}
+use Rattle.std.specs.Prelude.{option_map, IsSome, IfSome}
+use Rattle.std.proofs.lemmas.Bool.{eqb-true, true≢false}
+use Rattle.std.proofs.lemmas.List.{nil_from_length}
+use Rattle.proto_fields.specs.Fields.{ValueParts, number_value, bytes_value, other_value, FieldParts, field_at, fields_of, bytes_of, own_bytes, all_bytes}
+use Rattle.proto_fields.proofs.FieldLemmas.{no_fields, first_field, still_fields, fields_end, field_is_shorter}
+use Rattle.tx_list.specs.Reads.{are_fields, entries_of}
+use Rattle.tx_list.specs.Walks.{bytes_value_of, entry_of, IsNext}
+
+-- ---- one field
+
+-- the blob that a field carries is the one of its own
+own_some : (b : Bool) (value : ValueParts) (entry : List ℕ) → (if b then bytes_value_of value else None) ≡ Some entry
+    → (if b then bytes_of value else []) ≡ entry ∷ []
+own_some true (number_value number) entry h = absurd cc
+own_some true (bytes_value bytes) entry h = let e : bytes ≡ entry = cc in ap (λ (l : List ℕ). l ∷ []) e
+own_some true other_value entry h = absurd cc
+own_some false value entry h = absurd cc
+
+own_none : (b : Bool) (value : ValueParts) → (if b then bytes_value_of value else None) ≡ None → (if b then bytes_of value else []) ≡ []
+own_none true (number_value number) h = refl
+own_none true (bytes_value bytes) h = absurd cc
+own_none true other_value h = refl
+own_none false value h = refl
+
+-- ---- the fields behind one
+
+-- all bytes of a field and the fields behind it
+all_cons : (field : FieldParts) (some : Option (List FieldParts)) (all : Option (List FieldParts)) → is_some some ≡ true
+    → all ≡ option_map (λ fields. field ∷ fields) some
+    → all_bytes 2 (option_map_or (λ fields. fields) all []) ≡ own_bytes 2 field ++ all_bytes 2 (option_map_or (λ fields. fields) some [])
+all_cons field None all h e = absurd (true≢false (sym h))
+all_cons field (Some fields) all h e = ap (λ (o : Option (List FieldParts)). all_bytes 2 (option_map_or (λ fields. fields) o [])) e
+
+-- behind a field of fields are fields, and their blobs are left
+fields_step : (bytes rest : List ℕ) (field : FieldParts) → field_at bytes ≡ Some (field, rest) → are_fields bytes ≡ true → are_fields rest ≡ true
+fields_step bytes rest field at h = still_fields bytes rest field at ∙ h
+
+entries_step : (bytes rest : List ℕ) (field : FieldParts) → field_at bytes ≡ Some (field, rest) → are_fields bytes ≡ true
+    → entries_of bytes ≡ own_bytes 2 field ++ entries_of rest
+entries_step bytes rest field at h =
+    all_cons field (fields_of rest) (fields_of bytes) (fields_step bytes rest field at h) (first_field bytes rest field at)
+
+-- ---- the walk
+
+-- what is left of a walk
+pub record IsLeft (bytes rest : List ℕ) : Type 0 where
+  pub same : entries_of bytes ≡ entries_of rest
+  pub fields : are_fields rest ≡ true
+  pub size : length rest ≤ length bytes
+
+-- all is left
+pub left_all : (bytes : List ℕ) → are_fields bytes ≡ true → IsLeft bytes bytes
+left_all bytes h = record { same = refl; fields = h; size = omega arith }
+
+-- a field that carries no blob is passed over
+pub left_on : (bytes rest after : List ℕ) (field : FieldParts) → IsLeft bytes rest → field_at rest ≡ Some (field, after) → entry_of field ≡ None
+    → IsLeft bytes after
+left_on bytes rest after field left at none = record {
+  same = left.same ∙ entries_step rest after field at left.fields
+      ∙ ap (λ (l : List (List ℕ)). l ++ entries_of after) (own_none (field.number == 2) field.value none);
+  fields = fields_step rest after field at left.fields;
+  size = omega (arith, field_is_shorter rest after field at, left.size);
+}
+
+-- one that carries a blob is the next
+pub next_found : (bytes rest after entry : List ℕ) (field : FieldParts) → IsLeft bytes rest → field_at rest ≡ Some (field, after) → entry_of field ≡ Some entry
+    → IsNext bytes entry after
+next_found bytes rest after entry field left at some = record {
+  first = left.same ∙ entries_step rest after field at left.fields
+      ∙ ap (λ (l : List (List ℕ)). l ++ entries_of after) (own_some (field.number == 2) field.value entry some);
+  fields = fields_step rest after field at left.fields;
+  shorter = omega (arith, field_is_shorter rest after field at, left.size);
+}
+
+-- no blob is left where no field is
+pub next_none : (bytes rest : List ℕ) → IsLeft bytes rest → field_at rest ≡ None → entries_of bytes ≡ []
+next_none bytes rest left none =
+    let size : length rest ≡ 0 = eqb-true (length rest) 0 (sym (fields_end rest none) ∙ left.fields) in
+    left.same ∙ ap entries_of (nil_from_length rest size)
+    ∙ ap (λ (o : Option (List FieldParts)). all_bytes 2 (option_map_or (λ fields. fields) o [])) no_fields
+
+-- ---- the last of a number
+
+-- bytes that are fields have them
+pub fields_some : (bytes : List ℕ) → are_fields bytes ≡ true → IsSome (fields_of bytes)
+fields_some bytes h = elim (fields_of bytes) as (λ o. is_some o ≡ true → IsSome o) [ None ↦ (λ e. absurd (true≢false (sym e))) | Some fields ↦ (λ e. refl) ] h
+
+-- what holds of the fields that bytes are holds of those in them
+pub in_fields : (P : List FieldParts → Type 0) (all : Option (List FieldParts)) → is_some all ≡ true → IfSome all P
+    → P (option_map_or (λ fields. fields) all [])
+in_fields P None h holds = absurd (true≢false (sym h))
+in_fields P (Some fields) h holds = holds
+
+-- two tests that hold together are one
+pub same_test : (a b : Bool) → ((a ≡ true) ↔ (b ≡ true)) → a ≡ b
+same_test true b h = sym (h.0 refl)
+same_test false true h = h.1 refl
+same_test false false h = refl
+
+-- ---- whether all blobs are fields
+
+-- one more is
+pub entries_passed : (bytes rest entry after : List ℕ) → IsNext rest entry after → are_fields entry ≡ true
+    → list_all are_fields (entries_of bytes) ≡ list_all are_fields (entries_of rest)
+    → list_all are_fields (entries_of bytes) ≡ list_all are_fields (entries_of after)
+entries_passed bytes rest entry after next is so_far =
+    so_far ∙ ap (list_all are_fields) next.first ∙ ap (λ (b : Bool). b && list_all are_fields (entries_of after)) is
+
+-- one isn't
+pub entries_failed : (bytes rest entry after : List ℕ) → IsNext rest entry after → are_fields entry ≡ false
+    → list_all are_fields (entries_of bytes) ≡ list_all are_fields (entries_of rest) → false ≡ list_all are_fields (entries_of bytes)
+entries_failed bytes rest entry after next isnt so_far =
+    sym (so_far ∙ ap (list_all are_fields) next.first ∙ ap (λ (b : Bool). b && list_all are_fields (entries_of after)) isnt)
+
+-- none is left
+pub entries_end : (bytes rest : List ℕ) → entries_of rest ≡ [] → list_all are_fields (entries_of bytes) ≡ list_all are_fields (entries_of rest)
+    → true ≡ list_all are_fields (entries_of bytes)
+entries_end bytes rest none so_far = sym (so_far ∙ ap (list_all are_fields) none)

@@ -1,0 +1,145 @@
+-- What is known of transactions that no check refuses.
+use Rattle.std.proofs.Common.{◌≡◌, ◌∙◌, ℕ, suc, ◌-◌, ◌≤◌, ◌==◌, ◌&&◌, ◌||◌, not, Bool, true, false, if◌then◌else◌, List, [], ◌∷◌, length, map, filter, Option, Some, None, option_map, refl, sym, ap, arith}
+use Rattle.std.specs.List.{AllByRecursion, list_all}
+use Rattle.std.specs.Option.{option_or}
+use Rattle.std.specs.Str.{bytes_eq}
+use Rattle.std.specs.Prelude.{codes}
+use Rattle.std.proofs.lemmas.Bool.{eqb-true, and_parts, true≢false}
+use Rattle.std.proofs.lemmas.Bool.Decides.{nat_tests}
+use Rattle.std.proofs.lemmas.List.{length-map}
+use Rattle.namespace_id.proofs.RefusalLemmas.{if_none}
+use Rattle.namespace_id.specs.declared.namespaces.NsError.TheVariants.{Length, Version}
+use Rattle.namespace_id.specs.Names.{namespace_refusal, is_blob_namespace}
+use Rattle.namespace_id.specs.Sizes.{namespace_size}
+use Rattle.share_split.specs.Blobs.{signer_size}
+use Rattle.square_layout.proofs.AcceptedLemmas.{is_accepted}
+use Rattle.tx_list.specs.declared.refusals.ListError.TheVariants.{NoBlobs, BadBlob, BadVersion, NoBytes}
+use Rattle.proto_fields.specs.Fields.{last_bytes}
+use Rattle.tx_list.specs.Payments.{IsLayable, IsPayment}
+use Rattle.tx_list.specs.Reads.{are_fields, fields_in, entries_of, is_payment, tx_in, StatedBlob, stated, blob_of, payment_of}
+use Rattle.tx_list.specs.ReadRefusals.{name_refusal, has_version, blob_refusal, blobs_refusal, payment_refusal, transaction_refusal, transactions_refusal}
+use Rattle.tx_list.specs.Walks.{IsTaken, IsTakenPayment, AreTaken}
+
+-- ---- checks that refuse nothing
+
+-- of two, neither did
+or_none : {A : Type 0} (first second : Option A) → option_or first second ≡ None → (first ≡ None) × (second ≡ None)
+or_none None second h = (refl, h)
+or_none (Some x) second h = absurd cc
+
+-- a refusal that is told in other words
+map_none : {A B : Type 0} (f : A → B) (o : Option A) → option_map f o ≡ None → o ≡ None
+map_none f None h = refl
+map_none f (Some x) h = absurd cc
+
+-- a test that says no of what isn't
+is_true : (b : Bool) → not b ≡ false → b ≡ true
+is_true true h = refl
+is_true false h = absurd (true≢false h)
+
+some_of : (n : ℕ) → (n == 0) ≡ false → 1 ≤ n
+some_of n h = grind (arith, nat_tests)
+
+-- ---- a blob
+
+-- none of its checks did
+pub blob_taken : (i j : ℕ) (blob : StatedBlob) → blob_refusal i j blob ≡ None → IsTaken blob
+blob_taken i j blob h =
+    let name = or_none (option_map (λ why. BadBlob i j why) (name_refusal blob.version blob.id))
+    (if not (has_version blob.share_version blob.signer) then Some (BadVersion i j) else (if length blob.bytes == 0 then Some (NoBytes i j) else None)) h in
+    let version = if_none (not (has_version blob.share_version blob.signer)) (BadVersion i j) (if length blob.bytes == 0 then Some (NoBytes i j) else None) name.1 in
+    let bytes = if_none (length blob.bytes == 0) (NoBytes i j) None version.1 in
+    record {
+      named = map_none (λ why. BadBlob i j why) (name_refusal blob.version blob.id) name.0;
+      versioned = is_true (has_version blob.share_version blob.signer) version.0;
+      some = some_of (length blob.bytes) bytes.0;
+    }
+
+-- its id has 28 bytes, and its version is 0
+pub id_taken : (version : ℕ) (id : List ℕ) → name_refusal version id ≡ None
+    → (length id ≡ namespace_size - 1) × (version ≡ 0) × (namespace_refusal (0 ∷ id) ≡ None)
+id_taken version id h =
+    let size = if_none (not (length id == namespace_size - 1)) Length (if not (version == 0) then Some Version else namespace_refusal (0 ∷ id)) h in
+    let number = if_none (not (version == 0)) Version (namespace_refusal (0 ∷ id)) size.1 in
+    (eqb-true (length id) (namespace_size - 1) (is_true (length id == namespace_size - 1) size.0), eqb-true version 0 (is_true (version == 0) number.0), number.1)
+
+-- a share version other than 0 has a signer of 20 bytes
+signer_by : (a b c d : Bool) → ((a && b) || (c && d)) ≡ true → a ≡ false → d ≡ true
+signer_by true b c d h other = absurd (true≢false other)
+signer_by false b true d h other = h
+signer_by false b false d h other = absurd (true≢false (sym h))
+
+pub signer_taken : (version : ℕ) (signer : List ℕ) → has_version version signer ≡ true → (version == 0) ≡ false → length signer ≡ signer_size
+signer_taken version signer h other =
+    eqb-true (length signer) signer_size (signer_by (version == 0) (length signer == 0) (version == 1) (length signer == signer_size) h other)
+
+-- so it can be laid out
+pub taken_layable : (blob : StatedBlob) → IsTaken blob → IsLayable (blob_of blob)
+taken_layable blob taken =
+    let id = id_taken blob.version blob.id taken.named in
+    record {
+      named = ap (λ (v : ℕ). is_blob_namespace (v ∷ blob.id)) id.1 ∙ is_accepted (0 ∷ blob.id) id.2;
+      some = taken.some;
+    }
+
+-- ---- a payment
+
+-- none of the checks of its blobs did
+blobs_taken : (i j : ℕ) (entries : List (List ℕ)) → blobs_refusal i j entries ≡ None → AllByRecursion (λ entry. IsTaken (stated entry)) entries
+unfolding blobs_refusal
+blobs_taken i j [] h = tt
+blobs_taken i j (entry ∷ entries) h =
+    let both = or_none (blob_refusal i j (stated entry)) (blobs_refusal i (suc j) entries) h in
+    (blob_taken i j (stated entry) both.0, blobs_taken i (suc j) entries both.1)
+
+-- nor its own
+transaction_is : (i : ℕ) (paid : Bool) (bytes : List ℕ) → is_payment bytes ≡ true → transaction_refusal i paid bytes ≡ payment_refusal i (entries_of bytes)
+transaction_is i paid bytes is = rw is refl
+
+transaction_by : (i : ℕ) (paid : Bool) (bytes : List ℕ) → transaction_refusal i paid bytes ≡ None → is_payment bytes ≡ true → payment_refusal i (entries_of bytes) ≡ None
+transaction_by i paid bytes h is = sym (transaction_is i paid bytes is) ∙ h
+
+payment_taken : (i : ℕ) (paid : Bool) (bytes : List ℕ) → transaction_refusal i paid bytes ≡ None → is_payment bytes ≡ true → IsTakenPayment bytes
+payment_taken i paid bytes h is =
+    let blobs = if_none (length (entries_of bytes) == 0) (NoBlobs i) (blobs_refusal i 0 (entries_of bytes)) (transaction_by i paid bytes h is) in
+    let all = and_parts (are_fields bytes && bytes_eq (last_bytes 3 (fields_in bytes)) (codes "BLOB")) (list_all are_fields (entries_of bytes)) is in
+    record {
+      fields = (and_parts (are_fields bytes) (bytes_eq (last_bytes 3 (fields_in bytes)) (codes "BLOB")) all.0).0;
+      entries = all.1;
+      some = some_of (length (entries_of bytes)) blobs.0;
+      blobs = blobs_taken i 0 (entries_of bytes) blobs.1;
+    }
+
+-- so it is one as the types keep them
+layable_blobs : (entries : List (List ℕ)) → AllByRecursion (λ entry. IsTaken (stated entry)) entries
+    → AllByRecursion IsLayable (map (λ entry. blob_of (stated entry)) entries)
+layable_blobs [] all = tt
+layable_blobs (entry ∷ entries) all = (taken_layable (stated entry) all.0, layable_blobs entries all.1)
+
+pub taken_payment : (tx bytes : List ℕ) → IsTakenPayment bytes
+    → IsPayment (record { tx = tx; blobs = map (λ entry. blob_of (stated entry)) (entries_of bytes) })
+taken_payment tx bytes taken = record {
+  some = omega (arith, length-map (entries_of bytes) (λ (entry : List ℕ). blob_of (stated entry)), taken.some);
+  blobs = layable_blobs (entries_of bytes) taken.blobs;
+}
+
+-- ---- transactions
+
+-- none of their checks did
+pub all_taken : (i : ℕ) (paid : Bool) (transactions : List (List ℕ)) → transactions_refusal i paid transactions ≡ None → AreTaken transactions
+unfolding transactions_refusal
+all_taken i paid [] h = tt
+all_taken i paid (one ∷ others) h =
+    let both = or_none (transaction_refusal i paid one) (transactions_refusal (suc i) (paid || is_payment one) others) h in
+    (payment_taken i paid one both.0, all_taken (suc i) (paid || is_payment one) others both.1)
+
+-- so their payments are ones as the types keep them
+filter_step : (b : Bool) (one : List ℕ) (others : List (List ℕ)) → (b ≡ true → IsPayment (payment_of one)) → AllByRecursion IsPayment (map payment_of others)
+    → AllByRecursion IsPayment (map payment_of (if b then one ∷ others else others))
+filter_step true one others here rest = (here refl, rest)
+filter_step false one others here rest = rest
+
+pub payments_kept : (transactions : List (List ℕ)) → AreTaken transactions → AllByRecursion IsPayment (map payment_of (filter is_payment transactions))
+payments_kept [] all = tt
+payments_kept (one ∷ others) all =
+    filter_step (is_payment one) one (filter is_payment others) (λ is. taken_payment (tx_in one) one (all.0 is)) (payments_kept others all.1)

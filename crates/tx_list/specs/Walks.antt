@@ -1,0 +1,50 @@
+-- What the steps of reading transactions answer.
+use Rattle.std.specs.Prelude.{◌≡◌, ℕ, ◌<◌, ◌≤◌, ◌==◌, true, List, ◌∷◌, length, Option, Some, None, if◌then◌else◌}
+use Rattle.std.specs.List.{AllByRecursion, list_all}
+use Rattle.proto_fields.specs.Fields.{ValueParts, number_value, bytes_value, other_value, FieldParts}
+use Rattle.tx_list.specs.declared.reading.Stated.{Stated}
+use Rattle.tx_list.specs.Reads.{are_fields, entries_of, is_payment, StatedBlob, stated}
+use Rattle.tx_list.specs.ReadRefusals.{name_refusal, has_version}
+
+-- the bytes that a value is
+abbrev pub bytes_value_of : ValueParts → Option (List ℕ)
+bytes_value_of (number_value number) = None
+bytes_value_of (bytes_value bytes) = Some bytes
+bytes_value_of other_value = None
+
+-- the blob that a field of a payment carries
+abbrev pub entry_of : FieldParts → Option (List ℕ)
+entry_of field = if field.number == 2 then bytes_value_of field.value else None
+
+-- the first blob that bytes carry, and what follows it
+pub record IsNext (bytes entry rest : List ℕ) : Type 0 where
+  pub first : entries_of bytes ≡ entry ∷ entries_of rest
+  pub fields : are_fields rest ≡ true
+  pub shorter : length rest < length bytes
+
+-- a blob as a payment states it, wherever its bytes lie
+abbrev pub stated_parts : Stated → StatedBlob
+stated_parts blob = record {
+  version = blob.version;
+  id = blob.id.now;
+  bytes = blob.bytes.now;
+  share_version = blob.share_version;
+  signer = blob.signer.now;
+}
+
+-- a blob that no check refuses
+pub record IsTaken (blob : StatedBlob) : Type 0 where
+  pub named : name_refusal blob.version blob.id ≡ None
+  pub versioned : has_version blob.share_version blob.signer ≡ true
+  pub some : 1 ≤ length blob.bytes
+
+-- a payment that no check refuses
+pub record IsTakenPayment (bytes : List ℕ) : Type 0 where
+  pub fields : are_fields bytes ≡ true
+  pub entries : list_all are_fields (entries_of bytes) ≡ true
+  pub some : 1 ≤ length (entries_of bytes)
+  pub blobs : AllByRecursion (λ entry. IsTaken (stated entry)) (entries_of bytes)
+
+-- transactions whose payments no check refuses
+abbrev pub AreTaken : List (List ℕ) → Type 0
+AreTaken transactions = AllByRecursion (λ one. is_payment one ≡ true → IsTakenPayment one) transactions

@@ -1,0 +1,145 @@
+//! From transactions to the list that they are read as.
+
+ghost use Rattle.std.specs.Prelude.{◌≡◌, ◌-◌, ◌==◌, ◌∷◌, length, map, filter, not, true, IfOk, Some, None, if◌then◌else◌};
+ghost use Rattle.namespace_id.specs.Sizes.{namespace_size};
+ghost use Rattle.tx_list.specs.Reads.{stated, entries_of, is_payment, blob_of, payment_of, list_of};
+ghost use Rattle.tx_list.specs.ReadRefusals.{has_version, read_refusal};
+ghost use Rattle.tx_list.specs.Refusals.{RefusesFirst};
+ghost use Rattle.tx_list.specs.Walks.{stated_parts, IsTaken, IsTakenPayment, AreTaken};
+
+use crate::checking::read_refusal;
+use crate::reading::{Stated, bytes_in, is_payment, next_entry, read_blob};
+use crate::spelling::{copied, copied_bytes};
+use crate::{ListError, Payment, TxList};
+use namespace_id::{NAMESPACE_SIZE, Namespace, NoMemory};
+use share_split::{Blob, SIGNER_SIZE, Unit};
+use std::alloc::Global;
+
+/// The namespace of version 0 with an id.
+fn name_of(id: &[u8]) -> Namespace
+    requires { length id.now ≡ namespace_size - 1 }
+    ensures { result.0 ≡ 0 ∷ id.now }
+{
+    let mut name = [0; NAMESPACE_SIZE];
+    name[1..].copy_from_slice(id);
+    Namespace(name)
+}
+
+/// The signer of a blob, which it has where its share version isn't 0.
+fn signer_of(share_version: u32, signer: &[u8]) -> Option<[u8; SIGNER_SIZE]>
+    requires { has_version share_version signer.now ≡ true }
+    ensures { result ≡ (if share_version == 0 then None else Some signer.now) }
+{
+    if share_version == 0 {
+        return None;
+    }
+    let mut own = [0; SIGNER_SIZE];
+    own.copy_from_slice(signer);
+    Some(own)
+}
+
+/// A blob as it was stated, on its own.
+fn blob_of(alloc: Global, blob: Stated<'_>) -> Result<Blob, NoMemory>
+    requires { IsTaken (stated_parts blob) }
+    ensures { IfOk result (λ made. made ≡ blob_of (stated_parts blob.entry)) }
+{
+    let bytes = copied_bytes(alloc, blob.bytes)?;
+    Ok(Blob {
+        namespace: name_of(blob.id),
+        bytes,
+        signer: signer_of(blob.share_version, blob.signer),
+    })
+}
+
+/// The blobs that a payment carries.
+fn blobs_in(alloc: Global, bytes: &[u8]) -> Result<Vec<Blob>, NoMemory>
+    requires { IsTakenPayment bytes.now }
+    ensures { IfOk result (λ blobs. blobs.items
+        ≡ map (λ entry. blob_of (stated entry)) (entries_of bytes.now)) }
+{
+    let mut blobs = Vec::new(alloc);
+    let mut rest = bytes;
+    while let Some((entry, after)) = next_entry(rest) {
+        let Ok(()) = blobs.push(blob_of(alloc, read_blob(entry))?) else {
+            return Err(NoMemory);
+        };
+        rest = after;
+    }
+    Ok(blobs)
+}
+
+/// The payment that a transaction is.
+fn payment_of(alloc: Global, bytes: &[u8]) -> Result<Payment, NoMemory>
+    requires { IsTakenPayment bytes.now }
+    ensures { IfOk result (λ payment. payment ≡ payment_of bytes.now) }
+{
+    let tx = copied_bytes(alloc, bytes_in(bytes, 1))?;
+    let blobs = blobs_in(alloc, bytes)?;
+    Ok(Payment { tx, blobs })
+}
+
+/// The transactions that are no payments.
+fn units_in(alloc: Global, transactions: &[Unit]) -> Result<Vec<Unit>, NoMemory>
+    ensures { IfOk result (λ units. units.items
+        ≡ filter (λ one. not (is_payment one)) transactions.now) }
+{
+    let mut units = Vec::new(alloc);
+    for one in transactions {
+        if !is_payment(&one.bytes) {
+            let Ok(()) = units.push(copied(alloc, one)?) else {
+                return Err(NoMemory);
+            };
+        }
+    }
+    Ok(units)
+}
+
+/// The payments among transactions.
+fn payments_in(alloc: Global, transactions: &[Unit]) -> Result<Vec<Payment>, NoMemory>
+    requires { AreTaken transactions.now }
+    ensures { IfOk result (λ payments. payments.items
+        ≡ map payment_of (filter is_payment transactions.now)) }
+{
+    let mut payments = Vec::new(alloc);
+    for one in transactions {
+        if is_payment(&one.bytes) {
+            let Ok(()) = payments.push(payment_of(alloc, &one.bytes)?) else {
+                return Err(NoMemory);
+            };
+        }
+    }
+    Ok(payments)
+}
+
+/// The list that transactions are, which are taken.
+fn list_of(alloc: Global, transactions: &[Unit]) -> Result<TxList, NoMemory>
+    requires { AreTaken transactions.now }
+    ensures { IfOk result (λ list. list ≡ list_of transactions.now) }
+{
+    let units = units_in(alloc, transactions)?;
+    let payments = payments_in(alloc, transactions)?;
+    Ok(TxList { units, payments })
+}
+
+/// Reads the transactions of a block: which of them are payments for blobs, what these carry, and which are none. Fields may
+/// stand in any order, the last of several counts, and fields of other numbers are passed over; a transaction that isn't read
+/// as a payment is a plain one, whatever its bytes.
+///
+/// Refuses the first transaction that isn't taken, by the first check of it that fails, whatever memory there is: a plain one
+/// behind a payment (`Behind`); a payment without blobs (`NoBlobs`); and of a payment's first blob that fails one, a namespace
+/// that isn't one of a blob (`BadBlob`), a share version that doesn't go with the signer (`BadVersion`), no bytes (`NoBytes`).
+/// A list that is taken is refused for want of memory alone.
+///
+/// docs/RULES.md, "A block of the network"; protobuf, "Encoding".
+pub fn read_list(alloc: Global, transactions: &[Unit]) -> Result<TxList, ListError>
+    ensures first { RefusesFirst result (read_refusal transactions.now) }
+    ensures list { IfOk result (λ list. list ≡ list_of transactions.now) }
+{
+    if let Some(why) = read_refusal(transactions) {
+        return Err(why);
+    }
+    let Ok(list) = list_of(alloc, transactions) else {
+        return Err(ListError::NoMemory);
+    };
+    Ok(list)
+}
