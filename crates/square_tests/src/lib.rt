@@ -24,6 +24,8 @@ mod headers;
 #[cfg(test)]
 mod inputs;
 #[cfg(test)]
+mod lists;
+#[cfg(test)]
 mod namespaces;
 #[cfg(test)]
 mod protobuf;
