@@ -24,11 +24,7 @@ mod headers;
 #[cfg(test)]
 mod inputs;
 #[cfg(test)]
-mod lists;
-#[cfg(test)]
 mod namespaces;
-#[cfg(test)]
-mod protobuf;
 #[cfg(test)]
 mod sequences;
 #[cfg(test)]

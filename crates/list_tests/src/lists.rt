@@ -1,13 +1,19 @@
 //! Lists of transactions, by docs/RULES.md, "A block of the network". No command reads them.
 
-use crate::inputs::version_0;
-use namespace_id::{NAMESPACE_SIZE, NsError, PAY_FOR_BLOB, TAIL_PADDING};
+use namespace_id::{NAMESPACE_SIZE, Namespace, NsError, PAY_FOR_BLOB, TAIL_PADDING};
 use proto_fields::{field_size, put_field, put_number};
 use share_split::Unit;
 use square_layout::Square;
 use std::alloc::Global;
 use std::process::Abort;
 use tx_list::{ListError, TxList, lay_list, places, read_list, spell_list};
+
+/// The namespace of version 0 with this number in its last two bytes.
+fn version_0(low: u16) -> Namespace {
+    let mut bytes = [0; NAMESPACE_SIZE];
+    bytes[27..].copy_from_slice(&low.to_be_bytes());
+    Namespace(bytes)
+}
 
 /// Appends a field of bytes.
 fn put(rt: &impl Abort, number: u32, bytes: &[u8], out: &mut Vec<u8>) {

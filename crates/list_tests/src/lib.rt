@@ -1,0 +1,8 @@
+//! Tests of what no proof can show of fields of protobuf and of lists of transactions: bytes that other programs write, and calls
+//! that succeed with ample memory.
+#![tactic(auto)]
+
+#[cfg(test)]
+mod lists;
+#[cfg(test)]
+mod protobuf;
