@@ -1,7 +1,7 @@
 //! Lists of transactions, by docs/RULES.md, "A block of the network". No command reads them.
 
 use namespace_id::{NAMESPACE_SIZE, Namespace, NsError, PAY_FOR_BLOB, TAIL_PADDING};
-use proto_fields::{field_size, put_field, put_number};
+use proto_fields::{field_size, put_field, put_number, varint_size};
 use share_split::Unit;
 use square_layout::Square;
 use std::alloc::Global;
@@ -155,7 +155,8 @@ fn refused_lists(rt: HostRuntime) {
     let short = blob(&rt, alloc, &[0; 27], &[]);
     let empty = blob(&rt, alloc, &version_0(0x0101).0[1..], &[]);
     let mut versioned = small_blob(&rt, alloc, 0x0101);
-    versioned.reserve(2).expect(&rt, "there is memory");
+    let size = varint_size(8 * 3) + varint_size(1);
+    versioned.reserve(size).expect(&rt, "there is memory");
     put_number(3, 1, &mut versioned);
     assert!(rt;
         refusal(&rt, alloc, &[]) == Some(ListError::NoBlobs(0)),
