@@ -5,8 +5,10 @@ pub mod CellLoops
 pub mod MessageForm
 pub mod MissingForm
 pub mod RequestForms
+pub mod Units
 pub mod Blobs
 pub mod BlockForm
+pub mod TransactionsForm
 pub mod Founds
 pub mod Entries
 pub mod NamesForm

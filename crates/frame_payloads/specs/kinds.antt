@@ -6,6 +6,8 @@ pub mod Fraud
 pub mod Missing
 pub mod Clash
 pub mod Requests
+pub mod Units
 pub mod Block
 pub mod Commit
 pub mod Rooted
+pub mod Transactions

@@ -13,3 +13,5 @@ pub(crate) mod names;
 pub(crate) mod requests;
 pub(crate) mod rooted;
 pub(crate) mod square;
+pub(crate) mod transactions;
+pub(crate) mod units;

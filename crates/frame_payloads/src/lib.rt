@@ -26,4 +26,6 @@ pub use kinds::names::{is_names, names, names_size, places, put_names};
 pub use kinds::requests::{SAMPLE_SIZE, put_sample, request, request_size, sample};
 pub use kinds::rooted::{put_rooted, rooted, rooted_size};
 pub use kinds::square::{is_square, put_square, square, square_size};
+pub use kinds::transactions::{is_transactions, put_transactions, transactions, transactions_size};
+pub use kinds::units::UnitList;
 pub use shown::{EntryPlace, FoundPlace, PlaceList};

@@ -1,23 +1,15 @@
--- A unit or a blob of a block that is read is the one that was written, and one that was written is read.
-use Rattle.std.proofs.Common.{◌≡◌, ℕ, ◌+◌, ◌^◌, List, ◌∷◌, ◌++◌, length, Option, None, Some, IfSome, inl, inr, refl, arith}
+-- A blob of a block that is read is the one that was written, and one that was written is read.
+use Rattle.std.proofs.Common.{◌≡◌, ℕ, ◌+◌, List, ◌∷◌, ◌++◌, length, Option, None, Some, IfSome, inl, inr, refl, arith}
 use Rattle.std.specs.Prelude.{◌⊎◌, ⊤}
-use Rattle.std.specs.Int.{w32}
 use Rattle.std.proofs.lemmas.List.{length-append}
 use Rattle.namespace_id.specs.Bytes.{AreBytes, IsString}
 use Rattle.share_split.specs.Blobs.{NamedBytes, IsNamed, signer_size, version_of, signer_bytes}
-use Rattle.frame_payloads.specs.kinds.Block.{most, unit_at, unit_bytes, signer_at, blob_at, blob_bytes}
-use Rattle.frame_payloads.proofs.Fields.Numbers.{wide32}
-use Rattle.frame_payloads.proofs.Fields.Texts.{IsField, text_takes, text_again}
+use Rattle.frame_payloads.specs.kinds.Block.{signer_at, blob_at, blob_bytes}
+use Rattle.frame_payloads.specs.kinds.Units.{unit_at, unit_bytes}
+use Rattle.frame_payloads.proofs.Fields.Texts.{IsField}
 use Rattle.frame_payloads.proofs.Fields.Fields.{Fields, AreMaps, ◌▸◌, nothing, either, as_field, field_of, made_field}
 use Rattle.frame_payloads.proofs.Fields.Bases.{name29, string, field}
-
--- a unit is a field: a byte string behind its length in four bytes
-pub unit_field : IsField unit_at unit_bytes AreBytes
-unit_field = record {
-  takes = λ bytes text rest fits e. let t = text_takes w32 (2 ^ 32) wide32 most bytes text rest fits e in (t.0, t.1);
-  again = λ text rest fits few. text_again w32 (2 ^ 32) wide32 most text rest (omega arith) (omega arith);
-  some = λ text. omega arith;
-}
+use Rattle.frame_payloads.proofs.Forms.Units.{unit_field}
 
 -- ---- a signer
 

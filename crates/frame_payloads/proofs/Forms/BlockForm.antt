@@ -1,17 +1,13 @@
 -- A block that is read of a payload is what the payload spells, and the payload that a block has is read.
-use Rattle.std.proofs.Common.{◌≤◌, ◌≡◌, ℕ, Bool, ◌^◌, ◌<◌, true, false, eqb, cond, List, length, Option, None, Some, IfSome, refl, sym, ap, arith, eqb-true}
-use Rattle.std.specs.Int.{w32}
-use Rattle.std.specs.List.{flat_map, AllByRecursion}
-use Rattle.namespace_id.specs.Bytes.{AreBytes}
+use Rattle.std.proofs.Common.{◌≡◌, ℕ, Bool, ◌^◌, ◌<◌, true, false, eqb, cond, List, length, Option, None, Some, IfSome, refl, sym, ap, arith, eqb-true}
+use Rattle.std.specs.List.{AllByRecursion}
 use Rattle.share_split.specs.Blobs.{NamedBytes, IsNamed}
 use Rattle.square_layout.specs.Blocks.{BlockParts, IsBlock}
 use Rattle.frame_fields.specs.Fields.{◌>>=◌}
-use Rattle.frame_payloads.specs.kinds.Block.{most, blob_bytes, width_number, asks_for_zero, block_payload, blob_at, asked_width, block_at, unit_at, counted_at, unit_bytes, counted_bytes}
-use Rattle.frame_payloads.proofs.Fields.Numbers.{wide32}
-use Rattle.frame_payloads.proofs.Fields.Texts.{IsField}
-use Rattle.frame_payloads.proofs.Fields.Lengths.{count_few}
-use Rattle.frame_payloads.proofs.Forms.Blobs.{unit_field, blob_field}
-use Rattle.frame_payloads.proofs.Fields.Lists.{list_takes, list_again}
+use Rattle.frame_payloads.specs.kinds.Block.{blob_bytes, width_number, asks_for_zero, block_payload, blob_at, asked_width, block_at}
+use Rattle.frame_payloads.specs.kinds.Units.{unit_at, counted_at, counted_bytes}
+use Rattle.frame_payloads.proofs.Forms.Units.{counted_field, units}
+use Rattle.frame_payloads.proofs.Forms.Blobs.{blob_field}
 use Rattle.frame_payloads.proofs.Fields.Fields.{Fields, AreMaps, ◌▸◌, as_field}
 use Rattle.frame_payloads.proofs.Fields.Bases.{number16, field}
 use Rattle.frame_payloads.proofs.Forms.Form.{IsForm, IsSpelled, form_of}
@@ -36,22 +32,7 @@ after_units width units = counted_at unit_at units.1 >>= after_pay_units width u
 abbrev pub after_width : ℕ × List ℕ → Option BlockParts
 after_width width = counted_at unit_at width.1 >>= after_units width.0
 
--- values behind their count in four bytes are a field
-counted_field : {A : Type 0} (read : List ℕ → Option (A × List ℕ)) (text : A → List ℕ) (Is : A → Type 0) → IsField read text Is
-    → IsField (counted_at read) (counted_bytes text) (λ xs. AllByRecursion Is xs)
-counted_field read text Is field = record {
-  takes = λ bytes xs rest fits e. let t = list_takes read text Is field w32 (2 ^ 32) wide32 most bytes xs rest fits e in (t.0, t.1);
-  again = λ xs rest all few.
-      let count : length xs ≤ length (flat_map text xs) = count_few text field.some xs in
-      list_again read text Is field w32 (2 ^ 32) wide32 most xs rest all (omega arith) (omega arith) (omega arith);
-  some = λ xs. omega arith;
-}
-
--- so are units
-abbrev units : Fields BlockParts (List (List ℕ))
-units = field (counted_at unit_at) (counted_bytes unit_bytes) (λ xs. AllByRecursion AreBytes xs) (counted_field unit_at unit_bytes AreBytes unit_field)
-
--- so are blobs
+-- blobs behind their count are a field
 abbrev blobs : Fields BlockParts (List NamedBytes)
 blobs = field (counted_at blob_at) (counted_bytes blob_bytes) (λ xs. AllByRecursion IsNamed xs) (counted_field blob_at blob_bytes IsNamed blob_field)
 

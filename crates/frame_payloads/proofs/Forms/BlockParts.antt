@@ -2,7 +2,8 @@
 use Rattle.std.proofs.Common.{◌≡◌, ◌∙◌, ℕ, Bool, eqb, cond, List, length, Option, None, Some, ap}
 use Rattle.std.specs.Int.{w16}
 use Rattle.frame_fields.specs.Fields.{◌>>=◌, number_at, read_items, read_rest}
-use Rattle.frame_payloads.specs.kinds.Block.{blob_at, block_at, unit_at, counted_at}
+use Rattle.frame_payloads.specs.kinds.Block.{blob_at, block_at}
+use Rattle.frame_payloads.specs.kinds.Units.{unit_at, counted_at}
 use Rattle.frame_payloads.proofs.Fields.Many.{made, by_rest}
 use Rattle.frame_payloads.proofs.Forms.BlockForm.{block, after_width, after_units, after_pay_units, after_blobs}
 

@@ -1,34 +1,12 @@
 -- The payload of a block (docs/FORMATS.md, "Payloads").
 use Rattle.std.specs.Prelude.{ℕ, List, ◌∷◌, length, Option, Some, None, if◌then◌else◌, ◌==◌, Bool, ◌++◌, false}
 use Rattle.std.specs.Option.{option_map_or}
-use Rattle.std.specs.Int.{w16, w32, to_be_bytes}
+use Rattle.std.specs.Int.{w16, to_be_bytes}
 use Rattle.namespace_id.specs.Sizes.{namespace_size}
 use Rattle.square_layout.specs.Blocks.{BlockParts}
 use Rattle.share_split.specs.Blobs.{NamedBytes, signer_size, version_of, signer_bytes}
-use Rattle.frame_fields.specs.Fields.{◌>>=◌, number_at, byte_at, string_at, text_at, list_at}
-use Rattle.frame_payloads.specs.codec.Texts.{text_bytes, list_bytes}
-
--- ---- units, blobs, and lists of them
-
--- the greatest number of four bytes
-abbrev pub most : ℕ
-most = 0xffffffff
-
--- a unit behind its length in four bytes
-abbrev pub unit_bytes : List ℕ → List ℕ
-unit_bytes unit = text_bytes w32 unit
-
--- a unit, read behind its length in four bytes
-abbrev pub unit_at : List ℕ → Option (List ℕ × List ℕ)
-unit_at bytes = text_at w32 most bytes
-
--- values behind their count in four bytes
-abbrev pub counted_bytes : {A : Type 0} → (A → List ℕ) → List A → List ℕ
-counted_bytes bytes_of values = list_bytes w32 bytes_of values
-
--- values, read behind their count in four bytes
-abbrev pub counted_at : {A : Type 0} → (List ℕ → Option (A × List ℕ)) → List ℕ → Option (List A × List ℕ)
-counted_at one bytes = list_at w32 most one bytes
+use Rattle.frame_fields.specs.Fields.{◌>>=◌, number_at, byte_at, string_at}
+use Rattle.frame_payloads.specs.kinds.Units.{unit_bytes, unit_at, counted_bytes, counted_at}
 
 -- a blob: its namespace, its share version, its signer where that is 1, and its bytes
 abbrev pub blob_bytes : NamedBytes → List ℕ

@@ -5,19 +5,18 @@ ghost use Rattle.namespace_id.specs.Answers.{Gives, HasRoom};
 ghost use Rattle.share_split.specs.Blobs.{version_of, signer_bytes};
 ghost use Rattle.frame_fields.specs.Fields.{read_items};
 ghost use Rattle.frame_payloads.specs.Payloads.{GivesUnlessFull, max_payload, IsSize, IsShort, IsWithin};
-ghost use Rattle.frame_payloads.specs.kinds.Block.{signed_at, signer_at, blob_at, asked_width, asks_for_zero, block_at, blob_bytes, width_number, block_payload, unit_at, counted_at, unit_bytes, counted_bytes};
+ghost use Rattle.frame_payloads.specs.kinds.Block.{signed_at, signer_at, blob_at, asked_width, asks_for_zero, block_at, blob_bytes, width_number, block_payload};
+ghost use Rattle.frame_payloads.specs.kinds.Units.{unit_at, counted_at, counted_bytes};
 
 use crate::codec::appending::put_text;
 use crate::codec::items::{Item, after_list, list};
 use crate::codec::sizes::{COUNT_SIZE, WIDTH_SIZE, longer, with_bytes, with_text};
+use crate::kinds::units::{MOST, put_units, with_units};
 use frame_fields::{name_at, text_at, u8_at, u16_at};
 use namespace_id::{Namespace, append};
 use share_split::{Blob, SIGNER_SIZE, Unit};
 use square_layout::Block;
 use std::alloc::{AllocError, Global};
-
-/// The greatest count or length: any number of four bytes.
-const MOST: u32 = u32::MAX;
 
 /// The share version of a blob without a signer.
 const UNSIGNED: u8 = 0;
@@ -106,21 +105,6 @@ fn blob_at(bytes: &[u8]) -> Option<(BlobFields<'_>, &[u8])>
     Some((blob, rest))
 }
 
-impl Item for Unit {
-    ghost at = { unit_at };
-
-    fn after(bytes: &[u8]) -> Option<&[u8]> {
-        let (_text, rest) = text_at(bytes, MOST)?;
-        Some(rest)
-    }
-
-    fn read(alloc: Global, bytes: &[u8]) -> Result<(Unit, &[u8]), AllocError> {
-        let (text, rest) = text_at(bytes, MOST).unwrap();
-        let bytes = Vec::from_slice(alloc, text)?;
-        Ok((Unit { bytes }, rest))
-    }
-}
-
 impl Item for Blob {
     ghost at = { blob_at };
 
@@ -202,18 +186,6 @@ pub fn block(alloc: Global, payload: &[u8]) -> Result<Option<Block>, AllocError>
     }))
 }
 
-/// A length with that of a list of units more.
-fn with_units(size: u32, units: &[Unit]) -> Option<u32>
-    requires { size ≤ max_payload }
-    ensures { IsWithin (size + length (counted_bytes unit_bytes units.now)) result }
-{
-    let mut size = longer(size, COUNT_SIZE)?;
-    for unit in units {
-        size = with_text(size, &unit.bytes)?;
-    }
-    Some(size)
-}
-
 /// The share version of a blob with this signer, if there is one.
 fn version_of(signer: &Option<[u8; SIGNER_SIZE]>) -> u8
     ensures { result ≡ version_of signer.now }
@@ -266,20 +238,6 @@ pub fn block_size(block: &Block) -> Option<u32>
     let size = with_units(WIDTH_SIZE, &block.units)?;
     let size = with_units(size, &block.pay_units)?;
     with_blobs(size, &block.blobs)
-}
-
-/// Appends a list of units.
-fn put_units(out: &mut Vec<u8>, units: &[Unit])
-    requires few { IsShort (counted_bytes unit_bytes units.now) }
-    requires room { HasRoom out.old (length (counted_bytes unit_bytes units.now)) }
-    ensures appended { out.new.items ≡ out.old.items ++ counted_bytes unit_bytes units.now }
-    ensures len { vec_len out.new ≡ vec_len out.old + length (counted_bytes unit_bytes units.now) }
-    ensures capacity { vec_capacity out.old ≤ vec_capacity out.new }
-{
-    append(out, &(units.len() as u32).to_be_bytes());
-    for unit in units {
-        put_text(out, &unit.bytes);
-    }
 }
 
 /// Appends a blob: its namespace, its share version, its signer, if it has one, and its bytes.

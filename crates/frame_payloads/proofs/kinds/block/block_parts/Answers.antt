@@ -1,5 +1,6 @@
 use Rattle.std.proofs.Common.{◌∙◌, sym, true, false}
-use Rattle.frame_payloads.specs.kinds.Block.{blob_at, unit_at, counted_at}
+use Rattle.frame_payloads.specs.kinds.Block.{blob_at}
+use Rattle.frame_payloads.specs.kinds.Units.{unit_at, counted_at}
 use Rattle.frame_payloads.proofs.Fields.Many.{not_made}
 use Rattle.frame_payloads.proofs.Forms.BlockParts.{no_width, from_units, from_pay_units, from_blobs, from_rest}
 use Rattle.frame_payloads.proofs.kinds.block.block_parts.Goals as goal

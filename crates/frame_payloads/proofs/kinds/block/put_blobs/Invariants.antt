@@ -1,6 +1,7 @@
 use Rattle.std.proofs.Common.{◌≡◌, ◌+◌, ◌≤◌, ◌++◌, drop, length, vec_len, vec_capacity}
 use Rattle.std.specs.List.{flat_map}
-use Rattle.frame_payloads.specs.kinds.Block.{blob_bytes, counted_bytes}
+use Rattle.frame_payloads.specs.kinds.Block.{blob_bytes}
+use Rattle.frame_payloads.specs.kinds.Units.{counted_bytes}
 use Rattle.frame_payloads.proofs.kinds.block.put_blobs.Given as goal
 
 -- what is there and what is left are all, and there is capacity for what is left

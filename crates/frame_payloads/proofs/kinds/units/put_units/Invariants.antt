@@ -1,7 +1,7 @@
 use Rattle.std.proofs.Common.{◌≡◌, ◌+◌, ◌≤◌, ◌++◌, drop, length, vec_len, vec_capacity}
 use Rattle.std.specs.List.{flat_map}
-use Rattle.frame_payloads.specs.kinds.Block.{unit_bytes, counted_bytes}
-use Rattle.frame_payloads.proofs.kinds.block.put_units.Given as goal
+use Rattle.frame_payloads.specs.kinds.Units.{unit_bytes, counted_bytes}
+use Rattle.frame_payloads.proofs.kinds.units.put_units.Given as goal
 
 -- what is there and what is left are all, and there is capacity for what is left
 abbrev pub invariant-loop-unit : goal.invariant-loop-unit

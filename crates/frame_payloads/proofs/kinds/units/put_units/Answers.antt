@@ -1,8 +1,8 @@
 use Rattle.std.proofs.Common.{◌≡◌, ◌∙◌, ℕ, ◌+◌, List, ◌++◌, length, vec_len, ap, arith}
 use Rattle.frame_payloads.proofs.Fields.Lengths.{count_few, part_few}
 use Rattle.frame_payloads.proofs.Fields.PutLoops.{put_room, put_more, put_end}
-use Rattle.frame_payloads.specs.kinds.Block.{unit_bytes}
-use Rattle.frame_payloads.proofs.kinds.block.put_units.Goals as goal
+use Rattle.frame_payloads.specs.kinds.Units.{unit_bytes}
+use Rattle.frame_payloads.proofs.kinds.units.put_units.Goals as goal
 
 -- each takes four bytes and more
 pub overflow_cast-units : goal.overflow_cast-units
