@@ -19,6 +19,7 @@ use Rattle.frame_payloads.specs.kinds.Requests.{sample_at, request_at}
 use Rattle.frame_payloads.specs.kinds.Block.{block_at}
 use Rattle.frame_payloads.specs.kinds.Commit.{commit_at}
 use Rattle.frame_payloads.specs.kinds.Rooted.{rooted_at}
+use Rattle.frame_payloads.specs.kinds.Transactions.{transactions_at}
 use Rattle.da_wire.specs.declared.frames.Frame.{Frame}
 use Rattle.da_wire.specs.declared.frames.Frame.TheVariants as frames
 use Rattle.da_wire.specs.declared.frames.FrameError.{FrameError}
@@ -67,6 +68,7 @@ kind_brief kinds.Request payload = made_brief frames.Request briefs.Request (λ 
 kind_brief kinds.Block payload = made_brief frames.Block briefs.Block (λ a. refl) (block_at payload)
 kind_brief kinds.Commit payload = made_none frames.Commit (λ a. refl) (commit_at payload)
 kind_brief kinds.Rooted payload = made_none frames.Rooted (λ a. refl) (rooted_at payload)
+kind_brief kinds.Transactions payload = made_brief frames.Transactions briefs.Transactions (λ a. refl) (transactions_at payload)
 
 -- by the kind that a byte is, if it is one
 byte_brief : (o : Option Kind) (payload : List ℕ)

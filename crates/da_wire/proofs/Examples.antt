@@ -1,7 +1,7 @@
 -- Worked frames, by the definitions (docs/FORMATS.md, "Payloads").
 use Rattle.std.proofs.Common.{◌≡◌, ◌∷◌, ◌++◌, [], Some, None, refl, replicate}
 use Rattle.namespace_id.specs.declared.cells.Axis.TheVariants.{Row, Col}
-use Rattle.da_wire.specs.declared.frames.Frame.TheVariants.{Sample, Block}
+use Rattle.da_wire.specs.declared.frames.Frame.TheVariants.{Sample, Block, Transactions}
 use Rattle.da_wire.specs.Spelling.{spelling}
 
 -- a request for cell (1, 2) on its column
@@ -20,3 +20,10 @@ signed_blob : spelling (Block (record {
   width = None;
 })) ≡ Some (0x56 ∷ 0 ∷ 0 ∷ 0 ∷ 0x45 ∷ replicate 13 0 ++ 1 ∷ replicate 29 9 ++ 1 ∷ replicate 20 8 ++ 0 ∷ 0 ∷ 0 ∷ 1 ∷ 0x61 ∷ [])
 signed_blob = refl
+
+-- no transactions, and one of no bytes
+no_transactions : spelling (Transactions []) ≡ Some (0x54 ∷ 0 ∷ 0 ∷ 0 ∷ 4 ∷ 0 ∷ 0 ∷ 0 ∷ 0 ∷ [])
+no_transactions = refl
+
+one_empty_transaction : spelling (Transactions ([] ∷ [])) ≡ Some (0x54 ∷ 0 ∷ 0 ∷ 0 ∷ 8 ∷ 0 ∷ 0 ∷ 0 ∷ 1 ∷ 0 ∷ 0 ∷ 0 ∷ 0 ∷ [])
+one_empty_transaction = refl

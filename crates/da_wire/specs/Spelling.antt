@@ -1,13 +1,15 @@
 -- The one spelling of each value (docs/FORMATS.md).
 use Rattle.std.specs.Prelude.{ℕ, List, ◌∷◌, length, nat_lt, Option, Some, None, if◌then◌else◌, ◌==◌, ◌++◌}
 use Rattle.std.specs.Int.{w32, to_be_bytes}
+use Rattle.std.specs.List.{AllByRecursion}
+use Rattle.namespace_id.specs.Bytes.{AreBytes}
 use Rattle.namespace_id.specs.Cells.{AreCells}
 use Rattle.data_header.specs.Headers.{IsHeader}
 use Rattle.square_layout.specs.Blocks.{IsSquare, IsBlock}
 use Rattle.da_wire.specs.declared.frames.Frame.{Frame}
 use Rattle.da_wire.specs.declared.kinds.Kind.{Kind}
 use Rattle.da_wire.specs.declared.kinds.Kind.TheVariants as kinds
-use Rattle.da_wire.specs.declared.frames.Frame.TheVariants.{Header, Square, Message, Names, Fraud, Missing, Clash, Sample, Request, Block, Commit, Rooted}
+use Rattle.da_wire.specs.declared.frames.Frame.TheVariants.{Header, Square, Message, Names, Fraud, Missing, Clash, Sample, Request, Block, Commit, Rooted, Transactions}
 use Rattle.namespace_id.specs.Names.{IsNamespace}
 use Rattle.namespace_id.specs.Shares.{AreShares}
 use Rattle.axis_roots.specs.Messages.{IsMessage}
@@ -26,6 +28,7 @@ use Rattle.frame_payloads.specs.kinds.Requests.{sample_payload, request_payload}
 use Rattle.frame_payloads.specs.kinds.Block.{block_payload, asks_for_zero}
 use Rattle.frame_payloads.specs.kinds.Commit.{IsCommitSent, is_long_commit, commit_payload}
 use Rattle.frame_payloads.specs.kinds.Rooted.{IsRootedSent, rooted_payload}
+use Rattle.frame_payloads.specs.kinds.Transactions.{transactions_payload}
 
 -- the kind of a header: `H`
 abbrev pub header_kind : ℕ
@@ -75,6 +78,10 @@ commit_kind = 0x43
 abbrev pub rooted_kind : ℕ
 rooted_kind = 0x52
 
+-- the kind of transactions: `T`
+abbrev pub transactions_kind : ℕ
+transactions_kind = 0x54
+
 -- the byte that a kind is
 abbrev pub kind_byte : Kind → ℕ
 kind_byte kinds.Header = header_kind
@@ -89,6 +96,7 @@ kind_byte kinds.Request = request_kind
 kind_byte kinds.Block = block_kind
 kind_byte kinds.Commit = commit_kind
 kind_byte kinds.Rooted = rooted_kind
+kind_byte kinds.Transactions = transactions_kind
 
 -- a frame: its kind, the length of its payload in four bytes, its payload
 abbrev pub frame : ℕ → List ℕ → List ℕ
@@ -121,6 +129,7 @@ spelling (Block b) = if asks_for_zero b.width then None else spelled block_kind 
 spelling (Commit proof) =
     if is_long_commit proof then None else spelled commit_kind (commit_payload proof)
 spelling (Rooted proof) = spelled rooted_kind (rooted_payload proof)
+spelling (Transactions units) = spelled transactions_kind (transactions_payload units)
 
 -- ---- the values that there are
 
@@ -138,3 +147,4 @@ IsFrame (Request name) = IsNamespace name
 IsFrame (Block b) = IsBlock b
 IsFrame (Commit proof) = IsCommitSent proof
 IsFrame (Rooted proof) = IsRootedSent proof
+IsFrame (Transactions units) = AllByRecursion AreBytes units

@@ -182,5 +182,6 @@ pub fn frame_law(frame: &Frame)
         Frame::Block(block) => block_law(block),
         Frame::Commit(proof) => sent_commit_law(proof),
         Frame::Rooted(proof) => sent_rooted_law(proof),
+        Frame::Transactions(units) => units_law(&units.list),
     }
 }

@@ -11,13 +11,15 @@ ghost use Rattle.da_wire.specs.Briefs.{brief_of_kind, brief_at, brief_and_rest};
 use crate::kinds::Kind;
 use crate::reading::raw_among;
 use axis_roots::FraudClaim;
-use frame_payloads::{PlaceList, block, fraud, missing, places, request, sample};
+use frame_payloads::{
+    PlaceList, UnitList, block, fraud, missing, places, request, sample, transactions,
+};
 use namespace_id::{Axis, Cell, Cells, Namespace};
 use square_layout::Block;
 use std::alloc::{AllocError, Global};
 
 /// The kinds of the frames that may be short.
-const KINDS: &[u8] = b"NBKQPV";
+const KINDS: &[u8] = b"NBKQPVT";
 
 /// The value of a frame that may be short. Of a namespace answer it has no shares, digests or nodes, but where its
 /// entries found something.
@@ -35,6 +37,8 @@ pub enum Brief {
     Request(Namespace),
     /// V: a block.
     Block(Block),
+    /// T: transactions.
+    Transactions(UnitList),
 }
 
 /// The brief value of this kind whose payload the bytes are.
@@ -48,6 +52,7 @@ fn brief_of_kind(alloc: Global, kind: Kind, payload: &[u8]) -> Result<Option<Bri
         Kind::Sample => Ok(sample(payload).map(|(cell, axis)| Brief::Sample(cell, axis))),
         Kind::Request => Ok(request(payload).map(Brief::Request)),
         Kind::Block => Ok(block(alloc, payload)?.map(Brief::Block)),
+        Kind::Transactions => Ok(transactions(alloc, payload)?.map(Brief::Transactions)),
         _ => Ok(None),
     }
 }
@@ -64,7 +69,7 @@ fn brief_at(alloc: Global, kind: u8, payload: &[u8]) -> Result<Option<Brief>, Al
 }
 
 /// The brief value of the frame at the front of bytes, and the bytes after it; none where no frame of N, B,
-/// K, Q, P or V in the grammar stands there. Out of memory comes in place of a value alone.
+/// K, Q, P, V or T in the grammar stands there. Out of memory comes in place of a value alone.
 ///
 /// docs/FORMATS.md, "Lists of frames".
 pub fn next_brief(alloc: Global, bytes: &[u8]) -> Result<Option<(Brief, &[u8])>, AllocError>

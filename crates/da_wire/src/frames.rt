@@ -3,6 +3,7 @@
 use axis_roots::{FraudClaim, Message, NsAnswer};
 use blob_commit::{CommitProof, RootedMessage};
 use data_header::Header;
+use frame_payloads::UnitList;
 use hash_clash::Clash;
 use namespace_id::{Axis, Cell, Cells, Namespace};
 use square_layout::{Block, Square};
@@ -47,6 +48,8 @@ pub enum Frame {
     Commit(CommitProof),
     /// R: a sample with the proof of its axis root under the data root.
     Rooted(RootedMessage),
+    /// T: transactions.
+    Transactions(UnitList),
 }
 
 /// Why bytes are no frame. The variants but the last stand in the order in which they are tested; each

@@ -19,6 +19,7 @@ pub(crate) enum Kind {
     Block,
     Commit,
     Rooted,
+    Transactions,
 }
 
 impl Kind {
@@ -39,6 +40,7 @@ impl Kind {
             b'V' => Some(Kind::Block),
             b'C' => Some(Kind::Commit),
             b'R' => Some(Kind::Rooted),
+            b'T' => Some(Kind::Transactions),
             _ => None,
         }
     }
@@ -60,6 +62,7 @@ impl Kind {
             Kind::Block => b'V',
             Kind::Commit => b'C',
             Kind::Rooted => b'R',
+            Kind::Transactions => b'T',
         }
     }
 }

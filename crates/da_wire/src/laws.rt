@@ -1,6 +1,6 @@
 //! What is spelled is read, and what is read is spelled.
 
-ghost use Rattle.std.specs.Prelude.{◌≡◌, ◌≢◌, ◌<◌, ◌≤◌, ◌*◌, ◌^◌, List, [], true, false, length, IsSome};
+ghost use Rattle.std.specs.Prelude.{◌≡◌, ◌≢◌, ◌<◌, ◌≤◌, ◌*◌, ◌^◌, ◌↔◌, ℕ, List, [], true, false, length, IsSome};
 ghost use Rattle.namespace_id.specs.declared.cells.Axis.{Axis};
 ghost use Rattle.namespace_id.specs.declared.cells.Cell.{Cell};
 ghost use Rattle.namespace_id.specs.declared.namespaces.Namespace as names;
@@ -18,7 +18,7 @@ ghost use Rattle.square_layout.specs.Blocks.{SquareShares, IsSquare};
 ghost use Rattle.hash_clash.specs.Collisions.{Strings};
 ghost use Rattle.blob_commit.specs.Proofs.{CommitParts, RootedParts, has_commit_shape};
 ghost use Rattle.frame_fields.specs.Fields.{most_nodes};
-ghost use Rattle.da_wire.specs.declared.frames.Frame.TheVariants.{Header, Square, Message, Names, Fraud, Missing, Clash, Sample, Request, Commit, Rooted};
+ghost use Rattle.da_wire.specs.declared.frames.Frame.TheVariants.{Header, Square, Message, Names, Fraud, Missing, Clash, Sample, Request, Commit, Rooted, Transactions};
 ghost use Rattle.da_wire.specs.Spelling.{spelling};
 ghost use Rattle.frame_payloads.specs.Payloads.{max_payload};
 ghost use Rattle.frame_payloads.specs.kinds.Names.{most_entries, most_shares_shown, is_long_answer};
@@ -26,6 +26,7 @@ ghost use Rattle.frame_payloads.specs.kinds.Fraud.{most_cells, most_set_nodes, i
 ghost use Rattle.frame_payloads.specs.kinds.Clash.{AreStrings, has_empty};
 ghost use Rattle.frame_payloads.specs.kinds.Commit.{most_rows, most_subtrees, IsCommitSent, is_long_commit};
 ghost use Rattle.frame_payloads.specs.kinds.Rooted.{IsRootedSent};
+ghost use Rattle.frame_payloads.specs.kinds.Transactions.{transactions_payload};
 ghost use Rattle.da_wire.specs.Laws.{SpelledIsRead, ReadIsSpelled, OneSpelling, OnlyIsSpelled, SpelledIsOnly, MessageIsRead, MessageIsSpelled, RawIsFrame, FramesAreTheFile, FilesAreFrames, BadFrameIsFirst, ValuesAreTheFile, FilesAreValues, BadValueIsFirst};
 ghost use Rattle.da_wire.specs.Streams.{EveryCutting, FramesStay};
 
@@ -42,7 +43,8 @@ pub fn wire_laws()
     ensures only_read { SpelledIsOnly }
 
     // What has a spelling: a claim that is accepted is one that can be written, and so is a commitment
-    // proof that has its shape. Missing cells are at most as many as their square has.
+    // proof that has its shape. Missing cells are at most as many as their square has. Transactions have
+    // one exactly where their payload is within its limit.
     ensures headers { (header : Roots) → IsHeader header → IsSome (spelling (Header header)) }
     ensures squares { (square : SquareShares) → IsSquare square → AreShares square.shares →
         IsSome (spelling (Square square)) }
@@ -66,6 +68,8 @@ pub fn wire_laws()
     ensures shaped { (proof : CommitParts) → has_commit_shape proof ≡ true →
         is_long_commit proof ≡ false }
     ensures rooted { (proof : RootedParts) → IsRootedSent proof → IsSome (spelling (Rooted proof)) }
+    ensures transactions { (units : List (List ℕ)) →
+        IsSome (spelling (Transactions units)) ↔ (length (transactions_payload units) ≤ max_payload) }
 
     // The payloads of samples.
     ensures message_read { MessageIsRead }

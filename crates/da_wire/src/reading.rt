@@ -25,7 +25,8 @@ use crate::{Frame, FrameError, RawFrame};
 use frame_fields::message;
 use frame_payloads::{
     MAX_PAYLOAD, block, clash, commit, fraud, header, is_block, is_commit, is_fraud, is_header,
-    is_missing, is_names, is_square, missing, names, request, rooted, sample, square,
+    is_missing, is_names, is_square, is_transactions, missing, names, request, rooted, sample,
+    square, transactions,
 };
 use std::alloc::{AllocError, Global};
 
@@ -90,6 +91,7 @@ fn value_of_kind(alloc: Global, kind: Kind, payload: &[u8]) -> Result<Option<Fra
         Kind::Block => Ok(block(alloc, payload)?.map(Frame::Block)),
         Kind::Commit => Ok(commit(alloc, payload)?.map(Frame::Commit)),
         Kind::Rooted => Ok(rooted(payload).map(Frame::Rooted)),
+        Kind::Transactions => Ok(transactions(alloc, payload)?.map(Frame::Transactions)),
     }
 }
 
@@ -121,6 +123,7 @@ fn is_in_form(kind: Kind, payload: &[u8]) -> bool
         Kind::Block => is_block(payload),
         Kind::Commit => is_commit(payload),
         Kind::Rooted => rooted(payload).is_some(),
+        Kind::Transactions => is_transactions(payload),
     }
 }
 
@@ -160,7 +163,7 @@ pub(crate) fn refusal_before_more(frame: RawFrame<'_>) -> FrameError
 /// The value of the frame at the front of bytes, and the offset after it. `at` is the offset of the
 /// bytes in their file, and `at` plus their number fits a `u64`.
 ///
-/// Refuses no byte (`Truncated`), a kind that isn't one of H, S, M, N, B, K, X, Q, P, V, C and R
+/// Refuses no byte (`Truncated`), a kind that isn't one of H, S, M, N, B, K, X, Q, P, V, C, R and T
 /// (`BadKind`), then what `raw` refuses, then a payload that isn't in the grammar of its kind
 /// (`BadPayload`), each with `at`. Out of memory comes in place of a value alone: none is taken before
 /// the payload is known to be in its grammar.

@@ -16,7 +16,7 @@ use frame_payloads::{
     SAMPLE_SIZE, block_size, clash_size, commit_size, fraud_size, header_size, message_size,
     missing_size, names_size, proof_law, proof_size, put_block, put_clash, put_commit, put_fraud,
     put_header, put_message, put_missing, put_names, put_proof, put_rooted, put_sample, put_square,
-    request_size, rooted_size, square_size,
+    put_transactions, request_size, rooted_size, square_size, transactions_size,
 };
 use namespace_id::{NoMemory, append};
 
@@ -37,6 +37,7 @@ fn kind_of(frame: &Frame) -> Kind
         Frame::Block(_) => Kind::Block,
         Frame::Commit(_) => Kind::Commit,
         Frame::Rooted(_) => Kind::Rooted,
+        Frame::Transactions(_) => Kind::Transactions,
     }
 }
 
@@ -57,6 +58,7 @@ fn payload_size(frame: &Frame) -> Option<u32>
         Frame::Block(block) => block_size(block),
         Frame::Commit(proof) => commit_size(proof),
         Frame::Rooted(proof) => Some(rooted_size(proof)),
+        Frame::Transactions(units) => transactions_size(&units.list),
     }
 }
 
@@ -80,6 +82,7 @@ fn put_payload(out: &mut Vec<u8>, frame: &Frame)
         Frame::Block(block) => put_block(out, block),
         Frame::Commit(proof) => put_commit(out, proof),
         Frame::Rooted(proof) => put_rooted(out, proof),
+        Frame::Transactions(units) => put_transactions(out, &units.list),
     }
 }
 

@@ -7,7 +7,7 @@ use Rattle.namespace_id.specs.declared.namespaces.Namespace.{Namespace}
 use Rattle.namespace_id.specs.Bytes.{AreBytes}
 use Rattle.axis_roots.specs.declared.answers.NsEntry.{NsEntry}
 use Rattle.da_wire.specs.declared.frames.Frame.{Frame}
-use Rattle.da_wire.specs.declared.frames.Frame.TheVariants.{Header, Square, Message, Names, Fraud, Missing, Clash, Sample, Request, Block, Commit, Rooted}
+use Rattle.da_wire.specs.declared.frames.Frame.TheVariants.{Header, Square, Message, Names, Fraud, Missing, Clash, Sample, Request, Block, Commit, Rooted, Transactions}
 use Rattle.da_wire.specs.declared.kinds.Kind.{Kind}
 use Rattle.da_wire.specs.declared.kinds.Kind.TheVariants as kinds
 use Rattle.da_wire.specs.Spelling.{kind_byte, spelled, spelling, IsFrame}
@@ -25,6 +25,7 @@ use Rattle.frame_payloads.proofs.Forms.RequestForms.{sample_form, request_form}
 use Rattle.frame_payloads.proofs.Forms.BlockForm.{block_form}
 use Rattle.frame_payloads.proofs.Forms.CommitForm.{commit_form}
 use Rattle.frame_payloads.proofs.Forms.RootedForm.{rooted_form}
+use Rattle.frame_payloads.proofs.Forms.TransactionsForm.{transactions_form}
 
 -- ---- the byte of a kind
 
@@ -42,6 +43,7 @@ kind_again kinds.Request = refl
 kind_again kinds.Block = refl
 kind_again kinds.Commit = refl
 kind_again kinds.Rooted = refl
+kind_again kinds.Transactions = refl
 
 -- a byte is that of a kind, or it is looked for among the others
 by_byte : (here : Bool) (byte : ℕ) (kind found : Kind) (others : Option Kind) → eqb byte (kind_byte kind) ≡ here → cond here (Some kind) others ≡ Some found
@@ -63,7 +65,8 @@ kind_takes byte found e =
     by_byte (eqb byte (kind_byte kinds.Request)) byte kinds.Request found _ refl e8 (λ e9.
     by_byte (eqb byte (kind_byte kinds.Block)) byte kinds.Block found _ refl e9 (λ e10.
     by_byte (eqb byte (kind_byte kinds.Commit)) byte kinds.Commit found _ refl e10 (λ e11.
-    by_byte (eqb byte (kind_byte kinds.Rooted)) byte kinds.Rooted found None refl e11 (λ e12. absurd cc))))))))))))
+    by_byte (eqb byte (kind_byte kinds.Rooted)) byte kinds.Rooted found _ refl e11 (λ e12.
+    by_byte (eqb byte (kind_byte kinds.Transactions)) byte kinds.Transactions found None refl e12 (λ e13. absurd cc)))))))))))))
 
 -- ---- values
 
@@ -88,6 +91,7 @@ spelled_by kinds.Request = form_takes kinds.Request Request _ _ _ request_form (
 spelled_by kinds.Block = form_takes kinds.Block Block _ _ _ block_form (λ bytes. refl) (λ x. refl)
 spelled_by kinds.Commit = form_takes kinds.Commit Commit _ _ _ commit_form (λ bytes. refl) (λ x. refl)
 spelled_by kinds.Rooted = form_takes kinds.Rooted Rooted _ _ _ rooted_form (λ bytes. refl) (λ x. refl)
+spelled_by kinds.Transactions = form_takes kinds.Transactions Transactions _ _ _ transactions_form (λ bytes. refl) (λ x. refl)
 
 -- a value that is read of a payload is what the payload spells
 pub value_takes : (byte : ℕ) (payload : List ℕ) (value : Frame) → AreBytes payload → value_at byte payload ≡ Some value
@@ -111,3 +115,4 @@ value_again (Request name) = form_written kinds.Request Request _ _ _ request_fo
 value_again (Block b) = form_written kinds.Block Block _ _ _ block_form (λ bytes. refl) (λ x. refl) (kind_again kinds.Block) b
 value_again (Commit proof) = form_written kinds.Commit Commit _ _ _ commit_form (λ bytes. refl) (λ x. refl) (kind_again kinds.Commit) proof
 value_again (Rooted proof) = form_written kinds.Rooted Rooted _ _ _ rooted_form (λ bytes. refl) (λ x. refl) (kind_again kinds.Rooted) proof
+value_again (Transactions units) = form_written kinds.Transactions Transactions _ _ _ transactions_form (λ bytes. refl) (λ x. refl) (kind_again kinds.Transactions) units

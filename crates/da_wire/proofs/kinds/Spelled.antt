@@ -1,6 +1,6 @@
 -- The values that have a spelling.
-use Rattle.std.proofs.Common.{◌≡◌, ℕ, ◌+◌, ◌*◌, ◌≤◌, Bool, false, eqb, cond, List, [], length, Some, None, refl, sym, subst, arith}
-use Rattle.std.specs.Prelude.{IsSome}
+use Rattle.std.proofs.Common.{◌≡◌, ℕ, ◌+◌, ◌*◌, ◌≤◌, Bool, true, false, eqb, ltb, cond, List, [], length, Some, None, refl, sym, subst, arith, ltb-false}
+use Rattle.std.specs.Prelude.{◌↔◌, IsSome}
 use Rattle.std.specs.Int.{w16}
 use Rattle.std.proofs.lemmas.List.{nil_from_length, length-append}
 use Rattle.namespace_id.specs.declared.cells.Cell.{Cell}
@@ -18,8 +18,8 @@ use Rattle.axis_roots.specs.Messages.{IsMessage}
 use Rattle.square_layout.specs.Blocks.{SquareShares, IsSquare}
 use Rattle.hash_clash.specs.Collisions.{Strings}
 use Rattle.blob_commit.specs.Proofs.{CommitParts, RootedParts}
-use Rattle.da_wire.specs.declared.frames.Frame.TheVariants.{Header, Square, Message, Names, Fraud, Missing, Clash, Sample, Request, Commit, Rooted}
-use Rattle.da_wire.specs.Spelling.{spelled, spelling, header_kind, square_kind, message_kind, names_kind, fraud_kind, missing_kind, clash_kind, sample_kind, request_kind, commit_kind, rooted_kind}
+use Rattle.da_wire.specs.declared.frames.Frame.TheVariants.{Header, Square, Message, Names, Fraud, Missing, Clash, Sample, Request, Commit, Rooted, Transactions}
+use Rattle.da_wire.specs.Spelling.{frame, spelled, spelling, header_kind, square_kind, message_kind, names_kind, fraud_kind, missing_kind, clash_kind, sample_kind, request_kind, commit_kind, rooted_kind, transactions_kind}
 use Rattle.frame_payloads.specs.Payloads.{max_payload, written}
 use Rattle.frame_payloads.specs.codec.Texts.{text_bytes}
 use Rattle.frame_payloads.specs.kinds.Header.{header_payload}
@@ -32,6 +32,7 @@ use Rattle.frame_payloads.specs.kinds.Clash.{AreStrings, has_empty, clash_payloa
 use Rattle.frame_payloads.specs.kinds.Requests.{sample_payload, request_payload}
 use Rattle.frame_payloads.specs.kinds.Commit.{IsCommitSent, is_long_commit, commit_payload}
 use Rattle.frame_payloads.specs.kinds.Rooted.{IsRootedSent, rooted_payload}
+use Rattle.frame_payloads.specs.kinds.Transactions.{transactions_payload}
 use Rattle.frame_payloads.proofs.Fields.Lengths.{written_within}
 use Rattle.frame_payloads.proofs.Forms.NamesSizes.{names_few}
 use Rattle.frame_payloads.proofs.Forms.FraudSizes.{fraud_few}
@@ -97,3 +98,16 @@ pub rooted_spelled : (proof : RootedParts) → IsRootedSent proof → IsSome (sp
 rooted_spelled proof is =
     some_spelling rooted_kind false (rooted_payload proof)
     (rooted_sized proof (611 + 90 * length proof.message.path + 32 * length proof.up) is.is is.few_hashes refl).1
+
+-- where there is a spelling behind a test, it isn't held
+not_held : (b : Bool) (text : List ℕ) → IsSome (cond b None (Some text)) → b ≡ false
+not_held true text some = absurd cc
+not_held false text some = refl
+
+-- transactions have a spelling exactly where their payload is within the limit
+pub transactions_spelled : (units : List (List ℕ)) → IsSome (spelling (Transactions units)) ↔ (length (transactions_payload units) ≤ max_payload)
+transactions_spelled units =
+    let payload : List ℕ = transactions_payload units in (
+      λ some. ltb-false max_payload (length payload) (not_held (ltb max_payload (length payload)) (frame transactions_kind payload) some),
+      λ few. within_spelling transactions_kind false payload refl few,
+    )

@@ -1,4 +1,6 @@
-use Rattle.std.proofs.Common.{false, Some, refl}
+use Rattle.std.proofs.Common.{◌≡◌, ◌∙◌, ℕ, false, List, Some, refl, subst}
+use Rattle.frame_payloads.specs.Payloads.{IsSize}
+use Rattle.frame_payloads.specs.kinds.Transactions.{transactions_payload}
 use Rattle.da_wire.proofs.kinds.Form.{size_spelled}
 use Rattle.da_wire.proofs.writing.payload_size.Goals as goal
 
@@ -35,3 +37,9 @@ returns-in-Commit c = size_spelled c.commit_size.result c.args.frame.now _ _ c.i
 
 pub returns-in-Rooted : goal.returns-in-Rooted
 returns-in-Rooted c = size_spelled (Some c.rooted_size.result) c.args.frame.now _ false c.in-Rooted.is refl c.rooted_size.ensures
+
+pub returns-in-Transactions : goal.returns-in-Transactions
+returns-in-Transactions c =
+    let units : c.deref.result.now ≡ c.in-Transactions.units = c.deref.ensures.value ∙ c.units.view_is in
+    size_spelled c.transactions_size.result c.args.frame.now _ false c.in-Transactions.is refl
+    (subst (λ (l : List (List ℕ)). IsSize false (transactions_payload l) c.transactions_size.result) units c.transactions_size.ensures)
