@@ -37,6 +37,7 @@ lines_are (frames.Missing cells) brief e = ap brief_lines (sym (same_Some _ _ e)
 lines_are (frames.Sample cell axis) brief e = ap brief_lines (sym (same_Some _ _ e))
 lines_are (frames.Request name) brief e = ap brief_lines (sym (same_Some _ _ e))
 lines_are (frames.Block block) brief e = ap brief_lines (sym (same_Some _ _ e))
+lines_are (frames.Transactions units) brief e = ap brief_lines (sym (same_Some _ _ e))
 lines_are (frames.Header header) brief e = absurd cc
 lines_are (frames.Square square) brief e = absurd cc
 lines_are (frames.Message message) brief e = absurd cc

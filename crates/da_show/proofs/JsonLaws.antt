@@ -30,8 +30,8 @@ use Rattle.da_wire.specs.declared.frames.Frame.TheVariants as frames
 use Rattle.da_wire.specs.declared.briefs.Brief.{Brief}
 use Rattle.da_wire.specs.Briefs.{brief_of}
 use Rattle.da_show.specs.Parts.{axis_word, name_word, digest_word, share_hash_word}
-use Rattle.da_show.specs.Json.{count, list_of, object_of, root_json, header_json, share_json, square_json, message_json, found_json, entry_json, names_json, cell_json, cell_of_json, claim_json, missing_json, clash_json, sample_json, request_json, length_json, signer_json, blob_json, block_json, commit_json, rooted_json, json_text}
-use Rattle.da_show.specs.JsonTexts.{quoted_axis, quoted_hex, quoted_name, items_from, list_text, root_text, share_text, range_text, absence_text, found_text, entry_text, found_place_text, place_text, pair_text, cell_text, cell_of_text, length_text, signer_text, blob_end, blob_text, header_end, header_text, square_end, square_text, place_front, share_end, message_end, message_text, names_end, names_text, places_text, claim_end, claim_text, missing_text, clash_text, sample_text, request_text, units_end, block_end, block_text, commit_end, commit_counts, commit_text, rooted_end, rooted_text, frame_text, brief_json}
+use Rattle.da_show.specs.Json.{count, list_of, object_of, root_json, header_json, share_json, square_json, message_json, found_json, entry_json, names_json, cell_json, cell_of_json, claim_json, missing_json, clash_json, sample_json, request_json, length_json, signer_json, blob_json, block_json, commit_json, rooted_json, transactions_json, json_text}
+use Rattle.da_show.specs.JsonTexts.{quoted_axis, quoted_hex, quoted_name, items_from, list_text, root_text, share_text, range_text, absence_text, found_text, entry_text, found_place_text, place_text, pair_text, cell_text, cell_of_text, length_text, signer_text, blob_end, blob_text, header_end, header_text, square_end, square_text, place_front, share_end, message_end, message_text, names_end, names_text, places_text, claim_end, claim_text, missing_text, clash_text, sample_text, request_text, units_end, block_end, block_text, commit_end, commit_counts, commit_text, rooted_end, rooted_text, transactions_text, frame_text, brief_json}
 
 -- ---- lists
 
@@ -265,6 +265,12 @@ block_is block =
     ap₂ (λ (a b : List ℕ). block_around a b units width) (blobs_are block.blobs) (lengths_are block.pay_units)
     ∙ ap (λ (l : List ℕ). block_around blobs pay l width) (lengths_are block.units)
 
+-- transactions
+transactions_are : (units : List (List ℕ)) → transactions_text units ≡ compact_text (transactions_json units)
+unfolding transactions_text escape_byte
+transactions_are units =
+    ap (λ (l : List ℕ). codes "{\"kind\":\"transactions\",\"lengths\":" ++ (l ++ codes "}")) (lengths_are units)
+
 -- ---- all kinds
 
 -- the text of a frame is that of its object
@@ -281,6 +287,7 @@ frame_text_is (frames.Request name) = request_is name
 frame_text_is (frames.Block block) = block_is block
 frame_text_is (frames.Commit proof) = commit_is proof
 frame_text_is (frames.Rooted proof) = rooted_is proof
+frame_text_is (frames.Transactions units) = transactions_are units
 
 -- the text of what is brief of a value is that of its object
 pub brief_json_is : (value : Frame) (brief : Brief) → brief_of value ≡ Some brief → brief_json brief ≡ json_text value
@@ -290,6 +297,7 @@ brief_json_is (frames.Missing cells) brief e = ap brief_json (sym (same_Some _ _
 brief_json_is (frames.Sample cell axis) brief e = ap brief_json (sym (same_Some _ _ e)) ∙ sample_is cell axis
 brief_json_is (frames.Request name) brief e = ap brief_json (sym (same_Some _ _ e)) ∙ request_is name
 brief_json_is (frames.Block block) brief e = ap brief_json (sym (same_Some _ _ e)) ∙ block_is block
+brief_json_is (frames.Transactions units) brief e = ap brief_json (sym (same_Some _ _ e)) ∙ transactions_are units
 brief_json_is (frames.Header header) brief e = absurd cc
 brief_json_is (frames.Square square) brief e = absurd cc
 brief_json_is (frames.Message message) brief e = absurd cc

@@ -1,4 +1,3 @@
-pub mod NoFloats
 mod BriefText
 mod HexDigits
 mod Pieces

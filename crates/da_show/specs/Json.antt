@@ -167,6 +167,11 @@ rooted_json proof = object_of (
     ∷ (codes "root", string (digest_word proof.root)) ∷ (codes "row", count proof.message.cell.row)
     ∷ (codes "share", string (share_hash_word proof.message.share)) ∷ [])
 
+-- transactions: their lengths
+abbrev pub transactions_json : List (List ℕ) → Data
+transactions_json units = object_of (
+    (codes "kind", string (codes "transactions")) ∷ (codes "lengths", list_of length_json units) ∷ [])
+
 -- ---- the JSON
 
 -- the value of a frame
@@ -183,6 +188,7 @@ json_of (frames.Request name) = request_json name
 json_of (frames.Block block) = block_json block
 json_of (frames.Commit proof) = commit_json proof
 json_of (frames.Rooted proof) = rooted_json proof
+json_of (frames.Transactions units) = transactions_json units
 
 -- the text of it, without a space and on one line
 abbrev pub json_text : Frame → List ℕ

@@ -245,6 +245,11 @@ rooted_text proof =
     place_front proof.message.axis proof.message.cell.col ++ (codes ",\"k\":" ++ (decimal proof.k
     ++ rooted_end proof.root proof.message.cell.row proof.message.share))
 
+-- transactions
+unfoldable pub transactions_text : List (List ℕ) → List ℕ
+transactions_text units =
+    codes "{\"kind\":\"transactions\",\"lengths\":" ++ (list_text length_text units ++ codes "}")
+
 -- ---- the text
 
 -- the text of a frame's object
@@ -261,6 +266,7 @@ frame_text (frames.Request name) = request_text name
 frame_text (frames.Block block) = block_text block
 frame_text (frames.Commit proof) = commit_text proof
 frame_text (frames.Rooted proof) = rooted_text proof
+frame_text (frames.Transactions units) = transactions_text units
 
 -- the text of the object of what is brief of a frame
 abbrev pub brief_json : Brief → List ℕ
@@ -270,3 +276,4 @@ brief_json (briefs.Missing cells) = missing_text cells.list cells.k
 brief_json (briefs.Sample cell axis) = sample_text cell axis
 brief_json (briefs.Request name) = request_text name
 brief_json (briefs.Block block) = block_text block
+brief_json (briefs.Transactions units) = transactions_text units

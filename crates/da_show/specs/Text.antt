@@ -219,6 +219,14 @@ rooted_line proof =
 abbrev pub rooted_lines : RootedParts → List (List ℕ)
 rooted_lines proof = rooted_line proof ∷ message_line proof.message ∷ []
 
+-- transactions' own line: how many there are
+abbrev pub transactions_line : List (List ℕ) → List ℕ
+transactions_line units = line (codes "transactions") (named (codes "count") (length units) ∷ [])
+
+-- transactions: their lengths
+abbrev pub transactions_lines : List (List ℕ) → List (List ℕ)
+transactions_lines units = transactions_line units ∷ map (unit_line (codes "transaction")) units
+
 -- ---- the text
 
 -- the lines of a frame
@@ -235,6 +243,7 @@ lines_of (frames.Request name) = request_line name ∷ []
 lines_of (frames.Block block) = block_lines block
 lines_of (frames.Commit proof) = commit_line proof ∷ []
 lines_of (frames.Rooted proof) = rooted_lines proof
+lines_of (frames.Transactions units) = transactions_lines units
 
 -- the lines of what is brief of a frame
 abbrev pub brief_lines : Brief → List (List ℕ)
@@ -244,6 +253,7 @@ brief_lines (briefs.Missing cells) = missing_lines cells
 brief_lines (briefs.Sample cell axis) = sample_line cell axis ∷ []
 brief_lines (briefs.Request name) = request_line name ∷ []
 brief_lines (briefs.Block block) = block_lines block
+brief_lines (briefs.Transactions units) = transactions_lines units
 
 -- lines that come after another, each behind a line feed
 abbrev pub following : List (List ℕ) → List ℕ

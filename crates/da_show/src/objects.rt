@@ -34,6 +34,7 @@ fn put_object(alloc: Global, out: &mut String, frame: &Frame) -> Result<(), Allo
         Frame::Block(block) => kinds::put_block(alloc, out, block),
         Frame::Commit(proof) => kinds::put_commit(alloc, out, proof),
         Frame::Rooted(proof) => kinds::put_rooted(alloc, out, proof),
+        Frame::Transactions(units) => kinds::put_transactions(out, &units.list),
     }
 }
 
@@ -64,6 +65,7 @@ fn put_brief_object(alloc: Global, out: &mut String, brief: &Brief) -> Result<()
         Brief::Sample(cell, axis) => kinds::put_sample(out, *cell, *axis),
         Brief::Request(name) => kinds::put_request(alloc, out, name),
         Brief::Block(block) => kinds::put_block(alloc, out, block),
+        Brief::Transactions(units) => kinds::put_transactions(out, &units.list),
     }
 }
 

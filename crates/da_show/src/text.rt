@@ -32,6 +32,7 @@ fn put_frame(alloc: Global, out: &mut String, frame: &Frame) -> Result<(), Alloc
         Frame::Block(block) => kinds::block(alloc, out, block),
         Frame::Commit(proof) => lines::put_commit(alloc, out, proof),
         Frame::Rooted(proof) => kinds::rooted(alloc, out, proof),
+        Frame::Transactions(units) => kinds::transactions(out, units),
     }
 }
 
@@ -64,6 +65,7 @@ fn put_lines(alloc: Global, out: &mut String, brief: &Brief) -> Result<(), Alloc
         Brief::Sample(cell, axis) => lines::put_sample(out, *cell, *axis),
         Brief::Request(name) => lines::put_request(alloc, out, name),
         Brief::Block(block) => kinds::block(alloc, out, block),
+        Brief::Transactions(units) => kinds::transactions(out, units),
     }
 }
 

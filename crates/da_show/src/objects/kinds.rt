@@ -2,7 +2,7 @@
 
 ghost use Rattle.std.specs.Prelude.{◌≡◌, ◌++◌, OnOk};
 ghost use Rattle.std.specs.String.{string_bytes};
-ghost use Rattle.da_show.specs.JsonTexts.{header_end, header_text, square_end, square_text, place_front, share_end, message_end, message_text, names_end, names_text, places_text, claim_end, claim_text, missing_text, clash_text, sample_text, request_text, units_end, block_end, block_text, commit_end, commit_counts, commit_text, rooted_end, rooted_text};
+ghost use Rattle.da_show.specs.JsonTexts.{header_end, header_text, square_end, square_text, place_front, share_end, message_end, message_text, names_end, names_text, places_text, claim_end, claim_text, missing_text, clash_text, sample_text, request_text, units_end, block_end, block_text, commit_end, commit_counts, commit_text, rooted_end, rooted_text, transactions_text};
 
 use super::lists::{
     put_blobs, put_cells, put_entries, put_lengths, put_message_cells, put_places, put_roots,
@@ -361,4 +361,13 @@ pub(crate) fn put_rooted(
         proof.message.cell.row,
         &proof.message.share,
     )
+}
+
+/// Appends transactions: their lengths.
+pub(crate) fn put_transactions(out: &mut String, units: &[Unit]) -> Result<(), AllocError>
+    ensures { OnOk result (string_bytes out.new ≡ string_bytes out.old ++ transactions_text units.now) }
+{
+    out.push_str("{\"kind\":\"transactions\",\"lengths\":")?;
+    put_lengths(out, units)?;
+    out.push_str("}")
 }

@@ -2,18 +2,18 @@
 
 ghost use Rattle.std.specs.Prelude.{◌≡◌, ◌++◌, OnOk};
 ghost use Rattle.std.specs.String.{string_bytes};
-ghost use Rattle.da_show.specs.Text.{joined, following, header_lines, square_lines, names_lines, places_lines, claim_lines, missing_lines, clash_lines, unit_lines, block_lines, rooted_lines};
+ghost use Rattle.da_show.specs.Text.{joined, following, header_lines, square_lines, names_lines, places_lines, claim_lines, missing_lines, clash_lines, unit_lines, block_lines, rooted_lines, transactions_lines};
 
 use super::lines::{
     put_block, put_claim, put_header, put_message, put_missing, put_names, put_rooted, put_square,
-    put_string,
+    put_string, put_transactions,
 };
 use super::lists::{
     put_blobs, put_cells, put_entries, put_messages, put_places, put_roots, put_shares, put_units,
 };
 use axis_roots::{FraudClaim, NsAnswer};
 use blob_commit::RootedMessage;
-use da_wire::PlaceList;
+use da_wire::{PlaceList, UnitList};
 use data_header::Header;
 use hash_clash::Clash;
 use namespace_id::{Axis, Cells, Namespace};
@@ -127,4 +127,13 @@ pub(crate) fn rooted(
     put_rooted(alloc, out, proof)?;
     out.push('\n')?;
     put_message(alloc, out, &proof.message)
+}
+
+/// Transactions and their lengths.
+pub(crate) fn transactions(out: &mut String, units: &UnitList) -> Result<(), AllocError>
+    ensures { OnOk result (string_bytes out.new
+        ≡ string_bytes out.old ++ joined (transactions_lines units.now)) }
+{
+    put_transactions(out, units)?;
+    put_units(out, "transaction", &units.list)
 }
