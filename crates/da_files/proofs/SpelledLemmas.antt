@@ -3,8 +3,8 @@ use Rattle.std.proofs.Common.{◌≡◌, ◌∙◌, ℕ, ◌<◌, Bool, true, fa
 use Rattle.std.specs.Prelude.{◌==◌, nat_lt}
 use Rattle.std.specs.declared.option.Option.{Option}
 use Rattle.da_wire.specs.declared.frames.Frame.{Frame}
-use Rattle.da_wire.specs.declared.frames.Frame.TheVariants.{Header, Square, Message, Names, Fraud, Missing, Clash, Sample, Request, Block, Commit, Rooted}
-use Rattle.da_wire.specs.Spelling.{spelling, spelled, frame as framed, header_kind, square_kind, message_kind, names_kind, fraud_kind, missing_kind, clash_kind, sample_kind, request_kind, block_kind, commit_kind, rooted_kind}
+use Rattle.da_wire.specs.declared.frames.Frame.TheVariants.{Header, Square, Message, Names, Fraud, Missing, Clash, Sample, Request, Block, Commit, Rooted, Transactions}
+use Rattle.da_wire.specs.Spelling.{spelling, spelled, frame as framed, header_kind, square_kind, message_kind, names_kind, fraud_kind, missing_kind, clash_kind, sample_kind, request_kind, block_kind, commit_kind, rooted_kind, transactions_kind}
 use Rattle.frame_payloads.specs.Payloads.{max_payload}
 use Rattle.frame_payloads.specs.kinds.Header.{header_payload}
 use Rattle.frame_payloads.specs.kinds.Square.{square_payload}
@@ -17,6 +17,7 @@ use Rattle.frame_payloads.specs.kinds.Requests.{sample_payload, request_payload}
 use Rattle.frame_payloads.specs.kinds.Block.{block_payload, asks_for_zero}
 use Rattle.frame_payloads.specs.kinds.Commit.{commit_payload, is_long_commit}
 use Rattle.frame_payloads.specs.kinds.Rooted.{rooted_payload}
+use Rattle.frame_payloads.specs.kinds.Transactions.{transactions_payload}
 use Rattle.da_wire.specs.Writing.{AppendsSpelling}
 use Rattle.da_status.specs.declared.status.Status.{Status}
 use Rattle.da_files.specs.Frames.{WritesWith, WritesText}
@@ -47,6 +48,7 @@ spelling_some (Request name) text e = tested_some false request_kind (request_pa
 spelling_some (Block b) text e = tested_some (asks_for_zero b.width) block_kind (block_payload b) text e
 spelling_some (Commit proof) text e = tested_some (is_long_commit proof) commit_kind (commit_payload proof) text e
 spelling_some (Rooted proof) text e = tested_some false rooted_kind (rooted_payload proof) text e
+spelling_some (Transactions units) text e = tested_some false transactions_kind (transactions_payload units) text e
 
 -- where a spelling was appended to no bytes, what is written is the frame
 pub writes_frame : (frame : Frame) (final : Status) (old new shown : List ℕ) → old ≡ [] → AppendsSpelling frame old new → shown ≡ new
