@@ -1,5 +1,5 @@
 -- Files by name, and the bytes that are left of the picked one.
-use Rattle.std.specs.Prelude.{◌≡◌, ℕ, List, [], drop, slice_get, position, ⊤, Some, None, Ok, Err, Result, Vec, String}
+use Rattle.std.specs.Prelude.{◌≡◌, ℕ, ◌||◌, Bool, List, [], drop, slice_get, position, codes, ⊤, Some, None, Ok, Err, Result, Vec, String}
 use Rattle.std.specs.declared.option.Option.{Option}
 use Rattle.std.specs.declared.alloc.Global.{Global}
 use Rattle.std.specs.Option.{option_map, option_map_or}
@@ -9,6 +9,10 @@ use Rattle.std.specs.Str.{bytes_eq}
 -- which names there are, and the bytes of each
 abbrev pub Files : Type 0
 Files = List ℕ → Option (List ℕ)
+
+-- whether a name means the standard input that the process has, and no file
+abbrev pub is_standard_input : List ℕ → Bool
+is_standard_input name = bytes_eq name (codes "-") || bytes_eq name (codes "/dev/stdin")
 
 -- the bytes of a name, where there is one
 abbrev pub name_bytes : Option (String Global) → Option (List ℕ)

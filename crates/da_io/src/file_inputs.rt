@@ -1,9 +1,10 @@
 //! Files of the system, which tell nothing of their bytes.
 
-ghost use Rattle.std.specs.Prelude.{◌≤◌};
+ghost use Rattle.std.specs.Prelude.{◌≡◌, ◌≤◌};
 ghost use Rattle.std.specs.Io.{ReadsAtMost};
 ghost use Rattle.std.specs.Io.KnownBytes.{ReadConsumes};
 ghost use Rattle.da_io.specs.Faults.{max_count};
+ghost use Rattle.da_io.specs.Files.{is_standard_input};
 
 use crate::{Ended, Inputs, PickFailed, ReadFailed};
 use std::fs::File;
@@ -71,6 +72,13 @@ impl<'a> FileInputs<'a> {
         }
         answer
     }
+}
+
+/// Whether a name means the standard input that the process has: `-` and `/dev/stdin` do. Any other name is a path.
+pub fn is_standard_input(name: &str) -> bool
+    ensures { result ≡ is_standard_input name.now }
+{
+    name == "-" || name == "/dev/stdin"
 }
 
 /// The size that the system tells of a file, 0 where it tells none.

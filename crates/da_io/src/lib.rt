@@ -14,7 +14,7 @@ mod out_sink;
 mod sink;
 mod whole;
 
-pub use file_inputs::FileInputs;
+pub use file_inputs::{FileInputs, is_standard_input};
 pub use inputs::{Ended, Inputs, PickFailed, ReadFailed};
 pub use line_room::LineRoom;
 pub use mem_inputs::MemInputs;
