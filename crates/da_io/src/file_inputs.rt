@@ -6,17 +6,28 @@ ghost use Rattle.std.specs.Io.KnownBytes.{ReadConsumes};
 ghost use Rattle.da_io.specs.Faults.{max_count};
 ghost use Rattle.da_io.specs.Files.{is_standard_input};
 
-use crate::{Ended, Inputs, PickFailed, ReadFailed};
+use crate::{Blocking, Ended, Inputs, PickFailed, ReadFailed};
 use std::fs::File;
-use std::io::Read;
+use std::io::{Read, Stdin};
+use std::os::fd::AsFd;
+use std::{fs, io};
 
-/// Files of the system, by their paths.
+/// What a pick opened.
+#[derive(Drop)]
+enum Source {
+    /// A file, by its path.
+    Path(Blocking<File>),
+    /// The standard input that the process has.
+    Standard(Blocking<Stdin>),
+}
+
+/// Files of the system, by their paths, and the standard input that the process has.
 ///
-/// Where no file is open, a read gives the end.
+/// Where none is open, a read gives the end.
 #[derive(Drop)]
 pub struct FileInputs<'a> {
     rt: &'a HostRuntime,
-    file: Option<File>,
+    file: Option<Source>,
     picked: Option<String>,
     ended: Ended,
     given: u64,
@@ -81,9 +92,29 @@ pub fn is_standard_input(name: &str) -> bool
     name == "-" || name == "/dev/stdin"
 }
 
-/// The size that the system tells of a file, 0 where it tells none.
-fn told_size(file: &File) -> u64 {
-    match file.metadata() {
+/// Standard input, from where it stands, or an error where the process has none. It is asked for by a second descriptor of it, which
+/// is given back.
+fn open_standard(rt: &HostRuntime) -> io::Result<Source> {
+    let stdin = rt.stdin();
+    stdin.as_fd().try_clone_to_owned()?;
+    Ok(Source::Standard(Blocking::new(stdin)))
+}
+
+/// Opens what a name means: standard input, or the file with this path.
+fn open(rt: &HostRuntime, name: &str) -> io::Result<Source> {
+    if is_standard_input(name) {
+        return open_standard(rt);
+    }
+    Ok(Source::Path(Blocking::new(File::open(rt, name)?)))
+}
+
+/// The size that the system tells of what is open, 0 where it tells none.
+fn told_size(rt: &HostRuntime, source: &Source) -> u64 {
+    let found = match source {
+        Source::Path(file) => file.stream().metadata(),
+        Source::Standard(_) => fs::metadata(rt, "/dev/stdin"),
+    };
+    match found {
         Ok(found) => found.len(),
         Err(_) => 0,
     }
@@ -124,7 +155,7 @@ impl Inputs for FileInputs<'_> {
 
     ghost told = { λ f. (λ h. h, λ h. h) };
 
-    /// Opens the file with this path.
+    /// Opens the file with this path, or takes standard input from where it stands. What was open is closed first.
     fn pick(&mut self, name: String) -> Result<(), PickFailed>
         ensures picked { name_bytes self.new.picked ≡ Some (string_bytes name) }
         ensures ended { self.new.ended ≡ pick_end result }
@@ -135,18 +166,19 @@ impl Inputs for FileInputs<'_> {
         // A file is open exactly where the pick did not fail.
         ensures open { IsOk result ↔ IsSome self.new.file }
     {
-        let opened = File::open(self.rt, name.as_str());
+        // A file that was opened where the process has no standard input took its number, and gives it back here.
+        self.file = None;
+        let opened = open(self.rt, name.as_str());
         self.picked = Some(name);
         self.given = 0;
         self.picks = self.picks.saturating_add(1);
         match opened {
-            Ok(file) => {
-                self.file = Some(file);
+            Ok(source) => {
+                self.file = Some(source);
                 self.ended = Ended::Fine;
                 Ok(())
             }
             Err(_) => {
-                self.file = None;
                 self.ended = Ended::PickFailed;
                 self.faults = self.faults.saturating_add(1);
                 Err(PickFailed)
@@ -154,22 +186,21 @@ impl Inputs for FileInputs<'_> {
         }
     }
 
-    /// The size that the system tells of the open file; that of a pipe is 0.
+    /// The size that the system tells of what is open; that of a pipe or a socket is 0.
     fn size(&self) -> u64 {
         match &self.file {
-            Some(file) => told_size(file),
+            Some(source) => told_size(self.rt, source),
             None => 0,
         }
     }
 
-    /// Reads from the open file by one call of the system.
+    /// Reads from what is open, and waits where nothing has come yet.
     fn read(&mut self, buf: &mut [u8]) -> Result<usize, ReadFailed> {
-        match &mut self.file {
-            Some(file) => {
-                let answer = read_once(file, buf);
-                self.settle(answer)
-            }
-            None => self.settle(Ok(0)),
-        }
+        let answer = match &mut self.file {
+            Some(Source::Path(file)) => read_once(file, buf),
+            Some(Source::Standard(stdin)) => read_once(stdin, buf),
+            None => Ok(0),
+        };
+        self.settle(answer)
     }
 }

@@ -5,6 +5,7 @@
 //! to; those over real files and streams tell nothing of content.
 #![tactic(auto)]
 
+mod blocking;
 mod file_inputs;
 mod inputs;
 mod line_room;
@@ -14,6 +15,7 @@ mod out_sink;
 mod sink;
 mod whole;
 
+pub use blocking::Blocking;
 pub use file_inputs::{FileInputs, is_standard_input};
 pub use inputs::{Ended, Inputs, PickFailed, ReadFailed};
 pub use line_room::LineRoom;
