@@ -11,7 +11,7 @@ ghost use Rattle.std.specs.Prelude.{◌≤◌, ◌<◌};
 mod tests;
 
 use da_cli::{Status, run};
-use da_io::{FileInputs, OutSink};
+use da_io::{Blocking, FileInputs, OutSink};
 use std::alloc::Global;
 use std::env;
 use std::io::ErrorKind;
@@ -55,8 +55,8 @@ fn has_stack(alloc: Global, words: usize) -> bool {
 #[inline(never)]
 fn answer(rt: &HostRuntime, words: &[String]) -> Status {
     let mut inputs = FileInputs::new(rt);
-    let mut out = OutSink::new(rt.stdout());
-    let mut notes = OutSink::new(rt.stderr());
+    let mut out = OutSink::new(Blocking::new(rt.stdout()));
+    let mut notes = OutSink::new(Blocking::new(rt.stderr()));
     run(rt.alloc(), words, &mut inputs, &mut out, &mut notes)
 }
 
