@@ -55,8 +55,8 @@ fn has_stack(alloc: Global, words: usize) -> bool {
 #[inline(never)]
 fn answer(rt: &HostRuntime, words: &[String]) -> Status {
     let mut inputs = FileInputs::new(rt);
-    let mut out = OutSink::new(Blocking::new(rt.stdout()));
-    let mut notes = OutSink::new(Blocking::new(rt.stderr()));
+    let mut out = OutSink::new(Blocking::new(rt, rt.stdout()));
+    let mut notes = OutSink::new(Blocking::new(rt, rt.stderr()));
     run(rt.alloc(), words, &mut inputs, &mut out, &mut notes)
 }
 

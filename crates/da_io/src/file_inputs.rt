@@ -14,11 +14,11 @@ use std::{fs, io};
 
 /// What a pick opened.
 #[derive(Drop)]
-enum Source {
+enum Source<'a> {
     /// A file, by its path.
-    Path(Blocking<File>),
+    Path(Blocking<'a, File>),
     /// The standard input that the process has.
-    Standard(Blocking<Stdin>),
+    Standard(Blocking<'a, Stdin>),
 }
 
 /// Files of the system, by their paths, and the standard input that the process has.
@@ -27,7 +27,7 @@ enum Source {
 #[derive(Drop)]
 pub struct FileInputs<'a> {
     rt: &'a HostRuntime,
-    file: Option<Source>,
+    file: Option<Source<'a>>,
     picked: Option<String>,
     ended: Ended,
     given: u64,
@@ -94,22 +94,22 @@ pub fn is_standard_input(name: &str) -> bool
 
 /// Standard input, from where it stands, or an error where the process has none. It is asked for by a second descriptor of it, which
 /// is given back.
-fn open_standard(rt: &HostRuntime) -> io::Result<Source> {
+fn open_standard(rt: &HostRuntime) -> io::Result<Source<'_>> {
     let stdin = rt.stdin();
     stdin.as_fd().try_clone_to_owned()?;
-    Ok(Source::Standard(Blocking::new(stdin)))
+    Ok(Source::Standard(Blocking::new(rt, stdin)))
 }
 
 /// Opens what a name means: standard input, or the file with this path.
-fn open(rt: &HostRuntime, name: &str) -> io::Result<Source> {
+fn open<'a>(rt: &'a HostRuntime, name: &str) -> io::Result<Source<'a>> {
     if is_standard_input(name) {
         return open_standard(rt);
     }
-    Ok(Source::Path(Blocking::new(File::open(rt, name)?)))
+    Ok(Source::Path(Blocking::new(rt, File::open(rt, name)?)))
 }
 
 /// The size that the system tells of what is open, 0 where it tells none.
-fn told_size(rt: &HostRuntime, source: &Source) -> u64 {
+fn told_size(rt: &HostRuntime, source: &Source<'_>) -> u64 {
     let found = match source {
         Source::Path(file) => file.stream().metadata(),
         Source::Standard(_) => fs::metadata(rt, "/dev/stdin"),
