@@ -43,6 +43,7 @@ FRONT_BYTES = 5  # the kind and the length of a frame
 PAYLOAD_LIMIT = 268_435_456
 FILE_LIMIT = 536_870_912
 STREAM_LIMIT = 2_147_483_648  # of MESSAGES of `repair`
+STANDARD_INPUT = ("-", "/dev/stdin")  # the names of files that aren't paths
 # How many there may be in one frame (docs/FORMATS.md, "Limits").
 COUNT_LIMIT = WIDTHS[-1]  # entries, shares of a range, cells, nodes of a set, rows, subtrees of a row
 PATH_LIMIT = 10  # nodes of a sample
@@ -560,7 +561,7 @@ def read_file(name, number=None, limit=None):
     limit = limit or FILE_LIMIT
     called = f"file {number}" if number is not None else "standard input" if name == 0 else repr(name)
     try:
-        stream = open(name, "rb")
+        stream = open(0 if name in STANDARD_INPUT else name, "rb")
     except IsADirectoryError:
         raise Note(3, f"cannot read {called}") from None
     except (OSError, ValueError):

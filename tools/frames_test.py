@@ -672,6 +672,10 @@ class Why(Case):
         self.assertEqual(self.ends(f">&- -o {self.folder}/out", "samples", "1,2,row"), (0, b"", ""))
         self.assertEqual(self.ends("<&-", "block", "-"), (2, b"", "cannot open standard input\n"))
         self.assertEqual(self.ends("<<'E'\n{}\nE", "block", "-"), (0, frame("V", bytes(14)), ""))
+        for name in ("-", "/dev/stdin"):
+            self.assertEqual(self.ends("<&-", "show", name), (2, b"", "cannot open file 0\n"))
+            self.assertEqual(self.ends("</dev/null", "show", name), (0, b"", ""))
+            self.assertEqual(self.ends("<<'E'\nQ\nE", "show", name), (6, b"", "bad input: file 0 at 0\n"))
 
 
 class Making(Case):
