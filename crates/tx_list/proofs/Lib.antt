@@ -22,3 +22,5 @@ pub mod SpelledBlobLemmas
 pub mod SpelledListLemmas
 -- what was read, spelled and read again
 pub mod AgainLemmas
+-- the square of a list, and its shares
+pub mod SquareLemmas

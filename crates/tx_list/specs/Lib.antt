@@ -22,3 +22,5 @@ pub mod ReadRefusals
 pub mod Walks
 -- what is promised of reading for all lists
 pub mod ReadLaws
+-- lists whose parts are bytes
+pub mod OfBytes

@@ -4,15 +4,20 @@ ghost use Rattle.std.specs.Prelude.{◌≡◌, ◌≤◌, ◌<◌, ◌+◌, ◌+
 ghost use Rattle.std.specs.List.{AllByRecursion};
 ghost use Rattle.namespace_id.specs.Lists.{holds_along};
 ghost use Rattle.namespace_id.specs.Names.{is_at_most};
-ghost use Rattle.namespace_id.specs.Shares.{name_in};
+ghost use Rattle.namespace_id.specs.Shares.{name_in, AreShares};
 ghost use Rattle.share_split.specs.Blobs.{NamedBytes, blob_shares_of};
 ghost use Rattle.share_split.specs.Units.{unit_share_count};
+ghost use Rattle.square_layout.specs.Blocks.{IsSquare};
 ghost use Rattle.square_layout.specs.Layout.{in_order, share_count_of, end_of, laid};
 ghost use Rattle.square_layout.specs.Plans.{starts_after, planned};
 ghost use Rattle.square_layout.specs.Refusals.{max_shares};
 ghost use Rattle.tx_list.specs.Payments.{ListParts, IsPayment, blobs_of};
 ghost use Rattle.tx_list.specs.Places.{places_from, ordered};
 ghost use Rattle.tx_list.specs.Reserves.{wrap_full, list_reserve, list_bound};
+ghost use Rattle.tx_list.specs.Refusals.{size_refusal};
+ghost use Rattle.tx_list.specs.OfBytes.{IsOfBytes};
+ghost use Rattle.tx_list.specs.Reads.{list_of};
+ghost use Rattle.tx_list.specs.ReadRefusals.{read_refusal};
 ghost use Rattle.tx_list.specs.ReadLaws.{SpellingIsPayment, SpellingIsRead, SpelledIsTaken, SpelledIsRead, SpelledAgain};
 ghost use Rattle.tx_list.specs.Lists.{list_places, written, plan_of_list, block_of_list, square_of_list};
 
@@ -47,6 +52,18 @@ pub fn list_laws()
         unit_share_count (written list) ≡ unit_share_count (wrap_full list.payments) →
         AllByRecursion (λ blob. blob.signer ≡ None) (blobs_of list.payments) →
         planned (plan_of_list list) ≡ laid (block_of_list list) }
+{}
+
+/// What holds of the squares of lists. It changes nothing.
+///
+/// docs/RULES.md, "A block of the network".
+pub fn square_laws()
+    // A list that isn't refused for its size has a square, and one of bytes has shares. What is read as
+    // payments, where no check refuses it, are payments.
+    ensures square { (list : ListParts) → size_refusal list ≡ None → IsSquare (square_of_list list) }
+    ensures shares { (list : ListParts) → IsOfBytes list → AreShares (square_of_list list).shares }
+    ensures payments { (transactions : List (List ℕ)) → read_refusal transactions ≡ None →
+        AllByRecursion IsPayment (list_of transactions).payments }
 {}
 
 /// What holds of reading lists in their one spelling. It changes nothing.

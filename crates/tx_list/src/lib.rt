@@ -16,7 +16,7 @@ mod spelling;
 mod taking;
 mod wrapping;
 
-pub use laws::{list_laws, read_laws};
+pub use laws::{list_laws, read_laws, square_laws};
 pub use laying::{lay_list, places};
 pub use payments::{Payment, TxList};
 pub use refusals::ListError;
