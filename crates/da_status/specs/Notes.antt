@@ -12,10 +12,12 @@ use Rattle.share_split.specs.declared.joining.JoinError.{JoinError}
 use Rattle.share_split.specs.declared.joining.JoinError.TheVariants as join
 use Rattle.square_layout.specs.declared.laying.LayError.{LayError}
 use Rattle.square_layout.specs.declared.laying.LayError.TheVariants as lay
+use Rattle.tx_list.specs.declared.refusals.ListError.{ListError}
+use Rattle.tx_list.specs.declared.refusals.ListError.TheVariants as list
 use Rattle.da_status.specs.declared.status.Asked.{Asked}
 use Rattle.da_status.specs.declared.status.Asked.TheVariants.{NoHeader, At, Count, Nodes, Range, Shares}
 use Rattle.da_status.specs.declared.status.Status.{Status}
-use Rattle.da_status.specs.declared.status.Status.TheVariants.{Done, Usage, PickFault, ReadFault, WriteFault, NoMemory, BadInput, TooLong, BadBlock, BadRequest, Fraud, Missing, Clash, Refused, Waiting}
+use Rattle.da_status.specs.declared.status.Status.TheVariants.{Done, Usage, PickFault, ReadFault, WriteFault, NoMemory, BadInput, TooLong, BadBlock, BadList, BadRequest, Fraud, Missing, Clash, Refused, Waiting}
 
 -- the numbers of the refusals of a namespace
 abbrev pub refusal_number : NsError → ℕ
@@ -32,6 +34,21 @@ block_note (lay.TooLarge needed) = codes "3 " ++ decimal needed
 block_note (lay.WidthTooSmall needed) = codes "4 " ++ decimal needed
 block_note lay.BadWidth = codes "5"
 block_note lay.NoMemory = codes "6"
+
+-- two numbers with a space between them
+abbrev pub two_numbers : ℕ → ℕ → List ℕ
+two_numbers i j = decimal i ++ codes " " ++ decimal j
+
+-- why a list of transactions can't be laid out: the number of the refusal, of which that of the size is a block's, and what
+-- it tells
+abbrev pub list_note : ListError → List ℕ
+list_note (list.Behind i) = codes "6 " ++ decimal i
+list_note (list.NoBlobs i) = codes "7 " ++ decimal i
+list_note (list.BadBlob i j why) = codes "8 " ++ two_numbers i j ++ codes " " ++ decimal (refusal_number why)
+list_note (list.BadVersion i j) = codes "9 " ++ two_numbers i j
+list_note (list.NoBytes i j) = codes "10 " ++ two_numbers i j
+list_note (list.TooLarge needed) = codes "3 " ++ decimal needed
+list_note list.NoMemory = codes "11"
 
 -- the numbers of the refusals of shares
 abbrev pub join_number : JoinError → ℕ
@@ -80,6 +97,7 @@ note_of NoMemory = codes "out of memory\n"
 note_of (BadInput i at) = codes "bad input: file " ++ decimal i ++ codes " at " ++ decimal at ++ codes "\n"
 note_of (TooLong i) = codes "too long: file " ++ decimal i ++ codes "\n"
 note_of (BadBlock why) = codes "bad block: " ++ block_note why ++ codes "\n"
+note_of (BadList why) = codes "bad block: " ++ list_note why ++ codes "\n"
 note_of (BadRequest why) = codes "bad request: " ++ request_note why ++ codes "\n"
 note_of (Fraud axis i) = codes "fraud: " ++ axis_note axis ++ decimal i ++ codes "\n"
 note_of (Missing cells lies) = codes "missing: " ++ decimal cells ++ codes " cells, " ++ decimal lies ++ codes " lies\n"

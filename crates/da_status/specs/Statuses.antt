@@ -2,7 +2,7 @@
 use Rattle.std.specs.Prelude.{ℕ, Bool, true, false, ⊤}
 use Rattle.da_io.specs.Faults.{count_on}
 use Rattle.da_status.specs.declared.status.Status.{Status}
-use Rattle.da_status.specs.declared.status.Status.TheVariants.{Done, Usage, PickFault, ReadFault, WriteFault, NoMemory, BadInput, TooLong, BadBlock, BadRequest, Fraud, Missing, Clash, Refused, Waiting}
+use Rattle.da_status.specs.declared.status.Status.TheVariants.{Done, Usage, PickFault, ReadFault, WriteFault, NoMemory, BadInput, TooLong, BadBlock, BadList, BadRequest, Fraud, Missing, Clash, Refused, Waiting}
 
 -- the number that the program ends with
 abbrev pub number_of : Status → ℕ
@@ -15,6 +15,7 @@ number_of NoMemory = 5
 number_of (BadInput i at) = 6
 number_of (TooLong i) = 7
 number_of (BadBlock why) = 8
+number_of (BadList why) = 8
 number_of (BadRequest why) = 9
 number_of (Fraud axis i) = 10
 number_of (Missing cells lies) = 11
@@ -45,6 +46,7 @@ kind_of NoMemory = memory
 kind_of (BadInput i at) = form
 kind_of (TooLong i) = excess
 kind_of (BadBlock why) = request
+kind_of (BadList why) = request
 kind_of (BadRequest why) = request
 kind_of (Fraud axis i) = output
 kind_of (Missing cells lies) = output

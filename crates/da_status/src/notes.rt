@@ -1,7 +1,7 @@
 //! The line that goes with a status.
 
 ghost use Rattle.std.specs.Prelude.{◌≡◌, ◌+◌, ◌≤◌, ◌++◌, length, decimal};
-ghost use Rattle.da_status.specs.Notes.{refusal_number, block_note, join_number, join_share, axis_note, note_of, Notes};
+ghost use Rattle.da_status.specs.Notes.{refusal_number, block_note, two_numbers, list_note, join_number, join_share, axis_note, note_of, Notes};
 
 use crate::line::Line;
 use crate::status::{Asked, Status};
@@ -9,6 +9,7 @@ use da_io::{Sink, write_all};
 use namespace_id::{Axis, NsError};
 use share_split::JoinError;
 use square_layout::LayError;
+use tx_list::ListError;
 
 /// Puts a number, in decimal digits, between two texts. The line needs capacity for both texts and
 /// for 20 digits, as many as a `u64` may have.
@@ -51,6 +52,39 @@ fn note_block(line: &mut Line, why: LayError)
         LayError::WidthTooSmall(needed) => around(line, b"4 ", needed, b""),
         LayError::BadWidth => line.put(b"5"),
         LayError::NoMemory => line.put(b"6"),
+    }
+}
+
+/// Puts two numbers behind a text, with a space between them. The line needs capacity for the text, for 20
+/// digits of each, and for the space.
+#[tactic(auto, using(crate::proofs::DigitLemmas::digits_fit))]
+fn put_two(line: &mut Line, front: &[u8], i: u64, j: u64)
+    requires { length line.old + length front.now + 41 ≤ 96 }
+    ensures value { line.new ≡ line.old ++ front.now ++ two_numbers i j }
+    ensures few { length line.new ≤ length line.old + length front.now + 41 }
+{
+    around(line, front, i, b" ");
+    around(line, b"", j, b"");
+}
+
+/// The line of a list of transactions that can't be laid out.
+#[tactic(auto, using(crate::proofs::DigitLemmas::digits_fit))]
+fn note_list(line: &mut Line, why: ListError)
+    requires { length line.old ≤ 11 }
+    ensures value { line.new ≡ line.old ++ list_note why }
+    ensures few { length line.new ≤ 75 }
+{
+    match why {
+        ListError::Behind(i) => around(line, b"6 ", i, b""),
+        ListError::NoBlobs(i) => around(line, b"7 ", i, b""),
+        ListError::BadBlob(i, j, why) => {
+            put_two(line, b"8 ", i, j);
+            around(line, b" ", refusal_number(why), b"");
+        }
+        ListError::BadVersion(i, j) => put_two(line, b"9 ", i, j),
+        ListError::NoBytes(i, j) => put_two(line, b"10 ", i, j),
+        ListError::TooLarge(needed) => around(line, b"3 ", needed, b""),
+        ListError::NoMemory => line.put(b"11"),
     }
 }
 
@@ -117,6 +151,11 @@ fn note_of(status: Status) -> Line
         Status::BadBlock(why) => {
             line.put(b"bad block: ");
             note_block(&mut line, why);
+            line.put(b"\n");
+        }
+        Status::BadList(why) => {
+            line.put(b"bad block: ");
+            note_list(&mut line, why);
             line.put(b"\n");
         }
         Status::BadRequest(Asked::NoHeader) => line.put(b"bad request: no header\n"),

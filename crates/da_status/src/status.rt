@@ -6,6 +6,7 @@ ghost use Rattle.da_status.specs.Statuses.{number_of};
 use namespace_id::Axis;
 use share_split::JoinError;
 use square_layout::LayError;
+use tx_list::ListError;
 
 /// Why what the files ask for can't be answered.
 #[derive(Clone, Copy, Debug, PartialEq, Eq)]
@@ -42,11 +43,14 @@ pub enum Status {
     NoMemory,
     /// This file isn't in its form, from this offset on.
     BadInput(u32, u64),
-    /// This file has more bytes than `FILE_LIMIT`.
+    /// This file has more bytes than its limit, `FILE_LIMIT`, or `STREAM_LIMIT` for the MESSAGES of `repair`.
     TooLong(u32),
     /// The block can't be laid out as a square. No run has `LayError::NoMemory` here: out of
     /// memory is a status of its own.
     BadBlock(LayError),
+    /// The list of transactions can't be laid out as a square. No run has `ListError::NoMemory` here: out of
+    /// memory is a status of its own.
+    BadList(ListError),
     /// What the files ask for can't be answered.
     BadRequest(Asked),
     /// The output is a fraud proof against this axis, the row or column of this index.
@@ -77,6 +81,7 @@ impl Status {
             Status::BadInput(..) => 6,
             Status::TooLong(_) => 7,
             Status::BadBlock(_) => 8,
+            Status::BadList(_) => 8,
             Status::BadRequest(_) => 9,
             Status::Fraud(..) => 10,
             Status::Missing(..) => 11,

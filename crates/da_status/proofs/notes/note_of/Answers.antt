@@ -15,3 +15,7 @@ around-requires-in-Missing-2 c = omega (arith, ap length c.new-line.ensures, sim
 
 pub around-requires-in-BadRequest-Shares-2 : goal.around-requires-in-BadRequest-Shares-2
 around-requires-in-BadRequest-Shares-2 c = omega (arith, ap length c.new-line.ensures, simp length-append at (ap length c.around-in-BadRequest-Shares.ensures), digits_fit c.join_number.result (omega arith))
+
+pub put-requires-in-BadList-2 : goal.put-requires-in-BadList-2
+put-requires-in-BadList-2 c =
+    omega (arith, ap length c.new-line.ensures, simp length-append at (ap length c.put-in-BadList.ensures), c.note_list.ensures.few)
