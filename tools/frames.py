@@ -7,6 +7,7 @@
     frames.py root FILE                     the data root of a file of one header
     frames.py blobs FILE FOLDER             the blobs of a file of one block, each into a file of FOLDER
     frames.py block JSON                    a block (kind V)
+    frames.py transactions JSON             a list of raw transactions (kind T)
     frames.py samples LIST                  requests for samples (kind Q)
     frames.py namespaces LIST               requests for namespaces (kind P)
     frames.py script FULL LIST              a script of a network of so many full nodes
@@ -150,7 +151,7 @@ class Fields:
             raise BadField(self.at, f"bytes left over behind the last field: {self.left()}")
 
 
-# The twelve kinds (docs/FORMATS.md, "Payloads", "Text of frames", "JSON of frames"). `read` takes the fields of a payload,
+# The thirteen kinds (docs/FORMATS.md, "Payloads", "Text of frames", "JSON of frames"). `read` takes the fields of a payload,
 # `lines` are the lines of `show`, and `members` those of the JSON object but its "kind", which is `name`.
 
 
@@ -422,6 +423,20 @@ class Block(namedtuple("Block", "width units pay blobs")):
         return dict(lengths, width=self.width, blobs=[blob.members() for blob in self.blobs])
 
 
+class Transactions(namedtuple("Transactions", "raw")):
+    letter, name = "T", "transactions"
+
+    @staticmethod
+    def read(fields):
+        return Transactions(fields.strings("transaction"))
+
+    def lines(self):
+        return [f"transactions count={len(self.raw)}"] + [f"transaction {len(data)}" for data in self.raw]
+
+    def members(self):
+        return {"lengths": [len(data) for data in self.raw]}
+
+
 class CommitRow(namedtuple("CommitRow", "root up subtrees nodes")):
     @staticmethod
     def read(fields, of):
@@ -470,7 +485,7 @@ class Rooted(namedtuple("Rooted", "k message root up")):
         return members
 
 
-ALL = (Header, Square, Message, Answer, Claim, Missing, Clash, Sample, Request, Block, Commit, Rooted)
+ALL = (Header, Square, Message, Answer, Claim, Missing, Clash, Sample, Request, Block, Transactions, Commit, Rooted)
 KINDS = {kind.letter: kind for kind in ALL}
 ALL_KINDS = "".join(KINDS)
 
@@ -681,13 +696,17 @@ def list_words(words):
     return json_word(words[0]) if len(words) == 1 and words[0].lstrip()[:1] in ("[", "-") else words
 
 
+def spell_strings(strings):
+    """A count of byte strings, and each with its length before it."""
+    return len(strings).to_bytes(4, "big") + b"".join(len(data).to_bytes(4, "big") + data for data in strings)
+
+
 def spell_block(value):
     """The payload of the block of a JSON value; its `width` is null or 0 where none is asked for."""
     parts = members(value, "the block", ("width", "units", "pay", "blobs"))
     payload = whole(parts.get("width") or 0, "width", U16).to_bytes(2, "big")
     for key in ("units", "pay"):
-        units = [json_bytes(*item) for item in items(parts.get(key, []), key)]
-        payload += len(units).to_bytes(4, "big") + b"".join(len(unit).to_bytes(4, "big") + unit for unit in units)
+        payload += spell_strings([json_bytes(*item) for item in items(parts.get(key, []), key)])
     blobs = [spell_blob(*item) for item in items(parts.get("blobs", []), "blob")]
     return payload + len(blobs).to_bytes(4, "big") + b"".join(blobs)
 
@@ -805,6 +824,11 @@ def block(args):
     return [frame(ord("V"), spell_block(json_word(args.json)))], 0
 
 
+def transactions(args):
+    """makes a list of raw transactions"""
+    return [frame(ord("T"), spell_strings([json_bytes(*item) for item in items(json_word(args.json), "transaction")]))], 0
+
+
 def samples(args):
     """makes requests for samples"""
     return [frame(ord("Q"), spell_sample(*item)) for item in items(list_words(args.words), "request")], 0
@@ -893,6 +917,7 @@ def parser():
     add("root", root, "file")
     add("blobs", blobs, "file", "folder")
     add("block", block, "json", makes=True)
+    add("transactions", transactions, "json", makes=True)
     for name, run in (("samples", samples), ("namespaces", namespaces)):
         add(name, run, makes=True).add_argument("words", nargs="+", metavar="LIST", help="words, or one JSON list")
     steps = add("script", script, "full", makes=True)

@@ -161,6 +161,7 @@ EACH = {
     "Q": u16(1) + u16(2) + u8(1),
     "P": version_0(0x0102),
     "V": BLOCK,
+    "T": strings(b"abc", b""),
     "C": COMMIT,
     "R": rooted(2, 3, message(2, 1, 2, 1)),
 }
@@ -328,6 +329,7 @@ class Reading(Case):
             ("Q", EACH["Q"], 5), ("P", EACH["P"], 29),
             ("V", block(0, [], [], []), 14), ("V", block(0, [], [], [(PARITY, b"ab")]), 50),
             ("V", block(0, [], [], [(version_0(0x0101), b"x", b"\x11" * 20)]), 69),
+            ("T", strings(), 4), ("T", strings(b""), 8), ("T", EACH["T"], 15),
             ("C", commit(0, 0, 0), 44), ("C", COMMIT, 964), ("C", commit(0, 0, 0, *[commit_row(9, 128, 16)] * 128), 1707820),
             ("C", commit(0, 0, 0, *[commit_row(11, 512, 20)] * 512), 24742956),
             ("R", EACH["R"], 887), ("R", rooted(0, 0, message(0)), 611), ("R", rooted(0, 9, message(8)), 1619),
@@ -362,6 +364,11 @@ class Reading(Case):
             ("5600000044" + "00" * 13 + "01" + "00" * 29 + "01" + "11" * 20 + "00" * 4, "ok"),
             ("5600000030" + "00" * 13 + "01" + "00" * 29 + "01" + "00" * 4, "BadPayload"),
             ("5600000044" + "00" * 13 + "01" + "00" * 29 + "02" + "11" * 20 + "00" * 4, "BadPayload"),
+            ("540000000400000000", "ok"),
+            ("54000000080000000100000000", "ok"),
+            ("5400000004ffffffff", "BadPayload"),
+            ("54000000050000000000", "BadPayload"),
+            ("5400000008000000010000000100", "BadPayload"),
             ("4e0000001f" + "77" * 29 + "0000", "ok"),
             ("4e00000020" + "77" * 29 + "000000", "BadPayload"),
             ("4e0000007f" + "77" * 29 + "0001000002" + "77" * 93, "BadPayload"),
@@ -421,6 +428,7 @@ class Reading(Case):
              f'{{"blobs":[{{"length":1,"namespace":"{blobs[0]}"}},{{"length":2,"namespace":"{blobs[1]}"}},'
              f'{{"length":3,"namespace":"{blobs[2]}","signer":"{SIGNER.hex()}"}}],'
              '"kind":"block","pay":[2],"units":[3,0],"width":4}'),
+            ("T", ["transactions count=2", "transaction 3", "transaction 0"], '{"kind":"transactions","lengths":[3,0]}'),
             ("C", [f"commit k=2 start=1 count=2 commitment={'0c' * 32} rows=2"],
              f'{{"commitment":"{"0c" * 32}","count":2,"k":2,"kind":"commit","rows":2,"start":1}}'),
             ("R", [f"rooted k=2 root={'06' * 90}", f"message row=1 col=2 axis=col nodes=2 share={hash_7}"],
@@ -573,6 +581,11 @@ FIELDS = [
     ("V", block(0, [], [], [SIGNED])[:-1], 68, "the blob 0 takes 3 bytes, left are 2"),
     ("V", bytes(10) + u32(1) + bytes(30) + u32(2) + b"a", 48, "the blob 0 takes 2 bytes, left are 1"),
     ("V", BLOCK + b"\x00", len(BLOCK), "bytes left over behind the last field: 1"),
+    ("T", bytes(3), 0, "the transaction count takes 4 bytes, left are 3"),
+    ("T", u32(2) + bytes(7), 0, "the transaction count is 2, of 4 bytes or more each, left are 7"),
+    ("T", u32(2) + u32(3) + b"abc" + bytes(1), 11, "the length of transaction 1 takes 4 bytes, left are 1"),
+    ("T", u32(1) + u32(9) + bytes(8), 8, "the transaction 0 takes 9 bytes, left are 8"),
+    ("T", EACH["T"] + b"\x00", 15, "bytes left over behind the last field: 1"),
     ("C", bytes(1), 0, "the width k takes 2 bytes, left are 1"),
     ("C", bytes(5), 2, "the start takes 4 bytes, left are 3"),
     ("C", bytes(9), 6, "the count takes 4 bytes, left are 3"),
@@ -731,6 +744,23 @@ class Making(Case):
         self.assertEqual(run("block", '{"units": [{"text": "a\\ud800"}]}'), (1, b"", note))
         self.assertEqual(run("block", os.path.join(self.folder, "none"))[0], 2)
         self.assertEqual(run("block", '{"pay": [{"file": "%s/none"}]}' % self.folder)[0], 2)
+
+    def test_transactions(self):
+        value = json.dumps([{"text": "abc"}, ""])
+        self.assertEqual(self.made("transactions", value), EACH_FRAME["T"])
+        self.assertEqual(self.made("transactions", self.file(value.encode(), "json")), EACH_FRAME["T"])
+        self.assertEqual(self.made("transactions", "[]"), frame("T", bytes(4)))
+        with mock.patch.object(frames, "PAYLOAD_LIMIT", 1000):
+            most = [{"hex": "00", "times": 1000 - 8}]
+            self.assertEqual(len(self.made("transactions", json.dumps(most))), 1000 + 5)
+            note = "a payload has at most 1000 bytes, and not 1004\n"
+            self.assertEqual(run("transactions", json.dumps(most + [""])), (1, b"", note))
+        for text, note in [("{}", "transaction: {} isn't a list"), ("[7]", "transaction 0: 7 isn't an object with the keys "),
+                           ('["", "0"]', "transaction 1: '0' isn't bytes as hexadecimal digits")]:
+            with self.subTest(text):
+                found = run("transactions", text)
+                self.assertEqual((found[0], found[1], found[2][: len(note)]), (1, b"", note))
+        self.assertEqual(run("transactions", os.path.join(self.folder, "none"))[0], 2)
 
     def test_requests(self):
         self.assertEqual(self.made("samples", "0,0,row", "65535,1,col"),
@@ -915,6 +945,7 @@ class Program(Case):
         self.same_text(frame("K", missing(128, *cells_of(128))))
         self.same_text(frame("C", commit(0, 0, 0, *[commit_row(11, 512, 20)] * 512)))
         self.same_text(frame("V", block(0xFFFF, [b""] * 1000, [b"a"] * 1000, [(PARITY, b"")] * 1000)))
+        self.same_text(frame("T", strings(*[b""] * 1000, *[b"abc"] * 1000)))
 
     def test_limit(self):
         # The longest payload, and one of a byte more, in a file that has all of its bytes.
