@@ -1,10 +1,12 @@
 #!/usr/bin/env python3
-"""celestia-node's JSON to frames, and headers and blobs back. It is not proved, and was tried on no running node.
+"""Celestia's JSON to frames, and headers and blobs back. It is not proved, and was tried on no running node.
 
     celestia.py header JSON                    the header (kind H) of an extended header, or of its `dah` alone
     celestia.py root JSON                      an extended header's data hash, and beside it the data root of its `dah`
     celestia.py answer NAMESPACE HEADER JSON   the namespace answer (kind N) of rows of namespace data
     celestia.py block JSON                     a block (kind V) of a blob, or of a list of blobs
+    celestia.py transactions JSON              the raw transactions (kind T) of a block, or of a list of them
+    celestia.py hash JSON                      the data hash of a block
     celestia.py dah HEADER                     the `dah` of a file of one header
     celestia.py blobs BLOCK COMMITMENTS        the blobs of a file of one block, with the lines of `da commit` of it
 
@@ -143,8 +145,14 @@ def dah_of(value):
     return value if value.member("row_roots").value is not None else value.needed("dah")
 
 
+def block_in(value):
+    """The block of an answer of the RPC's `block`, or the value itself."""
+    found = value.member("block")
+    return value if found.value is None else found
+
+
 def data_hash(value):
-    """The data hash of an extended header, with its path."""
+    """The data hash of an extended header, or of a block, with its path."""
     return value.needed("header").needed("data_hash")
 
 
@@ -275,6 +283,22 @@ def block(args):
     return [frames.frame(ord("V"), payload)], 0
 
 
+def transactions(args):
+    """the raw transactions of a block, as the RPC's `block` answers it, or of a list of them"""
+    value = answered(args.json)
+    listed = value if isinstance(value.value, list) else block_in(value).needed("data").member("txs")
+    payload = frames.spell_strings([item.bytes() for item in listed.items()])
+    if len(payload) > frames.PAYLOAD_LIMIT:
+        text = f"{len(payload)} bytes of transactions, and a frame has at most {frames.PAYLOAD_LIMIT}"
+        raise listed.bad(text, "TooLong")
+    return [frames.frame(ord("T"), payload)], 0
+
+
+def hash_(args):
+    """the data hash of a block, as the RPC's `block` answers it"""
+    return [data_hash(block_in(answered(args.json))).digits(HASH_BYTES).hex() + "\n"], 0
+
+
 def dah(args):
     """the `dah` of a file of one header"""
     made = one_of(args.header, frames.HEADER)
@@ -294,10 +318,10 @@ def parser():
     form = argparse.RawDescriptionHelpFormatter
     top = frames.Parser(prog="celestia.py", description=__doc__, formatter_class=form)
     commands = top.add_subparsers(metavar="COMMAND", required=True, dest="command")
-    words = {header: "json", root: "json", answer: "namespace header json", block: "json", dah: "header",
-             blobs: "block commitments"}
+    words = {header: "json", root: "json", answer: "namespace header json", block: "json", transactions: "json",
+             hash_: "json", dah: "header", blobs: "block commitments"}
     for run, names in words.items():
-        command = commands.add_parser(run.__name__, description=run.__doc__, help=run.__doc__)
+        command = commands.add_parser(run.__name__.rstrip("_"), description=run.__doc__, help=run.__doc__)
         command.set_defaults(run=run)
         for name in names.split():
             command.add_argument(name, metavar=name.upper())

@@ -100,6 +100,17 @@ def blob_of(namespace, data, signer=b""):
     return dict(told, commitment=base64_of(bytes(32)), index=7)
 
 
+def list_of(transactions):
+    """The T frame of transactions."""
+    return make.frame("T", make.u32(len(transactions)) + b"".join(make.u32(len(it)) + it for it in transactions))
+
+
+def block_of(transactions, told=EMPTY_ROOT):
+    """A block of raw transactions with its data hash, as the RPC has one."""
+    data = {"txs": [base64_of(it) for it in transactions], "square_size": "1"}
+    return {"header": {"chain_id": "test", "height": "1", "data_hash": told.upper()}, "data": data, "evidence": {}}
+
+
 def padded_square():
     """The shares of a square of width 4 with reserved padding in front of its first blob, as go-square's builder may
     leave it, and with padding of version 1 behind that, which has a signer; what stands in it as a block that asks for
@@ -243,6 +254,26 @@ class Examples(Case):
             self.assertEqual(file.read(), make.block([(BLOB_NAMESPACE, BLOB_DATA)]))
 
 
+    def test_transactions(self):
+        for some in ([], [b""], [b"a transaction", bytes(range(256)) * 9, b"", b"a transaction"]):
+            block, told = block_of(some), [base64_of(it) for it in some]
+            answer = {"block_id": {"hash": "00"}, "block": block}
+            for value in ({"jsonrpc": "2.0", "id": 1, "result": answer}, answer, block, told):
+                self.assertEqual(self.made("transactions", self.file(value)), list_of(some))
+                if value is not told:
+                    self.assertEqual(self.made("hash", self.file(value)).decode(), EMPTY_ROOT + "\n")
+        # Null, and no key, are the list of none, and a transaction that is null is one of no bytes.
+        for value in (None, [], "no key"):
+            block = block_of([])
+            block["data"] = {} if value == "no key" else {"txs": value}
+            self.assertEqual(self.made("transactions", json.dumps(block)), list_of([]))
+        self.assertEqual(self.made("transactions", "[null]"), list_of([b""]))
+        path = os.path.join(self.folder, "out")
+        self.assertEqual(self.made("transactions", "[]", "-o", path), b"")
+        with open(path, "rb") as file:
+            self.assertEqual(file.read(), list_of([]))
+
+
 class Refused(Case):
     """Each form with one thing wrong: the status, and the note with the path and the reason's name."""
 
@@ -373,6 +404,48 @@ class Refused(Case):
                 self.refused(["block", self.changed(blob, path, put)], f"bad input: {note}")
         self.refused(["block", f'{{"result":[{BLOB},7]}}'], "bad input: result[1]: 7 isn't an object (BadType)")
 
+    @mock.patch.object(frames, "PAYLOAD_LIMIT", 1000)
+    def test_transactions(self):
+        whole = {"result": {"block": block_of([b"one", b"two"])}}
+        block = whole["result"]["block"]
+        cases = [
+            (whole, ["result", "block", "data"], None, "result.block.data: it isn't there (Missing)"),
+            (whole, ["result", "block", "data"], [], "result.block.data: [] isn't an object (BadType)"),
+            (whole, ["result", "block", "data", "txs"], {}, "result.block.data.txs: {} isn't a list (BadType)"),
+            (whole, ["result", "block", "data", "txs", 1], 7, "result.block.data.txs[1]: 7 isn't a text (BadType)"),
+            (whole, ["result", "block", "data", "txs", 1], "?", 'result.block.data.txs[1]: "?" isn\'t base64 (BadBase64)'),
+            (block, ["data", "txs", 0], "AA=", 'data.txs[0]: "AA=" isn\'t base64 (BadBase64)'),
+            (block, ["data", "txs", 0], base64_of(bytes(986)),
+             "data.txs: 1001 bytes of transactions, and a frame has at most 1000 (TooLong)"),
+            ([""], [0], base64_of(bytes(993)),
+             "the JSON: 1001 bytes of transactions, and a frame has at most 1000 (TooLong)"),
+            ([""], [0], [], "[0]: [] isn't a text (BadType)"),
+        ]
+        for value, path, put, note in cases:
+            with self.subTest(note):
+                self.refused(["transactions", self.changed(value, path, put)], f"bad input: {note}")
+        self.refused(["transactions", '{"error":{"code":-32603}}'],
+                     'bad input: error: the node answered {"code": -32603} (NodeError)')
+        self.refused(["transactions", '{"result":null}'], "bad input: result: null isn't an object (BadType)")
+        self.refused(["transactions", '"AA=="'], "cannot open '\"AA==\"'", 2)
+
+    def test_hash(self):
+        whole = {"result": {"block": block_of([])}}
+        path = ["result", "block", "header", "data_hash"]
+        cases = [
+            (path, None, "result.block.header.data_hash: it isn't there (Missing)"),
+            (path, 5, "result.block.header.data_hash: 5 isn't a text (BadType)"),
+            (path, "0g", 'result.block.header.data_hash: "0g" isn\'t hexadecimal digits (BadHex)'),
+            (path, "00", "result.block.header.data_hash: 1 bytes, and there are to be 32 (BadLength)"),
+            (path[:-1], None, "result.block.header: it isn't there (Missing)"),
+            (path[:-2], None, "result.header: it isn't there (Missing)"),
+            (path[:-2], [], "result.block: [] isn't an object (BadType)"),
+        ]
+        for path, put, note in cases:
+            with self.subTest(note):
+                self.refused(["hash", self.changed(whole, path, put)], f"bad input: {note}")
+        self.refused(["hash", "[]"], "bad input: the JSON: [] isn't an object (BadType)")
+
     def test_signer(self):
         signed = [blob, _] = [blob_of(make.name(end), b"\7", b"\x11" * 20) for end in ("0101", "0102")]
         self.assertEqual(blob["signer"], "ERERERERERERERERERERERERERE=")
@@ -427,6 +500,8 @@ class Refused(Case):
     def test_streams(self):
         self.loses("header", HEADER)
         self.loses("root", HEADER)
+        self.loses("transactions", "[]")
+        self.loses("hash", json.dumps(block_of([])))
 
 
 @unittest.skipUnless(DA, "the environment variable DA names no built da")
