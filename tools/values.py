@@ -319,8 +319,8 @@ def block_of(data):
 
 
 def squares_of_rows(values):
-    """The square of each row of `build` that gives one, but of those with a gap, which make.py doesn't lay out; and the header
-    of each row of `header` up to width 4."""
+    """The square of each row of `build` that gives one of a block, but of those with a gap, which make.py doesn't lay out; and
+    the header of each row of `header` up to width 4. tools/lists.py makes those of lists."""
     for command in ("build", "header"):
         for name in sorted(os.listdir(os.path.join(values.top, "rows", command))):
             row = f"rows/{command}/{name}"
@@ -328,10 +328,11 @@ def squares_of_rows(values):
             path = os.path.normpath(os.path.join(row, shlex.split(parts["words"])[1]))
             if parts["status"] != "0" or "judge" in parts or not os.path.exists(os.path.join(values.top, path)):
                 continue
+            data = values.bytes_of(path)
             if command == "header":
-                header_of_row(values, row, values.bytes_of(path))
-            else:
-                square_of_row(values, row, values.bytes_of(path))
+                header_of_row(values, row, data)
+            elif data[:1] == b"V":
+                square_of_row(values, row, data)
 
 
 def header_of_row(values, row, data):
