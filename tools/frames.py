@@ -493,18 +493,19 @@ ALL_KINDS = "".join(KINDS)
 # where only the framing is judged; and those of its first frame where they are fewer (docs/COMMANDS.md, "Files").
 Form = namedtuple("Form", "number is_list kinds first", defaults=(None,))
 BLOCK = Form(0, False, "V")
+BLOCK_OR_LIST = Form(0, False, "VT")
 HEADER = Form(0, False, "H")
 SQUARE = Form(0, False, "S")
 MESSAGES = Form(1, True, None)
 FILE = Form(0, True, ALL_KINDS)
 FORMS = {
-    "build": {"BLOCK": BLOCK},
+    "build": {"BLOCK": BLOCK_OR_LIST},
     "header": {"SQUARE": SQUARE},
     "sample": {"SQUARE": SQUARE, "REQUESTS": Form(1, True, "Q")},
     "namespace": {"SQUARE": SQUARE, "REQUESTS": Form(1, True, "P")},
     "verify": {"HEADER": HEADER, "ANSWER": Form(1, False, "MNBCR"), "REQUEST": Form(2, False, "QP")},
     "compact": {"HEADER": HEADER, "CLAIM": Form(1, False, "B")},
-    "commit": {"BLOCK": BLOCK},
+    "commit": {"BLOCK": BLOCK_OR_LIST},
     "prove": {"SQUARE": SQUARE, "REQUESTS": Form(1, True, "Q")},
     "follow": {"WANTED": Form(0, True, "P"), "ANSWERS": Form(1, True, "HN", "H")},
     "check": {"HEADER": HEADER, "MESSAGES": MESSAGES},

@@ -639,6 +639,10 @@ class Why(Case):
             (EACH_FRAME["N"] + EACH_FRAME["H"], ("follow", "ANSWERS"), "file 1 at 0: kind N, and asked for is kind H ("),
             (b"", ("follow", "ANSWERS"), "ok: 0 frames"),
             (EACH_FRAME["V"], ("build", "BLOCK"), "ok: 1 frames"),
+            (EACH_FRAME["T"], ("build", "BLOCK"), "ok: 1 frames"),
+            (EACH_FRAME["T"], ("commit", "BLOCK"), "ok: 1 frames"),
+            (EACH_FRAME["T"] * 2, ("commit", "BLOCK"), "file 0 at 20: a byte 54 behind the one frame (Trailing)"),
+            (EACH_FRAME["M"], ("build", "BLOCK"), "file 0 at 0: kind M, and asked for is kind V or T (BadKind)"),
             (EACH_FRAME["V"], ("show", "FILE"), "ok: 1 frames"),
         ]
         for data, form, want in table:
@@ -889,6 +893,8 @@ class Program(Case):
         key = "00" * 32
         return [
             ("build", "BLOCK", path["block"], [None]),
+            ("build", "BLOCK", self.file(EACH_FRAME["T"], "list"), [None]),
+            ("commit", "BLOCK", self.file(EACH_FRAME["T"], "list"), [None]),
             ("header", "SQUARE", square_2, [None]),
             ("sample", "SQUARE", square_2, [None, path["samples"]]),
             ("sample", "REQUESTS", path["samples"], [square_2, None]),
