@@ -513,6 +513,7 @@ FORMS = {
     "light": {"HEADER": HEADER, "MESSAGES": MESSAGES},
     "wanted": {"MISSING": Form(0, False, "K")},
     "blobs": {"SHARES": Form(0, False, "SN")},
+    "transactions": {"SQUARE": SQUARE},
     "root": {"HEADER": HEADER},
     "show": {"FILE": FILE},
     "json": {"FILE": FILE},

@@ -917,6 +917,7 @@ class Program(Case):
             ("wanted", "MISSING", self.missing, [None, "row"]),
             ("blobs", "SHARES", square_2, [None]),
             ("blobs", "SHARES", self.answer, [None]),
+            ("transactions", "SQUARE", square_2, [None]),
             ("root", "HEADER", header_2, [None]),
             ("check", "HEADER", path["header"], [None, path["message"]]),
             ("check", "MESSAGES", path["messages"], [path["header"], None]),
