@@ -57,7 +57,7 @@ _da() {
     read -r -a words < <(_da_words "${COMP_WORDS[1]}")
     case ${words[COMP_CWORD - 2]} in
         # In the place of START may stand a file REQUESTS.
-        '' | KEY | COUNT | NUMBER | ROOT) ;;
+        '' | KEY | COUNT | NUMBER | ROOT | COMMITMENT) ;;
         AXIS) mapfile -t COMPREPLY < <(compgen -W "row col" -- "$word") ;;
         WIDTH) mapfile -t COMPREPLY < <(compgen -W "2 4 8 16 32 64 128 256 512" -- "$word") ;;
         *) _da_files "$word" ;;
