@@ -4,7 +4,6 @@
     lists.py build LIST            the square (kind S) that a file of a list (kind T) is laid out as
     lists.py commit LIST           the commitments of the blobs of its payments, a line for each
     lists.py transactions SQUARE   the list that is laid out as this square, in its one spelling
-    lists.py read LIST             what each transaction is read as, a line for each (tools/block_peers)
     lists.py                       compares with the rows of rows/ that have lists; the last line is 'N passed, M failed'
 
 Outputs, statuses and notes are those of `da`. The shares and the subtrees are those of examples/make.py. Python 3 and its
@@ -28,7 +27,10 @@ make = importlib.util.module_from_spec(SPEC)
 SPEC.loader.exec_module(make)
 
 RESERVED_PADDING = bytes(28) + b"\xff"
-GROUPS = 100
+# How many groups may be open at once, and what the tag of a field inside one is below.
+Rules = namedtuple("Rules", "groups inner_tags")
+RULES = Rules(100, 2**32)
+OUTER_TAGS = 2**32
 MOST_SHARES = frames.WIDTHS[-1] ** 2
 SHARES = {make.TRANSACTION: 1, make.PAY_FOR_BLOB: 2}
 COMPARED = {"build": "list", "commit": "list", "transactions": "square"}
@@ -51,17 +53,17 @@ def varint(data, at):
     return None
 
 
-def field(data, at, groups=GROUPS):
-    """The number, the wire, the value and the end of the field at a place, in which so many groups may be open."""
+def field(data, at, rules, open_groups=0):
+    """The number, the wire, the value and the end of the field at a place, in so many open groups."""
     found = varint(data, at)
-    if found is None or not 8 <= found[0] < 2**32:
+    if found is None or not 8 <= found[0] < (rules.inner_tags if open_groups else OUTER_TAGS):
         return None
     (number, wire), at = divmod(found[0], 8), found[1]
     if wire == 0:
         found = varint(data, at)
         return found and (number, wire, *found)
     if wire == 3:
-        end = group_end(data, at, number, groups)
+        end = group_end(data, at, number, rules, open_groups + 1)
         return end and (number, wire, None, end)
     found = {1: (8, at), 2: varint(data, at), 5: (4, at)}.get(wire)
     if found is None or found[0] > len(data) - found[1]:
@@ -70,24 +72,24 @@ def field(data, at, groups=GROUPS):
     return number, wire, data[at : at + size], at + size
 
 
-def group_end(data, at, number, groups):
+def group_end(data, at, number, rules, open_groups):
     """Where the group of a number ends whose fields begin at a place."""
-    while groups:
+    while open_groups <= rules.groups:
         tag = varint(data, at)
         if tag is not None and tag[0] == 8 * number + 4:
             return tag[1]
-        found = field(data, at, groups - 1)
+        found = field(data, at, rules, open_groups)
         if found is None:
             return None
         at = found[3]
     return None
 
 
-def fields(data):
+def fields(data, rules=RULES):
     """The number, the wire and the value of each field that bytes are; none where they aren't fields."""
     some, at = [], 0
     while at < len(data):
-        found = field(data, at)
+        found = field(data, at, rules)
         if found is None:
             return None
         some.append(found[:3])
@@ -118,12 +120,12 @@ def spelled_fields(*pairs):
 # Payments.
 
 
-def payment_of(raw):
+def payment_of(raw, rules=RULES):
     """The payment that a transaction is, or none."""
-    some = fields(raw)
+    some = fields(raw, rules)
     if some is None or last(some, 3, 2) != b"BLOB":
         return None
-    blobs = [fields(value) for number, wire, value in some if (number, wire) == (2, 2)]
+    blobs = [fields(value, rules) for number, wire, value in some if (number, wire) == (2, 2)]
     if None in blobs:
         return None
     return Payment(last(some, 1, 2), [blob_of(blob) for blob in blobs])
@@ -154,20 +156,25 @@ def blob_fault(i, j, blob):
     return None if blob.data else f"10 {i} {j}"
 
 
+def payment_fault(i, payment):
+    """The note of transaction i, a payment, or none."""
+    if not payment.blobs:
+        return f"7 {i}"
+    return next(filter(None, (blob_fault(i, j, blob) for j, blob in enumerate(payment.blobs))), None)
+
+
 def read(transactions):
     """The plain transactions and the payments of a list, and the note of the first that isn't taken, or none."""
     units, payments = [], []
     for i, raw in enumerate(transactions):
         payment = payment_of(raw)
-        if payment is None:
-            if payments:
-                return None, None, f"6 {i}"
-            units.append(raw)
-            continue
-        faults = [f"7 {i}"] if not payment.blobs else [blob_fault(i, j, blob) for j, blob in enumerate(payment.blobs)]
-        for fault in filter(None, faults):
+        fault = payment_fault(i, payment) if payment else f"6 {i}" if payments else None
+        if fault:
             return None, None, fault
-        payments.append(payment)
+        if payment:
+            payments.append(payment)
+        else:
+            units.append(raw)
     return units, payments, None
 
 
@@ -408,25 +415,7 @@ def transactions(name):
     return frames.frame(ord("T"), frames.spell_strings(listed))
 
 
-def line_of(raw):
-    """What a transaction is read as: `plain`, or a payment's transaction and its blobs."""
-    payment = payment_of(raw)
-    if payment is None:
-        return "plain"
-    blobs = [f"{blob.namespace_version} {blob.id.hex() or '-'} {blob.version} {blob.signer.hex() or '-'} {digest(blob.data)}"
-             for blob in payment.blobs]
-    return " | ".join([f"payment {digest(payment.tx)}", *blobs])
-
-
-def digest(data):
-    return f"{len(data)} {hashlib.sha256(data).hexdigest()[:16]}"
-
-
-def read_lines(name):
-    return "".join(f"{line_of(raw)}\n" for raw in list_in(name)).encode()
-
-
-RUNS = {"build": build, "commit": commit, "transactions": transactions, "read": read_lines}
+RUNS = {"build": build, "commit": commit, "transactions": transactions}
 
 
 def ran(command, name):

@@ -1,0 +1,17 @@
+//go:build gogo
+
+package main
+
+import "github.com/gogo/protobuf/proto"
+
+func unmarshal(raw []byte, message proto.Message) error {
+	return proto.Unmarshal(raw, message)
+}
+
+func marshal(message proto.Message) []byte {
+	data, err := proto.Marshal(message)
+	if err != nil {
+		panic(err)
+	}
+	return data
+}
