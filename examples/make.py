@@ -8,6 +8,8 @@
 It follows docs/RULES.md and docs/FORMATS.md in its own way, and nothing of it is proved. Widths go to 4, and
 blobs to 64 shares, but for those two blocks, which it only frames.
 """
+import base64
+import json
 import os
 import sys
 from hashlib import sha256
@@ -16,6 +18,7 @@ PARITY = b"\xff" * 29
 TAIL_PADDING = b"\xff" * 28 + b"\xfe"
 TRANSACTION = bytes(28) + b"\x01"
 PAY_FOR_BLOB = bytes(28) + b"\x04"
+RESERVED_PADDING = bytes(28) + b"\xff"
 ROW, COL = 0, 1
 
 
@@ -250,15 +253,15 @@ def blob_shares(namespace, data, signer=b""):
     return [share.ljust(512, b"\0") for share in shares]
 
 
+def varint(number):
+    return bytes([number]) if number < 128 else bytes([number & 127 | 128]) + varint(number >> 7)
+
+
 def compact_shares(namespace, units):
     content, starts = b"", []
     for unit in units:
         starts.append(len(content))
-        rest = len(unit)
-        while rest > 127:
-            content += bytes([rest & 127 | 128])
-            rest >>= 7
-        content += bytes([rest]) + unit
+        content += varint(len(unit)) + unit
     shares, at = [], 0
     while at < len(content):
         front = namespace + (b"\0" if at else b"\1" + u32(len(content)))
@@ -275,6 +278,48 @@ def square_of(k, blobs, units=(), pays=()):
     for blob in sorted(blobs, key=lambda blob: blob[0]):
         shares += blob_shares(*blob)
     return shares + blob_shares(TAIL_PADDING, b"") * (k * k - len(shares))
+
+
+# Lists of transactions ("A block of the network"): no payment has no bytes, and no blob has more than 64 shares.
+def field(number, data):
+    return varint(8 * number + 2) + varint(len(data)) + data
+
+
+def payment(tx, blobs):
+    """A payment for blobs, which it carries."""
+    fields = field(1, tx)
+    for namespace, data, *signer in blobs:
+        signed = b"\x18\1" + field(5, signer[0]) if signer else b""
+        fields += field(2, field(1, namespace[1:]) + field(2, data) + signed)
+    return fields + field(3, b"BLOB")
+
+
+def wrapped(tx, places):
+    return field(1, tx) + field(2, b"".join(map(varint, places))) + field(3, b"INDX")
+
+
+def list_square(units, payments):
+    """The width and the shares of the square of transactions, and of payments as pairs of a transaction and its blobs."""
+    front = compact_shares(TRANSACTION, units)
+    full = [wrapped(tx, [512 * 512] * len(blobs)) for tx, blobs in payments]
+    reserve = len(front) + len(compact_shares(PAY_FOR_BLOB, full))
+    numbered = [(blob[0], p, b) for p, (_, blobs) in enumerate(payments) for b, blob in enumerate(blobs)]
+    places, behind = {}, []
+    for _, p, b in sorted(numbered):
+        places[p, b] = reserve + len(behind)
+        behind += blob_shares(*payments[p][1][b])
+    written = [wrapped(tx, [places[p, b] for b in range(len(blobs))]) for p, (tx, blobs) in enumerate(payments)]
+    front += compact_shares(PAY_FOR_BLOB, written)
+    shares = front + blob_shares(RESERVED_PADDING, b"") * (reserve - len(front) if behind else 0) + behind
+    k = next(1 << i for i in range(10) if 1 << 2 * i >= reserve + len(behind))
+    return k, shares + blob_shares(TAIL_PADDING, b"") * (k * k - len(shares))
+
+
+def block_json(transactions, k, root):
+    """A block of raw transactions as the chain's RPC answers it, but for what isn't looked at."""
+    data = {"txs": [base64.b64encode(raw).decode() for raw in transactions], "square_size": str(k)}
+    block = {"header": {"chain_id": "example", "height": "5", "data_hash": root.hex().upper()}, "data": data}
+    return (json.dumps({"jsonrpc": "2.0", "id": 1, "result": {"block": block}}, indent=2) + "\n").encode()
 
 
 def square(k, shares):
@@ -312,6 +357,12 @@ def files():
              (name("0202"), b"The third blob.")]
     signed = [(name("0101"), b"A blob with a signer. " * 21, b"\x11" * 20), (name("0102"), b"A blob without one."),
               (name("0102"), b"x", b"\x22" * 20)]
+    plain = b"A transaction that pays for no blobs."
+    paying = (b"A transaction that pays for two blobs. " * 12)[:458]
+    paid = [(name("0202"), b"The first blob of the payment. " * 20), (name("0201"), b"The second blob.", b"\x11" * 20)]
+    listed = [plain, payment(paying, paid)]
+    k, shares = list_square([plain], [(paying, paid)])
+    list_root = plain_root(Grid(k, extend(k, shares)).roots())
     one = (name("0101"), b"one")
     sample = grid.message(1, 2, COL)
     low = grid.message(0, 0)
@@ -340,6 +391,9 @@ def files():
         "transactions/block": block(blobs, units, pays),
         "transactions/square": square(4, square_of(4, blobs, units, pays)),
         "transactions/quarter": b"".join(request(r, c) for r in range(4, 8) for c in range(4, 8)),
+        "list/block.json": block_json(listed, k, list_root),
+        "list/transactions": frame("T", u32(len(listed)) + b"".join(u32(len(raw)) + raw for raw in listed)),
+        "list/square": square(k, shares),
         "signed/block": block(signed),
         "signed/square": square(2, square_of(2, signed)),
         "refused/block-version": block([one, (changed(one[0], 0), b"one")]),
