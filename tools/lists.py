@@ -4,6 +4,7 @@
     lists.py build LIST            the square (kind S) that a file of a list (kind T) is laid out as
     lists.py commit LIST           the commitments of the blobs of its payments, a line for each
     lists.py transactions SQUARE   the list that is laid out as this square, in its one spelling
+    lists.py find SQUARE HEX       where the blobs stand that have a commitment, a line for each
     lists.py                       compares with the rows of rows/ that have lists; the last line is 'N passed, M failed'
 
 Outputs, statuses and notes are those of `da`. The shares and the subtrees are those of examples/make.py. Python 3 and its
@@ -33,7 +34,7 @@ RULES = Rules(100, 2**32)
 OUTER_TAGS = 2**32
 MOST_SHARES = frames.WIDTHS[-1] ** 2
 SHARES = {make.TRANSACTION: 1, make.PAY_FOR_BLOB: 2}
-COMPARED = {"build": "list", "commit": "list", "transactions": "square"}
+COMPARED = {"build": "list", "commit": "list", "transactions": "square", "find": "square"}
 
 # A blob as a payment states it, and a payment, whose blobs these are.
 Blob = namedtuple("Blob", "id data version namespace_version signer")
@@ -199,7 +200,7 @@ def wrapped(tx, places):
 
 
 def shares_of(blob):
-    return make.blob_shares(b"\0" + blob.id, blob.data, blob.signer)
+    return make.blob_shares(bytes([blob.namespace_version]) + blob.id, blob.data, blob.signer)
 
 
 def padding(namespace, version=0):
@@ -407,6 +408,23 @@ def commit(name):
     return "".join(f"{commitment(blob)}\n" for payment in payments for blob in payment.blobs).encode()
 
 
+def find(name, digits):
+    shares = value_of(name, frames.SQUARE).shares
+    front = next((i for i, share in enumerate(shares) if share[:29] not in SHARES), len(shares))
+    try:
+        found = joined(shares[front:], False)
+    except Fault as fault:
+        raise frames.Note(9, f"bad request: shares {fault.args[0]} {fault.args[1]}") from None
+    lines = []
+    for first, version, namespace, data, signer in found:
+        blob = Blob(namespace[1:], data, version, namespace[0], signer)
+        if data and commitment(blob) == digits.lower():
+            lines.append(f"{front + first} {len(shares_of(blob))}\n")
+    if not lines:
+        raise frames.Note(13, "refused")
+    return "".join(lines).encode()
+
+
 def transactions(name):
     square = value_of(name, frames.SQUARE)
     listed, fault = back(square.k, square.shares)
@@ -415,13 +433,13 @@ def transactions(name):
     return frames.frame(ord("T"), frames.spell_strings(listed))
 
 
-RUNS = {"build": build, "commit": commit, "transactions": transactions}
+RUNS = {"build": build, "commit": commit, "transactions": transactions, "find": find}
 
 
-def ran(command, name):
+def ran(command, *words):
     """The output, the status and the note of a command."""
     try:
-        return RUNS[command](name), 0, ""
+        return RUNS[command](*words), 0, ""
     except frames.Note as note:
         return b"", note.status, note.text
 
@@ -445,17 +463,17 @@ def is_right(folder, output, judges):
 
 
 def rows():
-    """Runs the rows whose one word is a list or a square, but of those that are made."""
+    """Runs the rows whose first word is a list or a square, but of those that are made."""
     count = failed = 0
     for command in COMPARED:
         home = os.path.join(TOP, "rows", command)
         for name in sorted(os.listdir(home)) if os.path.isdir(home) else []:
             folder = os.path.join(home, name)
             words, status, note, judges = row_of(folder)
-            path = os.path.join(folder, words[-1])
-            if words[1:] != [COMPARED[command]] or not os.path.exists(path):
+            path = os.path.join(folder, COMPARED[command])
+            if words[1:2] != [COMPARED[command]] or not os.path.exists(path):
                 continue
-            output, *rest = ran(command, path)
+            output, *rest = ran(command, path, *words[2:])
             count += 1
             if rest != [status, note] or not is_right(folder, output, judges):
                 failed += 1
@@ -468,13 +486,13 @@ def main():
     form = argparse.RawDescriptionHelpFormatter
     parser = argparse.ArgumentParser(description=__doc__, formatter_class=form)
     parser.add_argument("command", choices=RUNS, nargs="?")
-    parser.add_argument("file", nargs="?")
+    parser.add_argument("words", nargs="*")
     words = parser.parse_args()
     if words.command is None:
         return rows()
-    if words.file is None:
-        parser.error(f"{words.command} takes a file")
-    output, status, note = ran(words.command, words.file)
+    if len(words.words) != (2 if words.command == "find" else 1):
+        parser.error(f"{words.command} takes other words")
+    output, status, note = ran(words.command, *words.words)
     sys.stdout.buffer.write(output)
     if note:
         print(note, file=sys.stderr)
