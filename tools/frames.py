@@ -514,6 +514,7 @@ FORMS = {
     "wanted": {"MISSING": Form(0, False, "K")},
     "blobs": {"SHARES": Form(0, False, "SN")},
     "transactions": {"SQUARE": SQUARE},
+    "find": {"SQUARE": SQUARE},
     "root": {"HEADER": HEADER},
     "show": {"FILE": FILE},
     "json": {"FILE": FILE},

@@ -918,6 +918,7 @@ class Program(Case):
             ("blobs", "SHARES", square_2, [None]),
             ("blobs", "SHARES", self.answer, [None]),
             ("transactions", "SQUARE", square_2, [None]),
+            ("find", "SQUARE", square_2, [None, "00" * 32]),
             ("root", "HEADER", header_2, [None]),
             ("check", "HEADER", path["header"], [None, path["message"]]),
             ("check", "MESSAGES", path["messages"], [path["header"], None]),
