@@ -19,8 +19,9 @@ const SHORT: [(&str, &[Run]); 6] = [
     ("P", &[(b"P\0\0\0\x1d", 29, 9)]),
 ];
 
-/// Frames of an answer of a range and an absence, of a claim with a set of one node, and of a block of a signed blob.
-const LONG: [(&str, &[Run]); 3] = [
+/// Frames of an answer of a range and an absence, of a claim with a set of one node, of a block of a signed blob, and of
+/// two transactions, one of no bytes.
+const LONG: [(&str, &[Run]); 4] = [
     (
         "N",
         &[
@@ -48,6 +49,10 @@ const LONG: [(&str, &[Run]); 3] = [
             (b"\x01", 20, 8),
             (b"\0\0\0\x01a", 0, 0),
         ],
+    ),
+    (
+        "T",
+        &[(b"T\0\0\0\x37\0\0\0\x02", 4, 0), (b"\0\0\0\x2b", 43, 7)],
     ),
 ];
 
