@@ -245,6 +245,10 @@ def blob_text(namespace, data, signer=b""):
     return namespace + (b"\1" + signer if signer else b"\0") + u32(len(data)) + data
 
 
+def transactions(units):
+    return frame("T", u32(len(units)) + b"".join(u32(len(unit)) + unit for unit in units))
+
+
 # Shares ("Shares", "From a block to its square"): no blob has more than 64 shares, so there are no gaps.
 def blob_shares(namespace, data, signer=b""):
     version, room = 1 if signer else 0, 478 - len(signer)
@@ -385,6 +389,7 @@ def files():
         "kinds/commitment": grid.commitment(1, 2),
         "kinds/rooted": grid.rooted(1, 2, COL),
         "kinds/missing": frame("K", u16(2) + u32(15) + b"".join(u16(r) + u16(c) for r, c in every if (r, c) != (1, 2))),
+        "kinds/transactions": transactions(units),
         "spoiled/header": spoiled.header(),
         "spoiled/messages": b"".join(spoiled.message(3, c, COL) for c in range(2)),
         "spoiled/every": b"".join(spoiled.message(r, c) for r, c in every),
@@ -392,7 +397,7 @@ def files():
         "transactions/square": square(4, square_of(4, blobs, units, pays)),
         "transactions/quarter": b"".join(request(r, c) for r in range(4, 8) for c in range(4, 8)),
         "list/block.json": block_json(listed, k, list_root),
-        "list/transactions": frame("T", u32(len(listed)) + b"".join(u32(len(raw)) + raw for raw in listed)),
+        "list/transactions": transactions(listed),
         "list/square": square(k, shares),
         "signed/block": block(signed),
         "signed/square": square(2, square_of(2, signed)),
@@ -420,7 +425,7 @@ def files():
         "refused/claim-other-share": changed(accused, 100),
     }
     kinds = ["block", "kinds/square", "kinds/header", "kinds/sample", "kinds/answer", "kinds/absence", "kinds/claim",
-             "kinds/missing", "samples", "namespaces", "kinds/commitment", "kinds/rooted"]
+             "kinds/missing", "samples", "namespaces", "kinds/commitment", "kinds/rooted", "kinds/transactions"]
     made["kinds/all"] = b"".join(made[kind] for kind in kinds)
     return made
 

@@ -273,7 +273,7 @@ class Examples(Case):
         folder = os.path.join(self.folder, "into", "frames")
         lines = self.made("cut", os.path.join(EXAMPLES, "kinds", "all"), folder).decode().splitlines()
         told = [line.split() for line in lines]
-        self.assertEqual("".join(kind for _, kind, _ in told), "VSHMNNBKQPCR")
+        self.assertEqual("".join(kind for _, kind, _ in told), "VSHMNNBKQPCRT")
         self.assertEqual([name for name, _, _ in told], [os.path.join(folder, str(i)) for i in range(len(told))])
         parts = []
         for name, _, _ in told:
