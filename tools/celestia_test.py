@@ -100,11 +100,6 @@ def blob_of(namespace, data, signer=b""):
     return dict(told, commitment=base64_of(bytes(32)), index=7)
 
 
-def list_of(transactions):
-    """The T frame of transactions."""
-    return make.frame("T", make.u32(len(transactions)) + b"".join(make.u32(len(it)) + it for it in transactions))
-
-
 def block_of(transactions, told=EMPTY_ROOT):
     """A block of raw transactions with its data hash, as the RPC has one."""
     data = {"txs": [base64_of(it) for it in transactions], "square_size": "1"}
@@ -259,19 +254,19 @@ class Examples(Case):
             block, told = block_of(some), [base64_of(it) for it in some]
             answer = {"block_id": {"hash": "00"}, "block": block}
             for value in ({"jsonrpc": "2.0", "id": 1, "result": answer}, answer, block, told):
-                self.assertEqual(self.made("transactions", self.file(value)), list_of(some))
+                self.assertEqual(self.made("transactions", self.file(value)), make.transactions(some))
                 if value is not told:
                     self.assertEqual(self.made("hash", self.file(value)).decode(), EMPTY_ROOT + "\n")
         # Null, and no key, are the list of none, and a transaction that is null is one of no bytes.
         for value in (None, [], "no key"):
             block = block_of([])
             block["data"] = {} if value == "no key" else {"txs": value}
-            self.assertEqual(self.made("transactions", json.dumps(block)), list_of([]))
-        self.assertEqual(self.made("transactions", "[null]"), list_of([b""]))
+            self.assertEqual(self.made("transactions", json.dumps(block)), make.transactions([]))
+        self.assertEqual(self.made("transactions", "[null]"), make.transactions([b""]))
         path = os.path.join(self.folder, "out")
         self.assertEqual(self.made("transactions", "[]", "-o", path), b"")
         with open(path, "rb") as file:
-            self.assertEqual(file.read(), list_of([]))
+            self.assertEqual(file.read(), make.transactions([]))
 
 
 class Refused(Case):
