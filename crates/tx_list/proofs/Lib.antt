@@ -24,3 +24,15 @@ pub mod SpelledListLemmas
 pub mod AgainLemmas
 -- the square of a list, and its shares
 pub mod SquareLemmas
+-- wrapped payments, read back
+pub mod UnwrapLemmas
+-- the two fronts of a square
+pub mod RunLemmas
+-- the square of a list, read back
+pub mod BackLemmas
+-- one list at most, which is found
+pub mod BackLawLemmas
+-- the walks from a square back to its list
+pub mod UnlayLemmas
+-- varints as places
+pub mod NumberLemmas

@@ -49,7 +49,7 @@ some_field_alone n [] numbered fits = no_fields
 some_field_alone n (byte ∷ bytes) numbered fits = bytes_field_alone n (byte ∷ bytes) numbered fits
 
 -- it takes its bytes at least
-some_field_size : (n : ℕ) (bytes : List ℕ) → length bytes ≤ length (some_field n bytes)
+pub some_field_size : (n : ℕ) (bytes : List ℕ) → length bytes ≤ length (some_field n bytes)
 some_field_size n [] = omega arith
 some_field_size n (byte ∷ bytes) = omega (arith, size_is_length n (byte ∷ bytes))
 

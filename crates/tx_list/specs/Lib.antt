@@ -24,3 +24,9 @@ pub mod Walks
 pub mod ReadLaws
 -- lists whose parts are bytes
 pub mod OfBytes
+-- what wrapped payments are read as
+pub mod Unwrapped
+-- the list that a square is laid out as
+pub mod Backs
+-- what list a square is read as, and why it is laid out as none
+pub mod BackRefusals

@@ -19,6 +19,9 @@ ghost use Rattle.tx_list.specs.OfBytes.{IsOfBytes};
 ghost use Rattle.tx_list.specs.Reads.{list_of};
 ghost use Rattle.tx_list.specs.ReadRefusals.{read_refusal};
 ghost use Rattle.tx_list.specs.ReadLaws.{SpellingIsPayment, SpellingIsRead, SpelledIsTaken, SpelledIsRead, SpelledAgain};
+ghost use Rattle.square_layout.specs.Blocks.{SquareShares};
+ghost use Rattle.tx_list.specs.Backs.{IsBack, HaveNamedBlobs};
+ghost use Rattle.tx_list.specs.BackRefusals.{back_refusal};
 ghost use Rattle.tx_list.specs.Lists.{list_places, written, plan_of_list, block_of_list, square_of_list};
 
 /// What holds of the square of a list that may take no more shares than the greatest square has. It changes nothing.
@@ -78,4 +81,17 @@ pub fn read_laws()
     ensures taken { SpelledIsTaken }
     ensures list { SpelledIsRead }
     ensures again { SpelledAgain }
+{}
+
+/// What holds of the way back from a square to its list. It changes nothing.
+///
+/// docs/RULES.md, "A block of the network".
+pub fn back_laws()
+    // A square is laid out as one list at most, in its one spelling.
+    ensures unique { (square : SquareShares) (one other : List (List ℕ)) →
+        HaveNamedBlobs one → HaveNamedBlobs other → IsBack square one → IsBack square other → one ≡ other }
+
+    // Where there is one, no check refuses the square.
+    ensures there { (square : SquareShares) (transactions : List (List ℕ)) →
+        HaveNamedBlobs transactions → IsBack square transactions → back_refusal square ≡ None }
 {}

@@ -5,6 +5,7 @@
 //! room is reserved for them as if each place took three bytes, and the width is for as much padding as the blobs may need.
 #![tactic(auto)]
 
+mod bounds;
 mod checking;
 mod laws;
 mod laying;
@@ -14,11 +15,14 @@ mod reading;
 mod refusals;
 mod spelling;
 mod taking;
+mod unlaying;
+mod unwrapping;
 mod wrapping;
 
-pub use laws::{list_laws, read_laws, square_laws};
+pub use laws::{back_laws, list_laws, read_laws, square_laws};
 pub use laying::{lay_list, places};
 pub use payments::{Payment, TxList};
-pub use refusals::ListError;
+pub use refusals::{BackError, ListError};
 pub use spelling::spell_list;
 pub use taking::read_list;
+pub use unlaying::unlay_list;

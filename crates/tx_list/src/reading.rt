@@ -30,7 +30,7 @@ pub(crate) struct Stated<'a> {
 }
 
 /// Whether bytes are fields.
-fn is_fields(bytes: &[u8]) -> bool
+pub(crate) fn is_fields(bytes: &[u8]) -> bool
     ensures { result ≡ are_fields bytes.now }
 {
     are_fields(bytes)

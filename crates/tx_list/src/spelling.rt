@@ -75,13 +75,14 @@ fn put_blobs(alloc: Global, blobs: &[Blob], out: &mut Vec<u8>) -> Result<(), NoM
     Ok(())
 }
 
-/// A payment in its one spelling.
-fn spelled_payment(alloc: Global, payment: &Payment) -> Result<Unit, NoMemory>
-    ensures { IfOk result (λ unit. unit ≡ payment_spelling payment.now) }
+/// The payment of a transaction for blobs in its one spelling.
+pub(crate) fn spelled_payment(alloc: Global, tx: &[u8], blobs: &[Blob]) -> Result<Unit, NoMemory>
+    ensures { IfOk result (λ unit. unit
+        ≡ payment_spelling (record { tx = tx.now; blobs = blobs.now })) }
 {
     let mut bytes = Vec::new(alloc);
-    put_some_field(1, &payment.tx, &mut bytes)?;
-    put_blobs(alloc, &payment.blobs, &mut bytes)?;
+    put_some_field(1, tx, &mut bytes)?;
+    put_blobs(alloc, blobs, &mut bytes)?;
     put_some_field(3, &PAYMENT, &mut bytes)?;
     Ok(Unit { bytes })
 }
@@ -120,7 +121,7 @@ fn push_payments(alloc: Global, payments: &[Payment], out: &mut Vec<Unit>) -> Re
     ensures { OnOk result (out.new.items ≡ out.old.items ++ map payment_spelling payments.now) }
 {
     for payment in payments {
-        let Ok(()) = out.push(spelled_payment(alloc, payment)?) else {
+        let Ok(()) = out.push(spelled_payment(alloc, &payment.tx, &payment.blobs)?) else {
             return Err(NoMemory);
         };
     }

@@ -47,7 +47,7 @@ fn packed(alloc: Global, places: &[u32]) -> Result<Vec<u8>, NoMemory>
 }
 
 /// A transaction, wrapped with the places at which its blobs start.
-fn wrapped(alloc: Global, tx: &[u8], places: &[u32]) -> Result<Unit, NoMemory>
+pub(crate) fn wrapped(alloc: Global, tx: &[u8], places: &[u32]) -> Result<Unit, NoMemory>
     ensures { IfOk result (λ unit. unit ≡ wrapped tx.now places.now) }
 {
     let packed = packed(alloc, places)?;

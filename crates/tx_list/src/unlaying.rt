@@ -1,0 +1,270 @@
+//! From a square back to the list of transactions that is laid out as it.
+
+ghost use Rattle.std.specs.Prelude.{◌≡◌, ◌≤◌, ◌++◌, ◌∷◌, [], length, map, take, drop, IfOk, OnOk, None};
+ghost use Rattle.std.specs.Int.{w32, from_be_bytes};
+ghost use Rattle.namespace_id.specs.Answers.{Gives};
+ghost use Rattle.share_split.specs.Walks.{size_in, is_signed, units_of};
+ghost use Rattle.tx_list.specs.declared.refusals.BackError.TheVariants.{Units, Payments};
+ghost use Rattle.tx_list.specs.Spelled.{payment_spelling, spelled};
+ghost use Rattle.tx_list.specs.Backs.{IsBack, HaveNamedBlobs};
+ghost use Rattle.tx_list.specs.BackRefusals.{has_namespace, run_of, behind_run, first_front, second_front, front_refusal, front_units, stated_count, sequence_at, the_one, blob_at, blobs_at, places_refusal, payment_at, wrapper_refusal, wrappers_refusal, back_list, part_refusal, unlike_at, laid_refusal, back_refusal, Answers};
+
+use crate::bounds::payments_law;
+use crate::laying::lay_list;
+use crate::spelling::spelled_payment;
+use crate::taking::read_list;
+use crate::unwrapping::unwrapped;
+use crate::{BackError, ListError};
+use namespace_id::{NAMESPACE_SIZE, Namespace, NoMemory, PAY_FOR_BLOB, Share, TRANSACTION};
+use share_split::{Blob, JoinError, LENGTH_PLACE, Unit, blob_share_count, join_blobs, join_units};
+use square_layout::Square;
+use std::alloc::Global;
+
+// ---- the fronts
+
+/// Whether a share has this namespace.
+fn has_namespace(share: &Share, name: &Namespace) -> bool
+    ensures { result ≡ has_namespace name.now share.now }
+{
+    share.0[..NAMESPACE_SIZE] == name.0[..]
+}
+
+/// How many shares of a namespace stand at the front.
+fn run_length(shares: &[Share], name: &Namespace) -> usize
+    ensures { result ≡ length (run_of name.now shares.now) }
+{
+    for (count, share) in shares.iter().enumerate() {
+        if !has_namespace(share, name) {
+            return count;
+        }
+    }
+    shares.len()
+}
+
+/// The shares of a namespace at the front, and those behind them.
+fn split_run<'a>(shares: &'a [Share], name: &Namespace) -> (&'a [Share], &'a [Share])
+    ensures run { result.0.now ≡ run_of name.now shares.now }
+    ensures behind { result.1.now ≡ behind_run name.now shares.now }
+{
+    shares.split_at(run_length(shares, name))
+}
+
+/// The units of the first front.
+fn plain_units(alloc: Global, front: &[Share]) -> Result<Vec<Unit>, BackError>
+    ensures first { Answers result (front_refusal Units (units_of front.now)) }
+    ensures units { IfOk result (λ units. units.items ≡ front_units (units_of front.now)) }
+{
+    match join_units(alloc, front) {
+        Ok(units) => Ok(units),
+        Err(JoinError::NoMemory) => Err(BackError::NoMemory),
+        Err(why) => Err(BackError::Units(why)),
+    }
+}
+
+/// The units of the second front.
+fn pay_units(alloc: Global, front: &[Share]) -> Result<Vec<Unit>, BackError>
+    ensures first { Answers result (front_refusal Payments (units_of front.now)) }
+    ensures units { IfOk result (λ units. units.items ≡ front_units (units_of front.now)) }
+{
+    match join_units(alloc, front) {
+        Ok(units) => Ok(units),
+        Err(JoinError::NoMemory) => Err(BackError::NoMemory),
+        Err(why) => Err(BackError::Payments(why)),
+    }
+}
+
+// ---- blobs
+
+/// The length that a share states of the sequence that it begins.
+fn stated_size(share: &Share) -> u32
+    ensures { result ≡ size_in share.now }
+{
+    let (_front, bytes) = share.0.split_at(LENGTH_PLACE);
+    u32::from_be_bytes([bytes[0], bytes[1], bytes[2], bytes[3]])
+}
+
+/// Whether a share is the first one of a signed blob.
+fn is_signed(share: &Share) -> bool
+    ensures { result ≡ is_signed share.now }
+{
+    let info = share.0[NAMESPACE_SIZE];
+    info % 2 == 1 && info / 2 == 1 && stated_size(share) != 0
+}
+
+/// How many shares a sequence takes that this share begins.
+fn stated_count(share: &Share) -> u64
+    ensures { result ≡ stated_count share.now }
+{
+    let size = stated_size(share);
+    if size == 0 {
+        return 1;
+    }
+    blob_share_count(u64::from(size), is_signed(share))
+}
+
+/// The shares of the sequence that begins at a place, as many of them as there are.
+fn sequence_at(shares: &[Share], place: usize) -> &[Share]
+    ensures { result.now ≡ sequence_at shares.now place }
+{
+    if place >= shares.len() {
+        return &shares[..0];
+    }
+    let (_front, rest) = shares.split_at(place);
+    let count = stated_count(&rest[0]).min(rest.len() as u64);
+    rest.split_at(count as usize).0
+}
+
+/// The blob, where there is one and no other.
+fn the_one(blobs: Vec<Blob>) -> Option<Blob>
+    ensures { result ≡ the_one blobs.items }
+{
+    let mut blobs = blobs;
+    if blobs.len() != 1 {
+        return None;
+    }
+    blobs.pop()
+}
+
+/// The blob whose sequence begins at a place, if one does.
+fn blob_at(alloc: Global, shares: &[Share], place: u32) -> Result<Option<Blob>, NoMemory>
+    ensures { IfOk result (λ found. found ≡ blob_at shares.now place) }
+{
+    match join_blobs(alloc, sequence_at(shares, place as usize)) {
+        Ok(blobs) => Ok(the_one(blobs)),
+        Err(JoinError::NoMemory) => Err(NoMemory),
+        Err(_why) => Ok(None),
+    }
+}
+
+/// The blobs at the places of payment i.
+fn blobs_at(alloc: Global, shares: &[Share], i: u64, places: &[u32]) -> Result<Vec<Blob>, BackError>
+    ensures first { Answers result (places_refusal i 0 shares.now places.now) }
+    ensures blobs { IfOk result (λ blobs. blobs.items ≡ blobs_at shares.now places.now) }
+{
+    let mut blobs = Vec::new(alloc);
+    for (j, place) in places.iter().enumerate() {
+        let Ok(found) = blob_at(alloc, shares, *place) else {
+            return Err(BackError::NoMemory);
+        };
+        let Some(blob) = found else {
+            return Err(BackError::Index(i, j as u64));
+        };
+        let Ok(()) = blobs.push(blob) else {
+            return Err(BackError::NoMemory);
+        };
+    }
+    Ok(blobs)
+}
+
+// ---- payments
+
+/// Payment i, in its one spelling, which is this unit of the second front.
+fn payment_at(alloc: Global, shares: &[Share], i: u64, unit: &Unit) -> Result<Unit, BackError>
+    ensures first { Answers result (wrapper_refusal i shares.now unit.now) }
+    ensures payment { IfOk result (λ payment.
+        payment ≡ payment_spelling (payment_at shares.now unit.now)) }
+{
+    let Ok(found) = unwrapped(alloc, &unit.bytes) else {
+        return Err(BackError::NoMemory);
+    };
+    let Some(wrapper) = found else {
+        return Err(BackError::Wrapper(i));
+    };
+    let blobs = blobs_at(alloc, shares, i, &wrapper.places)?;
+    let Ok(payment) = spelled_payment(alloc, wrapper.tx, &blobs) else {
+        return Err(BackError::NoMemory);
+    };
+    Ok(payment)
+}
+
+/// Appends the payments, each in its one spelling, that these units of the second front are.
+fn push_payments(
+    alloc: Global,
+    shares: &[Share],
+    units: &[Unit],
+    out: &mut Vec<Unit>,
+) -> Result<(), BackError>
+    ensures first { Answers result (wrappers_refusal 0 shares.now units.now) }
+    ensures appended { OnOk result (out.new.items
+        ≡ out.old.items ++ map payment_spelling (map (payment_at shares.now) units.now)) }
+{
+    for (i, unit) in units.iter().enumerate() {
+        let payment = payment_at(alloc, shares, i as u64, unit)?;
+        let Ok(()) = out.push(payment) else {
+            return Err(BackError::NoMemory);
+        };
+    }
+    Ok(())
+}
+
+/// The transactions that a square is read as: the plain ones, and the payments in their one spelling.
+fn transactions_in(alloc: Global, square: &Square) -> Result<Vec<Unit>, BackError>
+    ensures first { Answers result (part_refusal square.now) }
+    ensures list { IfOk result (λ transactions. transactions.items ≡ spelled (back_list square.now)) }
+{
+    let (front, behind) = split_run(&square.shares, &TRANSACTION);
+    let (second, _rest) = split_run(behind, &PAY_FOR_BLOB);
+    let mut transactions = plain_units(alloc, front)?;
+    let payments = pay_units(alloc, second)?;
+    push_payments(alloc, &square.shares, &payments, &mut transactions)?;
+    Ok(transactions)
+}
+
+// ---- the square of the list
+
+/// The first share in which two squares differ.
+fn unlike_at(square: &Square, other: &Square) -> Option<u64>
+    ensures { result ≡ unlike_at square.now other.now }
+{
+    if square.k != other.k {
+        let k = u64::from(square.k.min(other.k));
+        return Some(k * k);
+    }
+    for i in 0..square.shares.len() {
+        if square.shares[i] != other.shares[i] {
+            return Some(i as u64);
+        }
+    }
+    None
+}
+
+/// Lays transactions out, and compares the square with this one.
+fn lay_again(alloc: Global, square: &Square, transactions: &[Unit]) -> Result<(), BackError>
+    ensures first { Answers result (laid_refusal square.now transactions.now) }
+    ensures named { OnOk result (HaveNamedBlobs transactions.now) }
+{
+    let list = match read_list(alloc, transactions) {
+        Ok(list) => list,
+        Err(ListError::NoMemory) => return Err(BackError::NoMemory),
+        Err(_why) => return Err(BackError::Unlike(0)),
+    };
+    payments_law(&list.payments);
+    let laid = match lay_list(alloc, &list) {
+        Ok(laid) => laid,
+        Err(ListError::NoMemory) => return Err(BackError::NoMemory),
+        Err(_why) => return Err(BackError::Unlike(0)),
+    };
+    match unlike_at(square, &laid) {
+        Some(at) => Err(BackError::Unlike(at)),
+        None => Ok(()),
+    }
+}
+
+/// The list of transactions that is laid out as a square (`lay_list`), in its one spelling: the plain transactions, and behind
+/// them the payments with their blobs.
+///
+/// Refuses, whatever memory there was, in this order: a first front that isn't units (`Units`), and a second one (`Payments`); of
+/// the payments in turn, one that isn't a transaction wrapped with the places of its blobs (`Wrapper`), and then its first place
+/// at which no blob begins (`Index`); a square other than that of the list which was so read (`Unlike`). Out of memory may come in
+/// place of any answer. Blobs are read once for each place at which a payment states one.
+///
+/// docs/RULES.md, "A block of the network"; Celestia specifications, "Square Layout".
+pub fn unlay_list(alloc: Global, square: &Square) -> Result<Vec<Unit>, BackError>
+    ensures first { Answers result (back_refusal square.now) }
+    ensures list { IfOk result (λ transactions. transactions.items ≡ spelled (back_list square.now)) }
+    ensures back { IfOk result (λ transactions. IsBack square.now transactions.items) }
+{
+    let transactions = transactions_in(alloc, square)?;
+    lay_again(alloc, square, &transactions)?;
+    Ok(transactions)
+}
