@@ -3,6 +3,8 @@
 #![tactic(auto)]
 
 #[cfg(test)]
+mod backs;
+#[cfg(test)]
 mod lists;
 #[cfg(test)]
 mod protobuf;

@@ -9,7 +9,7 @@ use std::process::Abort;
 use tx_list::{ListError, TxList, lay_list, places, read_list, spell_list};
 
 /// The namespace of version 0 with this number in its last two bytes.
-fn version_0(low: u16) -> Namespace {
+pub(crate) fn version_0(low: u16) -> Namespace {
     let mut bytes = [0; NAMESPACE_SIZE];
     bytes[27..].copy_from_slice(&low.to_be_bytes());
     Namespace(bytes)
@@ -31,12 +31,12 @@ fn blob(rt: &impl Abort, alloc: Global, id: &[u8], bytes: &[u8]) -> Vec<u8> {
 }
 
 /// A blob of one byte.
-fn small_blob(rt: &impl Abort, alloc: Global, low: u16) -> Vec<u8> {
+pub(crate) fn small_blob(rt: &impl Abort, alloc: Global, low: u16) -> Vec<u8> {
     blob(rt, alloc, &version_0(low).0[1..], &[7])
 }
 
 /// A payment of the transaction 5, 6 that carries these blobs.
-fn payment(rt: &impl Abort, alloc: Global, blobs: &[Vec<u8>]) -> Unit {
+pub(crate) fn payment(rt: &impl Abort, alloc: Global, blobs: &[Vec<u8>]) -> Unit {
     let mut bytes = Vec::new(alloc);
     put(rt, 1, &[5, 6], &mut bytes);
     for blob in blobs {
@@ -58,7 +58,7 @@ fn name<'a>(rt: &impl Abort, square: &'a Square, i: usize) -> &'a [u8] {
 }
 
 /// A plain transaction.
-fn plain(rt: &impl Abort, alloc: Global) -> Unit {
+pub(crate) fn plain(rt: &impl Abort, alloc: Global) -> Unit {
     let bytes = vec![in alloc; 9].expect(rt, "there is memory");
     Unit { bytes }
 }
