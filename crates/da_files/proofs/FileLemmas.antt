@@ -1,18 +1,22 @@
 -- Files that are one value's spelling, and the square of a block.
-use Rattle.std.proofs.Common.{◌≡◌, ◌∙◌, ◌↔◌, ℕ, List, [], ◌∷◌, Option, None, Some, IsSome, Result, Ok, Err, refl, ap}
+use Rattle.std.proofs.Common.{◌≡◌, ◌∙◌, ◌↔◌, ℕ, true, List, [], ◌∷◌, Option, None, Some, IsSome, Result, Ok, Err, refl, ap}
 use Rattle.std.specs.Option.{option_map_or}
 use Rattle.namespace_id.specs.Bytes.{AreBytes}
 use Rattle.namespace_id.specs.Shares.{AreShares}
 use Rattle.data_header.specs.Headers.{Roots, IsHeader}
-use Rattle.square_layout.specs.Blocks.{BlockParts, SquareShares, IsSquare, IsBlock}
+use Rattle.square_layout.specs.Blocks.{SquareShares, IsSquare}
 use Rattle.da_wire.specs.declared.frames.Frame.{Frame}
-use Rattle.da_wire.specs.declared.frames.Frame.TheVariants.{Header, Square, Block}
+use Rattle.da_wire.specs.declared.frames.Frame.TheVariants.{Header, Square}
+use Rattle.da_wire.specs.declared.frames.Frame.TheVariants as frames
 use Rattle.da_wire.specs.declared.frames.FrameError.{FrameError}
-use Rattle.da_wire.specs.Spelling.{spelling, header_kind, square_kind, block_kind}
-use Rattle.da_wire.specs.Reading.{only_of}
+use Rattle.da_wire.specs.Spelling.{spelling, IsFrame, header_kind, square_kind}
+use Rattle.da_wire.specs.Writing.{kind_of}
+use Rattle.da_wire.specs.Reading.{is_among, only_of}
 use Rattle.da_wire.specs.Laws.{OnlyIsSpelled, SpelledIsOnly}
-use Rattle.da_wire.specs.Single.{header_of, square_of, block_of}
-use Rattle.da_files.specs.Frames.{single, header_in, square_in, block_in}
+use Rattle.da_wire.specs.Single.{header_of, square_of}
+use Rattle.da_files.specs.declared.frames.BlockOrList.{BlockOrList}
+use Rattle.da_files.specs.declared.frames.BlockOrList.TheVariants as either
+use Rattle.da_files.specs.Frames.{single, header_in, square_in, block_kinds, block_or_list_of, block_or_list_frame, block_or_list_in}
 
 -- a frame whose value of a kind is this one is that value's frame
 header_frame : (frame : Frame) (header : Roots) → header_of frame ≡ Some header → frame ≡ Header header
@@ -23,11 +27,6 @@ header_frame frame header e = absurd cc
 square_frame : (frame : Frame) (square : SquareShares) → square_of frame ≡ Some square → frame ≡ Square square
 square_frame (Square s) square e = cc
 square_frame frame square e = absurd cc
-
--- a frame with this block is the frame of the block
-block_frame : (frame : Frame) (block : BlockParts) → block_of frame ≡ Some block → frame ≡ Block block
-block_frame (Block b) block e = cc
-block_frame frame block e = absurd cc
 
 module _ {A : Type 0} (value : Frame → Option A) (make : A → Frame) (is_made : (frame : Frame) (x : A) → value frame ≡ Some x → frame ≡ make x)
     (is_value : (x : A) → value (make x) ≡ Some x) where
@@ -66,14 +65,41 @@ square_file only bytes square fits =
       λ h. value_single square_of Square square_frame (λ x. refl) read square (law.1 ((h.0, h.1), h.2, refl)),
     )
 
--- a file is read as a block exactly where it is the block's one spelling
-pub block_file : OnlyIsSpelled → (bytes : List ℕ) (block : BlockParts) → AreBytes bytes
-    → (block_in bytes ≡ Ok block) ↔ (IsBlock block × (spelling (Block block) ≡ Some bytes))
-block_file only bytes block fits =
-    let read = only_of bytes (block_kind ∷ []) in
-    let law = only (Block block) bytes (block_kind ∷ []) fits in (
-      λ h. let is = law.0 (single_value block_of Block block_frame (λ x. refl) read block h) in (is.0, is.1),
-      λ h. value_single block_of Block block_frame (λ x. refl) read block (law.1 (h.0, h.1, refl)),
+-- ---- a block, or a list of transactions
+
+-- a frame of one of their kinds is one of theirs
+pub block_or_list_there : (frame : Frame) → is_among block_kinds (kind_of frame) ≡ true → IsSome (block_or_list_of frame)
+block_or_list_there (frames.Block block) e = refl
+block_or_list_there (frames.Transactions transactions) e = refl
+block_or_list_there frame e = absurd cc
+
+-- a frame that is one is its frame
+block_or_list_made : (frame : Frame) (value : BlockOrList) → block_or_list_of frame ≡ Some value → frame ≡ block_or_list_frame value
+block_or_list_made (frames.Block block) value e = let same : either.Block block ≡ value = cc in ap block_or_list_frame same
+block_or_list_made (frames.Transactions transactions) value e =
+    let same : either.Transactions transactions ≡ value = cc in ap block_or_list_frame same
+block_or_list_made frame value e = absurd cc
+
+-- the frame of one is read as it
+block_or_list_again : (value : BlockOrList) → block_or_list_of (block_or_list_frame value) ≡ Some value
+block_or_list_again (either.Block block) = refl
+block_or_list_again (either.Transactions transactions) = refl
+
+-- it is of one of their kinds
+block_or_list_kind : (value : BlockOrList) → is_among block_kinds (kind_of (block_or_list_frame value)) ≡ true
+block_or_list_kind (either.Block block) = refl
+block_or_list_kind (either.Transactions transactions) = refl
+
+-- a file is read as a block or a list of transactions exactly where it is its one spelling
+pub block_or_list_file : OnlyIsSpelled → (bytes : List ℕ) (value : BlockOrList) → AreBytes bytes
+    → (block_or_list_in bytes ≡ Ok value)
+    ↔ (IsFrame (block_or_list_frame value) × (spelling (block_or_list_frame value) ≡ Some bytes))
+block_or_list_file only bytes value fits =
+    let read = only_of bytes block_kinds in
+    let law = only (block_or_list_frame value) bytes block_kinds fits in (
+      λ h. let is = law.0 (single_value block_or_list_of block_or_list_frame block_or_list_made block_or_list_again read value h) in (is.0, is.1),
+      λ h. value_single block_or_list_of block_or_list_frame block_or_list_made block_or_list_again read value
+          (law.1 (h.0, h.1, block_or_list_kind value)),
     )
 
 -- the value of an option that has one

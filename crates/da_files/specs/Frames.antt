@@ -5,13 +5,16 @@ use Rattle.std.specs.Option.{option_map_or}
 use Rattle.data_header.specs.Headers.{Roots}
 use Rattle.square_layout.specs.Blocks.{BlockParts, SquareShares}
 use Rattle.da_wire.specs.declared.frames.Frame.{Frame}
+use Rattle.da_wire.specs.declared.frames.Frame.TheVariants as frames
 use Rattle.axis_roots.specs.declared.message.messages.Message as sent
 use Rattle.da_wire.specs.declared.frames.FrameError.{FrameError}
 use Rattle.da_wire.specs.declared.frames.FrameError.TheVariants.{Truncated, BadKind, TooLong, BadPayload, Trailing, NoMemory}
-use Rattle.da_wire.specs.Spelling.{spelling, header_kind, square_kind, message_kind, block_kind}
+use Rattle.da_wire.specs.Spelling.{spelling, header_kind, square_kind, message_kind, block_kind, transactions_kind}
 use Rattle.da_wire.specs.Reading.{only_of}
 use Rattle.da_wire.specs.Streams.{offset_of}
 use Rattle.da_wire.specs.Single.{header_of, square_of, message_of, block_of}
+use Rattle.da_files.specs.declared.frames.BlockOrList.{BlockOrList}
+use Rattle.da_files.specs.declared.frames.BlockOrList.TheVariants.{Block, Transactions}
 use Rattle.da_files.specs.declared.frames.Unread.{Unread}
 use Rattle.da_files.specs.declared.frames.Unread.TheVariants as unread
 use Rattle.da_status.specs.declared.status.Status.{Status}
@@ -38,6 +41,25 @@ message_in bytes = single message_of (only_of bytes (message_kind ∷ []))
 -- the block that a file is, or where it stops being a frame of one
 abbrev pub block_in : List ℕ → Result BlockParts ℕ
 block_in bytes = single block_of (only_of bytes (block_kind ∷ []))
+
+-- the kinds of frames of what is laid out as a square
+abbrev pub block_kinds : List ℕ
+block_kinds = block_kind ∷ transactions_kind ∷ []
+
+-- the block or the list of transactions that a frame is
+abbrev pub block_or_list_of : Frame → Option BlockOrList
+block_or_list_of (frames.Block block) = Some (Block block)
+block_or_list_of (frames.Transactions transactions) = Some (Transactions transactions)
+block_or_list_of frame = None
+
+-- the frame of a block or of a list of transactions
+abbrev pub block_or_list_frame : BlockOrList → Frame
+block_or_list_frame (Block block) = frames.Block block
+block_or_list_frame (Transactions transactions) = frames.Transactions transactions
+
+-- the block or the list of transactions that a file is, or where it stops being a frame of one
+abbrev pub block_or_list_in : List ℕ → Result BlockOrList ℕ
+block_or_list_in bytes = single block_or_list_of (only_of bytes block_kinds)
 
 -- why a file isn't one frame, by the refusal of the frame
 abbrev pub unread_of : FrameError → Unread

@@ -3,15 +3,15 @@
 
 ghost use Rattle.std.specs.Prelude.{◌≡◌, Ok, IfOk};
 ghost use Rattle.da_files.specs.Contents.{contents_of, file_of};
-ghost use Rattle.da_files.specs.Frames.{header_in, square_in, block_in};
+ghost use Rattle.da_files.specs.Frames.{header_in, square_in, block_or_list_in};
 ghost use Rattle.da_files.specs.Forms.{single_judged, messages_judged, requests_judged, IsJudged};
 
 use crate::contents::file;
-use crate::frames::{Unread, block_in, header_in, square_in};
+use crate::frames::{BlockOrList, Unread, block_or_list_in, header_in, square_in};
 use da_status::Status;
 use da_wire::{bad_frame, bad_value};
 use data_header::Header;
-use square_layout::{Block, Square};
+use square_layout::Square;
 use std::alloc::Global;
 
 /// HEADER: a header.
@@ -40,13 +40,13 @@ pub fn one_square(alloc: Global, files: &[Vec<u8>]) -> Result<Square, Status>
     }
 }
 
-/// BLOCK: a block.
-pub fn one_block(alloc: Global, files: &[Vec<u8>]) -> Result<Block, Status>
-    ensures judged { IsJudged (single_judged block_in (contents_of files.now)) result }
+/// BLOCK: a block, or a list of transactions.
+pub fn one_block(alloc: Global, files: &[Vec<u8>]) -> Result<BlockOrList, Status>
+    ensures judged { IsJudged (single_judged block_or_list_in (contents_of files.now)) result }
     ensures block { IfOk result (λ block.
-        block_in (file_of (contents_of files.now) 0) ≡ Ok block) }
+        block_or_list_in (file_of (contents_of files.now) 0) ≡ Ok block) }
 {
-    match block_in(alloc, file(files, 0)) {
+    match block_or_list_in(alloc, file(files, 0)) {
         Ok(block) => Ok(block),
         Err(Unread::BadForm(at)) => Err(Status::BadInput(0, at)),
         Err(Unread::NoMemory) => Err(Status::NoMemory),

@@ -6,19 +6,20 @@ ghost use Rattle.frame_payloads.specs.kinds.Clash.{has_empty};
 ghost use Rattle.da_wire.specs.Spelling.{spelling};
 ghost use Rattle.da_wire.specs.declared.frames.Frame.TheVariants as FrameOf;
 ghost use Rattle.da_status.specs.Statuses.{kind_of, output};
-ghost use Rattle.da_files.specs.Frames.{header_in, square_in, message_in, block_in, unread_of, ReadsSingle, Writes, WritesText, WritesWith};
+ghost use Rattle.da_files.specs.Frames.{header_in, square_in, message_in, block_in, block_or_list_of, block_or_list_in, unread_of, ReadsSingle, Writes, WritesText, WritesWith};
 ghost use Rattle.da_status.specs.Outcome.{EndsAtOnce};
 
 use axis_roots::{FraudClaim, Message, claim_law};
 use da_io::{Sink, write_all};
 use da_status::Status;
 use da_wire::{
-    Frame, FrameError, SpellError, read_block, read_header, read_message, read_square, value_laws,
-    wire_laws, write_frame,
+    Frame, FrameError, SpellError, read_block, read_header, read_message, read_only, read_square,
+    value_laws, wire_laws, write_frame,
 };
 use data_header::Header;
+use frame_payloads::UnitList;
 use hash_clash::Clash;
-use namespace_id::{Cells, shares_law};
+use namespace_id::{Cells, bytes_law, shares_law};
 use square_layout::{Block, Square};
 use std::alloc::Global;
 
@@ -28,6 +29,15 @@ pub enum Unread {
     BadForm(u64),
     /// There was no memory for what it is.
     NoMemory,
+}
+
+/// What is laid out as a square: a block, or a list of transactions, as the nodes of the network give it.
+#[derive(Drop)]
+pub enum BlockOrList {
+    /// V: a block.
+    Block(Block),
+    /// T: a list of transactions.
+    Transactions(UnitList),
 }
 
 /// Why bytes are not one frame.
@@ -87,6 +97,32 @@ pub fn block_in(alloc: Global, bytes: &[u8]) -> Result<Block, Unread>
 {
     match read_block(alloc, bytes) {
         Ok(block) => Ok(block),
+        Err(error) => Err(reason(error)),
+    }
+}
+
+/// The block or the list of transactions that a frame is, none of a frame of another kind.
+fn block_or_list_of(frame: Frame) -> Option<BlockOrList>
+    ensures { result ≡ block_or_list_of frame }
+{
+    match frame {
+        Frame::Block(block) => Some(BlockOrList::Block(block)),
+        Frame::Transactions(transactions) => Some(BlockOrList::Transactions(transactions)),
+        _ => None,
+    }
+}
+
+/// The block or the list of transactions that a file is.
+pub fn block_or_list_in(alloc: Global, bytes: &[u8]) -> Result<BlockOrList, Unread>
+    ensures { ReadsSingle result (block_or_list_in bytes.now) }
+{
+    wire_laws();
+    bytes_law(bytes);
+    match read_only(alloc, bytes, b"VT") {
+        Ok(frame) => match block_or_list_of(frame) {
+            Some(value) => Ok(value),
+            None => Err(Unread::BadForm(0)),
+        },
         Err(error) => Err(reason(error)),
     }
 }

@@ -2,7 +2,7 @@
 //!
 //! `forms` has the shapes of files, by which they are judged, `frames` files and outputs that are one frame,
 //! `requests` a list of requests for namespaces, `lines` the line of a hash. What is read here the commands of
-//! `da_serving` and `da_judging` share.
+//! `da_serving`, `da_judging` and `da_following` share.
 #![tactic(auto)]
 
 mod contents;
@@ -14,8 +14,8 @@ mod requests;
 pub use contents::file;
 pub use forms::{header_and_messages, one_block, one_header, one_square, square_and_requests};
 pub use frames::{
-    Unread, block_in, claim_frame, clash_frame, give, give_with, header_in, is_long, message_in,
-    missing_frame, put, reason, square_frame, square_in,
+    BlockOrList, Unread, block_in, block_or_list_in, claim_frame, clash_frame, give, give_with,
+    header_in, is_long, message_in, missing_frame, put, reason, square_frame, square_in,
 };
 pub use lines::hash_line;
 pub use requests::next_name;
