@@ -1,39 +1,124 @@
 -- What the command build answers.
-use Rattle.std.proofs.Common.{◌≡◌, ◌∙◌, ℕ, List, Some, None, sym, ap, subst}
+use Rattle.std.proofs.Common.{◌≡◌, ◌∙◌, ℕ, List, Some, None, Result, ◌⊎◌, inl, inr, refl, sym, ap, subst}
 use Rattle.std.specs.Prelude.{MatchOption}
 use Rattle.std.specs.declared.option.Option.{Option}
-use Rattle.square_layout.specs.declared.laying.LayError.{LayError}
+use Rattle.std.specs.Option.{option_or}
 use Rattle.square_layout.specs.Blocks.{BlockParts, SquareShares}
 use Rattle.square_layout.specs.Layout.{square_of}
 use Rattle.square_layout.specs.Refusals.{layout_refusal}
+use Rattle.tx_list.specs.declared.refusals.ListError.{ListError}
+use Rattle.tx_list.specs.declared.refusals.ListError.TheVariants.{NoMemory}
+use Rattle.tx_list.specs.Payments.{ListParts}
+use Rattle.tx_list.specs.Reads.{list_of}
+use Rattle.tx_list.specs.Lists.{square_of_list}
+use Rattle.tx_list.specs.ReadRefusals.{read_refusal}
+use Rattle.tx_list.specs.Refusals.{size_refusal, Answers, RefusesFirst}
 use Rattle.da_wire.specs.declared.frames.Frame.{Frame}
 use Rattle.da_wire.specs.declared.frames.Frame.TheVariants.{Square}
 use Rattle.da_wire.specs.Spelling.{spelling}
 use Rattle.da_status.specs.declared.status.Status.{Status}
-use Rattle.da_status.specs.declared.status.Status.TheVariants.{BadBlock}
+use Rattle.da_status.specs.declared.status.Status.TheVariants.{Done, BadBlock, BadList}
 use Rattle.da_status.specs.Statuses.{kind_of}
-use Rattle.da_status.specs.Outcome.{Refuses}
-use Rattle.da_files.specs.Frames.{block_in, Writes}
-use Rattle.da_serving.specs.Build.{block_file, Builds, BuildOf}
+use Rattle.da_status.specs.Outcome.{Relation, Refuses}
+use Rattle.da_files.specs.declared.frames.BlockOrList.{BlockOrList}
+use Rattle.da_files.specs.declared.frames.BlockOrList.TheVariants.{Block, Transactions}
+use Rattle.da_files.specs.Frames.{block_or_list_in, Writes}
+use Rattle.da_serving.specs.Build.{block_file, Builds, list_refusal, BuildsList, BuildsEither, BuildOf}
 use Rattle.da_status.proofs.EndLemmas.{IsAnswer, status_answers}
 use Rattle.da_files.proofs.FormLemmas.{over_each}
 
--- what build writes for a block, or refuses it with, is an answer
-by_refusal : (o : Option LayError) (frame : Frame) (w : List ℕ) (status : Status)
-    → MatchOption o (Writes frame w status) (λ why. Refuses (BadBlock why) w status) → IsAnswer (kind_of status)
-by_refusal None frame w status h = status_answers status _ h.1 tt
-by_refusal (Some why) frame w status h = status_answers status _ h.1 tt
+-- ---- what is written, or refused
 
--- what build answers to its files is an answer
-pub build_answers : (files : List (List ℕ)) (w : List ℕ) (status : Status) → BuildOf files w status → IsAnswer (kind_of status)
-build_answers files w status h =
-    over_each Builds (block_in (block_file files)) w status (IsAnswer (kind_of status))
-    (λ block. by_refusal (layout_refusal block) (Square (square_of block)) w status) h
+module _ {E : Type 0} (refused : E → Status) where
+  -- what is written with a complete output, or what is refused
+  abbrev pub written_or : Relation → Option E → Relation
+  written_or Written o w status = MatchOption o (Written w status) (λ why. Refuses (refused why) w status)
+
+  -- where nothing is refused it is what is written
+  pub written_for : (Written : Relation) (o : Option E) → o ≡ None → (w : List ℕ) (status : Status) → Written w status → written_or Written o w status
+  written_for Written o fine w status h = subst (λ (x : Option E). written_or Written x w status) (sym fine) h
+
+  -- either is an answer
+  pub written_answers : ((why : E) → IsAnswer (kind_of (refused why))) → (Fact : List ℕ → Type 0) (o : Option E) (w : List ℕ) (status : Status)
+      → written_or (λ v s. Fact v × (s ≡ Done)) o w status → IsAnswer (kind_of status)
+  written_answers answers Fact None w status h = status_answers status Done h.1 tt
+  written_answers answers Fact (Some why) w status h = status_answers status (refused why) h.1 (answers why)
+
+-- the frame of a square is what is written of one that is the same
+square_written : (made square : SquareShares) (frame : Frame) → made ≡ square → frame ≡ Square made → (w : List ℕ) (status : Status)
+    → Writes frame w status → Writes (Square square) w status
+square_written made square frame same is w status gives = (ap spelling (sym (is ∙ ap Square same)) ∙ gives.0, gives.1)
 
 -- the frame of the square of a block without a refusal
 pub builds_square : (block : BlockParts) (square : SquareShares) (frame : Frame) → layout_refusal block ≡ None → square ≡ square_of block
     → frame ≡ Square square → (w : List ℕ) (status : Status) → Writes frame w status → Builds block w status
 builds_square block square frame fine laid is w status gives =
-    let same : frame ≡ Square (square_of block) = is ∙ ap Square laid in
-    subst (λ (o : Option LayError). MatchOption o (Writes (Square (square_of block)) w status) (λ why. Refuses (BadBlock why) w status))
-    (sym fine) (ap spelling (sym same) ∙ gives.0, gives.1)
+    written_for BadBlock (Writes (Square (square_of block))) (layout_refusal block) fine w status
+    (square_written square (square_of block) frame laid is w status gives)
+
+-- ---- lists of transactions
+
+-- of two refusals the second is none where there is none
+later_none : (a b : Option ListError) → option_or a b ≡ None → b ≡ None
+later_none None b e = e
+later_none (Some why) b e = absurd cc
+
+-- nor is the first
+first_none : (a b : Option ListError) → option_or a b ≡ None → a ≡ None
+first_none None b e = refl
+first_none (Some why) b e = absurd cc
+
+-- transactions without a refusal are read, and not refused for their size
+pub both_fine : (transactions : List (List ℕ)) → list_refusal transactions ≡ None
+    → (read_refusal transactions ≡ None) × (size_refusal (list_of transactions) ≡ None)
+both_fine transactions fine = (
+  first_none (read_refusal transactions) (size_refusal (list_of transactions)) fine,
+  later_none (read_refusal transactions) (size_refusal (list_of transactions)) fine,
+)
+
+-- a list that isn't read is refused for that, or for want of memory
+pub read_refused : (transactions : List (List ℕ)) (e : ListError)
+    → (read_refusal transactions ≡ Some e) ⊎ ((read_refusal transactions ≡ None) × (e ≡ NoMemory))
+    → (e ≡ NoMemory) ⊎ (list_refusal transactions ≡ Some e)
+read_refused transactions e (inl is) = inr (ap (λ (o : Option ListError). option_or o (size_refusal (list_of transactions))) is)
+read_refused transactions e (inr full) = inl full.1
+
+-- one that is read is refused for its size, or not at all
+pub read_whole : (transactions : List (List ℕ)) (list : ListParts) → read_refusal transactions ≡ None → list ≡ list_of transactions
+    → list_refusal transactions ≡ size_refusal list
+read_whole transactions list fine is =
+    ap (λ (o : Option ListError). option_or o (size_refusal (list_of transactions))) fine ∙ ap size_refusal (sym is)
+
+-- so one without a refusal isn't refused for its size
+pub whole_fits : (transactions : List (List ℕ)) (list : ListParts) → list_refusal transactions ≡ None → list ≡ list_of transactions
+    → size_refusal list ≡ None
+whole_fits transactions list fine is = ap size_refusal is ∙ later_none (read_refusal transactions) (size_refusal (list_of transactions)) fine
+
+-- what a call answers to one that was read is what it answers to the transactions
+pub read_answers : {X : Type 0} (transactions : List (List ℕ)) (list : ListParts) (result : Result X ListError) → read_refusal transactions ≡ None
+    → list ≡ list_of transactions → Answers result (size_refusal list) → Answers result (list_refusal transactions)
+read_answers transactions list result fine is h =
+    subst (λ (o : Option ListError). Answers result o) (sym (read_whole transactions list fine is)) h
+
+-- the frame of the square of a list without a refusal
+pub builds_list : (transactions : List (List ℕ)) (square : SquareShares) (frame : Frame) → list_refusal transactions ≡ None
+    → square ≡ square_of_list (list_of transactions) → frame ≡ Square square → (w : List ℕ) (status : Status) → Writes frame w status
+    → BuildsList transactions w status
+builds_list transactions square frame fine laid is w status gives =
+    written_for BadList (Writes (Square (square_of_list (list_of transactions)))) (list_refusal transactions) fine w status
+    (square_written square (square_of_list (list_of transactions)) frame laid is w status gives)
+
+-- ---- what build answers to its files
+
+-- what is answered to either is an answer
+either_answers : (block : BlockOrList) (w : List ℕ) (status : Status) → BuildsEither block w status → IsAnswer (kind_of status)
+either_answers (Block block) w status h =
+    written_answers BadBlock (λ why. tt) (λ v. spelling (Square (square_of block)) ≡ Some v) (layout_refusal block) w status h
+either_answers (Transactions transactions) w status h =
+    written_answers BadList (λ why. tt) (λ v. spelling (Square (square_of_list (list_of transactions))) ≡ Some v)
+    (list_refusal transactions) w status h
+
+-- what build answers to its files is an answer
+pub build_answers : (files : List (List ℕ)) (w : List ℕ) (status : Status) → BuildOf files w status → IsAnswer (kind_of status)
+build_answers files w status h =
+    over_each BuildsEither (block_or_list_in (block_file files)) w status (IsAnswer (kind_of status)) (λ block. either_answers block w status) h

@@ -1,6 +1,6 @@
 -- What the command commit answers.
-use Rattle.std.proofs.Common.{◌≡◌, ◌∙◌, ℕ, suc, ◌≤◌, Bool, true, false, cond, List, [], ◌∷◌, ◌++◌, length, filter, Some, None, refl, sym, ap, subst, inl, inr, arith}
-use Rattle.std.specs.Prelude.{MatchOption, ◌==◌}
+use Rattle.std.proofs.Common.{◌≡◌, ◌∙◌, ℕ, suc, ◌≤◌, min, ltb-false, Bool, true, false, cond, List, [], ◌∷◌, ◌++◌, length, filter, Some, None, refl, sym, ap, subst, inl, inr, arith}
+use Rattle.std.specs.Prelude.{◌==◌, nat_lt}
 use Rattle.std.specs.declared.option.Option.{Option}
 use Rattle.std.specs.Option.{option_or}
 use Rattle.std.specs.List.{AllByRecursion}
@@ -16,42 +16,53 @@ use Rattle.square_layout.specs.declared.laying.LayError.{LayError}
 use Rattle.square_layout.specs.declared.laying.LayError.TheVariants.{EmptyBlob}
 use Rattle.square_layout.specs.Blocks.{BlockParts, IsSquare}
 use Rattle.square_layout.specs.Layout.{has_name, in_order, share_count_of, start_after, end_of, compact_end, needed, square_of}
-use Rattle.square_layout.specs.Refusals.{max_shares, bad_blob, empty_blob, blob_refusal, size_refusal, layout_refusal}
+use Rattle.square_layout.specs.Plans.{blobs_bound}
+use Rattle.tx_list.specs.declared.refusals.ListError as lists
+use Rattle.tx_list.specs.declared.refusals.ListError.TheVariants.{TooLarge}
+use Rattle.tx_list.specs.Payments.{PaymentParts, ListParts, IsPayment, IsLayable, blobs_of}
+use Rattle.tx_list.specs.Reserves.{list_reserve, list_bound}
+use Rattle.tx_list.specs.Refusals as sizes
+use Rattle.square_layout.specs.Refusals.{max_shares, max_count, bad_blob, empty_blob, blob_refusal, size_refusal, layout_refusal}
 use Rattle.blob_commit.specs.Proofs.{is_range}
 use Rattle.blob_commit.proofs.WidthLemmas.{square_bound}
 use Rattle.blob_commit.proofs.CommitOwnLemmas.{range_parts}
 use Rattle.da_status.specs.declared.status.Status.{Status}
-use Rattle.da_status.specs.declared.status.Status.TheVariants.{Done, BadBlock}
+use Rattle.da_status.specs.declared.status.Status.TheVariants.{Done, BadBlock, BadList}
 use Rattle.da_status.specs.Statuses.{kind_of}
-use Rattle.da_status.specs.Outcome.{Relation, Refuses}
-use Rattle.da_files.specs.Frames.{block_in, WritesText}
-use Rattle.da_serving.specs.Build.{block_file}
-use Rattle.da_serving.specs.Commit.{commitment_lines, Commits, CommitOf}
-use Rattle.da_status.proofs.EndLemmas.{IsAnswer, status_answers}
+use Rattle.da_files.specs.declared.frames.BlockOrList.{BlockOrList}
+use Rattle.da_files.specs.declared.frames.BlockOrList.TheVariants.{Block, Transactions}
+use Rattle.da_files.specs.Frames.{block_or_list_in, WritesText}
+use Rattle.da_serving.specs.Build.{block_file, list_refusal}
+use Rattle.da_serving.specs.Commit.{commitment_lines, Commits, list_lines, CommitsList, CommitsEither, CommitOf}
+use Rattle.da_status.proofs.EndLemmas.{IsAnswer}
 use Rattle.da_files.proofs.FormLemmas.{over_each}
+use Rattle.da_serving.proofs.BuildLemmas.{written_for, written_answers}
 
 -- ---- answers
-
--- what is written for a block, or it is refused with
-abbrev commits_by : List ℕ → Option LayError → Relation
-commits_by text o w status = MatchOption o (WritesText Done text w status) (λ why. Refuses (BadBlock why) w status)
-
--- this is an answer
-by_refusal : (text : List ℕ) (o : Option LayError) (w : List ℕ) (status : Status) → commits_by text o w status → IsAnswer (kind_of status)
-by_refusal text None w status h = status_answers status _ h.1 tt
-by_refusal text (Some why) w status h = status_answers status _ h.1 tt
 
 -- the lines of a block without a refusal
 pub commits_lines : (block : BlockParts) → layout_refusal block ≡ None → (w : List ℕ) (status : Status)
     → WritesText Done (commitment_lines block.blobs) w status → Commits block w status
 commits_lines block fine w status gives =
-    subst (λ (o : Option LayError). commits_by (commitment_lines block.blobs) o w status) (sym fine) gives
+    written_for BadBlock (WritesText Done (commitment_lines block.blobs)) (layout_refusal block) fine w status gives
+
+-- those of a list without one
+pub commits_list : (transactions : List (List ℕ)) → list_refusal transactions ≡ None → (w : List ℕ) (status : Status)
+    → WritesText Done (list_lines transactions) w status → CommitsList transactions w status
+commits_list transactions fine w status gives =
+    written_for BadList (WritesText Done (list_lines transactions)) (list_refusal transactions) fine w status gives
+
+-- what is answered to either is an answer
+either_answers : (block : BlockOrList) (w : List ℕ) (status : Status) → CommitsEither block w status → IsAnswer (kind_of status)
+either_answers (Block block) w status h =
+    written_answers BadBlock (λ why. tt) (λ v. v ≡ commitment_lines block.blobs) (layout_refusal block) w status h
+either_answers (Transactions transactions) w status h =
+    written_answers BadList (λ why. tt) (λ v. v ≡ list_lines transactions) (list_refusal transactions) w status h
 
 -- what commit answers to its files is an answer
 pub commit_answers : (files : List (List ℕ)) (w : List ℕ) (status : Status) → CommitOf files w status → IsAnswer (kind_of status)
 commit_answers files w status h =
-    over_each Commits (block_in (block_file files)) w status (IsAnswer (kind_of status))
-    (λ block. by_refusal (commitment_lines block.blobs) (layout_refusal block) w status) h
+    over_each CommitsEither (block_or_list_in (block_file files)) w status (IsAnswer (kind_of status)) (λ block. either_answers block w status) h
 
 -- ---- one of several blobs is one of them in order
 
@@ -168,3 +179,46 @@ laid_blobs block stable whole ranges fine =
     let there = ordered blobs before after blob stable e in
     range_few (square_of block).k _ (share_count_of blob) whole.width (ranges there.0 there.1 blob there.2)) in
     each-both HasByte (λ (blob : NamedBytes). share_count_of blob ≤ max_shares) blobs (have_bytes 0 blobs sized) few
+
+-- ---- the blobs of a list that isn't refused
+
+-- a size that isn't refused is within the limit
+size_fits : (count : ℕ) (b : Bool) (why : lists.ListError) → nat_lt max_shares count ≡ b → cond b (Some why) None ≡ None → count ≤ max_shares
+size_fits count true why is e = absurd cc
+size_fits count false why is e = ltb-false max_shares count is
+
+-- a list that isn't refused for its size has blobs that may take no more shares than the greatest square
+list_fits : (list : ListParts) → sizes.size_refusal list ≡ None → blobs_bound (blobs_of list.payments) ≤ max_shares
+list_fits list fine =
+    omega (arith, size_fits (list_bound list) (nat_lt max_shares (list_bound list)) (TooLarge (min (list_bound list) max_count)) refl fine)
+
+-- blobs take no more shares than they may take together
+bound_each : (blobs : List NamedBytes) → blobs_bound blobs ≤ max_shares → AllByRecursion (λ (blob : NamedBytes). share_count_of blob ≤ max_shares) blobs
+unfolding blobs_bound
+bound_each [] h = tt
+bound_each (blob ∷ blobs) h = (omega (arith, h), bound_each blobs (omega (arith, h)))
+
+-- what holds of all elements of two lists holds of those of each
+front_each : {A : Type 0} (P : A → Type 0) (xs ys : List A) → AllByRecursion P (xs ++ ys) → AllByRecursion P xs × AllByRecursion P ys
+front_each P [] ys h = (tt, h)
+front_each P (x ∷ xs) ys h = let later = front_each P xs ys h.1 in ((h.0, later.0), later.1)
+
+-- blobs that can be laid out have bytes
+layable_bytes : (blobs : List NamedBytes) → AllByRecursion IsLayable blobs → AllByRecursion HasByte blobs
+layable_bytes [] h = tt
+layable_bytes (blob ∷ blobs) h = (h.0.some, layable_bytes blobs h.1)
+
+-- payments of such blobs, none of which takes more shares than the greatest square
+payments_each : (payments : List PaymentParts) → AllByRecursion IsPayment payments
+    → AllByRecursion (λ (blob : NamedBytes). share_count_of blob ≤ max_shares) (blobs_of payments)
+    → AllByRecursion (λ (payment : PaymentParts). AllByRecursion IsLaid payment.blobs) payments
+payments_each [] are few = tt
+payments_each (payment ∷ payments) are few =
+    let Few = λ (blob : NamedBytes). share_count_of blob ≤ max_shares in
+    let parts = front_each Few payment.blobs (blobs_of payments) few in
+    (each-both HasByte Few payment.blobs (layable_bytes payment.blobs are.0.blobs) parts.0, payments_each payments are.1 parts.1)
+
+-- such are those of a list that isn't refused for its size
+pub laid_payments : (list : ListParts) → AllByRecursion IsPayment list.payments → sizes.size_refusal list ≡ None
+    → AllByRecursion (λ (payment : PaymentParts). AllByRecursion IsLaid payment.blobs) list.payments
+laid_payments list are fine = payments_each list.payments are (bound_each (blobs_of list.payments) (list_fits list fine))

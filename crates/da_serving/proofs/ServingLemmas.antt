@@ -14,7 +14,7 @@ use Rattle.axis_roots.specs.Grids.{IsHeaderOf, HasNoHeader}
 use Rattle.da_wire.specs.declared.frames.Frame.{Frame}
 use Rattle.da_wire.specs.Spelling.{spelling}
 use Rattle.da_status.specs.declared.status.Status.{Status}
-use Rattle.da_status.specs.declared.status.Status.TheVariants.{Done, Usage, PickFault, ReadFault, WriteFault, NoMemory, BadInput, TooLong, BadBlock, BadRequest, Fraud, Missing, Clash, Refused, Waiting}
+use Rattle.da_status.specs.declared.status.Status.TheVariants.{Done, Usage, PickFault, ReadFault, WriteFault, NoMemory, BadInput, TooLong, BadBlock, BadList, BadRequest, Fraud, Missing, Clash, Refused, Waiting}
 use Rattle.da_status.specs.declared.status.Asked.TheVariants.{NoHeader, At}
 use Rattle.da_status.specs.Statuses.{kind_of}
 use Rattle.da_serving.specs.Choices.{FramesOf, HasFrame}
@@ -120,6 +120,7 @@ module _ {A : Type 0} (Allows : A → Frame → Type 0) where
     served_stopped counted same spelled SameText (TooLong i) failed ends = absurd ends.own
     served_stopped counted same spelled SameText (BadInput i at) failed ends = absurd (failed ends.leaves.1.1)
     served_stopped counted same spelled SameText (BadBlock why) failed ends = absurd (failed ends.leaves.1.1)
+    served_stopped counted same spelled SameText (BadList why) failed ends = absurd (failed ends.leaves.1.1)
     served_stopped counted same spelled SameText (BadRequest why) failed ends = absurd (failed ends.leaves.1.1)
     served_stopped counted same spelled SameText (Fraud axis i) failed ends = absurd (failed ends.leaves.1.1)
     served_stopped counted same spelled SameText (Missing cells lies) failed ends = absurd (failed ends.leaves.1.1)

@@ -1,25 +1,30 @@
-//! commit BLOCK: the commitments of a block's blobs.
+//! commit BLOCK: the commitments of the blobs of a block, or of a list of transactions.
 
 ghost use Rattle.std.specs.Prelude.{◌≡◌, ◌≤◌, ◌++◌, length, None, IfOk, OnOk};
 ghost use Rattle.std.specs.List.{AllByRecursion};
 ghost use Rattle.square_layout.specs.Layout.{share_count_of};
 ghost use Rattle.square_layout.specs.Refusals.{max_shares, layout_refusal, Answers};
+ghost use Rattle.tx_list.specs.Payments.{blobs_of};
+ghost use Rattle.tx_list.specs.Reads.{list_of};
+ghost use Rattle.tx_list.specs.Refusals as lists;
 ghost use Rattle.da_files.specs.Contents.{contents_of};
-ghost use Rattle.da_files.specs.Frames.{WritesText, block_in};
-ghost use Rattle.da_serving.specs.Commit.{commitment_of, commitment_line, commitment_lines, Commits, CommitOf};
+ghost use Rattle.da_files.specs.Frames.{WritesText, block_or_list_in};
+ghost use Rattle.da_serving.specs.Build.{list_refusal};
+ghost use Rattle.da_serving.specs.Commit.{commitment_of, commitment_line, commitment_lines, Commits, CommitsList, CommitsEither, CommitOf};
 ghost use Rattle.da_files.specs.Forms.{single_judged};
 ghost use Rattle.da_status.specs.Judging.{Judged};
 ghost use Rattle.da_status.specs.declared.status.Status.TheVariants as StatusOf;
 ghost use Rattle.da_status.specs.Outcome.{EndsAtOnce};
 
 use blob_commit::{CommitError, commitment_of, range_laws};
-use da_files::{hash_line, one_block, put};
+use da_files::{BlockOrList, hash_line, one_block, put};
 use da_io::Sink;
 use da_status::Status;
 use namespace_id::NoMemory;
-use share_split::Blob;
+use share_split::{Blob, Unit};
 use square_layout::{Block, LayError, lay, order_laws, size_laws};
 use std::alloc::Global;
+use tx_list::{ListError, Payment, TxList, places, read_list};
 
 /// The commitment of a blob that has bytes, and no more shares than the greatest square.
 fn commitment_in(alloc: Global, blob: &Blob) -> Result<[u8; 32], NoMemory>
@@ -50,16 +55,41 @@ fn put_line(alloc: Global, blob: &Blob, text: &mut Vec<u8>) -> Result<(), NoMemo
     }
 }
 
-/// The lines of such blobs, in their order.
+/// Appends the lines of such blobs, in their order.
+fn put_lines(alloc: Global, blobs: &[Blob], text: &mut Vec<u8>) -> Result<(), NoMemory>
+    requires { AllByRecursion (λ blob.
+        (1 ≤ length blob.bytes) × (share_count_of blob ≤ max_shares)) blobs.now }
+    ensures { OnOk result (text.new.items ≡ text.old.items ++ commitment_lines blobs.now) }
+{
+    let mut rest = blobs;
+    while let Some((blob, after)) = rest.split_first() {
+        put_line(alloc, blob, text)?;
+        rest = after;
+    }
+    Ok(())
+}
+
+/// The lines of such blobs.
 fn lines(alloc: Global, blobs: &[Blob]) -> Result<Vec<u8>, NoMemory>
     requires { AllByRecursion (λ blob.
         (1 ≤ length blob.bytes) × (share_count_of blob ≤ max_shares)) blobs.now }
     ensures { IfOk result (λ text. text.items ≡ commitment_lines blobs.now) }
 {
     let mut text = Vec::new(alloc);
-    let mut rest = blobs;
-    while let Some((blob, after)) = rest.split_first() {
-        put_line(alloc, blob, &mut text)?;
+    put_lines(alloc, blobs, &mut text)?;
+    Ok(text)
+}
+
+/// The lines of the blobs of payments, which are such blobs, payment after payment.
+fn payment_lines(alloc: Global, payments: &[Payment]) -> Result<Vec<u8>, NoMemory>
+    requires { AllByRecursion (λ payment. AllByRecursion (λ blob.
+        (1 ≤ length blob.bytes) × (share_count_of blob ≤ max_shares)) payment.blobs) payments.now }
+    ensures { IfOk result (λ text. text.items ≡ commitment_lines (blobs_of payments.now)) }
+{
+    let mut text = Vec::new(alloc);
+    let mut rest = payments;
+    while let Some((payment, after)) = rest.split_first() {
+        put_lines(alloc, &payment.blobs, &mut text)?;
         rest = after;
     }
     Ok(text)
@@ -102,14 +132,62 @@ fn commit<O: Sink>(alloc: Global, block: &Block, out: &mut O) -> Status
     }
 }
 
-/// Answers the commitments of the blobs of the block in BLOCK.
+/// The list that transactions are read as, if it can be laid out, or the first check that fails. No square
+/// is made of it.
+fn judge_list(alloc: Global, transactions: &[Unit]) -> Result<TxList, ListError>
+    ensures first { lists.Answers result (list_refusal transactions.now) }
+    ensures list { IfOk result (λ list. list ≡ list_of transactions.now) }
+{
+    let list = read_list(alloc, transactions)?;
+    let _places = places(alloc, &list)?;
+    Ok(list)
+}
+
+/// Writes the lines of the blobs of a list that can be laid out, as one piece.
+fn give_payments<O: Sink>(alloc: Global, list: &TxList, out: &mut O) -> Status
+    requires { lists.size_refusal list.now ≡ None }
+    ensures { EndsAtOnce (WritesText StatusOf.Done (commitment_lines (blobs_of list.now.payments)))
+        (O.taken out.old) (O.taken out.new) (O.faults out.old) (O.faults out.new)
+        (out.new ≡ out.old) result }
+{
+    match payment_lines(alloc, &list.payments) {
+        Ok(text) => put(&text, Status::Done, out),
+        Err(_) => Status::NoMemory,
+    }
+}
+
+/// Writes the lines of the blobs of a list of transactions, if it can be laid out. All memory is taken
+/// before the write.
+fn commit_list<O: Sink>(alloc: Global, transactions: &[Unit], out: &mut O) -> Status
+    ensures { EndsAtOnce (CommitsList transactions.now) (O.taken out.old) (O.taken out.new)
+        (O.faults out.old) (O.faults out.new) (out.new ≡ out.old) result }
+{
+    match judge_list(alloc, transactions) {
+        Ok(list) => give_payments(alloc, &list, out),
+        Err(ListError::NoMemory) => Status::NoMemory,
+        Err(why) => Status::BadList(why),
+    }
+}
+
+/// Writes the lines of the blobs of either. All memory is taken before the write.
+fn commit_either<O: Sink>(alloc: Global, block: &BlockOrList, out: &mut O) -> Status
+    ensures { EndsAtOnce (CommitsEither block.now) (O.taken out.old) (O.taken out.new)
+        (O.faults out.old) (O.faults out.new) (out.new ≡ out.old) result }
+{
+    match block {
+        BlockOrList::Block(block) => commit(alloc, block, out),
+        BlockOrList::Transactions(transactions) => commit_list(alloc, &transactions.list, out),
+    }
+}
+
+/// Answers the commitments of the blobs of what is in BLOCK.
 pub fn execute<O: Sink>(alloc: Global, files: &[Vec<u8>], out: &mut O) -> Status
-    ensures { EndsAtOnce (Judged (single_judged block_in (contents_of files.now))
+    ensures { EndsAtOnce (Judged (single_judged block_or_list_in (contents_of files.now))
         (CommitOf (contents_of files.now))) (O.taken out.old) (O.taken out.new) (O.faults out.old)
         (O.faults out.new) (out.new ≡ out.old) result }
 {
     match one_block(alloc, files) {
-        Ok(block) => commit(alloc, &block, out),
+        Ok(block) => commit_either(alloc, &block, out),
         Err(status) => status,
     }
 }

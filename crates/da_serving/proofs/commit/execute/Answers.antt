@@ -1,7 +1,7 @@
 use Rattle.std.proofs.Common.{refl}
-use Rattle.da_serving.specs.Commit.{Commits, CommitOf}
+use Rattle.da_serving.specs.Commit.{CommitsEither, CommitOf}
 use Rattle.da_files.specs.Contents.{contents_of, file_of}
-use Rattle.da_files.specs.Frames.{block_in}
+use Rattle.da_files.specs.Frames.{block_or_list_in}
 use Rattle.da_files.specs.Forms.{single_judged}
 use Rattle.da_status.specs.Judging.{Judged}
 use Rattle.da_status.proofs.EndLemmas.{once_as}
@@ -11,11 +11,11 @@ use Rattle.da_serving.proofs.commit.execute.Goals as goal
 pub returns-in-Err : goal.returns-in-Err
 returns-in-Err g c =
     let files = contents_of c.args.files.now in
-    refused_once (single_judged block_in files) (CommitOf files) _ _ _ _ c.in-Err.ensures.judged refl
+    refused_once (single_judged block_or_list_in files) (CommitOf files) _ _ _ _ c.in-Err.ensures.judged refl
 
 -- the file is the block that was read
 pub returns-in-Ok : goal.returns-in-Ok
 returns-in-Ok g c =
     let files = contents_of c.args.files.now in
-    once_as _ (Judged (single_judged block_in files) (CommitOf files)) _ _ _ _ _ _
-    (single_is Commits (block_in (file_of files 0)) c.in-Ok.block c.in-Ok.ensures.block) c.commit.ensures
+    once_as _ (Judged (single_judged block_or_list_in files) (CommitOf files)) _ _ _ _ _ _
+    (single_is CommitsEither (block_or_list_in (file_of files 0)) c.in-Ok.block c.in-Ok.ensures.block) c.commit_either.ensures
