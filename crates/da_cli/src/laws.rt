@@ -9,6 +9,9 @@ ghost use Rattle.blob_feed.specs.Feeds.{Item, header_at, Read, IsFeedOf, shares_
 ghost use Rattle.square_layout.specs.Blocks.{BlockParts, SquareShares, IsSquare, IsBlock};
 ghost use Rattle.square_layout.specs.Layout.{square_of};
 ghost use Rattle.square_layout.specs.Refusals.{layout_refusal};
+ghost use Rattle.tx_list.specs.Reads.{list_of};
+ghost use Rattle.tx_list.specs.Lists.{square_of_list};
+ghost use Rattle.tx_list.specs.OfBytes.{IsOfBytes};
 ghost use Rattle.axis_roots.specs.declared.message.messages.Message as sent;
 ghost use Rattle.axis_roots.specs.Messages.{IsMessage};
 ghost use Rattle.axis_roots.specs.Openings.{IsProved};
@@ -18,7 +21,7 @@ ghost use Rattle.axis_roots.specs.declared.answers.NsEntry.{NsEntry};
 ghost use Rattle.namespace_id.specs.declared.namespaces.Namespace as names;
 ghost use Rattle.square_serve.specs.Answers.{IsComplete};
 ghost use Rattle.data_header.specs.Headers.{Roots, AreRoots, IsHeader};
-ghost use Rattle.da_wire.specs.declared.frames.Frame.TheVariants.{Header, Square, Request, Block};
+ghost use Rattle.da_wire.specs.declared.frames.Frame.TheVariants.{Header, Square, Request};
 ghost use Rattle.da_wire.specs.Spelling.{spelling, IsFrame, sample_kind, request_kind};
 ghost use Rattle.da_wire.specs.Values.{values_bytes, bad_value};
 ghost use Rattle.da_wire.specs.Reading.{Raw};
@@ -28,7 +31,8 @@ ghost use Rattle.da_judging.specs.declared.check.Finding.TheVariants.{Proved};
 ghost use Rattle.da_status.specs.declared.status.Status.{Status};
 ghost use Rattle.da_status.specs.declared.status.Status.TheVariants.{Done, Missing};
 ghost use Rattle.da_cli.specs.Limits.{file_limit, stream_limit};
-ghost use Rattle.da_files.specs.Frames.{header_in, square_in, block_in};
+ghost use Rattle.da_files.specs.declared.frames.BlockOrList.{BlockOrList};
+ghost use Rattle.da_files.specs.Frames.{header_in, square_in, block_or_list_frame, block_or_list_in};
 ghost use Rattle.da_judging.specs.Check.{finding_of, is_ok, IsProvedFrame, IsOwnFrame};
 ghost use Rattle.da_judging.specs.Compact.{CompactsJudged, CompactsOwn};
 ghost use Rattle.da_judging.specs.Repair.{Repairs, RepairsOwn, RepairOf};
@@ -36,6 +40,7 @@ ghost use Rattle.da_judging.specs.Light.{Lights, JudgesOwn};
 ghost use Rattle.da_script.specs.Plays as plays;
 ghost use Rattle.da_script.specs.Alarms.{TellsOwn};
 ghost use Rattle.da_commands.specs.Net.{Nets};
+ghost use Rattle.da_serving.specs.Build.{list_refusal};
 ghost use Rattle.da_serving.specs.Prove.{ProvesRange};
 ghost use Rattle.da_serving.specs.Sample.{sample_frame, samples_in};
 ghost use Rattle.da_files.specs.Requests.{namespaces_in};
@@ -63,6 +68,7 @@ use da_wire::{value_laws, wire_laws};
 use repair_queue::verdict_laws;
 use square_layout::{name_laws, size_laws};
 use square_serve::answer_laws;
+use tx_list::{list_laws, square_laws};
 
 /// What belongs to a run, by what its files hold, so that each refusal of `run` is exact.
 pub fn run_laws()
@@ -183,16 +189,17 @@ pub fn run_laws()
         IsHeaderOf header square → (read ≡ blobs_of (shares_in square name))
         ⊎ FirstNames (items_in answers) number name square }
 
-    // A file is read as a header, a square, a block, an answer exactly where it is that value's one
-    // spelling.
+    // A file is read as a header, a square, a block or a list of transactions, an answer exactly where
+    // it is that value's one spelling.
     ensures header_file { (bytes : List ℕ) (header : Roots) → AreBytes bytes →
         (header_in bytes ≡ Ok header)
         ↔ (IsHeader header × (spelling (Header header) ≡ Some bytes)) }
     ensures square_file { (bytes : List ℕ) (square : SquareShares) → AreBytes bytes →
         (square_in bytes ≡ Ok square)
         ↔ (IsSquare square × AreShares square.shares × (spelling (Square square) ≡ Some bytes)) }
-    ensures block_file { (bytes : List ℕ) (block : BlockParts) → AreBytes bytes →
-        (block_in bytes ≡ Ok block) ↔ (IsBlock block × (spelling (Block block) ≡ Some bytes)) }
+    ensures block_file { (bytes : List ℕ) (value : BlockOrList) → AreBytes bytes →
+        (block_or_list_in bytes ≡ Ok value)
+        ↔ (IsFrame (block_or_list_frame value) × (spelling (block_or_list_frame value) ≡ Some bytes)) }
     ensures answer_file { (bytes : List ℕ) (answer : Answer) → AreBytes bytes →
         (answer_in bytes ≡ Ok answer)
         ↔ (IsFrame (answer_frame answer) × (spelling (answer_frame answer) ≡ Some bytes)) }
@@ -205,12 +212,20 @@ pub fn run_laws()
         bad_value (request_kind ∷ []) bytes ≡ None →
         values_bytes (map Request (namespaces_in bytes)) ≡ bytes }
 
-    // The square of a block that isn't refused is read back from its spelling, and has a header.
+    // The square of a block that isn't refused is read back from its spelling, and has a header. So has
+    // that of a list of transactions.
     ensures built { (block : BlockParts) → IsBlock block → layout_refusal block ≡ None →
         (text : List ℕ) × (spelling (Square (square_of block)) ≡ Some text)
         × (square_in text ≡ Ok (square_of block)) }
     ensures headed { (block : BlockParts) → IsBlock block → layout_refusal block ≡ None →
         (header : Roots) × IsHeaderOf header (square_of block) }
+    ensures built_list { (transactions : List (List ℕ)) → IsOfBytes (list_of transactions) →
+        list_refusal transactions ≡ None → (text : List ℕ)
+        × (spelling (Square (square_of_list (list_of transactions))) ≡ Some text)
+        × (square_in text ≡ Ok (square_of_list (list_of transactions))) }
+    ensures headed_list { (transactions : List (List ℕ)) → IsOfBytes (list_of transactions) →
+        list_refusal transactions ≡ None →
+        (header : Roots) × IsHeaderOf header (square_of_list (list_of transactions)) }
     ensures limit { FILE_LIMIT ≡ file_limit }
     ensures size { FILE_LIMIT ≡ 512 * (1024 * 1024) }
     ensures stream_limit { STREAM_LIMIT ≡ stream_limit }
@@ -223,6 +238,8 @@ pub fn run_laws()
     grid_laws();
     size_laws();
     name_laws();
+    list_laws();
+    square_laws();
     answer_laws();
     verdict_laws();
     commit_laws();

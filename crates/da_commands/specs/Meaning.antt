@@ -6,7 +6,7 @@ use Rattle.da_commands.specs.declared.command.Command.TheVariants.{Check, Build,
 use Rattle.da_wire.specs.Spelling.{sample_kind, request_kind}
 use Rattle.da_status.specs.Outcome.{Relation}
 use Rattle.da_status.specs.Judging.{Judged}
-use Rattle.da_files.specs.Frames.{header_in, square_in, block_in}
+use Rattle.da_files.specs.Frames.{header_in, square_in, block_or_list_in}
 use Rattle.da_files.specs.Forms.{single_judged, under_judged, messages_judged, requests_judged}
 use Rattle.da_judging.specs.Check.{CheckOf}
 use Rattle.da_serving.specs.Build.{BuildOf}
@@ -33,7 +33,7 @@ use Rattle.da_commands.specs.Help.{help_judged, HelpOf, VersionOf}
 -- of each file where it leaves its form, if it does
 abbrev pub judged_of : Command → List (List ℕ) → List (Option ℕ)
 judged_of Check files = messages_judged files
-judged_of Build files = single_judged block_in files
+judged_of Build files = single_judged block_or_list_in files
 judged_of Header files = single_judged square_in files
 judged_of Sample files = requests_judged (sample_kind ∷ []) files
 judged_of Namespace files = requests_judged (request_kind ∷ []) files
@@ -51,7 +51,7 @@ judged_of Root files = single_judged header_in files
 judged_of (RootIs root) files = single_judged header_in files
 judged_of (Wanted axis) files = single_judged missing_in files
 judged_of Blobs files = single_judged shares_in files
-judged_of Commit files = single_judged block_in files
+judged_of Commit files = single_judged block_or_list_in files
 judged_of Prove files = requests_judged (sample_kind ∷ []) files
 judged_of (ProveRange start count) files = single_judged square_in files
 judged_of Follow files = follow_judged files

@@ -8,8 +8,11 @@ use Rattle.da_serving.proofs.SampleLemmas.{is_sample_frame}
 use Rattle.da_serving.proofs.NamespaceLemmas.{is_name_frame}
 use Rattle.data_header.specs.DataRoots.{data_root_of}
 use Rattle.square_layout.specs.Layout.{square_of}
+use Rattle.tx_list.specs.Reads.{list_of}
+use Rattle.tx_list.specs.Lists.{square_of_list}
+use Rattle.da_serving.proofs.BuildLemmas.{both_fine}
 use Rattle.axis_roots.specs.Grids.{header_of_grid}
-use Rattle.da_files.proofs.FileLemmas.{header_file, square_file, block_file, square_again, some_there}
+use Rattle.da_files.proofs.FileLemmas.{header_file, square_file, block_or_list_file, square_again, some_there}
 use Rattle.da_judging.proofs.AskedLemmas.{answer_file}
 use Rattle.da_cli.proofs.RunLemmas.{form_law, bad_input_law, excess_law, absent_law, failure_law}
 use Rattle.da_judging.proofs.CheckLemmas.{finding_proved, finding_own}
@@ -109,7 +112,7 @@ pub returns-clause-square_file : goal.returns-clause-square_file
 returns-clause-square_file c = square_file c.wire_laws.ensures.only
 
 pub returns-clause-block_file : goal.returns-clause-block_file
-returns-clause-block_file c = block_file c.wire_laws.ensures.only
+returns-clause-block_file c = block_or_list_file c.wire_laws.ensures.only
 
 -- the square of a block that isn't refused is one of shares, which has a spelling
 pub returns-clause-built : goal.returns-clause-built
@@ -127,6 +130,26 @@ returns-clause-headed c = λ block is none.
     (c.grid_laws.ensures.laid (square_of block) grid.0 square grid.1
     (c.name_laws.ensures.rising block (c.name_laws.ensures.named block none))) in
     (header.0, c.grid_laws.ensures.header (square_of block) grid.0 header.0 square grid.1 header.1)
+
+-- so is that of a list of transactions
+pub returns-clause-built_list : goal.returns-clause-built_list
+returns-clause-built_list c = λ transactions is none.
+    let fine = both_fine transactions none in
+    let square = c.square_laws.ensures.square (list_of transactions) fine.1 in
+    let shares = c.square_laws.ensures.shares (list_of transactions) is in
+    let own = square_of_list (list_of transactions) in
+    square_again c.wire_laws.ensures.only_read own square shares (c.wire_laws.ensures.squares own square shares)
+
+pub returns-clause-headed_list : goal.returns-clause-headed_list
+returns-clause-headed_list c = λ transactions is none.
+    let fine = both_fine transactions none in
+    let own = square_of_list (list_of transactions) in
+    let square = c.square_laws.ensures.square (list_of transactions) fine.1 in
+    let grid = c.grid_laws.ensures.extension own square (c.square_laws.ensures.shares (list_of transactions) is) in
+    let header = some_there (header_of_grid own.k grid.0)
+    (c.grid_laws.ensures.laid own grid.0 square grid.1
+    (c.list_laws.ensures.rising (list_of transactions) (c.square_laws.ensures.payments transactions fine.0))) in
+    (header.0, c.grid_laws.ensures.header own grid.0 header.0 square grid.1 header.1)
 
 pub returns-clause-asked : goal.returns-clause-asked
 returns-clause-asked c = asked_holds
