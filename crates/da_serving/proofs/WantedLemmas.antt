@@ -3,28 +3,20 @@ use Rattle.std.proofs.Common.{◌≡◌, ◌∙◌, ℕ, List, [], ◌++◌, sym
 use Rattle.std.specs.declared.option.Option.{Option}
 use Rattle.std.specs.Option.{option_map_or}
 use Rattle.namespace_id.specs.declared.cells.Axis.{Axis}
-use Rattle.namespace_id.specs.Cells.{CellList}
 use Rattle.da_wire.specs.declared.frames.Frame.{Frame}
 use Rattle.da_wire.specs.Values.{text_of}
 use Rattle.da_wire.specs.Writing.{AppendsSpelling}
 use Rattle.da_status.specs.declared.status.Status.{Status}
-use Rattle.da_status.specs.declared.status.Status.TheVariants.{Done}
 use Rattle.da_status.specs.Statuses.{kind_of, output}
-use Rattle.da_status.specs.Outcome.{Relation}
-use Rattle.da_files.specs.Frames.{WritesText}
-use Rattle.da_serving.specs.Wanted.{missing_file, missing_in, requests_bytes, WantedOf}
+use Rattle.da_serving.specs.Wanted.{missing_file, missing_in, Wants, WantedOf}
 use Rattle.da_files.proofs.FormLemmas.{over_each}
 
 -- ---- the file
 
--- the answer to missing cells
-abbrev pub Asks : Axis → CellList → Relation
-Asks axis cells = WritesText Done (requests_bytes axis cells.list)
-
 -- what wanted answers comes with a complete output
 pub wanted_last : (axis : Axis) (files : List (List ℕ)) (w : List ℕ) (status : Status) → WantedOf axis files w status → kind_of status ≡ output
 wanted_last axis files w status h =
-    over_each (Asks axis) (missing_in (missing_file files)) w status (kind_of status ≡ output) (λ cells asks. ap kind_of asks.1) h
+    over_each (Wants axis) (missing_in (missing_file files)) w status (kind_of status ≡ output) (λ cells wants. ap kind_of wants.1) h
 
 -- ---- requests
 

@@ -22,10 +22,14 @@ missing_in bytes = single missing_of (only_of bytes (missing_kind ∷ []))
 abbrev pub requests_bytes : Axis → List Cell → List ℕ
 requests_bytes axis cells = values_bytes (map (λ cell. Sample cell axis) cells)
 
+-- the requests for missing cells along an axis are written
+abbrev pub Wants : Axis → CellList → Relation
+Wants axis cells = WritesText Done (requests_bytes axis cells.list)
+
 -- MISSING, the one file of wanted
 abbrev pub missing_file : List (List ℕ) → List ℕ
 missing_file files = file_of files 0
 
 -- what wanted answers to a MISSING that is missing cells
 abbrev pub WantedOf : Axis → List (List ℕ) → Relation
-WantedOf axis files = Over (missing_in (missing_file files)) (λ cells. WritesText Done (requests_bytes axis cells.list))
+WantedOf axis files = Over (missing_in (missing_file files)) (Wants axis)

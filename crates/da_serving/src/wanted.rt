@@ -62,7 +62,7 @@ fn requests(alloc: Global, cells: &[Cell], axis: Axis) -> Result<Vec<u8>, NoMemo
 }
 
 /// Writes the requests for cells along an axis, as one piece.
-fn give_requests<O: Sink>(alloc: Global, cells: &[Cell], axis: Axis, out: &mut O) -> Status
+pub fn give_requests<O: Sink>(alloc: Global, cells: &[Cell], axis: Axis, out: &mut O) -> Status
     ensures { EndsAtOnce (WritesText StatusOf.Done (requests_bytes axis cells.now))
         (O.taken out.old) (O.taken out.new) (O.faults out.old) (O.faults out.new)
         (out.new ≡ out.old) result }
