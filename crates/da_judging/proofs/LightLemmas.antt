@@ -1,5 +1,5 @@
 -- What the command light answers.
-use Rattle.std.proofs.Common.{◌≡◌, ℕ, ◌<◌, Bool, true, false, List, sym, ap, subst, inl, inr, arith}
+use Rattle.std.proofs.Common.{◌≡◌, ◌∙◌, ℕ, ◌<◌, Bool, true, false, List, [], ◌∷◌, Some, None, Result, Ok, Err, sym, ap, subst, inl, inr, arith}
 use Rattle.std.specs.Prelude.{nat_lt}
 use Rattle.std.proofs.lemmas.Bool.Decides.{nat_tests}
 use Rattle.data_header.specs.Headers.{Roots}
@@ -15,17 +15,20 @@ use Rattle.light_node.specs.declared.events.Light.{Light}
 use Rattle.light_node.specs.declared.events.Light.TheVariants as light
 use Rattle.light_node.specs.Events.{IsLight}
 use Rattle.da_wire.specs.Reading.{Raw}
-use Rattle.da_wire.specs.Frames.{frames_of}
+use Rattle.da_wire.specs.Frames.{frames_of, bad_frame}
 use Rattle.da_status.specs.declared.status.Asked.TheVariants.{Count}
 use Rattle.da_status.specs.declared.status.Status.{Status}
 use Rattle.da_status.specs.declared.status.Status.TheVariants.{BadRequest}
 use Rattle.da_status.specs.Statuses.{kind_of, output}
 use Rattle.da_status.specs.Outcome.{Relation}
-use Rattle.da_files.specs.Frames.{header_in}
-use Rattle.da_judging.specs.Light.{events_in, Answers, Judges, HasOutput, Counted, Lights, JudgesOwn, LightOf}
+use Rattle.da_status.specs.Judging.{first_bad, Judged}
+use Rattle.da_files.specs.Frames.{header_in, error_of}
+use Rattle.da_files.specs.Forms.{messages_judged}
+use Rattle.da_judging.specs.Keys.{key_file_in}
+use Rattle.da_judging.specs.Light.{events_in, Answers, Judges, HasOutput, Counted, Lights, JudgesOwn, LightOf, light_key_file, light_by_judged, LightByOf}
 use Rattle.da_files.specs.Contents.{header_file, messages_file}
 use Rattle.da_status.proofs.EndLemmas.{IsAnswer, answer_output, status_answers}
-use Rattle.da_files.proofs.FormLemmas.{over_each}
+use Rattle.da_files.proofs.FormLemmas.{third_bad, over_is, judged_over, over_each}
 
 -- ---- the count
 
@@ -118,3 +121,37 @@ pub lights_own : ((h : Roots) (claim : ClaimParts) → Accepts h claim → IsFal
 lights_own law header raws square key count w status own h =
     limit_own law (nat_lt (draw_limit header.k) count) header square (drawn_cells key header.k count) raws w status
     own h
+
+-- ---- a key in a file
+
+module _ (files : List (List ℕ)) (fine : first_bad 0 (messages_judged files) ≡ None) where
+  -- the first file that isn't in its form, by what the third one is
+  by_key : (read : Result (List ℕ) ℕ) → key_file_in (light_key_file files) ≡ read
+      → first_bad 0 (light_by_judged files) ≡ first_bad 2 (error_of read ∷ [])
+  by_key read is =
+      third_bad (error_of (header_in (header_file files))) (bad_frame (messages_file files))
+      (error_of (key_file_in (light_key_file files)) ∷ []) fine
+      ∙ ap (λ (r : Result (List ℕ) ℕ). first_bad 2 (error_of r ∷ [])) is
+
+  -- the third file is no key
+  pub light_no_key : (at : ℕ) → key_file_in (light_key_file files) ≡ Err at → first_bad 0 (light_by_judged files) ≡ Some (2, at)
+  light_no_key at bad = by_key (Err at) bad
+
+  -- the meaning of files that were read
+  pub light_by_is : (header : Roots) (messages key : List ℕ) (count : ℕ) → header_in (header_file files) ≡ Ok header
+      → messages ≡ messages_file files → key_file_in (light_key_file files) ≡ Ok key
+      → Lights key count header (frames_of messages) ≡ Judged (light_by_judged files) (LightByOf count files)
+  light_by_is header messages key count read here is =
+      ap (λ (bytes : List ℕ). Lights key count header (frames_of bytes)) here
+      ∙ over_is (λ (h : Roots). Lights key count h (frames_of (messages_file files))) (header_in (header_file files)) header
+      read
+      ∙ judged_over (λ (k : List ℕ). LightOf k count files) (light_by_judged files) (key_file_in (light_key_file files))
+      key (by_key (Ok key) is) is
+
+-- what light answers to a key in a file is an answer
+pub light_by_answers : (count : ℕ) (files : List (List ℕ)) (w : List ℕ) (status : Status)
+    → LightByOf count files w status
+    → IsAnswer (kind_of status)
+light_by_answers count files w status r =
+    over_each (λ key. LightOf key count files) (key_file_in (light_key_file files)) w status (IsAnswer (kind_of status))
+    (λ key. light_answers key count files w status) r

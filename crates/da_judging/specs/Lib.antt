@@ -6,5 +6,6 @@ pub mod Compact
 pub mod VerifyFor
 pub mod VerifyCommitment
 pub mod Repair
+pub mod Keys
 pub mod Light
 pub mod Root

@@ -1,5 +1,6 @@
--- light HEADER MESSAGES KEY COUNT: the verdict of a light node that drew its cells by a key.
-use Rattle.std.specs.Prelude.{◌≡◌, ◌≢◌, ◌⊎◌, ℕ, List, [], ◌∷◌, length, codes, nat_lt, Bool, true, false, Option, Some, ⊤}
+-- light HEADER MESSAGES KEY COUNT: the verdict of a light node that drew its cells by a key, which is a word or stands in a
+-- file.
+use Rattle.std.specs.Prelude.{◌≡◌, ◌≢◌, ◌⊎◌, ℕ, List, [], ◌∷◌, ◌++◌, length, codes, nat_lt, Bool, true, false, Option, Some, ⊤}
 use Rattle.std.specs.Option.{option_map, option_map_or}
 use Rattle.namespace_id.specs.declared.cells.Axis.{Axis}
 use Rattle.namespace_id.specs.declared.cells.Cell.{Cell}
@@ -20,9 +21,10 @@ use Rattle.da_wire.specs.Frames.{frames_of, message_in, claim_in}
 use Rattle.da_status.specs.declared.status.Asked.TheVariants.{Count}
 use Rattle.da_status.specs.declared.status.Status.TheVariants.{Done, BadRequest, Fraud, Waiting}
 use Rattle.da_status.specs.Outcome.{Relation, Refuses}
-use Rattle.da_files.specs.Frames.{header_in}
-use Rattle.da_files.specs.Forms.{Over}
-use Rattle.da_files.specs.Contents.{header_file, messages_file}
+use Rattle.da_files.specs.Frames.{header_in, error_of}
+use Rattle.da_files.specs.Forms.{messages_judged, Over}
+use Rattle.da_files.specs.Contents.{file_of, header_file, messages_file}
+use Rattle.da_judging.specs.Keys.{key_file_in}
 
 -- ---- MESSAGES
 
@@ -77,3 +79,15 @@ JudgesOwn square w status = ((axis : Axis) (i : ℕ) → status ≢ Fraud axis i
 abbrev pub LightOf : List ℕ → ℕ → List (List ℕ) → Relation
 LightOf key count files =
     Over (header_in (header_file files)) (λ h. Lights key count h (frames_of (messages_file files)))
+
+-- KEY, the third file of light where its word names one
+abbrev pub light_key_file : List (List ℕ) → List ℕ
+light_key_file files = file_of files 2
+
+-- HEADER is a header and nothing else, MESSAGES a list of frames, and KEY a key
+abbrev pub light_by_judged : List (List ℕ) → List (Option ℕ)
+light_by_judged files = messages_judged files ++ error_of (key_file_in (light_key_file files)) ∷ []
+
+-- what light answers to a KEY that is a key: what it answers where this key is the word
+abbrev pub LightByOf : ℕ → List (List ℕ) → Relation
+LightByOf count files = Over (key_file_in (light_key_file files)) (λ key. LightOf key count files)

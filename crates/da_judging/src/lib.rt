@@ -11,6 +11,7 @@ mod answers;
 pub mod check;
 pub mod compact;
 mod forms;
+mod keys;
 pub mod light;
 mod repair;
 pub mod root;
@@ -20,6 +21,7 @@ pub mod verify_for;
 
 pub use answers::{Answer, Request, is_answer_to};
 pub use check::Finding;
+pub use keys::read_key;
 pub use repair::give_verdict;
 pub use verify::{answer_in, check_number, refusal_of};
 pub use verify_commitment::states_commitment;

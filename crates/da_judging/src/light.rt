@@ -1,4 +1,5 @@
-//! light HEADER MESSAGES KEY COUNT: the verdict of a light node that drew its cells by a key.
+//! light HEADER MESSAGES KEY COUNT: the verdict of a light node that drew its cells by a key, which is a word or
+//! stands in a file.
 
 ghost use Rattle.std.specs.Prelude.{◌≡◌, ◌≢◌, ◌<◌, ◌^◌, List, [], IfOk, IsSome, OnOk, Some, length, slice_get, true, false};
 ghost use Rattle.std.specs.List.{list_all};
@@ -14,13 +15,14 @@ ghost use Rattle.da_wire.specs.Reading.{raw_seen};
 ghost use Rattle.da_wire.specs.Spelling.{spelling};
 ghost use Rattle.da_wire.specs.Frames.{frames_of};
 ghost use Rattle.da_files.specs.Contents.{contents_of};
-ghost use Rattle.da_judging.specs.Light.{event_in, events_in, Answers, HasOutput, Lights, LightOf};
+ghost use Rattle.da_judging.specs.Light.{event_in, events_in, Answers, HasOutput, Lights, LightOf, light_by_judged, LightByOf};
 ghost use Rattle.da_files.specs.Forms.{messages_judged};
 ghost use Rattle.da_status.specs.Judging.{Judged};
 ghost use Rattle.da_status.specs.Outcome.{EndsAtOnce};
 
+use crate::keys::read_key;
 use befp_verify::Upheld;
-use da_files::{claim_frame, give_with, header_and_messages, is_long, missing_frame, put};
+use da_files::{claim_frame, file, give_with, header_and_messages, is_long, missing_frame, put};
 use da_io::Sink;
 use da_status::{Asked, Status};
 use da_wire::{RawFrame, claim, next_frame};
@@ -30,6 +32,9 @@ use light_node::{Event, Light, LightNode, Picker};
 use namespace_id::{Cell, CellRoom, Cells, NoMemory};
 use sampling::{DrawError, cells};
 use std::alloc::Global;
+
+/// The place of the file of the key among the words that name files.
+const KEY: u32 = 2;
 
 /// The sample or the claim that a frame is; none where it is neither.
 fn event_in(alloc: Global, frame: RawFrame<'_>) -> Result<Option<Event>, NoMemory>
@@ -100,7 +105,7 @@ fn judge<F: Picker>(
 }
 
 /// The verdict under a header on samples, where these cells are planned.
-fn verdict(
+pub fn verdict(
     alloc: Global,
     header: &Header,
     messages: &[u8],
@@ -204,4 +209,21 @@ pub fn execute<O: Sink>(
         Err(status) => return status,
     };
     light(alloc, &header, messages, key, count, out)
+}
+
+/// Answers what a light node that draws so many cells by the key in KEY comes to by the samples in
+/// MESSAGES under the header in HEADER.
+pub fn execute_by<O: Sink>(alloc: Global, files: &[Vec<u8>], count: u32, out: &mut O) -> Status
+    ensures { EndsAtOnce (Judged (light_by_judged (contents_of files.now))
+        (LightByOf count (contents_of files.now))) (O.taken out.old) (O.taken out.new)
+        (O.faults out.old) (O.faults out.new) (out.new ≡ out.old) result }
+{
+    let (header, messages) = match header_and_messages(alloc, files) {
+        Ok(read) => read,
+        Err(status) => return status,
+    };
+    match read_key(file(files, KEY)) {
+        Ok(key) => light(alloc, &header, messages, &key, count, out),
+        Err(at) => Status::BadInput(KEY, at),
+    }
 }
