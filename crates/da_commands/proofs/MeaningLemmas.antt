@@ -7,7 +7,7 @@ use Rattle.da_status.specs.declared.status.Status.{Status}
 use Rattle.da_status.specs.Statuses.{kind_of}
 use Rattle.da_status.proofs.EndLemmas.{IsAnswer, answer_output, status_answers}
 use Rattle.da_commands.specs.declared.command.Command.{Command}
-use Rattle.da_commands.specs.declared.command.Command.TheVariants.{Check, Build, Header, Sample, Namespace, Verify, Compact, Repair, Light, Net, Show, Json, Demo, VerifyCommitment, VerifyFor, Root, RootIs, Wanted, Blobs, Commit, Prove, ProveRange, Follow, Help, Version}
+use Rattle.da_commands.specs.declared.command.Command.TheVariants.{Check, Build, Header, Sample, Namespace, Verify, Compact, Repair, Light, LightBy, Net, Show, Json, Demo, VerifyCommitment, VerifyFor, Root, RootIs, Wanted, Cells, CellsBy, Blobs, Commit, Prove, ProveRange, Follow, Help, Version}
 use Rattle.da_commands.specs.Show.{all_kinds, shown_file}
 use Rattle.da_commands.specs.Meaning.{AnswerOf}
 use Rattle.da_judging.proofs.CheckLemmas.{check_last}
@@ -18,10 +18,11 @@ use Rattle.da_serving.proofs.NamespaceLemmas.{namespace_answers}
 use Rattle.da_judging.proofs.VerifyLemmas.{verify_last}
 use Rattle.da_judging.proofs.CompactLemmas.{compact_last}
 use Rattle.da_judging.proofs.RepairLemmas.{repair_last}
-use Rattle.da_judging.proofs.LightLemmas.{light_answers}
+use Rattle.da_judging.proofs.LightLemmas.{light_answers, light_by_answers}
 use Rattle.da_commands.proofs.Answering.NetLemmas.{net_answers}
 use Rattle.da_commands.proofs.Answering.ShowLemmas.{shows_answers}
 use Rattle.da_commands.proofs.Answering.DemoLemmas.{demo_answers}
+use Rattle.da_commands.proofs.Answering.CellsLemmas.{cells_answers, cells_by_answers}
 use Rattle.da_judging.proofs.VerifyForLemmas.{verify_for_last}
 use Rattle.da_judging.proofs.VerifyCommitmentLemmas.{verify_commitment_last}
 use Rattle.da_judging.proofs.RootLemmas.{root_last, root_is_last}
@@ -42,6 +43,7 @@ answer_last Verify files w status h = answer_output status (verify_last files w 
 answer_last Compact files w status h = answer_output status (compact_last files w status h)
 answer_last Repair files w status h = answer_output status (repair_last files w status h)
 answer_last (Light key count) files w status h = light_answers key count files w status h
+answer_last (LightBy count) files w status h = light_by_answers count files w status h
 answer_last Net files w status h = net_answers files w status h
 answer_last Show files w status h = shows_answers text_of (values_of all_kinds (shown_file files)) w status h
 answer_last Json files w status h = shows_answers json_text (values_of all_kinds (shown_file files)) w status h
@@ -51,6 +53,8 @@ answer_last VerifyFor files w status h = answer_output status (verify_for_last f
 answer_last Root files w status h = answer_output status (root_last files w status h)
 answer_last (RootIs root) files w status h = answer_output status (root_is_last root files w status h)
 answer_last (Wanted axis) files w status h = answer_output status (wanted_last axis files w status h)
+answer_last (Cells key count axis) files w status h = cells_answers key count axis files w status h
+answer_last (CellsBy count axis) files w status h = cells_by_answers count axis files w status h
 answer_last Blobs files w status h = blobs_answers files w status h
 answer_last Commit files w status h = commit_answers files w status h
 answer_last Prove files w status h = prove_answers files w status h

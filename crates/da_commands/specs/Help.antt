@@ -20,6 +20,7 @@ help_text =
     ++ codes "da repair HEADER MESSAGES\n"
     ++ codes "da light HEADER MESSAGES KEY COUNT\n"
     ++ codes "da wanted MISSING AXIS\n"
+    ++ codes "da cells HEADER KEY COUNT AXIS\n"
     ++ codes "da blobs SHARES\n"
     ++ codes "da commit BLOCK\n"
     ++ codes "da prove SQUARE REQUESTS\n"

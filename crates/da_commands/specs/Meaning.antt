@@ -2,7 +2,7 @@
 use Rattle.std.specs.Prelude.{◌≡◌, ℕ, List, [], ◌∷◌, true, ⊤}
 use Rattle.std.specs.declared.option.Option.{Option}
 use Rattle.da_commands.specs.declared.command.Command.{Command}
-use Rattle.da_commands.specs.declared.command.Command.TheVariants.{Check, Build, Header, Sample, Namespace, Verify, Compact, Repair, Light, Net, Show, Json, Demo, VerifyCommitment, VerifyFor, Root, RootIs, Wanted, Blobs, Commit, Prove, ProveRange, Follow, Help, Version}
+use Rattle.da_commands.specs.declared.command.Command.TheVariants.{Check, Build, Header, Sample, Namespace, Verify, Compact, Repair, Light, LightBy, Net, Show, Json, Demo, VerifyCommitment, VerifyFor, Root, RootIs, Wanted, Cells, CellsBy, Blobs, Commit, Prove, ProveRange, Follow, Help, Version}
 use Rattle.da_wire.specs.Spelling.{sample_kind, request_kind}
 use Rattle.da_status.specs.Outcome.{Relation}
 use Rattle.da_status.specs.Judging.{Judged}
@@ -16,7 +16,7 @@ use Rattle.da_serving.specs.Namespace.{NamespaceOf}
 use Rattle.da_judging.specs.Verify.{answer_in, VerifyOf}
 use Rattle.da_judging.specs.Compact.{claim_in, CompactOf}
 use Rattle.da_judging.specs.Repair.{RepairOf}
-use Rattle.da_judging.specs.Light.{LightOf}
+use Rattle.da_judging.specs.Light.{LightOf, light_by_judged, LightByOf}
 use Rattle.da_commands.specs.Net.{net_judged, NetOf}
 use Rattle.da_commands.specs.Show.{show_judged, ShowOf, JsonOf}
 use Rattle.da_commands.specs.Demo.{is_trial_width, demo_judged, DemoOf}
@@ -28,6 +28,7 @@ use Rattle.da_serving.specs.Blobs.{shares_in, BlobsOf}
 use Rattle.da_serving.specs.Commit.{CommitOf}
 use Rattle.da_serving.specs.Prove.{ProveOf, ProveRangeOf}
 use Rattle.da_following.specs.Follow.{follow_judged, FollowOf}
+use Rattle.da_commands.specs.Cells.{CellsOf, cells_by_judged, CellsByOf}
 use Rattle.da_commands.specs.Help.{help_judged, HelpOf, VersionOf}
 
 -- of each file where it leaves its form, if it does
@@ -41,6 +42,7 @@ judged_of Verify files = under_judged answer_in files
 judged_of Compact files = under_judged claim_in files
 judged_of Repair files = messages_judged files
 judged_of (Light key count) files = messages_judged files
+judged_of (LightBy count) files = light_by_judged files
 judged_of Net files = net_judged files
 judged_of Show files = show_judged files
 judged_of Json files = show_judged files
@@ -50,6 +52,8 @@ judged_of VerifyFor files = verify_for_judged files
 judged_of Root files = single_judged header_in files
 judged_of (RootIs root) files = single_judged header_in files
 judged_of (Wanted axis) files = single_judged missing_in files
+judged_of (Cells key count axis) files = single_judged header_in files
+judged_of (CellsBy count axis) files = cells_by_judged files
 judged_of Blobs files = single_judged shares_in files
 judged_of Commit files = single_judged block_or_list_in files
 judged_of Prove files = requests_judged (sample_kind ∷ []) files
@@ -69,6 +73,7 @@ AnswerOf Verify files = VerifyOf files
 AnswerOf Compact files = CompactOf files
 AnswerOf Repair files = RepairOf files
 AnswerOf (Light key count) files = LightOf key count files
+AnswerOf (LightBy count) files = LightByOf count files
 AnswerOf Net files = NetOf files
 AnswerOf Show files = ShowOf files
 AnswerOf Json files = JsonOf files
@@ -78,6 +83,8 @@ AnswerOf VerifyFor files = VerifyForOf files
 AnswerOf Root files = RootOf files
 AnswerOf (RootIs root) files = RootIsOf root files
 AnswerOf (Wanted axis) files = WantedOf axis files
+AnswerOf (Cells key count axis) files = CellsOf key count axis files
+AnswerOf (CellsBy count axis) files = CellsByOf count axis files
 AnswerOf Blobs files = BlobsOf files
 AnswerOf Commit files = CommitOf files
 AnswerOf Prove files = ProveOf files
@@ -104,6 +111,7 @@ TakesFirst Verify = ⊤
 TakesFirst Compact = ⊤
 TakesFirst Repair = ⊤
 TakesFirst (Light key count) = ⊤
+TakesFirst (LightBy count) = ⊤
 TakesFirst Net = ⊤
 TakesFirst (Demo number k) = ⊤
 TakesFirst (VerifyCommitment commitment) = ⊤
@@ -111,6 +119,8 @@ TakesFirst VerifyFor = ⊤
 TakesFirst Root = ⊤
 TakesFirst (RootIs root) = ⊤
 TakesFirst (Wanted axis) = ⊤
+TakesFirst (Cells key count axis) = ⊤
+TakesFirst (CellsBy count axis) = ⊤
 TakesFirst Blobs = ⊤
 TakesFirst Commit = ⊤
 TakesFirst (ProveRange start count) = ⊤

@@ -7,7 +7,7 @@ ghost use Rattle.da_status.specs.declared.status.Status.TheVariants.{NoMemory};
 ghost use Rattle.da_commands.specs.Meaning.{Meaning, TakesFirst, IsRunnable};
 ghost use Rattle.da_status.specs.Outcome.{Ends};
 
-use crate::{demo, help, net, show};
+use crate::{cells, demo, help, net, show};
 use da_following::follow;
 use da_io::Sink;
 use da_judging::{check, compact, light, root, verify, verify_commitment, verify_for};
@@ -37,6 +37,8 @@ pub enum Command {
     Repair,
     /// `light HEADER MESSAGES KEY COUNT`, with the key of the draws and how many there are
     Light([u8; 32], u32),
+    /// `light HEADER MESSAGES @NAME COUNT`, with how many draws there are
+    LightBy(u32),
     /// `net HEADER MESSAGES SCRIPT`
     Net,
     /// `show FILE`
@@ -55,6 +57,10 @@ pub enum Command {
     RootIs([u8; 32]),
     /// `wanted MISSING AXIS`, with the axis
     Wanted(Axis),
+    /// `cells HEADER KEY COUNT AXIS`, with the key of the draws, how many there are, and the axis
+    Cells([u8; 32], u32, Axis),
+    /// `cells HEADER @NAME COUNT AXIS`, with how many draws there are, and the axis
+    CellsBy(u32, Axis),
     /// `blobs SHARES`
     Blobs,
     /// `commit BLOCK`
@@ -93,6 +99,7 @@ pub fn execute<O: Sink>(alloc: Global, command: Command, files: &[Vec<u8>], out:
         Command::Compact => compact::execute(alloc, files, out),
         Command::Repair => unreachable!(),
         Command::Light(key, count) => light::execute(alloc, files, &key, count, out),
+        Command::LightBy(count) => light::execute_by(alloc, files, count, out),
         Command::Net => net::execute(alloc, files, out),
         Command::Show => show::show(alloc, files, out),
         Command::Json => show::json(alloc, files, out),
@@ -104,6 +111,8 @@ pub fn execute<O: Sink>(alloc: Global, command: Command, files: &[Vec<u8>], out:
         Command::Root => root::root(alloc, files, out),
         Command::RootIs(root) => root::root_is(alloc, files, &root, out),
         Command::Wanted(axis) => wanted::execute(alloc, files, axis, out),
+        Command::Cells(key, count, axis) => cells::execute(alloc, files, &key, count, axis, out),
+        Command::CellsBy(count, axis) => cells::execute_by(alloc, files, count, axis, out),
         Command::Blobs => blobs::execute(alloc, files, out),
         Command::Commit => commit::execute(alloc, files, out),
         Command::Prove => prove::execute(alloc, files, out),

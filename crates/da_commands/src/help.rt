@@ -22,6 +22,7 @@ const COMMANDS: &[u8] = b"\
     da repair HEADER MESSAGES\n\
     da light HEADER MESSAGES KEY COUNT\n\
     da wanted MISSING AXIS\n\
+    da cells HEADER KEY COUNT AXIS\n\
     da blobs SHARES\n\
     da commit BLOCK\n\
     da prove SQUARE REQUESTS\n\

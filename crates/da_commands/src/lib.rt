@@ -1,10 +1,11 @@
 //! The commands of `da` over the contents of their files: an output and a status.
 //!
-//! A command is a case of `Command`, of `Meaning` and of `execute`. `show`, `json`, `net`, `demo`, `help` and
-//! `version` stand here, each with a file of its own here and in `specs/`; the others are those of
+//! A command is a case of `Command`, of `Meaning` and of `execute`. `show`, `json`, `net`, `demo`, `cells`, `help`
+//! and `version` stand here, each with a file of its own here and in `specs/`; the others are those of
 //! `da_serving`, `da_judging` and `da_following`.
 #![tactic(auto)]
 
+mod cells;
 mod command;
 mod demo;
 mod help;
