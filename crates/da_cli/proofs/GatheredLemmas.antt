@@ -4,16 +4,18 @@ use Rattle.std.specs.Prelude.{⊤, ◌⊎◌}
 use Rattle.std.specs.declared.option.Option.{Option}
 use Rattle.std.specs.String.{string_bytes}
 use Rattle.std.proofs.lemmas.Bool.Decides.{nat_tests}
+use Rattle.std.proofs.lemmas.List.{length-map}
 use Rattle.std.proofs.lemmas.Grind.{common_steps}
 use Rattle.da_io.specs.Files.{Files}
 use Rattle.da_io.specs.declared.inputs.Ended.{Ended}
 use Rattle.da_cli.specs.declared.gathering.Stop.{Stop}
 use Rattle.da_cli.specs.declared.gathering.Stop.TheVariants.{PickFault, ReadFault, TooLong, NoMemory}
-use Rattle.da_cli.specs.Words.{words_of}
+use Rattle.da_cli.specs.Words.{words_of, named}
 use Rattle.da_io.specs.Faults.{count_on}
 use Rattle.da_io.specs.declared.inputs.Ended.TheVariants as ended
 use Rattle.da_files.specs.Contents.{contents_of, file_of}
 use Rattle.da_cli.specs.Gathered.{Gathered, whole, long, absent, after, gathered_one, gathered_from, gathered, IsWord, IsLastOf, PicksIn, ReadsFile, StopsFile, Gathers, StopsIn, AllRead}
+use Rattle.da_cli.proofs.WordLemmas.{length-named}
 
 -- one more content in front of what is gathered after them
 after-after : (front : List (List ℕ)) (content : List ℕ) (g : Gathered) → after front (after (content ∷ []) g) ≡ after (front ++ content ∷ []) g
@@ -36,6 +38,22 @@ pub name_here : (words : List (String Global)) (i : ℕ) (word name : String Glo
     → string_bytes name ≡ string_bytes word → drop i (words_of words) ≡ string_bytes name ∷ drop (i + 1) (words_of words)
 name_here words i word name h e same =
     word_here words i word h e ∙ ap (λ (l : List ℕ). l ∷ drop (i + 1) (words_of words)) (sym same)
+
+-- an element, and then the later ones
+element_here : (names : List (List ℕ)) (i : ℕ) (name : List ℕ) → i < length names → name ≡ get_or names i [] → drop i names ≡ name ∷ drop (i + 1) names
+element_here [] i name h e = absurd (omega arith)
+element_here (n ∷ names) zero name h e = ap (λ (l : List ℕ). l ∷ names) (sym e)
+element_here (n ∷ names) (suc i) name h e =
+    let next : suc i + 1 ≡ suc (i + 1) = omega arith in
+    element_here names i name (omega arith) e ∙ sym (ap (λ (k : ℕ). name ∷ drop k (n ∷ names)) next)
+
+-- the name that word i names, and then the later ones
+pub named_here : (plain : ℕ) (words : List (String Global)) (i : ℕ) (name : String Global) → i < length words
+    → string_bytes name ≡ get_or (named plain (words_of words)) i []
+    → drop i (named plain (words_of words)) ≡ string_bytes name ∷ drop (i + 1) (named plain (words_of words))
+named_here plain words i name h e =
+    element_here (named plain (words_of words)) i (string_bytes name)
+    (omega (arith, h, length-named plain (words_of words), length-map words string_bytes)) e
 
 -- what is gathered from a name on
 from_here : (limits : ℕ → ℕ) (files : Files) (names : List (List ℕ)) (i : ℕ) (name : List ℕ) → drop i names ≡ name ∷ drop (i + 1) names

@@ -1,3 +1,4 @@
+pub mod WordLemmas
 pub mod GatheredLemmas
 pub mod FeedingLemmas
 pub mod StreamedLemmas
@@ -5,10 +6,10 @@ pub mod ComeLemmas
 pub mod FedLemmas
 pub mod CountedLies
 pub mod SecondLemmas
-pub mod WordLemmas
 pub mod RunLemmas
 pub mod RanLemmas
 pub mod StreamedRanLemmas
 pub mod NetLemmas
 pub mod RangeLemmas
 pub mod OwnLemmas
+pub mod CellsLemmas

@@ -30,7 +30,8 @@ use Rattle.da_judging.specs.Check.{finding_of, line_of, IsOwnFrame}
 use Rattle.axis_roots.specs.Claims.{ClaimParts}
 use Rattle.da_judging.specs.Compact.{claim_file, claim_in, CompactsJudged, CompactsOwn}
 use Rattle.da_judging.specs.Repair.{Repairs, RepairsOwn}
-use Rattle.da_judging.specs.Light.{Lights, JudgesOwn}
+use Rattle.da_judging.specs.Keys.{key_file_in}
+use Rattle.da_judging.specs.Light.{Lights, LightOf, light_key_file, JudgesOwn}
 use Rattle.da_files.specs.Requests.{namespaces_in}
 use Rattle.da_following.specs.Follow.{wanted_file, answers_file, items_in, Feed}
 use Rattle.da_judging.specs.Verify.{answer_file, answer_in, IsRefusal, verdict_line, IsOwnReply}
@@ -39,6 +40,7 @@ use Rattle.da_judging.specs.Answers.{answer_frame, is_answer_to}
 use Rattle.da_judging.specs.VerifyFor.{IsRefusalFor}
 use Rattle.da_judging.specs.VerifyCommitment.{states_commitment}
 use Rattle.da_files.specs.Contents.{messages_file}
+use Rattle.da_files.proofs.FormLemmas.{over_each}
 use Rattle.da_judging.proofs.VerifyForLemmas.{asked_holds, shows_asked}
 use Rattle.da_judging.proofs.VerifyCommitmentLemmas.{stated_holds}
 use Rattle.da_commands.specs.Net.{script_file, Nets}
@@ -148,6 +150,12 @@ are_own (Some files) words found verified file repaired lit compacted followed n
   light = λ contents header square key count w status command read first own fits answers.
       lit header (frames_of (messages_file contents)) square key count w status own
       (subst (λ (a : Result Roots ℕ). MatchResult a (λ h. Lights key count h (frames_of (messages_file contents)) w status) (λ at. ⊥)) first answers);
+  light_by = λ contents header square count w status command read first own fits answers.
+      over_each (λ key. LightOf key count contents) (key_file_in (light_key_file contents)) w status (JudgesOwn square w status)
+      (λ key answered.
+      lit header (frames_of (messages_file contents)) square key count w status own
+      (subst (λ (a : Result Roots ℕ). MatchResult a (λ h. Lights key count h (frames_of (messages_file contents)) w status) (λ at. ⊥)) first answered))
+      answers;
   follow = λ contents header square feed number name read command gather fits headed own is has.
       followed (namespaces_in (wanted_file contents)) (answers_file contents) feed number name read header square fits is has headed own;
   net = λ contents header square w status command read first own answers.

@@ -1,5 +1,5 @@
 -- How a run ended, from how its files were read and how its command ended.
-use Rattle.std.proofs.Common.{◌≡◌, ◌∙◌, ℕ, zero, suc, ◌+◌, ◌-◌, ◌<◌, ◌≤◌, List, String, Global, length, take, drop, None, Some, Result, Ok, Err, refl, sym, ap, subst, arith, inl, inr, ◌⊎◌}
+use Rattle.std.proofs.Common.{◌≡◌, ◌∙◌, ℕ, zero, suc, ◌-◌, ◌<◌, ◌≤◌, List, String, Global, length, None, Some, Result, Ok, Err, refl, sym, ap, subst, arith, inl, inr, ◌⊎◌}
 use Rattle.std.specs.declared.option.Option.{Option}
 use Rattle.da_io.specs.Faults.{count_on}
 use Rattle.da_io.specs.Files.{Files}
@@ -22,7 +22,7 @@ use Rattle.da_cli.specs.Run.{status_of}
 use Rattle.da_cli.specs.Ran.{Ran}
 use Rattle.da_cli.specs.Streamed.{HasGathered}
 use Rattle.da_cli.proofs.GatheredLemmas.{all_gathered}
-use Rattle.da_cli.proofs.RunLemmas.{command_told, stopped_told, names_same, files_count}
+use Rattle.da_cli.proofs.RunLemmas.{command_told, stopped_told, files_count}
 
 -- ---- a command's own status, which comes after all files were read
 
@@ -209,30 +209,29 @@ module _ {I O : Type 0} (i : inputs.Ghosts I) (o : sink.Ghosts O) where
     told = (λ s. s, λ s. s);
   }
 
-  -- files that were read by the words behind a command's own, with its limits
-  of_words : (words : List (String Global)) (call : Call) (limits : ℕ → ℕ) (before now : I) (r : Result (List (List ℕ)) Stop)
-      → Some call ≡ call_of (words_of words) → limits ≡ limits_for call.command
-      → HasGathered i limits (words_of (take (1 + call.files - 1) (drop 1 words))) call.files before now r
-      → HasGathered i (limits_of (words_of words)) (names_of (words_of words)) call.files before now r
-  of_words words call limits before now r e own came =
-      subst (λ (l : ℕ → ℕ). HasGathered i l (names_of (words_of words)) call.files before now r) (own ∙ ap limits_in e)
-      (subst (λ (names : List (List ℕ)). HasGathered i limits names call.files before now r) (names_same words call e) came)
+  -- files that were read by a command's names, with its limits
+  of_names : (words : List (List ℕ)) (call : Call) (limits : ℕ → ℕ) (names : List (List ℕ)) (before now : I) (r : Result (List (List ℕ)) Stop)
+      → Some call ≡ call_of words → limits ≡ limits_for call.command → names ≡ names_of words
+      → HasGathered i limits names call.files before now r → HasGathered i (limits_of words) (names_of words) call.files before now r
+  of_names words call limits names before now r e own same came =
+      subst (λ (l : ℕ → ℕ). HasGathered i l (names_of words) call.files before now r) (own ∙ ap limits_in e)
+      (subst (λ (n : List (List ℕ)). HasGathered i limits n call.files before now r) same came)
 
-  -- a command ended so, over the files that were read by the words behind its own
-  pub ran_over : (words : List (String Global)) (call : Call) (limits : ℕ → ℕ) (contents : List (List ℕ)) (before now : I) (old new : O) (status : Status)
-      → Some call ≡ call_of (words_of words) → call.files < length words → limits ≡ limits_for call.command
-      → HasGathered i limits (words_of (take (1 + call.files - 1) (drop 1 words))) call.files before now (Ok contents)
+  -- a command ended so, over the files that were read by its names
+  pub ran_over : (words : List (String Global)) (call : Call) (limits : ℕ → ℕ) (names contents : List (List ℕ)) (before now : I) (old new : O) (status : Status)
+      → Some call ≡ call_of (words_of words) → call.files < length words → limits ≡ limits_for call.command → names ≡ names_of (words_of words)
+      → HasGathered i limits names call.files before now (Ok contents)
       → Ends (Meaning call.command contents) (o.taken old) (o.taken new) (o.faults old) (o.faults new) (new ≡ old) status
       → Ran i o (words_of words) before now old new status
-  ran_over words call limits contents before now old new status e few own came ends =
+  ran_over words call limits names contents before now old new status e few own same came ends =
       ran_command (words_of words) call contents before now old new status (sym e) (files_count words call e few)
-      (of_words words call limits before now (Ok contents) e own came) ends
+      (of_names (words_of words) call limits names before now (Ok contents) e own same came) ends
 
-  -- the files of the words behind a command's own were not read whole
-  pub ran_up_to : (words : List (String Global)) (call : Call) (limits : ℕ → ℕ) (before now : I) (out : O) (stop : Stop)
-      → Some call ≡ call_of (words_of words) → call.files < length words → limits ≡ limits_for call.command
-      → HasGathered i limits (words_of (take (1 + call.files - 1) (drop 1 words))) call.files before now (Err stop)
+  -- the files that a command's names name were not read whole
+  pub ran_up_to : (words : List (String Global)) (call : Call) (limits : ℕ → ℕ) (names : List (List ℕ)) (before now : I) (out : O) (stop : Stop)
+      → Some call ≡ call_of (words_of words) → call.files < length words → limits ≡ limits_for call.command → names ≡ names_of (words_of words)
+      → HasGathered i limits names call.files before now (Err stop)
       → Ran i o (words_of words) before now out out (status_of stop)
-  ran_up_to words call limits before now out stop e few own came =
+  ran_up_to words call limits names before now out stop e few own same came =
       ran_stopped (words_of words) call before now out stop (sym e) (files_count words call e few)
-      (of_words words call limits before now (Err stop) e own came)
+      (of_names (words_of words) call limits names before now (Err stop) e own same came)

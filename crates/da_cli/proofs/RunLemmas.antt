@@ -5,7 +5,7 @@ use Rattle.std.specs.declared.option.Option.{Option}
 use Rattle.std.specs.String.{string_bytes}
 use Rattle.std.proofs.lemmas.Grind.{common_steps}
 use Rattle.std.proofs.KnownBytes.{Appends-nil}
-use Rattle.std.proofs.lemmas.List.{take-map, drop-map, length-map}
+use Rattle.std.proofs.lemmas.List.{length-map}
 use Rattle.da_io.specs.Files.{Files}
 use Rattle.da_commands.specs.declared.command.Command.{Command}
 use Rattle.da_commands.specs.declared.command.Command.TheVariants.{Repair}
@@ -13,7 +13,7 @@ use Rattle.da_cli.specs.declared.words.Call.{Call}
 use Rattle.da_status.specs.declared.status.Status.{Status}
 use Rattle.da_status.specs.declared.status.Status.TheVariants.{BadInput, TooLong}
 use Rattle.da_status.specs.Statuses.{Kind, usage, fault, excess, form, request, memory, write, output, kind_of, row_of, May, IsDecided}
-use Rattle.da_cli.specs.Words.{words_of, call_of, file_words, names_in, names_of}
+use Rattle.da_cli.specs.Words.{words_of, call_of, file_words, plain_count, named, call_names, names_in, names_of}
 use Rattle.da_cli.specs.Limits.{file_limits, limits_for, limits_in, limits_of}
 use Rattle.da_cli.specs.Gathered.{Gathered, whole, long, absent, gathered, Gathers}
 use Rattle.da_cli.specs.declared.gathering.Stop.{Stop}
@@ -24,6 +24,7 @@ use Rattle.da_commands.specs.Meaning.{judged_of, AnswerOf, Meaning}
 use Rattle.da_cli.specs.Run.{status_of, CommandOf, CallOf, RunOf, LeavesTold, CompletesBy, Completes}
 use Rattle.da_cli.specs.Laws.{FormLaw, BadInputLaw, ExcessLaw, AbsentLaw, FailureLaw}
 use Rattle.da_cli.proofs.GatheredLemmas.{AllGathered}
+use Rattle.da_cli.proofs.WordLemmas.{names_here, named-all, length-named}
 use Rattle.da_status.proofs.EndLemmas.{IsAnswer}
 use Rattle.da_commands.proofs.MeaningLemmas.{answer_last}
 
@@ -34,7 +35,7 @@ kept_limits command kept = refl
 
 -- the relation of words that are a command
 run_of_call : (words : List (List ℕ)) (call : Call) (files : Files) (g : Gathered) → call_of words ≡ Some call
-    → gathered (limits_for call.command) files (file_words call.files words) ≡ g → RunOf files words ≡ CommandOf call.command g
+    → gathered (limits_for call.command) files (call_names call words) ≡ g → RunOf files words ≡ CommandOf call.command g
 run_of_call words call files g e read =
     ap (λ (o : Option Call). CallOf o files words) e ∙ ap (CommandOf call.command) read
 
@@ -44,10 +45,10 @@ pub command_told : (told : Option Files) (words : List (List ℕ)) (call : Call)
     → LeavesTold told words old new status
 command_told None words call contents old new status e all leaves = tt
 command_told (Some files) words call contents old new status e all leaves =
-    let named : names_of words ≡ file_words call.files words = ap (λ (o : Option Call). names_in o words) e in
+    let are_named : names_of words ≡ call_names call words = ap (λ (o : Option Call). names_in o words) e in
     let limits : limits_of words ≡ limits_for call.command = ap limits_in e in
     let same : RunOf files words ≡ Meaning call.command contents =
-    run_of_call words call files (whole contents) e (ap₂ (λ (l : ℕ → ℕ) (names : List (List ℕ)). gathered l files names) (sym limits) (sym named) ∙ all) in
+    run_of_call words call files (whole contents) e (ap₂ (λ (l : ℕ → ℕ) (names : List (List ℕ)). gathered l files names) (sym limits) (sym are_named) ∙ all) in
     subst (λ (M : Relation). Leaves M old new status) (sym same) leaves
 
 -- files that were not read whole
@@ -58,31 +59,41 @@ stopped_told (Some files) words call count old (stop.PickFault i) e read = tt
 stopped_told (Some files) words call count old (stop.ReadFault i) e read = tt
 stopped_told (Some files) words call count old stop.NoMemory e read = ([], Appends-nil old, inl refl)
 stopped_told (Some files) words call count old (stop.TooLong i) e read =
-    let named : names_of words ≡ file_words call.files words = ap (λ (o : Option Call). names_in o words) e in
+    let are_named : names_of words ≡ call_names call words = ap (λ (o : Option Call). names_in o words) e in
     let limits : limits_of words ≡ limits_for call.command = ap limits_in e in
     let same : RunOf files words ≡ Refuses (TooLong i) =
-    run_of_call words call files (long i) e (ap₂ (λ (l : ℕ → ℕ) (names : List (List ℕ)). gathered l files names) (sym limits) (sym named) ∙ read) in
+    run_of_call words call files (long i) e (ap₂ (λ (l : ℕ → ℕ) (names : List (List ℕ)). gathered l files names) (sym limits) (sym are_named) ∙ read) in
     subst (λ (M : Relation). Outputs M old old (TooLong i)) (sym same) ([], (refl, refl), Appends-nil old)
 
--- the names of the files, as a slice of the words gives them
-pub names_here : (n : ℕ) (words : List (String Global)) → words_of (take (1 + n - 1) (drop 1 words)) ≡ file_words n (words_of words)
-names_here n words =
-    let e : 1 + n - 1 ≡ n = omega arith in
-    ap (λ (k : ℕ). words_of (take k (drop 1 words))) e ∙ sym (take-map string_bytes n (drop 1 words))
-    ∙ ap (take n) (sym (drop-map string_bytes 1 words))
-
--- the names of a command's files are the words that were gathered
+-- the names of a command's files are those that were gathered
 pub names_same : (words : List (String Global)) (call : Call) → Some call ≡ call_of (words_of words)
-    → words_of (take (1 + call.files - 1) (drop 1 words)) ≡ names_of (words_of words)
+    → named (plain_count call.command call.files) (words_of (take (1 + call.files - 1) (drop 1 words))) ≡ names_of (words_of words)
 names_same words call e =
-    names_here call.files words ∙ ap (λ (o : Option Call). names_in o (words_of words)) e
+    ap (named (plain_count call.command call.files)) (names_here call.files words)
+    ∙ ap (λ (o : Option Call). names_in o (words_of words)) e
+
+-- those that were gathered by as many plain words as the command has
+pub names_by : (words : List (String Global)) (call : Call) (plain : ℕ) → plain ≡ plain_count call.command call.files
+    → Some call ≡ call_of (words_of words) → named plain (words_of (take (1 + call.files - 1) (drop 1 words))) ≡ names_of (words_of words)
+names_by words call plain is e =
+    ap (λ (n : ℕ). named n (words_of (take (1 + call.files - 1) (drop 1 words)))) is ∙ names_same words call e
+
+-- those of repair are words as they stand
+pub repair_names : (words : List (String Global)) (call : Call) → Some call ≡ call_of (words_of words) → call.command ≡ Repair
+    → words_of (take (1 + call.files - 1) (drop 1 words)) ≡ names_of (words_of words)
+repair_names words call e is =
+    names_here call.files words ∙ sym (named-all call.files (drop 1 (words_of words)))
+    ∙ ap (λ (command : Command). named (plain_count command call.files) (file_words call.files (words_of words))) (sym is)
+    ∙ ap (λ (o : Option Call). names_in o (words_of words)) e
 
 -- as many names as a command has file words
 pub files_count : (words : List (String Global)) (call : Call) → Some call ≡ call_of (words_of words) → call.files < length words
     → call.files ≡ length (names_of (words_of words))
 files_count words call e few =
+    let behind = take (1 + call.files - 1) (drop 1 words) in
     let here : length (take (1 + call.files - 1) (drop 1 words)) ≡ call.files = grind (arith, common_steps) in
-    sym (sym (ap length (names_same words call e)) ∙ length-map (take (1 + call.files - 1) (drop 1 words)) string_bytes ∙ here)
+    sym (sym (ap length (names_same words call e)) ∙ length-named (plain_count call.command call.files) (words_of behind)
+    ∙ length-map behind string_bytes ∙ here)
 
 -- the meaning over judged files
 judged_is : (judged : List (Option ℕ)) (A : Relation) (o : Option (ℕ × ℕ)) → first_bad 0 judged ≡ o
@@ -98,7 +109,7 @@ as_one M N w status e = (
 
 -- over files in their forms the words' relation is the command's answer
 run_in_form : (files : Files) (words : List (List ℕ)) (call : Call) (contents : List (List ℕ)) → call_of words ≡ Some call
-    → gathered (limits_for call.command) files (file_words call.files words) ≡ whole contents → first_bad 0 (judged_of call.command contents) ≡ None
+    → gathered (limits_for call.command) files (call_names call words) ≡ whole contents → first_bad 0 (judged_of call.command contents) ≡ None
     → RunOf files words ≡ AnswerOf call.command contents
 run_in_form files words call contents e read fine =
     run_of_call words call files (whole contents) e read ∙ judged_is (judged_of call.command contents) (AnswerOf call.command contents) None fine
@@ -148,7 +159,7 @@ by_gathered (absent i) command w status h = absurd h
 -- what words come to is decided by words and files
 by_call : (o : Option Call) (files : Files) (words : List (List ℕ)) (w : List ℕ) (status : Status) → CallOf o files words w status → IsDecided (kind_of status)
 by_call None files words w status h = decided status usage (ap kind_of h.1) tt
-by_call (Some call) files words w status h = by_gathered (gathered (limits_for call.command) files (file_words call.files words)) call.command w status h
+by_call (Some call) files words w status h = by_gathered (gathered (limits_for call.command) files (call_names call words)) call.command w status h
 
 -- neither a failure nor out of memory belongs to a run
 pub failure_law : FailureLaw

@@ -15,6 +15,7 @@ use Rattle.da_cli.specs.Run.{status_of, IsEarly}
 use Rattle.da_cli.specs.Ran.{Ran}
 use Rattle.da_cli.specs.Streamed.{HasGathered, HasCome}
 use Rattle.da_cli.specs.StreamedRepair.{Streams}
+use Rattle.da_cli.proofs.RunLemmas.{repair_names}
 use Rattle.da_cli.proofs.RanLemmas.{ran_over, ran_up_to}
 
 -- the status of files that were read, or that of why they were not
@@ -34,11 +35,11 @@ module _ {I O : Type 0} (i : inputs.Ghosts I) (o : sink.Ghosts O) where
       → Some call ≡ call_of (words_of words) → call.files < length words → call.files ≡ 2 → call.command ≡ Repair
       → Streams i o (words_of (take 2 (drop 1 words))) before now old new r → Ran i o (words_of words) before now old new (status_in r)
   ran_streamed words call before now old new (Ok status) e few two is s =
-      ran_over i o words call repair_limits s.0 before now old new status e few (ap limits_for (sym is)) (gathered_two words call.files before now (Ok s.0) two s.1)
+      ran_over i o words call repair_limits _ s.0 before now old new status e few (ap limits_for (sym is)) (repair_names words call e is) (gathered_two words call.files before now (Ok s.0) two s.1)
       (subst (λ (c : Command). Ends (Meaning c s.0) (o.taken old) (o.taken new) (o.faults old) (o.faults new) (new ≡ old) status) (sym is) s.2.ends)
   ran_streamed words call before now old new (Err why) e few two is s =
       subst (λ (x : O). Ran i o (words_of words) before now old x (status_of why)) (sym s.1)
-      (ran_up_to i o words call repair_limits before now old why e few (ap limits_for (sym is)) (gathered_two words call.files before now (Err why) two s.0))
+      (ran_up_to i o words call repair_limits _ before now old why e few (ap limits_for (sym is)) (repair_names words call e is) (gathered_two words call.files before now (Err why) two s.0))
 
   -- where memory ran out, the output is as it was
   pub early_streamed : (words : List (String Global)) (call : Call) (before now : I) (old new : O) (r : Result Status Stop) → Some call ≡ call_of (words_of words)

@@ -1,21 +1,23 @@
--- Words that are numbers, the words of light, and the table of commands.
-use Rattle.std.proofs.Common.{◌≡◌, ◌∙◌, ℕ, ◌+◌, ◌-◌, ◌*◌, ◌<◌, ◌≤◌, Bool, true, false, cond, ◌&&◌, List, [], ◌∷◌, length, get_or, String, Global, Some, None, IfSome, refl, sym, ap, ap₂, arith, eqb-true}
+-- Words that are numbers, the words of light, the table of commands, and the names that words name.
+use Rattle.std.proofs.Common.{◌≡◌, ◌∙◌, ℕ, zero, suc, ◌+◌, ◌-◌, ◌*◌, ◌<◌, ◌≤◌, Bool, true, false, cond, ◌&&◌, List, [], ◌∷◌, length, get_or, take, drop, String, Global, Some, None, IfSome, refl, sym, ap, ap₂, arith, eqb-true, inl, inr}
 use Rattle.std.specs.Prelude.{nat_le, codes, ◌==◌}
 use Rattle.std.specs.String.{string_bytes}
 use Rattle.std.specs.Str.{bytes_eq}
-use Rattle.std.proofs.lemmas.List.{length-map, get_or-map}
+use Rattle.std.proofs.lemmas.List.{length-map, get_or-map, take-map, drop-map}
 use Rattle.std.specs.declared.option.Option.{Option}
-use Rattle.std.specs.List.{fold, list_all, AllByRecursion}
-use Rattle.std.proofs.lemmas.Bool.{and_parts, ltb-true}
+use Rattle.std.specs.List.{fold, list_all, filter, AllByRecursion}
+use Rattle.std.proofs.lemmas.Bool.{and_parts, ltb-true, cases_Bool}
+use Rattle.std.proofs.lemmas.Grind.{common_steps}
 use Rattle.std.proofs.lemmas.Bool.Decides.{nat_tests}
 use Rattle.std.proofs.Math.Bool.{and-false}
 use Rattle.std.proofs.Math.Dec.{ltb}
+use Rattle.da_io.specs.Files.{is_standard_input}
 use Rattle.da_commands.specs.declared.command.Command.{Command}
 use Rattle.da_commands.specs.declared.command.Command.TheVariants.{Repair, Demo}
 use Rattle.da_commands.specs.Meaning.{IsRunnable}
 use Rattle.da_commands.specs.Demo.{is_trial_width}
 use Rattle.da_cli.specs.declared.words.Call.{Call}
-use Rattle.da_cli.specs.Words.{words_of, is_command, is_digit, light_call, value_call, call_in, file_commands, HasFiles}
+use Rattle.da_cli.specs.Words.{words_of, is_command, is_digit, key_name, light_call, value_call, call_in, file_commands, file_words, named, reads_once, HasFiles}
 
 -- the number with one digit more
 abbrev with_digit : ℕ → ℕ → ℕ
@@ -155,3 +157,84 @@ rows_run = all_say (λ (row : List ℕ × ℕ × Command). can_run row.2) (λ (r
 -- and two files where it is repair
 pub rows_own : AllByRecursion (λ (row : List ℕ × ℕ × Command). HasFiles row.2 row.1) file_commands
 rows_own = all_say (λ (row : List ℕ × ℕ × Command). has_own row.2 row.1) (λ (row : List ℕ × ℕ × Command). HasFiles row.2 row.1) (λ row is. owns row.2 row.1 is) file_commands refl
+
+-- ---- the names of files
+
+-- a word that begins with no `@` is the name
+pub key_name_other : (word : List ℕ) → ((rest : List ℕ) → word ≡ 64 ∷ rest → ⊥) → word ≡ key_name word
+key_name_other [] other = refl
+key_name_other (byte ∷ rest) other = elim (cases_Bool (byte == 64)) [
+  | inl same ↦ absurd (other rest (ap (λ (b : ℕ). b ∷ rest) (eqb-true byte 64 same)))
+  | inr told ↦ sym (ap (λ (t : Bool). cond t rest (byte ∷ rest)) told)
+]
+
+-- words name as many names as they are
+pub length-named : (plain : ℕ) (words : List (List ℕ)) → length (named plain words) ≡ length words
+length-named zero words = length-map words key_name
+length-named (suc plain) [] = refl
+length-named (suc plain) (word ∷ words) = ap suc (length-named plain words)
+
+-- a word that is a name as it stands
+plain_name : (plain i : ℕ) (words : List (List ℕ)) → i < plain → i < length words → get_or (named plain words) i [] ≡ get_or words i []
+plain_name zero i words below within = absurd (omega arith)
+plain_name (suc plain) i [] below within = absurd (omega arith)
+plain_name (suc plain) zero (word ∷ words) below within = refl
+plain_name (suc plain) (suc i) (word ∷ words) below within = plain_name plain i words (omega arith) (omega arith)
+
+-- a word in the place of KEY
+key_behind : (plain i : ℕ) (words : List (List ℕ)) → plain ≤ i → i < length words
+    → get_or (named plain words) i [] ≡ key_name (get_or words i [])
+key_behind zero i words above within = get_or-map key_name words i [] [] within
+key_behind (suc plain) i [] above within = absurd (omega arith)
+key_behind (suc plain) zero (word ∷ words) above within = absurd (omega arith)
+key_behind (suc plain) (suc i) (word ∷ words) above within = key_behind plain i words (omega arith) (omega arith)
+
+-- the name of a word in the place of KEY, by the word
+pub key_at : (plain : ℕ) (words : List (String Global)) (i : ℕ) (word : String Global) → plain ≤ i → i < length words
+    → word ≡ get_or words i word → get_or (named plain (words_of words)) i [] ≡ key_name (string_bytes word)
+key_at plain words i word above within is =
+    key_behind plain i (words_of words) above (omega (arith, within, length-map words string_bytes))
+    ∙ ap key_name (word_at words i word within is)
+
+-- every word is a name as it stands
+pub named-all : (count : ℕ) (words : List (List ℕ)) → named count (take count words) ≡ take count words
+named-all zero words = refl
+named-all (suc count) [] = refl
+named-all (suc count) (word ∷ words) = ap (λ (l : List (List ℕ)). word ∷ l) (named-all count words)
+
+-- the words behind a command's own, as a slice of the words gives them
+pub names_here : (n : ℕ) (words : List (String Global)) → words_of (take (1 + n - 1) (drop 1 words)) ≡ file_words n (words_of words)
+names_here n words =
+    let e : 1 + n - 1 ≡ n = omega arith in
+    ap (λ (k : ℕ). words_of (take k (drop 1 words))) e ∙ sym (take-map string_bytes n (drop 1 words))
+    ∙ ap (take n) (sym (drop-map string_bytes 1 words))
+
+-- ---- the standard input among names
+
+-- one more element where a test holds
+length_one : {A : Type 0} (b : Bool) (x : A) (xs : List A) → length (cond b (x ∷ xs) xs) ≡ length xs + cond b 1 0
+length_one true x xs = omega arith
+length_one false x xs = omega arith
+
+-- how many names are the standard input
+abbrev pub inputs_among : List (List ℕ) → ℕ
+inputs_among names = length (filter is_standard_input names)
+
+-- with one name more
+pub inputs_next : (names : List (List ℕ)) (i : ℕ) → i < length names
+    → inputs_among (take (i + 1) names) ≡ inputs_among (take i names) + cond (is_standard_input (get_or names i [])) 1 0
+inputs_next [] i within = absurd (omega arith)
+inputs_next (name ∷ names) zero within = length_one (is_standard_input name) name []
+inputs_next (name ∷ names) (suc i) within =
+    let next : suc i + 1 ≡ suc (i + 1) = omega arith in
+    let more = length_one (is_standard_input name) name (filter is_standard_input (take (i + 1) names)) in
+    let fewer = length_one (is_standard_input name) name (filter is_standard_input (take i names)) in
+    ap (λ (n : ℕ). inputs_among (take n (name ∷ names))) next
+    ∙ omega (arith, more, fewer, inputs_next names i (omega arith))
+
+-- all names were counted
+pub inputs_all : (names : List (List ℕ)) (i count : ℕ) → i ≡ length names → count ≡ inputs_among (take i names)
+    → nat_le count 1 ≡ reads_once names
+inputs_all names i count all is =
+    let whole : take i names ≡ names = grind (arith, common_steps) in
+    ap (λ (n : ℕ). nat_le n 1) (is ∙ ap inputs_among whole)

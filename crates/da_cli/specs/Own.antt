@@ -28,7 +28,7 @@ use Rattle.da_status.specs.declared.status.Status.TheVariants.{Done}
 use Rattle.axis_roots.specs.Claims.{ClaimParts}
 use Rattle.da_judging.specs.Compact.{claim_file, claim_in, CompactOf, CompactsOwn}
 use Rattle.da_judging.specs.Repair.{RepairOf, RepairsOwn}
-use Rattle.da_judging.specs.Light.{LightOf, JudgesOwn}
+use Rattle.da_judging.specs.Light.{LightOf, LightByOf, JudgesOwn}
 use Rattle.da_files.specs.Requests.{namespaces_in}
 use Rattle.da_following.specs.Follow.{wanted_file, answers_file, items_in, Feed}
 use Rattle.da_judging.specs.Verify.{answer_file, answer_in, IsRefusal, verdict_line, IsOwnReply}
@@ -99,6 +99,13 @@ IsOwnLight files words = (contents : List (List ℕ)) (header : Roots) (square :
     → header_in (header_file contents) ≡ Ok header → IsHeaderOf header square
     → AreBytes (messages_file contents) → LightOf key count contents w status → JudgesOwn square w status
 
+-- the same over the files of `light` with a KEY in a file
+abbrev pub IsOwnLightBy : Files → List (List ℕ) → Type 0
+IsOwnLightBy files words = (contents : List (List ℕ)) (header : Roots) (square : SquareShares) (count : ℕ) (w : List ℕ) (status : Status)
+    → is_command words (codes "light") 4 ≡ true → gathered (limits_of words) files (names_of words) ≡ whole contents
+    → header_in (header_file contents) ≡ Ok header → IsHeaderOf header square
+    → AreBytes (messages_file contents) → LightByOf count contents w status → JudgesOwn square w status
+
 -- over the files of `follow`, at a height whose header is that of a square: what is told of a namespace is what the square's shares of it are read as, or the first complete answer and the square name a collision
 abbrev pub IsOwnFollow : Files → List (List ℕ) → Type 0
 IsOwnFollow files words = (contents : List (List ℕ)) (header : Roots) (square : SquareShares) (feed : Feed) (number : ℕ) (name : names.Namespace) (read : Read)
@@ -138,6 +145,7 @@ pub record HasOwn (files : Files) (words : List (List ℕ)) : Type 0 where
   pub verify_commitment : IsOwnLineStated files words
   pub repair : IsOwnRepair files words
   pub light : IsOwnLight files words
+  pub light_by : IsOwnLightBy files words
   pub follow : IsOwnFollow files words
   pub net : IsOwnNet files words
   pub prove : IsOwnProve files words

@@ -9,7 +9,7 @@ use Rattle.da_status.specs.declared.status.Status.TheVariants.{Usage, PickFault,
 use Rattle.da_cli.specs.declared.gathering.Stop.{Stop}
 use Rattle.da_cli.specs.declared.gathering.Stop.TheVariants as stop
 use Rattle.da_status.specs.Statuses.{Kind, kind_of, row_of, May}
-use Rattle.da_cli.specs.Words.{call_of, file_words}
+use Rattle.da_cli.specs.Words.{call_of, call_names}
 use Rattle.da_cli.specs.Limits.{limits_for}
 use Rattle.da_cli.specs.Gathered.{Gathered, whole, long, absent, gathered}
 use Rattle.da_status.specs.Outcome.{Relation, Refuses, LeavesBy, Leaves}
@@ -25,7 +25,7 @@ CommandOf command (absent i) = λ w status. ⊥
 -- a call over the files with these names; words that are no command are refused
 abbrev pub CallOf : Option Call → Files → List (List ℕ) → Relation
 CallOf None files words = Refuses Usage
-CallOf (Some call) files words = CommandOf call.command (gathered (limits_for call.command) files (file_words call.files words))
+CallOf (Some call) files words = CommandOf call.command (gathered (limits_for call.command) files (call_names call words))
 
 -- the words' command over the files with these names
 abbrev pub RunOf : Files → List (List ℕ) → Relation
@@ -46,7 +46,7 @@ CompletesBy kind M old new status = May (row_of kind).in_form (LeavesBy kind M o
 abbrev pub Completes : Option Files → List (List ℕ) → Option (List ℕ) → Option (List ℕ) → Status → Type 0
 Completes None words old new status = ⊤
 Completes (Some files) words old new status = (call : Call) (contents : List (List ℕ)) → call_of words ≡ Some call
-    → gathered (limits_for call.command) files (file_words call.files words) ≡ whole contents
+    → gathered (limits_for call.command) files (call_names call words) ≡ whole contents
     → first_bad 0 (judged_of call.command contents) ≡ None
     → CompletesBy (kind_of status) (AnswerOf call.command contents) old new status
 

@@ -3,11 +3,12 @@
 ghost use Rattle.std.specs.Prelude.{◌≡◌, ◌≤◌, ◌<◌, length, IfErr, IfOk, Some, Ok, Err};
 ghost use Rattle.std.specs.String.{string_bytes};
 ghost use Rattle.da_cli.specs.Limits.{file_limit, file_limits};
-ghost use Rattle.da_cli.specs.Words.{words_of};
+ghost use Rattle.da_cli.specs.Words.{words_of, named};
 ghost use Rattle.da_io.specs.Faults.{count_on};
 ghost use Rattle.da_io.specs.declared.inputs.Ended.TheVariants.{Fine};
 ghost use Rattle.da_cli.specs.Gathered.{bytes_read, files_read, IsLastOf, PicksIn, ReadsFile, StopsFile, Gathers, StopsIn, count_after, WithinLimit, WithinLimits};
 
+use crate::words::name_at;
 use da_io::{InputFault, Inputs, read_all};
 use std::alloc::Global;
 
@@ -51,24 +52,26 @@ pub(crate) fn read_file<I: Inputs>(
 }
 
 /// Picks and reads the files of the first `count` words to their ends, and stops at the first
-/// failure or excess of length.
+/// failure or excess of length. The first `plain` words are names as they stand, and the others stand
+/// in the place of KEY.
 pub(crate) fn gather<I: Inputs>(
     alloc: Global,
     words: &[String],
+    plain: usize,
     count: usize,
     inputs: &mut I,
 ) -> Result<Vec<Vec<u8>>, Stop>
     requires few { length words.now < 16 }
     requires count { count ≤ length words.now }
-    ensures contents { Gathers file_limits (I.files inputs.old) (words_of words.now) count
+    ensures contents { Gathers file_limits (I.files inputs.old) (named plain (words_of words.now)) count
         (files_read result) }
-    ensures stop { IfErr result (StopsIn file_limits (I.files inputs.old) (words_of words.now)
+    ensures stop { IfErr result (StopsIn file_limits (I.files inputs.old) (named plain (words_of words.now))
         (I.picked inputs.new) (I.ended inputs.new) (I.given inputs.new)) }
     ensures faults { I.faults inputs.new ≡ count_after (I.faults inputs.old) result }
     ensures within { 0 < count →
-        WithinLimits file_limits (words_of words.now) count (I.picked inputs.new)
+        WithinLimits file_limits (named plain (words_of words.now)) count (I.picked inputs.new)
         (I.given inputs.new) (inputs.new ≡ inputs.old) (files_read result) }
-    ensures last { IfOk result (λ _. IsLastOf (words_of words.now) count (I.picked inputs.new)
+    ensures last { IfOk result (λ _. IsLastOf (named plain (words_of words.now)) count (I.picked inputs.new)
         (I.ended inputs.new)) }
     ensures picks { PicksIn (I.picks inputs.old) (I.picks inputs.new) count result }
     ensures idle { count ≡ 0 → inputs.new ≡ inputs.old }
@@ -76,7 +79,7 @@ pub(crate) fn gather<I: Inputs>(
 {
     let mut contents = Vec::new(alloc);
     for i in 0..count {
-        let Ok(name) = words[i].clone() else {
+        let Ok(name) = String::from_str(alloc, name_at(words, plain, i)) else {
             return Err(Stop::NoMemory);
         };
         let content = match read_file(alloc, name, i as u32, inputs) {

@@ -2,6 +2,7 @@
 
 ghost use Rattle.std.specs.Prelude.{◌*◌, ◌≡◌, ◌↔◌, ◌⊎◌, ℕ, ◌+◌, true, false, List, [], ◌∷◌, length, map, Ok, Some, None};
 ghost use Rattle.std.specs.List.{AllByRecursion, filter, Contains};
+ghost use Rattle.namespace_id.specs.declared.cells.Axis.{Axis};
 ghost use Rattle.namespace_id.specs.Bytes.{AreBytes};
 ghost use Rattle.namespace_id.specs.Shares.{AreShares};
 ghost use Rattle.share_split.specs.Walks.{blobs_of};
@@ -41,6 +42,7 @@ ghost use Rattle.da_script.specs.Plays as plays;
 ghost use Rattle.da_script.specs.Alarms.{TellsOwn};
 ghost use Rattle.da_commands.specs.Net.{Nets};
 ghost use Rattle.da_serving.specs.Build.{list_refusal};
+ghost use Rattle.da_commands.specs.Cells.{AsksFirst};
 ghost use Rattle.da_serving.specs.Prove.{ProvesRange};
 ghost use Rattle.da_serving.specs.Sample.{sample_frame, samples_in};
 ghost use Rattle.da_files.specs.Requests.{namespaces_in};
@@ -56,7 +58,7 @@ ghost use Rattle.da_following.specs.Follow.{items_in, Feed, Follows};
 ghost use Rattle.data_header.specs.DataRoots.{data_root_of};
 ghost use Rattle.blob_commit.specs.Proofs.{CommitParts, CommitHolds, RootedParts, RootedHolds};
 ghost use Rattle.da_cli.specs.Own.{ProvesOwn};
-ghost use Rattle.da_cli.specs.Laws.{FormLaw, BadInputLaw, ExcessLaw, AbsentLaw, FailureLaw};
+ghost use Rattle.da_cli.specs.Laws.{FormLaw, BadInputLaw, ExcessLaw, AbsentLaw, FailureLaw, IsWantedFirst};
 
 use crate::gathering::FILE_LIMIT;
 use crate::streaming::STREAM_LIMIT;
@@ -163,6 +165,10 @@ pub fn run_laws()
     ensures own_light { (header : Roots) (frames : List Raw) (square : SquareShares) (key : List ℕ)
         (count : ℕ) (w : List ℕ) (status : Status) → IsHeaderOf header square →
         Lights key count header frames w status → JudgesOwn square w status }
+
+    // What `cells` writes is what `wanted` writes of the cells that `light` waits for without messages.
+    ensures cells_wanted { (header : Roots) (key : List ℕ) (count : ℕ) (axis : Axis) (w : List ℕ) →
+        AsksFirst axis key count header w Done ↔ IsWantedFirst header key count axis w }
 
     // Under the header of a square `net` writes `rejected` or `clash` only where a sample among the
     // frames, by itself or in a claim, or the set of a claim, and the square name a collision.

@@ -18,7 +18,7 @@ ghost use Rattle.da_cli.specs.Run.{IsEarly, status_of, LeavesTold, Completes};
 use crate::gathering::{Stop, gather};
 use crate::laws::run_laws;
 use crate::streamed::stream;
-use crate::words::{Call, call_of};
+use crate::words::{Call, call_of, plain_count};
 use da_commands::{Command, execute};
 use da_io::{Inputs, Sink};
 use da_status::{Status, note};
@@ -53,7 +53,8 @@ fn answer_gathered<I: Inputs, O: Sink>(
         result }
     ensures late { IsEarly (call_of (words_of words.now)) (out.new ≡ out.old) result }
 {
-    match gather(alloc, &words[1..1 + call.files], call.files, inputs) {
+    let plain = plain_count(call.command, call.files);
+    match gather(alloc, &words[1..1 + call.files], plain, call.files, inputs) {
         Ok(contents) => execute(alloc, call.command, &contents, out),
         Err(stop) => status_of(stop),
     }

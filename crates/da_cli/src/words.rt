@@ -1,11 +1,12 @@
 //! Words, and the command that they are.
 
-ghost use Rattle.std.specs.Prelude.{◌≡◌, ◌<◌, length, map, IfSome, true};
+ghost use Rattle.std.specs.Prelude.{◌≡◌, ◌<◌, [], get_or, length, map, IfSome, true};
 ghost use Rattle.da_commands.specs.Meaning.{IsRunnable};
 ghost use Rattle.da_commands.specs.Demo.{is_trial_width};
-ghost use Rattle.da_cli.specs.Words.{words_of, is_command, is_digit, digits_in, number_in, key_in, light_call, width_in, demo_call, axis_in, verify_call, root_call, wanted_call, prove_call, call_in, file_call, value_call, call_of, HasFiles};
+ghost use Rattle.da_cli.specs.Words.{words_of, is_command, is_digit, digits_in, number_in, key_in, is_key_name, key_name, light_by_call, light_call, width_in, demo_call, axis_in, verify_call, root_call, wanted_call, cells_by_call, cells_of_key, cells_call, prove_call, call_in, file_call, value_call, any_call, plain_count, named, call_names, reads_once, call_of, HasFiles};
 
 use da_commands::Command;
+use da_io::is_standard_input;
 use hex::FromHex;
 use namespace_id::{Axis, GREATEST_WIDTH, is_width};
 
@@ -72,13 +73,48 @@ fn key_in(word: &str) -> Option<[u8; 32]>
     <[u8; 32]>::from_hex(word).ok()
 }
 
-/// The call of `light` whose KEY and COUNT are these words.
-fn light_call(key: &str, count: &str) -> Option<Call>
-    ensures value { result ≡ light_call key.now count.now }
-    ensures files { IfSome result (λ call. call.files ≡ 2) }
+/// Whether a word in the place of KEY names a file: an `@`, and the name behind it.
+fn is_key_name(word: &str) -> bool
+    ensures { result ≡ is_key_name word.now }
+{
+    let bytes = word.as_bytes();
+    bytes.len() > 1 && bytes[0] == b'@'
+}
+
+/// The name of the file that such a word names.
+fn key_name(word: &str) -> &str
+    ensures { result.now ≡ key_name word.now }
+{
+    match word.strip_prefix('@') {
+        Some(name) => name,
+        None => word,
+    }
+}
+
+/// The call of `light` whose KEY names a file, and whose COUNT is this word.
+fn light_by_call(count: &str) -> Option<Call>
+    ensures value { result ≡ light_by_call count.now }
+    ensures files { IfSome result (λ call. call.files < 4) }
     ensures runnable { IfSome result (λ call. IsRunnable call.command) }
     ensures own { IfSome result (λ call. HasFiles call.command call.files) }
 {
+    let count = number_in(count, u64::from(u32::MAX))?;
+    Some(Call {
+        command: Command::LightBy(count as u32),
+        files: 3,
+    })
+}
+
+/// The call of `light` whose KEY and COUNT are these words.
+fn light_call(key: &str, count: &str) -> Option<Call>
+    ensures value { result ≡ light_call key.now count.now }
+    ensures files { IfSome result (λ call. call.files < 4) }
+    ensures runnable { IfSome result (λ call. IsRunnable call.command) }
+    ensures own { IfSome result (λ call. HasFiles call.command call.files) }
+{
+    if is_key_name(key) {
+        return light_by_call(count);
+    }
     let key = key_in(key)?;
     let count = number_in(count, u64::from(u32::MAX))?;
     Some(Call {
@@ -169,6 +205,49 @@ fn wanted_call(axis: &str) -> Option<Call>
     })
 }
 
+/// The call of `cells` whose KEY names a file, and whose COUNT and AXIS are these words.
+fn cells_by_call(count: &str, axis: &str) -> Option<Call>
+    ensures value { result ≡ cells_by_call count.now axis.now }
+    ensures files { IfSome result (λ call. call.files < 3) }
+    ensures runnable { IfSome result (λ call. IsRunnable call.command) }
+    ensures own { IfSome result (λ call. HasFiles call.command call.files) }
+{
+    let count = number_in(count, u64::from(u32::MAX))?;
+    let axis = axis_in(axis)?;
+    Some(Call {
+        command: Command::CellsBy(count as u32, axis),
+        files: 2,
+    })
+}
+
+/// The call of `cells` with this KEY, whose COUNT and AXIS are these words.
+fn cells_of_key(key: [u8; 32], count: &str, axis: &str) -> Option<Call>
+    ensures value { result ≡ cells_of_key key count.now axis.now }
+    ensures files { IfSome result (λ call. call.files < 3) }
+    ensures runnable { IfSome result (λ call. IsRunnable call.command) }
+    ensures own { IfSome result (λ call. HasFiles call.command call.files) }
+{
+    let count = number_in(count, u64::from(u32::MAX))?;
+    let axis = axis_in(axis)?;
+    Some(Call {
+        command: Command::Cells(key, count as u32, axis),
+        files: 1,
+    })
+}
+
+/// The call of `cells` whose KEY, COUNT and AXIS are these words.
+fn cells_call(key: &str, count: &str, axis: &str) -> Option<Call>
+    ensures value { result ≡ cells_call key.now count.now axis.now }
+    ensures files { IfSome result (λ call. call.files < 3) }
+    ensures runnable { IfSome result (λ call. IsRunnable call.command) }
+    ensures own { IfSome result (λ call. HasFiles call.command call.files) }
+{
+    if is_key_name(key) {
+        return cells_by_call(count, axis);
+    }
+    cells_of_key(key_in(key)?, count, axis)
+}
+
 /// The call of `prove` whose START and COUNT are these words.
 fn prove_call(start: &str, count: &str) -> Option<Call>
     ensures value { result ≡ prove_call start.now count.now }
@@ -250,13 +329,14 @@ fn value_call(words: &[String]) -> Option<Call>
         ("wanted", [_, axis]) => wanted_call(axis),
         ("prove", [_, start, count]) => prove_call(start, count),
         ("verify", [_, _, third]) => Some(verify_call(third)),
+        ("cells", [_, key, count, axis]) => cells_call(key, count, axis),
         _ => None,
     }
 }
 
-/// The command of these words.
-pub(crate) fn call_of(words: &[String]) -> Option<Call>
-    ensures value { result ≡ call_of (words_of words.now) }
+/// The command of these words, whatever its files are.
+fn any_call(words: &[String]) -> Option<Call>
+    ensures value { result ≡ any_call (words_of words.now) }
     ensures files { IfSome result (λ call. call.files < length words.now) }
     ensures few { IfSome result (λ call. call.files < 16) }
     ensures runnable { IfSome result (λ call. IsRunnable call.command) }
@@ -265,5 +345,68 @@ pub(crate) fn call_of(words: &[String]) -> Option<Call>
     match file_call(words) {
         Some(call) => Some(call),
         None => value_call(words),
+    }
+}
+
+/// How many of the words that name a command's files, `files` in all, are names as they stand; those
+/// behind them stand in the place of KEY.
+pub(crate) fn plain_count(command: Command, files: usize) -> usize
+    ensures { result ≡ plain_count command files }
+{
+    match command {
+        Command::LightBy(_) => 2,
+        Command::CellsBy(..) => 1,
+        _ => files,
+    }
+}
+
+/// The name that word `i` names, where the first `plain` words are names as they stand, and the others
+/// stand in the place of KEY.
+pub(crate) fn name_at(words: &[String], plain: usize, i: usize) -> &str
+    requires { i < length words.now }
+    ensures { result.now ≡ get_or (named plain (words_of words.now)) i [] }
+{
+    let word = words[i].as_str();
+    if i < plain { word } else { key_name(word) }
+}
+
+/// Whether at most one of the names that these words name is the standard input.
+fn reads_once(words: &[String], plain: usize) -> bool
+    ensures { result ≡ reads_once (named plain (words_of words.now)) }
+{
+    let mut count = 0usize;
+    for i in 0..words.len() {
+        if is_standard_input(name_at(words, plain, i)) {
+            count += 1;
+        }
+    }
+    count <= 1
+}
+
+/// Whether a call of these words reads the standard input at most once.
+fn is_once_only(words: &[String], call: Call) -> bool
+    requires { call.files < length words.now }
+    ensures { result ≡ reads_once (call_names call (words_of words.now)) }
+{
+    reads_once(
+        &words[1..1 + call.files],
+        plain_count(call.command, call.files),
+    )
+}
+
+/// The command of these words; none where two of them are the standard input, which can be read but
+/// once.
+pub(crate) fn call_of(words: &[String]) -> Option<Call>
+    ensures value { result ≡ call_of (words_of words.now) }
+    ensures files { IfSome result (λ call. call.files < length words.now) }
+    ensures few { IfSome result (λ call. call.files < 16) }
+    ensures runnable { IfSome result (λ call. IsRunnable call.command) }
+    ensures own { IfSome result (λ call. HasFiles call.command call.files) }
+{
+    let call = any_call(words)?;
+    if is_once_only(words, call) {
+        Some(call)
+    } else {
+        None
     }
 }

@@ -21,6 +21,7 @@ use Rattle.da_judging.proofs.RepairLemmas.{repairs_own}
 use Rattle.da_cli.proofs.CountedLies.{lies_counted}
 use Rattle.da_script.specs.Scripts.{moves_of}
 use Rattle.da_script.specs.Plays as plays
+use Rattle.da_cli.proofs.CellsLemmas.{cells_wanted}
 use Rattle.da_cli.proofs.NetLemmas.{nets_own}
 use Rattle.da_cli.proofs.RangeLemmas.{proves_own}
 use Rattle.da_judging.proofs.LightLemmas.{lights_own}
@@ -177,3 +178,6 @@ returns-clause-one_follow c = c.follow_laws.ensures.once
 
 pub returns-clause-own_follow : goal.returns-clause-own_follow
 returns-clause-own_follow c = c.follow_laws.ensures.own
+
+pub returns-clause-cells_wanted : goal.returns-clause-cells_wanted
+returns-clause-cells_wanted c = cells_wanted c.wire_laws.ensures.missing c.wire_laws.ensures.only_read
