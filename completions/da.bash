@@ -14,6 +14,7 @@ _da_words() {
         repair) echo HEADER MESSAGES ;;
         light) echo HEADER MESSAGES KEY COUNT ;;
         wanted) echo MISSING AXIS ;;
+        cells) echo HEADER KEY COUNT AXIS ;;
         blobs) echo SHARES ;;
         commit) echo BLOCK ;;
         prove) echo SQUARE START COUNT ;;
@@ -41,7 +42,7 @@ _da_files() {
 _da() {
     local word=${COMP_WORDS[COMP_CWORD]}
     local before=${COMP_WORDS[COMP_CWORD - 1]}
-    local commands="build header sample namespace verify compact check repair light wanted blobs commit prove follow root net show json demo help version"
+    local commands="build header sample namespace verify compact check repair light wanted cells blobs commit prove follow root net show json demo help version"
     local words
     COMPREPLY=()
     # Behind a sign like > stands a file.

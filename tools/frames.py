@@ -511,6 +511,7 @@ FORMS = {
     "check": {"HEADER": HEADER, "MESSAGES": MESSAGES},
     "repair": {"HEADER": HEADER, "MESSAGES": MESSAGES},
     "light": {"HEADER": HEADER, "MESSAGES": MESSAGES},
+    "cells": {"HEADER": HEADER},
     "wanted": {"MISSING": Form(0, False, "K")},
     "blobs": {"SHARES": Form(0, False, "SN")},
     "transactions": {"SQUARE": SQUARE},

@@ -915,6 +915,7 @@ class Program(Case):
             ("follow", "WANTED", path["namespaces"], [None, followed]),
             ("follow", "ANSWERS", followed, [path["namespaces"], None]),
             ("wanted", "MISSING", self.missing, [None, "row"]),
+            ("cells", "HEADER", header_2, [None, key, "1", "row"]),
             ("blobs", "SHARES", square_2, [None]),
             ("blobs", "SHARES", self.answer, [None]),
             ("transactions", "SQUARE", square_2, [None]),
