@@ -52,8 +52,8 @@ pub(crate) fn read_file<I: Inputs>(
 }
 
 /// Picks and reads the files of the first `count` words to their ends, and stops at the first
-/// failure or excess of length. The first `plain` words are names as they stand, and the others stand
-/// in the place of KEY.
+/// failure or excess of length. The first `plain` words are names as they stand, and the others
+/// stand in the place of KEY.
 pub(crate) fn gather<I: Inputs>(
     alloc: Global,
     words: &[String],
@@ -63,16 +63,17 @@ pub(crate) fn gather<I: Inputs>(
 ) -> Result<Vec<Vec<u8>>, Stop>
     requires few { length words.now < 16 }
     requires count { count ≤ length words.now }
-    ensures contents { Gathers file_limits (I.files inputs.old) (named plain (words_of words.now)) count
-        (files_read result) }
-    ensures stop { IfErr result (StopsIn file_limits (I.files inputs.old) (named plain (words_of words.now))
-        (I.picked inputs.new) (I.ended inputs.new) (I.given inputs.new)) }
+    ensures contents { Gathers file_limits (I.files inputs.old)
+        (named plain (words_of words.now)) count (files_read result) }
+    ensures stop { IfErr result (StopsIn file_limits (I.files inputs.old)
+        (named plain (words_of words.now)) (I.picked inputs.new) (I.ended inputs.new)
+        (I.given inputs.new)) }
     ensures faults { I.faults inputs.new ≡ count_after (I.faults inputs.old) result }
     ensures within { 0 < count →
         WithinLimits file_limits (named plain (words_of words.now)) count (I.picked inputs.new)
         (I.given inputs.new) (inputs.new ≡ inputs.old) (files_read result) }
-    ensures last { IfOk result (λ _. IsLastOf (named plain (words_of words.now)) count (I.picked inputs.new)
-        (I.ended inputs.new)) }
+    ensures last { IfOk result (λ _. IsLastOf (named plain (words_of words.now)) count
+        (I.picked inputs.new) (I.ended inputs.new)) }
     ensures picks { PicksIn (I.picks inputs.old) (I.picks inputs.new) count result }
     ensures idle { count ≡ 0 → inputs.new ≡ inputs.old }
     ensures files { I.files inputs.new ≡ I.files inputs.old }

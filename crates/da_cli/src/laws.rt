@@ -166,7 +166,8 @@ pub fn run_laws()
         (count : ℕ) (w : List ℕ) (status : Status) → IsHeaderOf header square →
         Lights key count header frames w status → JudgesOwn square w status }
 
-    // What `cells` writes is what `wanted` writes of the cells that `light` waits for without messages.
+    // What `cells` writes is what `wanted` writes of the cells that `light` waits for without
+    // messages.
     ensures cells_wanted { (header : Roots) (key : List ℕ) (count : ℕ) (axis : Axis) (w : List ℕ) →
         AsksFirst axis key count header w Done ↔ IsWantedFirst header key count axis w }
 

@@ -348,8 +348,8 @@ fn any_call(words: &[String]) -> Option<Call>
     }
 }
 
-/// How many of the words that name a command's files, `files` in all, are names as they stand; those
-/// behind them stand in the place of KEY.
+/// How many of the words that name a command's files, `files` in all, are names as they stand;
+/// those behind them stand in the place of KEY.
 pub(crate) fn plain_count(command: Command, files: usize) -> usize
     ensures { result ≡ plain_count command files }
 {
@@ -360,8 +360,8 @@ pub(crate) fn plain_count(command: Command, files: usize) -> usize
     }
 }
 
-/// The name that word `i` names, where the first `plain` words are names as they stand, and the others
-/// stand in the place of KEY.
+/// The name that word `i` names, where the first `plain` words are names as they stand, and the
+/// others stand in the place of KEY.
 pub(crate) fn name_at(words: &[String], plain: usize, i: usize) -> &str
     requires { i < length words.now }
     ensures { result.now ≡ get_or (named plain (words_of words.now)) i [] }

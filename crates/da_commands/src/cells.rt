@@ -1,5 +1,5 @@
-//! cells HEADER KEY COUNT AXIS: the requests of a light node that has no messages yet, by a key that is a word or
-//! stands in a file.
+//! cells HEADER KEY COUNT AXIS: the requests of a light node that has no messages yet, by a key
+//! that is a word or stands in a file.
 
 ghost use Rattle.std.specs.Prelude.{◌≡◌, ◌<◌, ◌^◌, [], IfOk, length, true};
 ghost use Rattle.std.specs.List.{list_all};
@@ -36,8 +36,8 @@ fn first_verdict(alloc: Global, header: &Header, planned: &[Cell]) -> Result<Lig
     verdict(alloc, header, &[], planned)
 }
 
-/// Writes what is asked for after a verdict on no messages, along an axis. All memory is taken before the
-/// write.
+/// Writes what is asked for after a verdict on no messages, along an axis. All memory is taken
+/// before the write.
 fn ask<O: Sink>(alloc: Global, light: Light, axis: Axis, out: &mut O) -> Status
     requires { HasNoClaim light }
     ensures { EndsAtOnce (Asks axis light) (O.taken out.old) (O.taken out.new) (O.faults out.old)
@@ -63,8 +63,8 @@ fn cells<O: Sink>(
     axis: Axis,
     out: &mut O,
 ) -> Status
-    ensures { EndsAtOnce (AsksFirst axis key.now count header.now) (O.taken out.old) (O.taken out.new)
-        (O.faults out.old) (O.faults out.new) (out.new ≡ out.old) result }
+    ensures { EndsAtOnce (AsksFirst axis key.now count header.now) (O.taken out.old)
+        (O.taken out.new) (O.faults out.old) (O.faults out.new) (out.new ≡ out.old) result }
 {
     let planned = match sampling::cells(alloc, key, header.k, count) {
         Ok(planned) => planned,
@@ -77,8 +77,8 @@ fn cells<O: Sink>(
     }
 }
 
-/// Answers the requests along an axis for the cells that a light node wants first that draws so many by
-/// the key, under the header in HEADER. All memory is taken before the write.
+/// Answers the requests along an axis for the cells that a light node wants first that draws so many
+/// by the key, under the header in HEADER. All memory is taken before the write.
 pub(crate) fn execute<O: Sink>(
     alloc: Global,
     files: &[Vec<u8>],

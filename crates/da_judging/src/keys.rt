@@ -17,8 +17,8 @@ fn without_line_feed(text: &[u8]) -> &[u8]
     }
 }
 
-/// The key that a file is: 32 bytes in 64 hexadecimal digits of either case, the higher half of a byte
-/// first, and at most one line feed behind them. It takes no memory.
+/// The key that a file is: 32 bytes in 64 hexadecimal digits of either case, the higher half of a
+/// byte first, and at most one line feed behind them. It takes no memory.
 ///
 /// Refuses any other file, from offset 0 on.
 pub fn read_key(bytes: &[u8]) -> Result<[u8; 32], u64>
