@@ -265,7 +265,7 @@ fn prove_call(start: &str, count: &str) -> Option<Call>
 
 /// The commands whose words after their own all name files: the word of each, how many files it has, and
 /// the command.
-const FILE_COMMANDS: [(&str, usize, Command); 18] = [
+const FILE_COMMANDS: [(&str, usize, Command); 19] = [
     ("check", 2, Command::Check),
     ("build", 1, Command::Build),
     ("header", 1, Command::Header),
@@ -279,6 +279,7 @@ const FILE_COMMANDS: [(&str, usize, Command); 18] = [
     ("json", 1, Command::Json),
     ("root", 1, Command::Root),
     ("blobs", 1, Command::Blobs),
+    ("transactions", 1, Command::Transactions),
     ("commit", 1, Command::Commit),
     ("prove", 2, Command::Prove),
     ("follow", 2, Command::Follow),

@@ -11,7 +11,7 @@ use crate::{cells, demo, help, net, show};
 use da_following::follow;
 use da_io::Sink;
 use da_judging::{check, compact, light, root, verify, verify_commitment, verify_for};
-use da_serving::{blobs, build, commit, header, namespace, prove, sample, wanted};
+use da_serving::{blobs, build, commit, header, namespace, prove, sample, transactions, wanted};
 use da_status::Status;
 use namespace_id::Axis;
 use std::alloc::Global;
@@ -63,6 +63,8 @@ pub enum Command {
     CellsBy(u32, Axis),
     /// `blobs SHARES`
     Blobs,
+    /// `transactions SQUARE`
+    Transactions,
     /// `commit BLOCK`
     Commit,
     /// `prove SQUARE REQUESTS`
@@ -114,6 +116,7 @@ pub fn execute<O: Sink>(alloc: Global, command: Command, files: &[Vec<u8>], out:
         Command::Cells(key, count, axis) => cells::execute(alloc, files, &key, count, axis, out),
         Command::CellsBy(count, axis) => cells::execute_by(alloc, files, count, axis, out),
         Command::Blobs => blobs::execute(alloc, files, out),
+        Command::Transactions => transactions::execute(alloc, files, out),
         Command::Commit => commit::execute(alloc, files, out),
         Command::Prove => prove::execute(alloc, files, out),
         Command::ProveRange(start, count) => prove::range(alloc, files, start, count, out),

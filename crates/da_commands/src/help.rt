@@ -24,6 +24,7 @@ const COMMANDS: &[u8] = b"\
     da wanted MISSING AXIS\n\
     da cells HEADER KEY COUNT AXIS\n\
     da blobs SHARES\n\
+    da transactions SQUARE\n\
     da commit BLOCK\n\
     da prove SQUARE REQUESTS\n\
     da prove SQUARE START COUNT\n\

@@ -10,3 +10,4 @@ pub mod BlobsLemmas
 pub mod CommitLemmas
 pub mod ProveLemmas
 pub mod BackLemmas
+pub mod TransactionsLemmas

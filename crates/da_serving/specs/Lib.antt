@@ -8,3 +8,4 @@ pub mod Prove
 pub mod Namespace
 pub mod Wanted
 pub mod Blobs
+pub mod Transactions

@@ -11,6 +11,7 @@ pub mod header;
 pub mod namespace;
 pub mod prove;
 pub mod sample;
+pub mod transactions;
 pub mod wanted;
 
 pub use blobs::blobs_laws;

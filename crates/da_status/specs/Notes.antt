@@ -14,8 +14,10 @@ use Rattle.square_layout.specs.declared.laying.LayError.{LayError}
 use Rattle.square_layout.specs.declared.laying.LayError.TheVariants as lay
 use Rattle.tx_list.specs.declared.refusals.ListError.{ListError}
 use Rattle.tx_list.specs.declared.refusals.ListError.TheVariants as list
+use Rattle.tx_list.specs.declared.refusals.BackError.{BackError}
+use Rattle.tx_list.specs.declared.refusals.BackError.TheVariants as back
 use Rattle.da_status.specs.declared.status.Asked.{Asked}
-use Rattle.da_status.specs.declared.status.Asked.TheVariants.{NoHeader, At, Count, Nodes, Range, Shares}
+use Rattle.da_status.specs.declared.status.Asked.TheVariants.{NoHeader, At, Count, Nodes, Range, Shares, NoList, LongList}
 use Rattle.da_status.specs.declared.status.Status.{Status}
 use Rattle.da_status.specs.declared.status.Status.TheVariants.{Done, Usage, PickFault, ReadFault, WriteFault, NoMemory, BadInput, TooLong, BadBlock, BadList, BadRequest, Fraud, Missing, Clash, Refused, Waiting}
 
@@ -72,6 +74,15 @@ join_share (join.BadVarint i) = i
 join_share (join.BadReserved i) = i
 join_share join.NoMemory = 0
 
+-- why a square isn't one that a list of transactions is laid out as: the number of the refusal, and what it tells
+abbrev pub back_note : BackError → List ℕ
+back_note (back.Units why) = codes "1 " ++ two_numbers (join_number why) (join_share why)
+back_note (back.Payments why) = codes "2 " ++ two_numbers (join_number why) (join_share why)
+back_note (back.Wrapper i) = codes "3 " ++ decimal i
+back_note (back.Index i j) = codes "4 " ++ two_numbers i j
+back_note (back.Unlike at) = codes "5 " ++ decimal at
+back_note back.NoMemory = codes "7"
+
 -- why what the files ask for can't be answered, in words
 abbrev pub request_note : Asked → List ℕ
 request_note NoHeader = codes "no header"
@@ -80,6 +91,8 @@ request_note Count = codes "count"
 request_note Nodes = codes "nodes"
 request_note Range = codes "range"
 request_note (Shares why) = codes "shares " ++ decimal (join_number why) ++ codes " " ++ decimal (join_share why)
+request_note (NoList why) = codes "transactions " ++ back_note why
+request_note LongList = codes "transactions 6"
 
 -- the kind of an axis, in a word
 abbrev pub axis_note : Axis → List ℕ

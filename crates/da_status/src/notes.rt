@@ -1,7 +1,7 @@
 //! The line that goes with a status.
 
 ghost use Rattle.std.specs.Prelude.{◌≡◌, ◌+◌, ◌≤◌, ◌++◌, length, decimal};
-ghost use Rattle.da_status.specs.Notes.{refusal_number, block_note, two_numbers, list_note, join_number, join_share, axis_note, note_of, Notes};
+ghost use Rattle.da_status.specs.Notes.{refusal_number, block_note, two_numbers, list_note, join_number, join_share, back_note, axis_note, note_of, Notes};
 
 use crate::line::Line;
 use crate::status::{Asked, Status};
@@ -9,7 +9,7 @@ use da_io::{Sink, write_all};
 use namespace_id::{Axis, NsError};
 use share_split::JoinError;
 use square_layout::LayError;
-use tx_list::ListError;
+use tx_list::{BackError, ListError};
 
 /// Puts a number, in decimal digits, between two texts. The line needs capacity for both texts and
 /// for 20 digits, as many as a `u64` may have.
@@ -120,6 +120,23 @@ pub fn join_share(why: JoinError) -> u64
     }
 }
 
+/// The line of a square that no list of transactions is laid out as.
+#[tactic(auto, using(crate::proofs::DigitLemmas::digits_fit))]
+fn note_back(line: &mut Line, why: BackError)
+    requires { length line.old ≤ 26 }
+    ensures value { line.new ≡ line.old ++ back_note why }
+    ensures few { length line.new ≤ 75 }
+{
+    match why {
+        BackError::Units(why) => put_two(line, b"1 ", join_number(why), join_share(why)),
+        BackError::Payments(why) => put_two(line, b"2 ", join_number(why), join_share(why)),
+        BackError::Wrapper(i) => around(line, b"3 ", i, b""),
+        BackError::Index(i, j) => put_two(line, b"4 ", i, j),
+        BackError::Unlike(at) => around(line, b"5 ", at, b""),
+        BackError::NoMemory => line.put(b"7"),
+    }
+}
+
 /// The kind of an axis, in a word and a space: `row `, `col `.
 pub fn axis_note(axis: Axis) -> &'static [u8]
     ensures { result.now ≡ axis_note axis }
@@ -167,6 +184,12 @@ fn note_of(status: Status) -> Line
             around(&mut line, b"bad request: shares ", join_number(why), b" ");
             around(&mut line, b"", join_share(why), b"\n");
         }
+        Status::BadRequest(Asked::NoList(why)) => {
+            line.put(b"bad request: transactions ");
+            note_back(&mut line, why);
+            line.put(b"\n");
+        }
+        Status::BadRequest(Asked::LongList) => line.put(b"bad request: transactions 6\n"),
         Status::Fraud(axis, i) => {
             line.put(b"fraud: ");
             line.put(axis_note(axis));

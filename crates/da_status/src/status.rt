@@ -6,7 +6,7 @@ ghost use Rattle.da_status.specs.Statuses.{number_of};
 use namespace_id::Axis;
 use share_split::JoinError;
 use square_layout::LayError;
-use tx_list::ListError;
+use tx_list::{BackError, ListError};
 
 /// Why what the files ask for can't be answered.
 #[derive(Clone, Copy, Debug, PartialEq, Eq)]
@@ -23,6 +23,11 @@ pub enum Asked {
     Range,
     /// The shares are no blobs. No run has `JoinError::NoMemory` here: out of memory is a status of its own.
     Shares(JoinError),
+    /// The square isn't one that a list of transactions is laid out as. No run has `BackError::NoMemory` here: out of
+    /// memory is a status of its own.
+    NoList(BackError),
+    /// The list that is laid out as the square has no spelling: its payload would be above the limit.
+    LongList,
 }
 
 /// How a run ended. Files are numbered from 0 among the words that name files; `at` is an offset in

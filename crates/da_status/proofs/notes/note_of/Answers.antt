@@ -19,3 +19,7 @@ around-requires-in-BadRequest-Shares-2 c = omega (arith, ap length c.new-line.en
 pub put-requires-in-BadList-2 : goal.put-requires-in-BadList-2
 put-requires-in-BadList-2 c =
     omega (arith, ap length c.new-line.ensures, simp length-append at (ap length c.put-in-BadList.ensures), c.note_list.ensures.few)
+
+pub put-requires-in-BadRequest-NoList-2 : goal.put-requires-in-BadRequest-NoList-2
+put-requires-in-BadRequest-NoList-2 c =
+    omega (arith, ap length c.new-line.ensures, simp length-append at (ap length c.put-in-BadRequest-NoList.ensures), c.note_back.ensures.few)
