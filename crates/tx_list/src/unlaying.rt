@@ -253,7 +253,7 @@ fn lay_again(alloc: Global, square: &Square, transactions: &[Unit]) -> Result<()
 /// The list of transactions that is laid out as a square (`lay_list`), in its one spelling: the plain transactions, and behind
 /// them the payments with their blobs.
 ///
-/// Refuses, whatever memory there was, in this order: a first front that isn't units (`Units`), and a second one (`Payments`); of
+/// Refuses, in this order: a first front that isn't units (`Units`), and a second one (`Payments`); of
 /// the payments in turn, one that isn't a transaction wrapped with the places of its blobs (`Wrapper`), and then its first place
 /// at which no blob begins (`Index`); a square other than that of the list which was so read (`Unlike`). Out of memory may come in
 /// place of any answer. Blobs are read once for each place at which a payment states one.
