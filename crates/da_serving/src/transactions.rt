@@ -20,14 +20,12 @@ use tx_list::{BackError, unlay_list};
 
 /// Writes the frame of a list, if it has a spelling. All memory is taken before the write.
 fn give_list<O: Sink>(alloc: Global, list: Vec<Unit>, out: &mut O) -> Status
-    ensures { EndsAtOnce (WritesList list.entry.items) (O.taken out.old) (O.taken out.new)
+    ensures { EndsAtOnce (WritesList list.items) (O.taken out.old) (O.taken out.new)
         (O.faults out.old) (O.faults out.new) (out.new ≡ out.old) result }
 {
     let frame = Frame::Transactions(UnitList { list });
     let mut text = Vec::new(alloc);
-    let written = write_frame(&frame, &mut text);
-    drop(frame);
-    match written {
+    match write_frame(&frame, &mut text) {
         Ok(()) => put(&text, Status::Done, out),
         Err(SpellError::Unspellable) => Status::BadRequest(Asked::LongList),
         Err(SpellError::NoMemory) => Status::NoMemory,
