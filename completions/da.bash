@@ -17,6 +17,7 @@ _da_words() {
         cells) echo HEADER KEY COUNT AXIS ;;
         blobs) echo SHARES ;;
         transactions) echo SQUARE ;;
+        find) echo SQUARE COMMITMENT ;;
         commit) echo BLOCK ;;
         prove) echo SQUARE START COUNT ;;
         follow) echo WANTED ANSWERS ;;
@@ -43,7 +44,7 @@ _da_files() {
 _da() {
     local word=${COMP_WORDS[COMP_CWORD]}
     local before=${COMP_WORDS[COMP_CWORD - 1]}
-    local commands="build header sample namespace verify compact check repair light wanted cells blobs transactions commit prove follow root net show json demo help version"
+    local commands="build header sample namespace verify compact check repair light wanted cells blobs transactions find commit prove follow root net show json demo help version"
     local words
     COMPREPLY=()
     # Behind a sign like > stands a file.

@@ -13,7 +13,7 @@ use Rattle.namespace_id.specs.declared.cells.Axis.{Axis}
 use Rattle.namespace_id.specs.declared.cells.Axis.TheVariants.{Row, Col}
 use Rattle.da_wire.specs.Frames.{ok_of}
 use Rattle.da_commands.specs.declared.command.Command.{Command}
-use Rattle.da_commands.specs.declared.command.Command.TheVariants.{Check, Build, Header, Sample, Namespace, Verify, Compact, Repair, Light, LightBy, Net, Show, Json, Demo, VerifyCommitment, VerifyFor, Root, RootIs, Wanted, Cells, CellsBy, Blobs, Transactions, Commit, Prove, ProveRange, Follow, Help, Version}
+use Rattle.da_commands.specs.declared.command.Command.TheVariants.{Check, Build, Header, Sample, Namespace, Verify, Compact, Repair, Light, LightBy, Net, Show, Json, Demo, VerifyCommitment, VerifyFor, Root, RootIs, Wanted, Cells, CellsBy, Blobs, Transactions, Find, Commit, Prove, ProveRange, Follow, Help, Version}
 use Rattle.da_commands.specs.Demo.{is_trial_width}
 use Rattle.da_cli.specs.declared.words.Call.{Call}
 
@@ -98,6 +98,10 @@ verify_call word = option_map_or (λ bytes. record { command = VerifyCommitment 
 abbrev pub root_call : List ℕ → Option Call
 root_call root = option_map (λ bytes. record { command = RootIs bytes; files = 1 }) (key_in root)
 
+-- find SQUARE COMMITMENT, where COMMITMENT is this word
+abbrev pub find_call : List ℕ → Option Call
+find_call commitment = option_map (λ bytes. record { command = Find bytes; files = 1 }) (key_in commitment)
+
 -- wanted MISSING AXIS, where AXIS is this word
 abbrev pub wanted_call : List ℕ → Option Call
 wanted_call word = option_map (λ axis. record { command = Wanted axis; files = 1 }) (axis_in word)
@@ -164,11 +168,12 @@ value_call words =
     if is_command words (codes "light") 4 then light_call (get_or words 3 []) (get_or words 4 []) else
     (if is_command words (codes "demo") 2 then demo_call (get_or words 1 []) (get_or words 2 []) else
     (if is_command words (codes "root") 2 then root_call (get_or words 2 []) else
+    (if is_command words (codes "find") 2 then find_call (get_or words 2 []) else
     (if is_command words (codes "wanted") 2 then wanted_call (get_or words 2 []) else
     (if is_command words (codes "prove") 3 then prove_call (get_or words 2 []) (get_or words 3 []) else
     (if is_command words (codes "verify") 3 then Some (verify_call (get_or words 3 [])) else
     (if is_command words (codes "cells") 4 then cells_call (get_or words 2 []) (get_or words 3 []) (get_or words 4 [])
-    else None))))))
+    else None)))))))
 
 -- the command of these words, whatever its files are, and how many of them name files
 abbrev pub any_call : List (List ℕ) → Option Call

@@ -3,7 +3,7 @@
 ghost use Rattle.std.specs.Prelude.{◌≡◌, ◌<◌, [], get_or, length, map, IfSome, true};
 ghost use Rattle.da_commands.specs.Meaning.{IsRunnable};
 ghost use Rattle.da_commands.specs.Demo.{is_trial_width};
-ghost use Rattle.da_cli.specs.Words.{words_of, is_command, is_digit, digits_in, number_in, key_in, is_key_name, key_name, light_by_call, light_call, width_in, demo_call, axis_in, verify_call, root_call, wanted_call, cells_by_call, cells_of_key, cells_call, prove_call, call_in, file_call, value_call, any_call, plain_count, named, call_names, reads_once, call_of, HasFiles};
+ghost use Rattle.da_cli.specs.Words.{words_of, is_command, is_digit, digits_in, number_in, key_in, is_key_name, key_name, light_by_call, light_call, width_in, demo_call, axis_in, verify_call, root_call, find_call, wanted_call, cells_by_call, cells_of_key, cells_call, prove_call, call_in, file_call, value_call, any_call, plain_count, named, call_names, reads_once, call_of, HasFiles};
 
 use da_commands::Command;
 use da_io::is_standard_input;
@@ -192,6 +192,19 @@ fn root_call(root: &str) -> Option<Call>
     })
 }
 
+/// The call of `find` whose COMMITMENT is this word.
+fn find_call(commitment: &str) -> Option<Call>
+    ensures value { result ≡ find_call commitment.now }
+    ensures files { IfSome result (λ call. call.files ≡ 1) }
+    ensures runnable { IfSome result (λ call. IsRunnable call.command) }
+    ensures own { IfSome result (λ call. HasFiles call.command call.files) }
+{
+    Some(Call {
+        command: Command::Find(key_in(commitment)?),
+        files: 1,
+    })
+}
+
 /// The call of `wanted` whose AXIS is this word.
 fn wanted_call(axis: &str) -> Option<Call>
     ensures value { result ≡ wanted_call axis.now }
@@ -327,6 +340,7 @@ fn value_call(words: &[String]) -> Option<Call>
         ("light", [_, _, key, count]) => light_call(key, count),
         ("demo", [number, width]) => demo_call(number, width),
         ("root", [_, root]) => root_call(root),
+        ("find", [_, commitment]) => find_call(commitment),
         ("wanted", [_, axis]) => wanted_call(axis),
         ("prove", [_, start, count]) => prove_call(start, count),
         ("verify", [_, _, third]) => Some(verify_call(third)),

@@ -7,7 +7,7 @@ use Rattle.da_status.specs.declared.status.Status.{Status}
 use Rattle.da_status.specs.Statuses.{kind_of}
 use Rattle.da_status.proofs.EndLemmas.{IsAnswer, answer_output, status_answers}
 use Rattle.da_commands.specs.declared.command.Command.{Command}
-use Rattle.da_commands.specs.declared.command.Command.TheVariants.{Check, Build, Header, Sample, Namespace, Verify, Compact, Repair, Light, LightBy, Net, Show, Json, Demo, VerifyCommitment, VerifyFor, Root, RootIs, Wanted, Cells, CellsBy, Blobs, Transactions, Commit, Prove, ProveRange, Follow, Help, Version}
+use Rattle.da_commands.specs.declared.command.Command.TheVariants.{Check, Build, Header, Sample, Namespace, Verify, Compact, Repair, Light, LightBy, Net, Show, Json, Demo, VerifyCommitment, VerifyFor, Root, RootIs, Wanted, Cells, CellsBy, Blobs, Transactions, Find, Commit, Prove, ProveRange, Follow, Help, Version}
 use Rattle.da_commands.specs.Show.{all_kinds, shown_file}
 use Rattle.da_commands.specs.Meaning.{AnswerOf}
 use Rattle.da_judging.proofs.CheckLemmas.{check_last}
@@ -29,6 +29,7 @@ use Rattle.da_judging.proofs.RootLemmas.{root_last, root_is_last}
 use Rattle.da_serving.proofs.WantedLemmas.{wanted_last}
 use Rattle.da_serving.proofs.BlobsLemmas.{blobs_answers}
 use Rattle.da_serving.proofs.TransactionsLemmas.{transactions_answers}
+use Rattle.da_serving.proofs.FindLemmas.{find_answers}
 use Rattle.da_serving.proofs.CommitLemmas.{commit_answers}
 use Rattle.da_serving.proofs.ProveLemmas.{prove_answers, prove_range_answers}
 use Rattle.da_following.proofs.FollowLemmas.{follow_answers}
@@ -58,6 +59,7 @@ answer_last (Cells key count axis) files w status h = cells_answers key count ax
 answer_last (CellsBy count axis) files w status h = cells_by_answers count axis files w status h
 answer_last Blobs files w status h = blobs_answers files w status h
 answer_last Transactions files w status h = transactions_answers files w status h
+answer_last (Find commitment) files w status h = find_answers commitment files w status h
 answer_last Commit files w status h = commit_answers files w status h
 answer_last Prove files w status h = prove_answers files w status h
 answer_last (ProveRange start count) files w status h = prove_range_answers start count files w status h

@@ -23,6 +23,7 @@ help_text =
     ++ codes "da cells HEADER KEY COUNT AXIS\n"
     ++ codes "da blobs SHARES\n"
     ++ codes "da transactions SQUARE\n"
+    ++ codes "da find SQUARE COMMITMENT\n"
     ++ codes "da commit BLOCK\n"
     ++ codes "da prove SQUARE REQUESTS\n"
     ++ codes "da prove SQUARE START COUNT\n"

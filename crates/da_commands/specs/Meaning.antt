@@ -2,7 +2,7 @@
 use Rattle.std.specs.Prelude.{◌≡◌, ℕ, List, [], ◌∷◌, true, ⊤}
 use Rattle.std.specs.declared.option.Option.{Option}
 use Rattle.da_commands.specs.declared.command.Command.{Command}
-use Rattle.da_commands.specs.declared.command.Command.TheVariants.{Check, Build, Header, Sample, Namespace, Verify, Compact, Repair, Light, LightBy, Net, Show, Json, Demo, VerifyCommitment, VerifyFor, Root, RootIs, Wanted, Cells, CellsBy, Blobs, Transactions, Commit, Prove, ProveRange, Follow, Help, Version}
+use Rattle.da_commands.specs.declared.command.Command.TheVariants.{Check, Build, Header, Sample, Namespace, Verify, Compact, Repair, Light, LightBy, Net, Show, Json, Demo, VerifyCommitment, VerifyFor, Root, RootIs, Wanted, Cells, CellsBy, Blobs, Transactions, Find, Commit, Prove, ProveRange, Follow, Help, Version}
 use Rattle.da_wire.specs.Spelling.{sample_kind, request_kind}
 use Rattle.da_status.specs.Outcome.{Relation}
 use Rattle.da_status.specs.Judging.{Judged}
@@ -26,6 +26,7 @@ use Rattle.da_judging.specs.Root.{RootOf, RootIsOf}
 use Rattle.da_serving.specs.Wanted.{missing_in, WantedOf}
 use Rattle.da_serving.specs.Blobs.{shares_in, BlobsOf}
 use Rattle.da_serving.specs.Transactions.{TransactionsOf}
+use Rattle.da_serving.specs.Find.{FindOf}
 use Rattle.da_serving.specs.Commit.{CommitOf}
 use Rattle.da_serving.specs.Prove.{ProveOf, ProveRangeOf}
 use Rattle.da_following.specs.Follow.{follow_judged, FollowOf}
@@ -57,6 +58,7 @@ judged_of (Cells key count axis) files = single_judged header_in files
 judged_of (CellsBy count axis) files = cells_by_judged files
 judged_of Blobs files = single_judged shares_in files
 judged_of Transactions files = single_judged square_in files
+judged_of (Find commitment) files = single_judged square_in files
 judged_of Commit files = single_judged block_or_list_in files
 judged_of Prove files = requests_judged (sample_kind ∷ []) files
 judged_of (ProveRange start count) files = single_judged square_in files
@@ -89,6 +91,7 @@ AnswerOf (Cells key count axis) files = CellsOf key count axis files
 AnswerOf (CellsBy count axis) files = CellsByOf count axis files
 AnswerOf Blobs files = BlobsOf files
 AnswerOf Transactions files = TransactionsOf files
+AnswerOf (Find commitment) files = FindOf commitment files
 AnswerOf Commit files = CommitOf files
 AnswerOf Prove files = ProveOf files
 AnswerOf (ProveRange start count) files = ProveRangeOf start count files
@@ -126,6 +129,7 @@ TakesFirst (Cells key count axis) = ⊤
 TakesFirst (CellsBy count axis) = ⊤
 TakesFirst Blobs = ⊤
 TakesFirst Transactions = ⊤
+TakesFirst (Find commitment) = ⊤
 TakesFirst Commit = ⊤
 TakesFirst (ProveRange start count) = ⊤
 TakesFirst Follow = ⊤

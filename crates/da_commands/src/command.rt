@@ -11,7 +11,9 @@ use crate::{cells, demo, help, net, show};
 use da_following::follow;
 use da_io::Sink;
 use da_judging::{check, compact, light, root, verify, verify_commitment, verify_for};
-use da_serving::{blobs, build, commit, header, namespace, prove, sample, transactions, wanted};
+use da_serving::{
+    blobs, build, commit, find, header, namespace, prove, sample, transactions, wanted,
+};
 use da_status::Status;
 use namespace_id::Axis;
 use std::alloc::Global;
@@ -65,6 +67,8 @@ pub enum Command {
     Blobs,
     /// `transactions SQUARE`
     Transactions,
+    /// `find SQUARE COMMITMENT`, with the commitment of the blobs
+    Find([u8; 32]),
     /// `commit BLOCK`
     Commit,
     /// `prove SQUARE REQUESTS`
@@ -117,6 +121,7 @@ pub fn execute<O: Sink>(alloc: Global, command: Command, files: &[Vec<u8>], out:
         Command::CellsBy(count, axis) => cells::execute_by(alloc, files, count, axis, out),
         Command::Blobs => blobs::execute(alloc, files, out),
         Command::Transactions => transactions::execute(alloc, files, out),
+        Command::Find(commitment) => find::execute(alloc, files, &commitment, out),
         Command::Commit => commit::execute(alloc, files, out),
         Command::Prove => prove::execute(alloc, files, out),
         Command::ProveRange(start, count) => prove::range(alloc, files, start, count, out),

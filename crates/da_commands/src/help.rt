@@ -25,6 +25,7 @@ const COMMANDS: &[u8] = b"\
     da cells HEADER KEY COUNT AXIS\n\
     da blobs SHARES\n\
     da transactions SQUARE\n\
+    da find SQUARE COMMITMENT\n\
     da commit BLOCK\n\
     da prove SQUARE REQUESTS\n\
     da prove SQUARE START COUNT\n\

@@ -11,3 +11,4 @@ pub mod CommitLemmas
 pub mod ProveLemmas
 pub mod BackLemmas
 pub mod TransactionsLemmas
+pub mod FindLemmas

@@ -9,3 +9,4 @@ pub mod Namespace
 pub mod Wanted
 pub mod Blobs
 pub mod Transactions
+pub mod Find

@@ -40,7 +40,7 @@ fn is_compact(share: &Share) -> bool
 }
 
 /// The shares behind the longest front of compact shares.
-fn behind_compact(shares: &[Share]) -> &[Share]
+pub(crate) fn behind_compact(shares: &[Share]) -> &[Share]
     ensures { result.now ≡ behind_compact shares.now }
 {
     let mut rest = shares;

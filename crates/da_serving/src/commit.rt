@@ -27,7 +27,7 @@ use std::alloc::Global;
 use tx_list::{ListError, Payment, TxList, places, read_list};
 
 /// The commitment of a blob that has bytes, and no more shares than the greatest square.
-fn commitment_in(alloc: Global, blob: &Blob) -> Result<[u8; 32], NoMemory>
+pub(crate) fn commitment_in(alloc: Global, blob: &Blob) -> Result<[u8; 32], NoMemory>
     requires some { 1 ≤ length blob.now.bytes }
     requires few { share_count_of blob.now ≤ max_shares }
     ensures { IfOk result (λ commitment. commitment ≡ commitment_of blob.now) }

@@ -7,6 +7,7 @@
 pub mod blobs;
 pub mod build;
 pub mod commit;
+pub mod find;
 pub mod header;
 pub mod namespace;
 pub mod prove;
