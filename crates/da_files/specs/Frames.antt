@@ -3,7 +3,7 @@ use Rattle.std.specs.Prelude.{◌≡◌, ℕ, List, [], ◌∷◌, Some, None, R
 use Rattle.std.specs.declared.option.Option.{Option}
 use Rattle.std.specs.Option.{option_map_or}
 use Rattle.data_header.specs.Headers.{Roots}
-use Rattle.square_layout.specs.Blocks.{BlockParts, SquareShares}
+use Rattle.square_layout.specs.Blocks.{SquareShares}
 use Rattle.da_wire.specs.declared.frames.Frame.{Frame}
 use Rattle.da_wire.specs.declared.frames.Frame.TheVariants as frames
 use Rattle.axis_roots.specs.declared.message.messages.Message as sent
@@ -12,7 +12,7 @@ use Rattle.da_wire.specs.declared.frames.FrameError.TheVariants.{Truncated, BadK
 use Rattle.da_wire.specs.Spelling.{spelling, header_kind, square_kind, message_kind, block_kind, transactions_kind}
 use Rattle.da_wire.specs.Reading.{only_of}
 use Rattle.da_wire.specs.Streams.{offset_of}
-use Rattle.da_wire.specs.Single.{header_of, square_of, message_of, block_of}
+use Rattle.da_wire.specs.Single.{header_of, square_of, message_of}
 use Rattle.da_files.specs.declared.frames.BlockOrList.{BlockOrList}
 use Rattle.da_files.specs.declared.frames.BlockOrList.TheVariants.{Block, Transactions}
 use Rattle.da_files.specs.declared.frames.Unread.{Unread}
@@ -37,10 +37,6 @@ square_in bytes = single square_of (only_of bytes (square_kind ∷ []))
 -- the sample that a file is, or where it stops being a frame of one
 abbrev pub message_in : List ℕ → Result sent.Message ℕ
 message_in bytes = single message_of (only_of bytes (message_kind ∷ []))
-
--- the block that a file is, or where it stops being a frame of one
-abbrev pub block_in : List ℕ → Result BlockParts ℕ
-block_in bytes = single block_of (only_of bytes (block_kind ∷ []))
 
 -- the kinds of frames of what is laid out as a square
 abbrev pub block_kinds : List ℕ

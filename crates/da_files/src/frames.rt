@@ -6,15 +6,15 @@ ghost use Rattle.frame_payloads.specs.kinds.Clash.{has_empty};
 ghost use Rattle.da_wire.specs.Spelling.{spelling};
 ghost use Rattle.da_wire.specs.declared.frames.Frame.TheVariants as FrameOf;
 ghost use Rattle.da_status.specs.Statuses.{kind_of, output};
-ghost use Rattle.da_files.specs.Frames.{header_in, square_in, message_in, block_in, block_or_list_of, block_or_list_in, unread_of, ReadsSingle, Writes, WritesText, WritesWith};
+ghost use Rattle.da_files.specs.Frames.{header_in, square_in, message_in, block_or_list_of, block_or_list_in, unread_of, ReadsSingle, Writes, WritesText, WritesWith};
 ghost use Rattle.da_status.specs.Outcome.{EndsAtOnce};
 
 use axis_roots::{FraudClaim, Message, claim_law};
 use da_io::{Sink, write_all};
 use da_status::Status;
 use da_wire::{
-    Frame, FrameError, SpellError, read_block, read_header, read_message, read_only, read_square,
-    value_laws, wire_laws, write_frame,
+    Frame, FrameError, SpellError, read_header, read_message, read_only, read_square, value_laws,
+    wire_laws, write_frame,
 };
 use data_header::Header;
 use frame_payloads::UnitList;
@@ -87,16 +87,6 @@ pub fn message_in(bytes: &[u8]) -> Result<Message, Unread>
 {
     match read_message(bytes) {
         Ok(message) => Ok(message),
-        Err(error) => Err(reason(error)),
-    }
-}
-
-/// The block that a file is.
-pub fn block_in(alloc: Global, bytes: &[u8]) -> Result<Block, Unread>
-    ensures { ReadsSingle result (block_in bytes.now) }
-{
-    match read_block(alloc, bytes) {
-        Ok(block) => Ok(block),
         Err(error) => Err(reason(error)),
     }
 }
