@@ -6,6 +6,8 @@ pub mod Varint
 pub mod Readers
 -- groups, and the field at the front
 pub mod GroupLemmas
+-- groups that are open at once
+pub mod OpenLemmas
 -- fields one after another, and the last of a number
 pub mod FieldLemmas
 -- fields that were written

@@ -34,9 +34,12 @@ pub fn field_at(bytes: &[u8]) -> Option<(Field<'_>, &[u8])>
     Some((field, rest))
 }
 
-/// The bytes of a field, where it has this number and bytes, else those of an earlier one.
+/// The bytes of a field, where it has this number and bytes, else those of an earlier one. A walk over fields that keeps what
+/// this answers has the bytes of the last one.
+///
+/// protobuf, "Encoding".
 #[tactic(auto, unfolding(crate::specs::Fields::last_of))]
-fn bytes_or<'a>(earlier: &'a [u8], field: Field<'a>, number: u32) -> &'a [u8]
+pub fn bytes_or<'a>(earlier: &'a [u8], field: Field<'a>, number: u32) -> &'a [u8]
     ensures { result.now ≡ last_of earlier.now (own_bytes number (field_parts field.entry)) }
 {
     if field.number != number {
@@ -48,9 +51,12 @@ fn bytes_or<'a>(earlier: &'a [u8], field: Field<'a>, number: u32) -> &'a [u8]
     }
 }
 
-/// The number of a field, where it has this number and a number for its value, else that of an earlier one.
+/// The number of a field, where it has this number and a number for its value, else that of an earlier one. A walk over
+/// fields that keeps what this answers has the number of the last one.
+///
+/// protobuf, "Encoding".
 #[tactic(auto, unfolding(crate::specs::Fields::last_of))]
-fn number_or(earlier: u64, field: Field, number: u32) -> u64
+pub fn number_or(earlier: u64, field: Field, number: u32) -> u64
     ensures { result ≡ last_of earlier (own_numbers number (field_parts field.entry)) }
 {
     if field.number != number {

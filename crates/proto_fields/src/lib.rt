@@ -11,7 +11,7 @@ mod tags;
 mod values;
 mod varints;
 
-pub use fields::{Field, are_fields, field_at, last_bytes, last_number};
+pub use fields::{Field, are_fields, bytes_or, field_at, last_bytes, last_number, number_or};
 pub use laws::{field_laws, varint_laws};
 pub use spelling::{field_size, put_field, put_number};
 pub use values::Value;

@@ -1,12 +1,16 @@
 //! Values of fields.
 
-ghost use Rattle.std.specs.Prelude.{◌≡◌, ◌≤◌, length, Option};
+ghost use Rattle.std.specs.Prelude.{◌≡◌, ◌≤◌, length, Option, IsTrue};
 ghost use Rattle.namespace_id.specs.Answers.{Gives};
+ghost use Rattle.proto_fields.specs.declared.tags.Wire.TheVariants.{GroupStart};
 ghost use Rattle.proto_fields.specs.Fields.{bytes_at, text_at, value_of_wire, no_group, behind_group, value_at};
 ghost use Rattle.proto_fields.specs.Values.{value_parts};
 
 use crate::tags::{Tag, Wire, tag_at};
 use crate::varints::number_at;
+
+/// The most open groups, one in another, whose numbers one call keeps.
+const LEVELS: u8 = 8;
 
 /// The value of a field.
 #[derive(Clone, Copy, Debug, PartialEq, Eq)]
@@ -62,22 +66,46 @@ fn plain_value_at(wire: Wire, bytes: &[u8]) -> Option<(Value<'_>, &[u8])>
     }
 }
 
+/// Whether a wire begins a group.
+fn is_start(wire: Wire) -> bool
+    ensures { IsTrue result → (wire ≡ GroupStart) }
+{
+    matches!(wire, Wire::GroupStart)
+}
+
 /// The bytes after a group of this number, in which so many may be open, one in another.
+///
+/// The numbers of some open groups stand in one array, so that a walk of deep groups calls itself for each eight of them alone.
 #[cycle(groups)]
 fn behind_group(most: u8, number: u32, bytes: &[u8]) -> Option<&[u8]>
     ensures { Gives (λ x. x.now) result
         (behind_group (value_at most) number (length bytes.now) bytes.now) }
 {
+    let mut outer = [0; LEVELS as usize];
+    let mut inner = number;
+    let mut depth: u8 = 0;
     let mut rest = bytes;
     while let Some((tag, after)) = tag_at(rest) {
         if let Wire::GroupEnd = tag.wire {
-            return if tag.number == number {
-                Some(after)
-            } else {
-                None
-            };
+            if tag.number != inner {
+                return None;
+            }
+            if depth == 0 {
+                return Some(after);
+            }
+            depth -= 1;
+            inner = outer[usize::from(depth)];
+            rest = after;
+            continue;
         }
-        let (_value, behind) = value_at(most, tag, after)?;
+        if is_start(tag.wire) && depth < most && depth < LEVELS {
+            outer[usize::from(depth)] = inner;
+            inner = tag.number;
+            depth += 1;
+            rest = after;
+            continue;
+        }
+        let (_value, behind) = value_at(most - depth, tag, after)?;
         rest = behind;
     }
     None

@@ -36,12 +36,9 @@ fn number_within(most: u8, bytes: &[u8]) -> Option<(u128, &[u8])>
     Some((byte % RADIX + RADIX * high, after))
 }
 
-/// The number that a varint states at the front, and the bytes after it: one to ten bytes, of which all but the
-/// last have their upper bit set, and which state less than 2^64. It needn't be the shortest.
-///
-/// protobuf, "Encoding".
+/// The number that a varint of several bytes states at the front, and the bytes after it.
 #[tactic(auto, unfolding(crate::specs::Varints::number_at))]
-pub fn number_at(bytes: &[u8]) -> Option<(u64, &[u8])>
+fn long_number_at(bytes: &[u8]) -> Option<(u64, &[u8])>
     ensures { Gives (λ x. (x.0, x.1.now)) result (number_at bytes.now) }
 {
     let (number, rest) = number_within(LONGEST, bytes)?;
@@ -49,6 +46,24 @@ pub fn number_at(bytes: &[u8]) -> Option<(u64, &[u8])>
         return None;
     }
     Some((number as u64, rest))
+}
+
+/// The number that a varint states at the front, and the bytes after it: one to ten bytes, of which all but the
+/// last have their upper bit set, and which state less than 2^64. It needn't be the shortest.
+///
+/// protobuf, "Encoding".
+#[tactic(auto, unfolding(crate::specs::Varints::number_within))]
+pub fn number_at(bytes: &[u8]) -> Option<(u64, &[u8])>
+    ensures { Gives (λ x. (x.0, x.1.now)) result (number_at bytes.now) }
+{
+    let [byte, rest @ ..] = bytes else {
+        return None;
+    };
+    let number = u64::from(*byte);
+    if number < LIMIT {
+        return Some((number, rest));
+    }
+    long_number_at(bytes)
 }
 
 /// How many bytes the shortest varint of a number takes: from one to ten.
