@@ -12,5 +12,9 @@ pub mod OpenLemmas
 pub mod FieldLemmas
 -- fields that were written
 pub mod WrittenLemmas
+-- shortest varints, and what stands behind their length
+pub mod CanonicalVarints
+-- fields in their one spelling
+pub mod CanonicalLemmas
 -- worked examples
 mod Examples

@@ -8,3 +8,7 @@ pub mod Values
 pub mod Spelled
 -- what of fields is promised for all of them
 pub mod Laws
+-- fields in their one spelling, as they are read
+pub mod Canonical
+-- what of these is promised for all of them
+pub mod CanonicalLaws

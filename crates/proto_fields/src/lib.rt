@@ -1,9 +1,11 @@
 //! Fields of protobuf: read leniently, as its libraries do, and written in one way.
 //!
 //! Reading takes any order of fields, varints longer than they need be, and passes over what nobody asks for. Writing takes
-//! shortest varints. docs/RULES.md, "Fields of protobuf", says both. Nothing here takes memory.
+//! shortest varints. docs/RULES.md, "Fields of protobuf", says both. The canonical readers take what is written in one way
+//! alone. Nothing here takes memory.
 #![tactic(auto)]
 
+mod canonical;
 mod fields;
 mod laws;
 mod spelling;
@@ -11,6 +13,10 @@ mod tags;
 mod values;
 mod varints;
 
+pub use canonical::{
+    begins_part, canonical_bytes, canonical_laws, canonical_number, canonical_part,
+    put_canonical_number,
+};
 pub use fields::{Field, are_fields, bytes_or, field_at, last_bytes, last_number, number_or};
 pub use laws::{field_laws, varint_laws};
 pub use spelling::{field_size, put_field, put_number};
