@@ -132,22 +132,22 @@ places_pass i j shares (place ∷ places) (one ∷ blobs) at =
 
 -- ---- payments
 
-small-take : (n most : ℕ) (places : List ℕ) → AllByRecursion (λ place. place < most) places → AllByRecursion (λ place. place < most) (take n places)
+pub small-take : (n most : ℕ) (places : List ℕ) → AllByRecursion (λ place. place < most) places → AllByRecursion (λ place. place < most) (take n places)
 small-take zero most places all = tt
 small-take (suc n) most [] all = tt
 small-take (suc n) most (place ∷ places) all = (all.0, small-take n most places all.1)
 
-small-drop : (n most : ℕ) (places : List ℕ) → AllByRecursion (λ place. place < most) places → AllByRecursion (λ place. place < most) (drop n places)
+pub small-drop : (n most : ℕ) (places : List ℕ) → AllByRecursion (λ place. place < most) places → AllByRecursion (λ place. place < most) (drop n places)
 small-drop zero most places all = all
 small-drop (suc n) most [] all = tt
 small-drop (suc n) most (place ∷ places) all = small-drop n most places all.1
 
 -- a unit is no longer than its text
-unit_within : (unit : List ℕ) → length unit ≤ length (unit_text unit)
+pub unit_within : (unit : List ℕ) → length unit ≤ length (unit_text unit)
 unit_within unit = omega (arith, length-append (varint (length unit)) unit)
 
 -- units whose shares are few have a text that a sequence holds
-text_few : (units : List (List ℕ)) → unit_share_count units ≤ max_shares → length (units_text units) ≤ max_sequence_length
+pub text_few : (units : List (List ℕ)) → unit_share_count units ≤ max_shares → length (units_text units) ≤ max_sequence_length
 text_few units few = elim (cases_lt max_sequence_length (length (units_text units))) [
   | inl long ↦ absurd (omega (arith, few, long_texts_take_many_shares units long))
   | inr short ↦ short
@@ -196,7 +196,7 @@ pub record IsLaidList (list : ListParts) : Type 0 where
   pub named : AllByRecursion IsNamed (blobs_of list.payments)
 
 -- its blobs are blobs
-blobs_held : (blobs : List NamedBytes) → AllByRecursion IsNamed blobs → AllByRecursion (λ one. 1 ≤ length one.bytes) blobs → blobs_bound blobs ≤ max_shares
+pub blobs_held : (blobs : List NamedBytes) → AllByRecursion IsNamed blobs → AllByRecursion (λ one. 1 ≤ length one.bytes) blobs → blobs_bound blobs ≤ max_shares
     → AllByRecursion IsBlob blobs
 unfolding blobs_bound
 blobs_held [] named some few = tt
@@ -213,7 +213,7 @@ blobs_held (one ∷ blobs) named some few =
     )
 
 -- shares behind don't change what stands at a place
-stands_on : (count place : ℕ) (shares more own : List Share) → 1 ≤ count → count ≡ length own → take count (drop place shares) ≡ own
+pub stands_on : (count place : ℕ) (shares more own : List Share) → 1 ≤ count → count ≡ length own → take count (drop place shares) ≡ own
     → take count (drop place (shares ++ more)) ≡ own
 stands_on count place shares more own some is e =
     let all : min count (length (drop place shares)) ≡ count = sym (length-take count (drop place shares)) ∙ ap length e ∙ sym is in
@@ -266,7 +266,7 @@ written_back list is =
     ap units_of (second_front_is (plan_of_list list) (payments_named list.payments is.payments))
     ∙ units_back pay_for_blob (written list) (low_is_namespace 4 (omega arith)) (omega (arith, list_has_room list is.few, is.few))
 
-low-small : (places : List ℕ) → AllByRecursion (λ place. place < max_shares) places → AllByRecursion (λ place. place < 2 ^ 32) places
+pub low-small : (places : List ℕ) → AllByRecursion (λ place. place < max_shares) places → AllByRecursion (λ place. place < 2 ^ 32) places
 low-small [] all = tt
 low-small (place ∷ places) all = (omega (arith, all.0), low-small places all.1)
 

@@ -36,3 +36,7 @@ pub mod BackLawLemmas
 pub mod UnlayLemmas
 -- varints as places
 pub mod NumberLemmas
+-- where the square of a list is that of a block
+pub mod GapLemmas
+-- the places that payments state
+pub mod RangeLemmas

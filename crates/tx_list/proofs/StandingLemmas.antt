@@ -4,15 +4,16 @@ use Rattle.std.specs.List.{AllByRecursion}
 use Rattle.std.proofs.lemmas.Bool.{cases_Bool, eq-eqb, eqb-true}
 use Rattle.namespace_id.specs.Names.{is_at_most}
 use Rattle.share_split.specs.Blobs.{NamedBytes, blob_shares_of}
-use Rattle.square_layout.specs.Layout.{in_order, share_count_of, start_after, end_of}
+use Rattle.square_layout.specs.Layout.{share_count_of, start_after, end_of}
 use Rattle.square_layout.specs.Refusals.{max_shares}
 use Rattle.square_layout.specs.Plans.{PlanParts, front, planned}
 use Rattle.square_layout.proofs.PlanLemmas.{length-front}
 use Rattle.square_layout.proofs.PlanStanding.{plan_stands}
 use Rattle.tx_list.specs.Payments.{ListParts, blobs_of}
-use Rattle.tx_list.specs.Reserves.{list_bound}
+use Rattle.tx_list.specs.Reserves.{list_reserve, list_bound}
 use Rattle.tx_list.specs.Places.{Numbered, numbered_from, put_numbered, order_numbered, places_from, place_of, ordered}
 use Rattle.tx_list.specs.Lists.{list_places, plan_of_list}
+use Rattle.tx_list.specs.Ranges.{IsStart}
 use Rattle.tx_list.specs.Steps.{unnumbered}
 use Rattle.tx_list.proofs.PlaceLemmas.{numbered_in_order, get_or-places_of}
 use Rattle.tx_list.proofs.ListLemmas.{list_has_room}
@@ -142,6 +143,29 @@ unnumbered-append : (before behind : List Numbered) → unnumbered (before ++ be
 unnumbered-append [] behind = refl
 unnumbered-append (one ∷ before) behind = ap (λ (l : List NamedBytes). one.blob ∷ l) (unnumbered-append before behind)
 
+-- the place of each blob of a list is its start, behind those that precede it in order
+pub place_is_start : (list : ListParts) (some others : List NamedBytes) (blob : NamedBytes) → blobs_of list.payments ≡ some ++ blob ∷ others
+    → IsStart list (get_or (list_places list) (length some) 0) blob
+place_is_start list some others blob is =
+    let reserve : ℕ = list_reserve list in
+    let blobs : List NamedBytes = blobs_of list.payments in
+    let found : Found (length some) blob (ordered blobs) =
+    subst (λ (l : List NamedBytes). Found (length some) blob (ordered l)) (sym is)
+    (subst (λ (i : ℕ). Found i blob (ordered (some ++ blob ∷ others))) (omega arith) (found_in_order 0 some others blob)) in
+    let count : length some < length blobs = omega (arith, ap length is, length-append some (blob ∷ others)) in
+    record {
+      before = unnumbered found.before;
+      behind = unnumbered found.behind;
+      order =
+          sym (numbered_in_order blobs) ∙ ap unnumbered found.is
+          ∙ unnumbered-append found.before (record { number = length some; blob = blob } ∷ found.behind);
+      start =
+          get_or-places_of 0 (length blobs) (length some) (places_from reserve (ordered blobs)) count
+          ∙ ap (λ (i : ℕ). place_of 0 i (places_from reserve (ordered blobs))) (omega arith)
+          ∙ ap (λ (l : List Numbered). place_of 0 (length some) (places_from reserve l)) found.is
+          ∙ place_is 0 (length some) reserve blob found.before found.behind found.none;
+    }
+
 -- each blob of a list stands at its place
 pub list_stands : (list : ListParts) (some others : List NamedBytes) (blob : NamedBytes) → list_bound list ≤ max_shares
     → blobs_of list.payments ≡ some ++ blob ∷ others
@@ -149,18 +173,7 @@ pub list_stands : (list : ListParts) (some others : List NamedBytes) (blob : Nam
     ≡ blob_shares_of blob.namespace blob.signer blob.bytes
 list_stands list some others blob few is =
     let plan : PlanParts = plan_of_list list in
-    let blobs : List NamedBytes = blobs_of list.payments in
-    let found : Found (length some) blob (ordered blobs) =
-    subst (λ (l : List NamedBytes). Found (length some) blob (ordered l)) (sym is)
-    (subst (λ (i : ℕ). Found i blob (ordered (some ++ blob ∷ others))) (omega arith) (found_in_order 0 some others blob)) in
-    let order : in_order plan.blobs ≡ unnumbered found.before ++ blob ∷ unnumbered found.behind =
-    sym (numbered_in_order blobs) ∙ ap unnumbered found.is ∙ unnumbered-append found.before (record { number = length some; blob = blob } ∷ found.behind) in
-    let count : length some < length blobs = omega (arith, ap length is, length-append some (blob ∷ others)) in
-    let place : get_or (list_places list) (length some) 0 ≡ start_after (end_of plan.reserve (unnumbered found.before)) blob =
-    get_or-places_of 0 (length blobs) (length some) (places_from plan.reserve (ordered blobs)) count
-    ∙ ap (λ (i : ℕ). place_of 0 i (places_from plan.reserve (ordered blobs))) (omega arith)
-    ∙ ap (λ (l : List Numbered). place_of 0 (length some) (places_from plan.reserve l)) found.is
-    ∙ place_is 0 (length some) plan.reserve blob found.before found.behind found.none in
+    let at : IsStart list (get_or (list_places list) (length some) 0) blob = place_is_start list some others blob is in
     let room : length (front plan) ≤ plan.reserve = omega (arith, length-front plan, list_has_room list few) in
-    ap (λ (n : ℕ). take (share_count_of blob) (drop n (planned plan))) place
-    ∙ plan_stands plan (unnumbered found.before) (unnumbered found.behind) blob room order
+    ap (λ (n : ℕ). take (share_count_of blob) (drop n (planned plan))) at.start
+    ∙ plan_stands plan at.before at.behind blob room at.order

@@ -30,3 +30,7 @@ pub mod Unwrapped
 pub mod Backs
 -- what list a square is read as, and why it is laid out as none
 pub mod BackRefusals
+-- where the square of a list is that of a block
+pub mod Gaps
+-- the places that payments state
+pub mod Ranges

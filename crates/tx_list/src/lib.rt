@@ -7,10 +7,12 @@
 
 mod bounds;
 mod checking;
+mod gaps;
 mod laws;
 mod laying;
 mod payments;
 mod placing;
+mod ranges;
 mod reading;
 mod refusals;
 mod spelling;
@@ -19,9 +21,11 @@ mod unlaying;
 mod unwrapping;
 mod wrapping;
 
+pub use gaps::block_laws;
 pub use laws::{back_laws, list_laws, read_laws, square_laws};
 pub use laying::{lay_list, places};
 pub use payments::{Payment, TxList};
+pub use ranges::place_laws;
 pub use refusals::{BackError, ListError};
 pub use spelling::spell_list;
 pub use taking::read_list;
