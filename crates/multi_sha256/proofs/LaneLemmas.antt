@@ -1,12 +1,16 @@
 -- The lanes of vectors of eight words.
-use Rattle.std.proofs.Common.{◌≡◌, ℕ, zero, suc, ◌<◌, ◌+◌, ◌*◌, List, [], length, take, drop, replicate, slice_index, slice_index_or, slice_set, refl, ap, ◌∙◌, arith, inl, inr}
-use Rattle.std.specs.Simd.Lanes.{zip2}
+use Rattle.std.proofs.Common.{◌≡◌, ℕ, zero, suc, ◌<◌, ◌+◌, ◌*◌, List, [], length, take, drop, replicate, slice_index, slice_index_or, slice_set, refl, ap, ◌∙◌, arith, inl, inr, ◌^◌, w32, Fits}
+use Rattle.std.specs.Simd.Lanes.{Each1, zip2}
 use Rattle.std.proofs.Math.ListN.{get_or-map}
 use Rattle.std.proofs.lemmas.List.{map-set, length-map, get_or-take, get_or-drop, get_or-set_same, get_or-set_other}
 use Rattle.std.proofs.lemmas.Bool.{cases_lt}
-use Rattle.std.proofs.lemmas.Simd.{get_or-zip2, get_or-replicate}
+use Rattle.std.proofs.lemmas.Simd.{Each1-get_or, get_or-zip2, get_or-replicate}
 use Rattle.sha2.specs.Sha256.{word_at}
 use Rattle.multi_sha256.specs.Lanes.{lane, lane_at, lane_words}
+
+-- a lane is a word
+pub lane_fits : (x : List ℕ) (j : ℕ) → (length x ≡ 8) × Each1 (Fits w32) x → j < 8 → slice_index x j < 2 ^ 32
+lane_fits x j fits h = (Each1-get_or (Fits w32) x j 0 (omega (arith, fits.0)) fits.1).fits
 
 -- a lane of an operation with a splat
 pub splat_at : (f : ℕ → ℕ → ℕ) (x : List ℕ) (n j : ℕ) → length x ≡ 8 → j < 8 → slice_index (zip2 f x (replicate 8 n)) j ≡ f (slice_index x j) n

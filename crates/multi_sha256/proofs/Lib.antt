@@ -1,4 +1,6 @@
 mod DigestLemmas
 mod LaneLemmas
+mod MajLemmas
 mod PaddingLemmas
+mod RotationLemmas
 pub mod MessageLemmas

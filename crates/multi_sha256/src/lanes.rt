@@ -74,50 +74,47 @@ pub(crate) fn ch(x: u32x8, y: u32x8, z: u32x8) -> u32x8
     xor(and(x, y), and(not(x), z))
 }
 
+// One round's `x ^ y` is the next round's `y ^ z`.
 #[inline(always)]
 pub(crate) fn maj(x: u32x8, y: u32x8, z: u32x8) -> u32x8
     ensures { (j : ℕ) → j < 8 →
         slice_index result j ≡ maj (slice_index x j) (slice_index y j) (slice_index z j) }
 {
-    xor(xor(and(x, y), and(x, z)), and(y, z))
+    xor(y, and(xor(x, y), xor(y, z)))
 }
 
+// The four functions below nest their rotations, so that fewer copies of `x` are made: on x86-64-v2 a shift goes over what it
+// shifts.
 #[inline(always)]
 pub(crate) fn big_sigma0(x: u32x8) -> u32x8
     ensures { (j : ℕ) → j < 8 → slice_index result j ≡ big_sigma0 (slice_index x j) }
 {
-    xor(
-        xor(rotate_right(x, 2), rotate_right(x, 13)),
-        rotate_right(x, 22),
-    )
+    let pair = xor(x, rotate_right(x, 9));
+    let three = xor(x, rotate_right(pair, 11));
+    rotate_right(three, 2)
 }
 
 #[inline(always)]
 pub(crate) fn big_sigma1(x: u32x8) -> u32x8
     ensures { (j : ℕ) → j < 8 → slice_index result j ≡ big_sigma1 (slice_index x j) }
 {
-    xor(
-        xor(rotate_right(x, 6), rotate_right(x, 11)),
-        rotate_right(x, 25),
-    )
+    let pair = xor(x, rotate_right(x, 14));
+    let three = xor(x, rotate_right(pair, 5));
+    rotate_right(three, 6)
 }
 
 #[inline(always)]
 pub(crate) fn small_sigma0(x: u32x8) -> u32x8
     ensures { (j : ℕ) → j < 8 → slice_index result j ≡ small_sigma0 (slice_index x j) }
 {
-    xor(
-        xor(rotate_right(x, 7), rotate_right(x, 18)),
-        shift_right(x, 3),
-    )
+    let pair = xor(x, rotate_right(x, 11));
+    xor(rotate_right(pair, 7), shift_right(x, 3))
 }
 
 #[inline(always)]
 pub(crate) fn small_sigma1(x: u32x8) -> u32x8
     ensures { (j : ℕ) → j < 8 → slice_index result j ≡ small_sigma1 (slice_index x j) }
 {
-    xor(
-        xor(rotate_right(x, 17), rotate_right(x, 19)),
-        shift_right(x, 10),
-    )
+    let pair = xor(x, rotate_right(x, 2));
+    xor(rotate_right(pair, 17), shift_right(x, 10))
 }
