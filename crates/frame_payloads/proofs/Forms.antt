@@ -9,6 +9,8 @@ pub mod Units
 pub mod Blobs
 pub mod BlockForm
 pub mod TransactionsForm
+pub mod RefusalForm
+pub mod StateForm
 pub mod Founds
 pub mod Entries
 pub mod NamesForm

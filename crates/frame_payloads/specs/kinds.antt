@@ -11,3 +11,5 @@ pub mod Block
 pub mod Commit
 pub mod Rooted
 pub mod Transactions
+pub mod Refusal
+pub mod State

@@ -11,6 +11,7 @@
 mod bounds;
 mod codec;
 mod kinds;
+mod refusals;
 mod shown;
 
 pub use bounds::{hash_law, proof_law};
@@ -23,9 +24,12 @@ pub use kinds::header::{header, header_size, is_header, put_header};
 pub use kinds::message::{MOST_MESSAGE, message_size, put_message};
 pub use kinds::missing::{is_missing, missing, missing_size, put_missing};
 pub use kinds::names::{is_names, names, names_size, places, put_names};
+pub use kinds::refusal::{REFUSAL_SIZE, put_refusal, refusal};
 pub use kinds::requests::{SAMPLE_SIZE, put_sample, request, request_size, sample};
 pub use kinds::rooted::{put_rooted, rooted, rooted_size};
 pub use kinds::square::{is_square, put_square, square, square_size};
+pub use kinds::state::state;
 pub use kinds::transactions::{is_transactions, put_transactions, transactions, transactions_size};
 pub use kinds::units::UnitList;
+pub use refusals::{Reason, Refusal};
 pub use shown::{EntryPlace, FoundPlace, PlaceList};

@@ -1,7 +1,7 @@
 -- A number that is read is the number that was written, and a number that was written is read.
 use Rattle.std.proofs.Common.{Option, ◌≤◌, None, ltb, cond, ltb-false, le-ltb, ◌≡◌, ◌∙◌, ℕ, ◌^◌, ◌<◌, List, ◌++◌, length, take, Some, refl, sym, ap, subst, arith}
-use Rattle.std.specs.Int.{Width, w16, w32, byte_len, from_be_bytes, to_be_bytes}
-use Rattle.std.proofs.lemmas.Nat.{be_bytes_2, be_bytes_4, from_be_bytes-to_be_bytes_2, from_be_bytes-to_be_bytes_4}
+use Rattle.std.specs.Int.{Width, w16, w32, w64, byte_len, from_be_bytes, to_be_bytes}
+use Rattle.std.proofs.lemmas.Nat.{be_bytes_2, be_bytes_4, be_bytes_8, from_be_bytes-to_be_bytes_2, from_be_bytes-to_be_bytes_4, from_be_bytes-to_be_bytes_8}
 use Rattle.namespace_id.specs.Bytes.{AreBytes}
 use Rattle.std.proofs.lemmas.Option.{some_pair_parts}
 use Rattle.frame_fields.specs.Fields.{number_at, count_at}
@@ -30,6 +30,15 @@ wide32 = record {
   back = λ bytes len fits. be_bytes_4 bytes _ len fits refl;
   again = λ n lt. from_be_bytes-to_be_bytes_4 n lt;
   below = λ bytes fits. omega (arith, fits 0, fits 1, fits 2, fits 3);
+}
+
+-- numbers below 2 ^ 64 are strings of eight bytes
+pub wide64 : IsWide w64 (2 ^ 64)
+wide64 = record {
+  len = λ n. refl;
+  back = λ bytes len fits. be_bytes_8 bytes _ len fits refl;
+  again = λ n lt. from_be_bytes-to_be_bytes_8 n lt;
+  below = λ bytes fits. omega (arith, fits 0, fits 1, fits 2, fits 3, fits 4, fits 5, fits 6, fits 7);
 }
 
 -- a number that is read is the one that was written, and fits its width
