@@ -1,6 +1,6 @@
 -- What is brief of the value at the front of bytes is what is brief of the value that its payload holds.
 use Rattle.std.proofs.Common.{◌≡◌, ◌∙◌, ℕ, ◌-◌, List, length, take, drop, Option, None, Some, Result, Ok, Err, OnErr, refl, sym, ap, subst}
-use Rattle.std.specs.Prelude.{IsSome}
+use Rattle.std.specs.Prelude.{IsSome, ⊤}
 use Rattle.std.specs.Option.{option_map}
 use Rattle.std.proofs.lemmas.List.{take_rest}
 use Rattle.namespace_id.specs.declared.cells.Cell.{Cell}
@@ -20,6 +20,8 @@ use Rattle.frame_payloads.specs.kinds.Block.{block_at}
 use Rattle.frame_payloads.specs.kinds.Commit.{commit_at}
 use Rattle.frame_payloads.specs.kinds.Rooted.{rooted_at}
 use Rattle.frame_payloads.specs.kinds.Transactions.{transactions_at}
+use Rattle.frame_payloads.specs.kinds.Refusal.{refusal_at}
+use Rattle.frame_payloads.specs.kinds.State.{state_at}
 use Rattle.da_wire.specs.declared.frames.Frame.{Frame}
 use Rattle.da_wire.specs.declared.frames.Frame.TheVariants as frames
 use Rattle.da_wire.specs.declared.frames.FrameError.{FrameError}
@@ -69,6 +71,8 @@ kind_brief kinds.Block payload = made_brief frames.Block briefs.Block (λ a. ref
 kind_brief kinds.Commit payload = made_none frames.Commit (λ a. refl) (commit_at payload)
 kind_brief kinds.Rooted payload = made_none frames.Rooted (λ a. refl) (rooted_at payload)
 kind_brief kinds.Transactions payload = made_brief frames.Transactions briefs.Transactions (λ a. refl) (transactions_at payload)
+kind_brief kinds.Refusal payload = made_brief frames.Refusal briefs.Refusal (λ a. refl) (refusal_at payload)
+kind_brief kinds.State payload = made_brief (λ (none : ⊤). frames.State) (λ (none : ⊤). briefs.State) (λ a. refl) (state_at payload)
 
 -- by the kind that a byte is, if it is one
 byte_brief : (o : Option Kind) (payload : List ℕ)

@@ -1,7 +1,8 @@
 -- Worked frames, by the definitions (docs/FORMATS.md, "Payloads").
 use Rattle.std.proofs.Common.{◌≡◌, ◌∷◌, ◌++◌, [], Some, None, refl, replicate}
 use Rattle.namespace_id.specs.declared.cells.Axis.TheVariants.{Row, Col}
-use Rattle.da_wire.specs.declared.frames.Frame.TheVariants.{Sample, Block, Transactions}
+use Rattle.da_wire.specs.declared.frames.Frame.TheVariants.{Sample, Block, Transactions, Refusal, State}
+use Rattle.frame_payloads.specs.declared.refusals.Reason.TheVariants.{NoAnswer}
 use Rattle.da_wire.specs.Spelling.{spelling}
 
 -- a request for cell (1, 2) on its column
@@ -27,3 +28,11 @@ no_transactions = refl
 
 one_empty_transaction : spelling (Transactions ([] ∷ [])) ≡ Some (0x54 ∷ 0 ∷ 0 ∷ 0 ∷ 8 ∷ 0 ∷ 0 ∷ 0 ∷ 1 ∷ 0 ∷ 0 ∷ 0 ∷ 0 ∷ [])
 one_empty_transaction = refl
+
+-- frame 258 has no answer
+no_answer : spelling (Refusal (record { reason = NoAnswer; number = 258 })) ≡ Some (0x45 ∷ 0 ∷ 0 ∷ 0 ∷ 9 ∷ 5 ∷ 0 ∷ 0 ∷ 0 ∷ 0 ∷ 0 ∷ 0 ∷ 1 ∷ 2 ∷ [])
+no_answer = refl
+
+-- a state
+state : spelling State ≡ Some (0x41 ∷ 0 ∷ 0 ∷ 0 ∷ 0 ∷ [])
+state = refl

@@ -7,10 +7,10 @@ use Rattle.std.proofs.lemmas.List.{length-append, nil_from_length, drop_at}
 use Rattle.std.proofs.lemmas.Option.{same_Some, some_pair_parts}
 use Rattle.namespace_id.specs.Bytes.{AreBytes}
 use Rattle.da_wire.specs.declared.frames.Frame.{Frame}
-use Rattle.da_wire.specs.declared.frames.Frame.TheVariants.{Header, Square, Message, Names, Fraud, Missing, Clash, Sample, Request, Block, Commit, Rooted, Transactions}
+use Rattle.da_wire.specs.declared.frames.Frame.TheVariants.{Header, Square, Message, Names, Fraud, Missing, Clash, Sample, Request, Block, Commit, Rooted, Transactions, Refusal, State}
 use Rattle.da_wire.specs.declared.frames.FrameError.{FrameError}
 use Rattle.da_wire.specs.declared.frames.FrameError.TheVariants.{Truncated, BadKind}
-use Rattle.da_wire.specs.Spelling.{frame, spelled, spelling, IsFrame, header_kind, square_kind, message_kind, names_kind, fraud_kind, missing_kind, clash_kind, sample_kind, request_kind, block_kind, commit_kind, rooted_kind, transactions_kind}
+use Rattle.da_wire.specs.Spelling.{frame, spelled, spelling, IsFrame, header_kind, square_kind, message_kind, names_kind, fraud_kind, missing_kind, clash_kind, sample_kind, request_kind, block_kind, commit_kind, rooted_kind, transactions_kind, refusal_kind, state_kind}
 use Rattle.frame_payloads.specs.Payloads.{max_payload}
 use Rattle.frame_payloads.specs.kinds.Block.{asks_for_zero, block_payload}
 use Rattle.frame_payloads.specs.kinds.Header.{header_payload}
@@ -24,6 +24,8 @@ use Rattle.frame_payloads.specs.kinds.Requests.{sample_payload, request_payload}
 use Rattle.frame_payloads.specs.kinds.Commit.{is_long_commit, commit_payload}
 use Rattle.frame_payloads.specs.kinds.Rooted.{rooted_payload}
 use Rattle.frame_payloads.specs.kinds.Transactions.{transactions_payload}
+use Rattle.frame_payloads.specs.kinds.Refusal.{refusal_payload}
+use Rattle.frame_payloads.specs.kinds.State.{state_payload}
 use Rattle.da_wire.specs.Reading.{Raw, raw_of, is_kind, value_at, valued, value_of, tested_raw, tested_frame, frame_of}
 use Rattle.da_wire.specs.Frames.{ok_of}
 use Rattle.da_wire.specs.Writing.{kind_of, AppendsSpelling, IsReadBack, appended}
@@ -66,6 +68,8 @@ head_is (Commit proof) text e =
     head_of commit_kind (commit_payload proof) text (if_false (is_long_commit proof) (spelled commit_kind (commit_payload proof)) text e).1
 head_is (Rooted proof) text e = head_of rooted_kind (rooted_payload proof) text e
 head_is (Transactions units) text e = head_of transactions_kind (transactions_payload units) text e
+head_is (Refusal refusal) text e = head_of refusal_kind (refusal_payload refusal) text e
+head_is State text e = head_of state_kind state_payload text e
 
 -- ---- the two tests before a frame is read
 

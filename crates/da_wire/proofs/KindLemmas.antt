@@ -65,6 +65,8 @@ kind_value kinds.Block payload value e = made_kind _ _ _ value (λ a. refl) e
 kind_value kinds.Commit payload value e = made_kind _ _ _ value (λ a. refl) e
 kind_value kinds.Rooted payload value e = made_kind _ _ _ value (λ a. refl) e
 kind_value kinds.Transactions payload value e = made_kind _ _ _ value (λ a. refl) e
+kind_value kinds.Refusal payload value e = made_kind _ _ _ value (λ a. refl) e
+kind_value kinds.State payload value e = made_kind _ _ _ value (λ a. refl) e
 
 -- the value that a payload of the kind that a byte is holds has this byte
 pub value_kind : (byte : ℕ) (payload : List ℕ) (value : Frame) → value_at byte payload ≡ Some value → kind_of value ≡ byte

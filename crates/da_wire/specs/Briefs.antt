@@ -3,12 +3,12 @@ use Rattle.std.specs.Prelude.{ℕ, List, [], ◌∷◌, map, Option, Some, None}
 use Rattle.std.specs.Option.{option_map}
 use Rattle.frame_fields.specs.Fields.{◌>>=◌}
 use Rattle.da_wire.specs.declared.frames.Frame.{Frame}
-use Rattle.da_wire.specs.declared.frames.Frame.TheVariants.{Names, Fraud, Missing, Sample, Request, Block, Transactions}
+use Rattle.da_wire.specs.declared.frames.Frame.TheVariants.{Names, Fraud, Missing, Sample, Request, Block, Transactions, Refusal, State}
 use Rattle.da_wire.specs.declared.briefs.Brief.{Brief}
 use Rattle.da_wire.specs.declared.briefs.Brief.TheVariants as briefs
 use Rattle.da_wire.specs.declared.kinds.Kind.{Kind}
 use Rattle.da_wire.specs.declared.kinds.Kind.TheVariants as kinds
-use Rattle.da_wire.specs.Spelling.{names_kind, fraud_kind, missing_kind, sample_kind, request_kind, block_kind, transactions_kind}
+use Rattle.da_wire.specs.Spelling.{names_kind, fraud_kind, missing_kind, sample_kind, request_kind, block_kind, transactions_kind, refusal_kind, state_kind}
 use Rattle.da_wire.specs.Reading.{kind_at}
 use Rattle.da_wire.specs.Values.{value_and_rest}
 use Rattle.frame_payloads.specs.kinds.Names.{names_at, entry_place, answer_places}
@@ -17,11 +17,14 @@ use Rattle.frame_payloads.specs.kinds.Missing.{missing_at}
 use Rattle.frame_payloads.specs.kinds.Requests.{sample_at, request_at}
 use Rattle.frame_payloads.specs.kinds.Block.{block_at}
 use Rattle.frame_payloads.specs.kinds.Transactions.{transactions_at}
+use Rattle.frame_payloads.specs.kinds.Refusal.{refusal_at}
+use Rattle.frame_payloads.specs.kinds.State.{state_at}
 
 -- the kinds whose frames may be short
 abbrev pub brief_kinds : List ℕ
 brief_kinds =
-    names_kind ∷ fraud_kind ∷ missing_kind ∷ sample_kind ∷ request_kind ∷ block_kind ∷ transactions_kind ∷ []
+    names_kind ∷ fraud_kind ∷ missing_kind ∷ sample_kind ∷ request_kind ∷ block_kind ∷ transactions_kind
+    ∷ refusal_kind ∷ state_kind ∷ []
 
 -- what is brief of a value of such a kind: of a namespace answer where its entries found something
 abbrev pub brief_of : Frame → Option Brief
@@ -32,6 +35,8 @@ brief_of (Sample cell axis) = Some (briefs.Sample cell axis)
 brief_of (Request name) = Some (briefs.Request name)
 brief_of (Block block) = Some (briefs.Block block)
 brief_of (Transactions units) = Some (briefs.Transactions units)
+brief_of (Refusal refusal) = Some (briefs.Refusal refusal)
+brief_of State = Some briefs.State
 brief_of frame = None
 
 -- what is brief of the value at the front, and the bytes after it
@@ -48,6 +53,8 @@ brief_of_kind kinds.Sample payload = option_map (λ s. briefs.Sample s.0 s.1) (s
 brief_of_kind kinds.Request payload = option_map briefs.Request (request_at payload)
 brief_of_kind kinds.Block payload = option_map briefs.Block (block_at payload)
 brief_of_kind kinds.Transactions payload = option_map briefs.Transactions (transactions_at payload)
+brief_of_kind kinds.Refusal payload = option_map briefs.Refusal (refusal_at payload)
+brief_of_kind kinds.State payload = option_map (λ none. briefs.State) (state_at payload)
 brief_of_kind kind payload = None
 
 -- what is brief of the value of the kind that a byte is

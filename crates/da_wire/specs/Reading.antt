@@ -8,11 +8,11 @@ use Rattle.da_wire.specs.declared.frames.Frame.{Frame}
 use Rattle.da_wire.specs.declared.kinds.Kind.{Kind}
 use Rattle.da_wire.specs.declared.kinds.Kind.TheVariants as kinds
 use Rattle.frame_fields.specs.Fields.{◌>>=◌}
-use Rattle.da_wire.specs.declared.frames.Frame.TheVariants.{Header, Square, Message, Names, Fraud, Missing, Clash, Sample, Request, Block, Commit, Rooted, Transactions}
+use Rattle.da_wire.specs.declared.frames.Frame.TheVariants.{Header, Square, Message, Names, Fraud, Missing, Clash, Sample, Request, Block, Commit, Rooted, Transactions, Refusal, State}
 use Rattle.da_wire.specs.declared.frames.RawFrame.{RawFrame}
 use Rattle.da_wire.specs.declared.frames.FrameError.{FrameError}
 use Rattle.da_wire.specs.declared.frames.FrameError.TheVariants.{Truncated, BadKind, TooLong, BadPayload, Trailing}
-use Rattle.da_wire.specs.Spelling.{header_kind, square_kind, message_kind, names_kind, fraud_kind, missing_kind, clash_kind, sample_kind, request_kind, block_kind, commit_kind, rooted_kind, transactions_kind}
+use Rattle.da_wire.specs.Spelling.{header_kind, square_kind, message_kind, names_kind, fraud_kind, missing_kind, clash_kind, sample_kind, request_kind, block_kind, commit_kind, rooted_kind, transactions_kind, refusal_kind, state_kind}
 use Rattle.frame_payloads.specs.Payloads.{max_payload}
 use Rattle.frame_payloads.specs.kinds.Header.{header_at}
 use Rattle.frame_payloads.specs.kinds.Square.{square_at}
@@ -26,6 +26,8 @@ use Rattle.frame_payloads.specs.kinds.Block.{block_at}
 use Rattle.frame_payloads.specs.kinds.Commit.{commit_at}
 use Rattle.frame_payloads.specs.kinds.Rooted.{rooted_at}
 use Rattle.frame_payloads.specs.kinds.Transactions.{transactions_at}
+use Rattle.frame_payloads.specs.kinds.Refusal.{refusal_at}
+use Rattle.frame_payloads.specs.kinds.State.{state_at}
 
 -- ---- kinds
 
@@ -44,7 +46,9 @@ kind_at byte =
     (if byte == block_kind then Some kinds.Block else
     (if byte == commit_kind then Some kinds.Commit else
     (if byte == rooted_kind then Some kinds.Rooted else
-    (if byte == transactions_kind then Some kinds.Transactions else None))))))))))))
+    (if byte == transactions_kind then Some kinds.Transactions else
+    (if byte == refusal_kind then Some kinds.Refusal else
+    (if byte == state_kind then Some kinds.State else None))))))))))))))
 
 -- whether there are values of this kind
 abbrev pub is_kind : ℕ → Bool
@@ -65,6 +69,8 @@ value_of_kind kinds.Block payload = option_map Block (block_at payload)
 value_of_kind kinds.Commit payload = option_map Commit (commit_at payload)
 value_of_kind kinds.Rooted payload = option_map Rooted (rooted_at payload)
 value_of_kind kinds.Transactions payload = option_map Transactions (transactions_at payload)
+value_of_kind kinds.Refusal payload = option_map Refusal (refusal_at payload)
+value_of_kind kinds.State payload = option_map (λ none. State) (state_at payload)
 
 -- the value of the kind that a byte is, whose payload the bytes are
 unfoldable pub value_at : ℕ → List ℕ → Option Frame

@@ -1,5 +1,5 @@
 -- The one spelling of each value (docs/FORMATS.md).
-use Rattle.std.specs.Prelude.{ℕ, List, ◌∷◌, length, nat_lt, Option, Some, None, if◌then◌else◌, ◌==◌, ◌++◌}
+use Rattle.std.specs.Prelude.{ℕ, List, ◌∷◌, length, nat_lt, Option, Some, None, if◌then◌else◌, ◌==◌, ◌++◌, ⊤}
 use Rattle.std.specs.Int.{w32, to_be_bytes}
 use Rattle.std.specs.List.{AllByRecursion}
 use Rattle.namespace_id.specs.Bytes.{AreBytes}
@@ -9,7 +9,7 @@ use Rattle.square_layout.specs.Blocks.{IsSquare, IsBlock}
 use Rattle.da_wire.specs.declared.frames.Frame.{Frame}
 use Rattle.da_wire.specs.declared.kinds.Kind.{Kind}
 use Rattle.da_wire.specs.declared.kinds.Kind.TheVariants as kinds
-use Rattle.da_wire.specs.declared.frames.Frame.TheVariants.{Header, Square, Message, Names, Fraud, Missing, Clash, Sample, Request, Block, Commit, Rooted, Transactions}
+use Rattle.da_wire.specs.declared.frames.Frame.TheVariants.{Header, Square, Message, Names, Fraud, Missing, Clash, Sample, Request, Block, Commit, Rooted, Transactions, Refusal, State}
 use Rattle.namespace_id.specs.Names.{IsNamespace}
 use Rattle.namespace_id.specs.Shares.{AreShares}
 use Rattle.axis_roots.specs.Messages.{IsMessage}
@@ -29,6 +29,8 @@ use Rattle.frame_payloads.specs.kinds.Block.{block_payload, asks_for_zero}
 use Rattle.frame_payloads.specs.kinds.Commit.{IsCommitSent, is_long_commit, commit_payload}
 use Rattle.frame_payloads.specs.kinds.Rooted.{IsRootedSent, rooted_payload}
 use Rattle.frame_payloads.specs.kinds.Transactions.{transactions_payload}
+use Rattle.frame_payloads.specs.kinds.Refusal.{IsRefusal, refusal_payload}
+use Rattle.frame_payloads.specs.kinds.State.{state_payload}
 
 -- the kind of a header: `H`
 abbrev pub header_kind : ℕ
@@ -82,6 +84,14 @@ rooted_kind = 0x52
 abbrev pub transactions_kind : ℕ
 transactions_kind = 0x54
 
+-- the kind of a refusal: `E`
+abbrev pub refusal_kind : ℕ
+refusal_kind = 0x45
+
+-- the kind of a state: `A`
+abbrev pub state_kind : ℕ
+state_kind = 0x41
+
 -- the byte that a kind is
 abbrev pub kind_byte : Kind → ℕ
 kind_byte kinds.Header = header_kind
@@ -97,6 +107,8 @@ kind_byte kinds.Block = block_kind
 kind_byte kinds.Commit = commit_kind
 kind_byte kinds.Rooted = rooted_kind
 kind_byte kinds.Transactions = transactions_kind
+kind_byte kinds.Refusal = refusal_kind
+kind_byte kinds.State = state_kind
 
 -- a frame: its kind, the length of its payload in four bytes, its payload
 abbrev pub frame : ℕ → List ℕ → List ℕ
@@ -130,6 +142,8 @@ spelling (Commit proof) =
     if is_long_commit proof then None else spelled commit_kind (commit_payload proof)
 spelling (Rooted proof) = spelled rooted_kind (rooted_payload proof)
 spelling (Transactions units) = spelled transactions_kind (transactions_payload units)
+spelling (Refusal refusal) = spelled refusal_kind (refusal_payload refusal)
+spelling State = spelled state_kind state_payload
 
 -- ---- the values that there are
 
@@ -148,3 +162,5 @@ IsFrame (Block b) = IsBlock b
 IsFrame (Commit proof) = IsCommitSent proof
 IsFrame (Rooted proof) = IsRootedSent proof
 IsFrame (Transactions units) = AllByRecursion AreBytes units
+IsFrame (Refusal refusal) = IsRefusal refusal
+IsFrame State = ⊤

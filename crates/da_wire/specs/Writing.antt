@@ -1,9 +1,9 @@
 -- The two parts of a spelling: a value's kind and its payload.
 use Rattle.std.specs.Prelude.{◌≡◌, ℕ, List, ◌++◌, length, drop, Ok, Option, Some, None, MatchOption}
 use Rattle.da_wire.specs.declared.frames.Frame.{Frame}
-use Rattle.da_wire.specs.declared.frames.Frame.TheVariants.{Header, Square, Message, Names, Fraud, Missing, Clash, Sample, Request, Block, Commit, Rooted, Transactions}
+use Rattle.da_wire.specs.declared.frames.Frame.TheVariants.{Header, Square, Message, Names, Fraud, Missing, Clash, Sample, Request, Block, Commit, Rooted, Transactions, Refusal, State}
 use Rattle.da_wire.specs.Reading.{frame_of}
-use Rattle.da_wire.specs.Spelling.{frame, spelling, header_kind, square_kind, message_kind, names_kind, fraud_kind, missing_kind, clash_kind, sample_kind, request_kind, block_kind, commit_kind, rooted_kind, transactions_kind}
+use Rattle.da_wire.specs.Spelling.{frame, spelling, header_kind, square_kind, message_kind, names_kind, fraud_kind, missing_kind, clash_kind, sample_kind, request_kind, block_kind, commit_kind, rooted_kind, transactions_kind, refusal_kind, state_kind}
 use Rattle.frame_payloads.specs.kinds.Header.{header_payload}
 use Rattle.frame_payloads.specs.kinds.Square.{square_payload}
 use Rattle.frame_payloads.specs.kinds.Message.{message_payload}
@@ -16,6 +16,8 @@ use Rattle.frame_payloads.specs.kinds.Block.{block_payload}
 use Rattle.frame_payloads.specs.kinds.Commit.{commit_payload}
 use Rattle.frame_payloads.specs.kinds.Rooted.{rooted_payload}
 use Rattle.frame_payloads.specs.kinds.Transactions.{transactions_payload}
+use Rattle.frame_payloads.specs.kinds.Refusal.{refusal_payload}
+use Rattle.frame_payloads.specs.kinds.State.{state_payload}
 
 -- the byte of the kind of a value
 abbrev pub kind_of : Frame → ℕ
@@ -32,6 +34,8 @@ kind_of (Block b) = block_kind
 kind_of (Commit proof) = commit_kind
 kind_of (Rooted proof) = rooted_kind
 kind_of (Transactions units) = transactions_kind
+kind_of (Refusal refusal) = refusal_kind
+kind_of State = state_kind
 
 -- the payload that a value is written as
 abbrev pub payload_of : Frame → List ℕ
@@ -48,6 +52,8 @@ payload_of (Block b) = block_payload b
 payload_of (Commit proof) = commit_payload proof
 payload_of (Rooted proof) = rooted_payload proof
 payload_of (Transactions units) = transactions_payload units
+payload_of (Refusal refusal) = refusal_payload refusal
+payload_of State = state_payload
 
 -- the length of the payload of a value that has a spelling
 abbrev pub HasSize : Frame → Option ℕ → Type 0

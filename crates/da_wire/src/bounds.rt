@@ -12,6 +12,7 @@ ghost use Rattle.square_layout.specs.Blocks.{IsBlock};
 ghost use Rattle.frame_payloads.specs.codec.Texts.{IsCell};
 ghost use Rattle.frame_payloads.specs.kinds.Clash.{AreStrings};
 ghost use Rattle.frame_payloads.specs.kinds.Commit.{IsRowSent, IsCommitSent};
+ghost use Rattle.frame_payloads.specs.kinds.Refusal.{IsRefusal};
 ghost use Rattle.frame_payloads.specs.kinds.Rooted.{IsRootedSent};
 ghost use Rattle.da_wire.specs.Spelling.{IsFrame};
 
@@ -19,7 +20,7 @@ use crate::Frame;
 use axis_roots::{NsAnswer, answer_law, claim_law, message_law};
 use blob_commit::{CommitProof, CommitRow, RootedMessage, rooted_law, row_law};
 use data_header::Header;
-use frame_payloads::hash_law;
+use frame_payloads::{Refusal, hash_law};
 use hash_clash::Clash;
 use namespace_id::{
     Cell, Cells, Namespace, bytes_law, digests_law, namespace_law, share_law, shares_law,
@@ -164,6 +165,13 @@ fn sent_rooted_law(proof: &RootedMessage)
     rooted_law(proof);
 }
 
+/// Says that a refusal has a number of eight bytes. It changes nothing.
+fn refusal_law(refusal: &Refusal)
+    ensures { IsRefusal refusal.now }
+{
+    let _number = refusal.number;
+}
+
 /// Says that a value has the lengths and bounds of its type, so that what is written of it is read
 /// back. It changes nothing.
 pub fn frame_law(frame: &Frame)
@@ -183,5 +191,7 @@ pub fn frame_law(frame: &Frame)
         Frame::Commit(proof) => sent_commit_law(proof),
         Frame::Rooted(proof) => sent_rooted_law(proof),
         Frame::Transactions(units) => units_law(&units.list),
+        Frame::Refusal(refusal) => refusal_law(refusal),
+        Frame::State => {}
     }
 }

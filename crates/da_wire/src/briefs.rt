@@ -12,14 +12,15 @@ use crate::kinds::Kind;
 use crate::reading::raw_among;
 use axis_roots::FraudClaim;
 use frame_payloads::{
-    PlaceList, UnitList, block, fraud, missing, places, request, sample, transactions,
+    PlaceList, Refusal, UnitList, block, fraud, missing, places, refusal, request, sample, state,
+    transactions,
 };
 use namespace_id::{Axis, Cell, Cells, Namespace};
 use square_layout::Block;
 use std::alloc::{AllocError, Global};
 
 /// The kinds of the frames that may be short.
-const KINDS: &[u8] = b"NBKQPVT";
+const KINDS: &[u8] = b"NBKQPVTEA";
 
 /// The value of a frame that may be short. Of a namespace answer it has no shares, digests or nodes, but where its
 /// entries found something.
@@ -39,6 +40,10 @@ pub enum Brief {
     Block(Block),
     /// T: transactions.
     Transactions(UnitList),
+    /// E: a refusal.
+    Refusal(Refusal),
+    /// A: a state.
+    State,
 }
 
 /// The brief value of this kind whose payload the bytes are.
@@ -53,6 +58,8 @@ fn brief_of_kind(alloc: Global, kind: Kind, payload: &[u8]) -> Result<Option<Bri
         Kind::Request => Ok(request(payload).map(Brief::Request)),
         Kind::Block => Ok(block(alloc, payload)?.map(Brief::Block)),
         Kind::Transactions => Ok(transactions(alloc, payload)?.map(Brief::Transactions)),
+        Kind::Refusal => Ok(refusal(payload).map(Brief::Refusal)),
+        Kind::State => Ok(state(payload).map(|_| Brief::State)),
         _ => Ok(None),
     }
 }
@@ -69,7 +76,7 @@ fn brief_at(alloc: Global, kind: u8, payload: &[u8]) -> Result<Option<Brief>, Al
 }
 
 /// The brief value of the frame at the front of bytes, and the bytes after it; none where no frame of N, B,
-/// K, Q, P, V or T in the grammar stands there. Out of memory comes in place of a value alone.
+/// K, Q, P, V, T, E or A in the grammar stands there. Out of memory comes in place of a value alone.
 ///
 /// docs/FORMATS.md, "Lists of frames".
 pub fn next_brief(alloc: Global, bytes: &[u8]) -> Result<Option<(Brief, &[u8])>, AllocError>

@@ -3,7 +3,7 @@
 use axis_roots::{FraudClaim, Message, NsAnswer};
 use blob_commit::{CommitProof, RootedMessage};
 use data_header::Header;
-use frame_payloads::UnitList;
+use frame_payloads::{Refusal, UnitList};
 use hash_clash::Clash;
 use namespace_id::{Axis, Cell, Cells, Namespace};
 use square_layout::{Block, Square};
@@ -50,6 +50,10 @@ pub enum Frame {
     Rooted(RootedMessage),
     /// T: transactions.
     Transactions(UnitList),
+    /// E: a refusal.
+    Refusal(Refusal),
+    /// A: a state.
+    State,
 }
 
 /// Why bytes are no frame. The variants but the last stand in the order in which they are tested; each

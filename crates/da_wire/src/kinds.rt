@@ -20,6 +20,8 @@ pub(crate) enum Kind {
     Commit,
     Rooted,
     Transactions,
+    Refusal,
+    State,
 }
 
 impl Kind {
@@ -41,6 +43,8 @@ impl Kind {
             b'C' => Some(Kind::Commit),
             b'R' => Some(Kind::Rooted),
             b'T' => Some(Kind::Transactions),
+            b'E' => Some(Kind::Refusal),
+            b'A' => Some(Kind::State),
             _ => None,
         }
     }
@@ -63,6 +67,8 @@ impl Kind {
             Kind::Commit => b'C',
             Kind::Rooted => b'R',
             Kind::Transactions => b'T',
+            Kind::Refusal => b'E',
+            Kind::State => b'A',
         }
     }
 }

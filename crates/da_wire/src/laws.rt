@@ -18,17 +18,19 @@ ghost use Rattle.square_layout.specs.Blocks.{SquareShares, IsSquare};
 ghost use Rattle.hash_clash.specs.Collisions.{Strings};
 ghost use Rattle.blob_commit.specs.Proofs.{CommitParts, RootedParts, has_commit_shape};
 ghost use Rattle.frame_fields.specs.Fields.{most_nodes};
-ghost use Rattle.da_wire.specs.declared.frames.Frame.TheVariants.{Header, Square, Message, Names, Fraud, Missing, Clash, Sample, Request, Commit, Rooted, Transactions};
+ghost use Rattle.da_wire.specs.declared.frames.Frame.TheVariants.{Header, Square, Message, Names, Fraud, Missing, Clash, Sample, Request, Commit, Rooted, Transactions, Refusal, State};
 ghost use Rattle.da_wire.specs.Spelling.{spelling};
 ghost use Rattle.frame_payloads.specs.Payloads.{max_payload};
 ghost use Rattle.frame_payloads.specs.kinds.Names.{most_entries, most_shares_shown, is_long_answer};
 ghost use Rattle.frame_payloads.specs.kinds.Fraud.{most_cells, most_set_nodes, is_unwritten};
 ghost use Rattle.frame_payloads.specs.kinds.Clash.{AreStrings, has_empty};
 ghost use Rattle.frame_payloads.specs.kinds.Commit.{most_rows, most_subtrees, IsCommitSent, is_long_commit};
+ghost use Rattle.frame_payloads.specs.declared.refusals.Refusal as refusals;
+ghost use Rattle.frame_payloads.specs.kinds.Refusal.{IsRefusal};
 ghost use Rattle.frame_payloads.specs.kinds.Rooted.{IsRootedSent};
 ghost use Rattle.frame_payloads.specs.kinds.Transactions.{transactions_payload};
 ghost use Rattle.da_wire.specs.Laws.{SpelledIsRead, ReadIsSpelled, OneSpelling, OnlyIsSpelled, SpelledIsOnly, MessageIsRead, MessageIsSpelled, RawIsFrame, FramesAreTheFile, FilesAreFrames, BadFrameIsFirst, ValuesAreTheFile, FilesAreValues, BadValueIsFirst};
-ghost use Rattle.da_wire.specs.Streams.{EveryCutting, FramesStay};
+ghost use Rattle.da_wire.specs.Streams.{EveryCutting, FramesStay, LastIsTold};
 
 use blob_commit::shape_laws;
 use frame_payloads::MAX_PAYLOAD;
@@ -70,6 +72,8 @@ pub fn wire_laws()
     ensures rooted { (proof : RootedParts) → IsRootedSent proof → IsSome (spelling (Rooted proof)) }
     ensures transactions { (units : List (List ℕ)) →
         IsSome (spelling (Transactions units)) ↔ (length (transactions_payload units) ≤ max_payload) }
+    ensures refusals { (refusal : refusals.Refusal) → IsSome (spelling (Refusal refusal)) }
+    ensures states { IsSome (spelling State) }
 
     // The payloads of samples.
     ensures message_read { MessageIsRead }
@@ -100,10 +104,11 @@ pub fn value_laws()
 {}
 
 /// Over every cutting of a byte string a stream answers its frames, and the frames of bytes stay whatever
-/// bytes follow.
+/// bytes follow. What a stream tells of whole frames is the last of them.
 pub fn stream_laws()
     ensures cutting { EveryCutting }
     ensures stay { FramesStay }
+    ensures last { LastIsTold }
 {}
 
 /// The limits of payloads, as numbers.

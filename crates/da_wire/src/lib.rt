@@ -16,7 +16,9 @@ mod writing;
 
 pub use bounds::frame_law;
 pub use briefs::{Brief, next_brief};
-pub use frame_payloads::{EntryPlace, FoundPlace, MAX_PAYLOAD, PlaceList, UnitList, claim};
+pub use frame_payloads::{
+    EntryPlace, FoundPlace, MAX_PAYLOAD, PlaceList, Reason, Refusal, UnitList, claim,
+};
 pub use frames::{Frame, FrameError, RawFrame, SpellError};
 pub use laws::{limit_laws, stream_laws, value_laws, wire_laws};
 pub use reading::{bad_frame, bad_value, next_frame, next_value, raw, read_frame, read_only};

@@ -25,8 +25,8 @@ use crate::{Frame, FrameError, RawFrame};
 use frame_fields::message;
 use frame_payloads::{
     MAX_PAYLOAD, block, clash, commit, fraud, header, is_block, is_commit, is_fraud, is_header,
-    is_missing, is_names, is_square, is_transactions, missing, names, request, rooted, sample,
-    square, transactions,
+    is_missing, is_names, is_square, is_transactions, missing, names, refusal, request, rooted,
+    sample, square, state, transactions,
 };
 use std::alloc::{AllocError, Global};
 
@@ -92,6 +92,8 @@ fn value_of_kind(alloc: Global, kind: Kind, payload: &[u8]) -> Result<Option<Fra
         Kind::Commit => Ok(commit(alloc, payload)?.map(Frame::Commit)),
         Kind::Rooted => Ok(rooted(payload).map(Frame::Rooted)),
         Kind::Transactions => Ok(transactions(alloc, payload)?.map(Frame::Transactions)),
+        Kind::Refusal => Ok(refusal(payload).map(Frame::Refusal)),
+        Kind::State => Ok(state(payload).map(|_| Frame::State)),
     }
 }
 
@@ -124,6 +126,8 @@ fn is_in_form(kind: Kind, payload: &[u8]) -> bool
         Kind::Commit => is_commit(payload),
         Kind::Rooted => rooted(payload).is_some(),
         Kind::Transactions => is_transactions(payload),
+        Kind::Refusal => refusal(payload).is_some(),
+        Kind::State => state(payload).is_some(),
     }
 }
 
@@ -163,7 +167,7 @@ pub(crate) fn refusal_before_more(frame: RawFrame<'_>) -> FrameError
 /// The value of the frame at the front of bytes, and the offset after it. `at` is the offset of the
 /// bytes in their file, and `at` plus their number fits a `u64`.
 ///
-/// Refuses no byte (`Truncated`), a kind that isn't one of H, S, M, N, B, K, X, Q, P, V, C, R and T
+/// Refuses no byte (`Truncated`), a kind that isn't one of H, S, M, N, B, K, X, Q, P, V, C, R, T, E and A
 /// (`BadKind`), then what `raw` refuses, then a payload that isn't in the grammar of its kind
 /// (`BadPayload`), each with `at`. Out of memory comes in place of a value alone: none is taken before
 /// the payload is known to be in its grammar.

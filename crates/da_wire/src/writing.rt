@@ -13,10 +13,11 @@ use crate::kinds::Kind;
 use crate::{Frame, SpellError};
 use axis_roots::FraudProof;
 use frame_payloads::{
-    SAMPLE_SIZE, block_size, clash_size, commit_size, fraud_size, header_size, message_size,
-    missing_size, names_size, proof_law, proof_size, put_block, put_clash, put_commit, put_fraud,
-    put_header, put_message, put_missing, put_names, put_proof, put_rooted, put_sample, put_square,
-    put_transactions, request_size, rooted_size, square_size, transactions_size,
+    REFUSAL_SIZE, SAMPLE_SIZE, block_size, clash_size, commit_size, fraud_size, header_size,
+    message_size, missing_size, names_size, proof_law, proof_size, put_block, put_clash,
+    put_commit, put_fraud, put_header, put_message, put_missing, put_names, put_proof, put_refusal,
+    put_rooted, put_sample, put_square, put_transactions, request_size, rooted_size, square_size,
+    transactions_size,
 };
 use namespace_id::{NoMemory, append};
 
@@ -38,6 +39,8 @@ fn kind_of(frame: &Frame) -> Kind
         Frame::Commit(_) => Kind::Commit,
         Frame::Rooted(_) => Kind::Rooted,
         Frame::Transactions(_) => Kind::Transactions,
+        Frame::Refusal(_) => Kind::Refusal,
+        Frame::State => Kind::State,
     }
 }
 
@@ -59,6 +62,8 @@ fn payload_size(frame: &Frame) -> Option<u32>
         Frame::Commit(proof) => commit_size(proof),
         Frame::Rooted(proof) => Some(rooted_size(proof)),
         Frame::Transactions(units) => transactions_size(&units.list),
+        Frame::Refusal(_) => Some(REFUSAL_SIZE),
+        Frame::State => Some(0),
     }
 }
 
@@ -83,6 +88,8 @@ fn put_payload(out: &mut Vec<u8>, frame: &Frame)
         Frame::Commit(proof) => put_commit(out, proof),
         Frame::Rooted(proof) => put_rooted(out, proof),
         Frame::Transactions(units) => put_transactions(out, &units.list),
+        Frame::Refusal(refusal) => put_refusal(out, *refusal),
+        Frame::State => {}
     }
 }
 

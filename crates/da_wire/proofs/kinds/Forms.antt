@@ -1,5 +1,6 @@
 -- What is read of a payload of any kind is what the payload spells, and what is spelled is read.
 use Rattle.std.proofs.Common.{◌≡◌, ◌∙◌, ℕ, Bool, true, false, eqb, cond, List, Option, None, Some, refl, sym, ap, subst, eqb-true}
+use Rattle.std.specs.Prelude.{⊤}
 use Rattle.std.proofs.lemmas.Option.{same_Some}
 use Rattle.namespace_id.specs.declared.cells.Cell.{Cell}
 use Rattle.namespace_id.specs.declared.cells.Axis.{Axis}
@@ -7,7 +8,7 @@ use Rattle.namespace_id.specs.declared.namespaces.Namespace.{Namespace}
 use Rattle.namespace_id.specs.Bytes.{AreBytes}
 use Rattle.axis_roots.specs.declared.answers.NsEntry.{NsEntry}
 use Rattle.da_wire.specs.declared.frames.Frame.{Frame}
-use Rattle.da_wire.specs.declared.frames.Frame.TheVariants.{Header, Square, Message, Names, Fraud, Missing, Clash, Sample, Request, Block, Commit, Rooted, Transactions}
+use Rattle.da_wire.specs.declared.frames.Frame.TheVariants.{Header, Square, Message, Names, Fraud, Missing, Clash, Sample, Request, Block, Commit, Rooted, Transactions, Refusal, State}
 use Rattle.da_wire.specs.declared.kinds.Kind.{Kind}
 use Rattle.da_wire.specs.declared.kinds.Kind.TheVariants as kinds
 use Rattle.da_wire.specs.Spelling.{kind_byte, spelled, spelling, IsFrame}
@@ -26,6 +27,8 @@ use Rattle.frame_payloads.proofs.Forms.BlockForm.{block_form}
 use Rattle.frame_payloads.proofs.Forms.CommitForm.{commit_form}
 use Rattle.frame_payloads.proofs.Forms.RootedForm.{rooted_form}
 use Rattle.frame_payloads.proofs.Forms.TransactionsForm.{transactions_form}
+use Rattle.frame_payloads.proofs.Forms.RefusalForm.{refusal_form}
+use Rattle.frame_payloads.proofs.Forms.StateForm.{state_form}
 
 -- ---- the byte of a kind
 
@@ -44,6 +47,8 @@ kind_again kinds.Block = refl
 kind_again kinds.Commit = refl
 kind_again kinds.Rooted = refl
 kind_again kinds.Transactions = refl
+kind_again kinds.Refusal = refl
+kind_again kinds.State = refl
 
 -- a byte is that of a kind, or it is looked for among the others
 by_byte : (here : Bool) (byte : ℕ) (kind found : Kind) (others : Option Kind) → eqb byte (kind_byte kind) ≡ here → cond here (Some kind) others ≡ Some found
@@ -66,7 +71,9 @@ kind_takes byte found e =
     by_byte (eqb byte (kind_byte kinds.Block)) byte kinds.Block found _ refl e9 (λ e10.
     by_byte (eqb byte (kind_byte kinds.Commit)) byte kinds.Commit found _ refl e10 (λ e11.
     by_byte (eqb byte (kind_byte kinds.Rooted)) byte kinds.Rooted found _ refl e11 (λ e12.
-    by_byte (eqb byte (kind_byte kinds.Transactions)) byte kinds.Transactions found None refl e12 (λ e13. absurd cc)))))))))))))
+    by_byte (eqb byte (kind_byte kinds.Transactions)) byte kinds.Transactions found _ refl e12 (λ e13.
+    by_byte (eqb byte (kind_byte kinds.Refusal)) byte kinds.Refusal found _ refl e13 (λ e14.
+    by_byte (eqb byte (kind_byte kinds.State)) byte kinds.State found None refl e14 (λ e15. absurd cc)))))))))))))))
 
 -- ---- values
 
@@ -76,6 +83,10 @@ answer_frame x = Names x.0 x.1
 
 abbrev asked_frame : Cell × Axis → Frame
 asked_frame x = Sample x.0 x.1
+
+-- that of a state
+abbrev state_frame : ⊤ → Frame
+state_frame none = State
 
 -- a value of each kind is spelled by the payload of which it is read
 spelled_by : (kind : Kind) (payload : List ℕ) (value : Frame) → AreBytes payload → value_of_kind kind payload ≡ Some value → Spells kind payload value
@@ -92,6 +103,8 @@ spelled_by kinds.Block = form_takes kinds.Block Block _ _ _ block_form (λ bytes
 spelled_by kinds.Commit = form_takes kinds.Commit Commit _ _ _ commit_form (λ bytes. refl) (λ x. refl)
 spelled_by kinds.Rooted = form_takes kinds.Rooted Rooted _ _ _ rooted_form (λ bytes. refl) (λ x. refl)
 spelled_by kinds.Transactions = form_takes kinds.Transactions Transactions _ _ _ transactions_form (λ bytes. refl) (λ x. refl)
+spelled_by kinds.Refusal = form_takes kinds.Refusal Refusal _ _ _ refusal_form (λ bytes. refl) (λ x. refl)
+spelled_by kinds.State = form_takes kinds.State state_frame _ _ _ state_form (λ bytes. refl) (λ x. refl)
 
 -- a value that is read of a payload is what the payload spells
 pub value_takes : (byte : ℕ) (payload : List ℕ) (value : Frame) → AreBytes payload → value_at byte payload ≡ Some value
@@ -116,3 +129,5 @@ value_again (Block b) = form_written kinds.Block Block _ _ _ block_form (λ byte
 value_again (Commit proof) = form_written kinds.Commit Commit _ _ _ commit_form (λ bytes. refl) (λ x. refl) (kind_again kinds.Commit) proof
 value_again (Rooted proof) = form_written kinds.Rooted Rooted _ _ _ rooted_form (λ bytes. refl) (λ x. refl) (kind_again kinds.Rooted) proof
 value_again (Transactions units) = form_written kinds.Transactions Transactions _ _ _ transactions_form (λ bytes. refl) (λ x. refl) (kind_again kinds.Transactions) units
+value_again (Refusal refusal) = form_written kinds.Refusal Refusal _ _ _ refusal_form (λ bytes. refl) (λ x. refl) (kind_again kinds.Refusal) refusal
+value_again State = form_written kinds.State state_frame _ _ _ state_form (λ bytes. refl) (λ x. refl) (kind_again kinds.State) tt

@@ -18,8 +18,8 @@ use Rattle.axis_roots.specs.Messages.{IsMessage}
 use Rattle.square_layout.specs.Blocks.{SquareShares, IsSquare}
 use Rattle.hash_clash.specs.Collisions.{Strings}
 use Rattle.blob_commit.specs.Proofs.{CommitParts, RootedParts}
-use Rattle.da_wire.specs.declared.frames.Frame.TheVariants.{Header, Square, Message, Names, Fraud, Missing, Clash, Sample, Request, Commit, Rooted, Transactions}
-use Rattle.da_wire.specs.Spelling.{frame, spelled, spelling, header_kind, square_kind, message_kind, names_kind, fraud_kind, missing_kind, clash_kind, sample_kind, request_kind, commit_kind, rooted_kind, transactions_kind}
+use Rattle.da_wire.specs.declared.frames.Frame.TheVariants.{Header, Square, Message, Names, Fraud, Missing, Clash, Sample, Request, Commit, Rooted, Transactions, Refusal, State}
+use Rattle.da_wire.specs.Spelling.{frame, spelled, spelling, header_kind, square_kind, message_kind, names_kind, fraud_kind, missing_kind, clash_kind, sample_kind, request_kind, commit_kind, rooted_kind, transactions_kind, refusal_kind, state_kind}
 use Rattle.frame_payloads.specs.Payloads.{max_payload, written}
 use Rattle.frame_payloads.specs.codec.Texts.{text_bytes}
 use Rattle.frame_payloads.specs.kinds.Header.{header_payload}
@@ -33,6 +33,9 @@ use Rattle.frame_payloads.specs.kinds.Requests.{sample_payload, request_payload}
 use Rattle.frame_payloads.specs.kinds.Commit.{IsCommitSent, is_long_commit, commit_payload}
 use Rattle.frame_payloads.specs.kinds.Rooted.{IsRootedSent, rooted_payload}
 use Rattle.frame_payloads.specs.kinds.Transactions.{transactions_payload}
+use Rattle.frame_payloads.specs.declared.refusals.Refusal as refusals
+use Rattle.frame_payloads.specs.kinds.Refusal.{refusal_payload}
+use Rattle.frame_payloads.specs.kinds.State.{state_payload}
 use Rattle.frame_payloads.proofs.Fields.Lengths.{written_within}
 use Rattle.frame_payloads.proofs.Forms.NamesSizes.{names_few}
 use Rattle.frame_payloads.proofs.Forms.FraudSizes.{fraud_few}
@@ -111,3 +114,11 @@ transactions_spelled units =
       λ some. ltb-false max_payload (length payload) (not_held (ltb max_payload (length payload)) (frame transactions_kind payload) some),
       λ few. within_spelling transactions_kind false payload refl few,
     )
+
+-- each refusal has a spelling
+pub refusal_spelled : (refusal : refusals.Refusal) → IsSome (spelling (Refusal refusal))
+refusal_spelled refusal = within_spelling refusal_kind false (refusal_payload refusal) refl (omega arith)
+
+-- so has a state
+pub state_spelled : IsSome (spelling State)
+state_spelled = within_spelling state_kind false state_payload refl (omega arith)

@@ -2,7 +2,7 @@ use Rattle.frame_payloads.proofs.Forms.MessageForm.{message_again, message_takes
 use Rattle.da_wire.proofs.FrameLemmas.{spelled_is_read, read_is_spelled, one_spelling}
 use Rattle.da_wire.proofs.OnlyLemmas.{only_is_spelled, spelled_only}
 use Rattle.da_wire.proofs.FrameListLemmas.{raw_is_frame, frames_are_the_file, files_are_frames, bad_frame_is_first}
-use Rattle.da_wire.proofs.kinds.Spelled.{header_spelled, square_spelled, message_spelled, names_spelled, fraud_spelled, missing_spelled, sample_spelled, request_spelled, commit_spelled, rooted_spelled, transactions_spelled}
+use Rattle.da_wire.proofs.kinds.Spelled.{header_spelled, square_spelled, message_spelled, names_spelled, fraud_spelled, missing_spelled, sample_spelled, request_spelled, commit_spelled, rooted_spelled, transactions_spelled, refusal_spelled, state_spelled}
 use Rattle.frame_payloads.proofs.AcceptedClaims.{accepted_written}
 use Rattle.frame_payloads.proofs.Forms.CellCounts.{cells_counted}
 use Rattle.frame_payloads.proofs.Forms.CommitSizes.{commit_short}
@@ -64,6 +64,12 @@ returns-clause-rooted c = rooted_spelled
 
 pub returns-clause-transactions : goal.returns-clause-transactions
 returns-clause-transactions c = transactions_spelled
+
+pub returns-clause-refusals : goal.returns-clause-refusals
+returns-clause-refusals c = refusal_spelled
+
+pub returns-clause-states : goal.returns-clause-states
+returns-clause-states c = state_spelled
 
 pub returns-clause-message_read : goal.returns-clause-message_read
 returns-clause-message_read c = message_again
