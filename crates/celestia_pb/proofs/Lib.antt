@@ -1,0 +1,16 @@
+-- readings that came of several steps
+pub mod Steps
+-- fields at the front of bytes
+pub mod Fronts
+-- digests, written and read
+pub mod DigestLemmas
+-- where digests lie
+pub mod EntryLemmas
+-- the loop that counts digests
+pub mod CountLoops
+-- the loop that appends digests
+pub mod PutLoops
+-- lenient reading of digests
+pub mod CommonLemmas
+-- headers
+pub mod HeaderLemmas

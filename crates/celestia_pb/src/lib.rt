@@ -1,0 +1,13 @@
+//! Celestia's own messages as values of this project, in their one spelling.
+//!
+//! One module a message. Its reader takes the canonical bytes of a value alone, and names the offset of the first field that
+//! is wrong; its writer makes these bytes. docs/RULES.md, "Celestia's messages", says which.
+#![tactic(auto)]
+
+mod dah;
+mod digests;
+mod entries;
+mod errors;
+
+pub use dah::{dah_laws, dah_size, put_dah, read_dah};
+pub use errors::PbError;
