@@ -1,6 +1,5 @@
 -- The blobs that a payment carries, one after another.
-use Rattle.std.proofs.Common.{true, false, if◌then◌else◌, ◌≡◌, ◌∙◌, ◌↔◌, ℕ, ◌≤◌, ◌==◌, ◌&&◌, Bool, List, [], ◌∷◌, ◌++◌, length, Option, Some, None, refl, sym, ap, arith}
-use Rattle.std.specs.List.{list_all}
+use Rattle.std.proofs.Common.{true, false, if◌then◌else◌, ◌≡◌, ◌∙◌, ◌↔◌, ℕ, ◌≤◌, ◌==◌, Bool, List, [], ◌∷◌, ◌++◌, length, Option, Some, None, refl, sym, ap, arith}
 use Rattle.std.specs.Option.{is_some, option_map_or}
 use Rattle.std.specs.Prelude.{option_map, IsSome, IfSome}
 use Rattle.std.proofs.lemmas.Bool.{eqb-true, true≢false}
@@ -13,18 +12,28 @@ use Rattle.tx_list.specs.Walks.{bytes_value_of, entry_of, IsNext}
 -- ---- one field
 
 -- the blob that a field carries is the one of its own
-own_some : (b : Bool) (value : ValueParts) (entry : List ℕ) → (if b then bytes_value_of value else None) ≡ Some entry
+pub own_some : (b : Bool) (value : ValueParts) (entry : List ℕ) → (if b then bytes_value_of value else None) ≡ Some entry
     → (if b then bytes_of value else []) ≡ entry ∷ []
 own_some true (number_value number) entry h = absurd cc
 own_some true (bytes_value bytes) entry h = let e : bytes ≡ entry = cc in ap (λ (l : List ℕ). l ∷ []) e
 own_some true other_value entry h = absurd cc
 own_some false value entry h = absurd cc
 
-own_none : (b : Bool) (value : ValueParts) → (if b then bytes_value_of value else None) ≡ None → (if b then bytes_of value else []) ≡ []
+pub own_none : (b : Bool) (value : ValueParts) → (if b then bytes_value_of value else None) ≡ None → (if b then bytes_of value else []) ≡ []
 own_none true (number_value number) h = refl
 own_none true (bytes_value bytes) h = absurd cc
 own_none true other_value h = refl
 own_none false value h = refl
+
+-- it carries one at most
+own_few_by : (b : Bool) (value : ValueParts) → length (if b then bytes_of value else []) ≤ 1
+own_few_by true (number_value number) = omega arith
+own_few_by true (bytes_value bytes) = omega arith
+own_few_by true other_value = omega arith
+own_few_by false value = omega arith
+
+pub own_few : (n : ℕ) (field : FieldParts) → length (own_bytes n field) ≤ 1
+own_few n field = own_few_by (field.number == n) field.value
 
 -- ---- the fields behind one
 
@@ -100,23 +109,3 @@ pub same_test : (a b : Bool) → ((a ≡ true) ↔ (b ≡ true)) → a ≡ b
 same_test true b h = sym (h.0 refl)
 same_test false true h = h.1 refl
 same_test false false h = refl
-
--- ---- whether all blobs are fields
-
--- one more is
-pub entries_passed : (bytes rest entry after : List ℕ) → IsNext rest entry after → are_fields entry ≡ true
-    → list_all are_fields (entries_of bytes) ≡ list_all are_fields (entries_of rest)
-    → list_all are_fields (entries_of bytes) ≡ list_all are_fields (entries_of after)
-entries_passed bytes rest entry after next is so_far =
-    so_far ∙ ap (list_all are_fields) next.first ∙ ap (λ (b : Bool). b && list_all are_fields (entries_of after)) is
-
--- one isn't
-pub entries_failed : (bytes rest entry after : List ℕ) → IsNext rest entry after → are_fields entry ≡ false
-    → list_all are_fields (entries_of bytes) ≡ list_all are_fields (entries_of rest) → false ≡ list_all are_fields (entries_of bytes)
-entries_failed bytes rest entry after next isnt so_far =
-    sym (so_far ∙ ap (list_all are_fields) next.first ∙ ap (λ (b : Bool). b && list_all are_fields (entries_of after)) isnt)
-
--- none is left
-pub entries_end : (bytes rest : List ℕ) → entries_of rest ≡ [] → list_all are_fields (entries_of bytes) ≡ list_all are_fields (entries_of rest)
-    → true ≡ list_all are_fields (entries_of bytes)
-entries_end bytes rest none so_far = sym (so_far ∙ ap (list_all are_fields) none)

@@ -12,10 +12,14 @@ pub mod ListLemmas
 pub mod StandingLemmas
 -- the blobs that a payment carries
 pub mod EntryLemmas
+-- what a walk over fields keeps
+pub mod KeptLemmas
 -- the first check that fails
 pub mod CheckLemmas
 -- transactions that no check refuses
 pub mod TakingLemmas
+-- the checks of a transaction in one walk
+pub mod JudgeLemmas
 -- blobs in their one spelling, read back
 pub mod SpelledBlobLemmas
 -- payments and lists in it

@@ -1,5 +1,5 @@
 -- What is known of transactions that no check refuses.
-use Rattle.std.proofs.Common.{◌≡◌, ◌∙◌, ℕ, suc, ◌-◌, ◌≤◌, ◌==◌, ◌&&◌, ◌||◌, not, Bool, true, false, if◌then◌else◌, List, [], ◌∷◌, length, map, filter, Option, Some, None, option_map, refl, sym, ap, arith}
+use Rattle.std.proofs.Common.{◌≡◌, ◌∙◌, ℕ, suc, ◌-◌, ◌≤◌, ◌==◌, ◌&&◌, ◌||◌, not, Bool, true, false, if◌then◌else◌, List, [], ◌∷◌, length, map, filter, Option, Some, None, option_map, take, drop, refl, sym, ap, ap₂, arith}
 use Rattle.std.specs.List.{AllByRecursion, list_all}
 use Rattle.std.specs.Option.{option_or}
 use Rattle.std.specs.Str.{bytes_eq}
@@ -15,15 +15,15 @@ use Rattle.share_split.specs.Blobs.{signer_size}
 use Rattle.square_layout.proofs.AcceptedLemmas.{is_accepted}
 use Rattle.tx_list.specs.declared.refusals.ListError.TheVariants.{NoBlobs, BadBlob, BadVersion, NoBytes}
 use Rattle.proto_fields.specs.Fields.{last_bytes}
-use Rattle.tx_list.specs.Payments.{IsLayable, IsPayment}
-use Rattle.tx_list.specs.Reads.{are_fields, fields_in, entries_of, is_payment, tx_in, StatedBlob, stated, blob_of, payment_of}
+use Rattle.tx_list.specs.Payments.{PaymentParts, ListParts, IsLayable, IsPayment}
+use Rattle.tx_list.specs.Reads.{are_fields, fields_in, entries_of, is_payment, tx_in, StatedBlob, stated, blob_of, payment_of, list_of}
 use Rattle.tx_list.specs.ReadRefusals.{name_refusal, has_version, blob_refusal, blobs_refusal, payment_refusal, transaction_refusal, transactions_refusal}
 use Rattle.tx_list.specs.Walks.{IsTaken, IsTakenPayment, AreTaken}
 
 -- ---- checks that refuse nothing
 
 -- of two, neither did
-or_none : {A : Type 0} (first second : Option A) → option_or first second ≡ None → (first ≡ None) × (second ≡ None)
+pub or_none : {A : Type 0} (first second : Option A) → option_or first second ≡ None → (first ≡ None) × (second ≡ None)
 or_none None second h = (refl, h)
 or_none (Some x) second h = absurd cc
 
@@ -143,3 +143,29 @@ pub payments_kept : (transactions : List (List ℕ)) → AreTaken transactions �
 payments_kept [] all = tt
 payments_kept (one ∷ others) all =
     filter_step (is_payment one) one (filter is_payment others) (λ is. taken_payment (tx_in one) one (all.0 is)) (payments_kept others all.1)
+
+-- those that are payments are taken
+taken_step : (b : Bool) (one : List ℕ) (others : List (List ℕ)) → (b ≡ true → IsTakenPayment one) → AllByRecursion IsTakenPayment others
+    → AllByRecursion IsTakenPayment (if b then one ∷ others else others)
+taken_step true one others here rest = (here refl, rest)
+taken_step false one others here rest = rest
+
+pub payments_taken : (transactions : List (List ℕ)) → AreTaken transactions → AllByRecursion IsTakenPayment (filter is_payment transactions)
+payments_taken [] all = tt
+payments_taken (one ∷ others) all = taken_step (is_payment one) one (filter is_payment others) all.0 (payments_taken others all.1)
+
+-- and ones as the types keep them
+pub payments_layable : (paid : List (List ℕ)) → AllByRecursion IsTakenPayment paid → AllByRecursion IsPayment (map payment_of paid)
+payments_layable [] all = tt
+payments_layable (one ∷ others) all = (taken_payment (tx_in one) one all.0, payments_layable others all.1)
+
+-- a list of its parts
+abbrev parts_of : List (List ℕ) → List PaymentParts → ListParts
+parts_of units payments = record { units = units; payments = payments }
+
+-- the list of transactions whose payments stand behind the others
+pub list_parts_are : (transactions : List (List ℕ)) (plain : ℕ) (list : ListParts) → filter (λ one. not (is_payment one)) transactions ≡ take plain transactions
+    → filter is_payment transactions ≡ drop plain transactions → list.units ≡ take plain transactions → list.payments ≡ map payment_of (drop plain transactions)
+    → list ≡ list_of transactions
+list_parts_are transactions plain list front back units payments =
+    ap₂ parts_of (units ∙ sym front) (payments ∙ ap (map payment_of) (sym back))

@@ -1,10 +1,14 @@
 -- What the steps of reading transactions answer.
-use Rattle.std.specs.Prelude.{◌≡◌, ℕ, ◌<◌, ◌≤◌, ◌==◌, true, List, ◌∷◌, length, Option, Some, None, if◌then◌else◌}
+use Rattle.std.specs.Prelude.{◌≡◌, ℕ, suc, ◌%◌, ◌^◌, ◌<◌, ◌≤◌, ◌==◌, ◌&&◌, true, List, [], ◌∷◌, length, Option, Some, None, if◌then◌else◌}
 use Rattle.std.specs.List.{AllByRecursion, list_all}
+use Rattle.std.specs.Option.{option_or}
 use Rattle.proto_fields.specs.Fields.{ValueParts, number_value, bytes_value, other_value, FieldParts}
 use Rattle.tx_list.specs.declared.reading.Stated.{Stated}
+use Rattle.tx_list.specs.declared.checking.Checked.{Checked}
+use Rattle.tx_list.specs.declared.checking.Judged.{Judged}
+use Rattle.tx_list.specs.declared.checking.Judged.TheVariants as judged
 use Rattle.tx_list.specs.Reads.{are_fields, entries_of, is_payment, StatedBlob, stated}
-use Rattle.tx_list.specs.ReadRefusals.{name_refusal, has_version}
+use Rattle.tx_list.specs.ReadRefusals.{name_refusal, has_version, blob_refusal, payment_refusal}
 
 -- the bytes that a value is
 abbrev pub bytes_value_of : ValueParts → Option (List ℕ)
@@ -31,6 +35,37 @@ stated_parts blob = record {
   share_version = blob.share_version;
   signer = blob.signer.now;
 }
+
+-- it with numbers of 32 bits
+abbrev pub lowered : StatedBlob → StatedBlob
+lowered blob = record {
+  version = blob.version % 2 ^ 32;
+  id = blob.id;
+  bytes = blob.bytes;
+  share_version = blob.share_version % 2 ^ 32;
+  signer = blob.signer;
+}
+
+-- ---- the checks of a transaction
+
+-- the blobs of transaction i that were checked, and one more; no check is of one that isn't fields
+abbrev pub with_entry : ℕ → Checked → List ℕ → Checked
+with_entry i checked entry = record {
+  count = suc checked.count;
+  are_fields = checked.are_fields && are_fields entry;
+  refusal = if are_fields entry then option_or checked.refusal (blob_refusal i checked.count (stated entry)) else checked.refusal;
+}
+
+-- and some more
+unfoldable pub with_entries : ℕ → Checked → List (List ℕ) → Checked
+with_entries i checked [] = checked
+with_entries i checked (entry ∷ entries) = with_entries i (with_entry i checked entry) entries
+
+-- what transaction i is, and, where it is a payment, why it isn't taken
+abbrev pub judgement : ℕ → List ℕ → Judged
+judgement i bytes = if is_payment bytes then judged.Payment (payment_refusal i (entries_of bytes)) else judged.Plain
+
+-- ---- what is taken
 
 -- a blob that no check refuses
 pub record IsTaken (blob : StatedBlob) : Type 0 where

@@ -1,17 +1,13 @@
 //! What transactions are read as.
 
-ghost use Rattle.std.specs.Prelude.{◌≡◌, ◌↔◌, ◌<◌, ℕ, List, [], ◌∷◌, length, true, None, IfSome, IsSome};
-ghost use Rattle.std.specs.List.{list_all};
+ghost use Rattle.std.specs.Prelude.{◌≡◌, List, [], true, None, IfSome};
 ghost use Rattle.namespace_id.specs.Answers.{Gives};
-ghost use Rattle.proto_fields.specs.Fields.{last_bytes};
+ghost use Rattle.proto_fields.specs.Fields.{last_of, own_bytes, own_numbers, last_bytes};
 ghost use Rattle.proto_fields.specs.Values.{field_parts};
-ghost use Rattle.tx_list.specs.Reads.{are_fields, fields_in, entries_of, is_payment, tx_in, low_number, stated};
-ghost use Rattle.tx_list.specs.Walks.{entry_of, IsNext, stated_parts};
+ghost use Rattle.tx_list.specs.Reads.{are_fields, fields_in, entries_of, stated};
+ghost use Rattle.tx_list.specs.Walks.{entry_of, IsNext, stated_parts, lowered};
 
-use proto_fields::{Field, Value, are_fields, field_at, last_bytes, last_number};
-
-/// The type id of a payment with its blobs.
-const PAYMENT: [u8; 4] = *b"BLOB";
+use proto_fields::{Field, Value, are_fields, bytes_or, field_at, last_bytes, number_or};
 
 /// The field of a payment that is one of its blobs.
 const ENTRY: u32 = 2;
@@ -22,10 +18,10 @@ const RADIX: u64 = 4_294_967_296;
 /// A blob as a payment states it.
 #[derive(Clone, Copy)]
 pub(crate) struct Stated<'a> {
-    pub(crate) version: u32,
+    pub(crate) version: u64,
     pub(crate) id: &'a [u8],
     pub(crate) bytes: &'a [u8],
-    pub(crate) share_version: u32,
+    pub(crate) share_version: u64,
     pub(crate) signer: &'a [u8],
 }
 
@@ -44,16 +40,8 @@ pub(crate) fn bytes_in(bytes: &[u8], number: u32) -> &[u8]
     last_bytes(bytes, number)
 }
 
-/// The number of the last field of a number, in bytes that are fields.
-fn number_in(bytes: &[u8], number: u32) -> u32
-    requires { are_fields bytes.now ≡ true }
-    ensures { result ≡ low_number number (fields_in bytes.now) }
-{
-    (last_number(bytes, number) % RADIX) as u32
-}
-
 /// The blob that a field of a payment carries, if it does.
-fn entry_of(field: Field<'_>) -> Option<&[u8]>
+pub(crate) fn entry_of(field: Field<'_>) -> Option<&[u8]>
     ensures { Gives (λ x. x.now) result (entry_of (field_parts field.entry)) }
 {
     if field.number != ENTRY {
@@ -81,43 +69,57 @@ pub(crate) fn next_entry(bytes: &[u8]) -> Option<(&[u8], &[u8])>
     None
 }
 
-/// Whether each blob that bytes carry is fields.
-fn are_entries(bytes: &[u8]) -> bool
-    requires { are_fields bytes.now ≡ true }
-    ensures { result ≡ list_all are_fields (entries_of bytes.now) }
-{
-    let mut rest = bytes;
-    while let Some((entry, after)) = next_entry(rest) {
-        if !is_fields(entry) {
-            return false;
-        }
-        rest = after;
-    }
-    true
-}
-
-/// Whether a transaction is a payment for blobs, which carries them.
-///
-/// docs/RULES.md, "A block of the network".
-pub(crate) fn is_payment(bytes: &[u8]) -> bool
-    ensures { result ≡ is_payment bytes.now }
-{
-    if !is_fields(bytes) {
-        return false;
-    }
-    bytes_in(bytes, 3) == PAYMENT.as_slice() && are_entries(bytes)
-}
-
-/// The blob that bytes state, which are fields.
-pub(crate) fn read_blob(entry: &[u8]) -> Stated<'_>
-    requires { are_fields entry.now ≡ true }
-    ensures { stated_parts result ≡ stated entry.now }
+/// A blob as its fields state it up to one, and as they state it with this one: the last of several counts.
+fn with_field<'a>(earlier: Stated<'a>, field: Field<'a>) -> Stated<'a>
+    ensures version { result.version ≡
+        last_of earlier.entry.version (own_numbers 4 (field_parts field.entry)) }
+    ensures id { result.id.now ≡ last_of earlier.entry.id.now (own_bytes 1 (field_parts field.entry)) }
+    ensures bytes { result.bytes.now ≡
+        last_of earlier.entry.bytes.now (own_bytes 2 (field_parts field.entry)) }
+    ensures share_version { result.share_version ≡
+        last_of earlier.entry.share_version (own_numbers 3 (field_parts field.entry)) }
+    ensures signer { result.signer.now ≡
+        last_of earlier.entry.signer.now (own_bytes 5 (field_parts field.entry)) }
 {
     Stated {
-        version: number_in(entry, 4),
-        id: bytes_in(entry, 1),
-        bytes: bytes_in(entry, 2),
-        share_version: number_in(entry, 3),
-        signer: bytes_in(entry, 5),
+        version: number_or(earlier.version, field, 4),
+        id: bytes_or(earlier.id, field, 1),
+        bytes: bytes_or(earlier.bytes, field, 2),
+        share_version: number_or(earlier.share_version, field, 3),
+        signer: bytes_or(earlier.signer, field, 5),
     }
+}
+
+/// A blob whose numbers have 32 bits.
+fn lowered(blob: Stated<'_>) -> Stated<'_>
+    ensures { stated_parts result ≡ lowered (stated_parts blob.entry) }
+{
+    Stated {
+        version: blob.version % RADIX,
+        id: blob.id,
+        bytes: blob.bytes,
+        share_version: blob.share_version % RADIX,
+        signer: blob.signer,
+    }
+}
+
+/// The blob that bytes state if they are fields, and whether they are.
+pub(crate) fn read_blob(entry: &[u8]) -> (Stated<'_>, bool)
+    ensures fields { result.1 ≡ are_fields entry.now }
+    ensures blob { are_fields entry.now ≡ true → stated_parts result.0 ≡ stated entry.now }
+{
+    let none = &entry[..0];
+    let mut blob = Stated {
+        version: 0,
+        id: none,
+        bytes: none,
+        share_version: 0,
+        signer: none,
+    };
+    let mut rest = entry;
+    while let Some((field, after)) = field_at(rest) {
+        blob = with_field(blob, field);
+        rest = after;
+    }
+    (lowered(blob), rest.is_empty())
 }

@@ -97,7 +97,7 @@ pub(crate) fn copied_bytes(alloc: Global, bytes: &[u8]) -> Result<Vec<u8>, NoMem
 }
 
 /// A transaction once more.
-pub(crate) fn copied(alloc: Global, unit: &Unit) -> Result<Unit, NoMemory>
+fn copied(alloc: Global, unit: &Unit) -> Result<Unit, NoMemory>
     ensures { IfOk result (λ copy. copy ≡ unit.now) }
 {
     let bytes = copied_bytes(alloc, &unit.bytes)?;
@@ -105,7 +105,7 @@ pub(crate) fn copied(alloc: Global, unit: &Unit) -> Result<Unit, NoMemory>
 }
 
 /// Appends transactions once more.
-fn push_units(alloc: Global, units: &[Unit], out: &mut Vec<Unit>) -> Result<(), NoMemory>
+pub(crate) fn push_units(alloc: Global, units: &[Unit], out: &mut Vec<Unit>) -> Result<(), NoMemory>
     ensures { OnOk result (out.new.items ≡ out.old.items ++ units.now) }
 {
     for unit in units {

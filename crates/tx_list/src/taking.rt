@@ -1,15 +1,16 @@
 //! From transactions to the list that they are read as.
 
-ghost use Rattle.std.specs.Prelude.{◌≡◌, ◌-◌, ◌==◌, ◌∷◌, length, map, filter, not, true, IfOk, Some, None, if◌then◌else◌};
+ghost use Rattle.std.specs.Prelude.{◌≡◌, ◌-◌, ◌==◌, ◌∷◌, length, map, true, IfOk, Some, None, if◌then◌else◌};
+ghost use Rattle.std.specs.List.{AllByRecursion};
 ghost use Rattle.namespace_id.specs.Sizes.{namespace_size};
-ghost use Rattle.tx_list.specs.Reads.{stated, entries_of, is_payment, blob_of, payment_of, list_of};
+ghost use Rattle.tx_list.specs.Reads.{stated, entries_of, blob_of, payment_of, list_of};
 ghost use Rattle.tx_list.specs.ReadRefusals.{has_version, read_refusal};
 ghost use Rattle.tx_list.specs.Refusals.{RefusesFirst};
-ghost use Rattle.tx_list.specs.Walks.{stated_parts, IsTaken, IsTakenPayment, AreTaken};
+ghost use Rattle.tx_list.specs.Walks.{stated_parts, IsTaken, IsTakenPayment};
 
-use crate::checking::read_refusal;
-use crate::reading::{Stated, bytes_in, is_payment, next_entry, read_blob};
-use crate::spelling::{copied, copied_bytes};
+use crate::checking::plain_count;
+use crate::reading::{Stated, bytes_in, next_entry, read_blob};
+use crate::spelling::{copied_bytes, push_units};
 use crate::{ListError, Payment, TxList};
 use namespace_id::{NAMESPACE_SIZE, Namespace, NoMemory};
 use share_split::{Blob, SIGNER_SIZE, Unit};
@@ -26,7 +27,7 @@ fn name_of(id: &[u8]) -> Namespace
 }
 
 /// The signer of a blob, which it has where its share version isn't 0.
-fn signer_of(share_version: u32, signer: &[u8]) -> Option<[u8; SIGNER_SIZE]>
+fn signer_of(share_version: u64, signer: &[u8]) -> Option<[u8; SIGNER_SIZE]>
     requires { has_version share_version signer.now ≡ true }
     ensures { result ≡ (if share_version == 0 then None else Some signer.now) }
 {
@@ -60,7 +61,8 @@ fn blobs_in(alloc: Global, bytes: &[u8]) -> Result<Vec<Blob>, NoMemory>
     let mut blobs = Vec::new(alloc);
     let mut rest = bytes;
     while let Some((entry, after)) = next_entry(rest) {
-        let Ok(()) = blobs.push(blob_of(alloc, read_blob(entry))?) else {
+        let (blob, _are_fields) = read_blob(entry);
+        let Ok(()) = blobs.push(blob_of(alloc, blob)?) else {
             return Err(NoMemory);
         };
         rest = after;
@@ -78,46 +80,37 @@ fn payment_of(alloc: Global, bytes: &[u8]) -> Result<Payment, NoMemory>
     Ok(Payment { tx, blobs })
 }
 
-/// The transactions that are no payments.
-fn units_in(alloc: Global, transactions: &[Unit]) -> Result<Vec<Unit>, NoMemory>
-    ensures { IfOk result (λ units. units.items
-        ≡ filter (λ one. not (is_payment one)) transactions.now) }
+/// Plain transactions once more.
+fn units_in(alloc: Global, plain: &[Unit]) -> Result<Vec<Unit>, NoMemory>
+    ensures { IfOk result (λ units. units.items ≡ plain.now) }
 {
-    let mut units = Vec::new(alloc);
-    for one in transactions {
-        if !is_payment(&one.bytes) {
-            let Ok(()) = units.push(copied(alloc, one)?) else {
-                return Err(NoMemory);
-            };
-        }
-    }
+    let mut units = Vec::with_capacity(alloc, plain.len())?;
+    push_units(alloc, plain, &mut units)?;
     Ok(units)
 }
 
-/// The payments among transactions.
-fn payments_in(alloc: Global, transactions: &[Unit]) -> Result<Vec<Payment>, NoMemory>
-    requires { AreTaken transactions.now }
-    ensures { IfOk result (λ payments. payments.items
-        ≡ map payment_of (filter is_payment transactions.now)) }
+/// The payments that transactions are.
+fn payments_in(alloc: Global, paid: &[Unit]) -> Result<Vec<Payment>, NoMemory>
+    requires { AllByRecursion IsTakenPayment paid.now }
+    ensures { IfOk result (λ payments. payments.items ≡ map payment_of paid.now) }
 {
     let mut payments = Vec::new(alloc);
-    for one in transactions {
-        if is_payment(&one.bytes) {
-            let Ok(()) = payments.push(payment_of(alloc, &one.bytes)?) else {
-                return Err(NoMemory);
-            };
-        }
+    for one in paid {
+        let Ok(()) = payments.push(payment_of(alloc, &one.bytes)?) else {
+            return Err(NoMemory);
+        };
     }
     Ok(payments)
 }
 
-/// The list that transactions are, which are taken.
-fn list_of(alloc: Global, transactions: &[Unit]) -> Result<TxList, NoMemory>
-    requires { AreTaken transactions.now }
-    ensures { IfOk result (λ list. list ≡ list_of transactions.now) }
+/// The list of plain transactions and payments.
+fn list_of(alloc: Global, plain: &[Unit], paid: &[Unit]) -> Result<TxList, NoMemory>
+    requires { AllByRecursion IsTakenPayment paid.now }
+    ensures units { IfOk result (λ list. list.units ≡ plain.now) }
+    ensures payments { IfOk result (λ list. list.payments ≡ map payment_of paid.now) }
 {
-    let units = units_in(alloc, transactions)?;
-    let payments = payments_in(alloc, transactions)?;
+    let units = units_in(alloc, plain)?;
+    let payments = payments_in(alloc, paid)?;
     Ok(TxList { units, payments })
 }
 
@@ -135,10 +128,8 @@ pub fn read_list(alloc: Global, transactions: &[Unit]) -> Result<TxList, ListErr
     ensures first { RefusesFirst result (read_refusal transactions.now) }
     ensures list { IfOk result (λ list. list ≡ list_of transactions.now) }
 {
-    if let Some(why) = read_refusal(transactions) {
-        return Err(why);
-    }
-    let Ok(list) = list_of(alloc, transactions) else {
+    let (plain, paid) = transactions.split_at(plain_count(transactions)?);
+    let Ok(list) = list_of(alloc, plain, paid) else {
         return Err(ListError::NoMemory);
     };
     Ok(list)
