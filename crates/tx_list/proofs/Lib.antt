@@ -44,3 +44,9 @@ pub mod NumberLemmas
 pub mod GapLemmas
 -- the places that payments state
 pub mod RangeLemmas
+-- what blobs ask for, and what is known of them
+pub mod MeasureLemmas
+-- what is found at a share is a blob
+pub mod FindLemmas
+-- what is read of the list of a square
+pub mod StatedLemmas

@@ -90,7 +90,7 @@ stated_by fields = record {
 }
 
 -- a blob of version 0 as it is stated
-abbrev said : List ℕ → List ℕ → Option (List ℕ) → StatedBlob
+abbrev pub said : List ℕ → List ℕ → Option (List ℕ) → StatedBlob
 said id bytes signer = record { version = 0; id = id; bytes = bytes; share_version = version_of signer; signer = signer_bytes signer }
 
 -- they state it
@@ -122,46 +122,61 @@ signer_short : (signer : Option (List ℕ)) → IfSome signer (λ s. length s �
 signer_short None size = omega arith
 signer_short (Some s) size = omega (arith, size)
 
+-- a blob whose bytes can be counted, also where its namespace isn't one of a blob
+pub record IsStatable (blob : NamedBytes) : Type 0 where
+  pub id : length (drop 1 blob.namespace.0) ≡ namespace_size - 1
+  pub some : 1 ≤ length blob.bytes
+  pub signer : IfSome blob.signer (λ signer. length signer ≡ signer_size)
+  pub fits : length (blob_spelling blob) < 2 ^ 64
+
+pub statable : (blob : NamedBytes) → HasSpelling blob → IsStatable blob
+statable blob has = record {
+  id = (name_parts blob.namespace.0 has.layable.named).1;
+  some = has.layable.some;
+  signer = has.signer;
+  fits = has.fits;
+}
+
 -- its spelling is fields
-pub blob_spelling_fields : (blob : NamedBytes) → HasSpelling blob
+pub blob_spelling_fields : (blob : NamedBytes) → IsStatable blob
     → fields_of (blob_spelling blob) ≡ Some (blob_fields (drop 1 blob.namespace.0) blob.bytes blob.signer)
-blob_spelling_fields blob has =
+blob_spelling_fields blob is =
     let id : List ℕ = drop 1 blob.namespace.0 in
     let last : List ℕ = version_field blob.signer ++ some_field 5 (signer_bytes blob.signer) in
-    let few : length id < 2 ^ 64 = omega (arith, (name_parts blob.namespace.0 has.layable.named).1) in
+    let few : length id < 2 ^ 64 = omega (arith, is.id) in
     let fits : length blob.bytes < 2 ^ 64 = omega (
       arith,
-      has.fits,
+      is.fits,
       length-append (some_field 1 id) (some_field 2 blob.bytes ++ last),
       length-append (some_field 2 blob.bytes) last,
       some_field_size 2 blob.bytes,
     ) in
-    fields_of_blob id blob.bytes blob.signer few fits (omega (arith, signer_short blob.signer has.signer))
+    fields_of_blob id blob.bytes blob.signer few fits (omega (arith, signer_short blob.signer is.signer))
 
-pub blob_spelling_is_fields : (blob : NamedBytes) → HasSpelling blob → are_fields (blob_spelling blob) ≡ true
-blob_spelling_is_fields blob has = ap is_some (blob_spelling_fields blob has)
+pub blob_spelling_is_fields : (blob : NamedBytes) → IsStatable blob → are_fields (blob_spelling blob) ≡ true
+blob_spelling_is_fields blob is = ap is_some (blob_spelling_fields blob is)
 
 -- they state it
-blob_is_stated : (blob : NamedBytes) → HasSpelling blob → stated (blob_spelling blob) ≡ said (drop 1 blob.namespace.0) blob.bytes blob.signer
-blob_is_stated blob has =
-    ap (λ (o : Option (List FieldParts)). stated_by (option_map_or (λ fields. fields) o [])) (blob_spelling_fields blob has)
-    ∙ fields_say (drop 1 blob.namespace.0) blob.bytes blob.signer (omega (arith, (name_parts blob.namespace.0 has.layable.named).1)) has.layable.some has.signer
+pub blob_is_stated : (blob : NamedBytes) → IsStatable blob → stated (blob_spelling blob) ≡ said (drop 1 blob.namespace.0) blob.bytes blob.signer
+blob_is_stated blob is =
+    ap (λ (o : Option (List FieldParts)). stated_by (option_map_or (λ fields. fields) o [])) (blob_spelling_fields blob is)
+    ∙ fields_say (drop 1 blob.namespace.0) blob.bytes blob.signer (omega (arith, is.id)) is.some is.signer
 
 -- it is read back
-said_blob : (id bytes : List ℕ) (signer : Option (List ℕ)) → blob_of (said id bytes signer) ≡ record { namespace = record { 0 = 0 ∷ id }; bytes = bytes; signer = signer }
+pub said_blob : (id bytes : List ℕ) (signer : Option (List ℕ)) → blob_of (said id bytes signer) ≡ record { namespace = record { 0 = 0 ∷ id }; bytes = bytes; signer = signer }
 said_blob id bytes None = refl
 said_blob id bytes (Some signer) = refl
 
 pub blob_is_read : (blob : NamedBytes) → HasSpelling blob → blob_of (stated (blob_spelling blob)) ≡ blob
 blob_is_read blob has =
-    ap blob_of (blob_is_stated blob has)
+    ap blob_of (blob_is_stated blob (statable blob has))
     ∙ said_blob (drop 1 blob.namespace.0) blob.bytes blob.signer
     ∙ ap (λ (name : List ℕ). record { namespace = record { 0 = name }; bytes = blob.bytes; signer = blob.signer })
     (sym (name_parts blob.namespace.0 has.layable.named).0)
 
 -- ---- its checks
 
-version_passes : (signer : Option (List ℕ)) → IfSome signer (λ s. length s ≡ signer_size) → has_version (version_of signer) (signer_bytes signer) ≡ true
+pub version_passes : (signer : Option (List ℕ)) → IfSome signer (λ s. length s ≡ signer_size) → has_version (version_of signer) (signer_bytes signer) ≡ true
 version_passes None size = refl
 version_passes (Some s) size = ap (λ (n : ℕ). n == signer_size) size
 
@@ -177,4 +192,4 @@ blob_passes i j blob has =
     let named : namespace_refusal (0 ∷ id) ≡ None = ap namespace_refusal (sym name.0) ∙ accepted_is blob.namespace.0 has.layable.named in
     let version = version_passes blob.signer has.signer in
     let some : (length blob.bytes == 0) ≡ false = some_is (length blob.bytes) has.layable.some in
-    ap (blob_refusal i j) (blob_is_stated blob has) ∙ rw (size, named, version, some) refl
+    ap (blob_refusal i j) (blob_is_stated blob (statable blob has)) ∙ rw (size, named, version, some) refl

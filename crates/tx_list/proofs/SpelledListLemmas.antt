@@ -1,5 +1,5 @@
 -- Payments and lists in their one spelling are read back.
-use Rattle.std.proofs.Common.{true, false, if◌then◌else◌, ◌≡◌, ◌∙◌, ℕ, suc, ◌≤◌, ◌==◌, ◌&&◌, ◌||◌, not, cond, Bool, List, [], ◌∷◌, ◌++◌, length, map, filter, codes, Option, Some, None, refl, ap, ap₂, arith}
+use Rattle.std.proofs.Common.{true, false, if◌then◌else◌, ◌≡◌, ◌∙◌, ℕ, suc, ◌^◌, ◌<◌, ◌≤◌, ◌==◌, ◌&&◌, ◌||◌, not, cond, Bool, List, [], ◌∷◌, ◌++◌, length, map, filter, codes, Option, Some, None, refl, ap, ap₂, arith}
 use Rattle.std.specs.List.{AllByRecursion, flat_map, list_all}
 use Rattle.std.specs.Option.{is_some, option_or, option_map_or}
 use Rattle.std.specs.Str.{bytes_eq}
@@ -14,18 +14,30 @@ use Rattle.tx_list.specs.declared.refusals.ListError.TheVariants.{Behind, NoBlob
 use Rattle.tx_list.specs.Payments.{PaymentParts, ListParts}
 use Rattle.tx_list.specs.Wrapped.{some_field}
 use Rattle.tx_list.specs.Spelled.{blob_spelling, payment_spelling, spelled}
-use Rattle.tx_list.specs.Reads.{are_fields, fields_in, entries_of, is_payment, stated, blob_of, payment_of, list_of}
+use Rattle.tx_list.specs.Reads.{are_fields, fields_in, entries_of, is_payment, tx_in, stated, blob_of, payment_of, list_of}
 use Rattle.tx_list.specs.ReadRefusals.{blobs_refusal, payment_refusal, transaction_refusal, transactions_refusal, read_refusal}
 use Rattle.tx_list.specs.ReadLaws.{HasSpelling, IsSpellable, IsSpellableList}
-use Rattle.tx_list.proofs.SpelledBlobLemmas.{field_of_bytes, bytes_field_alone, some_fields, some_field_alone, blob_spelling_is_fields, blob_is_read, blob_passes}
+use Rattle.tx_list.proofs.SpelledBlobLemmas.{IsStatable, statable, field_of_bytes, bytes_field_alone, some_fields, some_field_alone, blob_spelling_is_fields, blob_is_read, blob_passes}
 
 -- ---- the fields of a payment
+
+-- a payment for blobs that can be counted, also where their namespaces aren't ones of blobs
+pub record IsStatablePayment (payment : PaymentParts) : Type 0 where
+  pub blobs : AllByRecursion IsStatable payment.blobs
+  pub fits : length payment.tx < 2 ^ 64
+
+all_statable : (blobs : List NamedBytes) → AllByRecursion HasSpelling blobs → AllByRecursion IsStatable blobs
+all_statable [] all = tt
+all_statable (blob ∷ blobs) all = (statable blob all.0, all_statable blobs all.1)
+
+pub statable_payment : (payment : PaymentParts) → IsSpellable payment → IsStatablePayment payment
+statable_payment payment is = record { blobs = all_statable payment.blobs is.blobs; fits = is.fits }
 
 -- those of its blobs
 abbrev entry_fields : List NamedBytes → List FieldParts
 entry_fields blobs = map (λ blob. field_of_bytes 2 (blob_spelling blob)) blobs
 
-entries_alone : (blobs : List NamedBytes) → AllByRecursion HasSpelling blobs
+entries_alone : (blobs : List NamedBytes) → AllByRecursion IsStatable blobs
     → fields_of (flat_map (λ blob. bytes_field 2 (blob_spelling blob)) blobs) ≡ Some (entry_fields blobs)
 entries_alone [] all = no_fields
 entries_alone (blob ∷ blobs) all =
@@ -43,14 +55,14 @@ type_alone = some_field_alone 3 (codes "BLOB") refl (omega arith)
 abbrev payment_fields : PaymentParts → List FieldParts
 payment_fields payment = some_fields 1 payment.tx ++ (entry_fields payment.blobs ++ type_fields)
 
-fields_of_payment : (payment : PaymentParts) → IsSpellable payment → fields_of (payment_spelling payment) ≡ Some (payment_fields payment)
+fields_of_payment : (payment : PaymentParts) → IsStatablePayment payment → fields_of (payment_spelling payment) ≡ Some (payment_fields payment)
 fields_of_payment payment is =
     let entries : List ℕ = flat_map (λ blob. bytes_field 2 (blob_spelling blob)) payment.blobs in
     let later = fields_in_a_row entries (some_field 3 (codes "BLOB")) (entry_fields payment.blobs) type_fields (entries_alone payment.blobs is.blobs) type_alone in
     fields_in_a_row (some_field 1 payment.tx) (entries ++ some_field 3 (codes "BLOB")) (some_fields 1 payment.tx) (entry_fields payment.blobs ++ type_fields)
     (some_field_alone 1 payment.tx refl is.fits) later
 
-payment_fields_in : (payment : PaymentParts) → IsSpellable payment → fields_in (payment_spelling payment) ≡ payment_fields payment
+payment_fields_in : (payment : PaymentParts) → IsStatablePayment payment → fields_in (payment_spelling payment) ≡ payment_fields payment
 payment_fields_in payment is = ap (λ (o : Option (List FieldParts)). option_map_or (λ fields. fields) o []) (fields_of_payment payment is)
 
 -- ---- what they state
@@ -113,11 +125,11 @@ blobs_stated payment =
 -- ---- the payment
 
 -- the blobs that it carries
-entries_read : (payment : PaymentParts) → IsSpellable payment → entries_of (payment_spelling payment) ≡ map blob_spelling payment.blobs
+pub entries_read : (payment : PaymentParts) → IsStatablePayment payment → entries_of (payment_spelling payment) ≡ map blob_spelling payment.blobs
 entries_read payment is = ap (all_bytes 2) (payment_fields_in payment is) ∙ blobs_stated payment
 
 -- each is fields
-blobs_are_fields : (blobs : List NamedBytes) → AllByRecursion HasSpelling blobs → list_all are_fields (map blob_spelling blobs) ≡ true
+blobs_are_fields : (blobs : List NamedBytes) → AllByRecursion IsStatable blobs → list_all are_fields (map blob_spelling blobs) ≡ true
 blobs_are_fields [] all = refl
 blobs_are_fields (blob ∷ blobs) all =
     ap (λ (b : Bool). b && list_all are_fields (map blob_spelling blobs)) (blob_spelling_is_fields blob all.0) ∙ blobs_are_fields blobs all.1
@@ -126,14 +138,21 @@ three_hold : (a b c : Bool) → a ≡ true → b ≡ true → c ≡ true → (a 
 three_hold a b c first second third = rw (first, second, third) refl
 
 -- it is a payment
-pub spelling_is_payment : (payment : PaymentParts) → IsSpellable payment → is_payment (payment_spelling payment) ≡ true
-spelling_is_payment payment is =
+pub statable_is_payment : (payment : PaymentParts) → IsStatablePayment payment → is_payment (payment_spelling payment) ≡ true
+statable_is_payment payment is =
     let bytes : List ℕ = payment_spelling payment in
     three_hold (are_fields bytes) (bytes_eq (last_bytes 3 (fields_in bytes)) (codes "BLOB")) (list_all are_fields (entries_of bytes))
     (ap is_some (fields_of_payment payment is))
     (ap (λ (fields : List FieldParts). bytes_eq (last_bytes 3 fields) (codes "BLOB")) (payment_fields_in payment is)
     ∙ ap (λ (id : List ℕ). bytes_eq id (codes "BLOB")) (type_stated payment))
     (ap (list_all are_fields) (entries_read payment is) ∙ blobs_are_fields payment.blobs is.blobs)
+
+pub spelling_is_payment : (payment : PaymentParts) → IsSpellable payment → is_payment (payment_spelling payment) ≡ true
+spelling_is_payment payment is = statable_is_payment payment (statable_payment payment is)
+
+-- its transaction is read back, and its blobs as they are stated
+pub statable_tx : (payment : PaymentParts) → IsStatablePayment payment → tx_in (payment_spelling payment) ≡ payment.tx
+statable_tx payment is = ap (last_bytes 1) (payment_fields_in payment is) ∙ tx_stated payment
 
 -- its blobs are read back
 blobs_read : (blobs : List NamedBytes) → AllByRecursion HasSpelling blobs → map (λ entry. blob_of (stated entry)) (map blob_spelling blobs) ≡ blobs
@@ -144,8 +163,8 @@ blobs_read (blob ∷ blobs) all = ap₂ (λ (b : NamedBytes) (l : List NamedByte
 pub spelling_is_read : (payment : PaymentParts) → IsSpellable payment → payment_of (payment_spelling payment) ≡ payment
 spelling_is_read payment is =
     ap₂ (λ (tx : List ℕ) (blobs : List NamedBytes). record { tx = tx; blobs = blobs })
-    (ap (last_bytes 1) (payment_fields_in payment is) ∙ tx_stated payment)
-    (ap (map (λ entry. blob_of (stated entry))) (entries_read payment is) ∙ blobs_read payment.blobs is.blobs)
+    (statable_tx payment (statable_payment payment is))
+    (ap (map (λ entry. blob_of (stated entry))) (entries_read payment (statable_payment payment is)) ∙ blobs_read payment.blobs is.blobs)
 
 -- ---- its checks
 
@@ -173,7 +192,7 @@ transaction_by i paid is bytes = if is then payment_refusal i (entries_of bytes)
 payment_passes : (i : ℕ) (paid : Bool) (payment : PaymentParts) → IsSpellable payment → transaction_refusal i paid (payment_spelling payment) ≡ None
 payment_passes i paid payment is =
     ap (λ (b : Bool). transaction_by i paid b (payment_spelling payment)) (spelling_is_payment payment is)
-    ∙ ap (payment_refusal i) (entries_read payment is)
+    ∙ ap (payment_refusal i) (entries_read payment (statable_payment payment is))
     ∙ entries_pass i payment is
 
 -- ---- the list

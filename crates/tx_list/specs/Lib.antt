@@ -34,3 +34,5 @@ pub mod BackRefusals
 pub mod Gaps
 -- the places that payments state
 pub mod Ranges
+-- how much room blobs ask for before they are kept
+pub mod Measures

@@ -8,8 +8,10 @@
 mod bounds;
 mod checking;
 mod gaps;
+mod finding;
 mod laws;
 mod laying;
+mod measuring;
 mod payments;
 mod placing;
 mod ranges;

@@ -1,23 +1,23 @@
 //! From a square back to the list of transactions that is laid out as it.
 
-ghost use Rattle.std.specs.Prelude.{◌≡◌, ◌≤◌, ◌++◌, ◌∷◌, [], length, map, take, drop, IfOk, OnOk, None};
-ghost use Rattle.std.specs.Int.{w32, from_be_bytes};
-ghost use Rattle.namespace_id.specs.Answers.{Gives};
-ghost use Rattle.share_split.specs.Walks.{size_in, is_signed, units_of};
-ghost use Rattle.tx_list.specs.declared.refusals.BackError.TheVariants.{Units, Payments};
+ghost use Rattle.std.specs.Prelude.{◌≡◌, ◌⊎◌, ◌++◌, length, map, IfOk, IfErr, OnOk, Some, None};
+ghost use Rattle.share_split.specs.Walks.{units_of};
+ghost use Rattle.tx_list.specs.declared.refusals.BackError.TheVariants.{Units, Payments, NoMemory};
 ghost use Rattle.tx_list.specs.Spelled.{payment_spelling, spelled};
 ghost use Rattle.tx_list.specs.Backs.{IsBack, HaveNamedBlobs};
-ghost use Rattle.tx_list.specs.BackRefusals.{has_namespace, run_of, behind_run, first_front, second_front, front_refusal, front_units, stated_count, sequence_at, the_one, blob_at, blobs_at, places_refusal, payment_at, wrapper_refusal, wrappers_refusal, back_list, part_refusal, unlike_at, laid_refusal, back_refusal, Answers};
+ghost use Rattle.tx_list.specs.BackRefusals.{has_namespace, run_of, behind_run, first_front, second_front, front_refusal, front_units, blobs_at, places_refusal, payment_at, wrapper_refusal, wrappers_refusal, back_list, part_refusal, unlike_at, laid_refusal, back_refusal, Answers};
 
 use crate::bounds::payments_law;
+use crate::finding::blob_at;
 use crate::laying::lay_list;
+use crate::measuring::measure_of;
 use crate::spelling::spelled_payment;
 use crate::taking::read_list;
 use crate::unwrapping::unwrapped;
 use crate::{BackError, ListError};
-use namespace_id::{NAMESPACE_SIZE, Namespace, NoMemory, PAY_FOR_BLOB, Share, TRANSACTION};
-use share_split::{Blob, JoinError, LENGTH_PLACE, Unit, blob_share_count, join_blobs, join_units};
-use square_layout::Square;
+use namespace_id::{NAMESPACE_SIZE, Namespace, PAY_FOR_BLOB, Share, TRANSACTION, shares_law};
+use share_split::{Blob, JoinError, Unit, join_units};
+use square_layout::{MAX_SHARES, Square};
 use std::alloc::Global;
 
 // ---- the fronts
@@ -73,68 +73,7 @@ fn pay_units(alloc: Global, front: &[Share]) -> Result<Vec<Unit>, BackError>
     }
 }
 
-// ---- blobs
-
-/// The length that a share states of the sequence that it begins.
-fn stated_size(share: &Share) -> u32
-    ensures { result ≡ size_in share.now }
-{
-    let (_front, bytes) = share.0.split_at(LENGTH_PLACE);
-    u32::from_be_bytes([bytes[0], bytes[1], bytes[2], bytes[3]])
-}
-
-/// Whether a share is the first one of a signed blob.
-fn is_signed(share: &Share) -> bool
-    ensures { result ≡ is_signed share.now }
-{
-    let info = share.0[NAMESPACE_SIZE];
-    info % 2 == 1 && info / 2 == 1 && stated_size(share) != 0
-}
-
-/// How many shares a sequence takes that this share begins.
-fn stated_count(share: &Share) -> u64
-    ensures { result ≡ stated_count share.now }
-{
-    let size = stated_size(share);
-    if size == 0 {
-        return 1;
-    }
-    blob_share_count(u64::from(size), is_signed(share))
-}
-
-/// The shares of the sequence that begins at a place, as many of them as there are.
-fn sequence_at(shares: &[Share], place: usize) -> &[Share]
-    ensures { result.now ≡ sequence_at shares.now place }
-{
-    if place >= shares.len() {
-        return &shares[..0];
-    }
-    let (_front, rest) = shares.split_at(place);
-    let count = stated_count(&rest[0]).min(rest.len() as u64);
-    rest.split_at(count as usize).0
-}
-
-/// The blob, where there is one and no other.
-fn the_one(blobs: Vec<Blob>) -> Option<Blob>
-    ensures { result ≡ the_one blobs.items }
-{
-    let mut blobs = blobs;
-    if blobs.len() != 1 {
-        return None;
-    }
-    blobs.pop()
-}
-
-/// The blob whose sequence begins at a place, if one does.
-fn blob_at(alloc: Global, shares: &[Share], place: u32) -> Result<Option<Blob>, NoMemory>
-    ensures { IfOk result (λ found. found ≡ blob_at shares.now place) }
-{
-    match join_blobs(alloc, sequence_at(shares, place as usize)) {
-        Ok(blobs) => Ok(the_one(blobs)),
-        Err(JoinError::NoMemory) => Err(NoMemory),
-        Err(_why) => Ok(None),
-    }
-}
+// ---- payments
 
 /// The blobs at the places of payment i.
 fn blobs_at(alloc: Global, shares: &[Share], i: u64, places: &[u32]) -> Result<Vec<Blob>, BackError>
@@ -155,8 +94,6 @@ fn blobs_at(alloc: Global, shares: &[Share], i: u64, places: &[u32]) -> Result<V
     }
     Ok(blobs)
 }
-
-// ---- payments
 
 /// Payment i, in its one spelling, which is this unit of the second front.
 fn payment_at(alloc: Global, shares: &[Share], i: u64, unit: &Unit) -> Result<Unit, BackError>
@@ -197,15 +134,22 @@ fn push_payments(
     Ok(())
 }
 
-/// The transactions that a square is read as: the plain ones, and the payments in their one spelling.
+/// The transactions that a square is read as: the plain ones, and the payments in their one spelling. Their blobs are first
+/// measured, and are kept only where the greatest square holds them.
 fn transactions_in(alloc: Global, square: &Square) -> Result<Vec<Unit>, BackError>
-    ensures first { Answers result (part_refusal square.now) }
+    ensures refused { IfErr result (λ e. (e ≡ NoMemory) ⊎ (back_refusal square.now ≡ Some e)) }
+    ensures parts { OnOk result (part_refusal square.now ≡ None) }
     ensures list { IfOk result (λ transactions. transactions.items ≡ spelled (back_list square.now)) }
 {
+    shares_law(&square.shares);
     let (front, behind) = split_run(&square.shares, &TRANSACTION);
     let (second, _rest) = split_run(behind, &PAY_FOR_BLOB);
     let mut transactions = plain_units(alloc, front)?;
     let payments = pay_units(alloc, second)?;
+    let measure = measure_of(alloc, &square.shares, &payments)?;
+    if measure.bound > MAX_SHARES {
+        return Err(BackError::Unlike(0));
+    }
     push_payments(alloc, &square.shares, &payments, &mut transactions)?;
     Ok(transactions)
 }
@@ -256,7 +200,8 @@ fn lay_again(alloc: Global, square: &Square, transactions: &[Unit]) -> Result<()
 /// Refuses, in this order: a first front that isn't units (`Units`), and a second one (`Payments`); of
 /// the payments in turn, one that isn't a transaction wrapped with the places of its blobs (`Wrapper`), and then its first place
 /// at which no blob begins (`Index`); a square other than that of the list which was so read (`Unlike`). Out of memory may come in
-/// place of any answer. Blobs are read once for each place at which a payment states one.
+/// place of any answer. Before blobs are kept, each is read once, however often it is stated, and where those that are stated may
+/// take more shares than the greatest square has, the square is refused: its list has none.
 ///
 /// docs/RULES.md, "A block of the network"; Celestia specifications, "Square Layout".
 pub fn unlay_list(alloc: Global, square: &Square) -> Result<Vec<Unit>, BackError>

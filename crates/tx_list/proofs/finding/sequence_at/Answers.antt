@@ -1,6 +1,6 @@
 use Rattle.std.proofs.Common.{◌∙◌}
 use Rattle.tx_list.proofs.UnlayLemmas.{sequence_is}
-use Rattle.tx_list.proofs.unlaying.sequence_at.Goals as goal
+use Rattle.tx_list.proofs.finding.sequence_at.Goals as goal
 
 pub returns : goal.returns
 returns c =
