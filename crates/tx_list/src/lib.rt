@@ -7,8 +7,8 @@
 
 mod bounds;
 mod checking;
-mod gaps;
 mod finding;
+mod gaps;
 mod laws;
 mod laying;
 mod measuring;
