@@ -9,3 +9,4 @@ pub mod HalfLemmas
 pub mod PoolLemmas
 pub mod PutInLemmas
 pub mod TakeOutLemmas
+pub mod GrownLemmas

@@ -1,11 +1,12 @@
 -- What holds of the fields of a session.
-use Rattle.std.specs.Prelude.{◌≡◌, List, Option, Some, None}
+use Rattle.std.specs.Prelude.{◌≡◌, List, Option, Some, None, IsNone}
 use Rattle.namespace_id.specs.Cells.{CellList}
 use Rattle.data_header.specs.Headers.{Roots}
 use Rattle.axis_roots.specs.declared.message.messages.Message.{Message}
 use Rattle.repair_queue.specs.declared.boards.Board.{Board}
 use Rattle.repair_queue.specs.declared.tools.Tools.{Tools}
 use Rattle.repair_queue.specs.declared.ending.Ended.{Ended}
+use Rattle.repair_queue.specs.Pools.{IsRoomy}
 use Rattle.repair_queue.specs.Boards.{given_of, decided_of, IsGood, AreAtRest, HoldsFor}
 use Rattle.repair_queue.specs.Repairs.{IsEnd}
 use Rattle.repair_queue.specs.Tools.{AreTools}
@@ -20,8 +21,18 @@ abbrev pub KeepsFor : Roots → List Message → Board → Option Ended → Type
 KeepsFor header ms b None = HoldsFor header ms b
 KeepsFor header ms b (Some ended) = IsEnd header ms ended
 
+-- a session that nothing has ended has memory for all samples that may come to be kept
+abbrev pub IsRoomyBoard : Board → Option Ended → Type 0
+IsRoomyBoard b end = IsNone end → IsRoomy b.pool
+
 -- what holds of every session: its partial trees and the room of its cells are for its header
 pub record IsSession (header trees : Roots) (b : Board) (tools : Tools) (end : Option Ended) (room : CellList) : Type 0 where
   pub partial : trees ≡ header
+  pub open_board : IsOpenBoard header b tools end
+  pub cells : room.k ≡ header.k
+  pub roomy : IsRoomyBoard b end
+
+-- what holds of every session that takes memory as samples come
+pub record IsGrowing (header : Roots) (b : Board) (tools : Tools) (end : Option Ended) (room : CellList) : Type 0 where
   pub open_board : IsOpenBoard header b tools end
   pub cells : room.k ≡ header.k

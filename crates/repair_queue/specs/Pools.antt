@@ -69,7 +69,7 @@ pub record IsStored (given new : List (Option Proved)) (free left : List ℕ) (k
   pub apart : ((i j : ℕ) → i < j → j < length free → get_or free i 0 ≢ get_or free j 0) → (i : ℕ) → i < length left → get_or left i 0 ≢ place
 
 -- behind the empty place are the samples that are kept, fewer than 2k of the cells of each row, and the free places; so
--- there is capacity for one more, and for each place that comes to be free
+-- there are at most as many places as cells, and there is capacity for each that comes to be free
 pub record IsPool (p : Pool) : Type 0 where
   pub places : HasPlaces p
   pub first : get_or p.given.items 0 None ≡ None
@@ -77,8 +77,19 @@ pub record IsPool (p : Pool) : Type 0 where
   pub used : vec_len p.given ≡ 1 + samples_of_all p.k (slot_in p) + vec_len p.free
   pub few : (row : ℕ) → row < 2 * p.k → samples_of_row p.k (slot_in p) row < 2 * p.k
   pub most : vec_len p.given ≤ 2 * p.k * (2 * p.k)
-  pub room : 2 * p.k * (2 * p.k) ≤ vec_capacity p.given
   pub free_room : 2 * p.k * (2 * p.k) ≤ vec_capacity p.free
+
+-- where no place is free there is capacity for one more
+abbrev pub HasPlace : Pool → Type 0
+HasPlace p = length p.free.items ≡ 0 → vec_len p.given < vec_capacity p.given
+
+-- there is capacity for as many places as there are cells
+abbrev pub IsRoomy : Pool → Type 0
+IsRoomy p = 2 * p.k * (2 * p.k) ≤ vec_capacity p.given
+
+-- one that had such capacity has it still
+abbrev pub StaysRoomy : Pool → Pool → Type 0
+StaysRoomy old new = IsRoomy old → IsRoomy new
 
 -- each sample is kept at its own cell along its own axis
 abbrev pub AreAtHome : Kept → Type 0

@@ -1,6 +1,6 @@
 //! What a session keeps of a square.
 
-ghost use Rattle.std.specs.Prelude.{◌≡◌, ◌+◌, ◌*◌, ◌<◌, ℕ, IsTrue, IsNone, IsSome, IfOk, IfSome, MatchOption, true, false, length, is_some, ◌||◌};
+ghost use Rattle.std.specs.Prelude.{◌≡◌, ◌+◌, ◌*◌, ◌<◌, ◌≤◌, ℕ, IsTrue, IsNone, IsSome, IfOk, IfSome, MatchOption, true, false, length, is_some, ◌||◌, vec_capacity};
 ghost use Rattle.namespace_id.specs.declared.cells.Cell.{Cell as Place};
 ghost use Rattle.namespace_id.specs.declared.cells.Axis.{Axis as Along};
 ghost use Rattle.namespace_id.specs.declared.cells.Axis.TheVariants.{Row, Col};
@@ -43,16 +43,18 @@ fn blank_grid(alloc: Global, k: u16) -> Result<Grid, NoMemory>
 }
 
 impl Board {
-    /// A board of a square of width `k`, of which nothing is known.
-    pub(crate) fn new(alloc: Global, k: u16) -> Result<Board, NoMemory>
+    /// A board of a square of width `k`, of which nothing is known, with capacity for so many places of
+    /// samples, the first of which stays empty.
+    pub(crate) fn new(alloc: Global, k: u16, places: usize) -> Result<Board, NoMemory>
         requires width { IsTrue (is_width k) }
         ensures good { IfOk result (λ b. (header : Roots) → header.k ≡ k → IsGood header b) }
         ensures empty { IfOk result
             (λ b. (axis : Along) (cell : Place) → given_of b axis cell ≡ None) }
         ensures undecided { IfOk result
             (λ b. (axis : Along) (i : ℕ) → decided_of b axis i ≡ false) }
+        ensures room { IfOk result (λ b. places ≤ vec_capacity b.pool.given) }
     {
-        let pool = Pool::new(alloc, k)?;
+        let pool = Pool::new(alloc, k, places)?;
         let marks = Marks::new(alloc, k)?;
         let counts = Counts::new(alloc, k)?;
         let grid = blank_grid(alloc, k)?;

@@ -1,10 +1,10 @@
 //! Taking in a sample.
 
-ghost use Rattle.std.specs.Prelude.{◌≡◌, None, true, false};
+ghost use Rattle.std.specs.Prelude.{◌≡◌, IsNone, None, true, false};
 ghost use Rattle.namespace_id.specs.Cells.{is_in_square};
 ghost use Rattle.axis_roots.specs.Proved.{IsUnder, kept_message};
 ghost use Rattle.repair_queue.specs.Slots.{IsAlike};
-ghost use Rattle.repair_queue.specs.Pools.{slot_in, HasPlaces};
+ghost use Rattle.repair_queue.specs.Pools.{slot_in, HasPlaces, HasPlace, StaysRoomy};
 ghost use Rattle.repair_queue.specs.Repairs.{Shows};
 ghost use Rattle.repair_queue.specs.Boards.{given_of, decided_of, is_lined, IsGood, AreAtRest};
 ghost use Rattle.repair_queue.specs.Tools.{AreTools};
@@ -40,11 +40,13 @@ fn shows(pool: &Pool, axis: Axis, cell: Cell, share: &Share) -> bool
 fn keep_new(board: &mut Board, header: &Header, message: Proved)
     requires good { IsGood header.now board.old }
     requires rest { AreAtRest header.now.k (given_of board.old) (decided_of board.old) }
+    requires place { HasPlace board.old.pool }
     requires under { IsUnder header.now message }
     requires off { is_lined (decided_of board.old) (kept_message message).cell ≡ false }
     requires empty { given_of board.old (kept_message message).axis (kept_message message).cell
         ≡ None }
-    ensures { IsKeptOn header.now board.old board.new (kept_message message) }
+    ensures kept { IsKeptOn header.now board.old board.new (kept_message message) }
+    ensures room { StaysRoomy board.old.pool board.new.pool }
 {
     let shown = message.message();
     let (own, cell) = (shown.axis, shown.cell);
@@ -61,12 +63,14 @@ fn keep_new(board: &mut Board, header: &Header, message: Proved)
 fn keep(board: &mut Board, header: &Header, message: Proved)
     requires good { IsGood header.now board.old }
     requires rest { AreAtRest header.now.k (given_of board.old) (decided_of board.old) }
+    requires place { HasPlace board.old.pool }
     requires under { IsUnder header.now message }
     requires off { is_lined (decided_of board.old) (kept_message message).cell ≡ false }
     requires alike { IsAlike
         (given_of board.old (kept_message message).axis (kept_message message).cell)
         (kept_message message).share }
-    ensures { IsKeptOn header.now board.old board.new (kept_message message) }
+    ensures kept { IsKeptOn header.now board.old board.new (kept_message message) }
+    ensures room { StaysRoomy board.old.pool board.new.pool }
 {
     let shown = message.message();
     let (own, cell) = (shown.axis, shown.cell);
@@ -82,8 +86,10 @@ fn keep(board: &mut Board, header: &Header, message: Proved)
 fn enter(board: &mut Board, header: &Header, message: Proved) -> Taken
     requires good { IsGood header.now board.old }
     requires rest { AreAtRest header.now.k (given_of board.old) (decided_of board.old) }
+    requires place { HasPlace board.old.pool }
     requires under { IsUnder header.now message }
-    ensures { IsEntered header.now board.old board.new message result }
+    ensures entered { IsEntered header.now board.old board.new message result }
+    ensures room { StaysRoomy board.old.pool board.new.pool }
 {
     let shown = message.message();
     let (own, cell, share) = (shown.axis, shown.cell, &shown.share);
@@ -105,9 +111,11 @@ fn enter(board: &mut Board, header: &Header, message: Proved) -> Taken
 fn take(board: &mut Board, tools: &mut Tools, header: &Header, message: Proved) -> Option<Ended>
     requires good { IsGood header.now board.old }
     requires rest { AreAtRest header.now.k (given_of board.old) (decided_of board.old) }
+    requires place { HasPlace board.old.pool }
     requires tools { AreTools header.now.k tools.old }
     requires under { IsUnder header.now message }
-    ensures { TakesMessage header.now board.old board.new tools.new (kept_message message) result }
+    ensures takes { TakesMessage header.now board.old board.new tools.new (kept_message message) result }
+    ensures room { StaysRoomy board.old.pool board.new.pool }
 {
     match enter(board, header, message) {
         Taken::Kept => None,
@@ -130,9 +138,11 @@ pub(crate) fn step(
 ) -> Option<Ended>
     requires good { IsGood header.now board.old }
     requires rest { AreAtRest header.now.k (given_of board.old) (decided_of board.old) }
+    requires place { HasPlace board.old.pool }
     requires tools { AreTools header.now.k tools.old }
     requires under { IsUnder header.now message }
-    ensures { Steps header.now board.old board.new tools.new (kept_message message) result }
+    ensures steps { Steps header.now board.old board.new tools.new (kept_message message) result }
+    ensures room { IsNone result → StaysRoomy board.old.pool board.new.pool }
 {
     let ended = take(board, tools, header, message);
     if ended.is_some() {

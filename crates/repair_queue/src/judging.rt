@@ -17,6 +17,7 @@ ghost use Rattle.repair_queue.specs.Lines.{AreFacts};
 ghost use Rattle.repair_queue.specs.Repairs.{IsEnd};
 ghost use Rattle.repair_queue.specs.Steps.{IsSpare};
 ghost use Rattle.repair_queue.specs.Counts.{count_of};
+ghost use Rattle.repair_queue.specs.Pools.{StaysRoomy};
 ghost use Rattle.repair_queue.specs.Boards.{given_of, decided_of, share_of, found_count, found_share, is_found, AreAlikeLined, AreParts, IsGood, HoldsFor};
 ghost use Rattle.repair_queue.specs.Tools.{AreTools, AreGathered, HasSpare};
 ghost use Rattle.repair_queue.specs.Judging.{IsAlikeAt, IsApartAt, IsReadable, IsTakenAt, AreFoundAt, AreShownBy, IsOtherMessage, IsApartOrAlike};
@@ -249,6 +250,7 @@ fn settle(
     ensures settles { SettlesLine header.now board.old board.new tools.new axis index
         tools.old.buffers.line.items result }
     ensures next { IsNone result → board.new.counts.next ≡ board.old.counts.next }
+    ensures room { IsNone result → StaysRoomy board.old.pool board.new.pool }
     ensures flagged { IsNone result →
         IsFlagged (decided_of board.old) (decided_of board.new) axis index }
 {
@@ -356,6 +358,7 @@ fn decide(
         index (2 * header.now.k) }
     ensures decides { DecidesLine header.now board.old board.new tools.new result }
     ensures next { IsNone result → board.new.counts.next ≡ board.old.counts.next }
+    ensures room { IsNone result → StaysRoomy board.old.pool board.new.pool }
     ensures flagged { IsNone result →
         IsFlagged (decided_of board.old) (decided_of board.new) axis index }
 {
@@ -389,6 +392,7 @@ pub(crate) fn drain(board: &mut Board, tools: &mut Tools, header: &Header) -> Op
     requires good { IsGood header.now board.old }
     requires tools { AreTools header.now.k tools.old }
     ensures drains { Drains header.now board.old board.new tools.new result }
+    ensures room { IsNone result → StaysRoomy board.old.pool board.new.pool }
 {
     while let Some((axis, index)) = first_queued(&board.counts) {
         if is_due(board, header, axis, index) {

@@ -11,7 +11,7 @@ ghost use Rattle.befp_maker.specs.Conflicts.{IsLineOf};
 ghost use Rattle.repair_queue.specs.Lines.{AreFacts};
 ghost use Rattle.repair_queue.specs.Slots.{IsFlagged};
 ghost use Rattle.repair_queue.specs.Counts.{count_of, pending, AreCounts};
-ghost use Rattle.repair_queue.specs.Pools.{slot_in, HasPlaces, IsPool, AreAtHome};
+ghost use Rattle.repair_queue.specs.Pools.{slot_in, HasPlaces, IsPool, StaysRoomy, AreAtHome};
 ghost use Rattle.repair_queue.specs.Boards.{given_of, decided_of, share_of, mark_of, is_lined, AreAlikeLined, AreMarks, AreCounted, IsGood, HoldsFor};
 ghost use Rattle.repair_queue.specs.Keeping.{IsAlikeAll, IsCountedIn, AreWrittenLeaves, IsClearedAt, IsClearedTo};
 
@@ -111,6 +111,7 @@ fn clear_cell(pool: &mut Pool, cell: Cell)
     ensures pool { IsPool pool.new }
     ensures width { pool.new.k ≡ pool.old.k }
     ensures cleared { IsClearedAt (slot_in pool.old) (slot_in pool.new) cell }
+    ensures room { StaysRoomy pool.old pool.new }
 {
     take_out(pool, Axis::Row, cell);
     take_out(pool, Axis::Col, cell);
@@ -125,6 +126,7 @@ fn clear_line(pool: &mut Pool, axis: Axis, index: u16)
     ensures width { pool.new.k ≡ pool.old.k }
     ensures cleared { IsClearedTo (slot_in pool.old) (slot_in pool.new) axis index
         (2 * pool.old.k) }
+    ensures room { StaysRoomy pool.old pool.new }
 {
     for pos in 0..2 * pool.k {
         clear_cell(pool, cell_on(axis, index, pos));
@@ -181,6 +183,7 @@ pub(crate) fn keep_line(
     ensures flagged { IsFlagged (decided_of board.old) (decided_of board.new) axis index }
     ensures cleared { IsClearedTo (given_of board.old) (given_of board.new) axis index
         (2 * header.now.k) }
+    ensures room { StaysRoomy board.old.pool board.new.pool }
     ensures stands { (ms : List Message) → AreFacts header.now ms axis index line.now →
         HoldsFor header.now ms board.old → HoldsFor header.now ms board.new }
 {

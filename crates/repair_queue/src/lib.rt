@@ -2,7 +2,8 @@
 //! extended data square: its repair.
 //!
 //! `repair_list` answers a square with the header, missing cells, a fraud proof or a SHA-256
-//! collision. So does a `Session`, which is fed one sample at a time. `closure_laws` is on the cells
+//! collision. So does a `Session`, which is fed one sample at a time, and a `GrowingSession`, which
+//! takes memory for samples as they come. `closure_laws` is on the cells
 //! and shares that follow from proved samples, `settled_laws` on when these fit the header,
 //! `verdict_laws` on the answers, `session_laws` on the lists for which a session stands.
 #![tactic(auto)]
@@ -14,6 +15,7 @@ mod ending;
 mod entering;
 mod fed;
 mod gathering;
+mod growing;
 mod judging;
 mod keeping;
 mod laws;
@@ -29,6 +31,7 @@ mod tools;
 mod verdict;
 
 pub use fed::{Session, SessionState};
+pub use growing::GrowingSession;
 pub use laws::{closure_laws, session_laws, settled_laws, verdict_laws};
 pub use repairing::repair_list;
 pub use verdict::Verdict;

@@ -4,22 +4,22 @@
 //! a row isn't decided fewer than k of its cells are known when a sample comes, each with at most two
 //! samples. So a row has at most 2k - 1 samples, and all have fewer than (2k)^2.
 
-ghost use Rattle.std.specs.Prelude.{◌≡◌, ◌+◌, ◌*◌, ◌<◌, ◌≤◌, ℕ, IsTrue, IfOk, MatchOption, None, Some, true, false, length, get_or, vec_len, vec_capacity};
+ghost use Rattle.std.specs.Prelude.{◌≡◌, ◌+◌, ◌*◌, ◌<◌, ◌≤◌, ℕ, IsTrue, IfOk, OnOk, MatchOption, None, Some, true, false, length, get_or, vec_len, vec_capacity};
 ghost use Rattle.namespace_id.specs.declared.cells.Cell.{Cell as Place};
 ghost use Rattle.namespace_id.specs.declared.cells.Axis.{Axis as Along};
 ghost use Rattle.namespace_id.specs.Cells.{is_width, is_in_square};
 ghost use Rattle.axis_roots.specs.Proved.{kept_message};
 ghost use Rattle.repair_queue.specs.Slots.{IsPut, IsEmptied, IsApart, IsAlike};
-ghost use Rattle.repair_queue.specs.Pools.{slot_in, place_of, samples_of_row, HasPlaces, IsStored, IsPool, AreAtHome};
+ghost use Rattle.repair_queue.specs.Pools.{slot_in, place_of, samples_of_row, HasPlaces, IsStored, IsPool, HasPlace, StaysRoomy, AreAtHome};
 
 use crate::slots::number;
 use axis_roots::Proved;
 use namespace_id::{Axis, Cell, NoMemory, Share};
 use std::alloc::Global;
 
-/// Samples of the cells of a square, at most one for each cell along each axis, in memory that was
-/// taken for one of each cell. Places are used again, so no more of it is written than was needed at
-/// once.
+/// Samples of the cells of a square, at most one for each cell along each axis. Places are used again,
+/// so no more memory is written than was needed at once. With capacity for a place for each cell it
+/// takes no memory later.
 #[derive(Drop)]
 pub(crate) struct Pool {
     pub(crate) k: u16,
@@ -34,18 +34,20 @@ pub(crate) struct Pool {
 }
 
 impl Pool {
-    /// A pool for a square of width `k`, in which no sample is kept.
-    pub(crate) fn new(alloc: Global, k: u16) -> Result<Pool, NoMemory>
+    /// A pool for a square of width `k`, in which no sample is kept, with capacity for so many places,
+    /// the first of which stays empty.
+    pub(crate) fn new(alloc: Global, k: u16, places: usize) -> Result<Pool, NoMemory>
         requires width { IsTrue (is_width k) }
         ensures pool { IfOk result IsPool }
         ensures width { IfOk result (λ p. p.k ≡ k) }
+        ensures room { IfOk result (λ p. places ≤ vec_capacity p.given) }
         ensures empty { IfOk result
             (λ p. (axis : Along) (cell : Place) → slot_in p axis cell ≡ None) }
     {
         let side = 2 * k as usize;
         let rows = vec![in alloc; 0; side * side]?;
         let cols = vec![in alloc; 0; side * side]?;
-        let mut given = Vec::with_capacity(alloc, side * side)?;
+        let mut given = Vec::with_capacity(alloc, places)?;
         let Ok(()) = given.push(None) else {
             return Err(NoMemory);
         };
@@ -107,9 +109,27 @@ fn store(given: &mut Vec<Option<Proved>>, free: &mut Vec<usize>, kept: Proved) -
     }
 }
 
-/// Keeps a sample, of whose cell none is kept along its axis. Its row has room for one more.
+/// Takes memory for one place more, where none is free and there is no capacity for one. It changes
+/// no sample, and fails only where there is no memory.
+pub(crate) fn make_place(given: &mut Vec<Option<Proved>>, free: &[usize]) -> Result<(), NoMemory>
+    ensures given { given.new.items ≡ given.old.items }
+    ensures place { OnOk result (length free.now ≡ 0 →
+        vec_len given.new < vec_capacity given.new) }
+{
+    if !free.is_empty() {
+        return Ok(());
+    }
+    let Ok(()) = given.reserve(1) else {
+        return Err(NoMemory);
+    };
+    Ok(())
+}
+
+/// Keeps a sample, of whose cell none is kept along its axis. Its row has room for one more, and
+/// there is a place for it.
 pub(crate) fn put_in(pool: &mut Pool, kept: Proved)
     requires pool { IsPool pool.old }
+    requires place { HasPlace pool.old }
     requires cell { is_in_square pool.old.k (kept_message kept).cell ≡ true }
     requires empty { slot_in pool.old (kept_message kept).axis (kept_message kept).cell ≡ None }
     requires few { samples_of_row pool.old.k (slot_in pool.old) (kept_message kept).cell.row + 1
@@ -118,6 +138,7 @@ pub(crate) fn put_in(pool: &mut Pool, kept: Proved)
     ensures width { pool.new.k ≡ pool.old.k }
     ensures put { IsPut (slot_in pool.old) (slot_in pool.new) (kept_message kept).axis
         (kept_message kept).cell kept }
+    ensures room { StaysRoomy pool.old pool.new }
 {
     let message = kept.message();
     let axis = message.axis;
@@ -138,6 +159,7 @@ pub(crate) fn take_from(pool: &mut Pool, axis: Axis, cell: Cell) -> Option<Prove
     ensures width { pool.new.k ≡ pool.old.k }
     ensures emptied { AreAtHome (slot_in pool.old) →
         IsEmptied (slot_in pool.old) (slot_in pool.new) axis cell }
+    ensures room { StaysRoomy pool.old pool.new }
 {
     let place = place(pool, axis, cell);
     pool.given[place].take()
@@ -151,6 +173,7 @@ pub(crate) fn take_out(pool: &mut Pool, axis: Axis, cell: Cell)
     ensures pool { IsPool pool.new }
     ensures width { pool.new.k ≡ pool.old.k }
     ensures emptied { IsEmptied (slot_in pool.old) (slot_in pool.new) axis cell }
+    ensures room { StaysRoomy pool.old pool.new }
 {
     let place = place(pool, axis, cell);
     if pool.given[place].is_none() {

@@ -16,7 +16,7 @@
 //!
 //! `Session::new` takes all memory, also that of the answer.
 
-ghost use Rattle.std.specs.Prelude.{◌≡◌, ◌≢◌, ◌↔◌, ◌++◌, ◌∷◌, [], List, Some, IsOk, IfOk, IfErr, true};
+ghost use Rattle.std.specs.Prelude.{◌≡◌, ◌≢◌, ◌↔◌, ◌++◌, ◌∷◌, [], List, Some, IsOk, IfOk, IfErr, IsTrue, ◌*◌, true};
 ghost use Rattle.namespace_id.specs.Cells.{is_width};
 ghost use Rattle.axis_roots.specs.declared.message.messages.Message.{Message};
 ghost use Rattle.axis_roots.specs.Messages.{message_refusal};
@@ -45,11 +45,20 @@ use square_layout::Square;
 use std::alloc::Global;
 
 /// The width of a header's square.
-fn width(header: &Header) -> u16
+pub(crate) fn width(header: &Header) -> u16
     ensures value { result ≡ header.now.k }
     ensures width { is_width result ≡ true }
 {
     header.k
+}
+
+/// How many cells a square of width `k` has.
+fn cells_of(k: u16) -> usize
+    requires width { IsTrue (is_width k) }
+    ensures { result ≡ 2 * k * (2 * k) }
+{
+    let side = 2 * k as usize;
+    side * side
 }
 
 /// Fills a room with the cells that aren't known, row-major.
@@ -96,7 +105,7 @@ fn original_shares(board: Board) -> Vec<Share>
 }
 
 /// The square where all cells are known, else the cells that aren't.
-fn answer_open(board: Board, header: &Header, room: CellRoom) -> Verdict
+pub(crate) fn answer_open(board: Board, header: &Header, room: CellRoom) -> Verdict
     requires good { IsGood header.now board }
     requires rest { AreAtRest header.now.k (given_of board) (decided_of board) }
     requires cells { room.k ≡ header.now.k }
@@ -117,7 +126,7 @@ fn answer_open(board: Board, header: &Header, room: CellRoom) -> Verdict
 }
 
 /// The answer with which a session ended.
-fn answer_ended(ended: Ended) -> Verdict
+pub(crate) fn answer_ended(ended: Ended) -> Verdict
     ensures value { EndsAs ended result }
     ensures state { IsOfState (state_by (end_of (Some ended))) result }
 {
@@ -140,7 +149,7 @@ impl Session {
         let room = CellRoom::new(alloc, k)?;
         let header = header.copy(alloc)?;
         let trees = PartialTrees::new(alloc, &header)?;
-        let board = Board::new(alloc, k)?;
+        let board = Board::new(alloc, k, cells_of(k))?;
         let tools = Tools::new(alloc, k)?;
         Ok(Session {
             header,

@@ -1,5 +1,5 @@
 -- A session that is fed.
-use Rattle.std.proofs.Common.{◌≡◌, ◌∙◌, List, [], ◌∷◌, ◌++◌, map, Bool, true, false, not, sym, ap}
+use Rattle.std.proofs.Common.{◌≡◌, ◌∙◌, List, [], ◌∷◌, ◌++◌, map, Bool, true, false, not, refl, sym, ap}
 use Rattle.std.specs.Prelude.{Option, Some, None, is_some}
 use Rattle.std.proofs.lemmas.Bool.{true≢false}
 use Rattle.std.proofs.lemmas.List.{append_assoc, map-append}
@@ -16,7 +16,9 @@ use Rattle.repair_queue.specs.Repairs.{IsEnd}
 use Rattle.repair_queue.specs.Boards.{given_of, decided_of, IsGood, AreAtRest, HoldsFor}
 use Rattle.repair_queue.specs.Tools.{AreTools}
 use Rattle.repair_queue.specs.Moves.{Steps}
-use Rattle.repair_queue.specs.OpenBoards.{IsOpenBoard, KeepsFor}
+use Rattle.repair_queue.specs.OpenBoards.{IsOpenBoard, IsRoomyBoard, KeepsFor}
+use Rattle.repair_queue.specs.Pools.{HasPlace}
+use Rattle.repair_queue.proofs.Places.PutInLemmas.{room_left}
 use Rattle.repair_queue.proofs.Facts.GrowthLemmas.{fraud_grows, clash_grows}
 
 -- a session that nothing ended
@@ -24,6 +26,12 @@ pub open_of : (header : Roots) (b : Board) (tools : Tools) (end : Option Ended) 
     → IsGood header b × AreTools header.k tools × AreAtRest header.k (given_of b) (decided_of b)
 open_of header b tools None none test is open_board = open_board
 open_of header b tools (Some end) none test is open_board = absurd (true≢false (test ∙ ap not is))
+
+-- has a place for one sample more
+pub open_place : (header : Roots) (b : Board) (tools : Tools) (end : Option Ended) (none : Bool) → is_some end ≡ not none → none ≡ true → IsOpenBoard header b tools end
+    → IsRoomyBoard b end → HasPlace b.pool
+open_place header b tools None none test is open_board roomy = room_left b.pool open_board.0.parts.pool (roomy refl)
+open_place header b tools (Some end) none test is open_board roomy = absurd (true≢false (test ∙ ap not is))
 
 -- it stands for what it stood for
 pub open_stands : (header : Roots) (ms : List Message) (b : Board) (end : Option Ended) (none : Bool) → is_some end ≡ not none → none ≡ true → KeepsFor header ms b end

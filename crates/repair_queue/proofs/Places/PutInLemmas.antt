@@ -14,7 +14,7 @@ use Rattle.axis_roots.specs.declared.message.proved.Proved.{Proved}
 use Rattle.axis_roots.specs.Proved.{kept_message}
 use Rattle.repair_queue.specs.declared.pools.Pool.{Pool}
 use Rattle.repair_queue.specs.Slots.{Kept, IsPut}
-use Rattle.repair_queue.specs.Pools.{slot_in, place_of, samples_of_row, samples_of_all, HasPlaces, AreFree, IsStored, IsPool}
+use Rattle.repair_queue.specs.Pools.{slot_in, place_of, samples_of_row, samples_of_all, HasPlaces, AreFree, IsStored, IsPool, HasPlace, IsRoomy}
 use Rattle.repair_queue.proofs.Places.PlaceLemmas.{same_slot}
 use Rattle.repair_queue.proofs.Places.SlotLemmas.{slot_number-lt}
 use Rattle.repair_queue.proofs.Places.PoolLemmas.{Placed, places-lt, row_placed, col_placed}
@@ -25,9 +25,9 @@ all_few : (k : ℕ) (slot : Kept) → 0 < k → ((row : ℕ) → row < 2 * k →
 all_few k slot some few =
     let all : samples_of_all k slot + 2 * k ≤ 2 * k * (2 * k) = sum_below-lt (samples_of_row k slot) (2 * k) (2 * k) few in omega arith
 
-pub room_left : (p : Pool) → IsPool p → length p.free.items ≡ 0 → vec_len p.given < vec_capacity p.given
-room_left p pool none =
-    omega (arith, none, p.free.ok.0, all_few p.k (slot_in p) (is_width-pos p.k pool.places.width) pool.few, pool.used, pool.room)
+pub room_left : (p : Pool) → IsPool p → IsRoomy p → HasPlace p
+room_left p pool roomy none =
+    omega (arith, none, p.free.ok.0, all_few p.k (slot_in p) (is_width-pos p.k pool.places.width) pool.few, pool.used, roomy)
 
 -- a place is set to one that is there
 pub set-lt : (places : List ℕ) (at place n m : ℕ) → at < length places → place < m → n ≤ m → ((i : ℕ) → get_or places i 0 < n) → (i : ℕ) → get_or (set places at place) i 0 < m
@@ -81,9 +81,9 @@ module _ (p : Pool) (pool : IsPool p) (kept : Proved) (axis : Axis) (cell : Cell
     }
 
     -- a pool it stays
-    pub in_pool : HasPlaces fuller → slot_in p axis cell ≡ None → samples_of_row p.k (slot_in p) cell.row + 1 < 2 * p.k → vec_capacity p.given ≤ vec_capacity given
+    pub in_pool : HasPlaces fuller → slot_in p axis cell ≡ None → samples_of_row p.k (slot_in p) cell.row + 1 < 2 * p.k
         → vec_capacity free ≡ vec_capacity p.free → IsPool fuller
-    in_pool places empty few cap free_cap =
+    in_pool places empty few free_cap =
         let rows_now : (row : ℕ) → row < 2 * p.k → samples_of_row p.k (slot_in fuller) row < 2 * p.k =
         rows_few p.k (slot_in p) (slot_in fuller) axis cell kept in_put within empty pool.few few in
         let one : samples_of_all p.k (slot_in fuller) ≡ samples_of_all p.k (slot_in p) + 1 = all_more p.k (slot_in p) (slot_in fuller) axis cell kept in_put within empty in
@@ -100,7 +100,6 @@ module _ (p : Pool) (pool : IsPool p) (kept : Proved) (axis : Axis) (cell : Cell
             | inl same ↦ omega (arith, same, given.ok.0, p.given.ok.0, pool.most)
             | inr none ↦ omega (arith, none, free.ok.0, used_now, all_few p.k (slot_in fuller) (is_width-pos p.k pool.places.width) rows_now)
           ];
-          room = omega (arith, cap, pool.room);
           free_room = omega (arith, free_cap, pool.free_room);
         }
 
@@ -143,7 +142,7 @@ module _ (p : Pool) (pool : IsPool p) (kept : Proved) (within : is_in_square p.k
       in_put p pool kept (kept_message kept).axis (kept_message kept).cell within place given free p.rows (with_item p.cols at place) stored (col_placed_here is)
 
   module _ (empty : slot_in p (kept_message kept).axis (kept_message kept).cell ≡ None) (few : samples_of_row p.k (slot_in p) (kept_message kept).cell.row + 1 < 2 * p.k)
-      (cap : vec_capacity p.given ≤ vec_capacity given) (free_cap : vec_capacity free ≡ vec_capacity p.free) where
+      (free_cap : vec_capacity free ≡ vec_capacity p.free) where
     -- and it stays a pool
     pub row_pool : m.axis ≡ Row → IsPool by_row
     row_pool is =
@@ -155,7 +154,7 @@ module _ (p : Pool) (pool : IsPool p) (kept : Proved) (within : is_in_square p.k
           to_rows = set-lt p.rows.items at place (length p.given.items) (length given.items) (omega (arith, own-lt, pool.places.rows)) stored.within stored.longer
               pool.places.to_rows;
           to_cols = λ i. omega (arith, pool.places.to_cols i, stored.longer);
-        }) empty few cap free_cap
+        }) empty few free_cap
 
     pub col_pool : m.axis ≡ Col → IsPool by_col
     col_pool is =
@@ -167,7 +166,7 @@ module _ (p : Pool) (pool : IsPool p) (kept : Proved) (within : is_in_square p.k
           to_rows = λ i. omega (arith, pool.places.to_rows i, stored.longer);
           to_cols = set-lt p.cols.items at place (length p.given.items) (length given.items) (omega (arith, own-lt, pool.places.cols)) stored.within stored.longer
               pool.places.to_cols;
-        }) empty few cap free_cap
+        }) empty few free_cap
 
 -- ---- at the start
 
@@ -198,9 +197,9 @@ new_places p width items rows cols =
     }
 
 -- a pool without samples
-pub new_pool : (p : Pool) → HasPlaces p → p.given.items ≡ None ∷ [] → vec_len p.given ≡ 1 → 2 * p.k * (2 * p.k) ≤ vec_capacity p.given
+pub new_pool : (p : Pool) → HasPlaces p → p.given.items ≡ None ∷ [] → vec_len p.given ≡ 1
     → p.free.items ≡ [] → vec_len p.free ≡ 0 → 2 * p.k * (2 * p.k) ≤ vec_capacity p.free → IsPool p
-new_pool p places items long cap none no_free free_cap =
+new_pool p places items long none no_free free_cap =
     let empty : (axis : Axis) (cell : Cell) → slot_in p axis cell ≡ None =
     λ axis cell. ap (λ (l : List (Option Proved)). get_or l (place_of p axis cell) None) items ∙ lone_none (place_of p axis cell) in
     let some : 0 < p.k = is_width-pos p.k places.width in
@@ -217,6 +216,5 @@ new_pool p places items long cap none no_free free_cap =
       used = omega (arith, long, no_free, no_samples_of_all p.k (slot_in p) empty);
       few = rows;
       most = omega (arith, long, all_few p.k (slot_in p) some rows);
-      room = cap;
       free_room = free_cap;
     }

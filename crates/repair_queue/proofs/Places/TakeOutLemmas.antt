@@ -124,9 +124,9 @@ module _ (p : Pool) (pool : IsPool p) (home : AreAtHome (slot_in p)) (axis : Axi
     -- a pool it stays
     pub out_pool : length rows.items ≡ length p.rows.items → length cols.items ≡ length p.cols.items
         → ((i : ℕ) → get_or rows.items i 0 < length p.given.items) → ((i : ℕ) → get_or cols.items i 0 < length p.given.items)
-        → free.items ≡ p.free.items ++ place ∷ [] → vec_len given ≡ vec_len p.given → vec_capacity given ≡ vec_capacity p.given → vec_len free ≡ vec_len p.free + 1
+        → free.items ≡ p.free.items ++ place ∷ [] → vec_len given ≡ vec_len p.given → vec_len free ≡ vec_len p.free + 1
         → vec_capacity p.free ≤ vec_capacity free → IsPool less
-    out_pool row_count col_count to_rows to_cols extended same given_cap one_more free_cap =
+    out_pool row_count col_count to_rows to_cols extended same one_more free_cap =
         let long : length given.items ≡ length p.given.items = ap length items ∙ length-set p.given.items place None in record {
           places = record {
             width = pool.places.width;
@@ -142,7 +142,6 @@ module _ (p : Pool) (pool : IsPool p) (home : AreAtHome (slot_in p)) (axis : Axi
           used = omega (arith, same, one_more, pool.used, all_more p.k (slot_in less) (slot_in p) axis cell kept put_back within out_emptied.here);
           few = fewer;
           most = omega (arith, same, pool.most);
-          room = omega (arith, given_cap, pool.room);
           free_room = omega (arith, free_cap, pool.free_room);
         }
 
@@ -166,7 +165,7 @@ module _ (p : Pool) (pool : IsPool p) (home : AreAtHome (slot_in p)) (axis : Axi
     (here : place ≡ place_of p axis cell) (below : place < length p.given.items) (held : slot_in p axis cell ≡ Some kept) (at : ℕ)
     (number : at ≡ cell.row * (2 * p.k) + cell.col) (given : Vec (Option Proved) Global) (free : Vec ℕ Global)
     (items : given.items ≡ set p.given.items place None) (more : free.items ≡ p.free.items ++ place ∷ []) (same : vec_len given ≡ vec_len p.given)
-    (cap : vec_capacity given ≡ vec_capacity p.given) (one_more : vec_len free ≡ vec_len p.free + 1) (free_cap : vec_capacity p.free ≤ vec_capacity free) where
+    (one_more : vec_len free ≡ vec_len p.free + 1) (free_cap : vec_capacity p.free ≤ vec_capacity free) where
   -- the pool without it, along the row
   abbrev off_row : Pool
   off_row = record { k = p.k; given = given; rows = with_item p.rows at 0; cols = p.cols; free = free }
@@ -191,7 +190,7 @@ module _ (p : Pool) (pool : IsPool p) (home : AreAtHome (slot_in p)) (axis : Axi
   row_out is = (
     out_pool p pool home axis cell place kept within here below held given (with_item p.rows at 0) p.cols free items (row_off is) (length-set p.rows.items at 0) refl
         (set-lt p.rows.items at 0 (length p.given.items) (length p.given.items) (omega (arith, at-lt, pool.places.rows)) some_given (omega arith) pool.places.to_rows)
-        pool.places.to_cols more same cap one_more free_cap,
+        pool.places.to_cols more same one_more free_cap,
     out_emptied p pool home axis cell place kept within here below held given (with_item p.rows at 0) p.cols free items (row_off is),
   )
 
@@ -200,6 +199,6 @@ module _ (p : Pool) (pool : IsPool p) (home : AreAtHome (slot_in p)) (axis : Axi
     out_pool p pool home axis cell place kept within here below held given p.rows (with_item p.cols at 0) free items (col_off is) refl (length-set p.cols.items at 0)
         pool.places.to_rows
         (set-lt p.cols.items at 0 (length p.given.items) (length p.given.items) (omega (arith, at-lt, pool.places.cols)) some_given (omega arith) pool.places.to_cols)
-        more same cap one_more free_cap,
+        more same one_more free_cap,
     out_emptied p pool home axis cell place kept within here below held given p.rows (with_item p.cols at 0) free items (col_off is),
   )

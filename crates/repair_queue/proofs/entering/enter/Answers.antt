@@ -7,8 +7,8 @@ use Rattle.repair_queue.proofs.Places.TakeFromLemmas.{same_ne}
 use Rattle.repair_queue.proofs.entering.enter.Goals as goal
 
 -- its row or column is decided and has its share
-pub returns-in-Some : goal.returns-in-Some
-returns-in-Some c =
+pub returns-in-Some-clause-entered : goal.returns-in-Some-clause-entered
+returns-in-Some-clause-entered c =
     keeps_lined c.args.header.now c.args.board.now c.requires.good (kept_message c.args.message)
     (subst (λ (x : Message). is_lined (decided_of c.args.board.now) x.cell ≡ true) c.message-shown.ensures c.in-Some.ensures.some.1)
     (subst (λ (x : Message). share_of c.args.board.now x.cell ≡ x.share) c.message-shown.ensures

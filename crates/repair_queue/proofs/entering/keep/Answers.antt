@@ -9,8 +9,8 @@ use Rattle.repair_queue.proofs.entering.keep.Goals.{then-is_some-via-then-is_som
 use Rattle.repair_queue.proofs.entering.keep.Goals as goal
 
 -- its share is shown already
-pub returns-then-is_some : goal.returns-then-is_some
-returns-then-is_some c = elim c.then-is_some.branch [
+pub returns-then-is_some-clause-kept : goal.returns-then-is_some-clause-kept
+returns-then-is_some-clause-kept c = elim c.then-is_some.branch [
   | then-is_some-via-then-is_some w ↦
       keeps_shown c.args.header.now c.args.board.now c.requires.good (kept_message c.args.message) (kept_message c.args.message).axis c.requires.off
       (look_shows (given_of c.args.board.now (kept_message c.args.message).axis (kept_message c.args.message).cell) c.held_in.result (kept_message c.args.message).share

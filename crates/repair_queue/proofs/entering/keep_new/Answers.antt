@@ -32,8 +32,8 @@ raise-requires-then-is_new-clause-below c =
     c.message-shown.result.now c.message-shown.ensures c.raise.new.counts c.raise.ensures.width c.raise.ensures.raised
 
 -- its cell comes to be known
-pub returns-then-is_new : goal.returns-then-is_new
-returns-then-is_new c =
+pub returns-then-is_new-clause-kept : goal.returns-then-is_new-clause-kept
+returns-then-is_new-clause-kept c =
     let none = cross_none (given_of c.args.board.now) c.crossing.result c.message-shown.result.now (kept_message c.args.message) c.crossing.ensures c.message-shown.ensures
     (look_none (slot_in c.args.board.now.pool c.crossing.result c.message-shown.result.now.cell) c.held_in.result c.is_none-is_new.result c.held_in.ensures
     c.is_none-is_new.ensures c.if-is_new.true) in
@@ -45,8 +45,8 @@ returns-then-is_new c =
     c.raise-then-is_new.ensures.raised) c.raise.ensures.queued c.raise-then-is_new.ensures.queued
 
 -- or was
-pub returns-else-is_new : goal.returns-else-is_new
-returns-else-is_new c =
+pub returns-else-is_new-clause-kept : goal.returns-else-is_new-clause-kept
+returns-else-is_new-clause-kept c =
     let some = look_some (slot_in c.args.board.now.pool c.crossing.result c.message-shown.result.now.cell) c.held_in.result c.is_none-is_new.result c.held_in.ensures
     c.is_none-is_new.ensures c.if-is_new.false in
     keeps_known c.args.header.now c.args.board.now c.requires.good c.args.message c.requires.under c.requires.off c.requires.empty c.put_in.new.pool c.put_in.ensures.pool

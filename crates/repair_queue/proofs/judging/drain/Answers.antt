@@ -5,11 +5,10 @@ use Rattle.repair_queue.proofs.Feeding.DrainLemmas.{none_is, ends_drains, decide
 use Rattle.repair_queue.proofs.judging.drain.Goals as goal
 
 -- deciding ends the session
-pub returns-then-is_some : goal.returns-then-is_some
-returns-then-is_some c = record {
-  drains = ends_drains c.args.header.now c.args.board.now c.loop-axis.board c.decide-ended.new.board c.decide-ended.new.tools c.decide-ended.result c.is_some.result
-      c.is_some.ensures c.if-is_some.true c.loop-axis.invariant.holds c.decide-ended.ensures.decides;
-}
+pub returns-then-is_some-clause-drains : goal.returns-then-is_some-clause-drains
+returns-then-is_some-clause-drains c =
+    ends_drains c.args.header.now c.args.board.now c.loop-axis.board c.decide-ended.new.board c.decide-ended.new.tools c.decide-ended.result c.is_some.result
+    c.is_some.ensures c.if-is_some.true c.loop-axis.invariant.holds c.decide-ended.ensures.decides
 
 -- one row or column less is undecided
 pub loop-axis-smaller-else-is_some-3 : goal.loop-axis-smaller-else-is_some-3
@@ -30,6 +29,8 @@ loop-axis-preserved-else-is_some-3 c =
       good = x.0;
       tools = x.1;
       holds = λ ms before. x.2 ms (c.loop-axis.invariant.holds ms before);
+      room = λ roomy.
+          c.decide-ended.ensures.room (none_is c.decide-ended.result c.is_some.result c.is_some.ensures c.if-is_some.false) (c.loop-axis.invariant.room roomy);
     }
 
 -- or it isn't due
@@ -40,15 +41,14 @@ loop-axis-preserved c = record {
       c.pass_queued.ensures.same c.in-Some.ensures.some c.pass_queued.ensures.rest (c.is_due.ensures.past c.if-is_due.false);
   tools = c.loop-axis.invariant.tools;
   holds = c.loop-axis.invariant.holds;
+  room = c.loop-axis.invariant.room;
 }
 
 -- nothing waits
-pub returns : goal.returns
-returns c = record {
-  drains = (
-    c.loop-axis.invariant.good,
-    c.loop-axis.invariant.tools,
-    rested c.args.header.now c.loop-axis.board c.loop-axis.invariant.good (c.in_default.ensures.none refl),
-    c.loop-axis.invariant.holds,
-  );
-}
+pub returns-clause-drains : goal.returns-clause-drains
+returns-clause-drains c = (
+  c.loop-axis.invariant.good,
+  c.loop-axis.invariant.tools,
+  rested c.args.header.now c.loop-axis.board c.loop-axis.invariant.good (c.in_default.ensures.none refl),
+  c.loop-axis.invariant.holds,
+)

@@ -1,5 +1,5 @@
 use Rattle.std.proofs.Common.{◌≡◌}
-use Rattle.repair_queue.specs.Pools.{slot_in, IsPool}
+use Rattle.repair_queue.specs.Pools.{slot_in, IsPool, StaysRoomy}
 use Rattle.repair_queue.specs.Keeping.{IsClearedTo}
 use Rattle.repair_queue.proofs.keeping.clear_line.Given as goal
 
@@ -9,4 +9,5 @@ invariant-loop-pos l = record {
   pool : IsPool l.pool;
   width : l.pool.k ≡ l.fn.pool.k;
   cleared : IsClearedTo (slot_in l.fn.pool) (slot_in l.pool) l.axis l.index l.pos;
+  room : StaysRoomy l.fn.pool l.pool;
 }

@@ -11,7 +11,7 @@ returns-in-Row-clause-pool c =
     c.place-place.ensures.within c.index.ensures c.is_none.ensures c.if-is_none.false in
     (row_out c.args.pool.now c.requires.pool c.requires.home c.args.axis c.args.cell c.place-place.result there.0 c.requires.cell c.place-place.ensures.value
     c.place-place.ensures.within there.1 c.number-at.result c.number-at.ensures.value (with_item c.args.pool.now.given c.place-place.result None) c.push.new.self refl
-    (search rules) refl refl (search rules) c.push.ensures.capacity c.in-Row.is).0
+    (search rules) refl (search rules) c.push.ensures.capacity c.in-Row.is).0
 
 pub returns-in-Row-clause-emptied : goal.returns-in-Row-clause-emptied
 returns-in-Row-clause-emptied c =
@@ -19,7 +19,7 @@ returns-in-Row-clause-emptied c =
     c.place-place.ensures.within c.index.ensures c.is_none.ensures c.if-is_none.false in
     (row_out c.args.pool.now c.requires.pool c.requires.home c.args.axis c.args.cell c.place-place.result there.0 c.requires.cell c.place-place.ensures.value
     c.place-place.ensures.within there.1 c.number-at.result c.number-at.ensures.value (with_item c.args.pool.now.given c.place-place.result None) c.push.new.self refl
-    (search rules) refl refl (search rules) c.push.ensures.capacity c.in-Row.is).1
+    (search rules) refl (search rules) c.push.ensures.capacity c.in-Row.is).1
 
 -- or that along the column
 pub returns-in-Col-clause-pool : goal.returns-in-Col-clause-pool
@@ -28,7 +28,7 @@ returns-in-Col-clause-pool c =
     c.place-place.ensures.within c.index.ensures c.is_none.ensures c.if-is_none.false in
     (col_out c.args.pool.now c.requires.pool c.requires.home c.args.axis c.args.cell c.place-place.result there.0 c.requires.cell c.place-place.ensures.value
     c.place-place.ensures.within there.1 c.number-at.result c.number-at.ensures.value (with_item c.args.pool.now.given c.place-place.result None) c.push.new.self refl
-    (search rules) refl refl (search rules) c.push.ensures.capacity c.in-Col.is).0
+    (search rules) refl (search rules) c.push.ensures.capacity c.in-Col.is).0
 
 pub returns-in-Col-clause-emptied : goal.returns-in-Col-clause-emptied
 returns-in-Col-clause-emptied c =
@@ -36,4 +36,4 @@ returns-in-Col-clause-emptied c =
     c.place-place.ensures.within c.index.ensures c.is_none.ensures c.if-is_none.false in
     (col_out c.args.pool.now c.requires.pool c.requires.home c.args.axis c.args.cell c.place-place.result there.0 c.requires.cell c.place-place.ensures.value
     c.place-place.ensures.within there.1 c.number-at.result c.number-at.ensures.value (with_item c.args.pool.now.given c.place-place.result None) c.push.new.self refl
-    (search rules) refl refl (search rules) c.push.ensures.capacity c.in-Col.is).1
+    (search rules) refl (search rules) c.push.ensures.capacity c.in-Col.is).1

@@ -1,4 +1,4 @@
-use Rattle.std.proofs.Common.{◌≡◌, ◌∙◌, ℕ, ◌<◌, [], sym, ap, subst}
+use Rattle.std.proofs.Common.{◌≡◌, ◌∙◌, ℕ, ◌*◌, ◌<◌, ◌≤◌, [], sym, ap, subst, vec_capacity}
 use Rattle.std.specs.Prelude.{None}
 use Rattle.data_header.specs.Headers.{Roots}
 use Rattle.namespace_id.proofs.WidthLemmas.{is_width-pos}
@@ -22,6 +22,10 @@ invariant_of-result c =
             (subst (λ (k : ℕ). 0 < k) width (is_width-pos c.width-k.result c.width-k.ensures.width)) c.in_ok-board.ensures.empty c.in_ok-board.ensures.undecided,
       );
       cells = c.in_ok-room.ensures.k ∙ width;
+      roomy = λ none.
+          let good = c.in_ok-board.ensures.good c.in_ok-header.header (sym width) in
+          subst (λ (k : ℕ). 2 * k * (2 * k) ≤ vec_capacity c.in_ok-board.board.pool.given) (width ∙ good.width ∙ sym good.parts.pool_width)
+          (subst (λ (n : ℕ). n ≤ vec_capacity c.in_ok-board.board.pool.given) c.cells_of.ensures c.in_ok-board.ensures.room);
     }
 
 -- so it stands for no sample

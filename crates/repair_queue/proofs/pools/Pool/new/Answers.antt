@@ -11,5 +11,5 @@ returns-clause-pool c =
     let p : Pool = record { k = c.args.k; given = c.push.new.self; rows = c.in_ok-rows.rows; cols = c.in_ok-cols.cols; free = c.in_ok-free.free } in
     let items : c.push.new.self.items ≡ None ∷ [] = c.in-Ok.ensures.items ∙ ap (λ (l : List (Option Proved)). l ++ None ∷ []) c.in_ok-given.ensures.items in
     new_pool p (new_places p c.requires.width items (c.in_ok-rows.ensures.items_if_clones_equal (λ y same. same)) (c.in_ok-cols.ensures.items_if_clones_equal (λ y same. same))) items
-    (omega (arith, c.in-Ok.ensures.len, c.in_ok-given.ensures.len)) (omega (arith, c.in-Ok.ensures.capacity, c.in_ok-given.ensures.capacity))
+    (omega (arith, c.in-Ok.ensures.len, c.in_ok-given.ensures.len))
     c.in_ok-free.ensures.items c.in_ok-free.ensures.len c.in_ok-free.ensures.capacity

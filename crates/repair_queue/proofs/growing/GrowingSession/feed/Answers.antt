@@ -1,0 +1,46 @@
+use Rattle.std.proofs.Common.{◌∙◌, [], ◌∷◌, ◌++◌, true, false, refl, sym, subst}
+use Rattle.axis_roots.specs.Proved.{kept_message}
+use Rattle.repair_queue.specs.SessionParts.{SessionParts, StandsFor}
+use Rattle.repair_queue.proofs.Places.GrownLemmas.{grown_board, grown_open, grown_parts}
+use Rattle.repair_queue.proofs.Feeding.SessionLemmas.{open_of}
+use Rattle.repair_queue.proofs.Feeding.ViewLemmas.{step_stands, ended_stands}
+use Rattle.repair_queue.proofs.growing.GrowingSession.feed.Goals as goal
+
+-- what ended it before is an answer with one sample more
+pub returns-then-is_some-clause-stands : goal.returns-then-is_some-clause-stands
+returns-then-is_some-clause-stands c = λ ms stand.
+    subst (λ (s : SessionParts). StandsFor s (ms ++ kept_message c.args.message ∷ [])) c.self.view_is
+    (ended_stands c.self.inside.header c.self.inside.board c.self.inside.tools c.self.inside.ended false (kept_message c.args.message)
+    (sym c.is_some.ensures ∙ c.if-is_some.true) refl c.self.invariant.open_board ms (subst (λ (s : SessionParts). StandsFor s ms) (sym c.self.view_is) stand))
+
+-- where there is no memory, the same samples are kept
+pub invariant_of-self : goal.invariant_of-self
+invariant_of-self c = record {
+  open_board = grown_open c.self.inside.header c.self.inside.board c.make_place.new.given c.make_place.ensures.given c.self.inside.tools c.self.inside.ended
+      c.self.invariant.open_board;
+  cells = c.self.invariant.cells;
+}
+
+-- nothing has ended it
+pub step-requires-clause-good : goal.step-requires-clause-good
+step-requires-clause-good c =
+    let held = grown_open c.self.inside.header c.self.inside.board c.make_place.new.given c.make_place.ensures.given c.self.inside.tools c.self.inside.ended
+    c.self.invariant.open_board in
+    (open_of c.self.inside.header (grown_board c.self.inside.header c.self.inside.board c.make_place.new.given c.make_place.ensures.given) c.self.inside.tools
+    c.self.inside.ended true (sym c.is_some.ensures ∙ c.if-is_some.false) refl held).0
+
+pub step-requires-clause-tools : goal.step-requires-clause-tools
+step-requires-clause-tools c =
+    (open_of c.self.inside.header c.self.inside.board c.self.inside.tools c.self.inside.ended true (sym c.is_some.ensures ∙ c.if-is_some.false) refl
+    c.self.invariant.open_board).1
+
+-- it stands for one sample more
+pub returns-clause-stands : goal.returns-clause-stands
+returns-clause-stands c = λ ms stand.
+    let held = grown_open c.self.inside.header c.self.inside.board c.make_place.new.given c.make_place.ensures.given c.self.inside.tools c.self.inside.ended
+    c.self.invariant.open_board in
+    step_stands c.self.inside.header (grown_board c.self.inside.header c.self.inside.board c.make_place.new.given c.make_place.ensures.given) c.step.new.board
+    c.self.inside.tools c.step.new.tools c.self.inside.ended c.step.result true (kept_message c.args.message) (sym c.is_some.ensures ∙ c.if-is_some.false) refl held
+    c.step.ensures.steps ms
+    (subst (λ (s : SessionParts). StandsFor s ms)
+    (sym (grown_parts c.self.inside.header c.self.inside.board c.make_place.new.given c.make_place.ensures.given c.self.inside.ended ∙ c.self.view_is)) stand)
