@@ -1,0 +1,5 @@
+pub mod Events
+pub mod Logs
+pub mod Replies
+pub mod Talks
+pub mod Steps
