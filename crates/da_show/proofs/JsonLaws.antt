@@ -23,6 +23,7 @@ use Rattle.axis_roots.specs.declared.answers.Found.TheVariants.{Range, Absence}
 use Rattle.axis_roots.specs.Claims.{ClaimParts}
 use Rattle.hash_clash.specs.Collisions.{Strings}
 use Rattle.blob_commit.specs.Proofs.{CommitParts, RootedParts}
+use Rattle.frame_payloads.specs.declared.refusals.Refusal.{Refusal}
 use Rattle.frame_payloads.specs.kinds.Block.{width_number}
 use Rattle.frame_payloads.specs.kinds.Names.{found_place, entry_place}
 use Rattle.da_wire.specs.declared.frames.Frame.{Frame}
@@ -30,8 +31,8 @@ use Rattle.da_wire.specs.declared.frames.Frame.TheVariants as frames
 use Rattle.da_wire.specs.declared.briefs.Brief.{Brief}
 use Rattle.da_wire.specs.Briefs.{brief_of}
 use Rattle.da_show.specs.Parts.{axis_word, name_word, digest_word, share_hash_word}
-use Rattle.da_show.specs.Json.{count, list_of, object_of, root_json, header_json, share_json, square_json, message_json, found_json, entry_json, names_json, cell_json, cell_of_json, claim_json, missing_json, clash_json, sample_json, request_json, length_json, signer_json, blob_json, block_json, commit_json, rooted_json, transactions_json, json_text}
-use Rattle.da_show.specs.JsonTexts.{quoted_axis, quoted_hex, quoted_name, items_from, list_text, root_text, share_text, range_text, absence_text, found_text, entry_text, found_place_text, place_text, pair_text, cell_text, cell_of_text, length_text, signer_text, blob_end, blob_text, header_end, header_text, square_end, square_text, place_front, share_end, message_end, message_text, names_end, names_text, places_text, claim_end, claim_text, missing_text, clash_text, sample_text, request_text, units_end, block_end, block_text, commit_end, commit_counts, commit_text, rooted_end, rooted_text, transactions_text, frame_text, brief_json}
+use Rattle.da_show.specs.Json.{count, list_of, object_of, root_json, header_json, share_json, square_json, message_json, found_json, entry_json, names_json, cell_json, cell_of_json, claim_json, missing_json, clash_json, sample_json, request_json, length_json, signer_json, blob_json, block_json, commit_json, rooted_json, transactions_json, refusal_json, state_json, json_text}
+use Rattle.da_show.specs.JsonTexts.{quoted_axis, quoted_hex, quoted_name, items_from, list_text, root_text, share_text, range_text, absence_text, found_text, entry_text, found_place_text, place_text, pair_text, cell_text, cell_of_text, length_text, signer_text, blob_end, blob_text, header_end, header_text, square_end, square_text, place_front, share_end, message_end, message_text, names_end, names_text, places_text, claim_end, claim_text, missing_text, clash_text, sample_text, request_text, units_end, block_end, block_text, commit_end, commit_counts, commit_text, rooted_end, rooted_text, transactions_text, refusal_text, state_text, frame_text, brief_json}
 
 -- ---- lists
 
@@ -271,6 +272,18 @@ unfolding transactions_text escape_byte
 transactions_are units =
     ap (λ (l : List ℕ). codes "{\"kind\":\"transactions\",\"lengths\":" ++ (l ++ codes "}")) (lengths_are units)
 
+-- ---- refusals and states
+
+-- a refusal
+refusal_is : (refusal : Refusal) → refusal_text refusal ≡ compact_text (refusal_json refusal)
+unfolding refusal_text escape_byte
+refusal_is refusal = refl
+
+-- a state
+state_is : state_text ≡ compact_text state_json
+unfolding escape_byte
+state_is = refl
+
 -- ---- all kinds
 
 -- the text of a frame is that of its object
@@ -288,6 +301,8 @@ frame_text_is (frames.Block block) = block_is block
 frame_text_is (frames.Commit proof) = commit_is proof
 frame_text_is (frames.Rooted proof) = rooted_is proof
 frame_text_is (frames.Transactions units) = transactions_are units
+frame_text_is (frames.Refusal refusal) = refusal_is refusal
+frame_text_is frames.State = state_is
 
 -- the text of what is brief of a value is that of its object
 pub brief_json_is : (value : Frame) (brief : Brief) → brief_of value ≡ Some brief → brief_json brief ≡ json_text value
@@ -298,6 +313,8 @@ brief_json_is (frames.Sample cell axis) brief e = ap brief_json (sym (same_Some 
 brief_json_is (frames.Request name) brief e = ap brief_json (sym (same_Some _ _ e)) ∙ request_is name
 brief_json_is (frames.Block block) brief e = ap brief_json (sym (same_Some _ _ e)) ∙ block_is block
 brief_json_is (frames.Transactions units) brief e = ap brief_json (sym (same_Some _ _ e)) ∙ transactions_are units
+brief_json_is (frames.Refusal refusal) brief e = ap brief_json (sym (same_Some _ _ e)) ∙ refusal_is refusal
+brief_json_is frames.State brief e = ap brief_json (sym (same_Some _ _ e)) ∙ state_is
 brief_json_is (frames.Header header) brief e = absurd cc
 brief_json_is (frames.Square square) brief e = absurd cc
 brief_json_is (frames.Message message) brief e = absurd cc

@@ -21,7 +21,9 @@ use Rattle.axis_roots.specs.declared.answers.Found.TheVariants.{Range, Absence}
 use Rattle.axis_roots.specs.Claims.{ClaimParts}
 use Rattle.hash_clash.specs.Collisions.{Strings}
 use Rattle.blob_commit.specs.Proofs.{CommitParts, RootedParts}
+use Rattle.frame_payloads.specs.declared.refusals.Refusal.{Refusal}
 use Rattle.frame_payloads.specs.kinds.Block.{width_number}
+use Rattle.frame_payloads.specs.kinds.Refusal.{reason_byte}
 use Rattle.da_wire.specs.declared.frames.Frame.{Frame}
 use Rattle.da_wire.specs.declared.frames.Frame.TheVariants as frames
 use Rattle.da_show.specs.Parts.{axis_word, name_word, digest_word, share_name_word, share_hash_word}
@@ -172,6 +174,16 @@ abbrev pub transactions_json : List (List ℕ) → Data
 transactions_json units = object_of (
     (codes "kind", string (codes "transactions")) ∷ (codes "lengths", list_of length_json units) ∷ [])
 
+-- a refusal: the number of the refused frame, and its reason
+abbrev pub refusal_json : Refusal → Data
+refusal_json refusal = object_of (
+    (codes "kind", string (codes "refusal")) ∷ (codes "number", count refusal.number)
+    ∷ (codes "reason", count (reason_byte refusal.reason)) ∷ [])
+
+-- a state
+abbrev pub state_json : Data
+state_json = object_of ((codes "kind", string (codes "state")) ∷ [])
+
 -- ---- the JSON
 
 -- the value of a frame
@@ -189,6 +201,8 @@ json_of (frames.Block block) = block_json block
 json_of (frames.Commit proof) = commit_json proof
 json_of (frames.Rooted proof) = rooted_json proof
 json_of (frames.Transactions units) = transactions_json units
+json_of (frames.Refusal refusal) = refusal_json refusal
+json_of frames.State = state_json
 
 -- the text of it, without a space and on one line
 abbrev pub json_text : Frame → List ℕ

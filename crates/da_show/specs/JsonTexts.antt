@@ -19,7 +19,9 @@ use Rattle.axis_roots.specs.declared.answers.NsEntry.{NsEntry}
 use Rattle.axis_roots.specs.declared.answers.Found.{Found}
 use Rattle.axis_roots.specs.declared.answers.Found.TheVariants.{Range, Absence}
 use Rattle.blob_commit.specs.Proofs.{CommitParts, RootedParts}
+use Rattle.frame_payloads.specs.declared.refusals.Refusal.{Refusal}
 use Rattle.frame_payloads.specs.kinds.Block.{width_number}
+use Rattle.frame_payloads.specs.kinds.Refusal.{reason_byte}
 use Rattle.da_wire.specs.declared.frames.Frame.{Frame}
 use Rattle.da_wire.specs.declared.frames.Frame.TheVariants as frames
 use Rattle.da_wire.specs.declared.briefs.Brief.{Brief}
@@ -250,6 +252,16 @@ unfoldable pub transactions_text : List (List ℕ) → List ℕ
 transactions_text units =
     codes "{\"kind\":\"transactions\",\"lengths\":" ++ (list_text length_text units ++ codes "}")
 
+-- a refusal
+unfoldable pub refusal_text : Refusal → List ℕ
+refusal_text refusal =
+    codes "{\"kind\":\"refusal\",\"number\":" ++ (decimal refusal.number
+    ++ (codes ",\"reason\":" ++ (decimal (reason_byte refusal.reason) ++ codes "}")))
+
+-- a state
+abbrev pub state_text : List ℕ
+state_text = codes "{\"kind\":\"state\"}"
+
 -- ---- the text
 
 -- the text of a frame's object
@@ -267,6 +279,8 @@ frame_text (frames.Block block) = block_text block
 frame_text (frames.Commit proof) = commit_text proof
 frame_text (frames.Rooted proof) = rooted_text proof
 frame_text (frames.Transactions units) = transactions_text units
+frame_text (frames.Refusal refusal) = refusal_text refusal
+frame_text frames.State = state_text
 
 -- the text of the object of what is brief of a frame
 abbrev pub brief_json : Brief → List ℕ
@@ -277,3 +291,5 @@ brief_json (briefs.Sample cell axis) = sample_text cell axis
 brief_json (briefs.Request name) = request_text name
 brief_json (briefs.Block block) = block_text block
 brief_json (briefs.Transactions units) = transactions_text units
+brief_json (briefs.Refusal refusal) = refusal_text refusal
+brief_json briefs.State = state_text

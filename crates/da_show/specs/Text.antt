@@ -20,7 +20,9 @@ use Rattle.axis_roots.specs.declared.answers.Found.TheVariants.{Range, Absence}
 use Rattle.axis_roots.specs.Claims.{ClaimParts}
 use Rattle.hash_clash.specs.Collisions.{Strings}
 use Rattle.blob_commit.specs.Proofs.{CommitParts, RootedParts}
+use Rattle.frame_payloads.specs.declared.refusals.Refusal.{Refusal}
 use Rattle.frame_payloads.specs.kinds.Block.{width_number}
+use Rattle.frame_payloads.specs.kinds.Refusal.{reason_byte}
 use Rattle.da_wire.specs.declared.frames.Frame.{Frame}
 use Rattle.da_wire.specs.declared.frames.Frame.TheVariants as frames
 use Rattle.da_wire.specs.declared.briefs.Brief.{Brief}
@@ -227,6 +229,15 @@ transactions_line units = line (codes "transactions") (named (codes "count") (le
 abbrev pub transactions_lines : List (List ℕ) → List (List ℕ)
 transactions_lines units = transactions_line units ∷ map (unit_line (codes "transaction")) units
 
+-- a refusal: its reason, and the number of the refused frame
+abbrev pub refusal_line : Refusal → List ℕ
+refusal_line refusal = line (codes "refusal")
+    (named (codes "reason") (reason_byte refusal.reason) ∷ named (codes "number") refusal.number ∷ [])
+
+-- a state
+abbrev pub state_line : List ℕ
+state_line = codes "state"
+
 -- ---- the text
 
 -- the lines of a frame
@@ -244,6 +255,8 @@ lines_of (frames.Block block) = block_lines block
 lines_of (frames.Commit proof) = commit_line proof ∷ []
 lines_of (frames.Rooted proof) = rooted_lines proof
 lines_of (frames.Transactions units) = transactions_lines units
+lines_of (frames.Refusal refusal) = refusal_line refusal ∷ []
+lines_of frames.State = state_line ∷ []
 
 -- the lines of what is brief of a frame
 abbrev pub brief_lines : Brief → List (List ℕ)
@@ -254,6 +267,8 @@ brief_lines (briefs.Sample cell axis) = sample_line cell axis ∷ []
 brief_lines (briefs.Request name) = request_line name ∷ []
 brief_lines (briefs.Block block) = block_lines block
 brief_lines (briefs.Transactions units) = transactions_lines units
+brief_lines (briefs.Refusal refusal) = refusal_line refusal ∷ []
+brief_lines briefs.State = state_line ∷ []
 
 -- lines that come after another, each behind a line feed
 abbrev pub following : List (List ℕ) → List ℕ

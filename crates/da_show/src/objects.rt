@@ -35,6 +35,8 @@ fn put_object(alloc: Global, out: &mut String, frame: &Frame) -> Result<(), Allo
         Frame::Commit(proof) => kinds::put_commit(alloc, out, proof),
         Frame::Rooted(proof) => kinds::put_rooted(alloc, out, proof),
         Frame::Transactions(units) => kinds::put_transactions(out, &units.list),
+        Frame::Refusal(refusal) => kinds::put_refusal(out, *refusal),
+        Frame::State => kinds::put_state(out),
     }
 }
 
@@ -66,6 +68,8 @@ fn put_brief_object(alloc: Global, out: &mut String, brief: &Brief) -> Result<()
         Brief::Request(name) => kinds::put_request(alloc, out, name),
         Brief::Block(block) => kinds::put_block(alloc, out, block),
         Brief::Transactions(units) => kinds::put_transactions(out, &units.list),
+        Brief::Refusal(refusal) => kinds::put_refusal(out, *refusal),
+        Brief::State => kinds::put_state(out),
     }
 }
 

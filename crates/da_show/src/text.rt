@@ -33,6 +33,8 @@ fn put_frame(alloc: Global, out: &mut String, frame: &Frame) -> Result<(), Alloc
         Frame::Commit(proof) => lines::put_commit(alloc, out, proof),
         Frame::Rooted(proof) => kinds::rooted(alloc, out, proof),
         Frame::Transactions(units) => kinds::transactions(out, units),
+        Frame::Refusal(refusal) => lines::put_refusal(out, *refusal),
+        Frame::State => lines::put_state(out),
     }
 }
 
@@ -66,6 +68,8 @@ fn put_lines(alloc: Global, out: &mut String, brief: &Brief) -> Result<(), Alloc
         Brief::Request(name) => lines::put_request(alloc, out, name),
         Brief::Block(block) => kinds::block(alloc, out, block),
         Brief::Transactions(units) => kinds::transactions(out, units),
+        Brief::Refusal(refusal) => lines::put_refusal(out, *refusal),
+        Brief::State => lines::put_state(out),
     }
 }
 

@@ -5,8 +5,10 @@ ghost use Rattle.std.specs.String.{string_bytes};
 ghost use Rattle.sha2.specs.Sha256.{sha256};
 ghost use Rattle.hex.specs.Hex.{encode_lower};
 ghost use Rattle.frame_payloads.specs.kinds.Block.{width_number};
+ghost use Rattle.frame_payloads.specs.kinds.Refusal.{reason_byte};
 ghost use Rattle.da_show.specs.Parts.{axis_word, name_word, digest_word, share_name_word, share_hash_word};
 
+use da_wire::Reason;
 use itoa::Buffer;
 use namespace_id::{Axis, Digest, HASH_SIZE, Namespace, Share};
 use sha2::{Digest as _, Sha256};
@@ -30,6 +32,23 @@ pub(crate) fn put_number(out: &mut String, number: u16) -> Result<(), AllocError
 {
     let mut buffer = Buffer::new();
     out.push_str(buffer.format(number))
+}
+
+/// Appends the number of a frame in decimal.
+pub(crate) fn put_frame_number(out: &mut String, number: u64) -> Result<(), AllocError>
+    ensures { OnOk result (string_bytes out.new ≡ string_bytes out.old ++ decimal number) }
+{
+    let mut buffer = Buffer::new();
+    out.push_str(buffer.format(number))
+}
+
+/// Appends the number of a reason in decimal.
+pub(crate) fn put_reason(out: &mut String, reason: Reason) -> Result<(), AllocError>
+    ensures { OnOk result (string_bytes out.new
+        ≡ string_bytes out.old ++ decimal (reason_byte reason)) }
+{
+    let mut buffer = Buffer::new();
+    out.push_str(buffer.format(reason.byte()))
 }
 
 /// Appends a number of shares in decimal.

@@ -2,17 +2,20 @@
 
 ghost use Rattle.std.specs.Prelude.{◌≡◌, ◌++◌, OnOk};
 ghost use Rattle.std.specs.String.{string_bytes};
-ghost use Rattle.da_show.specs.JsonTexts.{header_end, header_text, square_end, square_text, place_front, share_end, message_end, message_text, names_end, names_text, places_text, claim_end, claim_text, missing_text, clash_text, sample_text, request_text, units_end, block_end, block_text, commit_end, commit_counts, commit_text, rooted_end, rooted_text, transactions_text};
+ghost use Rattle.da_show.specs.JsonTexts.{header_end, header_text, square_end, square_text, place_front, share_end, message_end, message_text, names_end, names_text, places_text, claim_end, claim_text, missing_text, clash_text, sample_text, request_text, units_end, block_end, block_text, commit_end, commit_counts, commit_text, rooted_end, rooted_text, transactions_text, refusal_text, state_text};
 
 use super::lists::{
     put_blobs, put_cells, put_entries, put_lengths, put_message_cells, put_places, put_roots,
     put_shares,
 };
 use super::parts::{put_axis, put_hex, put_name};
-use crate::words::{axis_word, digest_of, put_number, put_share_count, put_size, width_number};
+use crate::words::{
+    axis_word, digest_of, put_frame_number, put_number, put_reason, put_share_count, put_size,
+    width_number,
+};
 use axis_roots::{Message, NsEntry};
 use blob_commit::{CommitProof, RootedMessage};
-use da_wire::EntryPlace;
+use da_wire::{EntryPlace, Refusal};
 use data_header::{Header, data_root};
 use namespace_id::{Axis, Cell, Digest, Namespace, Share};
 use share_split::Unit;
@@ -370,4 +373,22 @@ pub(crate) fn put_transactions(out: &mut String, units: &[Unit]) -> Result<(), A
     out.push_str("{\"kind\":\"transactions\",\"lengths\":")?;
     put_lengths(out, units)?;
     out.push_str("}")
+}
+
+/// Appends a refusal.
+pub(crate) fn put_refusal(out: &mut String, refusal: Refusal) -> Result<(), AllocError>
+    ensures { OnOk result (string_bytes out.new ≡ string_bytes out.old ++ refusal_text refusal) }
+{
+    out.push_str("{\"kind\":\"refusal\",\"number\":")?;
+    put_frame_number(out, refusal.number)?;
+    out.push_str(",\"reason\":")?;
+    put_reason(out, refusal.reason)?;
+    out.push_str("}")
+}
+
+/// Appends a state.
+pub(crate) fn put_state(out: &mut String) -> Result<(), AllocError>
+    ensures { OnOk result (string_bytes out.new ≡ string_bytes out.old ++ state_text) }
+{
+    out.push_str("{\"kind\":\"state\"}")
 }

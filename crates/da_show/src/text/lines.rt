@@ -3,7 +3,7 @@
 ghost use Rattle.std.specs.Prelude.{◌≡◌, ◌++◌, length, OnOk};
 ghost use Rattle.std.specs.String.{string_bytes};
 ghost use Rattle.da_show.specs.Parts.{axis_word};
-ghost use Rattle.da_show.specs.Text.{header_line, square_line, names_line, claim_line, missing_line, counts, sized_line, block_line, string_line, request_line, sample_line, cell_line, place, place_line, range_line, absence_line, root_line, share_line, message_line, found_line, unit_line, blob_line, commit_line, rooted_line, transactions_line};
+ghost use Rattle.da_show.specs.Text.{header_line, square_line, names_line, claim_line, missing_line, counts, sized_line, block_line, string_line, request_line, sample_line, cell_line, place, place_line, range_line, absence_line, root_line, share_line, message_line, found_line, unit_line, blob_line, commit_line, rooted_line, transactions_line, refusal_line, state_line};
 
 use crate::words::{
     axis_word, digest_word, hash_word, name_word, put_number, share_hash_word, share_name_word,
@@ -11,7 +11,7 @@ use crate::words::{
 };
 use axis_roots::{Found, FraudClaim, Message};
 use blob_commit::{CommitProof, RootedMessage};
-use da_wire::{EntryPlace, FoundPlace, UnitList};
+use da_wire::{EntryPlace, FoundPlace, Refusal, UnitList};
 use data_header::{Header, data_root};
 use namespace_id::{Axis, Cell, Cells, Digest, NAMESPACE_SIZE, Namespace, Share};
 use share_split::{Blob, Unit};
@@ -327,4 +327,20 @@ pub(crate) fn put_transactions(out: &mut String, units: &UnitList) -> Result<(),
 {
     let count = units.list.len();
     write!(out, "transactions count={count}")
+}
+
+/// A refusal.
+pub(crate) fn put_refusal(out: &mut String, refusal: Refusal) -> Result<(), AllocError>
+    ensures { OnOk result (string_bytes out.new ≡ string_bytes out.old ++ refusal_line refusal) }
+{
+    let reason = refusal.reason.byte();
+    let number = refusal.number;
+    write!(out, "refusal reason={reason} number={number}")
+}
+
+/// A state.
+pub(crate) fn put_state(out: &mut String) -> Result<(), AllocError>
+    ensures { OnOk result (string_bytes out.new ≡ string_bytes out.old ++ state_line) }
+{
+    out.push_str("state")
 }
