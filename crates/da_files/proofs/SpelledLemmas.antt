@@ -3,8 +3,8 @@ use Rattle.std.proofs.Common.{◌≡◌, ◌∙◌, ℕ, ◌<◌, Bool, true, fa
 use Rattle.std.specs.Prelude.{◌==◌, nat_lt}
 use Rattle.std.specs.declared.option.Option.{Option}
 use Rattle.da_wire.specs.declared.frames.Frame.{Frame}
-use Rattle.da_wire.specs.declared.frames.Frame.TheVariants.{Header, Square, Message, Names, Fraud, Missing, Clash, Sample, Request, Block, Commit, Rooted, Transactions}
-use Rattle.da_wire.specs.Spelling.{spelling, spelled, frame as framed, header_kind, square_kind, message_kind, names_kind, fraud_kind, missing_kind, clash_kind, sample_kind, request_kind, block_kind, commit_kind, rooted_kind, transactions_kind}
+use Rattle.da_wire.specs.declared.frames.Frame.TheVariants.{Header, Square, Message, Names, Fraud, Missing, Clash, Sample, Request, Block, Commit, Rooted, Transactions, Refusal, State}
+use Rattle.da_wire.specs.Spelling.{spelling, spelled, frame as framed, header_kind, square_kind, message_kind, names_kind, fraud_kind, missing_kind, clash_kind, sample_kind, request_kind, block_kind, commit_kind, rooted_kind, transactions_kind, refusal_kind, state_kind}
 use Rattle.frame_payloads.specs.Payloads.{max_payload}
 use Rattle.frame_payloads.specs.kinds.Header.{header_payload}
 use Rattle.frame_payloads.specs.kinds.Square.{square_payload}
@@ -18,6 +18,8 @@ use Rattle.frame_payloads.specs.kinds.Block.{block_payload, asks_for_zero}
 use Rattle.frame_payloads.specs.kinds.Commit.{commit_payload, is_long_commit}
 use Rattle.frame_payloads.specs.kinds.Rooted.{rooted_payload}
 use Rattle.frame_payloads.specs.kinds.Transactions.{transactions_payload}
+use Rattle.frame_payloads.specs.kinds.Refusal.{refusal_payload}
+use Rattle.frame_payloads.specs.kinds.State.{state_payload}
 use Rattle.da_wire.specs.Writing.{AppendsSpelling}
 use Rattle.da_status.specs.declared.status.Status.{Status}
 use Rattle.da_files.specs.Frames.{WritesWith, WritesText}
@@ -49,6 +51,8 @@ spelling_some (Block b) text e = tested_some (asks_for_zero b.width) block_kind 
 spelling_some (Commit proof) text e = tested_some (is_long_commit proof) commit_kind (commit_payload proof) text e
 spelling_some (Rooted proof) text e = tested_some false rooted_kind (rooted_payload proof) text e
 spelling_some (Transactions units) text e = tested_some false transactions_kind (transactions_payload units) text e
+spelling_some (Refusal refusal) text e = tested_some false refusal_kind (refusal_payload refusal) text e
+spelling_some State text e = tested_some false state_kind state_payload text e
 
 -- where a spelling was appended to no bytes, what is written is the frame
 pub writes_frame : (frame : Frame) (final : Status) (old new shown : List ℕ) → old ≡ [] → AppendsSpelling frame old new → shown ≡ new
