@@ -2,7 +2,7 @@
 use Rattle.std.specs.Prelude.{◌≡◌, ℕ, List, [], ◌∷◌, ◌++◌, Option}
 use Rattle.std.specs.List.{flat_map}
 use Rattle.da_wire.specs.declared.frames.Frame.{Frame}
-use Rattle.da_wire.specs.Spelling.{header_kind, square_kind, message_kind, names_kind, fraud_kind, missing_kind, clash_kind, sample_kind, request_kind, block_kind, commit_kind, rooted_kind, transactions_kind}
+use Rattle.da_wire.specs.Spelling.{header_kind, square_kind, message_kind, names_kind, fraud_kind, missing_kind, clash_kind, sample_kind, request_kind, block_kind, commit_kind, rooted_kind, transactions_kind, refusal_kind, state_kind}
 use Rattle.da_wire.specs.Values.{values_of, bad_value}
 use Rattle.da_show.specs.Text.{text_of}
 use Rattle.da_show.specs.Json.{json_text}
@@ -18,7 +18,7 @@ use Rattle.da_status.specs.Outcome.{Relation}
 abbrev pub all_kinds : List ℕ
 all_kinds =
     header_kind ∷ square_kind ∷ message_kind ∷ names_kind ∷ fraud_kind ∷ missing_kind ∷ clash_kind ∷ sample_kind
-    ∷ request_kind ∷ block_kind ∷ commit_kind ∷ rooted_kind ∷ transactions_kind ∷ []
+    ∷ request_kind ∷ block_kind ∷ commit_kind ∷ rooted_kind ∷ transactions_kind ∷ refusal_kind ∷ state_kind ∷ []
 
 -- what a form shows of a frame
 abbrev pub shown_as : Form → Frame → List ℕ

@@ -23,7 +23,7 @@ use std::alloc::Global;
 const FILE: u32 = 0;
 
 /// The kinds of all frames that there are.
-const KINDS: &[u8] = b"HSMNBKXQPVCRT";
+const KINDS: &[u8] = b"HSMNBKXQPVCRTEA";
 
 /// In which form a frame is shown.
 #[derive(Clone, Copy)]
