@@ -6,8 +6,9 @@ use da_wire::{Frame, FrameError, read_frame, write_frame};
 use std::alloc::Global;
 use std::process::Abort;
 
-/// Frames of a header, a square, a sample, two missing cells, a request for a sample and one for a namespace.
-const SHORT: [(&str, &[Run]); 6] = [
+/// Frames of a header, a square, a sample, two missing cells, a request for a sample and one for a namespace, a refusal and
+/// a state.
+const SHORT: [(&str, &[Run]); 8] = [
     ("H", &[(b"H\0\0\x01\x6a\0\x01", 360, 7)]),
     ("S", &[(b"S\0\0\x02\x02\0\x01", 512, 5)]),
     ("M", &[(b"M\0\0\x02\x60", 517, 0), (b"\x01", 90, 6)]),
@@ -17,6 +18,8 @@ const SHORT: [(&str, &[Run]); 6] = [
     ),
     ("Q", &[(b"Q\0\0\0\x05\0\x01\0\x02\x01", 0, 0)]),
     ("P", &[(b"P\0\0\0\x1d", 29, 9)]),
+    ("E", &[(b"E\0\0\0\x09\x05", 8, 7)]),
+    ("A", &[(b"A\0\0\0\0", 0, 0)]),
 ];
 
 /// Frames of an answer of a range and an absence, of a claim with a set of one node, of a block of a signed blob, and of
