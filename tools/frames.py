@@ -151,7 +151,7 @@ class Fields:
             raise BadField(self.at, f"bytes left over behind the last field: {self.left()}")
 
 
-# The thirteen kinds (docs/FORMATS.md, "Payloads", "Text of frames", "JSON of frames"). `read` takes the fields of a payload,
+# The fifteen kinds (docs/FORMATS.md, "Payloads", "Text of frames", "JSON of frames"). `read` takes the fields of a payload,
 # `lines` are the lines of `show`, and `members` those of the JSON object but its "kind", which is `name`.
 
 
@@ -485,7 +485,38 @@ class Rooted(namedtuple("Rooted", "k message root up")):
         return members
 
 
-ALL = (Header, Square, Message, Answer, Claim, Missing, Clash, Sample, Request, Block, Transactions, Commit, Rooted)
+class RefusedFrame(namedtuple("RefusedFrame", "reason number")):
+    letter, name = "E", "refusal"
+
+    @staticmethod
+    def read(fields):
+        return RefusedFrame(fields.number("reason", 1, range(6)), fields.number("number", 8))
+
+    def lines(self):
+        return [f"refusal reason={self.reason} number={self.number}"]
+
+    def members(self):
+        return {"number": self.number, "reason": self.reason}
+
+
+class State(namedtuple("State", "")):
+    letter, name = "A", "state"
+
+    @staticmethod
+    def read(fields):
+        return State()
+
+    def lines(self):
+        return ["state"]
+
+    def members(self):
+        return {}
+
+
+ALL = (
+    Header, Square, Message, Answer, Claim, Missing, Clash, Sample, Request, Block, Transactions, Commit, Rooted,
+    RefusedFrame, State,
+)
 KINDS = {kind.letter: kind for kind in ALL}
 ALL_KINDS = "".join(KINDS)
 

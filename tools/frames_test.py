@@ -42,6 +42,10 @@ def u32(value):
     return value.to_bytes(4, "big")
 
 
+def u64(value):
+    return value.to_bytes(8, "big")
+
+
 def frame(kind, payload):
     return kind.encode() + u32(len(payload)) + payload
 
@@ -164,6 +168,8 @@ EACH = {
     "T": strings(b"abc", b""),
     "C": COMMIT,
     "R": rooted(2, 3, message(2, 1, 2, 1)),
+    "E": u8(5) + u64(258),
+    "A": b"",
 }
 EACH_FRAME = {kind: frame(kind, payload) for kind, payload in EACH.items()}
 
@@ -273,7 +279,7 @@ class Examples(Case):
         folder = os.path.join(self.folder, "into", "frames")
         lines = self.made("cut", os.path.join(EXAMPLES, "kinds", "all"), folder).decode().splitlines()
         told = [line.split() for line in lines]
-        self.assertEqual("".join(kind for _, kind, _ in told), "VSHMNNBKQPCRT")
+        self.assertEqual("".join(kind for _, kind, _ in told), "VSHMNNBKQPCRTEA")
         self.assertEqual([name for name, _, _ in told], [os.path.join(folder, str(i)) for i in range(len(told))])
         parts = []
         for name, _, _ in told:
@@ -282,8 +288,8 @@ class Examples(Case):
         self.assertEqual(b"".join(parts), example("kinds/all"))
         self.assertEqual([len(part) for part in parts], [int(size) for _, _, size in told])
         # Only the framing is judged: a kind that is none is written by its byte.
-        odd = self.file(b"\x07\0\0\0\x01x" + frame("A", b""), "odd")
-        self.assertEqual(self.made("cut", odd, folder).decode(), f"{folder}/0 07 6\n{folder}/1 41 5\n")
+        odd = self.file(b"\x07\0\0\0\x01x" + frame("Z", b""), "odd")
+        self.assertEqual(self.made("cut", odd, folder).decode(), f"{folder}/0 07 6\n{folder}/1 5a 5\n")
         self.assertEqual(self.made("cut", self.file(b""), folder), b"")
         self.assertEqual(run("cut", self.file(frame("M", b"") + b"M", "short"), folder), (6, b"", "bad input: file 0 at 5\n"))
         self.assertEqual(run("cut", odd, self.file(b""))[::2], (4, "cannot write\n"))
@@ -334,6 +340,7 @@ class Reading(Case):
             ("C", commit(0, 0, 0, *[commit_row(11, 512, 20)] * 512), 24742956),
             ("R", EACH["R"], 887), ("R", rooted(0, 0, message(0)), 611), ("R", rooted(0, 9, message(8)), 1619),
             ("R", rooted(0, 11, message(10)), 1863),
+            ("E", u8(0) + u64(0), 9), ("E", EACH["E"], 9), ("E", u8(5) + b"\xff" * 8, 9), ("A", b"", 0),
         ]
         for kind, payload, length in table:
             with self.subTest(kind, length=length):
@@ -387,6 +394,12 @@ class Reading(Case):
             ("430000002c" + "00" * 42 + "0201", "BadPayload"),
             ("5200000263" + "00" * 611, "ok"),
             ("5200000263" + "00" * 610 + "0c", "BadPayload"),
+            ("4500000009050000000000000102", "ok"),
+            ("4500000009060000000000000000", "BadPayload"),
+            ("45000000080500000000000000", "BadPayload"),
+            ("450000000a05000000000000000000", "BadPayload"),
+            ("4100000000", "ok"),
+            ("410000000100", "BadPayload"),
             ("5a00000000", "BadKind"),
             ("4d10000001", "TooLong"),
             ("4d01000001", "Truncated"),
@@ -433,6 +446,8 @@ class Reading(Case):
              f'{{"commitment":"{"0c" * 32}","count":2,"k":2,"kind":"commit","rows":2,"start":1}}'),
             ("R", [f"rooted k=2 root={'06' * 90}", f"message row=1 col=2 axis=col nodes=2 share={hash_7}"],
              f'{{"axis":"col","col":2,"k":2,"kind":"rooted","root":"{"06" * 90}","row":1,"share":"{hash_7}"}}'),
+            ("E", ["refusal reason=5 number=258"], '{"kind":"refusal","number":258,"reason":5}'),
+            ("A", ["state"], '{"kind":"state"}'),
         ]
         for kind, lines, line in table:
             with self.subTest(kind):
@@ -605,6 +620,11 @@ FIELDS = [
     ("R", rooted(2, 12, message(0)), 610, "the hash count is 12, and is 0 to 11"),
     ("R", rooted(2, 3, message(0))[:-1], 610, "the hash count is 3, of 32 bytes or more each, left are 95"),
     ("R", EACH["R"] + b"\x00", 887, "bytes left over behind the last field: 1"),
+    ("E", b"", 0, "the reason takes 1 bytes, left are 0"),
+    ("E", u8(6) + u64(0), 0, "the reason is 6, and is 0 to 5"),
+    ("E", u8(5) + u64(258)[:-1], 1, "the number takes 8 bytes, left are 7"),
+    ("E", EACH["E"] + b"\x00", 9, "bytes left over behind the last field: 1"),
+    ("A", b"\x00", 0, "bytes left over behind the last field: 1"),
 ]
 
 
@@ -1001,7 +1021,8 @@ class Program(Case):
             kind, whole = draw.choice([*EACH.items(), ("B", SET_CLAIM)])
             payload = whole
             for _ in range(draw.randrange(1, 3)):
-                at = draw.choice(places(frame(kind, whole))[3:]) - 5
+                # A state has no field.
+                at = draw.choice(places(frame(kind, whole))[3:] or [5]) - 5
                 again = payload[at : at + draw.choice([1, 2, 90, 512, 608])]
                 more = draw.choice([b"", b"\x00", b"\x01", bytes(4), again])
                 payload = payload[:at] + more + payload[at + draw.choice([0, 0, 1, 2, 4, 90, 512]) :]
