@@ -390,6 +390,8 @@ def files():
         "kinds/rooted": grid.rooted(1, 2, COL),
         "kinds/missing": frame("K", u16(2) + u32(15) + b"".join(u16(r) + u16(c) for r, c in every if (r, c) != (1, 2))),
         "kinds/transactions": transactions(units),
+        "kinds/refusal": frame("E", b"\5" + (2).to_bytes(8, "big")),
+        "kinds/state": frame("A", b""),
         "spoiled/header": spoiled.header(),
         "spoiled/messages": b"".join(spoiled.message(3, c, COL) for c in range(2)),
         "spoiled/every": b"".join(spoiled.message(r, c) for r, c in every),
@@ -425,7 +427,8 @@ def files():
         "refused/claim-other-share": changed(accused, 100),
     }
     kinds = ["block", "kinds/square", "kinds/header", "kinds/sample", "kinds/answer", "kinds/absence", "kinds/claim",
-             "kinds/missing", "samples", "namespaces", "kinds/commitment", "kinds/rooted", "kinds/transactions"]
+             "kinds/missing", "samples", "namespaces", "kinds/commitment", "kinds/rooted", "kinds/transactions",
+             "kinds/refusal", "kinds/state"]
     made["kinds/all"] = b"".join(made[kind] for kind in kinds)
     return made
 
