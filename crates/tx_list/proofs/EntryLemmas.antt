@@ -2,12 +2,11 @@
 use Rattle.std.proofs.Common.{true, false, if◌then◌else◌, ◌≡◌, ◌∙◌, ◌↔◌, ℕ, ◌≤◌, ◌==◌, Bool, List, [], ◌∷◌, ◌++◌, length, Option, Some, None, refl, sym, ap, arith}
 use Rattle.std.specs.Option.{is_some, option_map_or}
 use Rattle.std.specs.Prelude.{option_map, IsSome, IfSome}
-use Rattle.std.proofs.lemmas.Bool.{eqb-true, true≢false}
-use Rattle.std.proofs.lemmas.List.{nil_from_length}
+use Rattle.std.proofs.lemmas.Bool.{true≢false}
 use Rattle.proto_fields.specs.Fields.{ValueParts, number_value, bytes_value, other_value, FieldParts, field_at, fields_of, bytes_of, own_bytes, all_bytes}
-use Rattle.proto_fields.proofs.FieldLemmas.{no_fields, first_field, still_fields, fields_end, field_is_shorter}
+use Rattle.proto_fields.proofs.FieldLemmas.{first_field, still_fields}
 use Rattle.tx_list.specs.Reads.{are_fields, entries_of}
-use Rattle.tx_list.specs.Walks.{bytes_value_of, entry_of, IsNext}
+use Rattle.tx_list.specs.Walks.{bytes_value_of}
 
 -- ---- one field
 
@@ -48,49 +47,10 @@ all_cons field (Some fields) all h e = ap (λ (o : Option (List FieldParts)). al
 fields_step : (bytes rest : List ℕ) (field : FieldParts) → field_at bytes ≡ Some (field, rest) → are_fields bytes ≡ true → are_fields rest ≡ true
 fields_step bytes rest field at h = still_fields bytes rest field at ∙ h
 
-entries_step : (bytes rest : List ℕ) (field : FieldParts) → field_at bytes ≡ Some (field, rest) → are_fields bytes ≡ true
+pub entries_step : (bytes rest : List ℕ) (field : FieldParts) → field_at bytes ≡ Some (field, rest) → are_fields bytes ≡ true
     → entries_of bytes ≡ own_bytes 2 field ++ entries_of rest
 entries_step bytes rest field at h =
     all_cons field (fields_of rest) (fields_of bytes) (fields_step bytes rest field at h) (first_field bytes rest field at)
-
--- ---- the walk
-
--- what is left of a walk
-pub record IsLeft (bytes rest : List ℕ) : Type 0 where
-  pub same : entries_of bytes ≡ entries_of rest
-  pub fields : are_fields rest ≡ true
-  pub size : length rest ≤ length bytes
-
--- all is left
-pub left_all : (bytes : List ℕ) → are_fields bytes ≡ true → IsLeft bytes bytes
-left_all bytes h = record { same = refl; fields = h; size = omega arith }
-
--- a field that carries no blob is passed over
-pub left_on : (bytes rest after : List ℕ) (field : FieldParts) → IsLeft bytes rest → field_at rest ≡ Some (field, after) → entry_of field ≡ None
-    → IsLeft bytes after
-left_on bytes rest after field left at none = record {
-  same = left.same ∙ entries_step rest after field at left.fields
-      ∙ ap (λ (l : List (List ℕ)). l ++ entries_of after) (own_none (field.number == 2) field.value none);
-  fields = fields_step rest after field at left.fields;
-  size = omega (arith, field_is_shorter rest after field at, left.size);
-}
-
--- one that carries a blob is the next
-pub next_found : (bytes rest after entry : List ℕ) (field : FieldParts) → IsLeft bytes rest → field_at rest ≡ Some (field, after) → entry_of field ≡ Some entry
-    → IsNext bytes entry after
-next_found bytes rest after entry field left at some = record {
-  first = left.same ∙ entries_step rest after field at left.fields
-      ∙ ap (λ (l : List (List ℕ)). l ++ entries_of after) (own_some (field.number == 2) field.value entry some);
-  fields = fields_step rest after field at left.fields;
-  shorter = omega (arith, field_is_shorter rest after field at, left.size);
-}
-
--- no blob is left where no field is
-pub next_none : (bytes rest : List ℕ) → IsLeft bytes rest → field_at rest ≡ None → entries_of bytes ≡ []
-next_none bytes rest left none =
-    let size : length rest ≡ 0 = eqb-true (length rest) 0 (sym (fields_end rest none) ∙ left.fields) in
-    left.same ∙ ap entries_of (nil_from_length rest size)
-    ∙ ap (λ (o : Option (List FieldParts)). all_bytes 2 (option_map_or (λ fields. fields) o [])) no_fields
 
 -- ---- the last of a number
 

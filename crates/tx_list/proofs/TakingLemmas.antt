@@ -1,24 +1,24 @@
 -- What is known of transactions that no check refuses.
-use Rattle.std.proofs.Common.{◌≡◌, ◌∙◌, ℕ, suc, ◌-◌, ◌≤◌, ◌==◌, ◌&&◌, ◌||◌, not, Bool, true, false, if◌then◌else◌, List, [], ◌∷◌, length, map, filter, Option, Some, None, option_map, take, drop, refl, sym, ap, ap₂, arith}
+use Rattle.std.proofs.Common.{◌≡◌, ◌∙◌, ℕ, suc, ◌-◌, ◌≤◌, ◌==◌, ◌&&◌, ◌||◌, not, Bool, true, false, if◌then◌else◌, List, [], ◌∷◌, length, map, filter, Option, Some, None, option_map, take, drop, refl, sym, ap, ap₂, arith, append_assoc, ◌++◌}
 use Rattle.std.specs.List.{AllByRecursion, list_all}
 use Rattle.std.specs.Option.{option_or}
 use Rattle.std.specs.Str.{bytes_eq}
 use Rattle.std.specs.Prelude.{codes}
 use Rattle.std.proofs.lemmas.Bool.{eqb-true, and_parts, true≢false}
 use Rattle.std.proofs.lemmas.Bool.Decides.{nat_tests}
-use Rattle.std.proofs.lemmas.List.{length-map}
+use Rattle.std.proofs.lemmas.List.{length-map, map-append, append-nil}
 use Rattle.namespace_id.proofs.RefusalLemmas.{if_none}
 use Rattle.namespace_id.specs.declared.namespaces.NsError.TheVariants.{Length, Version}
 use Rattle.namespace_id.specs.Names.{namespace_refusal, is_blob_namespace}
 use Rattle.namespace_id.specs.Sizes.{namespace_size}
-use Rattle.share_split.specs.Blobs.{signer_size}
+use Rattle.share_split.specs.Blobs.{NamedBytes, signer_size}
 use Rattle.square_layout.proofs.AcceptedLemmas.{is_accepted}
 use Rattle.tx_list.specs.declared.refusals.ListError.TheVariants.{NoBlobs, BadBlob, BadVersion, NoBytes}
 use Rattle.proto_fields.specs.Fields.{last_bytes}
 use Rattle.tx_list.specs.Payments.{PaymentParts, ListParts, IsLayable, IsPayment}
 use Rattle.tx_list.specs.Reads.{are_fields, fields_in, entries_of, is_payment, tx_in, StatedBlob, stated, blob_of, payment_of, list_of}
 use Rattle.tx_list.specs.ReadRefusals.{name_refusal, has_version, blob_refusal, blobs_refusal, payment_refusal, transaction_refusal, transactions_refusal}
-use Rattle.tx_list.specs.Walks.{IsTaken, IsTakenPayment, AreTaken}
+use Rattle.tx_list.specs.Walks.{with_blobs, IsTaken, IsTakenEntry, IsTakenPayment, AreTaken}
 
 -- ---- checks that refuse nothing
 
@@ -169,3 +169,41 @@ pub list_parts_are : (transactions : List (List ℕ)) (plain : ℕ) (list : List
     → list ≡ list_of transactions
 list_parts_are transactions plain list front back units payments =
     ap₂ parts_of (units ∙ sym front) (payments ∙ ap (map payment_of) (sym back))
+
+-- ---- the walk over a payment
+
+-- each of its blobs is fields and is taken
+entries_fine : (entries : List (List ℕ)) → list_all are_fields entries ≡ true → AllByRecursion (λ entry. IsTaken (stated entry)) entries
+    → AllByRecursion IsTakenEntry entries
+entries_fine [] fields all = tt
+entries_fine (entry ∷ entries) fields all =
+    let both = and_parts (are_fields entry) (list_all are_fields entries) fields in
+    (record { fields = both.0; blob = all.0 }, entries_fine entries both.1 all.1)
+
+pub entries_taken : (bytes : List ℕ) → IsTakenPayment bytes → AllByRecursion IsTakenEntry (entries_of bytes)
+entries_taken bytes taken = entries_fine (entries_of bytes) taken.entries taken.blobs
+
+-- what holds of all holds of a front and of what follows
+pub all_split : (some others : List (List ℕ)) → AllByRecursion IsTakenEntry (some ++ others)
+    → AllByRecursion IsTakenEntry some × AllByRecursion IsTakenEntry others
+all_split [] others all = (tt, all)
+all_split (entry ∷ some) others all =
+    let rest = all_split some others all.1 in
+    ((all.0, rest.0), rest.1)
+
+-- more blobs, and then others
+pub blobs-append : (blobs : List NamedBytes) (some others : List (List ℕ)) → with_blobs blobs (some ++ others) ≡ with_blobs (with_blobs blobs some) others
+blobs-append blobs some others =
+    ap (λ (l : List NamedBytes). blobs ++ l) (map-append (λ (entry : List ℕ). blob_of (stated entry)) some others)
+    ∙ sym (append_assoc blobs (map (λ entry. blob_of (stated entry)) some) (map (λ entry. blob_of (stated entry)) others))
+
+pub blobs-none : (blobs : List NamedBytes) → with_blobs blobs [] ≡ blobs
+blobs-none blobs = append-nil blobs
+
+-- a payment of its parts
+abbrev payment_parts : List ℕ → List NamedBytes → PaymentParts
+payment_parts tx blobs = record { tx = tx; blobs = blobs }
+
+pub payment_parts_are : (bytes tx : List ℕ) (blobs : List NamedBytes) → tx ≡ tx_in bytes → blobs ≡ with_blobs [] (entries_of bytes)
+    → payment_parts tx blobs ≡ payment_of bytes
+payment_parts_are bytes tx blobs is are = ap₂ payment_parts is are

@@ -1,13 +1,14 @@
 -- What the steps of reading transactions answer.
-use Rattle.std.specs.Prelude.{◌≡◌, ℕ, suc, ◌%◌, ◌^◌, ◌<◌, ◌≤◌, ◌==◌, ◌&&◌, true, List, [], ◌∷◌, length, Option, Some, None, if◌then◌else◌}
+use Rattle.std.specs.Prelude.{◌≡◌, ℕ, suc, ◌%◌, ◌^◌, ◌≤◌, ◌==◌, ◌&&◌, true, List, [], ◌∷◌, ◌++◌, length, map, Option, Some, None, if◌then◌else◌}
 use Rattle.std.specs.List.{AllByRecursion, list_all}
 use Rattle.std.specs.Option.{option_or}
+use Rattle.share_split.specs.Blobs.{NamedBytes}
 use Rattle.proto_fields.specs.Fields.{ValueParts, number_value, bytes_value, other_value, FieldParts}
 use Rattle.tx_list.specs.declared.reading.Stated.{Stated}
 use Rattle.tx_list.specs.declared.checking.Checked.{Checked}
 use Rattle.tx_list.specs.declared.checking.Judged.{Judged}
 use Rattle.tx_list.specs.declared.checking.Judged.TheVariants as judged
-use Rattle.tx_list.specs.Reads.{are_fields, entries_of, is_payment, StatedBlob, stated}
+use Rattle.tx_list.specs.Reads.{are_fields, entries_of, is_payment, StatedBlob, stated, blob_of}
 use Rattle.tx_list.specs.ReadRefusals.{name_refusal, has_version, blob_refusal, payment_refusal}
 
 -- the bytes that a value is
@@ -19,12 +20,6 @@ bytes_value_of other_value = None
 -- the blob that a field of a payment carries
 abbrev pub entry_of : FieldParts → Option (List ℕ)
 entry_of field = if field.number == 2 then bytes_value_of field.value else None
-
--- the first blob that bytes carry, and what follows it
-pub record IsNext (bytes entry rest : List ℕ) : Type 0 where
-  pub first : entries_of bytes ≡ entry ∷ entries_of rest
-  pub fields : are_fields rest ≡ true
-  pub shorter : length rest < length bytes
 
 -- a blob as a payment states it, wherever its bytes lie
 abbrev pub stated_parts : Stated → StatedBlob
@@ -67,11 +62,20 @@ judgement i bytes = if is_payment bytes then judged.Payment (payment_refusal i (
 
 -- ---- what is taken
 
+-- blobs, and those that bytes state behind them
+abbrev pub with_blobs : List NamedBytes → List (List ℕ) → List NamedBytes
+with_blobs blobs entries = blobs ++ map (λ entry. blob_of (stated entry)) entries
+
 -- a blob that no check refuses
 pub record IsTaken (blob : StatedBlob) : Type 0 where
   pub named : name_refusal blob.version blob.id ≡ None
   pub versioned : has_version blob.share_version blob.signer ≡ true
   pub some : 1 ≤ length blob.bytes
+
+-- bytes that state one
+pub record IsTakenEntry (entry : List ℕ) : Type 0 where
+  pub fields : are_fields entry ≡ true
+  pub blob : IsTaken (stated entry)
 
 -- a payment that no check refuses
 pub record IsTakenPayment (bytes : List ℕ) : Type 0 where

@@ -1,11 +1,11 @@
 //! What transactions are read as.
 
-ghost use Rattle.std.specs.Prelude.{◌≡◌, List, [], true, None, IfSome};
+ghost use Rattle.std.specs.Prelude.{◌≡◌, true};
 ghost use Rattle.namespace_id.specs.Answers.{Gives};
 ghost use Rattle.proto_fields.specs.Fields.{last_of, own_bytes, own_numbers, last_bytes};
 ghost use Rattle.proto_fields.specs.Values.{field_parts};
-ghost use Rattle.tx_list.specs.Reads.{are_fields, fields_in, entries_of, stated};
-ghost use Rattle.tx_list.specs.Walks.{entry_of, IsNext, stated_parts, lowered};
+ghost use Rattle.tx_list.specs.Reads.{are_fields, fields_in, stated};
+ghost use Rattle.tx_list.specs.Walks.{entry_of, stated_parts, lowered};
 
 use proto_fields::{Field, Value, are_fields, bytes_or, field_at, last_bytes, number_or};
 
@@ -51,22 +51,6 @@ pub(crate) fn entry_of(field: Field<'_>) -> Option<&[u8]>
         Value::Bytes(bytes) => Some(bytes),
         Value::Number(_) | Value::Other => None,
     }
-}
-
-/// The first blob that bytes carry as a payment does, and the bytes after it.
-pub(crate) fn next_entry(bytes: &[u8]) -> Option<(&[u8], &[u8])>
-    requires { are_fields bytes.now ≡ true }
-    ensures none { (result ≡ None) → (entries_of bytes.now ≡ []) }
-    ensures some { IfSome result (λ found. IsNext bytes.now found.0.now found.1.now) }
-{
-    let mut rest = bytes;
-    while let Some((field, after)) = field_at(rest) {
-        if let Some(entry) = entry_of(field) {
-            return Some((entry, after));
-        }
-        rest = after;
-    }
-    None
 }
 
 /// A blob as its fields state it up to one, and as they state it with this one: the last of several counts.

@@ -1,18 +1,21 @@
 //! From transactions to the list that they are read as.
 
-ghost use Rattle.std.specs.Prelude.{◌≡◌, ◌-◌, ◌==◌, ◌∷◌, length, map, true, IfOk, Some, None, if◌then◌else◌};
+ghost use Rattle.std.specs.Prelude.{◌≡◌, ◌-◌, ◌==◌, ◌∷◌, length, map, true, IfOk, OnOk, Some, None, if◌then◌else◌};
 ghost use Rattle.std.specs.List.{AllByRecursion};
 ghost use Rattle.namespace_id.specs.Sizes.{namespace_size};
-ghost use Rattle.tx_list.specs.Reads.{stated, entries_of, blob_of, payment_of, list_of};
+ghost use Rattle.proto_fields.specs.Fields.{own_bytes};
+ghost use Rattle.proto_fields.specs.Values.{field_parts};
+ghost use Rattle.tx_list.specs.Reads.{blob_of, payment_of, list_of};
 ghost use Rattle.tx_list.specs.ReadRefusals.{has_version, read_refusal};
 ghost use Rattle.tx_list.specs.Refusals.{RefusesFirst};
-ghost use Rattle.tx_list.specs.Walks.{stated_parts, IsTaken, IsTakenPayment};
+ghost use Rattle.tx_list.specs.Walks.{stated_parts, with_blobs, IsTaken, IsTakenEntry, IsTakenPayment};
 
 use crate::checking::plain_count;
-use crate::reading::{Stated, bytes_in, next_entry, read_blob};
+use crate::reading::{Stated, entry_of, read_blob};
 use crate::spelling::{copied_bytes, push_units};
 use crate::{ListError, Payment, TxList};
 use namespace_id::{NAMESPACE_SIZE, Namespace, NoMemory};
+use proto_fields::{Field, bytes_or, field_at};
 use share_split::{Blob, SIGNER_SIZE, Unit};
 use std::alloc::Global;
 
@@ -52,31 +55,36 @@ fn blob_of(alloc: Global, blob: Stated<'_>) -> Result<Blob, NoMemory>
     })
 }
 
-/// The blobs that a payment carries.
-fn blobs_in(alloc: Global, bytes: &[u8]) -> Result<Vec<Blob>, NoMemory>
-    requires { IsTakenPayment bytes.now }
-    ensures { IfOk result (λ blobs. blobs.items
-        ≡ map (λ entry. blob_of (stated entry)) (entries_of bytes.now)) }
+/// Appends the blob that a field of a payment carries, if it does.
+fn push_blob(alloc: Global, field: Field<'_>, blobs: &mut Vec<Blob>) -> Result<(), NoMemory>
+    requires { AllByRecursion IsTakenEntry (own_bytes 2 (field_parts field)) }
+    ensures { OnOk result (blobs.new.items ≡
+        with_blobs blobs.old.items (own_bytes 2 (field_parts field.entry))) }
 {
-    let mut blobs = Vec::new(alloc);
-    let mut rest = bytes;
-    while let Some((entry, after)) = next_entry(rest) {
-        let (blob, _are_fields) = read_blob(entry);
-        let Ok(()) = blobs.push(blob_of(alloc, blob)?) else {
-            return Err(NoMemory);
-        };
-        rest = after;
-    }
-    Ok(blobs)
+    let Some(entry) = entry_of(field) else {
+        return Ok(());
+    };
+    let (blob, _are_fields) = read_blob(entry);
+    let Ok(()) = blobs.push(blob_of(alloc, blob)?) else {
+        return Err(NoMemory);
+    };
+    Ok(())
 }
 
-/// The payment that a transaction is.
+/// The payment that a transaction is. One walk over the fields tells all of it.
 fn payment_of(alloc: Global, bytes: &[u8]) -> Result<Payment, NoMemory>
     requires { IsTakenPayment bytes.now }
     ensures { IfOk result (λ payment. payment ≡ payment_of bytes.now) }
 {
-    let tx = copied_bytes(alloc, bytes_in(bytes, 1))?;
-    let blobs = blobs_in(alloc, bytes)?;
+    let mut tx = &bytes[..0];
+    let mut blobs = Vec::new(alloc);
+    let mut rest = bytes;
+    while let Some((field, after)) = field_at(rest) {
+        tx = bytes_or(tx, field, 1);
+        push_blob(alloc, field, &mut blobs)?;
+        rest = after;
+    }
+    let tx = copied_bytes(alloc, tx)?;
     Ok(Payment { tx, blobs })
 }
 
