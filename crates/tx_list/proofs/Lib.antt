@@ -50,3 +50,7 @@ pub mod MeasureLemmas
 pub mod FindLemmas
 -- what is read of the list of a square
 pub mod StatedLemmas
+-- payments, wrapped as long as their places can make them
+pub mod FullLemmas
+-- a list that a square doesn't hold
+pub mod WideLemmas

@@ -1,33 +1,19 @@
 -- What the list of a square is read as once it is spelled, for any blobs at the places that its payments state.
-use Rattle.std.proofs.Common.{true, false, cond, ◌≡◌, ◌∙◌, ℕ, ◌+◌, ◌<◌, ◌||◌, nat_lt, min, not, Bool, List, [], ◌∷◌, ◌++◌, drop, map, filter, Option, Some, None, option_map, refl, sym, ap, ap₂, subst, arith, append-nil}
+use Rattle.std.proofs.Common.{cond, ◌≡◌, ◌∙◌, ℕ, ◌+◌, not, Bool, List, [], ◌∷◌, ◌++◌, drop, map, filter, refl, sym, ap, ap₂, arith, append-nil}
 use Rattle.std.specs.List.{AllByRecursion}
-use Rattle.std.specs.Option.{is_some, option_or}
-use Rattle.std.proofs.lemmas.Bool.Decides.{nat_tests}
 use Rattle.std.proofs.lemmas.Grind.{flat_map-append}
 use Rattle.std.proofs.lemmas.List.{map-append}
 use Rattle.std.proofs.lemmas.List.Elements.{filter-append}
 use Rattle.namespace_id.specs.declared.shares.Share.{Share}
 use Rattle.namespace_id.specs.Shares.{AreShares}
 use Rattle.share_split.specs.Blobs.{NamedBytes}
-use Rattle.share_split.specs.Walks.{units_of}
-use Rattle.square_layout.specs.Blocks.{SquareShares}
 use Rattle.square_layout.specs.Plans.{blobs_bound}
-use Rattle.square_layout.specs.Refusals.{max_shares, max_count}
-use Rattle.tx_list.specs.declared.refusals.BackError.{BackError}
-use Rattle.tx_list.specs.declared.refusals.BackError.TheVariants.{Units, Payments, Unlike}
-use Rattle.tx_list.specs.declared.refusals.ListError.{ListError}
-use Rattle.tx_list.specs.declared.refusals.ListError.TheVariants.{TooLarge}
 use Rattle.tx_list.specs.Payments.{PaymentParts, ListParts, blobs_of}
-use Rattle.tx_list.specs.Reserves.{list_bound}
-use Rattle.tx_list.specs.Spelled.{blob_spelling, payment_spelling, spelled}
+use Rattle.tx_list.specs.Spelled.{blob_spelling, payment_spelling}
 use Rattle.tx_list.specs.Reads.{is_payment, stated, blob_of, payment_of, list_of}
-use Rattle.tx_list.specs.ReadRefusals.{read_refusal}
-use Rattle.tx_list.specs.Refusals.{size_refusal}
-use Rattle.tx_list.specs.Lists.{square_of_list}
 use Rattle.tx_list.specs.Unwrapped.{wrapped_places}
-use Rattle.tx_list.specs.declared.measuring.Measure.{Measure}
-use Rattle.tx_list.specs.Measures.{measure_of, AreCounted}
-use Rattle.tx_list.specs.BackRefusals.{first_front, second_front, front_refusal, front_units, wrappers_refusal, blobs_at, payment_at, back_list, part_refusal, unlike_at, laid_refusal, back_refusal}
+use Rattle.tx_list.specs.Measures.{AreCounted}
+use Rattle.tx_list.specs.BackRefusals.{blobs_at, payment_at}
 use Rattle.tx_list.proofs.MeasureLemmas.{bound-append}
 use Rattle.tx_list.proofs.SpelledBlobLemmas.{IsStatable, blob_is_stated, said_blob}
 use Rattle.tx_list.proofs.SpelledListLemmas.{IsStatablePayment, entries_read, statable_is_payment, statable_tx}
@@ -120,49 +106,3 @@ all_statable_payments shares (unit ∷ units) wholes counted = (
   },
   all_statable_payments shares units wholes counted.1,
 )
-
--- ---- too many
-
-too_great : (n : ℕ) → max_shares < n → nat_lt max_shares n ≡ true
-too_great n h = grind (arith, nat_tests)
-
-last_true : (b : Bool) → (b || true) ≡ true
-last_true true = refl
-last_true false = refl
-
--- a list whose blobs may take more shares than the greatest square has isn't laid out
-pub too_many : (square : SquareShares) (plain : List (List ℕ)) (payments : List PaymentParts) → AllByRecursion IsStatablePayment payments
-    → max_shares < blobs_bound (blobs_of payments) → laid_refusal square (plain ++ map payment_spelling payments) ≡ Some (Unlike 0)
-too_many square plain payments all many =
-    let transactions : List (List ℕ) = plain ++ map payment_spelling payments in
-    let list : ListParts = list_of transactions in
-    let bound : blobs_bound (blobs_of list.payments) ≡ blobs_bound (blobs_of (list_of plain).payments) + blobs_bound (blobs_of payments) =
-    ap (λ (l : ListParts). blobs_bound (blobs_of l.payments)) (list_again plain payments all) ∙ joined_bound plain payments in
-    let great : max_shares < list_bound list = omega (arith, bound, many) in
-    let refused : size_refusal list ≡ Some (TooLarge (min (list_bound list) max_count)) =
-    ap (λ (b : Bool). cond b (Some (TooLarge (min (list_bound list) max_count))) None) (too_great (list_bound list) great) in
-    ap (λ (o : Option ListError). cond (is_some (read_refusal transactions) || is_some o) (Some (Unlike 0)) (option_map Unlike (unlike_at square (square_of_list list)))) refused
-    ∙ ap (λ (b : Bool). cond b (Some (Unlike 0)) (option_map Unlike (unlike_at square (square_of_list list)))) (last_true (is_some (read_refusal transactions)))
-
-pub square_too_small : (square : SquareShares) → AreShares square.shares → AreCounted (front_units (units_of (second_front square.shares)))
-    → part_refusal square ≡ None → max_shares < blobs_bound (blobs_of (back_list square).payments) → back_refusal square ≡ Some (Unlike 0)
-square_too_small square wholes counted parts many =
-    ap (λ (o : Option BackError). option_or o (laid_refusal square (spelled (back_list square)))) parts
-    ∙ too_many square (back_list square).units (back_list square).payments
-    (all_statable_payments square.shares (front_units (units_of (second_front square.shares))) wholes counted) many
-
--- so it is where the parts of a square were read, and their blobs were measured
-pub too_small_by : (square : SquareShares) (first second : List Share) (units : List (List ℕ)) (measure : Measure) → AreShares square.shares
-    → first ≡ first_front square.shares → second ≡ second_front square.shares → front_refusal Units (units_of first) ≡ None
-    → front_refusal Payments (units_of second) ≡ None → units ≡ front_units (units_of second) → wrappers_refusal 0 square.shares units ≡ None
-    → AreCounted units → measure ≡ measure_of (blobs_of (map (payment_at square.shares) units)) → max_shares < measure.bound
-    → back_refusal square ≡ Some (Unlike 0)
-too_small_by square first second units measure wholes first_is second_is plain paid units_are passed counted is many =
-    let read : units ≡ front_units (units_of (second_front square.shares)) = units_are ∙ ap (λ (l : List Share). front_units (units_of l)) second_is in
-    let bound : measure.bound ≡ min (blobs_bound (blobs_of (back_list square).payments)) max_count =
-    ap (λ (m : Measure). m.bound) is ∙ ap (λ (l : List (List ℕ)). min (blobs_bound (blobs_of (map (payment_at square.shares) l))) max_count) read in
-    let parts : part_refusal square ≡ None =
-    ap₂ (λ (a : Option BackError) (b : Option BackError). option_or a b) (ap (λ (l : List Share). front_refusal Units (units_of l)) (sym first_is) ∙ plain)
-    (ap₂ (λ (a : Option BackError) (b : Option BackError). option_or a b) (ap (λ (l : List Share). front_refusal Payments (units_of l)) (sym second_is) ∙ paid)
-    (ap (wrappers_refusal 0 square.shares) (sym read) ∙ passed)) in
-    square_too_small square wholes (subst AreCounted read counted) parts (omega (arith, bound, many))

@@ -5,6 +5,7 @@
 //! room is reserved for them as if each place took three bytes, and the width is for as much padding as the blobs may need.
 #![tactic(auto)]
 
+mod bounding;
 mod bounds;
 mod checking;
 mod finding;

@@ -1,23 +1,25 @@
 //! From a square back to the list of transactions that is laid out as it.
 
-ghost use Rattle.std.specs.Prelude.{◌≡◌, ◌⊎◌, ◌++◌, length, map, IfOk, IfErr, OnOk, Some, None};
+ghost use Rattle.std.specs.Prelude.{◌≡◌, ◌⊎◌, ◌++◌, length, map, IfOk, IfErr, OnOk, Some, None, if◌then◌else◌};
 ghost use Rattle.share_split.specs.Walks.{units_of};
-ghost use Rattle.tx_list.specs.declared.refusals.BackError.TheVariants.{Units, Payments, NoMemory};
+ghost use Rattle.tx_list.specs.declared.refusals.BackError.TheVariants.{Units, Payments, Unlike, NoMemory};
 ghost use Rattle.tx_list.specs.Spelled.{payment_spelling, spelled};
 ghost use Rattle.tx_list.specs.Backs.{IsBack, HaveNamedBlobs};
+ghost use Rattle.tx_list.specs.Measures.{has_square};
 ghost use Rattle.tx_list.specs.BackRefusals.{has_namespace, run_of, behind_run, first_front, second_front, front_refusal, front_units, blobs_at, places_refusal, payment_at, wrapper_refusal, wrappers_refusal, back_list, part_refusal, unlike_at, laid_refusal, back_refusal, Answers};
 
+use crate::bounding::has_square;
 use crate::bounds::payments_law;
 use crate::finding::blob_at;
 use crate::laying::lay_list;
-use crate::measuring::measure_of;
+use crate::measuring::{Measure, measure_of};
 use crate::spelling::spelled_payment;
 use crate::taking::read_list;
 use crate::unwrapping::unwrapped;
 use crate::{BackError, ListError};
 use namespace_id::{NAMESPACE_SIZE, Namespace, PAY_FOR_BLOB, Share, TRANSACTION, shares_law};
 use share_split::{Blob, JoinError, Unit, join_units};
-use square_layout::{MAX_SHARES, Square};
+use square_layout::Square;
 use std::alloc::Global;
 
 // ---- the fronts
@@ -134,8 +136,27 @@ fn push_payments(
     Ok(())
 }
 
+/// Why a square isn't laid out as a list whose blobs may take more shares than it has: of the transactions of the first front, and
+/// of payments that these units of the second are.
+fn wide_refusal(
+    alloc: Global,
+    square: &Square,
+    plain: &[Unit],
+    payments: &[Unit],
+    blobs: Measure,
+) -> BackError
+    ensures { (result ≡ NoMemory) ⊎ (result ≡ Unlike
+        (if has_square plain.now payments.now blobs then length square.now.shares else 0)) }
+{
+    match has_square(alloc, plain, payments, blobs) {
+        Ok(true) => BackError::Unlike(square.shares.len() as u64),
+        Ok(false) => BackError::Unlike(0),
+        Err(_full) => BackError::NoMemory,
+    }
+}
+
 /// The transactions that a square is read as: the plain ones, and the payments in their one spelling. Their blobs are first
-/// measured, and are kept only where the greatest square holds them.
+/// measured, and are kept only where the square may hold them all.
 fn transactions_in(alloc: Global, square: &Square) -> Result<Vec<Unit>, BackError>
     ensures refused { IfErr result (λ e. (e ≡ NoMemory) ⊎ (back_refusal square.now ≡ Some e)) }
     ensures parts { OnOk result (part_refusal square.now ≡ None) }
@@ -146,9 +167,9 @@ fn transactions_in(alloc: Global, square: &Square) -> Result<Vec<Unit>, BackErro
     let (second, _rest) = split_run(behind, &PAY_FOR_BLOB);
     let mut transactions = plain_units(alloc, front)?;
     let payments = pay_units(alloc, second)?;
-    let measure = measure_of(alloc, &square.shares, &payments)?;
-    if measure.bound > MAX_SHARES {
-        return Err(BackError::Unlike(0));
+    let blobs = measure_of(alloc, &square.shares, &payments)?;
+    if blobs.bound > square.shares.len() as u64 {
+        return Err(wide_refusal(alloc, square, &transactions, &payments, blobs));
     }
     push_payments(alloc, &square.shares, &payments, &mut transactions)?;
     Ok(transactions)
@@ -201,7 +222,7 @@ fn lay_again(alloc: Global, square: &Square, transactions: &[Unit]) -> Result<()
 /// the payments in turn, one that isn't a transaction wrapped with the places of its blobs (`Wrapper`), and then its first place
 /// at which no blob begins (`Index`); a square other than that of the list which was so read (`Unlike`). Out of memory may come in
 /// place of any answer. Before blobs are kept, each is read once, however often it is stated, and where those that are stated may
-/// take more shares than the greatest square has, the square is refused: its list has none.
+/// take more shares than the square has, it is refused. So the list takes no more memory than a few such squares.
 ///
 /// docs/RULES.md, "A block of the network"; Celestia specifications, "Square Layout".
 pub fn unlay_list(alloc: Global, square: &Square) -> Result<Vec<Unit>, BackError>
