@@ -7,4 +7,6 @@ mod backs;
 #[cfg(test)]
 mod lists;
 #[cfg(test)]
+mod plans;
+#[cfg(test)]
 mod protobuf;
