@@ -48,8 +48,8 @@ fn first_gathered(
         (IsGathered header.now (first_messages grid.now.k grid.now.shares)) }
 {
     let mut gathered = Gathered::new(alloc, header)?;
-    gather_lies(grid, trees, header, &mut gathered);
-    gather_half(grid, trees, header, &mut gathered);
+    gather_lies(grid, trees, header, &mut gathered)?;
+    gather_half(grid, trees, header, &mut gathered)?;
     Ok(gathered)
 }
 
@@ -65,7 +65,7 @@ fn second_gathered(
         (IsGathered header.now (second_messages grid.now.k grid.now.shares)) }
 {
     let mut gathered = Gathered::new(alloc, header)?;
-    gather_low(grid, trees, header, &mut gathered);
+    gather_low(grid, trees, header, &mut gathered)?;
     Ok(gathered)
 }
 

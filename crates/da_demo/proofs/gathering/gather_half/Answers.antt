@@ -24,7 +24,7 @@ loop-left-preserved c = record {
       c.gather_even.new.gathered _ c.loop-left.left _ c.cell_numbered.result
       c.cell_numbered.ensures.value (ap (λ (w : ℕ). 2 * w) c.width-side.ensures.value) (omega arith)
       (omega (arith, c.loop-left.invariant.within))
-      (c.loop-left.invariant.gathered before) c.gather_even.ensures.gathered;
+      (c.loop-left.invariant.gathered before) c.in_ok-gather_even.ensures.gathered;
   within = omega (arith, c.loop-left.invariant.within);
   under = c.gather_even.ensures.header;
   few = omega (arith, c.loop-left.invariant.few, c.gather_even.ensures.near);

@@ -24,7 +24,7 @@ loop-i-preserved c = record {
       (lie_is c.message_at-message.result
       (message_at c.args.grid.now.k c.args.grid.now.shares (lie_cell c.loop-i.i) Row) c.spoil.new.share
       c.message_at-message.ensures c.spoil.ensures)
-      (c.loop-i.invariant.gathered before) c.take_in.ensures.gathered;
+      (c.loop-i.invariant.gathered before) c.in_ok-take_in.ensures.gathered;
   under = c.take_in.ensures.header;
   few = omega (arith, c.loop-i.invariant.few, c.take_in.ensures.near);
 }

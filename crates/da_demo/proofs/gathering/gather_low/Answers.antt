@@ -25,7 +25,7 @@ loop-col-preserved c = record {
       (c.message_at.ensures
       ∙ ap (λ (k : ℕ). message_at c.args.grid.now.k c.args.grid.now.shares (low_cell k c.loop-col.col) Col)
       c.width-k.ensures.value)
-      (c.loop-col.invariant.gathered before) c.take_in.ensures.gathered;
+      (c.loop-col.invariant.gathered before) c.in_ok-take_in.ensures.gathered;
   under = c.take_in.ensures.header;
   few = omega (arith, c.loop-col.invariant.few, c.take_in.ensures.near);
 }

@@ -6,13 +6,13 @@ use Rattle.da_demo.proofs.GatheredLemmas.{take_lie, take_kept}
 use Rattle.da_demo.proofs.gathering.Gathered.take_in.Goals as goal
 
 -- it is proved
-pub returns-in-Some-clause-gathered : goal.returns-in-Some-clause-gathered
-returns-in-Some-clause-gathered c = λ ms before.
+pub returns-in_ok-feed-in-Some-clause-gathered : goal.returns-in_ok-feed-in-Some-clause-gathered
+returns-in_ok-feed-in-Some-clause-gathered c = λ ms before.
     let known = c.in-Some.ensures in
     let header = c.args.header.now in
-    take_kept header ms c.args.message c.args.self.now _ before known.holds (c.feed-state.ensures.header ∙ c.requires.header)
-    (subst (λ (m : Message). StandsFor c.feed-state.new.self (proved_of header ms ++ m ∷ [])) known.message
-    (c.feed-state.ensures.stands (proved_of header ms) before.fed)) refl refl
+    take_kept header ms c.args.message c.args.self.now _ before known.holds (c.feed.ensures.header ∙ c.requires.header)
+    (subst (λ (m : Message). StandsFor c.feed.new.self (proved_of header ms ++ m ∷ [])) known.message
+    (c.in_ok-feed-in-Some.ensures.stands (proved_of header ms) before.fed)) refl refl
 
 -- it isn't proved
 pub returns-in-None-clause-gathered : goal.returns-in-None-clause-gathered
