@@ -31,7 +31,7 @@ pub record IsDigestRead (n : ℕ) (bytes : List ℕ) (digest : Digest) (rest : L
   pub fits : AreBytes rest
 
 -- the bytes of a field are bytes
-field_fits : (n : ℕ) (bytes : List ℕ) → AreBytes (bytes_field n bytes) → AreBytes bytes
+pub field_fits : (n : ℕ) (bytes : List ℕ) → AreBytes (bytes_field n bytes) → AreBytes bytes
 field_fits n bytes fits = behind_fits (varint (length bytes)) bytes (behind_fits (varint (8 * n + 2)) (text bytes) fits)
 
 -- what is read as a digest was written so

@@ -12,5 +12,15 @@ pub mod CountLoops
 pub mod PutLoops
 -- lenient reading of digests
 pub mod CommonLemmas
+-- numbers and messages in messages
+pub mod MessageLemmas
+-- proofs of leaves that are shown
+pub mod InclusionLemmas
+-- how long fields are
+pub mod SizeLemmas
+-- lenient reading of proofs
+pub mod ProofFields
+-- samples
+pub mod SampleLemmas
 -- headers
 pub mod HeaderLemmas

@@ -2,7 +2,15 @@
 pub mod Reading
 -- digests in repeated fields
 pub mod Digests
+-- numbers and messages in messages
+pub mod Messages
+-- proofs of leaves that are shown
+pub mod Inclusions
+-- samples
+pub mod Samples
 -- headers
 pub mod Headers
--- what of messages is promised for all of them
+-- what of headers is promised for all of them
 pub mod Laws
+-- what of samples is
+pub mod SampleLaws

@@ -1,6 +1,6 @@
 //! Digests in repeated fields of bytes.
 
-ghost use Rattle.std.specs.Prelude.{◌≡◌, ◌+◌, ◌*◌, ◌≤◌, ◌<◌, ◌++◌, length, drop, vec_len, vec_capacity, IfOk};
+ghost use Rattle.std.specs.Prelude.{◌≡◌, ◌+◌, ◌*◌, ◌≤◌, ◌<◌, ◌++◌, length, drop, vec_len, vec_capacity, IfOk, IfErr};
 ghost use Rattle.namespace_id.specs.Answers.{Gives, HasRoom};
 ghost use Rattle.celestia_pb.specs.Reading.{Reads};
 ghost use Rattle.celestia_pb.specs.Digests.{digests_text, digest_at, digests_at, digests_in, entry_digest, entry_size};
@@ -38,6 +38,7 @@ pub(crate) fn count_digests(number: u8, most: usize, bytes: &[u8]) -> Result<(us
     ensures behind { IfOk result (λ x. x.1.now ≡ drop (entry_size * x.0) bytes.now) }
     ensures size { IfOk result (λ x. entry_size * x.0 + length x.1.now ≡ length bytes.now) }
     ensures few { IfOk result (λ x. x.0 ≤ most) }
+    ensures within { IfErr result (λ left. left ≤ length bytes.now) }
 {
     bytes_law(bytes);
     let mut count = 0;
@@ -56,7 +57,7 @@ pub(crate) fn count_digests(number: u8, most: usize, bytes: &[u8]) -> Result<(us
 }
 
 /// The digest behind a tag and a length.
-fn entry_digest(bytes: &[u8]) -> Digest
+pub(crate) fn entry_digest(bytes: &[u8]) -> Digest
     requires { entry_size ≤ length bytes.now }
     ensures { result ≡ entry_digest bytes.now }
 {

@@ -8,6 +8,10 @@ mod dah;
 mod digests;
 mod entries;
 mod errors;
+mod inclusions;
+mod messages;
+mod sample;
 
 pub use dah::{dah_laws, dah_size, put_dah, read_dah};
 pub use errors::PbError;
+pub use sample::{Sample, put_sample, read_sample, sample_laws, sample_size};
