@@ -8,6 +8,7 @@ _da_words() {
         header) echo SQUARE ;;
         sample) echo SQUARE REQUESTS ;;
         namespace) echo SQUARE REQUESTS ;;
+        hold) echo SQUARE TALK ;;
         verify) echo HEADER ANSWER REQUEST ;;
         compact) echo HEADER CLAIM ;;
         check) echo HEADER MESSAGES ;;
@@ -44,7 +45,7 @@ _da_files() {
 _da() {
     local word=${COMP_WORDS[COMP_CWORD]}
     local before=${COMP_WORDS[COMP_CWORD - 1]}
-    local commands="build header sample namespace verify compact check repair light wanted cells blobs transactions find commit prove follow root net show json demo help version"
+    local commands="build header sample namespace hold verify compact check repair light wanted cells blobs transactions find commit prove follow root net show json demo help version"
     local words
     COMPREPLY=()
     # Behind a sign like > stands a file.

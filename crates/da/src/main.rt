@@ -11,6 +11,7 @@ ghost use Rattle.std.specs.Prelude.{◌≤◌, ◌<◌};
 mod tests;
 
 use da_cli::{Status, run};
+use da_conversing::{converse, is_talk};
 use da_io::{Blocking, FileInputs, OutSink};
 use std::alloc::Global;
 use std::env;
@@ -57,6 +58,9 @@ fn answer(rt: &HostRuntime, words: &[String]) -> Status {
     let mut inputs = FileInputs::new(rt);
     let mut out = OutSink::new(Blocking::new(rt, rt.stdout()));
     let mut notes = OutSink::new(Blocking::new(rt, rt.stderr()));
+    if is_talk(words) {
+        return converse(rt.alloc(), words, &mut inputs, &mut out, &mut notes);
+    }
     run(rt.alloc(), words, &mut inputs, &mut out, &mut notes)
 }
 

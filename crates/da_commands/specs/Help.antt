@@ -12,6 +12,7 @@ help_text =
     ++ codes "da header SQUARE\n"
     ++ codes "da sample SQUARE REQUESTS\n"
     ++ codes "da namespace SQUARE REQUESTS\n"
+    ++ codes "da hold SQUARE TALK\n"
     ++ codes "da verify HEADER ANSWER\n"
     ++ codes "da verify HEADER ANSWER COMMITMENT\n"
     ++ codes "da verify HEADER ANSWER REQUEST\n"

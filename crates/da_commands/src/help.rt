@@ -14,6 +14,7 @@ const COMMANDS: &[u8] = b"\
     da header SQUARE\n\
     da sample SQUARE REQUESTS\n\
     da namespace SQUARE REQUESTS\n\
+    da hold SQUARE TALK\n\
     da verify HEADER ANSWER\n\
     da verify HEADER ANSWER COMMITMENT\n\
     da verify HEADER ANSWER REQUEST\n\

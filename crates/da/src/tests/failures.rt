@@ -321,7 +321,7 @@ fn failed_writes_of_views(rt: HostRuntime) {
         ("json cells", 47, 4, 47, Done, 188),
         ("root h", 4096, 1, 0, Done, 65),
         (OTHER_ROOT, 4096, 1, 0, Refused, 10),
-        ("help", 4096, 1, 0, Done, 632),
+        ("help", 4096, 1, 0, Done, 652),
         ("version", 4096, 1, 0, Done, 9),
     ];
     each_write_fails(&rt, rt.alloc(), &rows);

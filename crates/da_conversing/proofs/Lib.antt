@@ -1,0 +1,2 @@
+-- picks
+pub mod PickLemmas
