@@ -24,3 +24,5 @@ pub mod ProofFields
 pub mod SampleLemmas
 -- headers
 pub mod HeaderLemmas
+-- identifiers
+pub mod IdLemmas

@@ -14,3 +14,5 @@ pub mod Headers
 pub mod Laws
 -- what of samples is
 pub mod SampleLaws
+-- identifiers
+pub mod Ids

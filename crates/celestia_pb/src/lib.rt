@@ -8,10 +8,15 @@ mod dah;
 mod digests;
 mod entries;
 mod errors;
+mod ids;
 mod inclusions;
 mod messages;
 mod sample;
 
 pub use dah::{dah_laws, dah_size, put_dah, read_dah};
 pub use errors::PbError;
+pub use ids::{
+    NAMESPACE_ID_SIZE, SAMPLE_ID_SIZE, id_laws, put_namespace_id, put_sample_id, read_namespace_id,
+    read_sample_id,
+};
 pub use sample::{Sample, put_sample, read_sample, sample_laws, sample_size};
