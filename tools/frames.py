@@ -534,6 +534,7 @@ FORMS = {
     "header": {"SQUARE": SQUARE},
     "sample": {"SQUARE": SQUARE, "REQUESTS": Form(1, True, "Q")},
     "namespace": {"SQUARE": SQUARE, "REQUESTS": Form(1, True, "P")},
+    "hold": {"SQUARE": SQUARE, "TALK": MESSAGES},
     "verify": {"HEADER": HEADER, "ANSWER": Form(1, False, "MNBCR"), "REQUEST": Form(2, False, "QP")},
     "compact": {"HEADER": HEADER, "CLAIM": Form(1, False, "B")},
     "commit": {"BLOCK": BLOCK_OR_LIST},
