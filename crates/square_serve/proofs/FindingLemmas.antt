@@ -1,5 +1,5 @@
 -- What is found in a row, by the row's shares and its tree.
-use Rattle.std.proofs.Common.{◌≡◌, ◌∙◌, ℕ, ◌+◌, ◌*◌, ◌<◌, ◌≤◌, List, length, take, drop, get_or, map, Bool, false, cond, sym, ap, arith, length-drop}
+use Rattle.std.proofs.Common.{◌≡◌, ◌∙◌, ℕ, ◌+◌, ◌*◌, ◌<◌, ◌≤◌, List, length, take, drop, get_or, map, Bool, false, cond, refl, sym, ap, arith, length-drop}
 use Rattle.std.specs.Prelude.{Some}
 use Rattle.std.proofs.lemmas.Bool.{ne_eqb, eq-eqb}
 use Rattle.std.proofs.lemmas.List.{get_or-take, get_or-drop, ext_get_or, length-take-le}
@@ -18,12 +18,15 @@ use Rattle.axis_roots.specs.Lines.{blank}
 use Rattle.axis_roots.specs.Grids.{axis_names, axis_shares}
 use Rattle.axis_roots.specs.Trees.{axis_leaves}
 use Rattle.square_serve.specs.Rows.{IsRowTree}
+use Rattle.square_serve.specs.declared.finding.RowFound.{RowFound}
+use Rattle.square_serve.specs.declared.finding.RowFound.TheVariants as place
+use Rattle.square_serve.specs.Finding.{found_among, found_on, HasColumns}
 use Rattle.square_serve.specs.Serving.{count_below, count_same, found_at}
 use Rattle.square_serve.proofs.RowFrontLemmas.{length-row, length-front, front_names}
 use Rattle.square_serve.proofs.Serving.CountLemmas.{row_below, row_same}
 
 -- shares within the front of a list
-front_part : (k start count : ℕ) (xs front : List Share) → front ≡ take k xs → start + count ≤ length front → length front ≡ k → k ≤ length xs
+pub front_part : (k start count : ℕ) (xs front : List Share) → front ≡ take k xs → start + count ≤ length front → length front ≡ k → k ≤ length xs
     → take count (drop start front) ≡ take count (drop start xs)
 front_part k start count xs front is within long le =
     let left : length (take count (drop start front)) ≡ count = length-take-le count (drop start front) (omega (arith, length-drop start front, within)) in
@@ -65,16 +68,21 @@ module _ (k row start count : ℕ) (grid front : List Share) (tree : StoredTree)
       let way : nodes ≡ leaf_nodes (2 * k) leaves start = path leaves made ∙ ap (λ (n : ℕ). leaf_nodes n leaves start) number in
       (λ i. Absence start (one i) (way i)) ∙ sym (ap (λ (b : Bool). cond b absence range) (eq-eqb count 0 none))
 
-  -- a range with the shares and the nodes of the tree
-  pub range_found : (shares : List Share) (nodes : List Digest) → (count ≡ 0 → ⊥) → start + count ≤ length front → shares ≡ take count (drop start front)
+  -- a range with the nodes of the tree
+  pub range_found : (nodes : List Digest) → (count ≡ 0 → ⊥)
       → ((l : List Digest) → tree.leaves ≡ Some l → nodes ≡ range_nodes tree.count l start count)
-      → Range start shares nodes ≡ found_at k grid row start count
-  range_found shares nodes some within cut path =
-      let list : shares ≡ take count (drop start (axis_shares k grid Row row)) =
-      cut ∙ front_part k start count (axis_shares k grid Row row) front is.shares within (ap length is.shares ∙ length-front k grid row)
-      (omega (arith, length-row k grid row)) in
+      → Range start (take count (drop start (axis_shares k grid Row row))) nodes ≡ found_at k grid row start count
+  range_found nodes some path =
       let way : nodes ≡ range_nodes (2 * k) leaves start count = path leaves made ∙ ap (λ (n : ℕ). range_nodes n leaves start count) number in
-      (λ i. Range start (list i) (way i)) ∙ sym (ap (λ (b : Bool). cond b absence range) (ne_eqb count 0 some))
+      ap (λ (l : List Digest). Range start (take count (drop start (axis_shares k grid Row row))) l) way ∙ sym (ap (λ (b : Bool). cond b absence range) (ne_eqb count 0 some))
+
+-- the shares of a range are those of the front of a row
+pub among_front : (k row : ℕ) (grid front : List Share) (place : RowFound) → front ≡ take k (axis_shares k grid Row row) → HasColumns (length front) place
+    → found_among front place ≡ found_on k grid row place
+among_front k row grid front (place.Range start count nodes) is columns =
+    ap (λ (l : List Share). Range start l nodes)
+    (front_part k start count (axis_shares k grid Row row) front is columns.1 (ap length is ∙ length-front k grid row) (omega (arith, length-row k grid row)))
+among_front k row grid front (place.Absence pos leaf nodes) is columns = refl
 
 module _ (k row : ℕ) (grid front : List Share) (name : Namespace) (within : row < k) (is : front ≡ take k (axis_shares k grid Row row)) where
   -- the shares of a row that are below a namespace are the leaves that are

@@ -1,4 +1,4 @@
-mod PassingLemmas
+pub mod PassingLemmas
 mod RowLemmas
 mod RowTreeLemmas
 mod RowFrontLemmas

@@ -5,4 +5,5 @@ pub mod Own
 pub mod Needed
 pub mod RowNames
 pub mod Rows
+pub mod Finding
 pub mod Serving

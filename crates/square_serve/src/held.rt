@@ -1,26 +1,28 @@
 //! A square that is held, and its answers.
 
-ghost use Rattle.std.specs.Prelude.{◌≡◌, ◌↔◌, ◌*◌, IsErr, IsErrOf, IfOk, map, true, false};
+ghost use Rattle.std.specs.Prelude.{◌≡◌, ◌↔◌, ◌*◌, ◌+◌, ◌<◌, ◌≤◌, IsErr, IsErrOf, IfOk, map, take, drop, true, false};
+ghost use Rattle.namespace_id.specs.declared.cells.Axis.TheVariants.{Row};
 ghost use Rattle.namespace_id.specs.Names.{is_parity};
 ghost use Rattle.namespace_id.specs.Cells.{is_in_square};
 ghost use Rattle.square_layout.specs.Blocks.{SquareShares};
-ghost use Rattle.axis_roots.specs.Grids.{share_at, grid_roots, HasNoHeader};
+ghost use Rattle.axis_roots.specs.Grids.{axis_shares, share_at, grid_roots, HasNoHeader};
 ghost use Rattle.axis_roots.specs.Openings.{IsProved};
 ghost use Rattle.axis_roots.specs.Trees.{message_at};
 ghost use Rattle.square_serve.specs.Shares.{shares_of};
-ghost use Rattle.square_serve.specs.Answers.{shown, wanted_rows, IsComplete};
+ghost use Rattle.square_serve.specs.Answers.{shown, is_wanted, wanted_rows, IsComplete};
 ghost use Rattle.square_serve.specs.Needed.{AreNeeded};
 ghost use Rattle.square_serve.specs.RowNames.{row_names};
-ghost use Rattle.square_serve.specs.Serving.{IsHeld, Holds, entry_in, answer_for};
+ghost use Rattle.square_serve.specs.Finding.{found_on, HasColumns};
+ghost use Rattle.square_serve.specs.Serving.{IsHeld, Holds, entry_in, found_in, answer_for};
 
-use crate::finding::found_in;
+use crate::finding::{RowFound, found_in, place_in};
 use crate::needed::NeededTrees;
 use crate::ordering::has_header;
 use crate::rows::{RowNames, front_of, row_names};
 use crate::serve_laws;
 use axis_roots::{Grid, Message, NsAnswer, NsEntry, index, message_from};
 use data_header::Header;
-use namespace_id::{Axis, Cell, Namespace, NoMemory, is_in_square, namespace_law};
+use namespace_id::{Axis, Cell, Namespace, NoMemory, Share, is_in_square, namespace_law};
 use square_layout::Square;
 use std::alloc::{AllocError, Global};
 use std::marker::Model;
@@ -199,6 +201,55 @@ impl Held {
         self.trees.make(&self.grid, axis, number);
         let tree = self.trees.tree(axis, number);
         Ok(message_from(&self.grid, cell, axis, tree))
+    }
+
+    /// The width k of the original square.
+    pub fn width(&self) -> u16
+        ensures value { result ≡ self.now.k }
+        ensures header { result ≡ self.now.header.k }
+    {
+        self.grid.width()
+    }
+
+    /// Whether a row of the original square may hold a namespace. The answer for the namespace has an entry
+    /// for each such row, from the first down.
+    ///
+    /// docs/RULES.md, "Namespace answers".
+    pub fn wants(&self, row: u16, namespace: &Namespace) -> bool
+        requires { row < self.now.k }
+        ensures { result ≡ is_wanted self.now.header namespace.now row }
+    {
+        let names: &[RowNames] = &self.names;
+        names[row as usize].may_hold(namespace)
+    }
+
+    /// What is found of a namespace that isn't `PARITY` in a row of the original square. It takes no memory, and
+    /// hashes nothing where the tree of that row was needed before.
+    ///
+    /// Celestia specifications, "Data Structures", namespace proofs.
+    pub fn find(&mut self, row: u16, namespace: &Namespace) -> RowFound
+        requires row { row < self.old.k }
+        requires other { is_parity namespace.now ≡ false }
+        ensures found { found_on self.old.k self.old.grid row result ≡
+            found_in self.old.k self.old.grid namespace.now row }
+        ensures columns { HasColumns self.old.k result }
+        ensures kept { self.new ≡ self.old }
+    {
+        // The width of a grid is told with what is true of every grid.
+        let _k = self.grid.width();
+        self.trees.make(&self.grid, Axis::Row, row);
+        let tree = self.trees.tree(Axis::Row, row);
+        place_in(front_of(&self.grid, row), tree, namespace)
+    }
+
+    /// So many shares of a row of the original square, from a column on.
+    pub fn shares(&self, row: u16, start: u16, count: u16) -> &[Share]
+        requires row { row < self.now.k }
+        requires columns { start + count ≤ self.now.k }
+        ensures { result.now ≡ take count (drop start (axis_shares self.now.k self.now.grid Row row)) }
+    {
+        let first = start as usize;
+        &front_of(&self.grid, row)[first..first + count as usize]
     }
 
     /// The answer to a namespace request: for each row of the original square that may hold the

@@ -18,6 +18,7 @@ mod row_trees;
 mod rows;
 
 pub use checking::{NsRefusal, check_namespace};
+pub use finding::RowFound;
 pub use held::{Held, HeldError, OutOfSquare, ServeError};
 pub use held_rows::HeldRows;
 pub use laws::{answer_laws, serve_laws};

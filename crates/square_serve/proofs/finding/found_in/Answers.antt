@@ -1,19 +1,11 @@
-use Rattle.std.proofs.Common.{◌∙◌, ℕ, ap₂}
+use Rattle.std.proofs.Common.{◌∙◌}
 use Rattle.std.proofs.lemmas.Result.{IfOk-weaker}
-use Rattle.namespace_id.proofs.WidthLemmas.{is_width-le}
-use Rattle.square_serve.specs.Serving.{found_at}
-use Rattle.square_serve.proofs.FindingLemmas.{front_below, front_same}
+use Rattle.square_serve.proofs.FindingLemmas.{among_front}
 use Rattle.square_serve.proofs.finding.found_in.Goals as goal
 
--- a row has no more shares than the greatest square
-pub columns_of-requires : goal.columns_of-requires
-columns_of-requires c = is_width-le _ c.requires.width
-
--- the columns are those of the row's leaves
+-- the shares are those of the row
 pub returns : goal.returns
 returns c = λ k row grid is.
-    IfOk-weaker c.found_at.result _ _
-    (λ found says. says ∙ ap₂ (λ (start count : ℕ). found_at k grid row start count)
-    (c.columns_of.ensures.start ∙ front_below k row grid c.args.shares.now c.args.namespace.now is.within is.shares c.namespace_law.ensures)
-    (c.columns_of.ensures.count ∙ front_same k row grid c.args.shares.now c.args.namespace.now is.within is.shares c.requires.other))
-    (c.found_at.ensures k row grid is)
+    IfOk-weaker c.with_shares.result _ _
+    (λ found says. says ∙ among_front k row grid c.args.shares.now c.place_in.result is.shares c.place_in.ensures.columns ∙ c.place_in.ensures.found k row grid is)
+    c.with_shares.ensures
