@@ -23,7 +23,7 @@ pub use kinds::fraud::{claim, fraud, fraud_size, is_fraud, proof_size, put_fraud
 pub use kinds::header::{header, header_size, is_header, put_header};
 pub use kinds::message::{MOST_MESSAGE, message_size, put_message};
 pub use kinds::missing::{is_missing, missing, missing_size, put_missing};
-pub use kinds::names::{is_names, names, names_size, places, put_names};
+pub use kinds::names::{is_names, names, names_size, places, put_absence, put_names, put_range};
 pub use kinds::refusal::{REFUSAL_SIZE, put_refusal, refusal};
 pub use kinds::requests::{SAMPLE_SIZE, put_sample, request, request_size, sample};
 pub use kinds::rooted::{put_rooted, rooted, rooted_size};

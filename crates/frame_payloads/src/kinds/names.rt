@@ -4,6 +4,7 @@ ghost use Rattle.std.specs.Prelude.{◌≡◌, ◌≤◌, length, map, vec_len, 
 ghost use Rattle.std.specs.List.{flat_map, list_any};
 ghost use Rattle.std.specs.Option.{option_map};
 ghost use Rattle.namespace_id.specs.Answers.{Gives, HasRoom};
+ghost use Rattle.axis_roots.specs.declared.answers.Found.TheVariants.{Range, Absence};
 ghost use Rattle.frame_fields.specs.Fields.{most_nodes, read_items, shares_of};
 ghost use Rattle.frame_payloads.specs.codec.Texts.{path_bytes};
 ghost use Rattle.frame_payloads.specs.Payloads.{GivesUnlessFull, max_payload, IsSize, IsWithin};
@@ -401,32 +402,41 @@ fn put_share_list(out: &mut Vec<u8>, shares: &[Share])
     put_shares(out, shares);
 }
 
-/// Appends what is found in a row: its tag, its place, its shares or the digest of its leaf, its nodes.
-fn put_found(out: &mut Vec<u8>, found: &Found)
-    requires short { is_long_found found.now ≡ false }
-    requires room { HasRoom out.old (length (found_bytes found.now)) }
-    ensures appended { out.new.items ≡ out.old.items ++ found_bytes found.now }
-    ensures len { vec_len out.new ≡ vec_len out.old + length (found_bytes found.now) }
+/// Appends an entry: a row, and the range that is found in it.
+pub fn put_range(out: &mut Vec<u8>, row: u16, start: u16, shares: &[Share], nodes: &[Digest])
+    requires few { length shares.now ≤ most_shares_shown }
+    requires nodes { length nodes.now ≤ most_nodes }
+    requires room { HasRoom out.old
+        (length (entry_bytes (record { row = row; found = Range start shares.now nodes.now }))) }
+    ensures appended { out.new.items ≡ out.old.items
+        ++ entry_bytes (record { row = row; found = Range start shares.now nodes.now }) }
+    ensures len { vec_len out.new ≡ vec_len out.old
+        + length (entry_bytes (record { row = row; found = Range start shares.now nodes.now })) }
     ensures capacity { vec_capacity out.old ≤ vec_capacity out.new }
 {
-    match found {
-        Found::Range {
-            start,
-            shares,
-            nodes,
-        } => {
-            append(out, &[RANGE]);
-            append(out, &start.to_be_bytes());
-            put_share_list(out, &shares.list);
-            put_path(out, nodes.nodes());
-        }
-        Found::Absence { pos, leaf, nodes } => {
-            append(out, &[ABSENCE]);
-            append(out, &pos.to_be_bytes());
-            append(out, &leaf.0);
-            put_path(out, nodes.nodes());
-        }
-    }
+    append(out, &row.to_be_bytes());
+    append(out, &[RANGE]);
+    append(out, &start.to_be_bytes());
+    put_share_list(out, shares);
+    put_path(out, nodes);
+}
+
+/// Appends an entry: a row, and the absence that is found in it.
+pub fn put_absence(out: &mut Vec<u8>, row: u16, pos: u16, leaf: &Digest, nodes: &[Digest])
+    requires nodes { length nodes.now ≤ most_nodes }
+    requires room { HasRoom out.old
+        (length (entry_bytes (record { row = row; found = Absence pos leaf.now nodes.now }))) }
+    ensures appended { out.new.items ≡ out.old.items
+        ++ entry_bytes (record { row = row; found = Absence pos leaf.now nodes.now }) }
+    ensures len { vec_len out.new ≡ vec_len out.old
+        + length (entry_bytes (record { row = row; found = Absence pos leaf.now nodes.now })) }
+    ensures capacity { vec_capacity out.old ≤ vec_capacity out.new }
+{
+    append(out, &row.to_be_bytes());
+    append(out, &[ABSENCE]);
+    append(out, &pos.to_be_bytes());
+    append(out, &leaf.0);
+    put_path(out, nodes);
 }
 
 /// Appends a row, and what is found in it.
@@ -437,8 +447,16 @@ fn put_entry(out: &mut Vec<u8>, entry: &NsEntry)
     ensures len { vec_len out.new ≡ vec_len out.old + length (entry_bytes entry.now) }
     ensures capacity { vec_capacity out.old ≤ vec_capacity out.new }
 {
-    append(out, &entry.row.to_be_bytes());
-    put_found(out, &entry.found);
+    match &entry.found {
+        Found::Range {
+            start,
+            shares,
+            nodes,
+        } => put_range(out, entry.row, *start, &shares.list, nodes.nodes()),
+        Found::Absence { pos, leaf, nodes } => {
+            put_absence(out, entry.row, *pos, leaf, nodes.nodes());
+        }
+    }
 }
 
 /// Appends entries, one after another.

@@ -1,6 +1,6 @@
 //! The payload of a refusal.
 
-ghost use Rattle.std.specs.Prelude.{◌≡◌, length, ◌++◌};
+ghost use Rattle.std.specs.Prelude.{◌≡◌, ◌≤◌, length, ◌++◌, vec_capacity};
 ghost use Rattle.std.specs.Int.{w64};
 ghost use Rattle.namespace_id.specs.Answers.{Gives, HasRoom};
 ghost use Rattle.frame_fields.specs.Fields.{number_at};
@@ -73,6 +73,7 @@ pub fn refusal(payload: &[u8]) -> Option<Refusal>
 pub fn put_refusal(out: &mut Vec<u8>, refusal: Refusal)
     requires room { HasRoom out.old (length (refusal_payload refusal)) }
     ensures appended { out.new.items ≡ out.old.items ++ refusal_payload refusal }
+    ensures capacity { vec_capacity out.old ≤ vec_capacity out.new }
 {
     append(out, &[refusal.reason.byte()]);
     append(out, &refusal.number.to_be_bytes());
