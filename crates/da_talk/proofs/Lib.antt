@@ -1,3 +1,4 @@
 pub mod EventLemmas
 pub mod LongLemmas
 pub mod TalkLemmas
+pub mod NamesLemmas

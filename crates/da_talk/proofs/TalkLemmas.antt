@@ -17,7 +17,7 @@ use Rattle.da_wire.specs.Laws.{BadFrameIsFirst, FilesAreFrames}
 use Rattle.da_talk.specs.declared.line.Line as line
 use Rattle.da_talk.specs.declared.ended.Ended.{Ended}
 use Rattle.da_talk.specs.declared.holding.Frames.{Frames}
-use Rattle.da_talk.specs.declared.ended.Ended.TheVariants.{Done, Bad, ReadFailed, WriteFailed, NoMemory, TooLong}
+use Rattle.da_talk.specs.declared.ended.Ended.TheVariants.{Done, Bad, ReadFailed, WriteFailed, TooLong}
 use Rattle.da_talk.specs.Events.{Event, heard, said, heard_in, said_in}
 use Rattle.da_talk.specs.Replies.{replies_from, due}
 use Rattle.da_talk.specs.Talks.{Does, Begins, HasNoLong, EndsTalk, HasTalked}
@@ -173,12 +173,6 @@ talked_long is_first are_frames l first now answer old new number rest count at 
     t.went ∙ ap (replies_from answer 0) (sym push.frames) ∙ ap (replies_from answer 0) (sym still.1) ∙ ap (due answer) (sym came) in
     talked l first now answer t.events (Bad at) t.did t.waits ([], sym all ∙ sym (append-nil (said_in t.events))) (all, inl (ap first_refusal came ∙ still.0))
 
--- there was no memory for a reply
-pub talked_full : FramesStay → {L : Type 0} (l : line.Ghosts L) (first now : L) (answer : ℕ → Raw → List ℕ) (stream : StreamParts) (number : ℕ) (rest : List ℕ)
-    → IsTalking l first now answer stream number rest → HasTalked l first now (due answer) NoMemory
-talked_full stay l first now answer stream number rest t =
-    talked l first now answer t.events NoMemory t.did t.waits (front_of stay l first now answer stream number rest t) tt
-
 -- a reply wasn't said whole
 pub talked_part : FramesStay → {L : Type 0} (l : line.Ghosts L) → IsLine l → (first now new : L) (answer : ℕ → Raw → List ℕ) (stream : StreamParts) (number : ℕ) (rest : List ℕ) (count : ℕ) (m : _)
     → (t : IsTalking l first now answer stream number rest) → (push : IsPush t.taken rest count (pushed.Frame m)) → (part : List ℕ)
@@ -234,7 +228,6 @@ talked_end l first now answer stream count (Bad at) t end over =
     )
 talked_end l first now answer stream count ReadFailed t end over = absurd end
 talked_end l first now answer stream count WriteFailed t end over = absurd end
-talked_end l first now answer stream count NoMemory t end over = absurd end
 talked_end l first now answer stream count TooLong t end over = absurd end
 
 -- too many bytes came
@@ -253,6 +246,4 @@ talked_stop stay A l is first now new answer stream number rest count m (Bad at)
 talked_stop stay A l is first now new answer stream number rest count m ReadFailed t push went = absurd went
 talked_stop stay A l is first now new answer stream number rest count m WriteFailed t push went =
     talked_part stay l is first now new answer stream number rest count m t push went.0 went.1 went.2
-talked_stop stay {L} A l is first now new answer stream number rest count m NoMemory t push went =
-    subst (λ (x : L). HasTalked l first x (due answer) NoMemory) (sym went) (talked_full stay l first now answer stream number rest t)
 talked_stop stay A l is first now new answer stream number rest count m TooLong t push went = absurd went

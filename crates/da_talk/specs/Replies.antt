@@ -1,10 +1,12 @@
 -- What a held square replies to a frame.
-use Rattle.std.specs.Prelude.{ℕ, ◌+◌, suc, ◌==◌, List, [], ◌∷◌, ◌++◌, Option, Some, None, if◌then◌else◌}
+use Rattle.std.specs.Prelude.{ℕ, ◌+◌, ◌*◌, max, suc, ◌==◌, List, [], ◌∷◌, ◌++◌, Option, Some, None, if◌then◌else◌}
 use Rattle.namespace_id.specs.declared.cells.Axis.{Axis}
 use Rattle.namespace_id.specs.declared.cells.Cell.{Cell}
 use Rattle.namespace_id.specs.declared.namespaces.Namespace.{Namespace}
 use Rattle.namespace_id.specs.Names.{is_parity}
 use Rattle.namespace_id.specs.Cells.{is_in_square}
+use Rattle.namespace_id.specs.Sizes.{namespace_size, share_size, digest_size}
+use Rattle.frame_fields.specs.Fields.{most_nodes}
 use Rattle.axis_roots.specs.Trees.{message_at}
 use Rattle.square_serve.specs.Serving.{HeldParts, answer_for}
 use Rattle.frame_payloads.specs.kinds.Message.{message_payload, most_message}
@@ -45,9 +47,16 @@ refusal reason number = frame refusal_kind (refusal_payload (record { reason = r
 
 -- ---- replies
 
--- the most bytes of a reply that is no namespace answer: those of the longest sample
-abbrev pub most_short : ℕ
-most_short = 5 + most_message
+-- the most bytes of an entry of a namespace answer from a square of width k, and of the answer
+abbrev pub most_entry : ℕ → ℕ
+most_entry k = 8 + share_size * k + digest_size * most_nodes
+
+abbrev pub most_names : ℕ → ℕ
+most_names k = namespace_size + 2 + most_entry k * k
+
+-- the most bytes of a reply: a sample's, or a namespace answer's
+abbrev pub most_reply : ℕ → ℕ
+most_reply k = 5 + max most_message (most_names k)
 
 -- the sample of a cell along an axis, a refusal where the cell is outside the square
 abbrev pub sample_reply : HeldParts → ℕ → Cell → Axis → List ℕ

@@ -1,5 +1,5 @@
 -- The steps of a talk: how far it has come between two events.
-use Rattle.std.specs.Prelude.{◌≡◌, ◌⊎◌, ℕ, List, [], ◌∷◌, ◌++◌, length, Some, None, Ok, Err, Result, ⊤}
+use Rattle.std.specs.Prelude.{if◌then◌else◌, ◌≡◌, ◌⊎◌, ℕ, List, [], ◌∷◌, ◌++◌, length, Some, None, Ok, Err, Result, ⊤}
 use Rattle.da_io.specs.declared.inputs.Ended.TheVariants as call
 use Rattle.da_io.specs.Sinks.{IsProperPrefix}
 use Rattle.da_wire.specs.declared.frames.FrameError.TheVariants as frame
@@ -7,9 +7,13 @@ use Rattle.da_wire.specs.Reading.{Raw}
 use Rattle.da_wire.specs.Frames.{frames_of, bad_frame}
 use Rattle.da_wire.specs.StreamParts.{StreamParts}
 use Rattle.da_wire.specs.Streams.{StandsFor, first_refusal}
+use Rattle.namespace_id.specs.declared.namespaces.Namespace.{Namespace}
+use Rattle.square_serve.specs.Answers.{is_wanted}
+use Rattle.square_serve.specs.Serving.{HeldParts, entry_in}
+use Rattle.frame_payloads.specs.kinds.Names.{entry_bytes}
 use Rattle.da_talk.specs.declared.line.Line as line
 use Rattle.da_talk.specs.declared.ended.Ended.{Ended}
-use Rattle.da_talk.specs.declared.ended.Ended.TheVariants.{Done, Bad, ReadFailed, WriteFailed, NoMemory, TooLong}
+use Rattle.da_talk.specs.declared.ended.Ended.TheVariants.{Done, Bad, ReadFailed, WriteFailed, TooLong}
 use Rattle.da_talk.specs.declared.holding.Frames.{Frames}
 use Rattle.da_talk.specs.Events.{Event, heard, said, heard_in, said_in}
 use Rattle.da_talk.specs.Replies.{due}
@@ -47,14 +51,13 @@ abbrev pub Leads : {L A : Type 0} → line.Ghosts L → L → L → (ℕ → Raw
 Leads {L} l old new answer before after piece left result =
     (first : L) → IsTalking l first old answer before.stream before.count piece → GoesOn l first new answer after left result
 
--- a reply was said, or a part of it; or there was no memory for it
+-- a reply was said, or a part of it
 abbrev pub HasSaid : {L A : Type 0} → line.Ghosts L → L → L → List ℕ → Result A Ended → Type 0
 HasSaid l old new text (Ok x) = Does l old new (said text ∷ [])
 HasSaid l old new text (Err Done) = ⊥
 HasSaid l old new text (Err (Bad at)) = ⊥
 HasSaid l old new text (Err ReadFailed) = ⊥
 HasSaid l old new text (Err WriteFailed) = (part : List ℕ) × IsProperPrefix part text × Does l old new (said part ∷ [])
-HasSaid l old new text (Err NoMemory) = new ≡ old
 HasSaid l old new text (Err TooLong) = ⊥
 
 -- how many replies couldn't be said whole
@@ -73,5 +76,8 @@ EndsBytes bytes (Bad at) =
     (first_refusal bytes ≡ Some (frame.TooLong at)) ⊎ (first_refusal bytes ≡ Some (frame.Truncated at))
 EndsBytes bytes ReadFailed = ⊥
 EndsBytes bytes WriteFailed = ⊥
-EndsBytes bytes NoMemory = ⊥
 EndsBytes bytes TooLong = ⊥
+
+-- what is written of a row for a namespace: its entry, where the row may hold the namespace
+abbrev pub row_bytes : HeldParts → Namespace → ℕ → List ℕ
+row_bytes held name row = if is_wanted held.header name row then entry_bytes (entry_in held.k held.grid name row) else []

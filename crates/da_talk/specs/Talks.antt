@@ -1,5 +1,5 @@
 -- Talks: what was said whenever bytes were waited for, and how a talk ended.
-use Rattle.std.specs.Prelude.{◌≡◌, ◌⊎◌, ℕ, ◌<◌, List, ◌∷◌, ◌++◌, length, ⊤, Some, None}
+use Rattle.std.specs.Prelude.{◌≡◌, ◌⊎◌, ℕ, ◌<◌, List, ◌∷◌, ◌++◌, length, Some, None}
 use Rattle.std.specs.declared.option.Option.{Option}
 use Rattle.std.specs.Io.KnownBytes.{Appends, Consumes, IsAtEnd}
 use Rattle.da_io.specs.declared.inputs.Ended as calls
@@ -11,7 +11,7 @@ use Rattle.da_wire.specs.Frames.{bad_frame}
 use Rattle.da_wire.specs.Streams.{first_refusal}
 use Rattle.da_talk.specs.declared.line.Line as line
 use Rattle.da_talk.specs.declared.ended.Ended.{Ended}
-use Rattle.da_talk.specs.declared.ended.Ended.TheVariants.{Done, Bad, ReadFailed, WriteFailed, NoMemory, TooLong}
+use Rattle.da_talk.specs.declared.ended.Ended.TheVariants.{Done, Bad, ReadFailed, WriteFailed, TooLong}
 use Rattle.da_talk.specs.Events.{Event, heard, heard_in, said_in, Grows}
 
 -- ---- a line
@@ -62,7 +62,6 @@ EndsTalk due events rest Done = IsAnswered due events × (bad_frame (heard_in ev
 EndsTalk due events rest (Bad at) = IsAnswered due events × IsBad (heard_in events) rest at
 EndsTalk due events rest ReadFailed = IsAnswered due events
 EndsTalk due events rest WriteFailed = IsProperPrefix (said_in events) (due (heard_in events))
-EndsTalk due events rest NoMemory = ⊤
 EndsTalk due events rest TooLong = max_count < length (heard_in events)
 
 -- a talk: what happened, that each answer was said before more bytes were waited for, that none were waited for behind
@@ -82,7 +81,6 @@ last_wait Done = call.Fine
 last_wait (Bad at) = call.Fine
 last_wait ReadFailed = call.ReadFailed
 last_wait WriteFailed = call.Fine
-last_wait NoMemory = call.Fine
 last_wait TooLong = call.Fine
 
 -- how many waits for bytes failed
@@ -91,7 +89,6 @@ read_count Done = 0
 read_count (Bad at) = 0
 read_count ReadFailed = 1
 read_count WriteFailed = 0
-read_count NoMemory = 0
 read_count TooLong = 0
 
 -- how many replies couldn't be said whole
@@ -100,5 +97,4 @@ write_count Done = 0
 write_count (Bad at) = 0
 write_count ReadFailed = 0
 write_count WriteFailed = 1
-write_count NoMemory = 0
 write_count TooLong = 0

@@ -12,8 +12,6 @@ pub enum Ended {
     ReadFailed,
     /// A reply couldn't be said whole.
     WriteFailed,
-    /// There was no memory for a reply.
-    NoMemory,
     /// More than 2^64 - 1 bytes came.
     TooLong,
 }

@@ -1,19 +1,18 @@
 //! A talk over a held square.
 
-ghost use Rattle.std.specs.Prelude.{◌≡◌, ◌≤◌, ◌<◌, ◌+◌, ◌^◌, ℕ, List, [], length, drop, OnOk, IfOk, IfErr};
+ghost use Rattle.std.specs.Prelude.{◌≡◌, ◌≤◌, ◌<◌, ◌+◌, ◌^◌, ℕ, List, [], length, drop, vec_capacity, OnOk, IfOk, IfErr};
 ghost use Rattle.da_io.specs.Faults.{count_on};
 ghost use Rattle.da_wire.specs.Streams.{StandsFor, offset_of};
-ghost use Rattle.da_talk.specs.Replies.{reply, reply_to, due};
+ghost use Rattle.da_talk.specs.Replies.{most_reply, reply, reply_to, due};
 ghost use Rattle.da_talk.specs.Talks.{HasTalked, last_wait, read_count, write_count};
 ghost use Rattle.da_talk.specs.Steps.{HasSaid, HasHeard, Leads, EndsBytes, write_faults};
 
 use crate::asking::asked_last;
-use crate::replies::{MOST_SHORT, put_reply};
+use crate::replies::put_reply;
 use crate::{Asked, Ended, Line};
 use da_io::PIECE_SIZE;
 use da_wire::{FrameError, FrameStream, Pushed, stream_laws, wire_laws};
 use square_serve::Held;
-use std::alloc::Global;
 
 /// The frames of a talk: the stream that reads them, and how many of them have ended.
 #[derive(Drop)]
@@ -24,14 +23,15 @@ struct Frames {
 
 /// Says the reply to what the frame with a number asks for.
 fn say_reply<L: Line>(
-    alloc: Global,
     held: &mut Held,
     number: u64,
     asked: Asked,
     text: &mut Vec<u8>,
     line: &mut L,
 ) -> Result<(), Ended>
+    requires room { most_reply held.old.k ≤ vec_capacity text.old }
     ensures kept { held.new ≡ held.old }
+    ensures capacity { vec_capacity text.old ≤ vec_capacity text.new }
     ensures said { HasSaid L.Line line.old line.new (reply held.old number asked) result }
     ensures heard { IfErr result HasHeard }
     ensures ended { L.ended line.new ≡ L.ended line.old }
@@ -39,12 +39,7 @@ fn say_reply<L: Line>(
     ensures write_faults { L.write_faults line.new ≡ count_on (L.write_faults line.old) (write_faults result) }
 {
     text.clear();
-    let Ok(()) = text.reserve(MOST_SHORT) else {
-        return Err(Ended::NoMemory);
-    };
-    let Ok(()) = put_reply(alloc, held, number, asked, text) else {
-        return Err(Ended::NoMemory);
-    };
+    put_reply(text, held, number, asked);
     let Ok(()) = line.say(text) else {
         return Err(Ended::WriteFailed);
     };
@@ -53,17 +48,18 @@ fn say_reply<L: Line>(
 
 /// Takes bytes of a piece up to the end of a frame, and says the reply to it. Answers how many it took.
 fn answer_frame<L: Line>(
-    alloc: Global,
     held: &mut Held,
     frames: &mut Frames,
     piece: &[u8],
     text: &mut Vec<u8>,
     line: &mut L,
 ) -> Result<usize, Ended>
+    requires room { most_reply held.old.k ≤ vec_capacity text.old }
     requires some { 0 < length piece.now }
     requires bytes { frames.old.stream.taken + length piece.now < 2 ^ 64 }
     requires few { frames.old.count ≤ frames.old.stream.taken }
     ensures kept { held.new ≡ held.old }
+    ensures capacity { vec_capacity text.old ≤ vec_capacity text.new }
     ensures leads { Leads L.Line line.old line.new (reply_to held.old) frames.old frames.new piece.now
         (λ count. drop count piece.now) result }
     ensures within { IfOk result (λ count. count ≤ length piece.now) }
@@ -83,7 +79,7 @@ fn answer_frame<L: Line>(
         Pushed::Bad(at) => Err(Ended::Bad(at)),
         Pushed::Frame(_message) => {
             let asked = asked_last(&frames.stream);
-            match say_reply(alloc, held, frames.count, asked, text, line) {
+            match say_reply(held, frames.count, asked, text, line) {
                 Ok(()) => {
                     frames.count += 1;
                     Ok(count)
@@ -96,16 +92,17 @@ fn answer_frame<L: Line>(
 
 /// Says the replies to the frames that end in a piece, one after another.
 fn answer_piece<L: Line>(
-    alloc: Global,
     held: &mut Held,
     frames: &mut Frames,
     piece: &[u8],
     text: &mut Vec<u8>,
     line: &mut L,
 ) -> Result<(), Ended>
+    requires room { most_reply held.old.k ≤ vec_capacity text.old }
     requires bytes { frames.old.stream.taken + length piece.now < 2 ^ 64 }
     requires few { frames.old.count ≤ frames.old.stream.taken }
     ensures kept { held.new ≡ held.old }
+    ensures capacity { vec_capacity text.old ≤ vec_capacity text.new }
     ensures leads { Leads L.Line line.old line.new (reply_to held.old) frames.old frames.new piece.now
         (λ all. []) result }
     ensures taken { OnOk result (frames.new.stream.taken ≡ frames.old.stream.taken + length piece.now) }
@@ -117,7 +114,7 @@ fn answer_piece<L: Line>(
 {
     let mut rest = piece;
     while !rest.is_empty() {
-        match answer_frame(alloc, held, frames, rest, text, line) {
+        match answer_frame(held, frames, rest, text, line) {
             Ok(count) => rest = &rest[count..],
             Err(ended) => return Err(ended),
         }
@@ -155,11 +152,12 @@ fn at_end(stream: &FrameStream) -> Ended
 ///
 /// Whenever it waits for bytes, it has said exactly the replies to all frames that it heard: to a request
 /// for a sample or a namespace the frame that `sample` or `namespace` writes, and a refusal to any other frame
-/// or where the square has no answer. It ends early where a frame states a length above the limit, a call on the
-/// line fails, or there is no memory for a namespace answer.
+/// or where the square has no answer. It ends early where a frame states a length above the limit or a call on
+/// the line fails. Replies are spelled in `text`. It takes no memory.
 ///
 /// docs/FORMATS.md, "Talks".
-pub fn hold<L: Line>(alloc: Global, held: &mut Held, text: &mut Vec<u8>, line: &mut L) -> Ended
+pub fn hold<L: Line>(held: &mut Held, text: &mut Vec<u8>, line: &mut L) -> Ended
+    requires room { most_reply held.old.k ≤ vec_capacity text.old }
     ensures kept { held.new ≡ held.old }
     ensures talk { HasTalked L.Line line.old line.new (due (reply_to held.old)) result }
 
@@ -187,7 +185,7 @@ pub fn hold<L: Line>(alloc: Global, held: &mut Held, text: &mut Vec<u8>, line: &
             return Ended::TooLong;
         }
         left -= count as u64;
-        match answer_piece(alloc, held, &mut frames, &buf[..count], text, line) {
+        match answer_piece(held, &mut frames, &buf[..count], text, line) {
             Ok(()) => {}
             Err(ended) => return ended,
         }

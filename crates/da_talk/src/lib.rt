@@ -10,6 +10,7 @@ mod holding;
 mod laws;
 mod line;
 mod logged;
+mod names;
 mod pipe;
 mod replies;
 
@@ -20,3 +21,4 @@ pub use laws::talk_laws;
 pub use line::Line;
 pub use logged::{Happened, Logged};
 pub use pipe::Pipe;
+pub use replies::most_reply;

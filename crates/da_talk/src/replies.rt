@@ -1,28 +1,39 @@
 //! The reply to what is asked of a held square.
 
-ghost use Rattle.std.specs.Prelude.{◌≡◌, ◌++◌, [], OnOk};
+ghost use Rattle.std.specs.Prelude.{◌≡◌, ◌≤◌, ◌+◌, ◌++◌, [], vec_capacity, true};
 ghost use Rattle.namespace_id.specs.Answers.{HasRoom};
+ghost use Rattle.namespace_id.specs.Cells.{is_width};
 ghost use Rattle.frame_payloads.specs.kinds.Message.{message_payload, most_message};
 ghost use Rattle.da_wire.specs.Spelling.{frame, message_kind};
-ghost use Rattle.da_talk.specs.Replies.{reply, sample_reply, names_reply, refusal, most_short};
+ghost use Rattle.da_talk.specs.Replies.{most_reply, reply, sample_reply, names_reply, refusal};
 
 use crate::Asked;
-use axis_roots::{Message, answer_law, message_law};
-use da_wire::{Frame, wire_laws, write_frame};
+use crate::names::{HEAD_SIZE, put_names};
+use axis_roots::{Message, message_law};
 use frame_payloads::{
     MOST_MESSAGE, REFUSAL_SIZE, Reason, Refusal, message_size, put_message, put_refusal,
 };
-use namespace_id::{Axis, Cell, Namespace, NoMemory, append, namespace_law};
-use square_serve::{Held, ServeError};
-use std::alloc::Global;
+use namespace_id::{
+    Axis, Cell, DIGEST_SIZE, MOST_DEPTH, NAMESPACE_SIZE, Namespace, SHARE_SIZE, append,
+};
+use square_serve::Held;
 
-/// The most bytes of a reply that is no namespace answer.
-pub(crate) const MOST_SHORT: usize = 5 + MOST_MESSAGE;
+/// The most bytes of a reply of a held square of width `k`: a text in which replies are spelled needs room
+/// for so many.
+pub fn most_reply(k: u16) -> usize
+    requires { is_width k ≡ true }
+    ensures { result ≡ most_reply k }
+{
+    let k = k as usize;
+    let entry = 8 + SHARE_SIZE * k + DIGEST_SIZE * (2 * MOST_DEPTH);
+    HEAD_SIZE + MOST_MESSAGE.max(NAMESPACE_SIZE + 2 + entry * k)
+}
 
 /// Appends the refusal of the frame with a number.
 fn put_refused(text: &mut Vec<u8>, reason: Reason, number: u64)
-    requires room { HasRoom text.old most_short }
+    requires room { HasRoom text.old (5 + most_message) }
     ensures appended { text.new.items ≡ text.old.items ++ refusal reason number }
+    ensures capacity { vec_capacity text.old ≤ vec_capacity text.new }
 {
     append(text, b"E");
     append(text, &REFUSAL_SIZE.to_be_bytes());
@@ -31,8 +42,10 @@ fn put_refused(text: &mut Vec<u8>, reason: Reason, number: u64)
 
 /// Appends the frame of a sample.
 fn put_frame(text: &mut Vec<u8>, message: &Message)
-    requires room { HasRoom text.old most_short }
-    ensures appended { text.new.items ≡ text.old.items ++ frame message_kind (message_payload message.now) }
+    requires room { HasRoom text.old (5 + most_message) }
+    ensures appended { text.new.items ≡ text.old.items
+        ++ frame message_kind (message_payload message.now) }
+    ensures capacity { vec_capacity text.old ≤ vec_capacity text.new }
 {
     message_law(message);
     append(text, b"M");
@@ -41,11 +54,12 @@ fn put_frame(text: &mut Vec<u8>, message: &Message)
 }
 
 /// Writes the reply to a request for a sample, with a number.
-fn put_sample(held: &mut Held, number: u64, cell: Cell, axis: Axis, text: &mut Vec<u8>)
+fn put_sample(text: &mut Vec<u8>, held: &mut Held, number: u64, cell: Cell, axis: Axis)
     requires empty { text.old.items ≡ [] }
-    requires room { HasRoom text.old most_short }
+    requires room { HasRoom text.old (most_reply held.old.k) }
     ensures kept { held.new ≡ held.old }
     ensures reply { text.new.items ≡ sample_reply held.old number cell axis }
+    ensures capacity { vec_capacity text.old ≤ vec_capacity text.new }
 {
     match held.sample(cell, axis) {
         Ok(message) => put_frame(text, &message),
@@ -54,53 +68,32 @@ fn put_sample(held: &mut Held, number: u64, cell: Cell, axis: Axis, text: &mut V
 }
 
 /// Writes the reply to a request for a namespace, with a number.
-fn put_names(
-    alloc: Global,
-    held: &mut Held,
-    number: u64,
-    name: Namespace,
-    text: &mut Vec<u8>,
-) -> Result<(), NoMemory>
+fn put_answer(text: &mut Vec<u8>, held: &mut Held, number: u64, name: Namespace)
     requires empty { text.old.items ≡ [] }
-    requires room { HasRoom text.old most_short }
+    requires room { HasRoom text.old (most_reply held.old.k) }
     ensures kept { held.new ≡ held.old }
-    ensures reply { OnOk result (text.new.items ≡ names_reply held.old number name) }
+    ensures reply { text.new.items ≡ names_reply held.old number name }
+    ensures capacity { vec_capacity text.old ≤ vec_capacity text.new }
 {
-    match held.namespace(alloc, &name) {
-        Ok(answer) => {
-            wire_laws();
-            namespace_law(&name);
-            answer_law(&answer);
-            match write_frame(&Frame::Names(name, answer), text) {
-                Ok(()) => Ok(()),
-                Err(_) => Err(NoMemory),
-            }
-        }
-        Err(ServeError::Parity) => {
-            put_refused(text, Reason::NoAnswer, number);
-            Ok(())
-        }
-        Err(ServeError::NoMemory) => Err(NoMemory),
+    if name.is_parity() {
+        put_refused(text, Reason::NoAnswer, number);
+        return;
     }
+    held.held_law();
+    put_names(text, held, &name);
 }
 
-/// Writes the reply to what the frame with a number asks for into an empty text.
-pub(crate) fn put_reply(
-    alloc: Global,
-    held: &mut Held,
-    number: u64,
-    asked: Asked,
-    text: &mut Vec<u8>,
-) -> Result<(), NoMemory>
+/// Writes the reply to what the frame with a number asks for into an empty text. It takes no memory.
+pub(crate) fn put_reply(text: &mut Vec<u8>, held: &mut Held, number: u64, asked: Asked)
     requires empty { text.old.items ≡ [] }
-    requires room { HasRoom text.old most_short }
+    requires room { HasRoom text.old (most_reply held.old.k) }
     ensures kept { held.new ≡ held.old }
-    ensures reply { OnOk result (text.new.items ≡ reply held.old number asked) }
+    ensures reply { text.new.items ≡ reply held.old number asked }
+    ensures capacity { vec_capacity text.old ≤ vec_capacity text.new }
 {
     match asked {
-        Asked::Sample(cell, axis) => put_sample(held, number, cell, axis, text),
-        Asked::Names(name) => return put_names(alloc, held, number, name, text),
+        Asked::Sample(cell, axis) => put_sample(text, held, number, cell, axis),
+        Asked::Names(name) => put_answer(text, held, number, name),
         Asked::Nothing => put_refused(text, Reason::NoSuchFrame, number),
     }
-    Ok(())
 }

@@ -15,6 +15,7 @@ loop-count-init g c =
     let is : IsLine g.L.Line = record { few = λ x. (g.met.L.Line.counted x).0; none = g.met.L.Line.stays_none; on = g.met.L.Line.stays_on } in
     record {
       kept = refl;
+      room = c.requires.room;
       talking = talking_none g.L.Line is c.args.line.now (reply_to c.args.held.now) c.new.result c.new.ensures.stands;
       bytes = omega (arith, c.new.ensures.taken);
       few = omega arith;
@@ -86,6 +87,7 @@ loop-count-preserved g c =
     c.loop-count.invariant.talking did in
     record {
       kept = c.answer_piece.ensures.kept ∙ c.loop-count.invariant.kept;
+      room = omega (arith, c.answer_piece.ensures.capacity, c.loop-count.invariant.room);
       talking = subst (λ (h : HeldParts). IsTalking g.L.Line c.args.line.now c.answer_piece.new.line (reply_to h) c.answer_piece.new.frames.stream c.answer_piece.new.frames.count []) c.loop-count.invariant.kept
           (c.in-Ok-answer_piece.ensures.leads c.args.line.now
           (subst (λ (h : HeldParts). IsTalking g.L.Line c.args.line.now c.hear.new.self (reply_to h) c.loop-count.frames.stream c.loop-count.frames.count bytes) (sym c.loop-count.invariant.kept) t));
