@@ -25,7 +25,6 @@ status_of ended.Done = status.Done
 status_of (ended.Bad at) = status.BadInput 1 at
 status_of ended.ReadFailed = status.ReadFault 1
 status_of ended.WriteFailed = status.WriteFault
-status_of ended.NoMemory = status.NoMemory
 status_of ended.TooLong = status.TooLong 1
 
 -- a talk over the picked file and an output: what was heard is gone from what is left of the file, what was said was taken by the

@@ -14,6 +14,7 @@ use crate::talking::talk_over;
 use crate::words::is_hold;
 use da_io::{Inputs, NoMemory, Sink};
 use da_status::{Status, note};
+use da_talk::most_reply;
 use square_layout::Square;
 use std::alloc::Global;
 
@@ -36,8 +37,12 @@ fn answer_square<I: Inputs, O: Sink>(
         Ok(held) => held,
         Err(status) => return status,
     };
-    let mut text = Vec::new(alloc);
-    talk_over(alloc, &mut held, &mut text, name, inputs, out)
+    // Its width is told with what is true of every held square.
+    held.held_law();
+    let Ok(mut text) = Vec::with_capacity(alloc, most_reply(held.width())) else {
+        return Status::NoMemory;
+    };
+    talk_over(&mut held, &mut text, name, inputs, out)
 }
 
 /// The word at a place, once more.

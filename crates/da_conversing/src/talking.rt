@@ -1,18 +1,17 @@
 //! A talk over the file that a word names, TALK, and an output.
 
-ghost use Rattle.std.specs.Prelude.{◌≡◌, ◌↔◌, IsSome};
+ghost use Rattle.std.specs.Prelude.{◌≡◌, ◌≤◌, ◌↔◌, IsSome, vec_capacity};
 ghost use Rattle.std.specs.String.{string_bytes};
 ghost use Rattle.da_status.specs.Statuses.{kind_of, input_count, output_count};
 ghost use Rattle.da_conversing.specs.Courses.{Talked, TalksOver, status_of};
 ghost use Rattle.da_io.specs.Faults.{count_on};
 ghost use Rattle.da_talk.specs.Talks.{read_count, write_count};
-ghost use Rattle.da_talk.specs.Replies.{due, reply_to};
+ghost use Rattle.da_talk.specs.Replies.{due, most_reply, reply_to};
 
 use da_io::{Inputs, Sink};
 use da_status::Status;
 use da_talk::{Ended, Pipe, hold};
 use square_serve::Held;
-use std::alloc::Global;
 
 /// The number of TALK among the words that name files.
 const TALK: u32 = 1;
@@ -26,19 +25,18 @@ fn status_of(ended: Ended) -> Status
         Ended::Bad(at) => Status::BadInput(TALK, at),
         Ended::ReadFailed => Status::ReadFault(TALK),
         Ended::WriteFailed => Status::WriteFault,
-        Ended::NoMemory => Status::NoMemory,
         Ended::TooLong => Status::TooLong(TALK),
     }
 }
 
 /// Replies to the frames of the picked file as they come.
 fn talk<I: Inputs, O: Sink>(
-    alloc: Global,
     held: &mut Held,
     text: &mut Vec<u8>,
     inputs: &mut I,
     out: &mut O,
 ) -> Ended
+    requires room { most_reply held.old.k ≤ vec_capacity text.old }
     ensures talk { Talked I.Inputs O.Sink inputs.old inputs.new out.old out.new
         (due (reply_to held.old)) result }
     ensures input_faults { I.faults inputs.new ≡ count_on (I.faults inputs.old) (read_count result) }
@@ -47,18 +45,18 @@ fn talk<I: Inputs, O: Sink>(
     ensures told { IsSome (O.taken out.old) ↔ IsSome (O.taken out.new) }
 {
     let mut line = Pipe { inputs, out };
-    hold(alloc, held, text, &mut line)
+    hold(held, text, &mut line)
 }
 
 /// Picks the file with a name, TALK, and replies to its frames as they come.
 pub(crate) fn talk_over<I: Inputs, O: Sink>(
-    alloc: Global,
     held: &mut Held,
     text: &mut Vec<u8>,
     name: String,
     inputs: &mut I,
     out: &mut O,
 ) -> Status
+    requires room { most_reply held.old.k ≤ vec_capacity text.old }
     ensures talk { TalksOver I.Inputs O.Sink inputs.old inputs.new out.old out.new held.old
         (string_bytes name) result }
     ensures input_faults { I.faults inputs.new ≡ input_count (kind_of result) (I.faults inputs.old) }
@@ -69,5 +67,5 @@ pub(crate) fn talk_over<I: Inputs, O: Sink>(
     let Ok(()) = inputs.pick(name) else {
         return Status::PickFault(TALK);
     };
-    status_of(talk(alloc, held, text, inputs, out))
+    status_of(talk(held, text, inputs, out))
 }
