@@ -22,34 +22,34 @@ use Rattle.da_serving.specs.Blobs.{is_compact, behind_compact}
 -- ---- lists
 
 -- each of two lists is each of both together
-each_append : {A : Type 0} (P : A → Type 0) (xs ys : List A) → AllByRecursion P xs → AllByRecursion P ys → AllByRecursion P (xs ++ ys)
+pub each_append : {A : Type 0} (P : A → Type 0) (xs ys : List A) → AllByRecursion P xs → AllByRecursion P ys → AllByRecursion P (xs ++ ys)
 each_append P [] ys h k = k
 each_append P (x ∷ xs) ys h k = (h.0, each_append P xs ys h.1 k)
 
 -- and of those behind the first ones
-each_drop : {A : Type 0} (P : A → Type 0) (n : ℕ) (xs : List A) → AllByRecursion P xs → AllByRecursion P (drop n xs)
+pub each_drop : {A : Type 0} (P : A → Type 0) (n : ℕ) (xs : List A) → AllByRecursion P xs → AllByRecursion P (drop n xs)
 each_drop P zero xs h = h
 each_drop P (suc n) [] h = tt
 each_drop P (suc n) (x ∷ xs) h = each_drop P n xs h.1
 
 -- compact shares, and others
-abbrev AreCompactShares : List Share → Type 0
+abbrev pub AreCompactShares : List Share → Type 0
 AreCompactShares shares = AllByRecursion (λ s. is_compact s ≡ true) shares
 
-abbrev AreOtherShares : List Share → Type 0
+abbrev pub AreOtherShares : List Share → Type 0
 AreOtherShares shares = AllByRecursion (λ s. is_compact s ≡ false) shares
 
 -- ---- the front of compact shares
 
 -- a front of compact shares is left out
-behind_front : (front rest : List Share) → AreCompactShares front → behind_compact (front ++ rest) ≡ behind_compact rest
+pub behind_front : (front rest : List Share) → AreCompactShares front → behind_compact (front ++ rest) ≡ behind_compact rest
 unfolding behind_compact
 behind_front [] rest all = refl
 behind_front (share ∷ front) rest all =
     ap (λ (b : Bool). cond b (behind_compact (front ++ rest)) (share ∷ (front ++ rest))) all.0 ∙ behind_front front rest all.1
 
 -- of others nothing is
-behind_others : (rest : List Share) → AreOtherShares rest → behind_compact rest ≡ rest
+pub behind_others : (rest : List Share) → AreOtherShares rest → behind_compact rest ≡ rest
 unfolding behind_compact
 behind_others [] all = refl
 behind_others (share ∷ rest) all = ap (λ (b : Bool). cond b (behind_compact rest) (share ∷ rest)) all.0
@@ -82,7 +82,7 @@ others name (share ∷ shares) other named = (
 )
 
 -- shares of transactions are, and shares of payments
-transactions_compact : (shares : List Share) → AreNamed transaction shares → AreCompactShares shares
+pub transactions_compact : (shares : List Share) → AreNamed transaction shares → AreCompactShares shares
 transactions_compact [] named = tt
 transactions_compact (share ∷ shares) named =
     (ap (λ (b : Bool). b || is_named pay_for_blob share) (named_so transaction share named.0), transactions_compact shares named.1)
@@ -91,7 +91,7 @@ or_true : (a b : Bool) → b ≡ true → (a || b) ≡ true
 or_true true b e = refl
 or_true false b e = e
 
-payments_compact : (shares : List Share) → AreNamed pay_for_blob shares → AreCompactShares shares
+pub payments_compact : (shares : List Share) → AreNamed pay_for_blob shares → AreCompactShares shares
 payments_compact [] named = tt
 payments_compact (share ∷ shares) named =
     (or_true (is_named transaction share) (is_named pay_for_blob share) (named_so pay_for_blob share named.0), payments_compact shares named.1)

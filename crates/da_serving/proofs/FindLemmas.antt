@@ -1,5 +1,5 @@
 -- Where in a square the blobs stand that have a commitment.
-use Rattle.std.proofs.Common.{◌≡◌, ◌∙◌, ℕ, ◌+◌, ◌<◌, ◌≤◌, Bool, true, false, eqb, List, [], ◌∷◌, ◌++◌, length, drop, Ok, Err, Result, refl, sym, ap, ap₂, subst, arith, lit<, None, if◌then◌else◌}
+use Rattle.std.proofs.Common.{◌≡◌, ◌∙◌, ℕ, ◌+◌, ◌≤◌, true, false, eqb, List, [], ◌∷◌, ◌++◌, length, drop, Ok, Err, Result, refl, sym, ap, ap₂, subst, arith, lit<, None, if◌then◌else◌}
 use Rattle.std.specs.Prelude.{MatchResult, ◌==◌}
 use Rattle.std.specs.List.{AllByRecursion, flat_map}
 use Rattle.std.proofs.lemmas.Bool.Decides.{nat_tests}
@@ -36,7 +36,7 @@ use Rattle.da_files.proofs.FormLemmas.{over_each}
 -- ---- what the first share of a piece states
 
 -- padding states the length 0
-padding_states : (version : ℕ) (name : Namespace) → version ≤ 1 → IsNamespace name → size_in (padding_of version name) ≡ 0
+pub padding_states : (version : ℕ) (name : Namespace) → version ≤ 1 → IsNamespace name → size_in (padding_of version name) ≡ 0
 padding_states version name low named = (opening_is_first name version None 0 [] named.size_is (lit< tt) (padding_label version low)).size_is
 
 -- a length above 0 isn't 0
@@ -45,7 +45,7 @@ some_size [] some = absurd (some refl)
 some_size (byte ∷ bytes) some = grind (arith, nat_tests)
 
 -- a blob states that of its bytes
-blob_states : (named : NamedBytes) → IsBlob named
+pub blob_states : (named : NamedBytes) → IsBlob named
     → size_in (opening named.namespace (version_of named.signer) named.signer (length named.bytes) named.bytes) ≡ length named.bytes
 blob_states named is =
     (opening_is_first named.namespace (version_of named.signer) named.signer (length named.bytes) named.bytes is.name.size_is (omega (arith, is.few))
@@ -239,7 +239,7 @@ found_output [] = refl
 found_output (byte ∷ text) = elim (length (byte ∷ text) == 0) as (λ b. kind_of (if b then Refused else Done) ≡ output) [ true ↦ refl | false ↦ refl ]
 
 -- what is answered, by what the shares are read as
-abbrev found_by : List ℕ → SquareShares → Result (List NamedBytes) JoinError → Relation
+abbrev pub found_by : List ℕ → SquareShares → Result (List NamedBytes) JoinError → Relation
 found_by commitment square o w status =
     MatchResult o
     (λ blobs. (text : List ℕ) × AreFound commitment (compact_count square) (behind_compact square.shares) text

@@ -12,3 +12,5 @@ pub mod ProveLemmas
 pub mod BackLemmas
 pub mod TransactionsLemmas
 pub mod FindLemmas
+pub mod LineLemmas
+pub mod StatedLemmas

@@ -10,3 +10,4 @@ pub mod Wanted
 pub mod Blobs
 pub mod Transactions
 pub mod Find
+pub mod Stated

@@ -12,8 +12,10 @@ pub mod header;
 pub mod namespace;
 pub mod prove;
 pub mod sample;
+mod stated;
 pub mod transactions;
 pub mod wanted;
 
 pub use blobs::blobs_laws;
 pub use header::header_frame;
+pub use stated::stated_laws;

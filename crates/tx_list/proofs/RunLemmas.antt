@@ -116,7 +116,7 @@ behind_fronts plan =
     ++ replicate (plan_width plan * plan_width plan - length (planned plan)) (padding_share tail_padding))
 
 -- its shares are the fronts and those
-plan_parts : (plan : PlanParts) → (square_of_plan plan).shares
+pub plan_parts : (plan : PlanParts) → (square_of_plan plan).shares
     ≡ unit_shares_of transaction plan.units ++ (unit_shares_of pay_for_blob plan.pay_units ++ behind_fronts plan)
 plan_parts plan =
     let one : List Share = unit_shares_of transaction plan.units in
@@ -129,7 +129,7 @@ plan_parts plan =
     ∙ append_assoc one two (first ++ (blobs ++ tail))
 
 -- padding has another name than a front
-abbrev IsFrontName : Namespace → Type 0
+abbrev pub IsFrontName : Namespace → Type 0
 IsFrontName name =
     (is_blob_namespace name.0 ≡ false) × (bytes_eq primary_reserved_padding.0 name.0 ≡ false) × (bytes_eq tail_padding.0 name.0 ≡ false)
 
@@ -137,7 +137,7 @@ padding_other : (name other : Namespace) → length other.0 ≡ 29 → bytes_eq 
 padding_other name other size differs =
     has_other name other (padding_share other) differs (name_in-sequence_share other 0 true (to_be_bytes w32 0) [] size)
 
-others_behind : (name : Namespace) (plan : PlanParts) → IsFrontName name → AllByRecursion (λ blob. is_blob_namespace blob.namespace.0 ≡ true) plan.blobs
+pub others_behind : (name : Namespace) (plan : PlanParts) → IsFrontName name → AllByRecursion (λ blob. is_blob_namespace blob.namespace.0 ≡ true) plan.blobs
     → AreOthers name (behind_fronts plan)
 others_behind name plan is named =
     let padded : has_namespace name (padding_share primary_reserved_padding) ≡ false = padding_other name primary_reserved_padding refl is.1 in
@@ -152,10 +152,10 @@ others_behind name plan is named =
     (All-in_order (λ (blob : NamedBytes). (length blob.namespace.0 ≡ 29) × (bytes_eq blob.namespace.0 name.0 ≡ false)) plan.blobs differ))
     (others-replicate name (plan_width plan * plan_width plan - length (planned plan)) (padding_share tail_padding) tail))
 
-transaction_is : IsFrontName transaction
+pub transaction_is : IsFrontName transaction
 transaction_is = (refl, refl, refl)
 
-pay_for_blob_is : IsFrontName pay_for_blob
+pub pay_for_blob_is : IsFrontName pay_for_blob
 pay_for_blob_is = (refl, refl, refl)
 
 others_first : (plan : PlanParts) → AllByRecursion (λ blob. is_blob_namespace blob.namespace.0 ≡ true) plan.blobs
