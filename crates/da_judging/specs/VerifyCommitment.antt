@@ -1,5 +1,5 @@
 -- verify HEADER ANSWER COMMITMENT: whether one answer is a proof of a commitment, and holds under a header.
-use Rattle.std.specs.Prelude.{◌≡◌, ◌*◌, ℕ, List, Bool, false}
+use Rattle.std.specs.Prelude.{◌≡◌, ℕ, List, Bool, false}
 use Rattle.std.specs.declared.option.Option.{Option}
 use Rattle.std.specs.Str.{bytes_eq}
 use Rattle.data_header.specs.Headers.{Roots}
