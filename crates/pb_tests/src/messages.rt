@@ -49,8 +49,12 @@ fn headers(rt: HostRuntime) {
     let mut out = Vec::with_capacity(alloc, 368).expect(&rt, "there is memory");
     put_dah(&read, &mut out);
     assert!(rt; out.as_slice() == bytes.as_slice());
-    let cut = read_dah(alloc, &bytes.as_slice()[..367]);
-    assert_eq!(rt; cut.err(), Some(PbError::At(276)));
+    let mut cut = bytes;
+    let _last = cut.pop();
+    assert_eq!(rt;
+        read_dah(alloc, cut.as_slice()).err(),
+        Some(PbError::At(276))
+    );
 }
 
 #[test]
@@ -61,7 +65,10 @@ fn samples(rt: HostRuntime) {
     let read = read_sample(cell, bytes.as_slice()).expect(&rt, "it is a sample");
     assert_eq!(rt; read.axis, Axis::Col);
     assert_eq!(rt; read.share.0, [5; 512]);
-    assert_eq!(rt; read.path.nodes()[0].0, [6; 90]);
+    assert_eq!(rt; read.path.nodes().len(), 1);
+    for node in read.path.nodes() {
+        assert_eq!(rt; node.0, [6; 90]);
+    }
     assert_eq!(rt; sample_size(cell, &read), 620);
     let mut out = Vec::with_capacity(alloc, 620).expect(&rt, "there is memory");
     put_sample(cell, &read, &mut out);
