@@ -12,7 +12,7 @@ use Rattle.data_header.specs.Headers.{Roots}
 use Rattle.axis_roots.specs.declared.message.messages.Message.{Message}
 use Rattle.axis_roots.specs.declared.message.messages.CheckRefusal.{CheckRefusal}
 use Rattle.axis_roots.specs.Messages.{message_refusal}
-use Rattle.da_io.specs.Faults.{count_on}
+use Rattle.da_io.specs.Faults.{max_count, count_on}
 use Rattle.da_wire.specs.declared.streams.Pushed.TheVariants as pushed
 use Rattle.da_wire.specs.Reading.{Raw}
 use Rattle.da_wire.specs.Walks.{walk_from}
@@ -21,7 +21,7 @@ use Rattle.da_wire.specs.StreamParts.{StreamParts}
 use Rattle.da_wire.specs.Streams.{StandsFor, EndsFrame, FramesStay}
 use Rattle.da_cli.specs.declared.feeding.FeedFault.{FeedFault}
 use Rattle.da_cli.specs.declared.feeding.FeedFault.TheVariants.{ReadFailed, TooLong, Bad}
-use Rattle.da_cli.specs.Feeding.{proved_by, lies_by, proved_among, lies_among, HasGone, AnswersFed, Feeds, FeedsTold, EndsFed, Judges}
+use Rattle.da_cli.specs.Feeding.{proved_by, lies_by, proved_among, lies_among, HasGone, AnswersFed, Feeds, FeedsTold, EndsFed, Judges, fed_faults}
 
 -- ---- one sample
 
@@ -220,6 +220,21 @@ told (Some rest) new before now limit header Grows (Err (TooLong n)) feeds end =
     (feeds.answer.0, omega (arith, feeds.answer.1, long_left (Some rest) new feeds.bytes rest refl feeds.moved))
 told (Some rest) new before now limit header Grows (Err (Bad at)) feeds end =
     subst (λ (l : List ℕ). AnswersFed header l limit (Err (Bad at))) (all_left (Some rest) new feeds.bytes rest refl feeds.moved end) feeds.answer
+
+-- a read that gave the end leaves nothing
+pub ends_fed : (rest : Option (List ℕ)) (result : Result ℕ FeedFault) → IsAtEnd rest → EndsFed rest result
+ends_fed rest (Ok lies) end = end
+ends_fed rest (Err ReadFailed) end = tt
+ends_fed rest (Err (TooLong n)) end = tt
+ends_fed rest (Err (Bad at)) end = end
+
+-- what is judged at the end counts no failure
+pub no_fault : (faults lies : ℕ) (bytes : List ℕ) (result : Result ℕ FeedFault) → faults ≤ max_count → Judges bytes lies result
+    → faults ≡ count_on faults (fed_faults result)
+no_fault faults lies bytes (Ok n) few j = omega (arith, few)
+no_fault faults lies bytes (Err ReadFailed) few j = absurd j
+no_fault faults lies bytes (Err (TooLong n)) few j = absurd j
+no_fault faults lies bytes (Err (Bad at)) few j = omega (arith, few)
 
 -- a read that failed
 pub failed_feeds : (stream : StreamParts) (old mid new : Option (List ℕ)) (before given now limit : ℕ) (header : Roots) (lies : ℕ) (Had Has : List Message → Type 0)

@@ -1,7 +1,7 @@
 use Rattle.std.proofs.Common.{◌≡◌, ◌≤◌, ◌∙◌, sym, ap, arith, take, length, length-take-le, refl}
 use Rattle.da_io.specs.Faults.{count_on}
 use Rattle.repair_queue.specs.SessionParts.{StandsFor as SessionStands}
-use Rattle.da_cli.proofs.FeedingLemmas.{end_on, fed_none, fed_on, judged_feeds, failed_feeds, long_feeds, told}
+use Rattle.da_cli.proofs.FeedingLemmas.{end_on, ends_fed, fed_none, fed_on, judged_feeds, failed_feeds, long_feeds, no_fault, told}
 use Rattle.da_cli.proofs.feeding.feed_all.Goals as goal
 
 -- at first nothing was fed
@@ -32,6 +32,17 @@ returns-then-count-eq0-clause-fed g c =
     let ended = end_on c.loop-count.stream _ _ _ _ _ _ c.args.header.now c.loop-count.lies _ _ c.read.new.buf fed c.if-count-eq0.true c.in-Ok.ensures.rest.0 c.in-Ok.ensures.given in
     judged_feeds c.loop-count.stream _ _ _ _ c.args.limit c.args.header.now c.loop-count.lies _ _ c.judged.result ended
     (omega (arith, c.loop-count.invariant.taken, c.loop-count.invariant.limit)) (c.judged.ensures ended.bytes ended.stands)
+
+pub returns-then-count-eq0-clause-told : goal.returns-then-count-eq0-clause-told
+returns-then-count-eq0-clause-told g c =
+    told _ _ _ _ c.args.limit c.args.header.now _ _ (returns-then-count-eq0-clause-fed g c)
+    (ends_fed _ c.judged.result (c.in-Ok.ensures.rest.1 c.if-count-eq0.true (omega (arith, c.read.auto.buf))))
+
+pub returns-then-count-eq0-clause-faults : goal.returns-then-count-eq0-clause-faults
+returns-then-count-eq0-clause-faults g c =
+    let fed = c.loop-count.invariant.fed in
+    c.in-Ok.ensures.faults ∙ c.loop-count.invariant.faults
+    ∙ no_fault (g.I.Inputs.faults c.args.inputs.now) c.loop-count.lies fed.bytes c.judged.result (g.met.I.Inputs.counted c.args.inputs.now).1 (c.judged.ensures fed.bytes fed.stands)
 
 -- a read went past the limit
 pub returns-then-count-limit-clause-fed : goal.returns-then-count-limit-clause-fed
