@@ -101,6 +101,14 @@ fn last(stream: &FrameStream) -> Option<(u8, &[u8])> {
     }
 }
 
+/// The kind of the frame that a stream tells, and how many bytes its payload has.
+fn last_size(stream: &FrameStream) -> Option<(u8, usize)> {
+    match stream.last() {
+        Some(frame) => Some((frame.kind, frame.payload.len())),
+        None => None,
+    }
+}
+
 #[test]
 fn the_frame_that_ended(rt: HostRuntime) {
     let mut stream = FrameStream::new();
@@ -123,8 +131,8 @@ fn the_longest_frame_that_is_told(rt: HostRuntime) {
     let longest = joined(&rt, alloc, &[(b"Z\0\0\x05\x8a", 1_418, 7)]);
     let mut stream = FrameStream::new();
     stream.push(&longest);
-    assert_eq!(rt; last(&stream), Some((b'Z', &longest[5..])));
+    assert_eq!(rt; last_size(&stream), Some((b'Z', 1_418)));
     let longer = joined(&rt, alloc, &[(b"Z\0\0\x05\x8b", 1_419, 7)]);
     stream.push(&longer);
-    assert_eq!(rt; last(&stream), None);
+    assert_eq!(rt; last_size(&stream), None);
 }
