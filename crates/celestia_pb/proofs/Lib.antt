@@ -30,3 +30,7 @@ pub mod IdLemmas
 pub mod ShareListLemmas
 -- squares as their shares alone
 pub mod OdsLemmas
+-- the loop that counts shares
+pub mod HalfRowLoop
+-- half rows
+pub mod HalfRowLemmas

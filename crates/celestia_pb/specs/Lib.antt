@@ -20,3 +20,5 @@ pub mod Ids
 pub mod ShareLists
 -- original squares
 pub mod Ods
+-- half rows, and what is promised of all of them
+pub mod HalfRows
