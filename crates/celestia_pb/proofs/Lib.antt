@@ -26,3 +26,11 @@ pub mod SampleLemmas
 pub mod HeaderLemmas
 -- identifiers
 pub mod IdLemmas
+-- shares at even distances
+pub mod ShareListLemmas
+-- squares as their shares alone
+pub mod OdsLemmas
+-- the loop that counts shares
+pub mod HalfRowLoop
+-- half rows
+pub mod HalfRowLemmas

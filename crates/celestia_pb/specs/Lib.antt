@@ -16,3 +16,9 @@ pub mod Laws
 pub mod SampleLaws
 -- identifiers
 pub mod Ids
+-- shares at even distances
+pub mod ShareLists
+-- original squares
+pub mod Ods
+-- half rows, and what is promised of all of them
+pub mod HalfRows

@@ -8,15 +8,20 @@ mod dah;
 mod digests;
 mod entries;
 mod errors;
+mod half_row;
 mod ids;
 mod inclusions;
 mod messages;
+mod ods;
 mod sample;
+mod share_lists;
 
 pub use dah::{dah_laws, dah_size, put_dah, read_dah};
 pub use errors::PbError;
+pub use half_row::{HalfRow, Side, half_row_laws, half_row_size, put_half_row, read_half_row};
 pub use ids::{
     NAMESPACE_ID_SIZE, SAMPLE_ID_SIZE, id_laws, put_namespace_id, put_sample_id, read_namespace_id,
     read_sample_id,
 };
+pub use ods::{ods_laws, ods_size, put_ods, read_ods};
 pub use sample::{Sample, put_sample, read_sample, sample_laws, sample_size};

@@ -18,14 +18,14 @@ use nmt_proofs::Path;
 use proto_fields::{begins_part, canonical_number, put_canonical_number};
 
 /// The fields of the share, of its proof, and of its axis.
-const SHARE: u8 = 1;
+pub(crate) const SHARE: u8 = 1;
 
 const PROOF: u8 = 2;
 
 const AXIS: u8 = 3;
 
 /// The field of the bytes of a share in its own message.
-const DATA: u8 = 1;
+pub(crate) const DATA: u8 = 1;
 
 /// A sample as a node answers it: a share with its inclusion proof along its row or its column. Of which cell, only the
 /// request says; with it this is a sample that can be checked.
@@ -67,7 +67,7 @@ fn share_in(bytes: &[u8]) -> Result<Share, usize>
 }
 
 /// The share in a field that may be at the front, and the bytes after it; where it is wrong, how many bytes are left.
-fn share_field(bytes: &[u8]) -> Result<(Option<Share>, &[u8]), usize>
+pub(crate) fn share_field(bytes: &[u8]) -> Result<(Option<Share>, &[u8]), usize>
     ensures { Reads (λ x. (x.0, x.1.now)) result (message_at (λ rest part. share_left part) 1 bytes.now) }
 {
     if !begins_part(SHARE, bytes) {
@@ -189,7 +189,7 @@ fn axis_number(axis: Axis) -> u64
 }
 
 /// Appends the field of a share, for which there is capacity.
-fn put_share(share: &Share, out: &mut Vec<u8>)
+pub(crate) fn put_share(share: &Share, out: &mut Vec<u8>)
     requires room { HasRoom out.old (length (bytes_field 1 (share_text share.now))) }
     ensures appended { out.new.items ≡ out.old.items ++ bytes_field 1 (share_text share.now) }
     ensures len { vec_len out.new ≡ vec_len out.old + length (bytes_field 1 (share_text share.now)) }
