@@ -26,3 +26,7 @@ pub mod SampleLemmas
 pub mod HeaderLemmas
 -- identifiers
 pub mod IdLemmas
+-- shares at even distances
+pub mod ShareListLemmas
+-- squares as their shares alone
+pub mod OdsLemmas

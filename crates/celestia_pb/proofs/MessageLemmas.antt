@@ -1,5 +1,5 @@
 -- Numbers, and messages in messages, written and read.
-use Rattle.std.proofs.Common.{◌≡◌, ◌∙◌, ℕ, zero, suc, ◌+◌, ◌*◌, ◌^◌, ◌<◌, ◌≤◌, Bool, true, false, cond, eqb, List, ◌++◌, length, Option, Some, None, Result, Ok, Err, refl, ap, subst, arith, length-append}
+use Rattle.std.proofs.Common.{◌≡◌, ◌∙◌, ℕ, zero, suc, ◌+◌, ◌*◌, ◌^◌, ◌<◌, ◌≤◌, Bool, true, false, cond, eqb, List, ◌++◌, length, Option, Some, None, Result, Ok, Err, refl, sym, ap, subst, arith, length-append}
 use Rattle.std.proofs.lemmas.Option.{same_Some, none-some}
 use Rattle.namespace_id.specs.Bytes.{AreBytes}
 use Rattle.proto_fields.specs.Varints.{varint}
@@ -145,3 +145,20 @@ module _ {A : Type 0} (one : List ℕ → List ℕ → Result A ℕ) (n : ℕ) w
   -- what is read as a message was written so
   pub message_back : (bytes : List ℕ) (value : A) (rest : List ℕ) → n < 16 → AreBytes bytes → message_at one n bytes ≡ Ok (Some value, rest) → IsMessageRead bytes value rest
   message_back bytes value rest few fits e = there_parts bytes value rest (begins_part n bytes) few fits e
+
+  -- where none is there, nothing was passed over
+  no_rest : (rest after : List ℕ) (r : Result A ℕ) → before_rest rest r ≡ Ok (None, after) → ⊥
+  no_rest rest after (Err left) e = absurd cc
+  no_rest rest after (Ok found) e =
+      none_is_some (ap (λ (p : Option A × List ℕ). p.0) (same_ok (None, after) (Some found, rest) (sym e)))
+
+  not_inside : (bytes after : List ℕ) (o : Option (List ℕ × List ℕ)) → inside one (or_left bytes o) ≡ Ok (None, after) → ⊥
+  not_inside bytes after None e = absurd cc
+  not_inside bytes after (Some x) e = no_rest x.1 after (one x.1 x.0) e
+
+  not_there : (bytes after : List ℕ) (b : Bool) → if_there bytes b ≡ Ok (None, after) → bytes ≡ after
+  not_there bytes after false e = ap (λ (p : Option A × List ℕ). p.1) (same_ok (None, bytes) (None, after) e)
+  not_there bytes after true e = absurd (not_inside bytes after (canonical_part n bytes) e)
+
+  pub message_absent : (bytes after : List ℕ) → message_at one n bytes ≡ Ok (None, after) → bytes ≡ after
+  message_absent bytes after e = not_there bytes after (begins_part n bytes) e

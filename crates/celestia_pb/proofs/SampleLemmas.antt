@@ -36,7 +36,7 @@ place_fits Col cell is = is.row
 -- ---- what is written is read
 
 -- the message of a share
-share_is_read : (share : Share) → IsShare share → share_left (share_text share) ≡ Ok share
+pub share_is_read : (share : Share) → IsShare share → share_left (share_text share) ≡ Ok share
 share_is_read share is =
     let whole : share_text share ≡ share_text share ++ [] = sym (append-nil (share_text share)) in
     let size : length share.0 ≡ 512 = is.size_is in
@@ -104,7 +104,7 @@ share_parts bytes share (Some x) fits is e =
     )
 
 -- the share that a message is
-share_back : (bytes : List ℕ) (share : Share) → AreBytes bytes → share_left bytes ≡ Ok share → IsShare share × (bytes ≡ share_text share)
+pub share_back : (bytes : List ℕ) (share : Share) → AreBytes bytes → share_left bytes ≡ Ok share → IsShare share × (bytes ≡ share_text share)
 share_back bytes share fits e = share_parts bytes share (share_at bytes) fits refl e
 
 -- of the numbers 0 and 1
@@ -130,7 +130,7 @@ axis_back bytes x fits e =
     (read_is_number 3 read.0.0 bytes read.0.1 (omega arith) fits read.1).1 ∙ ap₂ (λ (n : ℕ) (l : List ℕ). number_text 3 n ++ l) is.0 is.1
 
 -- what was read at the front
-or_left_some : {A : Type 0} (bytes : List ℕ) (o : Option A) (x : A) → or_left bytes o ≡ Ok x → o ≡ Some x
+pub or_left_some : {A : Type 0} (bytes : List ℕ) (o : Option A) (x : A) → or_left bytes o ≡ Ok x → o ≡ Some x
 or_left_some bytes None x e = absurd cc
 or_left_some bytes (Some y) x e = ap (λ v. Some v) (same_ok y x e)
 

@@ -16,3 +16,7 @@ pub mod Laws
 pub mod SampleLaws
 -- identifiers
 pub mod Ids
+-- shares at even distances
+pub mod ShareLists
+-- original squares
+pub mod Ods

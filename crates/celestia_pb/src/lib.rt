@@ -11,7 +11,9 @@ mod errors;
 mod ids;
 mod inclusions;
 mod messages;
+mod ods;
 mod sample;
+mod share_lists;
 
 pub use dah::{dah_laws, dah_size, put_dah, read_dah};
 pub use errors::PbError;
@@ -19,4 +21,5 @@ pub use ids::{
     NAMESPACE_ID_SIZE, SAMPLE_ID_SIZE, id_laws, put_namespace_id, put_sample_id, read_namespace_id,
     read_sample_id,
 };
+pub use ods::{ods_laws, ods_size, put_ods, read_ods};
 pub use sample::{Sample, put_sample, read_sample, sample_laws, sample_size};
