@@ -36,7 +36,7 @@ place_fits Col cell is = is.row
 -- ---- what is written is read
 
 -- the message of a share
-share_is_read : (share : Share) → IsShare share → share_left (share_text share) ≡ Ok share
+pub share_is_read : (share : Share) → IsShare share → share_left (share_text share) ≡ Ok share
 share_is_read share is =
     let whole : share_text share ≡ share_text share ++ [] = sym (append-nil (share_text share)) in
     let size : length share.0 ≡ 512 = is.size_is in
@@ -104,7 +104,7 @@ share_parts bytes share (Some x) fits is e =
     )
 
 -- the share that a message is
-share_back : (bytes : List ℕ) (share : Share) → AreBytes bytes → share_left bytes ≡ Ok share → IsShare share × (bytes ≡ share_text share)
+pub share_back : (bytes : List ℕ) (share : Share) → AreBytes bytes → share_left bytes ≡ Ok share → IsShare share × (bytes ≡ share_text share)
 share_back bytes share fits e = share_parts bytes share (share_at bytes) fits refl e
 
 -- of the numbers 0 and 1

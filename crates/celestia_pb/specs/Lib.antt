@@ -16,3 +16,13 @@ pub mod Laws
 pub mod SampleLaws
 -- identifiers
 pub mod Ids
+-- shares in repeated fields
+pub mod RowShares
+-- proofs of a row's shares, or of an absence
+pub mod RowProofs
+-- what is found in a row
+pub mod RowData
+-- what its reader gathers
+pub mod RowParts
+-- what of it is promised
+pub mod RowDataLaws

@@ -11,6 +11,9 @@ mod errors;
 mod ids;
 mod inclusions;
 mod messages;
+mod row_data;
+mod row_proof;
+mod row_shares;
 mod sample;
 
 pub use dah::{dah_laws, dah_size, put_dah, read_dah};
@@ -19,4 +22,5 @@ pub use ids::{
     NAMESPACE_ID_SIZE, SAMPLE_ID_SIZE, id_laws, put_namespace_id, put_sample_id, read_namespace_id,
     read_sample_id,
 };
+pub use row_data::{put_row_data, read_row_data, row_data_laws, row_data_size};
 pub use sample::{Sample, put_sample, read_sample, sample_laws, sample_size};

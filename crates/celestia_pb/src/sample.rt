@@ -67,8 +67,9 @@ fn share_in(bytes: &[u8]) -> Result<Share, usize>
 }
 
 /// The share in a field that may be at the front, and the bytes after it; where it is wrong, how many bytes are left.
-fn share_field(bytes: &[u8]) -> Result<(Option<Share>, &[u8]), usize>
-    ensures { Reads (λ x. (x.0, x.1.now)) result (message_at (λ rest part. share_left part) 1 bytes.now) }
+pub(crate) fn share_field(bytes: &[u8]) -> Result<(Option<Share>, &[u8]), usize>
+    ensures value { Reads (λ x. (x.0, x.1.now)) result (message_at (λ rest part. share_left part) 1 bytes.now) }
+    ensures within { IfErr result (λ left. left ≤ length bytes.now) }
 {
     if !begins_part(SHARE, bytes) {
         return Ok((None, bytes));
@@ -189,7 +190,7 @@ fn axis_number(axis: Axis) -> u64
 }
 
 /// Appends the field of a share, for which there is capacity.
-fn put_share(share: &Share, out: &mut Vec<u8>)
+pub(crate) fn put_share(share: &Share, out: &mut Vec<u8>)
     requires room { HasRoom out.old (length (bytes_field 1 (share_text share.now))) }
     ensures appended { out.new.items ≡ out.old.items ++ bytes_field 1 (share_text share.now) }
     ensures len { vec_len out.new ≡ vec_len out.old + length (bytes_field 1 (share_text share.now)) }
