@@ -1,6 +1,6 @@
 use Rattle.std.proofs.Common.{◌≡◌, ◌+◌, ◌≤◌, ◌++◌, drop, length, vec_len, vec_capacity}
-use Rattle.celestia_pb.specs.HalfRows.{shares_text}
-use Rattle.celestia_pb.proofs.half_row.put_entries.Given as goal
+use Rattle.celestia_pb.specs.RowShares.{shares_text}
+use Rattle.celestia_pb.proofs.row_shares.put_shares.Given as goal
 
 -- what is there and what is left are all, and there is capacity for what is left
 abbrev pub invariant-loop-share : goal.invariant-loop-share
