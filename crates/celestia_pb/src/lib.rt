@@ -4,6 +4,9 @@
 //! is wrong; its writer makes these bytes. docs/RULES.md, "Celestia's messages", says which.
 #![tactic(auto)]
 
+mod befp;
+mod befp_entries;
+mod befp_places;
 mod dah;
 mod digests;
 mod entries;
@@ -13,6 +16,7 @@ mod inclusions;
 mod messages;
 mod sample;
 
+pub use befp::read_befp;
 pub use dah::{dah_laws, dah_size, put_dah, read_dah};
 pub use errors::PbError;
 pub use ids::{
