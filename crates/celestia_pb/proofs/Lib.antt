@@ -46,3 +46,7 @@ pub mod ShareListLemmas
 pub mod OdsLemmas
 -- half rows
 pub mod HalfRowLemmas
+-- the places of bad encoding proofs
+pub mod PlaceLoops
+-- the end of bad encoding proofs
+pub mod PlanLemmas

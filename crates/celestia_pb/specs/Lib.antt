@@ -32,3 +32,7 @@ pub mod RowData
 pub mod RowParts
 -- what of it is promised
 pub mod RowDataLaws
+-- the places of bad encoding proofs
+pub mod BefpEntries
+-- bad encoding proofs
+pub mod Befp

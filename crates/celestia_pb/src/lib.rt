@@ -4,6 +4,9 @@
 //! is wrong; its writer makes these bytes. docs/RULES.md, "Celestia's messages", says which.
 #![tactic(auto)]
 
+mod befp;
+mod befp_entries;
+mod befp_places;
 mod dah;
 mod digests;
 mod entries;
@@ -19,6 +22,7 @@ mod row_shares;
 mod sample;
 mod share_lists;
 
+pub use befp::read_befp;
 pub use dah::{dah_laws, dah_size, put_dah, read_dah};
 pub use errors::PbError;
 pub use half_row::{HalfRow, Side, half_row_laws, half_row_size, put_half_row, read_half_row};
