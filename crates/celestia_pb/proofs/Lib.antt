@@ -26,3 +26,7 @@ pub mod SampleLemmas
 pub mod HeaderLemmas
 -- identifiers
 pub mod IdLemmas
+-- the places of bad encoding proofs
+pub mod PlaceLoops
+-- the places of bad encoding proofs, written
+pub mod PlaceTexts

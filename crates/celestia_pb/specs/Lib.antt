@@ -16,3 +16,7 @@ pub mod Laws
 pub mod SampleLaws
 -- identifiers
 pub mod Ids
+-- the places of bad encoding proofs
+pub mod BefpEntries
+-- bad encoding proofs
+pub mod Befp

@@ -4,6 +4,10 @@
 //! is wrong; its writer makes these bytes. docs/RULES.md, "Celestia's messages", says which.
 #![tactic(auto)]
 
+mod befp;
+mod befp_entries;
+mod befp_places;
+mod befp_put;
 mod dah;
 mod digests;
 mod entries;
@@ -13,6 +17,8 @@ mod inclusions;
 mod messages;
 mod sample;
 
+pub use befp::read_befp;
+pub use befp_put::{befp_size, put_befp};
 pub use dah::{dah_laws, dah_size, put_dah, read_dah};
 pub use errors::PbError;
 pub use ids::{

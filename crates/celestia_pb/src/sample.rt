@@ -39,7 +39,7 @@ pub struct Sample {
 }
 
 /// The share in a message at the front, and the bytes after it.
-fn share_at(bytes: &[u8]) -> Option<(Share, &[u8])>
+pub(crate) fn share_at(bytes: &[u8]) -> Option<(Share, &[u8])>
     ensures value { Gives (λ x. (x.0, x.1.now)) result (share_at bytes.now) }
     ensures shorter { IfSome result (λ x. length x.1.now ≤ length bytes.now) }
 {
@@ -95,7 +95,7 @@ fn axis_at(bytes: &[u8]) -> Option<(Axis, &[u8])>
 }
 
 /// The place of a cell on its row or its column.
-fn place_on(axis: Axis, cell: Cell) -> u16
+pub(crate) fn place_on(axis: Axis, cell: Cell) -> u16
     ensures { result ≡ place_on axis cell }
 {
     match axis {
@@ -178,7 +178,7 @@ pub fn read_sample(cell: Cell, bytes: &[u8]) -> Result<Sample, PbError>
 }
 
 /// The number of an axis.
-fn axis_number(axis: Axis) -> u64
+pub(crate) fn axis_number(axis: Axis) -> u64
     ensures value { result ≡ axis_number axis }
     ensures few { result ≤ 1 }
 {
@@ -200,7 +200,7 @@ fn put_share(share: &Share, out: &mut Vec<u8>)
 }
 
 /// Appends the field of the proof of the leaf at a place, for which there is capacity.
-fn put_path(place: u16, path: &Path, out: &mut Vec<u8>)
+pub(crate) fn put_path(place: u16, path: &Path, out: &mut Vec<u8>)
     requires room { HasRoom out.old (length (bytes_field 2 (inclusion_text place 1 path.now))) }
     ensures appended { out.new.items ≡ out.old.items ++ bytes_field 2 (inclusion_text place 1 path.now) }
     ensures len { vec_len out.new ≡ vec_len out.old + length (bytes_field 2 (inclusion_text place 1 path.now)) }
