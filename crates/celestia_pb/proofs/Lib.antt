@@ -50,3 +50,5 @@ pub mod HalfRowLemmas
 pub mod PlaceLoops
 -- the end of bad encoding proofs
 pub mod PlanLemmas
+-- the places of bad encoding proofs, written
+pub mod PlaceTexts

@@ -41,14 +41,20 @@ place_text flag (Some m) = entry_text flag m
 abbrev pub places_text : ℕ → List (Option Message) → List ℕ
 places_text flag places = flat_map (λ (place : Option Message). bytes_field 3 (place_text flag place)) places
 
--- so many places of an axis from one on, each with the sample of its cell, if there is one; the samples stand by ascending places
+-- the sample at a place of an axis: the first of these, if its cell is there
+abbrev pub shown_at : Axis → ℕ → List Message → Option Message
+shown_at axis place [] = None
+shown_at axis place (m ∷ cells) = if position axis m.cell == place then Some m else None
+
+-- those behind the place
+abbrev pub behind_place : Axis → ℕ → List Message → List Message
+behind_place axis place [] = []
+behind_place axis place (m ∷ cells) = if position axis m.cell == place then cells else m ∷ cells
+
+-- so many places of an axis from one on, each with its sample, if there is one; the samples stand by ascending places
 unfoldable pub places_of : Axis → ℕ → ℕ → List Message → List (Option Message)
 places_of axis zero place cells = []
-places_of axis (suc count) place [] = None ∷ places_of axis count (suc place) []
-places_of axis (suc count) place (m ∷ cells) =
-    if position axis m.cell == place
-    then Some m ∷ places_of axis count (suc place) cells
-    else None ∷ places_of axis count (suc place) (m ∷ cells)
+places_of axis (suc count) place cells = shown_at axis place cells ∷ places_of axis count (suc place) (behind_place axis place cells)
 
 -- ---- a proof, read
 

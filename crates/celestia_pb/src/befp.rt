@@ -64,13 +64,19 @@ fn outline_at(bytes: &[u8]) -> Outline
     ensures { result ≡ outline_at bytes.now }
 {
     let Ok((count, rest)) = count_places(bytes) else {
-        return Outline { most: GREATEST_WIDTH, accused: None };
+        return Outline {
+            most: GREATEST_WIDTH,
+            accused: None,
+        };
     };
     let accused = match accused_at(count, rest) {
         Ok((accused, _none)) => Some(accused),
         Err(_left) => None,
     };
-    Outline { most: count / 2, accused }
+    Outline {
+        most: count / 2,
+        accused,
+    }
 }
 
 /// Whether these are 2k places with k shares for a width k.

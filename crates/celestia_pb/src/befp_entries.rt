@@ -18,11 +18,11 @@ use nmt_proofs::Path;
 use proto_fields::begins_part;
 
 /// The fields of a share, of its proof, and of its axis.
-const DATA: u8 = 1;
+pub(crate) const DATA: u8 = 1;
 
-const PROOF: u8 = 2;
+pub(crate) const PROOF: u8 = 2;
 
-const AXIS: u8 = 3;
+pub(crate) const AXIS: u8 = 3;
 
 /// The fields of a proof's nodes and of the flag that the parity namespace is passed over.
 const NODES: u8 = 3;
@@ -90,7 +90,11 @@ fn is_proof(place: u64, mark: u64, numbers: Numbers, rest: &[u8]) -> bool
 
 /// How many nodes a proof of one leaf has, its flag, and the bytes that begin with the nodes; where a field is wrong, how many
 /// bytes are left from it on.
-fn proof_at(wanted: Option<u64>, mark: Option<u64>, bytes: &[u8]) -> Result<(usize, u64, &[u8]), usize>
+fn proof_at(
+    wanted: Option<u64>,
+    mark: Option<u64>,
+    bytes: &[u8],
+) -> Result<(usize, u64, &[u8]), usize>
     ensures value { Reads (λ x. (digests_in x.0 x.2.now, x.1)) result (proof_left wanted mark bytes.now) }
     ensures size { IfOk result (λ x. entry_size * x.0 ≤ length x.2.now) }
     ensures few { IfOk result (λ x. x.0 ≤ most_depth) }
@@ -144,7 +148,11 @@ fn start_wanted(cell: Option<Cell>, rest: &[u8]) -> Option<u64>
 
 /// The nodes and the flag of the proof in a field that may be at the front, and the bytes after it; where it is wrong, how
 /// many bytes are left.
-fn proof_field(cell: Option<Cell>, mark: Option<u64>, bytes: &[u8]) -> Result<(Option<(Path, u64)>, &[u8]), usize>
+fn proof_field(
+    cell: Option<Cell>,
+    mark: Option<u64>,
+    bytes: &[u8],
+) -> Result<(Option<(Path, u64)>, &[u8]), usize>
     ensures value { Reads (λ x. (x.0, x.1.now)) result (message_at (λ rest part. proof_left (start_wanted cell rest) mark part) 2 bytes.now) }
     ensures shorter { IfOk result (λ x. length x.1.now ≤ length bytes.now) }
     ensures within { IfErr result (λ left. left ≤ length bytes.now) }
@@ -232,7 +240,15 @@ pub(crate) fn next_place(
         Ok((sample, flag)) => {
             let shares = seen.shares + 1;
             let mark = Some(flag);
-            Ok((Some(sample), Seen { place, shares, mark }, rest))
+            Ok((
+                Some(sample),
+                Seen {
+                    place,
+                    shares,
+                    mark,
+                },
+                rest,
+            ))
         }
     }
 }

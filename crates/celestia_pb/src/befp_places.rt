@@ -18,7 +18,11 @@ use std::alloc::Global;
 const MOST_PLACES: u16 = 2 * GREATEST_WIDTH;
 
 /// Before the first place.
-const NONE_SEEN: Seen = Seen { place: 0, shares: 0, mark: None };
+const NONE_SEEN: Seen = Seen {
+    place: 0,
+    shares: 0,
+    mark: None,
+};
 
 /// How many fields of places are at the front, at most `MOST_PLACES`, and the bytes after them; where the length of one is
 /// wrong, how many bytes are left from it on.
@@ -43,7 +47,11 @@ pub(crate) fn count_places(bytes: &[u8]) -> Result<(u16, &[u8]), usize>
 
 /// What is seen of the places at the front, at most `MOST_PLACES`, with at most so many shares, and the bytes after them; where
 /// a field is wrong, how many bytes are left from it on.
-pub(crate) fn look_along(accused: Option<Accused>, most: u16, bytes: &[u8]) -> Result<(Seen, &[u8]), usize>
+pub(crate) fn look_along(
+    accused: Option<Accused>,
+    most: u16,
+    bytes: &[u8],
+) -> Result<(Seen, &[u8]), usize>
     ensures value { Reads (λ x. (x.0, x.1.now)) result (seen_read (places_at accused most 1024 none_seen bytes.now)) }
     ensures few { IfOk result (λ x. x.0.place ≤ 1024) }
 {
@@ -61,14 +69,24 @@ pub(crate) fn look_along(accused: Option<Accused>, most: u16, bytes: &[u8]) -> R
 }
 
 /// Adds the sample of a place of the accused axis, if it has one. The one refusal is that it is out of memory.
-fn add_cell(accused: Accused, place: u16, sample: Option<Sample>, cells: &mut Vec<Message>) -> Result<(), NoMemory>
+fn add_cell(
+    accused: Accused,
+    place: u16,
+    sample: Option<Sample>,
+    cells: &mut Vec<Message>,
+) -> Result<(), NoMemory>
     ensures { IfOk result (λ _. cells.new.items ≡ cells.old.items ++ cells_of accused place (sample ∷ [])) }
 {
     let Some(sample) = sample else {
         return Ok(());
     };
     let cell = cell_on(accused.axis, accused.index, place);
-    let message = Message { cell, axis: sample.axis, share: sample.share, path: sample.path };
+    let message = Message {
+        cell,
+        axis: sample.axis,
+        share: sample.share,
+        path: sample.path,
+    };
     let Ok(()) = cells.push(message) else {
         return Err(NoMemory);
     };

@@ -7,6 +7,7 @@
 mod befp;
 mod befp_entries;
 mod befp_places;
+mod befp_put;
 mod dah;
 mod digests;
 mod entries;
@@ -23,6 +24,7 @@ mod sample;
 mod share_lists;
 
 pub use befp::read_befp;
+pub use befp_put::{befp_size, put_befp};
 pub use dah::{dah_laws, dah_size, put_dah, read_dah};
 pub use errors::PbError;
 pub use half_row::{HalfRow, Side, half_row_laws, half_row_size, put_half_row, read_half_row};

@@ -201,7 +201,7 @@ pub(crate) fn put_share(share: &Share, out: &mut Vec<u8>)
 }
 
 /// Appends the field of the proof of the leaf at a place, for which there is capacity.
-fn put_path(place: u16, path: &Path, out: &mut Vec<u8>)
+pub(crate) fn put_path(place: u16, path: &Path, out: &mut Vec<u8>)
     requires room { HasRoom out.old (length (bytes_field 2 (inclusion_text place 1 path.now))) }
     ensures appended { out.new.items ≡ out.old.items ++ bytes_field 2 (inclusion_text place 1 path.now) }
     ensures len { vec_len out.new ≡ vec_len out.old + length (bytes_field 2 (inclusion_text place 1 path.now)) }
