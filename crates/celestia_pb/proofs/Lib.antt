@@ -48,7 +48,5 @@ pub mod OdsLemmas
 pub mod HalfRowLemmas
 -- the places of bad encoding proofs
 pub mod PlaceLoops
--- the end of bad encoding proofs
-pub mod PlanLemmas
 -- the places of bad encoding proofs, written
 pub mod PlaceTexts
