@@ -9,7 +9,8 @@ use Rattle.namespace_id.specs.Cells.{is_width}
 use Rattle.namespace_id.specs.Shares.{AreShares}
 use Rattle.namespace_id.proofs.WidthLemmas.{is_width-le}
 use Rattle.proto_fields.specs.Fields.{FieldParts, fields_of, last_of, all_bytes, all_numbers, last_number}
-use Rattle.proto_fields.specs.Spelled.{bytes_field}
+use Rattle.proto_fields.specs.Varints.{varint_within}
+use Rattle.proto_fields.specs.Spelled.{bytes_field, field_size}
 use Rattle.proto_fields.specs.Canonical.{number_text, number_fields, part_field, begins_part, canonical_number}
 use Rattle.proto_fields.proofs.FieldLemmas.{no_fields, all_bytes_in_a_row, all_numbers_in_a_row}
 use Rattle.proto_fields.proofs.Options.{and_then_parts}
@@ -17,40 +18,22 @@ use Rattle.proto_fields.proofs.CanonicalLemmas.{number_fields_of, part_fields_of
 use Rattle.celestia_pb.specs.declared.half_row.Side.{Side}
 use Rattle.celestia_pb.specs.declared.half_row.Side.TheVariants.{Left, Right}
 use Rattle.celestia_pb.specs.Reading.{then_read, or_left, placed}
-use Rattle.celestia_pb.specs.Samples.{share_text, share_left}
-use Rattle.celestia_pb.specs.ShareLists.{shares_behind}
-use Rattle.celestia_pb.specs.HalfRows.{HalfParts, IsHalf, shares_text, side_number, half_row_text, with_share, before_shares, share_field, shares_at, side_of, side_at, half_row_end, half_row_side, half_row_left, half_row_value}
+use Rattle.celestia_pb.specs.Samples.{share_text}
+use Rattle.celestia_pb.specs.RowShares.{shares_text, shares_at, shares_in}
+use Rattle.celestia_pb.specs.HalfRows.{HalfParts, IsHalf, side_number, half_row_text, side_of, side_at, half_row_end, half_row_side, half_row_left, half_row_value}
 use Rattle.celestia_pb.proofs.Steps.{cond_ok, then_ok, placed_ok}
 use Rattle.celestia_pb.proofs.DigestLemmas.{ok_parts}
-use Rattle.celestia_pb.proofs.MessageLemmas.{field_few, begins_number, message_none, message_is_read, message_absent}
-use Rattle.celestia_pb.proofs.SampleLemmas.{share_is_read, or_left_some}
+use Rattle.celestia_pb.proofs.MessageLemmas.{field_few, begins_number}
+use Rattle.celestia_pb.proofs.SampleLemmas.{or_left_some}
 use Rattle.celestia_pb.proofs.CommonLemmas.{number_bytes, own_number}
-use Rattle.celestia_pb.proofs.ShareListLemmas.{length-shares_behind}
-use Rattle.celestia_pb.proofs.HalfRowLoop.{entry_length, IsShareRead, share_field_back, shares_at-none, shares_at-next, shares_at-end}
+use Rattle.celestia_pb.proofs.ShareLemmas.{shares_text-next, shares_are_read, read_are_shares}
+use Rattle.celestia_pb.proofs.ShareEntries.{length-shares_in, length-shares_text}
 
 -- ---- what is written is read
-
--- the first share, and then the others
-shares_text-next : (share : Share) (shares : List Share) (rest : List ℕ)
-    → shares_text (share ∷ shares) ++ rest ≡ bytes_field 1 (share_text share) ++ (shares_text shares ++ rest)
-shares_text-next share shares rest = append_assoc (bytes_field 1 (share_text share)) (shares_text shares) rest
 
 -- the message of a share is short
 share_short : (share : Share) → length share.0 ≡ 512 → length (share_text share) ≤ 532
 share_short share size = omega (arith, size, field_few 1 share.0)
-
--- shares are read back, where no other one follows
-shares_are_read : (most : ℕ) (shares : List Share) (rest : List ℕ) → AreShares shares → length shares ≤ most → begins_part 1 rest ≡ false
-    → shares_at most (shares_text shares ++ rest) ≡ Ok (shares, rest)
-shares_are_read most [] rest all le none = shares_at-end most rest (message_none (λ rest part. share_left part) 1 rest none)
-shares_are_read zero (share ∷ shares) rest all le none = absurd (omega arith)
-shares_are_read (suc most) (share ∷ shares) rest all le none =
-    let behind : List ℕ = shares_text shares ++ rest in
-    let short : length (share_text share) ≤ 532 = share_short share all.0.size_is in
-    ap (shares_at (suc most)) (shares_text-next share shares rest)
-    ∙ shares_at-next most (bytes_field 1 (share_text share) ++ behind)
-    ∙ ap (before_shares (shares_at most)) (message_is_read (λ rest part. share_left part) 1 (share_text share) behind share (omega arith) (omega arith) (share_is_read share all.0))
-    ∙ ap (with_share share) (shares_are_read most shares rest all.1 (omega arith) none)
 
 -- the number of a side, behind which nothing follows
 side_is_read : (side : Side) → side_at (number_text 2 (side_number side)) ≡ Some (side, [])
@@ -76,11 +59,10 @@ left_is_read h is are =
 pub half_row_is_read : (h : HalfParts) → IsHalf h → AreShares h.shares → half_row_value (half_row_text h) ≡ Ok h
 half_row_is_read h is are = ap (placed (length (half_row_text h))) (left_is_read h is are)
 
--- how long messages of shares are
-pub length-shares_text : (shares : List Share) → AreShares shares → length (shares_text shares) ≡ 518 * length shares
-length-shares_text [] all = refl
-length-shares_text (share ∷ shares) all =
-    omega (arith, entry_length share (shares_text shares) all.0.size_is, length-shares_text shares all.1)
+-- a share as a message in its field has 518 bytes
+pub entry_size : field_size 1 (field_size 1 512) ≡ 518
+unfolding varint_within
+entry_size = refl
 
 -- how long a side is, and how long both
 pub half_row_sized : (h : HalfParts) (side : Side) (shares : List Share) (count each number : ℕ) → record { side = side; shares = shares } ≡ h → AreShares shares
@@ -93,65 +75,6 @@ half_row_sized h side shares count each number seen are is_count is_each is_numb
     ∙ ap (λ (g : HalfParts). length (half_row_text g)) seen
 
 -- ---- what is read was written
-
--- what is read as shares
-record AreSharesRead (most : ℕ) (bytes : List ℕ) (shares : List Share) (rest : List ℕ) : Type 0 where
-  are : AreShares shares
-  few : length shares ≤ most
-  parts : bytes ≡ shares_text shares ++ rest
-  fits : AreBytes rest
-
--- whether what is read as at most so many shares was written so
-abbrev Back : ℕ → Type 0
-Back most = (bytes : List ℕ) (shares : List Share) (rest : List ℕ) → AreBytes bytes → shares_at most bytes ≡ Ok (shares, rest)
-    → AreSharesRead most bytes shares rest
-
--- no share was read
-none_read : (most : ℕ) (bytes : List ℕ) (shares : List Share) (rest : List ℕ) → AreBytes bytes → ◌≡◌ {A = Result (List Share × List ℕ) ℕ} (Ok ([], bytes)) (Ok (shares, rest))
-    → AreSharesRead most bytes shares rest
-none_read most bytes shares rest fits e =
-    let same = ok_parts [] shares bytes rest e in
-    record {
-      are = subst (λ (l : List Share). AreShares l) same.0 tt;
-      few = subst (λ (l : List Share). length l ≤ most) same.0 (omega arith);
-      parts = same.1 ∙ ap (λ (l : List Share). shares_text l ++ rest) same.0;
-      fits = subst (λ (l : List ℕ). AreBytes l) same.1 fits;
-    }
-
--- a first one was read, and others
-more_read : (most : ℕ) (bytes : List ℕ) (share : Share) (after : List ℕ) (shares : List Share) (rest : List ℕ) (r : Result (List Share × List ℕ) ℕ)
-    → IsShareRead bytes share after → Back most → shares_at most after ≡ r → with_share share r ≡ Ok (shares, rest) → AreSharesRead (suc most) bytes shares rest
-more_read most bytes share after shares rest (Err left) first back is e = absurd cc
-more_read most bytes share after shares rest (Ok x) first back is e =
-    let same = ok_parts (share ∷ x.0) shares x.1 rest e in
-    let others = back after x.0 x.1 first.fits is in
-    record {
-      are = subst (λ (l : List Share). AreShares l) same.0 (first.is, others.are);
-      few = omega (arith, ap length same.0, others.few);
-      parts =
-          first.parts
-          ∙ ap (λ (l : List ℕ). bytes_field 1 (share_text share) ++ l) others.parts
-          ∙ sym (shares_text-next share x.0 x.1)
-          ∙ ap₂ (λ (l : List Share) (r : List ℕ). shares_text l ++ r) same.0 same.1;
-      fits = subst (λ (l : List ℕ). AreBytes l) same.1 others.fits;
-    }
-
--- one is there, or none is
-first_read : (most : ℕ) (bytes : List ℕ) (shares : List Share) (rest : List ℕ) (r : Result (Option Share × List ℕ) ℕ) → Back most → AreBytes bytes
-    → share_field bytes ≡ r → before_shares (shares_at most) r ≡ Ok (shares, rest) → AreSharesRead (suc most) bytes shares rest
-first_read most bytes shares rest (Err left) back fits is e = absurd cc
-first_read most bytes shares rest (Ok (None, after)) back fits is e =
-    let same : bytes ≡ after = message_absent (λ rest part. share_left part) 1 bytes after is in
-    none_read (suc most) bytes shares rest fits (ap (λ (l : List ℕ). Ok ([], l)) same ∙ e)
-first_read most bytes shares rest (Ok (Some share, after)) back fits is e =
-    more_read most bytes share after shares rest (shares_at most after) (share_field_back bytes share after fits is) back refl e
-
--- what is read as shares was written so
-read_are_shares : (most : ℕ) (bytes : List ℕ) (shares : List Share) (rest : List ℕ) → AreBytes bytes → shares_at most bytes ≡ Ok (shares, rest)
-    → AreSharesRead most bytes shares rest
-read_are_shares zero bytes shares rest fits e = none_read zero bytes shares rest fits (sym (shares_at-none bytes) ∙ e)
-read_are_shares (suc most) bytes shares rest fits e =
-    first_read most bytes shares rest (share_field bytes) (λ some list left. read_are_shares most some list left) fits refl (sym (shares_at-next most bytes) ∙ e)
 
 -- of the numbers 0 and 1
 side_cases : (zero one : Bool) (n : ℕ) (rest : List ℕ) (x : Side × List ℕ) → eqb n 0 ≡ zero → eqb n 1 ≡ one
@@ -248,21 +171,21 @@ half_row_is_common bytes h fits e =
 
 -- ---- what the calls find
 
-module _ (bytes behind : List ℕ) (count : ℕ) (first : shares_at 512 bytes ≡ Ok (shares_behind 6 count bytes, behind)) (side : Side) (rest : List ℕ)
+module _ (bytes behind : List ℕ) (count : ℕ) (first : shares_at 512 bytes ≡ Ok (shares_in count bytes, behind)) (side : Side) (rest : List ℕ)
     (second : side_at behind ≡ Some (side, rest)) where
   -- the test of what was found
   behind_side : (b : Bool) → ((length rest == 0) && is_width count) ≡ b
-      → half_row_left bytes ≡ cond b (Ok (record { side = side; shares = shares_behind 6 count bytes })) (Err (length rest))
+      → half_row_left bytes ≡ cond b (Ok (record { side = side; shares = shares_in count bytes })) (Err (length rest))
   behind_side b test =
       ap (then_read half_row_side) first
-      ∙ ap (λ (o : Option (Side × List ℕ)). then_read (half_row_end (shares_behind 6 count bytes)) (or_left behind o)) second
-      ∙ ap (λ (n : ℕ). cond ((length rest == 0) && is_width n) (Ok (record { side = side; shares = shares_behind 6 count bytes })) (Err (length rest))) (length-shares_behind 6 count bytes)
-      ∙ ap (λ (c : Bool). cond c (Ok (record { side = side; shares = shares_behind 6 count bytes })) (Err (length rest))) test
+      ∙ ap (λ (o : Option (Side × List ℕ)). then_read (half_row_end (shares_in count bytes)) (or_left behind o)) second
+      ∙ ap (λ (n : ℕ). cond ((length rest == 0) && is_width n) (Ok (record { side = side; shares = shares_in count bytes })) (Err (length rest))) (length-shares_in count bytes)
+      ∙ ap (λ (c : Bool). cond c (Ok (record { side = side; shares = shares_in count bytes })) (Err (length rest))) test
 
   -- something is left, or the number is no width
   pub wrong_end : ((length rest == 0) && is_width count) ≡ false → half_row_left bytes ≡ Err (length rest)
   wrong_end test = behind_side false test
 
   -- half a row
-  pub right_end : ((length rest == 0) && is_width count) ≡ true → half_row_left bytes ≡ Ok (record { side = side; shares = shares_behind 6 count bytes })
+  pub right_end : ((length rest == 0) && is_width count) ≡ true → half_row_left bytes ≡ Ok (record { side = side; shares = shares_in count bytes })
   right_end test = behind_side true test

@@ -22,6 +22,20 @@ pub mod SizeLemmas
 pub mod ProofFields
 -- samples
 pub mod SampleLemmas
+-- shares in repeated fields, written and read
+pub mod ShareLemmas
+-- where shares lie
+pub mod ShareEntries
+-- the loop that counts shares
+pub mod ShareLoops
+-- proofs of a row's shares, or of an absence
+pub mod RowProofLemmas
+-- lenient reading of them
+pub mod RowProofFields
+-- what is found in a row
+pub mod RowDataLemmas
+-- lenient reading of it
+pub mod RowDataFields
 -- headers
 pub mod HeaderLemmas
 -- identifiers
@@ -30,7 +44,5 @@ pub mod IdLemmas
 pub mod ShareListLemmas
 -- squares as their shares alone
 pub mod OdsLemmas
--- the loop that counts shares
-pub mod HalfRowLoop
 -- half rows
 pub mod HalfRowLemmas

@@ -75,6 +75,16 @@ number_parts test n bytes (Some read) x few fits is e =
 pub number_left_back : (test : ℕ → Bool) (n : ℕ) (bytes : List ℕ) (x : ℕ × List ℕ) → n < 16 → AreBytes bytes → number_left test n bytes ≡ Ok x → IsNumberRead n bytes x.0 x.1
 number_left_back test n bytes x few fits e = number_parts test n bytes (canonical_number n bytes) x few fits refl e
 
+-- and passes the test
+passed : (test : ℕ → Bool) (bytes : List ℕ) (o : Option (ℕ × List ℕ)) (x : ℕ × List ℕ) → passing test bytes (or_left bytes o) ≡ Ok x → test x.0 ≡ true
+passed test bytes None x e = absurd cc
+passed test bytes (Some read) x e =
+    let both = cond_ok (test read.0) read x (length bytes) e in
+    subst (λ (y : ℕ × List ℕ). test y.0 ≡ true) both.1 both.0
+
+pub number_left_passes : (test : ℕ → Bool) (n : ℕ) (bytes : List ℕ) (x : ℕ × List ℕ) → number_left test n bytes ≡ Ok x → test x.0 ≡ true
+number_left_passes test n bytes x e = passed test bytes (canonical_number n bytes) x e
+
 -- ---- messages
 
 -- nothing isn't something
@@ -146,19 +156,19 @@ module _ {A : Type 0} (one : List ℕ → List ℕ → Result A ℕ) (n : ℕ) w
   pub message_back : (bytes : List ℕ) (value : A) (rest : List ℕ) → n < 16 → AreBytes bytes → message_at one n bytes ≡ Ok (Some value, rest) → IsMessageRead bytes value rest
   message_back bytes value rest few fits e = there_parts bytes value rest (begins_part n bytes) few fits e
 
-  -- where none is there, nothing was passed over
-  no_rest : (rest after : List ℕ) (r : Result A ℕ) → before_rest rest r ≡ Ok (None, after) → ⊥
-  no_rest rest after (Err left) e = absurd cc
-  no_rest rest after (Ok found) e =
-      none_is_some (ap (λ (p : Option A × List ℕ). p.0) (same_ok (None, after) (Some found, rest) (sym e)))
+  -- a message that was read isn't none
+  none_before : (after rest : List ℕ) (r : Result A ℕ) → before_rest after r ≡ Ok (None, rest) → ⊥
+  none_before after rest (Ok value) e = none_is_some (sym (ap (λ (p : Option A × List ℕ). p.0) (same_ok (Some value, after) (None, rest) e)))
+  none_before after rest (Err left) e = absurd cc
 
-  not_inside : (bytes after : List ℕ) (o : Option (List ℕ × List ℕ)) → inside one (or_left bytes o) ≡ Ok (None, after) → ⊥
-  not_inside bytes after None e = absurd cc
-  not_inside bytes after (Some x) e = no_rest x.1 after (one x.1 x.0) e
+  none_inside : (rest : List ℕ) (r : Result (List ℕ × List ℕ) ℕ) → inside one r ≡ Ok (None, rest) → ⊥
+  none_inside rest (Ok read) e = none_before read.1 rest (one read.1 read.0) e
+  none_inside rest (Err left) e = absurd cc
 
-  not_there : (bytes after : List ℕ) (b : Bool) → if_there bytes b ≡ Ok (None, after) → bytes ≡ after
-  not_there bytes after false e = ap (λ (p : Option A × List ℕ). p.1) (same_ok (None, bytes) (None, after) e)
-  not_there bytes after true e = absurd (not_inside bytes after (canonical_part n bytes) e)
+  none_there : (bytes rest : List ℕ) (b : Bool) → if_there bytes b ≡ Ok (None, rest) → rest ≡ bytes
+  none_there bytes rest false e = sym (ap (λ (p : Option A × List ℕ). p.1) (same_ok (None, bytes) (None, rest) e))
+  none_there bytes rest true e = absurd (none_inside rest (or_left bytes (canonical_part n bytes)) e)
 
-  pub message_absent : (bytes after : List ℕ) → message_at one n bytes ≡ Ok (None, after) → bytes ≡ after
-  message_absent bytes after e = not_there bytes after (begins_part n bytes) e
+  -- where none is read all is left
+  pub message_absent : (bytes rest : List ℕ) → message_at one n bytes ≡ Ok (None, rest) → rest ≡ bytes
+  message_absent bytes rest e = none_there bytes rest (begins_part n bytes) e

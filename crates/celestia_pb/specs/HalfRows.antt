@@ -12,8 +12,8 @@ use Rattle.proto_fields.specs.Fields.{FieldParts, fields_of, all_bytes, last_num
 use Rattle.celestia_pb.specs.declared.half_row.Side.{Side}
 use Rattle.celestia_pb.specs.declared.half_row.Side.TheVariants.{Left, Right}
 use Rattle.celestia_pb.specs.Reading.{then_read, or_left, placed}
-use Rattle.celestia_pb.specs.Messages.{message_at}
-use Rattle.celestia_pb.specs.Samples.{share_text, share_left}
+use Rattle.celestia_pb.specs.Samples.{share_text}
+use Rattle.celestia_pb.specs.RowShares.{shares_text, shares_at}
 
 -- half a row: which one, and its shares
 pub record HalfParts : Type 0 where
@@ -26,10 +26,6 @@ pub record IsHalf (half : HalfParts) : Type 0 where
 
 -- ---- written
 
--- messages of shares, each in a field 1
-abbrev pub shares_text : List Share → List ℕ
-shares_text shares = flat_map (λ share. bytes_field 1 (share_text share)) shares
-
 -- the number of a side
 abbrev pub side_number : Side → ℕ
 side_number Left = 0
@@ -40,26 +36,6 @@ abbrev pub half_row_text : HalfParts → List ℕ
 half_row_text half = shares_text half.shares ++ number_text 2 (side_number half.side)
 
 -- ---- read
-
--- a share before others
-abbrev pub with_share : Share → Result (List Share × List ℕ) ℕ → Result (List Share × List ℕ) ℕ
-with_share share (Ok others) = Ok (share ∷ others.0, others.1)
-with_share share (Err left) = Err left
-
--- a share that was read, and the others; none where it isn't there
-abbrev pub before_shares : (List ℕ → Result (List Share × List ℕ) ℕ) → Result (Option Share × List ℕ) ℕ → Result (List Share × List ℕ) ℕ
-before_shares others (Ok (Some share, rest)) = with_share share (others rest)
-before_shares others (Ok (None, rest)) = Ok ([], rest)
-before_shares others (Err left) = Err left
-
--- the share in a field 1, none where such a field isn't in front, and what follows
-abbrev pub share_field : List ℕ → Result (Option Share × List ℕ) ℕ
-share_field bytes = message_at (λ rest part. share_left part) 1 bytes
-
--- the shares in fields 1, as long as such a field is in front, at most so many, and what follows
-unfoldable pub shares_at : ℕ → List ℕ → Result (List Share × List ℕ) ℕ
-shares_at zero bytes = Ok ([], bytes)
-shares_at (suc most) bytes = before_shares (shares_at most) (share_field bytes)
 
 -- the side that a number is
 abbrev pub side_of : ℕ × List ℕ → Option (Side × List ℕ)

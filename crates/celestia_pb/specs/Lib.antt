@@ -22,3 +22,13 @@ pub mod ShareLists
 pub mod Ods
 -- half rows, and what is promised of all of them
 pub mod HalfRows
+-- shares in repeated fields
+pub mod RowShares
+-- proofs of a row's shares, or of an absence
+pub mod RowProofs
+-- what is found in a row
+pub mod RowData
+-- what its reader gathers
+pub mod RowParts
+-- what of it is promised
+pub mod RowDataLaws

@@ -4,23 +4,20 @@ ghost use Rattle.std.specs.Prelude.{◌≡◌, ◌↔◌, ℕ, ◌+◌, ◌*◌,
 ghost use Rattle.namespace_id.specs.Answers.{Gives, HasRoom};
 ghost use Rattle.namespace_id.specs.Cells.{is_width};
 ghost use Rattle.celestia_pb.specs.Reading.{Reads};
-ghost use Rattle.celestia_pb.specs.ShareLists.{shares_behind};
-ghost use Rattle.celestia_pb.specs.HalfRows.{HalfParts, IsHalf, shares_text, side_number, half_row_text, shares_at, side_at, half_row_left, half_row_value, HalfRowIsRead, ReadIsHalfRow, HalfRowIsCommon};
+ghost use Rattle.celestia_pb.specs.RowShares.{shares_in};
+ghost use Rattle.celestia_pb.specs.HalfRows.{HalfParts, IsHalf, side_number, half_row_text, side_at, half_row_left, half_row_value, HalfRowIsRead, ReadIsHalfRow, HalfRowIsCommon};
 
 use crate::entries::{number_size, part_size};
 use crate::errors::PbError;
-use crate::sample::{DATA, SHARE, put_share, share_field};
-use crate::share_lists::shares_behind;
-use namespace_id::{GREATEST_WIDTH, NoMemory, SHARE_SIZE, Share, bytes_law, is_width, shares_law};
+use crate::row_shares::{count_shares, put_shares, shares_in};
+use crate::sample::{DATA, SHARE};
+use namespace_id::{NoMemory, SHARE_SIZE, Share, is_width, shares_law};
 use proto_fields::{canonical_number, put_canonical_number};
 use std::alloc::Global;
 use std::marker::Model;
 
 /// The field of the side; that of a share is `SHARE`.
 const SIDE: u8 = 2;
-
-/// The bytes of the tags and lengths before a share: of its message, and of its bytes in it.
-const FRONT_SIZE: usize = 6;
 
 /// A half of a row of an extended square: its original shares, or its recovery shares.
 #[derive(Clone, Copy, Debug, PartialEq, Eq)]
@@ -49,27 +46,6 @@ impl Model for HalfRow {
     ghost invariant = { λ h. IsHalf (record { side = h.side; shares = h.shares.items }) };
 }
 
-/// How many shares in fields of their own are at the front, at most so many, and the bytes after them; where one of them is
-/// wrong, how many bytes are left from it on.
-fn count_shares(most: usize, bytes: &[u8]) -> Result<(usize, &[u8]), usize>
-    ensures value { Reads (λ x. (shares_behind 6 x.0 bytes.now, x.1.now)) result (shares_at most bytes.now) }
-    ensures size { IfOk result (λ x. 518 * x.0 + length x.1.now ≡ length bytes.now) }
-    ensures few { IfOk result (λ x. x.0 ≤ most) }
-{
-    bytes_law(bytes);
-    let mut count = 0;
-    let mut rest = bytes;
-    while count < most {
-        let (share, after) = share_field(rest)?;
-        if share.is_none() {
-            return Ok((count, after));
-        }
-        count += 1;
-        rest = after;
-    }
-    Ok((count, rest))
-}
-
 /// The side at the front, and the bytes after it.
 fn side_at(bytes: &[u8]) -> Option<(Side, &[u8])>
     ensures { Gives (λ x. (x.0, x.1.now)) result (side_at bytes.now) }
@@ -93,11 +69,11 @@ fn are_all(count: usize, rest: &[u8]) -> bool
 /// The side of the half row that a message is and the number of its shares, or how many bytes are left from the first field that
 /// is wrong on.
 fn half_row_parts(bytes: &[u8]) -> Result<(Side, usize), usize>
-    ensures value { Reads (λ x. record { side = x.0; shares = shares_behind 6 x.1 bytes.now }) result (half_row_left bytes.now) }
+    ensures value { Reads (λ x. record { side = x.0; shares = shares_in x.1 bytes.now }) result (half_row_left bytes.now) }
     ensures size { IfOk result (λ x. 518 * x.1 ≤ length bytes.now) }
     ensures width { IfOk result (λ x. is_width x.1 ≡ true) }
 {
-    let (count, behind) = count_shares(GREATEST_WIDTH as usize, bytes)?;
+    let (count, behind) = count_shares(bytes)?;
     let Some((side, rest)) = side_at(behind) else {
         return Err(behind.len());
     };
@@ -111,9 +87,9 @@ fn half_row_parts(bytes: &[u8]) -> Result<(Side, usize), usize>
 fn half_row_in(alloc: Global, side: Side, count: usize, bytes: &[u8]) -> Result<HalfRow, NoMemory>
     requires size { 518 * count ≤ length bytes.now }
     requires width { is_width count ≡ true }
-    ensures { IfOk result (λ half. half ≡ record { side = side; shares = shares_behind 6 count bytes.now }) }
+    ensures { IfOk result (λ half. half ≡ record { side = side; shares = shares_in count bytes.now }) }
 {
-    let shares = shares_behind(alloc, FRONT_SIZE, count, bytes)?;
+    let shares = shares_in(alloc, count, bytes)?;
     Ok(HalfRow { side, shares })
 }
 
@@ -155,18 +131,6 @@ pub fn half_row_size(half: &HalfRow) -> usize
     half.shares.len() * share + number_size(SIDE, side_number(half.side))
 }
 
-/// Appends messages of shares, each in a field of its own, for which there is capacity.
-fn put_entries(shares: &[Share], out: &mut Vec<u8>)
-    requires room { HasRoom out.old (length (shares_text shares.now)) }
-    ensures appended { out.new.items ≡ out.old.items ++ shares_text shares.now }
-    ensures len { vec_len out.new ≡ vec_len out.old + length (shares_text shares.now) }
-    ensures capacity { vec_capacity out.old ≤ vec_capacity out.new }
-{
-    for share in shares {
-        put_share(share, out);
-    }
-}
-
 /// Appends the message of a half row for which there is capacity (`half_row_size`).
 ///
 /// CIP-19, "Row"; protobuf, "Encoding".
@@ -176,7 +140,7 @@ pub fn put_half_row(half: &HalfRow, out: &mut Vec<u8>)
     ensures len { vec_len out.new ≡ vec_len out.old + length (half_row_text half.now) }
     ensures capacity { vec_capacity out.old ≤ vec_capacity out.new }
 {
-    put_entries(&half.shares, out);
+    put_shares(&half.shares, out);
     put_canonical_number(SIDE, side_number(half.side), out);
 }
 

@@ -46,7 +46,7 @@ fn first_place(wanted: Option<u64>, start: u64) -> u64
 }
 
 /// Whether a number is the sum of two.
-fn is_sum(stop: u64, place: u64, count: u64) -> bool
+pub(crate) fn is_sum(stop: u64, place: u64, count: u64) -> bool
     ensures { result ≡ (stop == place + count) }
 {
     stop >= count && stop - count == place
@@ -66,7 +66,7 @@ fn start_at(wanted: Option<u64>, bytes: &[u8]) -> Result<(u64, &[u8]), usize>
 }
 
 /// The place behind the last at the front, and the bytes after it; where it is wrong, how many bytes are left.
-fn stop_at(place: u64, count: u64, bytes: &[u8]) -> Result<(u64, &[u8]), usize>
+pub(crate) fn stop_at(place: u64, count: u64, bytes: &[u8]) -> Result<(u64, &[u8]), usize>
     ensures value { Reads (λ x. (x.0, x.1.now)) result (number_left (is_stop place count) 2 bytes.now) }
     ensures shorter { IfOk result (λ x. length x.1.now ≤ length bytes.now) }
     ensures within { IfErr result (λ left. left ≤ length bytes.now) }
@@ -79,7 +79,7 @@ fn stop_at(place: u64, count: u64, bytes: &[u8]) -> Result<(u64, &[u8]), usize>
 }
 
 /// The flag at the front, and the bytes after it; where it is wrong, how many bytes are left.
-fn flag_at(bytes: &[u8]) -> Result<(u64, &[u8]), usize>
+pub(crate) fn flag_at(bytes: &[u8]) -> Result<(u64, &[u8]), usize>
     ensures value { Reads (λ x. (x.0, x.1.now)) result (number_left is_flag 5 bytes.now) }
     ensures shorter { IfOk result (λ x. length x.1.now ≤ length bytes.now) }
     ensures within { IfErr result (λ left. left ≤ length bytes.now) }

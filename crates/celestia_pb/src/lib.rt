@@ -13,6 +13,9 @@ mod ids;
 mod inclusions;
 mod messages;
 mod ods;
+mod row_data;
+mod row_proof;
+mod row_shares;
 mod sample;
 mod share_lists;
 
@@ -24,4 +27,5 @@ pub use ids::{
     read_sample_id,
 };
 pub use ods::{ods_laws, ods_size, put_ods, read_ods};
+pub use row_data::{put_row_data, read_row_data, row_data_laws, row_data_size};
 pub use sample::{Sample, put_sample, read_sample, sample_laws, sample_size};

@@ -68,7 +68,8 @@ fn share_in(bytes: &[u8]) -> Result<Share, usize>
 
 /// The share in a field that may be at the front, and the bytes after it; where it is wrong, how many bytes are left.
 pub(crate) fn share_field(bytes: &[u8]) -> Result<(Option<Share>, &[u8]), usize>
-    ensures { Reads (λ x. (x.0, x.1.now)) result (message_at (λ rest part. share_left part) 1 bytes.now) }
+    ensures value { Reads (λ x. (x.0, x.1.now)) result (message_at (λ rest part. share_left part) 1 bytes.now) }
+    ensures within { IfErr result (λ left. left ≤ length bytes.now) }
 {
     if !begins_part(SHARE, bytes) {
         return Ok((None, bytes));

@@ -32,17 +32,17 @@ fn build_square<O: Sink>(alloc: Global, block: &Block, out: &mut O) -> Status
 }
 
 /// The square of a list of transactions, or the first check that fails.
-fn list_square(alloc: Global, transactions: &[Unit]) -> Result<Square, ListError>
-    ensures first { Answers result (list_refusal transactions.now) }
-    ensures square { IfOk result (λ square. square ≡ square_of_list (list_of transactions.now)) }
+fn list_square(alloc: Global, transactions: Vec<Unit>) -> Result<Square, ListError>
+    ensures first { Answers result (list_refusal transactions.items) }
+    ensures square { IfOk result (λ square. square ≡ square_of_list (list_of transactions.items)) }
 {
     let list = read_list(alloc, transactions)?;
     lay_list(alloc, &list)
 }
 
 /// Writes the square of a list of transactions. All memory is taken before the write.
-fn build_list<O: Sink>(alloc: Global, transactions: &[Unit], out: &mut O) -> Status
-    ensures { EndsAtOnce (BuildsList transactions.now) (O.taken out.old) (O.taken out.new)
+fn build_list<O: Sink>(alloc: Global, transactions: Vec<Unit>, out: &mut O) -> Status
+    ensures { EndsAtOnce (BuildsList transactions.items) (O.taken out.old) (O.taken out.new)
         (O.faults out.old) (O.faults out.new) (out.new ≡ out.old) result }
 {
     match list_square(alloc, transactions) {
@@ -53,13 +53,13 @@ fn build_list<O: Sink>(alloc: Global, transactions: &[Unit], out: &mut O) -> Sta
 }
 
 /// Writes the square of either. All memory is taken before the write.
-fn build_either<O: Sink>(alloc: Global, block: &BlockOrList, out: &mut O) -> Status
-    ensures { EndsAtOnce (BuildsEither block.now) (O.taken out.old) (O.taken out.new) (O.faults out.old)
+fn build_either<O: Sink>(alloc: Global, block: BlockOrList, out: &mut O) -> Status
+    ensures { EndsAtOnce (BuildsEither block) (O.taken out.old) (O.taken out.new) (O.faults out.old)
         (O.faults out.new) (out.new ≡ out.old) result }
 {
     match block {
-        BlockOrList::Block(block) => build_square(alloc, block, out),
-        BlockOrList::Transactions(transactions) => build_list(alloc, &transactions.list, out),
+        BlockOrList::Block(block) => build_square(alloc, &block, out),
+        BlockOrList::Transactions(transactions) => build_list(alloc, transactions.list, out),
     }
 }
 
@@ -70,7 +70,7 @@ pub fn execute<O: Sink>(alloc: Global, files: &[Vec<u8>], out: &mut O) -> Status
         (O.faults out.new) (out.new ≡ out.old) result }
 {
     match one_block(alloc, files) {
-        Ok(block) => build_either(alloc, &block, out),
+        Ok(block) => build_either(alloc, block, out),
         Err(status) => status,
     }
 }

@@ -134,9 +134,9 @@ fn commit<O: Sink>(alloc: Global, block: &Block, out: &mut O) -> Status
 
 /// The list that transactions are read as, if it can be laid out, or the first check that fails. No square
 /// is made of it.
-fn judge_list(alloc: Global, transactions: &[Unit]) -> Result<TxList, ListError>
-    ensures first { lists.Answers result (list_refusal transactions.now) }
-    ensures list { IfOk result (λ list. list ≡ list_of transactions.now) }
+fn judge_list(alloc: Global, transactions: Vec<Unit>) -> Result<TxList, ListError>
+    ensures first { lists.Answers result (list_refusal transactions.items) }
+    ensures list { IfOk result (λ list. list ≡ list_of transactions.items) }
 {
     let list = read_list(alloc, transactions)?;
     let _places = places(alloc, &list)?;
@@ -158,8 +158,8 @@ fn give_payments<O: Sink>(alloc: Global, list: &TxList, out: &mut O) -> Status
 
 /// Writes the lines of the blobs of a list of transactions, if it can be laid out. All memory is taken
 /// before the write.
-fn commit_list<O: Sink>(alloc: Global, transactions: &[Unit], out: &mut O) -> Status
-    ensures { EndsAtOnce (CommitsList transactions.now) (O.taken out.old) (O.taken out.new)
+fn commit_list<O: Sink>(alloc: Global, transactions: Vec<Unit>, out: &mut O) -> Status
+    ensures { EndsAtOnce (CommitsList transactions.items) (O.taken out.old) (O.taken out.new)
         (O.faults out.old) (O.faults out.new) (out.new ≡ out.old) result }
 {
     match judge_list(alloc, transactions) {
@@ -170,13 +170,13 @@ fn commit_list<O: Sink>(alloc: Global, transactions: &[Unit], out: &mut O) -> St
 }
 
 /// Writes the lines of the blobs of either. All memory is taken before the write.
-fn commit_either<O: Sink>(alloc: Global, block: &BlockOrList, out: &mut O) -> Status
-    ensures { EndsAtOnce (CommitsEither block.now) (O.taken out.old) (O.taken out.new)
+fn commit_either<O: Sink>(alloc: Global, block: BlockOrList, out: &mut O) -> Status
+    ensures { EndsAtOnce (CommitsEither block) (O.taken out.old) (O.taken out.new)
         (O.faults out.old) (O.faults out.new) (out.new ≡ out.old) result }
 {
     match block {
-        BlockOrList::Block(block) => commit(alloc, block, out),
-        BlockOrList::Transactions(transactions) => commit_list(alloc, &transactions.list, out),
+        BlockOrList::Block(block) => commit(alloc, &block, out),
+        BlockOrList::Transactions(transactions) => commit_list(alloc, transactions.list, out),
     }
 }
 
@@ -187,7 +187,7 @@ pub fn execute<O: Sink>(alloc: Global, files: &[Vec<u8>], out: &mut O) -> Status
         (O.faults out.new) (out.new ≡ out.old) result }
 {
     match one_block(alloc, files) {
-        Ok(block) => commit_either(alloc, &block, out),
+        Ok(block) => commit_either(alloc, block, out),
         Err(status) => status,
     }
 }

@@ -17,7 +17,7 @@ use Rattle.tx_list.specs.declared.refusals.ListError.TheVariants as list
 use Rattle.tx_list.specs.declared.refusals.BackError.{BackError}
 use Rattle.tx_list.specs.declared.refusals.BackError.TheVariants as back
 use Rattle.da_status.specs.declared.status.Asked.{Asked}
-use Rattle.da_status.specs.declared.status.Asked.TheVariants.{NoHeader, At, Count, Nodes, Range, Shares, NoList, LongList}
+use Rattle.da_status.specs.declared.status.Asked.TheVariants.{NoHeader, At, Count, Nodes, Range, Shares, NoList, LongList, Form}
 use Rattle.da_status.specs.declared.status.Status.{Status}
 use Rattle.da_status.specs.declared.status.Status.TheVariants.{Done, Usage, PickFault, ReadFault, WriteFault, NoMemory, BadInput, TooLong, BadBlock, BadList, BadRequest, Fraud, Missing, Clash, Refused, Waiting}
 
@@ -93,6 +93,7 @@ request_note Range = codes "range"
 request_note (Shares why) = codes "shares " ++ decimal (join_number why) ++ codes " " ++ decimal (join_share why)
 request_note (NoList why) = codes "transactions " ++ back_note why
 request_note LongList = codes "transactions 6"
+request_note Form = codes "form"
 
 -- the kind of an axis, in a word
 abbrev pub axis_note : Axis → List ℕ

@@ -190,6 +190,7 @@ fn note_of(status: Status) -> Line
             line.put(b"\n");
         }
         Status::BadRequest(Asked::LongList) => line.put(b"bad request: transactions 6\n"),
+        Status::BadRequest(Asked::Form) => line.put(b"bad request: form\n"),
         Status::Fraud(axis, i) => {
             line.put(b"fraud: ");
             line.put(axis_note(axis));

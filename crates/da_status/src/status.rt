@@ -28,6 +28,8 @@ pub enum Asked {
     NoList(BackError),
     /// The list that is laid out as the square has no spelling: its payload would be above the limit.
     LongList,
+    /// The frame has no bytes in the form that is asked for.
+    Form,
 }
 
 /// How a run ended. Files are numbered from 0 among the words that name files; `at` is an offset in

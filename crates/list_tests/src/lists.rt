@@ -73,7 +73,7 @@ fn spelled(rt: &impl Abort, alloc: Global, list: &TxList) -> Vec<u8> {
 #[test]
 fn no_transactions(rt: HostRuntime) {
     let alloc = rt.alloc();
-    let list = read_list(alloc, &[]).expect(&rt, "none is refused");
+    let list = read_list(alloc, Vec::new(alloc)).expect(&rt, "none is refused");
     assert!(rt; list.units.is_empty() && list.payments.is_empty());
     let square = lay_list(alloc, &list).expect(&rt, "it is small");
     assert!(rt; square.k == 1);
@@ -90,7 +90,7 @@ fn one_payment(rt: HostRuntime) {
     ]
     .expect(&rt, "there is memory");
     let all = vec![in alloc; payment(&rt, alloc, &blobs)].expect(&rt, "there is memory");
-    let list = read_list(alloc, &all).expect(&rt, "it is taken");
+    let list = read_list(alloc, all).expect(&rt, "it is taken");
     assert!(rt; list.units.is_empty() && list.payments.len() == 1);
     let own = places(alloc, &list).expect(&rt, "it is small");
     assert!(rt; own.as_slice() == [2, 1].as_slice());
@@ -115,7 +115,7 @@ fn lenient_reading(rt: HostRuntime) {
     put(&rt, 2, &small_blob(&rt, alloc, 0x0101), &mut bytes);
     put(&rt, 1, &[5, 6], &mut bytes);
     let all = vec![in alloc; Unit { bytes }].expect(&rt, "there is memory");
-    let list = read_list(alloc, &all).expect(&rt, "it is taken");
+    let list = read_list(alloc, all).expect(&rt, "it is taken");
     assert!(rt; list.payments.len() == 1 && list.units.is_empty());
     let blobs = vec![in alloc; small_blob(&rt, alloc, 0x0101)].expect(&rt, "there is memory");
     assert!(rt; spelled(&rt, alloc, &list) == payment(&rt, alloc, &blobs).bytes);
@@ -134,7 +134,7 @@ fn plain_transactions(rt: HostRuntime) {
         &rt,
         "there is memory",
     );
-    let list = read_list(alloc, &all).expect(&rt, "both are plain");
+    let list = read_list(alloc, all).expect(&rt, "both are plain");
     assert!(rt; list.units.len() == 2 && list.payments.is_empty());
 }
 
@@ -144,7 +144,7 @@ fn refusal(rt: &impl Abort, alloc: Global, blobs: &[Vec<u8>]) -> Option<ListErro
         rt,
         "there is memory",
     );
-    read_list(alloc, &all).err()
+    read_list(alloc, all).err()
 }
 
 #[test]

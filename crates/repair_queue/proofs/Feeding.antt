@@ -11,3 +11,4 @@ pub mod FinishLemmas
 pub mod ViewLemmas
 pub mod NotFoundLemmas
 pub mod SharesLemmas
+pub mod CoverageLemmas

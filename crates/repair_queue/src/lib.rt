@@ -11,6 +11,7 @@
 mod boards;
 mod conflicts;
 mod counts;
+mod coverage;
 mod ending;
 mod entering;
 mod fed;

@@ -8,7 +8,7 @@ ghost use Rattle.tx_list.specs.Measures.{full_of, bound_with, has_square};
 
 use crate::measuring::Measure;
 use crate::placing::blobs_of;
-use crate::taking::read_list;
+use crate::taking::read_copied;
 use crate::unwrapping::unwrapped;
 use crate::wrapping::{wrap_all, wrapped};
 use crate::{ListError, TxList};
@@ -76,7 +76,7 @@ pub(crate) fn has_square(
 ) -> Result<bool, NoMemory>
     ensures { IfOk result (λ has. has ≡ has_square plain.now payments.now blobs) }
 {
-    let list = match read_list(alloc, plain) {
+    let list = match read_copied(alloc, plain) {
         Ok(list) => list,
         Err(ListError::NoMemory) => return Err(NoMemory),
         Err(_why) => return Ok(false),

@@ -1,10 +1,11 @@
 //! From transactions to the list that they are read as.
 
-ghost use Rattle.std.specs.Prelude.{◌≡◌, ◌-◌, ◌==◌, ◌∷◌, length, map, true, IfOk, OnOk, Some, None, if◌then◌else◌};
+ghost use Rattle.std.specs.Prelude.{◌≡◌, ◌-◌, ◌≤◌, ◌==◌, ◌∷◌, length, take, map, true, IfOk, OnOk, Some, None, if◌then◌else◌};
 ghost use Rattle.std.specs.List.{AllByRecursion};
 ghost use Rattle.namespace_id.specs.Sizes.{namespace_size};
 ghost use Rattle.proto_fields.specs.Fields.{own_bytes};
 ghost use Rattle.proto_fields.specs.Values.{field_parts};
+ghost use Rattle.tx_list.specs.Payments.{IsPayment};
 ghost use Rattle.tx_list.specs.Reads.{blob_of, payment_of, list_of};
 ghost use Rattle.tx_list.specs.ReadRefusals.{has_version, read_refusal};
 ghost use Rattle.tx_list.specs.Refusals.{RefusesFirst};
@@ -100,7 +101,8 @@ fn units_in(alloc: Global, plain: &[Unit]) -> Result<Vec<Unit>, NoMemory>
 /// The payments that transactions are.
 fn payments_in(alloc: Global, paid: &[Unit]) -> Result<Vec<Payment>, NoMemory>
     requires { AllByRecursion IsTakenPayment paid.now }
-    ensures { IfOk result (λ payments. payments.items ≡ map payment_of paid.now) }
+    ensures payments { IfOk result (λ payments. payments.items ≡ map payment_of paid.now) }
+    ensures payable { IfOk result (λ payments. AllByRecursion IsPayment payments.items) }
 {
     let mut payments = Vec::new(alloc);
     for one in paid {
@@ -111,14 +113,35 @@ fn payments_in(alloc: Global, paid: &[Unit]) -> Result<Vec<Payment>, NoMemory>
     Ok(payments)
 }
 
-/// The list of plain transactions and payments.
-fn list_of(alloc: Global, plain: &[Unit], paid: &[Unit]) -> Result<TxList, NoMemory>
-    requires { AllByRecursion IsTakenPayment paid.now }
-    ensures units { IfOk result (λ list. list.units ≡ plain.now) }
-    ensures payments { IfOk result (λ list. list.payments ≡ map payment_of paid.now) }
+/// How many transactions are plain, which stand in front, and the payments that those behind them are; or the first one that isn't
+/// taken, and why.
+fn payments_behind(alloc: Global, transactions: &[Unit]) -> Result<(usize, Vec<Payment>), ListError>
+    ensures first { RefusesFirst result (read_refusal transactions.now) }
+    ensures count { IfOk result (λ read. read.0 ≤ length transactions.now) }
+    ensures units { IfOk result (λ read.
+        take read.0 transactions.now ≡ (list_of transactions.now).units) }
+    ensures payments { IfOk result (λ read. read.1.items ≡ (list_of transactions.now).payments) }
+    ensures payable { IfOk result (λ read. AllByRecursion IsPayment read.1.items) }
 {
-    let units = units_in(alloc, plain)?;
-    let payments = payments_in(alloc, paid)?;
+    let count = plain_count(transactions)?;
+    let (_plain, paid) = transactions.split_at(count);
+    let Ok(payments) = payments_in(alloc, paid) else {
+        return Err(ListError::NoMemory);
+    };
+    Ok((count, payments))
+}
+
+/// The list that transactions are read as, which stay as they are: the plain ones once more, and the payments. It answers as
+/// `read_list`.
+pub(crate) fn read_copied(alloc: Global, transactions: &[Unit]) -> Result<TxList, ListError>
+    ensures first { RefusesFirst result (read_refusal transactions.now) }
+    ensures list { IfOk result (λ list. list ≡ list_of transactions.now) }
+{
+    let (count, payments) = payments_behind(alloc, transactions)?;
+    let (plain, _paid) = transactions.split_at(count);
+    let Ok(units) = units_in(alloc, plain) else {
+        return Err(ListError::NoMemory);
+    };
     Ok(TxList { units, payments })
 }
 
@@ -129,16 +152,18 @@ fn list_of(alloc: Global, plain: &[Unit], paid: &[Unit]) -> Result<TxList, NoMem
 /// Refuses the first transaction that isn't taken, by the first check of it that fails, whatever memory there is: a plain one
 /// behind a payment (`Behind`); a payment without blobs (`NoBlobs`); and of a payment's first blob that fails one, a namespace
 /// that isn't one of a blob (`BadBlob`), a share version that doesn't go with the signer (`BadVersion`), no bytes (`NoBytes`).
-/// A list that is taken is refused for want of memory alone.
+/// A list that is taken is refused for want of memory alone. A refusal drops the transactions.
+///
+/// The plain transactions stay where they lie, and take no memory; those that are payments are dropped, once their transactions
+/// and blobs are known.
 ///
 /// docs/RULES.md, "A block of the network"; protobuf, "Encoding".
-pub fn read_list(alloc: Global, transactions: &[Unit]) -> Result<TxList, ListError>
-    ensures first { RefusesFirst result (read_refusal transactions.now) }
-    ensures list { IfOk result (λ list. list ≡ list_of transactions.now) }
+pub fn read_list(alloc: Global, transactions: Vec<Unit>) -> Result<TxList, ListError>
+    ensures first { RefusesFirst result (read_refusal transactions.items) }
+    ensures list { IfOk result (λ list. list ≡ list_of transactions.items) }
 {
-    let (plain, paid) = transactions.split_at(plain_count(transactions)?);
-    let Ok(list) = list_of(alloc, plain, paid) else {
-        return Err(ListError::NoMemory);
-    };
-    Ok(list)
+    let (count, payments) = payments_behind(alloc, &transactions)?;
+    let mut units = transactions;
+    units.truncate(count);
+    Ok(TxList { units, payments })
 }

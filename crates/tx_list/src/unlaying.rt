@@ -14,7 +14,7 @@ use crate::finding::blob_at;
 use crate::laying::lay_list;
 use crate::measuring::{Measure, measure_of};
 use crate::spelling::spelled_payment;
-use crate::taking::read_list;
+use crate::taking::read_copied;
 use crate::unwrapping::unwrapped;
 use crate::{BackError, ListError};
 use namespace_id::{NAMESPACE_SIZE, Namespace, PAY_FOR_BLOB, Share, TRANSACTION, shares_law};
@@ -198,7 +198,7 @@ fn lay_again(alloc: Global, square: &Square, transactions: &[Unit]) -> Result<()
     ensures first { Answers result (laid_refusal square.now transactions.now) }
     ensures named { OnOk result (HaveNamedBlobs transactions.now) }
 {
-    let list = match read_list(alloc, transactions) {
+    let list = match read_copied(alloc, transactions) {
         Ok(list) => list,
         Err(ListError::NoMemory) => return Err(BackError::NoMemory),
         Err(_why) => return Err(BackError::Unlike(0)),

@@ -3,7 +3,7 @@ use Rattle.namespace_id.specs.declared.shares.Share.{Share}
 use Rattle.namespace_id.specs.Shares.{AreShares}
 use Rattle.proto_fields.specs.Spelled.{field_size}
 use Rattle.proto_fields.specs.Canonical.{number_text}
-use Rattle.celestia_pb.proofs.HalfRowLoop.{entry_size}
+use Rattle.celestia_pb.proofs.HalfRowLemmas.{entry_size}
 use Rattle.celestia_pb.proofs.HalfRowLemmas.{half_row_sized}
 use Rattle.celestia_pb.proofs.half_row.half_row_size.Goals as goal
 

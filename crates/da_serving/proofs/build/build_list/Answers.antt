@@ -8,7 +8,7 @@ use Rattle.da_serving.proofs.build.build_list.Goals as goal
 -- what is written is the frame of the list's square
 pub returns-in-Ok : goal.returns-in-Ok
 returns-in-Ok g c =
-    let transactions = c.args.transactions.now in
+    let transactions = c.args.transactions.items in
     once_within (Writes c.square_frame.result) (BuildsList transactions) _ _ _ _ _ _
     (builds_list transactions c.in-Ok.square c.square_frame.result c.in-Ok.ensures.first c.in-Ok.ensures.square c.square_frame.ensures.value)
     c.give.ensures

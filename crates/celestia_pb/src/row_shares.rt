@@ -1,0 +1,84 @@
+//! Shares in repeated fields.
+
+ghost use Rattle.std.specs.Prelude.{◌≡◌, ◌+◌, ◌*◌, ◌≤◌, ◌++◌, length, vec_len, vec_capacity, IfOk, IfErr};
+ghost use Rattle.namespace_id.specs.Answers.{HasRoom};
+ghost use Rattle.namespace_id.specs.Sizes.{greatest_width};
+ghost use Rattle.celestia_pb.specs.Reading.{Reads};
+ghost use Rattle.celestia_pb.specs.RowShares.{shares_text, shares_at, share_entry_size, entry_share, shares_in};
+
+use crate::sample::{put_share, share_field};
+use namespace_id::{GREATEST_WIDTH, NoMemory, SHARE_SIZE, Share, bytes_law};
+use std::alloc::Global;
+
+/// The bytes of the tags and the lengths of a share.
+const FRONT_SIZE: usize = 6;
+
+/// The bytes of a share with these.
+pub(crate) const SHARE_ENTRY_SIZE: usize = FRONT_SIZE + SHARE_SIZE;
+
+/// The most shares.
+pub(crate) const MOST_SHARES: usize = GREATEST_WIDTH as usize;
+
+/// How many shares are at the front, at most so many as a row of the widest square has, and the bytes after them; where one of them
+/// is wrong, how many bytes are left from the field on that is.
+pub(crate) fn count_shares(bytes: &[u8]) -> Result<(usize, &[u8]), usize>
+    ensures value { Reads (λ x. (shares_in x.0 bytes.now, x.1.now)) result (shares_at greatest_width bytes.now) }
+    ensures size { IfOk result (λ x. share_entry_size * x.0 + length x.1.now ≡ length bytes.now) }
+    ensures few { IfOk result (λ x. x.0 ≤ greatest_width) }
+    ensures within { IfErr result (λ left. left ≤ length bytes.now) }
+{
+    bytes_law(bytes);
+    let mut count = 0;
+    let mut rest = bytes;
+    while count < MOST_SHARES {
+        let (share, after) = share_field(rest)?;
+        let Some(_share) = share else {
+            return Ok((count, rest));
+        };
+        count += 1;
+        rest = after;
+    }
+    Ok((count, rest))
+}
+
+/// The share behind its tags and lengths.
+fn entry_share(bytes: &[u8]) -> Share
+    requires { share_entry_size ≤ length bytes.now }
+    ensures { result ≡ entry_share bytes.now }
+{
+    let mut share = Share([0; SHARE_SIZE]);
+    share
+        .0
+        .copy_from_slice(&bytes[FRONT_SIZE..SHARE_ENTRY_SIZE]);
+    share
+}
+
+/// So many shares, each behind its tags and lengths. The one refusal is that it is out of memory.
+pub(crate) fn shares_in(alloc: Global, count: usize, bytes: &[u8]) -> Result<Vec<Share>, NoMemory>
+    requires { share_entry_size * count ≤ length bytes.now }
+    ensures value { IfOk result (λ shares. shares.items ≡ shares_in count bytes.now) }
+    ensures len { IfOk result (λ shares. vec_len shares ≡ count) }
+{
+    let mut shares = Vec::with_capacity(alloc, count)?;
+    let mut rest = bytes;
+    for _ in 0..count {
+        let (_entry, after) = rest.split_at(SHARE_ENTRY_SIZE);
+        let Ok(()) = shares.push(entry_share(rest)) else {
+            return Err(NoMemory);
+        };
+        rest = after;
+    }
+    Ok(shares)
+}
+
+/// Appends shares for which there is capacity, each in its field.
+pub(crate) fn put_shares(shares: &[Share], out: &mut Vec<u8>)
+    requires room { HasRoom out.old (length (shares_text shares.now)) }
+    ensures appended { out.new.items ≡ out.old.items ++ shares_text shares.now }
+    ensures len { vec_len out.new ≡ vec_len out.old + length (shares_text shares.now) }
+    ensures capacity { vec_capacity out.old ≤ vec_capacity out.new }
+{
+    for share in shares {
+        put_share(share, out);
+    }
+}

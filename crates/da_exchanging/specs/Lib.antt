@@ -1,0 +1,8 @@
+-- outputs that are made whole
+pub mod Made
+-- the forms, one a file
+pub mod Dah
+pub mod Sample
+pub mod Ids
+-- all of them
+pub mod Forms

@@ -1,0 +1,97 @@
+//! The forms of Celestia's bytes, and importing and exporting one.
+
+ghost use Rattle.std.specs.Prelude.{◌≡◌};
+ghost use Rattle.da_status.specs.Judging.{Judged};
+ghost use Rattle.da_status.specs.Outcome.{EndsAtOnce};
+ghost use Rattle.da_files.specs.Contents.{contents_of};
+ghost use Rattle.da_exchanging.specs.Made.{IsMade};
+ghost use Rattle.da_exchanging.specs.Forms.{import_judged, ImportOf, export_judged, ExportOf};
+
+use crate::{dah, ids, sample};
+use da_files::put;
+use da_io::Sink;
+use da_status::Status;
+use namespace_id::Cell;
+use std::alloc::Global;
+
+/// What `import` takes the bytes of FILE for, with what they don't say themselves.
+#[derive(Clone, Copy, Debug, PartialEq, Eq)]
+pub enum ImportForm {
+    /// `dah FILE`: a DataAvailabilityHeader; the frame is H.
+    Dah,
+    /// `sample FILE ROW COL`: a Sample of this cell; M.
+    Sample(Cell),
+    /// `sample-id FILE HEIGHT`: a SampleID of this height; Q along the row.
+    SampleId(u64),
+    /// `namespace-id FILE HEIGHT`: a NamespaceDataID of this height; P.
+    NamespaceId(u64),
+}
+
+/// What `export` makes of the frame in FILE, with what the frame doesn't say.
+#[derive(Clone, Copy, Debug, PartialEq, Eq)]
+pub enum ExportForm {
+    /// `dah FILE`: of H a DataAvailabilityHeader.
+    Dah,
+    /// `sample FILE`: of M a Sample.
+    Sample,
+    /// `sample-id FILE HEIGHT`: of Q a SampleID of this height, whatever the axis.
+    SampleId(u64),
+    /// `namespace-id FILE HEIGHT`: of P a NamespaceDataID of this height.
+    NamespaceId(u64),
+}
+
+/// The output of `import`.
+fn imported(alloc: Global, form: ImportForm, files: &[Vec<u8>]) -> Result<Vec<u8>, Status>
+    ensures { IsMade (Judged (import_judged form (contents_of files.now))
+        (ImportOf form (contents_of files.now))) result }
+{
+    match form {
+        ImportForm::Dah => dah::import(alloc, files),
+        ImportForm::Sample(cell) => sample::import(alloc, files, cell),
+        ImportForm::SampleId(height) => ids::import_sample(alloc, files, height),
+        ImportForm::NamespaceId(height) => ids::import_namespace(alloc, files, height),
+    }
+}
+
+/// The output of `export`.
+fn exported(alloc: Global, form: ExportForm, files: &[Vec<u8>]) -> Result<Vec<u8>, Status>
+    ensures { IsMade (Judged (export_judged form (contents_of files.now))
+        (ExportOf form (contents_of files.now))) result }
+{
+    match form {
+        ExportForm::Dah => dah::export(alloc, files),
+        ExportForm::Sample => sample::export(alloc, files),
+        ExportForm::SampleId(height) => ids::export_sample(alloc, files, height),
+        ExportForm::NamespaceId(height) => ids::export_namespace(alloc, files, height),
+    }
+}
+
+/// Writes the frame of what the bytes in FILE are, taken for this form. Bytes that aren't in the one spelling of the form are
+/// refused at the first field that is wrong. All memory is taken before the write.
+///
+/// docs/RULES.md, "Celestia's messages".
+pub fn import<O: Sink>(alloc: Global, form: ImportForm, files: &[Vec<u8>], out: &mut O) -> Status
+    ensures { EndsAtOnce (Judged (import_judged form (contents_of files.now))
+        (ImportOf form (contents_of files.now))) (O.taken out.old) (O.taken out.new)
+        (O.faults out.old) (O.faults out.new) (out.new ≡ out.old) result }
+{
+    match imported(alloc, form, files) {
+        Ok(text) => put(&text, Status::Done, out),
+        Err(status) => status,
+    }
+}
+
+/// Writes Celestia's bytes of the frame in FILE, in this form. A file that isn't one frame of the form's kind is refused
+/// where it stops being one. All memory is taken before the write.
+///
+/// docs/RULES.md, "Celestia's messages".
+pub fn export<O: Sink>(alloc: Global, form: ExportForm, files: &[Vec<u8>], out: &mut O) -> Status
+    ensures { EndsAtOnce (Judged (export_judged form (contents_of files.now))
+        (ExportOf form (contents_of files.now))) (O.taken out.old) (O.taken out.new)
+        (O.faults out.old) (O.faults out.new) (out.new ≡ out.old) result }
+{
+    match exported(alloc, form, files) {
+        Ok(text) => put(&text, Status::Done, out),
+        Err(status) => status,
+    }
+}
