@@ -194,24 +194,23 @@ def read_data_hash(part):
     """The data hash of the header in an extended header."""
     found = None
     for at, number, value in lenient(part):
-        if number == 7 and value is not None:
-            if found is not None:
-                raise Wrong(at, "a second data hash")
+        if number == 7:
+            if found is not None or value is None or len(value.rest()) != frames.HASH_BYTES:
+                raise Wrong(at, "a second data hash, or none of 32 bytes")
             found = value.rest()
-            if len(found) != frames.HASH_BYTES:
-                raise Wrong(at, f"the data hash has {len(found)} bytes")
     part.close("the header", its_data_hash=found is not None)
     return found
 
 
 def read_extended(part):
     """The header of an extended header, whose data hash has to be its data root."""
+    readers = {1: read_data_hash, 2: Part.rest, 3: Part.rest, 4: read_header}
     parts = {}
     for at, number, value in lenient(part):
-        if number in (1, 4) and value is not None:
-            if number in parts:
-                raise Wrong(at, f"a second field {number}")
-            parts[number] = (read_data_hash if number == 1 else read_header)(value)
+        if number in readers:
+            if number in parts or value is None:
+                raise Wrong(at, f"a second field {number}, or one that is no message")
+            parts[number] = readers[number](value)
     part.close("the extended header", its_header=1 in parts, its_roots=4 in parts)
     if parts[1] != parts[4].data_root():
         raise frames.Note(13, "refused")
@@ -354,7 +353,8 @@ def read_claim(part, hash_, height):
             places.append(None)
     index, axis = accused_behind(part, len(places))
     is_half = len(places) in [2 * k for k in frames.WIDTHS] and 2 * sum(map(bool, places)) == len(places)
-    part.close("the bad encoding proof", the_hash=told is not None, the_height=number == height, shares_at_half_of_2k_places=is_half)
+    is_told = told is not None and number == height
+    part.close("the bad encoding proof", hash_and_height=is_told, shares_at_half_of_2k_places=is_half)
     cells = [cell_at(axis, index, place, found) for place, found in enumerate(places) if found]
     return frames.Claim(frames.AXES[axis], index, cells, None)
 
