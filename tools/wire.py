@@ -4,11 +4,14 @@
     wire.py import FORM FILE WORD..   the frames that `da import` writes
     wire.py export FORM FILE WORD..   the message that `da export` writes
     wire.py why FORM FILE WORD..      why a message is `bad input`: the place, and what is wrong there
+    wire.py                           compares with the rows of `import` and `export`; the last line is 'N passed, M failed'
 
 FORM and WORD.. are those of docs/COMMANDS.md, statuses and notes those of `da`. The half of a row is extended by
 examples/make.py, up to width 128. Python 3 and its standard library alone.
 """
 
+import io
+import os
 import re
 import sys
 from hashlib import sha256
@@ -738,10 +741,30 @@ def parser():
     return top
 
 
+def rows(out):
+    """Runs the rows of `import` and `export` but those that are made, and those whose words are none."""
+    passed, failed = 0, []
+    for command in ("import", "export"):
+        home = os.path.join(lists.TOP, "rows", command)
+        for name in sorted(os.listdir(home)):
+            os.chdir(os.path.join(home, name))
+            words, *want, judges = lists.row_of(".")
+            if want[0] == 1 or os.path.exists("make"):
+                continue
+            output, note = io.BytesIO(), io.StringIO()
+            got = [frames.main(words, output, note), note.getvalue().removesuffix("\n")]
+            if got != want or not lists.is_right(".", output.getvalue(), judges):
+                failed.append(f"FAILED {command}/{name}: status and note {got}, {len(output.getvalue())} bytes\n")
+            else:
+                passed += 1
+    frames.write([*failed, f"{passed} passed, {len(failed)} failed\n"], out)
+    return 1 if failed else 0
+
+
 def main(words, out, err):
     """Runs the command of the words as frames.py runs its own; answers its status."""
     frames.parser = parser
-    return frames.main(words, out, err)
+    return frames.main(words, out, err) if words else rows(out)
 
 
 if __name__ == "__main__":
