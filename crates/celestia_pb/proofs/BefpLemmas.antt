@@ -1,9 +1,9 @@
 -- Bad encoding proofs, written and read.
-use Rattle.std.proofs.Common.{◌≡◌, ◌∙◌, ℕ, suc, ◌+◌, ◌*◌, ◌/◌, ◌^◌, ◌<◌, ◌≤◌, Bool, true, false, cond, ◌&&◌, ◌||◌, ◌==◌, eqb, eqb-true, ltb-true, lt-ltb, List, [], ◌∷◌, ◌++◌, length, Option, Some, None, option_and_then, Result, Ok, Err, refl, sym, ap, ap₂, subst, arith, append-nil}
-use Rattle.std.specs.Prelude.{nat_lt, IfSome}
+use Rattle.std.proofs.Common.{◌≡◌, ◌∙◌, ℕ, suc, ◌+◌, ◌*◌, ◌/◌, ◌^◌, ◌<◌, ◌≤◌, Bool, true, false, cond, ◌&&◌, ◌||◌, ◌==◌, eqb, eqb-true, lt-ltb, List, [], ◌∷◌, ◌++◌, length, Option, Some, None, option_and_then, Result, Ok, Err, refl, sym, ap, ap₂, subst, arith, append-nil}
+use Rattle.std.specs.Prelude.{nat_lt}
 use Rattle.std.specs.List.{AllByRecursion, list_all}
 use Rattle.std.specs.Str.{bytes_eq}
-use Rattle.std.proofs.lemmas.Bool.{and_parts, and_from, or_cases, true≢false}
+use Rattle.std.proofs.lemmas.Bool.{and_parts, and_from, true≢false}
 use Rattle.std.proofs.lemmas.Bool.Decides.{nat_tests}
 use Rattle.std.proofs.lemmas.List.{nil_from_length}
 use Rattle.std.proofs.lemmas.Option.{cond_some, none-some}
@@ -12,7 +12,6 @@ use Rattle.namespace_id.specs.declared.cells.Axis.{Axis}
 use Rattle.namespace_id.specs.declared.digests.Digest.{Digest}
 use Rattle.namespace_id.specs.Bytes.{AreBytes}
 use Rattle.namespace_id.specs.Cells.{is_width}
-use Rattle.namespace_id.specs.Digests.{AreDigests}
 use Rattle.namespace_id.specs.Lists.{holds_along}
 use Rattle.namespace_id.proofs.WidthLemmas.{is_width-le, is_width-pos}
 use Rattle.proto_fields.specs.Spelled.{bytes_field}
@@ -21,7 +20,7 @@ use Rattle.proto_fields.proofs.Options.{and_then_parts}
 use Rattle.proto_fields.proofs.CanonicalVarints.{behind_fits}
 use Rattle.proto_fields.proofs.CanonicalLemmas.{part_read_back, read_is_part_field}
 use Rattle.axis_roots.specs.declared.message.messages.Message.{Message}
-use Rattle.axis_roots.specs.Messages.{IsMessage, position, index}
+use Rattle.axis_roots.specs.Messages.{IsMessage, position}
 use Rattle.axis_roots.specs.Claims.{ClaimParts, IsClaim, positions_of, is_on, has_shape}
 use Rattle.axis_roots.proofs.Messages.ClaimLemmas.{shape_of}
 use Rattle.celestia_pb.specs.declared.sample.Sample.{Sample}
@@ -30,16 +29,15 @@ use Rattle.celestia_pb.specs.declared.befp_entries.Seen.{Seen}
 use Rattle.celestia_pb.specs.declared.befp.Outline.{Outline}
 use Rattle.celestia_pb.specs.Reading.{then_read, or_left, placed}
 use Rattle.celestia_pb.specs.Messages.{number_left}
-use Rattle.celestia_pb.specs.Samples.{IsSample, axis_number}
+use Rattle.celestia_pb.specs.Samples.{axis_number}
 use Rattle.celestia_pb.specs.BefpEntries.{axis_in, places_text, places_of, places_at, none_seen, cells_of}
-use Rattle.celestia_pb.specs.Befp.{has_no_set, has_message, befp_text, is_index, accused_end, accused_kind, accused_left, count_at, if_accused, outline_of, outline_at, has_places, claim_of, befp_end, befp_axis, places_by, befp_places, is_height, befp_height, if_hash, hash_at, befp_left, befp_value}
+use Rattle.celestia_pb.specs.Befp.{has_no_set, has_message, befp_text, is_index, accused_end, accused_kind, accused_left, if_accused, outline_of, outline_at, has_places, claim_of, befp_end, befp_axis, places_by, befp_places, is_height, befp_height, if_hash, hash_at, befp_left, befp_value}
 use Rattle.celestia_pb.specs.BefpLaws.{HasMessage, IsBefp}
 use Rattle.celestia_pb.proofs.Steps.{same_ok, cond_ok, then_ok, placed_ok}
 use Rattle.celestia_pb.proofs.Fronts.{begins_own}
 use Rattle.celestia_pb.proofs.MessageLemmas.{begins_number, number_left_is_read, number_left_back, number_left_passes}
 use Rattle.celestia_pb.proofs.SampleLemmas.{or_left_some}
 use Rattle.celestia_pb.proofs.AxisLemmas.{axis_in_is_read, axis_in_back, begins_last}
-use Rattle.celestia_pb.proofs.PlaceEntries.{with_cell}
 use Rattle.celestia_pb.proofs.PlaceCells.{RiseFrom, rise_from_tests, tests_rise, tests_below, bare_all, AreLaid, cells_laid, length-places_of, messages_of, cells_rise, cells_on, cell_fits, places_back}
 use Rattle.celestia_pb.proofs.PlaceLemmas.{begins_places, places_are_counted, AreRead, places_are_read, places_agree, flag_of, AreSamples, ArePlacesRead, places_were_written}
 
@@ -54,20 +52,20 @@ or_self n = grind (arith, nat_tests)
 -- ---- claims that have a message
 
 -- what the test of a claim says
-record IsTested (k : ℕ) (claim : ClaimParts) : Type 0 where
-  width : is_width k ≡ true
-  plain : claim.set ≡ None
-  index_lt : claim.index < 2 * k
-  count : length claim.cells ≡ k
-  on : list_all (is_on claim) claim.cells ≡ true
-  rise : RiseFrom claim.axis 0 (2 * k) claim.cells
+pub record IsTested (k : ℕ) (claim : ClaimParts) : Type 0 where
+  pub width : is_width k ≡ true
+  pub plain : claim.set ≡ None
+  pub index_lt : claim.index < 2 * k
+  pub count : length claim.cells ≡ k
+  pub on : list_all (is_on claim) claim.cells ≡ true
+  pub rise : RiseFrom claim.axis 0 (2 * k) claim.cells
 
 -- nothing is there
 no_set : (o : Option (List Digest)) → has_no_set o ≡ true → o ≡ None
 no_set None e = refl
 no_set (Some nodes) e = absurd (true≢false (sym e))
 
-tested : (k : ℕ) (claim : ClaimParts) → has_message k claim ≡ true → IsTested k claim
+pub tested : (k : ℕ) (claim : ClaimParts) → has_message k claim ≡ true → IsTested k claim
 tested k claim test =
     let below : Bool = list_all (λ m. nat_lt (position claim.axis m.cell) (2 * k)) claim.cells in
     let a = and_parts (is_width k) (has_no_set claim.set && (has_shape k claim && below)) test in
@@ -82,6 +80,16 @@ tested k claim test =
       on = shape.on;
       rise = rise_from_tests claim.axis (2 * k) claim.cells shape.rising c.1;
     }
+
+-- the axis that a claim accuses
+abbrev pub accused_by : ClaimParts → Accused
+accused_by claim = record { axis = claim.axis; index = claim.index }
+
+-- its cells are laid on the places of the axis
+pub claim_laid : (k : ℕ) (claim : ClaimParts) → IsClaim claim → IsTested k claim → AreLaid (accused_by claim) 0 (places_of claim.axis (2 * k) 0 claim.cells) claim.cells
+claim_laid k claim is test =
+    let end : 2 * k ≡ 0 + 2 * k = omega arith in
+    cells_laid (accused_by claim) (2 * k) 0 claim.cells is.messages test.on (subst (λ (n : ℕ). RiseFrom claim.axis 0 n claim.cells) end test.rise)
 
 -- so a claim of cells that rise has one
 has_tested : (k : ℕ) (claim : ClaimParts) → IsTested k claim → has_message k claim ≡ true
@@ -153,7 +161,7 @@ hash_is_read hash rest short =
 -- what is read as the hash was written so
 hash_back : (hash bytes rest : List ℕ) (b told : Bool) → AreBytes bytes → told ≡ true
     → cond b (or_left bytes (option_and_then (if_hash hash) (canonical_part 1 bytes))) (Ok (false, bytes)) ≡ Ok (told, rest)
-    → (bytes ≡ bytes_field 1 hash ++ rest) × AreBytes rest
+    → (length hash < 2 ^ 64) × (bytes ≡ bytes_field 1 hash ++ rest) × AreBytes rest
 hash_back hash bytes rest false told fits is_told e =
     absurd (true≢false (sym (ap (λ (p : Bool × List ℕ). p.0) (same_ok (false, bytes) (told, rest) e) ∙ is_told)))
 hash_back hash bytes rest true told fits is_told e =
@@ -162,9 +170,9 @@ hash_back hash bytes rest true told fits is_told e =
     let test = cond_some (bytes_eq part hash) (true, found.0.1) (told, rest) found.2 in
     let same : part ≡ hash = (bytes_eq-Decides part hash).0 test.0 in
     let after : found.0.1 ≡ rest = ap (λ (p : Bool × List ℕ). p.1) test.1 in
-    let text : bytes ≡ bytes_field 1 hash ++ rest =
-    (read_is_part_field 1 bytes part found.0.1 (omega arith) fits found.1).1 ∙ ap₂ (λ (l r : List ℕ). bytes_field 1 l ++ r) same after in
-    (text, behind_fits (bytes_field 1 hash) rest (subst (λ (l : List ℕ). AreBytes l) text fits))
+    let spelled = read_is_part_field 1 bytes part found.0.1 (omega arith) fits found.1 in
+    let text : bytes ≡ bytes_field 1 hash ++ rest = spelled.1 ∙ ap₂ (λ (l r : List ℕ). bytes_field 1 l ++ r) same after in
+    (subst (λ (l : List ℕ). length l < 2 ^ 64) same spelled.0, text, behind_fits (bytes_field 1 hash) rest (subst (λ (l : List ℕ). AreBytes l) text fits))
 
 -- ---- what is written is read
 
@@ -181,7 +189,7 @@ places_pass k width =
 module _ (flag k height : ℕ) (hash : List ℕ) (claim : ClaimParts) (one : flag ≤ 1) (short : height < 2 ^ 64) (is : IsClaim claim) (test : IsTested k claim) where
   -- the axis that the claim accuses
   abbrev accused : Accused
-  accused = record { axis = claim.axis; index = claim.index }
+  accused = accused_by claim
 
   -- its places
   abbrev places : List (Option Message)
@@ -199,10 +207,9 @@ module _ (flag k height : ℕ) (hash : List ℕ) (claim : ClaimParts) (one : fla
   abbrev known : Outline
   known = record { most = k; accused = Some accused }
 
+  -- its cells are laid on them
   laid : AreLaid accused 0 places claim.cells
-  laid =
-      let end : 2 * k ≡ 0 + 2 * k = omega arith in
-      cells_laid accused (2 * k) 0 claim.cells is.messages test.on (subst (λ (n : ℕ). RiseFrom claim.axis 0 n claim.cells) end test.rise)
+  laid = claim_laid k claim is test
 
   -- there are as many as have to be
   many : length places ≡ 2 * k
@@ -277,16 +284,18 @@ are_messages accused place (Some s ∷ places) low few are =
     (record { row = cell.0; col = cell.1; share = are.0.share; few = are.0.few; nodes = are.0.nodes }, are_messages accused (suc place) places low (omega (arith, few)) are.1)
 
 -- the parts of a message, one behind another
-record AreParts (hash : List ℕ) (height : ℕ) (bytes : List ℕ) (claim : ClaimParts) : Type 0 where
-  places : List (Option Sample)
-  seen : Seen
-  accused : Accused
-  rest : List ℕ
-  read : ArePlacesRead accused none_seen rest places seen (number_text 4 accused.index ++ number_text 5 (axis_number accused.axis))
-  text : bytes ≡ bytes_field 1 hash ++ (number_text 2 height ++ rest)
-  passes : is_index seen.place accused.index ≡ true
-  has : has_places seen.place seen.shares ≡ true
-  claim_is : claim_of accused places ≡ claim
+pub record AreParts (hash : List ℕ) (height : ℕ) (bytes : List ℕ) (claim : ClaimParts) : Type 0 where
+  pub hash_few : length hash < 2 ^ 64
+  pub height_few : height < 2 ^ 64
+  pub places : List (Option Sample)
+  pub seen : Seen
+  pub accused : Accused
+  pub rest : List ℕ
+  pub read : ArePlacesRead accused none_seen rest places seen (number_text 4 accused.index ++ number_text 5 (axis_number accused.axis))
+  pub text : bytes ≡ bytes_field 1 hash ++ (number_text 2 height ++ rest)
+  pub passes : is_index seen.place accused.index ≡ true
+  pub has : has_places seen.place seen.shares ≡ true
+  pub claim_is : claim_of accused places ≡ claim
 
 parts_back : (hash : List ℕ) (height : ℕ) (bytes : List ℕ) (claim : ClaimParts) → AreBytes bytes → befp_left hash height bytes ≡ Ok claim → AreParts hash height bytes claim
 parts_back hash height bytes claim fits e =
@@ -303,7 +312,7 @@ parts_back hash height bytes claim fits e =
     let all = and_parts told (has_places seen.place seen.shares) test.0 in
     let both = and_parts a.0.0 (b.0.0 == height) all.0 in
     let first = hash_back hash bytes a.0.1 (begins_part 1 bytes) a.0.0 fits both.0 a.1 in
-    let second = number_left_back (is_height height) 2 a.0.1 b.0 (omega arith) first.1 b.1 in
+    let second = number_left_back (is_height height) 2 a.0.1 b.0 (omega arith) first.2 b.1 in
     let same : b.0.0 ≡ height = eqb-true b.0.0 height both.1 in
     let outline : outline_at rest ≡ record { most = seen.place / 2; accused = Some accused } =
     ap outline_of (places_agree (outline_at rest).accused (outline_at rest).most 1024 none_seen rest c.0 c.1)
@@ -312,12 +321,14 @@ parts_back hash height bytes claim fits e =
     let third = places_were_written accused (seen.place / 2) 1024 none_seen rest c.0 second.fits (λ flag e. absurd (none-some flag e)) found in
     let last = accused_back seen.place c.0.1 d.0 third.fits d.1 in
     record {
+      hash_few = first.0;
+      height_few = subst (λ (n : ℕ). n < 2 ^ 64) same second.few;
       places = places;
       seen = seen;
       accused = accused;
       rest = rest;
       read = subst (λ (l : List ℕ). ArePlacesRead accused none_seen rest places seen l) last.text third;
-      text = first.0 ∙ ap (λ (l : List ℕ). bytes_field 1 hash ++ l) (second.parts ∙ ap (λ (n : ℕ). number_text 2 n ++ rest) same);
+      text = first.1 ∙ ap (λ (l : List ℕ). bytes_field 1 hash ++ l) (second.parts ∙ ap (λ (n : ℕ). number_text 2 n ++ rest) same);
       passes = last.passes;
       has = all.1;
       claim_is = test.1;
@@ -329,7 +340,7 @@ flag_few None small = omega arith
 flag_few (Some flag) small = small flag refl
 
 -- the claim of these parts has a message, which the bytes are
-parts_spelled : (hash : List ℕ) (height : ℕ) (bytes : List ℕ) (claim : ClaimParts) → AreParts hash height bytes claim → IsBefp hash height bytes claim
+pub parts_spelled : (hash : List ℕ) (height : ℕ) (bytes : List ℕ) (claim : ClaimParts) → AreParts hash height bytes claim → IsBefp hash height bytes claim
 parts_spelled hash height bytes claim p =
     let accused : Accused = p.accused in
     let k : ℕ = p.seen.place / 2 in
@@ -369,7 +380,10 @@ parts_spelled hash height bytes claim p =
       text = p.text ∙ ap (λ (l : List ℕ). bytes_field 1 hash ++ (number_text 2 height ++ l)) rest;
     })
 
+-- what is read as a claim was written so
+pub befp_back : (hash : List ℕ) (height : ℕ) (bytes : List ℕ) (claim : ClaimParts) → AreBytes bytes → befp_value hash height bytes ≡ Ok claim → AreParts hash height bytes claim
+befp_back hash height bytes claim fits e = parts_back hash height bytes claim fits (placed_ok (length bytes) (befp_left hash height bytes) claim e)
+
 pub read_is_befp : (hash : List ℕ) (height : ℕ) (bytes : List ℕ) (claim : ClaimParts) → AreBytes bytes → befp_value hash height bytes ≡ Ok claim
     → IsBefp hash height bytes claim
-read_is_befp hash height bytes claim fits e =
-    parts_spelled hash height bytes claim (parts_back hash height bytes claim fits (placed_ok (length bytes) (befp_left hash height bytes) claim e))
+read_is_befp hash height bytes claim fits e = parts_spelled hash height bytes claim (befp_back hash height bytes claim fits e)

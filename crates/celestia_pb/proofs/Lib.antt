@@ -62,3 +62,5 @@ pub mod PlaceCells
 pub mod PlaceLemmas
 -- bad encoding proofs, read back
 pub mod BefpLemmas
+-- lenient reading of them
+pub mod BefpFields

@@ -1,6 +1,6 @@
 -- Cells of one axis by ascending places, and the places as a list of what stands at each.
-use Rattle.std.proofs.Common.{◌≡◌, ◌∙◌, ℕ, zero, suc, ◌+◌, ◌*◌, ◌^◌, ◌<◌, ◌≤◌, Bool, true, false, cond, ◌==◌, eqb, eqb-true, lt-ltb, ltb-true, List, [], ◌∷◌, length, map, Option, Some, None, option_map, refl, sym, ap, ap₂, subst, arith}
-use Rattle.std.specs.Prelude.{nat_lt, ◌&&◌}
+use Rattle.std.proofs.Common.{◌≡◌, ◌∙◌, ℕ, zero, suc, ◌+◌, ◌^◌, ◌<◌, ◌≤◌, Bool, true, false, cond, ◌==◌, eqb, eqb-true, lt-ltb, ltb-true, List, [], ◌∷◌, length, map, Option, Some, None, option_map, refl, sym, ap, ap₂, subst, arith}
+use Rattle.std.specs.Prelude.{nat_lt}
 use Rattle.std.specs.List.{AllByRecursion, list_all}
 use Rattle.std.proofs.lemmas.Bool.{and_parts, and_from}
 use Rattle.std.proofs.lemmas.Bool.Decides.{nat_tests}
@@ -13,7 +13,6 @@ use Rattle.axis_roots.specs.Messages.{IsMessage, position, index}
 use Rattle.axis_roots.specs.Lines.{cell_on}
 use Rattle.celestia_pb.specs.declared.sample.Sample.{Sample}
 use Rattle.celestia_pb.specs.declared.befp_entries.Accused.{Accused}
-use Rattle.celestia_pb.specs.Samples.{IsSample}
 use Rattle.celestia_pb.specs.BefpEntries.{shown_at, behind_place, places_of, cells_of}
 use Rattle.celestia_pb.proofs.PlaceTexts.{places_of-none, places_of-next}
 use Rattle.celestia_pb.proofs.PlaceEntries.{bare, with_cell}
@@ -218,7 +217,7 @@ cells_rise accused place (Some s ∷ places) =
       omega (arith, at),
       omega (arith, at),
       subst (λ (n : ℕ). RiseFrom accused.axis (suc n) (place + suc (length places)) (cells_of accused (suc place) places)) (sym at)
-      (subst (λ (n : ℕ). RiseFrom accused.axis (suc place) n (cells_of accused (suc place) places)) e (cells_rise accused (suc place) places)),
+          (subst (λ (n : ℕ). RiseFrom accused.axis (suc place) n (cells_of accused (suc place) places)) e (cells_rise accused (suc place) places)),
     )
 
 -- they are cells of the axis

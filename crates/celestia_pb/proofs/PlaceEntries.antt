@@ -1,6 +1,5 @@
 -- Shares with their proofs, written and read.
-use Rattle.std.proofs.Common.{◌≡◌, ◌∙◌, ℕ, suc, ◌+◌, ◌*◌, ◌^◌, ◌<◌, ◌≤◌, Bool, true, false, cond, ◌||◌, ◌==◌, eqb, eqb-true, lt-ltb, List, [], ◌∷◌, ◌++◌, length, Option, Some, None, option_map, option_and_then, Result, Ok, Err, refl, sym, ap, ap₂, subst, arith, append_assoc, append-nil, length-append}
-use Rattle.std.specs.Prelude.{nat_lt}
+use Rattle.std.proofs.Common.{◌≡◌, ◌∙◌, ℕ, ◌^◌, ◌<◌, ◌≤◌, Bool, true, false, cond, ◌||◌, ◌==◌, eqb, eqb-true, List, [], ◌++◌, length, Option, Some, None, option_and_then, Result, Ok, Err, refl, sym, ap, ap₂, subst, arith, append-nil, length-append}
 use Rattle.std.proofs.lemmas.Bool.Decides.{nat_tests}
 use Rattle.std.proofs.lemmas.List.{nil_from_length}
 use Rattle.std.proofs.lemmas.Option.{cond_some, same_Some, none-some}
@@ -10,7 +9,6 @@ use Rattle.namespace_id.specs.declared.cells.Cell.{Cell}
 use Rattle.namespace_id.specs.declared.digests.Digest.{Digest}
 use Rattle.namespace_id.specs.declared.shares.Share.{Share}
 use Rattle.namespace_id.specs.Bytes.{AreBytes}
-use Rattle.namespace_id.specs.Digests.{AreDigests}
 use Rattle.namespace_id.specs.Shares.{IsShare}
 use Rattle.proto_fields.specs.Spelled.{bytes_field}
 use Rattle.proto_fields.specs.Canonical.{number_text, begins_part, canonical_part}
@@ -22,7 +20,7 @@ use Rattle.axis_roots.specs.Messages.{IsMessage, position}
 use Rattle.celestia_pb.specs.declared.sample.Sample.{Sample}
 use Rattle.celestia_pb.specs.Reading.{then_read, or_left}
 use Rattle.celestia_pb.specs.Messages.{message_at}
-use Rattle.celestia_pb.specs.Samples.{IsSample, axis_number, place_on, if_share, share_at, place_wanted}
+use Rattle.celestia_pb.specs.Samples.{IsSample, axis_number, if_share, share_at, place_wanted}
 use Rattle.celestia_pb.specs.BefpEntries.{proof_text, entry_text, is_mark, proof_left, axis_in, start_wanted, some_share, data_at, entry_of, entry_axis, entry_proof, entry_left}
 use Rattle.celestia_pb.specs.Inclusions.{first_place}
 use Rattle.celestia_pb.proofs.Steps.{same_ok, cond_ok, then_ok}

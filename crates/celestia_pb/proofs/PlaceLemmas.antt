@@ -1,8 +1,7 @@
 -- The places of bad encoding proofs, written and read.
-use Rattle.std.proofs.Common.{◌≡◌, ◌∙◌, ℕ, zero, suc, ◌+◌, ◌*◌, ◌^◌, ◌<◌, ◌≤◌, Bool, true, false, cond, ◌==◌, eqb, eqb-true, lt-ltb, List, [], ◌∷◌, ◌++◌, length, Option, Some, None, option_map, IfSome, Result, Ok, Err, refl, sym, ap, ap₂, subst, arith, append_assoc}
+use Rattle.std.proofs.Common.{◌≡◌, ◌∙◌, ℕ, zero, suc, ◌+◌, ◌^◌, ◌<◌, ◌≤◌, Bool, true, false, cond, ◌==◌, eqb, eqb-true, lt-ltb, List, [], ◌∷◌, ◌++◌, length, Option, Some, None, option_map, IfSome, Result, Ok, Err, refl, sym, ap, ap₂, subst, arith, append_assoc}
 use Rattle.std.specs.Prelude.{nat_lt}
 use Rattle.std.specs.List.{AllByRecursion}
-use Rattle.std.proofs.lemmas.Bool.Decides.{nat_tests}
 use Rattle.std.proofs.lemmas.List.{nil_from_length}
 use Rattle.std.proofs.lemmas.Option.{same_Some, none-some}
 use Rattle.namespace_id.specs.declared.cells.Cell.{Cell}
@@ -25,7 +24,7 @@ use Rattle.celestia_pb.specs.BefpEntries.{entry_text, place_text, places_text, e
 use Rattle.celestia_pb.specs.Befp.{count_at}
 use Rattle.celestia_pb.proofs.Fronts.{begins_own, begins_other}
 use Rattle.celestia_pb.proofs.Steps.{same_ok, then_ok}
-use Rattle.celestia_pb.proofs.DigestLemmas.{field_fits, ok_parts}
+use Rattle.celestia_pb.proofs.DigestLemmas.{field_fits}
 use Rattle.celestia_pb.proofs.SampleLemmas.{or_left_some}
 use Rattle.celestia_pb.proofs.PlaceLoops.{if_counted, count_at-none, count_at-next, count_at-end, if_place, places_at-none, places_at-next, places_at-end, places_at-there}
 use Rattle.celestia_pb.proofs.FlagLemmas.{IsFlag, IsSmall, flag_is}
@@ -49,7 +48,7 @@ begins_places tag flag (place ∷ places) rest other none =
 -- ---- places that were written are counted
 
 -- what stands at a place isn't long
-first_short : (accused : Accused) (place flag : ℕ) (o : Option Message) (places : List (Option Message)) → StandAt accused place (o ∷ places)
+pub first_short : (accused : Accused) (place flag : ℕ) (o : Option Message) (places : List (Option Message)) → StandAt accused place (o ∷ places)
     → (length (place_text flag o) < 2 ^ 64) × StandAt accused (suc place) places
 first_short accused place flag None places stand = (omega arith, stand)
 first_short accused place flag (Some m) places stand = (omega (arith, entry_few flag m stand.0.0), stand.1)
