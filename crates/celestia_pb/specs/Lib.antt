@@ -36,3 +36,5 @@ pub mod RowDataLaws
 pub mod BefpEntries
 -- bad encoding proofs
 pub mod Befp
+-- what of them is promised
+pub mod BefpLaws
