@@ -38,3 +38,5 @@ pub mod NamespaceData
 pub mod BefpEntries
 -- bad encoding proofs
 pub mod Befp
+-- what of them is promised
+pub mod BefpLaws
