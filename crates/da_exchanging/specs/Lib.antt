@@ -3,6 +3,7 @@ pub mod Made
 -- the forms, one a file
 pub mod Dah
 pub mod Sample
+pub mod NamespaceData
 pub mod Ids
 pub mod Ods
 -- all of them

@@ -7,11 +7,11 @@ ghost use Rattle.da_files.specs.Contents.{contents_of};
 ghost use Rattle.da_exchanging.specs.Made.{IsMade};
 ghost use Rattle.da_exchanging.specs.Forms.{import_judged, ImportOf, export_judged, ExportOf};
 
-use crate::{dah, ids, ods, sample};
+use crate::{dah, ids, namespace_data, ods, sample};
 use da_files::put;
 use da_io::Sink;
 use da_status::Status;
-use namespace_id::Cell;
+use namespace_id::{Cell, Namespace};
 use std::alloc::Global;
 
 /// What `import` takes the bytes of FILE for, with what they don't say themselves.
@@ -21,6 +21,9 @@ pub enum ImportForm {
     Dah,
     /// `sample FILE ROW COL`: a Sample of this cell; M.
     Sample(Cell),
+    /// `namespace-data FILE HEADER NAMESPACE`: messages RowNamespaceData, each behind its length, for the rows of HEADER that may hold
+    /// this namespace; N.
+    NamespaceData(Namespace),
     /// `ods FILE`: the k * k shares of an original square, row by row; S.
     Ods,
     /// `sample-id FILE HEIGHT`: a SampleID of this height; Q along the row.
@@ -36,6 +39,8 @@ pub enum ExportForm {
     Dah,
     /// `sample FILE`: of M a Sample.
     Sample,
+    /// `namespace-data FILE`: of N a message RowNamespaceData for each of its entries, each behind its length.
+    NamespaceData,
     /// `ods FILE`: of S the k * k shares, row by row.
     Ods,
     /// `sample-id FILE HEIGHT`: of Q a SampleID of this height, whatever the axis.
@@ -52,6 +57,7 @@ fn imported(alloc: Global, form: ImportForm, files: &[Vec<u8>]) -> Result<Vec<u8
     match form {
         ImportForm::Dah => dah::import(alloc, files),
         ImportForm::Sample(cell) => sample::import(alloc, files, cell),
+        ImportForm::NamespaceData(name) => namespace_data::import(alloc, files, name),
         ImportForm::Ods => ods::import(alloc, files),
         ImportForm::SampleId(height) => ids::import_sample(alloc, files, height),
         ImportForm::NamespaceId(height) => ids::import_namespace(alloc, files, height),
@@ -66,6 +72,7 @@ fn exported(alloc: Global, form: ExportForm, files: &[Vec<u8>]) -> Result<Vec<u8
     match form {
         ExportForm::Dah => dah::export(alloc, files),
         ExportForm::Sample => sample::export(alloc, files),
+        ExportForm::NamespaceData => namespace_data::export(alloc, files),
         ExportForm::Ods => ods::export(alloc, files),
         ExportForm::SampleId(height) => ids::export_sample(alloc, files, height),
         ExportForm::NamespaceId(height) => ids::export_namespace(alloc, files, height),

@@ -9,6 +9,7 @@ mod dah;
 mod forms;
 mod ids;
 mod made;
+mod namespace_data;
 mod ods;
 mod sample;
 
