@@ -1,4 +1,5 @@
 pub mod MadeLemmas
 pub mod AskedLemmas
 pub mod NamespaceDataLemmas
+pub mod RowLemmas
 pub mod FormLemmas

@@ -3,6 +3,7 @@ use Rattle.std.specs.Prelude.{ℕ, List}
 use Rattle.std.specs.declared.option.Option.{Option}
 use Rattle.celestia_pb.specs.Headers.{dah_value}
 use Rattle.celestia_pb.specs.Samples.{sample_value}
+use Rattle.celestia_pb.specs.HalfRows.{half_row_value}
 use Rattle.celestia_pb.specs.Ids.{sample_id_value, namespace_id_value}
 use Rattle.celestia_pb.specs.Ods.{ods_value}
 use Rattle.da_status.specs.Outcome.{Relation}
@@ -16,6 +17,7 @@ use Rattle.da_exchanging.specs.Dah.{ImportDahOf, ExportDahOf}
 use Rattle.da_exchanging.specs.Sample.{ImportSampleOf, ExportSampleOf}
 use Rattle.da_exchanging.specs.NamespaceData.{namespace_data_judged, ImportNamespaceDataOf, entries_in, ExportNamespaceDataOf}
 use Rattle.da_exchanging.specs.Ods.{ImportOdsOf, ExportOdsOf}
+use Rattle.da_exchanging.specs.Row.{ImportRowOf}
 use Rattle.da_exchanging.specs.Ids.{asked_cell_in, asked_name_in, ImportSampleIdOf, ExportSampleIdOf, ImportNamespaceIdOf, ExportNamespaceIdOf}
 
 -- of each file of `import` where it leaves its form, if it does
@@ -23,6 +25,7 @@ abbrev pub import_judged : ImportForm → List (List ℕ) → List (Option ℕ)
 import_judged from.Dah files = single_judged dah_value files
 import_judged (from.Sample cell) files = single_judged (sample_value cell) files
 import_judged (from.NamespaceData name) files = namespace_data_judged name files
+import_judged (from.Row row) files = single_judged half_row_value files
 import_judged from.Ods files = single_judged ods_value files
 import_judged (from.SampleId height) files = single_judged (sample_id_value height) files
 import_judged (from.NamespaceId height) files = single_judged (namespace_id_value height) files
@@ -32,6 +35,7 @@ abbrev pub ImportOf : ImportForm → List (List ℕ) → Relation
 ImportOf from.Dah files = ImportDahOf files
 ImportOf (from.Sample cell) files = ImportSampleOf cell files
 ImportOf (from.NamespaceData name) files = ImportNamespaceDataOf name files
+ImportOf (from.Row row) files = ImportRowOf row files
 ImportOf from.Ods files = ImportOdsOf files
 ImportOf (from.SampleId height) files = ImportSampleIdOf height files
 ImportOf (from.NamespaceId height) files = ImportNamespaceIdOf height files

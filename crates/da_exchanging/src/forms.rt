@@ -7,7 +7,7 @@ ghost use Rattle.da_files.specs.Contents.{contents_of};
 ghost use Rattle.da_exchanging.specs.Made.{IsMade};
 ghost use Rattle.da_exchanging.specs.Forms.{import_judged, ImportOf, export_judged, ExportOf};
 
-use crate::{dah, ids, namespace_data, ods, sample};
+use crate::{dah, ids, namespace_data, ods, row, sample};
 use da_files::put;
 use da_io::Sink;
 use da_status::Status;
@@ -21,9 +21,11 @@ pub enum ImportForm {
     Dah,
     /// `sample FILE ROW COL`: a Sample of this cell; M.
     Sample(Cell),
-    /// `namespace-data FILE HEADER NAMESPACE`: messages RowNamespaceData, each behind its length, for the rows of HEADER that may hold
-    /// this namespace; N.
+    /// `namespace-data FILE HEADER NAMESPACE`: messages RowNamespaceData, each behind its length, for the rows of HEADER that may
+    /// hold this namespace; N.
     NamespaceData(Namespace),
+    /// `row FILE ROW`: a Row, half of the row of this number; M of each of its cells, from column 0.
+    Row(u16),
     /// `ods FILE`: the k * k shares of an original square, row by row; S.
     Ods,
     /// `sample-id FILE HEIGHT`: a SampleID of this height; Q along the row.
@@ -58,6 +60,7 @@ fn imported(alloc: Global, form: ImportForm, files: &[Vec<u8>]) -> Result<Vec<u8
         ImportForm::Dah => dah::import(alloc, files),
         ImportForm::Sample(cell) => sample::import(alloc, files, cell),
         ImportForm::NamespaceData(name) => namespace_data::import(alloc, files, name),
+        ImportForm::Row(row) => row::import(alloc, files, row),
         ImportForm::Ods => ods::import(alloc, files),
         ImportForm::SampleId(height) => ids::import_sample(alloc, files, height),
         ImportForm::NamespaceId(height) => ids::import_namespace(alloc, files, height),

@@ -11,6 +11,7 @@ mod ids;
 mod made;
 mod namespace_data;
 mod ods;
+mod row;
 mod sample;
 
 pub use forms::{ExportForm, ImportForm, export, import};
