@@ -35,6 +35,7 @@ pub export_answers : (form : ExportForm) (files : List (List ℕ)) (w : List ℕ
 export_answers to.Dah files w status h = texts_answer header_in dah_text files w status h
 export_answers to.Sample files w status h = texts_answer message_in message_text files w status h
 export_answers to.NamespaceData files w status h = stream.export_answers files w status h
+export_answers to.Row files w status h = half.export_answers files w status h
 export_answers to.Ods files w status h = texts_answer square_in ods_text files w status h
 export_answers (to.SampleId height) files w status h = texts_answer asked_cell_in (sample_id_text height) files w status h
 export_answers (to.NamespaceId height) files w status h = texts_answer asked_name_in (namespace_id_text height) files w status h

@@ -1,5 +1,6 @@
 pub mod MadeLemmas
 pub mod AskedLemmas
 pub mod NamespaceDataLemmas
+pub mod LeftHalfLemmas
 pub mod RowLemmas
 pub mod FormLemmas

@@ -17,7 +17,7 @@ use Rattle.da_exchanging.specs.Dah.{ImportDahOf, ExportDahOf}
 use Rattle.da_exchanging.specs.Sample.{ImportSampleOf, ExportSampleOf}
 use Rattle.da_exchanging.specs.NamespaceData.{namespace_data_judged, ImportNamespaceDataOf, entries_in, ExportNamespaceDataOf}
 use Rattle.da_exchanging.specs.Ods.{ImportOdsOf, ExportOdsOf}
-use Rattle.da_exchanging.specs.Row.{ImportRowOf}
+use Rattle.da_exchanging.specs.Row.{ImportRowOf, samples_judged, ExportRowOf}
 use Rattle.da_exchanging.specs.Ids.{asked_cell_in, asked_name_in, ImportSampleIdOf, ExportSampleIdOf, ImportNamespaceIdOf, ExportNamespaceIdOf}
 
 -- of each file of `import` where it leaves its form, if it does
@@ -45,6 +45,7 @@ abbrev pub export_judged : ExportForm → List (List ℕ) → List (Option ℕ)
 export_judged to.Dah files = single_judged header_in files
 export_judged to.Sample files = single_judged message_in files
 export_judged to.NamespaceData files = single_judged entries_in files
+export_judged to.Row files = samples_judged files
 export_judged to.Ods files = single_judged square_in files
 export_judged (to.SampleId height) files = single_judged asked_cell_in files
 export_judged (to.NamespaceId height) files = single_judged asked_name_in files
@@ -54,6 +55,7 @@ abbrev pub ExportOf : ExportForm → List (List ℕ) → Relation
 ExportOf to.Dah files = ExportDahOf files
 ExportOf to.Sample files = ExportSampleOf files
 ExportOf to.NamespaceData files = ExportNamespaceDataOf files
+ExportOf to.Row files = ExportRowOf files
 ExportOf to.Ods files = ExportOdsOf files
 ExportOf (to.SampleId height) files = ExportSampleIdOf height files
 ExportOf (to.NamespaceId height) files = ExportNamespaceIdOf height files

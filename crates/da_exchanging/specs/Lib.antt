@@ -4,6 +4,7 @@ pub mod Made
 pub mod Dah
 pub mod Sample
 pub mod NamespaceData
+pub mod LeftHalf
 pub mod Row
 pub mod Ids
 pub mod Ods

@@ -43,6 +43,8 @@ pub enum ExportForm {
     Sample,
     /// `namespace-data FILE`: of N a message RowNamespaceData for each of its entries, each behind its length.
     NamespaceData,
+    /// `row FILE`: of M of each cell of a row, from column 0, a Row, the left half.
+    Row,
     /// `ods FILE`: of S the k * k shares, row by row.
     Ods,
     /// `sample-id FILE HEIGHT`: of Q a SampleID of this height, whatever the axis.
@@ -76,6 +78,7 @@ fn exported(alloc: Global, form: ExportForm, files: &[Vec<u8>]) -> Result<Vec<u8
         ExportForm::Dah => dah::export(alloc, files),
         ExportForm::Sample => sample::export(alloc, files),
         ExportForm::NamespaceData => namespace_data::export(alloc, files),
+        ExportForm::Row => row::export(alloc, files),
         ExportForm::Ods => ods::export(alloc, files),
         ExportForm::SampleId(height) => ids::export_sample(alloc, files, height),
         ExportForm::NamespaceId(height) => ids::export_namespace(alloc, files, height),

@@ -8,6 +8,7 @@
 mod dah;
 mod forms;
 mod ids;
+mod left_half;
 mod made;
 mod namespace_data;
 mod ods;
