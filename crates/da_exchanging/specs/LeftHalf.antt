@@ -1,5 +1,5 @@
 -- Samples that are those of a whole row, and the left half of the row.
-use Rattle.std.specs.Prelude.{◌≡◌, ℕ, suc, ◌*◌, ◌/◌, ◌==◌, ◌&&◌, Bool, true, false, Vec, List, [], ◌∷◌, length, take, Some, None, option_map, option_and_then, if◌then◌else◌}
+use Rattle.std.specs.Prelude.{ℕ, suc, ◌*◌, ◌/◌, ◌==◌, ◌&&◌, nat_lt, Bool, Vec, List, [], ◌∷◌, length, take, Some, None, option_map, option_and_then, if◌then◌else◌}
 use Rattle.std.specs.declared.option.Option.{Option}
 use Rattle.std.specs.declared.alloc.Global.{Global}
 use Rattle.std.specs.List.{filter_map}
@@ -38,13 +38,13 @@ abbrev pub items_of : Option (Vec Share Global) → Option (List Share)
 items_of None = None
 items_of (Some v) = Some v.items
 
--- the left half of these shares, where they are 2k for a width k
-abbrev pub left_half : List Share → Option HalfParts
-left_half shares =
-    if is_width (length shares / 2) && (length shares == 2 * (length shares / 2))
+-- the left half of these shares of a row, where they are 2k for a width k, and the row is below 2k
+abbrev pub left_half : ℕ → List Share → Option HalfParts
+left_half row shares =
+    if nat_lt row (length shares) && (is_width (length shares / 2) && (length shares == 2 * (length shares / 2)))
     then Some (record { side = Left; shares = take (length shares / 2) shares })
     else None
 
 -- the left half of the row of which samples are all, from column 0
 abbrev pub half_of : List Message → Option HalfParts
-half_of messages = option_and_then left_half (shares_along (row_named messages) 0 messages)
+half_of messages = option_and_then (left_half (row_named messages)) (shares_along (row_named messages) 0 messages)

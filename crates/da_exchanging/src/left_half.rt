@@ -7,8 +7,11 @@ ghost use Rattle.da_exchanging.specs.LeftHalf.{samples_in, is_at, shares_along, 
 use axis_roots::{Message, is_along};
 use celestia_pb::{HalfRow, Side};
 use da_wire::{Frame, next_value};
-use namespace_id::{Axis, NoMemory, Share, is_width};
+use namespace_id::{Axis, GREATEST_WIDTH, NoMemory, Share, is_width};
 use std::alloc::Global;
+
+/// The most shares of a half.
+const MOST_SHARES: usize = GREATEST_WIDTH as usize;
 
 /// The sample that a frame is.
 fn message_of(frame: Frame) -> Option<Message>
@@ -79,12 +82,16 @@ fn shares_along(alloc: Global, row: u16, bytes: &[u8]) -> Result<Option<Vec<Shar
     }
 }
 
-/// The left half of these shares, where they are 2k for a width k.
-fn left_half(mut shares: Vec<Share>) -> Option<HalfRow>
-    ensures { result ≡ left_half shares.items }
+/// The left half of these shares of a row, where they are 2k for a width k, and the row is below 2k.
+fn left_half(row: u16, mut shares: Vec<Share>) -> Option<HalfRow>
+    ensures { result ≡ left_half row shares.items }
 {
     let k = shares.len() / 2;
-    if k > 512 || !is_width(k as u16) || shares.len() != 2 * k {
+    if row as usize >= shares.len()
+        || k > MOST_SHARES
+        || !is_width(k as u16)
+        || shares.len() != 2 * k
+    {
         return None;
     }
     shares.truncate(k);
@@ -102,5 +109,5 @@ pub(crate) fn half_in(alloc: Global, bytes: &[u8]) -> Result<Option<HalfRow>, No
     let Some(shares) = shares_along(alloc, row, bytes)? else {
         return Ok(None);
     };
-    Ok(left_half(shares))
+    Ok(left_half(row, shares))
 }
