@@ -36,3 +36,13 @@ pub mod RowDataLaws
 pub mod BefpEntries
 -- bad encoding proofs
 pub mod Befp
+-- fields that may be there, and hashes
+pub mod Aunts
+-- proofs of one share of a row
+pub mod SharePaths
+-- rows with their proofs under the data root
+pub mod RootedRows
+-- root proofs along a row
+pub mod ShareProofs
+-- what of them is promised
+pub mod ShareProofLaws
