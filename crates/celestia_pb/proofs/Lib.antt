@@ -50,6 +50,20 @@ pub mod HalfRowLemmas
 pub mod PlaceLoops
 -- the places of bad encoding proofs, written
 pub mod PlaceTexts
+-- the number of an axis in a field
+pub mod AxisLemmas
+-- proofs of one leaf with a flag
+pub mod FlagLemmas
+-- shares with their proofs
+pub mod PlaceEntries
+-- cells by the places of their axis
+pub mod PlaceCells
+-- the places of bad encoding proofs, written and read
+pub mod PlaceLemmas
+-- bad encoding proofs, read back
+pub mod BefpLemmas
+-- lenient reading of them
+pub mod BefpFields
 -- fields that may be there, and hashes
 pub mod AuntLemmas
 -- the loop that gathers hashes

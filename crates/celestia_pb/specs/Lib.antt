@@ -36,6 +36,8 @@ pub mod RowDataLaws
 pub mod BefpEntries
 -- bad encoding proofs
 pub mod Befp
+-- what of them is promised
+pub mod BefpLaws
 -- fields that may be there, and hashes
 pub mod Aunts
 -- proofs of one share of a row

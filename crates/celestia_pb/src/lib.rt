@@ -27,7 +27,7 @@ mod share_lists;
 mod share_path;
 mod share_proof;
 
-pub use befp::read_befp;
+pub use befp::{befp_laws, read_befp};
 pub use befp_put::{befp_size, put_befp};
 pub use dah::{dah_laws, dah_size, put_dah, read_dah};
 pub use errors::PbError;
