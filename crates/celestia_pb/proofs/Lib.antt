@@ -68,3 +68,15 @@ pub mod PlaceLemmas
 pub mod BefpLemmas
 -- lenient reading of them
 pub mod BefpFields
+-- fields that may be there, and hashes
+pub mod AuntLemmas
+-- the loop that gathers hashes
+pub mod AuntLoops
+-- proofs of one share of a row
+pub mod SharePathLemmas
+-- rows with their proofs under the data root
+pub mod RootedRowLemmas
+-- root proofs along a row
+pub mod ShareProofLemmas
+-- how long these are
+pub mod RootedSizes

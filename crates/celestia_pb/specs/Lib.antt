@@ -40,3 +40,13 @@ pub mod BefpEntries
 pub mod Befp
 -- what of them is promised
 pub mod BefpLaws
+-- fields that may be there, and hashes
+pub mod Aunts
+-- proofs of one share of a row
+pub mod SharePaths
+-- rows with their proofs under the data root
+pub mod RootedRows
+-- root proofs along a row
+pub mod ShareProofs
+-- what of them is promised
+pub mod ShareProofLaws

@@ -4,6 +4,7 @@
 //! is wrong; its writer makes these bytes. docs/RULES.md, "Celestia's messages", says which.
 #![tactic(auto)]
 
+mod aunts;
 mod befp;
 mod befp_entries;
 mod befp_places;
@@ -18,11 +19,14 @@ mod inclusions;
 mod messages;
 mod namespace_data;
 mod ods;
+mod rooted_row;
 mod row_data;
 mod row_proof;
 mod row_shares;
 mod sample;
 mod share_lists;
+mod share_path;
+mod share_proof;
 
 pub use befp::{befp_laws, read_befp};
 pub use befp_put::{befp_size, put_befp};
@@ -39,3 +43,4 @@ pub use namespace_data::{
 pub use ods::{ods_laws, ods_size, put_ods, read_ods};
 pub use row_data::{put_row_data, read_row_data, row_data_laws, row_data_size};
 pub use sample::{Sample, put_sample, read_sample, sample_laws, sample_size};
+pub use share_proof::{put_share_proof, read_share_proof, share_proof_laws, share_proof_size};
