@@ -36,6 +36,10 @@ pub mod RowProofFields
 pub mod RowDataLemmas
 -- lenient reading of it
 pub mod RowDataFields
+-- streams of what is found in rows
+pub mod NamespaceDataLemmas
+-- the loops that read and write them
+pub mod NamespaceDataLoops
 -- headers
 pub mod HeaderLemmas
 -- identifiers

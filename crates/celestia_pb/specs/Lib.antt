@@ -32,6 +32,8 @@ pub mod RowData
 pub mod RowParts
 -- what of it is promised
 pub mod RowDataLaws
+-- streams of what is found in rows
+pub mod NamespaceData
 -- the places of bad encoding proofs
 pub mod BefpEntries
 -- bad encoding proofs

@@ -17,6 +17,7 @@ mod half_row;
 mod ids;
 mod inclusions;
 mod messages;
+mod namespace_data;
 mod ods;
 mod rooted_row;
 mod row_data;
@@ -35,6 +36,9 @@ pub use half_row::{HalfRow, Side, half_row_laws, half_row_size, put_half_row, re
 pub use ids::{
     NAMESPACE_ID_SIZE, SAMPLE_ID_SIZE, id_laws, put_namespace_id, put_sample_id, read_namespace_id,
     read_sample_id,
+};
+pub use namespace_data::{
+    namespace_data_laws, namespace_data_size, put_namespace_data, read_namespace_data,
 };
 pub use ods::{ods_laws, ods_size, put_ods, read_ods};
 pub use row_data::{put_row_data, read_row_data, row_data_laws, row_data_size};
