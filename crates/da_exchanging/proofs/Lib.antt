@@ -1,3 +1,4 @@
 pub mod MadeLemmas
 pub mod AskedLemmas
+pub mod ShareProofLemmas
 pub mod FormLemmas

@@ -4,6 +4,7 @@ pub mod Made
 pub mod Dah
 pub mod Sample
 pub mod Ids
+pub mod ShareProof
 pub mod Ods
 -- all of them
 pub mod Forms

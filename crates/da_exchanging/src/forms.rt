@@ -7,7 +7,7 @@ ghost use Rattle.da_files.specs.Contents.{contents_of};
 ghost use Rattle.da_exchanging.specs.Made.{IsMade};
 ghost use Rattle.da_exchanging.specs.Forms.{import_judged, ImportOf, export_judged, ExportOf};
 
-use crate::{dah, ids, ods, sample};
+use crate::{dah, ids, ods, sample, share_proof};
 use da_files::put;
 use da_io::Sink;
 use da_status::Status;
@@ -23,6 +23,8 @@ pub enum ImportForm {
     Sample(Cell),
     /// `ods FILE`: the k * k shares of an original square, row by row; S.
     Ods,
+    /// `share-proof FILE`: a ShareProof of one share; R along the row.
+    ShareProof,
     /// `sample-id FILE HEIGHT`: a SampleID of this height; Q along the row.
     SampleId(u64),
     /// `namespace-id FILE HEIGHT`: a NamespaceDataID of this height; P.
@@ -38,6 +40,9 @@ pub enum ExportForm {
     Sample,
     /// `ods FILE`: of S the k * k shares, row by row.
     Ods,
+    /// `share-proof FILE`: of R a ShareProof of one share. An R along a column has none, nor has one whose k is no width or whose
+    /// cell is outside its square.
+    ShareProof,
     /// `sample-id FILE HEIGHT`: of Q a SampleID of this height, whatever the axis.
     SampleId(u64),
     /// `namespace-id FILE HEIGHT`: of P a NamespaceDataID of this height.
@@ -53,6 +58,7 @@ fn imported(alloc: Global, form: ImportForm, files: &[Vec<u8>]) -> Result<Vec<u8
         ImportForm::Dah => dah::import(alloc, files),
         ImportForm::Sample(cell) => sample::import(alloc, files, cell),
         ImportForm::Ods => ods::import(alloc, files),
+        ImportForm::ShareProof => share_proof::import(alloc, files),
         ImportForm::SampleId(height) => ids::import_sample(alloc, files, height),
         ImportForm::NamespaceId(height) => ids::import_namespace(alloc, files, height),
     }
@@ -67,6 +73,7 @@ fn exported(alloc: Global, form: ExportForm, files: &[Vec<u8>]) -> Result<Vec<u8
         ExportForm::Dah => dah::export(alloc, files),
         ExportForm::Sample => sample::export(alloc, files),
         ExportForm::Ods => ods::export(alloc, files),
+        ExportForm::ShareProof => share_proof::export(alloc, files),
         ExportForm::SampleId(height) => ids::export_sample(alloc, files, height),
         ExportForm::NamespaceId(height) => ids::export_namespace(alloc, files, height),
     }

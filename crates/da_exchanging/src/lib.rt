@@ -11,5 +11,6 @@ mod ids;
 mod made;
 mod ods;
 mod sample;
+mod share_proof;
 
 pub use forms::{ExportForm, ImportForm, export, import};
