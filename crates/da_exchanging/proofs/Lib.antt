@@ -1,3 +1,4 @@
 pub mod MadeLemmas
 pub mod AskedLemmas
+pub mod AnswerLemmas
 pub mod FormLemmas

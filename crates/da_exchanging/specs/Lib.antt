@@ -1,9 +1,12 @@
 -- outputs that are made whole
 pub mod Made
+-- files that are one answer
+pub mod Answers
 -- the forms, one a file
 pub mod Dah
 pub mod Sample
 pub mod Ids
+pub mod RowData
 pub mod Ods
 -- all of them
 pub mod Forms

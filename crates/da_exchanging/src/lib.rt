@@ -5,11 +5,13 @@
 //! exported. `forms` has all of them. The output is made whole before it is written (`made`).
 #![tactic(auto)]
 
+mod answers;
 mod dah;
 mod forms;
 mod ids;
 mod made;
 mod ods;
+mod row_data;
 mod sample;
 
 pub use forms::{ExportForm, ImportForm, export, import};
