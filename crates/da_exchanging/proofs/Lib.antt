@@ -1,4 +1,5 @@
 pub mod MadeLemmas
 pub mod AskedLemmas
 pub mod AnswerLemmas
+pub mod ClaimLemmas
 pub mod FormLemmas

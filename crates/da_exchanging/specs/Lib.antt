@@ -7,6 +7,7 @@ pub mod Dah
 pub mod Sample
 pub mod Ids
 pub mod RowData
+pub mod Befp
 pub mod Ods
 -- all of them
 pub mod Forms

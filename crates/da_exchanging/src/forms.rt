@@ -7,7 +7,7 @@ ghost use Rattle.da_files.specs.Contents.{contents_of};
 ghost use Rattle.da_exchanging.specs.Made.{IsMade};
 ghost use Rattle.da_exchanging.specs.Forms.{import_judged, ImportOf, export_judged, ExportOf};
 
-use crate::{dah, ids, ods, row_data, sample};
+use crate::{befp, dah, ids, ods, row_data, sample};
 use da_files::put;
 use da_io::Sink;
 use da_status::Status;
@@ -23,6 +23,8 @@ pub enum ImportForm {
     Sample(Cell),
     /// `row-data FILE ROW NAMESPACE`: a RowNamespaceData of this row; N of this namespace with the one entry of the row.
     RowData(u16, Namespace),
+    /// `befp FILE HASH HEIGHT`: a BadEncoding of a header with this hash and this height; B without a set.
+    Befp([u8; 32], u64),
     /// `ods FILE`: the k * k shares of an original square, row by row; S.
     Ods,
     /// `sample-id FILE HEIGHT`: a SampleID of this height; Q along the row.
@@ -40,6 +42,9 @@ pub enum ExportForm {
     Sample,
     /// `row-data FILE`: of N with one entry, that has a message, a RowNamespaceData, whatever the row and the namespace.
     RowData,
+    /// `befp FILE WIDTH HASH HEIGHT`: of B without a set, against an axis of a square of this width, a BadEncoding of a header with
+    /// this hash and this height.
+    Befp(u16, [u8; 32], u64),
     /// `ods FILE`: of S the k * k shares, row by row.
     Ods,
     /// `sample-id FILE HEIGHT`: of Q a SampleID of this height, whatever the axis.
@@ -57,6 +62,7 @@ fn imported(alloc: Global, form: ImportForm, files: &[Vec<u8>]) -> Result<Vec<u8
         ImportForm::Dah => dah::import(alloc, files),
         ImportForm::Sample(cell) => sample::import(alloc, files, cell),
         ImportForm::RowData(row, name) => row_data::import(alloc, files, row, name),
+        ImportForm::Befp(hash, height) => befp::import(alloc, files, &hash, height),
         ImportForm::Ods => ods::import(alloc, files),
         ImportForm::SampleId(height) => ids::import_sample(alloc, files, height),
         ImportForm::NamespaceId(height) => ids::import_namespace(alloc, files, height),
@@ -72,6 +78,7 @@ fn exported(alloc: Global, form: ExportForm, files: &[Vec<u8>]) -> Result<Vec<u8
         ExportForm::Dah => dah::export(alloc, files),
         ExportForm::Sample => sample::export(alloc, files),
         ExportForm::RowData => row_data::export(alloc, files),
+        ExportForm::Befp(k, hash, height) => befp::export(alloc, files, k, &hash, height),
         ExportForm::Ods => ods::export(alloc, files),
         ExportForm::SampleId(height) => ids::export_sample(alloc, files, height),
         ExportForm::NamespaceId(height) => ids::export_namespace(alloc, files, height),

@@ -6,6 +6,7 @@
 #![tactic(auto)]
 
 mod answers;
+mod befp;
 mod dah;
 mod forms;
 mod ids;
