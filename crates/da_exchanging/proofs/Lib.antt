@@ -3,3 +3,4 @@ pub mod AskedLemmas
 pub mod AnswerLemmas
 pub mod ClaimLemmas
 pub mod FormLemmas
+pub mod LawLemmas

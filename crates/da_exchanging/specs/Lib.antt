@@ -11,3 +11,5 @@ pub mod Befp
 pub mod Ods
 -- all of them
 pub mod Forms
+-- what they say of each other
+pub mod Laws

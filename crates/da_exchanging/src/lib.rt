@@ -10,9 +10,11 @@ mod befp;
 mod dah;
 mod forms;
 mod ids;
+mod laws;
 mod made;
 mod ods;
 mod row_data;
 mod sample;
 
 pub use forms::{ExportForm, ImportForm, export, import};
+pub use laws::exchange_laws;
