@@ -1,4 +1,7 @@
 pub mod MadeLemmas
 pub mod AskedLemmas
 pub mod ShareProofLemmas
+pub mod AnswerLemmas
+pub mod ClaimLemmas
 pub mod FormLemmas
+pub mod LawLemmas
