@@ -3,11 +3,12 @@ use Rattle.std.proofs.Common.{ℕ, List}
 use Rattle.celestia_pb.specs.Headers.{dah_text, dah_value}
 use Rattle.celestia_pb.specs.Samples.{sample_value}
 use Rattle.celestia_pb.specs.Ids.{sample_id_text, namespace_id_text, sample_id_value, namespace_id_value}
-use Rattle.da_wire.specs.declared.frames.Frame.TheVariants.{Header, Request}
+use Rattle.celestia_pb.specs.Ods.{ods_text, ods_value}
+use Rattle.da_wire.specs.declared.frames.Frame.TheVariants.{Header, Square, Request}
 use Rattle.da_status.specs.declared.status.Status.{Status}
 use Rattle.da_status.specs.Statuses.{kind_of}
 use Rattle.da_status.proofs.EndLemmas.{IsAnswer}
-use Rattle.da_files.specs.Frames.{header_in, message_in}
+use Rattle.da_files.specs.Frames.{header_in, message_in, square_in}
 use Rattle.da_exchanging.specs.declared.forms.ImportForm.{ImportForm}
 use Rattle.da_exchanging.specs.declared.forms.ImportForm.TheVariants as from
 use Rattle.da_exchanging.specs.declared.forms.ExportForm.{ExportForm}
@@ -21,6 +22,7 @@ use Rattle.da_exchanging.proofs.MadeLemmas.{frames_answer, texts_answer}
 pub import_answers : (form : ImportForm) (files : List (List ℕ)) (w : List ℕ) (status : Status) → ImportOf form files w status → IsAnswer (kind_of status)
 import_answers from.Dah files w status h = frames_answer dah_value Header files w status h
 import_answers (from.Sample cell) files w status h = frames_answer (sample_value cell) (sample_frame cell) files w status h
+import_answers from.Ods files w status h = frames_answer ods_value Square files w status h
 import_answers (from.SampleId height) files w status h = frames_answer (sample_id_value height) row_request files w status h
 import_answers (from.NamespaceId height) files w status h = frames_answer (namespace_id_value height) Request files w status h
 
@@ -28,5 +30,6 @@ import_answers (from.NamespaceId height) files w status h = frames_answer (names
 pub export_answers : (form : ExportForm) (files : List (List ℕ)) (w : List ℕ) (status : Status) → ExportOf form files w status → IsAnswer (kind_of status)
 export_answers to.Dah files w status h = texts_answer header_in dah_text files w status h
 export_answers to.Sample files w status h = texts_answer message_in message_text files w status h
+export_answers to.Ods files w status h = texts_answer square_in ods_text files w status h
 export_answers (to.SampleId height) files w status h = texts_answer asked_cell_in (sample_id_text height) files w status h
 export_answers (to.NamespaceId height) files w status h = texts_answer asked_name_in (namespace_id_text height) files w status h

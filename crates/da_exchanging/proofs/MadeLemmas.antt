@@ -1,5 +1,5 @@
 -- Outputs that are made whole before they are written: how they are made of one file, and how a command ends that writes them.
-use Rattle.std.proofs.Common.{◌≡◌, ◌∙◌, ◌↔◌, ℕ, List, [], ◌∷◌, ◌++◌, Some, Result, Ok, Err, IsOk, Vec, Global, inl, refl, sym, ap, subst}
+use Rattle.std.proofs.Common.{◌≡◌, ◌∙◌, ◌↔◌, ℕ, List, [], ◌∷◌, ◌++◌, Some, Result, Ok, Err, IsOk, IsErrOf, Vec, Global, inl, refl, sym, ap, subst}
 use Rattle.std.specs.declared.option.Option.{Option}
 use Rattle.std.proofs.KnownBytes.{Appends-nil}
 use Rattle.celestia_pb.specs.declared.errors.PbError.{PbError}
@@ -47,13 +47,14 @@ module _ {A : Type 0} (value : List ℕ → Result A ℕ) (Answer : A → Relati
       subst (λ (r : Result A ℕ). Judged (error_of r ∷ []) (Over r Answer) [] (BadInput 0 at)) (sym bad ∙ ap value here) (refl, refl)
 
   -- nothing is made of a FILE that is no message
-  message_none : (why : PbError) → ((at : ℕ) → (why ≡ message.At at) ↔ (value bytes ≡ Err at)) → IsMade OverFile (Err (message_refusal why))
+  message_none : {T : Type 0} (why : PbError) → ((at : ℕ) → IsErrOf {T = T} {E = PbError} (Err why) (message.At at) ↔ (value bytes ≡ Err at))
+      → IsMade OverFile (Err (message_refusal why))
   message_none (message.At at) h = bad_form at ((h at).0 refl)
   message_none message.NoMemory h = tt
 
-  pub no_message : (why : PbError) (status : Status) → status ≡ message_refusal why → ((at : ℕ) → (why ≡ message.At at) ↔ (value bytes ≡ Err at))
-      → IsMade OverFile (Err status)
-  no_message why status is h = subst (λ (s : Status). IsMade OverFile (Err s)) (sym is) (message_none why h)
+  pub no_message : {T : Type 0} (why : PbError) (status : Status) → status ≡ message_refusal why
+      → ((at : ℕ) → IsErrOf {T = T} {E = PbError} (Err why) (message.At at) ↔ (value bytes ≡ Err at)) → IsMade OverFile (Err status)
+  no_message {T} why status is h = subst (λ (s : Status). IsMade OverFile (Err s)) (sym is) (message_none {T = T} why h)
 
   -- nothing is made of a FILE that is no frame
   frame_none : (why : Unread) → ReadsSingle (Err why) (value bytes) → IsMade OverFile (Err (frame_refusal why))

@@ -4,5 +4,6 @@ pub mod Made
 pub mod Dah
 pub mod Sample
 pub mod Ids
+pub mod Ods
 -- all of them
 pub mod Forms

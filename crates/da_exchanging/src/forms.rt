@@ -7,7 +7,7 @@ ghost use Rattle.da_files.specs.Contents.{contents_of};
 ghost use Rattle.da_exchanging.specs.Made.{IsMade};
 ghost use Rattle.da_exchanging.specs.Forms.{import_judged, ImportOf, export_judged, ExportOf};
 
-use crate::{dah, ids, sample};
+use crate::{dah, ids, ods, sample};
 use da_files::put;
 use da_io::Sink;
 use da_status::Status;
@@ -21,6 +21,8 @@ pub enum ImportForm {
     Dah,
     /// `sample FILE ROW COL`: a Sample of this cell; M.
     Sample(Cell),
+    /// `ods FILE`: the k * k shares of an original square, row by row; S.
+    Ods,
     /// `sample-id FILE HEIGHT`: a SampleID of this height; Q along the row.
     SampleId(u64),
     /// `namespace-id FILE HEIGHT`: a NamespaceDataID of this height; P.
@@ -34,6 +36,8 @@ pub enum ExportForm {
     Dah,
     /// `sample FILE`: of M a Sample.
     Sample,
+    /// `ods FILE`: of S the k * k shares, row by row.
+    Ods,
     /// `sample-id FILE HEIGHT`: of Q a SampleID of this height, whatever the axis.
     SampleId(u64),
     /// `namespace-id FILE HEIGHT`: of P a NamespaceDataID of this height.
@@ -48,6 +52,7 @@ fn imported(alloc: Global, form: ImportForm, files: &[Vec<u8>]) -> Result<Vec<u8
     match form {
         ImportForm::Dah => dah::import(alloc, files),
         ImportForm::Sample(cell) => sample::import(alloc, files, cell),
+        ImportForm::Ods => ods::import(alloc, files),
         ImportForm::SampleId(height) => ids::import_sample(alloc, files, height),
         ImportForm::NamespaceId(height) => ids::import_namespace(alloc, files, height),
     }
@@ -61,6 +66,7 @@ fn exported(alloc: Global, form: ExportForm, files: &[Vec<u8>]) -> Result<Vec<u8
     match form {
         ExportForm::Dah => dah::export(alloc, files),
         ExportForm::Sample => sample::export(alloc, files),
+        ExportForm::Ods => ods::export(alloc, files),
         ExportForm::SampleId(height) => ids::export_sample(alloc, files, height),
         ExportForm::NamespaceId(height) => ids::export_namespace(alloc, files, height),
     }

@@ -9,6 +9,7 @@ mod dah;
 mod forms;
 mod ids;
 mod made;
+mod ods;
 mod sample;
 
 pub use forms::{ExportForm, ImportForm, export, import};
