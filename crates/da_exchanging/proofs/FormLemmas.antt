@@ -17,10 +17,12 @@ use Rattle.da_exchanging.specs.Sample.{sample_frame, message_text}
 use Rattle.da_exchanging.specs.Ids.{asked_cell_in, asked_name_in, row_request}
 use Rattle.da_exchanging.specs.Forms.{ImportOf, ExportOf}
 use Rattle.da_exchanging.proofs.MadeLemmas.{frames_answer, texts_answer}
+use Rattle.da_exchanging.proofs.HeaderLemmas.{header_answers}
 
 -- what import answers to its files is an answer
 pub import_answers : (form : ImportForm) (files : List (List ℕ)) (w : List ℕ) (status : Status) → ImportOf form files w status → IsAnswer (kind_of status)
 import_answers from.Dah files w status h = frames_answer dah_value Header files w status h
+import_answers from.Header files w status h = header_answers files w status h
 import_answers (from.Sample cell) files w status h = frames_answer (sample_value cell) (sample_frame cell) files w status h
 import_answers from.Ods files w status h = frames_answer ods_value Square files w status h
 import_answers (from.SampleId height) files w status h = frames_answer (sample_id_value height) row_request files w status h

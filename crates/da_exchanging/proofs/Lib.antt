@@ -1,3 +1,4 @@
 pub mod MadeLemmas
 pub mod AskedLemmas
+pub mod HeaderLemmas
 pub mod FormLemmas

@@ -2,6 +2,7 @@
 use Rattle.std.specs.Prelude.{ℕ, List}
 use Rattle.std.specs.declared.option.Option.{Option}
 use Rattle.celestia_pb.specs.Headers.{dah_value}
+use Rattle.celestia_pb.specs.Extended.{extended_value}
 use Rattle.celestia_pb.specs.Samples.{sample_value}
 use Rattle.celestia_pb.specs.Ids.{sample_id_value, namespace_id_value}
 use Rattle.celestia_pb.specs.Ods.{ods_value}
@@ -13,6 +14,7 @@ use Rattle.da_exchanging.specs.declared.forms.ImportForm.TheVariants as from
 use Rattle.da_exchanging.specs.declared.forms.ExportForm.{ExportForm}
 use Rattle.da_exchanging.specs.declared.forms.ExportForm.TheVariants as to
 use Rattle.da_exchanging.specs.Dah.{ImportDahOf, ExportDahOf}
+use Rattle.da_exchanging.specs.Header.{ImportHeaderOf}
 use Rattle.da_exchanging.specs.Sample.{ImportSampleOf, ExportSampleOf}
 use Rattle.da_exchanging.specs.Ods.{ImportOdsOf, ExportOdsOf}
 use Rattle.da_exchanging.specs.Ids.{asked_cell_in, asked_name_in, ImportSampleIdOf, ExportSampleIdOf, ImportNamespaceIdOf, ExportNamespaceIdOf}
@@ -20,6 +22,7 @@ use Rattle.da_exchanging.specs.Ids.{asked_cell_in, asked_name_in, ImportSampleId
 -- of each file of `import` where it leaves its form, if it does
 abbrev pub import_judged : ImportForm → List (List ℕ) → List (Option ℕ)
 import_judged from.Dah files = single_judged dah_value files
+import_judged from.Header files = single_judged extended_value files
 import_judged (from.Sample cell) files = single_judged (sample_value cell) files
 import_judged from.Ods files = single_judged ods_value files
 import_judged (from.SampleId height) files = single_judged (sample_id_value height) files
@@ -28,6 +31,7 @@ import_judged (from.NamespaceId height) files = single_judged (namespace_id_valu
 -- what `import` answers over files in their forms
 abbrev pub ImportOf : ImportForm → List (List ℕ) → Relation
 ImportOf from.Dah files = ImportDahOf files
+ImportOf from.Header files = ImportHeaderOf files
 ImportOf (from.Sample cell) files = ImportSampleOf cell files
 ImportOf from.Ods files = ImportOdsOf files
 ImportOf (from.SampleId height) files = ImportSampleIdOf height files

@@ -2,6 +2,7 @@
 pub mod Made
 -- the forms, one a file
 pub mod Dah
+pub mod Header
 pub mod Sample
 pub mod Ids
 pub mod Ods

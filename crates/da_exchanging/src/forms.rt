@@ -7,7 +7,7 @@ ghost use Rattle.da_files.specs.Contents.{contents_of};
 ghost use Rattle.da_exchanging.specs.Made.{IsMade};
 ghost use Rattle.da_exchanging.specs.Forms.{import_judged, ImportOf, export_judged, ExportOf};
 
-use crate::{dah, ids, ods, sample};
+use crate::{dah, header, ids, ods, sample};
 use da_files::put;
 use da_io::Sink;
 use da_status::Status;
@@ -19,6 +19,8 @@ use std::alloc::Global;
 pub enum ImportForm {
     /// `dah FILE`: a DataAvailabilityHeader; the frame is H.
     Dah,
+    /// `header FILE`: an ExtendedHeader, whose data hash is the data root of its axis roots; H of these.
+    Header,
     /// `sample FILE ROW COL`: a Sample of this cell; M.
     Sample(Cell),
     /// `ods FILE`: the k * k shares of an original square, row by row; S.
@@ -51,6 +53,7 @@ fn imported(alloc: Global, form: ImportForm, files: &[Vec<u8>]) -> Result<Vec<u8
 {
     match form {
         ImportForm::Dah => dah::import(alloc, files),
+        ImportForm::Header => header::import(alloc, files),
         ImportForm::Sample(cell) => sample::import(alloc, files, cell),
         ImportForm::Ods => ods::import(alloc, files),
         ImportForm::SampleId(height) => ids::import_sample(alloc, files, height),

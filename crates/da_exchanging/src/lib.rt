@@ -7,6 +7,7 @@
 
 mod dah;
 mod forms;
+mod header;
 mod ids;
 mod made;
 mod ods;
