@@ -24,10 +24,12 @@ use Rattle.da_exchanging.specs.Befp.{claim_in, claim_message}
 use Rattle.da_exchanging.specs.Forms.{ImportOf, ExportOf}
 use Rattle.da_exchanging.proofs.MadeLemmas.{frames_answer, texts_answer, texts_if_answer}
 use Rattle.da_exchanging.proofs.ShareProofLemmas.{share_proof_answers}
+use Rattle.da_exchanging.proofs.HeaderLemmas.{header_answers}
 
 -- what import answers to its files is an answer
 pub import_answers : (form : ImportForm) (files : List (List ℕ)) (w : List ℕ) (status : Status) → ImportOf form files w status → IsAnswer (kind_of status)
 import_answers from.Dah files w status h = frames_answer dah_value Header files w status h
+import_answers from.Header files w status h = header_answers files w status h
 import_answers (from.Sample cell) files w status h = frames_answer (sample_value cell) (sample_frame cell) files w status h
 import_answers (from.RowData row name) files w status h = frames_answer (row_value row) (row_frame name) files w status h
 import_answers (from.Befp hash height) files w status h = frames_answer (befp_value hash height) Fraud files w status h

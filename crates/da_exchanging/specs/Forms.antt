@@ -2,6 +2,7 @@
 use Rattle.std.specs.Prelude.{ℕ, List}
 use Rattle.std.specs.declared.option.Option.{Option}
 use Rattle.celestia_pb.specs.Headers.{dah_value}
+use Rattle.celestia_pb.specs.Extended.{extended_value}
 use Rattle.celestia_pb.specs.Samples.{sample_value}
 use Rattle.celestia_pb.specs.Ids.{sample_id_value, namespace_id_value}
 use Rattle.celestia_pb.specs.ShareProofs.{share_proof_value}
@@ -16,6 +17,7 @@ use Rattle.da_exchanging.specs.declared.forms.ImportForm.TheVariants as from
 use Rattle.da_exchanging.specs.declared.forms.ExportForm.{ExportForm}
 use Rattle.da_exchanging.specs.declared.forms.ExportForm.TheVariants as to
 use Rattle.da_exchanging.specs.Dah.{ImportDahOf, ExportDahOf}
+use Rattle.da_exchanging.specs.Header.{ImportHeaderOf}
 use Rattle.da_exchanging.specs.Sample.{ImportSampleOf, ExportSampleOf}
 use Rattle.da_exchanging.specs.Answers.{answer_in}
 use Rattle.da_exchanging.specs.RowData.{ImportRowDataOf, ExportRowDataOf}
@@ -27,6 +29,7 @@ use Rattle.da_exchanging.specs.Ids.{asked_cell_in, asked_name_in, ImportSampleId
 -- of each file of `import` where it leaves its form, if it does
 abbrev pub import_judged : ImportForm → List (List ℕ) → List (Option ℕ)
 import_judged from.Dah files = single_judged dah_value files
+import_judged from.Header files = single_judged extended_value files
 import_judged (from.Sample cell) files = single_judged (sample_value cell) files
 import_judged (from.RowData row name) files = single_judged (row_value row) files
 import_judged (from.Befp hash height) files = single_judged (befp_value hash height) files
@@ -38,6 +41,7 @@ import_judged (from.NamespaceId height) files = single_judged (namespace_id_valu
 -- what `import` answers over files in their forms
 abbrev pub ImportOf : ImportForm → List (List ℕ) → Relation
 ImportOf from.Dah files = ImportDahOf files
+ImportOf from.Header files = ImportHeaderOf files
 ImportOf (from.Sample cell) files = ImportSampleOf cell files
 ImportOf (from.RowData row name) files = ImportRowDataOf row name files
 ImportOf (from.Befp hash height) files = ImportBefpOf hash height files

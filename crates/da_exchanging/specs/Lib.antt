@@ -4,6 +4,7 @@ pub mod Made
 pub mod Answers
 -- the forms, one a file
 pub mod Dah
+pub mod Header
 pub mod Sample
 pub mod Ids
 pub mod ShareProof

@@ -7,7 +7,7 @@ ghost use Rattle.da_files.specs.Contents.{contents_of};
 ghost use Rattle.da_exchanging.specs.Made.{IsMade};
 ghost use Rattle.da_exchanging.specs.Forms.{import_judged, ImportOf, export_judged, ExportOf};
 
-use crate::{befp, dah, ids, ods, row_data, sample, share_proof};
+use crate::{befp, dah, header, ids, ods, row_data, sample, share_proof};
 use da_files::put;
 use da_io::Sink;
 use da_status::Status;
@@ -19,6 +19,8 @@ use std::alloc::Global;
 pub enum ImportForm {
     /// `dah FILE`: a DataAvailabilityHeader; the frame is H.
     Dah,
+    /// `header FILE`: an ExtendedHeader, whose data hash is the data root of its axis roots; H of these.
+    Header,
     /// `sample FILE ROW COL`: a Sample of this cell; M.
     Sample(Cell),
     /// `row-data FILE ROW NAMESPACE`: a RowNamespaceData of this row; N of this namespace with the one entry of the row.
@@ -65,6 +67,7 @@ fn imported(alloc: Global, form: ImportForm, files: &[Vec<u8>]) -> Result<Vec<u8
 {
     match form {
         ImportForm::Dah => dah::import(alloc, files),
+        ImportForm::Header => header::import(alloc, files),
         ImportForm::Sample(cell) => sample::import(alloc, files, cell),
         ImportForm::RowData(row, name) => row_data::import(alloc, files, row, name),
         ImportForm::Befp(hash, height) => befp::import(alloc, files, &hash, height),

@@ -9,6 +9,7 @@ mod answers;
 mod befp;
 mod dah;
 mod forms;
+mod header;
 mod ids;
 mod laws;
 mod made;
