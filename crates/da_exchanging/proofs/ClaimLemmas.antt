@@ -28,6 +28,10 @@ Accused = taken_by cells_of
 abbrev Seen : Type 0
 Seen = type_of none_seen
 
+-- what is looked up before places are read
+abbrev Outline : Type 0
+Outline = type_of (outline_at [])
+
 -- what was seen before a place, with the samples of places behind it
 abbrev Counts : Accused → ℕ → List (Option Sample) × Seen → Type 0
 Counts at shares read = (place : ℕ) → shares + length (cells_of at place read.0) ≡ read.1.shares
@@ -98,18 +102,27 @@ few_places told places shares cells test counted =
 plain_written : (at : Accused) (places : List (Option Sample)) → length (cells_of at 0 places) ≤ 512 → is_unwritten (claim_of at places) ≡ false
 plain_written at places few = ap (λ (b : Bool). false || b) (not_above (length (cells_of at 0 places)) few)
 
+-- so has one whose axis was read behind places that were counted
+ended_written : (told : Bool) (read : List (Option Sample) × Seen) (at : Accused) (rest : List ℕ) (claim : ClaimParts) → befp_end told read at rest ≡ Ok claim
+    → 0 + length (cells_of at 0 read.0) ≡ read.1.shares → is_unwritten claim ≡ false
+ended_written told read at rest claim e counted =
+    let ended = cond_ok (told && has_places read.1.place read.1.shares) (claim_of at read.0) claim (length rest) e in
+    subst (λ (c : ClaimParts). is_unwritten c ≡ false) {x = claim_of at read.0} ended.1
+    (plain_written at read.0 (few_places told read.1.place read.1.shares (length (cells_of at 0 read.0)) ended.0 counted))
+
+-- one whose places were read
+places_written : (told : Bool) (outline : Outline) (bytes : List ℕ) (claim : ClaimParts) → then_read (befp_axis told) (places_by outline bytes) ≡ Ok claim
+    → is_unwritten claim ≡ false
+places_written told outline bytes claim e =
+    let places = then_ok (befp_axis told) (places_by outline bytes) claim e in
+    let read : (List (Option Sample) × Seen) × List ℕ = places.0 in
+    let axis = then_ok (befp_end told read.0) (accused_left read.0.1.place read.1) claim places.2 in
+    ended_written told read.0 axis.0.0 axis.0.1 claim axis.2
+    (places_count axis.0.0 outline.accused outline.most 1024 none_seen bytes read places.1 0)
+
 -- a claim that a message is has a frame
 pub claim_written : (hash : List ℕ) (height : ℕ) (bytes : List ℕ) (claim : ClaimParts) → befp_value hash height bytes ≡ Ok claim → is_unwritten claim ≡ false
 claim_written hash height bytes claim e =
     let told = then_ok (befp_height height) (hash_at hash bytes) claim (placed_ok (length bytes) (befp_left hash height bytes) claim e) in
     let number = then_ok (befp_places height told.0.0) (number_left (is_height height) 2 told.0.1) claim told.2 in
-    let places = then_ok (befp_axis (told.0.0 && eqb number.0.0 height)) (places_by (outline_at number.0.1) number.0.1) claim number.2 in
-    let read : (List (Option Sample) × Seen) × List ℕ = places.0 in
-    let axis = then_ok (befp_end (told.0.0 && eqb number.0.0 height) read.0) (accused_left read.0.1.place read.1) claim places.2 in
-    let at : Accused = axis.0.0 in
-    let ended = cond_ok ((told.0.0 && eqb number.0.0 height) && has_places read.0.1.place read.0.1.shares) (claim_of at read.0.0) claim (length axis.0.1) axis.2 in
-    let outline = outline_at number.0.1 in
-    let counted : 0 + length (cells_of at 0 read.0.0) ≡ read.0.1.shares = places_count at outline.accused outline.most 1024 none_seen number.0.1 read places.1 0 in
-    subst (λ (c : ClaimParts). is_unwritten c ≡ false) ended.1
-    (plain_written at read.0.0
-    (few_places (told.0.0 && eqb number.0.0 height) read.0.1.place read.0.1.shares (length (cells_of at 0 read.0.0)) ended.0 counted))
+    places_written (told.0.0 && eqb number.0.0 height) (outline_at number.0.1) number.0.1 claim number.2
