@@ -85,3 +85,5 @@ pub mod RootedRowLemmas
 pub mod ShareProofLemmas
 -- how long these are
 pub mod RootedSizes
+-- lenient reading of them
+pub mod ShareProofFields

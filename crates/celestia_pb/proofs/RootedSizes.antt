@@ -50,7 +50,7 @@ length_rooted_row k row root up size =
     )
 
 -- an id has 28 bytes
-id_length : (b : Bool) (share : Share) → length share.0 ≡ 512 → length (id_in (cond b (name_in share) parity)) ≡ 28
+pub id_length : (b : Bool) (share : Share) → length share.0 ≡ 512 → length (id_in (cond b (name_in share) parity)) ≡ 28
 id_length true share size = omega (arith, length-drop 1 (take 29 share.0), length-take-le 29 share.0)
 id_length false share size = omega arith
 

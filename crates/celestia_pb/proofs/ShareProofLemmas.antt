@@ -128,7 +128,7 @@ id_few true share size = omega (arith, length-drop 1 (take 29 share.0), length-t
 id_few false share size = omega arith
 
 -- a version is a byte
-version_fits : (b : Bool) (share : Share) → IsShare share → version_in (named b share) < 256
+pub version_fits : (b : Bool) (share : Share) → IsShare share → version_in (named b share) < 256
 version_fits true share is =
     front_fits (take 29 share.0) (drop 29 share.0) (subst (λ (l : List ℕ). AreBytes l) (sym (take-append-drop 29 share.0)) is.fits) 0
 version_fits false share is = omega arith

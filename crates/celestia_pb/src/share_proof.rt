@@ -9,7 +9,7 @@ ghost use Rattle.celestia_pb.specs.Aunts.{optional_at};
 ghost use Rattle.celestia_pb.specs.SharePaths.{share_path_text};
 ghost use Rattle.celestia_pb.specs.RootedRows.{rooted_row_text};
 ghost use Rattle.celestia_pb.specs.ShareProofs.{has_share_proof, name_of, share_proof_text, is_own, names_at, front_of, front_left, told_by, proof_of, proof_by, version_of, share_proof_end, share_proof_left, share_proof_value};
-ghost use Rattle.celestia_pb.specs.ShareProofLaws.{ShareProofIsRead, ReadIsShareProof};
+ghost use Rattle.celestia_pb.specs.ShareProofLaws.{ShareProofIsRead, ReadIsShareProof, ShareProofIsCommon, SharePathIsCommon, RootedRowIsCommon, RowPathIsCommon};
 
 use crate::befp_entries::{DATA, data_at};
 use crate::entries::{number_size, part_size, put_entry, put_front};
@@ -310,4 +310,8 @@ pub fn put_share_proof(proof: &RootedMessage, out: &mut Vec<u8>)
 pub fn share_proof_laws()
     ensures read { ShareProofIsRead }
     ensures spelled { ReadIsShareProof }
+    ensures common { ShareProofIsCommon }
+    ensures path_common { SharePathIsCommon }
+    ensures row_common { RootedRowIsCommon }
+    ensures root_common { RowPathIsCommon }
 {}
