@@ -4,5 +4,6 @@ pub mod ShareProofLemmas
 pub mod AnswerLemmas
 pub mod ClaimLemmas
 pub mod HeaderLemmas
+pub mod NamespaceDataLemmas
 pub mod FormLemmas
 pub mod LawLemmas

@@ -6,6 +6,7 @@ pub mod Answers
 pub mod Dah
 pub mod Header
 pub mod Sample
+pub mod NamespaceData
 pub mod Ids
 pub mod ShareProof
 pub mod RowData

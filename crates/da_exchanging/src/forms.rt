@@ -7,7 +7,7 @@ ghost use Rattle.da_files.specs.Contents.{contents_of};
 ghost use Rattle.da_exchanging.specs.Made.{IsMade};
 ghost use Rattle.da_exchanging.specs.Forms.{import_judged, ImportOf, export_judged, ExportOf};
 
-use crate::{befp, dah, header, ids, ods, row_data, sample, share_proof};
+use crate::{befp, dah, header, ids, namespace_data, ods, row_data, sample, share_proof};
 use da_files::put;
 use da_io::Sink;
 use da_status::Status;
@@ -27,6 +27,9 @@ pub enum ImportForm {
     RowData(u16, Namespace),
     /// `befp FILE HASH HEIGHT`: a BadEncoding of a header with this hash and this height; B without a set.
     Befp([u8; 32], u64),
+    /// `namespace-data FILE HEADER NAMESPACE`: messages RowNamespaceData, each behind its length, for the rows of HEADER that may hold
+    /// this namespace; N.
+    NamespaceData(Namespace),
     /// `ods FILE`: the k * k shares of an original square, row by row; S.
     Ods,
     /// `share-proof FILE`: a ShareProof of one share; R along the row.
@@ -49,6 +52,8 @@ pub enum ExportForm {
     /// `befp FILE WIDTH HASH HEIGHT`: of B without a set, against an axis of a square of this width, a BadEncoding of a header with
     /// this hash and this height.
     Befp(u16, [u8; 32], u64),
+    /// `namespace-data FILE`: of N a message RowNamespaceData for each of its entries, each behind its length.
+    NamespaceData,
     /// `ods FILE`: of S the k * k shares, row by row.
     Ods,
     /// `share-proof FILE`: of R a ShareProof of one share. An R along a column has none, nor has one whose k is no width or whose
@@ -71,6 +76,7 @@ fn imported(alloc: Global, form: ImportForm, files: &[Vec<u8>]) -> Result<Vec<u8
         ImportForm::Sample(cell) => sample::import(alloc, files, cell),
         ImportForm::RowData(row, name) => row_data::import(alloc, files, row, name),
         ImportForm::Befp(hash, height) => befp::import(alloc, files, &hash, height),
+        ImportForm::NamespaceData(name) => namespace_data::import(alloc, files, name),
         ImportForm::Ods => ods::import(alloc, files),
         ImportForm::ShareProof => share_proof::import(alloc, files),
         ImportForm::SampleId(height) => ids::import_sample(alloc, files, height),
@@ -88,6 +94,7 @@ fn exported(alloc: Global, form: ExportForm, files: &[Vec<u8>]) -> Result<Vec<u8
         ExportForm::Sample => sample::export(alloc, files),
         ExportForm::RowData => row_data::export(alloc, files),
         ExportForm::Befp(k, hash, height) => befp::export(alloc, files, k, &hash, height),
+        ExportForm::NamespaceData => namespace_data::export(alloc, files),
         ExportForm::Ods => ods::export(alloc, files),
         ExportForm::ShareProof => share_proof::export(alloc, files),
         ExportForm::SampleId(height) => ids::export_sample(alloc, files, height),

@@ -13,6 +13,7 @@ mod header;
 mod ids;
 mod laws;
 mod made;
+mod namespace_data;
 mod ods;
 mod row_data;
 mod sample;
