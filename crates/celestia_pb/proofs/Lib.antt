@@ -42,6 +42,11 @@ pub mod NamespaceDataLemmas
 pub mod NamespaceDataLoops
 -- headers
 pub mod HeaderLemmas
+-- fields that are looked for
+pub mod ExtendedFields
+-- what is read as an extended header, and what is one
+pub mod ExtendedLemmas
+pub mod ExtendedReading
 -- identifiers
 pub mod IdLemmas
 -- shares at even distances

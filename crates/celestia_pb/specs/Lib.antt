@@ -12,6 +12,10 @@ pub mod Samples
 pub mod Headers
 -- what of headers is promised for all of them
 pub mod Laws
+-- extended headers
+pub mod Extended
+-- what of them is promised
+pub mod ExtendedLaws
 -- what of samples is
 pub mod SampleLaws
 -- identifiers

@@ -13,6 +13,7 @@ mod dah;
 mod digests;
 mod entries;
 mod errors;
+mod extended;
 mod half_row;
 mod ids;
 mod inclusions;
@@ -32,6 +33,7 @@ pub use befp::{befp_laws, read_befp};
 pub use befp_put::{befp_size, put_befp};
 pub use dah::{dah_laws, dah_size, put_dah, read_dah};
 pub use errors::PbError;
+pub use extended::{Extended, extended_laws, read_extended};
 pub use half_row::{HalfRow, Side, half_row_laws, half_row_size, put_half_row, read_half_row};
 pub use ids::{
     NAMESPACE_ID_SIZE, SAMPLE_ID_SIZE, id_laws, put_namespace_id, put_sample_id, read_namespace_id,

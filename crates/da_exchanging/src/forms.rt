@@ -7,11 +7,11 @@ ghost use Rattle.da_files.specs.Contents.{contents_of};
 ghost use Rattle.da_exchanging.specs.Made.{IsMade};
 ghost use Rattle.da_exchanging.specs.Forms.{import_judged, ImportOf, export_judged, ExportOf};
 
-use crate::{dah, ids, ods, sample, share_proof};
+use crate::{befp, dah, header, ids, ods, row_data, sample, share_proof};
 use da_files::put;
 use da_io::Sink;
 use da_status::Status;
-use namespace_id::Cell;
+use namespace_id::{Cell, Namespace};
 use std::alloc::Global;
 
 /// What `import` takes the bytes of FILE for, with what they don't say themselves.
@@ -19,8 +19,14 @@ use std::alloc::Global;
 pub enum ImportForm {
     /// `dah FILE`: a DataAvailabilityHeader; the frame is H.
     Dah,
+    /// `header FILE`: an ExtendedHeader, whose data hash is the data root of its axis roots; H of these.
+    Header,
     /// `sample FILE ROW COL`: a Sample of this cell; M.
     Sample(Cell),
+    /// `row-data FILE ROW NAMESPACE`: a RowNamespaceData of this row; N of this namespace with the one entry of the row.
+    RowData(u16, Namespace),
+    /// `befp FILE HASH HEIGHT`: a BadEncoding of a header with this hash and this height; B without a set.
+    Befp([u8; 32], u64),
     /// `ods FILE`: the k * k shares of an original square, row by row; S.
     Ods,
     /// `share-proof FILE`: a ShareProof of one share; R along the row.
@@ -38,6 +44,11 @@ pub enum ExportForm {
     Dah,
     /// `sample FILE`: of M a Sample.
     Sample,
+    /// `row-data FILE`: of N with one entry, that has a message, a RowNamespaceData, whatever the row and the namespace.
+    RowData,
+    /// `befp FILE WIDTH HASH HEIGHT`: of B without a set, against an axis of a square of this width, a BadEncoding of a header with
+    /// this hash and this height.
+    Befp(u16, [u8; 32], u64),
     /// `ods FILE`: of S the k * k shares, row by row.
     Ods,
     /// `share-proof FILE`: of R a ShareProof of one share. An R along a column has none, nor has one whose k is no width or whose
@@ -56,7 +67,10 @@ fn imported(alloc: Global, form: ImportForm, files: &[Vec<u8>]) -> Result<Vec<u8
 {
     match form {
         ImportForm::Dah => dah::import(alloc, files),
+        ImportForm::Header => header::import(alloc, files),
         ImportForm::Sample(cell) => sample::import(alloc, files, cell),
+        ImportForm::RowData(row, name) => row_data::import(alloc, files, row, name),
+        ImportForm::Befp(hash, height) => befp::import(alloc, files, &hash, height),
         ImportForm::Ods => ods::import(alloc, files),
         ImportForm::ShareProof => share_proof::import(alloc, files),
         ImportForm::SampleId(height) => ids::import_sample(alloc, files, height),
@@ -72,6 +86,8 @@ fn exported(alloc: Global, form: ExportForm, files: &[Vec<u8>]) -> Result<Vec<u8
     match form {
         ExportForm::Dah => dah::export(alloc, files),
         ExportForm::Sample => sample::export(alloc, files),
+        ExportForm::RowData => row_data::export(alloc, files),
+        ExportForm::Befp(k, hash, height) => befp::export(alloc, files, k, &hash, height),
         ExportForm::Ods => ods::export(alloc, files),
         ExportForm::ShareProof => share_proof::export(alloc, files),
         ExportForm::SampleId(height) => ids::export_sample(alloc, files, height),
@@ -95,7 +111,7 @@ pub fn import<O: Sink>(alloc: Global, form: ImportForm, files: &[Vec<u8>], out: 
 }
 
 /// Writes Celestia's bytes of the frame in FILE, in this form. A file that isn't one frame of the form's kind is refused
-/// where it stops being one. All memory is taken before the write.
+/// where it stops being one; then a frame that has no bytes in this form, by `Asked::Form`. All memory is taken before the write.
 ///
 /// docs/RULES.md, "Celestia's messages".
 pub fn export<O: Sink>(alloc: Global, form: ExportForm, files: &[Vec<u8>], out: &mut O) -> Status
