@@ -92,6 +92,41 @@ def rows_of(answer):
     return rows
 
 
+def extended_square(grid):
+    """The extended square of a grid, as the node has it."""
+    shares = [base64_of(share) for row in grid.rows for share in row]
+    return {"data_square": shares, "codec": "Leopard", "tree": "celestia-nmt"}
+
+
+def half_of(grid, row, side):
+    """A row of a grid by a side, or by both."""
+    low, high = {"LEFT": (0, 1), "RIGHT": (1, 2), "BOTH": (0, 2)}[side]
+    return {"shares": [base64_of(share) for share in grid.rows[row][low * grid.k : high * grid.k]], "side": side}
+
+
+def sample_of(message):
+    """A sample with its proof of an M frame, as Go writes it: without what is zero or empty."""
+    value = value_of(message)
+    place = value.col if value.axis == "row" else value.row
+    proof = {"start": place} if place else {}
+    proof.update(end=place + 1, nodes=[base64_of(it) for it in value.nodes], is_max_namespace_ignored=True)
+    return {"share": base64_of(value.share), "proof": proof, "proof_type": frames.AXES.index(value.axis)}
+
+
+def commitment_of(proof):
+    """The node's form of a C frame whose shares stand in one row."""
+    value = value_of(proof)
+    (row,), (index, low) = value.rows, divmod(value.start, value.k)
+    shown = {"start": low, "end": low + value.count, "nodes": [base64_of(it) for it in row.nodes], "leaf_hash": None}
+    leaf = base64_of(frames.sha256(b"\0" + row.root))
+    up = {"total": 4 * value.k, "index": index, "leaf_hash": leaf, "aunts": [base64_of(it) for it in row.up]}
+    rows = {"row_roots": [row.root.hex().upper()], "proofs": [up], "start_row": index, "end_row": index}
+    return {"subtree_roots": [base64_of(it) for it in row.subtrees],
+            "subtree_root_proofs": [dict(shown, is_max_namespace_ignored=True)],
+            "namespace_id": base64_of(row.subtrees[0][1:29]), "row_proof": rows,
+            "namespace_version": row.subtrees[0][0]}
+
+
 def blob_of(namespace, data, signer=b""):
     """A blob; its commitment is any 32 bytes, since nothing here computes one."""
     told = {"namespace": base64_of(namespace), "data": base64_of(data), "share_version": 1 if signer else 0}
@@ -231,6 +266,53 @@ class Examples(Case):
             row["proof"]["leaf_hash"] = ""
         words = ["answer", make.name("0102").hex(), self.file(grid.header(), "header"), self.file(rows)]
         self.assertEqual(self.made(*words), answer)
+
+    def test_squares(self):
+        for grid in self.grids():
+            shares = [share for row in grid.rows[: grid.k] for share in row[: grid.k]]
+            for value in (extended_square(grid), {"result": extended_square(grid)}):
+                self.assertEqual(self.made("square", self.file(value)), make.square(grid.k, shares))
+
+    def test_rows(self):
+        for grid in self.grids():
+            for row in range(2 * grid.k):
+                want = b"".join(grid.message(row, col) for col in range(2 * grid.k))
+                for side in ("LEFT", "RIGHT", "BOTH"):
+                    self.assertEqual(self.made("row", row, self.file(half_of(grid, row, side))), want)
+
+    def test_shares(self):
+        for grid in self.grids():
+            cells = [(row, col) for row in range(2 * grid.k) for col in range(2 * grid.k)]
+            for axis in (make.ROW, make.COL):
+                some = [grid.message(*cell, axis) for cell in cells]
+                words = [f"{row},{col}" for row, col in cells]
+                self.assertEqual(self.made("share", self.file(list(map(sample_of, some))), *words), b"".join(some))
+        # A share alone is a sample without nodes.
+        one = value_of(self.made("share", self.file(base64_of(grid.rows[0][1])), "0,1"))
+        self.assertEqual(one, frames.Message(0, 1, "row", grid.rows[0][1], []))
+
+    def test_commitments(self):
+        for grid in self.grids():
+            for start in range(grid.k * grid.k):
+                most = grid.k * grid.k - start
+                for count in sorted({1, 2, grid.k + 1, most} & set(range(most + 1))):
+                    proof = grid.commitment(start, count)
+                    told = json.loads(self.made("proof", self.file(proof, "proof")))
+                    with self.subTest(k=grid.k, start=start, count=count):
+                        self.assertEqual(self.made("commitment", self.file(told)), proof)
+                    if start % grid.k + count > grid.k:
+                        continue
+                    self.assertEqual(told, commitment_of(proof))
+                    # Roots in base64, and numbers as texts.
+                    rows = told["row_proof"]
+                    rows["row_roots"] = [base64_of(bytes.fromhex(it)) for it in rows["row_roots"]]
+                    rows["proofs"][0].update(total=str(4 * grid.k), index=str(rows["proofs"][0]["index"]))
+                    self.assertEqual(self.made("commitment", self.file(told)), proof)
+
+        for total in (1, 2, 19, 64, 65, 131, 4096, 4097, 262144):
+            for count in range(1, min(total, 512) + 1):
+                sizes = make.cut(count, make.subtree_width(total))
+                self.assertEqual(celestia.subtrees_in(count, total), len(sizes))
 
     def test_blocks(self):
         self.same_block([(make.name("0101"), b"\7"), (make.name("0102"), bytes(range(256)) * 9)])
@@ -373,6 +455,94 @@ class Refused(Case):
             with self.subTest(note):
                 words = ["answer", make.name(name).hex(), header, self.changed(value, path, put)]
                 self.refused(words, f"bad input: {note}")
+
+    def test_square(self):
+        grid = Examples.grids(self)[1]
+        whole, share = extended_square(grid), base64_of(bytes(512))
+        cases = [
+            (["data_square"], None, "data_square: it isn't there (Missing)"),
+            (["data_square", 1], "AAAA", "data_square[1]: 3 bytes, and there are to be 512 (BadLength)"),
+            (["data_square"], [], "data_square: 0 shares, which no square has (BadCount)"),
+            (["data_square"], [share] * 15, "data_square: 15 shares, which no square has (BadCount)"),
+            (["data_square"], [""] * 4 * 256 * 256, "data_square: width 256, and the code is made up to 128 (Unsupported)"),
+        ]
+        for path, put, note in cases:
+            with self.subTest(note):
+                self.refused(["square", self.changed(whole, path, put)], f"bad input: {note}")
+        note = "refused: data_square[%d]: the share isn't that of the code (OtherShare)"
+        for place, at in ((15, 15), (2, 2), (8, 8), (0, 2)):
+            self.refused(["square", self.changed(whole, ["data_square", place], share)], note % at, 13)
+
+    def test_row(self):
+        grid = Examples.grids(self)[1]
+        left, both, share = half_of(grid, 1, "LEFT"), half_of(grid, 1, "BOTH"), base64_of(bytes(512))
+        cases = [
+            (left, ["shares"], None, "shares: it isn't there (Missing)"),
+            (left, ["side"], None, "side: it isn't there (Missing)"),
+            (left, ["side"], 0, "side: 0 isn't a text (BadType)"),
+            (left, ["side"], "left", 'side: "left" is none of LEFT, RIGHT, BOTH (BadValue)'),
+            (left, ["shares"], [share] * 3, "shares: 3 shares, which no square has (BadCount)"),
+            (both, ["shares"], [share], "shares: 1 shares, which no square has (BadCount)"),
+            (left, ["shares", 1], share[4:], "shares[1]: 509 bytes, and there are to be 512 (BadLength)"),
+        ]
+        for value, path, put, note in cases:
+            with self.subTest(note):
+                self.refused(["row", 1, self.changed(value, path, put)], f"bad input: {note}")
+        self.refused(["row", 4, self.file(left)], "bad input: the JSON: row 4, and the square has 4 (BadNumber)")
+        note = "refused: shares[3]: the share isn't that of the code (OtherShare)"
+        self.refused(["row", 1, self.changed(both, ["shares", 3], share)], note, 13)
+
+    def test_share(self):
+        grid = Examples.grids(self)[1]
+        value = sample_of(grid.message(1, 2, make.COL))
+        cases = [
+            (["share"], None, "share: it isn't there (Missing)"),
+            (["proof"], None, "proof: it isn't there (Missing)"),
+            (["proof_type"], 2, "proof_type: 2 isn't from 0 to 1 (BadNumber)"),
+            (["proof_type"], 0, "proof: from 1 to 2, and the cell is at place 2 (BadCount)"),
+            (["proof", "end"], 3, "proof: from 1 to 3, and the cell is at place 1 (BadCount)"),
+            (["proof", "nodes", 0], "", "proof.nodes[0]: 0 bytes, and there are to be 90 (BadLength)"),
+            (["proof", "leaf_hash"], "AAAA", "proof.leaf_hash: 3 bytes, and there are to be 0 (BadLength)"),
+            (["proof", "is_max_namespace_ignored"], False,
+             "proof.is_max_namespace_ignored: it isn't true, as it is in Celestia's trees (BadValue)"),
+        ]
+        for path, put, note in cases:
+            with self.subTest(note):
+                self.refused(["share", self.changed(value, path, put), "1,2"], f"bad input: {note}")
+        self.refused(["share", self.file([value] * 2), "1,2"], "bad input: the JSON: 2 shares, and 1 cells (BadCount)")
+        self.refused(["share", self.file(value), "1,2,col"], "CELL 0: 'col' isn't a number from 0 to 65535", 1)
+        self.refused(["share", self.file(value), "1"], "CELL: it is ROW,COL", 1)
+
+    def test_commitment(self):
+        grid = Examples.grids(self)[2]
+        path = self.file(grid.commitment(2, 8), "proof")
+        value, digest = json.loads(self.made("proof", path)), base64_of(bytes(90))
+        rows = "row_proof"
+        cases = [
+            (["subtree_roots"], None, "subtree_roots: it isn't there (Missing)"),
+            (["subtree_roots", 0], digest, "namespace_id: it isn't the least namespace of the first subtree (BadValue)"),
+            (["subtree_roots"], [digest], "subtree_roots: 1 of them, and 8 shares are cut into 8 (BadCount)"),
+            (["subtree_root_proofs", 0, "end"], 3,
+             "subtree_root_proofs[0]: from 2 to 3, which leaves shares between rows out (BadNumber)"),
+            (["subtree_root_proofs", 1, "start"], 1,
+             "subtree_root_proofs[1]: from 1 to 4, which leaves shares between rows out (BadNumber)"),
+            (["subtree_root_proofs", 2, "end"], 5,
+             "subtree_root_proofs[2]: from 0 to 5, which leaves shares between rows out (BadNumber)"),
+            (["subtree_root_proofs", 2], None, "subtree_root_proofs: 2 of them, and there are 3 rows (BadCount)"),
+            (["namespace_version"], 1, "namespace_id: it isn't the least namespace of the first subtree (BadValue)"),
+            ([rows, "row_roots", 0], "AAAA", f"{rows}.row_roots[0]: 3 bytes, and there are to be 90 (BadLength)"),
+            ([rows, "row_roots", 0], "00" * 90, f"{rows}.proofs[0].leaf_hash: it isn't that of the root (BadValue)"),
+            ([rows, "proofs", 1, "total"], 8, f"{rows}.proofs[1].total: 8 roots, and all have 4k of a width k (BadNumber)"),
+            ([rows, "proofs", 0, "total"], 12, f"{rows}.proofs[0].total: 12 roots, and all have 4k of a width k (BadNumber)"),
+            ([rows, "proofs", 2, "index"], 1, f"{rows}.proofs[2].index: 1, and it is the root of row 2 (BadNumber)"),
+            ([rows, "proofs", 2], None, f"{rows}.proofs: 2 of them, and there are 3 roots (BadCount)"),
+            ([rows, "end_row"], 3, f"{rows}.end_row: there are 3 roots from row 0 on (BadNumber)"),
+        ]
+        for path, put, note in cases:
+            with self.subTest(note):
+                self.refused(["commitment", self.changed(value, path, put)], f"bad input: {note}")
+        none = self.file(make.frame("C", make.u16(0) + bytes(42)), "none")
+        self.refused(["proof", none], "bad input: COMMITMENT: it has no width, or no subtrees (BadValue)")
 
     @mock.patch.object(frames, "PAYLOAD_LIMIT", 1000)
     def test_block(self):

@@ -36,6 +36,10 @@ pub mod RowProofFields
 pub mod RowDataLemmas
 -- lenient reading of it
 pub mod RowDataFields
+-- streams of what is found in rows
+pub mod NamespaceDataLemmas
+-- the loops that read and write them
+pub mod NamespaceDataLoops
 -- headers
 pub mod HeaderLemmas
 -- fields that are looked for
@@ -55,3 +59,31 @@ pub mod HalfRowLemmas
 pub mod PlaceLoops
 -- the places of bad encoding proofs, written
 pub mod PlaceTexts
+-- the number of an axis in a field
+pub mod AxisLemmas
+-- proofs of one leaf with a flag
+pub mod FlagLemmas
+-- shares with their proofs
+pub mod PlaceEntries
+-- cells by the places of their axis
+pub mod PlaceCells
+-- the places of bad encoding proofs, written and read
+pub mod PlaceLemmas
+-- bad encoding proofs, read back
+pub mod BefpLemmas
+-- lenient reading of them
+pub mod BefpFields
+-- fields that may be there, and hashes
+pub mod AuntLemmas
+-- the loop that gathers hashes
+pub mod AuntLoops
+-- proofs of one share of a row
+pub mod SharePathLemmas
+-- rows with their proofs under the data root
+pub mod RootedRowLemmas
+-- root proofs along a row
+pub mod ShareProofLemmas
+-- how long these are
+pub mod RootedSizes
+-- lenient reading of them
+pub mod ShareProofFields

@@ -23,7 +23,7 @@ use Rattle.celestia_pb.specs.RowData.{row_text, found_text, found_by, row_end, r
 use Rattle.celestia_pb.specs.RowDataLaws.{HasMessage, share_messages, proof_message}
 use Rattle.celestia_pb.proofs.Steps.{cond_ok, then_ok, placed_ok}
 use Rattle.celestia_pb.proofs.Fronts.{begins_other}
-use Rattle.celestia_pb.proofs.MessageLemmas.{message_is_read, message_back}
+use Rattle.celestia_pb.proofs.MessageLemmas.{field_few, message_is_read, message_back}
 use Rattle.celestia_pb.proofs.ShareLemmas.{shares_are_read, read_are_shares}
 use Rattle.celestia_pb.proofs.ShareEntries.{length-shares_in, length-shares_text}
 use Rattle.celestia_pb.proofs.RowProofLemmas.{row_proof_few, row_proof_is_read, row_proof_back}
@@ -121,13 +121,13 @@ parts_are_read row shares start nodes hashes are =
     message_is_read (λ rest part. row_proof_left (length shares) part) 2 proof [] (start, (nodes, hashes)) (omega arith) small
     (row_proof_is_read start (length shares) nodes hashes are.short lt are.nodes_are are.most are.hashes_are are.many))
 
--- what is found is found by its parts
-pub row_is_read : (row : ℕ) (found : Found) → HasMessage found → row_value row (found_text found) ≡ Ok (record { row = row; found = found })
-row_is_read row (Range start shares nodes) has =
+-- a range that has a message has these parts
+range_parts : (start : ℕ) (shares : List Share) (nodes : List Digest) → HasMessage (Range start shares nodes) → AreParts shares start nodes []
+range_parts start shares nodes has =
     let test = and_parts (ltb 0 (length shares)) (leb (length shares) 512) has.has in
     let some : 0 < length shares = ltb-true 0 (length shares) test.0 in
     let other : eqb (length shares) 0 ≡ false = grind (arith, nat_tests) in
-    ap (placed (length (found_text (Range start shares nodes)))) (parts_are_read row shares start nodes [] (record {
+    record {
       shares_are = has.is.1;
       few = leb-true (length shares) 512 test.1;
       short = has.is.0;
@@ -135,17 +135,47 @@ row_is_read row (Range start shares nodes) has =
       nodes_are = has.is.3;
       hashes_are = tt;
       many = sym (ap (λ (b : Bool). cond b 1 0) other);
-    }))
+    }
+
+-- an absence has these
+absence_parts : (pos : ℕ) (leaf : Digest) (nodes : List Digest) → HasMessage (Absence pos leaf nodes) → AreParts [] pos nodes (leaf ∷ [])
+absence_parts pos leaf nodes has = record {
+  shares_are = tt;
+  few = omega arith;
+  short = has.is.0;
+  most = has.is.2;
+  nodes_are = has.is.3;
+  hashes_are = (has.is.1, tt);
+  many = refl;
+}
+
+-- what is found is found by its parts
+pub row_is_read : (row : ℕ) (found : Found) → HasMessage found → row_value row (found_text found) ≡ Ok (record { row = row; found = found })
+row_is_read row (Range start shares nodes) has =
+    ap (placed (length (found_text (Range start shares nodes)))) (parts_are_read row shares start nodes [] (range_parts start shares nodes has))
 row_is_read row (Absence pos leaf nodes) has =
-    ap (placed (length (found_text (Absence pos leaf nodes)))) (parts_are_read row [] pos nodes (leaf ∷ []) (record {
-      shares_are = tt;
-      few = omega arith;
-      short = has.is.0;
-      most = has.is.2;
-      nodes_are = has.is.3;
-      hashes_are = (has.is.1, tt);
-      many = refl;
-    }))
+    ap (placed (length (found_text (Absence pos leaf nodes)))) (parts_are_read row [] pos nodes (leaf ∷ []) (absence_parts pos leaf nodes has))
+
+-- a message isn't long
+row_small : (shares : List Share) (start : ℕ) (nodes hashes : List Digest) → AreParts shares start nodes hashes
+    → length (row_text shares start nodes hashes) < 2 ^ 64
+row_small shares start nodes hashes are =
+    let proof : List ℕ = row_proof_text start (length shares) nodes hashes in
+    omega (
+      arith,
+      length-append (shares_text shares) (bytes_field 2 proof),
+      length-shares_text shares are.shares_are,
+      field_few 2 proof,
+      row_proof_few start (length shares) nodes hashes are.nodes_are are.hashes_are,
+      are.few,
+      are.most,
+      are.many,
+      hashes_few (length shares),
+    )
+
+pub found_small : (found : Found) → HasMessage found → length (found_text found) < 2 ^ 64
+found_small (Range start shares nodes) has = row_small shares start nodes [] (range_parts start shares nodes has)
+found_small (Absence pos leaf nodes) has = row_small [] pos nodes (leaf ∷ []) (absence_parts pos leaf nodes has)
 
 -- ---- what is read was written
 

@@ -119,7 +119,7 @@ axis_cases false true n rest x z o e =
 axis_cases false false n rest x z o e = absurd cc
 
 -- the axis that a number is
-axis_number-is : (n : ℕ) (rest : List ℕ) (x : Axis × List ℕ) → axis_of (n, rest) ≡ Some x → (n ≡ axis_number x.0) × (rest ≡ x.1)
+pub axis_number-is : (n : ℕ) (rest : List ℕ) (x : Axis × List ℕ) → axis_of (n, rest) ≡ Some x → (n ≡ axis_number x.0) × (rest ≡ x.1)
 axis_number-is n rest x e = axis_cases (eqb n 0) (eqb n 1) n rest x refl refl e
 
 -- the axis at the front

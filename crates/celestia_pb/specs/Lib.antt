@@ -36,7 +36,21 @@ pub mod RowData
 pub mod RowParts
 -- what of it is promised
 pub mod RowDataLaws
+-- streams of what is found in rows
+pub mod NamespaceData
 -- the places of bad encoding proofs
 pub mod BefpEntries
 -- bad encoding proofs
 pub mod Befp
+-- what of them is promised
+pub mod BefpLaws
+-- fields that may be there, and hashes
+pub mod Aunts
+-- proofs of one share of a row
+pub mod SharePaths
+-- rows with their proofs under the data root
+pub mod RootedRows
+-- root proofs along a row
+pub mod ShareProofs
+-- what of them is promised
+pub mod ShareProofLaws

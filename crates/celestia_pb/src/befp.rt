@@ -5,6 +5,7 @@ ghost use Rattle.celestia_pb.specs.Reading.{Reads};
 ghost use Rattle.celestia_pb.specs.Messages.{number_left};
 ghost use Rattle.celestia_pb.specs.BefpEntries.{has_read};
 ghost use Rattle.celestia_pb.specs.Befp.{is_index, accused_left, outline_at, has_places, claim_read, places_by, is_height, hash_at, befp_left, befp_value};
+ghost use Rattle.celestia_pb.specs.BefpLaws.{BefpIsRead, ReadIsBefp, BefpIsCommon, EntryIsCommon, FlaggedIsCommon};
 
 use crate::befp_entries::{Accused, Seen, axis_in};
 use crate::befp_places::{cells_in, count_places, look_along};
@@ -190,3 +191,12 @@ pub fn read_befp(
         Err(left) => Err(PbError::at(bytes, left)),
     }
 }
+
+/// The laws of the messages of claims. It changes nothing.
+pub fn befp_laws()
+    ensures read { BefpIsRead }
+    ensures spelled { ReadIsBefp }
+    ensures common { BefpIsCommon }
+    ensures entry_common { EntryIsCommon }
+    ensures proof_common { FlaggedIsCommon }
+{}

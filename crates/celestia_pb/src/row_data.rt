@@ -1,6 +1,6 @@
 //! What is found in a row as messages RowNamespaceData.
 
-ghost use Rattle.std.specs.Prelude.{◌≡◌, ◌↔◌, ℕ, ◌+◌, ◌*◌, ◌≤◌, ◌++◌, length, vec_len, vec_capacity, true, false, None, option_map, Ok, Err, IfOk, IfErr, IfSome, IsErrOf};
+ghost use Rattle.std.specs.Prelude.{◌≡◌, ◌↔◌, ℕ, ◌+◌, ◌*◌, ◌≤◌, ◌^◌, ◌++◌, length, vec_len, vec_capacity, true, false, None, option_map, Ok, Err, IfOk, IfErr, IfSome, IsErrOf};
 ghost use Rattle.namespace_id.specs.Answers.{HasRoom};
 ghost use Rattle.namespace_id.specs.Sizes.{greatest_width};
 ghost use Rattle.celestia_pb.specs.Reading.{Reads};
@@ -69,7 +69,12 @@ pub(crate) fn row_at(bytes: &[u8]) -> Result<RowParts, usize>
 }
 
 /// The entry of a row of which the message is made of these. The one refusal is that it is out of memory.
-fn entry_of(alloc: Global, row: u16, parts: RowParts, bytes: &[u8]) -> Result<NsEntry, NoMemory>
+pub(crate) fn entry_of(
+    alloc: Global,
+    row: u16,
+    parts: RowParts,
+    bytes: &[u8],
+) -> Result<NsEntry, NoMemory>
     requires size { share_entry_size * parts.count ≤ length bytes.now }
     ensures { IfOk result (λ entry. entry ≡ entry_by row parts bytes.now) }
 {
@@ -132,7 +137,8 @@ fn row_size(start: u16, shares: &[Share], nodes: &[Digest], hashes: &[Digest]) -
     requires shares { length shares.now ≤ greatest_width }
     requires few { length nodes.now ≤ most_nodes }
     requires hashes { length hashes.now ≤ 1 }
-    ensures { result ≡ length (row_text shares.now start nodes.now hashes.now) }
+    ensures value { result ≡ length (row_text shares.now start nodes.now hashes.now) }
+    ensures few { result ≤ 2 ^ 20 }
 {
     shares_law(shares);
     let proof = part_size(PROOF, row_proof_size(start, shares.len(), nodes, hashes));
@@ -165,6 +171,7 @@ fn put_row(start: u16, shares: &[Share], nodes: &[Digest], hashes: &[Digest], ou
 pub fn row_data_size(entry: &NsEntry) -> Option<usize>
     ensures none { (result ≡ None) ↔ (has_message entry.now.found ≡ false) }
     ensures size { IfSome result (λ size. size ≡ length (found_text entry.now.found)) }
+    ensures few { IfSome result (λ size. size ≤ 2 ^ 20) }
 {
     if !has_message(&entry.found) {
         return None;
