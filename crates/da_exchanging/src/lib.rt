@@ -16,6 +16,7 @@ mod made;
 mod namespace_data;
 mod ods;
 mod row_data;
+mod row;
 mod sample;
 mod share_proof;
 
