@@ -27,8 +27,6 @@ pub enum ImportForm {
     RowData(u16, Namespace),
     /// `befp FILE HASH HEIGHT`: a BadEncoding of a header with this hash and this height; B without a set.
     Befp([u8; 32], u64),
-    /// `namespace-data FILE HEADER NAMESPACE`: messages RowNamespaceData, each behind its length, for the rows of HEADER that may hold
-    /// this namespace; N.
     /// `namespace-data FILE HEADER NAMESPACE`: messages RowNamespaceData, each behind its length, for the rows of HEADER that may
     /// hold this namespace; N.
     NamespaceData(Namespace),

@@ -15,8 +15,8 @@ mod laws;
 mod made;
 mod namespace_data;
 mod ods;
-mod row_data;
 mod row;
+mod row_data;
 mod sample;
 mod share_proof;
 
