@@ -42,6 +42,11 @@ pub mod NamespaceDataLemmas
 pub mod NamespaceDataLoops
 -- headers
 pub mod HeaderLemmas
+-- fields that are looked for
+pub mod ExtendedFields
+-- what is read as an extended header, and what is one
+pub mod ExtendedLemmas
+pub mod ExtendedReading
 -- identifiers
 pub mod IdLemmas
 -- shares at even distances
@@ -68,3 +73,17 @@ pub mod PlaceLemmas
 pub mod BefpLemmas
 -- lenient reading of them
 pub mod BefpFields
+-- fields that may be there, and hashes
+pub mod AuntLemmas
+-- the loop that gathers hashes
+pub mod AuntLoops
+-- proofs of one share of a row
+pub mod SharePathLemmas
+-- rows with their proofs under the data root
+pub mod RootedRowLemmas
+-- root proofs along a row
+pub mod ShareProofLemmas
+-- how long these are
+pub mod RootedSizes
+-- lenient reading of them
+pub mod ShareProofFields

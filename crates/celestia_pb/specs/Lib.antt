@@ -12,6 +12,10 @@ pub mod Samples
 pub mod Headers
 -- what of headers is promised for all of them
 pub mod Laws
+-- extended headers
+pub mod Extended
+-- what of them is promised
+pub mod ExtendedLaws
 -- what of samples is
 pub mod SampleLaws
 -- identifiers
@@ -40,3 +44,13 @@ pub mod BefpEntries
 pub mod Befp
 -- what of them is promised
 pub mod BefpLaws
+-- fields that may be there, and hashes
+pub mod Aunts
+-- proofs of one share of a row
+pub mod SharePaths
+-- rows with their proofs under the data root
+pub mod RootedRows
+-- root proofs along a row
+pub mod ShareProofs
+-- what of them is promised
+pub mod ShareProofLaws

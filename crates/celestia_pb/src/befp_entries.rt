@@ -170,7 +170,7 @@ fn proof_field(
 }
 
 /// The share in a field that may be at the front, and the bytes after it; where it is wrong, how many bytes are left.
-fn data_at(bytes: &[u8]) -> Result<(Option<Share>, &[u8]), usize>
+pub(crate) fn data_at(bytes: &[u8]) -> Result<(Option<Share>, &[u8]), usize>
     ensures value { Reads (λ x. (x.0, x.1.now)) result (data_at bytes.now) }
     ensures shorter { IfOk result (λ x. length x.1.now ≤ length bytes.now) }
     ensures within { IfErr result (λ left. left ≤ length bytes.now) }

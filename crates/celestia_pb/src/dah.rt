@@ -1,6 +1,6 @@
 //! Data availability headers as messages DataAvailabilityHeader.
 
-ghost use Rattle.std.specs.Prelude.{◌≡◌, ◌↔◌, ℕ, ◌+◌, ◌*◌, ◌≤◌, ◌++◌, ◌==◌, ◌&&◌, length, drop, true, Err, vec_len, vec_capacity, Ok, IfOk, IsErrOf};
+ghost use Rattle.std.specs.Prelude.{◌≡◌, ◌↔◌, ℕ, ◌+◌, ◌*◌, ◌≤◌, ◌++◌, ◌==◌, ◌&&◌, length, drop, true, Err, vec_len, vec_capacity, Ok, IfOk, IfErr, IsErrOf};
 ghost use Rattle.namespace_id.specs.Answers.{HasRoom};
 ghost use Rattle.namespace_id.specs.Cells.{is_width};
 ghost use Rattle.celestia_pb.specs.Reading.{Reads};
@@ -29,10 +29,11 @@ fn are_all(rows: usize, cols: usize, rest: &[u8]) -> bool
 }
 
 /// The width of the header that a message is, or how many bytes are left from the first field that is wrong on.
-fn dah_width(bytes: &[u8]) -> Result<u16, usize>
+pub(crate) fn dah_width(bytes: &[u8]) -> Result<u16, usize>
     ensures value { Reads (λ k. record { k = k; rows = digests_in (2 * k) bytes.now; cols = digests_in (2 * k) (drop (entry_size * (2 * k)) bytes.now) })
         result (dah_left bytes.now) }
     ensures size { IfOk result (λ k. entry_size * (4 * k) ≡ length bytes.now) }
+    ensures within { IfErr result (λ left. left ≤ length bytes.now) }
 {
     let (rows, behind) = count_digests(ROW_ROOTS, 2 * GREATEST_WIDTH as usize, bytes)?;
     let (cols, rest) = count_digests(COL_ROOTS, rows, behind)?;
@@ -43,7 +44,7 @@ fn dah_width(bytes: &[u8]) -> Result<u16, usize>
 }
 
 /// The header of this width whose roots lie in these bytes.
-fn header_in(alloc: Global, k: u16, bytes: &[u8]) -> Result<Header, NoMemory>
+pub(crate) fn header_in(alloc: Global, k: u16, bytes: &[u8]) -> Result<Header, NoMemory>
     requires size { entry_size * (4 * k) ≡ length bytes.now }
     requires width { is_width k ≡ true }
     ensures { IfOk result (λ header. header ≡ record { k = k; rows = digests_in (2 * k) bytes.now; cols = digests_in (2 * k) (drop (entry_size * (2 * k)) bytes.now) }) }

@@ -26,7 +26,7 @@ const NODES: u8 = 3;
 const FLAG: u8 = 5;
 
 /// Whether this is a first place: any, or the one that is wanted, or none.
-fn is_start(wanted: Option<u64>, start: u64) -> bool
+pub(crate) fn is_start(wanted: Option<u64>, start: u64) -> bool
     ensures { result ≡ is_start wanted start }
 {
     match wanted {

@@ -1,6 +1,11 @@
 pub mod MadeLemmas
 pub mod AskedLemmas
+pub mod ShareProofLemmas
+pub mod AnswerLemmas
+pub mod ClaimLemmas
+pub mod HeaderLemmas
 pub mod NamespaceDataLemmas
 pub mod LeftHalfLemmas
 pub mod RowLemmas
 pub mod FormLemmas
+pub mod LawLemmas

@@ -1,11 +1,12 @@
 -- Outputs that are made whole before they are written: how they are made of one file, and how a command ends that writes them.
-use Rattle.std.proofs.Common.{◌≡◌, ◌∙◌, ◌↔◌, ℕ, List, [], ◌∷◌, ◌++◌, Some, Result, Ok, Err, IsOk, IsErrOf, Vec, Global, inl, refl, sym, ap, subst}
+use Rattle.std.proofs.Common.{◌≡◌, ◌∙◌, ◌↔◌, ℕ, List, [], ◌∷◌, ◌++◌, Bool, true, false, cond, Some, None, Result, Ok, Err, IsErrOf, Vec, Global, inl, refl, sym, ap, subst}
 use Rattle.std.specs.declared.option.Option.{Option}
 use Rattle.std.proofs.KnownBytes.{Appends-nil}
 use Rattle.celestia_pb.specs.declared.errors.PbError.{PbError}
 use Rattle.celestia_pb.specs.declared.errors.PbError.TheVariants as message
 use Rattle.da_wire.specs.declared.frames.Frame.{Frame}
 use Rattle.da_wire.specs.Writing.{AppendsSpelling}
+use Rattle.da_status.specs.declared.status.Asked.TheVariants.{Form}
 use Rattle.da_status.specs.declared.status.Status.{Status}
 use Rattle.da_status.specs.declared.status.Status.TheVariants.{Done, BadInput, BadRequest, Refused, NoMemory}
 use Rattle.da_status.specs.Statuses.{kind_of}
@@ -18,7 +19,7 @@ use Rattle.da_files.specs.Contents.{file_of}
 use Rattle.da_files.specs.Frames.{error_of, ReadsSingle, Writes, WritesText}
 use Rattle.da_files.specs.Forms.{Over, single_judged}
 use Rattle.da_files.proofs.FormLemmas.{single_is, over_each}
-use Rattle.da_exchanging.specs.Made.{message_refusal, frame_refusal, IsMade, Frames, Texts}
+use Rattle.da_exchanging.specs.Made.{message_refusal, frame_refusal, IsMade, WritesIf, Frames, Texts, TextsIf}
 
 -- ---- what is made
 
@@ -71,6 +72,14 @@ pub frame_made : {A : Type 0} (value : List ℕ → Result A ℕ) (frame : A →
 frame_made value frame files bytes here x shown made is same h =
     read_made value (λ y. Writes (frame y)) files bytes here x made is (made_as (Writes shown) (Writes (frame x)) made (ap Writes same) h)
 
+-- the bytes of a value that has some
+pub has_written : (has : Bool) (text shown : List ℕ) → has ≡ true → shown ≡ text → WritesIf (cond has (Some text) None) shown Done
+has_written has text shown is same = subst (λ (b : Bool). WritesIf (cond b (Some text) None) shown Done) (sym is) (same, refl)
+
+-- a value that has none is refused
+pub none_refused : (has : Bool) (text : List ℕ) → has ≡ false → WritesIf (cond has (Some text) None) [] (BadRequest Form)
+none_refused has text is = subst (λ (b : Bool). WritesIf (cond b (Some text) None) [] (BadRequest Form)) (sym is) (refl, refl)
+
 -- ---- what is written
 
 -- a text that was made is written
@@ -120,3 +129,13 @@ pub texts_answer : {A : Type 0} (value : List ℕ → Result A ℕ) (text : A �
     → Texts value text files w status → IsAnswer (kind_of status)
 texts_answer {A} value text files w status h =
     over_each (λ (x : A). WritesText Done (text x)) (value (file_of files 0)) w status (IsAnswer (kind_of status)) (λ x is. status_answers status Done is.1 tt) h
+
+-- so is that a value has none
+writes_if_answer : (text : Option (List ℕ)) (w : List ℕ) (status : Status) → WritesIf text w status → IsAnswer (kind_of status)
+writes_if_answer None w status is = status_answers status (BadRequest Form) is.1 tt
+writes_if_answer (Some text) w status is = status_answers status Done is.1 tt
+
+pub texts_if_answer : {A : Type 0} (value : List ℕ → Result A ℕ) (text : A → Option (List ℕ)) (files : List (List ℕ)) (w : List ℕ) (status : Status)
+    → TextsIf value text files w status → IsAnswer (kind_of status)
+texts_if_answer {A} value text files w status h =
+    over_each (λ (x : A). WritesIf (text x)) (value (file_of files 0)) w status (IsAnswer (kind_of status)) (λ x is. writes_if_answer (text x) w status is) h

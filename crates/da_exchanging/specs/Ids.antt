@@ -1,7 +1,6 @@
 -- sample-id, namespace-id: identifiers of a height, and the requests that they are, which don't say the height.
 use Rattle.std.specs.Prelude.{ℕ, List, [], ◌∷◌, Some, None, Result}
 use Rattle.std.specs.declared.option.Option.{Option}
-use Rattle.namespace_id.specs.declared.cells.Axis.{Axis}
 use Rattle.namespace_id.specs.declared.cells.Axis.TheVariants.{Row}
 use Rattle.namespace_id.specs.declared.cells.Cell.{Cell}
 use Rattle.namespace_id.specs.declared.namespaces.Namespace as names

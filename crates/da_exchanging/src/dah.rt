@@ -22,7 +22,7 @@ use namespace_id::digests_law;
 use std::alloc::Global;
 
 /// The frame of a header.
-fn header_frame(header: Header) -> Frame
+pub(crate) fn header_frame(header: Header) -> Frame
     ensures value { result ≡ FrameOf.Header header }
     ensures spelled { IsSome (spelling result) }
 {

@@ -7,7 +7,7 @@ ghost use Rattle.da_files.specs.Contents.{contents_of};
 ghost use Rattle.da_exchanging.specs.Made.{IsMade};
 ghost use Rattle.da_exchanging.specs.Forms.{import_judged, ImportOf, export_judged, ExportOf};
 
-use crate::{dah, ids, namespace_data, ods, row, sample};
+use crate::{befp, dah, header, ids, namespace_data, ods, row, row_data, sample, share_proof};
 use da_files::put;
 use da_io::Sink;
 use da_status::Status;
@@ -19,8 +19,14 @@ use std::alloc::Global;
 pub enum ImportForm {
     /// `dah FILE`: a DataAvailabilityHeader; the frame is H.
     Dah,
+    /// `header FILE`: an ExtendedHeader, whose data hash is the data root of its axis roots; H of these.
+    Header,
     /// `sample FILE ROW COL`: a Sample of this cell; M.
     Sample(Cell),
+    /// `row-data FILE ROW NAMESPACE`: a RowNamespaceData of this row; N of this namespace with the one entry of the row.
+    RowData(u16, Namespace),
+    /// `befp FILE HASH HEIGHT`: a BadEncoding of a header with this hash and this height; B without a set.
+    Befp([u8; 32], u64),
     /// `namespace-data FILE HEADER NAMESPACE`: messages RowNamespaceData, each behind its length, for the rows of HEADER that may
     /// hold this namespace; N.
     NamespaceData(Namespace),
@@ -28,6 +34,8 @@ pub enum ImportForm {
     Row(u16),
     /// `ods FILE`: the k * k shares of an original square, row by row; S.
     Ods,
+    /// `share-proof FILE`: a ShareProof of one share; R along the row.
+    ShareProof,
     /// `sample-id FILE HEIGHT`: a SampleID of this height; Q along the row.
     SampleId(u64),
     /// `namespace-id FILE HEIGHT`: a NamespaceDataID of this height; P.
@@ -41,12 +49,20 @@ pub enum ExportForm {
     Dah,
     /// `sample FILE`: of M a Sample.
     Sample,
+    /// `row-data FILE`: of N with one entry, that has a message, a RowNamespaceData, whatever the row and the namespace.
+    RowData,
+    /// `befp FILE WIDTH HASH HEIGHT`: of B without a set, against an axis of a square of this width, a BadEncoding of a header with
+    /// this hash and this height.
+    Befp(u16, [u8; 32], u64),
     /// `namespace-data FILE`: of N a message RowNamespaceData for each of its entries, each behind its length.
     NamespaceData,
     /// `row FILE`: of M of each cell of a row, from column 0, a Row, the left half.
     Row,
     /// `ods FILE`: of S the k * k shares, row by row.
     Ods,
+    /// `share-proof FILE`: of R a ShareProof of one share. An R along a column has none, nor has one whose k is no width or whose
+    /// cell is outside its square.
+    ShareProof,
     /// `sample-id FILE HEIGHT`: of Q a SampleID of this height, whatever the axis.
     SampleId(u64),
     /// `namespace-id FILE HEIGHT`: of P a NamespaceDataID of this height.
@@ -60,10 +76,14 @@ fn imported(alloc: Global, form: ImportForm, files: &[Vec<u8>]) -> Result<Vec<u8
 {
     match form {
         ImportForm::Dah => dah::import(alloc, files),
+        ImportForm::Header => header::import(alloc, files),
         ImportForm::Sample(cell) => sample::import(alloc, files, cell),
+        ImportForm::RowData(row, name) => row_data::import(alloc, files, row, name),
+        ImportForm::Befp(hash, height) => befp::import(alloc, files, &hash, height),
         ImportForm::NamespaceData(name) => namespace_data::import(alloc, files, name),
         ImportForm::Row(row) => row::import(alloc, files, row),
         ImportForm::Ods => ods::import(alloc, files),
+        ImportForm::ShareProof => share_proof::import(alloc, files),
         ImportForm::SampleId(height) => ids::import_sample(alloc, files, height),
         ImportForm::NamespaceId(height) => ids::import_namespace(alloc, files, height),
     }
@@ -77,9 +97,12 @@ fn exported(alloc: Global, form: ExportForm, files: &[Vec<u8>]) -> Result<Vec<u8
     match form {
         ExportForm::Dah => dah::export(alloc, files),
         ExportForm::Sample => sample::export(alloc, files),
+        ExportForm::RowData => row_data::export(alloc, files),
+        ExportForm::Befp(k, hash, height) => befp::export(alloc, files, k, &hash, height),
         ExportForm::NamespaceData => namespace_data::export(alloc, files),
         ExportForm::Row => row::export(alloc, files),
         ExportForm::Ods => ods::export(alloc, files),
+        ExportForm::ShareProof => share_proof::export(alloc, files),
         ExportForm::SampleId(height) => ids::export_sample(alloc, files, height),
         ExportForm::NamespaceId(height) => ids::export_namespace(alloc, files, height),
     }
@@ -101,7 +124,7 @@ pub fn import<O: Sink>(alloc: Global, form: ImportForm, files: &[Vec<u8>], out: 
 }
 
 /// Writes Celestia's bytes of the frame in FILE, in this form. A file that isn't one frame of the form's kind is refused
-/// where it stops being one. All memory is taken before the write.
+/// where it stops being one; then a frame that has no bytes in this form, by `Asked::Form`. All memory is taken before the write.
 ///
 /// docs/RULES.md, "Celestia's messages".
 pub fn export<O: Sink>(alloc: Global, form: ExportForm, files: &[Vec<u8>], out: &mut O) -> Status

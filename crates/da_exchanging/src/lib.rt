@@ -5,14 +5,21 @@
 //! exported. `forms` has all of them. The output is made whole before it is written (`made`).
 #![tactic(auto)]
 
+mod answers;
+mod befp;
 mod dah;
 mod forms;
+mod header;
 mod ids;
+mod laws;
 mod left_half;
 mod made;
 mod namespace_data;
 mod ods;
 mod row;
+mod row_data;
 mod sample;
+mod share_proof;
 
 pub use forms::{ExportForm, ImportForm, export, import};
+pub use laws::exchange_laws;

@@ -1,0 +1,43 @@
+//! What import and export say of each other.
+
+ghost use Rattle.std.specs.Prelude.{◌<◌, ◌^◌, ℕ};
+ghost use Rattle.namespace_id.specs.declared.cells.Cell.{Cell};
+ghost use Rattle.namespace_id.specs.declared.namespaces.Namespace.{Namespace};
+ghost use Rattle.namespace_id.specs.Names.{IsNamespace};
+ghost use Rattle.celestia_pb.specs.Samples.{IsCell};
+ghost use Rattle.da_exchanging.specs.declared.forms.ImportForm.TheVariants as from;
+ghost use Rattle.da_exchanging.specs.declared.forms.ExportForm.TheVariants as to;
+ghost use Rattle.da_exchanging.specs.Laws.{IsExportedBack, IsImportedBack, SampleIsImportedBack, RowDataIsImportedBack, SampleIdIsImportedBack};
+
+use celestia_pb::{dah_laws, id_laws, ods_laws, row_data_laws, sample_laws};
+use da_wire::wire_laws;
+
+/// What is imported is exported as the bytes that it came from, and what is exported is imported as the frame that it came
+/// from: under its cell a sample, under its row and its namespace what is found in a row, and under its height an identifier,
+/// if it is of a request along the row. It changes nothing.
+pub fn exchange_laws()
+    ensures dah { IsExportedBack from.Dah to.Dah }
+    ensures dah_back { IsImportedBack from.Dah to.Dah }
+
+    ensures sample { (cell : Cell) → IsCell cell → IsExportedBack (from.Sample cell) to.Sample }
+    ensures sample_back { SampleIsImportedBack }
+
+    ensures row_data { (row : ℕ) (name : Namespace) → row < 2 ^ 16 → IsNamespace name →
+        IsExportedBack (from.RowData row name) to.RowData }
+    ensures row_data_back { RowDataIsImportedBack }
+
+    ensures ods { IsExportedBack from.Ods to.Ods }
+    ensures ods_back { IsImportedBack from.Ods to.Ods }
+
+    ensures sample_id { (height : ℕ) → IsExportedBack (from.SampleId height) (to.SampleId height) }
+    ensures sample_id_back { SampleIdIsImportedBack }
+    ensures namespace_id { (height : ℕ) → IsExportedBack (from.NamespaceId height) (to.NamespaceId height) }
+    ensures namespace_id_back { (height : ℕ) → IsImportedBack (from.NamespaceId height) (to.NamespaceId height) }
+{
+    wire_laws();
+    dah_laws();
+    sample_laws();
+    row_data_laws();
+    ods_laws();
+    id_laws();
+}
