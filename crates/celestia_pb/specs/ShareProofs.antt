@@ -25,7 +25,7 @@ use Rattle.celestia_pb.specs.BefpEntries.{data_at}
 use Rattle.celestia_pb.specs.Inclusions.{is_start}
 use Rattle.celestia_pb.specs.Aunts.{optional_at}
 use Rattle.celestia_pb.specs.SharePaths.{share_path_text, share_path_left}
-use Rattle.celestia_pb.specs.RootedRows.{rooted_row_text, rooted_row_left}
+use Rattle.celestia_pb.specs.RootedRows.{row_path_text, rooted_row_text, rooted_row_left}
 
 -- whether an axis is a row
 abbrev pub is_along_row : Axis → Bool
@@ -49,13 +49,25 @@ version_in name = slice_index name.0 0
 
 -- ---- written
 
+-- the message NMTProof of a root proof's share
+abbrev pub share_part : RootedParts → List ℕ
+share_part proof = share_path_text proof.message.cell.col proof.message.path
+
+-- the message Proof of the root of its row
+abbrev pub path_part : RootedParts → List ℕ
+path_part proof = row_path_text proof.k proof.message.cell.row proof.root proof.up
+
+-- the message RowProof of its row
+abbrev pub row_part : RootedParts → List ℕ
+row_part proof = rooted_row_text proof.k proof.message.cell.row proof.root proof.up
+
 -- the message of a root proof along a row
 abbrev pub share_proof_text : RootedParts → List ℕ
 share_proof_text proof =
     bytes_field 1 proof.message.share.0
-    ++ (bytes_field 2 (share_path_text proof.message.cell.col proof.message.path)
+    ++ (bytes_field 2 (share_part proof)
     ++ (bytes_field 3 (id_in (name_of proof))
-    ++ (bytes_field 4 (rooted_row_text proof.k proof.message.cell.row proof.root proof.up) ++ number_text 5 (version_in (name_of proof)))))
+    ++ (bytes_field 4 (row_part proof) ++ number_text 5 (version_in (name_of proof)))))
 
 -- ---- read
 

@@ -10,7 +10,8 @@ ghost use Rattle.celestia_pb.specs.Messages.{number_left, message_at};
 ghost use Rattle.celestia_pb.specs.Digests.{digest_at};
 ghost use Rattle.celestia_pb.specs.Inclusions.{is_start};
 ghost use Rattle.celestia_pb.specs.Aunts.{optional_at};
-ghost use Rattle.celestia_pb.specs.RootedRows.{row_path_text, rooted_row_text, has_column, has_names, is_total, is_row, may_total, may_row, is_leaf, leaf_at, row_path_end, row_path_left, row_in, rooted_end, rooted_row_left};
+ghost use Rattle.celestia_pb.specs.RootedRows.{has_column, has_names, is_total, is_row, may_total, may_row, is_leaf, leaf_at, row_path_end, row_path_left, row_in, rooted_end, rooted_row_left};
+ghost use Rattle.celestia_pb.specs.ShareProofs.{path_part, row_part};
 
 use crate::aunts::{HASH_ENTRY_SIZE, aunts_at, put_aunts};
 use crate::entries::{number_size, part_size, put_entry, put_front};
@@ -336,7 +337,7 @@ fn root_count(k: u16) -> u64
 /// How many bytes the path of a root proof's row takes.
 #[tactic(auto, using(crate::proofs::RootedSizes::length_row_path))]
 fn row_path_size(proof: &RootedMessage) -> usize
-    ensures value { result ≡ length (row_path_text proof.now.k proof.now.message.cell.row proof.now.root proof.now.up) }
+    ensures value { result ≡ length (path_part proof.now) }
     ensures few { result ≤ 1000 }
 {
     rooted_law(proof);
@@ -348,7 +349,7 @@ fn row_path_size(proof: &RootedMessage) -> usize
 /// How many bytes the row of a root proof takes.
 #[tactic(auto, using(crate::proofs::RootedSizes::length_rooted_row))]
 pub(crate) fn rooted_row_size(proof: &RootedMessage) -> usize
-    ensures value { result ≡ length (rooted_row_text proof.now.k proof.now.message.cell.row proof.now.root proof.now.up) }
+    ensures value { result ≡ length (row_part proof.now) }
     ensures few { result ≤ 2000 }
 {
     rooted_law(proof);
@@ -359,9 +360,9 @@ pub(crate) fn rooted_row_size(proof: &RootedMessage) -> usize
 
 /// Appends the path of a root proof's row, for which there is capacity.
 fn put_row_path(proof: &RootedMessage, out: &mut Vec<u8>)
-    requires room { HasRoom out.old (length (row_path_text proof.now.k proof.now.message.cell.row proof.now.root proof.now.up)) }
-    ensures appended { out.new.items ≡ out.old.items ++ row_path_text proof.now.k proof.now.message.cell.row proof.now.root proof.now.up }
-    ensures len { vec_len out.new ≡ vec_len out.old + length (row_path_text proof.now.k proof.now.message.cell.row proof.now.root proof.now.up) }
+    requires room { HasRoom out.old (length (path_part proof.now)) }
+    ensures appended { out.new.items ≡ out.old.items ++ path_part proof.now }
+    ensures len { vec_len out.new ≡ vec_len out.old + length (path_part proof.now) }
     ensures capacity { vec_capacity out.old ≤ vec_capacity out.new }
 {
     let hash = leaf_hash(&proof.root);
@@ -373,9 +374,9 @@ fn put_row_path(proof: &RootedMessage, out: &mut Vec<u8>)
 
 /// Appends the field of that path, for which there is capacity.
 fn put_path(proof: &RootedMessage, out: &mut Vec<u8>)
-    requires room { HasRoom out.old (length (bytes_field 2 (row_path_text proof.now.k proof.now.message.cell.row proof.now.root proof.now.up))) }
-    ensures appended { out.new.items ≡ out.old.items ++ bytes_field 2 (row_path_text proof.now.k proof.now.message.cell.row proof.now.root proof.now.up) }
-    ensures len { vec_len out.new ≡ vec_len out.old + length (bytes_field 2 (row_path_text proof.now.k proof.now.message.cell.row proof.now.root proof.now.up)) }
+    requires room { HasRoom out.old (length (bytes_field 2 (path_part proof.now))) }
+    ensures appended { out.new.items ≡ out.old.items ++ bytes_field 2 (path_part proof.now) }
+    ensures len { vec_len out.new ≡ vec_len out.old + length (bytes_field 2 (path_part proof.now)) }
     ensures capacity { vec_capacity out.old ≤ vec_capacity out.new }
 {
     put_front(PATH, row_path_size(proof), out);
@@ -384,9 +385,9 @@ fn put_path(proof: &RootedMessage, out: &mut Vec<u8>)
 
 /// Appends the row of a root proof, for which there is capacity.
 pub(crate) fn put_rooted_row(proof: &RootedMessage, out: &mut Vec<u8>)
-    requires room { HasRoom out.old (length (rooted_row_text proof.now.k proof.now.message.cell.row proof.now.root proof.now.up)) }
-    ensures appended { out.new.items ≡ out.old.items ++ rooted_row_text proof.now.k proof.now.message.cell.row proof.now.root proof.now.up }
-    ensures len { vec_len out.new ≡ vec_len out.old + length (rooted_row_text proof.now.k proof.now.message.cell.row proof.now.root proof.now.up) }
+    requires room { HasRoom out.old (length (row_part proof.now)) }
+    ensures appended { out.new.items ≡ out.old.items ++ row_part proof.now }
+    ensures len { vec_len out.new ≡ vec_len out.old + length (row_part proof.now) }
     ensures capacity { vec_capacity out.old ≤ vec_capacity out.new }
 {
     let row = u64::from(proof.message.cell.row);

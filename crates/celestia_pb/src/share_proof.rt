@@ -6,9 +6,7 @@ ghost use Rattle.blob_commit.specs.Proofs.{RootedParts};
 ghost use Rattle.proto_fields.specs.Spelled.{bytes_field};
 ghost use Rattle.celestia_pb.specs.Reading.{Reads};
 ghost use Rattle.celestia_pb.specs.Aunts.{optional_at};
-ghost use Rattle.celestia_pb.specs.SharePaths.{share_path_text};
-ghost use Rattle.celestia_pb.specs.RootedRows.{rooted_row_text};
-ghost use Rattle.celestia_pb.specs.ShareProofs.{has_share_proof, name_of, share_proof_text, is_own, names_at, front_of, front_left, told_by, proof_of, proof_by, version_of, share_proof_end, share_proof_left, share_proof_value};
+ghost use Rattle.celestia_pb.specs.ShareProofs.{has_share_proof, name_of, share_part, row_part, share_proof_text, is_own, names_at, front_of, front_left, told_by, proof_of, proof_by, version_of, share_proof_end, share_proof_left, share_proof_value};
 ghost use Rattle.celestia_pb.specs.ShareProofLaws.{ShareProofIsRead, ReadIsShareProof, ShareProofIsCommon, SharePathIsCommon, RootedRowIsCommon, RowPathIsCommon};
 
 use crate::befp_entries::{DATA, data_at};
@@ -266,9 +264,9 @@ pub fn share_proof_size(proof: &RootedMessage) -> Option<usize>
 
 /// Appends the field of the share's proof, for which there is capacity.
 fn put_path(proof: &RootedMessage, out: &mut Vec<u8>)
-    requires room { HasRoom out.old (length (bytes_field 2 (share_path_text proof.now.message.cell.col proof.now.message.path))) }
-    ensures appended { out.new.items ≡ out.old.items ++ bytes_field 2 (share_path_text proof.now.message.cell.col proof.now.message.path) }
-    ensures len { vec_len out.new ≡ vec_len out.old + length (bytes_field 2 (share_path_text proof.now.message.cell.col proof.now.message.path)) }
+    requires room { HasRoom out.old (length (bytes_field 2 (share_part proof.now))) }
+    ensures appended { out.new.items ≡ out.old.items ++ bytes_field 2 (share_part proof.now) }
+    ensures len { vec_len out.new ≡ vec_len out.old + length (bytes_field 2 (share_part proof.now)) }
     ensures capacity { vec_capacity out.old ≤ vec_capacity out.new }
 {
     let col = proof.message.cell.col;
@@ -279,9 +277,9 @@ fn put_path(proof: &RootedMessage, out: &mut Vec<u8>)
 
 /// Appends the field of the row's proof, for which there is capacity.
 fn put_row(proof: &RootedMessage, out: &mut Vec<u8>)
-    requires room { HasRoom out.old (length (bytes_field 4 (rooted_row_text proof.now.k proof.now.message.cell.row proof.now.root proof.now.up))) }
-    ensures appended { out.new.items ≡ out.old.items ++ bytes_field 4 (rooted_row_text proof.now.k proof.now.message.cell.row proof.now.root proof.now.up) }
-    ensures len { vec_len out.new ≡ vec_len out.old + length (bytes_field 4 (rooted_row_text proof.now.k proof.now.message.cell.row proof.now.root proof.now.up)) }
+    requires room { HasRoom out.old (length (bytes_field 4 (row_part proof.now))) }
+    ensures appended { out.new.items ≡ out.old.items ++ bytes_field 4 (row_part proof.now) }
+    ensures len { vec_len out.new ≡ vec_len out.old + length (bytes_field 4 (row_part proof.now)) }
     ensures capacity { vec_capacity out.old ≤ vec_capacity out.new }
 {
     put_front(ROW, rooted_row_size(proof), out);

@@ -26,6 +26,7 @@ use Rattle.da_exchanging.proofs.MadeLemmas.{frames_answer, texts_answer, texts_i
 use Rattle.da_exchanging.proofs.ShareProofLemmas.{share_proof_answers}
 use Rattle.da_exchanging.proofs.HeaderLemmas.{header_answers}
 use Rattle.da_exchanging.proofs.NamespaceDataLemmas as stream
+use Rattle.da_exchanging.proofs.RowLemmas as half
 
 -- what import answers to its files is an answer
 pub import_answers : (form : ImportForm) (files : List (List ℕ)) (w : List ℕ) (status : Status) → ImportOf form files w status → IsAnswer (kind_of status)
@@ -35,6 +36,7 @@ import_answers (from.Sample cell) files w status h = frames_answer (sample_value
 import_answers (from.RowData row name) files w status h = frames_answer (row_value row) (row_frame name) files w status h
 import_answers (from.Befp hash height) files w status h = frames_answer (befp_value hash height) Fraud files w status h
 import_answers (from.NamespaceData name) files w status h = stream.import_answers name files w status h
+import_answers (from.Row row) files w status h = half.import_answers row files w status h
 import_answers from.Ods files w status h = frames_answer ods_value Square files w status h
 import_answers from.ShareProof files w status h = frames_answer share_proof_value Rooted files w status h
 import_answers (from.SampleId height) files w status h = frames_answer (sample_id_value height) row_request files w status h

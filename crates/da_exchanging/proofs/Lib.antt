@@ -5,5 +5,6 @@ pub mod AnswerLemmas
 pub mod ClaimLemmas
 pub mod HeaderLemmas
 pub mod NamespaceDataLemmas
+pub mod RowLemmas
 pub mod FormLemmas
 pub mod LawLemmas

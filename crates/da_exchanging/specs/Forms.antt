@@ -4,6 +4,7 @@ use Rattle.std.specs.declared.option.Option.{Option}
 use Rattle.celestia_pb.specs.Headers.{dah_value}
 use Rattle.celestia_pb.specs.Extended.{extended_value}
 use Rattle.celestia_pb.specs.Samples.{sample_value}
+use Rattle.celestia_pb.specs.HalfRows.{half_row_value}
 use Rattle.celestia_pb.specs.Ids.{sample_id_value, namespace_id_value}
 use Rattle.celestia_pb.specs.ShareProofs.{share_proof_value}
 use Rattle.celestia_pb.specs.RowData.{row_value}
@@ -25,6 +26,7 @@ use Rattle.da_exchanging.specs.Befp.{claim_in, ImportBefpOf, ExportBefpOf}
 use Rattle.da_exchanging.specs.NamespaceData.{namespace_data_judged, ImportNamespaceDataOf, entries_in, ExportNamespaceDataOf}
 use Rattle.da_exchanging.specs.Ods.{ImportOdsOf, ExportOdsOf}
 use Rattle.da_exchanging.specs.ShareProof.{rooted_in, ImportShareProofOf, ExportShareProofOf}
+use Rattle.da_exchanging.specs.Row.{ImportRowOf}
 use Rattle.da_exchanging.specs.Ids.{asked_cell_in, asked_name_in, ImportSampleIdOf, ExportSampleIdOf, ImportNamespaceIdOf, ExportNamespaceIdOf}
 
 -- of each file of `import` where it leaves its form, if it does
@@ -35,6 +37,7 @@ import_judged (from.Sample cell) files = single_judged (sample_value cell) files
 import_judged (from.RowData row name) files = single_judged (row_value row) files
 import_judged (from.Befp hash height) files = single_judged (befp_value hash height) files
 import_judged (from.NamespaceData name) files = namespace_data_judged name files
+import_judged (from.Row row) files = single_judged half_row_value files
 import_judged from.Ods files = single_judged ods_value files
 import_judged from.ShareProof files = single_judged share_proof_value files
 import_judged (from.SampleId height) files = single_judged (sample_id_value height) files
@@ -48,6 +51,7 @@ ImportOf (from.Sample cell) files = ImportSampleOf cell files
 ImportOf (from.RowData row name) files = ImportRowDataOf row name files
 ImportOf (from.Befp hash height) files = ImportBefpOf hash height files
 ImportOf (from.NamespaceData name) files = ImportNamespaceDataOf name files
+ImportOf (from.Row row) files = ImportRowOf row files
 ImportOf from.Ods files = ImportOdsOf files
 ImportOf from.ShareProof files = ImportShareProofOf files
 ImportOf (from.SampleId height) files = ImportSampleIdOf height files

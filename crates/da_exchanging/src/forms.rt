@@ -7,7 +7,7 @@ ghost use Rattle.da_files.specs.Contents.{contents_of};
 ghost use Rattle.da_exchanging.specs.Made.{IsMade};
 ghost use Rattle.da_exchanging.specs.Forms.{import_judged, ImportOf, export_judged, ExportOf};
 
-use crate::{befp, dah, header, ids, namespace_data, ods, row_data, sample, share_proof};
+use crate::{befp, dah, header, ids, namespace_data, ods, row, row_data, sample, share_proof};
 use da_files::put;
 use da_io::Sink;
 use da_status::Status;
@@ -27,9 +27,11 @@ pub enum ImportForm {
     RowData(u16, Namespace),
     /// `befp FILE HASH HEIGHT`: a BadEncoding of a header with this hash and this height; B without a set.
     Befp([u8; 32], u64),
-    /// `namespace-data FILE HEADER NAMESPACE`: messages RowNamespaceData, each behind its length, for the rows of HEADER that may hold
-    /// this namespace; N.
+    /// `namespace-data FILE HEADER NAMESPACE`: messages RowNamespaceData, each behind its length, for the rows of HEADER that may
+    /// hold this namespace; N.
     NamespaceData(Namespace),
+    /// `row FILE ROW`: a Row, half of the row of this number; M of each of its cells, from column 0.
+    Row(u16),
     /// `ods FILE`: the k * k shares of an original square, row by row; S.
     Ods,
     /// `share-proof FILE`: a ShareProof of one share; R along the row.
@@ -77,6 +79,7 @@ fn imported(alloc: Global, form: ImportForm, files: &[Vec<u8>]) -> Result<Vec<u8
         ImportForm::RowData(row, name) => row_data::import(alloc, files, row, name),
         ImportForm::Befp(hash, height) => befp::import(alloc, files, &hash, height),
         ImportForm::NamespaceData(name) => namespace_data::import(alloc, files, name),
+        ImportForm::Row(row) => row::import(alloc, files, row),
         ImportForm::Ods => ods::import(alloc, files),
         ImportForm::ShareProof => share_proof::import(alloc, files),
         ImportForm::SampleId(height) => ids::import_sample(alloc, files, height),

@@ -15,6 +15,7 @@ mod laws;
 mod made;
 mod namespace_data;
 mod ods;
+mod row;
 mod row_data;
 mod sample;
 mod share_proof;

@@ -1,5 +1,5 @@
-//! import namespace-data FILE HEADER NAMESPACE, export namespace-data FILE: what is found of a namespace in the rows of a header that
-//! may hold it, as a stream of messages RowNamespaceData.
+//! import namespace-data FILE HEADER NAMESPACE, export namespace-data FILE: what is found of a namespace in the rows of a header
+//! that may hold it, as a stream of messages RowNamespaceData.
 
 ghost use Rattle.std.specs.Prelude.{◌≡◌, ◌<◌, ◌*◌, IfOk, IsSome, false, Ok};
 ghost use Rattle.data_header.specs.Headers.{Roots};

@@ -4,3 +4,7 @@
 
 #[cfg(test)]
 mod messages;
+#[cfg(test)]
+mod readers;
+#[cfg(test)]
+mod writing;

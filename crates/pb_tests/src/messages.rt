@@ -1,23 +1,13 @@
 //! Messages written out by hand, field by field (Celestia specifications, "Data Structures"; CIP-19).
 
+use crate::writing::{add, entry};
 use celestia_pb::{PbError, dah_size, put_dah, put_sample, read_dah, read_sample, sample_size};
 use namespace_id::{Axis, Cell};
 use std::alloc::Global;
 use std::process::Abort;
 
-/// Appends bytes.
-fn add(rt: &impl Abort, out: &mut Vec<u8>, bytes: &[u8]) {
-    out.extend_from_slice(bytes).expect(rt, "there is memory");
-}
-
-/// Appends 90 bytes in a field of this tag.
-fn entry(rt: &impl Abort, out: &mut Vec<u8>, tag: u8, byte: u8) {
-    add(rt, out, &[tag, 90]);
-    add(rt, out, &[byte; 90]);
-}
-
 /// The message of the header of width 1 whose roots have bytes 1, 2, 3 and 4.
-fn header(rt: &impl Abort, alloc: Global) -> Vec<u8> {
+pub(crate) fn header(rt: &impl Abort, alloc: Global) -> Vec<u8> {
     let mut out = Vec::new(alloc);
     entry(rt, &mut out, 10, 1);
     entry(rt, &mut out, 10, 2);

@@ -1,0 +1,82 @@
+//! import row FILE ROW: half a row as the message Row.
+
+ghost use Rattle.std.specs.Prelude.{◌≡◌, IfOk, IsSome};
+ghost use Rattle.celestia_pb.specs.HalfRows.{half_row_value};
+ghost use Rattle.da_wire.specs.declared.frames.Frame.TheVariants as FrameOf;
+ghost use Rattle.da_wire.specs.Spelling.{spelling};
+ghost use Rattle.da_wire.specs.Writing.{AppendsSpelling};
+ghost use Rattle.da_status.specs.Judging.{Judged};
+ghost use Rattle.da_files.specs.Contents.{contents_of};
+ghost use Rattle.da_files.specs.Forms.{single_judged};
+ghost use Rattle.da_exchanging.specs.Made.{IsMade};
+ghost use Rattle.da_exchanging.specs.Row.{row_frames, WritesAll, RowOf, ImportRowOf};
+
+use crate::made::{FILE, message_refusal};
+use axis_roots::{Message, message_law};
+use celestia_pb::{HalfRow, read_half_row};
+use da_files::file;
+use da_status::{Asked, Status};
+use da_wire::{Frame, SpellError, wire_laws, write_frame};
+use half_rows::{RowError, RowSamples, row_samples};
+use namespace_id::NoMemory;
+use std::alloc::Global;
+
+/// The frame of a sample.
+fn message_frame(message: Message) -> Frame
+    ensures value { result ≡ FrameOf.Message message }
+    ensures spelled { IsSome (spelling result) }
+{
+    wire_laws();
+    message_law(&message);
+    Frame::Message(message)
+}
+
+/// Appends a frame that has a spelling. The one refusal is that it is out of memory.
+fn append_frame(frame: Frame, text: &mut Vec<u8>) -> Result<(), NoMemory>
+    requires { IsSome (spelling frame) }
+    ensures { IfOk result (λ done. AppendsSpelling frame text.old.items text.new.items) }
+{
+    match write_frame(&frame, text) {
+        Ok(()) => Ok(()),
+        // Never taken: the frame has a spelling. The type of the error has this variant too.
+        Err(SpellError::Unspellable) => unreachable!(),
+        Err(SpellError::NoMemory) => Err(NoMemory),
+    }
+}
+
+/// The frames of the samples of a row, one after another.
+fn sample_frames(alloc: Global, samples: &RowSamples) -> Result<Vec<u8>, Status>
+    ensures { IsMade (WritesAll (row_frames samples.now)) result }
+{
+    let mut text = Vec::new(alloc);
+    for col in 0..samples.count() {
+        let frame = message_frame(samples.sample(col));
+        let Ok(()) = append_frame(frame, &mut text) else {
+            return Err(Status::NoMemory);
+        };
+    }
+    Ok(text)
+}
+
+/// The frames of the samples of the row of this number that has a half.
+fn row_of(alloc: Global, row: u16, half: HalfRow) -> Result<Vec<u8>, Status>
+    ensures { IsMade (RowOf row half) result }
+{
+    match row_samples(alloc, row, half) {
+        Ok(samples) => sample_frames(alloc, &samples),
+        Err(RowError::NoRow) => Err(Status::BadRequest(Asked::Form)),
+        Err(RowError::Unordered) => Err(Status::BadRequest(Asked::NoHeader)),
+        Err(RowError::NoMemory) => Err(Status::NoMemory),
+    }
+}
+
+/// The frames of the samples of the row of this number of which the message in FILE is half.
+pub(crate) fn import(alloc: Global, files: &[Vec<u8>], row: u16) -> Result<Vec<u8>, Status>
+    ensures { IsMade (Judged (single_judged half_row_value (contents_of files.now))
+        (ImportRowOf row (contents_of files.now))) result }
+{
+    match read_half_row(alloc, file(files, FILE)) {
+        Ok(half) => row_of(alloc, row, half),
+        Err(why) => Err(message_refusal(why)),
+    }
+}
