@@ -1,9 +1,8 @@
 -- Streams of what is found in rows: the rows that are asked of a header, the frames of entries, and what is answered to FILE and HEADER.
-use Rattle.std.proofs.Common.{◌≡◌, ◌∙◌, ◌↔◌, ℕ, suc, ◌+◌, ◌≤◌, Bool, true, false, cond, List, [], ◌∷◌, ◌++◌, length, Some, None, Result, Ok, Err, IsErrOf, Vec, Global, IsSome, refl, sym, ap, ap₂, subst, arith, ltb, leb, leb-true, append-nil}
-use Rattle.std.specs.declared.option.Option.{Option}
+use Rattle.std.proofs.Common.{◌≡◌, ◌∙◌, ◌↔◌, ℕ, suc, ◌+◌, ◌≤◌, Bool, true, false, cond, List, [], ◌∷◌, ◌++◌, length, None, Result, Ok, Err, IsErrOf, Vec, Global, IsSome, refl, sym, ap, ap₂, subst, arith, leb-true, append-nil}
 use Rattle.std.specs.Prelude.{not, nat_lt, nat_le}
 use Rattle.std.specs.List.{filter, list_any}
-use Rattle.std.proofs.lemmas.Bool.{cases_Bool, and_parts, or_from, le-ltb}
+use Rattle.std.proofs.lemmas.Bool.{and_parts, or_from, le-ltb}
 use Rattle.std.proofs.lemmas.List.{length-map}
 use Rattle.std.proofs.lemmas.List.Elements.{filter-append}
 use Rattle.std.proofs.lemmas.List.Filters.{length-filter_both}
@@ -31,7 +30,7 @@ use Rattle.da_wire.specs.Reading.{is_among}
 use Rattle.da_wire.specs.Writing.{kind_of}
 use Rattle.da_status.specs.declared.status.Asked.TheVariants.{Form}
 use Rattle.da_status.specs.declared.status.Status.{Status}
-use Rattle.da_status.specs.declared.status.Status.TheVariants.{Done, BadInput, BadRequest, NoMemory}
+use Rattle.da_status.specs.declared.status.Status.TheVariants.{Done, BadInput, BadRequest}
 use Rattle.da_status.specs.Judging.{Judged}
 use Rattle.da_status.specs.Outcome.{Relation}
 use Rattle.da_status.specs.Statuses as statuses
