@@ -6,3 +6,4 @@ pub mod ClaimLemmas
 pub mod HeaderLemmas
 pub mod FormLemmas
 pub mod LawLemmas
+pub mod ShareLawLemmas
