@@ -59,7 +59,7 @@ not_refused : (i at : ℕ) → ◌≡◌ {A = Status} Done (BadInput i at) → �
 not_refused i at e = absurd cc
 
 -- nor is one of what it asks for
-not_asked : (why : Asked) → ◌≡◌ {A = Status} Done (BadRequest why) → ⊥
+pub not_asked : (why : Asked) → ◌≡◌ {A = Status} Done (BadRequest why) → ⊥
 not_asked why e = absurd cc
 
 -- ---- one file each
@@ -117,7 +117,7 @@ module _ {A B : Type 0} (value : List ℕ → Result A ℕ) (frame : A → Frame
   imported_back bytes text law h = imported_by bytes text (single of (only_of text kinds)) law h
 
 -- a file that is read as a value is the one spelling of the value's frame
-file_spelled : {A : Type 0} (of : Frame → Option A) (make : A → Frame) → ((frame : Frame) (x : A) → of frame ≡ Some x → frame ≡ make x)
+pub file_spelled : {A : Type 0} (of : Frame → Option A) (make : A → Frame) → ((frame : Frame) (x : A) → of frame ≡ Some x → frame ≡ make x)
     → ((x : A) → of (make x) ≡ Some x) → OnlyIsSpelled → (kinds text : List ℕ) (x : A) → AreBytes text → single of (only_of text kinds) ≡ Ok x
     → IsFrame (make x) × (spelling (make x) ≡ Some text)
 file_spelled of make is_made is_value only kinds text x fits e =

@@ -8,3 +8,4 @@ pub mod NamespaceDataLemmas
 pub mod RowLemmas
 pub mod FormLemmas
 pub mod LawLemmas
+pub mod ShareLawLemmas

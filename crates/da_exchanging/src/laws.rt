@@ -9,7 +9,7 @@ ghost use Rattle.da_exchanging.specs.declared.forms.ImportForm.TheVariants as fr
 ghost use Rattle.da_exchanging.specs.declared.forms.ExportForm.TheVariants as to;
 ghost use Rattle.da_exchanging.specs.Laws.{IsExportedBack, IsImportedBack, SampleIsImportedBack, RowDataIsImportedBack, BefpIsExportedBack, BefpIsImportedBack, SampleIdIsImportedBack};
 
-use celestia_pb::{befp_laws, dah_laws, id_laws, ods_laws, row_data_laws, sample_laws};
+use celestia_pb::{befp_laws, dah_laws, id_laws, ods_laws, row_data_laws, sample_laws, share_proof_laws};
 use da_wire::wire_laws;
 
 /// What is imported is exported as the bytes that it came from, and what is exported is imported as the frame that it came
@@ -33,6 +33,9 @@ pub fn exchange_laws()
     ensures ods { IsExportedBack from.Ods to.Ods }
     ensures ods_back { IsImportedBack from.Ods to.Ods }
 
+    ensures share_proof { IsExportedBack from.ShareProof to.ShareProof }
+    ensures share_proof_back { IsImportedBack from.ShareProof to.ShareProof }
+
     ensures sample_id { (height : ℕ) → IsExportedBack (from.SampleId height) (to.SampleId height) }
     ensures sample_id_back { SampleIdIsImportedBack }
     ensures namespace_id { (height : ℕ) → IsExportedBack (from.NamespaceId height) (to.NamespaceId height) }
@@ -44,5 +47,6 @@ pub fn exchange_laws()
     row_data_laws();
     befp_laws();
     ods_laws();
+    share_proof_laws();
     id_laws();
 }
