@@ -9,7 +9,9 @@ ghost use Rattle.da_exchanging.specs.declared.forms.ImportForm.TheVariants as fr
 ghost use Rattle.da_exchanging.specs.declared.forms.ExportForm.TheVariants as to;
 ghost use Rattle.da_exchanging.specs.Laws.{IsExportedBack, IsImportedBack, SampleIsImportedBack, RowDataIsImportedBack, BefpIsExportedBack, BefpIsImportedBack, SampleIdIsImportedBack};
 
-use celestia_pb::{befp_laws, dah_laws, id_laws, ods_laws, row_data_laws, sample_laws, share_proof_laws};
+use celestia_pb::{
+    befp_laws, dah_laws, id_laws, ods_laws, row_data_laws, sample_laws, share_proof_laws,
+};
 use da_wire::wire_laws;
 
 /// What is imported is exported as the bytes that it came from, and what is exported is imported as the frame that it came
