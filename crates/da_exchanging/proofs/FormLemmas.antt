@@ -49,6 +49,7 @@ export_answers to.Sample files w status h = texts_answer message_in message_text
 export_answers to.RowData files w status h = texts_if_answer answer_in (λ read. answer_message read.1) files w status h
 export_answers (to.Befp k hash height) files w status h = texts_if_answer claim_in (claim_message k hash height) files w status h
 export_answers to.NamespaceData files w status h = stream.export_answers files w status h
+export_answers to.Row files w status h = half.export_answers files w status h
 export_answers to.Ods files w status h = texts_answer square_in ods_text files w status h
 export_answers to.ShareProof files w status h = share_proof_answers files w status h
 export_answers (to.SampleId height) files w status h = texts_answer asked_cell_in (sample_id_text height) files w status h

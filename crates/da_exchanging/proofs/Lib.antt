@@ -5,6 +5,8 @@ pub mod AnswerLemmas
 pub mod ClaimLemmas
 pub mod HeaderLemmas
 pub mod NamespaceDataLemmas
+pub mod LeftHalfLemmas
 pub mod RowLemmas
 pub mod FormLemmas
 pub mod LawLemmas
+pub mod ShareLawLemmas

@@ -1,24 +1,29 @@
 -- Rows: the frames of their samples, and what is answered to half a row.
-use Rattle.std.proofs.Common.{◌≡◌, ◌∙◌, ℕ, ◌+◌, ◌*◌, Bool, true, false, List, [], ◌∷◌, ◌++◌, map, Some, Result, Ok, Err, Vec, Global, inl, inr, refl, sym, ap, subst, append_assoc, append-nil, nat_lt}
+use Rattle.std.proofs.Common.{◌≡◌, ◌∙◌, ℕ, ◌+◌, ◌*◌, Bool, true, false, List, [], ◌∷◌, ◌++◌, map, Some, None, Result, Ok, Err, Vec, Global, inl, inr, refl, sym, ap, subst, append_assoc, append-nil, nat_lt}
+use Rattle.std.specs.declared.option.Option.{Option}
 use Rattle.namespace_id.specs.declared.shares.Share.{Share}
 use Rattle.namespace_id.specs.Lists.{ascending}
 use Rattle.namespace_id.proofs.AscentLemmas.{mapped_none, mapped_more}
 use Rattle.celestia_pb.specs.HalfRows.{HalfParts}
 use Rattle.half_rows.specs.Rows.{width_of, IsRowOf, is_ordered_row, RowParts, IsOrderedRowOf}
 use Rattle.da_wire.specs.declared.frames.Frame.{Frame}
-use Rattle.da_wire.specs.Spelling.{spelling}
+use Rattle.da_wire.specs.Spelling.{spelling, message_kind}
+use Rattle.da_wire.specs.Values.{bad_value}
 use Rattle.da_wire.specs.Writing.{AppendsSpelling}
 use Rattle.da_status.specs.declared.status.Asked.TheVariants.{Form, NoHeader}
 use Rattle.da_status.specs.declared.status.Status.{Status}
-use Rattle.da_status.specs.declared.status.Status.TheVariants.{Done, BadRequest}
+use Rattle.da_status.specs.declared.status.Status.TheVariants.{Done, BadInput, BadRequest}
 use Rattle.da_status.specs.declared.status.Status.TheVariants as status
+use Rattle.da_status.specs.Judging.{Judged}
+use Rattle.da_status.specs.Outcome.{Relation}
 use Rattle.da_status.specs.Statuses as statuses
 use Rattle.da_status.proofs.EndLemmas.{IsAnswer, status_answers}
 use Rattle.da_files.specs.Contents.{file_of}
 use Rattle.da_files.proofs.FormLemmas.{over_each}
 use Rattle.celestia_pb.specs.HalfRows as halves
 use Rattle.da_exchanging.specs.Made.{IsMade}
-use Rattle.da_exchanging.specs.Row.{AreSpelled, WritesAll, row_frame, row_frames, RowBy, RowOf, ImportRowOf}
+use Rattle.da_exchanging.specs.Row.{AreSpelled, WritesAll, row_frame, row_frames, RowBy, RowOf, ImportRowOf, samples_judged, HalfBy, ExportRowOf}
+use Rattle.da_exchanging.specs.LeftHalf.{samples_in, half_of}
 use Rattle.da_exchanging.proofs.MadeLemmas.{made_as}
 
 -- ---- frames, one after another
@@ -101,3 +106,33 @@ pub import_answers : (row : ℕ) (files : List (List ℕ)) (w : List ℕ) (final
 import_answers row files w final h =
     over_each (RowOf row) (halves.half_row_value (file_of files 0)) w final (IsAnswer (statuses.kind_of final))
     (λ half is. row_answers (nat_lt row (2 * width_of half)) row half w final is) h
+
+half_answers : (half : Option HalfParts) (w : List ℕ) (final : Status) → HalfBy half w final → IsAnswer (statuses.kind_of final)
+half_answers None w final h = status_answers final (BadRequest Form) h.1 tt
+half_answers (Some half) w final h = status_answers final Done h.1 tt
+
+pub export_answers : (files : List (List ℕ)) (w : List ℕ) (final : Status) → ExportRowOf files w final → IsAnswer (statuses.kind_of final)
+export_answers files w final h = half_answers (half_of (samples_in (file_of files 0))) w final h
+
+-- ---- what is answered to samples
+
+module _ (files : List (List ℕ)) (bytes : List ℕ) (here : bytes ≡ file_of files 0) where
+  abbrev pub Meaning : Relation
+  Meaning = Judged (samples_judged files) (ExportRowOf files)
+
+  -- by where the bytes stop being a list of samples
+  abbrev by_bad : List ℕ → Option ℕ → Relation
+  by_bad l bad = Judged (bad ∷ []) (HalfBy (half_of (samples_in l)))
+
+  -- they are one
+  pub list_made : (bad : Option ℕ) (made : Result (Vec ℕ Global) Status) → bad ≡ bad_value (message_kind ∷ []) bytes → bad ≡ None
+      → IsMade (HalfBy (half_of (samples_in bytes))) made → IsMade Meaning made
+  list_made bad made is none h =
+      made_as (by_bad bytes None) Meaning made
+      (ap (by_bad bytes) (sym none ∙ is) ∙ ap (λ (l : List ℕ). by_bad l (bad_value (message_kind ∷ []) l)) here) h
+
+  -- they aren't
+  pub bad_list : (bad : Option ℕ) (at : ℕ) → bad ≡ bad_value (message_kind ∷ []) bytes → bad ≡ Some at → Meaning [] (BadInput 0 at)
+  bad_list bad at is some =
+      subst (λ (M : Relation). M [] (BadInput 0 at))
+      (ap (by_bad bytes) (sym some ∙ is) ∙ ap (λ (l : List ℕ). by_bad l (bad_value (message_kind ∷ []) l)) here) (refl, refl)

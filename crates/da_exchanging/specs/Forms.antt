@@ -26,7 +26,7 @@ use Rattle.da_exchanging.specs.Befp.{claim_in, ImportBefpOf, ExportBefpOf}
 use Rattle.da_exchanging.specs.NamespaceData.{namespace_data_judged, ImportNamespaceDataOf, entries_in, ExportNamespaceDataOf}
 use Rattle.da_exchanging.specs.Ods.{ImportOdsOf, ExportOdsOf}
 use Rattle.da_exchanging.specs.ShareProof.{rooted_in, ImportShareProofOf, ExportShareProofOf}
-use Rattle.da_exchanging.specs.Row.{ImportRowOf}
+use Rattle.da_exchanging.specs.Row.{ImportRowOf, samples_judged, ExportRowOf}
 use Rattle.da_exchanging.specs.Ids.{asked_cell_in, asked_name_in, ImportSampleIdOf, ExportSampleIdOf, ImportNamespaceIdOf, ExportNamespaceIdOf}
 
 -- of each file of `import` where it leaves its form, if it does
@@ -64,6 +64,7 @@ export_judged to.Sample files = single_judged message_in files
 export_judged to.RowData files = single_judged answer_in files
 export_judged (to.Befp k hash height) files = single_judged claim_in files
 export_judged to.NamespaceData files = single_judged entries_in files
+export_judged to.Row files = samples_judged files
 export_judged to.Ods files = single_judged square_in files
 export_judged to.ShareProof files = single_judged rooted_in files
 export_judged (to.SampleId height) files = single_judged asked_cell_in files
@@ -76,6 +77,7 @@ ExportOf to.Sample files = ExportSampleOf files
 ExportOf to.RowData files = ExportRowDataOf files
 ExportOf (to.Befp k hash height) files = ExportBefpOf k hash height files
 ExportOf to.NamespaceData files = ExportNamespaceDataOf files
+ExportOf to.Row files = ExportRowOf files
 ExportOf to.Ods files = ExportOdsOf files
 ExportOf to.ShareProof files = ExportShareProofOf files
 ExportOf (to.SampleId height) files = ExportSampleIdOf height files

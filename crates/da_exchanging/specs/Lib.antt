@@ -7,6 +7,7 @@ pub mod Dah
 pub mod Header
 pub mod Sample
 pub mod NamespaceData
+pub mod LeftHalf
 pub mod Row
 pub mod Ids
 pub mod ShareProof

@@ -56,6 +56,8 @@ pub enum ExportForm {
     Befp(u16, [u8; 32], u64),
     /// `namespace-data FILE`: of N a message RowNamespaceData for each of its entries, each behind its length.
     NamespaceData,
+    /// `row FILE`: of M of each cell of a row, from column 0, a Row, the left half.
+    Row,
     /// `ods FILE`: of S the k * k shares, row by row.
     Ods,
     /// `share-proof FILE`: of R a ShareProof of one share. An R along a column has none, nor has one whose k is no width or whose
@@ -98,6 +100,7 @@ fn exported(alloc: Global, form: ExportForm, files: &[Vec<u8>]) -> Result<Vec<u8
         ExportForm::RowData => row_data::export(alloc, files),
         ExportForm::Befp(k, hash, height) => befp::export(alloc, files, k, &hash, height),
         ExportForm::NamespaceData => namespace_data::export(alloc, files),
+        ExportForm::Row => row::export(alloc, files),
         ExportForm::Ods => ods::export(alloc, files),
         ExportForm::ShareProof => share_proof::export(alloc, files),
         ExportForm::SampleId(height) => ids::export_sample(alloc, files, height),

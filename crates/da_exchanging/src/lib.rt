@@ -12,6 +12,7 @@ mod forms;
 mod header;
 mod ids;
 mod laws;
+mod left_half;
 mod made;
 mod namespace_data;
 mod ods;

@@ -1,22 +1,26 @@
-//! import row FILE ROW: half a row as the message Row.
+//! import row FILE ROW, export row FILE: half a row as the message Row.
 
 ghost use Rattle.std.specs.Prelude.{◌≡◌, IfOk, IsSome};
-ghost use Rattle.celestia_pb.specs.HalfRows.{half_row_value};
+ghost use Rattle.celestia_pb.specs.HalfRows.{half_row_text, half_row_value};
 ghost use Rattle.da_wire.specs.declared.frames.Frame.TheVariants as FrameOf;
 ghost use Rattle.da_wire.specs.Spelling.{spelling};
 ghost use Rattle.da_wire.specs.Writing.{AppendsSpelling};
 ghost use Rattle.da_status.specs.Judging.{Judged};
+ghost use Rattle.da_status.specs.declared.status.Status.TheVariants as StatusOf;
 ghost use Rattle.da_files.specs.Contents.{contents_of};
+ghost use Rattle.da_files.specs.Frames.{WritesText};
 ghost use Rattle.da_files.specs.Forms.{single_judged};
 ghost use Rattle.da_exchanging.specs.Made.{IsMade};
-ghost use Rattle.da_exchanging.specs.Row.{row_frames, WritesAll, RowOf, ImportRowOf};
+ghost use Rattle.da_exchanging.specs.LeftHalf.{samples_in, half_of};
+ghost use Rattle.da_exchanging.specs.Row.{row_frames, WritesAll, RowOf, ImportRowOf, samples_judged, HalfBy, ExportRowOf};
 
+use crate::left_half::half_in;
 use crate::made::{FILE, message_refusal};
 use axis_roots::{Message, message_law};
-use celestia_pb::{HalfRow, read_half_row};
+use celestia_pb::{HalfRow, half_row_size, put_half_row, read_half_row};
 use da_files::file;
 use da_status::{Asked, Status};
-use da_wire::{Frame, SpellError, wire_laws, write_frame};
+use da_wire::{Frame, SpellError, bad_value, wire_laws, write_frame};
 use half_rows::{RowError, RowSamples, row_samples};
 use namespace_id::NoMemory;
 use std::alloc::Global;
@@ -79,4 +83,47 @@ pub(crate) fn import(alloc: Global, files: &[Vec<u8>], row: u16) -> Result<Vec<u
         Ok(half) => row_of(alloc, row, half),
         Err(why) => Err(message_refusal(why)),
     }
+}
+
+/// The message of half a row.
+fn message(alloc: Global, half: &HalfRow) -> Result<Vec<u8>, Status>
+    ensures { IsMade (WritesText StatusOf.Done (half_row_text half.now)) result }
+{
+    let Ok(mut text) = Vec::with_capacity(alloc, half_row_size(half)) else {
+        return Err(Status::NoMemory);
+    };
+    put_half_row(half, &mut text);
+    Ok(text)
+}
+
+/// The message of half a row, where there is one.
+fn message_or_none(alloc: Global, half: Option<HalfRow>) -> Result<Vec<u8>, Status>
+    ensures { IsMade (HalfBy half) result }
+{
+    match half {
+        Some(half) => message(alloc, &half),
+        None => Err(Status::BadRequest(Asked::Form)),
+    }
+}
+
+/// The message of the left half of the row of which the samples of a file are all.
+fn message_of_row(alloc: Global, bytes: &[u8]) -> Result<Vec<u8>, Status>
+    ensures { IsMade (HalfBy (half_of (samples_in bytes.now))) result }
+{
+    match half_in(alloc, bytes) {
+        Ok(half) => message_or_none(alloc, half),
+        Err(NoMemory) => Err(Status::NoMemory),
+    }
+}
+
+/// The message of the left half of the row of which the samples in FILE are all.
+pub(crate) fn export(alloc: Global, files: &[Vec<u8>]) -> Result<Vec<u8>, Status>
+    ensures { IsMade (Judged (samples_judged (contents_of files.now))
+        (ExportRowOf (contents_of files.now))) result }
+{
+    let bytes = file(files, FILE);
+    if let Some(at) = bad_value(bytes, b"M") {
+        return Err(Status::BadInput(FILE, at));
+    }
+    message_of_row(alloc, bytes)
 }
