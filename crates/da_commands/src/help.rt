@@ -43,6 +43,7 @@ const COMMANDS: &[u8] = b"\
     da import namespace-data FILE HEADER NAMESPACE\n\
     da import befp FILE HASH HEIGHT\n\
     da import ods FILE\n\
+    da import row FILE ROW\n\
     da import share-proof FILE\n\
     da import sample-id FILE HEIGHT\n\
     da import namespace-id FILE HEIGHT\n\
@@ -52,6 +53,7 @@ const COMMANDS: &[u8] = b"\
     da export namespace-data FILE\n\
     da export befp FILE WIDTH HASH HEIGHT\n\
     da export ods FILE\n\
+    da export row FILE\n\
     da export share-proof FILE\n\
     da export sample-id FILE HEIGHT\n\
     da export namespace-id FILE HEIGHT\n\
