@@ -1,7 +1,7 @@
 # Completion of `da` in bash, of version 4 or later. In ~/.bashrc: . completions/da.bash
 # tools/manual makes it of docs/COMMANDS.md.
 
-# The words of a command.
+# The words of a command, or of one of its forms.
 _da_words() {
     case $1 in
         build) echo BLOCK ;;
@@ -29,6 +29,43 @@ _da_words() {
         demo) echo NUMBER WIDTH ;;
         help) echo ;;
         version) echo ;;
+        import | export) _da_form "$1 $2" ;;
+    esac
+}
+
+# The words of a form.
+_da_form() {
+    case $1 in
+        'import dah') echo FORM FILE ;;
+        'import header') echo FORM FILE ;;
+        'import sample') echo FORM FILE ROW COL ;;
+        'import row-data') echo FORM FILE ROW NAMESPACE ;;
+        'import namespace-data') echo FORM FILE HEADER NAMESPACE ;;
+        'import befp') echo FORM FILE HASH HEIGHT ;;
+        'import ods') echo FORM FILE ;;
+        'import row') echo FORM FILE ROW ;;
+        'import share-proof') echo FORM FILE ;;
+        'import sample-id') echo FORM FILE HEIGHT ;;
+        'import namespace-id') echo FORM FILE HEIGHT ;;
+        'export dah') echo FORM FILE ;;
+        'export sample') echo FORM FILE ;;
+        'export row-data') echo FORM FILE ;;
+        'export namespace-data') echo FORM FILE ;;
+        'export befp') echo FORM FILE WIDTH HASH HEIGHT ;;
+        'export ods') echo FORM FILE ;;
+        'export row') echo FORM FILE ;;
+        'export share-proof') echo FORM FILE ;;
+        'export sample-id') echo FORM FILE HEIGHT ;;
+        'export namespace-id') echo FORM FILE HEIGHT ;;
+        *) echo FORM ;;
+    esac
+}
+
+# The forms of a command.
+_da_forms() {
+    case $1 in
+        import) echo dah header sample row-data namespace-data befp ods row share-proof sample-id namespace-id ;;
+        export) echo dah sample row-data namespace-data befp ods row share-proof sample-id namespace-id ;;
     esac
 }
 
@@ -45,7 +82,7 @@ _da_files() {
 _da() {
     local word=${COMP_WORDS[COMP_CWORD]}
     local before=${COMP_WORDS[COMP_CWORD - 1]}
-    local commands="build header sample namespace hold verify compact check repair light wanted cells blobs transactions find commit prove follow root net show json demo help version"
+    local commands="build header sample namespace hold verify compact check repair light wanted cells blobs transactions find commit prove follow root net show json import export demo help version"
     local words
     COMPREPLY=()
     # Behind a sign like > stands a file.
@@ -58,11 +95,12 @@ _da() {
         mapfile -t COMPREPLY < <(compgen -W "$commands" -- "$word")
         return
     fi
-    read -r -a words < <(_da_words "${COMP_WORDS[1]}")
+    read -r -a words < <(_da_words "${COMP_WORDS[1]}" "${COMP_WORDS[2]}")
     case ${words[COMP_CWORD - 2]} in
         # In the place of START may stand a file REQUESTS.
-        '' | KEY | COUNT | NUMBER | ROOT | COMMITMENT) ;;
+        '' | KEY | COUNT | NUMBER | ROW | COL | HEIGHT | ROOT | COMMITMENT | HASH | NAMESPACE) ;;
         AXIS) mapfile -t COMPREPLY < <(compgen -W "row col" -- "$word") ;;
+        FORM) mapfile -t COMPREPLY < <(compgen -W "$(_da_forms "${COMP_WORDS[1]}")" -- "$word") ;;
         WIDTH) mapfile -t COMPREPLY < <(compgen -W "2 4 8 16 32 64 128 256 512" -- "$word") ;;
         *) _da_files "$word" ;;
     esac

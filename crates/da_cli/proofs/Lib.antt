@@ -1,3 +1,4 @@
+pub mod ValueLemmas
 pub mod WordLemmas
 pub mod GatheredLemmas
 pub mod FeedingLemmas

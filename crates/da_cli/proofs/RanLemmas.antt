@@ -12,7 +12,7 @@ use Rattle.da_status.specs.declared.status.Status.{Status}
 use Rattle.da_status.specs.declared.status.Status.TheVariants.{Usage, PickFault, ReadFault, TooLong}
 use Rattle.da_cli.specs.declared.words.Call.{Call}
 use Rattle.da_cli.specs.Limits.{limits_for, limits_in, limits_of}
-use Rattle.da_cli.specs.Words.{words_of, call_of, names_of}
+use Rattle.da_cli.specs.Words.{words_of, call_of, last_file, names_of}
 use Rattle.da_status.specs.Statuses.{kind_of, Reading, unread, failed, exceeded, begun, finished, row_of, counted_reading, input_count, output_count}
 use Rattle.da_cli.specs.Gathered.{IsWord, IsLastOf, PicksIn, StopsIn, IsWithin, WithinLimits, count_after}
 use Rattle.da_cli.specs.Causes.{FaultCause, GivenReading, ExcessCause, IfFinished, LastBy, PicksReading, PickCount}
@@ -219,7 +219,7 @@ module _ {I O : Type 0} (i : inputs.Ghosts I) (o : sink.Ghosts O) where
 
   -- a command ended so, over the files that were read by its names
   pub ran_over : (words : List (String Global)) (call : Call) (limits : ℕ → ℕ) (names contents : List (List ℕ)) (before now : I) (old new : O) (status : Status)
-      → Some call ≡ call_of (words_of words) → call.files < length words → limits ≡ limits_for call.command → names ≡ names_of (words_of words)
+      → Some call ≡ call_of (words_of words) → last_file call < length words → limits ≡ limits_for call.command → names ≡ names_of (words_of words)
       → HasGathered i limits names call.files before now (Ok contents)
       → Ends (Meaning call.command contents) (o.taken old) (o.taken new) (o.faults old) (o.faults new) (new ≡ old) status
       → Ran i o (words_of words) before now old new status
@@ -229,7 +229,7 @@ module _ {I O : Type 0} (i : inputs.Ghosts I) (o : sink.Ghosts O) where
 
   -- the files that a command's names name were not read whole
   pub ran_up_to : (words : List (String Global)) (call : Call) (limits : ℕ → ℕ) (names : List (List ℕ)) (before now : I) (out : O) (stop : Stop)
-      → Some call ≡ call_of (words_of words) → call.files < length words → limits ≡ limits_for call.command → names ≡ names_of (words_of words)
+      → Some call ≡ call_of (words_of words) → last_file call < length words → limits ≡ limits_for call.command → names ≡ names_of (words_of words)
       → HasGathered i limits names call.files before now (Err stop)
       → Ran i o (words_of words) before now out out (status_of stop)
   ran_up_to words call limits names before now out stop e few own same came =

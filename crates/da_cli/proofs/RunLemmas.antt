@@ -13,7 +13,7 @@ use Rattle.da_cli.specs.declared.words.Call.{Call}
 use Rattle.da_status.specs.declared.status.Status.{Status}
 use Rattle.da_status.specs.declared.status.Status.TheVariants.{BadInput, TooLong}
 use Rattle.da_status.specs.Statuses.{Kind, usage, fault, excess, form, request, memory, write, output, kind_of, row_of, May, IsDecided}
-use Rattle.da_cli.specs.Words.{words_of, call_of, file_words, plain_count, named, call_names, names_in, names_of}
+use Rattle.da_cli.specs.Words.{words_of, call_of, words_before, last_file, file_words, plain_count, named, call_names, names_in, names_of}
 use Rattle.da_cli.specs.Limits.{file_limits, limits_for, limits_in, limits_of}
 use Rattle.da_cli.specs.Gathered.{Gathered, whole, long, absent, gathered, Gathers}
 use Rattle.da_cli.specs.declared.gathering.Stop.{Stop}
@@ -24,7 +24,7 @@ use Rattle.da_commands.specs.Meaning.{judged_of, AnswerOf, Meaning}
 use Rattle.da_cli.specs.Run.{status_of, CommandOf, CallOf, RunOf, LeavesTold, CompletesBy, Completes}
 use Rattle.da_cli.specs.Laws.{FormLaw, BadInputLaw, ExcessLaw, AbsentLaw, FailureLaw}
 use Rattle.da_cli.proofs.GatheredLemmas.{AllGathered}
-use Rattle.da_cli.proofs.WordLemmas.{names_here, named-all, length-named}
+use Rattle.da_cli.proofs.WordLemmas.{names_behind, named-all, length-named}
 use Rattle.da_status.proofs.EndLemmas.{IsAnswer}
 use Rattle.da_commands.proofs.MeaningLemmas.{answer_last}
 
@@ -65,35 +65,36 @@ stopped_told (Some files) words call count old (stop.TooLong i) e read =
     run_of_call words call files (long i) e (ap₂ (λ (l : ℕ → ℕ) (names : List (List ℕ)). gathered l files names) (sym limits) (sym are_named) ∙ read) in
     subst (λ (M : Relation). Outputs M old old (TooLong i)) (sym same) ([], (refl, refl), Appends-nil old)
 
--- the names of a command's files are those that were gathered
-pub names_same : (words : List (String Global)) (call : Call) → Some call ≡ call_of (words_of words)
-    → named (plain_count call.command call.files) (words_of (take (1 + call.files - 1) (drop 1 words))) ≡ names_of (words_of words)
-names_same words call e =
-    ap (named (plain_count call.command call.files)) (names_here call.files words)
-    ∙ ap (λ (o : Option Call). names_in o (words_of words)) e
+-- the names of a command's files
+names_same : (words : List (List ℕ)) (call : Call) → Some call ≡ call_of words → call_names call words ≡ names_of words
+names_same words call e = ap (λ (o : Option Call). names_in o words) e
 
 -- those that were gathered by as many plain words as the command has
-pub names_by : (words : List (String Global)) (call : Call) (plain : ℕ) → plain ≡ plain_count call.command call.files
-    → Some call ≡ call_of (words_of words) → named plain (words_of (take (1 + call.files - 1) (drop 1 words))) ≡ names_of (words_of words)
-names_by words call plain is e =
-    ap (λ (n : ℕ). named n (words_of (take (1 + call.files - 1) (drop 1 words)))) is ∙ names_same words call e
+pub names_by : (words some : List (String Global)) (call : Call) (plain : ℕ) → plain ≡ plain_count call.command call.files
+    → words_of some ≡ file_words call.command call.files (words_of words) → Some call ≡ call_of (words_of words)
+    → named plain (words_of some) ≡ names_of (words_of words)
+names_by words some call plain is same e = ap₂ named is same ∙ names_same (words_of words) call e
 
 -- those of repair are words as they stand
 pub repair_names : (words : List (String Global)) (call : Call) → Some call ≡ call_of (words_of words) → call.command ≡ Repair
     → words_of (take (1 + call.files - 1) (drop 1 words)) ≡ names_of (words_of words)
 repair_names words call e is =
-    names_here call.files words ∙ sym (named-all call.files (drop 1 (words_of words)))
-    ∙ ap (λ (command : Command). named (plain_count command call.files) (file_words call.files (words_of words))) (sym is)
-    ∙ ap (λ (o : Option Call). names_in o (words_of words)) e
+    names_behind 1 call.files words ∙ sym (named-all call.files (drop 1 (words_of words)))
+    ∙ ap (λ (command : Command). named (plain_count command call.files) (file_words command call.files (words_of words))) (sym is)
+    ∙ names_same (words_of words) call e
+
+-- as many words as are asked for
+some_taken : {A : Type 0} (b n : ℕ) (xs : List A) → b + n - 1 < length xs → length (take n (drop b xs)) ≡ n
+some_taken b n xs few = grind (arith, common_steps)
 
 -- as many names as a command has file words
-pub files_count : (words : List (String Global)) (call : Call) → Some call ≡ call_of (words_of words) → call.files < length words
+pub files_count : (words : List (String Global)) (call : Call) → Some call ≡ call_of (words_of words) → last_file call < length words
     → call.files ≡ length (names_of (words_of words))
 files_count words call e few =
-    let behind = take (1 + call.files - 1) (drop 1 words) in
-    let here : length (take (1 + call.files - 1) (drop 1 words)) ≡ call.files = grind (arith, common_steps) in
-    sym (sym (ap length (names_same words call e)) ∙ length-named (plain_count call.command call.files) (words_of behind)
-    ∙ length-map behind string_bytes ∙ here)
+    let within : last_file call < length (words_of words) = omega (arith, few, length-map words string_bytes) in
+    sym (sym (ap length (names_same (words_of words) call e))
+    ∙ length-named (plain_count call.command call.files) (file_words call.command call.files (words_of words))
+    ∙ some_taken (words_before call.command) call.files (words_of words) within)
 
 -- the meaning over judged files
 judged_is : (judged : List (Option ℕ)) (A : Relation) (o : Option (ℕ × ℕ)) → first_bad 0 judged ≡ o

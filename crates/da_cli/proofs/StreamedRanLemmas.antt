@@ -8,7 +8,7 @@ use Rattle.da_cli.specs.declared.words.Call.{Call}
 use Rattle.da_commands.specs.declared.command.Command.{Command}
 use Rattle.da_commands.specs.declared.command.Command.TheVariants.{Repair}
 use Rattle.da_cli.specs.Limits.{repair_limits, limits_for}
-use Rattle.da_cli.specs.Words.{words_of, call_of}
+use Rattle.da_cli.specs.Words.{words_of, call_of, last_file}
 use Rattle.da_status.specs.Outcome.{Ends}
 use Rattle.da_commands.specs.Meaning.{Meaning}
 use Rattle.da_cli.specs.Run.{status_of, IsEarly}
@@ -32,7 +32,7 @@ module _ {I O : Type 0} (i : inputs.Ghosts I) (o : sink.Ghosts O) where
 
   -- repair ended so
   pub ran_streamed : (words : List (String Global)) (call : Call) (before now : I) (old new : O) (r : Result Status Stop)
-      → Some call ≡ call_of (words_of words) → call.files < length words → call.files ≡ 2 → call.command ≡ Repair
+      → Some call ≡ call_of (words_of words) → last_file call < length words → call.files ≡ 2 → call.command ≡ Repair
       → Streams i o (words_of (take 2 (drop 1 words))) before now old new r → Ran i o (words_of words) before now old new (status_in r)
   ran_streamed words call before now old new (Ok status) e few two is s =
       ran_over i o words call repair_limits _ s.0 before now old new status e few (ap limits_for (sym is)) (repair_names words call e is) (gathered_two words call.files before now (Ok s.0) two s.1)

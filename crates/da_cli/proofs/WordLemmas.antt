@@ -1,15 +1,13 @@
--- Words that are numbers, the words of light, the table of commands, and the names that words name.
-use Rattle.std.proofs.Common.{◌≡◌, ◌∙◌, ℕ, zero, suc, ◌+◌, ◌-◌, ◌*◌, ◌<◌, ◌≤◌, Bool, true, false, cond, ◌&&◌, List, [], ◌∷◌, length, get_or, take, drop, String, Global, Some, None, IfSome, refl, sym, ap, ap₂, arith, eqb-true, inl, inr}
+-- The words of light, the table of commands, and the names that words name.
+use Rattle.std.proofs.Common.{◌≡◌, ◌∙◌, ℕ, zero, suc, ◌+◌, ◌-◌, ◌<◌, ◌≤◌, Bool, true, false, cond, ◌&&◌, List, [], ◌∷◌, length, get_or, take, drop, String, Global, Some, IfSome, refl, sym, ap, ap₂, arith, eqb-true, inl, inr}
 use Rattle.std.specs.Prelude.{nat_le, codes, ◌==◌}
 use Rattle.std.specs.String.{string_bytes}
 use Rattle.std.specs.Str.{bytes_eq}
 use Rattle.std.proofs.lemmas.List.{length-map, get_or-map, take-map, drop-map}
 use Rattle.std.specs.declared.option.Option.{Option}
-use Rattle.std.specs.List.{fold, list_all, filter, AllByRecursion}
+use Rattle.std.specs.List.{list_all, filter, AllByRecursion}
 use Rattle.std.proofs.lemmas.Bool.{and_parts, ltb-true, cases_Bool}
 use Rattle.std.proofs.lemmas.Grind.{common_steps}
-use Rattle.std.proofs.lemmas.Bool.Decides.{nat_tests}
-use Rattle.std.proofs.Math.Bool.{and-false}
 use Rattle.std.proofs.Math.Dec.{ltb}
 use Rattle.da_io.specs.Files.{is_standard_input}
 use Rattle.da_commands.specs.declared.command.Command.{Command}
@@ -17,50 +15,8 @@ use Rattle.da_commands.specs.declared.command.Command.TheVariants.{Repair, Demo}
 use Rattle.da_commands.specs.Meaning.{IsRunnable}
 use Rattle.da_commands.specs.Demo.{is_trial_width}
 use Rattle.da_cli.specs.declared.words.Call.{Call}
-use Rattle.da_cli.specs.Words.{words_of, is_command, is_digit, key_name, light_call, value_call, call_in, file_commands, file_words, named, reads_once, HasFiles}
-
--- the number with one digit more
-abbrev with_digit : ℕ → ℕ → ℕ
-with_digit value digit = 10 * value + (digit - 48)
-
--- a number where a test holds
-abbrev pub is_tested : Bool → ℕ → Option ℕ
-is_tested b number = cond b (Some number) None
-
--- the number that bytes make behind those that made a number
-abbrev pub digits_from : ℕ → ℕ → List ℕ → Option ℕ
-digits_from most value digits =
-    is_tested (list_all is_digit digits && nat_le (fold with_digit value digits) most) (fold with_digit value digits)
-
--- more digits make no smaller number
-value_grows : (digits : List ℕ) (value : ℕ) → value ≤ fold with_digit value digits
-value_grows [] value = omega arith
-value_grows (digit ∷ digits) value = omega (arith, value_grows digits (with_digit value digit))
-
--- a number is above another
-not_within : (a b : ℕ) → b < a → nat_le a b ≡ false
-not_within a b h = grind (arith, nat_tests)
-
--- what is above the greatest number stays so
-pub too_large : (most value : ℕ) (digits : List ℕ) → most < value → digits_from most value digits ≡ None
-too_large most value digits above =
-    let over : nat_le (fold with_digit value digits) most ≡ false =
-    not_within (fold with_digit value digits) most (omega (arith, above, value_grows digits value)) in
-    ap (λ (b : Bool). is_tested (list_all is_digit digits && b) (fold with_digit value digits)) over
-    ∙ ap (λ (b : Bool). is_tested b (fold with_digit value digits)) (and-false (list_all is_digit digits))
-
--- the number by whether the next byte is a digit
-abbrev by_first : Bool → ℕ → ℕ → ℕ → List ℕ → Option ℕ
-by_first b most value digit after =
-    is_tested ((b && list_all is_digit after) && nat_le (fold with_digit value (digit ∷ after)) most)
-    (fold with_digit value (digit ∷ after))
-
--- the next byte is a digit
-pub next_digit : (most value digit : ℕ) (rest after : List ℕ) → rest ≡ digit ∷ after → is_digit digit ≡ true
-    → digits_from most value rest ≡ digits_from most (with_digit value digit) after
-next_digit most value digit rest after next is =
-    ap (digits_from most value) next
-    ∙ ap (λ (b : Bool). by_first b most value digit after) is
+use Rattle.da_cli.specs.Values.{is_command, key_name}
+use Rattle.da_cli.specs.Words.{words_of, light_call, value_call, call_in, file_commands, words_before, last_file, named, reads_once, HasFiles}
 
 -- ---- the words of commands
 
@@ -110,16 +66,18 @@ row_is P ((word, count, command) ∷ rows) words all =
     by_row P (is_command words word count) (record { command = command; files = count }) (call_in rows words) (λ is. all.0) (row_is P rows words all.1)
 
 -- the words that a row is of are its own and its files
-pub row_files : (rows : List (List ℕ × ℕ × Command)) (words : List (String Global)) → IfSome (call_in rows (words_of words)) (λ (call : Call). call.files < length words)
-row_files [] words = tt
-row_files ((word, count, command) ∷ rows) words =
-    by_row (λ (call : Call). call.files < length words) (is_command (words_of words) word count) (record { command = command; files = count })
+pub row_files : (rows : List (List ℕ × ℕ × Command)) (words : List (String Global)) → AllByRecursion (λ (row : List ℕ × ℕ × Command). words_before row.2 ≡ 1) rows
+    → IfSome (call_in rows (words_of words)) (λ (call : Call). last_file call < length words)
+row_files [] words all = tt
+row_files ((word, count, command) ∷ rows) words all =
+    by_row (λ (call : Call). last_file call < length words) (is_command (words_of words) word count) (record { command = command; files = count })
     (call_in rows (words_of words))
     (λ (is : is_command (words_of words) word count ≡ true).
-    let all : length words ≡ count + 1 = command_count words word count is in
-    let fewer : count < length words = omega (arith, all) in
+    let behind : length words ≡ count + 1 = command_count words word count is in
+    let own : words_before command ≡ 1 = all.0 in
+    let fewer : words_before command + count - 1 < length words = omega (arith, behind, own) in
     fewer)
-    (row_files rows words)
+    (row_files rows words all.1)
 
 -- what a test says of each element
 all_say : {X : Type 0} (p : X → Bool) (P : X → Type 0) → ((x : X) → p x ≡ true → P x) → (xs : List X) → list_all p xs ≡ true → AllByRecursion P xs
@@ -149,6 +107,10 @@ owns command count is = tt
 -- each row of the table has few files
 pub rows_few : AllByRecursion (λ (row : List ℕ × ℕ × Command). row.1 < 16) file_commands
 rows_few = all_say (λ (row : List ℕ × ℕ × Command). ltb row.1 16) (λ (row : List ℕ × ℕ × Command). row.1 < 16) (λ row is. ltb-true row.1 16 is) file_commands refl
+
+-- each has files behind its own word
+pub rows_behind : AllByRecursion (λ (row : List ℕ × ℕ × Command). words_before row.2 ≡ 1) file_commands
+rows_behind = all_say (λ (row : List ℕ × ℕ × Command). words_before row.2 == 1) (λ (row : List ℕ × ℕ × Command). words_before row.2 ≡ 1) (λ row is. eqb-true (words_before row.2) 1 is) file_commands refl
 
 -- each has a command that can be run
 pub rows_run : AllByRecursion (λ (row : List ℕ × ℕ × Command). IsRunnable row.2) file_commands
@@ -202,12 +164,12 @@ named-all zero words = refl
 named-all (suc count) [] = refl
 named-all (suc count) (word ∷ words) = ap (λ (l : List (List ℕ)). word ∷ l) (named-all count words)
 
--- the words behind a command's own, as a slice of the words gives them
-pub names_here : (n : ℕ) (words : List (String Global)) → words_of (take (1 + n - 1) (drop 1 words)) ≡ file_words n (words_of words)
-names_here n words =
-    let e : 1 + n - 1 ≡ n = omega arith in
-    ap (λ (k : ℕ). words_of (take k (drop 1 words))) e ∙ sym (take-map string_bytes n (drop 1 words))
-    ∙ ap (take n) (sym (drop-map string_bytes 1 words))
+-- words behind some, as a slice of the words gives them
+pub names_behind : (first n : ℕ) (words : List (String Global)) → words_of (take (first + n - first) (drop first words)) ≡ take n (drop first (words_of words))
+names_behind first n words =
+    let e : first + n - first ≡ n = omega arith in
+    ap (λ (k : ℕ). words_of (take k (drop first words))) e ∙ sym (take-map string_bytes n (drop first words))
+    ∙ ap (take n) (sym (drop-map string_bytes first words))
 
 -- ---- the standard input among names
 

@@ -1,4 +1,6 @@
 pub mod Limits
+pub mod Values
+pub mod Forms
 pub mod Words
 pub mod Gathered
 pub mod Causes

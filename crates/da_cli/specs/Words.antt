@@ -1,75 +1,23 @@
 -- Which words are a command.
-use Rattle.std.specs.Prelude.{◌≡◌, ⊤, ℕ, ◌+◌, ◌-◌, ◌*◌, ◌^◌, ◌==◌, ◌&&◌, ◌||◌, nat_le, nat_lt, not, Bool, false, List, [], ◌∷◌, ◌++◌, length, get_or, map, take, drop, codes, if◌then◌else◌, Some, None, String}
+use Rattle.std.specs.Prelude.{◌≡◌, ⊤, ℕ, ◌+◌, ◌-◌, ◌^◌, nat_le, Bool, List, [], ◌∷◌, ◌++◌, length, get_or, map, take, drop, codes, if◌then◌else◌, Some, None, String}
 use Rattle.std.specs.declared.option.Option.{Option}
 use Rattle.std.specs.declared.alloc.Global.{Global}
-use Rattle.std.specs.List.{fold, list_all, filter}
+use Rattle.std.specs.List.{filter}
 use Rattle.std.specs.Option.{option_map, option_map_or, option_or}
 use Rattle.std.specs.String.{string_bytes}
 use Rattle.std.specs.Str.{bytes_eq}
-use Rattle.hex.specs.Hex.{decode_sized}
 use Rattle.da_io.specs.Files.{is_standard_input}
-use Rattle.namespace_id.specs.Sizes.{greatest_width}
-use Rattle.namespace_id.specs.declared.cells.Axis.{Axis}
-use Rattle.namespace_id.specs.declared.cells.Axis.TheVariants.{Row, Col}
-use Rattle.da_wire.specs.Frames.{ok_of}
+use Rattle.da_exchanging.specs.declared.forms.ImportForm.{ImportForm}
+use Rattle.da_exchanging.specs.declared.forms.ExportForm.{ExportForm}
 use Rattle.da_commands.specs.declared.command.Command.{Command}
-use Rattle.da_commands.specs.declared.command.Command.TheVariants.{Check, Build, Header, Sample, Namespace, Verify, Compact, Repair, Light, LightBy, Net, Show, Json, Demo, VerifyCommitment, VerifyFor, Root, RootIs, Wanted, Cells, CellsBy, Blobs, Transactions, Find, Commit, Prove, ProveRange, Follow, Help, Version}
-use Rattle.da_commands.specs.Demo.{is_trial_width}
+use Rattle.da_commands.specs.declared.command.Command.TheVariants.{Check, Build, Header, Sample, Namespace, Verify, Compact, Repair, Light, LightBy, Net, Show, Json, Demo, VerifyCommitment, VerifyFor, Root, RootIs, Wanted, Cells, CellsBy, Blobs, Transactions, Find, Commit, Prove, ProveRange, Follow, Import, Export, Help, Version}
 use Rattle.da_cli.specs.declared.words.Call.{Call}
+use Rattle.da_cli.specs.Values.{is_command, number_in, key_in, is_key_name, key_name, width_in, axis_in}
+use Rattle.da_cli.specs.Forms.{import_files, import_form, export_form}
 
 -- the bytes of each word
 abbrev pub words_of : List (String Global) → List (List ℕ)
 words_of words = map string_bytes words
-
--- whether these are the word of a command and so many words after it
-abbrev pub is_command : List (List ℕ) → List ℕ → ℕ → Bool
-is_command [] name count = false
-is_command (word ∷ rest) name count = bytes_eq word name && (length rest == count)
-
--- ---- words that are values
-
--- whether a byte is a decimal digit
-abbrev pub is_digit : ℕ → Bool
-is_digit byte = nat_le 48 byte && nat_le byte 57
-
--- the number that decimal digits make
-abbrev pub digits_value : List ℕ → ℕ
-digits_value digits = fold (λ value digit. 10 * value + (digit - 48)) 0 digits
-
--- whether a word is a number in decimal digits without a leading zero, or 0
-abbrev pub is_number : List ℕ → Bool
-is_number [] = false
-is_number (digit ∷ digits) = list_all is_digit (digit ∷ digits) && (not (digit == 48) || (length digits == 0))
-
--- the number that bytes make, none where one is no digit or the number is above a greatest one
-abbrev pub digits_in : ℕ → List ℕ → Option ℕ
-digits_in most digits =
-    if list_all is_digit digits && nat_le (digits_value digits) most then Some (digits_value digits) else None
-
--- the number that a word is, none where it is none or is above a greatest one
-abbrev pub number_in : ℕ → List ℕ → Option ℕ
-number_in most word = if is_number word && nat_le (digits_value word) most then Some (digits_value word) else None
-
--- the key that a word is: 32 bytes in 64 hexadecimal digits of either case
-abbrev pub key_in : List ℕ → Option (List ℕ)
-key_in word = ok_of (decode_sized word 32)
-
--- whether a word in the place of KEY names a file: an `@`, and the name behind it
-abbrev pub is_key_name : List ℕ → Bool
-is_key_name word = (get_or word 0 0 == 64) && nat_lt 1 (length word)
-
--- the name of the file that such a word names
-abbrev pub key_name : List ℕ → List ℕ
-key_name word = if get_or word 0 0 == 64 then drop 1 word else word
-
--- the width of a trial that a word is
-abbrev pub width_in : List ℕ → Option ℕ
-width_in word = option_map_or (λ k. if is_trial_width k then Some k else None) (number_in greatest_width word) None
-
--- the axis that a word is
-abbrev pub axis_in : List ℕ → Option Axis
-axis_in word =
-    if bytes_eq word (codes "row") then Some Row else (if bytes_eq word (codes "col") then Some Col else None)
 
 -- ---- commands
 
@@ -175,15 +123,40 @@ value_call words =
     (if is_command words (codes "cells") 4 then cells_call (get_or words 2 []) (get_or words 3 []) (get_or words 4 [])
     else None)))))))
 
+-- the call of import with a form
+abbrev pub import_call : ImportForm → Call
+import_call form = record { command = Import form; files = import_files form }
+
+-- the call of export with a form
+abbrev pub export_call : ExportForm → Call
+export_call form = record { command = Export form; files = 1 }
+
+-- the command of these words, where it is import or export with a form
+abbrev pub form_call : List (List ℕ) → Option Call
+form_call [] = None
+form_call (word ∷ rest) =
+    if bytes_eq word (codes "import") then option_map import_call (import_form rest) else
+    (if bytes_eq word (codes "export") then option_map export_call (export_form rest) else None)
+
 -- the command of these words, whatever its files are, and how many of them name files
 abbrev pub any_call : List (List ℕ) → Option Call
-any_call words = option_or (file_call words) (value_call words)
+any_call words = option_or (file_call words) (option_or (value_call words) (form_call words))
 
 -- ---- the names of files
 
--- the words that name files: they follow the command's word
-abbrev pub file_words : ℕ → List (List ℕ) → List (List ℕ)
-file_words count words = take count (drop 1 words)
+-- how many words stand before those that name files: the command's own, and FORM of import and export
+abbrev pub words_before : Command → ℕ
+words_before (Import form) = 2
+words_before (Export form) = 2
+words_before command = 1
+
+-- the place of the last word that names a file, or of that before them where there is none
+abbrev pub last_file : Call → ℕ
+last_file call = words_before call.command + call.files - 1
+
+-- the words that name files, so many
+abbrev pub file_words : Command → ℕ → List (List ℕ) → List (List ℕ)
+file_words command count words = take count (drop (words_before command) words)
 
 -- how many of so many words that name files are names as they stand; those behind them stand in the place of KEY
 abbrev pub plain_count : Command → ℕ → ℕ
@@ -197,7 +170,7 @@ named plain words = take plain words ++ map key_name (drop plain words)
 
 -- the names of the files of a call
 abbrev pub call_names : Call → List (List ℕ) → List (List ℕ)
-call_names call words = named (plain_count call.command call.files) (file_words call.files words)
+call_names call words = named (plain_count call.command call.files) (file_words call.command call.files words)
 
 -- whether at most one of these names is the standard input, which can be read but once
 abbrev pub reads_once : List (List ℕ) → Bool

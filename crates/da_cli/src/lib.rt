@@ -6,11 +6,13 @@
 #![tactic(auto)]
 
 mod feeding;
+mod forms;
 mod gathering;
 mod laws;
 mod running;
 mod streamed;
 mod streaming;
+mod values;
 mod words;
 
 pub use da_status::{Asked, Status};

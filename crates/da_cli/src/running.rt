@@ -5,7 +5,7 @@ ghost use Rattle.da_status.specs.declared.status.Status.TheVariants.{Usage};
 ghost use Rattle.da_commands.specs.declared.command.Command.TheVariants as CommandOf;
 ghost use Rattle.da_commands.specs.Meaning.{IsRunnable};
 ghost use Rattle.da_cli.specs.Limits.{limits_of};
-ghost use Rattle.da_cli.specs.Words.{words_of, call_of, names_of, HasFiles};
+ghost use Rattle.da_cli.specs.Words.{words_of, call_of, last_file, names_of, HasFiles};
 ghost use Rattle.da_status.specs.Statuses.{kind_of, input_count, output_count};
 ghost use Rattle.da_cli.specs.Gathered.{IsLast};
 ghost use Rattle.da_cli.specs.Causes.{FaultCause, ExcessCause, LastBy, PickCount};
@@ -18,7 +18,7 @@ ghost use Rattle.da_cli.specs.Run.{IsEarly, status_of, LeavesTold, Completes};
 use crate::gathering::{Stop, gather};
 use crate::laws::run_laws;
 use crate::streamed::stream;
-use crate::words::{Call, call_of, plain_count};
+use crate::words::{Call, call_of, file_words, plain_count};
 use da_commands::{Command, execute};
 use da_io::{Inputs, Sink};
 use da_status::{Status, note};
@@ -45,7 +45,7 @@ fn answer_gathered<I: Inputs, O: Sink>(
     out: &mut O,
 ) -> Status
     requires call { Some call ≡ call_of (words_of words.now) }
-    requires files { call.files < length words.now }
+    requires files { last_file call < length words.now }
     requires few { call.files < 16 }
     requires runnable { IsRunnable call.command }
     requires gathered { call.command ≢ CommandOf.Repair }
@@ -54,7 +54,7 @@ fn answer_gathered<I: Inputs, O: Sink>(
     ensures late { IsEarly (call_of (words_of words.now)) (out.new ≡ out.old) result }
 {
     let plain = plain_count(call.command, call.files);
-    match gather(alloc, &words[1..1 + call.files], plain, call.files, inputs) {
+    match gather(alloc, file_words(words, call), plain, call.files, inputs) {
         Ok(contents) => execute(alloc, call.command, &contents, out),
         Err(stop) => status_of(stop),
     }
@@ -69,7 +69,7 @@ fn answer_streamed<I: Inputs, O: Sink>(
     out: &mut O,
 ) -> Status
     requires call { Some call ≡ call_of (words_of words.now) }
-    requires few { call.files < length words.now }
+    requires few { last_file call < length words.now }
     requires own { HasFiles call.command call.files }
     requires repair { call.command ≡ CommandOf.Repair }
     ensures ran { Ran I.Inputs O.Sink (words_of words.now) inputs.old inputs.new out.old out.new

@@ -1,16 +1,16 @@
 //! Words, and the command that they are.
 
-ghost use Rattle.std.specs.Prelude.{◌≡◌, ◌<◌, [], get_or, length, map, IfSome, true};
+ghost use Rattle.std.specs.Prelude.{◌≡◌, ◌<◌, [], get_or, length, map, IfSome};
 ghost use Rattle.da_commands.specs.Meaning.{IsRunnable};
-ghost use Rattle.da_commands.specs.Demo.{is_trial_width};
-ghost use Rattle.da_cli.specs.Words.{words_of, is_command, is_digit, digits_in, number_in, key_in, is_key_name, key_name, light_by_call, light_call, width_in, demo_call, axis_in, verify_call, root_call, find_call, wanted_call, cells_by_call, cells_of_key, cells_call, prove_call, call_in, file_call, value_call, any_call, plain_count, named, call_names, reads_once, call_of, HasFiles};
+ghost use Rattle.da_cli.specs.Values.{is_command};
+ghost use Rattle.da_cli.specs.Words.{words_of, light_by_call, light_call, demo_call, verify_call, root_call, find_call, wanted_call, cells_by_call, cells_of_key, cells_call, prove_call, import_call, export_call, call_in, file_call, value_call, form_call, any_call, words_before, last_file, file_words, plain_count, named, call_names, reads_once, call_of, HasFiles};
 
-use da_commands::Command;
+use crate::forms::{export_form, import_files, import_form};
+use crate::values::{axis_in, is_key_name, key_in, key_name, number_in, width_in};
+use da_commands::{Command, ExportForm, ImportForm};
 use da_io::is_standard_input;
-use hex::FromHex;
-use namespace_id::{Axis, GREATEST_WIDTH, is_width};
 
-/// A command, and how many of the words after its own name files. These come first.
+/// A command, and how many words name its files. These come first behind its own, or behind FORM.
 #[derive(Clone, Copy, Debug, PartialEq, Eq)]
 pub(crate) struct Call {
     pub(crate) command: Command,
@@ -27,74 +27,10 @@ fn is_command(words: &[String], name: &str, count: usize) -> bool
     }
 }
 
-/// Whether a byte is a decimal digit.
-fn is_digit(byte: u8) -> bool
-    ensures { result ≡ is_digit byte }
-{
-    byte >= b'0' && byte <= b'9'
-}
-
-/// The number that decimal digits make; none where a byte is none, or the number is above `most`.
-fn digits_value(digits: &[u8], most: u64) -> Option<u64>
-    ensures { result ≡ digits_in most digits.now }
-{
-    let mut value = 0u64;
-    let mut rest = digits;
-    while let Some((digit, after)) = rest.split_first() {
-        if !is_digit(*digit) {
-            return None;
-        }
-        let next = 10 * u128::from(value) + u128::from(*digit - b'0');
-        if next > u128::from(most) {
-            return None;
-        }
-        value = next as u64;
-        rest = after;
-    }
-    Some(value)
-}
-
-/// The number that a word is: decimal digits without a leading zero, or 0. None where it is none, or
-/// is above `most`.
-fn number_in(word: &str, most: u64) -> Option<u64>
-    ensures { result ≡ number_in most word.now }
-{
-    let digits = word.as_bytes();
-    if digits.is_empty() || (digits[0] == b'0' && digits.len() > 1) {
-        return None;
-    }
-    digits_value(digits, most)
-}
-
-/// The key that a word is: 64 hexadecimal digits of either case.
-fn key_in(word: &str) -> Option<[u8; 32]>
-    ensures { result ≡ key_in word.now }
-{
-    <[u8; 32]>::from_hex(word).ok()
-}
-
-/// Whether a word in the place of KEY names a file: an `@`, and the name behind it.
-fn is_key_name(word: &str) -> bool
-    ensures { result ≡ is_key_name word.now }
-{
-    let bytes = word.as_bytes();
-    bytes.len() > 1 && bytes[0] == b'@'
-}
-
-/// The name of the file that such a word names.
-fn key_name(word: &str) -> &str
-    ensures { result.now ≡ key_name word.now }
-{
-    match word.strip_prefix('@') {
-        Some(name) => name,
-        None => word,
-    }
-}
-
 /// The call of `light` whose KEY names a file, and whose COUNT is this word.
 fn light_by_call(count: &str) -> Option<Call>
     ensures value { result ≡ light_by_call count.now }
-    ensures files { IfSome result (λ call. call.files < 4) }
+    ensures files { IfSome result (λ call. last_file call < 5) }
     ensures runnable { IfSome result (λ call. IsRunnable call.command) }
     ensures own { IfSome result (λ call. HasFiles call.command call.files) }
 {
@@ -108,7 +44,7 @@ fn light_by_call(count: &str) -> Option<Call>
 /// The call of `light` whose KEY and COUNT are these words.
 fn light_call(key: &str, count: &str) -> Option<Call>
     ensures value { result ≡ light_call key.now count.now }
-    ensures files { IfSome result (λ call. call.files < 4) }
+    ensures files { IfSome result (λ call. last_file call < 5) }
     ensures runnable { IfSome result (λ call. IsRunnable call.command) }
     ensures own { IfSome result (λ call. HasFiles call.command call.files) }
 {
@@ -123,19 +59,10 @@ fn light_call(key: &str, count: &str) -> Option<Call>
     })
 }
 
-/// The width of a trial that a word is: a width from 2 on.
-fn width_in(word: &str) -> Option<u16>
-    ensures value { result ≡ width_in word.now }
-    ensures width { IfSome result (λ k. is_trial_width k ≡ true) }
-{
-    let k = number_in(word, u64::from(GREATEST_WIDTH))? as u16;
-    if is_width(k) && k >= 2 { Some(k) } else { None }
-}
-
 /// The call of `demo` whose NUMBER and WIDTH are these words.
 fn demo_call(number: &str, width: &str) -> Option<Call>
     ensures value { result ≡ demo_call number.now width.now }
-    ensures files { IfSome result (λ call. call.files ≡ 0) }
+    ensures files { IfSome result (λ call. last_file call < 3) }
     ensures runnable { IfSome result (λ call. IsRunnable call.command) }
     ensures own { IfSome result (λ call. HasFiles call.command call.files) }
 {
@@ -147,23 +74,10 @@ fn demo_call(number: &str, width: &str) -> Option<Call>
     })
 }
 
-/// The axis that a word is: `row` or `col`.
-fn axis_in(word: &str) -> Option<Axis>
-    ensures { result ≡ axis_in word.now }
-{
-    if word == "row" {
-        return Some(Axis::Row);
-    }
-    if word == "col" {
-        return Some(Axis::Col);
-    }
-    None
-}
-
 /// The call of `verify` of a third word: a COMMITMENT where it is 64 hexadecimal digits, else REQUEST.
 fn verify_call(third: &str) -> Call
     ensures value { result ≡ verify_call third.now }
-    ensures files { result.files < 4 }
+    ensures files { last_file result < 4 }
     ensures runnable { IsRunnable result.command }
     ensures own { HasFiles result.command result.files }
 {
@@ -182,7 +96,7 @@ fn verify_call(third: &str) -> Call
 /// The call of `root` whose ROOT is this word.
 fn root_call(root: &str) -> Option<Call>
     ensures value { result ≡ root_call root.now }
-    ensures files { IfSome result (λ call. call.files ≡ 1) }
+    ensures files { IfSome result (λ call. last_file call < 3) }
     ensures runnable { IfSome result (λ call. IsRunnable call.command) }
     ensures own { IfSome result (λ call. HasFiles call.command call.files) }
 {
@@ -195,7 +109,7 @@ fn root_call(root: &str) -> Option<Call>
 /// The call of `find` whose COMMITMENT is this word.
 fn find_call(commitment: &str) -> Option<Call>
     ensures value { result ≡ find_call commitment.now }
-    ensures files { IfSome result (λ call. call.files ≡ 1) }
+    ensures files { IfSome result (λ call. last_file call < 3) }
     ensures runnable { IfSome result (λ call. IsRunnable call.command) }
     ensures own { IfSome result (λ call. HasFiles call.command call.files) }
 {
@@ -208,7 +122,7 @@ fn find_call(commitment: &str) -> Option<Call>
 /// The call of `wanted` whose AXIS is this word.
 fn wanted_call(axis: &str) -> Option<Call>
     ensures value { result ≡ wanted_call axis.now }
-    ensures files { IfSome result (λ call. call.files ≡ 1) }
+    ensures files { IfSome result (λ call. last_file call < 3) }
     ensures runnable { IfSome result (λ call. IsRunnable call.command) }
     ensures own { IfSome result (λ call. HasFiles call.command call.files) }
 {
@@ -221,7 +135,7 @@ fn wanted_call(axis: &str) -> Option<Call>
 /// The call of `cells` whose KEY names a file, and whose COUNT and AXIS are these words.
 fn cells_by_call(count: &str, axis: &str) -> Option<Call>
     ensures value { result ≡ cells_by_call count.now axis.now }
-    ensures files { IfSome result (λ call. call.files < 3) }
+    ensures files { IfSome result (λ call. last_file call < 5) }
     ensures runnable { IfSome result (λ call. IsRunnable call.command) }
     ensures own { IfSome result (λ call. HasFiles call.command call.files) }
 {
@@ -236,7 +150,7 @@ fn cells_by_call(count: &str, axis: &str) -> Option<Call>
 /// The call of `cells` with this KEY, whose COUNT and AXIS are these words.
 fn cells_of_key(key: [u8; 32], count: &str, axis: &str) -> Option<Call>
     ensures value { result ≡ cells_of_key key count.now axis.now }
-    ensures files { IfSome result (λ call. call.files < 3) }
+    ensures files { IfSome result (λ call. last_file call < 5) }
     ensures runnable { IfSome result (λ call. IsRunnable call.command) }
     ensures own { IfSome result (λ call. HasFiles call.command call.files) }
 {
@@ -251,7 +165,7 @@ fn cells_of_key(key: [u8; 32], count: &str, axis: &str) -> Option<Call>
 /// The call of `cells` whose KEY, COUNT and AXIS are these words.
 fn cells_call(key: &str, count: &str, axis: &str) -> Option<Call>
     ensures value { result ≡ cells_call key.now count.now axis.now }
-    ensures files { IfSome result (λ call. call.files < 3) }
+    ensures files { IfSome result (λ call. last_file call < 5) }
     ensures runnable { IfSome result (λ call. IsRunnable call.command) }
     ensures own { IfSome result (λ call. HasFiles call.command call.files) }
 {
@@ -264,7 +178,7 @@ fn cells_call(key: &str, count: &str, axis: &str) -> Option<Call>
 /// The call of `prove` whose START and COUNT are these words.
 fn prove_call(start: &str, count: &str) -> Option<Call>
     ensures value { result ≡ prove_call start.now count.now }
-    ensures files { IfSome result (λ call. call.files ≡ 1) }
+    ensures files { IfSome result (λ call. last_file call < 3) }
     ensures runnable { IfSome result (λ call. IsRunnable call.command) }
     ensures own { IfSome result (λ call. HasFiles call.command call.files) }
 {
@@ -319,7 +233,7 @@ fn call_in(rows: &[(&str, usize, Command)], words: &[String]) -> Option<Call>
 /// The command of these words, among those whose words after their own all name files.
 fn file_call(words: &[String]) -> Option<Call>
     ensures value { result ≡ file_call (words_of words.now) }
-    ensures files { IfSome result (λ call. call.files < length words.now) }
+    ensures files { IfSome result (λ call. last_file call < length words.now) }
     ensures few { IfSome result (λ call. call.files < 16) }
     ensures runnable { IfSome result (λ call. IsRunnable call.command) }
     ensures own { IfSome result (λ call. HasFiles call.command call.files) }
@@ -330,7 +244,7 @@ fn file_call(words: &[String]) -> Option<Call>
 /// The command of these words, among those with values among their words.
 fn value_call(words: &[String]) -> Option<Call>
     ensures value { result ≡ value_call (words_of words.now) }
-    ensures files { IfSome result (λ call. call.files < length words.now) }
+    ensures files { IfSome result (λ call. last_file call < length words.now) }
     ensures few { IfSome result (λ call. call.files < 16) }
     ensures runnable { IfSome result (λ call. IsRunnable call.command) }
     ensures own { IfSome result (λ call. HasFiles call.command call.files) }
@@ -349,18 +263,84 @@ fn value_call(words: &[String]) -> Option<Call>
     }
 }
 
-/// The command of these words, whatever its files are.
-fn any_call(words: &[String]) -> Option<Call>
-    ensures value { result ≡ any_call (words_of words.now) }
-    ensures files { IfSome result (λ call. call.files < length words.now) }
+/// The call of `import` with a form.
+fn import_call(form: ImportForm) -> Call
+    ensures value { result ≡ import_call form }
+    ensures few { result.files < 16 }
+    ensures runnable { IsRunnable result.command }
+    ensures own { HasFiles result.command result.files }
+{
+    Call {
+        command: Command::Import(form),
+        files: import_files(form),
+    }
+}
+
+/// The call of `export` with a form.
+fn export_call(form: ExportForm) -> Call
+    ensures value { result ≡ export_call form }
+    ensures runnable { IsRunnable result.command }
+    ensures own { HasFiles result.command result.files }
+{
+    Call {
+        command: Command::Export(form),
+        files: 1,
+    }
+}
+
+/// The command of these words, where it is `import` or `export` with a form.
+fn form_call(words: &[String]) -> Option<Call>
+    ensures value { result ≡ form_call (words_of words.now) }
+    ensures files { IfSome result (λ call. last_file call < length words.now) }
     ensures few { IfSome result (λ call. call.files < 16) }
     ensures runnable { IfSome result (λ call. IsRunnable call.command) }
     ensures own { IfSome result (λ call. HasFiles call.command call.files) }
 {
-    match file_call(words) {
-        Some(call) => Some(call),
-        None => value_call(words),
+    let (word, rest) = words.split_first()?;
+    match word.as_str() {
+        "import" => Some(import_call(import_form(rest)?)),
+        "export" => Some(export_call(export_form(rest)?)),
+        _ => None,
     }
+}
+
+/// The command of these words, whatever its files are.
+fn any_call(words: &[String]) -> Option<Call>
+    ensures value { result ≡ any_call (words_of words.now) }
+    ensures files { IfSome result (λ call. last_file call < length words.now) }
+    ensures few { IfSome result (λ call. call.files < 16) }
+    ensures runnable { IfSome result (λ call. IsRunnable call.command) }
+    ensures own { IfSome result (λ call. HasFiles call.command call.files) }
+{
+    if let Some(call) = file_call(words) {
+        return Some(call);
+    }
+    match value_call(words) {
+        Some(call) => Some(call),
+        None => form_call(words),
+    }
+}
+
+/// How many words stand before those that name a command's files: its own, and FORM of `import` and `export`.
+fn words_before(command: Command) -> usize
+    ensures value { result ≡ words_before command }
+    ensures few { result < 3 }
+{
+    match command {
+        Command::Import(_) | Command::Export(_) => 2,
+        _ => 1,
+    }
+}
+
+/// The words that name the files of a call.
+pub(crate) fn file_words(words: &[String], call: Call) -> &[String]
+    requires few { call.files < 16 }
+    requires files { last_file call < length words.now }
+    ensures value { words_of result.now ≡ file_words call.command call.files (words_of words.now) }
+    ensures count { length result.now ≡ call.files }
+{
+    let first = words_before(call.command);
+    &words[first..first + call.files]
 }
 
 /// How many of the words that name a command's files, `files` in all, are names as they stand;
@@ -400,11 +380,12 @@ fn reads_once(words: &[String], plain: usize) -> bool
 
 /// Whether a call of these words reads the standard input at most once.
 fn is_once_only(words: &[String], call: Call) -> bool
-    requires { call.files < length words.now }
+    requires few { call.files < 16 }
+    requires files { last_file call < length words.now }
     ensures { result ≡ reads_once (call_names call (words_of words.now)) }
 {
     reads_once(
-        &words[1..1 + call.files],
+        file_words(words, call),
         plain_count(call.command, call.files),
     )
 }
@@ -413,7 +394,7 @@ fn is_once_only(words: &[String], call: Call) -> bool
 /// once.
 pub(crate) fn call_of(words: &[String]) -> Option<Call>
     ensures value { result ≡ call_of (words_of words.now) }
-    ensures files { IfSome result (λ call. call.files < length words.now) }
+    ensures files { IfSome result (λ call. last_file call < length words.now) }
     ensures few { IfSome result (λ call. call.files < 16) }
     ensures runnable { IfSome result (λ call. IsRunnable call.command) }
     ensures own { IfSome result (λ call. HasFiles call.command call.files) }

@@ -7,7 +7,7 @@ use Rattle.da_status.specs.declared.status.Status.{Status}
 use Rattle.da_status.specs.Statuses.{kind_of}
 use Rattle.da_status.proofs.EndLemmas.{IsAnswer, answer_output, status_answers}
 use Rattle.da_commands.specs.declared.command.Command.{Command}
-use Rattle.da_commands.specs.declared.command.Command.TheVariants.{Check, Build, Header, Sample, Namespace, Verify, Compact, Repair, Light, LightBy, Net, Show, Json, Demo, VerifyCommitment, VerifyFor, Root, RootIs, Wanted, Cells, CellsBy, Blobs, Transactions, Find, Commit, Prove, ProveRange, Follow, Help, Version}
+use Rattle.da_commands.specs.declared.command.Command.TheVariants.{Check, Build, Header, Sample, Namespace, Verify, Compact, Repair, Light, LightBy, Net, Show, Json, Demo, VerifyCommitment, VerifyFor, Root, RootIs, Wanted, Cells, CellsBy, Blobs, Transactions, Find, Commit, Prove, ProveRange, Follow, Import, Export, Help, Version}
 use Rattle.da_commands.specs.Show.{all_kinds, shown_file}
 use Rattle.da_commands.specs.Meaning.{AnswerOf}
 use Rattle.da_judging.proofs.CheckLemmas.{check_last}
@@ -33,6 +33,7 @@ use Rattle.da_serving.proofs.FindLemmas.{find_answers}
 use Rattle.da_serving.proofs.CommitLemmas.{commit_answers}
 use Rattle.da_serving.proofs.ProveLemmas.{prove_answers, prove_range_answers}
 use Rattle.da_following.proofs.FollowLemmas.{follow_answers}
+use Rattle.da_exchanging.proofs.FormLemmas.{import_answers, export_answers}
 
 -- a command's answer comes with its output, or refuses what the files ask for
 pub answer_last : (command : Command) (files : List (List ℕ)) (w : List ℕ) (status : Status) → AnswerOf command files w status → IsAnswer (kind_of status)
@@ -64,5 +65,7 @@ answer_last Commit files w status h = commit_answers files w status h
 answer_last Prove files w status h = prove_answers files w status h
 answer_last (ProveRange start count) files w status h = prove_range_answers start count files w status h
 answer_last Follow files w status h = follow_answers files w status h
+answer_last (Import form) files w status h = import_answers form files w status h
+answer_last (Export form) files w status h = export_answers form files w status h
 answer_last Help files w status h = status_answers status _ h.1 tt
 answer_last Version files w status h = status_answers status _ h.1 tt

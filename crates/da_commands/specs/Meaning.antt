@@ -2,7 +2,7 @@
 use Rattle.std.specs.Prelude.{◌≡◌, ℕ, List, [], ◌∷◌, true, ⊤}
 use Rattle.std.specs.declared.option.Option.{Option}
 use Rattle.da_commands.specs.declared.command.Command.{Command}
-use Rattle.da_commands.specs.declared.command.Command.TheVariants.{Check, Build, Header, Sample, Namespace, Verify, Compact, Repair, Light, LightBy, Net, Show, Json, Demo, VerifyCommitment, VerifyFor, Root, RootIs, Wanted, Cells, CellsBy, Blobs, Transactions, Find, Commit, Prove, ProveRange, Follow, Help, Version}
+use Rattle.da_commands.specs.declared.command.Command.TheVariants.{Check, Build, Header, Sample, Namespace, Verify, Compact, Repair, Light, LightBy, Net, Show, Json, Demo, VerifyCommitment, VerifyFor, Root, RootIs, Wanted, Cells, CellsBy, Blobs, Transactions, Find, Commit, Prove, ProveRange, Follow, Import, Export, Help, Version}
 use Rattle.da_wire.specs.Spelling.{sample_kind, request_kind}
 use Rattle.da_status.specs.Outcome.{Relation}
 use Rattle.da_status.specs.Judging.{Judged}
@@ -30,6 +30,7 @@ use Rattle.da_serving.specs.Find.{FindOf}
 use Rattle.da_serving.specs.Commit.{CommitOf}
 use Rattle.da_serving.specs.Prove.{ProveOf, ProveRangeOf}
 use Rattle.da_following.specs.Follow.{follow_judged, FollowOf}
+use Rattle.da_exchanging.specs.Forms.{import_judged, ImportOf, export_judged, ExportOf}
 use Rattle.da_commands.specs.Cells.{CellsOf, cells_by_judged, CellsByOf}
 use Rattle.da_commands.specs.Help.{help_judged, HelpOf, VersionOf}
 
@@ -63,6 +64,8 @@ judged_of Commit files = single_judged block_or_list_in files
 judged_of Prove files = requests_judged (sample_kind ∷ []) files
 judged_of (ProveRange start count) files = single_judged square_in files
 judged_of Follow files = follow_judged files
+judged_of (Import form) files = import_judged form files
+judged_of (Export form) files = export_judged form files
 judged_of Help files = help_judged
 judged_of Version files = help_judged
 
@@ -96,6 +99,8 @@ AnswerOf Commit files = CommitOf files
 AnswerOf Prove files = ProveOf files
 AnswerOf (ProveRange start count) files = ProveRangeOf start count files
 AnswerOf Follow files = FollowOf files
+AnswerOf (Import form) files = ImportOf form files
+AnswerOf (Export form) files = ExportOf form files
 AnswerOf Help files = HelpOf
 AnswerOf Version files = VersionOf
 
@@ -133,6 +138,8 @@ TakesFirst (Find commitment) = ⊤
 TakesFirst Commit = ⊤
 TakesFirst (ProveRange start count) = ⊤
 TakesFirst Follow = ⊤
+TakesFirst (Import form) = ⊤
+TakesFirst (Export form) = ⊤
 TakesFirst Help = ⊤
 TakesFirst Version = ⊤
 TakesFirst command = ⊥

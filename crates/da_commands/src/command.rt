@@ -8,6 +8,7 @@ ghost use Rattle.da_commands.specs.Meaning.{Meaning, TakesFirst, IsRunnable};
 ghost use Rattle.da_status.specs.Outcome.{Ends};
 
 use crate::{cells, demo, help, net, show};
+use da_exchanging::{ExportForm, ImportForm, export, import};
 use da_following::follow;
 use da_io::Sink;
 use da_judging::{check, compact, light, root, verify, verify_commitment, verify_for};
@@ -77,6 +78,10 @@ pub enum Command {
     ProveRange(u32, u32),
     /// `follow WANTED ANSWERS`
     Follow,
+    /// `import FORM FILE WORD..`, with the form and what its words say
+    Import(ImportForm),
+    /// `export FORM FILE WORD..`, with the form and what its words say
+    Export(ExportForm),
     /// `help`
     Help,
     /// `version`
@@ -126,6 +131,8 @@ pub fn execute<O: Sink>(alloc: Global, command: Command, files: &[Vec<u8>], out:
         Command::Prove => prove::execute(alloc, files, out),
         Command::ProveRange(start, count) => prove::range(alloc, files, start, count, out),
         Command::Follow => follow::execute(alloc, files, out),
+        Command::Import(form) => import(alloc, form, files, out),
+        Command::Export(form) => export(alloc, form, files, out),
         Command::Help => help::help(out),
         Command::Version => help::version(out),
     }

@@ -36,6 +36,27 @@ const COMMANDS: &[u8] = b"\
     da net HEADER MESSAGES SCRIPT\n\
     da show FILE\n\
     da json FILE\n\
+    da import dah FILE\n\
+    da import header FILE\n\
+    da import sample FILE ROW COL\n\
+    da import row-data FILE ROW NAMESPACE\n\
+    da import namespace-data FILE HEADER NAMESPACE\n\
+    da import befp FILE HASH HEIGHT\n\
+    da import ods FILE\n\
+    da import row FILE ROW\n\
+    da import share-proof FILE\n\
+    da import sample-id FILE HEIGHT\n\
+    da import namespace-id FILE HEIGHT\n\
+    da export dah FILE\n\
+    da export sample FILE\n\
+    da export row-data FILE\n\
+    da export namespace-data FILE\n\
+    da export befp FILE WIDTH HASH HEIGHT\n\
+    da export ods FILE\n\
+    da export row FILE\n\
+    da export share-proof FILE\n\
+    da export sample-id FILE HEIGHT\n\
+    da export namespace-id FILE HEIGHT\n\
     da demo NUMBER WIDTH\n\
     da help\n\
     da version\n";

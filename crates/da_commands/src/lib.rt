@@ -2,7 +2,7 @@
 //!
 //! A command is a case of `Command`, of `Meaning` and of `execute`. `show`, `json`, `net`, `demo`, `cells`, `help`
 //! and `version` stand here, each with a file of its own here and in `specs/`; the others are those of
-//! `da_serving`, `da_judging` and `da_following`.
+//! `da_serving`, `da_judging`, `da_following` and `da_exchanging`.
 #![tactic(auto)]
 
 mod cells;
@@ -14,6 +14,7 @@ mod net;
 mod show;
 
 pub use command::{Command, execute};
+pub use da_exchanging::{ExportForm, ImportForm};
 pub use da_files::{Unread, header_in, message_in, square_in};
 pub use da_following::follow_laws;
 pub use da_judging::{

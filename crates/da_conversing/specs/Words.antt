@@ -2,7 +2,7 @@
 use Rattle.std.specs.Prelude.{ℕ, ◌&&◌, not, Bool, false, List, [], ◌∷◌, get_or, codes}
 use Rattle.std.specs.Str.{bytes_eq}
 use Rattle.da_io.specs.Files.{is_standard_input}
-use Rattle.da_cli.specs.Words.{is_command}
+use Rattle.da_cli.specs.Values.{is_command}
 
 -- whether the first word is that of a command that stays
 abbrev pub is_talk : List (List ℕ) → Bool

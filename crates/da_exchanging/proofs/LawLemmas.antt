@@ -1,5 +1,5 @@
 -- What import and export say of each other, by what of a form is promised.
-use Rattle.std.proofs.Common.{◌≡◌, ◌∙◌, ◌<◌, ◌^◌, ℕ, Bool, true, false, cond, List, [], ◌∷◌, Some, None, Result, Ok, Err, refl, sym, ap, subst}
+use Rattle.std.proofs.Common.{◌≡◌, ◌∙◌, ◌<◌, ◌^◌, ℕ, Bool, true, false, cond, List, [], ◌∷◌, Some, None, Result, Ok, Err, refl, sym, ap, subst, arith}
 use Rattle.std.specs.declared.option.Option.{Option}
 use Rattle.std.specs.Option.{option_map_or}
 use Rattle.std.proofs.lemmas.Option.{same_Some}
@@ -10,6 +10,7 @@ use Rattle.namespace_id.specs.Names.{IsNamespace}
 use Rattle.axis_roots.specs.declared.answers.NsEntry.{NsEntry}
 use Rattle.axis_roots.specs.declared.message.messages.Message as sent
 use Rattle.axis_roots.specs.Answers.{IsEntry}
+use Rattle.axis_roots.specs.Claims.{ClaimParts}
 use Rattle.celestia_pb.specs.declared.sample.Sample.{Sample}
 use Rattle.celestia_pb.proofs.Steps.{same_ok}
 use Rattle.celestia_pb.specs.Headers.{dah_text, dah_value}
@@ -18,15 +19,18 @@ use Rattle.celestia_pb.specs.Samples.{IsCell, IsSample, sample_value}
 use Rattle.celestia_pb.specs.SampleLaws.{SampleIsRead, ReadIsSample}
 use Rattle.celestia_pb.specs.Ids.{sample_id_text, namespace_id_text, sample_id_value, namespace_id_value, SampleIdIsRead, ReadIsSampleId, NamespaceIdIsRead, ReadIsNamespaceId}
 use Rattle.celestia_pb.specs.Ods.{ods_text, ods_value, OdsIsRead, ReadIsOds}
+use Rattle.celestia_pb.specs.Befp.{befp_text, befp_value}
+use Rattle.celestia_pb.specs.Befp as claims
+use Rattle.celestia_pb.specs.BefpLaws as befp
 use Rattle.celestia_pb.specs.RowData.{has_message, found_text, row_value}
 use Rattle.celestia_pb.specs.RowDataLaws.{HasMessage, RowIsRead, ReadIsRow}
 use Rattle.da_wire.specs.declared.frames.Frame.{Frame}
 use Rattle.da_wire.specs.declared.frames.Frame.TheVariants as frames
-use Rattle.da_wire.specs.Spelling.{spelling, IsFrame, header_kind, square_kind, message_kind, names_kind, sample_kind, request_kind}
+use Rattle.da_wire.specs.Spelling.{spelling, IsFrame, header_kind, square_kind, message_kind, names_kind, fraud_kind, sample_kind, request_kind}
 use Rattle.da_wire.specs.Writing.{kind_of}
 use Rattle.da_wire.specs.Reading.{is_among, only_of}
 use Rattle.da_wire.specs.Laws.{OnlyIsSpelled, SpelledIsOnly}
-use Rattle.da_wire.specs.Single.{header_of, square_of, message_of}
+use Rattle.da_wire.specs.Single.{header_of, square_of, message_of, claim_of}
 use Rattle.da_status.specs.declared.status.Asked.{Asked}
 use Rattle.da_status.specs.declared.status.Asked.TheVariants.{Form}
 use Rattle.da_status.specs.declared.status.Status.{Status}
@@ -46,14 +50,16 @@ use Rattle.da_exchanging.specs.Sample.{sample_frame, message_text}
 use Rattle.da_exchanging.specs.Ids.{cell_of, row_request}
 use Rattle.da_exchanging.specs.Answers.{answer_of}
 use Rattle.da_exchanging.specs.RowData.{row_frame, answer_message}
-use Rattle.da_exchanging.specs.Laws.{IsExportedBack, IsImportedBack, SampleIsImportedBack, RowDataIsImportedBack, SampleIdIsImportedBack}
+use Rattle.da_exchanging.specs.Befp.{claim_message}
+use Rattle.da_exchanging.proofs.MadeLemmas.{has_written}
+use Rattle.da_exchanging.specs.Laws.{IsExportedBack, IsImportedBack, SampleIsImportedBack, RowDataIsImportedBack, BefpIsExportedBack, BefpIsImportedBack, SampleIdIsImportedBack}
 
 -- a refusal of a file isn't done
 not_refused : (i at : ℕ) → ◌≡◌ {A = Status} Done (BadInput i at) → ⊥
 not_refused i at e = absurd cc
 
 -- nor is one of what it asks for
-not_asked : (why : Asked) → ◌≡◌ {A = Status} Done (BadRequest why) → ⊥
+pub not_asked : (why : Asked) → ◌≡◌ {A = Status} Done (BadRequest why) → ⊥
 not_asked why e = absurd cc
 
 -- ---- one file each
@@ -111,7 +117,7 @@ module _ {A B : Type 0} (value : List ℕ → Result A ℕ) (frame : A → Frame
   imported_back bytes text law h = imported_by bytes text (single of (only_of text kinds)) law h
 
 -- a file that is read as a value is the one spelling of the value's frame
-file_spelled : {A : Type 0} (of : Frame → Option A) (make : A → Frame) → ((frame : Frame) (x : A) → of frame ≡ Some x → frame ≡ make x)
+pub file_spelled : {A : Type 0} (of : Frame → Option A) (make : A → Frame) → ((frame : Frame) (x : A) → of frame ≡ Some x → frame ≡ make x)
     → ((x : A) → of (make x) ≡ Some x) → OnlyIsSpelled → (kinds text : List ℕ) (x : A) → AreBytes text → single of (only_of text kinds) ≡ Ok x
     → IsFrame (make x) × (spelling (make x) ≡ Some text)
 file_spelled of make is_made is_value only kinds text x fits e =
@@ -215,6 +221,34 @@ row_data_imported only law = λ bytes text name entry fits read told.
     (subst (λ (x : names.Namespace × List NsEntry). WritesIf (answer_message x.1) bytes Done) same answer) in
     let has : HasMessage entry.found = record { is = is.0.1.0.found; has = written.0 } in
     (entry, ap (row_value entry.row) written.1 ∙ law entry.row entry.found has, is.1))
+    told
+
+-- ---- claims
+
+-- a frame of a claim is that claim's
+claim_made : (frame : Frame) (claim : ClaimParts) → claim_of frame ≡ Some claim → frame ≡ frames.Fraud claim
+claim_made (frames.Fraud other) claim e = cc
+claim_made frame claim e = absurd cc
+
+pub befp_exported : SpelledIsOnly → befp.BefpIsRead → BefpIsExportedBack
+befp_exported again law = λ k hash height claim text long short has made.
+    let bytes : List ℕ = befp_text 1 k hash height claim in
+    let Answer : ClaimParts → Relation = λ x. WritesIf (claim_message k hash height x) in
+    exported_back (befp_value hash height) frames.Fraud (λ x. x) claim_of (fraud_kind ∷ []) Answer again bytes text
+    (λ x e.
+    subst (λ (y : ClaimParts). Goes (befp_value hash height) frames.Fraud (λ z. z) claim_of (fraud_kind ∷ []) Answer bytes y)
+    (same_ok claim x (sym (law 1 k hash height claim (omega arith) long short has) ∙ e))
+    (has.is, refl, refl, has_written (claims.has_message k claim) bytes bytes has.has refl))
+    made
+
+pub befp_imported : OnlyIsSpelled → befp.BefpIsRead → BefpIsImportedBack
+befp_imported only law = λ k hash height bytes text long short fits told.
+    imported_back (befp_value hash height) frames.Fraud (λ x. x) claim_of (fraud_kind ∷ []) (λ x. WritesIf (claim_message k hash height x)) bytes text
+    (λ y e answer.
+    let is = file_spelled claim_of frames.Fraud claim_made (λ x. refl) only (fraud_kind ∷ []) text y fits e in
+    let written = written_message (claims.has_message k y) bytes (befp_text 1 k hash height y) answer in
+    let has : befp.HasMessage k y = record { is = is.0; has = written.0 } in
+    (y, ap (befp_value hash height) written.1 ∙ law 1 k hash height y (omega arith) long short has, is.1))
     told
 
 -- ---- identifiers

@@ -9,3 +9,4 @@ pub mod LeftHalfLemmas
 pub mod RowLemmas
 pub mod FormLemmas
 pub mod LawLemmas
+pub mod ShareLawLemmas

@@ -1,8 +1,12 @@
 -- What is imported is exported as the bytes that it came from, and what is exported is imported as the frame that it came from.
-use Rattle.std.specs.Prelude.{◌≡◌, ℕ, List, [], ◌∷◌, Ok}
+use Rattle.std.specs.Prelude.{◌≡◌, ℕ, ◌<◌, ◌^◌, List, [], ◌∷◌, length, Ok}
 use Rattle.namespace_id.specs.Bytes.{AreBytes}
 use Rattle.namespace_id.specs.declared.cells.Cell.{Cell}
 use Rattle.namespace_id.specs.declared.namespaces.Namespace.{Namespace}
+use Rattle.namespace_id.specs.Sizes.{hash_size}
+use Rattle.axis_roots.specs.Claims.{ClaimParts}
+use Rattle.celestia_pb.specs.Befp.{befp_text}
+use Rattle.celestia_pb.specs.BefpLaws.{HasMessage}
 use Rattle.axis_roots.specs.declared.answers.NsEntry.{NsEntry}
 use Rattle.axis_roots.specs.declared.message.messages.Message.{Message}
 use Rattle.da_wire.specs.Spelling.{sample_kind}
@@ -43,6 +47,17 @@ SampleIsImportedBack = (bytes text : List ℕ) (m : Message) → AreBytes text �
 abbrev pub RowDataIsImportedBack : Type 0
 RowDataIsImportedBack = (bytes text : List ℕ) (name : Namespace) (entry : NsEntry) → AreBytes text → answer_in text ≡ Ok (name, entry ∷ [])
     → Exports to.RowData text bytes → Imports (from.RowData entry.row name) bytes text
+
+-- the message of a claim whose proofs pass over the parity namespace is exported of the frame that it is imported as
+abbrev pub BefpIsExportedBack : Type 0
+BefpIsExportedBack = (k : ℕ) (hash : List ℕ) (height : ℕ) (claim : ClaimParts) (text : List ℕ) → length hash ≡ hash_size → height < 2 ^ 64
+    → HasMessage k claim → Imports (from.Befp hash height) (befp_text 1 k hash height claim) text
+    → Exports (to.Befp k hash height) text (befp_text 1 k hash height claim)
+
+-- what is exported of a claim is imported as the claim
+abbrev pub BefpIsImportedBack : Type 0
+BefpIsImportedBack = (k : ℕ) (hash : List ℕ) (height : ℕ) (bytes text : List ℕ) → length hash ≡ hash_size → height < 2 ^ 64 → AreBytes text
+    → Exports (to.Befp k hash height) text bytes → Imports (from.Befp hash height) bytes text
 
 -- what is exported of a request for a sample along its row is imported as this request
 abbrev pub SampleIdIsImportedBack : Type 0

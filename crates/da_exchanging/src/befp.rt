@@ -10,10 +10,11 @@ ghost use Rattle.da_exchanging.specs.Befp.{claim_in, claim_message, ImportBefpOf
 
 use crate::made::{FILE, frame_refusal, frame_text, message_refusal};
 use axis_roots::FraudClaim;
-use celestia_pb::{befp_size, put_befp, read_befp};
+use celestia_pb::{befp_laws, befp_size, put_befp, read_befp};
 use da_files::{Unread, claim_frame, file, reason};
 use da_status::{Asked, Status};
 use da_wire::read_claim;
+use namespace_id::bytes_law;
 use std::alloc::Global;
 
 /// The frame of the claim that the message in FILE is, of the header with this hash and this height.
@@ -26,7 +27,10 @@ pub(crate) fn import(
     ensures { IsMade (Judged (single_judged (befp_value hash.now height) (contents_of files.now))
         (ImportBefpOf hash.now height (contents_of files.now))) result }
 {
-    match read_befp(alloc, hash, height, file(files, FILE)) {
+    befp_laws();
+    let bytes = file(files, FILE);
+    bytes_law(bytes);
+    match read_befp(alloc, hash, height, bytes) {
         Ok(claim) => frame_text(alloc, claim_frame(claim)),
         Err(why) => Err(message_refusal(why)),
     }

@@ -7,14 +7,17 @@ ghost use Rattle.namespace_id.specs.Names.{IsNamespace};
 ghost use Rattle.celestia_pb.specs.Samples.{IsCell};
 ghost use Rattle.da_exchanging.specs.declared.forms.ImportForm.TheVariants as from;
 ghost use Rattle.da_exchanging.specs.declared.forms.ExportForm.TheVariants as to;
-ghost use Rattle.da_exchanging.specs.Laws.{IsExportedBack, IsImportedBack, SampleIsImportedBack, RowDataIsImportedBack, SampleIdIsImportedBack};
+ghost use Rattle.da_exchanging.specs.Laws.{IsExportedBack, IsImportedBack, SampleIsImportedBack, RowDataIsImportedBack, BefpIsExportedBack, BefpIsImportedBack, SampleIdIsImportedBack};
 
-use celestia_pb::{dah_laws, id_laws, ods_laws, row_data_laws, sample_laws};
+use celestia_pb::{
+    befp_laws, dah_laws, id_laws, ods_laws, row_data_laws, sample_laws, share_proof_laws,
+};
 use da_wire::wire_laws;
 
 /// What is imported is exported as the bytes that it came from, and what is exported is imported as the frame that it came
-/// from: under its cell a sample, under its row and its namespace what is found in a row, and under its height an identifier,
-/// if it is of a request along the row. It changes nothing.
+/// from: under its cell a sample, under its row and its namespace what is found in a row, under its hash and its height a claim
+/// whose proofs pass over the parity namespace, and under its height an identifier, if it is of a request along the row. It
+/// changes nothing.
 pub fn exchange_laws()
     ensures dah { IsExportedBack from.Dah to.Dah }
     ensures dah_back { IsImportedBack from.Dah to.Dah }
@@ -26,8 +29,14 @@ pub fn exchange_laws()
         IsExportedBack (from.RowData row name) to.RowData }
     ensures row_data_back { RowDataIsImportedBack }
 
+    ensures befp { BefpIsExportedBack }
+    ensures befp_back { BefpIsImportedBack }
+
     ensures ods { IsExportedBack from.Ods to.Ods }
     ensures ods_back { IsImportedBack from.Ods to.Ods }
+
+    ensures share_proof { IsExportedBack from.ShareProof to.ShareProof }
+    ensures share_proof_back { IsImportedBack from.ShareProof to.ShareProof }
 
     ensures sample_id { (height : ℕ) → IsExportedBack (from.SampleId height) (to.SampleId height) }
     ensures sample_id_back { SampleIdIsImportedBack }
@@ -38,6 +47,8 @@ pub fn exchange_laws()
     dah_laws();
     sample_laws();
     row_data_laws();
+    befp_laws();
     ods_laws();
+    share_proof_laws();
     id_laws();
 }

@@ -314,14 +314,15 @@ fn failed_writes_of_squares_and_samples(rt: HostRuntime) {
 
 #[test]
 fn failed_writes_of_views(rt: HostRuntime) {
-    let rows: [Writes; 8] = [
+    let rows: [Writes; 9] = [
         ("show cells", 4096, 1, 0, Done, 112),
         ("show cells", 28, 4, 28, Done, 112),
         ("json cells", 4096, 1, 0, Done, 188),
         ("json cells", 47, 4, 47, Done, 188),
         ("root h", 4096, 1, 0, Done, 65),
+        ("export dah h", 4096, 1, 0, Done, 736),
         (OTHER_ROOT, 4096, 1, 0, Refused, 10),
-        ("help", 4096, 1, 0, Done, 652),
+        ("help", 4096, 1, 0, Done, 1241),
         ("version", 4096, 1, 0, Done, 9),
     ];
     each_write_fails(&rt, rt.alloc(), &rows);

@@ -20,7 +20,7 @@ returns-in-Ok-clause-ran g c =
     (ap (λ (files : List (Vec ℕ Global)). Meaning c.args.call.command (contents_of files)) c.deref.ensures.value) c.execute.ensures.ends in
     ran_over g.I.Inputs g.O.Sink c.args.words.now c.args.call file_limits _ (contents_of c.in-Ok.contents.items) c.args.inputs.now c.gather.new.inputs _ _ c.execute.result
     c.requires.call c.requires.files (kept_limits c.args.call.command c.requires.gathered)
-    (names_by c.args.words.now c.args.call c.plain_count-plain.result c.plain_count-plain.ensures c.requires.call)
+    (names_by c.args.words.now c.file_words.result.now c.args.call c.plain_count-plain.result c.plain_count-plain.ensures c.file_words.ensures.value c.requires.call)
     (record { contents = read.contents; stop = tt; faults = read.faults; within = read.within; last = read.last; picks = read.picks; idle = read.idle; files = read.files }) ends
 
 -- the files were not read whole
@@ -31,7 +31,7 @@ returns-in-Err-clause-ran g c =
     (sym c.status_of.ensures)
     (ran_up_to g.I.Inputs g.O.Sink c.args.words.now c.args.call file_limits _ c.args.inputs.now c.gather.new.inputs c.args.out.now c.in-Err.stop
     c.requires.call c.requires.files (kept_limits c.args.call.command c.requires.gathered)
-    (names_by c.args.words.now c.args.call c.plain_count-plain.result c.plain_count-plain.ensures c.requires.call)
+    (names_by c.args.words.now c.file_words.result.now c.args.call c.plain_count-plain.result c.plain_count-plain.ensures c.file_words.ensures.value c.requires.call)
     (record { contents = read.contents; stop = read.stop; faults = read.faults; within = read.within; last = tt; picks = read.picks; idle = read.idle; files = read.files }))
 
 pub returns-in-Ok-clause-late : goal.returns-in-Ok-clause-late

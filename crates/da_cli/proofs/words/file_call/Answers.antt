@@ -1,8 +1,8 @@
 use Rattle.std.proofs.Common.{◌<◌, length, Option, IfSome, sym, subst}
 use Rattle.da_commands.specs.Meaning.{IsRunnable}
 use Rattle.da_cli.specs.declared.words.Call.{Call}
-use Rattle.da_cli.specs.Words.{words_of, file_commands, HasFiles}
-use Rattle.da_cli.proofs.WordLemmas.{row_is, row_files, rows_few, rows_run, rows_own}
+use Rattle.da_cli.specs.Words.{words_of, file_commands, last_file, HasFiles}
+use Rattle.da_cli.proofs.WordLemmas.{row_is, row_files, rows_few, rows_behind, rows_run, rows_own}
 use Rattle.da_cli.proofs.words.file_call.Goals as goal
 
 -- the table of the sources is that of the definition
@@ -12,8 +12,8 @@ returns-clause-value c = c.call_in.ensures
 -- what holds of each row holds of the call that is found
 pub returns-clause-files : goal.returns-clause-files
 returns-clause-files c =
-    subst (λ (found : Option Call). IfSome found (λ (call : Call). call.files < length c.args.words.now)) (sym c.call_in.ensures)
-    (row_files file_commands c.args.words.now)
+    subst (λ (found : Option Call). IfSome found (λ (call : Call). last_file call < length c.args.words.now)) (sym c.call_in.ensures)
+    (row_files file_commands c.args.words.now rows_behind)
 
 pub returns-clause-few : goal.returns-clause-few
 returns-clause-few c =

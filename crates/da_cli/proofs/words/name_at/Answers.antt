@@ -1,5 +1,5 @@
 use Rattle.std.proofs.Common.{◌∙◌, sym, ap, arith}
-use Rattle.da_cli.specs.Words.{key_name}
+use Rattle.da_cli.specs.Values.{key_name}
 use Rattle.da_cli.proofs.WordLemmas.{key_at}
 use Rattle.da_cli.proofs.words.name_at.Goals as goal
 

@@ -8,16 +8,17 @@ use Rattle.da_exchanging.proofs.befp.import.Goals as goal
 
 -- the claim has a frame
 pub claim_frame-requires : goal.claim_frame-requires
-claim_frame-requires c = claim_written c.args.hash.now c.args.height c.file.result.now _ c.in-Ok.ensures.claim
+claim_frame-requires c =
+    claim_written c.befp_laws.ensures.spelled c.args.hash.now c.args.height c.file-bytes.result.now _ c.bytes_law.ensures c.in-Ok.ensures.claim
 
 -- the frame of the claim that was read
 pub returns-in-Ok : goal.returns-in-Ok
 returns-in-Ok c =
-    frame_made (befp_value c.args.hash.now c.args.height) Fraud (contents_of c.args.files.now) c.file.result.now c.file.ensures _
+    frame_made (befp_value c.args.hash.now c.args.height) Fraud (contents_of c.args.files.now) c.file-bytes.result.now c.file-bytes.ensures _
     c.claim_frame.result _ c.in-Ok.ensures.claim c.claim_frame.ensures.value c.frame_text.ensures
 
 -- the bytes are no message
 pub returns-in-Err : goal.returns-in-Err
 returns-in-Err c =
-    no_message (befp_value c.args.hash.now c.args.height) (λ claim. Writes (Fraud claim)) (contents_of c.args.files.now) c.file.result.now
-    c.file.ensures c.in-Err.why _ c.message_refusal.ensures c.in-Err.ensures.at
+    no_message (befp_value c.args.hash.now c.args.height) (λ claim. Writes (Fraud claim)) (contents_of c.args.files.now) c.file-bytes.result.now
+    c.file-bytes.ensures c.in-Err.why _ c.message_refusal.ensures c.in-Err.ensures.at

@@ -1,4 +1,5 @@
-use Rattle.da_exchanging.proofs.LawLemmas.{dah_exported, dah_imported, sample_exported, sample_imported, row_data_exported, row_data_imported, ods_exported, ods_imported, sample_id_exported, sample_id_imported, namespace_id_exported, namespace_id_imported}
+use Rattle.da_exchanging.proofs.LawLemmas.{dah_exported, dah_imported, sample_exported, sample_imported, row_data_exported, row_data_imported, befp_exported, befp_imported, ods_exported, ods_imported, sample_id_exported, sample_id_imported, namespace_id_exported, namespace_id_imported}
+use Rattle.da_exchanging.proofs.ShareLawLemmas.{share_proof_exported, share_proof_imported}
 use Rattle.da_exchanging.proofs.laws.exchange_laws.Goals as goal
 
 pub returns-clause-dah : goal.returns-clause-dah
@@ -19,6 +20,12 @@ returns-clause-row_data c = row_data_exported c.wire_laws.ensures.only_read c.ro
 pub returns-clause-row_data_back : goal.returns-clause-row_data_back
 returns-clause-row_data_back c = row_data_imported c.wire_laws.ensures.only c.row_data_laws.ensures.read
 
+pub returns-clause-befp : goal.returns-clause-befp
+returns-clause-befp c = befp_exported c.wire_laws.ensures.only_read c.befp_laws.ensures.read
+
+pub returns-clause-befp_back : goal.returns-clause-befp_back
+returns-clause-befp_back c = befp_imported c.wire_laws.ensures.only c.befp_laws.ensures.read
+
 pub returns-clause-ods : goal.returns-clause-ods
 returns-clause-ods c = ods_exported c.wire_laws.ensures.only_read c.ods_laws.ensures.spelled
 
@@ -36,3 +43,9 @@ returns-clause-namespace_id c = namespace_id_exported c.wire_laws.ensures.only_r
 
 pub returns-clause-namespace_id_back : goal.returns-clause-namespace_id_back
 returns-clause-namespace_id_back c = namespace_id_imported c.wire_laws.ensures.only c.id_laws.ensures.namespace_read
+
+pub returns-clause-share_proof : goal.returns-clause-share_proof
+returns-clause-share_proof c = share_proof_exported c.wire_laws.ensures.only_read c.share_proof_laws.ensures.spelled
+
+pub returns-clause-share_proof_back : goal.returns-clause-share_proof_back
+returns-clause-share_proof_back c = share_proof_imported c.wire_laws.ensures.only c.share_proof_laws.ensures.read

@@ -1,7 +1,7 @@
 use Rattle.std.proofs.Common.{None, arith}
 use Rattle.std.proofs.lemmas.Str.Pattern.{strip_prefix_char}
 use Rattle.da_cli.proofs.WordLemmas.{key_name_other}
-use Rattle.da_cli.proofs.words.key_name.Goals as goal
+use Rattle.da_cli.proofs.values.key_name.Goals as goal
 
 -- the word begins with no `@`
 pub returns-in-None : goal.returns-in-None

@@ -1,7 +1,7 @@
 use Rattle.std.proofs.Common.{◌≡◌, ◌≤◌, length}
-use Rattle.da_cli.specs.Words.{digits_in}
-use Rattle.da_cli.proofs.WordLemmas.{digits_from}
-use Rattle.da_cli.proofs.words.digits_value.Given as goal
+use Rattle.da_cli.specs.Values.{digits_in}
+use Rattle.da_cli.proofs.ValueLemmas.{digits_from}
+use Rattle.da_cli.proofs.values.digits_value.Given as goal
 
 -- the digits before made this number
 abbrev pub invariant-loop-digit : goal.invariant-loop-digit

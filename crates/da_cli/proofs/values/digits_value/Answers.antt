@@ -1,6 +1,6 @@
 use Rattle.std.proofs.Common.{◌∙◌, ◌+◌, ◌-◌, ◌*◌, sym, arith}
-use Rattle.da_cli.proofs.WordLemmas.{next_digit, too_large}
-use Rattle.da_cli.proofs.words.digits_value.Goals as goal
+use Rattle.da_cli.proofs.ValueLemmas.{next_digit, too_large}
+use Rattle.da_cli.proofs.values.digits_value.Goals as goal
 
 -- what is above the greatest number stays so
 pub returns-then-next-from : goal.returns-then-next-from
