@@ -5,7 +5,8 @@ use crate::messages::header;
 use crate::writing::{add, entry};
 use axis_roots::Found;
 use celestia_pb::{
-    PbError, Side, read_befp, read_extended, read_half_row, read_ods, read_row_data,
+    PbError, Side, read_befp, read_extended, read_half_row, read_namespace_data, read_ods,
+    read_row_data,
 };
 use namespace_id::{Axis, Cell};
 use std::alloc::Global;
@@ -47,14 +48,19 @@ fn half_rows(rt: HostRuntime) {
     assert_eq!(rt; read.shares[0].0, [5; 512]);
 }
 
+/// Appends a message RowNamespaceData of 618 bytes: a share of bytes 5, and a proof of place 1 with one node.
+fn found(rt: &impl Abort, out: &mut Vec<u8>) {
+    share(rt, out);
+    add(rt, out, &[18, 98, 8, 1, 16, 2]);
+    entry(rt, out, 26, 6);
+    add(rt, out, &[40, 1]);
+}
+
 #[test]
 fn row_data(rt: HostRuntime) {
     let alloc = rt.alloc();
     let mut bytes = Vec::new(alloc);
-    share(&rt, &mut bytes);
-    add(&rt, &mut bytes, &[18, 98, 8, 1, 16, 2]);
-    entry(&rt, &mut bytes, 26, 6);
-    add(&rt, &mut bytes, &[40, 1]);
+    found(&rt, &mut bytes);
     let read = read_row_data(alloc, 3, bytes.as_slice()).expect(&rt, "it is found in a row");
     assert_eq!(rt; read.row, 3);
     match read.found {
@@ -65,6 +71,32 @@ fn row_data(rt: HostRuntime) {
         }
         Found::Absence { .. } => rt.abort(),
     }
+}
+
+#[test]
+fn namespace_data(rt: HostRuntime) {
+    let alloc = rt.alloc();
+    let mut bytes = Vec::new(alloc);
+    for _ in 0..2 {
+        add(&rt, &mut bytes, &[234, 4]);
+        found(&rt, &mut bytes);
+    }
+    let stream = bytes.as_slice();
+    let read = read_namespace_data(alloc, &[3, 5], stream).expect(
+        &rt,
+        "they are found in two rows",
+    );
+    assert_eq!(rt; read.entries.len(), 2);
+    assert_eq!(rt; read.entries[0].row, 3);
+    assert_eq!(rt; read.entries[1].row, 5);
+    // A message behind those of all rows, and a row without one.
+    let more = read_namespace_data(alloc, &[3], stream).err();
+    assert_eq!(rt; more, Some(PbError::At(620)));
+    let fewer = read_namespace_data(alloc, &[3, 5, 6], stream).err();
+    assert_eq!(rt; fewer, Some(PbError::At(1240)));
+    bytes.pop();
+    let cut = read_namespace_data(alloc, &[3, 5], bytes.as_slice()).err();
+    assert_eq!(rt; cut, Some(PbError::At(620)));
 }
 
 #[test]
