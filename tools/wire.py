@@ -613,7 +613,10 @@ def half_frames(part, row):
     if k > 128:
         raise frames.Note(1, f"a row of {k} shares, and the code is of up to 128 here")
     line = make.codeword(k, {i + k * is_right: share for i, share in enumerate(shares)})
-    leaves = [make.leaf(share[:29] if max(row, col) < k else make.PARITY, share) for col, share in enumerate(line)]
+    names = [share[:29] if max(row, col) < k else make.PARITY for col, share in enumerate(line)]
+    if names != sorted(names):
+        raise frames.Note(9, "bad request: no header")
+    leaves = list(map(make.leaf, names, line))
     return [frames.Message(row, col, "row", share, make.nodes(leaves, [col])) for col, share in enumerate(line)]
 
 
