@@ -43,8 +43,8 @@ fn transactions(rt: &impl Abort, alloc: Global) -> Vec<Unit> {
 }
 
 /// The four shares of their square.
-fn laid(rt: &impl Abort, alloc: Global, all: &[Unit]) -> [Share; 4] {
-    let list = read_list(alloc, all).expect(rt, "it is taken");
+fn laid(rt: &impl Abort, alloc: Global) -> [Share; 4] {
+    let list = read_list(alloc, transactions(rt, alloc)).expect(rt, "it is taken");
     let square = lay_list(alloc, &list).expect(rt, "it is small");
     let mut shares = [bare(&TRANSACTION); 4];
     for (i, place) in shares.iter_mut().enumerate() {
@@ -57,7 +57,7 @@ fn laid(rt: &impl Abort, alloc: Global, all: &[Unit]) -> [Share; 4] {
 fn there_and_back(rt: HostRuntime) {
     let alloc = rt.alloc();
     let all = transactions(&rt, alloc);
-    let square = square_of(&rt, alloc, laid(&rt, alloc, &all));
+    let square = square_of(&rt, alloc, laid(&rt, alloc));
     let back = unlay_list(alloc, &square).expect(&rt, "it is its square");
     assert!(rt; back.len() == all.len());
     for (one, other) in back.iter().zip(all.iter()) {
@@ -68,8 +68,7 @@ fn there_and_back(rt: HostRuntime) {
 #[test]
 fn refused_squares(rt: HostRuntime) {
     let alloc = rt.alloc();
-    let all = transactions(&rt, alloc);
-    let [first, second, low, high] = laid(&rt, alloc, &all);
+    let [first, second, low, high] = laid(&rt, alloc);
     let plain_share = bare(&TRANSACTION);
     let pay = bare(&PAY_FOR_BLOB);
     let blob = bare(&version_0(0x0101));
