@@ -12,9 +12,9 @@ use Rattle.tx_list.specs.declared.refusals.ListError.{ListError}
 use Rattle.tx_list.specs.declared.refusals.ListError.TheVariants.{Behind, NoBlobs}
 use Rattle.tx_list.specs.declared.checking.Checked.{Checked}
 use Rattle.tx_list.specs.declared.checking.Judged.TheVariants as judged
-use Rattle.tx_list.specs.Reads.{are_fields, fields_in, entries_of, is_payment, stated}
+use Rattle.tx_list.specs.Reads.{are_fields, fields_in, entries_of, is_payment, StatedBlob, stated}
 use Rattle.tx_list.specs.ReadRefusals.{blob_refusal, blobs_refusal, payment_refusal, transaction_refusal, transactions_refusal, read_refusal}
-use Rattle.tx_list.specs.Walks.{with_entry, with_entries, judgement}
+use Rattle.tx_list.specs.Walks.{with_checked, with_entry, with_entries, judgement, judged_of}
 use Rattle.tx_list.proofs.CheckLemmas.{transactions_none}
 use Rattle.tx_list.proofs.TakingLemmas.{or_none}
 use Rattle.tx_list.proofs.KeptLemmas.{IsKept, kept_stops, fields_stop, last_stops}
@@ -149,6 +149,10 @@ judged_payment i bytes checked why is looked says =
 
 -- ---- its walk
 
+-- the blobs that were checked, and one more with a whole refusal
+abbrev with_why : Checked → Bool → Option ListError → Checked
+with_why checked fine why = record { count = suc checked.count; are_fields = checked.are_fields && fine; refusal = why }
+
 -- where no field is left the blobs that were checked are all
 pub walk_checked : (i : ℕ) (bytes rest : List ℕ) (checked : Checked) → are_fields rest ≡ are_fields bytes
     → IsKept (with_entries i) (own_bytes 2) unchecked checked bytes rest → field_at rest ≡ None
@@ -164,6 +168,45 @@ walk_test i bytes rest type_id checked same typed kept none =
     judge_test i bytes type_id checked (length rest == 0) (fields_stop bytes rest same none)
     (λ fine. last_stops (own_bytes 3) [] type_id bytes rest same typed none fine)
     (λ fine. walk_checked i bytes rest checked same kept none fine)
+
+-- so what the walk tells is what the transaction is
+judged_where : (i : ℕ) (bytes : List ℕ) (checked : Checked) (b : Bool) → is_payment bytes ≡ b
+    → (are_fields bytes ≡ true → checked ≡ with_entries i unchecked (entries_of bytes))
+    → (if b then judged.Payment (if checked.count == 0 then Some (NoBlobs i) else checked.refusal) else judged.Plain) ≡ judgement i bytes
+judged_where i bytes checked true is looked = judged_payment i bytes checked (if checked.count == 0 then Some (NoBlobs i) else checked.refusal) is looked refl
+judged_where i bytes checked false is looked = judged_plain i bytes is
+
+pub walk_judged : (i : ℕ) (bytes rest type_id : List ℕ) (checked : Checked) → are_fields rest ≡ are_fields bytes
+    → IsKept last_of (own_bytes 3) [] type_id bytes rest → IsKept (with_entries i) (own_bytes 2) unchecked checked bytes rest → field_at rest ≡ None
+    → judged_of i rest type_id checked ≡ judgement i bytes
+walk_judged i bytes rest type_id checked same typed kept none =
+    judged_where i bytes checked ((length rest == 0) && bytes_eq type_id (codes "BLOB") && checked.are_fields)
+    (walk_test i bytes rest type_id checked same typed kept none) (walk_checked i bytes rest checked same kept none)
+
+-- one blob more, where the refusal of bytes that aren't fields is none
+checked_by : (b : Bool) (i : ℕ) (checked : Checked) (refusal : Option ListError)
+    → option_or checked.refusal (if b then refusal else None) ≡ (if b then option_or checked.refusal refusal else checked.refusal)
+checked_by true i checked refusal = refl
+checked_by false i checked refusal = or_nothing checked.refusal
+
+pub checked_is : (i : ℕ) (checked : Checked) (entry : List ℕ)
+    → with_checked checked (are_fields entry) (if are_fields entry then blob_refusal i checked.count (stated entry) else None) ≡ with_entry i checked entry
+checked_is i checked entry =
+    ap (λ (why : Option ListError). with_why checked (are_fields entry) why) (checked_by (are_fields entry) i checked (blob_refusal i checked.count (stated entry)))
+
+refusal_stated : (i j : ℕ) (entry : List ℕ) (blob : StatedBlob) (fine : Bool) → fine ≡ are_fields entry → (are_fields entry ≡ true → blob ≡ stated entry)
+    → (if fine then blob_refusal i j blob else None) ≡ (if are_fields entry then blob_refusal i j (stated entry) else None)
+refusal_stated i j entry blob true same is =
+    ap (blob_refusal i j) (is (sym same)) ∙ ap (λ (b : Bool). if b then blob_refusal i j (stated entry) else None) same
+refusal_stated i j entry blob false same is = ap (λ (b : Bool). if b then blob_refusal i j (stated entry) else None) same
+
+pub entry_checked : (i : ℕ) (checked : Checked) (entry : List ℕ) (blob : StatedBlob) (fine : Bool) (refusal : Option ListError) → fine ≡ are_fields entry
+    → (are_fields entry ≡ true → blob ≡ stated entry) → refusal ≡ (if fine then blob_refusal i checked.count blob else None)
+    → with_checked checked fine refusal ≡ with_entry i checked entry
+entry_checked i checked entry blob fine refusal same is says =
+    ap (λ (why : Option ListError). with_checked checked fine why) (says ∙ refusal_stated i checked.count entry blob fine same is)
+    ∙ ap (λ (b : Bool). with_checked checked b (if are_fields entry then blob_refusal i checked.count (stated entry) else None)) same
+    ∙ checked_is i checked entry
 
 -- ---- plain ones in front
 

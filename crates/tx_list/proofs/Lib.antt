@@ -54,3 +54,5 @@ pub mod StatedLemmas
 pub mod FullLemmas
 -- a list that a square doesn't hold
 pub mod WideLemmas
+-- the shares of one namespace in the square of a list
+pub mod NamespaceLemmas

@@ -1,24 +1,28 @@
 -- What is known of transactions that no check refuses.
 use Rattle.std.proofs.Common.{◌≡◌, ◌∙◌, ℕ, suc, ◌-◌, ◌≤◌, ◌==◌, ◌&&◌, ◌||◌, not, Bool, true, false, if◌then◌else◌, List, [], ◌∷◌, length, map, filter, Option, Some, None, option_map, take, drop, refl, sym, ap, ap₂, arith, append_assoc, ◌++◌}
 use Rattle.std.specs.List.{AllByRecursion, list_all}
-use Rattle.std.specs.Option.{option_or}
+use Rattle.std.specs.Option.{option_or, is_some}
 use Rattle.std.specs.Str.{bytes_eq}
 use Rattle.std.specs.Prelude.{codes}
 use Rattle.std.proofs.lemmas.Bool.{eqb-true, and_parts, true≢false}
 use Rattle.std.proofs.lemmas.Bool.Decides.{nat_tests}
 use Rattle.std.proofs.lemmas.List.{length-map, map-append, append-nil}
 use Rattle.namespace_id.proofs.RefusalLemmas.{if_none}
+use Rattle.namespace_id.specs.declared.namespaces.NsError.{NsError}
 use Rattle.namespace_id.specs.declared.namespaces.NsError.TheVariants.{Length, Version}
 use Rattle.namespace_id.specs.Names.{namespace_refusal, is_blob_namespace}
 use Rattle.namespace_id.specs.Sizes.{namespace_size}
 use Rattle.share_split.specs.Blobs.{NamedBytes, signer_size}
 use Rattle.square_layout.proofs.AcceptedLemmas.{is_accepted}
-use Rattle.tx_list.specs.declared.refusals.ListError.TheVariants.{NoBlobs, BadBlob, BadVersion, NoBytes}
+use Rattle.tx_list.specs.declared.refusals.ListError.{ListError}
+use Rattle.tx_list.specs.declared.refusals.ListError.TheVariants.{Behind, NoBlobs, BadBlob, BadVersion, NoBytes}
+use Rattle.tx_list.specs.declared.checking.Judged.{Judged}
+use Rattle.tx_list.specs.declared.checking.Judged.TheVariants as judged
 use Rattle.proto_fields.specs.Fields.{last_bytes}
 use Rattle.tx_list.specs.Payments.{PaymentParts, ListParts, IsLayable, IsPayment}
 use Rattle.tx_list.specs.Reads.{are_fields, fields_in, entries_of, is_payment, tx_in, StatedBlob, stated, blob_of, payment_of, list_of}
 use Rattle.tx_list.specs.ReadRefusals.{name_refusal, has_version, blob_refusal, blobs_refusal, payment_refusal, transaction_refusal, transactions_refusal}
-use Rattle.tx_list.specs.Walks.{with_blobs, IsTaken, IsTakenEntry, IsTakenPayment, AreTaken}
+use Rattle.tx_list.specs.Walks.{with_blobs, judgement, has_payment, taken_of, IsTaken, IsTakenEntry, IsTakenPayment, AreTaken}
 
 -- ---- checks that refuse nothing
 
@@ -42,6 +46,11 @@ some_of n h = grind (arith, nat_tests)
 
 -- ---- a blob
 
+-- its checks but the first
+abbrev other_refusal : ℕ → ℕ → StatedBlob → Option ListError
+other_refusal i j blob =
+    if not (has_version blob.share_version blob.signer) then Some (BadVersion i j) else (if length blob.bytes == 0 then Some (NoBytes i j) else None)
+
 -- none of its checks did
 pub blob_taken : (i j : ℕ) (blob : StatedBlob) → blob_refusal i j blob ≡ None → IsTaken blob
 blob_taken i j blob h =
@@ -54,6 +63,34 @@ blob_taken i j blob h =
       versioned = is_true (has_version blob.share_version blob.signer) version.0;
       some = some_of (length blob.bytes) bytes.0;
     }
+
+-- of one that is taken none did
+no_bytes : (n : ℕ) → 1 ≤ n → (n == 0) ≡ false
+no_bytes n some = grind (arith, nat_tests)
+
+pub taken_blob : (i j : ℕ) (blob : StatedBlob) → IsTaken blob → blob_refusal i j blob ≡ None
+taken_blob i j blob taken =
+    ap (λ (o : Option NsError). option_or (option_map (λ why. BadBlob i j why) o) (other_refusal i j blob)) taken.named
+    ∙ ap (λ (b : Bool). if not b then Some (BadVersion i j) else (if length blob.bytes == 0 then Some (NoBytes i j) else None)) taken.versioned
+    ∙ ap (λ (b : Bool). if b then Some (NoBytes i j) else None) (no_bytes (length blob.bytes) taken.some)
+
+-- where bytes are fields, what isn't refused is taken, and what is taken isn't refused
+fine_parts : (fine : Bool) (refusal : Option ListError) → (fine && not (is_some refusal)) ≡ true → (fine ≡ true) × (refusal ≡ None)
+fine_parts true None h = (refl, refl)
+fine_parts true (Some why) h = absurd (true≢false (sym h))
+fine_parts false refusal h = absurd (true≢false (sym h))
+
+pub fine_taken : (i j : ℕ) (blob : StatedBlob) (fine : Bool) (refusal : Option ListError) → refusal ≡ (if fine then blob_refusal i j blob else None)
+    → (fine && not (is_some refusal)) ≡ true → IsTaken blob
+fine_taken i j blob fine refusal says h =
+    let both = fine_parts fine refusal h in
+    blob_taken i j blob (sym (ap (λ (b : Bool). if b then blob_refusal i j blob else None) both.0) ∙ sym says ∙ both.1)
+
+pub taken_fine : (i j : ℕ) (blob : StatedBlob) (fine : Bool) (refusal : Option ListError) → refusal ≡ (if fine then blob_refusal i j blob else None)
+    → fine ≡ true → IsTaken blob → (fine && not (is_some refusal)) ≡ true
+taken_fine i j blob fine refusal says is taken =
+    let none : refusal ≡ None = says ∙ ap (λ (b : Bool). if b then blob_refusal i j blob else None) is ∙ taken_blob i j blob taken in
+    ap (λ (o : Option ListError). fine && not (is_some o)) none ∙ ap (λ (b : Bool). b && true) is
 
 -- its id has 28 bytes, and its version is 0
 pub id_taken : (version : ℕ) (id : List ℕ) → name_refusal version id ≡ None
@@ -110,6 +147,28 @@ payment_taken i paid bytes h is =
       blobs = blobs_taken i 0 (entries_of bytes) blobs.1;
     }
 
+-- what is taken isn't refused
+pub payment_has : (one : Judged) → has_payment one ≡ true → one ≡ judged.Payment None
+payment_has judged.Plain h = absurd (true≢false (sym h))
+payment_has (judged.Payment None) h = refl
+payment_has (judged.Payment (Some why)) h = absurd (true≢false (sym h))
+
+pub payment_lacks : (one : Judged) (bytes : List ℕ) → has_payment one ≡ false → taken_of one bytes ≡ []
+payment_lacks judged.Plain bytes h = refl
+payment_lacks (judged.Payment None) bytes h = absurd (true≢false h)
+payment_lacks (judged.Payment (Some why)) bytes h = refl
+
+-- so one that is judged so
+judged_by : (b : Bool) (refusal : Option ListError) → (if b then judged.Payment refusal else judged.Plain) ≡ judged.Payment None → (b ≡ true) × (refusal ≡ None)
+judged_by true None h = (refl, refl)
+judged_by true (Some why) h = absurd cc
+judged_by false refusal h = absurd cc
+
+pub judged_taken : (i : ℕ) (bytes : List ℕ) → judgement i bytes ≡ judged.Payment None → IsTakenPayment bytes
+judged_taken i bytes h =
+    let both = judged_by (is_payment bytes) (payment_refusal i (entries_of bytes)) h in
+    payment_taken i false bytes (transaction_is i false bytes both.0 ∙ both.1) both.0
+
 -- so it is one as the types keep them
 layable_blobs : (entries : List (List ℕ)) → AllByRecursion (λ entry. IsTaken (stated entry)) entries
     → AllByRecursion IsLayable (map (λ entry. blob_of (stated entry)) entries)
@@ -153,6 +212,23 @@ taken_step false one others here rest = rest
 pub payments_taken : (transactions : List (List ℕ)) → AreTaken transactions → AllByRecursion IsTakenPayment (filter is_payment transactions)
 payments_taken [] all = tt
 payments_taken (one ∷ others) all = taken_step (is_payment one) one (filter is_payment others) all.0 (payments_taken others all.1)
+
+-- each is kept in its turn
+taken_by : (b : Bool) (i : ℕ) (paid : Bool) (refusal : Option ListError) (one : List ℕ) (others : List (List ℕ))
+    → (if b then refusal else (if paid then Some (Behind i) else None)) ≡ None
+    → taken_of (if b then judged.Payment refusal else judged.Plain) one ++ map payment_of others ≡ map payment_of (if b then one ∷ others else others)
+taken_by true i paid None one others h = refl
+taken_by true i paid (Some why) one others h = absurd cc
+taken_by false i paid refusal one others h = refl
+
+pub taken_next : (i : ℕ) (paid : Bool) (one : List ℕ) (left others : List (List ℕ)) (payments more : List PaymentParts) → left ≡ one ∷ others
+    → transaction_refusal i paid one ≡ None → more ≡ payments ++ taken_of (judgement i one) one
+    → more ++ map payment_of (filter is_payment others) ≡ payments ++ map payment_of (filter is_payment left)
+taken_next i paid one left others payments more is none kept =
+    ap (λ (l : List PaymentParts). l ++ map payment_of (filter is_payment others)) kept
+    ∙ append_assoc payments (taken_of (judgement i one) one) (map payment_of (filter is_payment others))
+    ∙ ap (λ (l : List PaymentParts). payments ++ l) (taken_by (is_payment one) i paid (payment_refusal i (entries_of one)) one (filter is_payment others) none)
+    ∙ sym (ap (λ (l : List (List ℕ)). payments ++ map payment_of (filter is_payment l)) is)
 
 -- and ones as the types keep them
 pub payments_layable : (paid : List (List ℕ)) → AllByRecursion IsTakenPayment paid → AllByRecursion IsPayment (map payment_of paid)

@@ -1,14 +1,18 @@
 -- What the steps of reading transactions answer.
-use Rattle.std.specs.Prelude.{◌≡◌, ℕ, suc, ◌%◌, ◌^◌, ◌≤◌, ◌==◌, ◌&&◌, true, List, [], ◌∷◌, ◌++◌, length, map, Option, Some, None, if◌then◌else◌}
+use Rattle.std.specs.Prelude.{◌≡◌, ℕ, suc, ◌%◌, ◌^◌, ◌≤◌, ◌==◌, ◌&&◌, Bool, true, false, List, [], ◌∷◌, ◌++◌, length, map, codes, Option, Some, None, if◌then◌else◌}
 use Rattle.std.specs.List.{AllByRecursion, list_all}
 use Rattle.std.specs.Option.{option_or}
+use Rattle.std.specs.Str.{bytes_eq}
 use Rattle.share_split.specs.Blobs.{NamedBytes}
 use Rattle.proto_fields.specs.Fields.{ValueParts, number_value, bytes_value, other_value, FieldParts}
 use Rattle.tx_list.specs.declared.reading.Stated.{Stated}
 use Rattle.tx_list.specs.declared.checking.Checked.{Checked}
 use Rattle.tx_list.specs.declared.checking.Judged.{Judged}
 use Rattle.tx_list.specs.declared.checking.Judged.TheVariants as judged
-use Rattle.tx_list.specs.Reads.{are_fields, entries_of, is_payment, StatedBlob, stated, blob_of}
+use Rattle.tx_list.specs.declared.refusals.ListError.{ListError}
+use Rattle.tx_list.specs.declared.refusals.ListError.TheVariants.{NoBlobs}
+use Rattle.tx_list.specs.Payments.{PaymentParts}
+use Rattle.tx_list.specs.Reads.{are_fields, entries_of, is_payment, StatedBlob, stated, blob_of, payment_of}
 use Rattle.tx_list.specs.ReadRefusals.{name_refusal, has_version, blob_refusal, payment_refusal}
 
 -- the bytes that a value is
@@ -43,6 +47,14 @@ lowered blob = record {
 
 -- ---- the checks of a transaction
 
+-- the blobs of a transaction that were checked, and one more: whether it is fields, and why it isn't one
+abbrev pub with_checked : Checked → Bool → Option ListError → Checked
+with_checked checked fine refusal = record {
+  count = suc checked.count;
+  are_fields = checked.are_fields && fine;
+  refusal = option_or checked.refusal refusal;
+}
+
 -- the blobs of transaction i that were checked, and one more; no check is of one that isn't fields
 abbrev pub with_entry : ℕ → Checked → List ℕ → Checked
 with_entry i checked entry = record {
@@ -60,7 +72,25 @@ with_entries i checked (entry ∷ entries) = with_entries i (with_entry i checke
 abbrev pub judgement : ℕ → List ℕ → Judged
 judgement i bytes = if is_payment bytes then judged.Payment (payment_refusal i (entries_of bytes)) else judged.Plain
 
+-- the same by what a walk over its fields has left, the last type id, and its blobs
+abbrev pub judged_of : ℕ → List ℕ → List ℕ → Checked → Judged
+judged_of i rest type_id checked =
+    if (length rest == 0) && bytes_eq type_id (codes "BLOB") && checked.are_fields
+    then judged.Payment (if checked.count == 0 then Some (NoBlobs i) else checked.refusal) else judged.Plain
+
 -- ---- what is taken
+
+-- whether a transaction is a payment that is taken
+abbrev pub has_payment : Judged → Bool
+has_payment judged.Plain = false
+has_payment (judged.Payment None) = true
+has_payment (judged.Payment (Some why)) = false
+
+-- the payment that is taken of a transaction, if one is
+abbrev pub taken_of : Judged → List ℕ → List PaymentParts
+taken_of judged.Plain bytes = []
+taken_of (judged.Payment None) bytes = payment_of bytes ∷ []
+taken_of (judged.Payment (Some why)) bytes = []
 
 -- blobs, and those that bytes state behind them
 abbrev pub with_blobs : List NamedBytes → List (List ℕ) → List NamedBytes

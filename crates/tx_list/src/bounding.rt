@@ -8,7 +8,7 @@ ghost use Rattle.tx_list.specs.Measures.{full_of, bound_with, has_square};
 
 use crate::measuring::Measure;
 use crate::placing::blobs_of;
-use crate::taking::read_copied;
+use crate::taking::read_list;
 use crate::unwrapping::unwrapped;
 use crate::wrapping::{wrap_all, wrapped};
 use crate::{ListError, TxList};
@@ -70,13 +70,13 @@ fn bound_with(alloc: Global, list: &TxList, payments: &[Unit], bound: u64) -> Re
 /// Whether transactions have a square with wrapped payments behind them, of whose blobs this was measured.
 pub(crate) fn has_square(
     alloc: Global,
-    plain: &[Unit],
+    plain: Vec<Unit>,
     payments: &[Unit],
     blobs: Measure,
 ) -> Result<bool, NoMemory>
-    ensures { IfOk result (λ has. has ≡ has_square plain.now payments.now blobs) }
+    ensures { IfOk result (λ has. has ≡ has_square plain.items payments.now blobs) }
 {
-    let list = match read_copied(alloc, plain) {
+    let list = match read_list(alloc, plain) {
         Ok(list) => list,
         Err(ListError::NoMemory) => return Err(NoMemory),
         Err(_why) => return Ok(false),

@@ -1,19 +1,16 @@
 //! Which transactions are taken: the checks of payments and of their blobs.
 
-ghost use Rattle.std.specs.Prelude.{◌≡◌, ◌+◌, ◌<◌, ◌≤◌, ◌^◌, ◌==◌, ◌&&◌, nat_lt, not, codes, length, filter, take, drop, IfOk, if◌then◌else◌};
+ghost use Rattle.std.specs.Prelude.{◌≡◌, ◌+◌, ◌<◌, ◌≤◌, ◌^◌, ◌==◌, ◌&&◌, List, ℕ, nat_lt, codes, length, None, IfOk, if◌then◌else◌};
 ghost use Rattle.std.specs.Str.{bytes_eq};
 ghost use Rattle.namespace_id.specs.Answers.{refusal_in};
-ghost use Rattle.proto_fields.specs.Fields.{own_bytes};
-ghost use Rattle.proto_fields.specs.Values.{field_parts};
 ghost use Rattle.tx_list.specs.Reads.{is_payment};
-ghost use Rattle.tx_list.specs.ReadRefusals.{name_refusal, has_version, blob_refusal, transaction_refusal, read_refusal};
-ghost use Rattle.tx_list.specs.Walks.{stated_parts, with_entry, with_entries, judgement};
+ghost use Rattle.tx_list.specs.ReadRefusals.{name_refusal, has_version, blob_refusal, transaction_refusal};
+ghost use Rattle.tx_list.specs.Walks.{stated_parts, with_checked, judgement, judged_of, has_payment};
 
 use crate::ListError;
-use crate::reading::{Stated, entry_of, read_blob};
+use crate::reading::Stated;
 use namespace_id::{NAMESPACE_SIZE, Namespace, NsError};
-use proto_fields::{Field, bytes_or, field_at};
-use share_split::{SIGNER_SIZE, Unit};
+use share_split::SIGNER_SIZE;
 
 /// The type id of a payment with its blobs.
 const PAYMENT: [u8; 4] = *b"BLOB";
@@ -59,51 +56,50 @@ fn blob_refusal(i: u64, j: u64, blob: Stated<'_>) -> Option<ListError>
     None
 }
 
+/// Why blob j of transaction i isn't one; bytes that aren't fields state none.
+pub(crate) fn entry_refusal(i: u64, j: u64, blob: Stated<'_>, are_fields: bool) -> Option<ListError>
+    ensures { result ≡ (if are_fields then blob_refusal i j (stated_parts blob.entry) else None) }
+{
+    if !are_fields {
+        return None;
+    }
+    blob_refusal(i, j, blob)
+}
+
 /// What is known of the blobs of a payment that were looked at.
 #[derive(Clone, Copy)]
-struct Checked {
+pub(crate) struct Checked {
     /// How many they are.
-    count: u64,
+    pub(crate) count: u64,
     /// Whether each of them is fields.
-    are_fields: bool,
+    pub(crate) are_fields: bool,
     /// Why the first one that is refused is.
-    refusal: Option<ListError>,
+    pub(crate) refusal: Option<ListError>,
 }
 
 /// What a transaction is.
-enum Judged {
+#[derive(Clone, Copy)]
+pub(crate) enum Judged {
     /// No payment.
     Plain,
     /// A payment, and why it isn't taken.
     Payment(Option<ListError>),
 }
 
-/// What is known of the blobs of payment i with one more.
-fn with_entry(i: u64, checked: Checked, entry: &[u8]) -> Checked
+/// What is known of the blobs of a payment with one more: whether it is fields, and why it isn't one.
+pub(crate) fn with_checked(
+    checked: Checked,
+    are_fields: bool,
+    refusal: Option<ListError>,
+) -> Checked
     requires room { checked.count + 1 < 2 ^ 64 }
-    ensures { result ≡ with_entry i checked entry.now }
+    ensures { result ≡ with_checked checked are_fields refusal }
 {
-    let (blob, are_fields) = read_blob(entry);
-    let mut refusal = checked.refusal;
-    if are_fields {
-        refusal = refusal.or(blob_refusal(i, checked.count, blob));
-    }
     Checked {
         count: checked.count + 1,
         are_fields: checked.are_fields && are_fields,
-        refusal,
+        refusal: checked.refusal.or(refusal),
     }
-}
-
-/// What is known of the blobs of payment i with the one that a field carries, if it does.
-fn with_field(i: u64, checked: Checked, field: Field<'_>) -> Checked
-    requires room { checked.count + 1 < 2 ^ 64 }
-    ensures { result ≡ with_entries i checked (own_bytes 2 (field_parts field.entry)) }
-{
-    let Some(entry) = entry_of(field) else {
-        return checked;
-    };
-    with_entry(i, checked, entry)
 }
 
 /// Whether a transaction is a payment, by what a walk over its fields has left, the last type id, and whether its blobs are fields.
@@ -113,24 +109,10 @@ fn is_paying(rest: &[u8], type_id: &[u8], are_fields: bool) -> bool
     rest.is_empty() && type_id == PAYMENT.as_slice() && are_fields
 }
 
-/// What transaction i is, and, where it is a payment, why it isn't taken. One walk over the fields tells all of it.
-///
-/// docs/RULES.md, "A block of the network".
-fn judge(i: u64, bytes: &[u8]) -> Judged
-    ensures { result ≡ judgement i bytes.now }
+/// What transaction i is, by what a walk over its fields has left, the last type id, and what is known of its blobs.
+pub(crate) fn judged_by(i: u64, rest: &[u8], type_id: &[u8], checked: Checked) -> Judged
+    ensures { result ≡ judged_of i rest.now type_id.now checked }
 {
-    let mut type_id = &bytes[..0];
-    let mut checked = Checked {
-        count: 0,
-        are_fields: true,
-        refusal: None,
-    };
-    let mut rest = bytes;
-    while let Some((field, after)) = field_at(rest) {
-        type_id = bytes_or(type_id, field, 3);
-        checked = with_field(i, checked, field);
-        rest = after;
-    }
     if !is_paying(rest, type_id, checked.are_fields) {
         return Judged::Plain;
     }
@@ -140,14 +122,26 @@ fn judge(i: u64, bytes: &[u8]) -> Judged
     Judged::Payment(checked.refusal)
 }
 
-/// How many plain transactions stand in front of all payments, once transaction i was looked at; and why it isn't taken.
-fn plain_with(i: usize, plain: usize, one: &[u8]) -> Result<usize, ListError>
+/// Whether a transaction is a payment that is taken.
+pub(crate) fn has_payment(one: Judged) -> bool
+    ensures { result ≡ has_payment one }
+{
+    match one {
+        Judged::Payment(None) => true,
+        Judged::Payment(Some(_)) | Judged::Plain => false,
+    }
+}
+
+/// How many plain transactions stand in front of all payments, once transaction i was judged; and why it isn't taken.
+pub(crate) fn plain_with(i: usize, plain: usize, one: Judged) -> Result<usize, ListError>
     requires room { plain ≤ i }
     requires place { i + 1 < 2 ^ 64 }
-    ensures refused { refusal_in result ≡ transaction_refusal i (nat_lt plain i) one.now }
-    ensures count { IfOk result (λ count. count ≡ (if is_payment one.now then plain else plain + 1)) }
+    ensures refused { (bytes : List ℕ) → one ≡ judgement i bytes →
+        refusal_in result ≡ transaction_refusal i (nat_lt plain i) bytes }
+    ensures count { (bytes : List ℕ) → one ≡ judgement i bytes →
+        IfOk result (λ count. count ≡ (if is_payment bytes then plain else plain + 1)) }
 {
-    match judge(i as u64, one) {
+    match one {
         Judged::Payment(Some(why)) => Err(why),
         Judged::Payment(None) => Ok(plain),
         Judged::Plain => {
@@ -157,23 +151,4 @@ fn plain_with(i: usize, plain: usize, one: &[u8]) -> Result<usize, ListError>
             Ok(plain + 1)
         }
     }
-}
-
-/// How many plain transactions there are, which stand in front of all payments; or the first transaction that isn't taken, and
-/// why. Takes no memory.
-///
-/// docs/RULES.md, "A block of the network".
-pub(crate) fn plain_count(transactions: &[Unit]) -> Result<usize, ListError>
-    ensures refused { refusal_in result ≡ read_refusal transactions.now }
-    ensures bound { IfOk result (λ count. count ≤ length transactions.now) }
-    ensures units { IfOk result (λ count.
-        filter (λ one. not (is_payment one)) transactions.now ≡ take count transactions.now) }
-    ensures payments { IfOk result (λ count.
-        filter is_payment transactions.now ≡ drop count transactions.now) }
-{
-    let mut plain = 0;
-    for (i, one) in transactions.iter().enumerate() {
-        plain = plain_with(i, plain, &one.bytes)?;
-    }
-    Ok(plain)
 }

@@ -1,14 +1,16 @@
 //! Laws of lists of transactions.
 
 ghost use Rattle.std.specs.Prelude.{◌≡◌, ◌≤◌, ◌<◌, ◌+◌, ◌++◌, ◌∷◌, ℕ, List, None, length, take, drop, map, slice_index, true};
-ghost use Rattle.std.specs.List.{AllByRecursion};
+ghost use Rattle.std.specs.List.{filter, AllByRecursion};
 ghost use Rattle.namespace_id.specs.Lists.{holds_along};
-ghost use Rattle.namespace_id.specs.Names.{is_at_most};
+ghost use Rattle.namespace_id.specs.declared.namespaces.Namespace.{Namespace};
+ghost use Rattle.namespace_id.specs.Names.{is_at_most, is_blob_namespace};
 ghost use Rattle.namespace_id.specs.Shares.{name_in, AreShares};
 ghost use Rattle.share_split.specs.Blobs.{NamedBytes, blob_shares_of};
 ghost use Rattle.share_split.specs.Units.{unit_share_count};
 ghost use Rattle.square_layout.specs.Blocks.{IsSquare};
-ghost use Rattle.square_layout.specs.Layout.{in_order, share_count_of, end_of, laid};
+ghost use Rattle.share_split.specs.Joined.{IsBlob, AreBlobs};
+ghost use Rattle.square_layout.specs.Layout.{has_name, in_order, share_count_of, end_of, laid};
 ghost use Rattle.square_layout.specs.Plans.{starts_after, planned};
 ghost use Rattle.square_layout.specs.Refusals.{max_shares};
 ghost use Rattle.tx_list.specs.Payments.{ListParts, IsPayment, blobs_of};
@@ -21,8 +23,10 @@ ghost use Rattle.tx_list.specs.ReadRefusals.{read_refusal};
 ghost use Rattle.tx_list.specs.ReadLaws.{SpellingIsPayment, SpellingIsRead, SpelledIsTaken, SpelledIsRead, SpelledAgain};
 ghost use Rattle.square_layout.specs.Blocks.{SquareShares};
 ghost use Rattle.tx_list.specs.Backs.{IsBack, HaveNamedBlobs};
-ghost use Rattle.tx_list.specs.BackRefusals.{back_refusal};
+ghost use Rattle.tx_list.specs.BackRefusals.{has_namespace, back_refusal};
 ghost use Rattle.tx_list.specs.Lists.{list_places, written, plan_of_list, block_of_list, square_of_list};
+
+use square_layout::{order_laws, share_laws};
 
 /// What holds of the square of a list that may take no more shares than the greatest square has. It changes nothing.
 ///
@@ -68,6 +72,20 @@ pub fn square_laws()
     ensures payments { (transactions : List (List ℕ)) → read_refusal transactions ≡ None →
         AllByRecursion IsPayment (list_of transactions).payments }
 {}
+
+/// What holds of the blobs of one namespace in the square of a list. It changes nothing.
+///
+/// docs/RULES.md, "A block of the network".
+pub fn namespace_laws()
+    // The shares of a namespace of a blob are exactly the list's blobs that have it, payment after payment, with padding.
+    ensures order { (list : ListParts) (name : Namespace) → AllByRecursion IsBlob (blobs_of list.payments) →
+        is_blob_namespace name.0 ≡ true →
+        AreBlobs (filter (has_namespace name) (square_of_list list).shares)
+        (filter (has_name name) (blobs_of list.payments)) }
+{
+    order_laws();
+    share_laws();
+}
 
 /// What holds of reading lists in their one spelling. It changes nothing.
 ///

@@ -25,7 +25,7 @@ mod unwrapping;
 mod wrapping;
 
 pub use gaps::block_laws;
-pub use laws::{back_laws, list_laws, read_laws, square_laws};
+pub use laws::{back_laws, list_laws, namespace_laws, read_laws, square_laws};
 pub use laying::{lay_list, places};
 pub use payments::{Payment, TxList};
 pub use ranges::place_laws;

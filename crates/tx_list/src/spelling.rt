@@ -105,7 +105,7 @@ fn copied(alloc: Global, unit: &Unit) -> Result<Unit, NoMemory>
 }
 
 /// Appends transactions once more.
-pub(crate) fn push_units(alloc: Global, units: &[Unit], out: &mut Vec<Unit>) -> Result<(), NoMemory>
+fn push_units(alloc: Global, units: &[Unit], out: &mut Vec<Unit>) -> Result<(), NoMemory>
     ensures { OnOk result (out.new.items ≡ out.old.items ++ units.now) }
 {
     for unit in units {
@@ -126,6 +126,16 @@ fn push_payments(alloc: Global, payments: &[Payment], out: &mut Vec<Unit>) -> Re
         };
     }
     Ok(())
+}
+
+/// The transactions of a list in its one spelling, of which the plain ones stay where they lie.
+pub(crate) fn spelled_on(alloc: Global, list: TxList) -> Result<Vec<Unit>, NoMemory>
+    ensures { IfOk result (λ units. units.items ≡ spelled list) }
+{
+    let TxList { units, payments } = list;
+    let mut all = units;
+    push_payments(alloc, &payments, &mut all)?;
+    Ok(all)
 }
 
 /// The transactions of a list, as a block of the network has them: the plain ones as they are, and behind them the payments with

@@ -3,6 +3,7 @@
 ghost use Rattle.std.specs.Prelude.{◌≡◌, ◌⊎◌, ◌++◌, length, map, IfOk, IfErr, OnOk, Some, None, if◌then◌else◌};
 ghost use Rattle.share_split.specs.Walks.{units_of};
 ghost use Rattle.tx_list.specs.declared.refusals.BackError.TheVariants.{Units, Payments, Unlike, NoMemory};
+ghost use Rattle.tx_list.specs.Reads.{list_of};
 ghost use Rattle.tx_list.specs.Spelled.{payment_spelling, spelled};
 ghost use Rattle.tx_list.specs.Backs.{IsBack, HaveNamedBlobs};
 ghost use Rattle.tx_list.specs.Measures.{has_square};
@@ -13,8 +14,8 @@ use crate::bounds::payments_law;
 use crate::finding::blob_at;
 use crate::laying::lay_list;
 use crate::measuring::{Measure, measure_of};
-use crate::spelling::spelled_payment;
-use crate::taking::read_copied;
+use crate::spelling::{spelled_on, spelled_payment};
+use crate::taking::read_list;
 use crate::unwrapping::unwrapped;
 use crate::{BackError, ListError};
 use namespace_id::{NAMESPACE_SIZE, Namespace, PAY_FOR_BLOB, Share, TRANSACTION, shares_law};
@@ -141,12 +142,12 @@ fn push_payments(
 fn wide_refusal(
     alloc: Global,
     square: &Square,
-    plain: &[Unit],
+    plain: Vec<Unit>,
     payments: &[Unit],
     blobs: Measure,
 ) -> BackError
     ensures { (result ≡ NoMemory) ⊎ (result ≡ Unlike
-        (if has_square plain.now payments.now blobs then length square.now.shares else 0)) }
+        (if has_square plain.items payments.now blobs then length square.now.shares else 0)) }
 {
     match has_square(alloc, plain, payments, blobs) {
         Ok(true) => BackError::Unlike(square.shares.len() as u64),
@@ -169,7 +170,7 @@ fn transactions_in(alloc: Global, square: &Square) -> Result<Vec<Unit>, BackErro
     let payments = pay_units(alloc, second)?;
     let blobs = measure_of(alloc, &square.shares, &payments)?;
     if blobs.bound > square.shares.len() as u64 {
-        return Err(wide_refusal(alloc, square, &transactions, &payments, blobs));
+        return Err(wide_refusal(alloc, square, transactions, &payments, blobs));
     }
     push_payments(alloc, &square.shares, &payments, &mut transactions)?;
     Ok(transactions)
@@ -193,12 +194,18 @@ fn unlike_at(square: &Square, other: &Square) -> Option<u64>
     None
 }
 
-/// Lays transactions out, and compares the square with this one.
-fn lay_again(alloc: Global, square: &Square, transactions: &[Unit]) -> Result<(), BackError>
-    ensures first { Answers result (laid_refusal square.now transactions.now) }
-    ensures named { OnOk result (HaveNamedBlobs transactions.now) }
+/// Lays transactions out, compares the square with this one, and gives them in their one spelling. The plain ones stay where they
+/// lie.
+fn lay_again(
+    alloc: Global,
+    square: &Square,
+    transactions: Vec<Unit>,
+) -> Result<Vec<Unit>, BackError>
+    ensures first { Answers result (laid_refusal square.now transactions.items) }
+    ensures named { OnOk result (HaveNamedBlobs transactions.items) }
+    ensures list { IfOk result (λ again. again.items ≡ spelled (list_of transactions.items)) }
 {
-    let list = match read_copied(alloc, transactions) {
+    let list = match read_list(alloc, transactions) {
         Ok(list) => list,
         Err(ListError::NoMemory) => return Err(BackError::NoMemory),
         Err(_why) => return Err(BackError::Unlike(0)),
@@ -209,10 +216,13 @@ fn lay_again(alloc: Global, square: &Square, transactions: &[Unit]) -> Result<()
         Err(ListError::NoMemory) => return Err(BackError::NoMemory),
         Err(_why) => return Err(BackError::Unlike(0)),
     };
-    match unlike_at(square, &laid) {
-        Some(at) => Err(BackError::Unlike(at)),
-        None => Ok(()),
+    if let Some(at) = unlike_at(square, &laid) {
+        return Err(BackError::Unlike(at));
     }
+    let Ok(again) = spelled_on(alloc, list) else {
+        return Err(BackError::NoMemory);
+    };
+    Ok(again)
 }
 
 /// The list of transactions that is laid out as a square (`lay_list`), in its one spelling: the plain transactions, and behind
@@ -222,7 +232,8 @@ fn lay_again(alloc: Global, square: &Square, transactions: &[Unit]) -> Result<()
 /// the payments in turn, one that isn't a transaction wrapped with the places of its blobs (`Wrapper`), and then its first place
 /// at which no blob begins (`Index`); a square other than that of the list which was so read (`Unlike`). Out of memory may come in
 /// place of any answer. Before blobs are kept, each is read once, however often it is stated, and where those that are stated may
-/// take more shares than the square has, it is refused. So the list takes no more memory than a few such squares.
+/// take more shares than the square has, it is refused. So blobs take no more memory than a few such squares. Plain transactions
+/// are kept once, each as a string of its own.
 ///
 /// docs/RULES.md, "A block of the network"; Celestia specifications, "Square Layout".
 pub fn unlay_list(alloc: Global, square: &Square) -> Result<Vec<Unit>, BackError>
@@ -231,6 +242,6 @@ pub fn unlay_list(alloc: Global, square: &Square) -> Result<Vec<Unit>, BackError
     ensures back { IfOk result (λ transactions. IsBack square.now transactions.items) }
 {
     let transactions = transactions_in(alloc, square)?;
-    lay_again(alloc, square, &transactions)?;
-    Ok(transactions)
+    let again = lay_again(alloc, square, transactions)?;
+    Ok(again)
 }
