@@ -55,7 +55,7 @@ use Rattle.da_exchanging.proofs.MadeLemmas.{has_written}
 use Rattle.da_exchanging.specs.Laws.{IsExportedBack, IsImportedBack, SampleIsImportedBack, RowDataIsImportedBack, BefpIsExportedBack, BefpIsImportedBack, SampleIdIsImportedBack}
 
 -- a refusal of a file isn't done
-not_refused : (i at : ℕ) → ◌≡◌ {A = Status} Done (BadInput i at) → ⊥
+pub not_refused : (i at : ℕ) → ◌≡◌ {A = Status} Done (BadInput i at) → ⊥
 not_refused i at e = absurd cc
 
 -- nor is one of what it asks for
@@ -102,7 +102,7 @@ module _ {A B : Type 0} (value : List ℕ → Result A ℕ) (frame : A → Frame
   abbrev Comes : List ℕ → List ℕ → Type 0
   Comes bytes text = (x : A) × (value bytes ≡ Ok x) × (spelling (frame x) ≡ Some text)
 
-  -- by what is read of the text
+  -- by what is read of a text
   imported_by : (bytes text : List ℕ) (read : Result B ℕ) → ((y : B) → read ≡ Ok y → Answer y bytes Done → Comes bytes text)
       → Judged (error_of read ∷ []) (Over read Answer) bytes Done
       → Judged (error_of (value bytes) ∷ []) (Over (value bytes) (λ x. Writes (frame x))) text Done
@@ -111,10 +111,15 @@ module _ {A B : Type 0} (value : List ℕ → Result A ℕ) (frame : A → Frame
       let comes = law y refl h in
       subst (λ (R : Relation). R text Done) (single_is (λ (x : A). Writes (frame x)) (value bytes) comes.0 comes.1) (comes.2, refl)
 
+  -- what is exported is imported as another text
+  pub imported_as : (bytes text again : List ℕ) → ((y : B) → single of (only_of text kinds) ≡ Ok y → Answer y bytes Done → Comes bytes again)
+      → Told text bytes → Made bytes again
+  unfolding file_of
+  imported_as bytes text again law h = imported_by bytes again (single of (only_of text kinds)) law h
+
   -- what is exported is imported
   pub imported_back : (bytes text : List ℕ) → ((y : B) → single of (only_of text kinds) ≡ Ok y → Answer y bytes Done → Comes bytes text) → Told text bytes → Made bytes text
-  unfolding file_of
-  imported_back bytes text law h = imported_by bytes text (single of (only_of text kinds)) law h
+  imported_back bytes text law h = imported_as bytes text text law h
 
 -- a file that is read as a value is the one spelling of the value's frame
 pub file_spelled : {A : Type 0} (of : Frame → Option A) (make : A → Frame) → ((frame : Frame) (x : A) → of frame ≡ Some x → frame ≡ make x)
@@ -188,7 +193,7 @@ sample_imported only law = λ bytes text m fits read told.
 -- ---- what is found in a row
 
 -- a frame of an answer is that answer's
-answer_made : (frame : Frame) (x : names.Namespace × List NsEntry) → answer_of frame ≡ Some x → frame ≡ frames.Names x.0 x.1
+pub answer_made : (frame : Frame) (x : names.Namespace × List NsEntry) → answer_of frame ≡ Some x → frame ≡ frames.Names x.0 x.1
 answer_made (frames.Names name entries) x e = ap (λ (y : names.Namespace × List NsEntry). frames.Names y.0 y.1) (same_Some (name, entries) x e)
 answer_made frame x e = absurd cc
 
@@ -259,13 +264,13 @@ sample_id_exported again law height = λ bytes text fits made.
     (λ x e. let is = law height bytes x fits e in (record { row = is.0.row; col = is.0.col }, refl, refl, (is.1, refl))) made
 
 pub sample_id_imported : OnlyIsSpelled → SampleIdIsRead → SampleIdIsImportedBack
-sample_id_imported only law = λ height bytes text cell fits read told.
-    imported_back (sample_id_value height) row_request (λ x. x) cell_of (sample_kind ∷ []) (λ x. WritesText Done (sample_id_text height x)) bytes text
+sample_id_imported only law = λ height bytes text again cell axis fits read spelled told.
+    imported_as (sample_id_value height) row_request (λ x. x) cell_of (sample_kind ∷ []) (λ x. WritesText Done (sample_id_text height x)) bytes text again
     (λ y e answer.
-    let is = (only (row_request cell) text (sample_kind ∷ []) fits).0 read in
+    let is = (only (frames.Sample cell axis) text (sample_kind ∷ []) fits).0 read in
     let same : y ≡ cell = same_ok y cell (sym e ∙ ap (single cell_of) read) in
     let of_cell : IsCell cell = record { row = is.0.row; col = is.0.col } in
-    (cell, ap (sample_id_value height) (answer.0 ∙ ap (sample_id_text height) same) ∙ law height cell of_cell, is.1))
+    (cell, ap (sample_id_value height) (answer.0 ∙ ap (sample_id_text height) same) ∙ law height cell of_cell, spelled))
     told
 
 -- a frame of a request for a namespace is that namespace's

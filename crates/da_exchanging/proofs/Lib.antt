@@ -10,3 +10,5 @@ pub mod RowLemmas
 pub mod FormLemmas
 pub mod LawLemmas
 pub mod ShareLawLemmas
+pub mod StreamLawLemmas
+pub mod OneWayLemmas

@@ -88,26 +88,31 @@ entries_short (entry ∷ answer) have =
 filter_few : {A : Type 0} (test : A → Bool) (xs : List A) → length (filter test xs) ≤ length xs
 filter_few test xs = omega (arith, length-filter_both test (λ x. not (test x)) (λ x. refl) xs)
 
-pub read_short : (header : Roots) (name : names.Namespace) (answer : List NsEntry) → is_width header.k ≡ true → rows_of answer ≡ wanted_rows header name
-    → HaveMessages answer → is_long_answer answer ≡ false
-read_short header name answer width rows have =
-    let le : header.k ≤ greatest_width = is_width-le header.k width in
+-- an answer with an entry for just the rows that may hold a namespace has at most as many as the widest square has rows
+pub answer_few : (header : Roots) (name : names.Namespace) (answer : List NsEntry) → is_width header.k ≡ true → rows_of answer ≡ wanted_rows header name
+    → length answer ≤ greatest_width
+answer_few header name answer width rows =
     let few = filter_few (is_wanted header name) (ascending 0 header.k) in
     let many : length (rows_of answer) ≡ length (wanted_rows header name) = ap length rows in
     let all : length (rows_of answer) ≡ length answer = length-map answer (λ (entry : NsEntry). entry.row) in
+    omega (arith, few, many, all, length-ascending header.k 0, is_width-le header.k width)
+
+pub read_short : (header : Roots) (name : names.Namespace) (answer : List NsEntry) → is_width header.k ≡ true → rows_of answer ≡ wanted_rows header name
+    → HaveMessages answer → is_long_answer answer ≡ false
+read_short header name answer width rows have =
     or_from (nat_lt most_entries (length answer)) (list_any is_long_entry answer)
-    (le-ltb greatest_width (length answer) (omega (arith, few, many, all, length-ascending header.k 0, le))) (entries_short answer have)
+    (le-ltb greatest_width (length answer) (answer_few header name answer width rows)) (entries_short answer have)
 
 -- ---- what is answered to FILE and HEADER
 
 -- by what HEADER was read as
-abbrev by_header : names.Namespace → List (List ℕ) → Result Roots ℕ → Relation
+abbrev pub by_header : names.Namespace → List (List ℕ) → Result Roots ℕ → Relation
 by_header name files header =
     Judged (bad_data name header (file_of files 0) ∷ error_of header ∷ [])
     (Over header (λ h. Over (data_under name h (file_of files 0)) (λ answer. Writes (Names name answer))))
 
 -- and by what FILE was under a header
-abbrev by_data : names.Namespace → Result (List NsEntry) ℕ → Relation
+abbrev pub by_data : names.Namespace → Result (List NsEntry) ℕ → Relation
 by_data name read = Judged (error_of read ∷ None ∷ []) (Over read (λ answer. Writes (Names name answer)))
 
 module _ (name : names.Namespace) (files : List (List ℕ)) where

@@ -1,5 +1,7 @@
 use Rattle.da_exchanging.proofs.LawLemmas.{dah_exported, dah_imported, sample_exported, sample_imported, row_data_exported, row_data_imported, befp_exported, befp_imported, ods_exported, ods_imported, sample_id_exported, sample_id_imported, namespace_id_exported, namespace_id_imported}
 use Rattle.da_exchanging.proofs.ShareLawLemmas.{share_proof_exported, share_proof_imported}
+use Rattle.da_exchanging.proofs.StreamLawLemmas.{stream_exported, stream_imported}
+use Rattle.da_exchanging.proofs.OneWayLemmas.{header_is_of_dah, row_is_of_square}
 use Rattle.da_exchanging.proofs.laws.exchange_laws.Goals as goal
 
 pub returns-clause-dah : goal.returns-clause-dah
@@ -49,3 +51,15 @@ returns-clause-share_proof c = share_proof_exported c.wire_laws.ensures.only_rea
 
 pub returns-clause-share_proof_back : goal.returns-clause-share_proof_back
 returns-clause-share_proof_back c = share_proof_imported c.wire_laws.ensures.only c.share_proof_laws.ensures.read
+
+pub returns-clause-namespace_data : goal.returns-clause-namespace_data
+returns-clause-namespace_data c = stream_exported c.wire_laws.ensures.only c.wire_laws.ensures.only_read c.namespace_data_laws.ensures.spelled
+
+pub returns-clause-namespace_data_back : goal.returns-clause-namespace_data_back
+returns-clause-namespace_data_back c = stream_imported c.wire_laws.ensures.only c.namespace_data_laws.ensures.read
+
+pub returns-clause-header : goal.returns-clause-header
+returns-clause-header c = header_is_of_dah c.extended_laws.ensures.common
+
+pub returns-clause-row : goal.returns-clause-row
+returns-clause-row c = row_is_of_square c.half_row_laws.ensures.spelled c.row_laws.ensures.of_square
