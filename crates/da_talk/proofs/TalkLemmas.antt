@@ -1,29 +1,21 @@
--- A talk, step by step.
-use Rattle.std.proofs.Common.{◌≡◌, ◌∙◌, ℕ, suc, ◌+◌, ◌<◌, List, [], ◌∷◌, ◌++◌, length, take, drop, Some, Err, refl, sym, ap, subst, arith, length-append, append-nil, append_assoc, ⊎_elim, inl, inr}
-use Rattle.std.proofs.lemmas.List.{take-append-drop}
-use Rattle.std.proofs.lemmas.Option.{none-some}
-use Rattle.std.specs.Io.KnownBytes.{IsAtEnd}
-use Rattle.da_io.specs.Faults.{max_count}
+-- A talk with what replies to each frame by its number and bytes alone, and says nothing else.
+use Rattle.std.proofs.Common.{◌≡◌, ◌∙◌, ℕ, suc, ◌+◌, List, [], ◌∷◌, ◌++◌, length, sym, ap, subst, arith, length-append, append-nil, append_assoc, inl, inr}
+use Rattle.square_serve.specs.declared.held.Held.{Held}
 use Rattle.da_io.specs.Sinks.{IsProperPrefix}
-use Rattle.da_wire.specs.declared.frames.FrameError.TheVariants as frame
-use Rattle.da_wire.specs.declared.streams.Pushed.{Pushed}
-use Rattle.da_wire.specs.declared.streams.Pushed.TheVariants as pushed
 use Rattle.da_wire.specs.Reading.{Raw}
-use Rattle.da_wire.specs.Walks.{walk_from, stop_from}
-use Rattle.da_wire.specs.Frames.{frames_of, bad_frame}
-use Rattle.da_wire.specs.StreamParts.{StreamParts}
-use Rattle.da_wire.specs.Streams.{StandsFor, IsPush, FramesStay, first_refusal}
-use Rattle.da_wire.specs.Laws.{BadFrameIsFirst, FilesAreFrames}
+use Rattle.da_wire.specs.Frames.{frames_of}
 use Rattle.da_talk.specs.declared.line.Line as line
+use Rattle.da_talk.specs.declared.talker.Talker as talker
 use Rattle.da_talk.specs.declared.ended.Ended.{Ended}
-use Rattle.da_talk.specs.declared.holding.Frames.{Frames}
-use Rattle.da_talk.specs.declared.ended.Ended.TheVariants.{Done, Bad, ReadFailed, WriteFailed, TooLong}
-use Rattle.da_talk.specs.Events.{Event, heard, said, heard_in, said_in}
-use Rattle.da_talk.specs.Replies.{replies_from, due}
-use Rattle.da_talk.specs.Talks.{Does, Begins, HasNoLong, EndsTalk, HasTalked}
-use Rattle.da_talk.specs.Steps.{Waits, MayWait, IsTalking, HasSaid, EndsBytes}
-use Rattle.da_talk.proofs.EventLemmas.{IsLine, does_none, does_on, heard_on, said_on, waits_on, waits_each}
-use Rattle.da_talk.proofs.LongLemmas.{long_stays}
+use Rattle.da_talk.specs.declared.ended.Ended.TheVariants as ended
+use Rattle.da_talk.specs.declared.talk_end.TalkEnd.{TalkEnd}
+use Rattle.da_talk.specs.declared.talk_end.TalkEnd.TheVariants.{Over, Decided, Bad, ReadFailed, WriteFailed, TooLong, NoMemory}
+use Rattle.da_talk.specs.Events.{heard_in, said_in}
+use Rattle.da_talk.specs.Replies.{reply_to, replies_from, due}
+use Rattle.da_talk.specs.Talks.{Begins, EndsTalk, HasTalked, last_wait, read_count, write_count}
+use Rattle.da_talk.specs.Told.{IsTold, begun, told, IsDue, words, reply, verdict, last, HasTold, last_heard, hear_count, say_count}
+use Rattle.da_talk.specs.Steps.{IsLeft, IsPlain, EndsAs}
+use Rattle.da_talk.specs.contracts.holding.HeldTalker.TheImpl.{ghosts}
 
 -- ---- what is due
 
@@ -41,209 +33,142 @@ due-append answer xs ys =
     let e : 0 + length xs ≡ length xs = omega arith in
     replies-append answer 0 xs ys ∙ ap (λ (n : ℕ). replies_from answer 0 xs ++ replies_from answer n ys) e
 
--- what is due for one frame more
-due_frame : (answer : ℕ → Raw → List ℕ) (before bytes : List ℕ) (f : Raw) → frames_of bytes ≡ frames_of before ++ f ∷ []
-    → due answer bytes ≡ due answer before ++ answer (length (frames_of before)) f
-due_frame answer before bytes f e =
-    ap (replies_from answer 0) e ∙ due-append answer (frames_of before) (f ∷ [])
-    ∙ ap (λ (l : List ℕ). due answer before ++ l) (append-nil (answer (length (frames_of before)) f))
+-- ---- what replies so
 
--- what is due for bytes is due whatever bytes follow
-due_stays : FramesStay → (answer : ℕ → Raw → List ℕ) (bytes more : List ℕ) → (later : List ℕ) × (due answer (bytes ++ more) ≡ due answer bytes ++ later)
-due_stays stay answer bytes more =
-    let later = stay bytes more in
-    (replies_from answer (length (frames_of bytes)) later.0, ap (replies_from answer 0) later.1 ∙ due-append answer (frames_of bytes) later.0)
+-- it says nothing first and nothing last, never ends a talk, takes no memory, and stays as it is
+pub record IsReplier {T : Type 0} (t : talker.Ghosts T) (first : T) (answer : ℕ → Raw → List ℕ) : Type 0 where
+  pub begins : (text : List ℕ) → t.begins first text → text ≡ []
+  pub replies : (frames : List Raw) (f : Raw) (text : List ℕ) → t.replies first frames f text → text ≡ answer (length frames) f
+  pub decides : (now : T) (frames : List Raw) (text : List ℕ) → t.decides first now frames text → ⊥
+  pub ends : (now : T) (frames : List Raw) (text : List ℕ) → t.ends first now frames text → (now ≡ first) × (text ≡ [])
+  pub led : (now : T) (frames : List Raw) → t.led first now frames → now ≡ first
+  pub takes : t.takes_memory first → ⊥
 
--- ---- a talk goes on
+-- no part of an empty text is a proper one
+none_cut : (part text : List ℕ) → text ≡ [] → IsProperPrefix part text → ⊥
+none_cut part text none prefix = absurd (omega (arith, prefix.1, ap length prefix.2, ap length none, length-append part prefix.0))
 
--- at first nothing was heard
-pub talking_none : {L : Type 0} (l : line.Ghosts L) → IsLine l → (first : L) (answer : ℕ → Raw → List ℕ) (stream : StreamParts) → StandsFor stream [] → IsTalking l first first answer stream 0 []
-unfolding walk_from stop_from
-talking_none l is first answer stream stands = record {
-  events = [];
-  did = does_none l is first;
-  waits = tt;
-  taken = [];
-  came = refl;
-  stands = stands;
-  short = λ at e. absurd (none-some (frame.TooLong at) e);
-  went = refl;
-  counted = refl;
-}
+module _ {T : Type 0} (t : talker.Ghosts T) (first : T) (answer : ℕ → Raw → List ℕ) (is : IsReplier t first answer) where
+  -- the talk left it as it was
+  pub left_so : (now : T) → IsLeft t first now → now ≡ first
+  left_so now (frames, text, inl led) = is.led now frames led
+  left_so now (frames, text, inr (inl decides)) = absurd (is.decides now frames text decides)
+  left_so now (frames, text, inr (inr (inl ends))) = (is.ends now frames text ends).0
+  left_so now (frames, text, inr (inr (inr takes))) = absurd (is.takes takes)
 
--- bytes were waited for
-pub talking_heard : {L : Type 0} (l : line.Ghosts L) → IsLine l → (first now new : L) (answer : ℕ → Raw → List ℕ) (stream : StreamParts) (count : ℕ) (bytes : List ℕ)
-    → IsTalking l first now answer stream count [] → Does l now new (heard bytes ∷ []) → IsTalking l first new answer stream count bytes
-talking_heard l is first now new answer stream count bytes t did =
-    let all : heard_in t.events ≡ t.taken = t.came ∙ append-nil t.taken in
-    record {
-      events = t.events ++ heard bytes ∷ [];
-      did = does_on l is first now new t.events (heard bytes ∷ []) t.did did;
-      waits = waits_on (MayWait (due answer)) [] [] t.events (heard bytes ∷ []) t.waits
-          ((t.went ∙ ap (due answer) (sym all), subst HasNoLong (sym all) t.short), tt);
-      taken = t.taken;
-      came = heard_on t.events (heard bytes ∷ []) ∙ ap (λ (l : List ℕ). l ++ (bytes ++ [])) all ∙ ap (λ (l : List ℕ). t.taken ++ l) (append-nil bytes);
-      stands = t.stands;
-      short = t.short;
-      went = said_on t.events (heard bytes ∷ []) ∙ append-nil (said_in t.events) ∙ t.went;
-      counted = t.counted;
+  -- what was said to frames are the replies to them
+  told_due : (frames : List Raw) (text : List ℕ) → IsTold t first frames text → text ≡ replies_from answer 0 frames
+  told_due frames text (begun some begins) = is.begins some begins
+  told_due frames text (told before f some more so replies) =
+      ap (λ (l : List ℕ). l ++ more) (told_due before some so)
+      ∙ ap (λ (l : List ℕ). replies_from answer 0 before ++ l) (is.replies before f more replies ∙ sym (append-nil (answer (length before) f)))
+      ∙ sym (due-append answer before (f ∷ []))
+
+  -- what was said in part is a proper prefix of what is due
+  cut_due : (now : T) (bytes before text part : List ℕ) → IsDue t first now bytes before text → IsProperPrefix part text → IsProperPrefix (before ++ part) (due answer bytes)
+  cut_due now bytes before text part (words some begins) prefix = absurd (none_cut part text (is.begins text begins) prefix)
+  cut_due now bytes before text part (reply frames later f was some are so replies) prefix =
+      let more : List ℕ = prefix.0 in
+      let rest : List ℕ = replies_from answer (suc (length frames)) later in
+      let whole : due answer bytes ≡ (before ++ part) ++ (more ++ rest) =
+      ap (replies_from answer 0) are ∙ due-append answer frames (f ∷ later)
+      ∙ ap (λ (l : List ℕ). l ++ (answer (length frames) f ++ rest)) (sym (told_due frames before so))
+      ∙ ap (λ (l : List ℕ). before ++ (l ++ rest)) (sym (is.replies frames f text replies) ∙ prefix.2)
+      ∙ ap (λ (l : List ℕ). before ++ l) (append_assoc part more rest) ∙ sym (append_assoc before part (more ++ rest)) in
+      (more ++ rest, omega (arith, prefix.1, length-append more rest), whole)
+  cut_due now bytes before text part (verdict frames later f was some are so decides) prefix = absurd (is.decides now (frames ++ f ∷ []) text decides)
+  cut_due now bytes before text part (last was some whole so ends) prefix = absurd (none_cut part text (is.ends now (frames_of bytes) text ends).1 prefix)
+
+  module _ {L : Type 0} (l : line.Ghosts L) (old new : L) (now : T) where
+    -- all that is due was said
+    all_due : (heard said : List ℕ) → IsTold t first (frames_of heard) said → said ≡ due answer heard
+    all_due heard said so = told_due (frames_of heard) said so
+
+    -- so it is a talk in which each reply is said in time
+    talked : (why : TalkEnd) (end : Ended) → (s : HasTold l t old new first now why) → Begins (due answer (heard_in s.events)) (said_in s.events)
+        → EndsTalk (due answer) s.events (l.rest new) end → HasTalked l old new (due answer) end
+    talked why end s front ends = record {
+      events = s.events;
+      did = s.did;
+      prompt = record { waits = λ before later bytes e. told_due (frames_of (heard_in before)) (said_in before) (s.prompt before later bytes e); front = front };
+      at_once = s.at_once;
+      end = ends;
     }
 
--- from wherever it began, a talk that had these frames and bytes has those now
-abbrev pub Goes : {L : Type 0} → line.Ghosts L → L → L → (ℕ → Raw → List ℕ) → Frames → Frames → List ℕ → List ℕ → Type 0
-Goes {L} l old now answer before after piece rest =
-    (first : L) → IsTalking l first old answer before.stream before.count piece → IsTalking l first now answer after.stream after.count rest
+    -- all was said
+    begins_all : (heard said : List ℕ) → said ≡ due answer heard → Begins (due answer heard) said
+    begins_all heard said all = ([], sym all ∙ sym (append-nil said))
 
--- of the bytes that are left so many are taken
-came_on : (came taken rest : List ℕ) (count : ℕ) → came ≡ taken ++ rest → came ≡ (taken ++ take count rest) ++ drop count rest
-came_on came taken rest count e =
-    e ∙ ap (λ (l : List ℕ). taken ++ l) (sym (take-append-drop count rest)) ∙ sym (append_assoc taken (take count rest) (drop count rest))
+    talked_over : HasTold l t old new first now Over → HasTalked l old new (due answer) ended.Done
+    talked_over s =
+        let none : s.end.text ≡ [] = (is.ends now (frames_of (heard_in s.events)) s.end.text s.end.due).1 in
+        let all : said_in s.events ≡ due answer (heard_in s.events) =
+        s.end.all ∙ ap (λ (l : List ℕ). s.end.before ++ l) none ∙ append-nil s.end.before ∙ all_due (heard_in s.events) s.end.before s.end.told in
+        talked Over ended.Done s (begins_all (heard_in s.events) (said_in s.events) all) (all, s.end.whole, s.end.end)
 
--- a push that answers no frame that is too long finds none
-push_short : (before piece : List ℕ) (count : ℕ) (answer : Pushed) → IsPush before piece count answer → ((at : ℕ) → answer ≡ pushed.Bad at → ⊥) → HasNoLong (before ++ take count piece)
-push_short before piece count answer push other at e = other at ((push.bad at).1 e)
+    talked_bad : (at : ℕ) → HasTold l t old new first now (Bad at) → HasTalked l old new (due answer) (ended.Bad at)
+    talked_bad at s =
+        let all = all_due (heard_in s.events) (said_in s.events) s.end.0 in
+        talked (Bad at) (ended.Bad at) s (begins_all (heard_in s.events) (said_in s.events) all) (all, s.end.1)
 
--- a push ended no frame
-pub talking_more : {L : Type 0} (l : line.Ghosts L) (first now : L) (answer : ℕ → Raw → List ℕ) (old new : StreamParts) (number : ℕ) (rest : List ℕ) (count : ℕ)
-    → (t : IsTalking l first now answer old number rest) → StandsFor new (t.taken ++ take count rest) → IsPush t.taken rest count pushed.More
-    → IsTalking l first now answer new number (drop count rest)
-talking_more l first now answer old new number rest count t stands push = record {
-  events = t.events;
-  did = t.did;
-  waits = t.waits;
-  taken = t.taken ++ take count rest;
-  came = came_on (heard_in t.events) t.taken rest count t.came;
-  stands = stands;
-  short = push_short t.taken rest count pushed.More push (λ at e. absurd cc);
-  went = t.went ∙ ap (replies_from answer 0) (sym push.frames);
-  counted = t.counted ∙ ap length (sym push.frames);
+    talked_failed : HasTold l t old new first now ReadFailed → HasTalked l old new (due answer) ended.ReadFailed
+    talked_failed s =
+        let all = all_due (heard_in s.events) (said_in s.events) s.end in
+        talked ReadFailed ended.ReadFailed s (begins_all (heard_in s.events) (said_in s.events) all) all
+
+    talked_cut : HasTold l t old new first now WriteFailed → HasTalked l old new (due answer) ended.WriteFailed
+    talked_cut s =
+        let cut : IsProperPrefix (said_in s.events) (due answer (heard_in s.events)) =
+        subst (λ (l : List ℕ). IsProperPrefix l (due answer (heard_in s.events))) (sym s.end.all)
+        (cut_due now (heard_in s.events) s.end.before s.end.text s.end.part s.end.due s.end.prefix) in
+        talked WriteFailed ended.WriteFailed s (cut.0, cut.2) cut
+
+    talked_long : HasTold l t old new first now TooLong → HasTalked l old new (due answer) ended.TooLong
+    talked_long s =
+        let later : List ℕ = replies_from answer (length s.end.frames) s.end.later in
+        talked TooLong ended.TooLong s (
+          later,
+          ap (replies_from answer 0) s.end.are ∙ due-append answer s.end.frames s.end.later
+              ∙ ap (λ (l : List ℕ). l ++ later) (sym (told_due s.end.frames (said_in s.events) s.end.told)),
+        ) s.end.many
+
+    -- however it ends
+    pub talked_as : (why : TalkEnd) (end : Ended) → HasTold l t old new first now why → EndsAs why end → HasTalked l old new (due answer) end
+    talked_as Over end s so = subst (HasTalked l old new (due answer)) (sym so) (talked_over s)
+    talked_as Decided end s so = absurd so
+    talked_as (Bad at) end s so = subst (HasTalked l old new (due answer)) (sym so) (talked_bad at s)
+    talked_as ReadFailed end s so = subst (HasTalked l old new (due answer)) (sym so) (talked_failed s)
+    talked_as WriteFailed end s so = subst (HasTalked l old new (due answer)) (sym so) (talked_cut s)
+    talked_as TooLong end s so = subst (HasTalked l old new (due answer)) (sym so) (talked_long s)
+    talked_as NoMemory end s so = absurd so
+
+    -- no frame decides, and no memory is taken
+    pub is_plain : (why : TalkEnd) → HasTold l t old new first now why → IsPlain why
+    is_plain Over s = tt
+    is_plain Decided s = is.decides now (s.end.frames ++ s.end.frame ∷ []) s.end.text s.end.due
+    is_plain (Bad at) s = tt
+    is_plain ReadFailed s = tt
+    is_plain WriteFailed s = tt
+    is_plain TooLong s = tt
+    is_plain NoMemory s = is.takes s.end.takes
+
+-- which calls failed
+pub failed_as : (why : TalkEnd) (end : Ended) → EndsAs why end → (last_heard why ≡ last_wait end) × (hear_count why ≡ read_count end) × (say_count why ≡ write_count end)
+failed_as Over end so = (sym (ap last_wait so), sym (ap read_count so), sym (ap write_count so))
+failed_as Decided end so = absurd so
+failed_as (Bad at) end so = (sym (ap last_wait so), sym (ap read_count so), sym (ap write_count so))
+failed_as ReadFailed end so = (sym (ap last_wait so), sym (ap read_count so), sym (ap write_count so))
+failed_as WriteFailed end so = (sym (ap last_wait so), sym (ap read_count so), sym (ap write_count so))
+failed_as TooLong end so = (sym (ap last_wait so), sym (ap read_count so), sym (ap write_count so))
+failed_as NoMemory end so = absurd so
+
+-- a held square replies so
+pub held_replies : (held : Held) → IsReplier ghosts held (reply_to held)
+held_replies held = record {
+  begins = λ text is. is;
+  replies = λ frames f text is. is;
+  decides = λ now frames text is. is;
+  ends = λ now frames text is. is;
+  led = λ now frames is. is;
+  takes = λ is. is;
 }
-
--- a push ended a frame, and the reply to it was said
-pub talking_frame : {L : Type 0} (l : line.Ghosts L) → IsLine l → (first now next : L) (answer : ℕ → Raw → List ℕ) (old new : StreamParts) (number : ℕ) (rest : List ℕ) (count : ℕ) (m : _)
-    → (t : IsTalking l first now answer old number rest) → StandsFor new (t.taken ++ take count rest) → (push : IsPush t.taken rest count (pushed.Frame m))
-    → Does l now next (said (answer number push.frames.0) ∷ []) → IsTalking l first next answer new (number + 1) (drop count rest)
-talking_frame l is first now next answer old new number rest count m t stands push did =
-    let f : Raw = push.frames.0 in
-    let bytes : List ℕ = t.taken ++ take count rest in
-    let text : List ℕ = answer number f in
-    record {
-      events = t.events ++ said text ∷ [];
-      did = does_on l is first now next t.events (said text ∷ []) t.did did;
-      waits = waits_on (MayWait (due answer)) [] [] t.events (said text ∷ []) t.waits tt;
-      taken = bytes;
-      came = heard_on t.events (said text ∷ []) ∙ append-nil (heard_in t.events) ∙ came_on (heard_in t.events) t.taken rest count t.came;
-      stands = stands;
-      short = push_short t.taken rest count (pushed.Frame m) push (λ at e. absurd cc);
-      went = said_on t.events (said text ∷ []) ∙ ap (λ (l : List ℕ). said_in t.events ++ l) (append-nil text) ∙ ap (λ (l : List ℕ). l ++ text) t.went
-          ∙ ap (λ (n : ℕ). due answer t.taken ++ answer n f) t.counted ∙ sym (due_frame answer t.taken bytes f push.frames.1);
-      counted = omega (arith, t.counted, ap length push.frames.1, length-append (frames_of t.taken) (f ∷ []));
-    }
-
--- ---- a talk ends
-
--- what was said is the front of what is due, and nothing was waited for too early or too late
-pub talked : {L : Type 0} (l : line.Ghosts L) (first new : L) (answer : ℕ → Raw → List ℕ) (events : List Event) (ended : Ended) → Does l first new events
-    → Waits (MayWait (due answer)) [] [] events → Begins (due answer (heard_in events)) (said_in events) → EndsTalk (due answer) events (l.rest new) ended
-    → HasTalked l first new (due answer) ended
-talked l first new answer events ended did waits front end = record {
-  events = events;
-  did = did;
-  prompt = record { waits = λ before later bytes e. (waits_each (MayWait (due answer)) events waits before later bytes e).0; front = front };
-  at_once = λ before later bytes e. (waits_each (MayWait (due answer)) events waits before later bytes e).1;
-  end = end;
-}
-
--- what is due for all that was heard begins with what was said
-front_of : FramesStay → {L : Type 0} (l : line.Ghosts L) (first now : L) (answer : ℕ → Raw → List ℕ) (stream : StreamParts) (count : ℕ) (rest : List ℕ)
-    → (t : IsTalking l first now answer stream count rest) → Begins (due answer (heard_in t.events)) (said_in t.events)
-front_of stay l first now answer stream count rest t =
-    let later = due_stays stay answer t.taken rest in
-    (later.0, ap (due answer) t.came ∙ later.1 ∙ ap (λ (l : List ℕ). l ++ later.0) (sym t.went))
-
--- the frame under way states a length above the limit
-pub talked_long : BadFrameIsFirst → FilesAreFrames → {L : Type 0} (l : line.Ghosts L) (first now : L) (answer : ℕ → Raw → List ℕ) (old new : StreamParts) (number : ℕ) (rest : List ℕ) (count at : ℕ)
-    → (t : IsTalking l first now answer old number rest) → StandsFor new (t.taken ++ take count rest) → IsPush t.taken rest count (pushed.Bad at)
-    → HasTalked l first now (due answer) (Bad at)
-talked_long is_first are_frames l first now answer old new number rest count at t stands push =
-    let bytes : List ℕ = t.taken ++ take count rest in
-    let still = long_stays is_first are_frames bytes (drop count rest) at stands.fits ((push.bad at).0 refl) in
-    let came : heard_in t.events ≡ bytes ++ drop count rest = came_on (heard_in t.events) t.taken rest count t.came in
-    let all : said_in t.events ≡ due answer (heard_in t.events) =
-    t.went ∙ ap (replies_from answer 0) (sym push.frames) ∙ ap (replies_from answer 0) (sym still.1) ∙ ap (due answer) (sym came) in
-    talked l first now answer t.events (Bad at) t.did t.waits ([], sym all ∙ sym (append-nil (said_in t.events))) (all, inl (ap first_refusal came ∙ still.0))
-
--- a reply wasn't said whole
-pub talked_part : FramesStay → {L : Type 0} (l : line.Ghosts L) → IsLine l → (first now new : L) (answer : ℕ → Raw → List ℕ) (stream : StreamParts) (number : ℕ) (rest : List ℕ) (count : ℕ) (m : _)
-    → (t : IsTalking l first now answer stream number rest) → (push : IsPush t.taken rest count (pushed.Frame m)) → (part : List ℕ)
-    → IsProperPrefix part (answer number push.frames.0) → Does l now new (said part ∷ []) → HasTalked l first new (due answer) WriteFailed
-talked_part stay l is first now new answer stream number rest count m t push part prefix did =
-    let f : Raw = push.frames.0 in
-    let bytes : List ℕ = t.taken ++ take count rest in
-    let events : List Event = t.events ++ said part ∷ [] in
-    let later = due_stays stay answer bytes (drop count rest) in
-    let more : List ℕ = prefix.0 in
-    let came : heard_in events ≡ bytes ++ drop count rest =
-    heard_on t.events (said part ∷ []) ∙ append-nil (heard_in t.events) ∙ came_on (heard_in t.events) t.taken rest count t.came in
-    let went : said_in events ≡ due answer t.taken ++ part =
-    said_on t.events (said part ∷ []) ∙ ap (λ (l : List ℕ). said_in t.events ++ l) (append-nil part) ∙ ap (λ (l : List ℕ). l ++ part) t.went in
-    let text : answer (length (frames_of t.taken)) f ≡ part ++ more = ap (λ (n : ℕ). answer n f) (sym t.counted) ∙ prefix.2 in
-    let all : due answer (heard_in events) ≡ said_in events ++ (more ++ later.0) =
-    ap (due answer) came ∙ later.1 ∙ ap (λ (l : List ℕ). l ++ later.0) (due_frame answer t.taken bytes f push.frames.1 ∙ ap (λ (l : List ℕ). due answer t.taken ++ l) text)
-    ∙ ap (λ (l : List ℕ). l ++ later.0) (sym (append_assoc (due answer t.taken) part more)) ∙ append_assoc (due answer t.taken ++ part) more later.0
-    ∙ ap (λ (l : List ℕ). l ++ (more ++ later.0)) (sym went) in
-    talked l first new answer events WriteFailed (does_on l is first now new t.events (said part ∷ []) t.did did)
-    (waits_on (MayWait (due answer)) [] [] t.events (said part ∷ []) t.waits tt)
-    (more ++ later.0, all)
-    (more ++ later.0, omega (arith, prefix.1, length-append more later.0), all)
-
--- nothing more was heard: all is said
-all_said : {L : Type 0} (l : line.Ghosts L) (first now : L) (answer : ℕ → Raw → List ℕ) (stream : StreamParts) (count : ℕ)
-    → (t : IsTalking l first now answer stream count []) → (heard_in t.events ≡ t.taken) × (said_in t.events ≡ due answer (heard_in t.events))
-all_said l first now answer stream count t =
-    let came : heard_in t.events ≡ t.taken = t.came ∙ append-nil t.taken in
-    (came, t.went ∙ ap (due answer) (sym came))
-
--- bytes couldn't be heard
-pub talked_failed : {L : Type 0} (l : line.Ghosts L) → (first now : L) (answer : ℕ → Raw → List ℕ) (stream : StreamParts) (count : ℕ)
-    → IsTalking l first now answer stream count [] → HasTalked l first now (due answer) ReadFailed
-talked_failed l first now answer stream count t =
-    let s = all_said l first now answer stream count t in
-    talked l first now answer t.events ReadFailed t.did t.waits ([], sym s.1 ∙ sym (append-nil (said_in t.events))) s.1
-
--- the bytes are over
-pub talked_end : {L : Type 0} (l : line.Ghosts L) → (first now : L) (answer : ℕ → Raw → List ℕ) (stream : StreamParts) (count : ℕ) (ended : Ended)
-    → (t : IsTalking l first now answer stream count []) → EndsBytes t.taken ended → IsAtEnd (l.rest now) → HasTalked l first now (due answer) ended
-talked_end l first now answer stream count Done t end over =
-    let s = all_said l first now answer stream count t in
-    talked l first now answer t.events Done t.did t.waits ([], sym s.1 ∙ sym (append-nil (said_in t.events))) (s.1, ap bad_frame s.0 ∙ end, over)
-talked_end l first now answer stream count (Bad at) t end over =
-    let s = all_said l first now answer stream count t in
-    talked l first now answer t.events (Bad at) t.did t.waits ([], sym s.1 ∙ sym (append-nil (said_in t.events))) (
-      s.1,
-      ⊎_elim
-          (λ (h : first_refusal t.taken ≡ Some (frame.TooLong at)). inl (ap first_refusal s.0 ∙ h))
-          (λ (h : first_refusal t.taken ≡ Some (frame.Truncated at)). inr (ap first_refusal s.0 ∙ h, over))
-          end,
-    )
-talked_end l first now answer stream count ReadFailed t end over = absurd end
-talked_end l first now answer stream count WriteFailed t end over = absurd end
-talked_end l first now answer stream count TooLong t end over = absurd end
-
--- too many bytes came
-pub talked_over : FramesStay → {L : Type 0} (l : line.Ghosts L) → (first now : L) (answer : ℕ → Raw → List ℕ) (stream : StreamParts) (number : ℕ) (rest : List ℕ)
-    → IsTalking l first now answer stream number rest → max_count < stream.taken + length rest → HasTalked l first now (due answer) TooLong
-talked_over stay l first now answer stream number rest t many =
-    talked l first now answer t.events TooLong t.did t.waits (front_of stay l first now answer stream number rest t)
-    (omega (arith, many, t.stands.count, ap length t.came, length-append t.taken rest))
-
--- the reply to a frame wasn't said
-pub talked_stop : FramesStay → {L : Type 0} (A : Type 0) (l : line.Ghosts L) → IsLine l → (first now new : L) (answer : ℕ → Raw → List ℕ) (stream : StreamParts) (number : ℕ) (rest : List ℕ) (count : ℕ) (m : _) (ended : Ended)
-    → (t : IsTalking l first now answer stream number rest) → (push : IsPush t.taken rest count (pushed.Frame m))
-    → HasSaid {L = L} {A = A} l now new (answer number push.frames.0) (Err ended) → HasTalked l first new (due answer) ended
-talked_stop stay A l is first now new answer stream number rest count m Done t push went = absurd went
-talked_stop stay A l is first now new answer stream number rest count m (Bad at) t push went = absurd went
-talked_stop stay A l is first now new answer stream number rest count m ReadFailed t push went = absurd went
-talked_stop stay A l is first now new answer stream number rest count m WriteFailed t push went =
-    talked_part stay l is first now new answer stream number rest count m t push went.0 went.1 went.2
-talked_stop stay A l is first now new answer stream number rest count m TooLong t push went = absurd went

@@ -8,9 +8,10 @@ use Rattle.namespace_id.specs.Cells.{is_in_square}
 use Rattle.namespace_id.specs.Sizes.{namespace_size, share_size, digest_size}
 use Rattle.frame_fields.specs.Fields.{most_nodes}
 use Rattle.axis_roots.specs.Trees.{message_at}
-use Rattle.square_serve.specs.Serving.{HeldParts, answer_for}
+use Rattle.square_serve.specs.Answers.{is_wanted}
+use Rattle.square_serve.specs.Serving.{HeldParts, answer_for, entry_in}
 use Rattle.frame_payloads.specs.kinds.Message.{message_payload, most_message}
-use Rattle.frame_payloads.specs.kinds.Names.{names_payload}
+use Rattle.frame_payloads.specs.kinds.Names.{entry_bytes, names_payload}
 use Rattle.frame_payloads.specs.kinds.Requests.{sample_at, request_at}
 use Rattle.frame_payloads.specs.declared.refusals.Reason.{Reason}
 use Rattle.frame_payloads.specs.declared.refusals.Reason.TheVariants.{NoSuchFrame, NoAnswer}
@@ -88,3 +89,9 @@ replies_from answer number (raw ∷ frames) = answer number raw ++ replies_from 
 -- what is due for bytes that were heard: the replies to the frames that they begin with
 abbrev pub due : (ℕ → Raw → List ℕ) → List ℕ → List ℕ
 due answer bytes = replies_from answer 0 (frames_of bytes)
+
+-- ---- rows
+
+-- what is written of a row for a namespace: its entry, where the row may hold the namespace
+abbrev pub row_bytes : HeldParts → Namespace → ℕ → List ℕ
+row_bytes held name row = if is_wanted held.header name row then entry_bytes (entry_in held.k held.grid name row) else []

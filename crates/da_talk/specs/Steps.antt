@@ -1,23 +1,59 @@
 -- The steps of a talk: how far it has come between two events.
-use Rattle.std.specs.Prelude.{if◌then◌else◌, ◌≡◌, ◌⊎◌, ℕ, List, [], ◌∷◌, ◌++◌, length, Some, None, Ok, Err, Result, ⊤}
+use Rattle.std.specs.Prelude.{◌≡◌, ◌⊎◌, ℕ, List, [], ◌∷◌, ◌++◌, length, take, Ok, Err, Result, ⊤}
+use Rattle.std.specs.declared.option.Option.{Option}
 use Rattle.da_io.specs.declared.inputs.Ended.TheVariants as call
 use Rattle.da_io.specs.Sinks.{IsProperPrefix}
-use Rattle.da_wire.specs.declared.frames.FrameError.TheVariants as frame
 use Rattle.da_wire.specs.Reading.{Raw}
-use Rattle.da_wire.specs.Frames.{frames_of, bad_frame}
+use Rattle.da_wire.specs.Frames.{frames_of, frames_bytes}
 use Rattle.da_wire.specs.StreamParts.{StreamParts}
-use Rattle.da_wire.specs.Streams.{StandsFor, first_refusal}
-use Rattle.namespace_id.specs.declared.namespaces.Namespace.{Namespace}
-use Rattle.square_serve.specs.Answers.{is_wanted}
-use Rattle.square_serve.specs.Serving.{HeldParts, entry_in}
-use Rattle.frame_payloads.specs.kinds.Names.{entry_bytes}
+use Rattle.da_wire.specs.Streams.{StandsFor}
 use Rattle.da_talk.specs.declared.line.Line as line
+use Rattle.da_talk.specs.declared.talker.Talker as talker
+use Rattle.da_talk.specs.declared.talk_end.TalkEnd.{TalkEnd}
+use Rattle.da_talk.specs.declared.talk_end.TalkEnd.TheVariants.{Over, Decided, Bad, ReadFailed, WriteFailed, TooLong, NoMemory}
 use Rattle.da_talk.specs.declared.ended.Ended.{Ended}
-use Rattle.da_talk.specs.declared.ended.Ended.TheVariants.{Done, Bad, ReadFailed, WriteFailed, TooLong}
-use Rattle.da_talk.specs.declared.holding.Frames.{Frames}
+use Rattle.da_talk.specs.declared.ended.Ended.TheVariants as ended
+use Rattle.da_talk.specs.declared.talking.Frames.{Frames}
 use Rattle.da_talk.specs.Events.{Event, heard, said, heard_in, said_in}
-use Rattle.da_talk.specs.Replies.{due}
-use Rattle.da_talk.specs.Talks.{Does, HasNoLong, HasTalked, last_wait, read_count, write_count}
+use Rattle.da_talk.specs.Handed.{if_within}
+use Rattle.da_talk.specs.Talks.{Does, HasNoLong}
+use Rattle.da_talk.specs.Told.{IsTold, HasTold, last_heard, hear_count, say_count}
+
+-- ---- what is said
+
+-- saying a text is one event, none for an empty text
+abbrev pub spoken : List ℕ → List Event
+spoken [] = []
+spoken (byte ∷ bytes) = said (byte ∷ bytes) ∷ []
+
+-- a text was said, or a part of it
+abbrev pub Says : {L A E : Type 0} → line.Ghosts L → L → L → List ℕ → Result A E → Type 0
+Says l old new text (Ok x) = Does l old new (spoken text)
+Says l old new text (Err e) = (part : List ℕ) × IsProperPrefix part text × Does l old new (said part ∷ [])
+
+-- a text that is due was said, or a part of it
+abbrev pub SaysDue : {L A E : Type 0} → line.Ghosts L → L → L → (List ℕ → Type 0) → Result A E → Type 0
+SaysDue l old new Due result = (text : List ℕ) × Due text × Says l old new text result
+
+-- where the reply to a frame behind others comes to: it was said; the frame ended the talk, and the last words were; a part of
+-- either; or memory ran out
+abbrev pub Replied : {L T A : Type 0} → line.Ghosts L → talker.Ghosts T → L → L → T → T → List Raw → Raw → Result A TalkEnd → Type 0
+Replied l t old new first now frames frame (Ok x) =
+    t.led first now (frames ++ frame ∷ []) × (text : List ℕ) × t.replies first frames frame text × Does l old new (spoken text)
+Replied l t old new first now frames frame (Err Decided) =
+    (text : List ℕ) × t.decides first now (frames ++ frame ∷ []) text × Does l old new (spoken text)
+Replied l t old new first now frames frame (Err WriteFailed) =
+    (text : List ℕ) × ((t.led first now (frames ++ frame ∷ []) × t.replies first frames frame text) ⊎ t.decides first now (frames ++ frame ∷ []) text)
+    × (part : List ℕ) × IsProperPrefix part text × Does l old new (said part ∷ [])
+Replied l t old new first now frames frame (Err NoMemory) = t.takes_memory first × Does l old new []
+Replied l t old new first now frames frame (Err other) = ⊥
+
+-- so it does, whatever the frames before were, for the frame with this number that was handed so
+abbrev pub Replies : {L T A : Type 0} → line.Ghosts L → talker.Ghosts T → L → L → T → T → ℕ → Option Raw → Result A TalkEnd → Type 0
+Replies {L} {T} l t old new was now number handed result = (first : T) (frames : List Raw) (frame : Raw) → t.led first was frames
+    → length frames ≡ number → handed ≡ if_within (t.longest was) frame → Replied l t old new first now frames frame result
+
+-- ---- how far a talk has come
 
 -- from what was heard and said before on: whenever bytes are waited for, this holds of what was heard and said by then
 abbrev pub Waits : (List ℕ → List ℕ → Type 0) → List ℕ → List ℕ → List Event → Type 0
@@ -26,58 +62,74 @@ Waits Holds came went (heard bytes ∷ later) = Holds came went × Waits Holds (
 Waits Holds came went (said bytes ∷ later) = Waits Holds came (went ++ bytes) later
 
 -- bytes may be waited for: all that is due was said, and no frame states a length above the limit
-abbrev pub MayWait : (List ℕ → List ℕ) → List ℕ → List ℕ → Type 0
-MayWait due came went = (went ≡ due came) × HasNoLong came
+abbrev pub MayHear : {T : Type 0} → talker.Ghosts T → T → List ℕ → List ℕ → Type 0
+MayHear t first came went = IsTold t first (frames_of came) went × HasNoLong came
 
--- all replies were said to the frames that a stream has taken, of all bytes that were heard but for these at the end
-pub record IsTalking {L : Type 0} (l : line.Ghosts L) (first now : L) (answer : ℕ → Raw → List ℕ) (stream : StreamParts) (count : ℕ) (rest : List ℕ) : Type 0 where
+-- all was said that is due to the frames that a stream has taken, of all bytes that were heard but for these at the end, and of
+-- the frame under way so many bytes are kept, at most `size`
+pub record IsTelling {L T : Type 0} (l : line.Ghosts L) (t : talker.Ghosts T) (old now : L) (first state : T) (size : ℕ)
+    (stream : StreamParts) (count : ℕ) (kept rest : List ℕ) : Type 0 where
   pub events : List Event
-  pub did : Does l first now events
-  pub waits : Waits (MayWait (due answer)) [] [] events
+  pub did : Does l old now events
+  pub waits : Waits (MayHear t first) [] [] events
   pub taken : List ℕ
   pub came : heard_in events ≡ taken ++ rest
   pub stands : StandsFor stream taken
   pub short : HasNoLong taken
-  pub went : said_in events ≡ due answer taken
+  pub told : IsTold t first (frames_of taken) (said_in events)
+  pub led : t.led first state (frames_of taken)
   pub counted : count ≡ length (frames_of taken)
+  pub under : List ℕ
+  pub parts : taken ≡ frames_bytes (frames_of taken) ++ under
+  pub keeps : kept ≡ take size under
+
+-- what left the value so: frames led to it, it wrote the last words, or memory ran out
+abbrev pub IsLeft : {T : Type 0} → talker.Ghosts T → T → T → Type 0
+IsLeft t first now = (frames : List Raw) × (text : List ℕ)
+    × (t.led first now frames ⊎ (t.decides first now frames text ⊎ (t.ends first now frames text ⊎ t.takes_memory first)))
+
+-- a talk that ended, and how it left the value
+abbrev pub HasEnded : {L T : Type 0} → line.Ghosts L → talker.Ghosts T → L → L → T → T → TalkEnd → Type 0
+HasEnded l t old new first now why = HasTold l t old new first now why × IsLeft t first now
 
 -- where a call comes to that may end a talk: on with what it leaves of the bytes, or to the end
-abbrev pub GoesOn : {L A : Type 0} → line.Ghosts L → L → L → (ℕ → Raw → List ℕ) → Frames → (A → List ℕ) → Result A Ended → Type 0
-GoesOn l first new answer frames left (Ok x) = IsTalking l first new answer frames.stream frames.count (left x)
-GoesOn l first new answer frames left (Err ended) = HasTalked l first new (due answer) ended
+abbrev pub TellsOn : {L T A : Type 0} → line.Ghosts L → talker.Ghosts T → L → L → T → T → Frames → List ℕ → (A → List ℕ) → Result A TalkEnd → Type 0
+TellsOn l t old new first now frames room left (Ok x) =
+    IsTelling l t old new first now (length room) frames.stream frames.count (take frames.kept room) (left x)
+TellsOn l t old new first now frames room left (Err why) = HasEnded l t old new first now why
 
 -- so it does from wherever the talk began
-abbrev pub Leads : {L A : Type 0} → line.Ghosts L → L → L → (ℕ → Raw → List ℕ) → Frames → Frames → List ℕ → (A → List ℕ) → Result A Ended → Type 0
-Leads {L} l old new answer before after piece left result =
-    (first : L) → IsTalking l first old answer before.stream before.count piece → GoesOn l first new answer after left result
+abbrev pub Tells : {L T A : Type 0} → line.Ghosts L → talker.Ghosts T → L → L → T → T → Frames → Frames → List ℕ → List ℕ → List ℕ
+    → (A → List ℕ) → Result A TalkEnd → Type 0
+Tells {L} {T} l t was new state now before after had room piece left result = (old : L) (first : T)
+    → IsTelling l t old was first state (length had) before.stream before.count (take before.kept had) piece
+    → TellsOn l t old new first now after room left result
 
--- a reply was said, or a part of it
-abbrev pub HasSaid : {L A : Type 0} → line.Ghosts L → L → L → List ℕ → Result A Ended → Type 0
-HasSaid l old new text (Ok x) = Does l old new (said text ∷ [])
-HasSaid l old new text (Err Done) = ⊥
-HasSaid l old new text (Err (Bad at)) = ⊥
-HasSaid l old new text (Err ReadFailed) = ⊥
-HasSaid l old new text (Err WriteFailed) = (part : List ℕ) × IsProperPrefix part text × Does l old new (said part ∷ [])
-HasSaid l old new text (Err TooLong) = ⊥
-
--- how many replies couldn't be said whole
-abbrev pub write_faults : {A : Type 0} → Result A Ended → ℕ
-write_faults (Ok x) = 0
-write_faults (Err ended) = write_count ended
+-- ---- failures
 
 -- no wait for bytes failed
-abbrev pub HasHeard : Ended → Type 0
-HasHeard ended = (last_wait ended ≡ call.Fine) × (read_count ended ≡ 0)
+abbrev pub HasHeardAll : TalkEnd → Type 0
+HasHeardAll why = (last_heard why ≡ call.Fine) × (hear_count why ≡ 0)
 
--- how a talk ends whose bytes are over
-abbrev pub EndsBytes : List ℕ → Ended → Type 0
-EndsBytes bytes Done = bad_frame bytes ≡ None
-EndsBytes bytes (Bad at) =
-    (first_refusal bytes ≡ Some (frame.TooLong at)) ⊎ (first_refusal bytes ≡ Some (frame.Truncated at))
-EndsBytes bytes ReadFailed = ⊥
-EndsBytes bytes WriteFailed = ⊥
-EndsBytes bytes TooLong = ⊥
+-- how many pieces couldn't be said whole
+abbrev pub say_faults : {A : Type 0} → Result A TalkEnd → ℕ
+say_faults (Ok x) = 0
+say_faults (Err why) = say_count why
 
--- what is written of a row for a namespace: its entry, where the row may hold the namespace
-abbrev pub row_bytes : HeldParts → Namespace → ℕ → List ℕ
-row_bytes held name row = if is_wanted held.header name row then entry_bytes (entry_in held.k held.grid name row) else []
+-- ---- a talk of replies alone
+
+-- a talk ends so in which no frame decides and no memory is taken
+abbrev pub IsPlain : TalkEnd → Type 0
+IsPlain Decided = ⊥
+IsPlain NoMemory = ⊥
+IsPlain other = ⊤
+
+-- and how that is told
+abbrev pub EndsAs : TalkEnd → Ended → Type 0
+EndsAs Over end = end ≡ ended.Done
+EndsAs Decided end = ⊥
+EndsAs (Bad at) end = end ≡ ended.Bad at
+EndsAs ReadFailed end = end ≡ ended.ReadFailed
+EndsAs WriteFailed end = end ≡ ended.WriteFailed
+EndsAs TooLong end = end ≡ ended.TooLong
+EndsAs NoMemory end = ⊥

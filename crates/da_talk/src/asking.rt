@@ -1,12 +1,13 @@
 //! What a frame asks for.
 
-ghost use Rattle.std.specs.Prelude.{◌≡◌, ◌++◌, ◌∷◌, [], ℕ, List, None};
-ghost use Rattle.da_wire.specs.Reading.{Raw};
-ghost use Rattle.da_wire.specs.Frames.{frames_of, bad_frame};
-ghost use Rattle.da_wire.specs.Streams.{StandsFor};
+ghost use Rattle.std.specs.Prelude.{◌≡◌};
+ghost use Rattle.std.specs.Option.{option_map};
+ghost use Rattle.namespace_id.specs.Sizes.{namespace_size};
+ghost use Rattle.da_wire.specs.Reading.{Raw, raw_seen};
+ghost use Rattle.da_talk.specs.Handed.{if_within};
 ghost use Rattle.da_talk.specs.Replies.{asked_by};
 
-use da_wire::{FrameStream, stream_laws, wire_laws};
+use da_wire::RawFrame;
 use frame_payloads::{request, sample};
 use namespace_id::{Axis, Cell, Namespace};
 
@@ -38,16 +39,13 @@ pub fn asks_for(kind: u8, payload: &[u8]) -> Asked
     }
 }
 
-/// What the frame asks for that the bytes of a stream end with. One that is longer than a stream keeps is
-/// no request.
-pub(crate) fn asked_last(stream: &FrameStream) -> Asked
-    ensures { (bytes : List ℕ) (before : List Raw) (frame : Raw) → StandsFor stream.now bytes →
-        bad_frame bytes ≡ None → frames_of bytes ≡ before ++ frame ∷ [] →
-        result ≡ asked_by frame.kind frame.payload }
+/// What a frame asks for that is handed where its payload is no longer than that of a request for a namespace. A longer one
+/// asks for nothing.
+pub(crate) fn asked_in(frame: Option<RawFrame<'_>>) -> Asked
+    ensures { (raw : Raw) → option_map (λ f. raw_seen f) frame.entry ≡ if_within namespace_size raw →
+        result ≡ asked_by raw.kind raw.payload }
 {
-    wire_laws();
-    stream_laws();
-    match stream.last() {
+    match frame {
         Some(frame) => asks_for(frame.kind, frame.payload),
         None => Asked::Nothing,
     }

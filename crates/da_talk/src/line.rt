@@ -55,6 +55,7 @@ pub trait Line {
     fn say(&mut self, bytes: &[u8]) -> Result<(), WriteFailed>
         ensures said { Gives (events self.old) (events self.new) (rest self.old) (rest self.new)
             (taken self.old) (taken self.new) bytes.now result }
+        ensures rest { rest self.new ≡ rest self.old }
         ensures given { given self.new ≡ given self.old }
         ensures ended { ended self.new ≡ ended self.old }
         ensures read_faults { read_faults self.new ≡ read_faults self.old }

@@ -10,16 +10,14 @@ ghost use Rattle.square_serve.specs.Serving.{entry_in, answer_for};
 ghost use Rattle.frame_payloads.specs.kinds.Names.{entry_bytes, names_payload};
 ghost use Rattle.da_wire.specs.Spelling.{frame, names_kind};
 ghost use Rattle.da_talk.specs.Replies.{most_entry, most_names};
-ghost use Rattle.da_talk.specs.Steps.{row_bytes};
+ghost use Rattle.da_talk.specs.Replies.{row_bytes};
 
+use crate::frames::HEAD_SIZE;
 use frame_payloads::{put_absence, put_range};
 use namespace_id::{
     Namespace, append, digest_law, digests_law, namespace_law, shares_law, write_at,
 };
 use square_serve::{Held, RowFound};
-
-/// The bytes of a frame before its payload.
-pub(crate) const HEAD_SIZE: usize = 5;
 
 /// Appends the entry of a row for a namespace.
 fn put_entry(text: &mut Vec<u8>, held: &mut Held, row: u16, name: &Namespace)

@@ -5,17 +5,14 @@ ghost use Rattle.namespace_id.specs.Answers.{HasRoom};
 ghost use Rattle.namespace_id.specs.Cells.{is_width};
 ghost use Rattle.frame_payloads.specs.kinds.Message.{message_payload, most_message};
 ghost use Rattle.da_wire.specs.Spelling.{frame, message_kind};
-ghost use Rattle.da_talk.specs.Replies.{most_reply, reply, sample_reply, names_reply, refusal};
+ghost use Rattle.da_talk.specs.Replies.{most_reply, reply, sample_reply, names_reply};
 
 use crate::Asked;
-use crate::names::{HEAD_SIZE, put_names};
+use crate::frames::{HEAD_SIZE, put_head, put_refusal_frame};
+use crate::names::put_names;
 use axis_roots::{Message, message_law};
-use frame_payloads::{
-    MOST_MESSAGE, REFUSAL_SIZE, Reason, Refusal, message_size, put_message, put_refusal,
-};
-use namespace_id::{
-    Axis, Cell, DIGEST_SIZE, MOST_DEPTH, NAMESPACE_SIZE, Namespace, SHARE_SIZE, append,
-};
+use frame_payloads::{MOST_MESSAGE, Reason, message_size, put_message};
+use namespace_id::{Axis, Cell, DIGEST_SIZE, MOST_DEPTH, NAMESPACE_SIZE, Namespace, SHARE_SIZE};
 use square_serve::Held;
 
 /// The most bytes of a reply of a held square of width `k`: a text in which replies are spelled needs room
@@ -29,17 +26,6 @@ pub fn most_reply(k: u16) -> usize
     HEAD_SIZE + MOST_MESSAGE.max(NAMESPACE_SIZE + 2 + entry * k)
 }
 
-/// Appends the refusal of the frame with a number.
-fn put_refused(text: &mut Vec<u8>, reason: Reason, number: u64)
-    requires room { HasRoom text.old (5 + most_message) }
-    ensures appended { text.new.items ≡ text.old.items ++ refusal reason number }
-    ensures capacity { vec_capacity text.old ≤ vec_capacity text.new }
-{
-    append(text, b"E");
-    append(text, &REFUSAL_SIZE.to_be_bytes());
-    put_refusal(text, Refusal { reason, number });
-}
-
 /// Appends the frame of a sample.
 fn put_frame(text: &mut Vec<u8>, message: &Message)
     requires room { HasRoom text.old (5 + most_message) }
@@ -48,8 +34,7 @@ fn put_frame(text: &mut Vec<u8>, message: &Message)
     ensures capacity { vec_capacity text.old ≤ vec_capacity text.new }
 {
     message_law(message);
-    append(text, b"M");
-    append(text, &message_size(message).to_be_bytes());
+    put_head(text, b'M', message_size(message));
     put_message(text, message);
 }
 
@@ -63,7 +48,7 @@ fn put_sample(text: &mut Vec<u8>, held: &mut Held, number: u64, cell: Cell, axis
 {
     match held.sample(cell, axis) {
         Ok(message) => put_frame(text, &message),
-        Err(_) => put_refused(text, Reason::NoAnswer, number),
+        Err(_) => put_refusal_frame(text, Reason::NoAnswer, number),
     }
 }
 
@@ -76,7 +61,7 @@ fn put_answer(text: &mut Vec<u8>, held: &mut Held, number: u64, name: Namespace)
     ensures capacity { vec_capacity text.old ≤ vec_capacity text.new }
 {
     if name.is_parity() {
-        put_refused(text, Reason::NoAnswer, number);
+        put_refusal_frame(text, Reason::NoAnswer, number);
         return;
     }
     held.held_law();
@@ -94,6 +79,6 @@ pub(crate) fn put_reply(text: &mut Vec<u8>, held: &mut Held, number: u64, asked:
     match asked {
         Asked::Sample(cell, axis) => put_sample(text, held, number, cell, axis),
         Asked::Names(name) => put_answer(text, held, number, name),
-        Asked::Nothing => put_refused(text, Reason::NoSuchFrame, number),
+        Asked::Nothing => put_refusal_frame(text, Reason::NoSuchFrame, number),
     }
 }

@@ -2,7 +2,7 @@ use Rattle.std.proofs.Common.{◌≡◌, ◌∙◌, ◌<◌, ◌++◌, ℕ, ap, 
 use Rattle.square_serve.specs.Answers.{is_wanted}
 use Rattle.square_serve.specs.Serving.{HeldParts, entry_in}
 use Rattle.da_talk.specs.Replies.{most_entry}
-use Rattle.da_talk.specs.Steps.{row_bytes}
+use Rattle.da_talk.specs.Replies.{row_bytes}
 use Rattle.da_talk.proofs.NamesLemmas.{rows_on, rows_end, room_on}
 use Rattle.da_talk.proofs.names.put_entries.Goals as goal
 

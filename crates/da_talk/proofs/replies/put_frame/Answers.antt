@@ -8,10 +8,8 @@ put_message-requires c = record {
   room = omega (
     arith,
     length-message_payload c.args.message.now c.message_law.ensures,
-    c.append.ensures.len,
-    c.append-2.ensures.len,
-    c.append.ensures.capacity,
-    c.append-2.ensures.capacity,
+    c.put_head.ensures.len,
+    c.put_head.ensures.capacity,
     c.requires,
   );
 }
