@@ -1,0 +1,10 @@
+pub mod FedLemmas
+pub mod LeftLemmas
+pub mod SessionLemmas
+pub mod HandedLemmas
+pub mod WordLemmas
+pub mod TellLemmas
+pub mod GatherLemmas
+pub mod LastLemmas
+pub mod TalkLemmas
+pub mod LieLemmas

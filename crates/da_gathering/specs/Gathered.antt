@@ -1,0 +1,149 @@
+-- gather HEADER TALK: what a repair replies to frames that come one after another (docs/FORMATS.md, "Talks").
+use Rattle.std.specs.Prelude.{◌≡◌, ℕ, List, [], ◌∷◌, ◌++◌, length, Bool, true, false, not, ◌==◌, ◌&&◌, Option, Some, None, is_some, ⊤}
+use Rattle.std.specs.List.{filter}
+use Rattle.namespace_id.specs.Cells.{CellList}
+use Rattle.data_header.specs.Headers.{Roots}
+use Rattle.axis_roots.specs.declared.message.messages.CheckRefusal.TheVariants.{OutOfSquare, NodeCount, Unordered, OtherRoot}
+use Rattle.repair_queue.specs.SessionParts.{SessionParts, StandsFor}
+use Rattle.repair_queue.specs.Verdicts.{missing, IsVerdict}
+use Rattle.frame_payloads.specs.kinds.Message.{most_message}
+use Rattle.frame_payloads.specs.kinds.State.{state_at}
+use Rattle.frame_payloads.specs.declared.refusals.Reason.{Reason}
+use Rattle.frame_payloads.specs.declared.refusals.Reason.TheVariants.{NoSuchFrame, FirstCheck, SecondCheck, ThirdCheck, FourthCheck}
+use Rattle.da_wire.specs.declared.frames.Frame.TheVariants as kinds
+use Rattle.da_wire.specs.Spelling.{spelling, state_kind, refusal_kind}
+use Rattle.da_wire.specs.Reading.{Raw}
+use Rattle.da_wire.specs.Frames.{frames_of}
+use Rattle.da_status.specs.declared.status.Status.{Status}
+use Rattle.da_status.specs.declared.status.Status.TheVariants.{Missing}
+use Rattle.da_judging.specs.declared.check.Finding.{Finding}
+use Rattle.da_judging.specs.declared.check.Finding.TheVariants as found
+use Rattle.da_judging.specs.Check.{finding_of}
+use Rattle.da_judging.specs.Repair.{messages_in, lies_in, Repairs}
+use Rattle.da_talk.specs.declared.line.Line as line
+use Rattle.da_talk.specs.declared.talker.Talker as talker
+use Rattle.da_talk.specs.declared.talk_end.TalkEnd.{TalkEnd}
+use Rattle.da_talk.specs.declared.talk_end.TalkEnd.TheVariants as ends
+use Rattle.da_talk.specs.Replies.{refusal}
+use Rattle.da_talk.specs.Told.{IsTold, HasTold}
+use Rattle.da_gathering.specs.Gatherings.{Gathering, most_gathered}
+
+-- ---- frames
+
+-- whether a frame asks how a repair stands: it is a state
+abbrev pub asks_state : Raw → Bool
+asks_state frame = (frame.kind == state_kind) && is_some (state_at frame.payload)
+
+-- the frames that a repair is fed with: those that don't ask
+abbrev pub fed : List Raw → List Raw
+fed frames = filter (λ frame. not (asks_state frame)) frames
+
+-- a repair was fed with these frames
+pub record HasGathered (header : Roots) (frames : List Raw) (g : Gathering) : Type 0 where
+  pub header_is : g.header ≡ header
+  pub session : SessionParts
+  pub is : g.session ≡ Some session
+  pub under : session.header ≡ header
+  pub stands : StandsFor session (messages_in (fed frames))
+  pub lies : g.lies ≡ lies_in header (fed frames)
+
+-- a repair was fed with nothing yet
+abbrev pub IsFresh : Gathering → Type 0
+IsFresh g = HasGathered g.header [] g × (g.is_over ≡ false)
+
+-- ---- replies
+
+-- why a frame is refused: no sample of the grammar, or the first check of a sample that fails; none that is proved is
+abbrev pub reason_for : Finding → Option Reason
+reason_for found.Proved = None
+reason_for found.NoMessage = Some NoSuchFrame
+reason_for (found.Refused OutOfSquare) = Some FirstCheck
+reason_for (found.Refused NodeCount) = Some SecondCheck
+reason_for (found.Refused Unordered) = Some ThirdCheck
+reason_for (found.Refused OtherRoot) = Some FourthCheck
+
+-- the cells that don't follow from the proved samples of frames; there are some, and nothing is wrong with the header
+abbrev pub AreMissing : Roots → List Raw → CellList → Type 0
+AreMissing header frames cells = IsVerdict header (messages_in (fed frames)) (missing cells)
+
+-- the refusal of the frame with a number, nothing where there is no reason
+abbrev pub refusal_for : Option Reason → ℕ → List ℕ
+refusal_for None number = []
+refusal_for (Some reason) number = refusal reason number
+
+-- the reply to a frame behind others: to one that asks the missing cells, to a lie its refusal, to another none
+abbrev pub IsReplyBy : Bool → Roots → List Raw → Raw → List ℕ → Type 0
+IsReplyBy true header frames frame text =
+    (cells : CellList) × AreMissing header frames cells × (spelling (kinds.Missing cells) ≡ Some text)
+IsReplyBy false header frames frame text = text ≡ refusal_for (reason_for (finding_of header frame)) (length frames)
+
+-- the reply to a frame, by whether it asks
+abbrev pub IsReply : Roots → List Raw → Raw → List ℕ → Type 0
+IsReply header frames frame text = IsReplyBy (asks_state frame) header frames frame text
+
+-- the reply to a frame behind which the talk goes on: cells are missing still
+abbrev pub RepliesOn : Roots → List Raw → Raw → List ℕ → Type 0
+RepliesOn header frames frame text =
+    IsReply header frames frame text × (cells : CellList) × AreMissing header (frames ++ frame ∷ []) cells
+
+-- ---- last words
+
+-- whether a status is that of missing cells
+abbrev pub is_missing : Status → Bool
+is_missing (Missing cells lies) = true
+is_missing other = false
+
+-- the last words behind frames: what `repair` may write of those that don't ask, whether cells are missing, and the status that
+-- goes with it, which is kept
+pub record AreLastWords (header : Roots) (frames : List Raw) (more : Bool) (text : List ℕ) (kept : Option Status) : Type 0 where
+  pub status : Status
+  pub repairs : Repairs header (fed frames) text status
+  pub of : is_missing status ≡ more
+  pub kept_is : kept ≡ Some status
+
+-- a status is kept, that of missing cells or another
+abbrev pub Keeps : Bool → Option Status → Type 0
+Keeps more kept = (status : Status) × (kept ≡ Some status) × (is_missing status ≡ more)
+
+-- the status that goes with the end of a talk: that of missing cells where the bytes were over, another where a frame ended it
+abbrev pub GoesWith : TalkEnd → Option Status → Type 0
+GoesWith ends.Over kept = Keeps true kept
+GoesWith ends.Decided kept = Keeps false kept
+GoesWith (ends.Bad at) kept = ⊤
+GoesWith ends.ReadFailed kept = ⊤
+GoesWith ends.WriteFailed kept = ⊤
+GoesWith ends.TooLong kept = ⊤
+GoesWith ends.NoMemory kept = ⊥
+
+-- ---- talks
+
+-- what is due in a talk of a repair under a header, for a talker of which no more is seen than the status that goes with its
+-- last words
+abbrev pub gathering : Roots → talker.Ghosts (Option Status)
+gathering header = record {
+  is_fresh = λ kept. ⊤;
+  led = λ first now frames. ⊤;
+  is_over = λ kept. false;
+  longest = λ kept. most_message;
+  most = λ kept. most_gathered header.k;
+  takes_memory = λ kept. ⊥;
+  begins = λ first text. text ≡ [];
+  replies = λ first frames frame text. RepliesOn header frames frame text;
+  decides = λ first now frames text. AreLastWords header frames false text now;
+  ends = λ first now frames text. AreLastWords header frames true text now;
+}
+
+-- a talk of a repair: what was said to its frames and when, how it ended, and the status that goes with its last words
+abbrev pub Gathers : {L : Type 0} → line.Ghosts L → L → L → Roots → Option Status → TalkEnd → Type 0
+Gathers l old new header kept ended = HasTold l (gathering header) old new kept kept ended
+
+-- ---- what belongs to such talks
+
+-- how many frames of bytes are refusals
+abbrev pub refusals_in : List ℕ → ℕ
+refusals_in bytes = length (filter (λ frame. frame.kind == refusal_kind) (frames_of bytes))
+
+-- what was said to frames holds as many refusals as frames are lies
+abbrev pub RefusesEachLie : Type 0
+RefusesEachLie = (header : Roots) (kept : Option Status) (frames : List Raw) (said : List ℕ) → IsTold (gathering header) kept frames said
+    → refusals_in said ≡ lies_in header (fed frames)
