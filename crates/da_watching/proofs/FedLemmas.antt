@@ -1,0 +1,66 @@
+-- The events among the frames of a talk, by its last frame.
+use Rattle.std.proofs.Common.{◌≡◌, ◌∙◌, Bool, true, false, not, cond, List, [], ◌∷◌, ◌++◌, append-nil, Option, Some, None, refl, ap}
+use Rattle.std.specs.Option.{option_map_or}
+use Rattle.std.proofs.lemmas.List.Elements.{filter-append}
+use Rattle.light_node.specs.declared.events.Event.{Event}
+use Rattle.da_wire.specs.Reading.{Raw}
+use Rattle.da_judging.specs.Light.{event_in, events_in}
+use Rattle.da_watching.specs.Watched.{asks_state, fed, events_of}
+
+-- an event, if there is one, before others
+abbrev with_event : Option Event → List Event → List Event
+with_event found later = option_map_or (λ event. event ∷ later) found later
+
+-- an event that is there before some and others
+with_event-append : (found : Option Event) (some others : List Event) → with_event found (some ++ others) ≡ with_event found some ++ others
+with_event-append None some others = refl
+with_event-append (Some event) some others = refl
+
+-- the events among frames and others
+pub events_in-append : (frames others : List Raw) → events_in (frames ++ others) ≡ events_in frames ++ events_in others
+unfolding events_in
+events_in-append [] others = refl
+events_in-append (frame ∷ later) others =
+    ap (with_event (event_in frame)) (events_in-append later others) ∙ with_event-append (event_in frame) (events_in later) (events_in others)
+
+-- the one event of a frame
+events_in-one : (frame : Raw) (found : Option Event) → event_in frame ≡ found → events_in (frame ∷ []) ≡ with_event found []
+unfolding events_in
+events_in-one frame found e = ap (λ (o : Option Event). with_event o []) e
+
+-- which frames are fed of one, by whether it asks for the state
+fed-one : (frame : Raw) (asks : Bool) → asks_state frame ≡ asks → fed (frame ∷ []) ≡ cond asks [] (frame ∷ [])
+fed-one frame true e = ap (λ (b : Bool). cond (not b) (frame ∷ []) []) e
+fed-one frame false e = ap (λ (b : Bool). cond (not b) (frame ∷ []) []) e
+
+-- the frames that are fed of some and one more
+fed-append : (frames others : List Raw) → fed (frames ++ others) ≡ fed frames ++ fed others
+fed-append frames others = filter-append (λ (frame : Raw). not (asks_state frame)) frames others
+
+-- the events among frames and one more
+events_of-append : (frames : List Raw) (frame : Raw) → events_of (frames ++ frame ∷ []) ≡ events_of frames ++ events_of (frame ∷ [])
+events_of-append frames frame = ap events_in (fed-append frames (frame ∷ [])) ∙ events_in-append (fed frames) (fed (frame ∷ []))
+
+-- a frame that asks for the state is no event
+pub events_asked : (frames : List Raw) (frame : Raw) → asks_state frame ≡ true → events_of (frames ++ frame ∷ []) ≡ events_of frames
+unfolding events_in
+events_asked frames frame e =
+    events_of-append frames frame ∙ ap (λ (l : List Raw). events_of frames ++ events_in l) (fed-one frame true e) ∙ append-nil (events_of frames)
+
+-- another is the event that it is
+pub events_fed : (frames : List Raw) (frame : Raw) (event : Event) → asks_state frame ≡ false → event_in frame ≡ Some event
+    → events_of (frames ++ frame ∷ []) ≡ events_of frames ++ event ∷ []
+events_fed frames frame event asks e =
+    events_of-append frames frame ∙ ap (λ (l : List Raw). events_of frames ++ events_in l) (fed-one frame false asks)
+    ∙ ap (λ (l : List Event). events_of frames ++ l) (events_in-one frame (Some event) e)
+
+-- or none
+pub events_none : (frames : List Raw) (frame : Raw) → asks_state frame ≡ false → event_in frame ≡ None → events_of (frames ++ frame ∷ []) ≡ events_of frames
+events_none frames frame asks e =
+    events_of-append frames frame ∙ ap (λ (l : List Raw). events_of frames ++ events_in l) (fed-one frame false asks)
+    ∙ ap (λ (l : List Event). events_of frames ++ l) (events_in-one frame None e) ∙ append-nil (events_of frames)
+
+-- no frames have no events
+pub events_empty : events_of [] ≡ []
+unfolding events_in
+events_empty = refl

@@ -1,0 +1,5 @@
+//! Tests of talks with a light node.
+#![tactic(auto)]
+
+#[cfg(test)]
+mod watched;
