@@ -13,7 +13,9 @@ _da_words() {
         compact) echo HEADER CLAIM ;;
         check) echo HEADER MESSAGES ;;
         repair) echo HEADER MESSAGES ;;
+        gather) echo HEADER TALK ;;
         light) echo HEADER MESSAGES KEY COUNT ;;
+        watch) echo HEADER KEY COUNT TALK ;;
         wanted) echo MISSING AXIS ;;
         cells) echo HEADER KEY COUNT AXIS ;;
         blobs) echo SHARES ;;
@@ -82,7 +84,7 @@ _da_files() {
 _da() {
     local word=${COMP_WORDS[COMP_CWORD]}
     local before=${COMP_WORDS[COMP_CWORD - 1]}
-    local commands="build header sample namespace hold verify compact check repair light wanted cells blobs transactions find commit prove follow root net show json import export demo help version"
+    local commands="build header sample namespace hold verify compact check repair gather light watch wanted cells blobs transactions find commit prove follow root net show json import export demo help version"
     local words
     COMPREPLY=()
     # Behind a sign like > stands a file.

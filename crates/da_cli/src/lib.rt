@@ -21,3 +21,4 @@ pub use gathering::FILE_LIMIT;
 pub use laws::run_laws;
 pub use running::run;
 pub use streaming::STREAM_LIMIT;
+pub use values::{is_key_name, key_in, key_name, number_in};

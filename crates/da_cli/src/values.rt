@@ -36,7 +36,7 @@ fn digits_value(digits: &[u8], most: u64) -> Option<u64>
 
 /// The number that a word is: decimal digits without a leading zero, or 0. None where it is none, or
 /// is above `most`.
-pub(crate) fn number_in(word: &str, most: u64) -> Option<u64>
+pub fn number_in(word: &str, most: u64) -> Option<u64>
     ensures { result ≡ number_in most word.now }
 {
     let digits = word.as_bytes();
@@ -47,14 +47,14 @@ pub(crate) fn number_in(word: &str, most: u64) -> Option<u64>
 }
 
 /// The key that a word is: 64 hexadecimal digits of either case.
-pub(crate) fn key_in(word: &str) -> Option<[u8; 32]>
+pub fn key_in(word: &str) -> Option<[u8; 32]>
     ensures { result ≡ key_in word.now }
 {
     <[u8; 32]>::from_hex(word).ok()
 }
 
 /// Whether a word in the place of KEY names a file: an `@`, and the name behind it.
-pub(crate) fn is_key_name(word: &str) -> bool
+pub fn is_key_name(word: &str) -> bool
     ensures { result ≡ is_key_name word.now }
 {
     let bytes = word.as_bytes();
@@ -62,7 +62,7 @@ pub(crate) fn is_key_name(word: &str) -> bool
 }
 
 /// The name of the file that such a word names.
-pub(crate) fn key_name(word: &str) -> &str
+pub fn key_name(word: &str) -> &str
     ensures { result.now ≡ key_name word.now }
 {
     match word.strip_prefix('@') {

@@ -21,7 +21,9 @@ const COMMANDS: &[u8] = b"\
     da compact HEADER CLAIM\n\
     da check HEADER MESSAGES\n\
     da repair HEADER MESSAGES\n\
+    da gather HEADER TALK\n\
     da light HEADER MESSAGES KEY COUNT\n\
+    da watch HEADER KEY COUNT TALK\n\
     da wanted MISSING AXIS\n\
     da cells HEADER KEY COUNT AXIS\n\
     da blobs SHARES\n\

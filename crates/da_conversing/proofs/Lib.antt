@@ -1,2 +1,9 @@
 -- picks
 pub mod PickLemmas
+-- talks that end with their input
+pub mod WholeLemmas
+-- replies, and what commands write
+pub mod ReplyLemmas
+pub mod SameLemmas
+-- watches
+pub mod WatchLemmas

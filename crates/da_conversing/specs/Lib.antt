@@ -1,6 +1,16 @@
 -- which words are a command that stays
 pub mod Words
--- SQUARE, which is read and held before TALK is picked
+-- files that are read before TALK is picked
+pub mod Inputs
+-- SQUARE, held before TALK is picked
 pub mod Squares
--- what came of the words
+-- what came of the words of hold
 pub mod Courses
+-- a talk with whatever replies
+pub mod Tellings
+-- what came of the words of gather
+pub mod Gathers
+-- what came of the words of watch
+pub mod Watches
+-- what replies have in common with what other commands write
+pub mod Laws

@@ -5,9 +5,16 @@
 #![tactic(auto)]
 
 mod conversing;
+mod gathering;
+mod holding;
+mod laws;
+mod reading;
 mod squares;
 mod talking;
+mod tellings;
+mod watching;
 mod words;
 
 pub use conversing::converse;
+pub use laws::reply_laws;
 pub use words::is_talk;

@@ -3,11 +3,12 @@
 ghost use Rattle.std.specs.Prelude.{◌≡◌, Some};
 ghost use Rattle.std.specs.String.{string_bytes};
 ghost use Rattle.da_io.specs.Faults.{count_on};
-ghost use Rattle.da_conversing.specs.Squares.{ReadsContent, ReadsSquare, HoldsSquare, square_faults};
+ghost use Rattle.da_conversing.specs.Inputs.{reading_faults};
+ghost use Rattle.da_conversing.specs.Squares.{ReadsSquare, HoldsSquare};
 
-use da_cli::FILE_LIMIT;
+use crate::reading::content_of;
 use da_files::{Unread, square_in};
-use da_io::{InputFault, Inputs, read_all};
+use da_io::Inputs;
 use da_status::{Asked, Status};
 use square_layout::Square;
 use square_serve::{Held, HeldError};
@@ -15,26 +16,6 @@ use std::alloc::Global;
 
 /// The number of SQUARE among the words that name files.
 const SQUARE: u32 = 0;
-
-/// The bytes of the file with a name, SQUARE.
-fn content_of<I: Inputs>(alloc: Global, name: String, inputs: &mut I) -> Result<Vec<u8>, Status>
-    ensures content { ReadsContent (I.files inputs.old) (string_bytes name) (I.ended inputs.new)
-        (I.given inputs.new) result }
-    ensures faults { I.faults inputs.new ≡ square_faults result (I.faults inputs.old) }
-    ensures picked { I.picked inputs.new ≡ Some (string_bytes name) }
-    ensures picks { I.picks inputs.new ≡ count_on (I.picks inputs.old) 1 }
-    ensures files { I.files inputs.new ≡ I.files inputs.old }
-{
-    if inputs.pick(name).is_err() {
-        return Err(Status::PickFault(SQUARE));
-    }
-    match read_all(alloc, inputs, FILE_LIMIT) {
-        Ok(content) => Ok(content),
-        Err(InputFault::ReadFailed) => Err(Status::ReadFault(SQUARE)),
-        Err(InputFault::TooLong(_)) => Err(Status::TooLong(SQUARE)),
-        Err(InputFault::NoMemory) => Err(Status::NoMemory),
-    }
-}
 
 /// The square in the file with a name.
 pub(crate) fn square_of<I: Inputs>(
@@ -44,12 +25,12 @@ pub(crate) fn square_of<I: Inputs>(
 ) -> Result<Square, Status>
     ensures square { ReadsSquare (I.files inputs.old) (string_bytes name) (I.ended inputs.new)
         (I.given inputs.new) result }
-    ensures faults { I.faults inputs.new ≡ square_faults result (I.faults inputs.old) }
+    ensures faults { I.faults inputs.new ≡ reading_faults result (I.faults inputs.old) }
     ensures picked { I.picked inputs.new ≡ Some (string_bytes name) }
     ensures picks { I.picks inputs.new ≡ count_on (I.picks inputs.old) 1 }
     ensures files { I.files inputs.new ≡ I.files inputs.old }
 {
-    let content = content_of(alloc, name, inputs)?;
+    let content = content_of(alloc, SQUARE, name, inputs)?;
     match square_in(alloc, &content) {
         Ok(square) => Ok(square),
         Err(Unread::BadForm(at)) => Err(Status::BadInput(SQUARE, at)),

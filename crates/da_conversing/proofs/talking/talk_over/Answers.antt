@@ -1,6 +1,6 @@
 use Rattle.std.proofs.Common.{inr}
 use Rattle.std.specs.String.{string_bytes}
-use Rattle.da_conversing.proofs.PickLemmas.{opened}
+use Rattle.da_conversing.proofs.PickLemmas.{opened, file_of}
 use Rattle.da_conversing.proofs.talking.talk_over.Goals as goal
 
 -- TALK was picked, and the talk over it came to its end
@@ -16,5 +16,8 @@ returns-clause-talk g c =
         rest = opened _ (g.I.Inputs.files c.args.inputs.now) (string_bytes c.args.name) (g.I.Inputs.rest c.pick.new.self) _ c.in-Ok.ensures.rest;
       },
       c.talk.ensures.talk,
+      file_of (g.I.Inputs.files c.args.inputs.now) (string_bytes c.args.name) _ (g.I.Inputs.rest c.pick.new.self) _
+          (opened _ (g.I.Inputs.files c.args.inputs.now) (string_bytes c.args.name) (g.I.Inputs.rest c.pick.new.self) _ c.in-Ok.ensures.rest)
+          c.talk.ensures.talk.heard,
       c.status_of.ensures,
     )
