@@ -9,8 +9,10 @@ mod compacting;
 mod laws;
 mod upheld;
 mod verifying;
+mod view;
 
 pub use compacting::{Compacted, compact, compact_laws};
 pub use laws::refusal_laws;
 pub use upheld::Upheld;
-pub use verifying::{FraudRefusal, FraudRefused, VerifyRoom, verify};
+pub use verifying::{FraudRefusal, FraudRefused, VerifyRoom, judge, verify};
+pub use view::ClaimView;

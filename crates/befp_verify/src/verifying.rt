@@ -14,10 +14,11 @@ ghost use Rattle.befp_verify.specs.declared.verifying.FraudRefusal.TheVariants a
 ghost use Rattle.befp_verify.specs.Refusals.{is_shaped, cell_refusal, refused_from, first_unproved, nodes_refusal, unopened, HasCause, why_of};
 ghost use Rattle.befp_verify.specs.Lines.{IsRootThrough};
 
-use crate::Upheld;
+use crate::view::view_law;
+use crate::{ClaimView, Upheld};
 use axis_roots::{
-    CheckRefusal, FraudClaim, Message, claim_law, claim_laws, index, is_along, is_root,
-    line_strict_root, message_laws, opens, position,
+    CheckRefusal, FraudClaim, Message, claim_laws, index, is_along, is_root, line_strict_root,
+    message_laws, opens, position,
 };
 use data_header::Header;
 use leopard_code::{Room, rebuild};
@@ -102,7 +103,7 @@ impl VerifyRoom {
 }
 
 /// Whether each cell is on the accused axis.
-fn are_on(claim: &FraudClaim) -> bool
+fn are_on(claim: &ClaimView<'_>) -> bool
     ensures { result ≡ list_all (is_on claim.now) claim.now.cells }
 {
     claim
@@ -125,14 +126,14 @@ fn are_ascending(axis: Axis, cells: &[Message]) -> bool
 
 /// Whether a claim accuses an axis of a square of width `k` by exactly k cells of it, at ascending
 /// positions.
-fn has_shape(k: u16, claim: &FraudClaim) -> bool
+fn has_shape(k: u16, claim: &ClaimView<'_>) -> bool
     requires { IsTrue (is_width k) }
     ensures { result ≡ has_shape k claim.now }
 {
     claim.index < 2 * k
         && claim.cells.len() == k as usize
         && are_on(claim)
-        && are_ascending(claim.axis, &claim.cells)
+        && are_ascending(claim.axis, claim.cells)
 }
 
 /// Whether some cell is along the axis.
@@ -163,19 +164,18 @@ fn are_bare(k: u16, axis: Axis, cells: &[Message]) -> bool
 }
 
 /// Whether the cells of a claim fit its set, if it has one.
-fn has_set_shape(k: u16, claim: &FraudClaim) -> bool
+fn has_set_shape(k: u16, claim: &ClaimView<'_>) -> bool
     requires { IsTrue (is_width k) }
     ensures { result ≡ has_set_shape k claim.now }
 {
-    match &claim.set {
+    match claim.set {
         None => true,
-        Some(_nodes) => some_along(claim.axis, &claim.cells)
-            && are_bare(k, claim.axis, &claim.cells),
+        Some(_nodes) => some_along(claim.axis, claim.cells) && are_bare(k, claim.axis, claim.cells),
     }
 }
 
 /// Whether a claim has its shape, and its cells fit its set, if it has one.
-fn is_shaped(k: u16, claim: &FraudClaim) -> bool
+fn is_shaped(k: u16, claim: &ClaimView<'_>) -> bool
     requires { IsTrue (is_width k) }
     ensures { result ≡ is_shaped k claim.now }
 {
@@ -183,17 +183,17 @@ fn is_shaped(k: u16, claim: &FraudClaim) -> bool
 }
 
 /// Whether the set of a claim shows the cell of a sample.
-fn is_set_cell(claim: &FraudClaim, message: &Message) -> bool
+fn is_set_cell(claim: &ClaimView<'_>, message: &Message) -> bool
     ensures { result ≡ is_set_cell claim.now message.now }
 {
-    match &claim.set {
+    match claim.set {
         None => false,
         Some(_nodes) => is_along(claim.axis, message),
     }
 }
 
 /// Why a cell of a claim isn't proved, where the claim's set doesn't show it.
-fn cell_refusal(header: &Header, claim: &FraudClaim, message: &Message) -> Option<CheckRefusal>
+fn cell_refusal(header: &Header, claim: &ClaimView<'_>, message: &Message) -> Option<CheckRefusal>
     ensures { result ≡ cell_refusal header.now claim.now message.now }
 {
     if is_set_cell(claim, message) {
@@ -208,7 +208,7 @@ fn cell_refusal(header: &Header, claim: &FraudClaim, message: &Message) -> Optio
 /// The first of these cells of a claim that isn't proved and that the claim's set doesn't show, and why.
 fn first_unproved(
     header: &Header,
-    claim: &FraudClaim,
+    claim: &ClaimView<'_>,
     cells: &[Message],
 ) -> Option<(u64, CheckRefusal)>
     ensures { result ≡ refused_from (cell_refusal header.now claim.now) 0 cells.now }
@@ -268,7 +268,7 @@ fn reason(opened: Result<(), OpenRefusal>) -> Option<OpenRefusal>
 fn nodes_refusal(
     room: &mut VerifyRoom,
     header: &Header,
-    claim: &FraudClaim,
+    claim: &ClaimView<'_>,
     nodes: &[Digest],
 ) -> Option<OpenRefusal>
     requires room { room.old ≡ header.now.k }
@@ -281,7 +281,7 @@ fn nodes_refusal(
     let count = gather_along(
         k,
         claim.axis,
-        &claim.cells,
+        claim.cells,
         &mut room.known,
         &mut room.names,
         &mut room.shares,
@@ -298,15 +298,15 @@ fn nodes_refusal(
 }
 
 /// Why the set of a claim doesn't open, if it has one.
-fn unopened(room: &mut VerifyRoom, header: &Header, claim: &FraudClaim) -> Option<OpenRefusal>
+fn unopened(room: &mut VerifyRoom, header: &Header, claim: &ClaimView<'_>) -> Option<OpenRefusal>
     requires room { room.old ≡ header.now.k }
     requires shape { is_shaped header.now.k claim.now ≡ true }
     ensures refusal { result ≡ unopened header.now claim.now }
     ensures room { room.new ≡ room.old }
 {
-    match &claim.set {
+    match claim.set {
         None => None,
-        Some(set) => nodes_refusal(room, header, claim, &set.nodes),
+        Some(nodes) => nodes_refusal(room, header, claim, nodes),
     }
 }
 
@@ -325,30 +325,30 @@ fn gather(axis: Axis, cells: &[Message], known: &mut [u16], shares: &mut [Share]
 
 /// The strict root of the codeword through a claim's cells, taken as the accused axis; none where its leaf
 /// namespaces fall.
-fn root_through(room: &mut VerifyRoom, claim: &FraudClaim) -> Option<Digest>
+fn root_through(room: &mut VerifyRoom, claim: &ClaimView<'_>) -> Option<Digest>
     requires shape { has_shape room.old claim.now ≡ true }
     requires inside { list_all (λ m. is_in_square room.old m.cell) claim.now.cells ≡ true }
     ensures root { IsRootThrough room.old claim.now result }
     ensures room { room.new ≡ room.old }
 {
-    gather(claim.axis, &claim.cells, &mut room.known, &mut room.shares);
+    gather(claim.axis, claim.cells, &mut room.known, &mut room.shares);
     rebuild(&mut room.code, &room.known, &room.shares, &mut room.all);
     line_strict_root(room.k, claim.axis, claim.index, &room.all, &mut room.names)
 }
 
 /// The four checks in their order.
-fn judge(room: &mut VerifyRoom, header: &Header, claim: &FraudClaim) -> Option<FraudRefusal>
+fn cause_of(room: &mut VerifyRoom, header: &Header, claim: &ClaimView<'_>) -> Option<FraudRefusal>
     requires room { room.old ≡ header.now.k }
     ensures cause { HasCause header.now claim.now result }
     ensures room { room.new ≡ room.old }
 {
-    claim_law(claim);
+    view_law(claim);
     claim_laws();
     message_laws();
     if !is_shaped(header.k, claim) {
         return Some(FraudRefusal::Shape);
     }
-    if let Some((i, why)) = first_unproved(header, claim, &claim.cells) {
+    if let Some((i, why)) = first_unproved(header, claim, claim.cells) {
         return Some(FraudRefusal::Cell(i, why));
     }
     if let Some(why) = unopened(room, header, claim) {
@@ -370,6 +370,22 @@ fn cause_law(header: &Header)
     let _k = header.k;
     claim_laws();
     message_laws();
+}
+
+/// Judges a claim that lies elsewhere as `verify` does one: why it isn't accepted under a header, none where it
+/// is.
+///
+/// The room is for the header's width, and its buffers are written. It takes no memory.
+///
+/// docs/RULES.md, "Fraud claims".
+pub fn judge(room: &mut VerifyRoom, header: &Header, claim: &ClaimView<'_>) -> Option<FraudRefusal>
+    requires room { room.old ≡ header.now.k }
+    ensures accepts { (result ≡ None) ↔ Accepts header.now claim.now }
+    ensures cause { HasCause header.now claim.now result }
+    ensures room { room.new ≡ room.old }
+{
+    cause_law(header);
+    cause_of(room, header, claim)
 }
 
 /// Verifies a bad-encoding fraud proof (BEFP) under a data availability header: whether the claim has exactly k
@@ -417,7 +433,7 @@ pub fn verify(
 {
     cause_law(header);
     claim_laws();
-    match judge(room, header, &claim) {
+    match cause_of(room, header, &ClaimView::of(&claim)) {
         Some(why) => Err(FraudRefused { claim, why }),
         None => Ok(Upheld::of(claim)),
     }

@@ -10,9 +10,12 @@
 //! shown, so `next_wanted` answers the earliest of the plan. Row by row the waiting cells are
 //! listed only when they are asked for, by a walk over all cells of the square.
 
-ghost use Rattle.std.specs.Prelude.{◌≡◌, ◌+◌, ◌≤◌, ◌++◌, ℕ, true, List, [], ◌∷◌, IfOk, OnOk, OnErr, length, option_copied};
+ghost use Rattle.std.specs.Prelude.{◌≡◌, ◌↔◌, ◌+◌, ◌≤◌, ◌++◌, ℕ, true, List, [], ◌∷◌, IsOk, IfOk, OnOk, OnErr, length, option_copied};
 ghost use Rattle.namespace_id.specs.declared.cells.Cell.{Cell as Place};
+ghost use Rattle.namespace_id.specs.Answers.{refusal_in};
 ghost use Rattle.namespace_id.specs.Cells.{is_width};
+ghost use Rattle.axis_roots.specs.Messages.{message_refusal};
+ghost use Rattle.axis_roots.specs.Openings.{IsProved};
 ghost use Rattle.light_node.specs.declared.events.Event.{Event as Happened};
 ghost use Rattle.light_node.specs.declared.events.Event.TheVariants.{Sample, Claim};
 ghost use Rattle.light_node.specs.Events.{IsFirstAccepted, IsState, IsLight, AreWaitedFor};
@@ -22,7 +25,7 @@ ghost use Rattle.light_node.specs.Nodes.{StandsFor, IsSame};
 use crate::marks::{fill_unmarked, first_unmarked, has_mark, mark};
 use crate::wanted::want;
 use crate::{Event, Light, LightState, Picker};
-use axis_roots::{FraudClaim, Message, PartialTrees, opens_by};
+use axis_roots::{CheckRefusal, FraudClaim, Message, PartialTrees, opens_by};
 use befp_verify::{Upheld, VerifyRoom, verify};
 use data_header::Header;
 use indexmap::IndexSet;
@@ -197,6 +200,30 @@ impl<F: Picker> LightNode<F> {
         self.wanted.get_index(self.next).copied()
     }
 
+    /// Judges a sample, and takes it where it is proved under the header: its cell is shown then, planned
+    /// already or not. One that isn't proved is refused with the reason of `opens`, and changes nothing. It
+    /// takes no memory.
+    ///
+    /// docs/RULES.md, "Proved samples".
+    pub fn judge(&mut self, message: &Message) -> Result<(), CheckRefusal>
+        ensures accepts { IsOk result ↔ IsProved self.old.header message.now }
+        ensures first { refusal_in result ≡ message_refusal self.old.header message.now }
+        ensures stands { (plan : List Place) (events : List Happened) →
+            StandsFor F.picks self.old plan events →
+            StandsFor F.picks self.new plan (events ++ Sample message.now ∷ []) }
+        ensures planned { self.new.planned ≡ self.old.planned }
+        ensures kept { IsSame self.old self.new }
+        ensures unchanged { OnErr result (self.new ≡ self.old) }
+    {
+        if let Err(why) = opens_by(&self.header, &mut self.trees, message) {
+            return Err(why);
+        }
+        let k = width(&self.header);
+        mark(k, &mut self.shown, message.cell);
+        self.next = first_unmarked(k, &self.shown, self.wanted.as_slice(), self.next);
+        Ok(())
+    }
+
     /// Marks the cell of a sample, where it is proved. A sample of a marked cell changes nothing, so
     /// nothing of it is hashed.
     fn sample(&mut self, message: &Message)
@@ -210,11 +237,7 @@ impl<F: Picker> LightNode<F> {
         if has_mark(k, &self.shown, message.cell) {
             return;
         }
-        let Ok(()) = opens_by(&self.header, &mut self.trees, message) else {
-            return;
-        };
-        mark(k, &mut self.shown, message.cell);
-        self.next = first_unmarked(k, &self.shown, self.wanted.as_slice(), self.next);
+        let _judged = self.judge(message);
     }
 
     /// Keeps a claim, where it is accepted and none was before.

@@ -1,4 +1,4 @@
-use Rattle.std.proofs.Common.{◌≡◌, ◌∙◌, ◌*◌, ◌≤◌, ℕ, List, true, inl, inr, sym, ap, ap₂, subst₂, arith, length, map, take}
+use Rattle.std.proofs.Common.{◌≡◌, ◌∙◌, ◌*◌, ◌≤◌, ℕ, List, true, inl, inr, sym, ap, subst₂, arith, length, map, take}
 use Rattle.std.specs.Prelude.{◌⊎◌}
 use Rattle.std.specs.List.{list_all, list_any}
 use Rattle.std.proofs.lemmas.Bool.{and_parts}
@@ -37,30 +37,29 @@ front_long f cells n old new count same is =
 -- the claim has k cells
 pub gather_along-count-requires-clause-known : goal.gather_along-count-requires-clause-known
 gather_along-count-requires-clause-known c =
-    cells_fit c.args.header.now.k c.room.inside.k c.args.claim.now c.deref.result.now c.deref_mut.result.now
-    c.requires.shape (c.deref.ensures.value ∙ ap (λ (p : ClaimParts). p.cells) c.claim.view_is) (c.room.view_is
+    cells_fit c.args.header.now.k c.room.inside.k c.args.claim.now c.claim.inside.cells.now c.deref_mut.result.now
+    c.requires.shape (ap (λ (p : ClaimParts). p.cells) c.claim.view_is) (c.room.view_is
     ∙ c.requires.room)
     (inl (ap (λ (l : List ℕ). length l) c.deref_mut.ensures.value ∙ c.room.invariant.positions))
 
 pub gather_along-count-requires-clause-names : goal.gather_along-count-requires-clause-names
 gather_along-count-requires-clause-names c =
-    cells_fit c.args.header.now.k c.room.inside.k c.args.claim.now c.deref.result.now c.deref_mut-2.result.now
-    c.requires.shape (c.deref.ensures.value ∙ ap (λ (p : ClaimParts). p.cells) c.claim.view_is) (c.room.view_is
+    cells_fit c.args.header.now.k c.room.inside.k c.args.claim.now c.claim.inside.cells.now c.deref_mut-2.result.now
+    c.requires.shape (ap (λ (p : ClaimParts). p.cells) c.claim.view_is) (c.room.view_is
     ∙ c.requires.room)
     (inr (ap (λ (l : List Namespace). length l) c.deref_mut-2.ensures.value ∙ c.room.invariant.leaf_names))
 
 pub gather_along-count-requires-clause-shares : goal.gather_along-count-requires-clause-shares
 gather_along-count-requires-clause-shares c =
-    cells_fit c.args.header.now.k c.room.inside.k c.args.claim.now c.deref.result.now c.deref_mut-3.result.now
-    c.requires.shape (c.deref.ensures.value ∙ ap (λ (p : ClaimParts). p.cells) c.claim.view_is) (c.room.view_is
+    cells_fit c.args.header.now.k c.room.inside.k c.args.claim.now c.claim.inside.cells.now c.deref_mut-3.result.now
+    c.requires.shape (ap (λ (p : ClaimParts). p.cells) c.claim.view_is) (c.room.view_is
     ∙ c.requires.room)
     (inl (ap (λ (l : List Share). length l) c.deref_mut-3.ensures.value ∙ c.room.invariant.known_shares))
 
 -- which are bare along the axis
 pub gather_along-count-requires-clause-bare : goal.gather_along-count-requires-clause-bare
 gather_along-count-requires-clause-bare c =
-    ap (λ (ms : List Message). list_all (is_bare c.header.inside.k c.claim.inside.axis) ms) c.deref.ensures.value
-    ∙ ap (λ (r : Roots). list_all (is_bare r.k c.claim.inside.axis) c.claim.inside.cells.items) c.header.view_is
+    ap (λ (r : Roots). list_all (is_bare r.k c.claim.inside.axis) c.claim.inside.cells.now) c.header.view_is
     ∙ ap (λ (p : ClaimParts). list_all (is_bare c.args.header.now.k p.axis) p.cells) c.claim.view_is
     ∙ (and_parts (list_any (is_along c.args.claim.now.axis) c.args.claim.now.cells)
     (list_all (is_bare c.args.header.now.k c.args.claim.now.axis) c.args.claim.now.cells) c.requires.set_shape).1
@@ -69,85 +68,83 @@ gather_along-count-requires-clause-bare c =
 pub slice_bounds-open_set-end : goal.slice_bounds-open_set-end
 slice_bounds-open_set-end c =
     sym (front_long (λ m. position c.claim.inside.axis m.cell)
-    (along_in c.claim.inside.axis c.deref.result.now)
-    c.gather_along-count.result c.deref-2.result.now c.gather_along-count.new.known
+    (along_in c.claim.inside.axis c.claim.inside.cells.now)
+    c.gather_along-count.result c.deref.result.now c.gather_along-count.new.known
     c.gather_along-count.ensures.count
-    (c.deref-2.ensures.value
+    (c.deref.ensures.value
     ∙ front c.gather_along-count.new.known _ _ (c.gather_along-count.auto.known ∙ c.deref_mut.ensures.len))
     c.gather_along-count.ensures.known)
 
 pub slice_bounds-open_set-end-2 : goal.slice_bounds-open_set-end-2
 slice_bounds-open_set-end-2 c =
     sym (front_long (λ m. leaf_namespace c.header.inside.k m.cell m.share)
-    (along_in c.claim.inside.axis c.deref.result.now)
-    c.gather_along-count.result c.deref-3.result.now c.gather_along-count.new.names
+    (along_in c.claim.inside.axis c.claim.inside.cells.now)
+    c.gather_along-count.result c.deref-2.result.now c.gather_along-count.new.names
     c.gather_along-count.ensures.count
-    (c.deref-3.ensures.value
+    (c.deref-2.ensures.value
     ∙ front c.gather_along-count.new.names _ _ (c.gather_along-count.auto.names ∙ c.deref_mut-2.ensures.len))
     c.gather_along-count.ensures.names)
 
 pub slice_bounds-open_set-end-3 : goal.slice_bounds-open_set-end-3
 slice_bounds-open_set-end-3 c =
     sym (front_long (λ m. m.share)
-    (along_in c.claim.inside.axis c.deref.result.now)
-    c.gather_along-count.result c.deref-4.result.now c.gather_along-count.new.shares
+    (along_in c.claim.inside.axis c.claim.inside.cells.now)
+    c.gather_along-count.result c.deref-3.result.now c.gather_along-count.new.shares
     c.gather_along-count.ensures.count
-    (c.deref-4.ensures.value
+    (c.deref-3.ensures.value
     ∙ front c.gather_along-count.new.shares _ _ (c.gather_along-count.auto.shares ∙ c.deref_mut-3.ensures.len))
     c.gather_along-count.ensures.shares)
 
 pub open_set-requires-clause-names : goal.open_set-requires-clause-names
 open_set-requires-clause-names c =
     front_long (λ m. leaf_namespace c.header.inside.k m.cell m.share)
-    (along_in c.claim.inside.axis c.deref.result.now)
-    c.gather_along-count.result c.deref-3.result.now c.gather_along-count.new.names
+    (along_in c.claim.inside.axis c.claim.inside.cells.now)
+    c.gather_along-count.result c.deref-2.result.now c.gather_along-count.new.names
     c.gather_along-count.ensures.count
-    (c.deref-3.ensures.value
+    (c.deref-2.ensures.value
     ∙ front c.gather_along-count.new.names _ _ (c.gather_along-count.auto.names ∙ c.deref_mut-2.ensures.len))
     c.gather_along-count.ensures.names
     ∙ sym (front_long (λ m. position c.claim.inside.axis m.cell)
-    (along_in c.claim.inside.axis c.deref.result.now)
-    c.gather_along-count.result c.deref-2.result.now c.gather_along-count.new.known
+    (along_in c.claim.inside.axis c.claim.inside.cells.now)
+    c.gather_along-count.result c.deref.result.now c.gather_along-count.new.known
     c.gather_along-count.ensures.count
-    (c.deref-2.ensures.value
+    (c.deref.ensures.value
     ∙ front c.gather_along-count.new.known _ _ (c.gather_along-count.auto.known ∙ c.deref_mut.ensures.len))
     c.gather_along-count.ensures.known)
 
 pub open_set-requires-clause-shares : goal.open_set-requires-clause-shares
 open_set-requires-clause-shares c =
     front_long (λ m. m.share)
-    (along_in c.claim.inside.axis c.deref.result.now)
-    c.gather_along-count.result c.deref-4.result.now c.gather_along-count.new.shares
+    (along_in c.claim.inside.axis c.claim.inside.cells.now)
+    c.gather_along-count.result c.deref-3.result.now c.gather_along-count.new.shares
     c.gather_along-count.ensures.count
-    (c.deref-4.ensures.value
+    (c.deref-3.ensures.value
     ∙ front c.gather_along-count.new.shares _ _ (c.gather_along-count.auto.shares ∙ c.deref_mut-3.ensures.len))
     c.gather_along-count.ensures.shares
     ∙ sym (front_long (λ m. position c.claim.inside.axis m.cell)
-    (along_in c.claim.inside.axis c.deref.result.now)
-    c.gather_along-count.result c.deref-2.result.now c.gather_along-count.new.known
+    (along_in c.claim.inside.axis c.claim.inside.cells.now)
+    c.gather_along-count.result c.deref.result.now c.gather_along-count.new.known
     c.gather_along-count.ensures.count
-    (c.deref-2.ensures.value
+    (c.deref.ensures.value
     ∙ front c.gather_along-count.new.known _ _ (c.gather_along-count.auto.known ∙ c.deref_mut.ensures.len))
     c.gather_along-count.ensures.known)
 
 pub open_set-requires-clause-some : goal.open_set-requires-clause-some
 open_set-requires-clause-some c =
-    let places : take c.gather_along-count.result c.deref-2.result.now ≡ map (λ m. position c.args.claim.now.axis m.cell) (along_in c.args.claim.now.axis c.args.claim.now.cells) =
-    ap (take c.gather_along-count.result) (c.deref-2.ensures.value
+    let places : take c.gather_along-count.result c.deref.result.now ≡ map (λ m. position c.args.claim.now.axis m.cell) (along_in c.args.claim.now.axis c.args.claim.now.cells) =
+    ap (take c.gather_along-count.result) (c.deref.ensures.value
     ∙ front c.gather_along-count.new.known _ _ (c.gather_along-count.auto.known ∙ c.deref_mut.ensures.len))
     ∙ c.gather_along-count.ensures.known
-    ∙ ap (λ (ms : List Message). map (λ m. position c.claim.inside.axis m.cell) (along_in c.claim.inside.axis ms)) c.deref.ensures.value
     ∙ ap (λ (p : ClaimParts). map (λ m. position p.axis m.cell) (along_in p.axis p.cells)) c.claim.view_is in
     let tests = and_parts (list_any (is_along c.args.claim.now.axis) c.args.claim.now.cells) (list_all (is_bare c.args.header.now.k c.args.claim.now.axis) c.args.claim.now.cells) c.requires.set_shape in
     omega (arith, ap length places, length-map (along_in c.args.claim.now.axis c.args.claim.now.cells) (λ m. position c.args.claim.now.axis m.cell), some_along c.args.claim.now.axis c.args.claim.now.cells tests.0)
 
 pub open_set-requires-clause-places : goal.open_set-requires-clause-places
 open_set-requires-clause-places c =
-    let places : take c.gather_along-count.result c.deref-2.result.now ≡ map (λ m. position c.args.claim.now.axis m.cell) (along_in c.args.claim.now.axis c.args.claim.now.cells) =
-    ap (take c.gather_along-count.result) (c.deref-2.ensures.value
+    let places : take c.gather_along-count.result c.deref.result.now ≡ map (λ m. position c.args.claim.now.axis m.cell) (along_in c.args.claim.now.axis c.args.claim.now.cells) =
+    ap (take c.gather_along-count.result) (c.deref.ensures.value
     ∙ front c.gather_along-count.new.known _ _ (c.gather_along-count.auto.known ∙ c.deref_mut.ensures.len))
     ∙ c.gather_along-count.ensures.known
-    ∙ ap (λ (ms : List Message). map (λ m. position c.claim.inside.axis m.cell) (along_in c.claim.inside.axis ms)) c.deref.ensures.value
     ∙ ap (λ (p : ClaimParts). map (λ m. position p.axis m.cell) (along_in p.axis p.cells)) c.claim.view_is in
     let tests = and_parts (list_any (is_along c.args.claim.now.axis) c.args.claim.now.cells) (list_all (is_bare c.args.header.now.k c.args.claim.now.axis) c.args.claim.now.cells) c.requires.set_shape in
     subst₂ (λ (k : ℕ) (ps : List ℕ). AreAscending 0 (2 * k) ps) (sym (ap (λ (r : Roots). r.k) c.header.view_is)) (sym places)
@@ -155,24 +152,22 @@ open_set-requires-clause-places c =
 
 pub returns-clause-refusal : goal.returns-clause-refusal
 returns-clause-refusal c =
-    let places : take c.gather_along-count.result c.deref-2.result.now ≡ map (λ m. position c.args.claim.now.axis m.cell) (along_in c.args.claim.now.axis c.args.claim.now.cells) =
-    ap (take c.gather_along-count.result) (c.deref-2.ensures.value
+    let places : take c.gather_along-count.result c.deref.result.now ≡ map (λ m. position c.args.claim.now.axis m.cell) (along_in c.args.claim.now.axis c.args.claim.now.cells) =
+    ap (take c.gather_along-count.result) (c.deref.ensures.value
     ∙ front c.gather_along-count.new.known _ _ (c.gather_along-count.auto.known ∙ c.deref_mut.ensures.len))
     ∙ c.gather_along-count.ensures.known
-    ∙ ap (λ (ms : List Message). map (λ m. position c.claim.inside.axis m.cell) (along_in c.claim.inside.axis ms)) c.deref.ensures.value
     ∙ ap (λ (p : ClaimParts). map (λ m. position p.axis m.cell) (along_in p.axis p.cells)) c.claim.view_is in
     let width : c.header.inside.k ≡ c.args.header.now.k = ap (λ (r : Roots). r.k) c.header.view_is in
-    let names : take c.gather_along-count.result c.deref-3.result.now ≡ names_in c.args.header.now.k (along_in c.args.claim.now.axis c.args.claim.now.cells) =
-    ap (take c.gather_along-count.result) (c.deref-3.ensures.value
+    let names : take c.gather_along-count.result c.deref-2.result.now ≡ names_in c.args.header.now.k (along_in c.args.claim.now.axis c.args.claim.now.cells) =
+    ap (take c.gather_along-count.result) (c.deref-2.ensures.value
     ∙ front c.gather_along-count.new.names _ _ (c.gather_along-count.auto.names ∙ c.deref_mut-2.ensures.len))
     ∙ c.gather_along-count.ensures.names
-    ∙ ap₂ (λ (k : ℕ) (ms : List Message). names_in k (along_in c.claim.inside.axis ms)) width c.deref.ensures.value
+    ∙ ap (λ (k : ℕ). names_in k (along_in c.claim.inside.axis c.claim.inside.cells.now)) width
     ∙ ap (λ (p : ClaimParts). names_in c.args.header.now.k (along_in p.axis p.cells)) c.claim.view_is in
-    let shares : take c.gather_along-count.result c.deref-4.result.now ≡ map (λ m. m.share) (along_in c.args.claim.now.axis c.args.claim.now.cells) =
-    ap (take c.gather_along-count.result) (c.deref-4.ensures.value
+    let shares : take c.gather_along-count.result c.deref-3.result.now ≡ map (λ m. m.share) (along_in c.args.claim.now.axis c.args.claim.now.cells) =
+    ap (take c.gather_along-count.result) (c.deref-3.ensures.value
     ∙ front c.gather_along-count.new.shares _ _ (c.gather_along-count.auto.shares ∙ c.deref_mut-3.ensures.len))
     ∙ c.gather_along-count.ensures.shares
-    ∙ ap (λ (ms : List Message). map (λ m. m.share) (along_in c.claim.inside.axis ms)) c.deref.ensures.value
     ∙ ap (λ (p : ClaimParts). map (λ m. m.share) (along_in p.axis p.cells)) c.claim.view_is in
     let root : c.root_of-axis_root.result ≡ claimed_root c.args.header.now c.args.claim.now =
     c.root_of-axis_root.ensures ∙ ap (claimed_root c.args.header.now) c.claim.view_is in
