@@ -11,7 +11,6 @@ pub mod Headed
 pub mod Texts
 pub mod Lists
 pub mod Lengths
-pub mod PutLoops
 pub mod Told
 pub mod Short
 pub mod Hashes

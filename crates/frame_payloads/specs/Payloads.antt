@@ -1,5 +1,5 @@
 -- The limit of a payload, how its length is told, and what a reader of payloads answers (docs/FORMATS.md, "Frames").
-use Rattle.std.specs.Prelude.{◌≡◌, ◌≤◌, ◌<◌, ◌^◌, ℕ, List, length, nat_lt, Bool, if◌then◌else◌, Ok, Err, Option, Some, None, MatchOption, IsSome, Result}
+use Rattle.std.specs.Prelude.{◌≡◌, ◌≤◌, ◌<◌, ◌^◌, ℕ, List, length, nat_lt, Bool, if◌then◌else◌, Ok, Err, Option, Some, None, MatchOption, IsSome, Result, MatchResult, ◌++◌, ◌+◌, map}
 
 -- the greatest payload: 256 MiB
 abbrev pub max_payload : ℕ
@@ -27,3 +27,9 @@ IsSize unwritten payload size = MatchOption size (written unwritten payload ≡ 
 abbrev pub GivesUnlessFull : {X E : Type 0} → Result (Option X) E → Option X → Type 0
 GivesUnlessFull (Ok x) read = read ≡ x
 GivesUnlessFull (Err e) read = IsSome read
+
+-- bytes were put behind those that were held, as many more were taken, and no fewer can be; or more than can be
+abbrev pub Puts : {O T E : Type 0} → (ℕ → ℕ) → (O → List ℕ) → (O → ℕ) → (O → ℕ) → O → O → List ℕ → Result T E → Type 0
+Puts byte held taken limit old new bytes result = MatchResult result
+    (λ _. (held new ≡ held old ++ map byte bytes) × (taken new ≡ taken old + length bytes) × (limit old ≤ limit new))
+    (λ _. limit old < taken old + length bytes)

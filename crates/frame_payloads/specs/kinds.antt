@@ -3,6 +3,7 @@ pub mod Square
 pub mod Message
 pub mod Names
 pub mod Fraud
+pub mod ClaimRooms
 pub mod Missing
 pub mod Clash
 pub mod Requests

@@ -2,4 +2,6 @@
 
 pub(crate) mod appending;
 pub(crate) mod items;
+pub(crate) mod outs;
 pub(crate) mod sizes;
+pub(crate) mod writing;

@@ -2,6 +2,7 @@
 
 pub(crate) mod accused;
 pub(crate) mod block;
+pub(crate) mod claim_room;
 pub(crate) mod clash;
 pub(crate) mod commit;
 pub(crate) mod fraud;

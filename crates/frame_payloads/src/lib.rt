@@ -17,6 +17,7 @@ mod shown;
 pub use bounds::{hash_law, proof_law};
 pub use codec::sizes::MAX_PAYLOAD;
 pub use kinds::block::{block, block_size, is_block, put_block};
+pub use kinds::claim_room::ClaimRoom;
 pub use kinds::clash::{clash, clash_size, put_clash};
 pub use kinds::commit::{commit, commit_size, is_commit, put_commit};
 pub use kinds::fraud::{claim, fraud, fraud_size, is_fraud, proof_size, put_fraud, put_proof};

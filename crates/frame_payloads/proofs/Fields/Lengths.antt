@@ -1,9 +1,9 @@
 -- How long a payload is, and what its parts add to it.
-use Rattle.std.proofs.Common.{◌≡◌, ◌∙◌, ℕ, zero, suc, ◌+◌, ◌*◌, ◌<◌, ◌≤◌, nat_lt, Bool, true, false, List, [], ◌∷◌, ◌++◌, length, length-append, drop, get_or, Option, Some, None, refl, sym, ap, subst, arith}
+use Rattle.std.proofs.Common.{◌≡◌, ℕ, ◌+◌, ◌*◌, ◌<◌, ◌≤◌, nat_lt, Bool, true, false, List, [], ◌∷◌, ◌++◌, length, length-append, Some, None, refl, arith}
 use Rattle.std.specs.List.{flat_map, AllByRecursion}
 use Rattle.std.proofs.Math.Nat.{mul-suc}
 use Rattle.std.proofs.lemmas.Bool.Decides.{nat_tests}
-use Rattle.frame_payloads.specs.Payloads.{max_payload, IsWithin, written}
+use Rattle.frame_payloads.specs.Payloads.{max_payload, written}
 
 -- a payload within the limit is written, where its value can be
 pub written_within : (unwritten : Bool) (n : ℕ) (payload : List ℕ) → unwritten ≡ false → n ≡ length payload → n ≤ max_payload → written unwritten payload ≡ Some payload
@@ -16,19 +16,6 @@ pub written_beyond : (unwritten : Bool) (n : ℕ) (payload : List ℕ) → unwri
 written_beyond unwritten n payload can e h =
     let beyond : nat_lt max_payload (length payload) ≡ true = grind (arith, nat_tests) in
     rw (can, beyond) refl
-
--- a length within the limit is that of an equal one
-pub within_is : (within : Option ℕ) (m n : ℕ) → IsWithin m within → m ≡ n → IsWithin n within
-within_is within m n is e = subst (λ (k : ℕ). IsWithin k within) e is
-
--- what an element adds, and then what the later ones do
-pub flat_here : {A : Type 0} (f : A → List ℕ) (xs : List A) (i : ℕ) (d : A) → i < length xs
-    → flat_map f (drop i xs) ≡ f (get_or xs i d) ++ flat_map f (drop (i + 1) xs)
-flat_here f [] i d h = absurd (omega arith)
-flat_here f (x ∷ xs) zero d h = refl
-flat_here f (x ∷ xs) (suc i) d h =
-    let next : suc i + 1 ≡ suc (i + 1) = omega arith in
-    flat_here f xs i d (omega arith) ∙ sym (ap (λ (k : ℕ). f (get_or xs i d) ++ flat_map f (drop k (x ∷ xs))) next)
 
 -- no more values than bytes
 pub count_few : {A : Type 0} (text : A → List ℕ) → ((x : A) → 0 < length (text x)) → (xs : List A) → length xs ≤ length (flat_map text xs)
@@ -45,11 +32,3 @@ texts_few text Is most few (x ∷ xs) all =
     let first : length (text x) ≤ most = few x all.0 in
     let others : length (flat_map text xs) ≤ most * length xs = texts_few text Is most few xs all.1 in
     omega (arith, first, others, mul-suc most (length xs), length-append (text x) (flat_map text xs))
-
--- none of them longer than all
-pub part_few : {A : Type 0} (text : A → List ℕ) (xs : List A) (i : ℕ) (x : A) → i < length xs → x ≡ get_or xs i x → length (text x) ≤ length (flat_map text xs)
-part_few text [] i x h e = absurd (omega arith)
-part_few {A} text (x ∷ xs) zero y h e =
-    let same : length (text y) ≡ length (text x) = ap (λ (z : A). length (text z)) e in
-    omega (arith, same, length-append (text x) (flat_map text xs))
-part_few text (x ∷ xs) (suc i) y h e = omega (arith, part_few text xs i y (omega arith) e, length-append (text x) (flat_map text xs))

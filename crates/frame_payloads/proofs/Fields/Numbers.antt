@@ -70,6 +70,15 @@ count_takes w bound wide limit bytes n rest fits e =
     let same = some_pair_parts a.0.0 n a.0.1 rest g.1 in
     ((number_takes w bound wide bytes n rest fits (a.1 ∙ g.1)).0, subst (λ (m : ℕ). m ≤ limit) same.0 (ltb-false limit a.0.0 g.0))
 
+-- a count that is read is within its limit
+pub count_few : (w : Width) (limit : ℕ) (bytes : List ℕ) (n : ℕ) (rest : List ℕ) → count_at w limit bytes ≡ Some (n, rest) → n ≤ limit
+unfolding count_at
+count_few w limit bytes n rest e =
+    let a = bind_some (number_at w bytes) (within limit) (n, rest) e in
+    let g = if_false (ltb limit a.0.0) (Some a.0) (n, rest) a.2 in
+    let same = some_pair_parts a.0.0 n a.0.1 rest g.1 in
+    subst (λ (m : ℕ). m ≤ limit) same.0 (ltb-false limit a.0.0 g.0)
+
 -- a count within its limit that was written is read
 pub count_again : (w : Width) (bound : ℕ) (wide : IsWide w bound) (limit n : ℕ) (rest : List ℕ) → n < bound → n ≤ limit → count_at w limit (to_be_bytes w n ++ rest) ≡ Some (n, rest)
 unfolding count_at

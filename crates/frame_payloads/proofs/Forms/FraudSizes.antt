@@ -1,10 +1,13 @@
 -- How long the payload of a fraud claim is.
-use Rattle.std.proofs.Common.{◌≡◌, ◌∙◌, ℕ, ◌+◌, ◌*◌, ◌≤◌, Bool, true, false, List, ◌++◌, length, Option, None, Some, refl, sym, ap, subst, inl, inr, arith}
+use Rattle.std.proofs.Common.{◌≡◌, ◌∙◌, ℕ, ◌+◌, ◌*◌, ◌≤◌, Bool, true, false, List, ◌++◌, length, Option, None, Some, map, ◌∷◌, refl, sym, ap, ap₂, subst, inl, inr, arith}
 use Rattle.std.specs.Prelude.{IsSome, IfSome}
-use Rattle.std.specs.Int.{w16}
+use Rattle.std.specs.Int.{w16, to_be_bytes}
 use Rattle.std.specs.List.{flat_map}
 use Rattle.std.proofs.lemmas.Bool.{cases_Bool}
-use Rattle.std.proofs.lemmas.List.{length-append}
+use Rattle.std.proofs.lemmas.List.{length-append, length-map}
+use Rattle.std.proofs.lemmas.List.Folds.{flat_map-map}
+use Rattle.axis_roots.specs.declared.message.proved.Proved.{Proved}
+use Rattle.axis_roots.specs.Proved.{kept_message}
 use Rattle.namespace_id.specs.declared.cells.Axis.{Axis}
 use Rattle.namespace_id.specs.declared.digests.Digest.{Digest}
 use Rattle.namespace_id.specs.Digests.{AreDigests}
@@ -16,7 +19,7 @@ use Rattle.axis_roots.specs.Claims.{ClaimParts, IsClaim}
 use Rattle.frame_payloads.specs.Payloads.{max_payload, IsWithin, IsSize}
 use Rattle.frame_payloads.specs.codec.Texts.{list_bytes, digest_list}
 use Rattle.frame_payloads.specs.kinds.Message.{message_payload, most_message}
-use Rattle.frame_payloads.specs.kinds.Fraud.{most_cells, is_unwritten, fits_form, cell_payload, plain_payload, set_payload, payload_by, fraud_payload}
+use Rattle.frame_payloads.specs.kinds.Fraud.{plain_form, accused_bytes, most_cells, is_unwritten, fits_form, cell_payload, plain_payload, set_payload, payload_by, fraud_payload}
 use Rattle.frame_payloads.proofs.Fields.Digests.{length-digest_bytes}
 use Rattle.frame_payloads.proofs.Fields.Lengths.{texts_few, written_within, written_beyond}
 use Rattle.frame_payloads.proofs.Forms.AccusedForm.{text}
@@ -65,6 +68,15 @@ length-set claim nodes =
 pub plain_text : (claim : ClaimParts) → claim.set ≡ None → fraud_payload claim ≡ plain_payload claim
 plain_text claim e = ap (payload_by claim) e
 
+-- that of a fraud proof's claim, by the certificates that the proof keeps
+pub proof_text : (claim : ClaimParts) (axis : Axis) (index : ℕ) (cells : List Proved) → claim.set ≡ None → axis ≡ claim.axis → index ≡ claim.index → map kept_message cells ≡ claim.cells
+    → fraud_payload claim ≡ plain_form ∷ accused_bytes axis index ++ list_bytes w16 (λ (p : Proved). message_payload (kept_message p)) cells
+proof_text claim axis index cells plain same_axis same_index same =
+    let listed : list_bytes w16 message_payload (map kept_message cells) ≡ list_bytes w16 (λ (p : Proved). message_payload (kept_message p)) cells
+    = ap₂ (λ (n : ℕ) (l : List ℕ). to_be_bytes w16 n ++ l) (length-map cells kept_message) (flat_map-map message_payload kept_message cells) in
+    plain_text claim plain ∙ ap₂ (λ (front list : List ℕ). plain_form ∷ front ++ list) (ap₂ accused_bytes (sym same_axis) (sym same_index))
+    (ap (λ (l : List Message). list_bytes w16 message_payload l) (sym same) ∙ listed)
+
 -- the payload by whether there is a set is within the limit
 few_by : (claim : ClaimParts) (set : Option (List Digest)) → claim.set ≡ set → IsClaim claim → fits_form claim set ≡ true → length claim.cells ≤ most_cells → length (payload_by claim set) ≤ max_payload
 few_by claim None same is fits few = omega (arith, few, length-plain claim, texts_few message_payload IsMessage most_message length-message_payload claim.cells is.messages)
@@ -88,24 +100,11 @@ fraud_few claim is written =
 -- ---- the length that is told
 
 -- a length within the limit is told
-within_told : (n : ℕ) (within : Option ℕ) → IsWithin n within → n ≤ max_payload → IsSome within
+pub within_told : (n : ℕ) (within : Option ℕ) → IsWithin n within → n ≤ max_payload → IsSome within
 within_told n (Some size) is few = refl
 within_told n None beyond few = absurd (omega (arith, beyond, few))
 
--- so the length of the payload of a claim without a set is told
-pub plain_told : (claim : ClaimParts) (within : Option ℕ) → claim.set ≡ None → IsClaim claim → is_unwritten claim ≡ false → IsWithin (6 + length (flat_map message_payload claim.cells)) within → IsSome within
-plain_told claim within plain is written told =
-    within_told (6 + length (flat_map message_payload claim.cells)) within told
-    (omega (arith, length-plain claim, ap (λ (l : List ℕ). length l) (plain_text claim plain), fraud_few claim is written))
-
 -- the length of the payload of a claim that can be written is told
-fraud_sized : (claim : ClaimParts) (within : Option ℕ) → is_unwritten claim ≡ false → IsWithin (length (fraud_payload claim)) within → IsSize (is_unwritten claim) (fraud_payload claim) within
+pub fraud_sized : (claim : ClaimParts) (within : Option ℕ) → is_unwritten claim ≡ false → IsWithin (length (fraud_payload claim)) within → IsSize (is_unwritten claim) (fraud_payload claim) within
 fraud_sized claim None short beyond = written_beyond (is_unwritten claim) (length (fraud_payload claim)) (fraud_payload claim) short refl beyond
 fraud_sized claim (Some n) short is = (is.0, written_within (is_unwritten claim) n (fraud_payload claim) short is.0 is.1)
-
--- so is that of a claim without a set
-pub plain_sized : (claim : ClaimParts) (within : Option ℕ) → claim.set ≡ None → is_unwritten claim ≡ false → IsWithin (6 + length (flat_map message_payload claim.cells)) within
-    → IsSize (is_unwritten claim) (fraud_payload claim) within
-plain_sized claim within plain short told =
-    let size : 6 + length (flat_map message_payload claim.cells) ≡ length (fraud_payload claim) = sym (ap (λ (l : List ℕ). length l) (plain_text claim plain) ∙ length-plain claim) in
-    fraud_sized claim within short (subst (λ (n : ℕ). IsWithin n within) size told)

@@ -1,22 +1,17 @@
 //! The front of a fraud claim's payload: its form, and the axis that it accuses.
 
-ghost use Rattle.std.specs.Prelude.{◌≡◌, ◌≤◌, ◌∷◌, vec_len, ◌+◌, ◌++◌, vec_capacity, Some, None};
-ghost use Rattle.std.specs.Int.{w16, to_be_bytes};
-ghost use Rattle.namespace_id.specs.Answers.{Gives, HasRoom};
-ghost use Rattle.frame_payloads.specs.kinds.Fraud.{most_cells, accused_bytes, accused_at};
+ghost use Rattle.std.specs.Prelude.{◌∷◌};
+ghost use Rattle.namespace_id.specs.Answers.{Gives};
+ghost use Rattle.frame_payloads.specs.Payloads.{Puts};
+ghost use Rattle.frame_payloads.specs.kinds.Fraud.{accused_bytes, accused_at};
 
 use crate::codec::appending::axis_byte;
+use crate::codec::outs::{Full, Out};
 use frame_fields::{axis_at, u8_at, u16_at};
-use namespace_id::{Axis, GREATEST_WIDTH, append};
+use namespace_id::{Axis, GREATEST_WIDTH};
 
 /// The most cells of a claim, as many as recover an axis of the greatest square.
 pub(crate) const MOST_CELLS: u16 = GREATEST_WIDTH;
-
-/// The bytes in front of the cells: the form, the axis, the index.
-pub(crate) const ACCUSED_SIZE: u32 = 4;
-
-/// The bytes that state a count or a position.
-pub(crate) const NUMBER_SIZE: usize = 2;
 
 /// The axis that a claim of this form accuses, its index, and the bytes after it.
 #[tactic(auto, unfolding(crate::specs::kinds::Fraud::accused_at))]
@@ -38,16 +33,10 @@ pub(crate) fn accused_at(wanted: u8, bytes: &[u8]) -> Option<(Axis, u16, &[u8])>
     Some((axis, index, rest))
 }
 
-/// Appends the form of a claim, the axis that it accuses, and the count of its cells.
-pub(crate) fn put_accused(out: &mut Vec<u8>, form: u8, axis: Axis, index: u16, count: usize)
-    requires few { count ≤ most_cells }
-    requires room { HasRoom out.old 6 }
-    ensures appended { out.new.items
-        ≡ out.old.items ++ form ∷ accused_bytes axis index ++ to_be_bytes w16 count }
-    ensures len { vec_len out.new ≡ vec_len out.old + 6 }
-    ensures capacity { vec_capacity out.old ≤ vec_capacity out.new }
+/// Puts the form of a claim, and the axis that it accuses.
+pub(crate) fn put_accused<O: Out>(out: &mut O, form: u8, axis: Axis, index: u16) -> Result<(), Full>
+    ensures { Puts O.byte O.held O.taken O.limit out.old out.new (form ∷ accused_bytes axis index) result }
 {
-    append(out, &[form, axis_byte(axis)]);
-    append(out, &index.to_be_bytes());
-    append(out, &(count as u16).to_be_bytes());
+    out.put(&[form, axis_byte(axis)])?;
+    out.put(&index.to_be_bytes())
 }

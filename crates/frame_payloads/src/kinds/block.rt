@@ -1,19 +1,20 @@
 //! The payload of a block: judged where it lies, then read; and written.
 
-ghost use Rattle.std.specs.Prelude.{◌≡◌, ◌≤◌, length, vec_len, None, Some, IfSome, MatchOption, ◌+◌, ◌++◌, vec_capacity, IsSome, ◌↔◌, IsTrue, ◌==◌};
+ghost use Rattle.std.specs.Prelude.{◌≡◌, length, None, Some, IfSome, MatchOption, ◌+◌, ◌++◌, IsSome, ◌↔◌, IsTrue, ◌==◌};
 ghost use Rattle.namespace_id.specs.Answers.{Gives, HasRoom};
 ghost use Rattle.share_split.specs.Blobs.{version_of, signer_bytes};
 ghost use Rattle.frame_fields.specs.Fields.{read_items};
-ghost use Rattle.frame_payloads.specs.Payloads.{GivesUnlessFull, max_payload, IsSize, IsShort, IsWithin};
+ghost use Rattle.frame_payloads.specs.Payloads.{GivesUnlessFull, IsSize, IsShort};
 ghost use Rattle.frame_payloads.specs.kinds.Block.{signed_at, signer_at, blob_at, asked_width, asks_for_zero, block_at, blob_bytes, width_number, block_payload};
-ghost use Rattle.frame_payloads.specs.kinds.Units.{unit_at, counted_at, counted_bytes};
+ghost use Rattle.frame_payloads.specs.kinds.Units.{unit_at, counted_at};
 
 use crate::codec::appending::put_text;
 use crate::codec::items::{Item, after_list, list};
-use crate::codec::sizes::{COUNT_SIZE, WIDTH_SIZE, longer, with_bytes, with_text};
-use crate::kinds::units::{MOST, put_units, with_units};
+use crate::codec::outs::{Full, Out};
+use crate::codec::writing::{Text, append_text, put_list, size_of};
+use crate::kinds::units::MOST;
 use frame_fields::{name_at, text_at, u8_at, u16_at};
-use namespace_id::{Namespace, append};
+use namespace_id::Namespace;
 use share_split::{Blob, SIGNER_SIZE, Unit};
 use square_layout::Block;
 use std::alloc::{AllocError, Global};
@@ -206,26 +207,34 @@ fn signer_bytes(signer: &Option<[u8; SIGNER_SIZE]>) -> &[u8]
     }
 }
 
-/// A length with that of a blob more.
-fn with_blob(size: u32, blob: &Blob) -> Option<u32>
-    requires { size ≤ max_payload }
-    ensures { IsWithin (size + length (blob_bytes blob.now)) result }
+/// The number that a width is written as, 0 for none.
+fn width_number(width: Option<u16>) -> u16
+    ensures { result ≡ width_number width }
 {
-    let size = with_bytes(size, &blob.namespace.0)?;
-    let size = with_bytes(longer(size, 1)?, signer_bytes(&blob.signer))?;
-    with_text(size, &blob.bytes)
+    width.unwrap_or(0)
 }
 
-/// A length with that of a list of blobs more.
-fn with_blobs(size: u32, blobs: &[Blob]) -> Option<u32>
-    requires { size ≤ max_payload }
-    ensures { IsWithin (size + length (counted_bytes blob_bytes blobs.now)) result }
-{
-    let mut size = longer(size, COUNT_SIZE)?;
-    for blob in blobs {
-        size = with_blob(size, blob)?;
+/// A blob is its namespace, its share version, its signer, if it has one, and its bytes.
+impl Text for Blob {
+    ghost text = { blob_bytes };
+
+    fn put<O: Out>(&self, out: &mut O) -> Result<(), Full> {
+        out.put(&self.namespace.0)?;
+        out.put(&[version_of(&self.signer)])?;
+        out.put(signer_bytes(&self.signer))?;
+        put_text(out, &self.bytes)
     }
-    Some(size)
+}
+
+impl Text for Block {
+    ghost text = { block_payload };
+
+    fn put<O: Out>(&self, out: &mut O) -> Result<(), Full> {
+        out.put(&width_number(self.width).to_be_bytes())?;
+        put_list(out, &self.units)?;
+        put_list(out, &self.pay_units)?;
+        put_list(out, &self.blobs)
+    }
 }
 
 /// The length of the payload of a block, none where it asks for the width 0 or is too long.
@@ -235,42 +244,7 @@ pub fn block_size(block: &Block) -> Option<u32>
     if matches!(block.width, Some(0)) {
         return None;
     }
-    let size = with_units(WIDTH_SIZE, &block.units)?;
-    let size = with_units(size, &block.pay_units)?;
-    with_blobs(size, &block.blobs)
-}
-
-/// Appends a blob: its namespace, its share version, its signer, if it has one, and its bytes.
-fn put_blob(out: &mut Vec<u8>, blob: &Blob)
-    requires few { IsShort (blob_bytes blob.now) }
-    requires room { HasRoom out.old (length (blob_bytes blob.now)) }
-    ensures appended { out.new.items ≡ out.old.items ++ blob_bytes blob.now }
-    ensures len { vec_len out.new ≡ vec_len out.old + length (blob_bytes blob.now) }
-    ensures capacity { vec_capacity out.old ≤ vec_capacity out.new }
-{
-    append(out, &blob.namespace.0);
-    append(out, &[version_of(&blob.signer)]);
-    append(out, signer_bytes(&blob.signer));
-    put_text(out, &blob.bytes);
-}
-
-/// Appends a list of blobs.
-fn put_blobs(out: &mut Vec<u8>, blobs: &[Blob])
-    requires few { IsShort (counted_bytes blob_bytes blobs.now) }
-    requires room { HasRoom out.old (length (counted_bytes blob_bytes blobs.now)) }
-    ensures appended { out.new.items ≡ out.old.items ++ counted_bytes blob_bytes blobs.now }
-{
-    append(out, &(blobs.len() as u32).to_be_bytes());
-    for blob in blobs {
-        put_blob(out, blob);
-    }
-}
-
-/// The number that a width is written as, 0 for none.
-fn width_number(width: Option<u16>) -> u16
-    ensures { result ≡ width_number width }
-{
-    width.unwrap_or(0)
+    size_of(block)
 }
 
 /// Appends the payload of a block.
@@ -279,8 +253,5 @@ pub fn put_block(out: &mut Vec<u8>, block: &Block)
     requires room { HasRoom out.old (length (block_payload block.now)) }
     ensures appended { out.new.items ≡ out.old.items ++ block_payload block.now }
 {
-    append(out, &width_number(block.width).to_be_bytes());
-    put_units(out, &block.units);
-    put_units(out, &block.pay_units);
-    put_blobs(out, &block.blobs);
+    append_text(out, block);
 }

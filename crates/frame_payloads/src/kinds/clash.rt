@@ -74,6 +74,6 @@ pub fn put_clash(out: &mut Vec<u8>, clash: &Clash)
     requires room { HasRoom out.old (length (clash_payload clash.now)) }
     ensures appended { out.new.items ≡ out.old.items ++ clash_payload clash.now }
 {
-    put_text16(out, clash.left().bytes());
-    put_text16(out, clash.right().bytes());
+    put_text16(out, clash.left().bytes()).unwrap();
+    put_text16(out, clash.right().bytes()).unwrap();
 }

@@ -1,25 +1,23 @@
 //! The payload of a commitment proof: judged where it lies, then read; and written.
 
-ghost use Rattle.std.specs.Prelude.{◌≡◌, ◌≤◌, ◌==◌, if◌then◌else◌, length, vec_len, None, Some, IfOk, IfSome, MatchOption, ◌+◌, ◌*◌, ◌++◌, vec_capacity, IsSome, false, ◌↔◌, IsTrue};
-ghost use Rattle.std.specs.Int.{w16, w32, to_be_bytes};
-ghost use Rattle.std.specs.List.{flat_map, list_any};
+ghost use Rattle.std.specs.Prelude.{◌≡◌, ◌==◌, if◌then◌else◌, length, None, Some, IfOk, IfSome, MatchOption, ◌+◌, ◌*◌, ◌++◌, IsSome, false, ◌↔◌, IsTrue};
+ghost use Rattle.std.specs.List.{list_any};
 ghost use Rattle.std.specs.Option.{option_map_or};
 ghost use Rattle.namespace_id.specs.Answers.{Gives, HasRoom};
 ghost use Rattle.frame_fields.specs.Fields.{read_items, digests_of};
-ghost use Rattle.frame_payloads.specs.codec.Texts.{digest_list};
-ghost use Rattle.frame_payloads.specs.Payloads.{GivesUnlessFull, max_payload, IsSize, IsWithin};
-ghost use Rattle.frame_payloads.specs.kinds.Commit.{most_subtrees, is_long_row, is_long_commit, row_bytes, commit_payload, row_at, rows_at, commit_at};
+ghost use Rattle.frame_payloads.specs.Payloads.{GivesUnlessFull, IsSize};
+ghost use Rattle.frame_payloads.specs.kinds.Commit.{is_long_row, is_long_commit, row_bytes, commit_payload, row_at, rows_at, commit_at};
 
-use crate::bounds::hash_law;
-use crate::codec::appending::{put_digests, put_hashes, put_path};
+use crate::codec::appending::{put_hashes, put_path};
 use crate::codec::items::{Item, after_list16, list16};
-use crate::codec::sizes::{DIGEST_SIZE, HASH_SIZE, longer};
-use blob_commit::{CommitProof, CommitRow, row_law};
+use crate::codec::outs::{Full, Out};
+use crate::codec::writing::{Text, append_text, put_list16, size_of};
+use blob_commit::{CommitProof, CommitRow};
 use data_header::RootPath;
 use frame_fields::{
     digest_at, digest_list_at, digests_of, hash_at, hashes_at, nodes_at, u16_at, u32_at,
 };
-use namespace_id::{Digest, GREATEST_WIDTH, append};
+use namespace_id::{Digest, GREATEST_WIDTH};
 use nmt_proofs::Nodes;
 use std::alloc::{AllocError, Global};
 
@@ -28,15 +26,6 @@ const MOST_ROWS: u16 = GREATEST_WIDTH;
 
 /// The most subtrees in a row, as many as it has original shares in the greatest square.
 const MOST_SUBTREES: u16 = GREATEST_WIDTH;
-
-/// The bytes in front of the rows: the width, the first index, the number of shares, the commitment.
-const FRONT_SIZE: u32 = 42;
-
-/// The bytes that state the count of the rows.
-const NUMBER_SIZE: usize = 2;
-
-/// The bytes that state the counts in a row: of its hashes, of its subtrees, of its nodes.
-const COUNTS_SIZE: usize = 4;
 
 /// A row. Its subtrees are still bytes, behind their count.
 #[derive(Drop)]
@@ -230,29 +219,28 @@ fn is_long_commit(proof: &CommitProof) -> bool
     proof.rows.len() > MOST_ROWS as usize || has_long_row(&proof.rows)
 }
 
-/// The length of a row that can be written.
-fn row_size(row: &CommitRow) -> usize
-    requires { is_long_row row.now ≡ false }
-    ensures { result ≡ length (row_bytes row.now) }
-{
-    row_law(row);
-    let hashes = row.up.hashes();
-    let subtrees: &[Digest] = &row.subtrees;
-    let nodes = row.nodes.nodes();
-    COUNTS_SIZE + HASH_SIZE * hashes.len() + DIGEST_SIZE * (1 + subtrees.len() + nodes.len())
+/// A row is its root, the hashes that lead from it to the data root, its subtrees, and its nodes.
+impl Text for CommitRow {
+    ghost text = { row_bytes };
+
+    fn put<O: Out>(&self, out: &mut O) -> Result<(), Full> {
+        out.put(&self.root.0)?;
+        put_hashes(out, self.up.hashes())?;
+        put_list16(out, &self.subtrees)?;
+        put_path(out, self.nodes.nodes())
+    }
 }
 
-/// A length with that of a list of rows more.
-fn with_rows(size: u32, rows: &[CommitRow]) -> Option<u32>
-    requires size { size ≤ max_payload }
-    requires short { list_any is_long_row rows.now ≡ false }
-    ensures { IsWithin (size + 2 + length (flat_map row_bytes rows.now)) result }
-{
-    let mut size = longer(size, NUMBER_SIZE)?;
-    for row in rows {
-        size = longer(size, row_size(row))?;
+impl Text for CommitProof {
+    ghost text = { commit_payload };
+
+    fn put<O: Out>(&self, out: &mut O) -> Result<(), Full> {
+        out.put(&self.k.to_be_bytes())?;
+        out.put(&self.start.to_be_bytes())?;
+        out.put(&self.count.to_be_bytes())?;
+        out.put(&self.commitment)?;
+        put_list16(out, &self.rows)
     }
-    Some(size)
 }
 
 /// The length of the payload of a commitment proof, none where it has too many rows or too many subtrees
@@ -263,61 +251,7 @@ pub fn commit_size(proof: &CommitProof) -> Option<u32>
     if is_long_commit(proof) {
         return None;
     }
-    hash_law(&proof.commitment);
-    with_rows(FRONT_SIZE, &proof.rows)
-}
-
-/// Appends the digests of subtrees behind their count.
-fn put_subtrees(out: &mut Vec<u8>, subtrees: &[Digest])
-    requires few { length subtrees.now ≤ most_subtrees }
-    requires room { HasRoom out.old (length (digest_list subtrees.now)) }
-    ensures appended { out.new.items ≡ out.old.items ++ digest_list subtrees.now }
-    ensures len { vec_len out.new ≡ vec_len out.old + length (digest_list subtrees.now) }
-    ensures capacity { vec_capacity out.old ≤ vec_capacity out.new }
-{
-    append(out, &(subtrees.len() as u16).to_be_bytes());
-    put_digests(out, subtrees);
-}
-
-/// Appends a row: its root, the hashes that lead from it to the data root, its subtrees, its nodes.
-fn put_row(out: &mut Vec<u8>, row: &CommitRow)
-    requires short { is_long_row row.now ≡ false }
-    requires room { HasRoom out.old (length (row_bytes row.now)) }
-    ensures appended { out.new.items ≡ out.old.items ++ row_bytes row.now }
-    ensures len { vec_len out.new ≡ vec_len out.old + length (row_bytes row.now) }
-    ensures capacity { vec_capacity out.old ≤ vec_capacity out.new }
-{
-    append(out, &row.root.0);
-    put_hashes(out, row.up.hashes());
-    put_subtrees(out, &row.subtrees);
-    put_path(out, row.nodes.nodes());
-}
-
-/// Appends rows, one after another.
-fn put_rows(out: &mut Vec<u8>, rows: &[CommitRow])
-    requires short { list_any is_long_row rows.now ≡ false }
-    requires room { HasRoom out.old (length (flat_map row_bytes rows.now)) }
-    ensures appended { out.new.items ≡ out.old.items ++ flat_map row_bytes rows.now }
-{
-    for row in rows {
-        put_row(out, row);
-    }
-}
-
-/// Appends what stands in front of the rows: the width, the first index, the number of shares, the
-/// commitment.
-fn put_front(out: &mut Vec<u8>, proof: &CommitProof)
-    requires room { HasRoom out.old 42 }
-    ensures appended { out.new.items
-        ≡ out.old.items ++ (to_be_bytes w16 proof.now.k ++ to_be_bytes w32 proof.now.start
-        ++ to_be_bytes w32 proof.now.count ++ proof.now.commitment) }
-    ensures len { vec_len out.new ≡ vec_len out.old + 42 }
-    ensures capacity { vec_capacity out.old ≤ vec_capacity out.new }
-{
-    append(out, &proof.k.to_be_bytes());
-    append(out, &proof.start.to_be_bytes());
-    append(out, &proof.count.to_be_bytes());
-    append(out, &proof.commitment);
+    size_of(proof)
 }
 
 /// Appends the payload of a commitment proof.
@@ -326,8 +260,5 @@ pub fn put_commit(out: &mut Vec<u8>, proof: &CommitProof)
     requires room { HasRoom out.old (length (commit_payload proof.now)) }
     ensures appended { out.new.items ≡ out.old.items ++ commit_payload proof.now }
 {
-    hash_law(&proof.commitment);
-    put_front(out, proof);
-    append(out, &(proof.rows.len() as u16).to_be_bytes());
-    put_rows(out, &proof.rows);
+    append_text(out, proof);
 }

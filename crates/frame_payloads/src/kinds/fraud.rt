@@ -1,22 +1,23 @@
 //! The payload of a fraud claim: judged where it lies, then read; and written. A claim without a set has
 //! form 1, and one with a set form 2.
 
-ghost use Rattle.std.specs.Prelude.{◌≡◌, ◌≤◌, length, map, None, Some, IfSome, MatchOption, ◌+◌, ◌++◌, ◌↔◌, IsSome, IsTrue, false};
-ghost use Rattle.std.specs.List.{flat_map};
+ghost use Rattle.std.specs.Prelude.{◌≡◌, ◌≤◌, ◌∷◌, length, map, None, Some, IfSome, MatchOption, ◌+◌, ◌++◌, ◌↔◌, IsSome, IsTrue, false};
 ghost use Rattle.namespace_id.specs.Answers.{HasRoom};
 ghost use Rattle.axis_roots.specs.Proved.{kept_message};
 ghost use Rattle.frame_fields.specs.Fields.{read_items};
-ghost use Rattle.frame_payloads.specs.Payloads.{GivesUnlessFull, max_payload, IsSize, IsWithin};
+ghost use Rattle.frame_payloads.specs.Payloads.{GivesUnlessFull, IsSize, Puts};
+ghost use Rattle.std.specs.Int.{w16};
+ghost use Rattle.frame_payloads.specs.codec.Texts.{list_bytes};
 ghost use Rattle.frame_fields.specs.Messages.{message_front};
 ghost use Rattle.frame_payloads.specs.kinds.Message.{message_payload};
-ghost use Rattle.frame_payloads.specs.kinds.Fraud.{most_cells, is_unwritten, plain_payload, fraud_payload, claim_cells_at, plain_at, fraud_at};
+ghost use Rattle.frame_payloads.specs.kinds.Fraud.{plain_form, accused_bytes, is_unwritten, fraud_payload, claim_cells_at, plain_at, fraud_at};
 
 use crate::bounds::proof_law;
 use crate::codec::items::{Item, after_list16, list16};
-use crate::codec::sizes::longer;
-use crate::kinds::accused::{ACCUSED_SIZE, MOST_CELLS, NUMBER_SIZE, accused_at, put_accused};
-use crate::kinds::fraud_set::{fits_form, put_with_set, set_fields, set_size, with_set};
-use crate::kinds::message::{message_size, put_message};
+use crate::codec::outs::{Full, Out};
+use crate::codec::writing::{Text, append_text, put_list16, size_of};
+use crate::kinds::accused::{MOST_CELLS, accused_at, put_accused};
+use crate::kinds::fraud_set::{fits_form, put_with_set, set_fields, with_set};
 use axis_roots::{FraudClaim, FraudProof, Message, Proved};
 use frame_fields::message_front;
 use namespace_id::{Axis, NoMemory};
@@ -40,7 +41,7 @@ impl Item for Message {
 
 /// The axis that a claim without a set accuses, its index, and the bytes of its cells from their count
 /// on, of which all are there. It takes no memory.
-fn plain_parts(payload: &[u8]) -> Option<(Axis, u16, &[u8])>
+pub(crate) fn plain_parts(payload: &[u8]) -> Option<(Axis, u16, &[u8])>
     ensures parts { MatchOption result (plain_at payload.now ≡ None)
         (λ x. plain_at payload.now ≡ Some (record {
           axis = x.0;
@@ -114,24 +115,44 @@ fn is_unwritten(claim: &FraudClaim) -> bool
     !fits_form(claim) || claim.cells.len() > MOST_CELLS as usize
 }
 
-/// A length with that of a sample more.
-fn with_message(size: u32, message: &Message) -> Option<u32>
-    requires size { size ≤ max_payload }
-    ensures { IsWithin (size + length (message_payload message.now)) result }
+/// Puts the payload of a claim without a set: the axis that it accuses, and cells that are written as
+/// samples.
+fn put_plain<T: Text, O: Out>(out: &mut O, axis: Axis, index: u16, cells: &[T]) -> Result<(), Full>
+    ensures { Puts O.byte O.held O.taken O.limit out.old out.new
+        (plain_form ∷ accused_bytes axis index ++ list_bytes w16 T.text cells.now) result }
 {
-    longer(size, message_size(message) as usize)
+    put_accused(out, FORM, axis, index)?;
+    put_list16(out, cells)
 }
 
-/// A length with that of a list of samples more.
-fn with_cells(size: u32, cells: &[Message]) -> Option<u32>
-    requires size { size ≤ max_payload }
-    ensures { IsWithin (size + 2 + length (flat_map message_payload cells.now)) result }
-{
-    let mut size = longer(size, NUMBER_SIZE)?;
-    for cell in cells {
-        size = with_message(size, cell)?;
+impl Text for FraudClaim {
+    ghost text = { fraud_payload };
+
+    fn put<O: Out>(&self, out: &mut O) -> Result<(), Full> {
+        match &self.set {
+            Some(set) => put_with_set(out, self, set),
+            None => put_plain(out, self.axis, self.index, &self.cells),
+        }
     }
-    Some(size)
+}
+
+/// A certificate is written as the sample that it keeps.
+impl Text for Proved {
+    ghost text = { λ proved. message_payload (kept_message proved) };
+
+    fn put<O: Out>(&self, out: &mut O) -> Result<(), Full> {
+        self.message().put(out)
+    }
+}
+
+/// A fraud proof is written as its claim.
+impl Text for FraudProof {
+    ghost text = { λ proof. fraud_payload proof.claim };
+
+    fn put<O: Out>(&self, out: &mut O) -> Result<(), Full> {
+        proof_law(self);
+        put_plain(out, self.axis, self.index, &self.cells)
+    }
 }
 
 /// The length of the payload of a fraud claim, none where it can't be written.
@@ -141,23 +162,7 @@ pub fn fraud_size(claim: &FraudClaim) -> Option<u32>
     if is_unwritten(claim) {
         return None;
     }
-    match &claim.set {
-        Some(set) => set_size(claim, set),
-        None => with_cells(ACCUSED_SIZE, &claim.cells),
-    }
-}
-
-/// A length with that of a list of certificates' samples more.
-fn with_proved(size: u32, cells: &[Proved]) -> Option<u32>
-    requires size { size ≤ max_payload }
-    ensures { IsWithin (size + 2 + length (flat_map message_payload (map kept_message cells.now)))
-        result }
-{
-    let mut size = longer(size, NUMBER_SIZE)?;
-    for cell in cells {
-        size = with_message(size, cell.message())?;
-    }
-    Some(size)
+    size_of(claim)
 }
 
 /// The length of the payload of a fraud proof's claim.
@@ -166,27 +171,7 @@ pub fn proof_size(proof: &FraudProof) -> u32
         (Some result) }
 {
     proof_law(proof);
-    with_proved(ACCUSED_SIZE, &proof.cells).unwrap()
-}
-
-/// Appends samples, one after another.
-fn put_cells(out: &mut Vec<u8>, cells: &[Message])
-    requires room { HasRoom out.old (length (flat_map message_payload cells.now)) }
-    ensures appended { out.new.items ≡ out.old.items ++ flat_map message_payload cells.now }
-{
-    for cell in cells {
-        put_message(out, cell);
-    }
-}
-
-/// Appends the payload of a claim without a set.
-fn put_plain(out: &mut Vec<u8>, claim: &FraudClaim)
-    requires few { length claim.now.cells ≤ most_cells }
-    requires room { HasRoom out.old (length (plain_payload claim.now)) }
-    ensures appended { out.new.items ≡ out.old.items ++ plain_payload claim.now }
-{
-    put_accused(out, FORM, claim.axis, claim.index, claim.cells.len());
-    put_cells(out, &claim.cells);
+    size_of(proof).unwrap()
 }
 
 /// Appends the payload of a fraud claim.
@@ -195,22 +180,7 @@ pub fn put_fraud(out: &mut Vec<u8>, claim: &FraudClaim)
     requires room { HasRoom out.old (length (fraud_payload claim.now)) }
     ensures appended { out.new.items ≡ out.old.items ++ fraud_payload claim.now }
 {
-    match &claim.set {
-        Some(set) => put_with_set(out, claim, set),
-        None => put_plain(out, claim),
-    }
-}
-
-/// Appends the samples of certificates, one after another.
-fn put_proved(out: &mut Vec<u8>, cells: &[Proved])
-    requires room { HasRoom out.old
-        (length (flat_map message_payload (map kept_message cells.now))) }
-    ensures appended { out.new.items
-        ≡ out.old.items ++ flat_map message_payload (map kept_message cells.now) }
-{
-    for cell in cells {
-        put_message(out, cell.message());
-    }
+    append_text(out, claim);
 }
 
 /// Appends the payload of a fraud proof's claim.
@@ -218,7 +188,5 @@ pub fn put_proof(out: &mut Vec<u8>, proof: &FraudProof)
     requires room { HasRoom out.old (length (fraud_payload proof.now.claim)) }
     ensures appended { out.new.items ≡ out.old.items ++ fraud_payload proof.now.claim }
 {
-    proof_law(proof);
-    put_accused(out, FORM, proof.axis, proof.index, proof.cells.len());
-    put_proved(out, &proof.cells);
+    append_text(out, proof);
 }

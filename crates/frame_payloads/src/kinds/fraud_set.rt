@@ -2,19 +2,19 @@
 
 ghost use Rattle.std.specs.Prelude.{◌≡◌, ◌≤◌, ◌*◌, length, vec_len, None, Some, true, IfOk, IfSome, ◌+◌, ◌++◌, vec_capacity, IsSome, false, ◌==◌};
 ghost use Rattle.std.specs.List.{flat_map, list_all, list_any};
-ghost use Rattle.namespace_id.specs.Answers.{Gives, HasRoom};
+ghost use Rattle.namespace_id.specs.Answers.{Gives};
 ghost use Rattle.axis_roots.specs.Sets.{is_one_axis, is_along};
 ghost use Rattle.frame_fields.specs.Fields.{many_at, read_items, digests_of};
-ghost use Rattle.frame_payloads.specs.codec.Texts.{digest_bytes, digest_list};
-ghost use Rattle.frame_payloads.specs.Payloads.{GivesUnlessFull, max_payload, IsWithin};
-ghost use Rattle.frame_payloads.specs.kinds.Fraud.{most_cells, most_set_nodes, tag_of, cell_payload, set_payload, is_placed, fits_form, tag_at, cell_path_at, set_cell_at, set_cells_at, with_set_at, passed, set_seen};
+ghost use Rattle.frame_payloads.specs.Payloads.{GivesUnlessFull, Puts};
+ghost use Rattle.frame_payloads.specs.kinds.Fraud.{cell_payload, set_payload, is_placed, fits_form, tag_at, cell_path_at, set_cell_at, set_cells_at, with_set_at, passed, set_seen, most_set_nodes};
 
-use crate::codec::appending::{put_digests, put_path};
-use crate::codec::sizes::{DIGEST_SIZE, SHARE_SIZE, longer};
-use crate::kinds::accused::{ACCUSED_SIZE, MOST_CELLS, NUMBER_SIZE, accused_at, put_accused};
+use crate::codec::appending::put_path;
+use crate::codec::outs::{Full, Out};
+use crate::codec::writing::{count16, put_list16};
+use crate::kinds::accused::{MOST_CELLS, accused_at, put_accused};
 use axis_roots::{FraudClaim, Message, SetNodes, cell_on, index, is_along, position};
 use frame_fields::{count16_at, digest_list_at, digests_of, path_at, share_at, u8_at, u16_at};
-use namespace_id::{Axis, Digest, GREATEST_WIDTH, append, digests_law, share_law};
+use namespace_id::{Axis, GREATEST_WIDTH};
 use nmt_proofs::Path;
 use std::alloc::{AllocError, Global};
 
@@ -22,16 +22,13 @@ use std::alloc::{AllocError, Global};
 const FORM: u8 = 2;
 
 /// The most nodes of a set, as many as open cells of an axis of the greatest square.
-const MOST_NODES: u16 = GREATEST_WIDTH;
+pub(crate) const MOST_NODES: u16 = GREATEST_WIDTH;
 
 /// The tag of a cell that has a path along the crossing axis.
 const CROSSING: u8 = 0;
 
 /// The tag of a cell that the set shows.
 const ALONG: u8 = 1;
-
-/// The bytes of a cell without its path: its position, its tag, its share.
-const CELL_SIZE: usize = NUMBER_SIZE + 1 + SHARE_SIZE;
 
 /// A claim with a set, judged. The cells are still bytes, from their count on, and so are the nodes,
 /// behind theirs.
@@ -80,7 +77,7 @@ fn cell_path_at(along: bool, bytes: &[u8]) -> Option<(Path, &[u8])>
 
 /// A cell on the accused axis, and the bytes after it.
 #[tactic(auto, unfolding(crate::specs::kinds::Fraud::set_cell_at))]
-fn set_cell_at(accused: Axis, index: u16, bytes: &[u8]) -> Option<(Message, &[u8])>
+pub(crate) fn set_cell_at(accused: Axis, index: u16, bytes: &[u8]) -> Option<(Message, &[u8])>
     ensures { Gives (λ x. (x.0, x.1.now)) result (set_cell_at accused index bytes.now) }
 {
     let Some((pos, rest)) = u16_at(bytes) else {
@@ -133,6 +130,7 @@ pub(crate) fn set_fields(payload: &[u8]) -> Option<SetFields<'_>>
     ensures parts { Gives (λ f. set_seen f) result (with_set_at payload.now) }
     ensures cells { IfSome result (λ f. IsSome (set_cells_at f.axis f.index f.cells.now)) }
     ensures nodes { IfSome result (λ f. length f.nodes.now ≡ 90 * f.count) }
+    ensures few { IfSome result (λ f. f.count ≤ most_set_nodes) }
 {
     let (axis, index, cells) = accused_at(FORM, payload)?;
     let (shown, rest) = after_cell_list(axis, index, cells)?;
@@ -248,103 +246,40 @@ pub(crate) fn fits_form(claim: &FraudClaim) -> bool
     }
 }
 
-/// A length with that of a cell more.
-fn with_cell(size: u32, axis: Axis, message: &Message) -> Option<u32>
-    requires size { size ≤ max_payload }
-    ensures { IsWithin (size + length (cell_payload axis message.now)) result }
+/// Puts a cell: its position on the accused axis, its tag, its share, and its path where it has one.
+fn put_cell<O: Out>(out: &mut O, axis: Axis, message: &Message) -> Result<(), Full>
+    ensures { Puts O.byte O.held O.taken O.limit out.old out.new (cell_payload axis message.now) result }
 {
-    let nodes = message.path.nodes();
-    share_law(&message.share);
-    digests_law(nodes);
-    let size = longer(size, CELL_SIZE)?;
+    out.put(&position(axis, message.cell).to_be_bytes())?;
     if is_along(axis, message) {
-        return Some(size);
+        out.put(&[ALONG])?;
+        return out.put(&message.share.0);
     }
-    longer(size, 1 + DIGEST_SIZE * nodes.len())
+    out.put(&[CROSSING])?;
+    out.put(&message.share.0)?;
+    put_path(out, message.path.nodes())
 }
 
-/// A length with that of a list of cells more.
-fn with_cells(size: u32, axis: Axis, cells: &[Message]) -> Option<u32>
-    requires size { size ≤ max_payload }
-    ensures { IsWithin (size + 2 + length (flat_map (cell_payload axis) cells.now)) result }
-{
-    let mut size = longer(size, NUMBER_SIZE)?;
-    for cell in cells {
-        size = with_cell(size, axis, cell)?;
-    }
-    Some(size)
-}
-
-/// A length with that of the nodes of a set more.
-fn with_nodes(size: u32, nodes: &[Digest]) -> Option<u32>
-    requires size { size ≤ max_payload }
-    requires few { length nodes.now ≤ most_set_nodes }
-    ensures { IsWithin (size + 2 + length (digest_bytes nodes.now)) result }
-{
-    digests_law(nodes);
-    longer(size, NUMBER_SIZE + DIGEST_SIZE * nodes.len())
-}
-
-/// The length of the payload of a claim with this set.
-pub(crate) fn set_size(claim: &FraudClaim, set: &SetNodes) -> Option<u32>
-    requires few { length set.now ≤ most_set_nodes }
-    ensures { IsWithin (length (set_payload claim.now set.now)) result }
-{
-    with_nodes(
-        with_cells(ACCUSED_SIZE, claim.axis, &claim.cells)?,
-        &set.nodes,
-    )
-}
-
-/// Appends a cell: its position on the accused axis, its tag, its share, and its path where it has one.
-fn put_cell(out: &mut Vec<u8>, axis: Axis, message: &Message)
-    requires room { HasRoom out.old (length (cell_payload axis message.now)) }
-    ensures appended { out.new.items ≡ out.old.items ++ cell_payload axis message.now }
-    ensures len { vec_len out.new ≡ vec_len out.old + length (cell_payload axis message.now) }
-    ensures capacity { vec_capacity out.old ≤ vec_capacity out.new }
-{
-    append(out, &position(axis, message.cell).to_be_bytes());
-    if is_along(axis, message) {
-        append(out, &[ALONG]);
-        append(out, &message.share.0);
-    } else {
-        append(out, &[CROSSING]);
-        append(out, &message.share.0);
-        put_path(out, message.path.nodes());
-    }
-}
-
-/// Appends cells, one after another.
-fn put_cells(out: &mut Vec<u8>, axis: Axis, cells: &[Message])
-    requires room { HasRoom out.old (length (flat_map (cell_payload axis) cells.now)) }
-    ensures appended { out.new.items ≡ out.old.items ++ flat_map (cell_payload axis) cells.now }
-    ensures len { vec_len out.new
-        ≡ vec_len out.old + length (flat_map (cell_payload axis) cells.now) }
-    ensures capacity { vec_capacity out.old ≤ vec_capacity out.new }
+/// Puts cells, one after another.
+fn put_cells<O: Out>(out: &mut O, axis: Axis, cells: &[Message]) -> Result<(), Full>
+    ensures { Puts O.byte O.held O.taken O.limit out.old out.new (flat_map (cell_payload axis) cells.now) result }
 {
     for cell in cells {
-        put_cell(out, axis, cell);
+        put_cell(out, axis, cell)?;
     }
+    Ok(())
 }
 
-/// Appends the nodes of a set behind their count.
-fn put_nodes(out: &mut Vec<u8>, nodes: &[Digest])
-    requires few { length nodes.now ≤ most_set_nodes }
-    requires room { HasRoom out.old (2 + length (digest_bytes nodes.now)) }
-    ensures { out.new.items ≡ out.old.items ++ digest_list nodes.now }
+/// Puts the payload of a claim with this set.
+pub(crate) fn put_with_set<O: Out>(
+    out: &mut O,
+    claim: &FraudClaim,
+    set: &SetNodes,
+) -> Result<(), Full>
+    ensures { Puts O.byte O.held O.taken O.limit out.old out.new (set_payload claim.now set.now) result }
 {
-    append(out, &(nodes.len() as u16).to_be_bytes());
-    put_digests(out, nodes);
-}
-
-/// Appends the payload of a claim with this set.
-pub(crate) fn put_with_set(out: &mut Vec<u8>, claim: &FraudClaim, set: &SetNodes)
-    requires cells { length claim.now.cells ≤ most_cells }
-    requires few { length set.now ≤ most_set_nodes }
-    requires room { HasRoom out.old (length (set_payload claim.now set.now)) }
-    ensures appended { out.new.items ≡ out.old.items ++ set_payload claim.now set.now }
-{
-    put_accused(out, FORM, claim.axis, claim.index, claim.cells.len());
-    put_cells(out, claim.axis, &claim.cells);
-    put_nodes(out, &set.nodes);
+    put_accused(out, FORM, claim.axis, claim.index)?;
+    out.put(&count16(claim.cells.len()))?;
+    put_cells(out, claim.axis, &claim.cells)?;
+    put_list16(out, &set.nodes)
 }

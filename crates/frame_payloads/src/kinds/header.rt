@@ -6,8 +6,8 @@ ghost use Rattle.namespace_id.specs.Answers.{HasRoom};
 ghost use Rattle.frame_payloads.specs.kinds.Header.{roots_of, header_at, header_payload};
 ghost use Rattle.frame_payloads.specs.Payloads.{GivesUnlessFull, IsSize};
 
-use crate::codec::appending::put_digests;
 use crate::codec::sizes::{DIGEST_SIZE, WIDTH_SIZE};
+use crate::codec::writing::append_all;
 use data_header::Header;
 use frame_fields::{digests_of, u16_at};
 use namespace_id::{append, digests_law, is_width};
@@ -69,6 +69,6 @@ pub fn put_header(out: &mut Vec<u8>, header: &Header)
     ensures appended { out.new.items ≡ out.old.items ++ header_payload header.now }
 {
     append(out, &header.k.to_be_bytes());
-    put_digests(out, &header.rows);
-    put_digests(out, &header.cols);
+    append_all(out, &header.rows);
+    append_all(out, &header.cols);
 }

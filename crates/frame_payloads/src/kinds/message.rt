@@ -5,10 +5,12 @@ ghost use Rattle.namespace_id.specs.Answers.{HasRoom};
 ghost use Rattle.frame_payloads.specs.kinds.Message.{message_payload};
 ghost use Rattle.frame_payloads.specs.Payloads.{IsSize};
 
-use crate::codec::appending::{axis_byte, put_cell, put_path};
+use crate::codec::appending::{axis_byte, put_path};
+use crate::codec::outs::{Full, Out};
 use crate::codec::sizes::{CELL_SIZE, DIGEST_SIZE, SHARE_SIZE};
+use crate::codec::writing::{Text, append_text};
 use axis_roots::Message;
-use namespace_id::{MOST_DEPTH, append, digests_law, share_law};
+use namespace_id::{MOST_DEPTH, digests_law, share_law};
 
 /// The bytes of a sample whose path has no nodes: its cell, its axis, its share, and the count 0.
 pub(crate) const BARE_SIZE: usize = CELL_SIZE + 1 + SHARE_SIZE + 1;
@@ -26,6 +28,17 @@ pub fn message_size(message: &Message) -> u32
     BARE_SIZE as u32 + DIGEST_SIZE as u32 * nodes.len() as u32
 }
 
+impl Text for Message {
+    ghost text = { message_payload };
+
+    fn put<O: Out>(&self, out: &mut O) -> Result<(), Full> {
+        self.cell.put(out)?;
+        out.put(&[axis_byte(self.axis)])?;
+        out.put(&self.share.0)?;
+        put_path(out, self.path.nodes())
+    }
+}
+
 /// Appends the payload of a sample.
 pub fn put_message(out: &mut Vec<u8>, message: &Message)
     requires room { HasRoom out.old (length (message_payload message.now)) }
@@ -33,8 +46,5 @@ pub fn put_message(out: &mut Vec<u8>, message: &Message)
     ensures len { vec_len out.new ≡ vec_len out.old + length (message_payload message.now) }
     ensures capacity { vec_capacity out.old ≤ vec_capacity out.new }
 {
-    put_cell(out, message.cell);
-    append(out, &[axis_byte(message.axis)]);
-    append(out, &message.share.0);
-    put_path(out, message.path.nodes());
+    append_text(out, message);
 }

@@ -1,17 +1,15 @@
 //! The payload of missing cells.
 
-ghost use Rattle.std.specs.Prelude.{◌≡◌, ◌≤◌, ◌<◌, ◌*◌, length, take, drop, None, Some, IfOk, IfSome, IsTrue, MatchOption, true, ◌+◌, ◌++◌, ◌↔◌, IsSome, false, ◌==◌};
+ghost use Rattle.std.specs.Prelude.{◌≡◌, ◌≤◌, ◌<◌, ◌*◌, length, take, drop, None, Some, IfOk, IfSome, IsTrue, MatchOption, true, ◌+◌, ◌++◌, ◌↔◌, IsSome, false, ◌==◌, vec_capacity};
 ghost use Rattle.std.specs.Int.{w16, from_be_bytes};
 ghost use Rattle.namespace_id.specs.Cells.{is_width, are_cells};
 ghost use Rattle.namespace_id.specs.Answers.{HasRoom};
 ghost use Rattle.frame_fields.specs.Fields.{cells_of};
 ghost use Rattle.frame_payloads.specs.kinds.Missing.{is_next, are_next, missing_at, missing_payload};
 ghost use Rattle.frame_payloads.specs.Payloads.{GivesUnlessFull, IsSize, IsShort};
-ghost use Rattle.frame_payloads.specs.codec.Texts.{cell_bytes};
-ghost use Rattle.std.specs.List.{flat_map};
 
-use crate::codec::appending::put_cell;
 use crate::codec::sizes::{CELL_SIZE, COUNT_SIZE, MAX_PAYLOAD, WIDTH_SIZE};
+use crate::codec::writing::{append_all, count32};
 use frame_fields::{u16_at, u32_at};
 use namespace_id::{Cell, Cells, append, is_before, is_in_square, is_width};
 use std::alloc::{AllocError, Global};
@@ -146,23 +144,14 @@ pub fn missing_size(cells: &Cells) -> Option<u32>
     Some(FRONT_SIZE as u32 + CELL_SIZE as u32 * count as u32)
 }
 
-/// Appends cells, one after another.
-fn put_cells(out: &mut Vec<u8>, cells: &[Cell])
-    requires room { HasRoom out.old (length (flat_map cell_bytes cells.now)) }
-    ensures appended { out.new.items ≡ out.old.items ++ flat_map cell_bytes cells.now }
-{
-    for cell in cells {
-        put_cell(out, *cell);
-    }
-}
-
 /// Appends the payload of missing cells.
 pub fn put_missing(out: &mut Vec<u8>, cells: &Cells)
     requires few { IsShort (missing_payload cells.now) }
     requires room { HasRoom out.old (length (missing_payload cells.now)) }
     ensures appended { out.new.items ≡ out.old.items ++ missing_payload cells.now }
+    ensures capacity { vec_capacity out.old ≤ vec_capacity out.new }
 {
     append(out, &cells.k.to_be_bytes());
-    append(out, &(cells.list.len() as u32).to_be_bytes());
-    put_cells(out, &cells.list);
+    append(out, &count32(cells.list.len()));
+    append_all(out, &cells.list);
 }

@@ -1,27 +1,24 @@
 //! The payload of a namespace answer: judged where it lies, then read; and written.
 
 ghost use Rattle.std.specs.Prelude.{◌≡◌, ◌≤◌, length, map, vec_len, None, Some, IfOk, IfSome, MatchOption, ◌+◌, ◌++◌, vec_capacity, IsSome, ◌*◌, false, ◌↔◌, IsTrue};
-ghost use Rattle.std.specs.List.{flat_map, list_any};
+ghost use Rattle.std.specs.List.{list_any};
 ghost use Rattle.std.specs.Option.{option_map};
 ghost use Rattle.namespace_id.specs.Answers.{Gives, HasRoom};
 ghost use Rattle.axis_roots.specs.declared.answers.Found.TheVariants.{Range, Absence};
 ghost use Rattle.frame_fields.specs.Fields.{most_nodes, read_items, shares_of};
-ghost use Rattle.frame_payloads.specs.codec.Texts.{path_bytes};
-ghost use Rattle.frame_payloads.specs.Payloads.{GivesUnlessFull, max_payload, IsSize, IsWithin};
-ghost use Rattle.frame_payloads.specs.kinds.Names.{most_shares_shown, is_long_found, is_long_entry, is_long_answer, share_list_bytes, found_bytes, entry_bytes, names_payload, share_list_at, range_at, absence_at, found_at, entry_at, entries_at, names_at, found_place, entry_place, answer_places, place_at, found_seen, HasShares, HasFewNodes, HasNodes};
+ghost use Rattle.frame_payloads.specs.Payloads.{GivesUnlessFull, IsSize, Puts};
+ghost use Rattle.frame_payloads.specs.kinds.Names.{most_shares_shown, is_long_found, is_long_entry, is_long_answer, entry_bytes, names_payload, share_list_at, range_at, absence_at, found_at, entry_at, entries_at, names_at, found_place, entry_place, answer_places, place_at, found_seen, HasShares, HasFewNodes, HasNodes};
 
-use crate::codec::appending::{put_path, put_shares};
+use crate::codec::appending::put_path;
 use crate::codec::items::{Item, after_list16, list16};
-use crate::codec::sizes::{DIGEST_SIZE, NAMESPACE_SIZE, SHARE_SIZE, longer};
+use crate::codec::outs::{Counter, Full, Out};
+use crate::codec::writing::{Text, put_list16};
 use crate::shown::{EntryPlace, FoundPlace, PlaceList};
 use axis_roots::{Found, NsAnswer, NsEntry, ShareList};
 use frame_fields::{
     count16_at, digest_at, name_at, node_list_at, nodes_of, shares_at, shares_of, u8_at, u16_at,
 };
-use namespace_id::{
-    Digest, GREATEST_WIDTH, Namespace, Share, append, digest_law, digests_law, namespace_law,
-    shares_law,
-};
+use namespace_id::{Digest, GREATEST_WIDTH, Namespace, Share};
 use std::alloc::{AllocError, Global};
 
 /// The most entries of an answer, a row each.
@@ -35,9 +32,6 @@ const RANGE: u8 = 0;
 
 /// The byte in front of an absence.
 const ABSENCE: u8 = 1;
-
-/// The bytes that state a row, a place or a count.
-const NUMBER_SIZE: usize = 2;
 
 /// What is found in a row. The shares of a range and the nodes are still bytes, behind their counts.
 #[derive(Clone, Copy)]
@@ -326,56 +320,68 @@ fn is_long_answer(answer: &NsAnswer) -> bool
     answer.entries.len() > MOST_ENTRIES as usize || has_long_entry(&answer.entries)
 }
 
-/// A length with that of nodes behind their count more.
-fn with_nodes(size: u32, nodes: &[Digest]) -> Option<u32>
-    requires size { size ≤ max_payload }
-    requires few { length nodes.now ≤ most_nodes }
-    ensures { IsWithin (size + length (path_bytes nodes.now)) result }
+/// Puts an entry: a row, and the range that is found in it.
+fn write_range<O: Out>(
+    out: &mut O,
+    row: u16,
+    start: u16,
+    shares: &[Share],
+    nodes: &[Digest],
+) -> Result<(), Full>
+    requires nodes { length nodes.now ≤ most_nodes }
+    ensures { Puts O.byte O.held O.taken O.limit out.old out.new
+        (entry_bytes (record { row = row; found = Range start shares.now nodes.now })) result }
 {
-    digests_law(nodes);
-    longer(size, 1 + DIGEST_SIZE * nodes.len())
+    out.put(&row.to_be_bytes())?;
+    out.put(&[RANGE])?;
+    out.put(&start.to_be_bytes())?;
+    put_list16(out, shares)?;
+    put_path(out, nodes)
 }
 
-/// A length with that of shares behind their count more.
-fn with_shares(size: u32, shares: &[Share]) -> Option<u32>
-    requires size { size ≤ max_payload }
-    requires few { length shares.now ≤ most_shares_shown }
-    ensures { IsWithin (size + length (share_list_bytes shares.now)) result }
+/// Puts an entry: a row, and the absence that is found in it.
+fn write_absence<O: Out>(
+    out: &mut O,
+    row: u16,
+    pos: u16,
+    leaf: &Digest,
+    nodes: &[Digest],
+) -> Result<(), Full>
+    requires nodes { length nodes.now ≤ most_nodes }
+    ensures { Puts O.byte O.held O.taken O.limit out.old out.new
+        (entry_bytes (record { row = row; found = Absence pos leaf.now nodes.now })) result }
 {
-    shares_law(shares);
-    longer(size, NUMBER_SIZE + SHARE_SIZE * shares.len())
+    out.put(&row.to_be_bytes())?;
+    out.put(&[ABSENCE])?;
+    out.put(&pos.to_be_bytes())?;
+    out.put(&leaf.0)?;
+    put_path(out, nodes)
 }
 
-/// A length with that of what is found in a row more.
-fn with_found(size: u32, found: &Found) -> Option<u32>
-    requires size { size ≤ max_payload }
-    requires short { is_long_found found.now ≡ false }
-    ensures { IsWithin (size + length (found_bytes found.now)) result }
-{
-    match found {
-        Found::Range { shares, nodes, .. } => {
-            let size = longer(size, 1 + NUMBER_SIZE)?;
-            with_nodes(with_shares(size, &shares.list)?, nodes.nodes())
-        }
-        Found::Absence { leaf, nodes, .. } => {
-            digest_law(leaf);
-            let size = longer(size, 1 + NUMBER_SIZE + DIGEST_SIZE)?;
-            with_nodes(size, nodes.nodes())
+impl Text for NsEntry {
+    ghost text = { entry_bytes };
+
+    fn put<O: Out>(&self, out: &mut O) -> Result<(), Full> {
+        match &self.found {
+            Found::Range {
+                start,
+                shares,
+                nodes,
+            } => write_range(out, self.row, *start, &shares.list, nodes.nodes()),
+            Found::Absence { pos, leaf, nodes } => {
+                write_absence(out, self.row, *pos, leaf, nodes.nodes())
+            }
         }
     }
 }
 
-/// A length with that of a list of entries more.
-fn with_entries(size: u32, entries: &[NsEntry]) -> Option<u32>
-    requires size { size ≤ max_payload }
-    requires short { list_any is_long_entry entries.now ≡ false }
-    ensures { IsWithin (size + 2 + length (flat_map entry_bytes entries.now)) result }
+/// Puts the payload of a namespace answer.
+fn write_names<O: Out>(out: &mut O, name: &Namespace, answer: &NsAnswer) -> Result<(), Full>
+    ensures { Puts O.byte O.held O.taken O.limit out.old out.new (names_payload name.now answer.now)
+        result }
 {
-    let mut size = longer(size, NUMBER_SIZE)?;
-    for entry in entries {
-        size = with_found(longer(size, NUMBER_SIZE)?, &entry.found)?;
-    }
-    Some(size)
+    out.put(&name.0)?;
+    put_list16(out, &answer.entries)
 }
 
 /// The length of the payload of a namespace answer, none where it has too many entries or too many
@@ -386,20 +392,11 @@ pub fn names_size(name: &Namespace, answer: &NsAnswer) -> Option<u32>
     if is_long_answer(answer) {
         return None;
     }
-    namespace_law(name);
-    with_entries(NAMESPACE_SIZE as u32, &answer.entries)
-}
-
-/// Appends shares behind their count.
-fn put_share_list(out: &mut Vec<u8>, shares: &[Share])
-    requires few { length shares.now ≤ most_shares_shown }
-    requires room { HasRoom out.old (length (share_list_bytes shares.now)) }
-    ensures appended { out.new.items ≡ out.old.items ++ share_list_bytes shares.now }
-    ensures len { vec_len out.new ≡ vec_len out.old + length (share_list_bytes shares.now) }
-    ensures capacity { vec_capacity out.old ≤ vec_capacity out.new }
-{
-    append(out, &(shares.len() as u16).to_be_bytes());
-    put_shares(out, shares);
+    let mut count = Counter { size: 0 };
+    match write_names(&mut count, name, answer) {
+        Ok(()) => Some(count.size),
+        Err(Full) => None,
+    }
 }
 
 /// Appends an entry: a row, and the range that is found in it.
@@ -414,11 +411,7 @@ pub fn put_range(out: &mut Vec<u8>, row: u16, start: u16, shares: &[Share], node
         + length (entry_bytes (record { row = row; found = Range start shares.now nodes.now })) }
     ensures capacity { vec_capacity out.old ≤ vec_capacity out.new }
 {
-    append(out, &row.to_be_bytes());
-    append(out, &[RANGE]);
-    append(out, &start.to_be_bytes());
-    put_share_list(out, shares);
-    put_path(out, nodes);
+    write_range(out, row, start, shares, nodes).unwrap();
 }
 
 /// Appends an entry: a row, and the absence that is found in it.
@@ -432,42 +425,7 @@ pub fn put_absence(out: &mut Vec<u8>, row: u16, pos: u16, leaf: &Digest, nodes: 
         + length (entry_bytes (record { row = row; found = Absence pos leaf.now nodes.now })) }
     ensures capacity { vec_capacity out.old ≤ vec_capacity out.new }
 {
-    append(out, &row.to_be_bytes());
-    append(out, &[ABSENCE]);
-    append(out, &pos.to_be_bytes());
-    append(out, &leaf.0);
-    put_path(out, nodes);
-}
-
-/// Appends a row, and what is found in it.
-fn put_entry(out: &mut Vec<u8>, entry: &NsEntry)
-    requires short { is_long_entry entry.now ≡ false }
-    requires room { HasRoom out.old (length (entry_bytes entry.now)) }
-    ensures appended { out.new.items ≡ out.old.items ++ entry_bytes entry.now }
-    ensures len { vec_len out.new ≡ vec_len out.old + length (entry_bytes entry.now) }
-    ensures capacity { vec_capacity out.old ≤ vec_capacity out.new }
-{
-    match &entry.found {
-        Found::Range {
-            start,
-            shares,
-            nodes,
-        } => put_range(out, entry.row, *start, &shares.list, nodes.nodes()),
-        Found::Absence { pos, leaf, nodes } => {
-            put_absence(out, entry.row, *pos, leaf, nodes.nodes());
-        }
-    }
-}
-
-/// Appends entries, one after another.
-fn put_entries(out: &mut Vec<u8>, entries: &[NsEntry])
-    requires short { list_any is_long_entry entries.now ≡ false }
-    requires room { HasRoom out.old (length (flat_map entry_bytes entries.now)) }
-    ensures appended { out.new.items ≡ out.old.items ++ flat_map entry_bytes entries.now }
-{
-    for entry in entries {
-        put_entry(out, entry);
-    }
+    write_absence(out, row, pos, leaf, nodes).unwrap();
 }
 
 /// Appends the payload of a namespace answer.
@@ -476,7 +434,5 @@ pub fn put_names(out: &mut Vec<u8>, name: &Namespace, answer: &NsAnswer)
     requires room { HasRoom out.old (length (names_payload name.now answer.now)) }
     ensures appended { out.new.items ≡ out.old.items ++ names_payload name.now answer.now }
 {
-    append(out, &name.0);
-    append(out, &(answer.entries.len() as u16).to_be_bytes());
-    put_entries(out, &answer.entries);
+    write_names(out, name, answer).unwrap();
 }

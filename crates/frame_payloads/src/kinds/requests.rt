@@ -5,8 +5,9 @@ ghost use Rattle.namespace_id.specs.Answers.{HasRoom};
 ghost use Rattle.frame_payloads.specs.kinds.Requests.{sample_at, request_at, sample_payload, request_payload};
 ghost use Rattle.frame_payloads.specs.Payloads.{IsSize};
 
-use crate::codec::appending::{axis_byte, put_cell};
+use crate::codec::appending::axis_byte;
 use crate::codec::sizes::{CELL_SIZE, NAMESPACE_SIZE};
+use crate::codec::writing::append_text;
 use frame_fields::{axis_at, cell_at, name_of};
 use namespace_id::{Axis, Cell, Namespace, append, namespace_law};
 
@@ -54,6 +55,6 @@ pub fn put_sample(out: &mut Vec<u8>, cell: Cell, axis: Axis)
     requires room { HasRoom out.old (length (sample_payload cell axis)) }
     ensures appended { out.new.items ≡ out.old.items ++ sample_payload cell axis }
 {
-    put_cell(out, cell);
+    append_text(out, &cell);
     append(out, &[axis_byte(axis)]);
 }

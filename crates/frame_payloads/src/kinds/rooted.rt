@@ -62,5 +62,5 @@ pub fn put_rooted(out: &mut Vec<u8>, proof: &RootedMessage)
     append(out, &proof.k.to_be_bytes());
     put_message(out, &proof.message);
     append(out, &proof.root.0);
-    put_hashes(out, proof.up.hashes());
+    put_hashes(out, proof.up.hashes()).unwrap();
 }

@@ -6,10 +6,9 @@ ghost use Rattle.namespace_id.specs.Answers.{HasRoom};
 ghost use Rattle.frame_fields.specs.Fields.{shares_of};
 ghost use Rattle.frame_payloads.specs.kinds.Square.{square_at, square_payload};
 ghost use Rattle.frame_payloads.specs.Payloads.{GivesUnlessFull, IsSize};
-ghost use Rattle.frame_payloads.specs.codec.Texts.{share_bytes};
 
-use crate::codec::appending::put_shares;
 use crate::codec::sizes::{SHARE_SIZE, WIDTH_SIZE};
+use crate::codec::writing::append_all;
 use frame_fields::{shares_of, u16_at};
 use namespace_id::{append, is_width, shares_law};
 use square_layout::Square;
@@ -63,5 +62,5 @@ pub fn put_square(out: &mut Vec<u8>, square: &Square)
     ensures appended { out.new.items ≡ out.old.items ++ square_payload square.now }
 {
     append(out, &square.k.to_be_bytes());
-    put_shares(out, &square.shares);
+    append_all(out, &square.shares);
 }

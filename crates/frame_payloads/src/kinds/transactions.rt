@@ -6,7 +6,9 @@ ghost use Rattle.frame_payloads.specs.Payloads.{GivesUnlessFull, IsSize, IsShort
 ghost use Rattle.frame_payloads.specs.kinds.Transactions.{transactions_at, transactions_payload};
 
 use crate::codec::items::{after_list, list};
-use crate::kinds::units::{MOST, UnitList, put_units, with_units};
+use crate::codec::outs::{Counter, Full};
+use crate::codec::writing::put_list;
+use crate::kinds::units::{MOST, UnitList};
 use share_split::Unit;
 use std::alloc::{AllocError, Global};
 
@@ -35,7 +37,11 @@ pub fn transactions(alloc: Global, payload: &[u8]) -> Result<Option<UnitList>, A
 pub fn transactions_size(units: &[Unit]) -> Option<u32>
     ensures { IsSize false (transactions_payload units.now) result }
 {
-    with_units(0, units)
+    let mut count = Counter { size: 0 };
+    match put_list(&mut count, units) {
+        Ok(()) => Some(count.size),
+        Err(Full) => None,
+    }
 }
 
 /// Appends the payload of transactions.
@@ -44,5 +50,5 @@ pub fn put_transactions(out: &mut Vec<u8>, units: &[Unit])
     requires room { HasRoom out.old (length (transactions_payload units.now)) }
     ensures appended { out.new.items ≡ out.old.items ++ transactions_payload units.now }
 {
-    put_units(out, units);
+    put_list(out, units).unwrap();
 }

@@ -1,15 +1,12 @@
 //! Units, as transactions, one after another behind their count.
 
-ghost use Rattle.std.specs.Prelude.{◌≡◌, ◌≤◌, length, vec_len, ◌+◌, ◌++◌, vec_capacity};
-ghost use Rattle.namespace_id.specs.Answers.{HasRoom};
-ghost use Rattle.frame_payloads.specs.Payloads.{max_payload, IsShort, IsWithin};
-ghost use Rattle.frame_payloads.specs.kinds.Units.{unit_at, unit_bytes, counted_bytes};
+ghost use Rattle.frame_payloads.specs.kinds.Units.{unit_at, unit_bytes};
 
 use crate::codec::appending::put_text;
 use crate::codec::items::Item;
-use crate::codec::sizes::{COUNT_SIZE, longer, with_text};
+use crate::codec::outs::{Full, Out};
+use crate::codec::writing::Text;
 use frame_fields::text_at;
-use namespace_id::append;
 use share_split::Unit;
 use std::alloc::{AllocError, Global};
 use std::marker::Model;
@@ -48,28 +45,10 @@ impl Item for Unit {
     }
 }
 
-/// A length with that of a list of units more.
-pub(crate) fn with_units(size: u32, units: &[Unit]) -> Option<u32>
-    requires { size ≤ max_payload }
-    ensures { IsWithin (size + length (counted_bytes unit_bytes units.now)) result }
-{
-    let mut size = longer(size, COUNT_SIZE)?;
-    for unit in units {
-        size = with_text(size, &unit.bytes)?;
-    }
-    Some(size)
-}
+impl Text for Unit {
+    ghost text = { unit_bytes };
 
-/// Appends a list of units.
-pub(crate) fn put_units(out: &mut Vec<u8>, units: &[Unit])
-    requires few { IsShort (counted_bytes unit_bytes units.now) }
-    requires room { HasRoom out.old (length (counted_bytes unit_bytes units.now)) }
-    ensures appended { out.new.items ≡ out.old.items ++ counted_bytes unit_bytes units.now }
-    ensures len { vec_len out.new ≡ vec_len out.old + length (counted_bytes unit_bytes units.now) }
-    ensures capacity { vec_capacity out.old ≤ vec_capacity out.new }
-{
-    append(out, &(units.len() as u32).to_be_bytes());
-    for unit in units {
-        put_text(out, &unit.bytes);
+    fn put<O: Out>(&self, out: &mut O) -> Result<(), Full> {
+        put_text(out, &self.bytes)
     }
 }

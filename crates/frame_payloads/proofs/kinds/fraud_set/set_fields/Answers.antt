@@ -1,4 +1,6 @@
 use Rattle.std.proofs.Common.{sym}
+use Rattle.frame_payloads.specs.kinds.Fraud.{most_set_nodes}
+use Rattle.frame_payloads.proofs.Fields.DigestLists.{digest_list_few}
 use Rattle.frame_payloads.proofs.Forms.SetParts.{no_accused, no_cells, no_nodes, no_end, all_read}
 use Rattle.frame_payloads.proofs.kinds.fraud_set.set_fields.Goals as goal
 
@@ -25,3 +27,7 @@ pub returns-clause-parts : goal.returns-clause-parts
 returns-clause-parts c =
     all_read c.args.payload.now (c.in_ok-axis.axis, c.in_ok-axis.index) c.in_ok-axis.cells.now c.in_ok-shown.shown c.in_ok-shown.rest.now _ c.in_ok-count.rest.now
     c.in_ok-axis.ensures c.in_ok-shown.ensures c.in_ok-count.ensures.value (sym c.if-not-is_empty.ensures) c.if-not-shown.false
+
+-- no more nodes are read than a set may have
+pub returns-clause-few : goal.returns-clause-few
+returns-clause-few c = digest_list_few most_set_nodes c.in_ok-count.count c.in_ok-shown.rest.now c.in_ok-count.nodes.now c.in_ok-count.rest.now c.in_ok-count.ensures.value
