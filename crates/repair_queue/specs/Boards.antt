@@ -6,7 +6,7 @@ use Rattle.namespace_id.specs.declared.cells.Axis.{Axis}
 use Rattle.namespace_id.specs.declared.cells.Axis.TheVariants.{Row, Col}
 use Rattle.namespace_id.specs.declared.shares.Share.{Share}
 use Rattle.namespace_id.specs.declared.digests.Digest.{Digest}
-use Rattle.namespace_id.specs.Cells.{is_width, is_in_square}
+use Rattle.namespace_id.specs.Cells.{is_in_square}
 use Rattle.namespace_id.specs.Digests.{no_digest}
 use Rattle.data_header.specs.Headers.{Roots}
 use Rattle.axis_roots.specs.declared.message.messages.Message.{Message}
@@ -22,19 +22,13 @@ use Rattle.repair_queue.specs.Closures.{Fact}
 use Rattle.repair_queue.specs.Settled.{along}
 use Rattle.repair_queue.specs.Slots.{Kept, Flags, flags_of}
 use Rattle.repair_queue.specs.Repairs.{Shows, IsSlotted}
-use Rattle.repair_queue.specs.Pools.{slot_in, IsPool}
-use Rattle.repair_queue.specs.Counts.{Numbers, count_of, pending, AreCounts}
+use Rattle.repair_queue.specs.Pools.{slot_in}
+use Rattle.repair_queue.specs.Counts.{Numbers, count_of, pending}
 use Rattle.repair_queue.specs.Counting.{count_from}
 
 -- the marks of rows and columns as flags
 abbrev pub mark_of : Marks → Flags
 mark_of m = flags_of m.rows.items m.cols.items
-
--- there is a mark for each row and column of a square
-pub record AreMarks (m : Marks) : Type 0 where
-  pub width : is_width m.k ≡ true
-  pub rows : length m.rows.items ≡ 2 * m.k
-  pub cols : length m.cols.items ≡ 2 * m.k
 
 -- a share for each cell
 abbrev pub Shared : Type 0
@@ -101,12 +95,9 @@ AreLeavesOf k flag shares leaves = (cell : Cell) → is_in_square k cell ≡ tru
 
 -- all parts of a board are for one width
 pub record AreParts (b : Board) : Type 0 where
-  pub pool_width : b.pool.k ≡ b.grid.k
+  pub pool_width : b.pool.places.k ≡ b.grid.k
   pub marks_width : b.marks.k ≡ b.grid.k
   pub counts_width : b.counts.k ≡ b.grid.k
-  pub pool : IsPool b.pool
-  pub marks : AreMarks b.marks
-  pub counts : AreCounts b.counts
   pub digests : length b.leaves.items ≡ 2 * b.grid.k * (2 * b.grid.k)
 
 -- the cells that are known of each row and column that isn't decided are counted

@@ -1,5 +1,6 @@
 -- Counting numbers that pass a test, and sums.
-use Rattle.std.specs.Prelude.{ℕ, zero, suc, ◌+◌, Bool, true, false}
+use Rattle.std.specs.Prelude.{ℕ, zero, suc, ◌+◌, nat_lt, List, Bool, true, false}
+use Rattle.std.specs.List.{count_by}
 
 -- 1 where it passes
 abbrev pub one_if : Bool → ℕ
@@ -15,3 +16,7 @@ count_from f first (suc n) = one_if (f first) + count_from f (suc first) n
 unfoldable pub sum_below : (ℕ → ℕ) → ℕ → ℕ
 sum_below f zero = 0
 sum_below f (suc n) = f n + sum_below f n
+
+-- how many of these numbers are below k
+abbrev pub low : ℕ → List ℕ → ℕ
+low k counts = count_by (λ n. nat_lt n k) counts

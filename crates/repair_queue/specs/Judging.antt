@@ -9,8 +9,7 @@ use Rattle.axis_roots.specs.Proved.{kept_message, IsUnder}
 use Rattle.axis_roots.specs.Lines.{cell_on, entry}
 use Rattle.repair_queue.specs.declared.boards.Board.{Board}
 use Rattle.repair_queue.specs.Slots.{Kept, Flags, IsApart, IsAlike}
-use Rattle.repair_queue.specs.Pools.{HasPlaces}
-use Rattle.repair_queue.specs.Boards.{Shared, is_lined, is_found, found_share, AreMarks, IsSound, given_of, decided_of, share_of}
+use Rattle.repair_queue.specs.Boards.{Shared, is_lined, is_found, found_share, IsSound, given_of, decided_of, share_of}
 
 -- no other share is known of the cell
 pub record IsAlikeAt (slot : Kept) (flag : Flags) (shares : Shared) (cell : Cell) (share : Share) : Type 0 where
@@ -26,10 +25,8 @@ IsApartAt slot flag shares cell share =
 -- what is read of a board for what ends a session: it is sound, and its parts are for the header's width
 pub record IsReadable (header : Roots) (b : Board) : Type 0 where
   pub width : header.k ≡ b.grid.k
-  pub pool_width : b.pool.k ≡ b.grid.k
+  pub pool_width : b.pool.places.k ≡ b.grid.k
   pub marks_width : b.marks.k ≡ b.grid.k
-  pub places : HasPlaces b.pool
-  pub marks : AreMarks b.marks
   pub sound : IsSound header (given_of b) (decided_of b) (share_of b)
 
 -- at most samples of this cell were taken out

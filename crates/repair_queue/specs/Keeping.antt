@@ -6,12 +6,16 @@ use Rattle.namespace_id.specs.declared.shares.Share.{Share}
 use Rattle.namespace_id.specs.declared.digests.Digest.{Digest}
 use Rattle.namespace_id.specs.Cells.{is_in_square, crossing}
 use Rattle.namespace_id.specs.Digests.{no_digest}
+use Rattle.data_header.specs.Headers.{Roots}
+use Rattle.axis_roots.specs.declared.message.messages.Message.{Message}
 use Rattle.axis_roots.specs.Messages.{index}
 use Rattle.axis_roots.specs.Lines.{cell_on, entry}
 use Rattle.repair_queue.specs.Slots.{Kept, Flags}
 use Rattle.repair_queue.specs.Counting.{one_if}
 use Rattle.repair_queue.specs.Counts.{Numbers, AreQueued}
-use Rattle.repair_queue.specs.Boards.{Shared, is_found}
+use Rattle.repair_queue.specs.declared.boards.Board.{Board}
+use Rattle.repair_queue.specs.Lines.{AreFacts}
+use Rattle.repair_queue.specs.Boards.{Shared, is_found, IsGood, HoldsFor}
 use Rattle.repair_queue.specs.Judging.{IsAlikeAt}
 
 -- no share that is known of a cell of a row or a column is another one than the line's
@@ -41,3 +45,8 @@ pub record IsClearedAt (old new : Kept) (cell : Cell) : Type 0 where
 pub record IsClearedTo (old new : Kept) (axis : Axis) (i n : ℕ) : Type 0 where
   pub here : (own : Axis) (pos : ℕ) → pos < n → new own (cell_on axis i pos) ≡ None
   pub each : (own : Axis) (cell : Cell) → (new own cell ≡ old own cell) ⊎ ((index axis cell ≡ i) × (new own cell ≡ None))
+
+-- a row or a column is kept: the board is good, and stands for each list for which its line is made of facts
+abbrev pub IsLineKept : Roots → Board → Board → Axis → ℕ → List Share → Type 0
+IsLineKept header s t axis i line =
+    IsGood header t × ((ms : List Message) → AreFacts header ms axis i line → HoldsFor header ms s → HoldsFor header ms t)

@@ -8,6 +8,7 @@ pub mod Lines
 pub mod Steps
 pub mod Answers
 pub mod Counting
+pub mod Places
 pub mod Pools
 pub mod Counts
 pub mod Boards

@@ -1,33 +1,32 @@
 -- Samples that were given, at most one for each cell along each axis: what is kept of which cell, and what a change
 -- of it leaves.
-use Rattle.std.specs.Prelude.{◌≡◌, ◌≢◌, ◌⊎◌, ℕ, ◌+◌, ◌*◌, ◌<◌, ◌≤◌, List, length, get_or, true, Option, Some, None, is_some, if◌then◌else◌, vec_capacity, vec_len}
+use Rattle.std.specs.Prelude.{◌≡◌, ◌≢◌, ◌⊎◌, ℕ, ◌+◌, ◌*◌, ◌<◌, ◌≤◌, List, length, get_or, true, Option, Some, None, is_some}
 use Rattle.namespace_id.specs.declared.cells.Cell.{Cell}
 use Rattle.namespace_id.specs.declared.cells.Axis.{Axis}
 use Rattle.namespace_id.specs.declared.cells.Axis.TheVariants.{Row, Col}
-use Rattle.namespace_id.specs.Cells.{is_width, is_in_square}
+use Rattle.namespace_id.specs.Cells.{is_width}
 use Rattle.axis_roots.specs.declared.message.proved.Proved.{Proved}
-use Rattle.repair_queue.specs.declared.pools.Pool.{Pool}
 use Rattle.axis_roots.specs.Proved.{kept_message}
 use Rattle.axis_roots.specs.Lines.{cell_on}
 use Rattle.repair_queue.specs.Slots.{Kept}
+use Rattle.repair_queue.specs.Places.{PlaceParts, place_of}
 use Rattle.repair_queue.specs.Counting.{count_from, sum_below}
 
--- the place that a row-major list has for a cell of a square of width k, 0 outside of it
-unfoldable pub place_in : ℕ → List ℕ → Cell → ℕ
-place_in k places cell = if is_in_square k cell then get_or places (cell.row * (2 * k) + cell.col) 0 else 0
+-- a pool as contracts see it: the place of each cell's sample; an empty place, and behind it the samples and the places
+-- that are free; these; and for how many there is capacity
+pub record PoolParts : Type 0 where
+  pub places : PlaceParts
+  pub given : List (Option Proved)
+  pub free : List ℕ
+  pub capacity : ℕ
 
--- the places of samples, by the list of each kind
-abbrev pub places_in : ℕ → List ℕ → List ℕ → Axis → Cell → ℕ
-places_in k rows cols Row cell = place_in k rows cell
-places_in k rows cols Col cell = place_in k cols cell
-
--- the place of the sample of a cell along an axis, 0 where none is kept
-abbrev pub place_of : Pool → Axis → Cell → ℕ
-place_of p = places_in p.k p.rows.items p.cols.items
+-- the samples at these places
+abbrev pub slots_by : List (Option Proved) → (Axis → Cell → ℕ) → Kept
+slots_by given place axis cell = get_or given (place axis cell) None
 
 -- the sample that is kept of a cell along an axis, if one is
-abbrev pub slot_in : Pool → Kept
-slot_in p axis cell = get_or p.given.items (place_of p axis cell) None
+abbrev pub slot_in : PoolParts → Kept
+slot_in p = slots_by p.given (place_of p.places)
 
 -- how many samples along an axis are kept of the cells of a row
 abbrev pub samples_along : ℕ → Kept → Axis → ℕ → ℕ
@@ -40,14 +39,6 @@ samples_of_row k slot row = samples_along k slot Row row + samples_along k slot 
 -- how many samples are kept of all cells
 abbrev pub samples_of_all : ℕ → Kept → ℕ
 samples_of_all k slot = sum_below (samples_of_row k slot) (2 * k)
-
--- there is a place for each cell along each axis, and what each leads to is there
-pub record HasPlaces (p : Pool) : Type 0 where
-  pub width : is_width p.k ≡ true
-  pub rows : length p.rows.items ≡ 2 * p.k * (2 * p.k)
-  pub cols : length p.cols.items ≡ 2 * p.k * (2 * p.k)
-  pub to_rows : (i : ℕ) → get_or p.rows.items i 0 < length p.given.items
-  pub to_cols : (i : ℕ) → get_or p.cols.items i 0 < length p.given.items
 
 -- places that may be used again: they are there, the first isn't among them, they differ, and none is a cell's
 pub record AreFree (count : ℕ) (place : Axis → Cell → ℕ) (free : List ℕ) : Type 0 where
@@ -68,30 +59,32 @@ pub record IsStored (given new : List (Option Proved)) (free left : List ℕ) (k
   pub were : (i : ℕ) → i < length left → (i < length free) × (get_or left i 0 ≡ get_or free i 0)
   pub apart : ((i j : ℕ) → i < j → j < length free → get_or free i 0 ≢ get_or free j 0) → (i : ℕ) → i < length left → get_or left i 0 ≢ place
 
--- behind the empty place are the samples that are kept, fewer than 2k of the cells of each row, and the free places; so
--- there are at most as many places as cells, and there is capacity for each that comes to be free
-pub record IsPool (p : Pool) : Type 0 where
-  pub places : HasPlaces p
-  pub first : get_or p.given.items 0 None ≡ None
-  pub free : AreFree (length p.given.items) (place_of p) p.free.items
-  pub used : vec_len p.given ≡ 1 + samples_of_all p.k (slot_in p) + vec_len p.free
-  pub few : (row : ℕ) → row < 2 * p.k → samples_of_row p.k (slot_in p) row < 2 * p.k
-  pub most : vec_len p.given ≤ 2 * p.k * (2 * p.k)
-  pub free_room : 2 * p.k * (2 * p.k) ≤ vec_capacity p.free
-
--- where no place is free there is capacity for one more
-abbrev pub HasPlace : Pool → Type 0
-HasPlace p = length p.free.items ≡ 0 → vec_len p.given < vec_capacity p.given
-
--- there is capacity for as many places as there are cells
-abbrev pub IsRoomy : Pool → Type 0
-IsRoomy p = 2 * p.k * (2 * p.k) ≤ vec_capacity p.given
-
--- one that had such capacity has it still
-abbrev pub StaysRoomy : Pool → Pool → Type 0
-StaysRoomy old new = IsRoomy old → IsRoomy new
-
 -- each sample is kept at its own cell along its own axis
 abbrev pub AreAtHome : Kept → Type 0
 AreAtHome slot = (axis : Axis) (cell : Cell) (kept : Proved) → slot axis cell ≡ Some kept
     → ((kept_message kept).axis ≡ axis) × ((kept_message kept).cell ≡ cell)
+
+-- behind the empty place are the samples that are kept, each at home, fewer than 2k of the cells of each row, and the
+-- places that are left; so there are at most as many places as cells, and there is room for each that comes to be free
+pub record IsPool (k : ℕ) (place : Axis → Cell → ℕ) (given : List (Option Proved)) (left : List ℕ) (room : ℕ) : Type 0 where
+  pub width : is_width k ≡ true
+  pub leads : (axis : Axis) (cell : Cell) → place axis cell < length given
+  pub first : get_or given 0 None ≡ None
+  pub home : AreAtHome (slots_by given place)
+  pub free : AreFree (length given) place left
+  pub used : length given ≡ 1 + samples_of_all k (slots_by given place) + length left
+  pub few : (row : ℕ) → row < 2 * k → samples_of_row k (slots_by given place) row < 2 * k
+  pub most : length given ≤ 2 * k * (2 * k)
+  pub free_room : 2 * k * (2 * k) ≤ room
+
+-- where no place is free there is capacity for one more
+abbrev pub HasPlace : PoolParts → Type 0
+HasPlace p = length p.free ≡ 0 → length p.given < p.capacity
+
+-- there is capacity for as many places as there are cells
+abbrev pub IsRoomy : PoolParts → Type 0
+IsRoomy p = 2 * p.places.k * (2 * p.places.k) ≤ p.capacity
+
+-- one that had such capacity has it still
+abbrev pub StaysRoomy : PoolParts → PoolParts → Type 0
+StaysRoomy old new = IsRoomy old → IsRoomy new

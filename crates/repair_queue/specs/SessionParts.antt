@@ -15,7 +15,7 @@ use Rattle.repair_queue.specs.Closures.{Half, Fact, IsDecided}
 use Rattle.repair_queue.specs.Settled.{IsSettled}
 use Rattle.repair_queue.specs.Verdicts.{IsFraud, IsFoundClash}
 use Rattle.repair_queue.specs.Slots.{Flags, flags_of}
-use Rattle.repair_queue.specs.Pools.{places_in}
+use Rattle.repair_queue.specs.Places.{places_in}
 
 -- what ended a session, if anything did: a fraud claim, or two strings with one SHA-256 digest
 pub data SessionEnd : Type 0 where

@@ -9,7 +9,7 @@ use Rattle.axis_roots.specs.declared.message.proved.Proved.{Proved}
 use Rattle.axis_roots.specs.Lines.{cell_on, blank}
 use Rattle.repair_queue.specs.declared.tools.Tools.{Tools}
 use Rattle.repair_queue.specs.Slots.{Kept, Flags}
-use Rattle.repair_queue.specs.Steps.{AreBuffers, IsSpare}
+use Rattle.repair_queue.specs.Steps.{IsSpare}
 use Rattle.repair_queue.specs.Boards.{Shared, is_found, found_share}
 
 -- a list for k samples that was not handed out
@@ -24,19 +24,21 @@ AreLists k lists = record {
   spare : IsSpare k lists.2;
 }
 
--- the namespaces, twice the digests, and the shares of a line of 2k cells
-abbrev pub IsLine : ℕ → Vec Namespace Global × Vec Digest Global × Vec Digest Global × Vec Share Global → Type 0
-IsLine k line = record {
-  names : length line.0.items ≡ 2 * k;
-  digests : length line.1.items ≡ 2 * k;
-  folded : length line.2.items ≡ 2 * k;
-  across : length line.3.items ≡ 2 * k;
+-- the namespaces, twice the digests, and twice the shares of a line of 2k cells
+abbrev pub IsLine : ℕ → Vec Namespace Global × Vec Digest Global × Vec Digest Global × Vec Share Global × Vec Share Global → Type 0
+IsLine k made = record {
+  names : length made.0.items ≡ 2 * k;
+  digests : length made.1.items ≡ 2 * k;
+  folded : length made.2.items ≡ 2 * k;
+  line : length made.3.items ≡ 2 * k;
+  across : length made.4.items ≡ 2 * k;
 }
 
 -- buffers for the steps over a square of width k
 pub record AreTools (k : ℕ) (t : Tools) : Type 0 where
-  pub buffers : AreBuffers k t.buffers
+  pub room : t.room.k ≡ k
   pub code : t.code ≡ k
+  pub line : length t.line.items ≡ 2 * k
   pub known : k ≤ vec_capacity t.known
   pub given : k ≤ vec_capacity t.given
   pub names : length t.names.items ≡ 2 * k

@@ -24,9 +24,9 @@ message_of (Some kept) = Some (kept_message kept)
 abbrev pub parts_by : Roots → Board → Option Ended → SessionParts
 parts_by header b end = record {
   header = header;
-  kept = map message_of b.pool.given.items;
-  row_places = b.pool.rows.items;
-  col_places = b.pool.cols.items;
+  kept = map message_of b.pool.given;
+  row_places = b.pool.places.rows;
+  col_places = b.pool.places.cols;
   row_marks = b.marks.rows.items;
   col_marks = b.marks.cols.items;
   shares = b.grid.shares;

@@ -1,6 +1,6 @@
 //! What a session keeps of a square.
 
-ghost use Rattle.std.specs.Prelude.{◌≡◌, ◌+◌, ◌*◌, ◌<◌, ◌≤◌, ℕ, IsTrue, IsNone, IsSome, IfOk, IfSome, MatchOption, true, false, length, is_some, ◌||◌, vec_capacity};
+ghost use Rattle.std.specs.Prelude.{◌≡◌, ◌+◌, ◌*◌, ◌<◌, ◌≤◌, ℕ, IsTrue, IsNone, IsSome, IfOk, IfSome, MatchOption, true, false, length, is_some, ◌||◌};
 ghost use Rattle.namespace_id.specs.declared.cells.Cell.{Cell as Place};
 ghost use Rattle.namespace_id.specs.declared.cells.Axis.{Axis as Along};
 ghost use Rattle.namespace_id.specs.declared.cells.Axis.TheVariants.{Row, Col};
@@ -10,11 +10,11 @@ ghost use Rattle.axis_roots.specs.Messages.{index as index_of};
 ghost use Rattle.axis_roots.specs.Grids.{share_at};
 ghost use Rattle.repair_queue.specs.Slots.{IsApart, IsAlike};
 ghost use Rattle.repair_queue.specs.Counts.{count_of, pending};
-ghost use Rattle.repair_queue.specs.Pools.{slot_in, HasPlaces};
-ghost use Rattle.repair_queue.specs.Boards.{mark_of, AreMarks, is_lined, is_found, given_of, decided_of, share_of, first_share, found_share, AreParts, IsGood};
+ghost use Rattle.repair_queue.specs.Pools.{slot_in};
+ghost use Rattle.repair_queue.specs.Boards.{mark_of, is_lined, is_found, given_of, decided_of, share_of, first_share, found_share, AreParts, IsGood};
 
 use crate::counts::Counts;
-use crate::marks::{Marks, is_marked};
+use crate::marks::Marks;
 use crate::pools::{Pool, held_in};
 use axis_roots::Grid;
 use namespace_id::{Axis, BLANK_DIGEST, Cell, Digest, NoMemory, SHARE_SIZE, Share};
@@ -52,7 +52,7 @@ impl Board {
             (λ b. (axis : Along) (cell : Place) → given_of b axis cell ≡ None) }
         ensures undecided { IfOk result
             (λ b. (axis : Along) (i : ℕ) → decided_of b axis i ≡ false) }
-        ensures room { IfOk result (λ b. places ≤ vec_capacity b.pool.given) }
+        ensures room { IfOk result (λ b. places ≤ b.pool.capacity) }
     {
         let pool = Pool::new(alloc, k, places)?;
         let marks = Marks::new(alloc, k)?;
@@ -72,16 +72,15 @@ impl Board {
 
 /// The row of a cell where it is decided, else its column where that is.
 pub(crate) fn decided_through(marks: &Marks, cell: Cell) -> Option<Axis>
-    requires marks { AreMarks marks.now }
     requires cell { is_in_square marks.now.k cell ≡ true }
     ensures some { IfSome result (λ axis. (mark_of marks.now axis (index_of axis cell) ≡ true)
         × (is_lined (mark_of marks.now) cell ≡ true)) }
     ensures none { IsNone result → is_lined (mark_of marks.now) cell ≡ false }
 {
-    if is_marked(marks, Axis::Row, cell.row) {
+    if marks.is_set(Axis::Row, cell.row) {
         return Some(Axis::Row);
     }
-    if is_marked(marks, Axis::Col, cell.col) {
+    if marks.is_set(Axis::Col, cell.col) {
         return Some(Axis::Col);
     }
     None
@@ -89,18 +88,16 @@ pub(crate) fn decided_through(marks: &Marks, cell: Cell) -> Option<Axis>
 
 /// Whether the row or the column of a cell is decided.
 pub(crate) fn is_on_decided(marks: &Marks, cell: Cell) -> bool
-    requires marks { AreMarks marks.now }
     requires cell { is_in_square marks.now.k cell ≡ true }
     ensures { result ≡ is_lined (mark_of marks.now) cell }
 {
-    is_marked(marks, Axis::Row, cell.row) || is_marked(marks, Axis::Col, cell.col)
+    marks.is_set(Axis::Row, cell.row) || marks.is_set(Axis::Col, cell.col)
 }
 
 /// The share that a sample shows which is kept of a cell: that along its row, else that along its
 /// column.
 fn shown_share(pool: &Pool, cell: Cell) -> Option<&Share>
-    requires pool { HasPlaces pool.now }
-    requires cell { is_in_square pool.now.k cell ≡ true }
+    requires cell { is_in_square pool.now.places.k cell ≡ true }
     ensures { MatchOption result
         ((is_some (slot_in pool.now Row cell) || is_some (slot_in pool.now Col cell)) ≡ false)
         (λ share.
@@ -135,10 +132,8 @@ pub(crate) fn known_share(board: &Board, cell: Cell) -> Option<&Share>
 /// Whether a cell is known, by the samples that are kept and the rows and columns that are
 /// decided.
 pub(crate) fn is_found(pool: &Pool, marks: &Marks, cell: Cell) -> bool
-    requires pool { HasPlaces pool.now }
-    requires marks { AreMarks marks.now }
-    requires width { marks.now.k ≡ pool.now.k }
-    requires cell { is_in_square pool.now.k cell ≡ true }
+    requires width { marks.now.k ≡ pool.now.places.k }
+    requires cell { is_in_square pool.now.places.k cell ≡ true }
     ensures { result ≡ is_found (slot_in pool.now) (mark_of marks.now) cell }
 {
     is_on_decided(marks, cell)

@@ -12,9 +12,10 @@ ghost use Rattle.befp_maker.specs.Conflicts.{IsLineOf, IsAgainst};
 ghost use Rattle.repair_queue.specs.Closures.{Fact};
 ghost use Rattle.repair_queue.specs.Lines.{AreFacts};
 ghost use Rattle.repair_queue.specs.Repairs.{IsEnd};
-ghost use Rattle.repair_queue.specs.Steps.{AreBuffers, IsSpare};
+ghost use Rattle.repair_queue.specs.Tools.{HasSpare};
 
-use crate::ending::{Buffers, Ended};
+use crate::ending::Ended;
+use crate::tools::Tools;
 use axis_roots::{Message, Proved, position};
 use befp_maker::from_conflict;
 use data_header::Header;
@@ -22,27 +23,26 @@ use hash_clash::{Clash, Opening, clash_paths};
 use namespace_id::{Axis, leaf_namespace};
 
 /// Names what is wrong where a sample shows another share than the line of its row or its column
-/// that the buffers hold, which has the header's root.
+/// that the tools hold, which has the header's root.
 pub(crate) fn conflict(
-    buffers: &mut Buffers,
+    tools: &mut Tools,
     header: &Header,
     axis: Axis,
     index: u16,
     other: Proved,
-    cells: Vec<Proved>,
 ) -> Ended
-    requires buffers { AreBuffers header.now.k buffers.old }
+    requires room { tools.old.room.k ≡ header.now.k }
+    requires spare { HasSpare header.now.k tools.old.spare }
     requires index { index < 2 * header.now.k }
-    requires line { IsLineOf header.now axis index buffers.old.line.items }
-    requires other { IsAgainst header.now axis index buffers.old.line.items other }
-    requires spare { IsSpare header.now.k cells }
-    ensures buffers { AreBuffers header.now.k buffers.new }
-    ensures ended { (ms : List Sent) → AreFacts header.now ms axis index buffers.old.line.items →
+    requires line { IsLineOf header.now axis index tools.old.line.items }
+    requires other { IsAgainst header.now axis index tools.old.line.items other }
+    ensures { (ms : List Sent) → AreFacts header.now ms axis index tools.old.line.items →
         Fact header.now ms (kept_message other).cell (kept_message other).share →
         IsEnd header.now ms result }
 {
-    let line = &buffers.line;
-    match from_conflict(&mut buffers.room, header, axis, index, line, other, cells) {
+    let cells = tools.spare.take().unwrap();
+    let line = &tools.line;
+    match from_conflict(&mut tools.room, header, axis, index, line, other, cells) {
         Ok(proof) => Ended::Fraud(proof),
         Err(clash) => Ended::Clash(clash),
     }

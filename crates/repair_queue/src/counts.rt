@@ -1,15 +1,14 @@
 //! How many cells of each row and column are known, and the queue of those that came to have k.
 
-ghost use Rattle.std.specs.Prelude.{◌≡◌, ℕ, ◌+◌, ◌*◌, ◌<◌, [], ◌∷◌, IsTrue, IsNone, IsSome, IfOk, IfSome, drop, vec_len};
-ghost use Rattle.namespace_id.specs.declared.cells.Axis.{Axis as Along};
+ghost use Rattle.std.specs.Prelude.{◌≡◌, ◌+◌, ◌*◌, ◌≤◌, length, true, vec_len, vec_capacity};
 ghost use Rattle.namespace_id.specs.Cells.{is_width};
-ghost use Rattle.repair_queue.specs.Counts.{count_of, pending, AreCounts, IsRaised, AreQueued};
+ghost use Rattle.repair_queue.specs.Counting.{low};
 
 use namespace_id::{Axis, NoMemory};
 use std::alloc::Global;
 
 /// How many cells of each row and column of a square are known, and a queue of those that came to
-/// have k. Each enters it once.
+/// have k. Each enters it once, so there is capacity for each of those that have fewer than k.
 #[derive(Drop)]
 pub(crate) struct Counts {
     pub(crate) k: u16,
@@ -18,13 +17,22 @@ pub(crate) struct Counts {
     pub(crate) queue: Vec<(Axis, u16)>,
     /// How many of the queue were taken.
     pub(crate) next: usize,
+    ghost wide: { is_width k ≡ true },
+    ghost row_count: { length rows.items ≡ 2 * k },
+    ghost col_count: { length cols.items ≡ 2 * k },
+    ghost used: { vec_len queue + low k rows.items + low k cols.items ≡ 4 * k },
+    ghost room: { 4 * k ≤ vec_capacity queue },
+    ghost taken: { next ≤ vec_len queue },
 }
 
 impl Counts {
+    ghost use Rattle.std.specs.Prelude.{ℕ, ◌<◌, [], ◌∷◌, IsTrue, IsNone, IsSome, IfOk, IfSome, drop};
+    ghost use Rattle.namespace_id.specs.declared.cells.Axis.{Axis as Along};
+    ghost use Rattle.repair_queue.specs.Counts.{numbers_of, count_of, pending, IsRaised, AreQueued, IsOneMore};
+
     /// Counts of a square of width `k`, of which no cell is known.
     pub(crate) fn new(alloc: Global, k: u16) -> Result<Counts, NoMemory>
         requires width { IsTrue (is_width k) }
-        ensures counts { IfOk result AreCounts }
         ensures width { IfOk result (λ c. c.k ≡ k) }
         ensures none { IfOk result (λ c. (axis : Along) (i : ℕ) → count_of c axis i ≡ 0) }
     {
@@ -40,65 +48,70 @@ impl Counts {
             next: 0,
         })
     }
-}
 
-/// How many cells of a row or a column are known.
-pub(crate) fn count(counts: &Counts, axis: Axis, index: u16) -> u16
-    requires counts { AreCounts counts.now }
-    requires index { index < 2 * counts.now.k }
-    ensures { result ≡ count_of counts.now axis index }
-{
-    match axis {
-        Axis::Row => counts.rows[index as usize],
-        Axis::Col => counts.cols[index as usize],
+    /// How many cells of a row or a column are known.
+    pub(crate) fn count(&self, axis: Axis, index: u16) -> u16
+        requires index { index < 2 * self.now.k }
+        ensures { result ≡ count_of self.now axis index }
+    {
+        match axis {
+            Axis::Row => self.rows[index as usize],
+            Axis::Col => self.cols[index as usize],
+        }
     }
-}
 
-/// Counts one cell more of a row or a column. The one with which it has k puts it into the queue.
-pub(crate) fn raise(counts: &mut Counts, axis: Axis, index: u16)
-    requires counts { AreCounts counts.old }
-    requires index { index < 2 * counts.old.k }
-    requires below { count_of counts.old axis index < 2 * counts.old.k }
-    ensures counts { AreCounts counts.new }
-    ensures width { counts.new.k ≡ counts.old.k }
-    ensures next { counts.new.next ≡ counts.old.next }
-    ensures raised { IsRaised (count_of counts.old) (count_of counts.new) axis index }
-    ensures queued { AreQueued counts.old.k (count_of counts.old) (count_of counts.new)
-        (pending counts.old) (pending counts.new) }
-{
-    let more = count(counts, axis, index) + 1;
-    match axis {
-        Axis::Row => counts.rows[index as usize] = more,
-        Axis::Col => counts.cols[index as usize] = more,
+    /// Sets the number of a row or a column, which is greater by one than it was.
+    fn put_more(rows: &mut Vec<u16>, cols: &mut Vec<u16>, axis: Axis, index: u16, more: u16)
+        requires rows { index < length rows.old.items }
+        requires cols { index < length cols.old.items }
+        requires more { more ≡ numbers_of rows.old.items cols.old.items axis index + 1 }
+        ensures { IsOneMore rows.old.items cols.old.items rows.new.items cols.new.items axis index
+            more }
+    {
+        match axis {
+            Axis::Row => rows[index as usize] = more,
+            Axis::Col => cols[index as usize] = more,
+        }
     }
-    if more == counts.k {
-        counts.queue.push((axis, index)).unwrap();
-    }
-}
 
-/// The first row or column of the queue.
-pub(crate) fn first_queued(counts: &Counts) -> Option<(Axis, u16)>
-    requires counts { AreCounts counts.now }
-    ensures some { IfSome result (λ x.
-        pending counts.now ≡ x ∷ drop (counts.now.next + 1) counts.now.queue.items) }
-    ensures none { IsNone result → pending counts.now ≡ [] }
-    ensures left { IsSome result → counts.now.next < vec_len counts.now.queue }
-{
-    if counts.next == counts.queue.len() {
-        return None;
+    /// Counts one cell more of a row or a column. The one with which it has k puts it into the queue.
+    pub(crate) fn raise(&mut self, axis: Axis, index: u16)
+        requires index { index < 2 * self.old.k }
+        requires below { count_of self.old axis index < 2 * self.old.k }
+        ensures width { self.new.k ≡ self.old.k }
+        ensures next { self.new.next ≡ self.old.next }
+        ensures raised { IsRaised (count_of self.old) (count_of self.new) axis index }
+        ensures queued { AreQueued self.old.k (count_of self.old) (count_of self.new)
+            (pending self.old) (pending self.new) }
+    {
+        let more = self.count(axis, index) + 1;
+        Counts::put_more(&mut self.rows, &mut self.cols, axis, index, more);
+        if more == self.k {
+            self.queue.push((axis, index)).unwrap();
+        }
     }
-    Some(counts.queue[counts.next])
-}
 
-/// Takes the first row or column out of the queue.
-pub(crate) fn pass_queued(counts: &mut Counts)
-    requires counts { AreCounts counts.old }
-    requires some { counts.old.next < vec_len counts.old.queue }
-    ensures counts { AreCounts counts.new }
-    ensures width { counts.new.k ≡ counts.old.k }
-    ensures same { count_of counts.new ≡ count_of counts.old }
-    ensures next { counts.new.next ≡ counts.old.next + 1 }
-    ensures rest { pending counts.new ≡ drop (counts.old.next + 1) counts.old.queue.items }
-{
-    counts.next += 1;
+    /// The first row or column of the queue.
+    pub(crate) fn first_queued(&self) -> Option<(Axis, u16)>
+        ensures some { IfSome result (λ x.
+            pending self.now ≡ x ∷ drop (self.now.next + 1) self.now.queue.items) }
+        ensures none { IsNone result → pending self.now ≡ [] }
+        ensures left { IsSome result → self.now.next < vec_len self.now.queue }
+    {
+        if self.next == self.queue.len() {
+            return None;
+        }
+        Some(self.queue[self.next])
+    }
+
+    /// Takes the first row or column out of the queue.
+    pub(crate) fn pass_queued(&mut self)
+        requires some { self.old.next < vec_len self.old.queue }
+        ensures width { self.new.k ≡ self.old.k }
+        ensures same { count_of self.new ≡ count_of self.old }
+        ensures next { self.new.next ≡ self.old.next + 1 }
+        ensures rest { pending self.new ≡ drop (self.old.next + 1) self.old.queue.items }
+    {
+        self.next += 1;
+    }
 }

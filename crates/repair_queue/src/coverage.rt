@@ -6,24 +6,23 @@ ghost use Rattle.namespace_id.specs.declared.cells.Axis.TheVariants.{Row};
 ghost use Rattle.namespace_id.specs.Cells.{is_in_square};
 ghost use Rattle.axis_roots.specs.declared.message.messages.Message.{Message};
 ghost use Rattle.repair_queue.specs.Closures.{Half};
-ghost use Rattle.repair_queue.specs.Boards.{mark_of, AreMarks};
+ghost use Rattle.repair_queue.specs.Boards.{mark_of};
 ghost use Rattle.repair_queue.specs.SessionParts.{StandsFor};
 ghost use Rattle.repair_queue.specs.Sessions.{state_of};
 ghost use Rattle.repair_queue.specs.declared.fed.SessionState.TheVariants as state;
 
 use crate::fed::Session;
-use crate::marks::{Marks, is_marked};
+use crate::marks::Marks;
 use namespace_id::Axis;
 
 /// Whether all rows are decided.
 fn are_rows_marked(marks: &Marks) -> bool
-    requires marks { AreMarks marks.now }
     ensures all { result ≡ true → (i : ℕ) → i < 2 * marks.now.k → mark_of marks.now Row i ≡ true }
     ensures some { result ≡ false →
         (i : ℕ) × (i < 2 * marks.now.k) × (mark_of marks.now Row i ≡ false) }
 {
     for row in 0..2 * marks.k {
-        if !is_marked(marks, Axis::Row, row) {
+        if !marks.is_set(Axis::Row, row) {
             return false;
         }
     }

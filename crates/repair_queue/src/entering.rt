@@ -4,7 +4,7 @@ ghost use Rattle.std.specs.Prelude.{◌≡◌, IsNone, None, true, false};
 ghost use Rattle.namespace_id.specs.Cells.{is_in_square};
 ghost use Rattle.axis_roots.specs.Proved.{IsUnder, kept_message};
 ghost use Rattle.repair_queue.specs.Slots.{IsAlike};
-ghost use Rattle.repair_queue.specs.Pools.{slot_in, HasPlaces, HasPlace, StaysRoomy};
+ghost use Rattle.repair_queue.specs.Pools.{slot_in, HasPlace, StaysRoomy};
 ghost use Rattle.repair_queue.specs.Repairs.{Shows};
 ghost use Rattle.repair_queue.specs.Boards.{given_of, decided_of, is_lined, IsGood, AreAtRest};
 ghost use Rattle.repair_queue.specs.Tools.{AreTools};
@@ -12,11 +12,10 @@ ghost use Rattle.repair_queue.specs.Moves.{IsKeptOn, IsEntered, TakesMessage, St
 
 use crate::boards::{Board, decided_through};
 use crate::conflicts::{beside, conflict};
-use crate::counts::raise;
 use crate::ending::Ended;
 use crate::judging::drain;
 use crate::making::read_along;
-use crate::pools::{Pool, held_in, is_other, put_in, take_from};
+use crate::pools::{Pool, held_in, is_other, put_in, take_out};
 use crate::taking::Taken;
 use crate::tools::Tools;
 use axis_roots::{Proved, index};
@@ -25,8 +24,7 @@ use namespace_id::{Axis, Cell, Share};
 
 /// Whether a sample that is kept of a cell along an axis shows this share.
 fn shows(pool: &Pool, axis: Axis, cell: Cell, share: &Share) -> bool
-    requires places { HasPlaces pool.now }
-    requires cell { is_in_square pool.now.k cell ≡ true }
+    requires cell { is_in_square pool.now.places.k cell ≡ true }
     ensures shows { result ≡ true → Shows (slot_in pool.now axis cell) share.now }
 {
     match held_in(pool, axis, cell) {
@@ -53,8 +51,8 @@ fn keep_new(board: &mut Board, header: &Header, message: Proved)
     let is_new = held_in(&board.pool, own.crossing(), cell).is_none();
     put_in(&mut board.pool, message);
     if is_new {
-        raise(&mut board.counts, Axis::Row, cell.row);
-        raise(&mut board.counts, Axis::Col, cell.col);
+        board.counts.raise(Axis::Row, cell.row);
+        board.counts.raise(Axis::Col, cell.col);
     }
 }
 
@@ -100,7 +98,7 @@ fn enter(board: &mut Board, header: &Header, message: Proved) -> Taken
         return Taken::Kept;
     }
     if is_other(&board.pool, own, cell, share) {
-        let kept = take_from(&mut board.pool, own, cell).unwrap();
+        let kept = take_out(&mut board.pool, own, cell).unwrap();
         return Taken::Beside(message, kept);
     }
     keep(board, header, message);
@@ -121,9 +119,8 @@ fn take(board: &mut Board, tools: &mut Tools, header: &Header, message: Proved) 
         Taken::Kept => None,
         Taken::Against(axis, message) => {
             let i = index(axis, message.message().cell);
-            read_along(&board.grid, axis, i, &mut tools.buffers.line);
-            let cells = tools.spare.take().unwrap();
-            Some(conflict(&mut tools.buffers, header, axis, i, message, cells))
+            read_along(&board.grid, axis, i, &mut tools.line);
+            Some(conflict(tools, header, axis, i, message))
         }
         Taken::Beside(message, kept) => Some(Ended::Clash(beside(header, message, kept))),
     }

@@ -18,7 +18,6 @@ use crate::Verdict;
 use crate::boards::Board;
 use crate::ending::Ended;
 use crate::entering::step;
-use crate::pools::make_place;
 use crate::sessions::{answer_ended, answer_open, width};
 use crate::tools::Tools;
 use axis_roots::Proved;
@@ -95,7 +94,7 @@ impl GrowingSession {
         if self.ended.is_some() {
             return Ok(());
         }
-        make_place(&mut self.board.pool.given, &self.board.pool.free)?;
+        self.board.pool.make_place()?;
         self.ended = step(&mut self.board, &mut self.tools, &self.header, message);
         Ok(())
     }

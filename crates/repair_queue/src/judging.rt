@@ -25,17 +25,16 @@ ghost use Rattle.repair_queue.specs.Moves.{DecidesLine, SettlesLine, Drains, IsM
 
 use crate::boards::{Board, decided_through, is_on_decided};
 use crate::conflicts::conflict;
-use crate::counts::{count, first_queued, pass_queued};
 use crate::ending::Ended;
 use crate::gathering::{complete, gather};
 use crate::keeping::keep_line;
 use crate::making::{make, take_first, take_other};
-use crate::marks::is_marked;
 use crate::pools::is_other;
 use crate::rooting::root_of_line;
+use crate::sessions::width;
 use crate::tools::Tools;
-use axis_roots::{Proved, cell_on, is_root};
-use befp_maker::{AxisRoom, Decided, from_half};
+use axis_roots::{FraudProof, Proved, cell_on, is_root};
+use befp_maker::AxisRoom;
 use data_header::Header;
 use namespace_id::{Axis, Cell, Share};
 
@@ -170,17 +169,17 @@ fn accuse(board: &mut Board, tools: &mut Tools, header: &Header, axis: Axis, ind
     requires gathered { AreGathered (given_of board.old) (decided_of board.old)
         (share_of board.old) axis index
         tools.old.known.items tools.old.given.items }
-    requires line { IsCodeword header.now.k tools.old.buffers.line.items }
+    requires line { IsCodeword header.now.k tools.old.line.items }
     requires entries { HasEntries tools.old.known.items tools.old.given.items
-        tools.old.buffers.line.items }
-    requires root { line_strict_root header.now.k axis index tools.old.buffers.line.items
+        tools.old.line.items }
+    requires root { line_strict_root header.now.k axis index tools.old.line.items
         ≡ Some (root_of header.now axis index) → ⊥ }
     ensures { (ms : List Message) → HoldsFor header.now ms board.old → IsEnd header.now ms result }
 {
     let cells = tools.spare.take().unwrap();
     let cells = messages_known(
         board,
-        &mut tools.buffers.room,
+        &mut tools.room,
         &mut tools.across,
         header,
         axis,
@@ -188,10 +187,13 @@ fn accuse(board: &mut Board, tools: &mut Tools, header: &Header, axis: Axis, ind
         &tools.known,
         cells,
     );
-    match from_half(&mut tools.buffers.room, header, axis, index, cells) {
-        Decided::Bad(proof) => Ended::Fraud(proof),
-        Decided::Matches(_cells) => unreachable!(),
-    }
+    Ended::Fraud(FraudProof {
+        k: width(header),
+        axis,
+        index,
+        root: header.root_of(axis, index),
+        cells,
+    })
 }
 
 /// What is wrong where another share is known at a position than that of the line, which has the
@@ -208,24 +210,23 @@ fn contradict(
     requires tools { AreTools header.now.k tools.old }
     requires index { index < 2 * header.now.k }
     requires pos { pos < 2 * header.now.k }
-    requires line { IsLineOf header.now axis index tools.old.buffers.line.items }
+    requires line { IsLineOf header.now axis index tools.old.line.items }
     requires apart { IsApartAt (given_of board.old) (decided_of board.old) (share_of board.old)
-        (cell_on axis index pos) (entry tools.old.buffers.line.items pos) }
-    ensures { (ms : List Message) → AreFacts header.now ms axis index tools.old.buffers.line.items →
+        (cell_on axis index pos) (entry tools.old.line.items pos) }
+    ensures { (ms : List Message) → AreFacts header.now ms axis index tools.old.line.items →
         HoldsFor header.now ms board.old → IsEnd header.now ms result }
 {
     let cell = cell_on(axis, index, pos);
-    let share = tools.buffers.line[pos as usize];
+    let share = tools.line[pos as usize];
     let other = message_other(
         board,
-        &mut tools.buffers.room,
+        &mut tools.room,
         &mut tools.across,
         header,
         cell,
         &share,
     );
-    let cells = tools.spare.take().unwrap();
-    conflict(&mut tools.buffers, header, axis, index, other, cells)
+    conflict(tools, header, axis, index, other)
 }
 
 /// Keeps the line of a row or a column, which has the header's root, or names what is wrong where
@@ -242,13 +243,13 @@ fn settle(
     requires tools { AreTools header.now.k tools.old }
     requires index { index < 2 * header.now.k }
     requires off { decided_of board.old axis index ≡ false }
-    requires line { IsLineOf header.now axis index tools.old.buffers.line.items }
+    requires line { IsLineOf header.now axis index tools.old.line.items }
     requires digests { tools.old.digests.items
-        ≡ line_leaves header.now.k axis index tools.old.buffers.line.items }
-    requires apart { IsApartOrAlike header.now.k board.old axis index tools.old.buffers.line.items
+        ≡ line_leaves header.now.k axis index tools.old.line.items }
+    requires apart { IsApartOrAlike header.now.k board.old axis index tools.old.line.items
         apart }
     ensures settles { SettlesLine header.now board.old board.new tools.new axis index
-        tools.old.buffers.line.items result }
+        tools.old.line.items result }
     ensures next { IsNone result → board.new.counts.next ≡ board.old.counts.next }
     ensures room { IsNone result → StaysRoomy board.old.pool board.new.pool }
     ensures flagged { IsNone result →
@@ -257,14 +258,7 @@ fn settle(
     match apart {
         Some(pos) => Some(contradict(board, tools, header, axis, index, pos)),
         None => {
-            keep_line(
-                board,
-                header,
-                axis,
-                index,
-                &tools.buffers.line,
-                &tools.digests,
-            );
+            keep_line(board, header, axis, index, &tools.line, &tools.digests);
             None
         }
     }
@@ -281,9 +275,9 @@ fn rebuild_line(board: &Board, tools: &mut Tools, header: &Header, axis: Axis, i
     ensures chosen { AreChosen header.now.k tools.new.known.items }
     ensures gathered { AreGathered (given_of board.now) (decided_of board.now) (share_of board.now)
         axis index tools.new.known.items tools.new.given.items }
-    ensures line { IsCodeword header.now.k tools.new.buffers.line.items }
+    ensures line { IsCodeword header.now.k tools.new.line.items }
     ensures entries { HasEntries tools.new.known.items tools.new.given.items
-        tools.new.buffers.line.items }
+        tools.new.line.items }
 {
     gather(
         board,
@@ -298,7 +292,7 @@ fn rebuild_line(board: &Board, tools: &mut Tools, header: &Header, axis: Axis, i
         header.k,
         &tools.known,
         &tools.given,
-        &mut tools.buffers.line,
+        &mut tools.line,
     );
 }
 
@@ -316,14 +310,14 @@ fn has_root(
     requires index { index < 2 * header.now.k }
     requires kept { are_kept ≡ true →
         AreAlikeLined header.now.k (decided_of board.now) (share_of board.now) axis index
-        tools.old.buffers.line.items }
+        tools.old.line.items }
     ensures root { IsTrue result
-        ↔ (line_strict_root header.now.k axis index tools.old.buffers.line.items
+        ↔ (line_strict_root header.now.k axis index tools.old.line.items
         ≡ Some (root_of header.now axis index)) }
     ensures digests { tools.new.digests.items
-        ≡ line_leaves header.now.k axis index tools.old.buffers.line.items }
+        ≡ line_leaves header.now.k axis index tools.old.line.items }
     ensures tools { AreTools header.now.k tools.new }
-    ensures line { tools.new.buffers.line ≡ tools.old.buffers.line }
+    ensures line { tools.new.line ≡ tools.old.line }
     ensures known { tools.new.known ≡ tools.old.known }
     ensures given { tools.new.given ≡ tools.old.given }
 {
@@ -332,7 +326,7 @@ fn has_root(
         header,
         axis,
         index,
-        &tools.buffers.line,
+        &tools.line,
         are_kept,
         &mut tools.names,
         &mut tools.digests,
@@ -363,7 +357,7 @@ fn decide(
         IsFlagged (decided_of board.old) (decided_of board.new) axis index }
 {
     rebuild_line(board, tools, header, axis, index);
-    let apart = first_apart(board, axis, index, &tools.buffers.line);
+    let apart = first_apart(board, axis, index, &tools.line);
     if has_root(board, tools, header, axis, index, apart.is_none()) {
         settle(board, tools, header, axis, index, apart)
     } else {
@@ -383,8 +377,8 @@ fn is_due(board: &Board, header: &Header, axis: Axis, index: u16) -> bool
         header.now.k ≤ count_of board.now.counts axis index → ⊥ }
 {
     index < 2 * header.k
-        && !is_marked(&board.marks, axis, index)
-        && count(&board.counts, axis, index) >= header.k
+        && !board.marks.is_set(axis, index)
+        && board.counts.count(axis, index) >= header.k
 }
 
 /// Decides rows and columns until none is left that can be decided, or one ends the session.
@@ -394,14 +388,14 @@ pub(crate) fn drain(board: &mut Board, tools: &mut Tools, header: &Header) -> Op
     ensures drains { Drains header.now board.old board.new tools.new result }
     ensures room { IsNone result → StaysRoomy board.old.pool board.new.pool }
 {
-    while let Some((axis, index)) = first_queued(&board.counts) {
+    while let Some((axis, index)) = board.counts.first_queued() {
         if is_due(board, header, axis, index) {
             let ended = decide(board, tools, header, axis, index);
             if ended.is_some() {
                 return ended;
             }
         } else {
-            pass_queued(&mut board.counts);
+            board.counts.pass_queued();
         }
     }
     None

@@ -3,38 +3,32 @@
 ghost use Rattle.std.specs.Prelude.{◌≡◌, ◌≢◌, ◌*◌, ◌<◌, List, IsTrue, length, true, false};
 ghost use Rattle.namespace_id.specs.declared.cells.Cell.{Cell as Place};
 ghost use Rattle.namespace_id.specs.Cells.{is_width, is_in_square};
-ghost use Rattle.axis_roots.specs.declared.message.messages.Message.{Message};
 ghost use Rattle.axis_roots.specs.Messages.{index as index_of};
 ghost use Rattle.axis_roots.specs.Grids.{share_at, axis_shares};
 ghost use Rattle.axis_roots.specs.Trees.{line_leaves};
 ghost use Rattle.befp_maker.specs.Conflicts.{IsLineOf};
-ghost use Rattle.repair_queue.specs.Lines.{AreFacts};
 ghost use Rattle.repair_queue.specs.Slots.{IsFlagged};
-ghost use Rattle.repair_queue.specs.Counts.{count_of, pending, AreCounts};
-ghost use Rattle.repair_queue.specs.Pools.{slot_in, HasPlaces, IsPool, StaysRoomy, AreAtHome};
-ghost use Rattle.repair_queue.specs.Boards.{given_of, decided_of, share_of, mark_of, is_lined, AreAlikeLined, AreMarks, AreCounted, IsGood, HoldsFor};
-ghost use Rattle.repair_queue.specs.Keeping.{IsAlikeAll, IsCountedIn, AreWrittenLeaves, IsClearedAt, IsClearedTo};
+ghost use Rattle.repair_queue.specs.Counts.{count_of, pending};
+ghost use Rattle.repair_queue.specs.Pools.{slot_in, StaysRoomy};
+ghost use Rattle.repair_queue.specs.Boards.{given_of, decided_of, share_of, mark_of, is_lined, AreAlikeLined, AreCounted, IsGood};
+ghost use Rattle.repair_queue.specs.Keeping.{IsAlikeAll, IsCountedIn, AreWrittenLeaves, IsClearedAt, IsClearedTo, IsLineKept};
 
 use crate::boards::{Board, is_found, is_on_decided};
-use crate::counts::{Counts, raise};
-use crate::marks::{Marks, set_mark};
+use crate::counts::Counts;
+use crate::marks::Marks;
+use crate::placing::number;
 use crate::pools::{Pool, take_out};
-use crate::slots::number;
 use axis_roots::{Grid, cell_on};
 use data_header::Header;
 use namespace_id::{Axis, Cell, Digest, Share};
 
 /// Counts the unknown cells of a row or a column for those that cross it.
 fn count_line(pool: &Pool, marks: &Marks, counts: &mut Counts, axis: Axis, index: u16)
-    requires pool { HasPlaces pool.now }
-    requires marks { AreMarks marks.now }
-    requires counts { AreCounts counts.old }
-    requires pool_width { pool.now.k ≡ counts.old.k }
+    requires pool_width { pool.now.places.k ≡ counts.old.k }
     requires marks_width { marks.now.k ≡ counts.old.k }
     requires index { index < 2 * counts.old.k }
     requires counted { AreCounted counts.old.k (slot_in pool.now) (mark_of marks.now)
         (count_of counts.old) }
-    ensures counts { AreCounts counts.new }
     ensures width { counts.new.k ≡ counts.old.k }
     ensures next { counts.new.next ≡ counts.old.next }
     ensures counted { IsCountedIn counts.old.k (slot_in pool.now) (mark_of marks.now) axis index
@@ -43,7 +37,7 @@ fn count_line(pool: &Pool, marks: &Marks, counts: &mut Counts, axis: Axis, index
     let cross = axis.crossing();
     for pos in 0..2 * counts.k {
         if !is_found(pool, marks, cell_on(axis, index, pos)) {
-            raise(counts, cross, pos);
+            counts.raise(cross, pos);
         }
     }
 }
@@ -64,7 +58,6 @@ fn write_leaves(k: u16, leaves: &mut [Digest], axis: Axis, index: u16, digests: 
 
 /// Puts a share into a cell, unless its row or its column is decided: then it stands there.
 fn put_share(marks: &Marks, grid: &mut Grid, cell: Cell, share: &Share)
-    requires marks { AreMarks marks.now }
     requires width { marks.now.k ≡ grid.old.k }
     requires cell { is_in_square grid.old.k cell ≡ true }
     requires alike { is_lined (mark_of marks.now) cell ≡ true →
@@ -83,7 +76,6 @@ fn put_share(marks: &Marks, grid: &mut Grid, cell: Cell, share: &Share)
 /// Puts the shares of a line into its cells. None is written twice: those of cells on decided rows and
 /// columns stand there.
 fn write_line(marks: &Marks, grid: &mut Grid, axis: Axis, index: u16, line: &[Share])
-    requires marks { AreMarks marks.now }
     requires width { marks.now.k ≡ grid.old.k }
     requires index { index < 2 * grid.old.k }
     requires line { length line.now ≡ 2 * grid.old.k }
@@ -105,11 +97,8 @@ fn write_line(marks: &Marks, grid: &mut Grid, axis: Axis, index: u16, line: &[Sh
 
 /// Takes the samples of a cell out.
 fn clear_cell(pool: &mut Pool, cell: Cell)
-    requires pool { IsPool pool.old }
-    requires cell { is_in_square pool.old.k cell ≡ true }
-    requires home { AreAtHome (slot_in pool.old) }
-    ensures pool { IsPool pool.new }
-    ensures width { pool.new.k ≡ pool.old.k }
+    requires cell { is_in_square pool.old.places.k cell ≡ true }
+    ensures width { pool.new.places.k ≡ pool.old.places.k }
     ensures cleared { IsClearedAt (slot_in pool.old) (slot_in pool.new) cell }
     ensures room { StaysRoomy pool.old pool.new }
 {
@@ -119,16 +108,13 @@ fn clear_cell(pool: &mut Pool, cell: Cell)
 
 /// Takes the samples of the cells of a row or a column out.
 fn clear_line(pool: &mut Pool, axis: Axis, index: u16)
-    requires pool { IsPool pool.old }
-    requires index { index < 2 * pool.old.k }
-    requires home { AreAtHome (slot_in pool.old) }
-    ensures pool { IsPool pool.new }
-    ensures width { pool.new.k ≡ pool.old.k }
+    requires index { index < 2 * pool.old.places.k }
+    ensures width { pool.new.places.k ≡ pool.old.places.k }
     ensures cleared { IsClearedTo (slot_in pool.old) (slot_in pool.new) axis index
-        (2 * pool.old.k) }
+        (2 * pool.old.places.k) }
     ensures room { StaysRoomy pool.old pool.new }
 {
-    for pos in 0..2 * pool.k {
+    for pos in 0..2 * pool.width() {
         clear_cell(pool, cell_on(axis, index, pos));
     }
 }
@@ -149,17 +135,15 @@ fn keep_shares(
     requires alike { IsAlikeAll header.now.k (given_of board.old) (decided_of board.old)
         (share_of board.old) axis index line.now }
     requires digests { digests.now ≡ line_leaves header.now.k axis index line.now }
-    ensures good { IsGood header.now board.new }
+    ensures kept { IsLineKept header.now board.old board.new axis index line.now }
     ensures next { board.new.counts.next ≡ board.old.counts.next }
     ensures flagged { IsFlagged (decided_of board.old) (decided_of board.new) axis index }
     ensures pool { board.new.pool ≡ board.old.pool }
-    ensures stands { (ms : List Message) → AreFacts header.now ms axis index line.now →
-        HoldsFor header.now ms board.old → HoldsFor header.now ms board.new }
 {
     count_line(&board.pool, &board.marks, &mut board.counts, axis, index);
     write_line(&board.marks, &mut board.grid, axis, index, line);
     write_leaves(header.k, &mut board.leaves, axis, index, digests);
-    set_mark(&mut board.marks, axis, index);
+    board.marks.set(axis, index);
 }
 
 /// Keeps the line of a row or a column as decided. No sample of its cells is needed any more.
@@ -178,14 +162,12 @@ pub(crate) fn keep_line(
     requires alike { IsAlikeAll header.now.k (given_of board.old) (decided_of board.old)
         (share_of board.old) axis index line.now }
     requires digests { digests.now ≡ line_leaves header.now.k axis index line.now }
-    ensures good { IsGood header.now board.new }
+    ensures kept { IsLineKept header.now board.old board.new axis index line.now }
     ensures next { board.new.counts.next ≡ board.old.counts.next }
     ensures flagged { IsFlagged (decided_of board.old) (decided_of board.new) axis index }
     ensures cleared { IsClearedTo (given_of board.old) (given_of board.new) axis index
         (2 * header.now.k) }
     ensures room { StaysRoomy board.old.pool board.new.pool }
-    ensures stands { (ms : List Message) → AreFacts header.now ms axis index line.now →
-        HoldsFor header.now ms board.old → HoldsFor header.now ms board.new }
 {
     keep_shares(board, header, axis, index, line, digests);
     clear_line(&mut board.pool, axis, index);

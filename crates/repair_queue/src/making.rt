@@ -9,10 +9,10 @@ ghost use Rattle.axis_roots.specs.Messages.{index as index_of};
 ghost use Rattle.axis_roots.specs.Grids.{axis_shares, share_at};
 ghost use Rattle.befp_maker.specs.Conflicts.{IsLineOf};
 ghost use Rattle.repair_queue.specs.Slots.{IsKnown, IsEmptied, IsApart};
-ghost use Rattle.repair_queue.specs.Pools.{slot_in, HasPlaces, AreAtHome};
+ghost use Rattle.repair_queue.specs.Pools.{slot_in};
 ghost use Rattle.repair_queue.specs.Boards.{first_share};
 
-use crate::pools::{Pool, held_in, is_other, take_from};
+use crate::pools::{Pool, held_in, is_other, take_out};
 use axis_roots::{Grid, Proved, cell_on, index, position};
 use befp_maker::AxisRoom;
 use data_header::Header;
@@ -59,34 +59,30 @@ pub(crate) fn make(
 
 /// Takes the sample out that is kept of a cell along its row, else that along its column.
 pub(crate) fn take_first(pool: &mut Pool, cell: Cell) -> Proved
-    requires places { HasPlaces pool.old }
-    requires cell { is_in_square pool.old.k cell ≡ true }
-    requires home { AreAtHome (slot_in pool.old) }
+    requires cell { is_in_square pool.old.places.k cell ≡ true }
     requires known { IsKnown (slot_in pool.old) cell }
     ensures kept { (axis : Along) × (slot_in pool.old axis cell ≡ Some result)
         × IsEmptied (slot_in pool.old) (slot_in pool.new) axis cell }
     ensures share { (kept_message result).share
         ≡ first_share (slot_in pool.old Row cell) (slot_in pool.old Col cell) }
-    ensures places { HasPlaces pool.new }
-    ensures width { pool.new.k ≡ pool.old.k }
+    ensures width { pool.new.places.k ≡ pool.old.places.k }
 {
     if held_in(pool, Axis::Row, cell).is_some() {
-        return take_from(pool, Axis::Row, cell).unwrap();
+        return take_out(pool, Axis::Row, cell).unwrap();
     }
-    take_from(pool, Axis::Col, cell).unwrap()
+    take_out(pool, Axis::Col, cell).unwrap()
 }
 
 /// Takes the sample of a cell out that shows another share than this one: that along its row, else
 /// that along its column.
 pub(crate) fn take_other(pool: &mut Pool, cell: Cell, share: &Share) -> Proved
-    requires places { HasPlaces pool.old }
-    requires cell { is_in_square pool.old.k cell ≡ true }
+    requires cell { is_in_square pool.old.places.k cell ≡ true }
     requires other { (axis : Along) × IsApart (slot_in pool.old axis cell) share.now }
     ensures kept { (axis : Along) × (slot_in pool.old axis cell ≡ Some result) }
     ensures share { (kept_message result).share ≢ share.now }
 {
     if is_other(pool, Axis::Row, cell, share) {
-        return take_from(pool, Axis::Row, cell).unwrap();
+        return take_out(pool, Axis::Row, cell).unwrap();
     }
-    take_from(pool, Axis::Col, cell).unwrap()
+    take_out(pool, Axis::Col, cell).unwrap()
 }

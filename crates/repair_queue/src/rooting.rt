@@ -12,7 +12,7 @@ ghost use Rattle.axis_roots.specs.Trees.{line_leaves};
 ghost use Rattle.repair_queue.specs.Boards.{is_lined, decided_of, share_of, IsGood, AreAlikeLined, AreLeavesTo};
 
 use crate::boards::{Board, is_on_decided};
-use crate::slots::number;
+use crate::placing::number;
 use axis_roots::{cell_on, name_leaves};
 use data_header::Header;
 use namespace_id::{Axis, Cell, Digest, Namespace, Share};

@@ -36,7 +36,7 @@ use crate::boards::{Board, is_known};
 use crate::ending::Ended;
 use crate::entering::step;
 use crate::fed::{Session, SessionState};
-use crate::slots::number;
+use crate::placing::number;
 use crate::tools::Tools;
 use axis_roots::{Message as Sample, PartialTrees, Proved, RefusedMessage};
 use data_header::Header;
@@ -188,6 +188,7 @@ impl Session {
             StandsFor self.new (ms ++ kept_message message ∷ []) }
     {
         if self.ended.is_none() {
+            self.board.pool.place_law();
             self.ended = step(&mut self.board, &mut self.tools, &self.header, message);
         }
         self.state()

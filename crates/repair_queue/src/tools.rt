@@ -4,8 +4,8 @@ ghost use Rattle.std.specs.Prelude.{◌≡◌, IsTrue, IfOk};
 ghost use Rattle.namespace_id.specs.Cells.{is_width};
 ghost use Rattle.repair_queue.specs.Tools.{AreLists, IsLine, AreTools};
 
-use crate::ending::Buffers;
 use axis_roots::Proved;
+use befp_maker::AxisRoom;
 use leopard_code::Room;
 use namespace_id::{BLANK_DIGEST, Digest, Namespace, NoMemory, PARITY, SHARE_SIZE, Share};
 use std::alloc::Global;
@@ -13,9 +13,11 @@ use std::alloc::Global;
 /// Buffers for the steps of a session over a square of width k.
 #[derive(Drop)]
 pub(crate) struct Tools {
-    /// A room for one axis, and the line of the row or column that is decided.
-    pub(crate) buffers: Buffers,
+    /// A room for one axis, and one for a code.
+    pub(crate) room: AxisRoom,
     pub(crate) code: Room,
+    /// 2k shares of the row or column that is decided.
+    pub(crate) line: Vec<Share>,
     /// k positions of it that are known, and their shares.
     pub(crate) known: Vec<u16>,
     pub(crate) given: Vec<Share>,
@@ -39,11 +41,20 @@ fn lists(alloc: Global, k: u16) -> Result<(Vec<u16>, Vec<Share>, Vec<Proved>), N
     Ok((known, given, spare))
 }
 
-/// The namespaces, twice the digests, and the shares of a line of 2k cells.
+/// The namespaces, twice the digests, and twice the shares of a line of 2k cells.
 fn line(
     alloc: Global,
     k: u16,
-) -> Result<(Vec<Namespace>, Vec<Digest>, Vec<Digest>, Vec<Share>), NoMemory>
+) -> Result<
+    (
+        Vec<Namespace>,
+        Vec<Digest>,
+        Vec<Digest>,
+        Vec<Share>,
+        Vec<Share>,
+    ),
+    NoMemory,
+>
     requires width { IsTrue (is_width k) }
     ensures { IfOk result (IsLine k) }
 {
@@ -51,8 +62,9 @@ fn line(
     let names = vec![in alloc; PARITY; side]?;
     let digests = vec![in alloc; BLANK_DIGEST; side]?;
     let folded = vec![in alloc; BLANK_DIGEST; side]?;
+    let line = vec![in alloc; Share([0; SHARE_SIZE]); side]?;
     let across = vec![in alloc; Share([0; SHARE_SIZE]); side]?;
-    Ok((names, digests, folded, across))
+    Ok((names, digests, folded, line, across))
 }
 
 impl Tools {
@@ -61,13 +73,14 @@ impl Tools {
         requires width { IsTrue (is_width k) }
         ensures { IfOk result (AreTools k) }
     {
-        let buffers = Buffers::new(alloc, k)?;
+        let room = AxisRoom::new(alloc, k)?;
         let code = Room::new(alloc, k)?;
         let (known, given, spare) = lists(alloc, k)?;
-        let (names, digests, folded, across) = line(alloc, k)?;
+        let (names, digests, folded, line, across) = line(alloc, k)?;
         Ok(Tools {
-            buffers,
+            room,
             code,
+            line,
             known,
             given,
             names,

@@ -11,6 +11,8 @@ use Rattle.namespace_id.specs.declared.cells.Cell.{Cell}
 use Rattle.namespace_id.specs.declared.cells.Axis.{Axis}
 use Rattle.namespace_id.specs.declared.cells.Axis.TheVariants.{Row, Col}
 use Rattle.namespace_id.specs.declared.shares.Share.{Share}
+use Rattle.namespace_id.specs.declared.digests.Digest.{Digest}
+use Rattle.namespace_id.specs.Cells.{is_width}
 use Rattle.namespace_id.specs.Lists.{holds_along}
 use Rattle.leopard_code.specs.Codewords.{are_positions, IsCodeword, HasEntries}
 use Rattle.leopard_code.proofs.PositionLemmas.{positions_parts, next_above}
@@ -21,10 +23,9 @@ use Rattle.axis_roots.specs.Messages.{position, index}
 use Rattle.axis_roots.specs.Proved.{kept_message, IsUnder}
 use Rattle.axis_roots.specs.Lines.{blank, cell_on, line_strict_root}
 use Rattle.axis_roots.specs.Grids.{share_at}
-use Rattle.axis_roots.specs.Claims.{ClaimParts, positions_of, claim_with, Accepts}
+use Rattle.axis_roots.specs.Claims.{ClaimParts, positions_of, claim_with, ShowsBad, IsFraudProof}
 use Rattle.axis_roots.proofs.Grids.AxisLemmas.{index-cell_on, position-cell_on}
 use Rattle.befp_maker.specs.Gathered.{AreOfLine}
-use Rattle.befp_maker.specs.Halves.{AreHalf}
 use Rattle.befp_maker.proofs.WithLemmas.{with_shape}
 use Rattle.befp_maker.proofs.GatheredLemmas.{of_line-more}
 use Rattle.axis_roots.proofs.Messages.ProofLemmas.{plain_accepted}
@@ -127,42 +128,28 @@ module _ (header : Roots) (axis : Axis) (i : ℕ) (line : List Share) where
         facts_here ms n places cells long both.1 facts are.1,
       )
 
-  -- k of them are a half
-  pub half_here : (places : List ℕ) (cells : List Proved) → i < 2 * header.k → AreChosen header.k places → AreOfLine header axis i line places cells
-      → AreHalf header axis i cells
-  half_here places cells within chosen are =
+  -- k of them are a fraud proof where the line has another root than the header's, and a fraud where it is made of facts
+  accused_here : (places : List ℕ) (cells : List Proved) → i < 2 * header.k → AreChosen header.k places → AreOfLine header axis i line places cells
+      → IsCodeword header.k line → (line_strict_root header.k axis i line ≡ Some (root_of header axis i) → ⊥)
+      → ShowsBad header.k (claim_with axis i cells) (root_of header axis i)
+      × ((ms : List Message) → AreFacts header ms axis i line → IsFraud header ms (claim_with axis i cells))
+  accused_here places cells within chosen are code other =
       let claim : ClaimParts = claim_with axis i cells in
       let positions : positions_of claim ≡ places = positions_here places cells are in
       let count : length claim.cells ≡ header.k = sym (length-map claim.cells (λ m. position axis m.cell)) ∙ ap length positions ∙ chosen.count in
-      let along : holds_along nat_lt places ≡ true = (and_parts (list_all (λ p. nat_lt p (2 * header.k)) places) (holds_along nat_lt places) chosen.positions).1 in record {
-        shape = with_shape header.k claim within count (on_here places cells are) (subst (λ (ps : List ℕ). holds_along nat_lt ps ≡ true) (sym positions) along);
-        under = under_here places cells are;
-      }
-
-  -- and accuse it where its root isn't the header's
-  pub accepts_here : (places : List ℕ) (cells : List Proved) → i < 2 * header.k → AreChosen header.k places → AreOfLine header axis i line places cells
-      → IsCodeword header.k line → (line_strict_root header.k axis i line ≡ Some (root_of header axis i) → ⊥) → Accepts header (claim_with axis i cells)
-  accepts_here places cells within chosen are code other =
-      let below : list_all (λ p. nat_lt p (2 * header.k)) places ≡ true =
-      (and_parts (list_all (λ p. nat_lt p (2 * header.k)) places) (holds_along nat_lt places) chosen.positions).0 in
-      let half : AreHalf header axis i cells = half_here places cells within chosen are in
-      (plain_accepted header (claim_with axis i cells) refl).0 (
-        all_proved header cells half.under,
-        record {
-          shape = half.shape;
-          word = line;
-          through = record { codeword = code; entries = entries_here (2 * header.k) places cells (sym code.count) below are };
-          other = other;
+      let both = and_parts (list_all (λ p. nat_lt p (2 * header.k)) places) (holds_along nat_lt places) chosen.positions in
+      let bad : ShowsBad header.k claim (root_of header axis i) = record {
+        shape = with_shape header.k claim within count (on_here places cells are) (subst (λ (ps : List ℕ). holds_along nat_lt ps ≡ true) (sym positions) both.1);
+        word = line;
+        through = record { codeword = code; entries = entries_here (2 * header.k) places cells (sym code.count) both.0 are };
+        other = other;
+      } in (
+        bad,
+        λ ms facts. record {
+          accepts = (plain_accepted header claim refl).0 (all_proved header cells (under_here places cells are), bad);
+          facts = facts_here ms (2 * header.k) places cells refl both.0 facts are;
         },
       )
-
-  -- which is a fraud where it is made of facts
-  pub fraud_here : (ms : List Message) (places : List ℕ) (cells : List Proved) → AreChosen header.k places → AreOfLine header axis i line places cells
-      → AreFacts header ms axis i line → Accepts header (claim_with axis i cells) → IsFraud header ms (claim_with axis i cells)
-  fraud_here ms places cells chosen are facts accepts =
-      let below : list_all (λ p. nat_lt p (2 * header.k)) places ≡ true =
-      (and_parts (list_all (λ p. nat_lt p (2 * header.k)) places) (holds_along nat_lt places) chosen.positions).0 in
-      record { accepts = accepts; facts = facts_here ms (2 * header.k) places cells refl below facts are }
 
 -- a line through shares that were gathered has those that are known
 gathered_shown : (slot : Kept) (flag : Flags) (shares : Shared) (axis : Axis) (i : ℕ) (known : List ℕ) (given line : List Share)
@@ -172,13 +159,26 @@ gathered_shown slot flag shares axis i known given line gathered entries j h =
     ∙ sym (get_or_from_slice_get line (get_or known j 0) (get_or given j blank) blank
     (entries j h ∙ slice_get-get_or given j blank (omega (arith, gathered.count))))
 
--- samples with the shares that are known are samples of it
-pub gathered_messages : (header : Roots) (slot : Kept) (flag : Flags) (shares : Shared) (axis : Axis) (i : ℕ) (places known : List ℕ) (given line : List Share) (cells : List Proved)
-    → places ≡ known → AreGathered slot flag shares axis i known given → HasEntries known given line
-    → ((one : List Share) → AreShownBy slot flag shares axis i places one → AreOfLine header axis i one places cells) → AreOfLine header axis i line known cells
-gathered_messages header slot flag shares axis i places known given line cells same gathered entries are =
+-- samples with these shares are a fraud proof with the header's root where the line has another one
+pub accused : (header : Roots) (slot : Kept) (flag : Flags) (shares : Shared) (axis : Axis) (i : ℕ) (places known : List ℕ) (given line : List Share) (cells : List Proved)
+    (k : ℕ) (root : Digest) → i < 2 * header.k → places ≡ known → AreChosen header.k known → AreGathered slot flag shares axis i known given → IsCodeword header.k line
+    → HasEntries known given line → (line_strict_root header.k axis i line ≡ Some (root_of header axis i) → ⊥)
+    → ((one : List Share) → AreShownBy slot flag shares axis i places one → AreOfLine header axis i one places cells)
+    → k ≡ header.k → is_width k ≡ true → root ≡ root_of header axis i
+    → IsFraudProof (record { k = k; root = root; claim = claim_with axis i cells })
+    × ((ms : List Message) → AreFacts header ms axis i line → IsFraud header ms (claim_with axis i cells))
+accused header slot flag shares axis i places known given line cells k root within same chosen gathered code entries other are width wide is =
+    let here : AreOfLine header axis i line known cells =
     subst (λ (ps : List ℕ). (one : List Share) → AreShownBy slot flag shares axis i ps one → AreOfLine header axis i one ps cells) same are line
-    (gathered_shown slot flag shares axis i known given line gathered entries)
+    (gathered_shown slot flag shares axis i known given line gathered entries) in
+    let x = accused_here header axis i line known cells within chosen here code other in (
+      record {
+        plain = refl;
+        width = wide;
+        bad = subst (λ (n : ℕ). ShowsBad n (claim_with axis i cells) root) (sym width) (subst (ShowsBad header.k (claim_with axis i cells)) (sym is) x.0);
+      },
+      x.1,
+    )
 
 -- ---- taking them
 

@@ -14,7 +14,6 @@ use Rattle.repair_queue.specs.declared.ending.Ended.{Ended}
 use Rattle.repair_queue.specs.declared.ending.Ended.TheVariants as ended
 use Rattle.repair_queue.specs.declared.fed.SessionState.TheVariants as state
 use Rattle.repair_queue.specs.Closures.{Half}
-use Rattle.repair_queue.specs.Boards.{AreMarks}
 use Rattle.repair_queue.specs.OpenBoards.{IsOpenBoard}
 use Rattle.repair_queue.specs.SessionParts.{SessionParts, message_at, marks_of, StandsFor}
 use Rattle.repair_queue.specs.Views.{end_of}
@@ -31,8 +30,8 @@ rows_more flag n before here i h = elim (cases_lt i n) [
 
 -- the marks of an open board are for the header's width
 pub open_marks : (header : Roots) (b : Board) (tools : Tools) (end : Option Ended) → IsOpenBoard header b tools end → state_by (end_of end) ≡ state.Open
-    → AreMarks b.marks × (b.marks.k ≡ header.k)
-open_marks header b tools None held is = (held.0.parts.marks, held.0.parts.marks_width ∙ sym held.0.width)
+    → b.marks.k ≡ header.k
+open_marks header b tools None held is = held.0.parts.marks_width ∙ sym held.0.width
 open_marks header b tools (Some (ended.Fraud proof)) held is = absurd cc
 open_marks header b tools (Some (ended.Clash clash)) held is = absurd cc
 

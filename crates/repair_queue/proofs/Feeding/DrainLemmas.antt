@@ -9,7 +9,7 @@ use Rattle.repair_queue.specs.declared.boards.Board.{Board}
 use Rattle.repair_queue.specs.declared.counts.Counts.{Counts}
 use Rattle.repair_queue.specs.declared.tools.Tools.{Tools}
 use Rattle.repair_queue.specs.declared.ending.Ended.{Ended}
-use Rattle.repair_queue.specs.Counts.{Numbers, count_of, pending, AreCounts}
+use Rattle.repair_queue.specs.Counts.{Numbers, count_of, pending}
 use Rattle.repair_queue.specs.Boards.{given_of, decided_of, AreCounted, AreWaiting, AreAtRest, IsGood, HoldsFor}
 use Rattle.repair_queue.specs.Tools.{AreTools}
 use Rattle.repair_queue.specs.Moves.{IsKeptOn, TakesMessage, DecidesLine, Drains, Steps}
@@ -34,19 +34,16 @@ decided_none header s t tools None b test is decides = decides
 decided_none header s t tools (Some ended) b test is decides = absurd (let e : true ≡ false = sym test ∙ is in cc)
 
 -- a row or column that isn't due is passed
-pub passed_good : (header : Roots) (b : Board) (counts : Counts) (axis : Axis) (i : ℕ) (rest : List (Axis × ℕ)) → IsGood header b → AreCounts counts → counts.k ≡ b.counts.k
+pub passed_good : (header : Roots) (b : Board) (counts : Counts) (axis : Axis) (i : ℕ) (rest : List (Axis × ℕ)) → IsGood header b → counts.k ≡ b.counts.k
     → count_of counts ≡ count_of b.counts → pending b.counts ≡ (axis, i) ∷ rest → pending counts ≡ rest
     → (i < 2 * header.k → decided_of b axis i ≡ false → header.k ≤ count_of b.counts axis i → ⊥)
     → IsGood header (record { pool = b.pool; marks = b.marks; counts = counts; grid = b.grid; leaves = b.leaves })
-passed_good header b counts axis i rest good are width same head tail past = record {
+passed_good header b counts axis i rest good width same head tail past = record {
   width = good.width;
   parts = record {
     pool_width = good.parts.pool_width;
     marks_width = good.parts.marks_width;
     counts_width = width ∙ good.parts.counts_width;
-    pool = good.parts.pool;
-    marks = good.parts.marks;
-    counts = are;
     digests = good.parts.digests;
   };
   sound = good.sound;

@@ -1,5 +1,5 @@
 -- Samples of known cells, for what ends a session.
-use Rattle.std.proofs.Common.{◌≡◌, ◌≢◌, ◌∙◌, List, cond, Bool, true, false, refl, sym, ap, subst, inl, inr}
+use Rattle.std.proofs.Common.{◌≡◌, ◌≢◌, ◌∙◌, ℕ, List, cond, Bool, true, false, refl, sym, ap, subst, inl, inr}
 use Rattle.std.specs.Prelude.{Some, None}
 use Rattle.std.proofs.lemmas.Bool.{true≢false}
 use Rattle.namespace_id.specs.declared.cells.Cell.{Cell}
@@ -10,11 +10,15 @@ use Rattle.namespace_id.specs.Cells.{is_in_square}
 use Rattle.data_header.specs.Headers.{Roots}
 use Rattle.axis_roots.specs.declared.message.messages.Message.{Message}
 use Rattle.axis_roots.specs.declared.message.proved.Proved.{Proved}
+use Rattle.axis_roots.specs.Messages.{index}
 use Rattle.axis_roots.specs.Proved.{kept_message}
+use Rattle.axis_roots.specs.Grids.{axis_shares}
+use Rattle.axis_roots.proofs.Grids.NumberLemmas.{index-lt}
+use Rattle.befp_maker.specs.Conflicts.{IsLineOf}
 use Rattle.repair_queue.specs.declared.boards.Board.{Board}
 use Rattle.repair_queue.specs.Closures.{Fact}
+use Rattle.repair_queue.specs.Settled.{along}
 use Rattle.repair_queue.specs.Slots.{Kept, Flags, IsKnown, IsEmptied}
-use Rattle.repair_queue.specs.Pools.{AreAtHome}
 use Rattle.repair_queue.specs.Boards.{Shared, is_lined, is_found, first_share, found_share, given_of, decided_of, share_of, IsSound, HoldsFor}
 use Rattle.repair_queue.specs.Judging.{IsReadable, IsOtherMessage}
 use Rattle.repair_queue.specs.Moves.{IsMessageAt}
@@ -22,16 +26,19 @@ use Rattle.repair_queue.proofs.Places.PlaceLemmas.{same_slot}
 use Rattle.repair_queue.proofs.Lines.LinedLemmas.{found_how}
 use Rattle.repair_queue.proofs.Feeding.AtRestLemmas.{lined_fact, shown_fact}
 
--- samples are kept at their own cells
-pub at_home : (header : Roots) (slot : Kept) (flag : Flags) (shares : Shared) → IsSound header slot flag shares → AreAtHome slot
-at_home header slot flag shares sound axis cell kept e = let s = sound.slotted axis cell kept e in (s.axis_is, s.cell_is)
-
 -- of a known cell on no decided row or column a sample is kept
 pub known_given : (slot : Kept) (flag : Flags) (cell : Cell) → is_found slot flag cell ≡ true → is_lined flag cell ≡ false → IsKnown slot cell
 known_given slot flag cell found off = elim (found_how slot flag cell found) [
   | inl on ↦ absurd (true≢false (sym on ∙ off))
   | inr known ↦ known
 ]
+
+-- the line of the decided row or column of a cell has the header's root
+pub line_there : (header : Roots) (b : Board) (axis : Axis) (cell : Cell) → IsReadable header b → is_in_square header.k cell ≡ true
+    → decided_of b axis (index axis cell) ≡ true → IsLineOf header axis (index axis cell) (axis_shares b.grid.k b.grid.shares axis (index axis cell))
+line_there header b axis cell readable within on =
+    subst (λ (k : ℕ). IsLineOf header axis (index axis cell) (along k (share_of b) axis (index axis cell))) readable.width
+    (readable.sound.lines axis (index axis cell) (index-lt header.k axis cell within) on)
 
 -- a sample that was taken
 pub taken_message : (header : Roots) (slot : Kept) (flag : Flags) (shares : Shared) (cell : Cell) (kept : Proved) (axis : Axis) → IsSound header slot flag shares

@@ -16,12 +16,11 @@ use Rattle.axis_roots.specs.Messages.{index}
 use Rattle.axis_roots.specs.Proved.{kept_message, IsUnder}
 use Rattle.axis_roots.proofs.Grids.NumberLemmas.{index-lt}
 use Rattle.repair_queue.specs.declared.boards.Board.{Board}
-use Rattle.repair_queue.specs.declared.pools.Pool.{Pool}
 use Rattle.repair_queue.specs.declared.counts.Counts.{Counts}
 use Rattle.repair_queue.specs.Slots.{Kept, Flags, IsPut, IsAlike}
 use Rattle.repair_queue.specs.Repairs.{Shows}
-use Rattle.repair_queue.specs.Pools.{slot_in, samples_of_row, IsPool}
-use Rattle.repair_queue.specs.Counts.{Numbers, count_of, pending, AreCounts, IsRaised, AreQueued}
+use Rattle.repair_queue.specs.Pools.{PoolParts, slot_in, samples_of_row}
+use Rattle.repair_queue.specs.Counts.{Numbers, count_of, pending, IsRaised, AreQueued}
 use Rattle.repair_queue.specs.Boards.{given_of, decided_of, share_of, is_lined, is_found, found_count, AreAtRest, AreCounted, AreWaiting, IsGood, HoldsFor}
 use Rattle.repair_queue.specs.Moves.{IsKeptOn}
 use Rattle.repair_queue.proofs.Places.PlaceLemmas.{own_or_crossing, same_cell}
@@ -102,7 +101,7 @@ module _ (header : Roots) (b : Board) (good : IsGood header b) (kept : Proved) (
   inside = (under_proved header kept under).inside
 
   -- where all is decided that can be, its row has room for it
-  pub room_for : AreAtRest header.k (given_of b) (decided_of b) → samples_of_row b.pool.k (given_of b) (kept_message kept).cell.row + 1 < 2 * b.pool.k
+  pub room_for : AreAtRest header.k (given_of b) (decided_of b) → samples_of_row b.pool.places.k (given_of b) (kept_message kept).cell.row + 1 < 2 * b.pool.places.k
   room_for rest =
       subst (λ (k : ℕ). samples_of_row k (given_of b) (kept_message kept).cell.row + 1 < 2 * k) (good.width ∙ sym good.parts.pool_width)
       (rest_few header.k (given_of b) (decided_of b) (kept_message kept).cell inside rest off)
@@ -118,22 +117,19 @@ module _ (header : Roots) (b : Board) (good : IsGood header b) (kept : Proved) (
       subst (λ (n : ℕ). n < 2 * header.k) (sym (good.counted axis (index axis cell) (index-lt header.k axis cell inside) (lined_off (decided_of b) axis cell off)))
       (count_few header.k (decided_of b) (given_of b) new cell inside now axis)
 
-  module _ (pool : Pool) (is_pool : IsPool pool) (width : pool.k ≡ b.pool.k) (put : IsPut (given_of b) (slot_in pool) (kept_message kept).axis (kept_message kept).cell kept) where
+  module _ (pool : PoolParts) (width : pool.places.k ≡ b.pool.places.k) (put : IsPut (given_of b) (slot_in pool) (kept_message kept).axis (kept_message kept).cell kept) where
     -- the board with this pool and other counts
     abbrev board_with : Counts → Board
     board_with counts = record { pool = pool; marks = b.marks; counts = counts; grid = b.grid; leaves = b.leaves }
 
-    good_with : (counts : Counts) → AreCounts counts → counts.k ≡ b.counts.k → AreCounted header.k (slot_in pool) (decided_of b) (count_of counts)
+    good_with : (counts : Counts) → counts.k ≡ b.counts.k → AreCounted header.k (slot_in pool) (decided_of b) (count_of counts)
         → AreWaiting header.k (decided_of b) (count_of counts) (pending counts) → IsGood header (board_with counts)
-    good_with counts are same counted queued = record {
+    good_with counts same counted queued = record {
       width = good.width;
       parts = record {
         pool_width = width ∙ good.parts.pool_width;
         marks_width = good.parts.marks_width;
         counts_width = same ∙ good.parts.counts_width;
-        pool = is_pool;
-        marks = good.parts.marks;
-        counts = are;
         digests = good.parts.digests;
       };
       sound = put_sound header (given_of b) (slot_in pool) (decided_of b) (share_of b) kept under empty put good.sound;
@@ -149,7 +145,7 @@ module _ (header : Roots) (b : Board) (good : IsGood header b) (kept : Proved) (
     pub keeps_known : (other : Proved) → given_of b (crossing (kept_message kept).axis) (kept_message kept).cell ≡ Some other
         → IsKeptOn header b (board_with b.counts) (kept_message kept)
     keeps_known other held = (
-      good_with b.counts good.parts.counts refl
+      good_with b.counts refl
           (λ axis i within low.
           good.counted axis i within low
           ∙ sym (count_from-same (λ pos. is_found (given_of b) (decided_of b) _) (λ pos. is_found (slot_in pool) (decided_of b) _) (2 * header.k) 0
@@ -160,7 +156,7 @@ module _ (header : Roots) (b : Board) (good : IsGood header b) (kept : Proved) (
     )
 
     -- and where it wasn't
-    module _ (none : given_of b (crossing (kept_message kept).axis) (kept_message kept).cell ≡ None) (mid counts : Counts) (are : AreCounts counts)
+    module _ (none : given_of b (crossing (kept_message kept).axis) (kept_message kept).cell ≡ None) (mid counts : Counts)
         (first : mid.k ≡ b.counts.k) (second : counts.k ≡ mid.k)
         (row : IsRaised (count_of b.counts) (count_of mid) Row (kept_message kept).cell.row)
         (col : IsRaised (count_of mid) (count_of counts) Col (kept_message kept).cell.col)
@@ -202,7 +198,7 @@ module _ (header : Roots) (b : Board) (good : IsGood header b) (kept : Proved) (
           ]
 
       pub keeps_unknown : IsKeptOn header b (board_with counts) (kept_message kept)
-      keeps_unknown = (good_with counts are (second ∙ first) counted_now queued_now, stands_with counts)
+      keeps_unknown = (good_with counts (second ∙ first) counted_now queued_now, stands_with counts)
 
 -- a sample that shows a share which is shown already
 pub keeps_shown : (header : Roots) (b : Board) → IsGood header b → (m : Message) (axis : Axis) → is_lined (decided_of b) m.cell ≡ false

@@ -17,8 +17,7 @@ use Rattle.repair_queue.specs.Boards.{given_of, decided_of, IsGood, AreAtRest, H
 use Rattle.repair_queue.specs.Tools.{AreTools}
 use Rattle.repair_queue.specs.Moves.{Steps}
 use Rattle.repair_queue.specs.OpenBoards.{IsOpenBoard, IsRoomyBoard, KeepsFor}
-use Rattle.repair_queue.specs.Pools.{HasPlace}
-use Rattle.repair_queue.proofs.Places.PutInLemmas.{room_left}
+use Rattle.repair_queue.specs.Pools.{HasPlace, IsRoomy}
 use Rattle.repair_queue.proofs.Facts.GrowthLemmas.{fraud_grows, clash_grows}
 
 -- a session that nothing ended
@@ -28,10 +27,9 @@ open_of header b tools None none test is open_board = open_board
 open_of header b tools (Some end) none test is open_board = absurd (true≢false (test ∙ ap not is))
 
 -- has a place for one sample more
-pub open_place : (header : Roots) (b : Board) (tools : Tools) (end : Option Ended) (none : Bool) → is_some end ≡ not none → none ≡ true → IsOpenBoard header b tools end
-    → IsRoomyBoard b end → HasPlace b.pool
-open_place header b tools None none test is open_board roomy = room_left b.pool open_board.0.parts.pool (roomy refl)
-open_place header b tools (Some end) none test is open_board roomy = absurd (true≢false (test ∙ ap not is))
+pub open_place : (b : Board) (end : Option Ended) (none : Bool) → is_some end ≡ not none → none ≡ true → IsRoomyBoard b end → (IsRoomy b.pool → HasPlace b.pool) → HasPlace b.pool
+open_place b None none test is roomy place = place (roomy refl)
+open_place b (Some end) none test is roomy place = absurd (true≢false (test ∙ ap not is))
 
 -- it stands for what it stood for
 pub open_stands : (header : Roots) (ms : List Message) (b : Board) (end : Option Ended) (none : Bool) → is_some end ≡ not none → none ≡ true → KeepsFor header ms b end

@@ -24,7 +24,7 @@ use Rattle.repair_queue.specs.declared.ending.Ended.TheVariants as ended
 use Rattle.repair_queue.specs.Closures.{Fact, shown, IsDecided}
 use Rattle.repair_queue.specs.Settled.{IsLineSettled}
 use Rattle.repair_queue.specs.Repairs.{Shows, IsSlotted}
-use Rattle.repair_queue.specs.Pools.{places_in}
+use Rattle.repair_queue.specs.Places.{places_in}
 use Rattle.repair_queue.specs.Boards.{is_lined, is_found, given_of, decided_of, share_of, IsGood, AreAtRest, HoldsFor}
 use Rattle.repair_queue.specs.Moves.{Steps}
 use Rattle.repair_queue.specs.OpenBoards.{IsOpenBoard, KeepsFor}
@@ -57,9 +57,9 @@ module _ (header : Roots) (b : Board) (good : IsGood header b) (end : Option End
   -- the sample that is seen of a cell is that of the certificate that is kept
   pub message_here : (axis : Axis) (cell : Cell) → message_at (parts_by header b end) axis cell ≡ message_of (given_of b axis cell)
   message_here axis cell =
-      ap (λ (k : ℕ). get_or (map message_of b.pool.given.items) (places_in k b.pool.rows.items b.pool.cols.items axis cell) None)
+      ap (λ (k : ℕ). get_or (map message_of b.pool.given) (places_in k b.pool.places.rows b.pool.places.cols axis cell) None)
       (good.width ∙ sym good.parts.pool_width)
-      ∙ map_at message_of None b.pool.given.items (places_in b.pool.k b.pool.rows.items b.pool.cols.items axis cell)
+      ∙ map_at message_of None b.pool.given (places_in b.pool.places.k b.pool.places.rows b.pool.places.cols axis cell)
 
   -- so is the share of a cell
   pub share_here : (cell : Cell) → line_share (parts_by header b end) cell ≡ share_of b cell

@@ -12,29 +12,14 @@ use Rattle.axis_roots.specs.Messages.{index}
 use Rattle.axis_roots.specs.Lines.{cell_on}
 use Rattle.axis_roots.proofs.Grids.AxisLemmas.{index-cell_on}
 use Rattle.repair_queue.specs.declared.boards.Board.{Board}
-use Rattle.repair_queue.specs.declared.pools.Pool.{Pool}
 use Rattle.repair_queue.specs.Slots.{Kept, IsEmptied}
 use Rattle.repair_queue.specs.Repairs.{Shows}
-use Rattle.repair_queue.specs.Pools.{slot_in, IsPool, AreAtHome}
+use Rattle.repair_queue.specs.Pools.{PoolParts, slot_in}
 use Rattle.repair_queue.specs.Boards.{given_of, decided_of, is_lined, is_found, IsGood, HoldsFor}
 use Rattle.repair_queue.specs.Keeping.{IsClearedAt, IsClearedTo}
-use Rattle.repair_queue.proofs.Places.PlaceLemmas.{same_cell, same_slot}
+use Rattle.repair_queue.proofs.Places.PlaceLemmas.{same_cell}
 use Rattle.repair_queue.proofs.Lines.LinedLemmas.{lined_by, found_lined}
 use Rattle.repair_queue.proofs.Counting.CountedLemmas.{count_from-same}
-
--- samples stay at home where slots are emptied
-pub emptied_home : (old new : Kept) (axis : Axis) (cell : Cell) → AreAtHome old → IsEmptied old new axis cell → AreAtHome new
-emptied_home old new axis cell home emptied other d kept held = elim (same_slot other axis d cell) [
-  | inl (ea, ec) ↦
-      let none : None ≡ Some kept = sym (ap (λ (a : Axis). new a d) ea ∙ ap (new axis) ec ∙ emptied.here) ∙ held in absurd cc
-  | inr apart ↦ home other d kept (sym (emptied.elsewhere other d apart) ∙ held)
-]
-
-pub cleared_home : (old new : Kept) (axis : Axis) (i n : ℕ) → AreAtHome old → IsClearedTo old new axis i n → AreAtHome new
-cleared_home old new axis i n home cleared other d kept held = elim (cleared.each other d) [
-  | inl same ↦ home other d kept (sym same ∙ held)
-  | inr gone ↦ let none : None ≡ Some kept = sym gone.1 ∙ held in absurd cc
-]
 
 -- both slots of a cell are empty where one and then the other was emptied
 pub both_emptied : (old mid new : Kept) (cell : Cell) → IsEmptied old mid Row cell → IsEmptied mid new Col cell → IsClearedAt old new cell
@@ -74,7 +59,7 @@ cleared_next old mid new axis i pos cell is to at = record {
   ];
 }
 
-module _ (header : Roots) (b : Board) (good : IsGood header b) (axis : Axis) (i n : ℕ) (on : decided_of b axis i ≡ true) (pool : Pool)
+module _ (header : Roots) (b : Board) (good : IsGood header b) (axis : Axis) (i n : ℕ) (on : decided_of b axis i ≡ true) (pool : PoolParts)
     (cleared : IsClearedTo (given_of b) (slot_in pool) axis i n) where
   -- the board with this pool
   abbrev cleared_board : Board
@@ -96,16 +81,13 @@ module _ (header : Roots) (b : Board) (good : IsGood header b) (axis : Axis) (i 
   ]
 
   -- it is good
-  pub cleared_good : IsPool pool → pool.k ≡ b.pool.k → IsGood header cleared_board
-  cleared_good is_pool width = record {
+  pub cleared_good : pool.places.k ≡ b.pool.places.k → IsGood header cleared_board
+  cleared_good width = record {
     width = good.width;
     parts = record {
       pool_width = width ∙ good.parts.pool_width;
       marks_width = good.parts.marks_width;
       counts_width = good.parts.counts_width;
-      pool = is_pool;
-      marks = good.parts.marks;
-      counts = good.parts.counts;
       digests = good.parts.digests;
     };
     sound = record {

@@ -22,8 +22,8 @@ use Rattle.repair_queue.specs.declared.counts.Counts.{Counts}
 use Rattle.repair_queue.specs.declared.marks.Marks.{Marks}
 use Rattle.repair_queue.specs.Slots.{IsFlagged}
 use Rattle.repair_queue.specs.Lines.{AreFacts}
-use Rattle.repair_queue.specs.Counts.{count_of, pending, AreCounts}
-use Rattle.repair_queue.specs.Boards.{mark_of, AreMarks, given_of, decided_of, share_of, is_lined, AreLeavesOf, IsGood, HoldsFor}
+use Rattle.repair_queue.specs.Counts.{count_of, pending}
+use Rattle.repair_queue.specs.Boards.{mark_of, given_of, decided_of, share_of, is_lined, AreLeavesOf, IsGood, HoldsFor}
 use Rattle.repair_queue.specs.Keeping.{IsAlikeAll, IsCountedIn, AreWrittenLeaves}
 use Rattle.repair_queue.proofs.Lines.LinedLemmas.{lined_else}
 use Rattle.repair_queue.proofs.Counting.CountedLemmas.{kept_counted, kept_waiting}
@@ -39,7 +39,6 @@ pub record IsLineKeptOn (header : Roots) (b : Board) (axis : Axis) (i : ℕ) (li
   pub off : decided_of b axis i ≡ false
   pub fits : IsLineOf header axis i line
   pub alike : IsAlikeAll header.k (given_of b) (decided_of b) (share_of b) axis i line
-  pub counts_are : AreCounts counts
   pub counts_width : counts.k ≡ b.counts.k
   pub counted : IsCountedIn b.counts.k (given_of b) (decided_of b) axis i (count_of b.counts) (count_of counts) (pending b.counts) (pending counts)
   pub grid_width : grid.k ≡ b.grid.k
@@ -48,7 +47,6 @@ pub record IsLineKeptOn (header : Roots) (b : Board) (axis : Axis) (i : ℕ) (li
       → share_at (2 * b.grid.k) grid.shares cell ≡ share_at (2 * b.grid.k) b.grid.shares cell
   pub digests : AreWrittenLeaves header.k b.leaves.items leaves.items axis i (line_leaves header.k axis i line)
   pub digest_count : length leaves.items ≡ length b.leaves.items
-  pub marks_are : AreMarks marks
   pub marks_width : marks.k ≡ b.marks.k
   pub flagged : IsFlagged (decided_of b) (mark_of marks) axis i
 
@@ -125,9 +123,6 @@ module _ (header : Roots) (b : Board) (axis : Axis) (i : ℕ) (line : List Share
       pool_width = x.good.parts.pool_width ∙ sym x.grid_width;
       marks_width = x.marks_width ∙ x.good.parts.marks_width ∙ sym x.grid_width;
       counts_width = x.counts_width ∙ x.good.parts.counts_width ∙ sym x.grid_width;
-      pool = x.good.parts.pool;
-      marks = x.marks_are;
-      counts = x.counts_are;
       digests = x.digest_count ∙ x.good.parts.digests ∙ ap (λ (k : ℕ). 2 * k * (2 * k)) (sym x.grid_width);
     };
     sound = keeping_sound header (given_of b) (decided_of b) (mark_of marks) (share_of b) (share_of kept_board) axis i line keeping;

@@ -1,5 +1,5 @@
 -- Places of samples: what is read at a cell, and a sample more.
-use Rattle.std.proofs.Common.{◌≡◌, ◌≢◌, ◌∙◌, ℕ, ◌+◌, ◌*◌, ◌<◌, List, length, get_or, set, cond, Bool, true, false, refl, sym, ap, subst, inl, inr, arith}
+use Rattle.std.proofs.Common.{◌≡◌, ◌≢◌, ◌∙◌, ℕ, zero, suc, ◌+◌, ◌*◌, ◌<◌, List, length, get_or, set, replicate, cond, Bool, true, false, refl, sym, ap, subst, inl, inr, arith}
 use Rattle.std.proofs.lemmas.Bool.{cases_Bool}
 use Rattle.std.proofs.lemmas.List.{get_or-set_same, get_or-set_other, get_or_read_under}
 use Rattle.namespace_id.specs.declared.cells.Cell.{Cell}
@@ -7,7 +7,7 @@ use Rattle.namespace_id.specs.declared.cells.Axis.{Axis}
 use Rattle.namespace_id.specs.declared.cells.Axis.TheVariants.{Row, Col}
 use Rattle.namespace_id.specs.Cells.{is_in_square}
 use Rattle.axis_roots.proofs.Grids.NumberLemmas.{inside, cell_of, cell_of-number}
-use Rattle.repair_queue.specs.Pools.{place_in, places_in}
+use Rattle.repair_queue.specs.Places.{place_in, places_in, IsPlaced}
 use Rattle.repair_queue.proofs.Places.SlotLemmas.{slot_number-lt}
 
 -- the place of a cell of the square is read at its number
@@ -35,17 +35,21 @@ row_place k rows cols axis cell value is e = e ∙ ap (λ (a : Axis). places_in 
 pub col_place : (k : ℕ) (rows cols : List ℕ) (axis : Axis) (cell : Cell) (value : ℕ) → axis ≡ Col → value ≡ place_in k cols cell → value ≡ places_in k rows cols axis cell
 col_place k rows cols axis cell value is e = e ∙ ap (λ (a : Axis). places_in k rows cols a cell) (sym is)
 
--- a place leads to what is there
-pub place-lt : (k : ℕ) (places : List ℕ) (cell : Cell) (n : ℕ) → ((i : ℕ) → get_or places i 0 < n) → place_in k places cell < n
-place-lt k places cell n each = elim (cases_Bool (is_in_square k cell)) [
-  | inl there ↦ subst (λ (p : ℕ). p < n) (sym (place_within k places cell there)) (each (cell.row * (2 * k) + cell.col))
-  | inr out ↦ let some : get_or places 0 0 < n = each 0 in subst (λ (p : ℕ). p < n) (sym (place_outside k places cell out)) (omega arith)
+-- where all are 0, each is
+zero_at : (n i : ℕ) → get_or {A = ℕ} (replicate n 0) i 0 ≡ 0
+zero_at zero i = refl
+zero_at (suc n) zero = refl
+zero_at (suc n) (suc i) = zero_at n i
+
+no_place : (k n : ℕ) (places : List ℕ) (cell : Cell) → places ≡ replicate n 0 → place_in k places cell ≡ 0
+no_place k n places cell zeros = elim (cases_Bool (is_in_square k cell)) [
+  | inl there ↦ place_within k places cell there ∙ ap (λ (l : List ℕ). get_or l (cell.row * (2 * k) + cell.col) 0) zeros ∙ zero_at n (cell.row * (2 * k) + cell.col)
+  | inr out ↦ place_outside k places cell out
 ]
 
-pub places-lt : (k : ℕ) (rows cols : List ℕ) (axis : Axis) (cell : Cell) (n : ℕ) → ((i : ℕ) → get_or rows i 0 < n) → ((i : ℕ) → get_or cols i 0 < n)
-    → places_in k rows cols axis cell < n
-places-lt k rows cols Row cell n in_rows in_cols = place-lt k rows cell n in_rows
-places-lt k rows cols Col cell n in_rows in_cols = place-lt k cols cell n in_cols
+pub no_places : (k n : ℕ) (rows cols : List ℕ) → rows ≡ replicate n 0 → cols ≡ replicate n 0 → (axis : Axis) (cell : Cell) → places_in k rows cols axis cell ≡ 0
+no_places k n rows cols row_zeros col_zeros Row cell = no_place k n rows cell row_zeros
+no_places k n rows cols row_zeros col_zeros Col cell = no_place k n cols cell col_zeros
 
 -- ---- a place that is set
 
@@ -68,22 +72,18 @@ place_other k places cell d at n within number apart = elim (cases_Bool (is_in_s
   | inr out ↦ place_outside k (set places at n) d out ∙ sym (place_outside k places d out)
 ]
 
--- places after one was set: this one, and that no other changed
-abbrev pub Placed : (Axis → Cell → ℕ) → (Axis → Cell → ℕ) → Axis → Cell → ℕ → Type 0
-Placed old new axis cell n = (new axis cell ≡ n) × ((other : Axis) (d : Cell) → ((other ≡ axis) × (d ≡ cell) → ⊥) → new other d ≡ old other d)
-
 pub row_placed : (k : ℕ) (rows cols : List ℕ) (axis : Axis) (cell : Cell) (at n : ℕ) → is_in_square k cell ≡ true → at ≡ cell.row * (2 * k) + cell.col
-    → length rows ≡ 2 * k * (2 * k) → axis ≡ Row → Placed (places_in k rows cols) (places_in k (set rows at n) cols) axis cell n
+    → length rows ≡ 2 * k * (2 * k) → axis ≡ Row → IsPlaced (places_in k rows cols) (places_in k (set rows at n) cols) axis cell n
 row_placed k rows cols axis cell at n within number long is =
-    subst (λ (a : Axis). Placed (places_in k rows cols) (places_in k (set rows at n) cols) a cell n) (sym is) (
-      place_set k rows cell at n within long number,
-      elim [ Row ↦ λ d apart. place_other k rows cell d at n within number (λ e. apart (refl, e)) | Col ↦ λ d apart. refl ],
-    )
+    subst (λ (a : Axis). IsPlaced (places_in k rows cols) (places_in k (set rows at n) cols) a cell n) (sym is) (record {
+      here = place_set k rows cell at n within long number;
+      elsewhere = elim [ Row ↦ λ d apart. place_other k rows cell d at n within number (λ e. apart (refl, e)) | Col ↦ λ d apart. refl ];
+    })
 
 pub col_placed : (k : ℕ) (rows cols : List ℕ) (axis : Axis) (cell : Cell) (at n : ℕ) → is_in_square k cell ≡ true → at ≡ cell.row * (2 * k) + cell.col
-    → length cols ≡ 2 * k * (2 * k) → axis ≡ Col → Placed (places_in k rows cols) (places_in k rows (set cols at n)) axis cell n
+    → length cols ≡ 2 * k * (2 * k) → axis ≡ Col → IsPlaced (places_in k rows cols) (places_in k rows (set cols at n)) axis cell n
 col_placed k rows cols axis cell at n within number long is =
-    subst (λ (a : Axis). Placed (places_in k rows cols) (places_in k rows (set cols at n)) a cell n) (sym is) (
-      place_set k cols cell at n within long number,
-      elim [ Row ↦ λ d apart. refl | Col ↦ λ d apart. place_other k cols cell d at n within number (λ e. apart (refl, e)) ],
-    )
+    subst (λ (a : Axis). IsPlaced (places_in k rows cols) (places_in k rows (set cols at n)) a cell n) (sym is) (record {
+      here = place_set k cols cell at n within long number;
+      elsewhere = elim [ Row ↦ λ d apart. refl | Col ↦ λ d apart. place_other k cols cell d at n within number (λ e. apart (refl, e)) ];
+    })

@@ -1,17 +1,16 @@
 -- A sample that is taken out of a pool, and shares that are compared.
-use Rattle.std.proofs.Common.{◌≡◌, ◌∙◌, ◌⊎◌, ℕ, ◌+◌, ◌<◌, List, length, get_or, set, Bool, false, not, refl, sym, ap, subst, inl, inr, arith}
+use Rattle.std.proofs.Common.{◌≡◌, ◌∙◌, ◌⊎◌, ℕ, ◌+◌, ◌<◌, List, length, get_or, Bool, false, not, refl, sym, ap, subst, inl, inr, arith}
 use Rattle.std.specs.Prelude.{Option, Some, None}
 use Rattle.std.specs.Str.{bytes_eq}
-use Rattle.std.proofs.lemmas.Bool.{cases_eq, cases_lt, cases_Bool, true≢false}
-use Rattle.std.proofs.lemmas.List.{get_or-set_same, get_or-set_other, get_or_default}
+use Rattle.std.proofs.lemmas.Bool.{cases_lt, cases_Bool, true≢false}
+use Rattle.std.proofs.lemmas.List.{get_or_default}
 use Rattle.std.proofs.lemmas.Slice.Eq.{bytes_eq-Decides}
 use Rattle.namespace_id.specs.declared.cells.Cell.{Cell}
 use Rattle.namespace_id.specs.declared.cells.Axis.{Axis}
 use Rattle.namespace_id.specs.declared.shares.Share.{Share}
 use Rattle.axis_roots.specs.declared.message.proved.Proved.{Proved}
 use Rattle.axis_roots.specs.Lines.{blank, cell_on, entry}
-use Rattle.repair_queue.specs.Slots.{Kept, Flags, IsEmptied}
-use Rattle.repair_queue.specs.Pools.{AreAtHome}
+use Rattle.repair_queue.specs.Slots.{Kept, Flags}
 use Rattle.repair_queue.specs.Boards.{Shared}
 use Rattle.repair_queue.specs.Judging.{IsAlikeAt}
 
@@ -19,27 +18,6 @@ use Rattle.repair_queue.specs.Judging.{IsAlikeAt}
 pub message_or_not : (slot : Option Proved) → ((kept : Proved) × (slot ≡ Some kept)) ⊎ (slot ≡ None)
 message_or_not (Some kept) = inl (kept, refl)
 message_or_not None = inr refl
-
--- where a place is emptied, the slot of its cell is, and no other changed
-pub emptied : (given : List (Option Proved)) (place : Axis → Cell → ℕ) (axis : Axis) (cell : Cell) (n : ℕ) (left : Option Proved)
-    → AreAtHome (λ a d. get_or given (place a d) None) → n ≡ place axis cell → n < length given → left ≡ None
-    → IsEmptied (λ a d. get_or given (place a d) None) (λ a d. get_or (set given n left) (place a d) None) axis cell
-emptied given place axis cell n left home here below none = record {
-  here = ap (λ (i : ℕ). get_or (set given n left) i None) (sym here) ∙ get_or-set_same given n left None below ∙ none;
-  elsewhere = λ other d apart. elim (cases_eq (place other d) n) [
-    | inr off ↦ get_or-set_other given n (place other d) left None off
-    | inl e ↦
-        let now : get_or (set given n left) (place other d) None ≡ None =
-        ap (λ (i : ℕ). get_or (set given n left) i None) e ∙ get_or-set_same given n left None below ∙ none in
-        elim (message_or_not (get_or given n None)) [
-          | inr was ↦ now ∙ sym (ap (λ (i : ℕ). get_or given i None) e ∙ was)
-          | inl (kept, was) ↦
-              let one = home axis cell kept (ap (λ (i : ℕ). get_or given i None) (sym here) ∙ was) in
-              let two = home other d kept (ap (λ (i : ℕ). get_or given i None) e ∙ was) in
-              absurd (apart (sym two.0 ∙ one.0, sym two.1 ∙ one.1))
-        ]
-  ];
-}
 
 -- two shares that aren't found to differ are one
 pub same_ne : (a b : Share) (t : Bool) → t ≡ not (bytes_eq a.0 b.0) → t ≡ false → a ≡ b

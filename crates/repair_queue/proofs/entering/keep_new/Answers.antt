@@ -29,7 +29,7 @@ raise-requires-then-is_new-clause-below c =
     (look_none (slot_in c.args.board.now.pool c.crossing.result c.message-shown.result.now.cell) c.held_in.result c.is_none-is_new.result c.held_in.ensures
     c.is_none-is_new.ensures c.if-is_new.true) in
     few_col c.args.header.now c.args.board.now c.requires.good c.args.message c.requires.under c.requires.off c.requires.empty none (slot_in c.put_in.new.pool) c.put_in.ensures.put
-    c.message-shown.result.now c.message-shown.ensures c.raise.new.counts c.raise.ensures.width c.raise.ensures.raised
+    c.message-shown.result.now c.message-shown.ensures c.raise.new.self c.raise.ensures.width c.raise.ensures.raised
 
 -- its cell comes to be known
 pub returns-then-is_new-clause-kept : goal.returns-then-is_new-clause-kept
@@ -37,11 +37,11 @@ returns-then-is_new-clause-kept c =
     let none = cross_none (given_of c.args.board.now) c.crossing.result c.message-shown.result.now (kept_message c.args.message) c.crossing.ensures c.message-shown.ensures
     (look_none (slot_in c.args.board.now.pool c.crossing.result c.message-shown.result.now.cell) c.held_in.result c.is_none-is_new.result c.held_in.ensures
     c.is_none-is_new.ensures c.if-is_new.true) in
-    keeps_unknown c.args.header.now c.args.board.now c.requires.good c.args.message c.requires.under c.requires.off c.requires.empty c.put_in.new.pool c.put_in.ensures.pool
-    c.put_in.ensures.width c.put_in.ensures.put none c.raise.new.counts c.raise-then-is_new.new.counts c.raise-then-is_new.ensures.counts c.raise.ensures.width
+    keeps_unknown c.args.header.now c.args.board.now c.requires.good c.args.message c.requires.under c.requires.off c.requires.empty c.put_in.new.pool
+    c.put_in.ensures.width c.put_in.ensures.put none c.raise.new.self c.raise-then-is_new.new.self c.raise.ensures.width
     c.raise-then-is_new.ensures.width
-    (subst (λ (x : Message). IsRaised (count_of c.args.board.now.counts) (count_of c.raise.new.counts) Row x.cell.row) c.message-shown.ensures c.raise.ensures.raised)
-    (subst (λ (x : Message). IsRaised (count_of c.raise.new.counts) (count_of c.raise-then-is_new.new.counts) Col x.cell.col) c.message-shown.ensures
+    (subst (λ (x : Message). IsRaised (count_of c.args.board.now.counts) (count_of c.raise.new.self) Row x.cell.row) c.message-shown.ensures c.raise.ensures.raised)
+    (subst (λ (x : Message). IsRaised (count_of c.raise.new.self) (count_of c.raise-then-is_new.new.self) Col x.cell.col) c.message-shown.ensures
     c.raise-then-is_new.ensures.raised) c.raise.ensures.queued c.raise-then-is_new.ensures.queued
 
 -- or was
@@ -49,6 +49,6 @@ pub returns-else-is_new-clause-kept : goal.returns-else-is_new-clause-kept
 returns-else-is_new-clause-kept c =
     let some = look_some (slot_in c.args.board.now.pool c.crossing.result c.message-shown.result.now.cell) c.held_in.result c.is_none-is_new.result c.held_in.ensures
     c.is_none-is_new.ensures c.if-is_new.false in
-    keeps_known c.args.header.now c.args.board.now c.requires.good c.args.message c.requires.under c.requires.off c.requires.empty c.put_in.new.pool c.put_in.ensures.pool
+    keeps_known c.args.header.now c.args.board.now c.requires.good c.args.message c.requires.under c.requires.off c.requires.empty c.put_in.new.pool
     c.put_in.ensures.width c.put_in.ensures.put some.0
     (cross_some (given_of c.args.board.now) c.crossing.result c.message-shown.result.now (kept_message c.args.message) some.0 c.crossing.ensures c.message-shown.ensures some.1)

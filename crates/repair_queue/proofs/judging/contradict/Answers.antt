@@ -8,7 +8,7 @@ use Rattle.axis_roots.proofs.Grids.WrittenLemmas.{on_axis_in_square}
 -- the other share is a fact
 pub returns : goal.returns
 returns c = λ ms facts stand.
-    c.conflict.ensures.ended ms facts
+    c.conflict.ensures ms facts
     (other_fact c.args.header.now ms c.args.board.now c.cell_on-cell.result _ c.message_other-other.result
     (subst (λ (x : Cell). is_in_square c.args.header.now.k x ≡ true) (sym c.cell_on-cell.ensures)
     (on_axis_in_square c.args.header.now.k c.args.axis c.args.index c.args.pos c.requires.index c.requires.pos)) c.requires.readable stand c.message_other-other.ensures.message)

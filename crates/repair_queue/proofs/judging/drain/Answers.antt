@@ -36,8 +36,8 @@ loop-axis-preserved-else-is_some-3 c =
 -- or it isn't due
 pub loop-axis-preserved : goal.loop-axis-preserved
 loop-axis-preserved c = record {
-  good = passed_good c.args.header.now c.loop-axis.board c.pass_queued.new.counts c.in-Some.axis c.in-Some.index
-      (drop (c.loop-axis.board.counts.next + 1) c.loop-axis.board.counts.queue.items) c.loop-axis.invariant.good c.pass_queued.ensures.counts c.pass_queued.ensures.width
+  good = passed_good c.args.header.now c.loop-axis.board c.pass_queued.new.self c.in-Some.axis c.in-Some.index
+      (drop (c.loop-axis.board.counts.next + 1) c.loop-axis.board.counts.queue.items) c.loop-axis.invariant.good c.pass_queued.ensures.width
       c.pass_queued.ensures.same c.in-Some.ensures.some c.pass_queued.ensures.rest (c.is_due.ensures.past c.if-is_due.false);
   tools = c.loop-axis.invariant.tools;
   holds = c.loop-axis.invariant.holds;

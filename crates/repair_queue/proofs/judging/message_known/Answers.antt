@@ -1,12 +1,13 @@
 use Rattle.std.proofs.Common.{refl, ◌∙◌}
 use Rattle.repair_queue.specs.Pools.{slot_in}
 use Rattle.repair_queue.specs.Boards.{given_of, decided_of, share_of}
-use Rattle.repair_queue.proofs.Feeding.JudgeLemmas.{at_home, known_given, taken_message, emptied_sound}
+use Rattle.repair_queue.proofs.Feeding.JudgeLemmas.{line_there, known_given, taken_message, emptied_sound}
 use Rattle.repair_queue.proofs.judging.message_known.Goals as goal
 
-pub take_first-requires-clause-home : goal.take_first-requires-clause-home
-take_first-requires-clause-home c =
-    at_home c.args.header.now (given_of c.args.board.now) (decided_of c.args.board.now) (share_of c.args.board.now) c.requires.readable.sound
+-- the line of a decided row or column has the header's root
+pub make-requires-clause-line : goal.make-requires-clause-line
+make-requires-clause-line c =
+    line_there c.args.header.now c.args.board.now c.in-Some.axis c.args.cell c.requires.readable c.requires.cell c.in-Some.ensures.some.0
 
 -- a sample of the cell is kept
 pub take_first-requires-clause-known : goal.take_first-requires-clause-known
@@ -24,8 +25,6 @@ returns-in-None-clause-readable c = record {
   width = c.requires.readable.width;
   pool_width = c.take_first.ensures.width ∙ c.requires.readable.pool_width;
   marks_width = c.requires.readable.marks_width;
-  places = c.take_first.ensures.places;
-  marks = c.requires.readable.marks;
   sound = emptied_sound c.args.header.now (given_of c.args.board.now) (slot_in c.take_first.new.pool) (decided_of c.args.board.now) (share_of c.args.board.now)
       c.take_first.ensures.kept.0 c.args.cell c.take_first.ensures.kept.2 c.requires.readable.sound;
 }

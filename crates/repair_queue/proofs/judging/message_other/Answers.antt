@@ -1,18 +1,13 @@
 use Rattle.std.proofs.Common.{◌≡◌, ◌∙◌, ℕ, true, true≢false, refl, sym, subst, inl, inr}
 use Rattle.namespace_id.specs.Cells.{is_in_square}
-use Rattle.axis_roots.specs.Messages.{index}
-use Rattle.axis_roots.proofs.Grids.NumberLemmas.{index-lt}
-use Rattle.befp_maker.specs.Conflicts.{IsLineOf}
-use Rattle.repair_queue.specs.Settled.{along}
-use Rattle.repair_queue.specs.Boards.{share_of}
-use Rattle.repair_queue.proofs.Feeding.JudgeLemmas.{other_taken}
+use Rattle.repair_queue.proofs.Feeding.JudgeLemmas.{line_there, other_taken}
 use Rattle.repair_queue.proofs.judging.message_other.Goals as goal
 
 -- all parts are for the header's width
-pub decided_through-requires-clause-cell : goal.decided_through-requires-clause-cell
-decided_through-requires-clause-cell c =
-    subst (λ (k : ℕ). is_in_square k c.args.cell ≡ true) (c.requires.readable.width ∙ sym c.requires.readable.marks_width)
-    c.requires.cell
+pub decided_through-requires : goal.decided_through-requires
+decided_through-requires c = record {
+  cell = subst (λ (k : ℕ). is_in_square k c.args.cell ≡ true) (c.requires.readable.width ∙ sym c.requires.readable.marks_width) c.requires.cell;
+}
 
 pub take_other-requires-clause-cell : goal.take_other-requires-clause-cell
 take_other-requires-clause-cell c =
@@ -22,11 +17,7 @@ take_other-requires-clause-cell c =
 -- the line of a decided row or column has the header's root
 pub make-requires-clause-line : goal.make-requires-clause-line
 make-requires-clause-line c =
-    let board = c.args.board.now in
-    let i : ℕ = index c.in-Some.axis c.args.cell in
-    subst (λ (k : ℕ). IsLineOf c.args.header.now c.in-Some.axis i (along k (share_of board) c.in-Some.axis i))
-    c.requires.readable.width (c.requires.readable.sound.lines c.in-Some.axis i
-    (index-lt c.args.header.now.k c.in-Some.axis c.args.cell c.requires.cell) c.in-Some.ensures.some.0)
+    line_there c.args.header.now c.args.board.now c.in-Some.axis c.args.cell c.requires.readable c.requires.cell c.in-Some.ensures.some.0
 
 -- it shows the share of that line
 pub returns-in-Some-clause-message : goal.returns-in-Some-clause-message

@@ -27,16 +27,17 @@ complete-requires-clause-given c =
 -- the line has room for 2k
 pub complete-requires-clause-line : goal.complete-requires-clause-line
 complete-requires-clause-line c =
-    ap length c.deref_mut.ensures.value ∙ c.requires.tools.buffers.line ∙ sym (ap (λ (h : Roots). 2 * h.k) c.header.view_is)
+    ap length c.deref_mut.ensures.value ∙ c.requires.tools.line ∙ sym (ap (λ (h : Roots). 2 * h.k) c.header.view_is)
 
 -- each buffer keeps its length
 pub returns-clause-tools : goal.returns-clause-tools
 returns-clause-tools c =
-    let line = c.args.tools.now.buffers.line in
+    let line = c.args.tools.now.line in
     let count : length c.complete.new.line ≡ length line.items = c.complete.auto.line ∙ ap length c.deref_mut.ensures.value in
     let same : (with_items line c.complete.new.line).items ≡ c.complete.new.line =
     with_items_is line c.complete.new.line (count ∙ sym line.ok.0) in record {
-      buffers = record { room = c.requires.tools.buffers.room; line = ap length same ∙ count ∙ c.requires.tools.buffers.line };
+      room = c.requires.tools.room;
+      line = ap length same ∙ count ∙ c.requires.tools.line;
       code = c.complete.ensures.width ∙ c.requires.tools.code;
       known = c.gather.ensures.known;
       given = c.gather.ensures.given;
@@ -50,7 +51,7 @@ returns-clause-tools c =
 -- the line is the codeword that was made
 pub returns-clause-line : goal.returns-clause-line
 returns-clause-line c =
-    let line = c.args.tools.now.buffers.line in
+    let line = c.args.tools.now.line in
     let count : length c.complete.new.line ≡ length line.items = c.complete.auto.line ∙ ap length c.deref_mut.ensures.value in
     subst (IsCodeword c.args.header.now.k) (sym (with_items_is line c.complete.new.line (count ∙ sym line.ok.0)))
     (subst (λ (k : ℕ). IsCodeword k c.complete.new.line) (ap (λ (h : Roots). h.k) c.header.view_is) c.complete.ensures.codeword)
@@ -58,7 +59,7 @@ returns-clause-line c =
 -- with the shares that were gathered
 pub returns-clause-entries : goal.returns-clause-entries
 returns-clause-entries c =
-    let line = c.args.tools.now.buffers.line in
+    let line = c.args.tools.now.line in
     let count : length c.complete.new.line ≡ length line.items = c.complete.auto.line ∙ ap length c.deref_mut.ensures.value in
     subst (HasEntries c.gather.new.known.items c.gather.new.given.items)
     (sym (with_items_is line c.complete.new.line (count ∙ sym line.ok.0)))

@@ -1,26 +1,19 @@
 use Rattle.std.proofs.Common.{◌∙◌, ◌*◌, refl, arith}
 use Rattle.repair_queue.specs.Pools.{slot_in}
-use Rattle.repair_queue.proofs.Lines.ClearLemmas.{cleared_home, cleared_none, cleared_next, cleared_to}
+use Rattle.repair_queue.proofs.Lines.ClearLemmas.{cleared_none, cleared_next, cleared_to}
 use Rattle.repair_queue.proofs.keeping.clear_line.Goals as goal
 
 -- none is out at first
 pub loop-pos-init : goal.loop-pos-init
 loop-pos-init c = record {
-  pool = c.requires.pool;
   width = refl;
   cleared = cleared_none (slot_in c.args.pool.now) c.args.axis c.args.index;
   room = λ roomy. roomy;
 }
 
--- those that are left are at home
-pub clear_cell-requires-clause-home : goal.clear_cell-requires-clause-home
-clear_cell-requires-clause-home c =
-    cleared_home (slot_in c.args.pool.now) (slot_in c.loop-pos.pool) c.args.axis c.args.index c.loop-pos.pos c.requires.home c.loop-pos.invariant.cleared
-
 -- those of one cell more are out
 pub loop-pos-preserved : goal.loop-pos-preserved
 loop-pos-preserved c = record {
-  pool = c.clear_cell.ensures.pool;
   width = c.clear_cell.ensures.width ∙ c.loop-pos.invariant.width;
   cleared = cleared_next (slot_in c.args.pool.now) (slot_in c.loop-pos.pool) (slot_in c.clear_cell.new.pool) c.args.axis c.args.index c.loop-pos.pos c.cell_on.result
       c.cell_on.ensures c.loop-pos.invariant.cleared c.clear_cell.ensures.cleared;
@@ -30,5 +23,5 @@ loop-pos-preserved c = record {
 -- at the end all are
 pub returns-clause-cleared : goal.returns-clause-cleared
 returns-clause-cleared c =
-    cleared_to (slot_in c.args.pool.now) (slot_in c.loop-pos.pool) c.args.axis c.args.index c.loop-pos.pos (2 * c.args.pool.now.k) (omega (arith, c.loop-pos.invariant.width))
+    cleared_to (slot_in c.args.pool.now) (slot_in c.loop-pos.pool) c.args.axis c.args.index c.loop-pos.pos (2 * c.args.pool.now.places.k) (omega (arith, c.width-pos-end.ensures.value))
     c.loop-pos.invariant.cleared

@@ -2,7 +2,7 @@ use Rattle.std.proofs.Common.{◌∙◌, ℕ, ◌+◌, ◌*◌, ◌<◌, refl, s
 use Rattle.repair_queue.specs.declared.counts.Counts.{Counts}
 use Rattle.repair_queue.specs.Pools.{slot_in}
 use Rattle.repair_queue.specs.Boards.{mark_of}
-use Rattle.repair_queue.specs.Counts.{AreCounts, count_of, pending, AreQueued}
+use Rattle.repair_queue.specs.Counts.{count_of, pending, AreQueued}
 use Rattle.repair_queue.proofs.Counting.CountLineLemmas.{IsCountedSo, none_so, known_so, unknown_so, few_so, all_so}
 use Rattle.repair_queue.proofs.keeping.count_line.Goals.{then-not-is_found, else-not-is_found}
 use Rattle.repair_queue.proofs.keeping.count_line.Goals as goal
@@ -10,7 +10,6 @@ use Rattle.repair_queue.proofs.keeping.count_line.Goals as goal
 -- none is counted
 pub loop-pos-init : goal.loop-pos-init
 loop-pos-init c = record {
-  counts = c.requires.counts;
   width = refl;
   next = refl;
   so = none_so c.args.counts.now.k (slot_in c.args.pool.now) (mark_of c.args.marks.now) c.args.axis c.args.index (count_of c.args.counts.now) (pending c.args.counts.now);
@@ -29,19 +28,17 @@ raise-requires-clause-below c =
 pub loop-pos-preserved : goal.loop-pos-preserved
 loop-pos-preserved c = elim c.if-not-is_found.branch [
   | then-not-is_found w ↦ record {
-    counts = subst AreCounts (sym w.counts-is) w.raise.ensures.counts;
     width = ap (λ (t : Counts). t.k) w.counts-is ∙ w.raise.ensures.width ∙ c.loop-pos.invariant.width;
     next = ap (λ (t : Counts). t.next) w.counts-is ∙ w.raise.ensures.next ∙ c.loop-pos.invariant.next;
     so = subst (λ (t : Counts). IsCountedSo c.args.counts.now.k (slot_in c.args.pool.now) (mark_of c.args.marks.now) c.args.axis c.args.index (count_of c.args.counts.now)
         (count_of t) (pending c.args.counts.now) (pending t) (c.loop-pos.pos + 1)) (sym w.counts-is)
         (unknown_so c.args.counts.now.k (slot_in c.args.pool.now) (mark_of c.args.marks.now) c.args.axis c.args.index (count_of c.args.counts.now) (count_of c.loop-pos.counts)
         (pending c.args.counts.now) (pending c.loop-pos.counts) c.loop-pos.pos c.cell_on.result c.cell_on.ensures c.loop-pos.invariant.so c.crossing-cross.result
-        (count_of w.raise.new.counts) (pending w.raise.new.counts) c.crossing-cross.ensures (sym c.is_found.ensures ∙ w.if-not-is_found.true) w.raise.ensures.raised
-        (subst (λ (k : ℕ). AreQueued k (count_of c.loop-pos.counts) (count_of w.raise.new.counts) (pending c.loop-pos.counts) (pending w.raise.new.counts))
+        (count_of w.raise.new.self) (pending w.raise.new.self) c.crossing-cross.ensures (sym c.is_found.ensures ∙ w.if-not-is_found.true) w.raise.ensures.raised
+        (subst (λ (k : ℕ). AreQueued k (count_of c.loop-pos.counts) (count_of w.raise.new.self) (pending c.loop-pos.counts) (pending w.raise.new.self))
         c.loop-pos.invariant.width w.raise.ensures.queued));
   }
   | else-not-is_found w ↦ record {
-    counts = subst AreCounts (sym w.counts-is) c.loop-pos.invariant.counts;
     width = ap (λ (t : Counts). t.k) w.counts-is ∙ c.loop-pos.invariant.width;
     next = ap (λ (t : Counts). t.next) w.counts-is ∙ c.loop-pos.invariant.next;
     so = subst (λ (t : Counts). IsCountedSo c.args.counts.now.k (slot_in c.args.pool.now) (mark_of c.args.marks.now) c.args.axis c.args.index (count_of c.args.counts.now)

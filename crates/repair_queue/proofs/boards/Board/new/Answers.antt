@@ -13,9 +13,6 @@ returns-clause-good c header width = record {
     pool_width = c.in_ok-pool.ensures.width ∙ sym c.in_ok-grid.ensures.width;
     marks_width = c.in_ok-marks.ensures.width ∙ sym c.in_ok-grid.ensures.width;
     counts_width = c.in_ok-counts.ensures.width ∙ sym c.in_ok-grid.ensures.width;
-    pool = c.in_ok-pool.ensures.pool;
-    marks = c.in_ok-marks.ensures.marks;
-    counts = c.in_ok-counts.ensures.counts;
     digests = subst (λ (k : ℕ). length c.in_ok-leaves.leaves.items ≡ 2 * k * (2 * k)) (sym c.in_ok-grid.ensures.width) (search rules);
   };
   sound = nothing_sound header _ _ _ c.in_ok-pool.ensures.empty c.in_ok-marks.ensures.undecided;

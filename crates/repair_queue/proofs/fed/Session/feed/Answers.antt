@@ -7,6 +7,11 @@ use Rattle.repair_queue.proofs.fed.Session.feed.Goals.{then-is_none+in-Some+in-F
 use Rattle.repair_queue.proofs.fed.Session.feed.Goals as goal
 
 -- nothing has ended it
+pub step-requires-clause-good : goal.step-requires-clause-good
+step-requires-clause-good c =
+    (open_of c.self.inside.header c.self.inside.board c.self.inside.tools c.self.inside.ended c.is_none.result c.is_none.ensures c.if-is_none.true
+    c.self.invariant.open_board).0
+
 pub step-requires-clause-tools : goal.step-requires-clause-tools
 step-requires-clause-tools c =
     (open_of c.self.inside.header c.self.inside.board c.self.inside.tools c.self.inside.ended c.is_none.result c.is_none.ensures c.if-is_none.true
@@ -20,8 +25,7 @@ step-requires-clause-rest c =
 -- and there is a place
 pub step-requires-clause-place : goal.step-requires-clause-place
 step-requires-clause-place c =
-    open_place c.self.inside.header c.self.inside.board c.self.inside.tools c.self.inside.ended c.is_none.result c.is_none.ensures c.if-is_none.true
-    c.self.invariant.open_board c.self.invariant.roomy
+    open_place c.self.inside.board c.self.inside.ended c.is_none.result c.is_none.ensures c.if-is_none.true c.self.invariant.roomy c.place_law.ensures
 
 -- it stands for one sample more
 pub returns-clause-stands : goal.returns-clause-stands

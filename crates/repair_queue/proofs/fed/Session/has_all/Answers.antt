@@ -11,13 +11,6 @@ use Rattle.repair_queue.specs.Views.{parts_by}
 use Rattle.repair_queue.proofs.Feeding.CoverageLemmas.{open_marks, rows_tell}
 use Rattle.repair_queue.proofs.fed.Session.has_all.Goals as goal
 
--- there is a mark for each row
-pub are_rows_marked-requires : goal.are_rows_marked-requires
-are_rows_marked-requires c = record {
-  marks = (open_marks c.self.inside.header c.self.inside.board c.self.inside.tools c.self.inside.ended c.self.invariant.open_board
-      (subst (λ (s : SessionParts). state_of s ≡ state.Open) (sym c.self.view_is) c.requires.open)).0;
-}
-
 -- all cells are recoverable exactly where all rows are decided
 pub returns : goal.returns
 returns c =
@@ -27,5 +20,5 @@ returns c =
     (λ (s : SessionParts). (ms : List Message) → StandsFor s ms → (c.are_rows_marked.result ≡ true) ↔ ((cell : Cell) → is_in_square s.header.k cell ≡ true → Half s.header ms cell))
     c.self.view_is
     (rows_tell (parts_by c.self.inside.header c.self.inside.board c.self.inside.ended) c.self.inside.board.marks.k c.are_rows_marked.result
-    (open_marks c.self.inside.header c.self.inside.board c.self.inside.tools c.self.inside.ended c.self.invariant.open_board is).1
+    (open_marks c.self.inside.header c.self.inside.board c.self.inside.tools c.self.inside.ended c.self.invariant.open_board is)
     c.are_rows_marked.ensures.all c.are_rows_marked.ensures.some is)

@@ -1,4 +1,4 @@
-use Rattle.std.proofs.Common.{◌≡◌, ◌∙◌, ℕ, ◌*◌, ◌<◌, ◌≤◌, [], sym, ap, subst, vec_capacity}
+use Rattle.std.proofs.Common.{◌≡◌, ◌∙◌, ℕ, ◌*◌, ◌<◌, ◌≤◌, [], sym, ap, subst}
 use Rattle.std.specs.Prelude.{None}
 use Rattle.data_header.specs.Headers.{Roots}
 use Rattle.namespace_id.proofs.WidthLemmas.{is_width-pos}
@@ -24,8 +24,8 @@ invariant_of-result c =
       cells = c.in_ok-room.ensures.k ∙ width;
       roomy = λ none.
           let good = c.in_ok-board.ensures.good c.in_ok-header.header (sym width) in
-          subst (λ (k : ℕ). 2 * k * (2 * k) ≤ vec_capacity c.in_ok-board.board.pool.given) (width ∙ good.width ∙ sym good.parts.pool_width)
-          (subst (λ (n : ℕ). n ≤ vec_capacity c.in_ok-board.board.pool.given) c.cells_of.ensures c.in_ok-board.ensures.room);
+          subst (λ (k : ℕ). 2 * k * (2 * k) ≤ c.in_ok-board.board.pool.capacity) (width ∙ good.width ∙ sym good.parts.pool_width)
+          (subst (λ (n : ℕ). n ≤ c.in_ok-board.board.pool.capacity) c.cells_of.ensures c.in_ok-board.ensures.room);
     }
 
 -- so it stands for no sample

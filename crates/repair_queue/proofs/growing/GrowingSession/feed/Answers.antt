@@ -1,7 +1,7 @@
 use Rattle.std.proofs.Common.{◌∙◌, [], ◌∷◌, ◌++◌, true, false, refl, sym, subst}
 use Rattle.axis_roots.specs.Proved.{kept_message}
 use Rattle.repair_queue.specs.SessionParts.{SessionParts, StandsFor}
-use Rattle.repair_queue.proofs.Places.GrownLemmas.{grown_board, grown_open, grown_parts}
+use Rattle.repair_queue.proofs.Places.GrownLemmas.{with_pool, grown_open, grown_parts}
 use Rattle.repair_queue.proofs.Feeding.SessionLemmas.{open_of}
 use Rattle.repair_queue.proofs.Feeding.ViewLemmas.{step_stands, ended_stands}
 use Rattle.repair_queue.proofs.growing.GrowingSession.feed.Goals as goal
@@ -16,7 +16,7 @@ returns-then-is_some-clause-stands c = λ ms stand.
 -- where there is no memory, the same samples are kept
 pub invariant_of-self : goal.invariant_of-self
 invariant_of-self c = record {
-  open_board = grown_open c.self.inside.header c.self.inside.board c.make_place.new.given c.make_place.ensures.given c.self.inside.tools c.self.inside.ended
+  open_board = grown_open c.self.inside.header c.self.inside.board c.make_place.new.self c.make_place.ensures.kept c.self.inside.tools c.self.inside.ended
       c.self.invariant.open_board;
   cells = c.self.invariant.cells;
 }
@@ -24,10 +24,8 @@ invariant_of-self c = record {
 -- nothing has ended it
 pub step-requires-clause-good : goal.step-requires-clause-good
 step-requires-clause-good c =
-    let held = grown_open c.self.inside.header c.self.inside.board c.make_place.new.given c.make_place.ensures.given c.self.inside.tools c.self.inside.ended
-    c.self.invariant.open_board in
-    (open_of c.self.inside.header (grown_board c.self.inside.header c.self.inside.board c.make_place.new.given c.make_place.ensures.given) c.self.inside.tools
-    c.self.inside.ended true (sym c.is_some.ensures ∙ c.if-is_some.false) refl held).0
+    (open_of c.self.inside.header (with_pool c.self.inside.board c.make_place.new.self) c.self.inside.tools c.self.inside.ended true (sym c.is_some.ensures ∙ c.if-is_some.false) refl
+    (grown_open c.self.inside.header c.self.inside.board c.make_place.new.self c.make_place.ensures.kept c.self.inside.tools c.self.inside.ended c.self.invariant.open_board)).0
 
 pub step-requires-clause-tools : goal.step-requires-clause-tools
 step-requires-clause-tools c =
@@ -37,10 +35,9 @@ step-requires-clause-tools c =
 -- it stands for one sample more
 pub returns-clause-stands : goal.returns-clause-stands
 returns-clause-stands c = λ ms stand.
-    let held = grown_open c.self.inside.header c.self.inside.board c.make_place.new.given c.make_place.ensures.given c.self.inside.tools c.self.inside.ended
-    c.self.invariant.open_board in
-    step_stands c.self.inside.header (grown_board c.self.inside.header c.self.inside.board c.make_place.new.given c.make_place.ensures.given) c.step.new.board
-    c.self.inside.tools c.step.new.tools c.self.inside.ended c.step.result true (kept_message c.args.message) (sym c.is_some.ensures ∙ c.if-is_some.false) refl held
+    step_stands c.self.inside.header (with_pool c.self.inside.board c.make_place.new.self) c.step.new.board c.self.inside.tools c.step.new.tools c.self.inside.ended c.step.result true
+    (kept_message c.args.message) (sym c.is_some.ensures ∙ c.if-is_some.false) refl
+    (grown_open c.self.inside.header c.self.inside.board c.make_place.new.self c.make_place.ensures.kept c.self.inside.tools c.self.inside.ended c.self.invariant.open_board)
     c.step.ensures.steps ms
     (subst (λ (s : SessionParts). StandsFor s ms)
-    (sym (grown_parts c.self.inside.header c.self.inside.board c.make_place.new.given c.make_place.ensures.given c.self.inside.ended ∙ c.self.view_is)) stand)
+    (sym (grown_parts c.self.inside.header c.self.inside.board c.make_place.new.self c.make_place.ensures.kept c.self.inside.ended ∙ c.self.view_is)) stand)

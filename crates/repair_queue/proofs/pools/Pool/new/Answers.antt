@@ -1,15 +1,17 @@
-use Rattle.std.proofs.Common.{◌∙◌, ◌≡◌, List, [], ◌∷◌, ◌++◌, ap, arith}
+use Rattle.std.proofs.Common.{◌∙◌, List, [], ◌∷◌, ◌++◌, ap}
 use Rattle.std.specs.Prelude.{Option, None}
 use Rattle.axis_roots.specs.declared.message.proved.Proved.{Proved}
-use Rattle.repair_queue.specs.declared.pools.Pool.{Pool}
-use Rattle.repair_queue.proofs.Places.PutInLemmas.{new_places, new_pool}
+use Rattle.repair_queue.specs.Places.{place_of}
+use Rattle.repair_queue.proofs.Places.PutInLemmas.{nothing_kept, new_pool}
 use Rattle.repair_queue.proofs.pools.Pool.new.Goals as goal
 
 -- no sample is kept
-pub returns-clause-pool : goal.returns-clause-pool
-returns-clause-pool c =
-    let p : Pool = record { k = c.args.k; given = c.push.new.self; rows = c.in_ok-rows.rows; cols = c.in_ok-cols.cols; free = c.in_ok-free.free } in
-    let items : c.push.new.self.items ≡ None ∷ [] = c.in-Ok.ensures.items ∙ ap (λ (l : List (Option Proved)). l ++ None ∷ []) c.in_ok-given.ensures.items in
-    new_pool p (new_places p c.requires.width items (c.in_ok-rows.ensures.items_if_clones_equal (λ y same. same)) (c.in_ok-cols.ensures.items_if_clones_equal (λ y same. same))) items
-    (omega (arith, c.in-Ok.ensures.len, c.in_ok-given.ensures.len))
-    c.in_ok-free.ensures.items c.in_ok-free.ensures.len c.in_ok-free.ensures.capacity
+pub invariant_of-result : goal.invariant_of-result
+invariant_of-result c =
+    new_pool c.args.k c.in_ok-table.table.k (place_of c.in_ok-table.table) c.push.new.self.items c.in_ok-free.free.items _ c.in_ok-table.ensures.width c.requires.width
+    c.in_ok-table.ensures.none (c.in-Ok.ensures.items ∙ ap (λ (l : List (Option Proved)). l ++ None ∷ []) c.in_ok-given.ensures.items) c.in_ok-free.ensures.items
+    c.in_ok-free.ensures.capacity
+
+pub returns-clause-empty : goal.returns-clause-empty
+returns-clause-empty c =
+    nothing_kept c.push.new.self.items (place_of c.in_ok-table.table) (c.in-Ok.ensures.items ∙ ap (λ (l : List (Option Proved)). l ++ None ∷ []) c.in_ok-given.ensures.items)
