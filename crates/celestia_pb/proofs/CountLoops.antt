@@ -5,7 +5,8 @@ use Rattle.namespace_id.specs.Bytes.{AreBytes}
 use Rattle.proto_fields.specs.Canonical.{begins_part}
 use Rattle.celestia_pb.specs.Digests.{digest_at, with_digest, digests_at, entry_digest, digests_in}
 use Rattle.celestia_pb.proofs.DigestLemmas.{read_is_digest, digests_at-none, digests_at-end, digests_at-wrong, digests_at-more}
-use Rattle.celestia_pb.proofs.EntryLemmas.{entry_digest-is, entry_rest, entry_length, digests_in-none, drop_next, digests_in-more}
+use Rattle.celestia_pb.proofs.EntryLemmas.{entry_digest-is, entry_rest, entry_length}
+use Rattle.celestia_pb.proofs.EntryListLemmas.{drop_more, entries-more, entries-none}
 
 -- digests before those that follow them
 abbrev pub with_digests : List Digest → Result (List Digest × List ℕ) ℕ → Result (List Digest × List ℕ) ℕ
@@ -35,7 +36,7 @@ with_digests-more digests digest (Err left) = refl
 pub counting_begins : (n most : ℕ) (bytes : List ℕ) → AreBytes bytes → IsCounting n most bytes 0 bytes
 counting_begins n most bytes fits = record {
   all = with_digests-none (digests_at n most bytes)
-      ∙ ap (λ (l : List Digest). with_digests l (digests_at n most bytes)) (sym (digests_in-none bytes))
+      ∙ ap (λ (l : List Digest). with_digests l (digests_at n most bytes)) (sym (entries-none entry_digest 92 bytes))
       ∙ ap (λ (k : ℕ). with_digests (digests_in 0 bytes) (digests_at n k bytes)) (omega arith);
   behind = refl;
   size = omega arith;
@@ -83,8 +84,8 @@ module _ (n most : ℕ) (bytes : List ℕ) (count : ℕ) (rest : List ℕ) (smal
             ∙ ap (with_digests (digests_in count bytes)) (left_more more ∙ digests_at-more n (most - (count + 1)) rest digest after there e)
             ∙ with_digests-more (digests_in count bytes) digest (digests_at n (most - (count + 1)) after)
             ∙ ap (λ (d : Digest). with_digests (digests_in count bytes ++ d ∷ []) (digests_at n (most - (count + 1)) after)) is
-            ∙ ap (λ (l : List Digest). with_digests l (digests_at n (most - (count + 1)) after)) (sym (digests_in-more count bytes));
-        behind = sym (entry_rest n digest.0 after small size) ∙ ap (drop 92) (sym h.parts ∙ place) ∙ drop_next count bytes;
+            ∙ ap (λ (l : List Digest). with_digests l (digests_at n (most - (count + 1)) after)) (sym (entries-more entry_digest 92 count bytes));
+        behind = sym (entry_rest n digest.0 after small size) ∙ ap (drop 92) (sym h.parts ∙ place) ∙ drop_more 92 count bytes;
         size = omega (arith, at.size, ap length h.parts, entry_length n digest.0 after small size);
         few = omega arith;
         fits = h.fits;

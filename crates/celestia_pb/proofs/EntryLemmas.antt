@@ -1,13 +1,13 @@
 -- Where digests lie: each 92 bytes behind the one before.
-use Rattle.std.proofs.Common.{◌≡◌, ◌∙◌, ℕ, zero, suc, ◌+◌, ◌*◌, ◌<◌, List, [], ◌∷◌, ◌++◌, length, drop, refl, sym, ap, ap₂, arith, length-append}
-use Rattle.std.proofs.lemmas.List.{take_at, drop_at, drop-drop}
+use Rattle.std.proofs.Common.{◌≡◌, ◌∙◌, ℕ, ◌+◌, ◌*◌, ◌<◌, List, [], ◌∷◌, ◌++◌, length, drop, refl, ap, arith, length-append}
+use Rattle.std.proofs.lemmas.List.{take_at, drop_at}
 use Rattle.namespace_id.specs.declared.digests.Digest.{Digest}
 use Rattle.namespace_id.specs.Digests.{AreDigests}
 use Rattle.proto_fields.specs.Varints.{varint}
 use Rattle.proto_fields.specs.Spelled.{bytes_field}
 use Rattle.proto_fields.proofs.Varint.Bytes.{varint-low}
 use Rattle.proto_fields.proofs.CanonicalLemmas.{bytes_field-is}
-use Rattle.celestia_pb.specs.Digests.{digests_text, entry_digest, digests_in}
+use Rattle.celestia_pb.specs.Digests.{digests_text, entry_digest}
 
 -- ---- one entry
 
@@ -29,48 +29,6 @@ entry_rest n digest rest few size = ap (drop 92) (entry_is n digest rest few siz
 
 pub entry_length : (n : ℕ) (digest rest : List ℕ) → n < 16 → length digest ≡ 90 → length (bytes_field n digest ++ rest) ≡ 92 + length rest
 entry_length n digest rest few size = omega (arith, ap length (entry_is n digest rest few size), length-append digest rest)
-
--- ---- the recursion
-
--- none
-pub digests_in-none : (bytes : List ℕ) → digests_in zero bytes ≡ []
-unfolding digests_in
-digests_in-none bytes = refl
-
--- the first one, and then the others
-pub digests_in-next : (count : ℕ) (bytes : List ℕ) → digests_in (suc count) bytes ≡ entry_digest bytes ∷ digests_in count (drop 92 bytes)
-unfolding digests_in
-digests_in-next count bytes = refl
-
--- so many
-pub length-digests_in : (count : ℕ) (bytes : List ℕ) → length (digests_in count bytes) ≡ count
-length-digests_in zero bytes = ap length (digests_in-none bytes)
-length-digests_in (suc count) bytes = ap length (digests_in-next count bytes) ∙ ap suc (length-digests_in count (drop 92 bytes))
-
--- behind one more
-pub drop_next : (count : ℕ) (bytes : List ℕ) → drop 92 (drop (92 * count) bytes) ≡ drop (92 * (count + 1)) bytes
-drop_next count bytes =
-    let e : 92 * count + 92 ≡ 92 * (count + 1) = omega arith in
-    drop-drop 92 (92 * count) bytes ∙ ap (λ (k : ℕ). drop k bytes) e
-
-pub drop_first : (count : ℕ) (bytes : List ℕ) → drop (92 * count) (drop 92 bytes) ≡ drop (92 * suc count) bytes
-drop_first count bytes =
-    let e : 92 + 92 * count ≡ 92 * suc count = omega arith in
-    drop-drop (92 * count) 92 bytes ∙ ap (λ (k : ℕ). drop k bytes) e
-
--- one more at the end
-pub digests_in-more : (count : ℕ) (bytes : List ℕ) → digests_in (count + 1) bytes ≡ digests_in count bytes ++ entry_digest (drop (92 * count) bytes) ∷ []
-digests_in-more zero bytes =
-    digests_in-next zero bytes
-    ∙ ap₂ (λ (d : Digest) (l : List Digest). d ∷ l) refl (digests_in-none (drop 92 bytes))
-    ∙ ap (λ (l : List Digest). l ++ entry_digest bytes ∷ []) (sym (digests_in-none bytes))
-digests_in-more (suc count) bytes =
-    let next : suc count + 1 ≡ suc (count + 1) = omega arith in
-    ap (λ (k : ℕ). digests_in k bytes) next
-    ∙ digests_in-next (count + 1) bytes
-    ∙ ap (λ (l : List Digest). entry_digest bytes ∷ l) (digests_in-more count (drop 92 bytes))
-    ∙ ap (λ (l : List ℕ). entry_digest bytes ∷ (digests_in count (drop 92 bytes) ++ entry_digest l ∷ [])) (drop_first count bytes)
-    ∙ ap (λ (l : List Digest). l ++ entry_digest (drop (92 * suc count) bytes) ∷ []) (sym (digests_in-next count bytes))
 
 -- ---- of digests that were written
 

@@ -1,5 +1,5 @@
 -- Half rows, written and read.
-use Rattle.std.proofs.Common.{◌≡◌, ◌∙◌, ℕ, zero, suc, ◌+◌, ◌*◌, ◌≤◌, Bool, true, false, cond, ◌&&◌, ◌==◌, eqb, eqb-true, List, [], ◌∷◌, ◌++◌, length, map, Option, Some, None, option_and_then, Result, Ok, Err, refl, sym, ap, ap₂, subst, arith, append_assoc, append-nil, length-append, mul_comm}
+use Rattle.std.proofs.Common.{◌≡◌, ◌∙◌, ℕ, ◌+◌, ◌*◌, ◌≤◌, Bool, true, false, cond, ◌&&◌, ◌==◌, eqb, eqb-true, List, [], ◌∷◌, ◌++◌, length, map, Option, Some, None, option_and_then, Ok, Err, refl, sym, ap, ap₂, subst, arith, append-nil, length-append, mul_comm}
 use Rattle.std.proofs.lemmas.Bool.{and_parts}
 use Rattle.std.proofs.lemmas.List.{nil_from_length}
 use Rattle.std.proofs.lemmas.Option.{same_Some}
@@ -10,11 +10,12 @@ use Rattle.namespace_id.specs.Shares.{AreShares}
 use Rattle.namespace_id.proofs.WidthLemmas.{is_width-le}
 use Rattle.proto_fields.specs.Fields.{FieldParts, fields_of, last_of, all_bytes, all_numbers, last_number}
 use Rattle.proto_fields.specs.Varints.{varint_within}
-use Rattle.proto_fields.specs.Spelled.{bytes_field, field_size}
+use Rattle.proto_fields.specs.Spelled.{field_size}
 use Rattle.proto_fields.specs.Canonical.{number_text, number_fields, part_field, begins_part, canonical_number}
 use Rattle.proto_fields.proofs.FieldLemmas.{no_fields, all_bytes_in_a_row, all_numbers_in_a_row}
 use Rattle.proto_fields.proofs.Options.{and_then_parts}
 use Rattle.proto_fields.proofs.CanonicalLemmas.{number_fields_of, part_fields_of, number_is_read, read_is_number}
+use Rattle.celestia_pb.specs.ShareLists.{share_behind}
 use Rattle.celestia_pb.specs.declared.half_row.Side.{Side}
 use Rattle.celestia_pb.specs.declared.half_row.Side.TheVariants.{Left, Right}
 use Rattle.celestia_pb.specs.Reading.{then_read, or_left, placed}
@@ -22,12 +23,12 @@ use Rattle.celestia_pb.specs.Samples.{share_text}
 use Rattle.celestia_pb.specs.RowShares.{shares_text, shares_at, shares_in}
 use Rattle.celestia_pb.specs.HalfRows.{HalfParts, IsHalf, side_number, half_row_text, side_of, side_at, half_row_end, half_row_side, half_row_left, half_row_value}
 use Rattle.celestia_pb.proofs.Steps.{cond_ok, then_ok, placed_ok}
-use Rattle.celestia_pb.proofs.DigestLemmas.{ok_parts}
 use Rattle.celestia_pb.proofs.MessageLemmas.{field_few, begins_number}
 use Rattle.celestia_pb.proofs.SampleLemmas.{or_left_some}
 use Rattle.celestia_pb.proofs.CommonLemmas.{number_bytes, own_number}
 use Rattle.celestia_pb.proofs.ShareLemmas.{shares_text-next, shares_are_read, read_are_shares}
-use Rattle.celestia_pb.proofs.ShareEntries.{length-shares_in, length-shares_text}
+use Rattle.celestia_pb.proofs.ShareEntries.{length-shares_text}
+use Rattle.celestia_pb.proofs.EntryListLemmas.{length-entries}
 
 -- ---- what is written is read
 
@@ -179,7 +180,7 @@ module _ (bytes behind : List ℕ) (count : ℕ) (first : shares_at 512 bytes �
   behind_side b test =
       ap (then_read half_row_side) first
       ∙ ap (λ (o : Option (Side × List ℕ)). then_read (half_row_end (shares_in count bytes)) (or_left behind o)) second
-      ∙ ap (λ (n : ℕ). cond ((length rest == 0) && is_width n) (Ok (record { side = side; shares = shares_in count bytes })) (Err (length rest))) (length-shares_in count bytes)
+      ∙ ap (λ (n : ℕ). cond ((length rest == 0) && is_width n) (Ok (record { side = side; shares = shares_in count bytes })) (Err (length rest))) (length-entries (share_behind 6) 518 count bytes)
       ∙ ap (λ (c : Bool). cond c (Ok (record { side = side; shares = shares_in count bytes })) (Err (length rest))) test
 
   -- something is left, or the number is no width

@@ -11,13 +11,14 @@ use Rattle.data_header.specs.Headers.{Roots, IsHeader}
 use Rattle.proto_fields.specs.Fields.{FieldParts, fields_of, all_bytes}
 use Rattle.proto_fields.proofs.FieldLemmas.{no_fields, all_bytes_in_a_row}
 use Rattle.celestia_pb.specs.Reading.{then_read, placed}
-use Rattle.celestia_pb.specs.Digests.{digests_text, digests_at, digests_in}
+use Rattle.celestia_pb.specs.Digests.{digests_text, digests_at, digests_in, entry_digest}
 use Rattle.celestia_pb.proofs.Steps.{cond_ok, placed_ok, then_ok}
 use Rattle.proto_fields.specs.Canonical.{begins}
 use Rattle.celestia_pb.specs.Headers.{dah_text, has_counts, dah_end, dah_cols, dah_left, dah_value}
 use Rattle.celestia_pb.specs.Laws.{bytes_of_all}
 use Rattle.celestia_pb.proofs.DigestLemmas.{AreDigestsRead, begins_digests, digests_are_read, read_are_digests}
-use Rattle.celestia_pb.proofs.EntryLemmas.{length-digests_text, length-digests_in}
+use Rattle.celestia_pb.proofs.EntryLemmas.{length-digests_text}
+use Rattle.celestia_pb.proofs.EntryListLemmas.{length-entries}
 use Rattle.celestia_pb.proofs.CommonLemmas.{digest_fields, digest_fields_of, own_digests, other_digests}
 
 -- ---- what is written is read
@@ -139,7 +140,7 @@ module _ (bytes behind : List ℕ) (rows : ℕ) (first : digests_at 1 1024 bytes
   behind_rows : dah_left bytes ≡ then_read (dah_end (digests_in rows bytes)) (digests_at 2 rows behind)
   behind_rows =
       ap (then_read dah_cols) first
-      ∙ ap (λ (n : ℕ). then_read (dah_end (digests_in rows bytes)) (digests_at 2 n behind)) (length-digests_in rows bytes)
+      ∙ ap (λ (n : ℕ). then_read (dah_end (digests_in rows bytes)) (digests_at 2 n behind)) (length-entries entry_digest 92 rows bytes)
 
   -- a column root is wrong
   pub wrong_cols : (left : ℕ) → digests_at 2 rows behind ≡ Err left → dah_left bytes ≡ Err left
@@ -151,7 +152,7 @@ module _ (bytes behind : List ℕ) (rows : ℕ) (first : digests_at 1 1024 bytes
         → dah_left bytes ≡ cond b (Ok (record { k = length (digests_in rows bytes) / 2; rows = digests_in rows bytes; cols = digests_in cols behind })) (Err (length rest))
     behind_cols b test =
         let same : has_counts (length (digests_in rows bytes)) (length (digests_in cols behind)) ≡ has_counts rows cols =
-        ap₂ has_counts (length-digests_in rows bytes) (length-digests_in cols behind) in
+        ap₂ has_counts (length-entries entry_digest 92 rows bytes) (length-entries entry_digest 92 cols behind) in
         behind_rows
         ∙ ap (then_read (dah_end (digests_in rows bytes))) second
         ∙ ap (λ (c : Bool). cond c (Ok (record { k = length (digests_in rows bytes) / 2; rows = digests_in rows bytes; cols = digests_in cols behind })) (Err (length rest)))
@@ -171,7 +172,7 @@ module _ (bytes behind : List ℕ) (rows : ℕ) (first : digests_at 1 1024 bytes
         let even : rows ≡ 2 * (rows / 2) = eqb-true _ _ sides.0 in
         let same : cols ≡ 2 * (rows / 2) = eqb-true _ _ sides.1 ∙ even in
         behind_cols true test
-        ∙ ap (λ (n : ℕ). Ok (record { k = n / 2; rows = digests_in rows bytes; cols = digests_in cols behind })) (length-digests_in rows bytes)
+        ∙ ap (λ (n : ℕ). Ok (record { k = n / 2; rows = digests_in rows bytes; cols = digests_in cols behind })) (length-entries entry_digest 92 rows bytes)
         ∙ ap (λ (l : List ℕ). Ok (record { k = rows / 2; rows = digests_in rows bytes; cols = digests_in cols l })) place
         ∙ ap (λ (n : ℕ). Ok (record { k = rows / 2; rows = digests_in rows bytes; cols = digests_in n (drop (92 * rows) bytes) })) same
         ∙ ap (λ (n : ℕ). Ok (record { k = rows / 2; rows = digests_in n bytes; cols = digests_in (2 * (rows / 2)) (drop (92 * n) bytes) })) even

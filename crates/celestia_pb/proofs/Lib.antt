@@ -4,6 +4,8 @@ pub mod Steps
 pub mod Fronts
 -- digests, written and read
 pub mod DigestLemmas
+-- where values of one size lie
+pub mod EntryListLemmas
 -- where digests lie
 pub mod EntryLemmas
 -- the loop that counts digests

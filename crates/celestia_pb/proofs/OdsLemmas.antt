@@ -12,10 +12,11 @@ use Rattle.namespace_id.proofs.TestLemmas.{passes_below, passes_below-at, where_
 use Rattle.namespace_id.proofs.WidthLemmas.{is_width-le}
 use Rattle.square_layout.specs.Blocks.{SquareShares, IsSquare}
 use Rattle.square_layout.proofs.SquareLemmas.{least_is_width}
-use Rattle.celestia_pb.specs.ShareLists.{shares_behind}
+use Rattle.celestia_pb.specs.ShareLists.{share_behind, shares_behind}
+use Rattle.celestia_pb.proofs.EntryListLemmas.{length-entries}
 use Rattle.celestia_pb.specs.Ods.{ods_text, least_width, square_width, ods_of, ods_value}
 use Rattle.celestia_pb.proofs.Steps.{same_ok}
-use Rattle.celestia_pb.proofs.ShareListLemmas.{length-shares_behind, shares_behind-are, share_bytes-behind, length-share_bytes, behind_share_bytes}
+use Rattle.celestia_pb.proofs.ShareListLemmas.{shares_behind-are, share_bytes-behind, length-share_bytes, behind_share_bytes}
 
 -- ---- widths
 
@@ -114,7 +115,7 @@ read_is_ods bytes s fits e =
     let size : 512 * (k * k) ≡ length bytes = omega arith in
     subst (λ (s : SquareShares). (IsSquare s × AreShares s.shares) × (bytes ≡ ods_text s)) found.2 (
       (
-        record { width = width.0; count = length-shares_behind 0 (k * k) bytes },
+        record { width = width.0; count = length-entries (share_behind 0) 512 (k * k) bytes },
         shares_behind-are (k * k) bytes fits size,
       ),
       sym (share_bytes-behind (k * k) bytes size),

@@ -1,5 +1,5 @@
 -- The places of a message BadEncoding, written one after another.
-use Rattle.std.proofs.Common.{◌≡◌, ◌∙◌, ℕ, zero, suc, ◌+◌, ◌-◌, ◌≤◌, ◌<◌, List, [], ◌∷◌, ◌++◌, length, Vec, Global, vec_len, vec_capacity, Option, refl, sym, ap, arith, append_assoc, append-nil, length-append}
+use Rattle.std.proofs.Common.{◌≡◌, ◌∙◌, ℕ, zero, suc, ◌+◌, ◌-◌, ◌≤◌, ◌<◌, List, [], ◌∷◌, ◌++◌, length, Vec, Global, vec_len, vec_capacity, refl, sym, ap, arith, append_assoc, append-nil, length-append}
 use Rattle.namespace_id.specs.declared.cells.Axis.{Axis}
 use Rattle.proto_fields.specs.Spelled.{bytes_field}
 use Rattle.axis_roots.specs.declared.message.messages.Message.{Message}

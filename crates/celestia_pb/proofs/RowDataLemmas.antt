@@ -14,6 +14,7 @@ use Rattle.proto_fields.proofs.WrittenLemmas.{size_is_length}
 use Rattle.axis_roots.specs.declared.answers.Found.{Found}
 use Rattle.axis_roots.specs.declared.answers.Found.TheVariants.{Range, Absence}
 use Rattle.axis_roots.specs.declared.answers.NsEntry.{NsEntry}
+use Rattle.celestia_pb.specs.ShareLists.{share_behind}
 use Rattle.celestia_pb.specs.Reading.{then_read, placed}
 use Rattle.celestia_pb.specs.Messages.{message_at}
 use Rattle.celestia_pb.specs.Samples.{share_text}
@@ -25,7 +26,8 @@ use Rattle.celestia_pb.proofs.Steps.{cond_ok, then_ok, placed_ok}
 use Rattle.celestia_pb.proofs.Fronts.{begins_other}
 use Rattle.celestia_pb.proofs.MessageLemmas.{field_few, message_is_read, message_back}
 use Rattle.celestia_pb.proofs.ShareLemmas.{shares_are_read, read_are_shares}
-use Rattle.celestia_pb.proofs.ShareEntries.{length-shares_in, length-shares_text}
+use Rattle.celestia_pb.proofs.ShareEntries.{length-shares_text}
+use Rattle.celestia_pb.proofs.EntryListLemmas.{length-entries}
 use Rattle.celestia_pb.proofs.RowProofLemmas.{row_proof_few, row_proof_is_read, row_proof_back}
 
 -- a number above 0 isn't 0
@@ -260,7 +262,7 @@ module _ (row count : ℕ) (bytes behind : List ℕ) (first : shares_at 512 byte
   behind_shares r second =
       let shares : List Share = shares_in count bytes in
       ap (then_read (row_proof row)) first
-      ∙ ap (λ (n : ℕ). then_read (row_end row shares) (message_at (λ rest part. row_proof_left n part) 2 behind)) (length-shares_in count bytes)
+      ∙ ap (λ (n : ℕ). then_read (row_end row shares) (message_at (λ rest part. row_proof_left n part) 2 behind)) (length-entries (share_behind 6) 518 count bytes)
       ∙ ap (then_read (row_end row shares)) second
 
   -- the proof is wrong

@@ -8,13 +8,14 @@ use Rattle.namespace_id.specs.Bytes.{AreBytes}
 use Rattle.namespace_id.specs.Digests.{AreDigests}
 use Rattle.proto_fields.specs.Canonical.{number_text, begins}
 use Rattle.celestia_pb.specs.Reading.{then_read}
-use Rattle.celestia_pb.specs.Digests.{digests_text, digests_at, digests_in}
+use Rattle.celestia_pb.specs.Digests.{digests_text, digests_at, digests_in, entry_digest}
 use Rattle.celestia_pb.specs.Messages.{number_left}
 use Rattle.celestia_pb.specs.Inclusions.{is_stop, is_flag}
 use Rattle.celestia_pb.specs.RowProofs.{leaf_count, hash_count, ProofParts, row_proof_text, is_short, is_complete, row_proof_end, row_proof_flag, row_proof_hashes, row_proof_nodes, row_proof_stop, row_proof_left}
 use Rattle.celestia_pb.proofs.Steps.{cond_ok, then_ok}
 use Rattle.celestia_pb.proofs.DigestLemmas.{begins_digests, digests_are_read, read_are_digests}
-use Rattle.celestia_pb.proofs.EntryLemmas.{length-digests_in, length-digests_text}
+use Rattle.celestia_pb.proofs.EntryLemmas.{length-digests_text}
+use Rattle.celestia_pb.proofs.EntryListLemmas.{length-entries}
 use Rattle.celestia_pb.proofs.MessageLemmas.{number_few, begins_number, number_left_is_read, number_left_back, number_left_passes}
 
 -- a number is itself
@@ -165,4 +166,4 @@ row_proof_found count bytes start place leaves most behind stop nodes many after
     ∙ ap (then_read (row_proof_flag count start stop told)) (ap (λ (m : ℕ). digests_at 4 m after) (sym is_most) ∙ fourth)
     ∙ ap (then_read (row_proof_end count start stop told found)) fifth
     ∙ ap (λ (b : Bool). cond b (Ok (start, (told, found))) (Err (length rest)))
-    (ap₂ (λ (p h : ℕ). is_complete count p stop h flag (length rest)) (sym same) (length-digests_in hashes after) ∙ test)
+    (ap₂ (λ (p h : ℕ). is_complete count p stop h flag (length rest)) (sym same) (length-entries entry_digest 92 hashes after) ∙ test)

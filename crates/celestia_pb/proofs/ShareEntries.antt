@@ -1,12 +1,13 @@
 -- Where shares lie: each 518 bytes behind the one before.
-use Rattle.std.proofs.Common.{◌≡◌, ◌∙◌, ℕ, zero, suc, ◌+◌, ◌*◌, List, [], ◌∷◌, ◌++◌, length, drop, refl, sym, ap, ap₂, arith, length-append}
-use Rattle.std.proofs.lemmas.List.{take_at, drop_at, drop-drop}
+use Rattle.std.proofs.Common.{◌≡◌, ◌∙◌, ℕ, ◌+◌, ◌*◌, List, [], ◌∷◌, ◌++◌, length, drop, refl, ap, arith, length-append}
+use Rattle.std.proofs.lemmas.List.{take_at, drop_at}
 use Rattle.namespace_id.specs.declared.shares.Share.{Share}
 use Rattle.namespace_id.specs.Shares.{AreShares}
 use Rattle.proto_fields.specs.Varints.{varint, varint_within}
 use Rattle.proto_fields.specs.Spelled.{bytes_field}
 use Rattle.proto_fields.proofs.CanonicalLemmas.{bytes_field-is}
-use Rattle.celestia_pb.specs.RowShares.{share_field_text, shares_text, entry_share, shares_in}
+use Rattle.celestia_pb.specs.ShareLists.{share_behind}
+use Rattle.celestia_pb.specs.RowShares.{share_field_text, shares_text}
 
 -- ---- one entry
 
@@ -35,9 +36,9 @@ share_entry_is share rest size =
     ∙ ap (λ (l : List ℕ). l ++ rest) (bytes_field-is 1 message (omega arith) ∙ ap (λ (l : List ℕ). 10 ∷ l ++ message) front)
 
 -- it is there
-pub entry_share-is : (share : Share) (rest : List ℕ) → length share.0 ≡ 512 → entry_share (share_field_text share ++ rest) ≡ share
-entry_share-is share rest size =
-    ap entry_share (share_entry_is share.0 rest size) ∙ ap (λ (l : List ℕ). record { 0 = l }) (take_at share.0 rest 512 size)
+pub share_behind-is : (share : Share) (rest : List ℕ) → length share.0 ≡ 512 → share_behind 6 (share_field_text share ++ rest) ≡ share
+share_behind-is share rest size =
+    ap (share_behind 6) (share_entry_is share.0 rest size) ∙ ap (λ (l : List ℕ). record { 0 = l }) (take_at share.0 rest 512 size)
 
 -- it has 518 bytes
 pub share_rest : (share : Share) (rest : List ℕ) → length share.0 ≡ 512 → drop 518 (share_field_text share ++ rest) ≡ rest
@@ -45,48 +46,6 @@ share_rest share rest size = ap (drop 518) (share_entry_is share.0 rest size) �
 
 pub share_length : (share : Share) (rest : List ℕ) → length share.0 ≡ 512 → length (share_field_text share ++ rest) ≡ 518 + length rest
 share_length share rest size = omega (arith, ap length (share_entry_is share.0 rest size), length-append share.0 rest, size)
-
--- ---- the recursion
-
--- none
-pub shares_in-none : (bytes : List ℕ) → shares_in zero bytes ≡ []
-unfolding shares_in
-shares_in-none bytes = refl
-
--- the first one, and then the others
-pub shares_in-next : (count : ℕ) (bytes : List ℕ) → shares_in (suc count) bytes ≡ entry_share bytes ∷ shares_in count (drop 518 bytes)
-unfolding shares_in
-shares_in-next count bytes = refl
-
--- so many
-pub length-shares_in : (count : ℕ) (bytes : List ℕ) → length (shares_in count bytes) ≡ count
-length-shares_in zero bytes = ap length (shares_in-none bytes)
-length-shares_in (suc count) bytes = ap length (shares_in-next count bytes) ∙ ap suc (length-shares_in count (drop 518 bytes))
-
--- behind one more
-pub drop_next_share : (count : ℕ) (bytes : List ℕ) → drop 518 (drop (518 * count) bytes) ≡ drop (518 * (count + 1)) bytes
-drop_next_share count bytes =
-    let e : 518 * count + 518 ≡ 518 * (count + 1) = omega arith in
-    drop-drop 518 (518 * count) bytes ∙ ap (λ (k : ℕ). drop k bytes) e
-
-drop_first_share : (count : ℕ) (bytes : List ℕ) → drop (518 * count) (drop 518 bytes) ≡ drop (518 * suc count) bytes
-drop_first_share count bytes =
-    let e : 518 + 518 * count ≡ 518 * suc count = omega arith in
-    drop-drop (518 * count) 518 bytes ∙ ap (λ (k : ℕ). drop k bytes) e
-
--- one more at the end
-pub shares_in-more : (count : ℕ) (bytes : List ℕ) → shares_in (count + 1) bytes ≡ shares_in count bytes ++ entry_share (drop (518 * count) bytes) ∷ []
-shares_in-more zero bytes =
-    shares_in-next zero bytes
-    ∙ ap₂ (λ (s : Share) (l : List Share). s ∷ l) refl (shares_in-none (drop 518 bytes))
-    ∙ ap (λ (l : List Share). l ++ entry_share bytes ∷ []) (sym (shares_in-none bytes))
-shares_in-more (suc count) bytes =
-    let next : suc count + 1 ≡ suc (count + 1) = omega arith in
-    ap (λ (k : ℕ). shares_in k bytes) next
-    ∙ shares_in-next (count + 1) bytes
-    ∙ ap (λ (l : List Share). entry_share bytes ∷ l) (shares_in-more count (drop 518 bytes))
-    ∙ ap (λ (l : List ℕ). entry_share bytes ∷ (shares_in count (drop 518 bytes) ++ entry_share l ∷ [])) (drop_first_share count bytes)
-    ∙ ap (λ (l : List Share). l ++ entry_share (drop (518 * suc count) bytes) ∷ []) (sym (shares_in-next count bytes))
 
 -- ---- of shares that were written
 

@@ -2,9 +2,11 @@
 use Rattle.std.proofs.Common.{◌≡◌, ◌∙◌, ℕ, suc, ◌+◌, ◌-◌, ◌*◌, ◌<◌, ◌≤◌, List, [], ◌∷◌, ◌++◌, length, drop, Some, None, Result, Ok, Err, refl, sym, ap, arith, append_assoc, append-nil}
 use Rattle.namespace_id.specs.declared.shares.Share.{Share}
 use Rattle.namespace_id.specs.Bytes.{AreBytes}
-use Rattle.celestia_pb.specs.RowShares.{share_field, with_share, shares_at, entry_share, shares_in}
+use Rattle.celestia_pb.specs.RowShares.{share_field, with_share, shares_at, shares_in}
+use Rattle.celestia_pb.specs.ShareLists.{share_behind}
 use Rattle.celestia_pb.proofs.ShareLemmas.{read_is_share, shares_at-none, shares_at-end, shares_at-wrong, shares_at-more}
-use Rattle.celestia_pb.proofs.ShareEntries.{entry_share-is, share_rest, share_length, shares_in-none, drop_next_share, shares_in-more}
+use Rattle.celestia_pb.proofs.ShareEntries.{share_behind-is, share_rest, share_length}
+use Rattle.celestia_pb.proofs.EntryListLemmas.{drop_more, entries-more, entries-none}
 
 -- shares before those that follow them
 abbrev pub with_shares : List Share → Result (List Share × List ℕ) ℕ → Result (List Share × List ℕ) ℕ
@@ -34,7 +36,7 @@ with_shares-more shares share (Err left) = refl
 pub sharing_begins : (most : ℕ) (bytes : List ℕ) → AreBytes bytes → IsSharing most bytes 0 bytes
 sharing_begins most bytes fits = record {
   all = with_shares-none (shares_at most bytes)
-      ∙ ap (λ (l : List Share). with_shares l (shares_at most bytes)) (sym (shares_in-none bytes))
+      ∙ ap (λ (l : List Share). with_shares l (shares_at most bytes)) (sym (entries-none (share_behind 6) 518 bytes))
       ∙ ap (λ (k : ℕ). with_shares (shares_in 0 bytes) (shares_at k bytes)) (omega arith);
   behind = refl;
   size = omega arith;
@@ -75,14 +77,14 @@ module _ (most : ℕ) (bytes : List ℕ) (count : ℕ) (rest : List ℕ) (at : I
       let h = read_is_share rest share after at.fits e in
       let size : length share.0 ≡ 512 = h.is.size_is in
       let place : rest ≡ drop (518 * count) bytes = at.behind in
-      let is : share ≡ entry_share (drop (518 * count) bytes) = sym (entry_share-is share after size) ∙ ap entry_share (sym h.parts ∙ place) in
+      let is : share ≡ share_behind 6 (drop (518 * count) bytes) = sym (share_behind-is share after size) ∙ ap (share_behind 6) (sym h.parts ∙ place) in
       record {
         all = at.all
             ∙ ap (with_shares (shares_in count bytes)) (left_more more ∙ shares_at-more (most - (count + 1)) rest share after e)
             ∙ with_shares-more (shares_in count bytes) share (shares_at (most - (count + 1)) after)
             ∙ ap (λ (s : Share). with_shares (shares_in count bytes ++ s ∷ []) (shares_at (most - (count + 1)) after)) is
-            ∙ ap (λ (l : List Share). with_shares l (shares_at (most - (count + 1)) after)) (sym (shares_in-more count bytes));
-        behind = sym (share_rest share after size) ∙ ap (drop 518) (sym h.parts ∙ place) ∙ drop_next_share count bytes;
+            ∙ ap (λ (l : List Share). with_shares l (shares_at (most - (count + 1)) after)) (sym (entries-more (share_behind 6) 518 count bytes));
+        behind = sym (share_rest share after size) ∙ ap (drop 518) (sym h.parts ∙ place) ∙ drop_more 518 count bytes;
         size = omega (arith, at.size, ap length h.parts, share_length share after size);
         few = omega arith;
         fits = h.fits;

@@ -9,7 +9,6 @@ use Rattle.namespace_id.specs.Cells.{is_width}
 use Rattle.namespace_id.specs.Sizes.{greatest_width}
 use Rattle.proto_fields.specs.Spelled.{bytes_field}
 use Rattle.proto_fields.specs.Canonical.{number_text, begins_part, canonical_part}
-use Rattle.axis_roots.specs.declared.message.messages.Message.{Message}
 use Rattle.axis_roots.specs.Messages.{position}
 use Rattle.axis_roots.specs.Claims.{ClaimParts, has_shape}
 use Rattle.celestia_pb.specs.declared.sample.Sample.{Sample}

@@ -5,6 +5,7 @@ use Rattle.namespace_id.specs.Sizes.{digest_size}
 use Rattle.proto_fields.specs.Spelled.{bytes_field}
 use Rattle.proto_fields.specs.Canonical.{begins_part, canonical_part}
 use Rattle.celestia_pb.specs.Reading.{or_left}
+use Rattle.celestia_pb.specs.EntryLists.{entries}
 
 -- ---- written
 
@@ -51,6 +52,5 @@ abbrev pub entry_digest : List ℕ → Digest
 entry_digest bytes = record { 0 = take digest_size (drop 2 bytes) }
 
 -- so many of them, one after another
-unfoldable pub digests_in : ℕ → List ℕ → List Digest
-digests_in zero bytes = []
-digests_in (suc count) bytes = entry_digest bytes ∷ digests_in count (drop entry_size bytes)
+abbrev pub digests_in : ℕ → List ℕ → List Digest
+digests_in count bytes = entries entry_digest entry_size count bytes

@@ -1,12 +1,11 @@
 -- Half a row as Celestia's message Row: its shares, as messages of their own, in fields 1, and its side in field 2. The row isn't in
 -- it: it is that of the request.
-use Rattle.std.specs.Prelude.{◌≡◌, ℕ, zero, suc, ◌==◌, ◌&&◌, true, List, [], ◌∷◌, ◌++◌, length, map, flat_map, Option, Some, None, option_and_then, Result, Ok, Err, if◌then◌else◌}
+use Rattle.std.specs.Prelude.{◌≡◌, ℕ, ◌==◌, ◌&&◌, true, List, ◌++◌, length, map, Option, Some, None, option_and_then, Result, Ok, Err, if◌then◌else◌}
 use Rattle.namespace_id.specs.declared.shares.Share.{Share}
 use Rattle.namespace_id.specs.Bytes.{AreBytes}
 use Rattle.namespace_id.specs.Cells.{is_width}
 use Rattle.namespace_id.specs.Shares.{AreShares}
 use Rattle.namespace_id.specs.Sizes.{greatest_width}
-use Rattle.proto_fields.specs.Spelled.{bytes_field}
 use Rattle.proto_fields.specs.Canonical.{number_text, canonical_number}
 use Rattle.proto_fields.specs.Fields.{FieldParts, fields_of, all_bytes, last_number}
 use Rattle.celestia_pb.specs.declared.half_row.Side.{Side}

@@ -1,5 +1,7 @@
 -- what reading a message to its end gives
 pub mod Reading
+-- values of one size
+pub mod EntryLists
 -- digests in repeated fields
 pub mod Digests
 -- numbers and messages in messages

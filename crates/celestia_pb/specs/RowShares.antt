@@ -1,11 +1,11 @@
 -- Shares in repeated fields: each as a message Share in a field 1.
-use Rattle.std.specs.Prelude.{ℕ, zero, suc, List, [], ◌∷◌, take, drop, flat_map, Option, Some, None, Result, Ok, Err}
+use Rattle.std.specs.Prelude.{ℕ, zero, suc, List, [], ◌∷◌, flat_map, Option, Some, None, Result, Ok, Err}
 use Rattle.namespace_id.specs.declared.shares.Share.{Share}
-use Rattle.namespace_id.specs.Sizes.{share_size}
 use Rattle.proto_fields.specs.Spelled.{bytes_field}
 use Rattle.celestia_pb.specs.Reading.{then_read}
 use Rattle.celestia_pb.specs.Messages.{message_at}
 use Rattle.celestia_pb.specs.Samples.{share_text, share_left}
+use Rattle.celestia_pb.specs.ShareLists.{shares_behind}
 
 -- ---- written
 
@@ -44,11 +44,6 @@ shares_at (suc most) bytes = then_read (before_shares (shares_at most)) (share_f
 abbrev pub share_entry_size : ℕ
 share_entry_size = 518
 
--- the share behind two tags and lengths
-abbrev pub entry_share : List ℕ → Share
-entry_share bytes = record { 0 = take share_size (drop 6 bytes) }
-
--- so many of them, one after another
-unfoldable pub shares_in : ℕ → List ℕ → List Share
-shares_in zero bytes = []
-shares_in (suc count) bytes = entry_share bytes ∷ shares_in count (drop share_entry_size bytes)
+-- so many shares, each behind two tags and lengths
+abbrev pub shares_in : ℕ → List ℕ → List Share
+shares_in count bytes = shares_behind 6 count bytes

@@ -4,9 +4,10 @@ ghost use Rattle.std.specs.Prelude.{◌≡◌, ◌+◌, ◌*◌, ◌≤◌, ◌+
 ghost use Rattle.namespace_id.specs.Answers.{HasRoom};
 ghost use Rattle.namespace_id.specs.Sizes.{greatest_width};
 ghost use Rattle.celestia_pb.specs.Reading.{Reads};
-ghost use Rattle.celestia_pb.specs.RowShares.{shares_text, shares_at, share_entry_size, entry_share, shares_in};
+ghost use Rattle.celestia_pb.specs.RowShares.{shares_text, shares_at, share_entry_size, shares_in};
 
 use crate::sample::{put_share, share_field};
+use crate::share_lists::shares_behind;
 use namespace_id::{GREATEST_WIDTH, NoMemory, SHARE_SIZE, Share, bytes_law};
 use std::alloc::Global;
 
@@ -41,34 +42,13 @@ pub(crate) fn count_shares(bytes: &[u8]) -> Result<(usize, &[u8]), usize>
     Ok((count, rest))
 }
 
-/// The share behind its tags and lengths.
-fn entry_share(bytes: &[u8]) -> Share
-    requires { share_entry_size ≤ length bytes.now }
-    ensures { result ≡ entry_share bytes.now }
-{
-    let mut share = Share([0; SHARE_SIZE]);
-    share
-        .0
-        .copy_from_slice(&bytes[FRONT_SIZE..SHARE_ENTRY_SIZE]);
-    share
-}
-
 /// So many shares, each behind its tags and lengths. The one refusal is that it is out of memory.
 pub(crate) fn shares_in(alloc: Global, count: usize, bytes: &[u8]) -> Result<Vec<Share>, NoMemory>
     requires { share_entry_size * count ≤ length bytes.now }
     ensures value { IfOk result (λ shares. shares.items ≡ shares_in count bytes.now) }
     ensures len { IfOk result (λ shares. vec_len shares ≡ count) }
 {
-    let mut shares = Vec::with_capacity(alloc, count)?;
-    let mut rest = bytes;
-    for _ in 0..count {
-        let (_entry, after) = rest.split_at(SHARE_ENTRY_SIZE);
-        let Ok(()) = shares.push(entry_share(rest)) else {
-            return Err(NoMemory);
-        };
-        rest = after;
-    }
-    Ok(shares)
+    shares_behind(alloc, FRONT_SIZE, count, bytes)
 }
 
 /// Appends shares for which there is capacity, each in its field.

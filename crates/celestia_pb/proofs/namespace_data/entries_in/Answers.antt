@@ -1,4 +1,4 @@
-use Rattle.std.proofs.Common.{◌∙◌, ◌+◌, List, Ok, sym, ap}
+use Rattle.std.proofs.Common.{◌∙◌, ◌+◌, List, sym, ap}
 use Rattle.axis_roots.specs.declared.answers.NsEntry.{NsEntry}
 use Rattle.celestia_pb.specs.NamespaceData.{entries_left}
 use Rattle.celestia_pb.proofs.NamespaceDataLoops.{left_from, left_right, entry_right, with_entries, with_entries-more, still_right, all_taken}

@@ -1,14 +1,14 @@
 use Rattle.std.proofs.Common.{◌≡◌, ◌∙◌, ℕ, ◌+◌, ◌*◌, ◌++◌, ◌∷◌, [], List, drop, sym, ap, ap₂, arith}
 use Rattle.namespace_id.specs.declared.shares.Share.{Share}
 use Rattle.celestia_pb.specs.ShareLists.{share_behind}
-use Rattle.celestia_pb.proofs.ShareListLemmas.{shares_behind-none, shares_behind-more, drop_more, one_left}
+use Rattle.celestia_pb.proofs.EntryListLemmas.{entries-none, entries-more, drop_more, one_left}
 use Rattle.celestia_pb.proofs.share_lists.shares_behind.Goals as goal
 
 -- none is taken
 pub loop-init : goal.loop-init
 loop-init c =
     let none : (c.args.front + 512) * 0 ≡ 0 = search arith in record {
-      items = c.in_ok-shares.ensures.items ∙ sym (shares_behind-none c.args.front c.args.bytes.now);
+      items = c.in_ok-shares.ensures.items ∙ sym (entries-none (share_behind c.args.front) (c.args.front + 512) c.args.bytes.now);
       len = omega (arith, c.in_ok-shares.ensures.len);
       rest = ap (λ (k : ℕ). drop k c.args.bytes.now) (sym none);
     }
@@ -25,7 +25,7 @@ pub loop-preserved : goal.loop-preserved
 loop-preserved c = record {
   items = c.in-Ok.ensures.items
       ∙ ap₂ (λ (l : List Share) (s : Share). l ++ s ∷ []) c.loop.invariant.items (c.share_behind.ensures ∙ ap (share_behind c.args.front) c.loop.invariant.rest)
-      ∙ sym (shares_behind-more c.args.front c.loop.counter c.args.bytes.now);
+      ∙ sym (entries-more (share_behind c.args.front) (c.args.front + 512) c.loop.counter c.args.bytes.now);
   len = omega (arith, c.in-Ok.ensures.len, c.loop.invariant.len);
   rest = c.split_at.ensures.back ∙ ap (drop (c.args.front + 512)) c.loop.invariant.rest ∙ drop_more (c.args.front + 512) c.loop.counter c.args.bytes.now;
 }
