@@ -1,5 +1,5 @@
 -- What the command commit answers.
-use Rattle.std.proofs.Common.{◌≡◌, ◌∙◌, ℕ, suc, ◌≤◌, min, ltb-false, Bool, true, false, cond, List, [], ◌∷◌, ◌++◌, length, filter, Some, None, refl, sym, ap, subst, inl, inr, arith}
+use Rattle.std.proofs.Common.{◌≡◌, ◌∙◌, ℕ, suc, ◌≤◌, min, ltb-false, Bool, true, false, cond, List, [], ◌∷◌, ◌++◌, length, filter, Some, None, refl, sym, ap, inl, inr, arith}
 use Rattle.std.specs.Prelude.{◌==◌, nat_lt}
 use Rattle.std.specs.declared.option.Option.{Option}
 use Rattle.std.specs.Option.{option_or}
@@ -20,7 +20,7 @@ use Rattle.square_layout.specs.Plans.{blobs_bound}
 use Rattle.tx_list.specs.declared.refusals.ListError as lists
 use Rattle.tx_list.specs.declared.refusals.ListError.TheVariants.{TooLarge}
 use Rattle.tx_list.specs.Payments.{PaymentParts, ListParts, IsPayment, IsLayable, blobs_of}
-use Rattle.tx_list.specs.Reserves.{list_reserve, list_bound}
+use Rattle.tx_list.specs.Reserves.{list_bound}
 use Rattle.tx_list.specs.Refusals as sizes
 use Rattle.square_layout.specs.Refusals.{max_shares, max_count, bad_blob, empty_blob, blob_refusal, size_refusal, layout_refusal}
 use Rattle.blob_commit.specs.Proofs.{is_range}

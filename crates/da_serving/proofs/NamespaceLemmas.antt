@@ -22,15 +22,11 @@ use Rattle.da_wire.specs.Laws.{ValuesAreTheFile, BadValueIsFirst}
 use Rattle.da_status.specs.declared.status.Status.{Status}
 use Rattle.da_status.specs.Statuses.{kind_of as kind_of_status}
 use Rattle.da_serving.specs.Choices.{HasFrame}
-use Rattle.da_files.specs.Frames.{square_in}
-use Rattle.da_serving.specs.Serving.{requests_file, Serves}
 use Rattle.da_files.specs.Requests.{namespace_of, namespaces_in}
 use Rattle.da_serving.specs.Namespace.{is_other, AllowsNames, NamespaceOf}
-use Rattle.da_files.specs.Contents.{square_file}
 use Rattle.da_status.proofs.EndLemmas.{IsAnswer}
-use Rattle.da_files.proofs.FormLemmas.{over_each}
 use Rattle.da_files.proofs.RequestLemmas.{values_by}
-use Rattle.da_serving.proofs.ServingLemmas.{serves_answers}
+use Rattle.da_serving.proofs.ServingLemmas.{over_answers}
 
 -- a frame of this kind asks for a namespace, and is the frame that does
 pub is_name_frame : (frame : Frame) → is_among (request_kind ∷ []) (kind_of frame) ≡ true
@@ -85,7 +81,4 @@ have_names header square there spelled (name ∷ requests) are others =
 
 -- what namespace answers to its files is an answer
 pub namespace_answers : (files : List (List ℕ)) (w : List ℕ) (status : Status) → NamespaceOf files w status → IsAnswer (kind_of_status status)
-namespace_answers files w status h =
-    let asked = namespaces_in (requests_file files) in
-    over_each (λ square. Serves square is_other (AllowsNames square) asked) (square_in (square_file files)) w status
-    (IsAnswer (kind_of_status status)) (λ square. serves_answers square is_other (AllowsNames square) asked w status) h
+namespace_answers files w status h = over_answers (λ (square : SquareShares). is_other) AllowsNames namespaces_in files w status h

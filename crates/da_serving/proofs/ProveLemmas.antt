@@ -4,7 +4,6 @@ use Rattle.std.specs.List.{AllByRecursion}
 use Rattle.namespace_id.specs.declared.cells.Cell.{Cell}
 use Rattle.namespace_id.specs.declared.cells.Axis.{Axis}
 use Rattle.namespace_id.specs.declared.shares.Share.{Share}
-use Rattle.namespace_id.specs.Cells.{is_in_square}
 use Rattle.namespace_id.proofs.WidthLemmas.{is_width-le}
 use Rattle.namespace_id.specs.declared.digests.Digest.{Digest}
 use Rattle.data_header.specs.Paths.{most_hashes}
@@ -20,7 +19,6 @@ use Rattle.axis_roots.proofs.Grids.HeaderLemmas.{header_width}
 use Rattle.blob_commit.specs.Proofs.{CommitParts, IsCommit, CommitHolds, RootedParts, RootedHolds, IsRooted, is_range}
 use Rattle.blob_commit.proofs.ShapeLemmas.{shape_parts}
 use Rattle.axis_roots.proofs.Grids.NumberLemmas.{index-lt}
-use Rattle.square_serve.specs.Serving.{HeldParts, Holds}
 use Rattle.da_wire.specs.declared.frames.Frame.{Frame}
 use Rattle.da_wire.specs.declared.frames.Frame.TheVariants.{Commit, Rooted}
 use Rattle.da_wire.specs.Spelling.{spelling}
@@ -31,13 +29,13 @@ use Rattle.da_status.specs.declared.status.Asked.TheVariants.{NoHeader, Range}
 use Rattle.da_status.specs.Statuses.{kind_of}
 use Rattle.da_serving.specs.Choices.{HasFrame}
 use Rattle.da_files.specs.Frames.{square_in, Writes}
-use Rattle.da_serving.specs.Serving.{requests_file, Serves}
-use Rattle.da_serving.specs.Sample.{samples_in, is_asked_inside}
+use Rattle.da_serving.specs.Sample.{samples_in, is_asked_inside, IsSample}
 use Rattle.da_serving.specs.Prove.{IsRootProof, AllowsRootProof, ProveOf, ProvesIn, ProvesRange, ProveRangeOf}
 use Rattle.da_files.specs.Contents.{square_file}
 use Rattle.da_status.proofs.EndLemmas.{IsAnswer, status_answers}
 use Rattle.da_files.proofs.FormLemmas.{over_each}
-use Rattle.da_serving.proofs.ServingLemmas.{serves_answers}
+use Rattle.da_serving.proofs.SampleLemmas.{own_sample}
+use Rattle.da_serving.proofs.ServingLemmas.{over_answers}
 
 -- ---- the root proof of a sample
 
@@ -61,30 +59,18 @@ holds_rooted header m i k root hashes here width is leads proved =
 
 -- ---- prove SQUARE REQUESTS
 
--- a root proof of a sample of a held square is a root proof of it
-pub is_root_proof : (held : HeldParts) (square : SquareShares) (asked : Cell × Axis) (m : sent.Message) (proof : RootedParts) → Holds held square
-    → m.cell ≡ asked.0 → m.axis ≡ asked.1 → m.share ≡ share_at (2 * held.k) held.grid asked.0 → proof.k ≡ held.header.k → proof.message ≡ m
-    → RootedHolds (data_root_of held.header) proof → IsRootProof square held.header asked proof
-is_root_proof held square asked m proof holds cell axis share width message root =
-    let at : proof.message.cell ≡ asked.0 = ap (λ (n : sent.Message). n.cell) message ∙ cell in
-    record {
-      width = width ∙ header_width held.k held.grid held.header holds.roots ∙ holds.width;
-      cell = at;
-      axis = ap (λ (n : sent.Message). n.axis) message ∙ axis;
-      grid = held.grid;
-      extends = holds.extends;
-      share = ap (λ (n : sent.Message). n.share) message ∙ share
-          ∙ ap₂ (λ (k : ℕ) (c : Cell). share_at (2 * k) held.grid c) holds.width (sym at);
-      holds = root;
-    }
-
--- a square with its header, as one that is held
-abbrev pub held_of : (header : Roots) (square : SquareShares) → IsHeaderOf header square → HeldParts
-held_of header square own = record { k = square.k; grid = own.grid; header = header }
-
--- it holds the square
-pub holds_own : (header : Roots) (square : SquareShares) (own : IsHeaderOf header square) → Holds (held_of header square own) square
-holds_own header square own = record { whole = own.whole; width = refl; extends = own.extends; roots = own.roots }
+-- a root proof of a sample of a square is a root proof of the square's
+pub is_root_proof : (header : Roots) (square : SquareShares) (asked : Cell × Axis) (m : sent.Message) (proof : RootedParts) → IsHeaderOf header square
+    → IsSample square header asked m → proof.k ≡ header.k → proof.message ≡ m → RootedHolds (data_root_of header) proof → IsRootProof square header asked proof
+is_root_proof header square asked m proof own is width message root = record {
+  width = width ∙ header_width square.k own.grid header own.roots;
+  cell = ap (λ (n : sent.Message). n.cell) message ∙ is.cell;
+  axis = ap (λ (n : sent.Message). n.axis) message ∙ is.axis;
+  grid = is.grid;
+  extends = is.extends;
+  share = subst (λ (n : sent.Message). n.share ≡ share_at (2 * square.k) is.grid n.cell) (sym message) is.share;
+  holds = root;
+}
 
 -- a sample has a root proof under the data root of a header
 abbrev pub HasRootProof : Roots → sent.Message → Type 0
@@ -98,26 +84,23 @@ proof_sent header m h =
     let proof = h.0 in
     record { k = omega (arith, is_width-le proof.k h.5.lead.width); is = h.3; few_hashes = h.4 }
 
--- each request of a cell inside allows a frame that has a spelling, by what is known of a held square and of root proofs
-pub have_proofs : (held : HeldParts) (square : SquareShares) → Holds held square
-    → ((cell : Cell) (axis : Axis) → is_in_square held.k cell ≡ true → HasRootProof held.header (message_at held.k held.grid cell axis))
+-- each request of a cell inside allows a frame that has a spelling, by what is known of root proofs and of their frames
+pub have_proofs : (header : Roots) (square : SquareShares) → IsHeaderOf header square → ((m : sent.Message) → IsProved header m → HasRootProof header m)
     → ((proof : RootedParts) → IsRootedSent proof → IsSome (spelling (Rooted proof)))
-    → (requests : List (Cell × Axis)) → AllByRecursion (λ (asked : Cell × Axis). is_in_square held.k asked.0 ≡ true) requests
-    → AllByRecursion (HasFrame (AllowsRootProof square held.header)) requests
-have_proofs held square holds rooted spelled [] inside = tt
-have_proofs held square holds rooted spelled (asked ∷ requests) inside =
-    let m = message_at held.k held.grid asked.0 asked.1 in
-    let h = rooted asked.0 asked.1 inside.0 in (
-      (Rooted h.0, (h.0, is_root_proof held square asked m h.0 holds refl refl refl h.1 h.2 h.5, refl), spelled h.0 (proof_sent held.header m h)),
-      have_proofs held square holds rooted spelled requests inside.1,
+    → (requests : List (Cell × Axis)) → AllByRecursion (λ (asked : Cell × Axis). is_asked_inside square asked ≡ true) requests
+    → AllByRecursion (HasFrame (AllowsRootProof square header)) requests
+have_proofs header square own rooted spelled [] inside = tt
+have_proofs header square own rooted spelled (asked ∷ requests) inside =
+    let m = message_at square.k own.grid asked.0 asked.1 in
+    let is = own_sample header square own asked inside.0 in
+    let h = rooted m is.proved in (
+      (Rooted h.0, (h.0, is_root_proof header square asked m h.0 own is h.1 h.2 h.5, refl), spelled h.0 (proof_sent header m h)),
+      have_proofs header square own rooted spelled requests inside.1,
     )
 
 -- what prove answers to its files is an answer
 pub prove_answers : (files : List (List ℕ)) (w : List ℕ) (status : Status) → ProveOf files w status → IsAnswer (kind_of status)
-prove_answers files w status h =
-    let asked = samples_in (requests_file files) in
-    over_each (λ square. Serves square (is_asked_inside square) (AllowsRootProof square) asked) (square_in (square_file files)) w status
-    (IsAnswer (kind_of status)) (λ square. serves_answers square (is_asked_inside square) (AllowsRootProof square) asked w status) h
+prove_answers files w status h = over_answers is_asked_inside AllowsRootProof samples_in files w status h
 
 -- ---- prove SQUARE START COUNT
 

@@ -1,5 +1,5 @@
 -- What commands that answer requests over a square write, and how they end.
-use Rattle.std.proofs.Common.{◌≡◌, ◌∙◌, ℕ, Bool, List, [], ◌∷◌, ◌++◌, None, Some, IsSome, inl, inr, refl, sym, ap, subst, arith, append_assoc, append-nil, ◌↔◌, ◌⊎◌}
+use Rattle.std.proofs.Common.{◌≡◌, ◌∙◌, ℕ, Bool, List, [], ◌∷◌, ◌++◌, None, Some, IsSome, Result, Ok, inl, inr, refl, sym, ap, subst, arith, append_assoc, append-nil, ◌↔◌, ◌⊎◌}
 use Rattle.std.specs.declared.option.Option.{Option}
 use Rattle.std.specs.Prelude.{MatchOption}
 use Rattle.std.specs.List.{AllByRecursion}
@@ -18,12 +18,16 @@ use Rattle.da_status.specs.declared.status.Status.TheVariants.{Done, Usage, Pick
 use Rattle.da_status.specs.declared.status.Asked.TheVariants.{NoHeader, At}
 use Rattle.da_status.specs.Statuses.{kind_of}
 use Rattle.da_serving.specs.Choices.{FramesOf, HasFrame}
-use Rattle.da_status.specs.Outcome.{Relation, Refuses, Outputs, OutputsPart, OutputsFront, Ends}
-use Rattle.da_files.specs.Frames.{Writes}
+use Rattle.da_status.specs.Judging.{Judged}
+use Rattle.da_status.specs.Outcome.{Relation, Refuses, Outputs, OutputsPart, OutputsFront, Ends, EndsAtOnce}
+use Rattle.da_files.specs.Contents.{square_file}
+use Rattle.da_files.specs.Forms.{Over}
+use Rattle.da_files.specs.Frames.{error_of, square_in, Writes}
 use Rattle.da_files.specs.Requests.{failing_from}
-use Rattle.da_serving.specs.Serving.{Gives, Serves}
-use Rattle.da_status.proofs.EndLemmas.{IsAnswer, status_answers, ends_in_fault, ends_output}
+use Rattle.da_serving.specs.Serving.{requests_file, Gives, Serves}
+use Rattle.da_status.proofs.EndLemmas.{IsAnswer, status_answers, ends_in_fault, ends_output, ends_within, once_as}
 use Rattle.da_files.proofs.FileLemmas.{some_there}
+use Rattle.da_files.proofs.FormLemmas.{over_each, single_is}
 use Rattle.da_files.proofs.SpelledLemmas.{spelling_some}
 use Rattle.da_io.proofs.PieceLemmas.{part_of_front, part_of_back}
 use Rattle.da_serving.proofs.ChoiceLemmas.{frames_more, frames_front}
@@ -159,6 +163,12 @@ module _ {A : Type 0} (square : SquareShares) (test : A → Bool) (Allows : Root
       → Gives (Allows header) requests w status → Serves square test Allows requests w status
   serves_gives header own none w status gives = inl (header, own, subst (λ (o : Option ℕ). answers_by o header w status) (sym none) gives)
 
+  -- so it ends by what is answered over the square
+  pub serves_ends : (header : Roots) → IsHeaderOf header square → failing_from test 0 requests ≡ None → (old new : Option (List ℕ)) (before now : ℕ) (Same : Type 0)
+      (status : Status) → Ends (Gives (Allows header) requests) old new before now Same status → Ends (Serves square test Allows requests) old new before now Same status
+  serves_ends header own none old new before now Same status ends =
+      ends_within (Gives (Allows header) requests) (Serves square test Allows requests) old new before now Same status (serves_gives header own none) ends
+
   -- the first request that fails the test
   pub serves_at : (header : Roots) (i : ℕ) → IsHeaderOf header square → failing_from test 0 requests ≡ Some i → Serves square test Allows requests [] (BadRequest (At i))
   serves_at header i own some =
@@ -177,3 +187,19 @@ module _ {A : Type 0} (square : SquareShares) (test : A → Bool) (Allows : Root
   pub serves_answers : (w : List ℕ) (status : Status) → Serves square test Allows requests w status → IsAnswer (kind_of status)
   serves_answers w status (inl h) = under_header (failing_from test 0 requests) h.0 w status h.2
   serves_answers w status (inr h) = status_answers status _ h.1.1 tt
+
+-- what a command answers to a SQUARE and REQUESTS is an answer
+pub over_answers : {A : Type 0} (test : SquareShares → A → Bool) (Allows : SquareShares → Roots → A → Frame → Type 0) (asked : List ℕ → List A) (files : List (List ℕ))
+    (w : List ℕ) (status : Status)
+    → Over (square_in (square_file files)) (λ square. Serves square (test square) (Allows square) (asked (requests_file files))) w status → IsAnswer (kind_of status)
+over_answers test Allows asked files w status h =
+    let requests = asked (requests_file files) in
+    over_each (λ square. Serves square (test square) (Allows square) requests) (square_in (square_file files)) w status (IsAnswer (kind_of status))
+    (λ square. serves_answers square (test square) (Allows square) requests w status) h
+
+-- a command over one file that was read as a value ends by the answer to the value
+pub once_single : {A : Type 0} (Answer : A → Relation) (read : Result A ℕ) (value : A) (old new : Option (List ℕ)) (before now : ℕ) (Same : Type 0) (status : Status)
+    → read ≡ Ok value → EndsAtOnce (Answer value) old new before now Same status
+    → EndsAtOnce (Judged (error_of read ∷ []) (Over read Answer)) old new before now Same status
+once_single Answer read value old new before now Same status is once =
+    once_as (Answer value) (Judged (error_of read ∷ []) (Over read Answer)) old new before now Same status (single_is Answer read value is) once

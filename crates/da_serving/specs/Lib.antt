@@ -4,6 +4,7 @@ pub mod Header
 pub mod Choices
 pub mod Serving
 pub mod Sample
+pub mod Extension
 pub mod Prove
 pub mod Namespace
 pub mod Wanted

@@ -1,6 +1,7 @@
 -- Commands that answer requests over a square: their frames are a choice, and the first request that has no answer is
 -- refused.
-use Rattle.std.specs.Prelude.{◌≡◌, ◌⊎◌, ℕ, List, Bool, MatchOption}
+use Rattle.std.specs.Prelude.{◌≡◌, ◌⊎◌, ℕ, List, Bool, Some, None, MatchOption}
+use Rattle.std.specs.declared.option.Option.{Option}
 use Rattle.data_header.specs.Headers.{Roots}
 use Rattle.square_layout.specs.Blocks.{SquareShares}
 use Rattle.axis_roots.specs.Grids.{IsHeaderOf, HasNoHeader}
@@ -32,3 +33,8 @@ abbrev pub Serves : {A : Type 0} → SquareShares → (A → Bool) → (Roots �
 Serves square test Allows requests w status =
     ((header : Roots) × IsHeaderOf header square × Answers test (Allows header) requests w status)
     ⊎ (HasNoHeader square × Refuses (BadRequest NoHeader) w status)
+
+-- what was made serves a square under the square's header; nothing was where the square has none
+abbrev pub IsMade : {S : Type 0} → (S → SquareShares → Roots → Type 0) → SquareShares → Option S → Type 0
+IsMade Serves square None = HasNoHeader square
+IsMade Serves square (Some server) = (header : Roots) × IsHeaderOf header square × Serves server square header

@@ -64,6 +64,7 @@ fn build_either<O: Sink>(alloc: Global, block: BlockOrList, out: &mut O) -> Stat
 }
 
 /// Lays out what is in BLOCK.
+#[tactic(auto, using(da_files::proofs::FormLemmas::refused_once))]
 pub fn execute<O: Sink>(alloc: Global, files: &[Vec<u8>], out: &mut O) -> Status
     ensures { EndsAtOnce (Judged (single_judged block_or_list_in (contents_of files.now))
         (BuildOf (contents_of files.now))) (O.taken out.old) (O.taken out.new) (O.faults out.old)

@@ -181,6 +181,7 @@ fn commit_either<O: Sink>(alloc: Global, block: BlockOrList, out: &mut O) -> Sta
 }
 
 /// Answers the commitments of the blobs of what is in BLOCK.
+#[tactic(auto, using(da_files::proofs::FormLemmas::refused_once))]
 pub fn execute<O: Sink>(alloc: Global, files: &[Vec<u8>], out: &mut O) -> Status
     ensures { EndsAtOnce (Judged (single_judged block_or_list_in (contents_of files.now))
         (CommitOf (contents_of files.now))) (O.taken out.old) (O.taken out.new) (O.faults out.old)

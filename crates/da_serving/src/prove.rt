@@ -1,48 +1,36 @@
 //! prove SQUARE REQUESTS, prove SQUARE START COUNT: proofs under the data root of a square, for cells that
 //! are asked for and for the commitment of its shares in a range.
 
-ghost use Rattle.std.specs.Prelude.{◌≡◌, None, Some, true, false, IfOk, IsErrOf, IsSome, ◌∷◌, []};
-ghost use Rattle.namespace_id.specs.Cells.{is_in_square};
+ghost use Rattle.std.specs.Prelude.{◌≡◌, Some, true, false, IfOk, IsErrOf, IsSome, ◌∷◌, []};
 ghost use Rattle.data_header.specs.DataRoots.{data_root_of};
 ghost use Rattle.square_layout.specs.Blocks.{SquareShares};
 ghost use Rattle.axis_roots.specs.Grids.{header_of_grid};
 ghost use Rattle.axis_roots.specs.Openings.{IsProved};
 ghost use Rattle.blob_commit.specs.Proofs.{has_commit_shape, is_range, CommitHolds, RootedHolds};
-ghost use Rattle.square_serve.specs.Serving.{Holds};
 ghost use Rattle.da_wire.specs.declared.frames.Frame.TheVariants as FrameOf;
 ghost use Rattle.da_wire.specs.Spelling.{spelling, sample_kind};
 ghost use Rattle.da_files.specs.Contents.{contents_of};
-ghost use Rattle.da_files.specs.Requests.{failing_from};
-ghost use Rattle.da_serving.specs.Serving.{Gives, Serves};
-ghost use Rattle.da_serving.specs.Sample.{samples_in, is_asked_inside};
-ghost use Rattle.da_serving.specs.Prove.{AllowsRootProof, ProvesIn, ProvesRange, ProveOf, ProveRangeOf};
+ghost use Rattle.da_serving.specs.Prove.{ProvesIn, ProvesRange, ProveOf, ProveRangeOf};
 ghost use Rattle.da_files.specs.Forms.{requests_judged, single_judged};
 ghost use Rattle.da_files.specs.Frames.{square_in};
 ghost use Rattle.da_status.specs.Judging.{Judged};
 ghost use Rattle.da_status.specs.Outcome.{Ends, EndsAtOnce};
 
-use crate::sample::{are_few, first_outside, next_sample};
-use axis_roots::{Grid, LeftHalf, Message, grid_laws, header_of, index};
+use crate::extension::Extension;
+use crate::sample::next_sample;
+use crate::serving::{Server, answer};
+use axis_roots::{Grid, Message, grid_laws, header_of, index};
 use blob_commit::{
     CommitProof, ProveError, RootedMessage, commit_law, prove_commit, row_trees, sample_laws,
 };
-use da_files::{give, one_square, square_and_requests};
+use da_files::{give, one_square};
 use da_io::Sink;
 use da_status::{Asked, Status};
 use da_wire::{Frame, frame_law, wire_laws};
 use data_header::{DataTree, Header};
-use namespace_id::NoMemory;
+use namespace_id::{Axis, Cell, NoMemory, is_in_square};
 use square_layout::Square;
-use square_serve::{Held, HeldError, serve_laws};
 use std::alloc::Global;
-
-/// The tree over the roots of a held square's header.
-fn data_tree(alloc: Global, held: &mut Held) -> Result<DataTree, NoMemory>
-    ensures value { IfOk result (λ roots. roots ≡ held.old.header) }
-    ensures kept { held.new ≡ held.old }
-{
-    DataTree::of(alloc, held.header())
-}
 
 /// The root proof of a sample that is proved under a header, from the tree over the header's roots.
 fn root_proof(roots: &DataTree, message: Message) -> RootedMessage
@@ -72,121 +60,54 @@ fn rooted_frame(proof: RootedMessage) -> Frame
     frame
 }
 
-/// Writes root proofs of the samples that are asked for, one at a time. The cells are in the square.
-fn give_proofs<O: Sink>(alloc: Global, held: &mut Held, requests: &[u8], out: &mut O) -> Status
-    requires { failing_from (λ asked. is_in_square held.old.k asked.0) 0 (samples_in requests.now) ≡ None }
-    ensures { (square : SquareShares) → Holds held.old square →
-        Ends (Gives (AllowsRootProof square held.old.header) (samples_in requests.now))
-        (O.taken out.old) (O.taken out.new) (O.faults out.old) (O.faults out.new)
-        (out.new ≡ out.old) result }
-{
-    wire_laws();
-    serve_laws();
-    sample_laws();
-    held.held_law();
-    let Ok(roots) = data_tree(alloc, held) else {
-        return Status::NoMemory;
-    };
-    let mut text = Vec::new(alloc);
-    let mut rest = requests;
-    while let Some((asked, after)) = next_sample(rest) {
-        let Ok(message) = held.sample(asked.0, asked.1) else {
-            // Never taken: the cells were judged. The call refuses cells outside.
-            unreachable!()
+/// The extension of a square, and the tree over the roots of the square's header.
+#[derive(Drop)]
+struct Rooting {
+    extension: Extension,
+    roots: DataTree,
+}
+
+impl Server for Rooting {
+    type Request = (Cell, Axis);
+
+    ghost use Rattle.std.specs.Prelude.{◌≡◌};
+    ghost use Rattle.da_serving.specs.Extension.{IsExtensionOf};
+    ghost use Rattle.da_serving.specs.Sample.{samples_in, is_asked_inside};
+    ghost use Rattle.da_serving.specs.Prove.{AllowsRootProof};
+
+    ghost asked = { samples_in };
+
+    ghost passes = { is_asked_inside };
+
+    ghost allows = { AllowsRootProof };
+
+    ghost serves = { λ rooting square header. IsExtensionOf rooting.extension square header
+        × (rooting.roots ≡ header) };
+
+    fn next(bytes: &[u8]) -> Option<((Cell, Axis), &[u8])> {
+        next_sample(bytes)
+    }
+
+    fn passes(square: &Square, asked: &(Cell, Axis)) -> bool {
+        is_in_square(square.k, asked.0)
+    }
+
+    fn law(_requests: &[u8]) {
+        wire_laws();
+        sample_laws();
+    }
+
+    fn hold(alloc: Global, square: Square, requests: &[u8]) -> Result<Option<Rooting>, NoMemory> {
+        let Some(mut extension) = Extension::of(alloc, square, requests, 0)? else {
+            return Ok(None);
         };
-        let proof = root_proof(&roots, message);
-        let status = give(rooted_frame(proof), &mut text, out);
-        match status {
-            Status::Done => rest = after,
-            failed => return failed,
-        }
+        let roots = extension.roots(alloc)?;
+        Ok(Some(Rooting { extension, roots }))
     }
-    Status::Done
-}
 
-/// Answers to the requests over a square, from its whole extension and the trees of all rows and columns.
-fn answer_many<O: Sink>(alloc: Global, square: Square, requests: &[u8], out: &mut O) -> Status
-    ensures { Ends (Serves square (is_asked_inside square) (AllowsRootProof square)
-        (samples_in requests.now)) (O.taken out.old) (O.taken out.new) (O.faults out.old)
-        (O.faults out.new) (out.new ≡ out.old) result }
-{
-    serve_laws();
-    let k = square.k;
-    let mut held = match Held::of(alloc, square) {
-        Ok(held) => held,
-        Err(HeldError::NoHeader) => return Status::BadRequest(Asked::NoHeader),
-        Err(HeldError::NoMemory) => return Status::NoMemory,
-    };
-    match first_outside(k, requests) {
-        Some(number) => Status::BadRequest(Asked::At(number)),
-        None => give_proofs(alloc, &mut held, requests, out),
-    }
-}
-
-/// The tree over the roots of the header of a square whose left half is kept.
-fn half_tree(alloc: Global, half: &LeftHalf) -> Result<DataTree, NoMemory>
-    ensures { IfOk result (λ roots. roots ≡ half.now.header) }
-{
-    DataTree::of(alloc, half.header())
-}
-
-/// Writes root proofs of the samples that are asked for, one at a time, from the left half of the
-/// extension. The cells are in the square.
-fn give_few<O: Sink>(alloc: Global, half: &mut LeftHalf, requests: &[u8], out: &mut O) -> Status
-    requires { failing_from (λ asked. is_in_square half.old.square.k asked.0) 0
-        (samples_in requests.now) ≡ None }
-    ensures { Ends (Gives (AllowsRootProof half.old.square half.old.header) (samples_in requests.now))
-        (O.taken out.old) (O.taken out.new) (O.faults out.old) (O.faults out.new)
-        (out.new ≡ out.old) result }
-{
-    wire_laws();
-    sample_laws();
-    half.law();
-    let Ok(roots) = half_tree(alloc, half) else {
-        return Status::NoMemory;
-    };
-    let mut text = Vec::new(alloc);
-    let mut rest = requests;
-    while let Some((asked, after)) = next_sample(rest) {
-        let message = half.sample(asked.0, asked.1);
-        let proof = root_proof(&roots, message);
-        let status = give(rooted_frame(proof), &mut text, out);
-        match status {
-            Status::Done => rest = after,
-            failed => return failed,
-        }
-    }
-    Status::Done
-}
-
-/// Answers to the requests over a square, from the left half of its extension.
-fn answer_few<O: Sink>(alloc: Global, square: Square, requests: &[u8], out: &mut O) -> Status
-    ensures { Ends (Serves square (is_asked_inside square) (AllowsRootProof square)
-        (samples_in requests.now)) (O.taken out.old) (O.taken out.new) (O.faults out.old)
-        (O.faults out.new) (out.new ≡ out.old) result }
-{
-    let k = square.k;
-    let mut half = match LeftHalf::of(alloc, square) {
-        Ok(Some(half)) => half,
-        Ok(None) => return Status::BadRequest(Asked::NoHeader),
-        Err(_) => return Status::NoMemory,
-    };
-    match first_outside(k, requests) {
-        Some(number) => Status::BadRequest(Asked::At(number)),
-        None => give_few(alloc, &mut half, requests, out),
-    }
-}
-
-/// Answers to the requests over a square, by how many they are.
-fn answer<O: Sink>(alloc: Global, square: Square, requests: &[u8], out: &mut O) -> Status
-    ensures { Ends (Serves square (is_asked_inside square) (AllowsRootProof square)
-        (samples_in requests.now)) (O.taken out.old) (O.taken out.new) (O.faults out.old)
-        (O.faults out.new) (out.new ≡ out.old) result }
-{
-    if are_few(requests) {
-        answer_few(alloc, square, requests, out)
-    } else {
-        answer_many(alloc, square, requests, out)
+    fn frame(&mut self, _alloc: Global, asked: (Cell, Axis)) -> Result<Frame, NoMemory> {
+        let message = self.extension.sample(asked);
+        Ok(rooted_frame(root_proof(&self.roots, message)))
     }
 }
 
@@ -196,11 +117,7 @@ pub fn execute<O: Sink>(alloc: Global, files: &[Vec<u8>], out: &mut O) -> Status
         (ProveOf (contents_of files.now))) (O.taken out.old) (O.taken out.new) (O.faults out.old)
         (O.faults out.new) (out.new ≡ out.old) result }
 {
-    let (square, requests) = match square_and_requests(alloc, files, b"Q") {
-        Ok(read) => read,
-        Err(status) => return status,
-    };
-    answer(alloc, square, requests, out)
+    answer::<Rooting, O>(alloc, files, b"Q", out)
 }
 
 /// The frame of a commitment proof that has its shape.
@@ -286,6 +203,7 @@ fn prove_range<O: Sink>(
 }
 
 /// Answers the proof of a range of the square in SQUARE.
+#[tactic(auto, using(da_files::proofs::FormLemmas::refused_once))]
 pub fn range<O: Sink>(
     alloc: Global,
     files: &[Vec<u8>],

@@ -45,6 +45,7 @@ fn unlay<O: Sink>(alloc: Global, square: &Square, out: &mut O) -> Status
 }
 
 /// Answers the list of the square in SQUARE.
+#[tactic(auto, using(da_files::proofs::FormLemmas::refused_once))]
 pub fn execute<O: Sink>(alloc: Global, files: &[Vec<u8>], out: &mut O) -> Status
     ensures { EndsAtOnce (Judged (single_judged square_in (contents_of files.now))
         (TransactionsOf (contents_of files.now))) (O.taken out.old) (O.taken out.new)

@@ -1,4 +1,4 @@
-use Rattle.std.proofs.Common.{◌∙◌, refl, rules, sym, ap, subst}
+use Rattle.std.proofs.Common.{◌∙◌, refl, rules, ap}
 use Rattle.tx_list.specs.Payments.{ListParts, blobs_of}
 use Rattle.da_status.specs.declared.status.Status.TheVariants.{Done}
 use Rattle.da_files.specs.Frames.{WritesText}

@@ -1,21 +1,8 @@
-use Rattle.std.proofs.Common.{refl}
-use Rattle.da_serving.specs.Commit.{CommitsEither, CommitOf}
-use Rattle.da_files.specs.Contents.{contents_of, file_of}
-use Rattle.da_files.specs.Frames.{block_or_list_in}
-use Rattle.da_files.specs.Forms.{single_judged}
-use Rattle.da_status.specs.Judging.{Judged}
-use Rattle.da_status.proofs.EndLemmas.{once_as}
-use Rattle.da_files.proofs.FormLemmas.{refused_once, single_is}
+use Rattle.da_serving.specs.Commit.{CommitsEither}
+use Rattle.da_serving.proofs.ServingLemmas.{once_single}
 use Rattle.da_serving.proofs.commit.execute.Goals as goal
-
-pub returns-in-Err : goal.returns-in-Err
-returns-in-Err g c =
-    let files = contents_of c.args.files.now in
-    refused_once (single_judged block_or_list_in files) (CommitOf files) _ _ _ _ c.in-Err.ensures.judged refl
 
 -- the file is the block that was read
 pub returns-in-Ok : goal.returns-in-Ok
 returns-in-Ok g c =
-    let files = contents_of c.args.files.now in
-    once_as _ (Judged (single_judged block_or_list_in files) (CommitOf files)) _ _ _ _ _ _
-    (single_is CommitsEither (block_or_list_in (file_of files 0)) c.in-Ok.block c.in-Ok.ensures.block) c.commit_either.ensures
+    once_single CommitsEither _ _ _ _ _ _ _ _ c.in-Ok.ensures.block c.commit_either.ensures

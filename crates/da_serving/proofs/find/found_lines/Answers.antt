@@ -1,6 +1,6 @@
 use Rattle.std.proofs.Common.{◌∙◌, sym, arith}
 use Rattle.std.proofs.lemmas.List.{nil_from_length}
-use Rattle.da_serving.proofs.FindLemmas.{walk_begins, walk_passes, walk_has, walk_bytes, walk_count, walk_goes, walk_ends}
+use Rattle.da_serving.proofs.FindLemmas.{walk_passes, walk_has, walk_bytes, walk_count, walk_goes, walk_ends}
 use Rattle.da_serving.proofs.find.found_lines.Goals as goal
 
 -- past padding

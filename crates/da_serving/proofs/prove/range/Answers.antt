@@ -1,26 +1,9 @@
-use Rattle.std.proofs.Common.{refl}
 use Rattle.square_layout.specs.Blocks.{SquareShares}
-use Rattle.da_serving.specs.Prove.{ProvesRange, ProveRangeOf}
-use Rattle.da_files.specs.Contents.{contents_of, file_of}
-use Rattle.da_files.specs.Frames.{square_in}
-use Rattle.da_files.specs.Forms.{single_judged}
-use Rattle.da_status.specs.Judging.{Judged}
-use Rattle.da_status.proofs.EndLemmas.{once_as}
-use Rattle.da_files.proofs.FormLemmas.{refused_once, single_is}
+use Rattle.da_serving.specs.Prove.{ProvesRange}
+use Rattle.da_serving.proofs.ServingLemmas.{once_single}
 use Rattle.da_serving.proofs.prove.range.Goals as goal
-
-pub returns-in-Err : goal.returns-in-Err
-returns-in-Err g c =
-    let files = contents_of c.args.files.now in
-    let start = c.args.start in
-    let count = c.args.count in
-    refused_once (single_judged square_in files) (ProveRangeOf start count files) _ _ _ _ c.in-Err.ensures.judged refl
 
 -- the file is the square that was read
 pub returns-in-Ok : goal.returns-in-Ok
 returns-in-Ok g c =
-    let files = contents_of c.args.files.now in
-    let start = c.args.start in
-    let count = c.args.count in
-    once_as _ (Judged (single_judged square_in files) (ProveRangeOf start count files)) _ _ _ _ _ _
-    (single_is (λ (square : SquareShares). ProvesRange square start count) (square_in (file_of files 0)) c.in-Ok.square c.in-Ok.ensures.square) c.prove_range.ensures
+    once_single (λ (square : SquareShares). ProvesRange square c.args.start c.args.count) _ _ _ _ _ _ _ _ c.in-Ok.ensures.square c.prove_range.ensures
