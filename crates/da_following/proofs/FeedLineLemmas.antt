@@ -9,7 +9,7 @@ use Rattle.da_following.specs.declared.feed_lines.Told.{Told}
 use Rattle.da_following.specs.Follow.{Feed, Place, place_text, read_text, places_at, places_from, feed_lines, is_missing, missing_count, IsToldOf, IsToldMore}
 
 -- of heights the last one comes last
-places_last : (wanted : List Namespace) (first count : ℕ)
+pub places_last : (wanted : List Namespace) (first count : ℕ)
     → places_from wanted first (count + 1) ≡ places_from wanted first count ++ places_at wanted (first + count)
 places_last wanted first zero =
     append-nil (places_at wanted first) ∙ ap (places_at wanted) (let e : first ≡ first + 0 = omega arith in e)
@@ -26,11 +26,11 @@ module _ (feed : Feed) where
     pub missing : start.missing + missing_count feed all ≡ now.missing + missing_count feed rest
 
   -- the lines of some places and of others
-  lines_both : (front back : List Place) → feed_lines feed (front ++ back) ≡ feed_lines feed front ++ feed_lines feed back
+  pub lines_both : (front back : List Place) → feed_lines feed (front ++ back) ≡ feed_lines feed front ++ feed_lines feed back
   lines_both front back = flat_map-append (λ place. place_text place.0 place.1 ++ read_text (feed place.0 place.1)) front back
 
   -- and how many of them say that there is nothing
-  missing_both : (front back : List Place)
+  pub missing_both : (front back : List Place)
       → missing_count feed (front ++ back) ≡ missing_count feed front + missing_count feed back
   missing_both front back =
       ap length (filter-append (is_missing feed) front back)

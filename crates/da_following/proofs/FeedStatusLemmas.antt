@@ -47,7 +47,7 @@ module _ (P : Place → Type 0) where
       (λ (other : first ≢ number). later number (omega (arith, from, other)) (omega (arith, below))) (cases_eq first number)
 
   -- it holds of all places exactly where it holds of each height with each namespace
-  each_place : (names : List Namespace) (first count : ℕ) → AllByRecursion P (places_from names first count)
+  pub each_place : (names : List Namespace) (first count : ℕ) → AllByRecursion P (places_from names first count)
       ↔ ((number : ℕ) → first ≤ number → number < first + count → AllByRecursion (λ (name : Namespace). P (number, name)) names)
   each_place names first zero = (λ h number from below. absurd (omega (arith, from, below)), λ h. tt)
   each_place names first (suc count) =

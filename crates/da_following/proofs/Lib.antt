@@ -7,3 +7,5 @@ pub mod FeedStatusLemmas
 pub mod KeptLemmas
 pub mod WayLemmas
 pub mod FedByLemmas
+pub mod SquareShareLemmas
+pub mod ListedLemmas

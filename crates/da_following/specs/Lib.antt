@@ -1,2 +1,3 @@
 pub mod Follow
 pub mod Heights
+pub mod Listed

@@ -35,7 +35,7 @@ pub(crate) fn append(text: &mut Vec<u8>, part: &[u8]) -> Result<(), NoMemory>
 }
 
 /// How the lines of a namespace at a height begin.
-pub(crate) fn place_text(number: u64, name: &Namespace) -> Line
+pub fn place_text(number: u64, name: &Namespace) -> Line
     ensures { result ≡ place_text number name.now }
 {
     let mut digits = [0u8; 58];
@@ -114,7 +114,7 @@ fn put_entry(entry: &Entry, text: &mut Vec<u8>) -> Result<(), NoMemory>
 
 /// How the lines of a namespace at a height go on, by one answer under its header; none where the
 /// answer isn't complete. The blobs are dropped.
-pub(crate) fn text_of(
+pub fn text_of(
     alloc: Global,
     header: &Header,
     name: &Namespace,

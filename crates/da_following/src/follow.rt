@@ -62,7 +62,7 @@ impl Filter for Listed {
 }
 
 /// The number of the first namespace that is asked for and isn't one of a blob.
-fn first_other(wanted: &[u8]) -> Option<u64>
+pub fn first_other(wanted: &[u8]) -> Option<u64>
     ensures { result ≡ failing_from is_followed 0 (namespaces_in wanted.now) }
 {
     let mut rest = wanted;
@@ -100,6 +100,14 @@ fn in_order(alloc: Global, names: &BTreeSet<Namespace>) -> Result<Vec<Namespace>
         Ok(list) => Ok(list),
         Err(_) => Err(NoMemory),
     }
+}
+
+/// The namespaces that are asked for, each once, ascending.
+pub fn wanted_names(alloc: Global, wanted: &[u8]) -> Result<Vec<Namespace>, NoMemory>
+    ensures { IfOk result (λ names. names.items ≡ each_once (namespaces_in wanted.now)) }
+{
+    let names = wanted_set(alloc, wanted)?;
+    in_order(alloc, &names)
 }
 
 /// Where bytes aren't a list of headers and answers that begins with a header.
@@ -179,6 +187,10 @@ pub fn follow_laws()
     ensures once { (wanted : List Name) (items : List Item) (w v : List ℕ) (one other : Ended) →
         Follows wanted items w one → Follows wanted items v other → (w ≡ v) × (one ≡ other) }
 
+    // What heights feed of the wanted namespaces, each once, is their feed, where all can be followed.
+    ensures fed { (wanted : List Name) (items : List Item) → failing_from is_followed 0 wanted ≡ None →
+        IsFeedOf (Contains wanted) items (fed_by (each_once wanted) (heights_of items)) }
+
     // At a height whose header is that of a square, what is told of a namespace is what the square's
     // shares of it are read as, or the first complete answer and the square name a collision.
     ensures own { (wanted : List Name) (answers : List ℕ) (feed : Feed) (number : ℕ) (name : Name)
@@ -233,7 +245,7 @@ fn told(alloc: Global, wanted: &[u8], answers: &[u8]) -> Result<Told, NoMemory>
 }
 
 /// The status of lines of which so many say that there is nothing.
-fn feed_status(missing: u64) -> Status
+pub fn feed_status(missing: u64) -> Status
     ensures value { result ≡ feed_status missing }
     ensures output { kind_of result ≡ output }
 {

@@ -1,12 +1,16 @@
 //! What the command `follow` answers over the contents of its files: the blobs of namespaces from height to height,
 //! complete.
 //!
-//! `forms` has the shape of its files, `feed_lines` its lines, `heights` the way through the headers and answers.
+//! `forms` has the shape of its files, `feed_lines` its lines, `heights` the way through the headers and answers,
+//! `listed` what is read of the squares of lists of transactions.
 #![tactic(auto)]
 
 mod feed_lines;
 pub mod follow;
 mod forms;
 mod heights;
+mod listed;
 
-pub use follow::follow_laws;
+pub use feed_lines::{place_text, text_of};
+pub use follow::{feed_status, first_other, follow_laws, wanted_names};
+pub use listed::listed_laws;
