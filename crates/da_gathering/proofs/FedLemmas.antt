@@ -1,9 +1,7 @@
--- The frames that a repair is fed with, with one frame more.
-use Rattle.std.proofs.Common.{◌≡◌, ◌∙◌, ℕ, suc, ◌+◌, ◌≤◌, Bool, true, false, cond, List, [], ◌∷◌, ◌++◌, length, append-nil, Some, None, refl, ap, arith}
-use Rattle.std.specs.Prelude.{not}
+-- The samples and the lies among frames, with one frame more.
+use Rattle.std.proofs.Common.{◌≡◌, ◌∙◌, ℕ, suc, ◌+◌, ◌≤◌, Bool, true, false, cond, List, [], ◌∷◌, ◌++◌, length, Some, None, refl, ap, arith}
 use Rattle.std.specs.declared.option.Option.{Option}
 use Rattle.std.specs.Option.{option_map_or}
-use Rattle.std.proofs.lemmas.List.Elements.{filter-append}
 use Rattle.data_header.specs.Headers.{Roots}
 use Rattle.axis_roots.specs.declared.message.messages.Message.{Message}
 use Rattle.da_wire.specs.Reading.{Raw}
@@ -11,28 +9,6 @@ use Rattle.da_wire.specs.Frames.{message_in}
 use Rattle.da_judging.specs.Check.{finding_of, is_ok}
 use Rattle.da_judging.specs.Repair.{messages_in, lies_in}
 use Rattle.da_gathering.specs.Fed.{samples_in}
-use Rattle.da_gathering.specs.Gathered.{asks_state, fed}
-
--- ---- frames
-
--- a frame that asks adds none
-pub fed_asked : (frames : List Raw) (frame : Raw) → asks_state frame ≡ true → fed (frames ++ frame ∷ []) ≡ fed frames
-fed_asked frames frame asks =
-    filter-append (λ (f : Raw). not (asks_state f)) frames (frame ∷ []) ∙ ap (λ (b : Bool). fed frames ++ cond (not b) (frame ∷ []) []) asks ∙ append-nil (fed frames)
-
--- another one adds itself
-pub fed_other : (frames : List Raw) (frame : Raw) → asks_state frame ≡ false → fed (frames ++ frame ∷ []) ≡ fed frames ++ frame ∷ []
-fed_other frames frame other =
-    filter-append (λ (f : Raw). not (asks_state f)) frames (frame ∷ []) ∙ ap (λ (b : Bool). fed frames ++ cond (not b) (frame ∷ []) []) other
-
--- no more than there are
-kept_few : (b : Bool) (frame : Raw) (kept : List Raw) (n : ℕ) → length kept ≤ n → length (cond b (frame ∷ kept) kept) ≤ suc n
-kept_few true frame kept n few = omega (arith, few)
-kept_few false frame kept n few = omega (arith, few)
-
-pub fed_few : (frames : List Raw) → length (fed frames) ≤ length frames
-fed_few [] = omega arith
-fed_few (frame ∷ later) = kept_few (not (asks_state frame)) frame (fed later) (length later) (fed_few later)
 
 -- ---- samples
 

@@ -1,6 +1,5 @@
 -- A repair that was fed with one frame more, and what is due to the frame.
 use Rattle.std.proofs.Common.{◌≡◌, ◌∙◌, ℕ, ◌+◌, ◌<◌, ◌^◌, Bool, true, false, cond, List, [], ◌∷◌, ◌++◌, length, Some, None, refl, sym, ap, subst, arith}
-use Rattle.std.specs.Prelude.{not}
 use Rattle.std.specs.declared.option.Option.{Option}
 use Rattle.std.proofs.lemmas.Option.{same_Some}
 use Rattle.namespace_id.specs.Cells.{CellList, is_width}
@@ -23,8 +22,10 @@ use Rattle.da_judging.specs.Check.{finding_of, is_ok}
 use Rattle.da_judging.specs.Repair.{messages_in, lies_in}
 use Rattle.da_gathering.specs.Gatherings.{Gathering, IsOver}
 use Rattle.da_gathering.specs.Fed.{finding_by, samples_in}
-use Rattle.da_gathering.specs.Gathered.{asks_state, fed, HasGathered, reason_for, refusal_for, AreMissing, IsReplyBy, RepliesOn}
-use Rattle.da_gathering.proofs.FedLemmas.{fed_asked, fed_other, fed_few, messages_more, lies_more, lies_few}
+use Rattle.da_talk.specs.Handed.{asks_state, fed}
+use Rattle.da_gathering.specs.Gathered.{HasGathered, reason_for, refusal_for, AreMissing, IsReplyBy, RepliesOn}
+use Rattle.da_talk.proofs.FedLemmas.{fed_asked, fed_other, fed_few}
+use Rattle.da_gathering.proofs.FedLemmas.{messages_more, lies_more, lies_few}
 use Rattle.da_gathering.proofs.SessionLemmas.{Knows, some_missing}
 
 -- ---- why a frame is refused
@@ -43,11 +44,6 @@ pub lie_by : (f : Finding) (reason : Reason) → Some reason ≡ reason_for f �
 lie_by found.Proved reason e = absurd cc
 lie_by found.NoMessage reason e = refl
 lie_by (found.Refused why) reason e = refl
-
--- a test whose opposite holds fails
-pub not_true : (b : Bool) → not b ≡ true → b ≡ false
-not_true true e = absurd cc
-not_true false e = refl
 
 -- ---- a session
 

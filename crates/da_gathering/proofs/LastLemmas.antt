@@ -21,7 +21,8 @@ use Rattle.da_wire.specs.Reading.{Raw}
 use Rattle.da_status.specs.declared.status.Status.{Status}
 use Rattle.da_judging.specs.Repair.{messages_in, lies_in, answer_status, Answers}
 use Rattle.da_gathering.specs.Gatherings.{Gathering, KnowsAll, IsOver}
-use Rattle.da_gathering.specs.Gathered.{fed, HasGathered, is_missing, AreLastWords}
+use Rattle.da_talk.specs.Handed.{fed}
+use Rattle.da_gathering.specs.Gathered.{HasGathered, is_missing, AreLastWords}
 use Rattle.da_gathering.proofs.SessionLemmas.{Knows}
 use Rattle.da_gathering.proofs.GatherLemmas.{session_stands}
 

@@ -1,7 +1,6 @@
 pub mod FedLemmas
 pub mod LeftLemmas
 pub mod SessionLemmas
-pub mod HandedLemmas
 pub mod WordLemmas
 pub mod TellLemmas
 pub mod GatherLemmas

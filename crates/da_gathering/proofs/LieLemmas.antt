@@ -22,8 +22,10 @@ use Rattle.da_judging.specs.Check.{finding_of, is_ok}
 use Rattle.da_judging.specs.Repair.{lies_in}
 use Rattle.da_talk.specs.Replies.{refusal}
 use Rattle.da_talk.specs.Told.{IsTold, begun, told}
-use Rattle.da_gathering.specs.Gathered.{asks_state, fed, reason_for, refusal_for, IsReplyBy, gathering, refusals_in}
-use Rattle.da_gathering.proofs.FedLemmas.{fed_asked, fed_other, lies_more}
+use Rattle.da_talk.specs.Handed.{asks_state, fed}
+use Rattle.da_gathering.specs.Gathered.{reason_for, refusal_for, IsReplyBy, gathering, refusals_in}
+use Rattle.da_talk.proofs.FedLemmas.{fed_asked, fed_other}
+use Rattle.da_gathering.proofs.FedLemmas.{lies_more}
 use Rattle.da_gathering.proofs.GatherLemmas.{proved_by, lie_by}
 
 -- ---- frames that were said

@@ -1,17 +1,15 @@
 -- gather HEADER TALK: what a repair replies to frames that come one after another (docs/FORMATS.md, "Talks").
-use Rattle.std.specs.Prelude.{◌≡◌, ℕ, List, [], ◌∷◌, ◌++◌, length, Bool, true, false, not, ◌==◌, ◌&&◌, Option, Some, None, is_some, ⊤}
+use Rattle.std.specs.Prelude.{◌≡◌, ℕ, List, [], ◌∷◌, ◌++◌, length, Bool, true, false, ◌==◌, Option, Some, None, ⊤}
 use Rattle.std.specs.List.{filter}
 use Rattle.namespace_id.specs.Cells.{CellList}
 use Rattle.data_header.specs.Headers.{Roots}
-use Rattle.axis_roots.specs.declared.message.messages.CheckRefusal.TheVariants.{OutOfSquare, NodeCount, Unordered, OtherRoot}
 use Rattle.repair_queue.specs.SessionParts.{SessionParts, StandsFor}
 use Rattle.repair_queue.specs.Verdicts.{missing, IsVerdict}
 use Rattle.frame_payloads.specs.kinds.Message.{most_message}
-use Rattle.frame_payloads.specs.kinds.State.{state_at}
 use Rattle.frame_payloads.specs.declared.refusals.Reason.{Reason}
-use Rattle.frame_payloads.specs.declared.refusals.Reason.TheVariants.{NoSuchFrame, FirstCheck, SecondCheck, ThirdCheck, FourthCheck}
+use Rattle.frame_payloads.specs.declared.refusals.Reason.TheVariants.{NoSuchFrame}
 use Rattle.da_wire.specs.declared.frames.Frame.TheVariants as kinds
-use Rattle.da_wire.specs.Spelling.{spelling, state_kind, refusal_kind}
+use Rattle.da_wire.specs.Spelling.{spelling, refusal_kind}
 use Rattle.da_wire.specs.Reading.{Raw}
 use Rattle.da_wire.specs.Frames.{frames_of}
 use Rattle.da_status.specs.declared.status.Status.{Status}
@@ -24,21 +22,15 @@ use Rattle.da_talk.specs.declared.line.Line as line
 use Rattle.da_talk.specs.declared.talker.Talker as talker
 use Rattle.da_talk.specs.declared.talk_end.TalkEnd.{TalkEnd}
 use Rattle.da_talk.specs.declared.talk_end.TalkEnd.TheVariants as ends
+use Rattle.da_talk.specs.Handed.{asks_state, fed}
+use Rattle.da_talk.specs.Reasons.{sample_reason}
 use Rattle.da_talk.specs.Replies.{refusal}
 use Rattle.da_talk.specs.Told.{IsTold, HasTold}
 use Rattle.da_gathering.specs.Gatherings.{Gathering, most_gathered}
 
 -- ---- frames
 
--- whether a frame asks how a repair stands: it is a state
-abbrev pub asks_state : Raw → Bool
-asks_state frame = (frame.kind == state_kind) && is_some (state_at frame.payload)
-
--- the frames that a repair is fed with: those that don't ask
-abbrev pub fed : List Raw → List Raw
-fed frames = filter (λ frame. not (asks_state frame)) frames
-
--- a repair was fed with these frames
+-- a repair was fed with those of these frames that don't ask
 pub record HasGathered (header : Roots) (frames : List Raw) (g : Gathering) : Type 0 where
   pub header_is : g.header ≡ header
   pub session : SessionParts
@@ -57,10 +49,7 @@ IsFresh g = HasGathered g.header [] g × (g.is_over ≡ false)
 abbrev pub reason_for : Finding → Option Reason
 reason_for found.Proved = None
 reason_for found.NoMessage = Some NoSuchFrame
-reason_for (found.Refused OutOfSquare) = Some FirstCheck
-reason_for (found.Refused NodeCount) = Some SecondCheck
-reason_for (found.Refused Unordered) = Some ThirdCheck
-reason_for (found.Refused OtherRoot) = Some FourthCheck
+reason_for (found.Refused why) = Some (sample_reason why)
 
 -- the cells that don't follow from the proved samples of frames; there are some, and nothing is wrong with the header
 abbrev pub AreMissing : Roots → List Raw → CellList → Type 0
@@ -110,6 +99,7 @@ abbrev pub GoesWith : TalkEnd → Option Status → Type 0
 GoesWith ends.Over kept = Keeps true kept
 GoesWith ends.Decided kept = Keeps false kept
 GoesWith (ends.Bad at) kept = ⊤
+GoesWith (ends.Unfit at) kept = ⊥
 GoesWith ends.ReadFailed kept = ⊤
 GoesWith ends.WriteFailed kept = ⊤
 GoesWith ends.TooLong kept = ⊤
@@ -129,6 +119,7 @@ gathering header = record {
   takes_memory = λ kept. ⊥;
   begins = λ first text. text ≡ [];
   replies = λ first frames frame text. RepliesOn header frames frame text;
+  refuses = λ first frames frame. ⊥;
   decides = λ first now frames text. AreLastWords header frames false text now;
   ends = λ first now frames text. AreLastWords header frames true text now;
 }

@@ -1,8 +1,6 @@
 //! The last words of a repair: one frame, written where there is room for it.
 
-ghost use Rattle.std.specs.Prelude.{◌≡◌, ◌≤◌, ◌<◌, ◌+◌, ◌∷◌, ◌++◌, [], List, length, vec_len, vec_capacity, true, false};
-ghost use Rattle.std.specs.Int.{w32, to_be_bytes};
-ghost use Rattle.namespace_id.specs.Answers.{HasRoom};
+ghost use Rattle.std.specs.Prelude.{◌≡◌, ◌≤◌, ◌<◌, [], List, length, vec_capacity, true, false};
 ghost use Rattle.namespace_id.specs.Cells.{is_width};
 ghost use Rattle.axis_roots.specs.declared.message.messages.Message as sent;
 ghost use Rattle.repair_queue.specs.Verdicts.{whole, missing, fraud, clash, IsVerdict};
@@ -13,14 +11,14 @@ ghost use Rattle.da_gathering.specs.Gatherings.{most_gathered};
 
 use axis_roots::FraudProof;
 use da_status::Status;
-use da_talk::put_missing_frame;
+use da_talk::{put_head, put_missing_frame};
 use da_wire::value_laws;
 use data_header::Header;
 use frame_payloads::{
     MOST_MESSAGE, clash_size, proof_law, proof_size, put_clash, put_proof, put_square, square_size,
 };
 use hash_clash::Clash;
-use namespace_id::{Cells, SHARE_SIZE, append, shares_law};
+use namespace_id::{Cells, SHARE_SIZE, shares_law};
 use repair_queue::Verdict;
 use square_layout::Square;
 
@@ -34,17 +32,6 @@ pub fn most_gathered(k: u16) -> usize
 {
     let k = k as usize;
     HEAD_SIZE + (2 + SHARE_SIZE * (k * k)).max(6 + MOST_MESSAGE * k)
-}
-
-/// Appends the head of a frame: its kind and the length of its payload.
-fn put_head(text: &mut Vec<u8>, kind: u8, size: u32)
-    requires room { HasRoom text.old 5 }
-    ensures appended { text.new.items ≡ text.old.items ++ kind ∷ to_be_bytes w32 size }
-    ensures len { vec_len text.new ≡ vec_len text.old + 5 }
-    ensures capacity { vec_capacity text.old ≤ vec_capacity text.new }
-{
-    append(text, &[kind]);
-    append(text, &size.to_be_bytes());
 }
 
 /// Writes a square into an empty text.

@@ -1,6 +1,6 @@
 //! What a repair replies to the frames of a talk.
 
-ghost use Rattle.std.specs.Prelude.{◌≡◌, ◌≤◌, [], List, Some, false, vec_capacity};
+ghost use Rattle.std.specs.Prelude.{◌≡◌, ◌≢◌, ◌≤◌, ◌↔◌, [], List, Some, true, false, vec_capacity};
 ghost use Rattle.namespace_id.specs.Cells.{CellList};
 ghost use Rattle.axis_roots.specs.declared.message.messages.Message.{Message};
 ghost use Rattle.repair_queue.specs.SessionParts.{StandsFor};
@@ -8,13 +8,14 @@ ghost use Rattle.repair_queue.specs.Verdicts.{missing, IsVerdict};
 ghost use Rattle.frame_payloads.specs.kinds.Message.{most_message};
 ghost use Rattle.da_wire.specs.declared.frames.Frame.TheVariants as kinds;
 ghost use Rattle.da_wire.specs.Spelling.{spelling};
+ghost use Rattle.da_talk.specs.declared.talker.Turn.TheVariants as turn;
 ghost use Rattle.da_gathering.specs.Gatherings.{IsOver, most_gathered};
 ghost use Rattle.da_gathering.specs.Gathered.{IsFresh, HasGathered, RepliesOn, AreLastWords};
 
 use crate::Gatherer;
-use crate::feeding::{asks_state, feed, is_over, sample_in};
+use crate::feeding::{feed, is_over};
 use crate::last_words::put_verdict;
-use da_talk::{Talker, put_missing_frame, put_refusal_frame};
+use da_talk::{Talker, Turn, asks_state, put_missing_frame, put_refusal_frame, sample_in};
 use da_wire::RawFrame;
 use data_header::Header;
 use namespace_id::{CellRoom, NoMemory};
@@ -39,6 +40,15 @@ fn tell(header: &Header, session: &Session, room: &mut CellRoom, text: &mut Vec<
     put_missing_frame(text, k, room.cells());
 }
 
+/// How a talk goes on behind a proved sample.
+fn turn_of(over: bool) -> Turn
+    ensures goes_on { (result ≡ turn.GoesOn) ↔ (over ≡ false) }
+    ensures over { (result ≡ turn.Over) ↔ (over ≡ true) }
+    ensures fits { result ≢ turn.Unfit }
+{
+    if over { Turn::Over } else { Turn::GoesOn }
+}
+
 impl<'a> Talker for Gatherer<'a> {
     ghost use Rattle.std.specs.Prelude.{◌≡◌, [], true, false};
 
@@ -58,6 +68,8 @@ impl<'a> Talker for Gatherer<'a> {
 
     ghost replies = { λ first frames frame text. RepliesOn first.header frames frame text };
 
+    ghost refuses = { λ first frames frame. ⊥ };
+
     ghost decides = { λ first now frames text. AreLastWords first.header frames false text now.status };
 
     ghost ends = { λ first now frames text. AreLastWords first.header frames true text now.status };
@@ -71,25 +83,25 @@ impl<'a> Talker for Gatherer<'a> {
         number: u64,
         frame: Option<RawFrame<'_>>,
         text: &mut Vec<u8>,
-    ) -> Result<bool, NoMemory> {
+    ) -> Result<Turn, NoMemory> {
         // None is left behind the last words.
         let Some(session) = &mut self.session else {
-            return Ok(true);
+            return Ok(Turn::GoesOn);
         };
         session_laws();
         if asks_state(frame) {
             tell(self.header, session, &mut self.room, text);
-            return Ok(true);
+            return Ok(Turn::GoesOn);
         }
         match feed(self.header, session, sample_in(frame)) {
             Some(reason) => {
                 self.lies = self.lies.saturating_add(1);
                 put_refusal_frame(text, reason, number);
-                Ok(true)
+                Ok(Turn::GoesOn)
             }
             None => {
                 self.over = is_over(session);
-                Ok(!self.over)
+                Ok(turn_of(self.over))
             }
         }
     }

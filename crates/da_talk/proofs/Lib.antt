@@ -3,6 +3,10 @@ pub mod LongLemmas
 pub mod TalkLemmas
 pub mod AskedLemmas
 pub mod KeepLemmas
+pub mod HandedLemmas
+pub mod FedLemmas
 pub mod TellLemmas
+pub mod TellingLemmas
 pub mod NamesLemmas
 pub mod SpellingLemmas
+pub mod PutLoops

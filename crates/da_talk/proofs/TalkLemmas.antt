@@ -9,7 +9,7 @@ use Rattle.da_talk.specs.declared.talker.Talker as talker
 use Rattle.da_talk.specs.declared.ended.Ended.{Ended}
 use Rattle.da_talk.specs.declared.ended.Ended.TheVariants as ended
 use Rattle.da_talk.specs.declared.talk_end.TalkEnd.{TalkEnd}
-use Rattle.da_talk.specs.declared.talk_end.TalkEnd.TheVariants.{Over, Decided, Bad, ReadFailed, WriteFailed, TooLong, NoMemory}
+use Rattle.da_talk.specs.declared.talk_end.TalkEnd.TheVariants.{Over, Decided, Bad, Unfit, ReadFailed, WriteFailed, TooLong, NoMemory}
 use Rattle.da_talk.specs.Events.{heard_in, said_in}
 use Rattle.da_talk.specs.Replies.{reply_to, replies_from, due}
 use Rattle.da_talk.specs.Talks.{Begins, EndsTalk, HasTalked, last_wait, read_count, write_count}
@@ -35,10 +35,11 @@ due-append answer xs ys =
 
 -- ---- what replies so
 
--- it says nothing first and nothing last, never ends a talk, takes no memory, and stays as it is
+-- it says nothing first and nothing last, replies to each frame, never ends a talk, takes no memory, and stays as it is
 pub record IsReplier {T : Type 0} (t : talker.Ghosts T) (first : T) (answer : ℕ → Raw → List ℕ) : Type 0 where
   pub begins : (text : List ℕ) → t.begins first text → text ≡ []
   pub replies : (frames : List Raw) (f : Raw) (text : List ℕ) → t.replies first frames f text → text ≡ answer (length frames) f
+  pub refuses : (frames : List Raw) (f : Raw) → t.refuses first frames f → ⊥
   pub decides : (now : T) (frames : List Raw) (text : List ℕ) → t.decides first now frames text → ⊥
   pub ends : (now : T) (frames : List Raw) (text : List ℕ) → t.ends first now frames text → (now ≡ first) × (text ≡ [])
   pub led : (now : T) (frames : List Raw) → t.led first now frames → now ≡ first
@@ -54,7 +55,8 @@ module _ {T : Type 0} (t : talker.Ghosts T) (first : T) (answer : ℕ → Raw �
   left_so now (frames, text, inl led) = is.led now frames led
   left_so now (frames, text, inr (inl decides)) = absurd (is.decides now frames text decides)
   left_so now (frames, text, inr (inr (inl ends))) = (is.ends now frames text ends).0
-  left_so now (frames, text, inr (inr (inr takes))) = absurd (is.takes takes)
+  left_so now (frames, text, inr (inr (inr (inl refuses)))) = absurd (is.refuses frames refuses.0 refuses.1)
+  left_so now (frames, text, inr (inr (inr (inr takes)))) = absurd (is.takes takes)
 
   -- what was said to frames are the replies to them
   told_due : (frames : List Raw) (text : List ℕ) → IsTold t first frames text → text ≡ replies_from answer 0 frames
@@ -137,16 +139,18 @@ module _ {T : Type 0} (t : talker.Ghosts T) (first : T) (answer : ℕ → Raw �
     talked_as Over end s so = subst (HasTalked l old new (due answer)) (sym so) (talked_over s)
     talked_as Decided end s so = absurd so
     talked_as (Bad at) end s so = subst (HasTalked l old new (due answer)) (sym so) (talked_bad at s)
+    talked_as (Unfit at) end s so = absurd so
     talked_as ReadFailed end s so = subst (HasTalked l old new (due answer)) (sym so) (talked_failed s)
     talked_as WriteFailed end s so = subst (HasTalked l old new (due answer)) (sym so) (talked_cut s)
     talked_as TooLong end s so = subst (HasTalked l old new (due answer)) (sym so) (talked_long s)
     talked_as NoMemory end s so = absurd so
 
-    -- no frame decides, and no memory is taken
+    -- each frame is replied to, none decides, and no memory is taken
     pub is_plain : (why : TalkEnd) → HasTold l t old new first now why → IsPlain why
     is_plain Over s = tt
     is_plain Decided s = is.decides now (s.end.frames ++ s.end.frame ∷ []) s.end.text s.end.due
     is_plain (Bad at) s = tt
+    is_plain (Unfit at) s = is.refuses s.end.frames s.end.frame s.end.refused
     is_plain ReadFailed s = tt
     is_plain WriteFailed s = tt
     is_plain TooLong s = tt
@@ -157,6 +161,7 @@ pub failed_as : (why : TalkEnd) (end : Ended) → EndsAs why end → (last_heard
 failed_as Over end so = (sym (ap last_wait so), sym (ap read_count so), sym (ap write_count so))
 failed_as Decided end so = absurd so
 failed_as (Bad at) end so = (sym (ap last_wait so), sym (ap read_count so), sym (ap write_count so))
+failed_as (Unfit at) end so = absurd so
 failed_as ReadFailed end so = (sym (ap last_wait so), sym (ap read_count so), sym (ap write_count so))
 failed_as WriteFailed end so = (sym (ap last_wait so), sym (ap read_count so), sym (ap write_count so))
 failed_as TooLong end so = (sym (ap last_wait so), sym (ap read_count so), sym (ap write_count so))
@@ -167,6 +172,7 @@ pub held_replies : (held : Held) → IsReplier ghosts held (reply_to held)
 held_replies held = record {
   begins = λ text is. is;
   replies = λ frames f text is. is;
+  refuses = λ frames f is. is;
   decides = λ now frames text is. is;
   ends = λ now frames text is. is;
   led = λ now frames is. is;

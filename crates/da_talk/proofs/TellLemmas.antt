@@ -22,7 +22,7 @@ use Rattle.da_wire.specs.Laws.{BadFrameIsFirst, FilesAreFrames, FramesAreTheFile
 use Rattle.da_talk.specs.declared.line.Line as line
 use Rattle.da_talk.specs.declared.talker.Talker as talker
 use Rattle.da_talk.specs.declared.talk_end.TalkEnd.{TalkEnd}
-use Rattle.da_talk.specs.declared.talk_end.TalkEnd.TheVariants.{Over, Decided, Bad, ReadFailed, WriteFailed, TooLong, NoMemory}
+use Rattle.da_talk.specs.declared.talk_end.TalkEnd.TheVariants.{Over, Decided, Bad, Unfit, ReadFailed, WriteFailed, TooLong, NoMemory}
 use Rattle.da_talk.specs.declared.talking.Frames.{Frames}
 use Rattle.da_talk.specs.Handed.{if_within}
 use Rattle.da_talk.specs.Events.{Event, heard, said, heard_in, said_in, Grows}
@@ -86,9 +86,8 @@ frames_on stay taken piece came rest f e is =
 
 -- from wherever it began, a talk that had these frames and bytes has those now
 abbrev pub StillTells : {L T : Type 0} → line.Ghosts L → talker.Ghosts T → L → L → T → T → Frames → Frames → List ℕ → List ℕ → List ℕ → List ℕ → Type 0
-StillTells {L} {T} l t was now state later before after had room piece rest = (old : L) (first : T)
-    → IsTelling l t old was first state (length had) before.stream before.count (take before.kept had) piece
-    → IsTelling l t old now first later (length room) after.stream after.count (take after.kept room) rest
+StillTells {L} {T} l t was now state later before after had kept piece rest = (old : L) (first : T)
+    → IsTelling l t old was first state before had piece → IsTelling l t old now first later after kept rest
 
 -- what is read of a frame, seen as its bytes
 pub seen_ok : (r : Result RawFrame FrameError) (read : Result Raw FrameError) → ReadsAt (λ f. raw_seen f) r read → option_map (λ f. raw_seen f) (result_ok r) ≡ ok_of read
@@ -117,10 +116,10 @@ module _ {L T : Type 0} (l : line.Ghosts L) (t : talker.Ghosts T) where
   -- ---- a talk begins
 
   -- the first words were said, and nothing was heard
-  pub telling_none : (old now : L) (first state : T) (size : ℕ) (stream : StreamParts) (text : List ℕ) → StandsFor stream [] → t.led first state [] → t.begins first text
-      → Does l old now (spoken text) → IsTelling l t old now first state size stream 0 [] []
+  pub telling_none : (old now : L) (first state : T) (frames : Frames) (kept text : List ℕ) → StandsFor frames.stream [] → frames.start ≡ 0 → frames.count ≡ 0 → kept ≡ []
+      → t.led first state [] → t.begins first text → Does l old now (spoken text) → IsTelling l t old now first state frames kept []
   unfolding walk_from stop_from
-  telling_none old now first state size stream text stands led begins did = record {
+  telling_none old now first state frames kept text stands start count none led begins did = record {
     events = spoken text;
     did = did;
     waits = waits_spoken (MayHear t first) [] [] text;
@@ -130,10 +129,11 @@ module _ {L T : Type 0} (l : line.Ghosts L) (t : talker.Ghosts T) where
     short = λ at e. absurd (none-some (frame.TooLong at) e);
     told = begun (said_in (spoken text)) (subst (t.begins first) (sym (said_spoken text)) begins);
     led = led;
-    counted = refl;
+    counted = count;
+    start = start;
     under = [];
     parts = refl;
-    keeps = sym (take-nil size);
+    keeps = none ∙ sym (take-nil frames.size);
   }
 
   -- the first words weren't said whole
@@ -152,9 +152,9 @@ module _ {L T : Type 0} (l : line.Ghosts L) (t : talker.Ghosts T) where
   -- ---- a talk goes on
 
   -- bytes were waited for
-  pub telling_heard : IsLine l → (old now new : L) (first state : T) (size : ℕ) (stream : StreamParts) (count : ℕ) (kept bytes : List ℕ)
-      → IsTelling l t old now first state size stream count kept [] → Does l now new (heard bytes ∷ []) → IsTelling l t old new first state size stream count kept bytes
-  telling_heard is old now new first state size stream count kept bytes s did =
+  pub telling_heard : IsLine l → (old now new : L) (first state : T) (frames : Frames) (kept bytes : List ℕ)
+      → IsTelling l t old now first state frames kept [] → Does l now new (heard bytes ∷ []) → IsTelling l t old new first state frames kept bytes
+  telling_heard is old now new first state frames kept bytes s did =
       let all : heard_in s.events ≡ s.taken = s.came ∙ append-nil s.taken in
       record {
         events = s.events ++ heard bytes ∷ [];
@@ -168,23 +168,23 @@ module _ {L T : Type 0} (l : line.Ghosts L) (t : talker.Ghosts T) where
         told = subst (IsTold t first (frames_of s.taken)) (sym (said_on s.events (heard bytes ∷ []) ∙ append-nil (said_in s.events))) s.told;
         led = s.led;
         counted = s.counted;
+        start = s.start;
         under = s.under;
         parts = s.parts;
         keeps = s.keeps;
       }
 
   -- so many bytes came into a room
-  pub telling_piece : IsLine l → (old now new : L) (first state : T) (size : ℕ) (stream : StreamParts) (count : ℕ) (kept buf : List ℕ) (n : ℕ) → n ≤ length buf
+  pub telling_piece : IsLine l → (old now new : L) (first state : T) (frames : Frames) (kept buf : List ℕ) (n : ℕ) → n ≤ length buf
       → Grows (l.events now) (l.events new) (heard (take n buf) ∷ []) → Consumes (l.rest now) (l.rest new) (take n buf) → Appends (l.taken now) (l.taken new) []
       → l.given new ≡ count_on (l.given now) n → l.stays now new
-      → IsTelling l t old now first state size stream count kept [] → IsTelling l t old new first state size stream count kept (take n buf)
-  telling_piece is old now new first state size stream count kept buf n within grows rest went given stays s =
-      telling_heard is old now new first state size stream count kept (take n buf) s
+      → IsTelling l t old now first state frames kept [] → IsTelling l t old new first state frames kept (take n buf)
+  telling_piece is old now new first state frames kept buf n within grows rest went given stays s =
+      telling_heard is old now new first state frames kept (take n buf) s
       (does_heard l now new (take n buf) grows rest went (given ∙ ap (count_on (l.given now)) (sym (length-take-le n buf within))) stays)
 
   -- of a piece of which a stream takes so many bytes
-  module _ (old now : L) (first state : T) (size : ℕ) (had : StreamParts) (count : ℕ) (kept rest : List ℕ) (n : ℕ)
-      (s : IsTelling l t old now first state size had count kept rest) where
+  module _ (old now : L) (first state : T) (frames : Frames) (kept rest : List ℕ) (n : ℕ) (s : IsTelling l t old now first state frames kept rest) where
     -- the bytes that the stream has taken now
     abbrev here : List ℕ
     here = s.taken ++ take n rest
@@ -198,13 +198,13 @@ module _ {L T : Type 0} (l : line.Ghosts L) (t : talker.Ghosts T) where
     parts_here = ap (λ (b : List ℕ). b ++ take n rest) s.parts ∙ append_assoc (frames_bytes (frames_of s.taken)) s.under (take n rest)
 
     -- as many of them are kept as fit
-    pub keeps_here : (now_kept : List ℕ) → now_kept ≡ take size (kept ++ take n rest) → now_kept ≡ take size (s.under ++ take n rest)
-    keeps_here now_kept e = e ∙ ap (λ (b : List ℕ). take size (b ++ take n rest)) s.keeps ∙ kept_more size s.under (take n rest)
+    pub keeps_here : (now_kept : List ℕ) → now_kept ≡ take frames.size (kept ++ take n rest) → now_kept ≡ take frames.size (s.under ++ take n rest)
+    keeps_here now_kept e = e ∙ ap (λ (b : List ℕ). take frames.size (b ++ take n rest)) s.keeps ∙ kept_more frames.size s.under (take n rest)
 
     -- a push ended no frame
-    pub telling_more : (new : StreamParts) (now_kept : List ℕ) → StandsFor new here → IsPush s.taken rest n pushed.More → now_kept ≡ take size (kept ++ take n rest)
-        → IsTelling l t old now first state size new count now_kept (drop n rest)
-    telling_more new now_kept stands push e = record {
+    pub telling_more : (after : Frames) (now_kept : List ℕ) → StandsFor after.stream here → IsPush s.taken rest n pushed.More → after.start ≡ frames.start → after.count ≡ frames.count
+        → after.size ≡ frames.size → now_kept ≡ take frames.size (kept ++ take n rest) → IsTelling l t old now first state after now_kept (drop n rest)
+    telling_more after now_kept stands push start count size e = record {
       events = s.events;
       did = s.did;
       waits = s.waits;
@@ -214,10 +214,11 @@ module _ {L T : Type 0} (l : line.Ghosts L) (t : talker.Ghosts T) where
       short = push_short s.taken rest n pushed.More push (λ at e. absurd cc);
       told = subst (λ (fs : List Raw). IsTold t first fs (said_in s.events)) (sym push.frames) s.told;
       led = subst (t.led first state) (sym push.frames) s.led;
-      counted = s.counted ∙ ap length (sym push.frames);
+      counted = count ∙ s.counted ∙ ap length (sym push.frames);
+      start = start ∙ s.start ∙ ap (λ (fs : List Raw). length (frames_bytes fs)) (sym push.frames);
       under = s.under ++ take n rest;
       parts = parts_here ∙ ap (λ (fs : List Raw). frames_bytes fs ++ (s.under ++ take n rest)) (sym push.frames);
-      keeps = keeps_here now_kept e;
+      keeps = keeps_here now_kept e ∙ ap (λ (m : ℕ). take m (s.under ++ take n rest)) (sym size);
     }
 
     -- the frame under way states a length above the limit
@@ -235,30 +236,32 @@ module _ {L T : Type 0} (l : line.Ghosts L) (t : talker.Ghosts T) where
       f = push.frames.0
 
       -- what is handed of it
-      pub handed_here : RawIsFrame → FramesAreTheFile → (now_kept : List ℕ) → now_kept ≡ take size (kept ++ take n rest) → size ≡ 5 + t.longest state
+      pub handed_here : RawIsFrame → FramesAreTheFile → (now_kept : List ℕ) → now_kept ≡ take frames.size (kept ++ take n rest) → frames.size ≡ 5 + t.longest state
           → ok_of (raw_of 0 now_kept) ≡ if_within (t.longest state) f
       handed_here is are_file now_kept e fit =
           ap (λ (b : List ℕ). ok_of (raw_of 0 b)) (keeps_here now_kept e)
-          ∙ handed is are_file (t.longest state) size fit here (s.under ++ take n rest) (frames_of s.taken) f stands.fits (push.frame.0 tt).1 push.frames.1 parts_here
+          ∙ handed is are_file (t.longest state) frames.size fit here (s.under ++ take n rest) (frames_of s.taken) f stands.fits (push.frame.0 tt).1 push.frames.1 parts_here
 
       -- the reply to it was said
       pub telling_frame : FramesAreTheFile → IsLine l → (next : L) (later : T) (text : List ℕ) → t.led first later (frames_of s.taken ++ f ∷ []) → t.replies first (frames_of s.taken) f text
-          → Does l now next (spoken text) → IsTelling l t old next first later size new (count + 1) [] (drop n rest)
-      telling_frame are_file is next later text led replies did = record {
+          → Does l now next (spoken text) → (after : Frames) (now_kept : List ℕ) → after.stream ≡ new → after.start ≡ new.taken → after.count ≡ frames.count + 1 → now_kept ≡ []
+          → IsTelling l t old next first later after now_kept (drop n rest)
+      telling_frame are_file is next later text led replies did after now_kept stream start count none = record {
         events = s.events ++ spoken text;
         did = does_on l is old now next s.events (spoken text) s.did did;
         waits = waits_on (MayHear t first) [] [] s.events (spoken text) s.waits (waits_spoken (MayHear t first) (heard_in s.events) (said_in s.events) text);
         taken = here;
         came = heard_said s.events text ∙ came_here;
-        stands = stands;
+        stands = subst (λ (p : StreamParts). StandsFor p here) (sym stream) stands;
         short = push_short s.taken rest n (pushed.Frame m) push (λ at e. absurd cc);
         told = subst (IsTold t first (frames_of here)) (sym (said_more s.events text))
             (subst (λ (fs : List Raw). IsTold t first fs (said_in s.events ++ text)) (sym push.frames.1) (told (frames_of s.taken) f (said_in s.events) text s.told replies));
         led = subst (t.led first later) (sym push.frames.1) led;
-        counted = omega (arith, s.counted, ap length push.frames.1, length-append (frames_of s.taken) (f ∷ []));
+        counted = omega (arith, count, s.counted, ap length push.frames.1, length-append (frames_of s.taken) (f ∷ []));
+        start = start ∙ stands.count ∙ ap length (sym (are_file here stands.fits (push.frame.0 tt).1).0);
         under = [];
         parts = sym (are_file here stands.fits (push.frame.0 tt).1).0 ∙ sym (append-nil (frames_bytes (frames_of here)));
-        keeps = sym (take-nil size);
+        keeps = none ∙ sym (take-nil after.size);
       }
 
       -- the frames of what was heard
@@ -267,17 +270,17 @@ module _ {L T : Type 0} (l : line.Ghosts L) (t : talker.Ghosts T) where
 
       -- where the reply to it comes to the end of the talk
       pub told_stop : (A : Type 0) → FramesStay → IsLine l → (next : L) (later : T) (ended : TalkEnd)
-          → Replied {L = L} {T = T} {A = A} l t now next first later (frames_of s.taken) f (Err ended) → HasEnded l t old next first later ended
+          → Replied {L = L} {T = T} {A = A} l t now next first later (frames_of s.taken) f frames.start (Err ended) → HasEnded l t old next first later ended
       told_stop A stay is next later Over r = absurd r
       told_stop A stay is next later Decided r =
           let text : List ℕ = r.0 in
-          let frames = frames_here stay in
+          let all = frames_here stay in
           ends_told old next first later (s.events ++ spoken text) Decided (frames_of s.taken ++ f ∷ [], text, inr (inl r.1)) (does_on l is old now next s.events (spoken text) s.did r.2)
           (waits_on (MayHear t first) [] [] s.events (spoken text) s.waits (waits_spoken (MayHear t first) (heard_in s.events) (said_in s.events) text)) (record {
             frames = frames_of s.taken;
             frame = f;
-            later = frames.0;
-            are = ap frames_of (heard_said s.events text) ∙ frames.1;
+            later = all.0;
+            are = ap frames_of (heard_said s.events text) ∙ all.1;
             before = said_in s.events;
             text = text;
             told = s.told;
@@ -285,12 +288,24 @@ module _ {L T : Type 0} (l : line.Ghosts L) (t : talker.Ghosts T) where
             all = said_more s.events text;
           })
       told_stop A stay is next later (Bad at) r = absurd r
+      told_stop A stay is next later (Unfit place) r =
+          let all = frames_here stay in
+          let none : s.events ++ [] ≡ s.events = append-nil s.events in
+          ends_told old next first later s.events (Unfit place) (frames_of s.taken, [], inr (inr (inr (inl (f, r.1))))) (subst (Does l old next) none (does_on l is old now next s.events [] s.did r.2)) s.waits (record {
+            frames = frames_of s.taken;
+            frame = f;
+            later = all.0;
+            are = all.1;
+            place = r.0 ∙ s.start;
+            told = s.told;
+            refused = r.1;
+          })
       told_stop A stay is next later ReadFailed r = absurd r
       told_stop A stay is next later WriteFailed r =
           let text : List ℕ = r.0 in
           let part : List ℕ = r.2 in
-          let frames = frames_here stay in
-          let are : frames_of (heard_in (s.events ++ said part ∷ [])) ≡ frames_of s.taken ++ f ∷ frames.0 = ap frames_of (heard_part s.events part) ∙ frames.1 in
+          let all = frames_here stay in
+          let are : frames_of (heard_in (s.events ++ said part ∷ [])) ≡ frames_of s.taken ++ f ∷ all.0 = ap frames_of (heard_part s.events part) ∙ all.1 in
           ends_told old next first later (s.events ++ said part ∷ []) WriteFailed (⊎_elim
           (λ (d : t.led first later (frames_of s.taken ++ f ∷ []) × t.replies first (frames_of s.taken) f text). led_so first later (frames_of s.taken ++ f ∷ []) d.0)
           (λ (d : t.decides first later (frames_of s.taken ++ f ∷ []) text). (frames_of s.taken ++ f ∷ [], text, inr (inl d))) r.1) (does_on l is old now next s.events (said part ∷ []) s.did r.4)
@@ -299,21 +314,21 @@ module _ {L T : Type 0} (l : line.Ghosts L) (t : talker.Ghosts T) where
             text = text;
             part = part;
             due = ⊎_elim
-                (λ (d : t.led first later (frames_of s.taken ++ f ∷ []) × t.replies first (frames_of s.taken) f text). reply (frames_of s.taken) frames.0 f (said_in s.events) text are s.told d.1)
-                (λ (d : t.decides first later (frames_of s.taken ++ f ∷ []) text). verdict (frames_of s.taken) frames.0 f (said_in s.events) text are s.told d)
+                (λ (d : t.led first later (frames_of s.taken ++ f ∷ []) × t.replies first (frames_of s.taken) f text). reply (frames_of s.taken) all.0 f (said_in s.events) text are s.told d.1)
+                (λ (d : t.decides first later (frames_of s.taken ++ f ∷ []) text). verdict (frames_of s.taken) all.0 f (said_in s.events) text are s.told d)
                 r.1;
             prefix = r.3;
             all = said_part s.events part;
           })
       told_stop A stay is next later TooLong r = absurd r
       told_stop A stay is next later NoMemory r =
-          let frames = frames_here stay in
+          let all = frames_here stay in
           let none : s.events ++ [] ≡ s.events = append-nil s.events in
-          ends_told old next first later s.events NoMemory ([], [], inr (inr (inr r.0))) (subst (Does l old next) none (does_on l is old now next s.events [] s.did r.1)) s.waits (record {
+          ends_told old next first later s.events NoMemory ([], [], inr (inr (inr (inr r.0)))) (subst (Does l old next) none (does_on l is old now next s.events [] s.did r.1)) s.waits (record {
             frames = frames_of s.taken;
             frame = f;
-            later = frames.0;
-            are = frames.1;
+            later = all.0;
+            are = all.1;
             told = s.told;
             takes = r.0;
           })
@@ -321,22 +336,22 @@ module _ {L T : Type 0} (l : line.Ghosts L) (t : talker.Ghosts T) where
   -- ---- a talk ends
 
   -- nothing more was heard: all that is due to what was heard was said
-  all_told : (old now : L) (first state : T) (size : ℕ) (stream : StreamParts) (count : ℕ) (kept : List ℕ) → (s : IsTelling l t old now first state size stream count kept [])
+  all_told : (old now : L) (first state : T) (frames : Frames) (kept : List ℕ) → (s : IsTelling l t old now first state frames kept [])
       → (heard_in s.events ≡ s.taken) × IsTold t first (frames_of (heard_in s.events)) (said_in s.events)
-  all_told old now first state size stream count kept s =
+  all_told old now first state frames kept s =
       let came : heard_in s.events ≡ s.taken = s.came ∙ append-nil s.taken in
       (came, subst (λ (b : List ℕ). IsTold t first (frames_of b) (said_in s.events)) (sym came) s.told)
 
   -- bytes couldn't be heard
-  pub told_failed : (old now : L) (first state : T) (size : ℕ) (stream : StreamParts) (count : ℕ) (kept : List ℕ) → IsTelling l t old now first state size stream count kept []
+  pub told_failed : (old now : L) (first state : T) (frames : Frames) (kept : List ℕ) → IsTelling l t old now first state frames kept []
       → HasEnded l t old now first state ReadFailed
-  told_failed old now first state size stream count kept s =
-      ends_told old now first state s.events ReadFailed (led_so first state (frames_of s.taken) s.led) s.did s.waits (all_told old now first state size stream count kept s).1
+  told_failed old now first state frames kept s =
+      ends_told old now first state s.events ReadFailed (led_so first state (frames_of s.taken) s.led) s.did s.waits (all_told old now first state frames kept s).1
 
   -- too many bytes came
-  pub told_over : FramesStay → (old now : L) (first state : T) (size : ℕ) (stream : StreamParts) (count : ℕ) (kept rest : List ℕ) → IsTelling l t old now first state size stream count kept rest
-      → max_count < stream.taken + length rest → HasEnded l t old now first state TooLong
-  told_over stay old now first state size stream count kept rest s many =
+  pub told_over : FramesStay → (old now : L) (first state : T) (frames : Frames) (kept rest : List ℕ) → IsTelling l t old now first state frames kept rest
+      → max_count < frames.stream.taken + length rest → HasEnded l t old now first state TooLong
+  told_over stay old now first state frames kept rest s many =
       let more = stay s.taken rest in
       ends_told old now first state s.events TooLong (led_so first state (frames_of s.taken) s.led) s.did s.waits (record {
         many = omega (arith, many, s.stands.count, ap length s.came, length-append s.taken rest);
@@ -347,10 +362,10 @@ module _ {L T : Type 0} (l : line.Ghosts L) (t : talker.Ghosts T) where
       })
 
   -- the bytes end within a frame
-  pub told_bad : (old now : L) (first state : T) (size : ℕ) (stream : StreamParts) (count : ℕ) (kept : List ℕ) (at : ℕ) → (s : IsTelling l t old now first state size stream count kept [])
+  pub told_bad : (old now : L) (first state : T) (frames : Frames) (kept : List ℕ) (at : ℕ) → (s : IsTelling l t old now first state frames kept [])
       → (first_refusal s.taken ≡ Some (frame.TooLong at)) ⊎ (first_refusal s.taken ≡ Some (frame.Truncated at)) → IsAtEnd (l.rest now) → HasEnded l t old now first state (Bad at)
-  told_bad old now first state size stream count kept at s end over =
-      let all = all_told old now first state size stream count kept s in
+  told_bad old now first state frames kept at s end over =
+      let all = all_told old now first state frames kept s in
       ends_told old now first state s.events (Bad at) (led_so first state (frames_of s.taken) s.led) s.did s.waits (
         all.1,
         ⊎_elim
@@ -360,11 +375,11 @@ module _ {L T : Type 0} (l : line.Ghosts L) (t : talker.Ghosts T) where
       )
 
   -- they end behind a whole frame, and the last words were said
-  pub told_all : IsLine l → (old now new : L) (first state later : T) (size : ℕ) (stream : StreamParts) (count : ℕ) (kept text : List ℕ)
-      → (s : IsTelling l t old now first state size stream count kept []) → bad_frame s.taken ≡ None → t.ends first later (frames_of s.taken) text → Does l now new (spoken text)
+  pub told_all : IsLine l → (old now new : L) (first state later : T) (frames : Frames) (kept text : List ℕ)
+      → (s : IsTelling l t old now first state frames kept []) → bad_frame s.taken ≡ None → t.ends first later (frames_of s.taken) text → Does l now new (spoken text)
       → IsAtEnd (l.rest new) → HasEnded l t old new first later Over
-  told_all is old now new first state later size stream count kept text s whole ends did over =
-      let all = all_told old now first state size stream count kept s in
+  told_all is old now new first state later frames kept text s whole ends did over =
+      let all = all_told old now first state frames kept s in
       let came : heard_in (s.events ++ spoken text) ≡ s.taken = heard_said s.events text ∙ all.0 in
       ends_told old new first later (s.events ++ spoken text) Over (frames_of s.taken, text, inr (inr (inl ends))) (does_on l is old now new s.events (spoken text) s.did did)
       (waits_on (MayHear t first) [] [] s.events (spoken text) s.waits (waits_spoken (MayHear t first) (heard_in s.events) (said_in s.events) text)) (record {
@@ -378,11 +393,11 @@ module _ {L T : Type 0} (l : line.Ghosts L) (t : talker.Ghosts T) where
       })
 
   -- or they weren't said whole
-  pub told_last : IsLine l → (old now new : L) (first state later : T) (size : ℕ) (stream : StreamParts) (count : ℕ) (kept text part : List ℕ)
-      → (s : IsTelling l t old now first state size stream count kept []) → bad_frame s.taken ≡ None → t.ends first later (frames_of s.taken) text → IsProperPrefix part text
+  pub told_last : IsLine l → (old now new : L) (first state later : T) (frames : Frames) (kept text part : List ℕ)
+      → (s : IsTelling l t old now first state frames kept []) → bad_frame s.taken ≡ None → t.ends first later (frames_of s.taken) text → IsProperPrefix part text
       → Does l now new (said part ∷ []) → HasEnded l t old new first later WriteFailed
-  told_last is old now new first state later size stream count kept text part s whole ends prefix did =
-      let all = all_told old now first state size stream count kept s in
+  told_last is old now new first state later frames kept text part s whole ends prefix did =
+      let all = all_told old now first state frames kept s in
       let came : heard_in (s.events ++ said part ∷ []) ≡ s.taken = heard_part s.events part ∙ all.0 in
       ends_told old new first later (s.events ++ said part ∷ []) WriteFailed (frames_of s.taken, text, inr (inr (inl ends))) (does_on l is old now new s.events (said part ∷ []) s.did did)
       (waits_on (MayHear t first) [] [] s.events (said part ∷ []) s.waits tt) (record {

@@ -4,5 +4,6 @@ pub mod Replies
 pub mod Sizes
 pub mod Talks
 pub mod Handed
+pub mod Reasons
 pub mod Told
 pub mod Steps

@@ -7,11 +7,11 @@ use Rattle.da_io.specs.declared.inputs.Ended as calls
 use Rattle.da_io.specs.declared.inputs.Ended.TheVariants as call
 use Rattle.da_io.specs.Sinks.{IsProperPrefix}
 use Rattle.da_wire.specs.Reading.{Raw}
-use Rattle.da_wire.specs.Frames.{frames_of, bad_frame}
+use Rattle.da_wire.specs.Frames.{frames_of, bad_frame, frames_bytes}
 use Rattle.da_talk.specs.declared.line.Line as line
 use Rattle.da_talk.specs.declared.talker.Talker as talker
 use Rattle.da_talk.specs.declared.talk_end.TalkEnd.{TalkEnd}
-use Rattle.da_talk.specs.declared.talk_end.TalkEnd.TheVariants.{Over, Decided, Bad, ReadFailed, WriteFailed, TooLong, NoMemory}
+use Rattle.da_talk.specs.declared.talk_end.TalkEnd.TheVariants.{Over, Decided, Bad, Unfit, ReadFailed, WriteFailed, TooLong, NoMemory}
 use Rattle.da_talk.specs.Events.{Event, heard_in, said_in}
 use Rattle.da_talk.specs.Talks.{Does, AtEachWait, HasNoLong, IsBad}
 
@@ -56,6 +56,16 @@ pub record IsDecided {T : Type 0} (t : talker.Ghosts T) (first now : T) (heard s
   pub due : t.decides first now (frames ++ frame ∷ []) text
   pub all : said ≡ before ++ text
 
+-- a frame at an offset is none that is replied to: the replies to those before it were said
+pub record IsUnfit {T : Type 0} (t : talker.Ghosts T) (first : T) (heard said : List ℕ) (at : ℕ) : Type 0 where
+  pub frames : List Raw
+  pub frame : Raw
+  pub later : List Raw
+  pub are : frames_of heard ≡ frames ++ frame ∷ later
+  pub place : at ≡ length (frames_bytes frames)
+  pub told : IsTold t first frames said
+  pub refused : t.refuses first frames frame
+
 -- what was due next was said in part
 pub record IsCut {T : Type 0} (t : talker.Ghosts T) (first now : T) (heard said : List ℕ) : Type 0 where
   pub before : List ℕ
@@ -87,6 +97,7 @@ abbrev pub EndsTold : {T : Type 0} → talker.Ghosts T → T → T → List ℕ 
 EndsTold t first now heard said rest Over = IsOver t first now heard said rest
 EndsTold t first now heard said rest Decided = IsDecided t first now heard said
 EndsTold t first now heard said rest (Bad at) = IsTold t first (frames_of heard) said × IsBad heard rest at
+EndsTold t first now heard said rest (Unfit at) = IsUnfit t first heard said at
 EndsTold t first now heard said rest ReadFailed = IsTold t first (frames_of heard) said
 EndsTold t first now heard said rest WriteFailed = IsCut t first now heard said
 EndsTold t first now heard said rest TooLong = IsTooLong t first heard said

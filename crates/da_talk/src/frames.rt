@@ -33,7 +33,9 @@ pub fn most_missing(k: u16) -> usize
 }
 
 /// Appends the head of a frame: its kind, and the length of its payload.
-pub(crate) fn put_head(text: &mut Vec<u8>, kind: u8, size: u32)
+///
+/// docs/FORMATS.md, "Frames".
+pub fn put_head(text: &mut Vec<u8>, kind: u8, size: u32)
     requires room { HasRoom text.old 5 }
     ensures appended { text.new.items ≡ text.old.items ++ (kind ∷ to_be_bytes w32 size) }
     ensures len { vec_len text.new ≡ vec_len text.old + 5 }

@@ -1,6 +1,6 @@
 //! A talk over a held square.
 
-ghost use Rattle.std.specs.Prelude.{◌≡◌, ◌≤◌, vec_capacity};
+ghost use Rattle.std.specs.Prelude.{◌≡◌, ◌≤◌, length, vec_capacity};
 ghost use Rattle.da_io.specs.Faults.{count_on};
 ghost use Rattle.da_talk.specs.Replies.{most_reply, reply_to, due};
 ghost use Rattle.da_talk.specs.Steps.{IsPlain, EndsAs};
@@ -9,11 +9,45 @@ ghost use Rattle.da_talk.specs.Talks.{HasTalked, last_wait, read_count, write_co
 use crate::asking::asked_in;
 use crate::frames::HEAD_SIZE;
 use crate::replies::put_reply;
+use crate::room::Room;
 use crate::talking::listen;
-use crate::{Ended, Line, TalkEnd, Talker};
+use crate::{Ended, Line, TalkEnd, Talker, Turn};
 use da_wire::RawFrame;
-use namespace_id::{NAMESPACE_SIZE, NoMemory};
+use namespace_id::{NAMESPACE_SIZE, NoMemory, write_at};
 use square_serve::Held;
+
+/// The bytes of the frame of the longest request.
+const REQUEST_SIZE: usize = HEAD_SIZE + NAMESPACE_SIZE;
+
+/// Room for the frame of a request.
+#[derive(Drop)]
+struct RequestRoom {
+    bytes: [u8; REQUEST_SIZE],
+    count: usize,
+    ghost within: { count ≤ length bytes },
+}
+
+impl Room for RequestRoom {
+    ghost use Rattle.std.specs.Prelude.{◌≤◌, take, length};
+
+    ghost kept = { λ room. take room.count room.bytes };
+
+    ghost fits = { λ room size. (room.count ≤ size) × (size ≤ length room.bytes) };
+
+    fn kept_bytes(&self) -> &[u8] {
+        &self.bytes[..self.count]
+    }
+
+    fn keep(&mut self, size: usize, bytes: &[u8]) {
+        let count = bytes.len().min(size - self.count);
+        write_at(&mut self.bytes, self.count, &bytes[..count]);
+        self.count += count;
+    }
+
+    fn forget(&mut self) {
+        self.count = 0;
+    }
+}
 
 /// A held square replies to each frame, of which it is handed those that may be a request, and says nothing else. It stays as
 /// it is.
@@ -38,6 +72,8 @@ impl Talker for Held {
 
     ghost replies = { λ first frames frame text. text ≡ reply_to first (length frames) frame };
 
+    ghost refuses = { λ first frames frame. ⊥ };
+
     ghost decides = { λ first now frames text. ⊥ };
 
     ghost ends = { λ first now frames text. (now ≡ first) × (text ≡ []) };
@@ -49,9 +85,9 @@ impl Talker for Held {
         number: u64,
         frame: Option<RawFrame<'_>>,
         text: &mut Vec<u8>,
-    ) -> Result<bool, NoMemory> {
+    ) -> Result<Turn, NoMemory> {
         put_reply(text, self, number, asked_in(frame));
-        Ok(true)
+        Ok(Turn::GoesOn)
     }
 
     fn close(&mut self, _text: &mut Vec<u8>) {}
@@ -70,7 +106,7 @@ fn ended(end: TalkEnd) -> Ended
         TalkEnd::ReadFailed => Ended::ReadFailed,
         TalkEnd::WriteFailed => Ended::WriteFailed,
         TalkEnd::TooLong => Ended::TooLong,
-        TalkEnd::Decided | TalkEnd::NoMemory => unreachable!(),
+        TalkEnd::Decided | TalkEnd::Unfit(_) | TalkEnd::NoMemory => unreachable!(),
     }
 }
 
@@ -93,7 +129,10 @@ pub fn hold<L: Line>(held: &mut Held, text: &mut Vec<u8>, line: &mut L) -> Ended
     ensures write_faults { L.write_faults line.new ≡
         count_on (L.write_faults line.old) (write_count result) }
 {
-    let mut room = [0; HEAD_SIZE + NAMESPACE_SIZE];
-    let end = listen(held, &mut room, text, line);
+    let mut room = RequestRoom {
+        bytes: [0; REQUEST_SIZE],
+        count: 0,
+    };
+    let end = listen(held, REQUEST_SIZE, &mut room, text, line);
     ended(end)
 }

@@ -10,6 +10,8 @@ pub enum TalkEnd {
     /// At this offset no frame stands: it states a length above the limit, or the bytes ended within it.
     /// All frames before it are replied to.
     Bad(u64),
+    /// At this offset a frame begins that is none that is replied to. All frames before it are replied to, and no last words are said.
+    Unfit(u64),
     /// Bytes couldn't be heard. All frames that came before are replied to.
     ReadFailed,
     /// What was due couldn't be said whole.

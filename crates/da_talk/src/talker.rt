@@ -1,12 +1,24 @@
 //! What replies to the frames of a talk.
 
-ghost use Rattle.std.specs.Prelude.{◌≡◌, ◌≤◌, ◌<◌, ◌+◌, ◌^◌, ◌++◌, ◌∷◌, [], ℕ, List, Bool, true, false, length, vec_capacity, IfOk, IsErr};
+ghost use Rattle.std.specs.Prelude.{◌≡◌, ◌≢◌, ◌≤◌, ◌<◌, ◌+◌, ◌^◌, ◌++◌, ◌∷◌, [], ℕ, List, Bool, true, false, length, vec_capacity, IfOk, IsErr};
 ghost use Rattle.std.specs.Option.{option_map};
 ghost use Rattle.da_wire.specs.Reading.{Raw, raw_seen};
 ghost use Rattle.da_talk.specs.Handed.{if_within};
+ghost use Rattle.da_talk.specs.declared.talker.Turn.TheVariants as turn;
 
 use da_wire::RawFrame;
 use namespace_id::NoMemory;
+
+/// How a talk goes on behind a frame.
+#[derive(Clone, Copy, Debug, PartialEq, Eq)]
+pub enum Turn {
+    /// The frame is replied to, and the talk goes on.
+    GoesOn,
+    /// The frame ended the talk, and only the last words are due.
+    Over,
+    /// The frame is none that is replied to: the talk ends where it begins, and nothing is due any more.
+    Unfit,
+}
 
 /// What replies to the frames of a talk, one after another, and keeps what it needs for that, until it is over: then it waits
 /// for no more of them.
@@ -23,7 +35,7 @@ pub trait Talker {
     /// The most bytes of a payload that it is handed: of a frame with a longer one it is handed nothing.
     ghost longest: { Self → ℕ };
 
-    /// The most bytes that a call of it writes.
+    /// The capacity that a text needs. Nothing longer is written but where a call may run out of memory.
     ghost most: { Self → ℕ };
 
     /// Its calls may run out of memory.
@@ -34,6 +46,9 @@ pub trait Talker {
 
     /// What is due to a frame behind others, where the talk goes on.
     ghost replies: { Self → List Raw → Raw → List ℕ → Type 0 };
+
+    /// A frame behind others is none that is replied to.
+    ghost refuses: { Self → List Raw → Raw → Type 0 };
 
     /// What is due at last where the last of these frames ended the talk, and how that leaves the value.
     ghost decides: { Self → Self → List Raw → List ℕ → Type 0 };
@@ -53,26 +68,33 @@ pub trait Talker {
         ensures most { most self.new ≡ most self.old }
         ensures capacity { vec_capacity text.old ≤ vec_capacity text.new };
 
-    /// Writes what is due to the frame with a number, counted from 0, into an empty text, and answers whether the talk goes on. Where
-    /// it doesn't, nothing is written: `close` writes what is due then.
+    /// Writes what is due to the frame with a number, counted from 0, into an empty text, and answers how the talk goes on. Where the
+    /// frame ended it, nothing is written: `close` writes what is due then. Where it is none that is replied to, what is written counts
+    /// for nothing.
     fn answer(
         &mut self,
         number: u64,
         frame: Option<RawFrame<'_>>,
         text: &mut Vec<u8>,
-    ) -> Result<bool, NoMemory>
+    ) -> Result<Turn, NoMemory>
         requires open { is_over self.old ≡ false }
         requires few { number + 1 < 2 ^ 64 }
         requires empty { text.old.items ≡ [] }
         requires room { most self.old ≤ vec_capacity text.old }
-        ensures led { IfOk result (λ goes_on. (first : Self) (frames : List Raw) (raw : Raw) → led first self.old frames →
-            length frames ≡ number → option_map (λ f. raw_seen f) frame.entry ≡ if_within (longest self.old) raw →
+        ensures led { IfOk result (λ went. went ≢ turn.Unfit → (first : Self) (frames : List Raw) (raw : Raw) →
+            led first self.old frames → length frames ≡ number →
+            option_map (λ f. raw_seen f) frame.entry ≡ if_within (longest self.old) raw →
             led first self.new (frames ++ raw ∷ [])) }
-        ensures due { IfOk result (λ goes_on. (first : Self) (frames : List Raw) (raw : Raw) → led first self.old frames →
-            length frames ≡ number → option_map (λ f. raw_seen f) frame.entry ≡ if_within (longest self.old) raw →
-            goes_on ≡ true → replies first frames raw text.new.items) }
-        ensures over { IfOk result (λ goes_on. goes_on ≡ false → (is_over self.new ≡ true) × (text.new.items ≡ [])) }
-        ensures open { IfOk result (λ goes_on. goes_on ≡ true → is_over self.new ≡ false) }
+        ensures due { IfOk result (λ went. went ≡ turn.GoesOn → (first : Self) (frames : List Raw) (raw : Raw) →
+            led first self.old frames → length frames ≡ number →
+            option_map (λ f. raw_seen f) frame.entry ≡ if_within (longest self.old) raw →
+            replies first frames raw text.new.items) }
+        ensures refused { IfOk result (λ went. went ≡ turn.Unfit → (first : Self) (frames : List Raw) (raw : Raw) →
+            led first self.old frames → length frames ≡ number →
+            option_map (λ f. raw_seen f) frame.entry ≡ if_within (longest self.old) raw →
+            refuses first frames raw) }
+        ensures over { IfOk result (λ went. went ≡ turn.Over → (is_over self.new ≡ true) × (text.new.items ≡ [])) }
+        ensures open { IfOk result (λ went. went ≡ turn.GoesOn → is_over self.new ≡ false) }
         ensures memory { IsErr result → takes_memory self.old }
         ensures longest { longest self.new ≡ longest self.old }
         ensures most { most self.new ≡ most self.old }

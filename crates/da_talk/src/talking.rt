@@ -1,6 +1,6 @@
 //! A talk with whatever replies to its frames.
 
-ghost use Rattle.std.specs.Prelude.{◌≡◌, ◌≤◌, ◌<◌, ◌+◌, ◌^◌, ◌++◌, ℕ, List, [], length, take, drop, true, false, vec_capacity, OnOk, IfOk, IfErr};
+ghost use Rattle.std.specs.Prelude.{◌≡◌, ◌≤◌, ◌<◌, ◌+◌, ◌^◌, ◌++◌, ℕ, List, [], length, drop, true, false, vec_capacity, OnOk, IfOk, IfErr};
 ghost use Rattle.da_io.specs.declared.inputs.Ended.TheVariants as call;
 ghost use Rattle.da_io.specs.Faults.{count_on, CountsFault};
 ghost use Rattle.std.specs.Io.KnownBytes.{IsAtEnd};
@@ -12,29 +12,21 @@ ghost use Rattle.da_talk.specs.Told.{HasTold, last_heard, hear_count, say_count}
 ghost use Rattle.da_talk.specs.Steps.{spoken, Says, SaysDue, Replies, IsTelling, HasEnded, Tells, HasHeardAll, say_faults};
 
 use crate::frames::HEAD_SIZE;
-use crate::{Line, TalkEnd, Talker};
+use crate::room::Room;
+use crate::{Line, TalkEnd, Talker, Turn};
 use da_io::{PIECE_SIZE, WriteFailed};
 use da_wire::{FrameError, FrameStream, Pushed, raw, stream_laws, wire_laws};
-use namespace_id::{NoMemory, write_at};
+use namespace_id::NoMemory;
 
-/// The frames of a talk: the stream that reads them, how many of them have ended, and how many bytes are kept of the one
-/// under way.
+/// The frames of a talk: the stream that reads them, the offset at which the one under way begins, how many bytes were taken, how
+/// many frames have ended, and how many bytes are kept of the one under way at most.
 #[derive(Drop)]
 pub(crate) struct Frames {
     stream: FrameStream,
+    start: u64,
+    taken: u64,
     count: u64,
-    kept: usize,
-}
-
-/// Copies bytes behind the first `kept` of a room, as far as it holds them, and answers how many are kept then.
-fn keep(room: &mut [u8], kept: usize, bytes: &[u8]) -> usize
-    requires { kept ≤ length room.old }
-    ensures kept { take result room.new ≡ take (length room.old) (take kept room.old ++ bytes.now) }
-    ensures within { result ≤ length room.old }
-{
-    let count = bytes.len().min(room.len() - kept);
-    write_at(room, kept, &bytes[..count]);
-    kept + count
+    size: usize,
 }
 
 /// Says a text, if it isn't empty.
@@ -74,19 +66,19 @@ fn finish<L: Line, T: Talker>(
     say(text, line)
 }
 
-/// Says what is due to the frame with a number, whose bytes these are, or as many of them as are kept.
+/// Says what is due to the frame under way, whose bytes these are, or as many of them as are kept.
 fn reply<L: Line, T: Talker>(
     talker: &mut T,
-    number: u64,
+    frames: &Frames,
     bytes: &[u8],
     text: &mut Vec<u8>,
     line: &mut L,
 ) -> Result<(), TalkEnd>
     requires open { T.is_over talker.old ≡ false }
     requires text { T.most talker.old ≤ vec_capacity text.old }
-    requires few { number + 1 < 2 ^ 64 }
-    ensures replies { Replies L.Line T.Talker line.old line.new talker.old talker.new number
-        (ok_of (raw_of 0 bytes.now)) result }
+    requires few { frames.now.count + 1 < 2 ^ 64 }
+    ensures replies { Replies L.Line T.Talker line.old line.new talker.old talker.new frames.now.count
+        frames.now.start (ok_of (raw_of 0 bytes.now)) result }
     ensures open { OnOk result (T.is_over talker.new ≡ false) }
     ensures text { OnOk result (T.most talker.new ≤ vec_capacity text.new) }
     ensures longest { OnOk result (T.longest talker.new ≡ T.longest talker.old) }
@@ -96,45 +88,48 @@ fn reply<L: Line, T: Talker>(
     ensures write_faults { L.write_faults line.new ≡ count_on (L.write_faults line.old) (say_faults result) }
 {
     text.clear();
-    match talker.answer(number, raw(bytes, 0).ok(), text) {
-        Ok(true) => match say(text, line) {
+    match talker.answer(frames.count, raw(bytes, 0).ok(), text) {
+        Ok(Turn::GoesOn) => match say(text, line) {
             Ok(()) => Ok(()),
             Err(WriteFailed) => Err(TalkEnd::WriteFailed),
         },
-        Ok(false) => match finish(talker, text, line) {
+        Ok(Turn::Over) => match finish(talker, text, line) {
             Ok(()) => Err(TalkEnd::Decided),
             Err(WriteFailed) => Err(TalkEnd::WriteFailed),
         },
+        Ok(Turn::Unfit) => Err(TalkEnd::Unfit(frames.start)),
         Err(NoMemory) => Err(TalkEnd::NoMemory),
     }
 }
 
 /// Takes bytes of a piece up to the end of a frame, and says what is due to it. Answers how many it took.
-fn answer_frame<L: Line, T: Talker>(
+fn answer_frame<L: Line, T: Talker, R: Room>(
     talker: &mut T,
     frames: &mut Frames,
-    room: &mut [u8],
+    room: &mut R,
     piece: &[u8],
     text: &mut Vec<u8>,
     line: &mut L,
 ) -> Result<usize, TalkEnd>
     requires open { T.is_over talker.old ≡ false }
     requires text { T.most talker.old ≤ vec_capacity text.old }
-    requires room { length room.old ≡ 5 + T.longest talker.old }
-    requires kept { frames.old.kept ≤ length room.old }
+    requires size { frames.old.size ≡ 5 + T.longest talker.old }
+    requires room { R.fits room.old frames.old.size }
     requires some { 0 < length piece.now }
-    requires bytes { frames.old.stream.taken + length piece.now < 2 ^ 64 }
-    requires few { frames.old.count ≤ frames.old.stream.taken }
+    requires taken { frames.old.taken ≡ frames.old.stream.taken }
+    requires bytes { frames.old.taken + length piece.now < 2 ^ 64 }
+    requires few { frames.old.count ≤ frames.old.taken }
     ensures tells { Tells L.Line T.Talker line.old line.new talker.old talker.new frames.old frames.new
-        room.old room.new piece.now (λ count. drop count piece.now) result }
+        (R.kept room.old) (R.kept room.new) piece.now (λ count. drop count piece.now) result }
     ensures open { OnOk result (T.is_over talker.new ≡ false) }
     ensures text { OnOk result (T.most talker.new ≤ vec_capacity text.new) }
-    ensures longest { OnOk result (T.longest talker.new ≡ T.longest talker.old) }
-    ensures kept { OnOk result (frames.new.kept ≤ length room.old) }
+    ensures size { OnOk result (frames.new.size ≡ 5 + T.longest talker.new) }
+    ensures room { OnOk result (R.fits room.new frames.new.size) }
     ensures within { IfOk result (λ count. count ≤ length piece.now) }
     ensures some { IfOk result (λ count. 0 < count) }
-    ensures taken { IfOk result (λ count. frames.new.stream.taken ≡ frames.old.stream.taken + count) }
-    ensures few { OnOk result (frames.new.count ≤ frames.new.stream.taken) }
+    ensures taken { OnOk result (frames.new.taken ≡ frames.new.stream.taken) }
+    ensures bytes { IfOk result (λ count. frames.new.taken ≡ frames.old.taken + count) }
+    ensures few { OnOk result (frames.new.count ≤ frames.new.taken) }
     ensures heard { IfErr result HasHeardAll }
     ensures ended { L.ended line.new ≡ L.ended line.old }
     ensures read_faults { L.read_faults line.new ≡ L.read_faults line.old }
@@ -143,15 +138,16 @@ fn answer_frame<L: Line, T: Talker>(
     wire_laws();
     stream_laws();
     let (count, pushed) = frames.stream.push(piece);
-    let kept = keep(room, frames.kept, &piece[..count]);
-    frames.kept = kept;
+    frames.taken += count as u64;
+    room.keep(frames.size, &piece[..count]);
     match pushed {
         Pushed::More => Ok(count),
         Pushed::Bad(at) => Err(TalkEnd::Bad(at)),
-        Pushed::Frame(_message) => match reply(talker, frames.count, &room[..kept], text, line) {
+        Pushed::Frame(_message) => match reply(talker, frames, room.kept_bytes(), text, line) {
             Ok(()) => {
+                frames.start = frames.taken;
                 frames.count += 1;
-                frames.kept = 0;
+                room.forget();
                 Ok(count)
             }
             Err(ended) => Err(ended),
@@ -160,28 +156,30 @@ fn answer_frame<L: Line, T: Talker>(
 }
 
 /// Says what is due to the frames that end in a piece, one after another.
-fn answer_piece<L: Line, T: Talker>(
+fn answer_piece<L: Line, T: Talker, R: Room>(
     talker: &mut T,
     frames: &mut Frames,
-    room: &mut [u8],
+    room: &mut R,
     piece: &[u8],
     text: &mut Vec<u8>,
     line: &mut L,
 ) -> Result<(), TalkEnd>
     requires open { T.is_over talker.old ≡ false }
     requires text { T.most talker.old ≤ vec_capacity text.old }
-    requires room { length room.old ≡ 5 + T.longest talker.old }
-    requires kept { frames.old.kept ≤ length room.old }
-    requires bytes { frames.old.stream.taken + length piece.now < 2 ^ 64 }
-    requires few { frames.old.count ≤ frames.old.stream.taken }
+    requires size { frames.old.size ≡ 5 + T.longest talker.old }
+    requires room { R.fits room.old frames.old.size }
+    requires taken { frames.old.taken ≡ frames.old.stream.taken }
+    requires bytes { frames.old.taken + length piece.now < 2 ^ 64 }
+    requires few { frames.old.count ≤ frames.old.taken }
     ensures tells { Tells L.Line T.Talker line.old line.new talker.old talker.new frames.old frames.new
-        room.old room.new piece.now (λ all. []) result }
+        (R.kept room.old) (R.kept room.new) piece.now (λ all. []) result }
     ensures open { OnOk result (T.is_over talker.new ≡ false) }
     ensures text { OnOk result (T.most talker.new ≤ vec_capacity text.new) }
-    ensures longest { OnOk result (T.longest talker.new ≡ T.longest talker.old) }
-    ensures kept { OnOk result (frames.new.kept ≤ length room.old) }
-    ensures taken { OnOk result (frames.new.stream.taken ≡ frames.old.stream.taken + length piece.now) }
-    ensures few { OnOk result (frames.new.count ≤ frames.new.stream.taken) }
+    ensures size { OnOk result (frames.new.size ≡ 5 + T.longest talker.new) }
+    ensures room { OnOk result (R.fits room.new frames.new.size) }
+    ensures taken { OnOk result (frames.new.taken ≡ frames.new.stream.taken) }
+    ensures bytes { OnOk result (frames.new.taken ≡ frames.old.taken + length piece.now) }
+    ensures few { OnOk result (frames.new.count ≤ frames.new.taken) }
     ensures heard { IfErr result HasHeardAll }
     ensures ended { L.ended line.new ≡ L.ended line.old }
     ensures read_faults { L.read_faults line.new ≡ L.read_faults line.old }
@@ -214,21 +212,21 @@ pub(crate) fn offset(error: FrameError) -> u64
 /// Ends a talk whose bytes are over: with the last words, where they end behind a whole frame.
 fn at_end<L: Line, T: Talker>(
     talker: &mut T,
-    stream: &FrameStream,
+    frames: &Frames,
     text: &mut Vec<u8>,
     line: &mut L,
 ) -> TalkEnd
     requires open { T.is_over talker.old ≡ false }
     requires text { T.most talker.old ≤ vec_capacity text.old }
-    ensures told { (old : L) (first : T) (size count : ℕ) (kept : List ℕ) →
-        IsTelling L.Line T.Talker old line.old first talker.old size stream.now count kept [] →
+    ensures told { (old : L) (first : T) (kept : List ℕ) →
+        IsTelling L.Line T.Talker old line.old first talker.old frames.now kept [] →
         IsAtEnd (L.rest line.old) → HasEnded L.Line T.Talker old line.new first talker.new result }
     ensures heard { HasHeardAll result }
     ensures ended { L.ended line.new ≡ L.ended line.old }
     ensures read_faults { L.read_faults line.new ≡ L.read_faults line.old }
     ensures write_faults { L.write_faults line.new ≡ count_on (L.write_faults line.old) (say_count result) }
 {
-    match stream.end() {
+    match frames.stream.end() {
         None => match finish(talker, text, line) {
             Ok(()) => TalkEnd::Over,
             Err(WriteFailed) => TalkEnd::WriteFailed,
@@ -237,17 +235,20 @@ fn at_end<L: Line, T: Talker>(
     }
 }
 
-/// Hears bytes and says what is due, until the talk ends, behind the first words. The room has 5 bytes more than the longest
-/// payload that the talker is handed.
-pub(crate) fn listen<L: Line, T: Talker>(
+/// Hears bytes and says what is due, until the talk ends, behind the first words. Of a frame `size` bytes are kept at most, 5 more
+/// than the longest payload that the talker is handed.
+pub(crate) fn listen<L: Line, T: Talker, R: Room>(
     talker: &mut T,
-    room: &mut [u8],
+    size: usize,
+    room: &mut R,
     text: &mut Vec<u8>,
     line: &mut L,
 ) -> TalkEnd
     requires open { T.is_over talker.old ≡ false }
     requires text { T.most talker.old ≤ vec_capacity text.old }
-    requires room { length room.old ≡ 5 + T.longest talker.old }
+    requires size { size ≡ 5 + T.longest talker.old }
+    requires room { R.fits room.old size }
+    requires empty { R.kept room.old ≡ [] }
     ensures told { (old : L) (first : T) (began : List ℕ) → T.led first talker.old [] → T.begins first began →
         Does L.Line old line.old (spoken began) → HasEnded L.Line T.Talker old line.new first talker.new result }
     ensures ended { L.ended line.new ≡ last_heard result }
@@ -257,8 +258,10 @@ pub(crate) fn listen<L: Line, T: Talker>(
     stream_laws();
     let mut frames = Frames {
         stream: FrameStream::new(),
+        start: 0,
+        taken: 0,
         count: 0,
-        kept: 0,
+        size,
     };
     let mut buf = [0; PIECE_SIZE];
     let mut left = u64::MAX;
@@ -267,7 +270,7 @@ pub(crate) fn listen<L: Line, T: Talker>(
             return TalkEnd::ReadFailed;
         };
         if count == 0 {
-            return at_end(talker, &frames.stream, text, line);
+            return at_end(talker, &frames, text, line);
         }
         if count as u64 > left {
             return TalkEnd::TooLong;
@@ -283,9 +286,10 @@ pub(crate) fn listen<L: Line, T: Talker>(
 /// Talks over a line with whatever replies to frames, until its bytes end, a frame ends the talk, or a call fails.
 ///
 /// Whenever it waits for bytes, it has said exactly what is due to all frames that it heard. It ends early where a frame states a
-/// length above the limit, and says the last words where a frame ended the talk and where the bytes end behind a whole frame. The
-/// bytes of the frame under way are kept in `room`, those of a payload of at most `longest` bytes, and what is due is written in
-/// `text`. It takes no memory but what the talker takes for a frame.
+/// length above the limit and where a frame is none that is replied to, and says the last words where a frame ended the talk and
+/// where the bytes end behind a whole frame. The bytes of the frame under way are kept in `room`, those of a payload of at most
+/// `longest` bytes, and what is due is written in `text`. It takes no memory but what the talker takes for a frame, and `room` is
+/// touched only as far as bytes of a frame come.
 ///
 /// docs/FORMATS.md, "Talks".
 pub fn talk<L: Line, T: Talker>(
@@ -312,6 +316,5 @@ pub fn talk<L: Line, T: Talker>(
         return TalkEnd::WriteFailed;
     };
     room.clear();
-    room.resize(HEAD_SIZE + longest, 0).unwrap();
-    listen(talker, room, text, line)
+    listen(talker, HEAD_SIZE + longest, room, text, line)
 }

@@ -1,6 +1,6 @@
 use Rattle.std.proofs.lemmas.List.{get_or_default}
 use Rattle.frame_payloads.specs.codec.Texts.{cell_bytes}
-use Rattle.frame_payloads.proofs.Fields.PutLoops.{put_room, put_more, put_end}
+use Rattle.da_talk.proofs.PutLoops.{put_room, put_more, put_end}
 use Rattle.da_talk.proofs.frames.put_cells.Goals as goal
 
 -- it has no more bytes than are left

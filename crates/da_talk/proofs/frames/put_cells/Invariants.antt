@@ -1,7 +1,7 @@
 use Rattle.std.proofs.Common.{vec_len, length}
 use Rattle.std.specs.List.{flat_map}
 use Rattle.frame_payloads.specs.codec.Texts.{cell_bytes}
-use Rattle.frame_payloads.proofs.Fields.PutLoops.{IsPutting}
+use Rattle.da_talk.proofs.PutLoops.{IsPutting}
 use Rattle.da_talk.proofs.frames.put_cells.Given as goal
 use Rattle.std.proofs.Common.{◌+◌, ◌++◌}
 

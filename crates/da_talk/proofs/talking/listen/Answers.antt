@@ -1,4 +1,4 @@
-use Rattle.std.proofs.Common.{◌∙◌, ℕ, [], length, take, refl, sym, subst, arith, length-take-le}
+use Rattle.std.proofs.Common.{◌∙◌, ℕ, [], take, refl, sym, subst, arith, length-take-le}
 use Rattle.da_talk.specs.Steps.{IsTelling}
 use Rattle.da_talk.proofs.EventLemmas.{IsLine, does_heard, count_none}
 use Rattle.da_talk.proofs.TellLemmas.{telling_none, telling_heard, telling_piece, told_failed, told_over}
@@ -9,11 +9,12 @@ pub loop-count-init : goal.loop-count-init
 loop-count-init g c = record {
   goes_on = c.requires.open;
   text = c.requires.text;
+  size = c.requires.size;
   room = c.requires.room;
-  kept = omega arith;
-  telling = λ old first began led begins did. telling_none g.L.Line g.T.Talker old c.args.line.now first c.args.talker.now (length c.args.room.now) c.new.result began
-      c.new.ensures.stands led begins did;
-  bytes = omega (arith, c.new.ensures.taken);
+  telling = λ old first began led begins did. telling_none g.L.Line g.T.Talker old c.args.line.now first c.args.talker.now _ (g.R.Room.kept c.args.room.now) began
+      c.new.ensures.stands refl refl c.requires.empty led begins did;
+  taken = sym c.new.ensures.taken;
+  bytes = refl;
   few = omega arith;
   read_faults = refl;
   write_faults = refl;
@@ -25,42 +26,40 @@ returns-in_default-clause-told g c = λ old first began led begins did.
     let is : IsLine g.L.Line = record { few = λ x. (g.met.L.Line.counted x).0; none = g.met.L.Line.stays_none; on = g.met.L.Line.stays_on } in
     let none = does_heard g.L.Line c.loop-count.line c.hear.new.self [] c.in_default.ensures.events c.in_default.ensures.rest.0 c.in_default.ensures.rest.1
     (c.in_default.ensures.given ∙ count_none _ (g.met.L.Line.counted c.loop-count.line).0) c.hear.ensures.stays in
-    told_failed g.L.Line g.T.Talker old c.hear.new.self first c.loop-count.talker (length c.loop-count.room) c.loop-count.frames.stream c.loop-count.frames.count
-    (take c.loop-count.frames.kept c.loop-count.room)
-    (telling_heard g.L.Line g.T.Talker is old c.loop-count.line c.hear.new.self first c.loop-count.talker (length c.loop-count.room) c.loop-count.frames.stream c.loop-count.frames.count
-    (take c.loop-count.frames.kept c.loop-count.room) []
+    told_failed g.L.Line g.T.Talker old c.hear.new.self first c.loop-count.talker c.loop-count.frames (g.R.Room.kept c.loop-count.room)
+    (telling_heard g.L.Line g.T.Talker is old c.loop-count.line c.hear.new.self first c.loop-count.talker c.loop-count.frames (g.R.Room.kept c.loop-count.room) []
     (c.loop-count.invariant.telling old first began led begins did) none)
 
 -- the bytes are over
 pub returns-then-count-eq0-clause-told : goal.returns-then-count-eq0-clause-told
 returns-then-count-eq0-clause-told g c = λ old first began led begins did.
     let is : IsLine g.L.Line = record { few = λ x. (g.met.L.Line.counted x).0; none = g.met.L.Line.stays_none; on = g.met.L.Line.stays_on } in
-    let t = telling_piece g.L.Line g.T.Talker is old c.loop-count.line c.hear.new.self first c.loop-count.talker (length c.loop-count.room) c.loop-count.frames.stream c.loop-count.frames.count
-    (take c.loop-count.frames.kept c.loop-count.room) c.hear.new.buf c.in-Ok.count c.in-Ok.ensures.bound.0
+    let t = telling_piece g.L.Line g.T.Talker is old c.loop-count.line c.hear.new.self first c.loop-count.talker c.loop-count.frames (g.R.Room.kept c.loop-count.room) c.hear.new.buf c.in-Ok.count c.in-Ok.ensures.bound.0
     c.in-Ok.ensures.events c.in-Ok.ensures.rest.0 c.in-Ok.ensures.rest.1 c.in-Ok.ensures.given c.hear.ensures.stays (c.loop-count.invariant.telling old first began led begins did) in
-    c.at_end.ensures.told old first (length c.loop-count.room) c.loop-count.frames.count
-    (take c.loop-count.frames.kept c.loop-count.room)
-    (subst (λ (n : ℕ). IsTelling g.L.Line g.T.Talker old c.hear.new.self first c.loop-count.talker (length c.loop-count.room) c.loop-count.frames.stream c.loop-count.frames.count
-    (take c.loop-count.frames.kept c.loop-count.room) (take n c.hear.new.buf)) c.if-count-eq0.true t)
+    c.at_end.ensures.told old first (g.R.Room.kept c.loop-count.room)
+    (subst (λ (n : ℕ). IsTelling g.L.Line g.T.Talker old c.hear.new.self first c.loop-count.talker c.loop-count.frames (g.R.Room.kept c.loop-count.room) (take n c.hear.new.buf)) c.if-count-eq0.true t)
     (c.in-Ok.ensures.rest.2 c.if-count-eq0.true (omega (arith, c.hear.auto.buf)))
 
 -- too many bytes came
 pub returns-then-count-left-clause-told : goal.returns-then-count-left-clause-told
 returns-then-count-left-clause-told g c = λ old first began led begins did.
     let is : IsLine g.L.Line = record { few = λ x. (g.met.L.Line.counted x).0; none = g.met.L.Line.stays_none; on = g.met.L.Line.stays_on } in
-    let t = telling_piece g.L.Line g.T.Talker is old c.loop-count.line c.hear.new.self first c.loop-count.talker (length c.loop-count.room) c.loop-count.frames.stream c.loop-count.frames.count
-    (take c.loop-count.frames.kept c.loop-count.room) c.hear.new.buf c.in-Ok.count c.in-Ok.ensures.bound.0
+    let t = telling_piece g.L.Line g.T.Talker is old c.loop-count.line c.hear.new.self first c.loop-count.talker c.loop-count.frames (g.R.Room.kept c.loop-count.room) c.hear.new.buf c.in-Ok.count c.in-Ok.ensures.bound.0
     c.in-Ok.ensures.events c.in-Ok.ensures.rest.0 c.in-Ok.ensures.rest.1 c.in-Ok.ensures.given c.hear.ensures.stays (c.loop-count.invariant.telling old first began led begins did) in
-    told_over g.L.Line g.T.Talker c.stream_laws.ensures.stay old c.hear.new.self first c.loop-count.talker (length c.loop-count.room) c.loop-count.frames.stream c.loop-count.frames.count
-    (take c.loop-count.frames.kept c.loop-count.room) (take c.in-Ok.count c.hear.new.buf) t
-    (omega (arith, length-take-le c.in-Ok.count c.hear.new.buf c.in-Ok.ensures.bound.0, c.if-count-left.true, c.loop-count.invariant.bytes))
+    told_over g.L.Line g.T.Talker c.stream_laws.ensures.stay old c.hear.new.self first c.loop-count.talker c.loop-count.frames (g.R.Room.kept c.loop-count.room) (take c.in-Ok.count c.hear.new.buf) t
+    (omega (
+      arith,
+      length-take-le c.in-Ok.count c.hear.new.buf c.in-Ok.ensures.bound.0,
+      c.if-count-left.true,
+      c.loop-count.invariant.bytes,
+      c.loop-count.invariant.taken,
+    ))
 
 -- the talk ended within a piece
 pub returns-in-Err-clause-told : goal.returns-in-Err-clause-told
 returns-in-Err-clause-told g c = λ old first began led begins did.
     let is : IsLine g.L.Line = record { few = λ x. (g.met.L.Line.counted x).0; none = g.met.L.Line.stays_none; on = g.met.L.Line.stays_on } in
-    let t = telling_piece g.L.Line g.T.Talker is old c.loop-count.line c.hear.new.self first c.loop-count.talker (length c.loop-count.room) c.loop-count.frames.stream c.loop-count.frames.count
-    (take c.loop-count.frames.kept c.loop-count.room) c.hear.new.buf c.in-Ok.count c.in-Ok.ensures.bound.0
+    let t = telling_piece g.L.Line g.T.Talker is old c.loop-count.line c.hear.new.self first c.loop-count.talker c.loop-count.frames (g.R.Room.kept c.loop-count.room) c.hear.new.buf c.in-Ok.count c.in-Ok.ensures.bound.0
     c.in-Ok.ensures.events c.in-Ok.ensures.rest.0 c.in-Ok.ensures.rest.1 c.in-Ok.ensures.given c.hear.ensures.stays (c.loop-count.invariant.telling old first began led begins did) in
     c.in-Err.ensures.tells old first t
 
@@ -69,18 +68,18 @@ pub loop-count-preserved : goal.loop-count-preserved
 loop-count-preserved g c = record {
   goes_on = c.in-Ok-answer_piece.ensures.open;
   text = c.in-Ok-answer_piece.ensures.text;
-  room = omega (arith, c.answer_piece.auto.room, c.in-Ok-answer_piece.ensures.longest, c.loop-count.invariant.room);
-  kept = omega (arith, c.answer_piece.auto.room, c.in-Ok-answer_piece.ensures.kept);
+  size = c.in-Ok-answer_piece.ensures.size;
+  room = c.in-Ok-answer_piece.ensures.room;
   telling = λ old first began led begins did.
       let is : IsLine g.L.Line = record { few = λ x. (g.met.L.Line.counted x).0; none = g.met.L.Line.stays_none; on = g.met.L.Line.stays_on } in
-      let t = telling_piece g.L.Line g.T.Talker is old c.loop-count.line c.hear.new.self first c.loop-count.talker (length c.loop-count.room) c.loop-count.frames.stream c.loop-count.frames.count
-      (take c.loop-count.frames.kept c.loop-count.room) c.hear.new.buf c.in-Ok.count c.in-Ok.ensures.bound.0
+      let t = telling_piece g.L.Line g.T.Talker is old c.loop-count.line c.hear.new.self first c.loop-count.talker c.loop-count.frames (g.R.Room.kept c.loop-count.room) c.hear.new.buf c.in-Ok.count c.in-Ok.ensures.bound.0
       c.in-Ok.ensures.events c.in-Ok.ensures.rest.0 c.in-Ok.ensures.rest.1 c.in-Ok.ensures.given c.hear.ensures.stays (c.loop-count.invariant.telling old first began led begins did) in
       c.in-Ok-answer_piece.ensures.tells old first t;
+  taken = c.in-Ok-answer_piece.ensures.taken;
   bytes = omega (
     arith,
     c.loop-count.invariant.bytes,
-    c.in-Ok-answer_piece.ensures.taken,
+    c.in-Ok-answer_piece.ensures.bytes,
     length-take-le c.in-Ok.count c.hear.new.buf c.in-Ok.ensures.bound.0,
     c.if-count-left.false,
   );

@@ -1,7 +1,8 @@
 -- What is known of a frame by what was handed of it.
-use Rattle.std.proofs.Common.{◌≡◌, ◌∙◌, ℕ, ◌+◌, ◌*◌, ◌<◌, ◌≤◌, Bool, true, false, cond, leb, ltb, List, [], ◌∷◌, length, take, drop, length-drop, Option, None, Some, refl, sym, ap, arith, leb-false, ltb-false, eqb-true}
+use Rattle.std.proofs.Common.{◌≡◌, ℕ, ◌+◌, ◌*◌, ◌<◌, ◌≤◌, Bool, true, false, cond, leb, ltb, List, [], ◌∷◌, length, take, drop, length-drop, Option, None, Some, refl, sym, ap, arith, leb-false, ltb-false, eqb-true}
 use Rattle.std.proofs.lemmas.Option.{same_Some}
-use Rattle.std.specs.Prelude.{◌==◌}
+use Rattle.std.specs.Prelude.{◌==◌, ◌&&◌, is_some}
+use Rattle.std.proofs.lemmas.Bool.{ne_eqb}
 use Rattle.std.specs.Int.{w16, from_be_bytes}
 use Rattle.namespace_id.specs.declared.cells.Axis.{Axis}
 use Rattle.namespace_id.specs.declared.cells.Axis.TheVariants.{Row, Col}
@@ -14,22 +15,14 @@ use Rattle.frame_fields.specs.Fields.{◌>>=◌, number_at, byte_at, string_at, 
 use Rattle.frame_fields.specs.Messages.{message_front, message_at}
 use Rattle.frame_payloads.specs.kinds.Message.{most_message}
 use Rattle.frame_payloads.proofs.Fields.Readers.{bind_some, if_false, if_true}
-use Rattle.da_wire.specs.Spelling.{message_kind}
+use Rattle.da_wire.specs.Spelling.{message_kind, state_kind}
 use Rattle.da_wire.specs.Reading.{Raw}
 use Rattle.da_wire.specs.Frames.{message_in}
-use Rattle.da_talk.specs.Handed.{if_within}
+use Rattle.da_talk.specs.Handed.{if_within, asks_state}
 
 -- ---- what was handed
 
--- a frame that was handed is the one that came
-handed_by : (b : Bool) (f raw : Raw) → Some f ≡ cond b (Some raw) None → f ≡ raw
-handed_by true f raw e = same_Some f raw e
-handed_by false f raw e = absurd cc
-
-pub handed_some : (longest : ℕ) (f raw : Raw) → Some f ≡ if_within longest raw → f ≡ raw
-handed_some longest f raw e = handed_by (leb (length raw.payload) longest) f raw e
-
--- one that wasn't is longer
+-- a frame that wasn't handed is longer
 long_by : (b : Bool) (raw : Raw) → ◌≡◌ {A = Option Raw} None (cond b (Some raw) None) → b ≡ false
 long_by true raw e = absurd cc
 long_by false raw e = refl
@@ -133,7 +126,8 @@ front_few bytes r e =
       rest,
     )
 
-message_few : (payload : List ℕ) (m : Message) → message_at payload ≡ Some m → length payload ≤ most_message
+-- no sample is longer than the longest
+pub message_few : (payload : List ℕ) (m : Message) → message_at payload ≡ Some m → length payload ≤ most_message
 unfolding message_at
 message_few payload m e =
     let front = bind_some (message_front payload) (λ front. cond (length front.1 == 0) (Some front.0) None) m e in
@@ -151,12 +145,24 @@ unread : (test : Bool) (o : Option Message) → o ≡ None → cond test o None 
 unread true o none = none
 unread false o none = refl
 
-pub no_sample : (raw : Raw) → None ≡ if_within most_message raw → None ≡ message_in raw
-no_sample raw e =
-    sym (unread (raw.kind == message_kind) (message_at raw.payload) (none_by raw.payload (message_at raw.payload) refl (handed_none most_message raw e)))
+pub no_sample : (longest : ℕ) (raw : Raw) → most_message ≤ longest → None ≡ if_within longest raw → None ≡ message_in raw
+no_sample longest raw room e =
+    let long : most_message < length raw.payload = omega (arith, room, handed_none longest raw e) in
+    sym (unread (raw.kind == message_kind) (message_at raw.payload) (none_by raw.payload (message_at raw.payload) refl long))
 
--- nor is one of another kind
-pub other_kind : (f raw : Raw) → (f.kind == message_kind) ≡ false → Some f ≡ if_within most_message raw → None ≡ message_in raw
-other_kind f raw other e =
-    let same : f ≡ raw = handed_some most_message f raw e in
-    sym (ap (λ (b : Bool). cond b (message_at f.payload) None) other) ∙ ap (λ (r : Raw). message_in r) same
+-- ---- states
+
+-- a number above 0 isn't 0
+some_byte : (n : ℕ) → 0 < n → (n == 0) ≡ false
+some_byte n some = ne_eqb n 0 (λ (none : n ≡ 0). absurd (omega (arith, some, none)))
+
+-- nothing is read of a payload that fails a test
+unasked : {A : Type 0} (kind test : Bool) (x : A) → test ≡ false → false ≡ kind && is_some (cond test (Some x) None)
+unasked true false x none = refl
+unasked false false x none = refl
+unasked kind true x none = absurd cc
+
+-- a frame that wasn't handed is no state
+pub no_state : (longest : ℕ) (raw : Raw) → None ≡ if_within longest raw → false ≡ asks_state raw
+no_state longest raw e =
+    unasked (raw.kind == state_kind) (length raw.payload == 0) _ (some_byte (length raw.payload) (omega (arith, handed_none longest raw e)))
