@@ -1,11 +1,12 @@
 -- The events among the frames of a talk, by its last frame.
-use Rattle.std.proofs.Common.{◌≡◌, ◌∙◌, Bool, true, false, not, cond, List, [], ◌∷◌, ◌++◌, append-nil, Option, Some, None, refl, ap}
+use Rattle.std.proofs.Common.{◌≡◌, ◌∙◌, true, false, List, [], ◌∷◌, ◌++◌, append-nil, Option, Some, None, refl, ap}
 use Rattle.std.specs.Option.{option_map_or}
-use Rattle.std.proofs.lemmas.List.Elements.{filter-append}
 use Rattle.light_node.specs.declared.events.Event.{Event}
 use Rattle.da_wire.specs.Reading.{Raw}
 use Rattle.da_judging.specs.Light.{event_in, events_in}
-use Rattle.da_watching.specs.Watched.{asks_state, fed, events_of}
+use Rattle.da_talk.specs.Handed.{asks_state, fed}
+use Rattle.da_talk.proofs.FedLemmas.{fed_asked, fed_other}
+use Rattle.da_watching.specs.Watched.{events_of}
 
 -- an event, if there is one, before others
 abbrev with_event : Option Event → List Event → List Event
@@ -28,37 +29,24 @@ events_in-one : (frame : Raw) (found : Option Event) → event_in frame ≡ foun
 unfolding events_in
 events_in-one frame found e = ap (λ (o : Option Event). with_event o []) e
 
--- which frames are fed of one, by whether it asks for the state
-fed-one : (frame : Raw) (asks : Bool) → asks_state frame ≡ asks → fed (frame ∷ []) ≡ cond asks [] (frame ∷ [])
-fed-one frame true e = ap (λ (b : Bool). cond (not b) (frame ∷ []) []) e
-fed-one frame false e = ap (λ (b : Bool). cond (not b) (frame ∷ []) []) e
-
--- the frames that are fed of some and one more
-fed-append : (frames others : List Raw) → fed (frames ++ others) ≡ fed frames ++ fed others
-fed-append frames others = filter-append (λ (frame : Raw). not (asks_state frame)) frames others
-
--- the events among frames and one more
-events_of-append : (frames : List Raw) (frame : Raw) → events_of (frames ++ frame ∷ []) ≡ events_of frames ++ events_of (frame ∷ [])
-events_of-append frames frame = ap events_in (fed-append frames (frame ∷ [])) ∙ events_in-append (fed frames) (fed (frame ∷ []))
-
 -- a frame that asks for the state is no event
 pub events_asked : (frames : List Raw) (frame : Raw) → asks_state frame ≡ true → events_of (frames ++ frame ∷ []) ≡ events_of frames
-unfolding events_in
-events_asked frames frame e =
-    events_of-append frames frame ∙ ap (λ (l : List Raw). events_of frames ++ events_in l) (fed-one frame true e) ∙ append-nil (events_of frames)
+events_asked frames frame asks = ap events_in (fed_asked frames frame asks)
 
 -- another is the event that it is
+events_other : (frames : List Raw) (frame : Raw) (found : Option Event) → asks_state frame ≡ false → event_in frame ≡ found
+    → events_of (frames ++ frame ∷ []) ≡ events_of frames ++ with_event found []
+events_other frames frame found asks e =
+    ap events_in (fed_other frames frame asks) ∙ events_in-append (fed frames) (frame ∷ [])
+    ∙ ap (λ (l : List Event). events_of frames ++ l) (events_in-one frame found e)
+
 pub events_fed : (frames : List Raw) (frame : Raw) (event : Event) → asks_state frame ≡ false → event_in frame ≡ Some event
     → events_of (frames ++ frame ∷ []) ≡ events_of frames ++ event ∷ []
-events_fed frames frame event asks e =
-    events_of-append frames frame ∙ ap (λ (l : List Raw). events_of frames ++ events_in l) (fed-one frame false asks)
-    ∙ ap (λ (l : List Event). events_of frames ++ l) (events_in-one frame (Some event) e)
+events_fed frames frame event asks e = events_other frames frame (Some event) asks e
 
 -- or none
 pub events_none : (frames : List Raw) (frame : Raw) → asks_state frame ≡ false → event_in frame ≡ None → events_of (frames ++ frame ∷ []) ≡ events_of frames
-events_none frames frame asks e =
-    events_of-append frames frame ∙ ap (λ (l : List Raw). events_of frames ++ events_in l) (fed-one frame false asks)
-    ∙ ap (λ (l : List Event). events_of frames ++ l) (events_in-one frame None e) ∙ append-nil (events_of frames)
+events_none frames frame asks e = events_other frames frame None asks e ∙ append-nil (events_of frames)
 
 -- no frames have no events
 pub events_empty : events_of [] ≡ []

@@ -1,8 +1,6 @@
 -- Frames that are longer than any claim.
 use Rattle.std.proofs.Common.{◌≡◌, ℕ, ◌<◌, Bool, true, false, eqb, cond, List, length, Option, Some, None, refl, ap₂, arith}
-use Rattle.std.specs.Prelude.{nat_le}
 use Rattle.std.specs.Option.{option_map, option_map_or}
-use Rattle.std.proofs.lemmas.Bool.Decides.{nat_tests}
 use Rattle.axis_roots.specs.declared.message.messages.Message.{Message}
 use Rattle.axis_roots.specs.Claims.{ClaimParts}
 use Rattle.frame_fields.specs.Messages.{message_at}
@@ -13,18 +11,11 @@ use Rattle.da_wire.specs.Reading.{Raw}
 use Rattle.da_wire.specs.Frames.{message_in, claim_in}
 use Rattle.da_judging.specs.Light.{event_in}
 use Rattle.da_talk.specs.Handed.{if_within}
+use Rattle.da_talk.proofs.HandedLemmas.{handed_none}
 use Rattle.da_watching.specs.Sizes.{most_claim}
 use Rattle.da_watching.proofs.ClaimLengths.{message_few, claim_few}
 
--- a frame of which nothing is handed is longer
-longer : (within : Bool) (frame : Raw) → None ≡ cond within (Some frame) None → within ≡ false
-longer true frame e = absurd cc
-longer false frame e = refl
-
-long : (payload : List ℕ) → nat_le (length payload) most_claim ≡ false → most_claim < length payload
-long payload h = grind (arith, nat_tests)
-
--- such a payload is no sample
+-- a longer payload is no sample
 no_message : (payload : List ℕ) (found : Option Message) → most_claim < length payload → message_at payload ≡ found → found ≡ None
 no_message payload None more e = refl
 no_message payload (Some m) more e = absurd (omega (arith, more, message_few payload m e))
@@ -42,7 +33,7 @@ none_by false found e = refl
 -- a frame of which nothing is handed is no event
 pub no_event : (frame : Raw) → None ≡ if_within most_claim frame → event_in frame ≡ None
 no_event frame e =
-    let more : most_claim < length frame.payload = long frame.payload (longer (nat_le (length frame.payload) most_claim) frame e) in
+    let more : most_claim < length frame.payload = handed_none most_claim frame e in
     let no_sample : message_in frame ≡ None =
     none_by (eqb frame.kind message_kind) (message_at frame.payload) (no_message frame.payload (message_at frame.payload) more refl) in
     let no_accusal : claim_in frame ≡ None = none_by (eqb frame.kind fraud_kind) (fraud_at frame.payload) (no_claim frame.payload (fraud_at frame.payload) more refl) in

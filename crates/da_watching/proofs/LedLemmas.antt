@@ -1,6 +1,7 @@
 -- Where frames lead a watcher.
 use Rattle.std.proofs.Common.{◌≡◌, ◌∙◌, ℕ, true, false, List, [], ◌∷◌, ◌++◌, Option, Some, None, is_some, refl, sym, subst, inl, inr}
 use Rattle.std.specs.List.{Contains}
+use Rattle.std.specs.Option.{option_map}
 use Rattle.std.proofs.lemmas.Option.{none-some as none_some}
 use Rattle.namespace_id.specs.declared.cells.Cell.{Cell}
 use Rattle.namespace_id.proofs.MemberLemmas.{contains_none}
@@ -13,9 +14,11 @@ use Rattle.light_node.specs.declared.events.Event.TheVariants.{Sample, Claim}
 use Rattle.light_node.specs.Events.{NoneAccepted, IsFirstAccepted}
 use Rattle.light_node.specs.Nodes.{NodeParts, StandsFor}
 use Rattle.light_node.proofs.EventLemmas.{stays_shown, claim_shows, sample_shows, first_kept, first_by_sample, first_by_claim, none_by_claim}
+use Rattle.frame_payloads.specs.declared.refusals.Reason.{Reason}
 use Rattle.da_wire.specs.Reading.{Raw}
 use Rattle.da_judging.specs.Light.{event_in}
-use Rattle.da_watching.specs.Watched.{asks_state, events_of}
+use Rattle.da_talk.specs.Handed.{asks_state}
+use Rattle.da_watching.specs.Watched.{events_of, IsFalseAccusal}
 use Rattle.da_watching.specs.Watchers.{WatchParts, IsFresh, HasFed, HasSeen}
 use Rattle.da_watching.proofs.FedLemmas.{events_asked, events_fed, events_none, events_empty}
 
@@ -140,6 +143,12 @@ module _ {F : Type 0} (picks : F → ℕ → Cell → Type 0) where
             claim = subst (λ (l : List Event). IsFirstAccepted first.header l now.claim) (sym events)
                 (subst (IsFirstAccepted first.header (events_of frames ++ Claim claim ∷ [])) (sym none) still);
           }
+
+      -- what is no claim, or one that isn't accepted
+      pub led_false : (found : Option ClaimParts) (reason : Reason) → event_in frame ≡ option_map Claim found → now.claim ≡ None → now.node.header ≡ now.header
+          → IsFalseAccusal now.header found reason → HasFed picks first now (frames ++ frame ∷ [])
+      led_false None reason is none own lie = led_none frame asks is
+      led_false (Some claim) reason is none own lie = led_refused claim is none own (lie.wrong claim refl)
 
       -- one that is
       pub led_accepted : (new : WatchParts F) (claim : ClaimParts) → event_in frame ≡ Some (Claim claim) → now.claim ≡ None → Accepts now.header claim

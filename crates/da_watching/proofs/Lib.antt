@@ -5,5 +5,4 @@ pub mod VerdictLemmas
 pub mod LedLemmas
 pub mod ReplyLemmas
 pub mod LightLemmas
-pub mod TellingLemmas
 pub mod OnceLemmas

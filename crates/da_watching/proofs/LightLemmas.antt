@@ -8,7 +8,8 @@ use Rattle.light_node.specs.declared.events.Light.TheVariants as light
 use Rattle.da_wire.specs.Reading.{Raw}
 use Rattle.da_status.specs.declared.status.Status.{Status}
 use Rattle.da_judging.specs.Light.{Answers, Judges}
-use Rattle.da_watching.specs.Watched.{fed, state_frame, Tells, status_of, Decides, Ends}
+use Rattle.da_talk.specs.Handed.{fed}
+use Rattle.da_watching.specs.Watched.{state_frame, Tells, status_of, Decides, Ends}
 
 -- a verdict is written as it is told, but for its line
 told_answers : (verdict : Light) (text : List ℕ) (status : Status) → Tells verdict text → status ≡ status_of verdict

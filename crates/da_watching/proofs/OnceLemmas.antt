@@ -26,7 +26,9 @@ use Rattle.da_status.specs.declared.status.Status.{Status}
 use Rattle.da_judging.specs.Light.{event_in}
 use Rattle.da_judging.specs.Check.{IsProvedFrame}
 use Rattle.da_talk.specs.Replies.{refusal}
-use Rattle.da_watching.specs.Watched.{asks_state, events_of, Tells, status_of, news, claim_reason, sample_reason, IsRefusedAs, IsLie, Begins, RepliesBy, Replies, Decides, Ends}
+use Rattle.da_talk.specs.Handed.{asks_state}
+use Rattle.da_talk.specs.Reasons.{sample_reason}
+use Rattle.da_watching.specs.Watched.{events_of, Tells, status_of, news, claim_reason, IsRefusedAs, IsLie, Begins, RepliesBy, Replies, Decides, Ends}
 
 -- ---- reasons
 

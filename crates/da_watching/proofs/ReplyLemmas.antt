@@ -18,7 +18,9 @@ use Rattle.da_wire.specs.Frames.{message_in, claim_in}
 use Rattle.da_judging.specs.Light.{event_in}
 use Rattle.da_judging.specs.Check.{IsProvedFrame}
 use Rattle.da_talk.specs.Replies.{refusal}
-use Rattle.da_watching.specs.Watched.{asks_state, events_of, Tells, IsRefusedAs, RepliesBy, RepliesToFed, Replies, news, sample_reason}
+use Rattle.da_talk.specs.Handed.{asks_state}
+use Rattle.da_talk.specs.Reasons.{sample_reason}
+use Rattle.da_watching.specs.Watched.{events_of, Tells, IsRefusedAs, RepliesBy, RepliesToFed, Replies, news}
 use Rattle.da_watching.specs.Watchers.{WatchParts, HasFed, HasSeen}
 use Rattle.da_watching.proofs.FedLemmas.{events_fed}
 use Rattle.da_watching.proofs.LedLemmas.{none_led}

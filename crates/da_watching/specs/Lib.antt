@@ -1,3 +1,4 @@
 pub mod Sizes
+pub mod Events
 pub mod Watched
 pub mod Watchers

@@ -1,13 +1,11 @@
 -- watch HEADER KEY COUNT TALK: what a sampling light node says to the frames of a talk (docs/FORMATS.md, "Talks").
-use Rattle.std.specs.Prelude.{◌≡◌, ◌⊎◌, ℕ, ◌==◌, ◌&&◌, not, List, [], ◌∷◌, ◌++◌, length, Bool, true, false, Option, Some, None}
-use Rattle.std.specs.Option.{is_some}
-use Rattle.std.specs.List.{filter}
+use Rattle.std.specs.Prelude.{◌≡◌, ◌⊎◌, ℕ, List, [], ◌∷◌, ◌++◌, length, Bool, true, false, Option, Some, None}
+use Rattle.std.specs.Option.{option_map}
 use Rattle.namespace_id.specs.declared.cells.Cell.{Cell}
 use Rattle.data_header.specs.Headers.{Roots}
 use Rattle.axis_roots.specs.declared.message.messages.CheckRefusal.{CheckRefusal}
-use Rattle.axis_roots.specs.declared.message.messages.CheckRefusal.TheVariants as check
 use Rattle.axis_roots.specs.Messages.{message_refusal}
-use Rattle.axis_roots.specs.Claims.{ClaimParts}
+use Rattle.axis_roots.specs.Claims.{ClaimParts, Accepts}
 use Rattle.befp_verify.specs.declared.verifying.FraudRefusal.{FraudRefusal}
 use Rattle.befp_verify.specs.declared.verifying.FraudRefusal.TheVariants as fraud
 use Rattle.befp_verify.specs.Refusals.{HasCause}
@@ -20,7 +18,7 @@ use Rattle.light_node.specs.declared.events.Light.TheVariants as light
 use Rattle.light_node.specs.Events.{NoneAccepted, IsFirstAccepted, IsState, IsLight}
 use Rattle.frame_payloads.specs.declared.refusals.Reason.{Reason}
 use Rattle.frame_payloads.specs.declared.refusals.Reason.TheVariants.{NoSuchFrame, FirstCheck, SecondCheck, ThirdCheck, FourthCheck}
-use Rattle.frame_payloads.specs.kinds.State.{state_payload, state_at}
+use Rattle.frame_payloads.specs.kinds.State.{state_payload}
 use Rattle.da_wire.specs.declared.frames.Frame.TheVariants as frames
 use Rattle.da_wire.specs.Spelling.{frame, state_kind, spelling}
 use Rattle.da_wire.specs.Reading.{Raw}
@@ -28,17 +26,11 @@ use Rattle.da_status.specs.declared.status.Status.{Status}
 use Rattle.da_status.specs.declared.status.Status.TheVariants.{Done, Fraud, Waiting}
 use Rattle.da_judging.specs.Light.{event_in, events_in}
 use Rattle.da_judging.specs.Check.{IsProvedFrame}
+use Rattle.da_talk.specs.Handed.{asks_state, fed}
+use Rattle.da_talk.specs.Reasons.{sample_reason}
 use Rattle.da_talk.specs.Replies.{refusal}
 
 -- ---- frames
-
--- whether a frame asks for the state: a state of the grammar
-abbrev pub asks_state : Raw → Bool
-asks_state frame = (frame.kind == state_kind) && is_some (state_at frame.payload)
-
--- the frames that don't ask for it, in their order
-abbrev pub fed : List Raw → List Raw
-fed frames = filter (λ frame. not (asks_state frame)) frames
 
 -- the samples and claims of the grammar among frames, in their order
 abbrev pub events_of : List Raw → List Event
@@ -69,14 +61,7 @@ news before now = []
 
 -- ---- lies
 
--- the reason of a refusal of a sample: the number of the first check that fails
-abbrev pub sample_reason : CheckRefusal → Reason
-sample_reason check.OutOfSquare = FirstCheck
-sample_reason check.NodeCount = SecondCheck
-sample_reason check.Unordered = ThirdCheck
-sample_reason check.OtherRoot = FourthCheck
-
--- that of a claim
+-- the reason of a refusal of a claim: the number that verify has for it
 abbrev pub claim_reason : FraudRefusal → Reason
 claim_reason fraud.Shape = FirstCheck
 claim_reason (fraud.Cell i why) = SecondCheck
@@ -95,6 +80,11 @@ IsRefusedAs header (Some (Claim claim)) reason =
 -- isn't accepted
 abbrev pub IsLie : Roots → Raw → Reason → Type 0
 IsLie header frame reason = IsRefusedAs header (event_in frame) reason
+
+-- what a frame of the kind of claims holds, a claim of the grammar or none, is a lie for this reason
+pub record IsFalseAccusal (header : Roots) (found : Option ClaimParts) (reason : Reason) : Type 0 where
+  pub refused : IsRefusedAs header (option_map Claim found) reason
+  pub wrong : (claim : ClaimParts) → found ≡ Some claim → Accepts header claim → ⊥
 
 -- ---- what is due, where these cells were drawn under a header
 

@@ -20,7 +20,8 @@ use Rattle.da_talk.specs.declared.talk_end.TalkEnd.{TalkEnd}
 use Rattle.da_talk.specs.Told.{HasTold}
 use Rattle.da_talk.specs.Replies.{refusal}
 use Rattle.da_watching.specs.Sizes.{most_claim, most_said}
-use Rattle.da_watching.specs.Watched.{events_of, news, sample_reason, Begins, Replies, Decides, Ends}
+use Rattle.da_talk.specs.Reasons.{sample_reason}
+use Rattle.da_watching.specs.Watched.{events_of, news, Begins, Replies, Decides, Ends}
 
 -- ---- watchers
 
@@ -50,7 +51,7 @@ pub record HasFed {F : Type 0} (picks : F → ℕ → Cell → Type 0) (first no
   pub node : now.claim ≡ None → StandsFor picks now.node first.plan (events_of frames)
   pub claim : IsFirstAccepted first.header (events_of frames) now.claim
 
--- a watcher took a sample with a number: one that isn't proved is refused, and changes nothing; another is handed to its node, and
+-- a watcher took a sample with a number: one that isn't proved is refused, and changes nothing; another is taken by its node, and
 -- said is what is due then
 abbrev pub HasSeen : {F : Type 0} → (F → ℕ → Cell → Type 0) → WatchParts F → WatchParts F → Message → ℕ → List ℕ → Type 0
 HasSeen picks old new m number text =
@@ -71,9 +72,10 @@ watching header plan = record {
   is_over = λ status. false;
   longest = λ status. most_claim;
   most = λ status. most_said header.k;
-  takes_memory = λ status. ⊤;
+  takes_memory = λ status. ⊥;
   begins = λ first text. Begins header plan text;
   replies = λ first frames frame text. Replies header plan frames frame text;
+  refuses = λ first frames frame. ⊥;
   decides = λ first now frames text. Decides header frames text now;
   ends = λ first now frames text. Ends header plan frames text now;
 }

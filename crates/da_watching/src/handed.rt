@@ -1,47 +1,51 @@
 //! What a frame is to a watcher.
 
-ghost use Rattle.std.specs.Prelude.{◌≡◌, IfOk};
+ghost use Rattle.std.specs.Prelude.{◌≡◌};
 ghost use Rattle.std.specs.Option.{option_map};
+ghost use Rattle.frame_fields.specs.Messages.{message_at};
+ghost use Rattle.light_node.specs.declared.events.Event.TheVariants.{Sample};
 ghost use Rattle.da_wire.specs.Reading.{Raw, raw_seen};
 ghost use Rattle.da_judging.specs.Light.{event_in};
 ghost use Rattle.da_talk.specs.Handed.{if_within};
-ghost use Rattle.da_watching.specs.Watched.{asks_state};
+ghost use Rattle.da_watching.specs.Events.{handed_event};
 ghost use Rattle.da_watching.specs.Sizes.{most_claim};
 
-use da_wire::{RawFrame, claim};
+use axis_roots::Message;
+use da_wire::RawFrame;
 use frame_fields::message;
-use frame_payloads::state;
-use light_node::Event;
-use namespace_id::NoMemory;
-use std::alloc::Global;
 
-/// Whether a frame asks for the state. One that is longer than any claim doesn't.
-pub(crate) fn asks_state(frame: Option<RawFrame<'_>>) -> bool
-    ensures { (raw : Raw) → option_map (λ f. raw_seen f) frame.entry ≡ if_within most_claim raw →
-        result ≡ asks_state raw }
+/// What a frame is that doesn't ask for the state.
+#[derive(Drop)]
+pub(crate) enum Handed<'a> {
+    /// A sample of the grammar.
+    Sample(Message),
+    /// A frame of the kind of fraud claims, with its payload, which any bytes may be.
+    Claim(&'a [u8]),
+    /// Neither.
+    Neither,
+}
+
+/// The sample that a payload is, if it is one.
+fn sample_of(payload: &[u8]) -> Handed<'_>
+    ensures { handed_event result ≡ option_map (λ m. Sample m) (message_at payload.now) }
 {
-    match frame {
-        Some(frame) => frame.kind == b'A' && state(frame.payload).is_some(),
-        None => false,
+    match message(payload) {
+        Some(message) => Handed::Sample(message),
+        None => Handed::Neither,
     }
 }
 
-/// The sample or the claim of the grammar that a frame is. One that is longer than any claim is none.
-///
-/// It refuses a claim alone, where there is no memory for it.
-pub(crate) fn event_in(
-    alloc: Global,
-    frame: Option<RawFrame<'_>>,
-) -> Result<Option<Event>, NoMemory>
-    ensures { IfOk result (λ found. (raw : Raw) →
-        option_map (λ f. raw_seen f) frame.entry ≡ if_within most_claim raw → found ≡ event_in raw) }
+/// What a frame is, of the kinds of samples and of claims. One that is longer than any claim is neither.
+pub(crate) fn handed_in(frame: Option<RawFrame<'_>>) -> Handed<'_>
+    ensures { (raw : Raw) → option_map (λ f. raw_seen f) frame.entry ≡ if_within most_claim raw →
+        handed_event result ≡ event_in raw }
 {
     let Some(frame) = frame else {
-        return Ok(None);
+        return Handed::Neither;
     };
     match frame.kind {
-        b'M' => Ok(message(frame.payload).map(Event::Sample)),
-        b'B' => Ok(claim(alloc, frame.payload)?.map(Event::Claim)),
-        _ => Ok(None),
+        b'M' => sample_of(frame.payload),
+        b'B' => Handed::Claim(frame.payload),
+        _ => Handed::Neither,
     }
 }

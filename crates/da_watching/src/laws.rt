@@ -12,7 +12,9 @@ ghost use Rattle.da_status.specs.declared.status.Status.{Status};
 ghost use Rattle.da_judging.specs.Check.{IsProvedFrame};
 ghost use Rattle.da_judging.specs.Light.{Judges};
 ghost use Rattle.da_judging.specs.Verify.{check_number, fraud_number};
-ghost use Rattle.da_watching.specs.Watched.{sample_reason, claim_reason, IsLie, fed, state_frame, Begins, Replies, Decides, Ends};
+ghost use Rattle.da_talk.specs.Reasons.{sample_reason};
+ghost use Rattle.da_talk.specs.Handed.{fed};
+ghost use Rattle.da_watching.specs.Watched.{claim_reason, IsLie, state_frame, Begins, Replies, Decides, Ends};
 
 use axis_roots::message_laws;
 use light_node::light_laws;

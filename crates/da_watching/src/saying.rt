@@ -8,9 +8,9 @@ ghost use Rattle.light_node.specs.declared.events.Light.TheVariants as verdict;
 ghost use Rattle.light_node.specs.Events.{NoneAccepted, IsLight};
 ghost use Rattle.light_node.specs.Nodes.{StandsFor};
 ghost use Rattle.da_watching.specs.Sizes.{most_claim, most_said};
-ghost use Rattle.da_watching.specs.Watched.{Tells, status_of, news, sample_reason, claim_reason};
+ghost use Rattle.da_watching.specs.Watched.{Tells, status_of, news, claim_reason};
 
-use axis_roots::{CheckRefusal, claim_law};
+use axis_roots::claim_law;
 use befp_verify::{FraudRefusal, Upheld};
 use da_status::Status;
 use da_talk::{put_missing_frame, put_state_frame};
@@ -18,18 +18,6 @@ use da_wire::wire_laws;
 use frame_payloads::{Reason, fraud_size, put_fraud};
 use light_node::{LightNode, LightState, Picker};
 use namespace_id::{CellRoom, append};
-
-/// The reason of a refusal of a sample.
-pub(crate) fn sample_reason(why: CheckRefusal) -> Reason
-    ensures { result ≡ sample_reason why }
-{
-    match why {
-        CheckRefusal::OutOfSquare => Reason::FirstCheck,
-        CheckRefusal::NodeCount => Reason::SecondCheck,
-        CheckRefusal::Unordered => Reason::ThirdCheck,
-        CheckRefusal::OtherRoot => Reason::FourthCheck,
-    }
-}
 
 /// The reason of a refusal of a claim.
 pub(crate) fn claim_reason(why: FraudRefusal) -> Reason

@@ -1,35 +1,26 @@
 //! Watchers: light nodes that reply to the frames of a talk.
 
-ghost use Rattle.std.specs.Prelude.{◌≡◌, ◌<◌, ◌≤◌, ◌^◌, ◌⊎◌, ◌++◌, ◌∷◌, [], List, Some, None, true, false, length, vec_capacity, IfOk, ⊤};
+ghost use Rattle.std.specs.Prelude.{◌≡◌, ◌<◌, ◌≤◌, ◌^◌, [], Some, None, true, false, length, vec_capacity, IfOk, MatchOption};
 ghost use Rattle.std.specs.Option.{is_some};
-ghost use Rattle.namespace_id.specs.declared.cells.Cell.{Cell as Place};
-ghost use Rattle.axis_roots.specs.declared.message.messages.CheckRefusal.{CheckRefusal as Why};
-ghost use Rattle.axis_roots.specs.Messages.{message_refusal};
-ghost use Rattle.axis_roots.specs.Openings.{IsProved};
-ghost use Rattle.axis_roots.specs.Claims.{Accepts};
-ghost use Rattle.befp_verify.specs.declared.verifying.FraudRefusal.{FraudRefusal as NotUpheld};
-ghost use Rattle.befp_verify.specs.Refusals.{HasCause};
-ghost use Rattle.light_node.specs.declared.events.Event.{Event as Happened};
-ghost use Rattle.light_node.specs.declared.events.Event.TheVariants.{Sample};
-ghost use Rattle.light_node.specs.declared.events.LightState.{LightState as State};
-ghost use Rattle.light_node.specs.Events.{IsState};
-ghost use Rattle.light_node.specs.Nodes.{StandsFor};
+ghost use Rattle.axis_roots.specs.Claims.{ClaimParts, Accepts};
+ghost use Rattle.frame_payloads.specs.declared.refusals.Reason.{Reason as Why};
+ghost use Rattle.frame_payloads.specs.kinds.Fraud.{fraud_at};
 ghost use Rattle.light_node.specs.Plans.{PicksInside};
 ghost use Rattle.da_talk.specs.Replies.{refusal};
 ghost use Rattle.da_watching.specs.Sizes.{most_claim, most_said};
-ghost use Rattle.da_watching.specs.Watched.{Begins, Replies, Decides, Ends, news, sample_reason, claim_reason, IsRefusedAs};
+ghost use Rattle.da_watching.specs.Watched.{Begins, Replies, Decides, Ends, IsFalseAccusal};
 ghost use Rattle.da_watching.specs.Watchers.{PicksOf, IsFresh, HasFed, HasSeen};
 
-use crate::handed::{asks_state, event_in};
-use crate::saying::{claim_reason, put_claim, put_news, put_verdict, sample_reason};
-use axis_roots::{FraudClaim, Message, opens};
-use befp_verify::{Upheld, VerifyRoom, verify};
+use crate::handed::{Handed, handed_in};
+use crate::saying::{claim_reason, put_claim, put_news, put_verdict};
+use axis_roots::{FraudClaim, Message};
+use befp_verify::{ClaimView, Upheld, VerifyRoom, judge, verify};
 use da_status::Status;
-use da_talk::{Talker, put_refusal_frame};
+use da_talk::{Talker, Turn, asks_state, put_refusal_frame, sample_reason};
 use da_wire::RawFrame;
 use data_header::Header;
-use frame_payloads::Reason;
-use light_node::{Event, LightNode, LightState, Picker};
+use frame_payloads::{ClaimRoom, Reason};
+use light_node::{LightNode, LightState, Picker};
 use namespace_id::{Cell, CellRoom, NoMemory};
 use std::alloc::Global;
 use std::marker::Model;
@@ -41,7 +32,6 @@ use std::marker::Model;
 ///
 /// docs/FORMATS.md, "Talks".
 pub struct Watcher<'a, F: Picker> {
-    alloc: Global,
     header: &'a Header,
     // the drawn cells, which contracts see
     planned: &'a [Cell],
@@ -50,13 +40,15 @@ pub struct Watcher<'a, F: Picker> {
     // the cells that wait, where they are told
     cells: CellRoom,
     room: VerifyRoom,
+    // where claims are read, until one is accepted
+    claims: Option<ClaimRoom>,
     // the accepted claim that ended the talk
     claim: Option<Upheld>,
     status: Status,
 }
 
 impl<'a, F: Picker> Model for Watcher<'a, F> {
-    ghost use Rattle.std.specs.Prelude.{◌≡◌};
+    ghost use Rattle.std.specs.Prelude.{◌≡◌, IsSome, None};
     ghost use Rattle.da_watching.specs.Watchers.{WatchParts};
 
     ghost Value = { WatchParts F };
@@ -69,18 +61,19 @@ impl<'a, F: Picker> Model for Watcher<'a, F> {
       status = w.status;
     } };
 
-    ghost invariant = { λ w. (w.node.header ≡ w.header.now) × (w.room ≡ w.header.now.k) × (w.cells.k ≡ w.header.now.k) };
+    ghost invariant = { λ w. (w.node.header ≡ w.header.now) × (w.room ≡ w.header.now.k) × (w.cells.k ≡ w.header.now.k)
+        × (w.claim ≡ None → IsSome w.claims) };
 }
 
 impl<'a, F: Picker> Drop for Watcher<'a, F> {
     fn drop(self) {
         let Watcher {
-            alloc: _,
             header: _,
             planned: _,
             node: _,
             cells: _,
             room: _,
+            claims: _,
             claim,
             status: _,
         } = self;
@@ -95,9 +88,54 @@ fn spend(claim: Option<Upheld>) {
     }
 }
 
+/// The claim in a room, where it lies.
+fn view(claims: &ClaimRoom) -> ClaimView<'_>
+    ensures { result ≡ claims.now }
+{
+    ClaimView {
+        axis: claims.axis(),
+        index: claims.index(),
+        cells: claims.cells(),
+        set: claims.set(),
+    }
+}
+
+/// Reads the claim of the grammar that a payload is, and answers why it is a lie, none where it is accepted: then the room holds
+/// it.
+fn lie_in(
+    room: &mut VerifyRoom,
+    header: &Header,
+    claims: &mut ClaimRoom,
+    payload: &[u8],
+) -> Option<Reason>
+    requires room { room.old ≡ header.now.k }
+    ensures judged { MatchOption result
+        ((fraud_at payload.now ≡ Some claims.new) × Accepts header.now claims.new)
+        (IsFalseAccusal header.now (fraud_at payload.now)) }
+    ensures room { room.new ≡ room.old }
+{
+    if !claims.read(payload) {
+        return Some(Reason::NoSuchFrame);
+    }
+    match judge(room, header, &view(claims)) {
+        Some(why) => Some(claim_reason(why)),
+        None => None,
+    }
+}
+
+/// The certificate of a claim that is accepted.
+fn uphold(room: &mut VerifyRoom, header: &Header, claim: FraudClaim) -> Upheld
+    requires room { room.old ≡ header.now.k }
+    requires accepted { Accepts header.now claim }
+    ensures upheld { result ≡ claim }
+    ensures room { room.new ≡ room.old }
+{
+    verify(room, header, claim).unwrap()
+}
+
 impl<'a, F: Picker> Watcher<'a, F> {
     /// A watcher under a header that draws the cells that the picker answers, to which nothing was said yet. It takes all memory
-    /// but that of claims, and refuses only where there is none; then the picker is dropped.
+    /// at once, and refuses only where there is none; then the picker is dropped.
     pub fn new(
         alloc: Global,
         header: &'a Header,
@@ -114,15 +152,17 @@ impl<'a, F: Picker> Watcher<'a, F> {
         let count = planned.len() as u32;
         let cells = CellRoom::new(alloc, header.k)?;
         let room = VerifyRoom::new(alloc, header.k)?;
+        let claims = ClaimRoom::new(alloc)?;
         let mut node = LightNode::new(alloc, header, count, pick)?;
         node.more(count)?;
+        node.remember(alloc)?;
         Ok(Watcher {
-            alloc,
             header,
             planned,
             node,
             cells,
             room,
+            claims: Some(claims),
             claim: None,
             status: Status::Done,
         })
@@ -135,49 +175,48 @@ impl<'a, F: Picker> Watcher<'a, F> {
         self.status
     }
 
-    /// Takes a sample: one that isn't proved is a lie, and another is handed to the node.
-    fn take_sample(&mut self, number: u64, message: Message, text: &mut Vec<u8>)
+    /// Takes a sample: one that isn't proved is a lie, and another is taken by the node.
+    fn take_sample(&mut self, number: u64, message: &Message, text: &mut Vec<u8>)
         requires empty { text.old.items ≡ [] }
         requires room { most_said self.old.header.k ≤ vec_capacity text.old }
-        ensures told { HasSeen F.picks self.old self.new message number text.new.items }
+        ensures told { HasSeen F.picks self.old self.new message.now number text.new.items }
         ensures claim { self.new.claim ≡ self.old.claim }
         ensures header { self.new.header ≡ self.old.header }
         ensures plan { self.new.plan ≡ self.old.plan }
         ensures capacity { vec_capacity text.old ≤ vec_capacity text.new }
     {
-        if let Err(why) = opens(self.header, &message) {
+        let before = self.node.state();
+        if let Err(why) = self.node.judge(message) {
             put_refusal_frame(text, sample_reason(why), number);
             return;
         }
-        let before = self.node.state();
-        let now = self.node.event(Event::Sample(message));
+        let now = self.node.state();
         put_news(before, now, text);
     }
 
-    /// Takes a claim, and answers whether the talk goes on: one that isn't accepted is a lie, and another is kept and ends it.
-    fn take_claim(&mut self, number: u64, claim: FraudClaim, text: &mut Vec<u8>) -> bool
+    /// Takes the payload of a claim, and answers whether the talk goes on: one that isn't of the grammar or isn't accepted is a lie,
+    /// and another is kept and ends it.
+    fn take_claim(&mut self, number: u64, payload: &[u8], text: &mut Vec<u8>) -> bool
         requires open { self.old.claim ≡ None }
         requires empty { text.old.items ≡ [] }
         requires room { most_said self.old.header.k ≤ vec_capacity text.old }
-        ensures lie { result ≡ true → (why : NotUpheld) × HasCause self.old.header claim (Some why)
-            × (text.new.items ≡ refusal (claim_reason why) number) × (self.new ≡ self.old)
-            × (Accepts self.old.header claim → ⊥) }
-        ensures accepted { result ≡ false → Accepts self.old.header claim
-            × (self.new.claim ≡ Some claim) × (text.new.items ≡ []) }
+        ensures lie { result ≡ true → (reason : Why) × IsFalseAccusal self.old.header (fraud_at payload.now) reason
+            × (text.new.items ≡ refusal reason number) × (self.new ≡ self.old) }
+        ensures accepted { result ≡ false → (claim : ClaimParts) × (fraud_at payload.now ≡ Some claim)
+            × Accepts self.old.header claim × (self.new.claim ≡ Some claim) × (text.new.items ≡ []) }
         ensures header { self.new.header ≡ self.old.header }
         ensures plan { self.new.plan ≡ self.old.plan }
         ensures capacity { vec_capacity text.old ≤ vec_capacity text.new }
     {
-        match verify(&mut self.room, self.header, claim) {
-            Ok(upheld) => {
-                spend(self.claim.replace(upheld));
-                false
-            }
-            Err(refused) => {
-                put_refusal_frame(text, claim_reason(refused.why), number);
-                true
-            }
+        let mut claims = self.claims.take().unwrap();
+        if let Some(reason) = lie_in(&mut self.room, self.header, &mut claims, payload) {
+            put_refusal_frame(text, reason, number);
+            self.claims = Some(claims);
+            return true;
         }
+        let upheld = uphold(&mut self.room, self.header, claims.into_claim());
+        spend(self.claim.replace(upheld));
+        false
     }
 }
 
@@ -192,11 +231,13 @@ impl<'a, F: Picker> Talker for Watcher<'a, F> {
 
     ghost most = { λ w. most_said w.header.k };
 
-    ghost takes_memory = { λ w. ⊤ };
+    ghost takes_memory = { λ w. ⊥ };
 
     ghost begins = { λ first text. Begins first.header first.plan text };
 
     ghost replies = { λ first frames frame text. Replies first.header first.plan frames frame text };
+
+    ghost refuses = { λ first frames frame. ⊥ };
 
     ghost decides = { λ first now frames text. Decides first.header frames text now.status };
 
@@ -211,21 +252,26 @@ impl<'a, F: Picker> Talker for Watcher<'a, F> {
         number: u64,
         frame: Option<RawFrame<'_>>,
         text: &mut Vec<u8>,
-    ) -> Result<bool, NoMemory> {
+    ) -> Result<Turn, NoMemory> {
         let header = self.header;
         if asks_state(frame) {
             let _status = put_verdict(header.k, &self.node, &mut self.cells, text);
-            return Ok(true);
+            return Ok(Turn::GoesOn);
         }
-        match event_in(self.alloc, frame)? {
-            Some(Event::Sample(message)) => {
-                self.take_sample(number, message, text);
-                Ok(true)
+        match handed_in(frame) {
+            Handed::Sample(message) => {
+                self.take_sample(number, &message, text);
+                Ok(Turn::GoesOn)
             }
-            Some(Event::Claim(claim)) => Ok(self.take_claim(number, claim, text)),
-            None => {
+            Handed::Claim(payload) => {
+                if self.take_claim(number, payload, text) {
+                    return Ok(Turn::GoesOn);
+                }
+                Ok(Turn::Over)
+            }
+            Handed::Neither => {
                 put_refusal_frame(text, Reason::NoSuchFrame, number);
-                Ok(true)
+                Ok(Turn::GoesOn)
             }
         }
     }
@@ -239,5 +285,5 @@ impl<'a, F: Picker> Talker for Watcher<'a, F> {
         self.status = put_verdict(header.k, &self.node, &mut self.cells, text);
     }
 
-    ghost takes_none = { λ first now frames led takes. tt };
+    ghost takes_none = { λ first now frames led takes. takes };
 }

@@ -17,7 +17,7 @@ use light_node::Picker;
 /// asks for the state the cells that wait, or a state where there is none; and a state as soon as no drawn cell waits any more, or
 /// at first where none was drawn. The last words are the first claim that is accepted, or the verdict where the bytes end behind a
 /// whole frame, and the watcher keeps the status that goes with them. The bytes of the frame under way are kept in `room`, and
-/// what is due is written in `text`. It takes no memory but that of claims.
+/// what is due is written in `text`. It takes no memory.
 ///
 /// docs/FORMATS.md, "Talks".
 pub fn watch<L: Line, F: Picker>(

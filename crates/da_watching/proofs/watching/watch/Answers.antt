@@ -1,10 +1,10 @@
 use Rattle.da_watching.specs.Watchers.{watching}
-use Rattle.da_watching.proofs.TellingLemmas.{talk_as}
+use Rattle.da_talk.proofs.TellingLemmas.{talk_as}
 use Rattle.da_watching.proofs.watching.watch.Goals as goal
 
 -- no more is seen of a watcher than the status that goes with its last words
 pub returns-clause-talk : goal.returns-clause-talk
 returns-clause-talk g c =
     talk_as _ (watching c.args.watcher.now.header c.args.watcher.now.plan) c.args.watcher.now c.talk.new.talker c.talk.new.talker.status c.talk.new.talker.status
-    (record { begins = λ text is. is; replies = λ frames frame text is. is; decides = λ frames text is. is; ends = λ frames text is. is; takes = λ is. is })
+    (record { begins = λ text is. is; replies = λ frames frame text is. is; refuses = λ frames frame is. is; decides = λ frames text is. is; ends = λ frames text is. is; takes = λ is. is })
     g.L.Line c.args.line.now c.talk.new.line c.talk.result c.talk.ensures.talk
