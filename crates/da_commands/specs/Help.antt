@@ -31,6 +31,7 @@ help_text =
     ++ codes "da prove SQUARE REQUESTS\n"
     ++ codes "da prove SQUARE START COUNT\n"
     ++ codes "da follow WANTED ANSWERS\n"
+    ++ codes "da attend WANTED TALK\n"
     ++ codes "da root HEADER\n"
     ++ codes "da root HEADER ROOT\n"
     ++ codes "da net HEADER MESSAGES SCRIPT\n"

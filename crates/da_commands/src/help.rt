@@ -33,6 +33,7 @@ const COMMANDS: &[u8] = b"\
     da prove SQUARE REQUESTS\n\
     da prove SQUARE START COUNT\n\
     da follow WANTED ANSWERS\n\
+    da attend WANTED TALK\n\
     da root HEADER\n\
     da root HEADER ROOT\n\
     da net HEADER MESSAGES SCRIPT\n\

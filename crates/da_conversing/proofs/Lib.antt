@@ -7,3 +7,5 @@ pub mod ReplyLemmas
 pub mod SameLemmas
 -- watches
 pub mod WatchLemmas
+-- talks about namespaces
+pub mod AttendLemmas

@@ -12,5 +12,7 @@ pub mod Tellings
 pub mod Gathers
 -- what came of the words of watch
 pub mod Watches
+-- what came of the words of attend
+pub mod Attends
 -- what replies have in common with what other commands write
 pub mod Laws

@@ -12,7 +12,7 @@ use Rattle.da_status.specs.declared.status.Status.TheVariants as status
 use Rattle.da_status.specs.Statuses.{kind_of, output}
 use Rattle.da_talk.specs.declared.talker.Talker as talker
 use Rattle.da_talk.specs.declared.talk_end.TalkEnd.{TalkEnd}
-use Rattle.da_talk.specs.declared.talk_end.TalkEnd.TheVariants.{Over, Decided, Bad, ReadFailed, WriteFailed, TooLong, NoMemory}
+use Rattle.da_talk.specs.declared.talk_end.TalkEnd.TheVariants.{Over, Decided, Bad, Unfit, ReadFailed, WriteFailed, TooLong, NoMemory}
 use Rattle.da_talk.specs.Events.{Event, heard_in, said_in}
 use Rattle.da_talk.specs.Talks.{AtEachWait, HasNoLong}
 use Rattle.da_talk.specs.Told.{IsTold, EndsTold, last_heard}
@@ -23,6 +23,7 @@ abbrev pub IsStatus : ℕ → TalkEnd → Option Status → Status → Type 0
 IsStatus file Over kept why = kept ≡ Some why
 IsStatus file Decided kept why = kept ≡ Some why
 IsStatus file (Bad at) kept why = why ≡ status.BadInput file at
+IsStatus file (Unfit at) kept why = why ≡ status.BadInput file at
 IsStatus file ReadFailed kept why = why ≡ status.ReadFault file
 IsStatus file WriteFailed kept why = why ≡ status.WriteFault
 IsStatus file TooLong kept why = why ≡ status.TooLong file

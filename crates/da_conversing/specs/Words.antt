@@ -11,7 +11,7 @@ use Rattle.da_conversing.specs.declared.words.Watch.{Watch}
 
 -- whether a word is that of a command that stays
 abbrev pub is_talk_word : List ℕ → Bool
-is_talk_word word = bytes_eq word (codes "hold") || (bytes_eq word (codes "gather") || bytes_eq word (codes "watch"))
+is_talk_word word = bytes_eq word (codes "hold") || (bytes_eq word (codes "gather") || (bytes_eq word (codes "watch") || bytes_eq word (codes "attend")))
 
 -- whether the first word is that of a command that stays
 abbrev pub is_talk : List (List ℕ) → Bool
@@ -33,6 +33,10 @@ is_hold words = has_talk (codes "hold") words
 abbrev pub is_gather : List (List ℕ) → Bool
 is_gather words = has_talk (codes "gather") words
 
+-- whether words are attend WANTED TALK, of which one at most is the standard input
+abbrev pub is_attend : List (List ℕ) → Bool
+is_attend words = has_talk (codes "attend") words
+
 -- the names of both files of hold
 abbrev pub square_name : List (List ℕ) → List ℕ
 square_name words = get_or words 1 []
@@ -43,6 +47,10 @@ talk_name words = get_or words 2 []
 -- the name of HEADER of gather and watch
 abbrev pub header_name : List (List ℕ) → List ℕ
 header_name words = get_or words 1 []
+
+-- the name of WANTED of attend
+abbrev pub wanted_name : List (List ℕ) → List ℕ
+wanted_name words = get_or words 1 []
 
 -- ---- watch HEADER KEY COUNT TALK
 
@@ -93,4 +101,4 @@ talk_file Named = 2
 
 -- whether words are a command that stays
 abbrev pub is_stay : List (List ℕ) → Bool
-is_stay words = is_hold words || (is_gather words || is_watch words)
+is_stay words = is_hold words || (is_gather words || (is_attend words || is_watch words))

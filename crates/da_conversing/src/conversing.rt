@@ -5,11 +5,13 @@ ghost use Rattle.da_status.specs.declared.status.Status.TheVariants.{Usage};
 ghost use Rattle.da_status.specs.Statuses.{kind_of, input_count, output_count};
 ghost use Rattle.da_status.specs.Notes.{note_of, Notes};
 ghost use Rattle.da_cli.specs.Words.{words_of};
-ghost use Rattle.da_conversing.specs.Words.{is_hold, is_gather, is_watch, is_stay};
+ghost use Rattle.da_conversing.specs.Words.{is_hold, is_gather, is_attend, is_watch, is_stay};
+ghost use Rattle.da_conversing.specs.Attends.{AnswersAttend};
 ghost use Rattle.da_conversing.specs.Courses.{Converses, RepliesWhole};
 ghost use Rattle.da_conversing.specs.Gathers.{AnswersGather};
 ghost use Rattle.da_conversing.specs.Watches.{AnswersWatch};
 
+use crate::attending::answer_attend;
 use crate::gathering::answer_gather;
 use crate::holding::answer_hold;
 use crate::watching::answer_watch;
@@ -36,6 +38,8 @@ fn answer<I: Inputs, O: Sink>(
         AnswersGather I.Inputs O.Sink (words_of words.now) inputs.old inputs.new out.old out.new result }
     ensures watch { is_watch (words_of words.now) ≡ true →
         AnswersWatch I.Inputs O.Sink (words_of words.now) inputs.old inputs.new out.old out.new result }
+    ensures attend { is_attend (words_of words.now) ≡ true →
+        AnswersAttend I.Inputs O.Sink (words_of words.now) inputs.old inputs.new out.old out.new result }
     ensures input_faults { I.faults inputs.new ≡ input_count (kind_of result) (I.faults inputs.old) }
     ensures output_faults { O.faults out.new ≡ output_count (kind_of result) (O.faults out.old) }
     ensures files { I.files inputs.new ≡ I.files inputs.old }
@@ -47,19 +51,22 @@ fn answer<I: Inputs, O: Sink>(
     if has_talk("gather", words) {
         return answer_gather(alloc, words, inputs, out);
     }
+    if has_talk("attend", words) {
+        return answer_attend(alloc, words, inputs, out);
+    }
     match watch_call(words) {
         Some(watch) => answer_watch(alloc, words, watch, inputs, out),
         None => Status::Usage,
     }
 }
 
-/// Runs the command that the words are: `hold SQUARE TALK`, `gather HEADER TALK` or `watch HEADER KEY COUNT TALK`. It reads the files
-/// before TALK and makes what replies, and then replies to the frames of TALK as they come. Replies go to `out`, and the line of
+/// Runs the command that the words are: `hold SQUARE TALK`, `gather HEADER TALK`, `watch HEADER KEY COUNT TALK` or `attend WANTED TALK`.
+/// It reads the files before TALK and makes what replies, and then replies to the frames of TALK as they come. Replies go to `out`, and the line of
 /// the status to `notes`.
 ///
 /// The words are those after the program's name. `Usage` is decided first. All files but TALK are read and judged, and all memory is
-/// taken but that of the claims of a watch, before TALK is picked. Whenever the talk waits for bytes, all that is due to the frames
-/// that came is in `out`, and nothing else.
+/// taken but that of the answers that an attender is handed and of their lines, before TALK is picked. Whenever the talk waits for
+/// bytes, all that is due to the frames that came is in `out`, and nothing else.
 ///
 /// docs/FORMATS.md, "Talks".
 pub fn converse<I: Inputs, O: Sink, N: Sink>(
@@ -93,6 +100,11 @@ pub fn converse<I: Inputs, O: Sink, N: Sink>(
     // light node that draws its cells by the key, with the status of its last words.
     ensures watch { is_watch (words_of words.now) ≡ true →
         AnswersWatch I.Inputs O.Sink (words_of words.now) inputs.old inputs.new out.old out.new result }
+
+    // What came of attend: why WANTED isn't a list of requests for namespaces of blobs, or a talk over TALK whose lines are those of
+    // what came to be known of them, with the status of its last words.
+    ensures attend { is_attend (words_of words.now) ≡ true →
+        AnswersAttend I.Inputs O.Sink (words_of words.now) inputs.old inputs.new out.old out.new result }
 
     // Failures are counted, and none is hidden behind another status.
     ensures input_faults { I.faults inputs.new ≡ input_count (kind_of result) (I.faults inputs.old) }

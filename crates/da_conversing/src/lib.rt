@@ -4,6 +4,7 @@
 //! these commands have a call of their own, `converse`, and what `run` promises stays as it is.
 #![tactic(auto)]
 
+mod attending;
 mod conversing;
 mod gathering;
 mod holding;

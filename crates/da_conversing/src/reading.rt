@@ -6,17 +6,22 @@ ghost use Rattle.da_io.specs.Faults.{count_on};
 ghost use Rattle.da_files.specs.Frames.{header_in};
 ghost use Rattle.da_judging.specs.Keys.{key_file_in};
 ghost use Rattle.da_conversing.specs.Inputs.{ReadsContent, ReadsValue, reading_faults};
+ghost use Rattle.da_conversing.specs.Attends.{ReadsWanted};
 
 use da_cli::FILE_LIMIT;
 use da_files::{Unread, header_in};
 use da_io::{InputFault, Inputs, read_all};
 use da_judging::read_key;
 use da_status::Status;
+use da_wire::bad_value;
 use data_header::Header;
 use std::alloc::Global;
 
 /// The number of HEADER among the words that name files.
 const HEADER: u32 = 0;
+
+/// The number of WANTED among the words that name files.
+const WANTED: u32 = 0;
 
 /// The number of KEY among the words that name files.
 const KEY: u32 = 1;
@@ -84,5 +89,25 @@ pub(crate) fn key_of<I: Inputs>(
     match read_key(&content) {
         Ok(key) => Ok(key),
         Err(at) => Err(Status::BadInput(KEY, at)),
+    }
+}
+
+/// The requests for namespaces in the file with a name, WANTED.
+pub(crate) fn wanted_of<I: Inputs>(
+    alloc: Global,
+    name: String,
+    inputs: &mut I,
+) -> Result<Vec<u8>, Status>
+    ensures wanted { ReadsWanted (I.files inputs.old) (string_bytes name) (I.ended inputs.new)
+        (I.given inputs.new) result }
+    ensures faults { I.faults inputs.new ≡ reading_faults result (I.faults inputs.old) }
+    ensures picked { I.picked inputs.new ≡ Some (string_bytes name) }
+    ensures picks { I.picks inputs.new ≡ count_on (I.picks inputs.old) 1 }
+    ensures files { I.files inputs.new ≡ I.files inputs.old }
+{
+    let content = content_of(alloc, WANTED, name, inputs)?;
+    match bad_value(&content, b"P") {
+        None => Ok(content),
+        Some(at) => Err(Status::BadInput(WANTED, at)),
     }
 }

@@ -22,7 +22,7 @@ pub(crate) fn status_of(file: u32, end: TalkEnd, kept: Option<Status>) -> Status
 {
     match end {
         TalkEnd::Over | TalkEnd::Decided => kept.unwrap(),
-        TalkEnd::Bad(at) => Status::BadInput(file, at),
+        TalkEnd::Bad(at) | TalkEnd::Unfit(at) => Status::BadInput(file, at),
         TalkEnd::ReadFailed => Status::ReadFault(file),
         TalkEnd::WriteFailed => Status::WriteFault,
         TalkEnd::TooLong => Status::TooLong(file),

@@ -112,7 +112,7 @@ fn talk_over<I: Inputs, O: Sink, F: Picker>(
     status_of(to.file, end, Some(watcher.status()))
 }
 
-/// Watches by a picker of the drawn cells. All memory but that of claims is taken before TALK is picked.
+/// Watches by a picker of the drawn cells. All memory is taken before TALK is picked.
 fn answer_picked<I: Inputs, O: Sink, F: Picker>(
     alloc: Global,
     drawn: Drawn<'_>,

@@ -30,7 +30,7 @@ pub(crate) struct Watch {
 fn is_talk_word(word: &str) -> bool
     ensures { result ≡ is_talk_word word.now }
 {
-    word == "hold" || word == "gather" || word == "watch"
+    word == "hold" || word == "gather" || word == "watch" || word == "attend"
 }
 
 /// Whether the first of some words is that of a command that stays, for which `converse` is called and not `run`.

@@ -322,7 +322,7 @@ fn failed_writes_of_views(rt: HostRuntime) {
         ("root h", 4096, 1, 0, Done, 65),
         ("export dah h", 4096, 1, 0, Done, 736),
         (OTHER_ROOT, 4096, 1, 0, Refused, 10),
-        ("help", 4096, 1, 0, Done, 1294),
+        ("help", 4096, 1, 0, Done, 1316),
         ("version", 4096, 1, 0, Done, 9),
     ];
     each_write_fails(&rt, rt.alloc(), &rows);

@@ -1,0 +1,14 @@
+pub mod NameLemmas
+pub mod HeightLemmas
+pub mod MissingLemmas
+pub mod FrameLemmas
+pub mod StandLemmas
+pub mod LineLemmas
+pub mod LengthLemmas
+pub mod HandedLemmas
+pub mod LedLemmas
+pub mod ToldLemmas
+pub mod FileLemmas
+pub mod OffsetLemmas
+pub mod OnceLemmas
+pub mod FollowedLemmas

@@ -1,0 +1,4 @@
+pub mod Attended
+pub mod Attenders
+pub mod Laws
+pub mod Orders
