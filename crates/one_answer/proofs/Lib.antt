@@ -1,7 +1,13 @@
 pub mod CellLemmas
 pub mod FollowLemmas
+pub mod GridLemmas
+pub mod HalfLemmas
 pub mod HeldLemmas
+pub mod JudgeLemmas
 pub mod LightLemmas
+pub mod MessageLemmas
 pub mod NetLemmas
+pub mod PlaceLemmas
 pub mod ReadLemmas
+pub mod StreamLemmas
 pub mod WordLemmas

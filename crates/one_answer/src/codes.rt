@@ -4,10 +4,11 @@ ghost use Rattle.std.specs.Prelude.{◌≡◌, ◌<◌, ◌≤◌, ◌+◌, ◌*
 ghost use Rattle.gf_cantor.specs.Field.{size};
 ghost use Rattle.namespace_id.specs.Cells.{is_width};
 ghost use Rattle.leopard_code.specs.Codewords.{are_positions};
-ghost use Rattle.lch_fft.specs.Transforms.{is_count};
+ghost use Rattle.gf_cantor.specs.Words.{word};
+ghost use Rattle.lch_fft.specs.Transforms.{column, is_count};
 
-use gf_cantor::{field_laws, inv, mul_row};
-use lch_fft::{Factor, forward, inverse, transform_laws};
+use gf_cantor::{ByteFactor, WordFactor, field_laws, inv, mul_row};
+use lch_fft::{Factor, derive, forward, inverse, transform_laws};
 use leopard_code::{Room, code_laws, extend, rebuild};
 use namespace_id::{Share, shares_law};
 
@@ -29,6 +30,34 @@ pub fn mul_row_twice(one: &mut [u8; 512], other: &mut [u8; 512], row: &[u8; 512]
 {
     mul_row(one, row, by);
     mul_row(other, row, by);
+}
+
+/// So is it by a factor whose tables are made.
+pub fn byte_multiple_twice(
+    factor: &ByteFactor,
+    one: &mut [u8; 512],
+    other: &mut [u8; 512],
+    row: &[u8; 512],
+)
+    requires same { other.old ≡ one.old }
+    ensures state { (i : ℕ) → i < 512 → slice_index other.new i ≡ slice_index one.new i }
+{
+    factor.add_multiple(one, row);
+    factor.add_multiple(other, row);
+}
+
+/// So is it of words.
+pub fn word_multiple_twice(
+    factor: &WordFactor,
+    one: &mut [u8; 512],
+    other: &mut [u8; 512],
+    row: &[u8; 512],
+)
+    requires same { other.old ≡ one.old }
+    ensures state { (i : ℕ) → i < 256 → word other.new i ≡ word one.new i }
+{
+    factor.add_multiple(one, row);
+    factor.add_multiple(other, row);
 }
 
 /// Known shares have one codeword.
@@ -93,4 +122,16 @@ pub fn inverse_twice<M: Factor>(one: &mut [Share], other: &mut [Share], shift: u
     inverse::<M>(other, shift);
     shares_law(one);
     shares_law(other);
+}
+
+/// Coefficients have one derivative, over each field.
+pub fn derive_twice<M: Factor>(one: &mut [Share], other: &mut [Share])
+    requires count { IsTrue (is_count (length one.old)) }
+    requires same { other.old ≡ one.old }
+    ensures count { length one.new ≡ length other.new }
+    ensures labels { (c m : ℕ) → c < M.reading.columns → m < length one.new →
+        slice_index (column M.reading c one.new) m ≡ slice_index (column M.reading c other.new) m }
+{
+    derive::<M>(one);
+    derive::<M>(other);
 }

@@ -7,7 +7,7 @@ ghost use Rattle.light_node.specs.declared.events.Event.{Event as Happened};
 ghost use Rattle.light_node.specs.Nodes.{StandsFor};
 ghost use Rattle.one_answer.specs.Pickers.{PicksOne};
 
-use axis_roots::FraudClaim;
+use axis_roots::{CheckRefusal, FraudClaim, Message};
 use light_node::{Event, Light, LightNode, LightState, Picker, light_laws};
 use namespace_id::{Cell, CellRoom, NoMemory};
 
@@ -26,6 +26,20 @@ pub fn event_twice<F: Picker>(
     light_laws();
     let first = one.event(event);
     let second = other.event(copy);
+    (first, second)
+}
+
+/// A sample has one judgement, whatever the nodes are for.
+pub fn judge_twice<F: Picker>(
+    one: &mut LightNode<F>,
+    other: &mut LightNode<F>,
+    message: &Message,
+) -> (Result<(), CheckRefusal>, Result<(), CheckRefusal>)
+    requires header { other.old.header ≡ one.old.header }
+    ensures { result.0 ≡ result.1 }
+{
+    let first = one.judge(message);
+    let second = other.judge(message);
     (first, second)
 }
 

@@ -1,13 +1,14 @@
 //! Of namespaces and their shares.
 
-ghost use Rattle.std.specs.Prelude.{◌≡◌, ◌<◌, Result};
+ghost use Rattle.std.specs.Prelude.{◌≡◌, ◌<◌, Result, false};
+ghost use Rattle.namespace_id.specs.Names.{is_parity};
 ghost use Rattle.square_serve.specs.declared.held.ServeError.TheVariants.{NoMemory as Full};
 ghost use Rattle.one_answer.specs.Ones.{AreOne};
 
 use axis_roots::NsAnswer;
 use data_header::Header;
 use namespace_id::{Namespace, NsError};
-use square_serve::{Held, HeldRows, NsRefusal, ServeError, check_namespace};
+use square_serve::{Held, HeldRows, NsRefusal, RowFound, ServeError, check_namespace};
 use std::alloc::Global;
 
 /// Bytes are one namespace of a blob, or refused for one reason.
@@ -32,6 +33,25 @@ pub fn namespace_twice(
 {
     let first = one.namespace(alloc, namespace);
     let second = other.namespace(alloc, namespace);
+    (first, second)
+}
+
+/// In each of its rows it has one place of a namespace.
+pub fn find_twice(
+    one: &mut Held,
+    other: &mut Held,
+    row: u16,
+    namespace: &Namespace,
+) -> (RowFound, RowFound)
+    requires row { row < one.old.k }
+    requires other { is_parity namespace.now ≡ false }
+    requires same { one.old ≡ other.old }
+    ensures answer { result.0 ≡ result.1 }
+    ensures state { one.new ≡ other.new }
+{
+    one.held_law();
+    let first = one.find(row, namespace);
+    let second = other.find(row, namespace);
     (first, second)
 }
 

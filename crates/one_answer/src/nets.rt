@@ -1,11 +1,38 @@
 //! Of networks.
 
 ghost use Rattle.std.specs.Prelude.{◌≡◌, ◌<◌, ◌-◌, Result, None, IsOk, IfSome, length};
+ghost use Rattle.std.specs.List.{AllByRecursion};
+ghost use Rattle.da_net.specs.declared.items.NetError.TheVariants.{NoMemory as Full};
+ghost use Rattle.da_net.specs.Nodes.{IsFresh};
+ghost use Rattle.one_answer.specs.Ones.{AreOne};
 ghost use Rattle.da_net.specs.Nets.{alarm_at};
 
-use da_net::{Net, NetEvent, NodeState, StepRefusal, Stepped};
-use light_node::Picker;
+use da_net::{Net, NetError, NetEvent, NodeState, StepRefusal, Stepped};
+use data_header::Header;
+use light_node::{LightNode, Picker};
 use namespace_id::CellRoom;
+use std::alloc::Global;
+
+/// Nodes are one network, or too many.
+pub fn new_twice<F: Picker>(
+    alloc: Global,
+    headers: (Header, Header),
+    full: u16,
+    lights: Vec<LightNode<F>>,
+    copies: Vec<LightNode<F>>,
+    sizes: (u32, u32),
+) -> (Result<Net<F>, NetError>, Result<Net<F>, NetError>)
+    requires headers { headers.1 ≡ headers.0 }
+    requires lights { AllByRecursion (IsFresh F.picks headers.0) lights.items }
+    requires copies { copies.items ≡ lights.items }
+    ensures { AreOne (λ x. x) Full result.0 result.1 }
+{
+    let (header, copy) = headers;
+    let (items, steps) = sizes;
+    let first = Net::new(alloc, header, full, lights, items, steps);
+    let second = Net::new(alloc, copy, full, copies, items, steps);
+    (first, second)
+}
 
 /// A step leaves one pool and one list of steps, and is refused for one reason.
 pub fn step_twice<F: Picker>(

@@ -1,6 +1,7 @@
 //! Of joins, and of openings under the root of a tree.
 
 ghost use Rattle.std.specs.Prelude.{◌≡◌, ◌<◌, ◌≤◌, ◌+◌, Result, IsTrue, length};
+ghost use Rattle.nmt_tree.specs.Digests.{leaf_digest};
 ghost use Rattle.nmt_tree.specs.Roots.{is_leaf_count};
 ghost use Rattle.nmt_proofs.specs.Places.{AreAscending, AreAligned};
 
@@ -8,7 +9,7 @@ use namespace_id::{Digest, Namespace, Share};
 use nmt_proofs::{
     OpenRefusal, PartialTree, open_absent, open_leaf, open_nodes, open_range, open_set,
 };
-use nmt_tree::{Unordered, join};
+use nmt_tree::{HashedNodes, Unordered, join};
 
 /// Two digests have one join, or none.
 pub fn join_twice(
@@ -19,6 +20,21 @@ pub fn join_twice(
 {
     let first = join(left, right);
     let second = join(left, right);
+    (first, second)
+}
+
+/// So have they beside nodes that are hashed ahead, whichever these are.
+pub fn hashed_join_twice(
+    one: &HashedNodes,
+    other: &HashedNodes,
+    place: usize,
+    left: &Digest,
+    right: &Digest,
+) -> (Result<Digest, Unordered>, Result<Digest, Unordered>)
+    ensures { result.0 ≡ result.1 }
+{
+    let first = one.join(place, left, right);
+    let second = other.join(place, left, right);
     (first, second)
 }
 
@@ -56,6 +72,49 @@ pub fn partial_leaf_twice(
 {
     let first = one.open_leaf(pos, name, share, nodes);
     let second = other.open_leaf(pos, name, share, nodes);
+    (first, second)
+}
+
+/// So has one whose leaf is hashed already.
+pub fn open_hashed_twice(
+    one: &mut PartialTree,
+    other: &mut PartialTree,
+    pos: u16,
+    name: &Namespace,
+    share: &Share,
+    leaf: &Digest,
+    nodes: &[Digest],
+) -> (Result<(), OpenRefusal>, Result<(), OpenRefusal>)
+    requires place { pos < one.old.count }
+    requires leaf { leaf.now ≡ leaf_digest name.now share.now }
+    requires same { one.old ≡ other.old }
+    ensures answer { result.0 ≡ result.1 }
+    ensures state { one.new ≡ other.new }
+{
+    let first = one.open_hashed(pos, name, share, leaf, nodes);
+    let second = other.open_hashed(pos, name, share, leaf, nodes);
+    (first, second)
+}
+
+/// So has one beside nodes that are hashed ahead, whichever these are.
+pub fn open_ahead_twice(
+    one: &mut PartialTree,
+    other: &mut PartialTree,
+    pos: u16,
+    name: &Namespace,
+    share: &Share,
+    leaf: &Digest,
+    nodes: &[Digest],
+    ahead: Option<&HashedNodes>,
+) -> (Result<(), OpenRefusal>, Result<(), OpenRefusal>)
+    requires place { pos < one.old.count }
+    requires leaf { leaf.now ≡ leaf_digest name.now share.now }
+    requires same { one.old ≡ other.old }
+    ensures answer { result.0 ≡ result.1 }
+    ensures state { one.new ≡ other.new }
+{
+    let first = one.open_ahead(pos, name, share, leaf, nodes, ahead);
+    let second = other.open_ahead(pos, name, share, leaf, nodes, None);
     (first, second)
 }
 

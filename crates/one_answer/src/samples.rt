@@ -3,13 +3,14 @@
 ghost use Rattle.std.specs.Prelude.{◌≡◌, ◌<◌, ◌*◌, Result, IsTrue, IsOk, IfOk, IfErr, IfSome};
 ghost use Rattle.namespace_id.specs.Cells.{is_in_square};
 ghost use Rattle.axis_roots.specs.Proved.{kept_message};
+ghost use Rattle.axis_roots.specs.Messages.{shown_leaf};
 
 use axis_roots::{
     CheckRefusal, Grid, Message, PartialTrees, Proved, RefusedMessage, check, message_of, opens,
-    opens_by,
+    opens_by, opens_hashed_by,
 };
 use data_header::Header;
-use namespace_id::{Axis, Cell};
+use namespace_id::{Axis, Cell, Digest};
 use nmt_tree::Tree;
 use square_serve::{Held, OutOfSquare};
 
@@ -53,6 +54,42 @@ pub fn opens_by_twice(
 {
     let first = opens_by(header, one, message);
     let second = opens_by(header, other, message);
+    (first, second)
+}
+
+/// So has one whose leaf is hashed already.
+pub fn opens_hashed_twice(
+    one: &mut PartialTrees,
+    other: &mut PartialTrees,
+    message: &Message,
+    leaf: &Digest,
+) -> (Result<(), CheckRefusal>, Result<(), CheckRefusal>)
+    requires leaf { leaf.now ≡ shown_leaf one.old.k message.now.cell message.now.share }
+    requires same { one.old ≡ other.old }
+    ensures answer { result.0 ≡ result.1 }
+    ensures state { one.new ≡ other.new }
+{
+    let first = one.opens_hashed(message, leaf);
+    let second = other.opens_hashed(message, leaf);
+    (first, second)
+}
+
+/// So has one by trees that may be there, whether its leaf is hashed already.
+pub fn opens_hashed_by_twice(
+    header: &Header,
+    one: &mut Option<PartialTrees>,
+    other: &mut Option<PartialTrees>,
+    message: &Message,
+    leaf: Option<Digest>,
+) -> (Result<(), CheckRefusal>, Result<(), CheckRefusal>)
+    requires one { IfSome one.old (λ kept. kept ≡ header.now) }
+    requires other { IfSome other.old (λ kept. kept ≡ header.now) }
+    requires leaf { IfSome leaf (λ hashed. hashed ≡
+        shown_leaf header.now.k message.now.cell message.now.share) }
+    ensures { result.0 ≡ result.1 }
+{
+    let first = opens_hashed_by(header, one, message, leaf);
+    let second = opens_hashed_by(header, other, message, None);
     (first, second)
 }
 

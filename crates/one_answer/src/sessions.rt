@@ -100,3 +100,13 @@ pub fn missing_twice(
     one.missing(one_room);
     other.missing(other_room);
 }
+
+/// They have all cells, or both have not.
+pub fn has_all_twice(one: &Session, other: &Session) -> (bool, bool)
+    requires header { other.now.header ≡ one.now.header }
+    requires one_open { state_of one.now ≡ state.Open }
+    requires other_open { state_of other.now ≡ state.Open }
+    ensures { (ms : List Sent) → StandsFor one.now ms → StandsFor other.now ms → result.0 ≡ result.1 }
+{
+    (one.has_all(), other.has_all())
+}

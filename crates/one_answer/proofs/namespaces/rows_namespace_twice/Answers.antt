@@ -1,7 +1,6 @@
-use Rattle.std.proofs.Common.{◌≡◌, List, IfOk, refl, sym, subst}
+use Rattle.std.proofs.Common.{refl, subst}
 use Rattle.std.proofs.lemmas.Result.{IfOk-weaker}
-use Rattle.square_layout.specs.Blocks.{SquareShares}
-use Rattle.square_serve.specs.Serving.{HeldParts, Holds, answer_for}
+use Rattle.square_serve.specs.Serving.{HeldParts, Holds}
 use Rattle.one_answer.proofs.HeldLemmas.{one_found}
 use Rattle.one_answer.proofs.namespaces.rows_namespace_twice.Goals as goal
 
